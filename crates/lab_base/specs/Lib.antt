@@ -1,0 +1,6 @@
+pub mod Names
+pub mod Filled
+pub mod Numbers
+pub mod Kinds
+pub mod Texts
+pub mod Parts

@@ -1,0 +1,9 @@
+/// The boot state of a node.
+#[derive(Clone, Copy, Debug, PartialEq, Eq)]
+pub enum Boot {
+    Off,
+    Shutdown,
+    Booting,
+    TbSetup,
+    IsUp,
+}
