@@ -3,3 +3,4 @@ pub mod LineLaws
 pub mod FieldLaws
 pub mod Again
 pub mod FieldLists
+pub mod Members

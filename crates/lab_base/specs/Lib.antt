@@ -4,3 +4,4 @@ pub mod Numbers
 pub mod Kinds
 pub mod Texts
 pub mod Parts
+pub mod Lists

@@ -1,0 +1,6 @@
+//! Records of the journal.
+#![tactic(auto)]
+
+mod record;
+
+pub use record::{Found, Record, Way};

@@ -1,0 +1,12 @@
+//! Wirings, mappings, and the phases of an experiment.
+#![tactic(auto)]
+
+mod experiment;
+mod mapping;
+mod violation;
+mod wiring;
+
+pub use experiment::{Experiment, Phase};
+pub use mapping::{Mapped, Mapping};
+pub use violation::{Broken, Subject};
+pub use wiring::{Asks, Class, Pipe, Segment, VirtEnd, VirtNode, Wiring};
