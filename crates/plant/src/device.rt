@@ -25,13 +25,22 @@ pub enum DeviceOp {
         back: Rates,
     },
     /// The node gets an OS, and is off.
-    Load { node: Name, os: Name },
+    Load {
+        node: Name,
+        os: Name,
+    },
     /// The node boots.
-    Boot { node: Name },
+    Boot {
+        node: Name,
+    },
     /// The node tells its boot state.
-    Poll { node: Name },
+    Poll {
+        node: Name,
+    },
     /// The node has no OS and no pipe, and is off.
-    Wipe { node: Name },
+    Wipe {
+        node: Name,
+    },
 }
 
 /// What a device answers.

@@ -3,8 +3,10 @@
 
 mod device;
 mod drill;
+mod moment;
 mod step;
 
 pub use device::{Answer, DeviceOp, Fault, NodeRow};
 pub use drill::{Drill, DrillFault, How, Pick};
+pub use moment::{Faults, Moment, Taken};
 pub use step::{Side, Step};

@@ -18,11 +18,18 @@ pub enum Step {
         end: u64,
     },
     /// A side became durable as it reads.
-    Synced { side: Side },
+    Synced {
+        side: Side,
+    },
     /// A side was cut to a length.
-    Cut { side: Side, length: u64 },
+    Cut {
+        side: Side,
+        length: u64,
+    },
     /// A call on a side failed.
-    Missed { side: Side },
+    Missed {
+        side: Side,
+    },
     /// A command was sent, and perhaps applied.
     Did {
         op: DeviceOp,
@@ -30,5 +37,8 @@ pub enum Step {
         answer: Result<Answer, Fault>,
     },
     /// The plant was started again, and the sides hold the bytes of these ranges.
-    Restarted { a: (u64, u64), b: (u64, u64) },
+    Restarted {
+        a: (u64, u64),
+        b: (u64, u64),
+    },
 }

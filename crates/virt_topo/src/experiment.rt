@@ -7,7 +7,10 @@ pub enum Phase {
     /// It claims nothing.
     Out,
     /// Its wiring is mapped so.
-    In { mapping: Mapping, tags: Tags },
+    In {
+        mapping: Mapping,
+        tags: Tags,
+    },
     /// It moves from one mapping to another, where one of the two may be nothing.
     Moving {
         old: Option<Mapped>,

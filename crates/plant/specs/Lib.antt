@@ -1,0 +1,4 @@
+pub mod Disks
+pub mod Events
+pub mod Told
+pub mod Worlds
