@@ -1,5 +1,5 @@
 -- One field more of a list of fields.
-use Rattle.std.proofs.Common.{◌≡◌, ℕ, suc, ◌+◌, ◌<◌, List, [], ◌∷◌, ◌++◌, length, drop, get_or, Result, refl, sym, ap, ◌∙◌, arith, Bor, drop-cons}
+use Rattle.std.proofs.Common.{◌≡◌, ℕ, suc, ◌+◌, ◌<◌, List, ◌∷◌, length, drop, get_or, Result, sym, ap, ◌∙◌, arith, Bor, drop-cons}
 use Rattle.lab_base.specs.Kinds.{both_of}
 use Rattle.lab_base.specs.Texts.{views}
 use Rattle.lab_base.specs.declared.fault.Kind.{Kind}

@@ -1,5 +1,5 @@
 -- Parts of a line: the value of each, or its fault.
-use Rattle.std.specs.Prelude.{◌≡◌, ℕ, Bool, nat_le, List, [], ◌∷◌, ◌++◌, Option, Some, None, Result, Ok, Err, if◌then◌else◌}
+use Rattle.std.specs.Prelude.{ℕ, nat_le, List, [], ◌∷◌, ◌++◌, Option, Some, None, Result, Ok, Err, if◌then◌else◌}
 use Rattle.lab_base.specs.Names.{is_name}
 use Rattle.lab_base.specs.Numbers.{number_of}
 use Rattle.lab_base.specs.Texts.{parted_at}

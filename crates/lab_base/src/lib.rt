@@ -26,3 +26,6 @@ pub use number::{BadNumber, read_number};
 pub use parts::{ListRead, add_read, name_in, number_in, numbered_in_field};
 pub use rates::Rates;
 pub use text::Text;
+
+#[cfg(test)]
+mod tests;
