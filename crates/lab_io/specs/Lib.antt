@@ -1,0 +1,6 @@
+pub mod Calls
+pub mod Causes
+pub mod Feeds
+pub mod Lines
+pub mod Mem
+pub mod Taken

@@ -1,0 +1,16 @@
+//! Where the script comes from and where the replies go.
+#![tactic(auto)]
+
+mod lines;
+mod mem;
+mod outside;
+mod reader;
+mod standard;
+
+pub use mem::{MemSink, MemSource};
+pub use outside::{Failed, Sink, Source, write_all};
+pub use reader::{Line, LineFault, LineReader};
+pub use standard::{StdSink, StdSource};
+
+#[cfg(test)]
+mod tests;

@@ -1,0 +1,246 @@
+// The lines of a source.
+ghost use Rattle.std.specs.Prelude.{◌≡◌, ◌≢◌, ◌≤◌, ◌<◌, ◌+◌, ◌-◌, ◌^◌, ◌⊎◌, ℕ, length, [], take, drop, None, Some, Ok, Err, IsTrue, IsFalse, slice_index, IfOk, IfErr, IfSome, OnErr, OnOk, IsErrOf, IsSome, vec_len};
+ghost use Rattle.std.specs.Io.KnownBytes.{prepend_known};
+ghost use Rattle.lab_io.specs.Causes.{Rose};
+ghost use Rattle.lab_io.specs.Feeds.{NoFeed, without_return};
+ghost use Rattle.lab_io.specs.Taken.{Took, Counted, IsFound, IsTooLong, rest_of, pending_of, ended_of, fault_of, lines_of, taken_of};
+
+use crate::outside::Source;
+use crate::reader::{Line, LineFault, LineReader};
+use lab_base::{Memory, Text};
+use std::alloc::Global;
+
+/// The most bytes of a line, without its end.
+const MOST: usize = 4_096;
+
+/// The most bytes that are asked of a source at once.
+const CHUNK: usize = 4_096;
+
+/// The most bytes of a script.
+const LIMIT: u64 = 1 << 32;
+
+/// What stands at the front of what is left.
+#[derive(Clone, Copy)]
+enum Found {
+    /// A line whose line feed stands there.
+    Feed(usize),
+    /// A last line, perhaps empty.
+    Last,
+    /// A line that is too long.
+    Long,
+}
+
+/// Where the first line feed stands, or the length.
+fn find_feed(bytes: &[u8]) -> usize
+    ensures within { result ≤ length bytes.now }
+    ensures before { NoFeed (take result bytes.now) }
+    ensures found { result < length bytes.now → slice_index bytes.now result ≡ 10 }
+{
+    for (i, byte) in bytes.iter().enumerate() {
+        if *byte == 10 {
+            return i;
+        }
+    }
+    bytes.len()
+}
+
+/// The length without the carriage return at the end.
+fn without_return_len(bytes: &[u8]) -> usize
+    ensures within { result ≤ length bytes.now }
+    ensures text { take result bytes.now ≡ without_return bytes.now }
+{
+    match bytes {
+        [before @ .., 13] => before.len(),
+        _ => bytes.len(),
+    }
+}
+
+/// Drops the first n bytes.
+fn drop_front(bytes: &mut Vec<u8>, n: usize)
+    requires { n ≤ vec_len bytes.old }
+    ensures { bytes.new.items ≡ drop n bytes.old.items }
+{
+    let left = bytes.len() - n;
+    bytes.rotate_left(n);
+    bytes.truncate(left);
+}
+
+/// Reads until a line feed or the end stands in what is pending, or too much.
+fn fill<S: Source>(pending: &mut Vec<u8>, taken: u64, source: &mut S) -> Result<Found, LineFault>
+    requires { taken ≤ 2 ^ 32 }
+    ensures rest { prepend_known pending.new.items (S.left source.new) ≡ prepend_known pending.old.items (S.left source.old) }
+    ensures found { IfOk result (λ found. IsFound taken pending.new.items (S.left source.new) found) }
+    ensures read { IsErrOf result LineFault.ReadFault → Rose (S.faults source.old) (S.faults source.new) × NoFeed pending.new.items }
+    ensures later { S.faults source.old ≤ S.faults source.new }
+    ensures long { IfErr result (λ e. (n : _) → e ≢ LineFault.TooLong n) }
+{
+    let mut chunk = [0u8; CHUNK];
+    'reads: loop {
+        let at = find_feed(pending);
+        if at < pending.len() {
+            return Ok(Found::Feed(at));
+        }
+        if pending.len() > MOST + 1 || pending.len() as u64 > LIMIT - taken {
+            return Ok(Found::Long);
+        }
+        if pending.try_reserve(CHUNK).is_err() {
+            return Err(LineFault::Memory);
+        }
+        match source.read(&mut chunk) {
+            Ok(0) => return Ok(Found::Last),
+            Ok(n) => pending.extend_from_slice(&chunk[..n]).unwrap(),
+            Err(_) => return Err(LineFault::ReadFault),
+        }
+    }
+}
+
+/// Takes a line of `after` bytes from the front of what is pending, whose text ends at `end`.
+fn take_text(
+    alloc: Global,
+    pending: &mut Vec<u8>,
+    taken: &mut u64,
+    end: usize,
+    after: usize,
+    number: u64,
+) -> Result<Text, LineFault>
+    requires taken { taken.old ≤ 2 ^ 32 }
+    requires end { end ≤ after }
+    requires after { after ≤ vec_len pending.old }
+    ensures text { IfOk result (λ text. text ≡ take end pending.old.items) }
+    ensures after { OnOk result (pending.new.items ≡ drop after pending.old.items) }
+    ensures short { OnOk result (end ≤ 4096) }
+    ensures counted { OnOk result (taken.new ≡ taken.old + after) }
+    ensures within { taken.new ≤ 2 ^ 32 }
+    ensures err { OnErr result (pending.new.items ≡ pending.old.items) }
+    ensures uncounted { OnErr result (taken.new ≡ taken.old) }
+    ensures long { (n : ℕ) → IsErrOf result (LineFault.TooLong n) → (n ≡ number) × ((4096 < end) ⊎ (2 ^ 32 < taken.old + after)) }
+    ensures read { result ≢ Err LineFault.ReadFault }
+{
+    if end > MOST {
+        return Err(LineFault::TooLong(number));
+    }
+    if after as u64 > LIMIT - *taken {
+        return Err(LineFault::TooLong(number));
+    }
+    match Text::from_slice(alloc, &pending[..end]) {
+        Ok(text) => {
+            drop_front(pending, after);
+            *taken += after as u64;
+            Ok(text)
+        }
+        Err(_) => Err(LineFault::Memory),
+    }
+}
+
+/// Takes the line that stands at the front of what is pending, or the last line.
+fn next_line<S: Source>(
+    alloc: Global,
+    pending: &mut Vec<u8>,
+    taken: &mut u64,
+    ended: &mut bool,
+    number: u64,
+    source: &mut S,
+) -> Result<Line, LineFault>
+    requires open { IsFalse ended.old }
+    requires taken { taken.old ≤ 2 ^ 32 }
+    ensures took { IfOk result (λ line. Took (prepend_known pending.old.items (S.left source.old)) line (prepend_known pending.new.items (S.left source.new)) ended.new taken.old taken.new) }
+    ensures err { OnErr result (prepend_known pending.new.items (S.left source.new) ≡ prepend_known pending.old.items (S.left source.old)) }
+    ensures uncounted { OnErr result (taken.new ≡ taken.old) }
+    ensures within { taken.new ≤ 2 ^ 32 }
+    ensures read { IsErrOf result LineFault.ReadFault → Rose (S.faults source.old) (S.faults source.new) × NoFeed pending.new.items }
+    ensures long { (n : ℕ) → IsErrOf result (LineFault.TooLong n) → (n ≡ number) × IsTooLong taken.old (prepend_known pending.old.items (S.left source.old)) }
+    ensures later { S.faults source.old ≤ S.faults source.new }
+{
+    match fill(pending, *taken, source)? {
+        Found::Feed(at) => {
+            let end = without_return_len(&pending[..at]);
+            match take_text(alloc, pending, taken, end, at + 1, number) {
+                Ok(text) => Ok(Line::Text(text)),
+                Err(fault) => Err(fault),
+            }
+        }
+        Found::Last if pending.is_empty() => {
+            *ended = true;
+            Ok(Line::End)
+        }
+        Found::Last => {
+            *ended = true;
+            let end = pending.len();
+            match take_text(alloc, pending, taken, end, end, number) {
+                Ok(text) => Ok(Line::Text(text)),
+                Err(fault) => Err(fault),
+            }
+        }
+        Found::Long => Err(LineFault::TooLong(number)),
+    }
+}
+
+impl LineReader {
+    /// A reader that has read nothing.
+    pub fn new(alloc: Global) -> Result<LineReader, Memory>
+        ensures pending { IfOk result (λ reader. pending_of reader ≡ []) }
+        ensures fault { IfOk result (λ reader. fault_of reader ≡ None) }
+        ensures ended { IfOk result (λ reader. IsFalse (ended_of reader)) }
+        ensures lines { IfOk result (λ reader. lines_of reader ≡ 0) }
+        ensures taken { IfOk result (λ reader. taken_of reader ≡ 0) }
+    {
+        Ok(LineReader {
+            alloc,
+            pending: Vec::with_capacity(alloc, 2 * CHUNK + 2)?,
+            lines: 0,
+            taken: 0,
+            ended: false,
+            fault: None,
+        })
+    }
+
+    /// How many lines were taken.
+    pub fn lines(&self) -> u64
+        ensures { result ≡ lines_of self.now }
+    {
+        self.lines
+    }
+
+    /// The next line. After the end it answers the end, and after a fault the same fault again, and reads nothing.
+    pub fn next<S: Source>(&mut self, source: &mut S) -> Result<Line, LineFault>
+        ensures took { IsFalse (ended_of self.old) → IfOk result (λ line. Took (rest_of self.old (S.left source.old)) line (rest_of self.new (S.left source.new)) (ended_of self.new) (taken_of self.old) (taken_of self.new)) }
+        ensures ended { IsTrue (ended_of self.old) → fault_of self.old ≡ None → (result ≡ Ok Line.End) × IsTrue (ended_of self.new) × (self.new ≡ self.old) × (source.new ≡ source.old) }
+        ensures number { IfOk result (λ line. Counted (lines_of self.old) line (lines_of self.new)) }
+        ensures err { OnErr result (rest_of self.new (S.left source.new) ≡ rest_of self.old (S.left source.old)) }
+        ensures uncounted { OnErr result ((lines_of self.new ≡ lines_of self.old) × (taken_of self.new ≡ taken_of self.old)) }
+        ensures read { IsErrOf result LineFault.ReadFault → fault_of self.old ≡ None → IsFalse (ended_of self.old) × Rose (S.faults source.old) (S.faults source.new) × NoFeed (pending_of self.new) }
+        ensures long { (n : ℕ) → IsErrOf result (LineFault.TooLong n) → fault_of self.old ≡ None → (n ≡ lines_of self.old + 1) × IsFalse (ended_of self.old) × IsTooLong (taken_of self.old) (rest_of self.old (S.left source.old)) }
+        ensures later { S.faults source.old ≤ S.faults source.new }
+        ensures within { taken_of self.new ≤ 2 ^ 32 }
+        ensures ok { OnOk result (fault_of self.new ≡ None) }
+        ensures kept { IfErr result (λ fault. fault_of self.new ≡ Some fault) }
+        ensures again { IfSome (fault_of self.old) (λ fault. result ≡ Err fault) }
+        ensures unread { IsSome (fault_of self.old) → source.new ≡ source.old }
+    {
+        if let Some(fault) = self.fault {
+            return Err(fault);
+        }
+        if self.ended {
+            return Ok(Line::End);
+        }
+        let number = self.lines + 1;
+        match next_line(
+            self.alloc,
+            &mut self.pending,
+            &mut self.taken,
+            &mut self.ended,
+            number,
+            source,
+        ) {
+            Ok(Line::Text(text)) => {
+                self.lines = number;
+                Ok(Line::Text(text))
+            }
+            Ok(Line::End) => Ok(Line::End),
+            Err(fault) => {
+                self.fault = Some(fault);
+                Err(fault)
+            }
+        }
+    }
+}

@@ -1,0 +1,39 @@
+ghost use Rattle.std.specs.Prelude.{◌≤◌, ◌^◌};
+
+use lab_base::Text;
+use std::alloc::Global;
+
+/// A line of a source.
+#[derive(Drop)]
+pub enum Line {
+    /// Its bytes without its end.
+    Text(Text),
+    /// There is no line more.
+    End,
+}
+
+/// Why there is no line.
+#[derive(Clone, Copy, Debug, PartialEq, Eq)]
+pub enum LineFault {
+    /// The line of this number, the first being 1, has more than 4,096 bytes, or ends behind the limit of the script.
+    TooLong(u64),
+    /// The source failed before the line's end.
+    ReadFault,
+    Memory,
+}
+
+/// Reads the lines of a source, however the source cuts its bytes.
+#[derive(Drop)]
+pub struct LineReader {
+    pub(crate) alloc: Global,
+    /// Bytes that were read and are not taken yet.
+    pub(crate) pending: Vec<u8>,
+    /// How many lines were taken, and how many bytes they have with their ends.
+    pub(crate) lines: u64,
+    pub(crate) taken: u64,
+    /// The source has nothing more; it is not asked again.
+    pub(crate) ended: bool,
+    pub(crate) fault: Option<LineFault>,
+    ghost counted: { lines ≤ taken },
+    ghost within: { taken ≤ 2 ^ 32 },
+}
