@@ -1,4 +1,8 @@
+pub mod Boots
+pub mod Calls
 pub mod Disks
 pub mod Events
+pub mod MemLab
+pub mod Plans
 pub mod Told
 pub mod Worlds

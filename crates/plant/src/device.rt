@@ -1,3 +1,6 @@
+ghost use Rattle.std.specs.Prelude.{◌≡◌};
+ghost use Rattle.plant.specs.Calls.{device_of};
+
 use lab_base::{Boot, Name, Rates, VlanId};
 
 /// A command to a device.
@@ -68,4 +71,20 @@ pub struct NodeRow {
     pub state: Boot,
     /// How many pipes it has.
     pub pipes: u32,
+}
+
+impl DeviceOp {
+    /// The device that it goes to.
+    pub fn device(&self) -> Name
+        ensures { result ≡ device_of self.now }
+    {
+        match self {
+            DeviceOp::Join { switch, .. } | DeviceOp::Leave { switch, .. } => *switch,
+            DeviceOp::Shape { node, .. }
+            | DeviceOp::Load { node, .. }
+            | DeviceOp::Boot { node }
+            | DeviceOp::Poll { node }
+            | DeviceOp::Wipe { node } => *node,
+        }
+    }
 }

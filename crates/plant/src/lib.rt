@@ -3,10 +3,20 @@
 
 mod device;
 mod drill;
+mod mem;
 mod moment;
+mod nodes;
+mod plans;
+mod plant;
+mod rows;
 mod step;
 
 pub use device::{Answer, DeviceOp, Fault, NodeRow};
 pub use drill::{Drill, DrillFault, How, Pick};
+pub use mem::MemLab;
 pub use moment::{Faults, Moment, Taken};
+pub use plant::Plant;
 pub use step::{Side, Step};
+
+#[cfg(test)]
+mod tests;

@@ -1,0 +1,46 @@
+-- The boot states that a plant in memory keeps.
+use Rattle.std.specs.Prelude.{ℕ, Bool, List, Option, Some, None, if◌then◌else◌}
+use Rattle.std.specs.List.{find}
+use Rattle.std.specs.Str.{bytes_eq}
+use Rattle.lab_base.specs.declared.boot.Boot.{Boot}
+use Rattle.lab_base.specs.declared.boot.Boot.TheVariants.{Off, Booting, TbSetup, IsUp}
+use Rattle.plant.specs.declared.device.DeviceOp.{DeviceOp}
+use Rattle.plant.specs.declared.device.DeviceOp.TheVariants.{Load, Boot as BootIt, Poll, Wipe}
+use Rattle.plant.specs.declared.device.Answer.{Answer}
+use Rattle.plant.specs.declared.device.Answer.TheVariants.{Done, State}
+use Rattle.plant.specs.declared.nodes.NodeState.{NodeState}
+
+-- the entry is the node's
+abbrev pub is_of : List ℕ → NodeState → Bool
+is_of node entry = bytes_eq entry.node node
+
+abbrev pub state_or_off : Option NodeState → Boot
+state_or_off None = Off
+state_or_off (Some entry) = entry.state
+
+-- the boot state that a table has for a node; a node that it doesn't have is off
+abbrev pub state_in : List ℕ → List NodeState → Boot
+state_in node entries = state_or_off (find (is_of node) entries)
+
+-- the entry with that state, where it is the node's
+abbrev pub with_state : List ℕ → Boot → NodeState → NodeState
+with_state node state entry = if is_of node entry then record entry { state = state } else entry
+
+-- what a poll makes of a state
+abbrev pub moved : Boot → Boot
+moved Booting = TbSetup
+moved TbSetup = IsUp
+moved state = state
+
+-- the named node's boot state after a command that was applied
+abbrev pub state_after : DeviceOp → List ℕ → Boot → Boot
+state_after (Load node os) name state = if bytes_eq node name then Off else state
+state_after (BootIt node) name state = if bytes_eq node name then Booting else state
+state_after (Poll node) name state = if bytes_eq node name then moved state else state
+state_after (Wipe node) name state = if bytes_eq node name then Off else state
+state_after op name state = state
+
+-- the answer of a command that is done, by the state that its node had
+abbrev pub answer_of : DeviceOp → (List ℕ → Boot) → Answer
+answer_of (Poll node) state = State (moved (state node))
+answer_of op state = Done
