@@ -1,0 +1,101 @@
+-- Placed and kept nodes, as tests and as facts.
+use Rattle.std.specs.List.{list_any, filter}
+use Rattle.std.specs.Cmp.Lexicographic.{pointwise}
+use Rattle.std.specs.Str.{bytes_eq}
+use Rattle.std.proofs.Common.{◌≡◌, inl, inr, ℕ, ◌<◌, Bool, true, cond, Some, List, [], ◌∷◌, length, map, slice_get, refl, sym, ap, ◌∙◌, subst, arith}
+use Rattle.std.proofs.lemmas.Bool.{cases_Bool, and_parts, or_cases, or_left, or_right, eqb-true, false≢true}
+use Rattle.std.proofs.lemmas.Slice.Eq.{bytes_eq-Decides}
+use Rattle.lab_base.specs.Lists.{Has}
+use Rattle.lab_base.proofs.Members.{Has-mapped, Has-map}
+use Rattle.lab_base.specs.declared.ids.NodeId.{NodeId}
+use Rattle.lab_base.specs.declared.rates.Rates.{Rates}
+use Rattle.phys_lab.specs.Labs.{Lab}
+use Rattle.virt_topo.specs.Ends.{end_nodes, pipe_from}
+use Rattle.virt_topo.specs.declared.mapping.Mapped.{Mapped}
+use Rattle.plant.specs.Worlds.{PipeRow}
+use Rattle.lab_model.specs.Wants.{node_name, no_place, pipes_on}
+use Rattle.lab_model.specs.Kept.{places_it, is_kept, same_pipe, same_rates}
+use Rattle.lab_model.specs.Claims.{Places}
+use Rattle.lab_model.specs.Holding.{Suits}
+use Rattle.lab_model.specs.Courses.{node_names}
+use Rattle.lab_model.proofs.PartLaws.{Has-get_or}
+use Rattle.lab_model.proofs.OneSided.{end_number-at, wanted_pipe, Has-slice_get}
+
+pub Has-filter : {X : Type 0} (p : X → Bool) (xs : List X) (x : X) → Has (filter p xs) x → Has xs x × (p x ≡ true)
+Has-filter p [] x h = absurd h
+Has-filter p (y ∷ xs) x h = elim (cases_Bool (p y)) [
+  | inl is ↦
+      let here : Has (y ∷ filter p xs) x = subst (λ b. Has (cond b (y ∷ filter p xs) (filter p xs)) x) is h in
+      elim here [ inl e ↦ (inl e, ap p (sym e) ∙ is) | inr g ↦ let r = Has-filter p xs x g in (inr r.0, r.1) ]
+  | inr is ↦
+      let rest : Has (filter p xs) x = subst (λ b. Has (cond b (y ∷ filter p xs) (filter p xs)) x) is h in
+      let r = Has-filter p xs x rest in (inr r.0, r.1)
+]
+
+pub Has-filtered : {X : Type 0} (p : X → Bool) (xs : List X) (x : X) → Has xs x → p x ≡ true → Has (filter p xs) x
+Has-filtered p [] x h passes = absurd h
+Has-filtered p (y ∷ xs) x (inl e) passes = subst (λ b. Has (cond b (y ∷ filter p xs) (filter p xs)) x) (sym passes ∙ ap p (sym e)) (inl e)
+Has-filtered p (y ∷ xs) x (inr h) passes = elim (cases_Bool (p y)) [
+  | inl is ↦ subst (λ b. Has (cond b (y ∷ filter p xs) (filter p xs)) x) (sym is) (inr (Has-filtered p xs x h passes))
+  | inr is ↦ subst (λ b. Has (cond b (y ∷ filter p xs) (filter p xs)) x) (sym is) (Has-filtered p xs x h passes)
+]
+
+any_placed : (lab : Lab) (ps : List (NodeId × List ℕ)) (name : List ℕ) → Has (map (λ p. node_name lab p.0) ps) name → list_any (λ p. bytes_eq (node_name lab p.0) name) ps ≡ true
+any_placed lab [] name h = absurd h
+any_placed lab (p ∷ ps) name (inl e) = or_left _ _ ((bytes_eq-Decides (node_name lab p.0) name).1 e)
+any_placed lab (p ∷ ps) name (inr h) = or_right _ _ (any_placed lab ps name h)
+
+placed_any : (lab : Lab) (ps : List (NodeId × List ℕ)) (name : List ℕ) → list_any (λ p. bytes_eq (node_name lab p.0) name) ps ≡ true → Has (map (λ p. node_name lab p.0) ps) name
+placed_any lab [] name h = absurd (false≢true h)
+placed_any lab (p ∷ ps) name h = elim (or_cases _ _ h) [ inl is ↦ inl ((bytes_eq-Decides (node_name lab p.0) name).0 is) | inr more ↦ inr (placed_any lab ps name more) ]
+
+pub places_it_from : (lab : Lab) (m : Mapped) (name : List ℕ) → Places lab m name → places_it lab m name ≡ true
+places_it_from lab m name placed = any_placed lab m.mapping.places name placed
+
+pub Places_from : (lab : Lab) (m : Mapped) (name : List ℕ) → places_it lab m name ≡ true → Places lab m name
+Places_from lab m name is = placed_any lab m.mapping.places name is
+
+-- a placed node is one of the lab
+pub placed_listed : (lab : Lab) (m : Mapped) (name : List ℕ) → Suits lab m → Places lab m name → Has (node_names lab) name
+placed_listed lab m name suits placed =
+    let p = Has-map (λ p. node_name lab p.0) m.mapping.places name placed in
+    subst (λ n. Has (node_names lab) n) p.2 (Has-mapped (λ n. n.name) lab.nodes _ (Has-get_or lab.nodes p.0.0.0 _ (suits.in_nodes p.0 p.1)))
+
+-- a node where a pipe is wanted is placed
+pub pipe_placed : (lab : Lab) (m : Mapped) (name : List ℕ) (k : ℕ) (row : PipeRow) → Suits lab m → slice_get (pipes_on lab m name) k ≡ Some row → Places lab m name
+pipe_placed lab m name k row suits wants =
+    let w = wanted_pipe lab m name row (Has-slice_get _ k row wants) in
+    let sound = suits.pipes w.from w.in_wiring in
+    let node : w.from.node < length m.wiring.nodes = subst (λ v. v < length m.wiring.nodes) (end_number-at (end_nodes m.wiring.segments) w.from.node w.from.from sound.from_end) (suits.nodes (pipe_from m.wiring w.from) sound.from_end) in
+    let within : w.from.node < length m.mapping.places = omega (arith, node, suits.places) in
+    subst (λ n. Places lab m n) w.placed (Has-mapped (λ p. node_name lab p.0) m.mapping.places _ (Has-get_or m.mapping.places w.from.node no_place within))
+
+same_rates-true : (a b : Rates) → same_rates a b ≡ true → a ≡ b
+same_rates-true a b h =
+    let x = and_parts _ _ h in
+    let y = and_parts _ _ x.0 in
+    let k = eqb-true a.kbps b.kbps y.0 in
+    let m = eqb-true a.micros b.micros y.1 in
+    let p = eqb-true a.ppm b.ppm x.1 in
+    λ i. record { kbps = k i; micros = m i; ppm = p i }
+
+same_pipe-true : (a b : PipeRow) → same_pipe a b ≡ true → a ≡ b
+same_pipe-true a b h =
+    let x = and_parts _ _ h in
+    let y = and_parts _ _ x.0 in
+    let z = and_parts _ _ y.0 in
+    let f = (bytes_eq-Decides a.from b.from).0 z.0 in
+    let t = (bytes_eq-Decides a.to b.to).0 z.1 in
+    let r = same_rates-true a.there b.there y.1 in
+    let s = same_rates-true a.back b.back x.1 in
+    λ i. record { from = f i; to = t i; there = r i; back = s i }
+
+same_pipes-true : (xs ys : List PipeRow) → pointwise same_pipe xs ys ≡ true → xs ≡ ys
+same_pipes-true [] [] h = refl
+same_pipes-true [] (y ∷ ys) h = absurd (false≢true h)
+same_pipes-true (x ∷ xs) [] h = absurd (false≢true h)
+same_pipes-true (x ∷ xs) (y ∷ ys) h = let p = and_parts _ _ h in let a = same_pipe-true x y p.0 in let b = same_pipes-true xs ys p.1 in (λ i. a i ∷ b i)
+
+-- of a kept node both mappings want the same pipes
+pub kept_pipes : (lab : Lab) (a b : Mapped) (name : List ℕ) → is_kept lab (Some a) (Some b) name ≡ true → pipes_on lab a name ≡ pipes_on lab b name
+kept_pipes lab a b name h = same_pipes-true _ _ (and_parts _ _ h).1

@@ -1,0 +1,96 @@
+-- The definitions on worked examples, by computation.
+use Rattle.std.proofs.Common.{◌≡◌, ℕ, true, false, Some, None, [], ◌∷◌, length, map, refl}
+use Rattle.phys_lab.specs.Sides.{on_first_side}
+use Rattle.phys_lab.specs.Labs.{Lab}
+use Rattle.phys_lab.specs.declared.parts.Node.{Node}
+use Rattle.phys_lab.specs.declared.parts.Iface.{Iface}
+use Rattle.virt_topo.specs.declared.wiring.Asks.TheVariants.{Plain}
+use Rattle.virt_topo.specs.declared.wiring.VirtNode.{VirtNode}
+use Rattle.virt_topo.specs.declared.wiring.VirtEnd.{VirtEnd}
+use Rattle.virt_topo.specs.declared.mapping.Mapped.{Mapped}
+use Rattle.plant.specs.Worlds.{Row}
+use Rattle.plant.specs.declared.device.DeviceOp.TheVariants.{Join, Leave, Load, Wipe}
+use Rattle.lab_model.specs.Cables.{trunk_use}
+use Rattle.lab_model.specs.Wants.{cables_of, rows_of}
+use Rattle.lab_model.specs.Courses.{commands, undo}
+
+abbrev node : ℕ → Node
+node n = record { name = n ∷ []; types = []; features = [] }
+
+abbrev iface : ℕ → ℕ → ℕ → Iface
+iface n switch port = record { link = n ∷ []; node = record { 0 = n }; name = 7 ∷ []; switch = record { 0 = switch }; port = port; kbps = 1000000 }
+
+-- two switches, two nodes on each, one trunk of 100000
+abbrev lab_q : Lab
+lab_q = record {
+  range = (100, 103);
+  switches = (21 ∷ []) ∷ (22 ∷ []) ∷ [];
+  nodes = node 0 ∷ node 1 ∷ node 2 ∷ node 3 ∷ [];
+  ifaces = iface 0 0 1 ∷ iface 1 0 2 ∷ iface 2 1 1 ∷ iface 3 1 2 ∷ [];
+  trunks = record { link = 9 ∷ []; first = (record { 0 = 0 }, 24); second = (record { 0 = 1 }, 24); kbps = 100000 } ∷ [];
+}
+
+abbrev virt : ℕ → VirtNode
+virt n = record { name = n ∷ []; asks = Plain []; desires = []; os = 5 ∷ []; fixed = None }
+
+abbrev end' : ℕ → VirtEnd
+end' n = record { node = n; address = None }
+
+-- a link of a and b on two nodes
+abbrev pair : ℕ → ℕ → ℕ → ℕ → Mapped
+pair kbps p q tag = record {
+  wiring = record { classes = []; nodes = virt 0 ∷ virt 1 ∷ []; segments = record { name = 1 ∷ []; owner = 1 ∷ []; kbps = kbps; ends = end' 0 ∷ end' 1 ∷ [] } ∷ []; pipes = [] };
+  mapping = record { places = (record { 0 = p }, []) ∷ (record { 0 = q }, []) ∷ []; plugs = record { 0 = p } ∷ record { 0 = q } ∷ [] };
+  tags = record { 0 = tag } ∷ [];
+}
+
+-- a LAN of four
+abbrev four : Mapped
+four = record {
+  wiring = record { classes = []; nodes = virt 0 ∷ virt 1 ∷ virt 2 ∷ virt 3 ∷ []; segments = record { name = 1 ∷ []; owner = 1 ∷ []; kbps = 50000; ends = end' 0 ∷ end' 1 ∷ end' 2 ∷ end' 3 ∷ [] } ∷ []; pipes = [] };
+  mapping = record { places = (record { 0 = 0 }, []) ∷ (record { 0 = 1 }, []) ∷ (record { 0 = 2 }, []) ∷ (record { 0 = 3 }, []) ∷ []; plugs = record { 0 = 0 } ∷ record { 0 = 1 } ∷ record { 0 = 2 } ∷ record { 0 = 3 } ∷ [] };
+  tags = record { 0 = 100 } ∷ [];
+}
+
+-- sides of the trunk
+sides : map (on_first_side lab_q.trunks 0) (0 ∷ 1 ∷ []) ≡ true ∷ false ∷ []
+sides = refl
+
+-- the trunk is exactly full
+full : trunk_use lab_q 0 (cables_of (pair 100000 0 2 100)) ≡ 100000
+full = refl
+
+lan : trunk_use lab_q 0 (cables_of four) ≡ 100000
+lan = refl
+
+unused : trunk_use lab_q 0 (cables_of (pair 100000 0 1 100)) ≡ 0
+unused = refl
+
+abbrev row : ℕ → ℕ → ℕ → Row
+row s p v = record { switch = s ∷ []; port = p; vlan = v }
+
+-- the rows of a link across the trunk, and of one on a switch
+across : map (λ o. o.row) (rows_of lab_q (pair 1 0 2 100)) ≡ row 21 1 100 ∷ row 22 1 100 ∷ row 21 24 100 ∷ row 22 24 100 ∷ []
+across = refl
+
+within : map (λ o. o.row) (rows_of lab_q (pair 1 0 1 100)) ≡ row 21 1 100 ∷ row 21 2 100 ∷ []
+within = refl
+
+-- a change in place keeps both nodes: four rows are left, four are joined, nothing is loaded
+change : length (commands lab_q (Some (pair 1 0 2 100)) (Some (pair 1 0 2 101))).clear ≡ 4
+change = refl
+
+change_load : (commands lab_q (Some (pair 1 0 2 100)) (Some (pair 1 0 2 101))).load ≡ []
+change_load = refl
+
+swap_in : (commands lab_q None (Some (pair 1 0 1 100))).cable ≡ Join (21 ∷ []) 1 (record { 0 = 100 }) ∷ Join (21 ∷ []) 2 (record { 0 = 100 }) ∷ []
+swap_in = refl
+
+swap_in_load : (commands lab_q None (Some (pair 1 0 1 100))).load ≡ Load (0 ∷ []) (5 ∷ []) ∷ Load (1 ∷ []) (5 ∷ []) ∷ []
+swap_in_load = refl
+
+swap_in_boot : (commands lab_q None (Some (pair 1 0 1 100))).boot ≡ (0 ∷ []) ∷ (1 ∷ []) ∷ []
+swap_in_boot = refl
+
+undone : (undo lab_q None (Some (pair 1 0 1 100))).clear ≡ Leave (21 ∷ []) 1 (record { 0 = 100 }) ∷ Leave (21 ∷ []) 2 (record { 0 = 100 }) ∷ Wipe (0 ∷ []) ∷ Wipe (1 ∷ []) ∷ []
+undone = refl

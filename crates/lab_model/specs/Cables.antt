@@ -1,0 +1,35 @@
+-- The segments of a wiring with the plugs of their ends, and what they use of a trunk.
+use Rattle.std.specs.Prelude.{◌-◌, ◌*◌, ℕ, min, Bool, ◌&&◌, nat_lt, List, [], ◌∷◌, length, take, drop, slice_index_or, count_by, sum_by}
+use Rattle.lab_base.specs.declared.ids.IfaceId.{IfaceId}
+use Rattle.phys_lab.specs.Sides.{on_first_side}
+use Rattle.phys_lab.specs.Labs.{Lab}
+use Rattle.phys_lab.specs.declared.parts.Iface.{Iface}
+use Rattle.virt_topo.specs.declared.wiring.Segment.{Segment}
+
+-- a segment with the plugs of its ends
+pub record Cable : Type 0 where
+  pub segment : Segment
+  pub plugs : List IfaceId
+
+-- the segments with their plugs, which are one list in the order of ends
+abbrev pub cables : List Segment → List IfaceId → List Cable
+cables [] plugs = []
+cables (s ∷ segments) plugs = record { segment = s; plugs = take (length s.ends) plugs } ∷ cables segments (drop (length s.ends) plugs)
+
+abbrev pub no_iface : Iface
+no_iface = record { link = []; node = record { 0 = 0 }; name = []; switch = record { 0 = 0 }; port = 0; kbps = 0 }
+
+abbrev pub iface_at : Lab → IfaceId → Iface
+iface_at lab i = slice_index_or lab.ifaces i.0 no_iface
+
+-- how many plugs of the cable are on the first side of trunk t
+abbrev pub on_first : Lab → ℕ → Cable → ℕ
+on_first lab t c = count_by (λ i. on_first_side lab.trunks t (iface_at lab i).switch.0) c.plugs
+
+-- trunk t carries the cable
+abbrev pub is_carried : Lab → ℕ → Cable → Bool
+is_carried lab t c = nat_lt 0 (on_first lab t c) && nat_lt (on_first lab t c) (length c.plugs)
+
+-- what the cables use of trunk t
+abbrev pub trunk_use : Lab → ℕ → List Cable → ℕ
+trunk_use lab t cs = sum_by (λ c. min (on_first lab t c) (length c.plugs - on_first lab t c) * c.segment.kbps) cs

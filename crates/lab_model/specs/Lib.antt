@@ -1,0 +1,15 @@
+pub mod Cabled
+pub mod Cables
+pub mod Claims
+pub mod Courses
+pub mod Feasible
+pub mod Holding
+pub mod Isolated
+pub mod Kept
+pub mod Leavings
+pub mod OnCourse
+pub mod Parts
+pub mod Reach
+pub mod Rules
+pub mod Sound
+pub mod Wants

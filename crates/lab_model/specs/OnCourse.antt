@@ -1,0 +1,62 @@
+-- What a state of an open swap knows of a trace.
+use Rattle.std.specs.Prelude.{◌≤◌, ℕ, Bool, false, ◌||◌, List, [], ◌∷◌, ◌++◌, length, take, drop, map, true, ◌≡◌, Option, Some, None, if◌then◌else◌, fold}
+use Rattle.std.specs.List.{list_any}
+use Rattle.phys_lab.specs.Labs.{Lab}
+use Rattle.virt_topo.specs.declared.experiment.Experiment.{Experiment}
+use Rattle.virt_topo.specs.declared.mapping.Mapped.{Mapped}
+use Rattle.plant.specs.Worlds.{Row, World, is_row, world_after, world_of}
+use Rattle.plant.specs.Events.{Event, Did}
+use Rattle.plant.specs.declared.device.DeviceOp.{DeviceOp}
+use Rattle.lab_model.specs.Claims.{Old, New, claimed}
+use Rattle.lab_model.specs.Parts.{Part}
+use Rattle.lab_model.specs.Courses.{op_row, op_node, rows_from, is_placed, Plan, Left, Course, Going, whole, Goes, nothing_left}
+use Rattle.lab_model.specs.Leavings.{Sent, ran, SameFor, Ends}
+
+-- a mapping of the experiment wants the row, as a test
+abbrev pub is_row_of : Lab → Experiment → Option Row → Bool
+is_row_of lab e None = false
+is_row_of lab e (Some row) = list_any (λ o. is_row o.row.switch o.row.port o.row.vlan row) (rows_from lab (claimed e Old) ++ rows_from lab (claimed e New))
+
+abbrev pub is_node_of : Lab → Experiment → Option (List ℕ) → Bool
+is_node_of lab e None = false
+is_node_of lab e (Some name) = is_placed lab (claimed e Old) name || is_placed lab (claimed e New) name
+
+-- the command is of the experiment, as a test
+abbrev pub is_of : Lab → Experiment → DeviceOp → Bool
+is_of lab e op = is_row_of lab e (op_row op) || is_node_of lab e (op_node op)
+
+-- the experiment's own commands with their answers, in trace order
+abbrev pub own : Lab → Experiment → List Event → Sent
+own lab e [] = []
+own lab e (Did op applied answer ∷ events) = if is_of lab e op then (op, answer) ∷ own lab e events else own lab e events
+own lab e (event ∷ events) = own lab e events
+
+-- however the rest of the course goes to its end, this is what it leaves
+abbrev pub Promise : Lab → Experiment → Mapped → World → Course → Type 0
+Promise lab e m w course = (cs : Sent) → Goes cs course (Going nothing_left) → Ends lab e m (ran w cs)
+
+-- THE FACTS OF A STATE: since some moment its own commands are the course so far; and if the part was good at that moment, it is good now, and the rest of the course ends well.
+pub record Facts (lab : Lab) (e : Experiment) (m : Mapped) (plan : Plan) (left : Left) (trace : List Event) : Type 0 where
+  pub start : ℕ
+  pub within : start ≤ length trace
+  pub course : Goes (own lab e (drop start trace)) (Going (whole plan)) (Going left)
+  pub good : Part lab (world_of (take start trace)) e → Part lab (world_of trace) e × Promise lab e m (world_of trace) (Going left)
+
+-- THE SAME WITH NO PREMISE: to the experiment the world is as if since that moment only its own commands had been sent.
+abbrev pub own_events : Lab → Experiment → List Event → List Event
+own_events lab e [] = []
+own_events lab e (Did op applied answer ∷ events) = if is_of lab e op then Did op applied answer ∷ own_events lab e events else own_events lab e events
+own_events lab e (event ∷ events) = own_events lab e events
+
+abbrev pub IsAlone : Lab → Experiment → ℕ → List Event → Type 0
+IsAlone lab e start trace = SameFor lab e (fold world_after (world_of (take start trace)) (own_events lab e (drop start trace))) (world_of trace)
+
+-- commands that were applied and answered so
+abbrev pub acknowledged : Sent → List Event
+acknowledged cs = map (λ c. Did c.0 true c.1) cs
+
+-- WHAT A STATE KEEPS: since that moment its own commands are these, all acknowledged, and to the experiment the world is as if only they had been sent.
+pub record OnCourse (lab : Lab) (e : Experiment) (cs : Sent) (start : ℕ) (trace : List Event) : Type 0 where
+  pub within : start ≤ length trace
+  pub sent : own_events lab e (drop start trace) ≡ acknowledged cs
+  pub alone : IsAlone lab e start trace

@@ -1,0 +1,81 @@
+//! The definitions of the model, and its laws.
+#![tactic(auto)]
+
+ghost use Rattle.std.specs.Prelude.{◌≡◌, ◌≢◌, ◌⊎◌, ◌++◌, ◌∷◌, [], ◌<◌, ℕ, List, length, take, Bool, true, false, Option, Some, None, Result};
+ghost use Rattle.lab_base.specs.Lists.{Has};
+ghost use Rattle.phys_lab.specs.Sides.{joined, AreJoined};
+ghost use Rattle.phys_lab.specs.Labs.{Lab};
+ghost use Rattle.phys_lab.specs.declared.parts.Trunk.{Trunk};
+ghost use Rattle.virt_topo.specs.declared.experiment.Experiment.{Experiment};
+ghost use Rattle.virt_topo.specs.declared.mapping.Mapped.{Mapped};
+ghost use Rattle.virt_topo.specs.declared.experiment.Phase.TheVariants.{Moving};
+ghost use Rattle.plant.specs.Worlds.{World, world_after, world_of};
+ghost use Rattle.plant.specs.Events.{Event, Did};
+ghost use Rattle.plant.specs.Disks.{Disk, IsImage, wrote, synced};
+ghost use Rattle.plant.specs.declared.device.DeviceOp.{DeviceOp};
+ghost use Rattle.plant.specs.declared.device.Answer.{Answer};
+ghost use Rattle.plant.specs.declared.device.Fault.{Fault};
+ghost use Rattle.lab_model.specs.Feasible.{first_bad, violation, IsWiring, IsShaped};
+ghost use Rattle.lab_model.specs.Holding.{IsLab, Holding, Suits};
+ghost use Rattle.lab_model.specs.Isolated.{Isolated};
+ghost use Rattle.lab_model.specs.Cabled.{Cabled};
+ghost use Rattle.lab_model.specs.Parts.{Part, Parts};
+ghost use Rattle.lab_model.specs.Courses.{IsCommandOf, IsDone, commands, undo};
+ghost use Rattle.lab_model.specs.Leavings.{Sent, did, ran, Ends, Gone};
+ghost use Rattle.lab_model.specs.OnCourse.{OnCourse};
+ghost use Rattle.lab_model.specs.Claims.{Which, claimed};
+
+/// What is said of the whole is what the parts say together.
+pub fn law_of_parts()
+    ensures whole { (lab : Lab) (es : List Experiment) (w : World) → IsLab lab → Holding lab es
+        → Parts lab es w → Isolated lab es w × Cabled lab es w }
+    ensures parts { (lab : Lab) (es : List Experiment) (w : World) → IsLab lab → Holding lab es
+        → Isolated lab es w → Cabled lab es w → Parts lab es w }
+{}
+
+/// A command of one experiment keeps the part of each other one.
+pub fn other_parts()
+    ensures { (lab : Lab) (es : List Experiment) (w : World) (e f : Experiment) (op : DeviceOp) (applied : Bool)
+        (answer : Result Answer Fault) → IsLab lab → Holding lab es → Has es e → Has es f → e ≢ f → IsCommandOf lab f op
+        → Part lab w e → Part lab (world_after w (Did op applied answer)) e }
+{}
+
+/// What a done course leaves of its experiment, from any part.
+pub fn done_courses()
+    ensures forward { (lab : Lab) (e : Experiment) (old : Option Mapped) (m : Mapped) (w : World) (cs : Sent)
+        → e.phase ≡ Moving old (Some m) → ((which : Which) (n : Mapped) → claimed e which ≡ Some n → Suits lab n) → Part lab w e
+        → IsDone (commands lab old (Some m)) cs → Ends lab e m (ran w cs) }
+    ensures undone { (lab : Lab) (e : Experiment) (m : Mapped) (new : Option Mapped) (w : World) (cs : Sent)
+        → e.phase ≡ Moving (Some m) new → ((which : Which) (n : Mapped) → claimed e which ≡ Some n → Suits lab n) → Part lab w e
+        → IsDone (undo lab (Some m) new) cs → Ends lab e m (ran w cs) }
+    ensures out { (lab : Lab) (e : Experiment) (m : Mapped) (w : World) (cs : Sent) → e.phase ≡ Moving (Some m) None → Suits lab m
+        → IsDone (commands lab (Some m) None) cs → Gone lab e (ran w cs) }
+    ensures in_undone { (lab : Lab) (e : Experiment) (m : Mapped) (w : World) (cs : Sent) → e.phase ≡ Moving None (Some m) → Suits lab m
+        → IsDone (undo lab None (Some m)) cs → Gone lab e (ran w cs) }
+{}
+
+/// What a check of a mapping says: the first number that fails, and that a mapping without a violation suits the lab.
+pub fn checks()
+    ensures none { (n : ℕ) (test : ℕ → Bool) → first_bad n 0 test ≡ None → (k : ℕ) → k < n → test k ≡ true }
+    ensures first { (n k : ℕ) (test : ℕ → Bool) → first_bad n 0 test ≡ Some k
+        → (k < n) × (test k ≡ false) × ((j : ℕ) → j < k → test j ≡ true) }
+    ensures suits { (lab : Lab) (others : List Experiment) (own : Experiment) (m : Mapped) → violation lab others own m.wiring m.mapping ≡ None
+        → IsWiring m.wiring → IsShaped lab m.wiring m.mapping → length m.tags ≡ length m.wiring.segments → Suits lab m }
+{}
+
+/// What a state keeps of its course: kept by others' commands and by the journal's steps, longer by its own, and enough for the part and the end.
+pub fn courses_alone()
+    ensures starts { (lab : Lab) (e : Experiment) (trace : List Event) → OnCourse lab e [] (length trace) trace }
+    ensures others { (lab : Lab) (es : List Experiment) → IsLab lab → Holding lab es → (e f : Experiment) (cs : Sent) (start : ℕ) (trace : List Event)
+        (op : DeviceOp) (applied : Bool) (answer : Result Answer Fault) → Has es e → Has es f → e ≢ f → IsCommandOf lab f op
+        → OnCourse lab e cs start trace → OnCourse lab e cs start (trace ++ Did op applied answer ∷ []) }
+    ensures own { (lab : Lab) (e : Experiment) (cs : Sent) (start : ℕ) (trace : List Event) (op : DeviceOp) (answer : Result Answer Fault)
+        → IsCommandOf lab e op → OnCourse lab e cs start trace → OnCourse lab e (cs ++ (op, answer) ∷ []) start (trace ++ Did op true answer ∷ []) }
+    ensures part { (lab : Lab) (e : Experiment) (cs : Sent) (start : ℕ) (trace : List Event) (op : DeviceOp) (applied : Bool) (answer : Result Answer Fault)
+        → OnCourse lab e cs start trace → Part lab (did (ran (world_of (take start trace)) cs) op applied answer) e
+        → Part lab (did (world_of trace) op applied answer) e }
+    ensures ends { (lab : Lab) (e : Experiment) (m : Mapped) (which : Which) (cs : Sent) (start : ℕ) (trace : List Event) → claimed e which ≡ Some m
+        → OnCourse lab e cs start trace → Ends lab e m (ran (world_of (take start trace)) cs) → Ends lab e m (world_of trace) }
+    ensures gone { (lab : Lab) (e : Experiment) (cs : Sent) (start : ℕ) (trace : List Event) → OnCourse lab e cs start trace
+        → Gone lab e (ran (world_of (take start trace)) cs) → Gone lab e (world_of trace) }
+{}
