@@ -1,0 +1,22 @@
+use Rattle.journal_model.specs.Labs.{at_first}
+use Rattle.journal_model.proofs.Syncs.{lawful_readable, synced_fewer}
+use Rattle.journal_model.proofs.Starts.{syncs_sound, opening, restarted, makes}
+use Rattle.journal_model.proofs.openings.Goals as goal
+
+pub returns-clause-synced : goal.returns-clause-synced
+returns-clause-synced c = λ t trace a b sound. syncs_sound t trace a b sound
+
+pub returns-clause-fewer : goal.returns-clause-fewer
+returns-clause-fewer c = λ side trace a b readable possible. synced_fewer side trace a b readable possible
+
+pub returns-clause-found : goal.returns-clause-found
+returns-clause-found c = λ t trace a b sound. opening t trace a b sound
+
+pub returns-clause-restarted : goal.returns-clause-restarted
+returns-clause-restarted c = λ t trace a b was sound. restarted t trace a b was sound
+
+pub returns-clause-made : goal.returns-clause-made
+returns-clause-made c = λ t trace b sound shut. (at_first, makes t trace b sound shut)
+
+pub returns-clause-lawful : goal.returns-clause-lawful
+returns-clause-lawful c = λ side trace lawful. lawful_readable side trace lawful
