@@ -1,1 +1,4 @@
 pub mod Ends
+pub mod Cables
+pub mod Repeats
+pub mod Soundness

@@ -2,11 +2,13 @@
 #![tactic(auto)]
 
 mod experiment;
+mod fault;
 mod mapping;
 mod violation;
 mod wiring;
 
 pub use experiment::{Experiment, Phase};
+pub use fault::WiringFault;
 pub use mapping::{Mapped, Mapping};
 pub use violation::{Broken, Subject};
 pub use wiring::{Asks, Class, Pipe, Segment, VirtEnd, VirtNode, Wiring};

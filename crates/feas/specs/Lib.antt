@@ -1,0 +1,4 @@
+pub mod Uses
+pub mod Shapes
+pub mod Rules
+pub mod Feasible

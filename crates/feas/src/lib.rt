@@ -1,0 +1,2 @@
+//! The checker of the eight rules of mappings.
+#![tactic(auto)]

@@ -1,0 +1,13 @@
+-- What stands again in a list.
+use Rattle.std.specs.Prelude.{ℕ, Bool, false, ◌||◌, nat_eq, List, [], ◌∷◌}
+use Rattle.std.specs.List.{list_any}
+use Rattle.std.specs.Cmp.Lexicographic.{pointwise}
+
+-- two names are one
+abbrev pub same_name : List ℕ → List ℕ → Bool
+same_name = pointwise nat_eq
+
+-- some element and a later one are the same
+abbrev pub stands_again : {X : Type 0} → (X → X → Bool) → List X → Bool
+stands_again same [] = false
+stands_again same (x ∷ xs) = list_any (same x) xs || stands_again same xs
