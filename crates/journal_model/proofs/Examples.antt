@@ -15,7 +15,7 @@ use Rattle.virt_topo.specs.declared.experiment.Experiment.{Experiment}
 use Rattle.virt_topo.specs.declared.experiment.Phase.TheVariants.{Out, Moving}
 use Rattle.plant.specs.declared.step.Side.TheVariants.{A}
 use Rattle.journal_rec.specs.declared.record.Record.TheVariants.{Delete}
-use Rattle.lab_model.specs.Feasible.{violation}
+use Rattle.lab_model.specs.Beside.{violation_beside}
 use Rattle.journal_model.specs.Payloads.{payload}
 use Rattle.journal_model.specs.Journals.{head, live, New, Wrong, Records, Bad, journal_length, cut_off}
 use Rattle.journal_model.specs.Labs.{at_first, LabState, SetLab, Creates, Deletes, BeginsIn, BeginsOut, Commits, Aborts, moved, inside}
@@ -62,29 +62,29 @@ abbrev double : Wiring
 double = record { classes = []; nodes = virt 0 ∷ virt 1 ∷ []; segments = record { name = 1 ∷ []; owner = 1 ∷ []; kbps = 10000; ends = end' 0 ∷ end' 1 ∷ [] } ∷ record { name = 2 ∷ []; owner = 2 ∷ []; kbps = 10000; ends = end' 0 ∷ end' 1 ∷ [] } ∷ []; pipes = [] }
 
 -- the trunk is exactly full, and then takes no more
-full : violation (lab_q 103) [] (out 65 100000) (top 100000) (on 0 2) ≡ None
+full : violation_beside (lab_q 103) [] (out 65 100000) (top 100000) (on 0 2) ≡ None
 full = refl
 
-over : violation (lab_q 103) (inside (out 65 100000) (pair 100000 0 2 100) ∷ []) (out 66 1) (top 1) (on 1 3) ≡ Some (F6, TrunkOf (record { 0 = 0 }))
+over : violation_beside (lab_q 103) (inside (out 65 100000) (pair 100000 0 2 100) ∷ []) (out 66 1) (top 1) (on 1 3) ≡ Some (F6, TrunkOf (record { 0 = 0 }))
 over = refl
 
 -- a node that another experiment has
-taken : violation (lab_q 103) (inside (out 65 100000) (pair 100000 0 2 100) ∷ []) (out 66 1) (top 1) (on 0 1) ≡ Some (F1, Virt 0)
+taken : violation_beside (lab_q 103) (inside (out 65 100000) (pair 100000 0 2 100) ∷ []) (out 66 1) (top 1) (on 0 1) ≡ Some (F1, Virt 0)
 taken = refl
 
 -- two virtual nodes on one node of count 1
-crowded : violation (lab_q 103) [] (out 65 1) (top 1) (on 0 0) ≡ Some (F2, NodeOf (record { 0 = 0 }))
+crowded : violation_beside (lab_q 103) [] (out 65 1) (top 1) (on 0 0) ≡ Some (F2, NodeOf (record { 0 = 0 }))
 crowded = refl
 
 -- an interface that an earlier end has
-twice : violation (lab_q 103) [] (out 65 1) double (record { places = (record { 0 = 0 }, pc) ∷ (record { 0 = 1 }, pc) ∷ []; plugs = record { 0 = 0 } ∷ record { 0 = 1 } ∷ record { 0 = 0 } ∷ record { 0 = 1 } ∷ [] }) ≡ Some (F5, End 2)
+twice : violation_beside (lab_q 103) [] (out 65 1) double (record { places = (record { 0 = 0 }, pc) ∷ (record { 0 = 1 }, pc) ∷ []; plugs = record { 0 = 0 } ∷ record { 0 = 1 } ∷ record { 0 = 0 } ∷ record { 0 = 1 } ∷ [] }) ≡ Some (F5, End 2)
 twice = refl
 
 -- a change with one VLAN id more, and without
-change_fits : violation (lab_q 103) [] (inside (out 65 100000) (pair 100000 0 2 100)) (top 100000) (on 0 2) ≡ None
+change_fits : violation_beside (lab_q 103) [] (inside (out 65 100000) (pair 100000 0 2 100)) (top 100000) (on 0 2) ≡ None
 change_fits = refl
 
-no_id : violation (lab_q 100) [] (inside (out 65 100000) (pair 100000 0 2 100)) (top 100000) (on 0 2) ≡ Some (F8, Vlans)
+no_id : violation_beside (lab_q 100) [] (inside (out 65 100000) (pair 100000 0 2 100)) (top 100000) (on 0 2) ≡ Some (F8, Vlans)
 no_id = refl
 
 -- WHAT CAN FOLLOW

@@ -4,21 +4,22 @@ use Rattle.std.proofs.lemmas.Bool.{and_parts, leb-true}
 use Rattle.std.proofs.lemmas.List.{append-nil}
 use Rattle.lab_base.specs.Lists.{Has, AllDiffer}
 use Rattle.lab_base.proofs.Members.{Has-append, Has-map, Has-mapped, Has-right}
+use Rattle.lab_base.specs.Names.{is_name}
 use Rattle.phys_lab.specs.Labs.{Lab}
 use Rattle.virt_topo.specs.declared.wiring.Wiring.{Wiring}
 use Rattle.virt_topo.specs.declared.experiment.Experiment.{Experiment}
 use Rattle.virt_topo.specs.declared.experiment.Phase.{Phase}
 use Rattle.virt_topo.specs.declared.experiment.Phase.TheVariants.{Out, In, Moving}
+use Rattle.virt_topo.specs.Soundness.{IsSound}
 use Rattle.plant.specs.Worlds.{World}
 use Rattle.journal_rec.specs.declared.record.Way.TheVariants.{In as WayIn, Out as WayOut, Change as WayChange}
 use Rattle.journal_rec.specs.declared.record.Record.{Record}
 use Rattle.journal_rec.specs.declared.record.Record.TheVariants.{Lab as LabRecord, Create, Delete, Begin, Commit, Abort}
 use Rattle.lab_model.specs.Holding.{IsLab, Holding}
 use Rattle.lab_model.specs.Parts.{Parts}
-use Rattle.lab_model.specs.Feasible.{IsWiring, IsShaped}
+use Rattle.lab_model.specs.Shapes.{IsShaped}
 use Rattle.journal_model.specs.Labs.{LabState, at_first, StopsAt, Move, SetLab, Creates, Deletes, BeginsIn, BeginsOut, BeginsChange, Commits, Aborts, find, replace, others, becomes, is_out, with_replaced, moved_one, deleted, in_state, moved_of, moved, Texts, AreCanonical, Says, Follows, FoldsTo, LabOf, no_lab, Sane, IsReady, KeepsParts}
 use Rattle.journal_model.specs.Payloads.{IsRecord}
-use Rattle.lab_base.specs.Names.{is_name}
 use Rattle.lab_model.proofs.Records.{Has_mid, Has_other}
 use Rattle.lab_model.proofs.ListLaws.{holding_drop, holding_add, parts_drop, parts_add}
 use Rattle.journal_model.proofs.Finding.{some_is, none_some, found_from, not_found, names_mid}
@@ -27,9 +28,9 @@ use Rattle.journal_model.proofs.Turning.{ShapedFor, ReadyOne, Turned, turned}
 -- what the texts of a record say of its values
 abbrev pub Shaped : LabState → Move → Type 0
 Shaped s (SetLab lab) = IsLab lab
-Shaped s (Creates name w) = IsWiring w
+Shaped s (Creates name w) = IsSound w
 Shaped s (BeginsIn name m tags) = (lab : Lab) (e : Experiment) → s.lab ≡ Some lab → find name s.experiments ≡ Some e → IsShaped lab e.wiring m
-Shaped s (BeginsChange name w m tags) = IsWiring w × ((lab : Lab) → s.lab ≡ Some lab → IsShaped lab w m)
+Shaped s (BeginsChange name w m tags) = IsSound w × ((lab : Lab) → s.lab ≡ Some lab → IsShaped lab w m)
 Shaped s move = Unit {0}
 
 pub says_shaped : (t : Texts) (s : LabState) (r : Record) (move : Move) → Says t s r move → Shaped s move
@@ -114,7 +115,7 @@ step_lab es lab sane is_lab = record {
   named = λ all one' e h. absurd h;
 }
 
-step_create : (lab : Lab) (es : List Experiment) (name : List ℕ) (w : Wiring) → Sane (state lab es) → IsWiring w → find name es ≡ None → length es ≤ 255 → Stepped (state lab es) (Creates name w) (state lab (es ++ record { name = name; wiring = w; phase = Out } ∷ []))
+step_create : (lab : Lab) (es : List Experiment) (name : List ℕ) (w : Wiring) → Sane (state lab es) → IsSound w → find name es ≡ None → length es ≤ 255 → Stepped (state lab es) (Creates name w) (state lab (es ++ record { name = name; wiring = w; phase = Out } ∷ []))
 step_create lab es name w sane wired none few =
     let e : Experiment = record { name = name; wiring = w; phase = Out } in
     let whole : es ++ [] ≡ es = append-nil es in
@@ -124,7 +125,7 @@ step_create lab es name w sane wired none few =
         none = λ h. none_some lab (sym h);
         names = names_push es e sane.names (not_found name es none);
         wirings = λ f h. elim (Has_mid es [] e f h) [
-          | inl same ↦ subst (λ x. IsWiring x.wiring) same wired
+          | inl same ↦ subst (λ x. IsSound x.wiring) same wired
           | inr other ↦ elim other [ inl g ↦ sane.wirings f g | inr no' ↦ absurd no' ]
         ];
         few = omega (arith, few, length-append es (e ∷ []));
@@ -163,7 +164,7 @@ step_one lab es name e g move sane is h shaped ready =
     let b = f.after in
     let was : Sane (state lab (a ++ e ∷ b)) = subst (λ l. Sane (state lab l)) f.whole sane in
     let rest : others e.name es ≡ a ++ b = ap (λ n. others n es) f.name_is ∙ f.others_are in
-    let own : IsWiring e.wiring = was.wirings e (Has-right a (e ∷ b) e (inl refl)) in
+    let own : IsSound e.wiring = was.wirings e (Has-right a (e ∷ b) e (inl refl)) in
     let turn : Turned lab a b e g move = turned lab a b e sane.is_lab was.holding own es g e.phase move f.whole rest refl h shaped in
     subst (λ l. Stepped (state lab es) move (state lab l)) (sym (f.replaced g)) (record {
       sane = record {
@@ -171,7 +172,7 @@ step_one lab es name e g move sane is h shaped ready =
         none = λ h. none_some lab (sym h);
         names = subst (λ l. AllDiffer l) (sym (names_mid a b e g turn.name)) was.names;
         wirings = λ x h. elim (Has_mid a b g x h) [
-          | inl same ↦ subst (λ y. IsWiring y.wiring) same turn.wiring
+          | inl same ↦ subst (λ y. IsSound y.wiring) same turn.wiring
           | inr other ↦ was.wirings x (Has_other a b e x other)
         ];
         few = omega (arith, was.few, length-append a (g ∷ b), length-append a (e ∷ b));

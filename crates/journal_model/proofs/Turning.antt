@@ -10,12 +10,14 @@ use Rattle.virt_topo.specs.declared.mapping.Mapped.{Mapped}
 use Rattle.virt_topo.specs.declared.experiment.Experiment.{Experiment}
 use Rattle.virt_topo.specs.declared.experiment.Phase.{Phase}
 use Rattle.virt_topo.specs.declared.experiment.Phase.TheVariants.{Out, In, Moving}
+use Rattle.virt_topo.specs.Soundness.{IsSound}
 use Rattle.plant.specs.Worlds.{World}
 use Rattle.lab_model.specs.Claims.{Which, Old, New, claimed, claimed_in, tags_of}
 use Rattle.lab_model.specs.Holding.{IsLab, Holding, Suits}
 use Rattle.lab_model.specs.Parts.{Parts}
 use Rattle.lab_model.specs.Leavings.{Ends, Gone}
-use Rattle.lab_model.specs.Feasible.{IsWiring, IsShaped, violation, are_free_tags}
+use Rattle.lab_model.specs.Shapes.{IsShaped}
+use Rattle.lab_model.specs.Beside.{violation_beside, are_free_tags}
 use Rattle.journal_model.specs.Labs.{Move, BeginsIn, BeginsOut, BeginsChange, Commits, Aborts, others, inside, in_phase, mapped, can_take, becomes, EndsMove}
 use Rattle.lab_model.proofs.FeasibleLaws.{TakesOne, takes_nothing, takes_claimed, takes_new, takes_both, tags_apart}
 use Rattle.lab_model.proofs.HoldingLaws.{holding_replaced}
@@ -26,7 +28,7 @@ use Rattle.journal_model.proofs.Finding.{some_is, none_some}
 -- what the texts of a move say of its values
 abbrev pub ShapedFor : Lab → Experiment → Move → Type 0
 ShapedFor lab e (BeginsIn name mapping tags) = IsShaped lab e.wiring mapping
-ShapedFor lab e (BeginsChange name wiring mapping tags) = IsWiring wiring × IsShaped lab wiring mapping
+ShapedFor lab e (BeginsChange name wiring mapping tags) = IsSound wiring × IsShaped lab wiring mapping
 ShapedFor lab e move = Unit {0}
 
 abbrev pub ReadyOne : Lab → World → Experiment → Move → Type 0
@@ -36,7 +38,7 @@ ReadyOne lab w e move = Unit {0}
 
 pub record Turned (lab : Lab) (a b : List Experiment) (e f : Experiment) (move : Move) : Type 0 where
   pub name : f.name ≡ e.name
-  pub wiring : IsWiring f.wiring
+  pub wiring : IsSound f.wiring
   pub holding : Holding lab (a ++ f ∷ b)
   pub parts : (w : World) → ReadyOne lab w e move → Parts lab (a ++ e ∷ b) w → Parts lab (a ++ f ∷ b) w
 
@@ -44,10 +46,10 @@ none_true : {X : Type 0} (o : Option X) → is_none o ≡ true → o ≡ None
 none_true None h = refl
 none_true (Some x) h = absurd (cc h)
 
-wired : (lab : Lab) (m : Mapped) → Suits lab m → IsWiring m.wiring
-wired lab m suits = record { nodes = suits.nodes; pipes = suits.pipes }
+wired : (lab : Lab) (m : Mapped) → Suits lab m → IsSound m.wiring
+wired lab m suits = suits.sound
 
-module _ (lab : Lab) (a b : List Experiment) (e : Experiment) (is_lab : IsLab lab) (holding : Holding lab (a ++ e ∷ b)) (own : IsWiring e.wiring) where
+module _ (lab : Lab) (a b : List Experiment) (e : Experiment) (is_lab : IsLab lab) (holding : Holding lab (a ++ e ∷ b)) (own : IsSound e.wiring) where
   mid : Has (a ++ e ∷ b) e
   mid = Has-right a (e ∷ b) e (inl refl)
 
@@ -60,10 +62,10 @@ module _ (lab : Lab) (a b : List Experiment) (e : Experiment) (is_lab : IsLab la
   keeps : (f : Experiment) (o p : Option Mapped) → claimed f Old ≡ o → claimed f New ≡ p → TakesOne lab a b o → TakesOne lab a b p → ((u v : ℕ) → Has (tags_of o) u → Has (tags_of p) v → u ≢ v) → Holding lab (a ++ f ∷ b)
   keeps f o p old new of_o of_p cross = holding_replaced lab a b e f holding (takes_both lab a b f o p old new of_o of_p cross)
 
-  turn_in : (name : List ℕ) (m : Mapped) → m.wiring ≡ e.wiring → e.phase ≡ Out → violation lab (a ++ b) e m.wiring m.mapping ≡ None → are_free_tags lab (a ++ e ∷ b) m.wiring m.tags ≡ true → IsShaped lab m.wiring m.mapping → Turned lab a b e (in_phase e (Moving None (Some m))) (BeginsIn name m.mapping m.tags)
+  turn_in : (name : List ℕ) (m : Mapped) → m.wiring ≡ e.wiring → e.phase ≡ Out → violation_beside lab (a ++ b) e m.wiring m.mapping ≡ None → are_free_tags lab (a ++ e ∷ b) m.wiring m.tags ≡ true → IsShaped lab m.wiring m.mapping → Turned lab a b e (in_phase e (Moving None (Some m))) (BeginsIn name m.mapping m.tags)
   turn_in name m same out ok free shaped =
       let f = in_phase e (Moving None (Some m)) in
-      let new : TakesOne lab a b (Some m) = takes_new lab a b e e m ok free (subst (λ w. IsWiring w) (sym same) own) shaped in
+      let new : TakesOne lab a b (Some m) = takes_new lab a b e e m ok free (subst (λ w. IsSound w) (sym same) own) shaped in
       let held : Holding lab (a ++ f ∷ b) = keeps f None (Some m) refl refl none new (λ u v h g. absurd h) in
       record {
         name = refl;
@@ -85,7 +87,7 @@ module _ (lab : Lab) (a b : List Experiment) (e : Experiment) (is_lab : IsLab la
         parts = λ w ready parts. begin_from lab a b e f w is_lab held mapping tags None is_in refl parts;
       }
 
-  turn_change : (name : List ℕ) (mapping : Mapping) (tags : List VlanId) (n : Mapped) → e.phase ≡ In mapping tags → violation lab (a ++ b) e n.wiring n.mapping ≡ None → are_free_tags lab (a ++ e ∷ b) n.wiring n.tags ≡ true → IsWiring n.wiring → IsShaped lab n.wiring n.mapping → Turned lab a b e (in_phase e (Moving (Some (mapped e.wiring mapping tags)) (Some n))) (BeginsChange name n.wiring n.mapping n.tags)
+  turn_change : (name : List ℕ) (mapping : Mapping) (tags : List VlanId) (n : Mapped) → e.phase ≡ In mapping tags → violation_beside lab (a ++ b) e n.wiring n.mapping ≡ None → are_free_tags lab (a ++ e ∷ b) n.wiring n.tags ≡ true → IsSound n.wiring → IsShaped lab n.wiring n.mapping → Turned lab a b e (in_phase e (Moving (Some (mapped e.wiring mapping tags)) (Some n))) (BeginsChange name n.wiring n.mapping n.tags)
   turn_change name mapping tags n is_in ok free new_wiring shaped =
       let m = mapped e.wiring mapping tags in
       let f = in_phase e (Moving (Some m) (Some n)) in
@@ -139,16 +141,16 @@ module _ (lab : Lab) (a b : List Experiment) (e : Experiment) (is_lab : IsLab la
   turned es f Out (BeginsIn name mapping tags) whole rest is h shaped =
       let m = mapped e.wiring mapping tags in
       let both = if_some (can_take lab es e m) (in_phase e (Moving None (Some m))) f h in
-      let tests : (is_none (violation lab (others e.name es) e m.wiring m.mapping) ≡ true) × (are_free_tags lab es m.wiring m.tags ≡ true) = and_parts _ _ both.0 in
-      let ok : violation lab (a ++ b) e m.wiring m.mapping ≡ None = none_true _ (subst (λ l. is_none (violation lab l e m.wiring m.mapping) ≡ true) rest tests.0) in
+      let tests : (is_none (violation_beside lab (others e.name es) e m.wiring m.mapping) ≡ true) × (are_free_tags lab es m.wiring m.tags ≡ true) = and_parts _ _ both.0 in
+      let ok : violation_beside lab (a ++ b) e m.wiring m.mapping ≡ None = none_true _ (subst (λ l. is_none (violation_beside lab l e m.wiring m.mapping) ≡ true) rest tests.0) in
       let free : are_free_tags lab (a ++ e ∷ b) m.wiring m.tags ≡ true = subst (λ l. are_free_tags lab l m.wiring m.tags ≡ true) whole tests.1 in
       subst (λ x. Turned lab a b e x (BeginsIn name mapping tags)) both.1 (turn_in name m refl is ok free shaped)
   turned es f (In mapping tags) (BeginsOut name) whole rest is h shaped = subst (λ x. Turned lab a b e x (BeginsOut name)) (some_is _ f h) (turn_out name mapping tags is)
   turned es f (In mapping tags) (BeginsChange name wiring new new_tags) whole rest is h shaped =
       let n = mapped wiring new new_tags in
       let both = if_some (can_take lab es e n) (in_phase e (Moving (Some (mapped e.wiring mapping tags)) (Some n))) f h in
-      let tests : (is_none (violation lab (others e.name es) e n.wiring n.mapping) ≡ true) × (are_free_tags lab es n.wiring n.tags ≡ true) = and_parts _ _ both.0 in
-      let ok : violation lab (a ++ b) e n.wiring n.mapping ≡ None = none_true _ (subst (λ l. is_none (violation lab l e n.wiring n.mapping) ≡ true) rest tests.0) in
+      let tests : (is_none (violation_beside lab (others e.name es) e n.wiring n.mapping) ≡ true) × (are_free_tags lab es n.wiring n.tags ≡ true) = and_parts _ _ both.0 in
+      let ok : violation_beside lab (a ++ b) e n.wiring n.mapping ≡ None = none_true _ (subst (λ l. is_none (violation_beside lab l e n.wiring n.mapping) ≡ true) rest tests.0) in
       let free : are_free_tags lab (a ++ e ∷ b) n.wiring n.tags ≡ true = subst (λ l. are_free_tags lab l n.wiring n.tags ≡ true) whole tests.1 in
       subst (λ x. Turned lab a b e x (BeginsChange name wiring new new_tags)) both.1 (turn_change name mapping tags n is ok free shaped.0 shaped.1)
   turned es f (Moving None (Some new)) (Commits name) whole rest is h shaped =

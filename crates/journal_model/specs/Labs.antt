@@ -11,6 +11,7 @@ use Rattle.virt_topo.specs.declared.mapping.Mapped.{Mapped}
 use Rattle.virt_topo.specs.declared.experiment.Experiment.{Experiment}
 use Rattle.virt_topo.specs.declared.experiment.Phase.{Phase}
 use Rattle.virt_topo.specs.declared.experiment.Phase.TheVariants.{Out, In, Moving}
+use Rattle.virt_topo.specs.Soundness.{IsSound}
 use Rattle.plant.specs.Worlds.{World}
 use Rattle.journal_rec.specs.declared.record.Way.{Way}
 use Rattle.journal_rec.specs.declared.record.Way.TheVariants.{In as WayIn, Out as WayOut, Change as WayChange}
@@ -19,7 +20,8 @@ use Rattle.journal_rec.specs.declared.record.Record.TheVariants.{Lab as LabRecor
 use Rattle.lab_model.specs.Holding.{IsLab, Holding}
 use Rattle.lab_model.specs.Parts.{Parts}
 use Rattle.lab_model.specs.Leavings.{Ends, Gone}
-use Rattle.lab_model.specs.Feasible.{IsWiring, IsShaped, violation, are_free_tags}
+use Rattle.lab_model.specs.Shapes.{IsShaped}
+use Rattle.lab_model.specs.Beside.{violation_beside, are_free_tags}
 
 -- perhaps a lab, and the experiments in order of creation
 pub record LabState : Type 0 where
@@ -64,7 +66,7 @@ mapped wiring mapping tags = record { wiring = wiring; mapping = mapping; tags =
 
 -- feasible on what the others leave, and the tags are free
 abbrev pub can_take : Lab → List Experiment → Experiment → Mapped → Bool
-can_take lab es e m = is_none (violation lab (others e.name es) e m.wiring m.mapping) && are_free_tags lab es m.wiring m.tags
+can_take lab es e m = is_none (violation_beside lab (others e.name es) e m.wiring m.mapping) && are_free_tags lab es m.wiring m.tags
 
 -- what the experiment becomes by its move, if the move can follow
 abbrev pub becomes : Lab → List Experiment → Experiment → Phase → Move → Option Experiment
@@ -130,7 +132,7 @@ pub record Texts : Type 0 where
 -- each text is of one value
 pub record AreCanonical (t : Texts) : Type 0 where
   pub ptops : (l m : Lab) → IsLab l → IsLab m → t.ptop l ≡ t.ptop m → l ≡ m
-  pub tops : (w v : Wiring) → IsWiring w → IsWiring v → t.top w ≡ t.top v → w ≡ v
+  pub tops : (w v : Wiring) → IsSound w → IsSound v → t.top w ≡ t.top v → w ≡ v
   pub solutions : (lab : Lab) (w : Wiring) (m n : Mapping) → IsShaped lab w m → IsShaped lab w n → t.solution lab w m ≡ t.solution lab w n → m ≡ n
 
 -- the record's texts are canonical, and say that move
@@ -139,11 +141,11 @@ SaysBegin t s exp (WayIn map tags) move =
     (lab : Lab) × (e : Experiment) × (m : Mapping) × (s.lab ≡ Some lab) × (find exp s.experiments ≡ Some e) × IsShaped lab e.wiring m × (map ≡ t.solution lab e.wiring m) × (move ≡ BeginsIn exp m tags)
 SaysBegin t s exp WayOut move = move ≡ BeginsOut exp
 SaysBegin t s exp (WayChange top map tags) move =
-    (lab : Lab) × (w : Wiring) × (m : Mapping) × (s.lab ≡ Some lab) × IsWiring w × (top ≡ t.top w) × IsShaped lab w m × (map ≡ t.solution lab w m) × (move ≡ BeginsChange exp w m tags)
+    (lab : Lab) × (w : Wiring) × (m : Mapping) × (s.lab ≡ Some lab) × IsSound w × (top ≡ t.top w) × IsShaped lab w m × (map ≡ t.solution lab w m) × (move ≡ BeginsChange exp w m tags)
 
 abbrev pub Says : Texts → LabState → Record → Move → Type 0
 Says t s (LabRecord ptop) move = (lab : Lab) × IsLab lab × (ptop ≡ t.ptop lab) × (move ≡ SetLab lab)
-Says t s (Create exp top) move = (w : Wiring) × IsWiring w × (top ≡ t.top w) × (move ≡ Creates exp w)
+Says t s (Create exp top) move = (w : Wiring) × IsSound w × (top ≡ t.top w) × (move ≡ Creates exp w)
 Says t s (Delete exp) move = move ≡ Deletes exp
 Says t s (Begin exp way) move = SaysBegin t s exp way move
 Says t s (Commit exp) move = move ≡ Commits exp
@@ -176,7 +178,7 @@ pub record Sane (s : LabState) : Type 0 where
   pub is_lab : IsLab (lab_in s.lab)
   pub none : s.lab ≡ None → s.experiments ≡ []
   pub names : AllDiffer (map (λ e. e.name) s.experiments)
-  pub wirings : (e : Experiment) → Has s.experiments e → IsWiring e.wiring
+  pub wirings : (e : Experiment) → Has s.experiments e → IsSound e.wiring
   pub few : length s.experiments ≤ 256
   pub holding : Holding (lab_in s.lab) s.experiments
 

@@ -14,10 +14,10 @@ use Rattle.plant.specs.declared.device.Answer.{Answer}
 use Rattle.plant.specs.declared.device.Fault.{Fault}
 use Rattle.plant.specs.declared.device.DeviceOp.{DeviceOp}
 use Rattle.plant.specs.declared.device.DeviceOp.TheVariants.{Join, Leave, Shape, Load, Boot as BootIt, Poll, Wipe}
-use Rattle.lab_model.specs.Claims.{Which, Old, New, claimed, Wants, Claims, IsOf}
+use Rattle.lab_model.specs.Claims.{Which, Old, New, claimed, Wants, Claims, IsOf, is_placed}
 use Rattle.lab_model.specs.Holding.{IsLab, Holding}
 use Rattle.lab_model.specs.Parts.{Part}
-use Rattle.lab_model.specs.Courses.{IsCommandOf, rows_from, is_placed}
+use Rattle.lab_model.specs.Courses.{IsCommandOf, rows_from}
 use Rattle.lab_model.specs.Leavings.{Sent, did, ran, SameFor, Ends, Gone}
 use Rattle.lab_model.specs.OnCourse.{is_row_of, is_node_of, is_of, own_events, acknowledged, OnCourse}
 use Rattle.lab_model.proofs.Kept.{places_it_from}

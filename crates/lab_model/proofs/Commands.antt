@@ -12,8 +12,8 @@ use Rattle.virt_topo.specs.declared.experiment.Phase.TheVariants.{Moving}
 use Rattle.plant.specs.declared.device.DeviceOp.{DeviceOp}
 use Rattle.plant.specs.declared.device.DeviceOp.TheVariants.{Wipe}
 use Rattle.lab_model.specs.Wants.{Owned, rows_of, pipes_on}
-use Rattle.lab_model.specs.Claims.{Which, Old, New, claimed}
-use Rattle.lab_model.specs.Kept.{is_kept, places_it}
+use Rattle.lab_model.specs.Claims.{Which, Old, New, claimed, places_it}
+use Rattle.lab_model.specs.Kept.{is_kept}
 use Rattle.lab_model.specs.Holding.{Suits}
 use Rattle.lab_model.specs.Courses.{op_node, op_join, op_pipe, join, leave, shape, load_node, load_nodes, rows_from, node_names}
 use Rattle.lab_model.proofs.CourseLaws.{AddsOnly}

@@ -16,10 +16,10 @@ use Rattle.plant.specs.declared.device.Answer.{Answer}
 use Rattle.plant.specs.declared.device.Fault.{Fault}
 use Rattle.plant.specs.declared.device.DeviceOp.{DeviceOp}
 use Rattle.lab_model.specs.Wants.{Owned}
-use Rattle.lab_model.specs.Claims.{Which, Old, New, claimed, Claims, IsOf}
+use Rattle.lab_model.specs.Claims.{Which, Old, New, claimed, Claims, IsOf, is_placed}
 use Rattle.lab_model.specs.Holding.{IsLab, Suits, Holding}
 use Rattle.lab_model.specs.Parts.{Part}
-use Rattle.lab_model.specs.Courses.{op_row, op_node, rows_from, is_placed, Plan, Left, Course, Going, Cut, Halted, next, answered, whole, Goes, commands, IsCommandOf}
+use Rattle.lab_model.specs.Courses.{op_row, op_node, rows_from, Plan, Left, Course, Going, Cut, Halted, next, answered, whole, Goes, commands, IsCommandOf}
 use Rattle.lab_model.specs.Leavings.{Sent, SameFor, did}
 use Rattle.lab_model.specs.OnCourse.{is_row_of, is_node_of, is_of, own_events, IsAlone, own, Promise, Facts}
 use Rattle.lab_model.proofs.Kept.{Places_from}

@@ -1,7 +1,7 @@
 -- What the check of a mapping gives.
-use Rattle.std.specs.List.{flat_map, list_any, list_all, sum_by}
-use Rattle.std.proofs.Common.{◌≡◌, ◌≢◌, ◌⊎◌, inl, inr, ℕ, zero, suc, max, ◌+◌, ◌<◌, ◌≤◌, Bool, true, false, not, ◌&&◌, ◌||◌, ◌==◌, Option, Some, None, List, [], ◌∷◌, ◌++◌, map, length, take, get_or, if◌then◌else◌, refl, sym, ap, ◌∙◌, subst, arith, zero-add, nat_le}
-use Rattle.std.proofs.lemmas.Bool.{cases_Bool, and_parts, not-true, or_left, or_right, leb-true, eqb-true, eq-eqb, both_ways, cases_eq, cases_order, cond-true, cond-false}
+use Rattle.std.specs.List.{flat_map, list_any, sum_by}
+use Rattle.std.proofs.Common.{◌≡◌, ◌≢◌, ◌⊎◌, inl, inr, ℕ, zero, suc, max, ◌+◌, ◌<◌, ◌≤◌, Bool, true, false, not, ◌&&◌, ◌||◌, ◌==◌, Option, Some, None, List, [], ◌∷◌, ◌++◌, map, length, if◌then◌else◌, refl, sym, ap, ◌∙◌, subst, arith, zero-add, nat_le}
+use Rattle.std.proofs.lemmas.Bool.{cases_Bool, and_parts, not-true, or_left, or_right, leb-true, eqb-true, eq-eqb, both_ways, cases_eq, cond-true, cond-false}
 use Rattle.std.proofs.lemmas.List.Sums.{sum_by-append}
 use Rattle.lab_base.specs.Lists.{Has, AllDiffer}
 use Rattle.lab_base.proofs.Members.{Has-append, Has-left, Has-right, Has-map, Has-flat_mapped, Apart-left, Apart-right, flat-each}
@@ -9,18 +9,22 @@ use Rattle.lab_base.specs.declared.ids.VlanId.{VlanId}
 use Rattle.phys_lab.specs.Sides.{trunk_at}
 use Rattle.phys_lab.specs.Labs.{Lab}
 use Rattle.virt_topo.specs.declared.violation.Broken.{Broken}
+use Rattle.virt_topo.specs.declared.violation.Broken.TheVariants as broken
 use Rattle.virt_topo.specs.declared.violation.Subject.{Subject}
 use Rattle.virt_topo.specs.declared.wiring.Wiring.{Wiring}
 use Rattle.virt_topo.specs.declared.mapping.Mapping.{Mapping}
 use Rattle.virt_topo.specs.declared.mapping.Mapped.{Mapped}
 use Rattle.virt_topo.specs.declared.experiment.Experiment.{Experiment}
-use Rattle.lab_model.specs.Cables.{iface_at}
-use Rattle.lab_model.specs.Wants.{node_name, no_place}
-use Rattle.lab_model.specs.Claims.{Which, Old, New, claimed, Places, Claims, claimed_tags, claimed_use, tags_of, use_of}
-use Rattle.lab_model.specs.Rules.{place_at, plug_at, end_node, keeps_f2, keeps_f3, keeps_f4, keeps_f5, keeps_f7, is_fast}
-use Rattle.lab_model.specs.Courses.{is_placed}
+use Rattle.virt_topo.specs.Soundness.{IsSound}
+use Rattle.lab_model.specs.Wants.{node_name}
+use Rattle.lab_model.specs.Rules.{no_place, place_at, keeps_f2, keeps_f3, keeps_f4, keeps_f5, keeps_f7}
+use Rattle.lab_model.specs.Claims.{Which, Old, New, claimed, Places, Claims, claimed_tags, claimed_use, tags_of, use_in, is_placed}
 use Rattle.lab_model.specs.Holding.{Suits, Holding}
-use Rattle.lab_model.specs.Feasible.{IsWiring, IsShaped, is_claimed, keeps_f1, keeps_f6, keeps_f8, first_bad, found, violation, all_differ, are_free_tags}
+use Rattle.lab_model.specs.Shapes.{IsShaped}
+use Rattle.lab_model.specs.Beside.{is_claimed, violation_beside, all_differ, are_free_tags}
+use Rattle.lab_model.proofs.WiringLaws.{all_has, has_index}
+use Rattle.lab_model.proofs.SuitLaws.{any_has}
+use Rattle.lab_model.specs.Feasible.{Kept, first_violation, or_later, first_bad, or_later}
 use Rattle.lab_model.proofs.Kept.{places_it_from}
 use Rattle.lab_model.proofs.Records.{apart_mid, flat_mid, Has_other}
 use Rattle.lab_model.proofs.HoldingLaws.{Takes, apart_append}
@@ -56,7 +60,7 @@ first_fails (suc n) from test k e = elim (cases_Bool (test from)) [
       (omega (arith, here), omega (arith, here), subst (λ x. test x ≡ false) here is, λ j low high. absurd (omega (arith, here)))
 ]
 
-none_found : (o : Option ℕ) (as_one : ℕ → Broken × Subject) (later : Option (Broken × Subject)) → found o as_one later ≡ None → (o ≡ None) × (later ≡ None)
+none_found : (o : Option ℕ) (as_one : ℕ → Broken × Subject) (later : Option (Broken × Subject)) → or_later o as_one later ≡ None → (o ≡ None) × (later ≡ None)
 none_found None as_one later e = (refl, e)
 none_found (Some n) as_one later e = absurd (cc e)
 
@@ -64,22 +68,12 @@ none_else : {X : Type 0} (t : Bool) (x : X) → ◌≡◌ {A = Option X} (if t t
 none_else true x e = refl
 none_else false x e = absurd (cc e)
 
--- all rules hold where there is no violation
-pub record Feasible (lab : Lab) (others : List Experiment) (own : Experiment) (w : Wiring) (m : Mapping) : Type 0 where
-  pub f1 : (v : ℕ) → v < length w.nodes → keeps_f1 lab others m v ≡ true
-  pub f2 : (n : ℕ) → n < length lab.nodes → keeps_f2 lab w m n ≡ true
-  pub f3 : (v : ℕ) → v < length w.nodes → keeps_f3 lab w m v ≡ true
-  pub f4 : (v : ℕ) → v < length w.nodes → keeps_f4 lab w m v ≡ true
-  pub f5 : (e : ℕ) → e < length m.plugs → keeps_f5 lab w m e ≡ true
-  pub f6 : (t : ℕ) → t < length lab.trunks → keeps_f6 lab others w m t ≡ true
-  pub f7 : (s : ℕ) → s < length w.segments → keeps_f7 lab w m s ≡ true
-  pub f8 : keeps_f8 lab others own w ≡ true
-
 pub at_zero : (n : ℕ) (test : ℕ → Bool) → first_bad n 0 test ≡ None → (k : ℕ) → k < n → test k ≡ true
 at_zero n test e k h = all_pass n 0 test e k (omega arith) (omega (arith, zero-add n))
 
-pub feasible_from : (lab : Lab) (others : List Experiment) (own : Experiment) (w : Wiring) (m : Mapping) → violation lab others own w m ≡ None → Feasible lab others own w m
-feasible_from lab others own w m e =
+-- WHERE THERE IS NO VIOLATION all rules are kept
+pub kept_from : (lab : Lab) (w : Wiring) (m : Mapping) (f1 f6 : ℕ → Bool) (f8 : Bool) → first_violation lab w m f1 f6 f8 ≡ None → (rule : Broken) → Kept lab w m f1 f6 f8 rule
+kept_from lab w m f1 f6 f8 e rule =
     let r1 = none_found _ _ _ e in
     let r2 = none_found _ _ _ r1.1 in
     let r3 = none_found _ _ _ r2.1 in
@@ -87,32 +81,19 @@ feasible_from lab others own w m e =
     let r5 = none_found _ _ _ r4.1 in
     let r6 = none_found _ _ _ r5.1 in
     let r7 = none_found _ _ _ r6.1 in
-    record {
-      f1 = at_zero _ _ r1.0;
-      f2 = at_zero _ _ r2.0;
-      f3 = at_zero _ _ r3.0;
-      f4 = at_zero _ _ r4.0;
-      f5 = at_zero _ _ r5.0;
-      f6 = at_zero _ _ r6.0;
-      f7 = at_zero _ _ r7.0;
-      f8 = none_else _ _ r7.1;
-    }
-
--- an element has a place
-pub has_index : {X : Type 0} (xs : List X) (x d : X) → Has xs x → (k : ℕ) × (k < length xs) × (get_or xs k d ≡ x)
-has_index [] x d h = absurd h
-has_index (y ∷ xs) x d (inl e) = (0, omega arith, e)
-has_index (y ∷ xs) x d (inr h) = let r = has_index xs x d h in (suc r.0, omega (arith, r.1), r.2)
-
-any_has : {X : Type 0} (test : X → Bool) (xs : List X) (x : X) → Has xs x → test x ≡ true → list_any test xs ≡ true
-any_has test [] x h t = absurd h
-any_has test (y ∷ xs) x (inl e) t = or_left (test y) (list_any test xs) (ap test e ∙ t)
-any_has test (y ∷ xs) x (inr h) t = or_right (test y) (list_any test xs) (any_has test xs x h t)
-
-pub all_has : {X : Type 0} (test : X → Bool) (xs : List X) (x : X) → list_all test xs ≡ true → Has xs x → test x ≡ true
-all_has test [] x t h = absurd h
-all_has test (y ∷ xs) x t (inl e) = sym (ap test e) ∙ (and_parts (test y) (list_all test xs) t).0
-all_has test (y ∷ xs) x t (inr h) = all_has test xs x (and_parts (test y) (list_all test xs) t).1 h
+    each (at_zero (length w.nodes) f1 r1.0) (at_zero (length lab.nodes) (keeps_f2 lab w m) r2.0) (at_zero (length w.nodes) (keeps_f3 lab w m) r3.0) (at_zero (length w.nodes) (keeps_f4 lab w m) r4.0)
+    (at_zero (length m.plugs) (keeps_f5 lab w m) r5.0) (at_zero (length lab.trunks) f6 r6.0) (at_zero (length w.segments) (keeps_f7 lab w m) r7.0) (λ k h. none_else f8 _ r7.1) rule
+  where
+    each : Kept lab w m f1 f6 f8 broken.F1 → Kept lab w m f1 f6 f8 broken.F2 → Kept lab w m f1 f6 f8 broken.F3 → Kept lab w m f1 f6 f8 broken.F4 → Kept lab w m f1 f6 f8 broken.F5 → Kept lab w m f1 f6 f8 broken.F6 → Kept lab w m f1 f6 f8 broken.F7 → Kept lab w m f1 f6 f8 broken.F8
+        → (rule : Broken) → Kept lab w m f1 f6 f8 rule
+    each k1 k2 k3 k4 k5 k6 k7 k8 broken.F1 = k1
+    each k1 k2 k3 k4 k5 k6 k7 k8 broken.F2 = k2
+    each k1 k2 k3 k4 k5 k6 k7 k8 broken.F3 = k3
+    each k1 k2 k3 k4 k5 k6 k7 k8 broken.F4 = k4
+    each k1 k2 k3 k4 k5 k6 k7 k8 broken.F5 = k5
+    each k1 k2 k3 k4 k5 k6 k7 k8 broken.F6 = k6
+    each k1 k2 k3 k4 k5 k6 k7 k8 broken.F7 = k7
+    each k1 k2 k3 k4 k5 k6 k7 k8 broken.F8 = k8
 
 -- the test of numbers that differ
 pub differ_from : (xs : List ℕ) → all_differ xs ≡ true → AllDiffer xs
@@ -132,55 +113,20 @@ claimed_test lab e name New m is placed = or_right _ _ (is_placed_from lab _ m n
 pub unclaimed : (lab : Lab) (es : List Experiment) (y : Experiment) (name : List ℕ) → is_claimed lab es name ≡ false → Has es y → Claims lab y name → ⊥
 unclaimed lab es y name none h claims = both_ways _ none (any_has (λ e. is_placed lab (claimed e Old) name || is_placed lab (claimed e New) name) es y h (claimed_test lab y name claims.which claims.mapped claims.is claims.placed))
 
--- an earlier plug, by its place
-taken : (xs : List Rattle.lab_base.specs.declared.ids.IfaceId.IfaceId) (e f : ℕ) → e < f → f ≤ length xs → Has (take f xs) (get_or xs e (record { 0 = 0 }))
-taken [] e f h g = absurd (omega (arith, h, g))
-taken (x ∷ xs) zero zero h g = absurd (omega (arith, h))
-taken (x ∷ xs) zero (suc f) h g = inl refl
-taken (x ∷ xs) (suc e) zero h g = absurd (omega (arith, h))
-taken (x ∷ xs) (suc e) (suc f) h g = inr (taken xs e f (omega (arith, h)) (omega (arith, g)))
-
-twice : (lab : Lab) (w : Wiring) (m : Mapping) (e f : ℕ) → keeps_f5 lab w m f ≡ true → e < f → f < length m.plugs → (plug_at m e).0 ≡ (plug_at m f).0 → ⊥
-twice lab w m e f ok before h same =
-    let earlier : Has (take f m.plugs) (plug_at m e) = taken m.plugs e f before (omega (arith, h)) in
-    let on : ((iface_at lab (plug_at m f)).node.0 == (place_at m (end_node w f)).0.0) && not (list_any (λ i. i.0 == (plug_at m f).0) (take f m.plugs)) ≡ true = (and_parts _ (is_fast lab w m f) ok).0 in
-    both_ways (list_any (λ i. i.0 == (plug_at m f).0) (take f m.plugs))
-    (not-true _ (and_parts ((iface_at lab (plug_at m f)).node.0 == (place_at m (end_node w f)).0.0) _ on).1)
-    (any_has (λ i. i.0 == (plug_at m f).0) (take f m.plugs) (plug_at m e) earlier (eq-eqb _ _ same))
-
 some_is : {X : Type 0} (x y : X) → Some x ≡ Some y → x ≡ y
 some_is x y e = cc
 
 -- FROM THE CHECK TO THE MAPPING
-pub suits_from : (lab : Lab) (others : List Experiment) (own : Experiment) (n : Mapped) → Feasible lab others own n.wiring n.mapping → IsWiring n.wiring → IsShaped lab n.wiring n.mapping → length n.tags ≡ length n.wiring.segments → Suits lab n
-suits_from lab others own n ok wired shaped tags = record {
-  places = shaped.places;
-  plugs = shaped.plugs;
-  tags = tags;
-  nodes = wired.nodes;
-  in_nodes = shaped.in_nodes;
-  in_lab = shaped.in_lab;
-  at_node = λ e h. ap (λ k. node_name lab (record { 0 = k })) (eqb-true _ _ (and_parts _ _ (and_parts _ _ (ok.f5 e h)).0).0);
-  once = λ e f h g same. elim (cases_order e f) [
-    | inl is ↦ is
-    | inr apart ↦ elim apart [
-      | inl before ↦ absurd (twice lab n.wiring n.mapping e f (ok.f5 f g) before g same)
-      | inr after ↦ absurd (twice lab n.wiring n.mapping f e (ok.f5 e h) after h (sym same))
-    ]
-  ];
-  pipes = wired.pipes;
-  one_kind = ok.f2;
-  asked = ok.f3;
-  fixed = ok.f4;
-  fast = λ e h. (and_parts _ _ (ok.f5 e h)).1;
-  joined = ok.f7;
-}
+pub suits_from : (lab : Lab) (n : Mapped) (f1 f6 : ℕ → Bool) (f8 : Bool) → first_violation lab n.wiring n.mapping f1 f6 f8 ≡ None → IsSound n.wiring → IsShaped lab n.wiring n.mapping → length n.tags ≡ length n.wiring.segments → Suits lab n
+suits_from lab n f1 f6 f8 none sound shaped tags =
+    let ok = kept_from lab n.wiring n.mapping f1 f6 f8 none in
+    record { sound = sound; shaped = shaped; tags = tags; one_kind = ok broken.F2; asked = ok broken.F3; fixed = ok broken.F4; plugged = ok broken.F5; joined = ok broken.F7 }
 
 -- what one claimed mapping, if there is one, takes beside the others
 pub record TakesOne (lab : Lab) (a b : List Experiment) (o : Option Mapped) : Type 0 where
   pub fits : (m : Mapped) → o ≡ Some m → Suits lab m
   pub nodes : (m : Mapped) (y : Experiment) (name : List ℕ) → o ≡ Some m → Has a y ⊎ Has b y → Places lab m name → Claims lab y name → ⊥
-  pub trunks : (t : ℕ) → t < length lab.trunks → use_of lab t o + (sum_by (claimed_use lab t) a + sum_by (claimed_use lab t) b) ≤ (trunk_at lab.trunks t).kbps
+  pub trunks : (t : ℕ) → t < length lab.trunks → use_in lab t o + (sum_by (claimed_use lab t) a + sum_by (claimed_use lab t) b) ≤ (trunk_at lab.trunks t).kbps
   pub differ : AllDiffer (tags_of o)
   pub free : (v : ℕ) (y : Experiment) → Has (tags_of o) v → Has a y ⊎ Has b y → Has (claimed_tags y) v → ⊥
   pub in_range : (v : ℕ) → Has (tags_of o) v → (lab.range.0 ≤ v) × (v ≤ lab.range.1)
@@ -218,7 +164,7 @@ takes_claimed lab a b e which holding =
       in_range = λ v h. holding.in_range v (Has-flat_mapped claimed_tags (a ++ e ∷ b) e v mid (tag_in which v h));
     }
   where
-    uses : (t : ℕ) (which : Which) → use_of lab t (claimed e which) ≤ claimed_use lab t e
+    uses : (t : ℕ) (which : Which) → use_in lab t (claimed e which) ≤ claimed_use lab t e
     uses t Old = omega arith
     uses t New = omega arith
 
@@ -231,14 +177,14 @@ takes_claimed lab a b e which holding =
     tags_differ New d = Apart-right (λ x y. x ≢ y) (tags_of (claimed e Old)) (tags_of (claimed e New)) d
 
 -- a mapping that passed the check, with free tags
-pub takes_new : (lab : Lab) (a b : List Experiment) (own e : Experiment) (n : Mapped) → violation lab (a ++ b) own n.wiring n.mapping ≡ None → are_free_tags lab (a ++ e ∷ b) n.wiring n.tags ≡ true → IsWiring n.wiring → IsShaped lab n.wiring n.mapping → TakesOne lab a b (Some n)
+pub takes_new : (lab : Lab) (a b : List Experiment) (own e : Experiment) (n : Mapped) → violation_beside lab (a ++ b) own n.wiring n.mapping ≡ None → are_free_tags lab (a ++ e ∷ b) n.wiring n.tags ≡ true → IsSound n.wiring → IsShaped lab n.wiring n.mapping → TakesOne lab a b (Some n)
 takes_new lab a b own e n none free wired shaped =
-    let ok = feasible_from lab (a ++ b) own n.wiring n.mapping none in
+    let ok = kept_from lab n.wiring n.mapping _ _ _ none in
     let parts = and_parts _ _ free in
     let sized = and_parts _ _ parts.0 in
     let each : (tag : VlanId) → Has n.tags tag → (nat_le lab.range.0 tag.0 && nat_le tag.0 lab.range.1 && not (list_any (λ u. u == tag.0) (flat_map claimed_tags (a ++ e ∷ b)))) ≡ true = λ tag h. all_has _ n.tags tag parts.1 h in
     record {
-      fits = λ m is. let same : n ≡ m = some_is n m is in subst (λ x. Suits lab x) same (suits_from lab (a ++ b) own n ok wired shaped (eqb-true _ _ sized.0));
+      fits = λ m is. let same : n ≡ m = some_is n m is in subst (λ x. Suits lab x) same (suits_from lab n _ _ _ none wired shaped (eqb-true _ _ sized.0));
       nodes = λ m y name is h placed claims.
           let same : m ≡ n = sym (some_is n m is) in
           let there : Has (map (λ p. node_name lab p.0) n.mapping.places) name = subst (λ x. Places lab x name) same placed in
@@ -246,8 +192,8 @@ takes_new lab a b own e n none free wired shaped =
           let at = has_index n.mapping.places p.0 no_place p.1 in
           let in_nodes : at.0 < length n.wiring.nodes = omega (arith, at.1, shaped.places) in
           let is_name : node_name lab (place_at n.mapping at.0).0 ≡ name = ap (λ q. node_name lab q.0) at.2 ∙ p.2 in
-          unclaimed lab (a ++ b) y name (ap (λ x. is_claimed lab (a ++ b) x) (sym is_name) ∙ not-true _ (ok.f1 at.0 in_nodes)) (other_in a b y h) claims;
-      trunks = λ t h. let room = leb-true _ _ (ok.f6 t h) in omega (arith, room, sum_by-append (claimed_use lab t) a b);
+          unclaimed lab (a ++ b) y name (ap (λ x. is_claimed lab (a ++ b) x) (sym is_name) ∙ not-true _ (ok broken.F1 at.0 in_nodes)) (other_in a b y h) claims;
+      trunks = λ t h. let room = leb-true _ _ (ok broken.F6 t h) in omega (arith, room, sum_by-append (claimed_use lab t) a b);
       differ = differ_from (map (λ tag. tag.0) n.tags) sized.1;
       free = λ v y h o k.
           let tag = Has-map (λ tag. tag.0) n.tags v h in
@@ -273,7 +219,7 @@ takes_both lab a b f o p old new of_o of_p cross = record {
   fits = fits;
   nodes = λ y name h claims_f claims_y. nodes y name h claims_f.which claims_f.mapped claims_f.is claims_f.placed claims_y;
   trunks = λ t h. let x = of_o.trunks t h in let y = of_p.trunks t h in
-      let both : claimed_use lab t f ≡ max (use_of lab t o) (use_of lab t p) = (λ i. max (use_of lab t (old i)) (use_of lab t (new i))) in
+      let both : claimed_use lab t f ≡ max (use_in lab t o) (use_in lab t p) = (λ i. max (use_in lab t (old i)) (use_in lab t (new i))) in
       omega (arith, both, x, y);
   differ = subst (λ l. AllDiffer l) (sym tags) (apart_append (λ x y. x ≢ y) (tags_of o) (tags_of p) of_o.differ of_p.differ cross);
   free = λ v y h k g. elim (Has-append (tags_of o) (tags_of p) v (subst (λ l. Has l v) tags h)) [ inl x ↦ of_o.free v y x k g | inr x ↦ of_p.free v y x k g ];

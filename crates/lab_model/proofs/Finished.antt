@@ -163,7 +163,7 @@ module _ (lab : Lab) (e : Experiment) (m : Mapped) (suits : Suits lab m) (names 
         sided = at_end;
         rows = λ row link wanted. kept.rows row (joined_after builds v (record { row = row; owner = link }) (λ op h. (build_op op h).keeps) (inr (Has-left (map join (rows_of lab m)) (load_nodes lab (Some m) names) _ (Has-mapped join (rows_of lab m) (record { row = row; owner = link }) wanted))));
         nodes = λ name listed claims placed.
-            let os_is = os_placed lab m.wiring.nodes m.mapping.places name suits.places placed in
+            let os_is = os_placed lab m.wiring.nodes m.mapping.places name suits.shaped.places placed in
             record {
               os = kept.os name _ (loaded_after builds v name _ (λ op h. ((build_op op h).wipes, λ other is. (build_op op h).loads name other is)) (inr (Has-right (map join (rows_of lab m)) (load_nodes lab (Some m) names) _ (Has-flat_mapped (load_node lab m) names name _ listed (inl refl))))) ∙ sym os_is;
               pipes = λ k. same_option (((ran w boots).node name).pipes k) (slice_get (pipes_on lab m name) k)

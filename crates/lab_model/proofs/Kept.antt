@@ -1,4 +1,6 @@
 -- Placed and kept nodes, as tests and as facts.
+use Rattle.lab_model.proofs.SuitLaws.{place_in}
+use Rattle.lab_model.proofs.WiringLaws.{sound_ends, sound_pipes}
 use Rattle.std.specs.List.{list_any, filter}
 use Rattle.std.specs.Cmp.Lexicographic.{pointwise}
 use Rattle.std.specs.Str.{bytes_eq}
@@ -13,9 +15,10 @@ use Rattle.phys_lab.specs.Labs.{Lab}
 use Rattle.virt_topo.specs.Ends.{end_nodes, pipe_from}
 use Rattle.virt_topo.specs.declared.mapping.Mapped.{Mapped}
 use Rattle.plant.specs.Worlds.{PipeRow}
-use Rattle.lab_model.specs.Wants.{node_name, no_place, pipes_on}
-use Rattle.lab_model.specs.Kept.{places_it, is_kept, same_pipe, same_rates}
-use Rattle.lab_model.specs.Claims.{Places}
+use Rattle.lab_model.specs.Wants.{node_name, pipes_on}
+use Rattle.lab_model.specs.Rules.{no_place}
+use Rattle.lab_model.specs.Claims.{places_it, Places}
+use Rattle.lab_model.specs.Kept.{is_kept, same_pipe, same_rates}
 use Rattle.lab_model.specs.Holding.{Suits}
 use Rattle.lab_model.specs.Courses.{node_names}
 use Rattle.lab_model.proofs.PartLaws.{Has-get_or}
@@ -59,15 +62,15 @@ Places_from lab m name is = placed_any lab m.mapping.places name is
 pub placed_listed : (lab : Lab) (m : Mapped) (name : List ℕ) → Suits lab m → Places lab m name → Has (node_names lab) name
 placed_listed lab m name suits placed =
     let p = Has-map (λ p. node_name lab p.0) m.mapping.places name placed in
-    subst (λ n. Has (node_names lab) n) p.2 (Has-mapped (λ n. n.name) lab.nodes _ (Has-get_or lab.nodes p.0.0.0 _ (suits.in_nodes p.0 p.1)))
+    subst (λ n. Has (node_names lab) n) p.2 (Has-mapped (λ n. n.name) lab.nodes _ (Has-get_or lab.nodes p.0.0.0 _ (place_in lab m suits p.0 p.1)))
 
 -- a node where a pipe is wanted is placed
 pub pipe_placed : (lab : Lab) (m : Mapped) (name : List ℕ) (k : ℕ) (row : PipeRow) → Suits lab m → slice_get (pipes_on lab m name) k ≡ Some row → Places lab m name
 pipe_placed lab m name k row suits wants =
     let w = wanted_pipe lab m name row (Has-slice_get _ k row wants) in
-    let sound = suits.pipes w.from w.in_wiring in
-    let node : w.from.node < length m.wiring.nodes = subst (λ v. v < length m.wiring.nodes) (end_number-at (end_nodes m.wiring.segments) w.from.node w.from.from sound.from_end) (suits.nodes (pipe_from m.wiring w.from) sound.from_end) in
-    let within : w.from.node < length m.mapping.places = omega (arith, node, suits.places) in
+    let sound = sound_pipes m.wiring suits.sound w.from w.in_wiring in
+    let node : w.from.node < length m.wiring.nodes = subst (λ v. v < length m.wiring.nodes) (end_number-at (end_nodes m.wiring.segments) w.from.node w.from.from sound.from_end) (sound_ends m.wiring suits.sound (pipe_from m.wiring w.from) sound.from_end) in
+    let within : w.from.node < length m.mapping.places = omega (arith, node, suits.shaped.places) in
     subst (λ n. Places lab m n) w.placed (Has-mapped (λ p. node_name lab p.0) m.mapping.places _ (Has-get_or m.mapping.places w.from.node no_place within))
 
 same_rates-true : (a b : Rates) → same_rates a b ≡ true → a ≡ b

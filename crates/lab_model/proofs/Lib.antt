@@ -10,6 +10,7 @@ pub mod Ends
 pub mod FactLaws
 pub mod FeasibleLaws
 pub mod Finished
+pub mod FirstViolation
 pub mod HoldingLaws
 pub mod Images
 pub mod Kept
@@ -24,6 +25,8 @@ pub mod Rows
 pub mod Safe
 pub mod SafeMoves
 pub mod Steps
+pub mod SuitLaws
 pub mod TraceLaws
 pub mod Whole
+pub mod WiringLaws
 pub mod Worked

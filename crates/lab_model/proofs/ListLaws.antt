@@ -8,7 +8,7 @@ use Rattle.phys_lab.specs.Labs.{Lab}
 use Rattle.virt_topo.specs.declared.experiment.Experiment.{Experiment}
 use Rattle.virt_topo.specs.declared.experiment.Phase.TheVariants.{Out}
 use Rattle.plant.specs.Worlds.{World}
-use Rattle.lab_model.specs.Claims.{Which, Old, New, claimed, claimed_in, Claims, claimed_tags, claimed_use, use_of, tags_of, IsOf}
+use Rattle.lab_model.specs.Claims.{Which, Old, New, claimed, claimed_in, Claims, claimed_tags, claimed_use, use_in, tags_of, IsOf}
 use Rattle.lab_model.specs.Holding.{Holding}
 use Rattle.lab_model.specs.Cabled.{CabledPhase}
 use Rattle.lab_model.specs.Parts.{Part, Parts}
@@ -50,7 +50,7 @@ module _ (lab : Lab) (a b : List Experiment) (e : Experiment) (out : e.phase ≡
   no_tags = (λ i. tags_of (nothing Old i) ++ tags_of (nothing New i))
 
   no_use : (t : ℕ) → claimed_use lab t e ≡ 0
-  no_use t = ap (λ p. Rattle.std.proofs.Common.max (use_of lab t (claimed_in e.wiring p Old)) (use_of lab t (claimed_in e.wiring p New))) out
+  no_use t = ap (λ p. Rattle.std.proofs.Common.max (use_in lab t (claimed_in e.wiring p Old)) (use_in lab t (claimed_in e.wiring p New))) out
 
   pub no_claim : (name : List ℕ) → Claims lab e name → ⊥
   no_claim name c = cc (c.is, nothing c.which)

@@ -1,4 +1,6 @@
 -- Rows and pipes of one mapping alone are isolated.
+use Rattle.lab_model.proofs.SuitLaws.{plug_in, plug_node, plug_once}
+use Rattle.lab_model.proofs.WiringLaws.{sound_pipes}
 use Rattle.std.specs.List.{filter_map, cons_option}
 use Rattle.std.specs.Str.{bytes_eq}
 use Rattle.std.proofs.Common.{◌≡◌, ◌≢◌, inl, inr, ℕ, zero, suc, ◌+◌, ◌-◌, ◌<◌, cond, eqb, Some, None, List, [], ◌∷◌, length, map, get_or, slice_get, refl, sym, ap, ◌∙◌, subst, arith}
@@ -14,10 +16,11 @@ use Rattle.virt_topo.specs.declared.mapping.Mapped.{Mapped}
 use Rattle.virt_topo.specs.declared.experiment.Experiment.{Experiment}
 use Rattle.plant.specs.Worlds.{Row, PipeRow, World}
 use Rattle.lab_model.specs.Leavings.{OneSided}
-use Rattle.lab_model.specs.Wants.{Owned, place_of, plug_name, pipe_row, pipes_on, rows_of, cables_of}
+use Rattle.lab_model.specs.Wants.{Owned, place_of, plug_name, pipe_row, pipes_on, rows_of, cables_in}
 use Rattle.lab_model.specs.Claims.{Which, Old, New, claimed, Wants, Claims, claimed_tags, tags_of, IsOf}
 use Rattle.lab_model.specs.Reach.{IsAt, Next, by_switch, by_trunk, by_pipe, LeadsOn, Reaches}
-use Rattle.lab_model.specs.Holding.{IsLab, Suits, plug_of}
+use Rattle.lab_model.specs.Holding.{IsLab, Suits}
+use Rattle.lab_model.specs.Rules.{plug_at}
 use Rattle.lab_model.specs.Isolated.{IsRow, IsPipe}
 use Rattle.lab_model.proofs.Rows.{owned_from, owned_tag, owned_once}
 
@@ -72,11 +75,11 @@ module _ (lab : Lab) (m : Mapped) (is_lab : IsLab lab) (suits : Suits lab m) whe
       → IsAt lab name (plug_name lab m e) row → Has (rows_of lab m) (record { row = row; owner = link }) → get_or (end_owners m.wiring.segments) e [] ≡ link
   end_owner e name row link end placed at wanted = elim (owned_from lab m.wiring.segments m.mapping.plugs m.tags (record { row = row; owner = link }) wanted) [
     | inl r ↦
-        let in_plugs : e < length m.mapping.plugs = omega (arith, end, suits.plugs) in
-        let r_in : r.number < length m.mapping.plugs = omega (arith, r.is_end, suits.plugs) in
-        let here : at.number.0 ≡ (plug_of m e).0 = is_lab.names at.number (plug_of m e) at.in_lab (suits.in_lab e in_plugs) (at.node_is ∙ sym placed ∙ sym (suits.at_node e in_plugs)) at.name_is in
-        let there : at.number.0 ≡ (plug_of m r.number).0 = is_lab.ports at.number (plug_of m r.number) at.in_lab (suits.in_lab r.number r_in) (sym at.switch_is ∙ r.switch_is) (sym at.port_is ∙ r.port_is) in
-        let one : e ≡ r.number = suits.once e r.number in_plugs r_in (sym here ∙ there) in
+        let in_plugs : e < length m.mapping.plugs = omega (arith, end, suits.shaped.plugs) in
+        let r_in : r.number < length m.mapping.plugs = omega (arith, r.is_end, suits.shaped.plugs) in
+        let here : at.number.0 ≡ (plug_at m.mapping e).0 = is_lab.names at.number (plug_at m.mapping e) at.in_lab (plug_in lab m suits e in_plugs) (at.node_is ∙ sym placed ∙ sym (plug_node lab m suits e in_plugs)) at.name_is in
+        let there : at.number.0 ≡ (plug_at m.mapping r.number).0 = is_lab.ports at.number (plug_at m.mapping r.number) at.in_lab (plug_in lab m suits r.number r_in) (sym at.switch_is ∙ r.switch_is) (sym at.port_is ∙ r.port_is) in
+        let one : e ≡ r.number = plug_once lab m suits e r.number in_plugs r_in (sym here ∙ there) in
         ap (λ n. get_or (end_owners m.wiring.segments) n []) one ∙ r.owner_is
     | inr t ↦
         let apart = is_lab.trunk_ports at.number t.trunk at.in_lab t.in_lab in
@@ -91,7 +94,7 @@ module _ (lab : Lab) (m : Mapped) (is_lab : IsLab lab) (suits : Suits lab m) whe
       → Has (rows_of lab m) (record { row = p; owner = a }) → Has (rows_of lab m) (record { row = q; owner = b }) → a ≡ b
   pipe_owner name row p q a b has at_p at_q wants_p wants_q =
       let w = wanted_pipe lab m name row has in
-      let sound = suits.pipes w.from w.in_wiring in
+      let sound = sound_pipes m.wiring suits.sound w.from w.in_wiring in
       let placed_from : place_of lab m (get_or (end_nodes m.wiring.segments) (pipe_from m.wiring w.from) 0) ≡ name = ap (λ v. place_of lab m v) (end_number-at (end_nodes m.wiring.segments) w.from.node w.from.from sound.from_end) ∙ w.placed in
       let placed_to : place_of lab m (get_or (end_nodes m.wiring.segments) (pipe_to m.wiring w.from) 0) ≡ name = ap (λ v. place_of lab m v) (end_number-at (end_nodes m.wiring.segments) w.from.node w.from.to sound.to_end) ∙ w.placed in
       let at_from = subst (λ n. IsAt lab name n p) (sym (ap (λ r. r.from) w.row_is)) at_p in
@@ -117,11 +120,11 @@ module _ (lab : Lab) (w : World) (e : Experiment) (which : Which) (m : Mapped) (
   ] mine
 
   tag_in : (x : Which) (n : Mapped) (o : Owned) → claimed e x ≡ Some n → Has (rows_of lab n) o → Has (tags_of (claimed e x)) o.row.vlan
-  tag_in x n o is has = subst (λ c. Has (tags_of c) o.row.vlan) (sym is) (owned_tag lab (cables_of n) n.tags o has)
+  tag_in x n o is has = subst (λ c. Has (tags_of c) o.row.vlan) (sym is) (owned_tag lab (cables_in n) n.tags o has)
 
   one_side : (x y : Which) (n : Mapped) (row : Row) (link link' : List ℕ) → claimed e x ≡ Some m → claimed e y ≡ Some n → Has (rows_of lab m) (record { row = row; owner = link }) → Has (rows_of lab n) (record { row = row; owner = link' }) → (y ≡ x) × (link' ≡ link)
-  one_side Old Old n row link link' is_m is_n h g = let same : n ≡ m = cc in (refl, owned_once lab (cables_of m) m.tags (record { row = row; owner = link' }) (record { row = row; owner = link }) tags_differ (subst (λ c. Has (rows_of lab c) (record { row = row; owner = link' })) same g) h refl)
-  one_side New New n row link link' is_m is_n h g = let same : n ≡ m = cc in (refl, owned_once lab (cables_of m) m.tags (record { row = row; owner = link' }) (record { row = row; owner = link }) tags_differ (subst (λ c. Has (rows_of lab c) (record { row = row; owner = link' })) same g) h refl)
+  one_side Old Old n row link link' is_m is_n h g = let same : n ≡ m = cc in (refl, owned_once lab (cables_in m) m.tags (record { row = row; owner = link' }) (record { row = row; owner = link }) tags_differ (subst (λ c. Has (rows_of lab c) (record { row = row; owner = link' })) same g) h refl)
+  one_side New New n row link link' is_m is_n h g = let same : n ≡ m = cc in (refl, owned_once lab (cables_in m) m.tags (record { row = row; owner = link' }) (record { row = row; owner = link }) tags_differ (subst (λ c. Has (rows_of lab c) (record { row = row; owner = link' })) same g) h refl)
   one_side Old New n row link link' is_m is_n h g = absurd (Apart-across (λ x y. x ≢ y) (tags_of (claimed e Old)) (tags_of (claimed e New)) row.vlan row.vlan differ (tag_in Old m _ is_m h) (tag_in New n _ is_n g) refl)
   one_side New Old n row link link' is_m is_n h g = absurd (Apart-across (λ x y. x ≢ y) (tags_of (claimed e Old)) (tags_of (claimed e New)) row.vlan row.vlan differ (tag_in Old n _ is_n g) (tag_in New m _ is_m h) refl)
 
@@ -131,14 +134,14 @@ module _ (lab : Lab) (w : World) (e : Experiment) (which : Which) (m : Mapped) (
 
   next_owner : OneSided lab w e m → (p q : Row) (a b : List ℕ) → Has (rows_of lab m) (record { row = p; owner = a }) → Has (rows_of lab m) (record { row = q; owner = b })
       → Next lab (λ name row. Claims lab e name × IsPipe w name row) p q → a ≡ b
-  next_owner sided p q a b has_p has_q (by_switch vlan switch) = owned_once lab (cables_of m) m.tags _ _ tags_differ has_p has_q vlan
-  next_owner sided p q a b has_p has_q (by_trunk t in_lab vlan ends) = owned_once lab (cables_of m) m.tags _ _ tags_differ has_p has_q vlan
+  next_owner sided p q a b has_p has_q (by_switch vlan switch) = owned_once lab (cables_in m) m.tags _ _ tags_differ has_p has_q vlan
+  next_owner sided p q a b has_p has_q (by_trunk t in_lab vlan ends) = owned_once lab (cables_in m) m.tags _ _ tags_differ has_p has_q vlan
   next_owner sided p q a b has_p has_q (by_pipe node row stands (inl at)) = pipe_owner lab m is_lab suits node row p q a b (Has-slice_get _ stands.1.0 row (sided.pipes node stands.1.0 row stands.0 stands.1.1)) at.0 at.1 has_p has_q
   next_owner sided p q a b has_p has_q (by_pipe node row stands (inr at)) = sym (pipe_owner lab m is_lab suits node row q p b a (Has-slice_get _ stands.1.0 row (sided.pipes node stands.1.0 row stands.0 stands.1.1)) at.1 at.0 has_q has_p)
 
   leads_owner : OneSided lab w e m → (p : Row) (path : List Row) (q : Row) (a b : List ℕ) → Has (rows_of lab m) (record { row = p; owner = a }) → Has (rows_of lab m) (record { row = q; owner = b })
       → LeadsOn lab (λ name row. Claims lab e name × IsPipe w name row) (λ row. IsOf lab e row × IsRow w row) p path q → a ≡ b
-  leads_owner sided p [] q a b has_p has_q same = owned_once lab (cables_of m) m.tags _ _ tags_differ has_p has_q (ap (λ r. r.vlan) same)
+  leads_owner sided p [] q a b has_p has_q same = owned_once lab (cables_in m) m.tags _ _ tags_differ has_p has_q (ap (λ r. r.vlan) same)
   leads_owner sided p (mid ∷ path) q a b has_p has_q leads =
       let here = sided.rows mid leads.0.0 leads.0.1 in
       next_owner sided p mid a here.0 has_p here.1 leads.1 ∙ leads_owner sided mid path q here.0 b here.1 has_q leads.2

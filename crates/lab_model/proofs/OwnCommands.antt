@@ -15,10 +15,10 @@ use Rattle.plant.specs.declared.device.Fault.{Fault}
 use Rattle.plant.specs.declared.device.DeviceOp.{DeviceOp}
 use Rattle.plant.specs.declared.device.DeviceOp.TheVariants.{Boot as BootIt, Poll, Wipe}
 use Rattle.lab_model.specs.Wants.{Owned, rows_of, pipes_on}
-use Rattle.lab_model.specs.Claims.{Which, Old, New, claimed, Claims}
+use Rattle.lab_model.specs.Claims.{Which, Old, New, claimed, Claims, is_placed}
 use Rattle.lab_model.specs.Kept.{is_kept}
 use Rattle.lab_model.specs.Parts.{Part}
-use Rattle.lab_model.specs.Courses.{op_row, op_node, op_join, op_pipe, IsCommandOf, Plan, join, leave, shape, load_node, load_nodes, rows_from, node_names, is_placed, fresh, commands, undo, Left, Going, Goes, whole, next}
+use Rattle.lab_model.specs.Courses.{op_row, op_node, op_join, op_pipe, IsCommandOf, Plan, join, leave, shape, load_node, load_nodes, rows_from, node_names, fresh, commands, undo, Left, Going, Goes, whole, next}
 use Rattle.lab_model.specs.Leavings.{Sent, ran, did}
 use Rattle.lab_model.proofs.Kept.{Has-filter, Places_from}
 use Rattle.lab_model.proofs.Moves.{claims_old, claims_new, SparesKept, part_shrinks}

@@ -1,4 +1,6 @@
 -- The law of parts.
+use Rattle.lab_model.proofs.SuitLaws.{plug_in, plug_node}
+use Rattle.lab_model.proofs.WiringLaws.{sound_ends}
 use Rattle.std.proofs.Common.{◌≡◌, inl, inr, ℕ, zero, suc, ◌<◌, List, [], ◌∷◌, length, get_or, refl, sym, ap, ◌∙◌, subst, arith}
 use Rattle.lab_base.specs.Lists.{Has}
 use Rattle.lab_base.proofs.Members.{Has-left, Has-right, Has-mapped, Apart-same, flat-same}
@@ -7,11 +9,12 @@ use Rattle.virt_topo.specs.Ends.{end_nodes}
 use Rattle.virt_topo.specs.declared.mapping.Mapped.{Mapped}
 use Rattle.virt_topo.specs.declared.experiment.Experiment.{Experiment}
 use Rattle.plant.specs.Worlds.{Row, PipeRow, World}
-use Rattle.lab_model.specs.Cables.{iface_at}
-use Rattle.lab_model.specs.Wants.{Owned, node_name, place_of, no_place, rows_of, cables_of}
+use Rattle.lab_model.specs.Uses.{iface_at}
+use Rattle.lab_model.specs.Wants.{Owned, node_name, place_of, rows_of, cables_in}
+use Rattle.lab_model.specs.Rules.{no_place, plug_at}
 use Rattle.lab_model.specs.Claims.{Which, Old, New, claimed, Wants, Places, Claims, claimed_tags, tags_of, IsOf}
 use Rattle.lab_model.specs.Reach.{IsAt, Next, by_switch, by_trunk, by_pipe, LeadsOn}
-use Rattle.lab_model.specs.Holding.{IsLab, Suits, plug_of, Holding}
+use Rattle.lab_model.specs.Holding.{IsLab, Suits, Holding}
 use Rattle.lab_model.specs.Isolated.{Owner, IsRow, IsPipe, Isolated}
 use Rattle.lab_model.specs.Cabled.{Cabled, AllWanted}
 use Rattle.lab_model.specs.Parts.{Parts}
@@ -26,11 +29,11 @@ Has-get_or (x ∷ xs) (suc k) d h = inr (Has-get_or xs k d (omega arith))
 pub placed_at : (lab : Lab) (m : Mapped) (node iface : List ℕ) (o : Owned) → IsLab lab → Suits lab m → IsAt lab node iface o.row → Has (rows_of lab m) o → Places lab m node
 placed_at lab m node iface o is_lab suits at wanted = elim (owned_from lab m.wiring.segments m.mapping.plugs m.tags o wanted) [
   | inl r ↦
-      let end : r.number < length m.mapping.plugs = omega (arith, r.is_end, suits.plugs) in
-      let one : at.number.0 ≡ (plug_of m r.number).0 = is_lab.ports at.number (plug_of m r.number) at.in_lab (suits.in_lab r.number end) (sym at.switch_is ∙ r.switch_is) (sym at.port_is ∙ r.port_is) in
+      let end : r.number < length m.mapping.plugs = omega (arith, r.is_end, suits.shaped.plugs) in
+      let one : at.number.0 ≡ (plug_at m.mapping r.number).0 = is_lab.ports at.number (plug_at m.mapping r.number) at.in_lab (plug_in lab m suits r.number end) (sym at.switch_is ∙ r.switch_is) (sym at.port_is ∙ r.port_is) in
       let v = get_or (end_nodes m.wiring.segments) r.number 0 in
-      let there : place_of lab m v ≡ node = sym (suits.at_node r.number end) ∙ ap (λ n. node_name lab (iface_at lab (record { 0 = n })).node) (sym one) ∙ at.node_is in
-      let h = Has-get_or m.mapping.places v no_place (omega (arith, suits.places, suits.nodes r.number r.is_end)) in
+      let there : place_of lab m v ≡ node = sym (plug_node lab m suits r.number end) ∙ ap (λ n. node_name lab (iface_at lab (record { 0 = n })).node) (sym one) ∙ at.node_is in
+      let h = Has-get_or m.mapping.places v no_place (omega (arith, suits.shaped.places, sound_ends m.wiring suits.sound r.number r.is_end)) in
       subst (λ n. Places lab m n) there (Has-mapped (λ p. node_name lab p.0) m.mapping.places _ h)
   | inr t ↦
       let apart = is_lab.trunk_ports at.number t.trunk at.in_lab t.in_lab in
@@ -41,8 +44,8 @@ placed_at lab m node iface o is_lab suits at wanted = elim (owned_from lab m.wir
 ]
 
 pub wants_tag : (lab : Lab) (e : Experiment) (row : Row) (which : Which) (link : List ℕ) → Wants lab e row which link → Has (claimed_tags e) row.vlan
-wants_tag lab e row Old link w = Has-left _ _ _ (subst (λ o. Has (tags_of o) row.vlan) (sym w.is) (owned_tag lab (cables_of w.mapped) w.mapped.tags _ w.row_of))
-wants_tag lab e row New link w = Has-right (tags_of (claimed e Old)) _ _ (subst (λ o. Has (tags_of o) row.vlan) (sym w.is) (owned_tag lab (cables_of w.mapped) w.mapped.tags _ w.row_of))
+wants_tag lab e row Old link w = Has-left _ _ _ (subst (λ o. Has (tags_of o) row.vlan) (sym w.is) (owned_tag lab (cables_in w.mapped) w.mapped.tags _ w.row_of))
+wants_tag lab e row New link w = Has-right (tags_of (claimed e Old)) _ _ (subst (λ o. Has (tags_of o) row.vlan) (sym w.is) (owned_tag lab (cables_in w.mapped) w.mapped.tags _ w.row_of))
 
 module _ (lab : Lab) (es : List Experiment) (is_lab : IsLab lab) (holding : Holding lab es) where
   -- rows of one VLAN are of one experiment

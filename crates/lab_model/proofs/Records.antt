@@ -8,8 +8,7 @@ use Rattle.phys_lab.specs.Labs.{Lab}
 use Rattle.virt_topo.specs.declared.experiment.Experiment.{Experiment}
 use Rattle.virt_topo.specs.declared.mapping.Mapped.{Mapped}
 use Rattle.plant.specs.Worlds.{Row, World, wiped}
-use Rattle.lab_model.specs.Claims.{Which, Old, New, claimed, Places, Claims, claimed_tags, IsOf}
-use Rattle.lab_model.specs.Kept.{places_it}
+use Rattle.lab_model.specs.Claims.{Which, Old, New, claimed, Places, Claims, claimed_tags, IsOf, places_it}
 use Rattle.lab_model.specs.Holding.{Holding}
 use Rattle.lab_model.specs.Isolated.{IsRow}
 use Rattle.lab_model.specs.Cabled.{AllWanted, FreeWiped, SameNode}

@@ -10,8 +10,9 @@ use Rattle.phys_lab.specs.Labs.{Lab}
 use Rattle.phys_lab.specs.declared.parts.Trunk.{Trunk}
 use Rattle.virt_topo.specs.Ends.{end_nodes, end_owners}
 use Rattle.virt_topo.specs.declared.wiring.Segment.{Segment}
+use Rattle.virt_topo.specs.Cables.{Cable, cables}
 use Rattle.plant.specs.Worlds.{Row}
-use Rattle.lab_model.specs.Cables.{Cable, cables, iface_at, is_carried}
+use Rattle.lab_model.specs.Uses.{iface_at, is_carried}
 use Rattle.lab_model.specs.Wants.{Owned, switch_name, plug_row, trunk_rows, cable_rows, owned_rows}
 use Rattle.lab_model.specs.Reach.{IsFirstEnd, IsSecondEnd}
 

@@ -14,11 +14,11 @@ use Rattle.plant.specs.declared.device.Fault.{Fault}
 use Rattle.plant.specs.declared.device.DeviceOp.{DeviceOp}
 use Rattle.plant.specs.declared.device.DeviceOp.TheVariants.{Boot as BootIt, Poll, Wipe}
 use Rattle.lab_model.specs.Wants.{rows_of}
-use Rattle.lab_model.specs.Claims.{Which, Old, New, claimed, claimed_tags}
+use Rattle.lab_model.specs.Claims.{Which, Old, New, claimed, claimed_tags, is_placed}
 use Rattle.lab_model.specs.Kept.{is_kept}
 use Rattle.lab_model.specs.Holding.{IsLab, Suits}
 use Rattle.lab_model.specs.Parts.{Part}
-use Rattle.lab_model.specs.Courses.{join, leave, load_nodes, rows_from, node_names, is_placed, fresh, commands, undo, Left, Going, Goes, whole, next}
+use Rattle.lab_model.specs.Courses.{join, leave, load_nodes, rows_from, node_names, fresh, commands, undo, Left, Going, Goes, whole, next}
 use Rattle.lab_model.specs.Leavings.{Sent, ran, did}
 use Rattle.lab_model.proofs.Moves.{Cleared, claims_old, claims_new, other, cleared_one_side}
 use Rattle.lab_model.proofs.Kept.{Has-filter}

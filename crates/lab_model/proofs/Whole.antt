@@ -15,13 +15,13 @@ use Rattle.plant.specs.declared.device.DeviceOp.{DeviceOp}
 use Rattle.plant.specs.declared.device.DeviceOp.TheVariants.{Join, Leave, Shape, Load, Boot as BootIt, Poll, Wipe}
 use Rattle.lab_model.specs.Leavings.{OneSided, Sent, ran, Ends, Gone}
 use Rattle.lab_model.specs.Wants.{Owned, rows_of, node_row_of}
-use Rattle.lab_model.specs.Claims.{Which, Old, New, claimed, Claims, Places}
-use Rattle.lab_model.specs.Kept.{is_kept, places_it}
+use Rattle.lab_model.specs.Claims.{Which, Old, New, claimed, Claims, Places, places_it, is_placed}
+use Rattle.lab_model.specs.Kept.{is_kept}
 use Rattle.lab_model.specs.Holding.{Suits}
 use Rattle.lab_model.specs.Isolated.{IsRow}
 use Rattle.lab_model.specs.Cabled.{SameNode}
 use Rattle.lab_model.specs.Parts.{Part}
-use Rattle.lab_model.specs.Courses.{op_join, join, leave, rows_from, load_nodes, node_names, is_placed, fresh, commands, undo, Going, Goes, IsDone, nothing_left}
+use Rattle.lab_model.specs.Courses.{op_join, join, leave, rows_from, load_nodes, node_names, fresh, commands, undo, Going, Goes, IsDone, nothing_left}
 use Rattle.lab_model.proofs.Clearing.{done, left_after}
 use Rattle.lab_model.proofs.Moves.{Cleared, claims_old, claims_new, phase_of, other, one_of, cleared_one_side}
 use Rattle.lab_model.proofs.Kept.{Has-filter, Has-filtered, places_it_from, Places_from, placed_listed}

@@ -10,8 +10,8 @@ use Rattle.virt_topo.specs.declared.wiring.VirtEnd.{VirtEnd}
 use Rattle.virt_topo.specs.declared.mapping.Mapped.{Mapped}
 use Rattle.plant.specs.Worlds.{Row}
 use Rattle.plant.specs.declared.device.DeviceOp.TheVariants.{Join, Leave, Load, Wipe}
-use Rattle.lab_model.specs.Cables.{trunk_use}
-use Rattle.lab_model.specs.Wants.{cables_of, rows_of}
+use Rattle.lab_model.specs.Uses.{trunk_use}
+use Rattle.lab_model.specs.Wants.{cables_in, rows_of}
 use Rattle.lab_model.specs.Courses.{commands, undo}
 
 abbrev node : ℕ → Node
@@ -57,13 +57,13 @@ sides : map (on_first_side lab_q.trunks 0) (0 ∷ 1 ∷ []) ≡ true ∷ false �
 sides = refl
 
 -- the trunk is exactly full
-full : trunk_use lab_q 0 (cables_of (pair 100000 0 2 100)) ≡ 100000
+full : trunk_use lab_q 0 (cables_in (pair 100000 0 2 100)) ≡ 100000
 full = refl
 
-lan : trunk_use lab_q 0 (cables_of four) ≡ 100000
+lan : trunk_use lab_q 0 (cables_in four) ≡ 100000
 lan = refl
 
-unused : trunk_use lab_q 0 (cables_of (pair 100000 0 1 100)) ≡ 0
+unused : trunk_use lab_q 0 (cables_in (pair 100000 0 1 100)) ≡ 0
 unused = refl
 
 abbrev row : ℕ → ℕ → ℕ → Row

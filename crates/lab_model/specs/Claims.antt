@@ -1,5 +1,7 @@
 -- What an experiment claims.
-use Rattle.std.specs.Prelude.{◌≡◌, ℕ, max, List, [], ◌++◌, map, Option, Some, None}
+use Rattle.std.specs.Prelude.{◌≡◌, ℕ, max, Bool, false, ◌||◌, List, [], ◌++◌, map, Option, Some, None}
+use Rattle.std.specs.List.{list_any}
+use Rattle.std.specs.Str.{bytes_eq}
 use Rattle.lab_base.specs.Lists.{Has}
 use Rattle.phys_lab.specs.Labs.{Lab}
 use Rattle.virt_topo.specs.declared.wiring.Wiring.{Wiring}
@@ -8,8 +10,8 @@ use Rattle.virt_topo.specs.declared.experiment.Experiment.{Experiment}
 use Rattle.virt_topo.specs.declared.experiment.Phase.{Phase}
 use Rattle.virt_topo.specs.declared.experiment.Phase.TheVariants.{Out, In, Moving}
 use Rattle.plant.specs.Worlds.{Row}
-use Rattle.lab_model.specs.Cables.{trunk_use}
-use Rattle.lab_model.specs.Wants.{node_name, cables_of, rows_of}
+use Rattle.lab_model.specs.Uses.{use_of}
+use Rattle.lab_model.specs.Wants.{node_name, rows_of}
 
 -- which of the two mappings of a move; In has a new one alone
 pub data Which : Type 0 where
@@ -44,6 +46,17 @@ pub record Claims (lab : Lab) (e : Experiment) (name : List ℕ) : Type 0 where
   pub is : claimed e which ≡ Some mapped
   pub placed : Places lab mapped name
 
+-- the same as tests: the mapping places a virtual node there; so does the mapping, if there is one; the experiment claims the node
+abbrev pub places_it : Lab → Mapped → List ℕ → Bool
+places_it lab m name = list_any (λ p. bytes_eq (node_name lab p.0) name) m.mapping.places
+
+abbrev pub is_placed : Lab → Option Mapped → List ℕ → Bool
+is_placed lab None name = false
+is_placed lab (Some m) name = places_it lab m name
+
+abbrev pub claims_it : Lab → Experiment → List ℕ → Bool
+claims_it lab e name = is_placed lab (claimed e Old) name || is_placed lab (claimed e New) name
+
 abbrev pub tags_of : Option Mapped → List ℕ
 tags_of None = []
 tags_of (Some m) = map (λ tag. tag.0) m.tags
@@ -52,13 +65,14 @@ tags_of (Some m) = map (λ tag. tag.0) m.tags
 abbrev pub claimed_tags : Experiment → List ℕ
 claimed_tags e = tags_of (claimed e Old) ++ tags_of (claimed e New)
 
-abbrev pub use_of : Lab → ℕ → Option Mapped → ℕ
-use_of lab t None = 0
-use_of lab t (Some m) = trunk_use lab t (cables_of m)
+-- what the mapping, if there is one, uses of trunk t
+abbrev pub use_in : Lab → ℕ → Option Mapped → ℕ
+use_in lab t None = 0
+use_in lab t (Some m) = use_of lab m.wiring m.mapping t
 
 -- what the experiment claims of trunk t
 abbrev pub claimed_use : Lab → ℕ → Experiment → ℕ
-claimed_use lab t e = max (use_of lab t (claimed e Old)) (use_of lab t (claimed e New))
+claimed_use lab t e = max (use_in lab t (claimed e Old)) (use_in lab t (claimed e New))
 
 -- some mapping of the experiment wants the row
 abbrev pub IsOf : Lab → Experiment → Row → Type 0

@@ -15,8 +15,8 @@ use Rattle.plant.specs.declared.device.Fault.TheVariants.{Failed, Stopped}
 use Rattle.plant.specs.declared.device.DeviceOp.{DeviceOp}
 use Rattle.plant.specs.declared.device.DeviceOp.TheVariants.{Join, Leave, Shape, Load, Boot as BootIt, Poll, Wipe}
 use Rattle.lab_model.specs.Wants.{Owned, rows_of, pipes_on, os_on}
-use Rattle.lab_model.specs.Claims.{Claims, IsOf}
-use Rattle.lab_model.specs.Kept.{places_it, is_kept}
+use Rattle.lab_model.specs.Claims.{is_placed, Claims, IsOf}
+use Rattle.lab_model.specs.Kept.{is_kept}
 
 -- the row that the command joins or leaves
 abbrev pub op_row : DeviceOp → Option Row
@@ -57,11 +57,6 @@ rows_from lab (Some m) = rows_of lab m
 
 abbrev pub node_names : Lab → List (List ℕ)
 node_names lab = map (λ n. n.name) lab.nodes
-
--- the mapping, if there is one, places something there
-abbrev pub is_placed : Lab → Option Mapped → List ℕ → Bool
-is_placed lab None name = false
-is_placed lab (Some m) name = places_it lab m name
 
 abbrev pub shape : List ℕ → ℕ × PipeRow → DeviceOp
 shape node p = Shape node p.0 p.1.from p.1.to p.1.there p.1.back

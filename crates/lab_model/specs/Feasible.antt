@@ -1,95 +1,113 @@
--- The rules on what the other experiments leave, and the first violation.
-use Rattle.std.specs.Prelude.{◌≡◌, ◌<◌, ◌+◌, ◌-◌, ℕ, zero, suc, Bool, true, not, ◌&&◌, ◌||◌, ◌==◌, nat_le, List, [], ◌∷◌, length, map, sum_by, Option, Some, None, if◌then◌else◌}
-use Rattle.std.specs.List.{flat_map, list_any, list_all}
-use Rattle.lab_base.specs.Lists.{Has}
-use Rattle.lab_base.specs.declared.ids.VlanId.{VlanId}
-use Rattle.lab_base.specs.declared.ids.NodeId.{NodeId}
-use Rattle.phys_lab.specs.Sides.{trunk_at}
+-- Whether a mapping is feasible on what the others leave: the first rule that fails, with its first subject.
+use Rattle.std.specs.Prelude.{◌≡◌, ◌<◌, ◌+◌, ℕ, zero, suc, Bool, true, false, List, [], ◌∷◌, length, Option, Some, None, if◌then◌else◌}
+use Rattle.phys_lab.specs.declared.free.Free.{Free}
 use Rattle.phys_lab.specs.Labs.{Lab}
-use Rattle.virt_topo.specs.Ends.{end_nodes, IsSoundPipe}
-use Rattle.virt_topo.specs.declared.wiring.Pipe.{Pipe}
 use Rattle.virt_topo.specs.declared.violation.Broken.{Broken}
-use Rattle.virt_topo.specs.declared.violation.Broken.TheVariants.{F1, F2, F3, F4, F5, F6, F7, F8}
+use Rattle.virt_topo.specs.declared.violation.Broken.TheVariants as broken
 use Rattle.virt_topo.specs.declared.violation.Subject.{Subject}
-use Rattle.virt_topo.specs.declared.violation.Subject.TheVariants.{Virt, Node as NodeOf, End, Trunk as TrunkOf, Segment as SegmentOf, Vlans}
+use Rattle.virt_topo.specs.declared.violation.Subject.TheVariants as subjects
 use Rattle.virt_topo.specs.declared.wiring.Wiring.{Wiring}
 use Rattle.virt_topo.specs.declared.mapping.Mapping.{Mapping}
-use Rattle.virt_topo.specs.declared.mapping.Mapped.{Mapped}
-use Rattle.virt_topo.specs.declared.experiment.Experiment.{Experiment}
-use Rattle.lab_model.specs.Cables.{cables, trunk_use}
-use Rattle.lab_model.specs.Wants.{node_name}
-use Rattle.lab_model.specs.Claims.{Old, New, claimed, claimed_tags, claimed_use}
-use Rattle.lab_model.specs.Rules.{place_at, plug_at, end_node, node_at, has_name, keeps_f2, keeps_f3, keeps_f4, keeps_f5, keeps_f7}
-use Rattle.lab_model.specs.Courses.{is_placed}
-
--- what a sound wiring's check says that the proofs here use
-pub record IsWiring (w : Wiring) : Type 0 where
-  pub nodes : (e : ℕ) → e < length (end_nodes w.segments) → end_node w e < length w.nodes
-  pub pipes : (p : Pipe) → Has w.pipes p → IsSoundPipe w p
-
--- the mapping is shaped for lab and wiring
-pub record IsShaped (lab : Lab) (w : Wiring) (m : Mapping) : Type 0 where
-  pub places : length m.places ≡ length w.nodes
-  pub plugs : length m.plugs ≡ length (end_nodes w.segments)
-  pub in_nodes : (p : NodeId × List ℕ) → Has m.places p → p.0.0 < length lab.nodes
-  pub in_lab : (e : ℕ) → e < length m.plugs → (plug_at m e).0 < length lab.ifaces
-  pub of_node : (p : NodeId × List ℕ) → Has m.places p → has_name (node_at lab p.0).types p.1 ≡ true
-
--- one of these experiments claims the node
-abbrev pub is_claimed : Lab → List Experiment → List ℕ → Bool
-is_claimed lab es name = list_any (λ e. is_placed lab (claimed e Old) name || is_placed lab (claimed e New) name) es
-
--- F1: the virtual node is placed on a node that no other experiment claims
-abbrev pub keeps_f1 : Lab → List Experiment → Mapping → ℕ → Bool
-keeps_f1 lab others m v = not (is_claimed lab others (node_name lab (place_at m v).0))
-
--- F6: use plus the others' claims is at most the trunk's kbps
-abbrev pub keeps_f6 : Lab → List Experiment → Wiring → Mapping → ℕ → Bool
-keeps_f6 lab others w m t = nat_le (trunk_use lab t (cables w.segments m.plugs) + sum_by (claimed_use lab t) others) (trunk_at lab.trunks t).kbps
-
-abbrev pub segments_of : Option Mapped → ℕ
-segments_of None = 0
-segments_of (Some m) = length m.wiring.segments
-
-abbrev pub claimed_segments : Experiment → ℕ
-claimed_segments e = segments_of (claimed e Old) + segments_of (claimed e New)
-
--- the VLAN ids of the lab's range that none of these experiments claims, counted by segments
-abbrev pub free_ids : Lab → List Experiment → ℕ
-free_ids lab es = lab.range.1 + 1 - lab.range.0 - sum_by claimed_segments es
-
--- F8: the segments are at most the ids that no claim has, one's own old claim included
-abbrev pub keeps_f8 : Lab → List Experiment → Experiment → Wiring → Bool
-keeps_f8 lab others own w = nat_le (length w.segments) (free_ids lab (own ∷ others))
+use Rattle.lab_model.specs.Rules.{keeps_f1, keeps_f2, keeps_f3, keeps_f4, keeps_f5, keeps_f6, keeps_f7, keeps_f8}
 
 -- the first of that many numbers, from `from` on, that fails the test
 abbrev pub first_bad : ℕ → ℕ → (ℕ → Bool) → Option ℕ
 first_bad zero from test = None
 first_bad (suc more) from test = if test from then first_bad more (from + 1) test else Some from
 
-abbrev pub found : Option ℕ → (ℕ → Broken × Subject) → Option (Broken × Subject) → Option (Broken × Subject)
-found None as_one later = later
-found (Some n) as_one later = Some (as_one n)
+-- the first of the numbers below n that fails the test
+abbrev pub first_below : ℕ → (ℕ → Bool) → Option ℕ
+first_below n test = first_bad n 0 test
 
--- THE FIRST VIOLATION, the experiment that is mapped being `own`, with its old claim
-abbrev pub violation : Lab → List Experiment → Experiment → Wiring → Mapping → Option (Broken × Subject)
-violation lab others own w m =
-    found (first_bad (length w.nodes) 0 (keeps_f1 lab others m)) (λ v. (F1, Virt v))
-    (found (first_bad (length lab.nodes) 0 (keeps_f2 lab w m)) (λ n. (F2, NodeOf (record { 0 = n })))
-    (found (first_bad (length w.nodes) 0 (keeps_f3 lab w m)) (λ v. (F3, Virt v))
-    (found (first_bad (length w.nodes) 0 (keeps_f4 lab w m)) (λ v. (F4, Virt v))
-    (found (first_bad (length m.plugs) 0 (keeps_f5 lab w m)) (λ e. (F5, End e))
-    (found (first_bad (length lab.trunks) 0 (keeps_f6 lab others w m)) (λ t. (F6, TrunkOf (record { 0 = t })))
-    (found (first_bad (length w.segments) 0 (keeps_f7 lab w m)) (λ s. (F7, SegmentOf s))
-    (if keeps_f8 lab others own w then None else Some (F8, Vlans))))))))
+-- a rule that fails at a subject, else what later rules say
+abbrev pub or_later : Option ℕ → (ℕ → Broken × Subject) → Option (Broken × Subject) → Option (Broken × Subject)
+or_later None as_one later = later
+or_later (Some n) as_one later = Some (as_one n)
 
-abbrev pub all_differ : List ℕ → Bool
-all_differ [] = true
-all_differ (x ∷ xs) = not (list_any (λ y. y == x) xs) && all_differ xs
+-- the first rule that fails, with its first subject, where these are the tests of F1, F6 and F8
+abbrev pub first_violation : Lab → Wiring → Mapping → (f1 f6 : ℕ → Bool) → (f8 : Bool) → Option (Broken × Subject)
+first_violation lab w m f1 f6 f8 =
+    or_later (first_below (length w.nodes) f1) (λ v. (broken.F1, subjects.Virt v))
+    (or_later (first_below (length lab.nodes) (keeps_f2 lab w m)) (λ n. (broken.F2, subjects.Node (record { 0 = n })))
+    (or_later (first_below (length w.nodes) (keeps_f3 lab w m)) (λ v. (broken.F3, subjects.Virt v))
+    (or_later (first_below (length w.nodes) (keeps_f4 lab w m)) (λ v. (broken.F4, subjects.Virt v))
+    (or_later (first_below (length m.plugs) (keeps_f5 lab w m)) (λ e. (broken.F5, subjects.End e))
+    (or_later (first_below (length lab.trunks) f6) (λ t. (broken.F6, subjects.Trunk (record { 0 = t })))
+    (or_later (first_below (length w.segments) (keeps_f7 lab w m)) (λ s. (broken.F7, subjects.Segment s))
+    (if f8 then None else Some (broken.F8, subjects.Vlans))))))))
 
--- one tag per segment, distinct, in the lab's range and in no claim
-abbrev pub are_free_tags : Lab → List Experiment → Wiring → List VlanId → Bool
-are_free_tags lab es w tags =
-    (length tags == length w.segments)
-    && all_differ (map (λ tag. tag.0) tags)
-    && list_all (λ tag. nat_le lab.range.0 tag.0 && nat_le tag.0 lab.range.1 && not (list_any (λ u. u == tag.0) (flat_map claimed_tags es))) tags
+-- THE FIRST VIOLATION on what the others leave
+abbrev pub violation : Lab → Free → Wiring → Mapping → Option (Broken × Subject)
+violation lab free w m = first_violation lab w m (keeps_f1 free m) (keeps_f6 lab free w m) (keeps_f8 free w)
+
+-- the mapping keeps all rules on what the others leave
+abbrev pub IsFeasible : Lab → Free → Wiring → Mapping → Type 0
+IsFeasible lab free w m = violation lab free w m ≡ None
+
+-- all numbers below n pass the test
+abbrev pub AllPass : ℕ → (ℕ → Bool) → Type 0
+AllPass n test = (k : ℕ) → k < n → test k ≡ true
+
+-- k is the first of them that fails it
+pub record FirstFails (n : ℕ) (test : ℕ → Bool) (k : ℕ) : Type 0 where
+  pub below : k < n
+  pub fails : test k ≡ false
+  pub before : AllPass k test
+
+-- how many subjects a rule has, its test of one, and the subject of that number
+abbrev pub count_of : Lab → Wiring → Mapping → Broken → ℕ
+count_of lab w m broken.F1 = length w.nodes
+count_of lab w m broken.F2 = length lab.nodes
+count_of lab w m broken.F3 = length w.nodes
+count_of lab w m broken.F4 = length w.nodes
+count_of lab w m broken.F5 = length m.plugs
+count_of lab w m broken.F6 = length lab.trunks
+count_of lab w m broken.F7 = length w.segments
+count_of lab w m broken.F8 = 1
+
+abbrev pub test_of : Lab → Wiring → Mapping → (f1 f6 : ℕ → Bool) → (f8 : Bool) → Broken → ℕ → Bool
+test_of lab w m f1 f6 f8 broken.F1 = f1
+test_of lab w m f1 f6 f8 broken.F2 = keeps_f2 lab w m
+test_of lab w m f1 f6 f8 broken.F3 = keeps_f3 lab w m
+test_of lab w m f1 f6 f8 broken.F4 = keeps_f4 lab w m
+test_of lab w m f1 f6 f8 broken.F5 = keeps_f5 lab w m
+test_of lab w m f1 f6 f8 broken.F6 = f6
+test_of lab w m f1 f6 f8 broken.F7 = keeps_f7 lab w m
+test_of lab w m f1 f6 f8 broken.F8 = λ k. f8
+
+abbrev pub subject_of : Broken → ℕ → Subject
+subject_of broken.F1 v = subjects.Virt v
+subject_of broken.F2 n = subjects.Node (record { 0 = n })
+subject_of broken.F3 v = subjects.Virt v
+subject_of broken.F4 v = subjects.Virt v
+subject_of broken.F5 e = subjects.End e
+subject_of broken.F6 t = subjects.Trunk (record { 0 = t })
+subject_of broken.F7 s = subjects.Segment s
+subject_of broken.F8 k = subjects.Vlans
+
+-- all its subjects keep the rule
+abbrev pub Kept : Lab → Wiring → Mapping → (f1 f6 : ℕ → Bool) → (f8 : Bool) → Broken → Type 0
+Kept lab w m f1 f6 f8 rule = AllPass (count_of lab w m rule) (test_of lab w m f1 f6 f8 rule)
+
+-- the rules before a rule
+abbrev pub before : Broken → List Broken
+before broken.F1 = []
+before broken.F2 = broken.F1 ∷ []
+before broken.F3 = broken.F1 ∷ broken.F2 ∷ []
+before broken.F4 = broken.F1 ∷ broken.F2 ∷ broken.F3 ∷ []
+before broken.F5 = broken.F1 ∷ broken.F2 ∷ broken.F3 ∷ broken.F4 ∷ []
+before broken.F6 = broken.F1 ∷ broken.F2 ∷ broken.F3 ∷ broken.F4 ∷ broken.F5 ∷ []
+before broken.F7 = broken.F1 ∷ broken.F2 ∷ broken.F3 ∷ broken.F4 ∷ broken.F5 ∷ broken.F6 ∷ []
+before broken.F8 = broken.F1 ∷ broken.F2 ∷ broken.F3 ∷ broken.F4 ∷ broken.F5 ∷ broken.F6 ∷ broken.F7 ∷ []
+
+-- these rules are kept
+abbrev pub AreKept : Lab → Wiring → Mapping → (f1 f6 : ℕ → Bool) → (f8 : Bool) → List Broken → Type 0
+AreKept lab w m f1 f6 f8 [] = Unit {0}
+AreKept lab w m f1 f6 f8 (rule ∷ rules) = Kept lab w m f1 f6 f8 rule × AreKept lab w m f1 f6 f8 rules
+
+-- THE SAME AS A RELATION: the rules before are kept, and this subject is the first that breaks this one
+pub record BreaksFirst (lab : Lab) (w : Wiring) (m : Mapping) (f1 f6 : ℕ → Bool) (f8 : Bool) (rule : Broken) (subject : Subject) : Type 0 where
+  pub earlier : AreKept lab w m f1 f6 f8 (before rule)
+  pub number : ℕ
+  pub is : subject ≡ subject_of rule number
+  pub first : FirstFails (count_of lab w m rule) (test_of lab w m f1 f6 f8 rule) number

@@ -1,22 +1,19 @@
 -- The nodes that a change keeps.
+use Rattle.lab_model.specs.Claims.{places_it}
 use Rattle.std.specs.Prelude.{ℕ, Bool, true, false, ◌&&◌, ◌==◌, List, Option, Some, None}
-use Rattle.std.specs.List.{list_any}
 use Rattle.std.specs.Cmp.Lexicographic.{pointwise}
 use Rattle.std.specs.Str.{bytes_eq}
 use Rattle.lab_base.specs.declared.rates.Rates.{Rates}
 use Rattle.phys_lab.specs.Labs.{Lab}
 use Rattle.virt_topo.specs.declared.mapping.Mapped.{Mapped}
 use Rattle.plant.specs.Worlds.{PipeRow}
-use Rattle.lab_model.specs.Wants.{node_name, os_on, pipes_on}
+use Rattle.lab_model.specs.Wants.{os_on, pipes_on}
 
 abbrev pub same_rates : Rates → Rates → Bool
 same_rates a b = (a.kbps == b.kbps) && (a.micros == b.micros) && (a.ppm == b.ppm)
 
 abbrev pub same_pipe : PipeRow → PipeRow → Bool
 same_pipe a b = bytes_eq a.from b.from && bytes_eq a.to b.to && same_rates a.there b.there && same_rates a.back b.back
-
-abbrev pub places_it : Lab → Mapped → List ℕ → Bool
-places_it lab m name = list_any (λ p. bytes_eq (node_name lab p.0) name) m.mapping.places
 
 abbrev pub same_os : Option (List ℕ) → Option (List ℕ) → Bool
 same_os (Some a) (Some b) = bytes_eq a b

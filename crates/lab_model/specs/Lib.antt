@@ -1,5 +1,5 @@
+pub mod Beside
 pub mod Cabled
-pub mod Cables
 pub mod Claims
 pub mod Courses
 pub mod Feasible
@@ -11,5 +11,7 @@ pub mod OnCourse
 pub mod Parts
 pub mod Reach
 pub mod Rules
+pub mod Shapes
 pub mod Sound
+pub mod Uses
 pub mod Wants

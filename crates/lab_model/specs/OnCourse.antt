@@ -7,9 +7,9 @@ use Rattle.virt_topo.specs.declared.mapping.Mapped.{Mapped}
 use Rattle.plant.specs.Worlds.{Row, World, is_row, world_after, world_of}
 use Rattle.plant.specs.Events.{Event, Did}
 use Rattle.plant.specs.declared.device.DeviceOp.{DeviceOp}
-use Rattle.lab_model.specs.Claims.{Old, New, claimed}
+use Rattle.lab_model.specs.Claims.{claims_it, Old, New, claimed}
 use Rattle.lab_model.specs.Parts.{Part}
-use Rattle.lab_model.specs.Courses.{op_row, op_node, rows_from, is_placed, Plan, Left, Course, Going, whole, Goes, nothing_left}
+use Rattle.lab_model.specs.Courses.{op_row, op_node, rows_from, Plan, Left, Course, Going, whole, Goes, nothing_left}
 use Rattle.lab_model.specs.Leavings.{Sent, ran, SameFor, Ends}
 
 -- a mapping of the experiment wants the row, as a test
@@ -19,7 +19,7 @@ is_row_of lab e (Some row) = list_any (λ o. is_row o.row.switch o.row.port o.ro
 
 abbrev pub is_node_of : Lab → Experiment → Option (List ℕ) → Bool
 is_node_of lab e None = false
-is_node_of lab e (Some name) = is_placed lab (claimed e Old) name || is_placed lab (claimed e New) name
+is_node_of lab e (Some name) = claims_it lab e name
 
 -- the command is of the experiment, as a test
 abbrev pub is_of : Lab → Experiment → DeviceOp → Bool

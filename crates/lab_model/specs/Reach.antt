@@ -6,7 +6,7 @@ use Rattle.phys_lab.specs.Labs.{Lab}
 use Rattle.phys_lab.specs.declared.parts.Trunk.{Trunk}
 use Rattle.plant.specs.Worlds.{Row, PipeRow}
 use Rattle.lab_model.specs.Wants.{switch_name, node_name}
-use Rattle.lab_model.specs.Cables.{iface_at}
+use Rattle.lab_model.specs.Uses.{iface_at}
 
 -- the row's port is that of the node's interface of that name
 pub record IsAt (lab : Lab) (node iface : List ℕ) (row : Row) : Type 0 where

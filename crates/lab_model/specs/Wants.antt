@@ -7,23 +7,22 @@ use Rattle.lab_base.specs.declared.ids.NodeId.{NodeId}
 use Rattle.lab_base.specs.declared.ids.VlanId.{VlanId}
 use Rattle.lab_base.specs.declared.boot.Boot.TheVariants.{IsUp}
 use Rattle.phys_lab.specs.Labs.{Lab}
-use Rattle.phys_lab.specs.declared.parts.Node.{Node}
 use Rattle.phys_lab.specs.declared.parts.Trunk.{Trunk}
 use Rattle.virt_topo.specs.Ends.{pipe_from, pipe_to}
 use Rattle.virt_topo.specs.declared.wiring.Pipe.{Pipe}
 use Rattle.virt_topo.specs.declared.wiring.VirtNode.{VirtNode}
 use Rattle.virt_topo.specs.declared.mapping.Mapped.{Mapped}
 use Rattle.plant.specs.Worlds.{Row, PipeRow, NodeRow}
-use Rattle.lab_model.specs.Cables.{Cable, cables, iface_at, is_carried}
+use Rattle.virt_topo.specs.Cables.{Cable}
+use Rattle.lab_model.specs.Uses.{cables_of, iface_at, is_carried}
+use Rattle.lab_model.specs.Shapes.{node_at}
+use Rattle.lab_model.specs.Rules.{place_at, plug_at}
 
 abbrev pub switch_name : Lab → ℕ → List ℕ
 switch_name lab s = slice_index_or lab.switches s []
 
-abbrev pub no_node : Node
-no_node = record { name = []; types = []; features = [] }
-
 abbrev pub node_name : Lab → NodeId → List ℕ
-node_name lab n = (slice_index_or lab.nodes n.0 no_node).name
+node_name lab n = (node_at lab n).name
 
 -- a row with the link or LAN that owns it
 pub record Owned : Type 0 where
@@ -49,18 +48,16 @@ owned_rows lab [] tags = []
 owned_rows lab (c ∷ cs) [] = []
 owned_rows lab (c ∷ cs) (tag ∷ tags) = map (λ row. record { row = row; owner = c.segment.owner }) (cable_rows lab tag.0 c) ++ owned_rows lab cs tags
 
-abbrev pub cables_of : Mapped → List Cable
-cables_of m = cables m.wiring.segments m.mapping.plugs
+-- the segments of a mapping with their plugs
+abbrev pub cables_in : Mapped → List Cable
+cables_in m = cables_of m.wiring m.mapping
 
 abbrev pub rows_of : Lab → Mapped → List Owned
-rows_of lab m = owned_rows lab (cables_of m) m.tags
-
-abbrev pub no_place : NodeId × List ℕ
-no_place = record { 0 = record { 0 = 0 }; 1 = [] }
+rows_of lab m = owned_rows lab (cables_in m) m.tags
 
 -- the name of the node that virtual node v is placed on
 abbrev pub place_of : Lab → Mapped → ℕ → List ℕ
-place_of lab m v = node_name lab (slice_index_or m.mapping.places v no_place).0
+place_of lab m v = node_name lab (place_at m.mapping v).0
 
 -- the OS of the first of the virtual nodes that is placed on that node
 abbrev pub os_on : Lab → List VirtNode → List (NodeId × List ℕ) → List ℕ → Option (List ℕ)
@@ -69,7 +66,7 @@ os_on lab (v ∷ vs) [] name = None
 os_on lab (v ∷ vs) (p ∷ places) name = if bytes_eq (node_name lab p.0) name then Some v.os else os_on lab vs places name
 
 abbrev pub plug_name : Lab → Mapped → ℕ → List ℕ
-plug_name lab m e = (iface_at lab (slice_index_or m.mapping.plugs e (record { 0 = 0 }))).name
+plug_name lab m e = (iface_at lab (plug_at m.mapping e)).name
 
 -- the pipe between the interfaces of its two ends
 abbrev pub pipe_row : Lab → Mapped → Pipe → PipeRow

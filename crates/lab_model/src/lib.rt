@@ -8,14 +8,22 @@ ghost use Rattle.phys_lab.specs.Labs.{Lab};
 ghost use Rattle.phys_lab.specs.declared.parts.Trunk.{Trunk};
 ghost use Rattle.virt_topo.specs.declared.experiment.Experiment.{Experiment};
 ghost use Rattle.virt_topo.specs.declared.mapping.Mapped.{Mapped};
+ghost use Rattle.virt_topo.specs.declared.mapping.Mapping.{Mapping};
+ghost use Rattle.virt_topo.specs.declared.wiring.Wiring.{Wiring};
+ghost use Rattle.virt_topo.specs.declared.violation.Broken.{Broken};
+ghost use Rattle.virt_topo.specs.declared.violation.Subject.{Subject};
+ghost use Rattle.phys_lab.specs.declared.free.Free.{Free};
 ghost use Rattle.virt_topo.specs.declared.experiment.Phase.TheVariants.{Moving};
+ghost use Rattle.virt_topo.specs.Soundness.{IsSound};
 ghost use Rattle.plant.specs.Worlds.{World, world_after, world_of};
 ghost use Rattle.plant.specs.Events.{Event, Did};
 ghost use Rattle.plant.specs.Disks.{Disk, IsImage, wrote, synced};
 ghost use Rattle.plant.specs.declared.device.DeviceOp.{DeviceOp};
 ghost use Rattle.plant.specs.declared.device.Answer.{Answer};
 ghost use Rattle.plant.specs.declared.device.Fault.{Fault};
-ghost use Rattle.lab_model.specs.Feasible.{first_bad, violation, IsWiring, IsShaped};
+ghost use Rattle.lab_model.specs.Feasible.{first_violation, violation, Kept, BreaksFirst};
+ghost use Rattle.lab_model.specs.Beside.{IsLeft, violation_beside};
+ghost use Rattle.lab_model.specs.Shapes.{IsShaped};
 ghost use Rattle.lab_model.specs.Holding.{IsLab, Holding, Suits};
 ghost use Rattle.lab_model.specs.Isolated.{Isolated};
 ghost use Rattle.lab_model.specs.Cabled.{Cabled};
@@ -54,13 +62,21 @@ pub fn done_courses()
         → IsDone (undo lab None (Some m)) cs → Gone lab e (ran w cs) }
 {}
 
-/// What a check of a mapping says: the first number that fails, and that a mapping without a violation suits the lab.
+/// What a check of a mapping says: no violation where all rules are kept, and else the first rule that a subject breaks with its first such
+/// subject. A mapping without one suits the lab. Beside the other experiments it says what it says on what they leave.
 pub fn checks()
-    ensures none { (n : ℕ) (test : ℕ → Bool) → first_bad n 0 test ≡ None → (k : ℕ) → k < n → test k ≡ true }
-    ensures first { (n k : ℕ) (test : ℕ → Bool) → first_bad n 0 test ≡ Some k
-        → (k < n) × (test k ≡ false) × ((j : ℕ) → j < k → test j ≡ true) }
-    ensures suits { (lab : Lab) (others : List Experiment) (own : Experiment) (m : Mapped) → violation lab others own m.wiring m.mapping ≡ None
-        → IsWiring m.wiring → IsShaped lab m.wiring m.mapping → length m.tags ≡ length m.wiring.segments → Suits lab m }
+    ensures kept { (lab : Lab) (w : Wiring) (m : Mapping) (f1 f6 : ℕ → Bool) (f8 : Bool) → first_violation lab w m f1 f6 f8 ≡ None
+        → (rule : Broken) → Kept lab w m f1 f6 f8 rule }
+    ensures none { (lab : Lab) (w : Wiring) (m : Mapping) (f1 f6 : ℕ → Bool) (f8 : Bool) → ((rule : Broken) → Kept lab w m f1 f6 f8 rule)
+        → first_violation lab w m f1 f6 f8 ≡ None }
+    ensures first { (lab : Lab) (w : Wiring) (m : Mapping) (f1 f6 : ℕ → Bool) (f8 : Bool) (rule : Broken) (subject : Subject)
+        → first_violation lab w m f1 f6 f8 ≡ Some (rule, subject) → BreaksFirst lab w m f1 f6 f8 rule subject }
+    ensures found { (lab : Lab) (w : Wiring) (m : Mapping) (f1 f6 : ℕ → Bool) (f8 : Bool) (rule : Broken) (subject : Subject)
+        → BreaksFirst lab w m f1 f6 f8 rule subject → first_violation lab w m f1 f6 f8 ≡ Some (rule, subject) }
+    ensures suits { (lab : Lab) (others : List Experiment) (own : Experiment) (m : Mapped) → violation_beside lab others own m.wiring m.mapping ≡ None
+        → IsSound m.wiring → IsShaped lab m.wiring m.mapping → length m.tags ≡ length m.wiring.segments → Suits lab m }
+    ensures left { (lab : Lab) (others : List Experiment) (own : Experiment) (free : Free) (w : Wiring) (m : Mapping) → IsLeft lab others own free
+        → IsShaped lab w m → violation lab free w m ≡ violation_beside lab others own w m }
 {}
 
 /// What a state keeps of its course: kept by others' commands and by the journal's steps, longer by its own, and enough for the part and the end.
