@@ -22,7 +22,7 @@ use Rattle.journal_model.specs.Labs.{LabState, Texts, lab_in, find, EndsMove, be
 use Rattle.journal_model.specs.Appends.{Run, Nothing, Body, Settled, Gate, All, added}
 use Rattle.journal_model.specs.Works.{MayAppend, Open, Closes, Running}
 use Rattle.lab_model.proofs.Alone.{course_ends, course_gone, course_starts, course_others, course_own, course_next, course_journal}
-use Rattle.lab_model.proofs.FactLaws.{goes_push}
+use Rattle.lab_model.proofs.OwnEvents.{goes_push}
 use Rattle.lab_model.proofs.OwnCommands.{commands_own, undo_own, next_own, out_safe, undo_in_safe}
 use Rattle.lab_model.proofs.SafeMoves.{forward_safe, undo_safe}
 use Rattle.lab_model.proofs.Whole.{forward_ends, undo_ends, out_ends, undo_in_ends}

@@ -24,7 +24,7 @@ use Rattle.journal_model.specs.Works.{IsSound, AtWork, MayAppend, events}
 use Rattle.lab_model.proofs.PartLaws.{whole_from_parts, parts_from_whole}
 use Rattle.lab_model.proofs.Steps.{parts_after}
 use Rattle.lab_model.proofs.TraceLaws.{disk_push, sound_push, same_or_not}
-use Rattle.lab_model.proofs.FactLaws.{did_push, goes_push}
+use Rattle.lab_model.proofs.OwnEvents.{did_push, goes_push}
 use Rattle.lab_model.proofs.Safe.{cut_ends, halt_ends}
 use Rattle.journal_model.proofs.LabLaws.{lab_sane, follows_sane, follows_parts, folds_push}
 use Rattle.journal_model.proofs.Gates.{rests_image, on_shut}

@@ -23,9 +23,9 @@ use Rattle.lab_model.specs.OnCourse.{is_row_of, is_node_of, is_of, own_events, a
 use Rattle.lab_model.proofs.Kept.{places_it_from}
 use Rattle.lab_model.proofs.Clearing.{is_row-refl}
 use Rattle.lab_model.proofs.Steps.{part_same}
-use Rattle.lab_model.proofs.Promise.{same_did, ends_same}
+use Rattle.lab_model.proofs.Alike.{same_did, ends_same}
 use Rattle.lab_model.proofs.TraceLaws.{world_push}
-use Rattle.lab_model.proofs.FactLaws.{not_own, own_events_other, own_events_push, alone_others, alone_own}
+use Rattle.lab_model.proofs.OwnEvents.{not_own, own_events_other, own_events_push, alone_others, alone_own}
 
 any_has : {X : Type 0} (test : X → Bool) (xs : List X) (x : X) → Has xs x → test x ≡ true → list_any test xs ≡ true
 any_has test [] x h t = absurd h

@@ -1,3 +1,4 @@
+pub mod Alike
 pub mod Alone
 pub mod Along
 pub mod Begins
@@ -5,9 +6,9 @@ pub mod Built
 pub mod Clearing
 pub mod Commands
 pub mod CourseLaws
+pub mod CutLaws
 pub mod Ending
 pub mod Ends
-pub mod FactLaws
 pub mod FeasibleLaws
 pub mod Finished
 pub mod FirstViolation
@@ -18,8 +19,8 @@ pub mod ListLaws
 pub mod Moves
 pub mod OneSided
 pub mod OwnCommands
+pub mod OwnEvents
 pub mod PartLaws
-pub mod Promise
 pub mod Records
 pub mod Rows
 pub mod Safe

@@ -1,5 +1,5 @@
 -- What a state of an open swap knows of a trace.
-use Rattle.std.specs.Prelude.{◌≤◌, ℕ, Bool, false, ◌||◌, List, [], ◌∷◌, ◌++◌, length, take, drop, map, true, ◌≡◌, Option, Some, None, if◌then◌else◌, fold}
+use Rattle.std.specs.Prelude.{Result, ◌≤◌, ℕ, Bool, false, ◌||◌, List, [], ◌∷◌, ◌++◌, length, take, drop, map, true, ◌≡◌, Option, Some, None, if◌then◌else◌, fold}
 use Rattle.std.specs.List.{list_any}
 use Rattle.phys_lab.specs.Labs.{Lab}
 use Rattle.virt_topo.specs.declared.experiment.Experiment.{Experiment}
@@ -7,10 +7,12 @@ use Rattle.virt_topo.specs.declared.mapping.Mapped.{Mapped}
 use Rattle.plant.specs.Worlds.{Row, World, is_row, world_after, world_of}
 use Rattle.plant.specs.Events.{Event, Did}
 use Rattle.plant.specs.declared.device.DeviceOp.{DeviceOp}
+use Rattle.plant.specs.declared.device.Answer.{Answer}
+use Rattle.plant.specs.declared.device.Fault.{Fault}
 use Rattle.lab_model.specs.Claims.{claims_it, Old, New, claimed}
 use Rattle.lab_model.specs.Parts.{Part}
-use Rattle.lab_model.specs.Courses.{op_row, op_node, rows_from, Plan, Left, Course, Going, whole, Goes, nothing_left}
-use Rattle.lab_model.specs.Leavings.{Sent, ran, SameFor, Ends}
+use Rattle.lab_model.specs.Courses.{next, op_row, op_node, rows_from, Plan, Left, Course, Going, whole, Goes, nothing_left}
+use Rattle.lab_model.specs.Leavings.{did, Sent, ran, SameFor, Ends}
 
 -- a mapping of the experiment wants the row, as a test
 abbrev pub is_row_of : Lab → Experiment → Option Row → Bool
@@ -25,29 +27,13 @@ is_node_of lab e (Some name) = claims_it lab e name
 abbrev pub is_of : Lab → Experiment → DeviceOp → Bool
 is_of lab e op = is_row_of lab e (op_row op) || is_node_of lab e (op_node op)
 
--- the experiment's own commands with their answers, in trace order
-abbrev pub own : Lab → Experiment → List Event → Sent
-own lab e [] = []
-own lab e (Did op applied answer ∷ events) = if is_of lab e op then (op, answer) ∷ own lab e events else own lab e events
-own lab e (event ∷ events) = own lab e events
-
--- however the rest of the course goes to its end, this is what it leaves
-abbrev pub Promise : Lab → Experiment → Mapped → World → Course → Type 0
-Promise lab e m w course = (cs : Sent) → Goes cs course (Going nothing_left) → Ends lab e m (ran w cs)
-
--- THE FACTS OF A STATE: since some moment its own commands are the course so far; and if the part was good at that moment, it is good now, and the rest of the course ends well.
-pub record Facts (lab : Lab) (e : Experiment) (m : Mapped) (plan : Plan) (left : Left) (trace : List Event) : Type 0 where
-  pub start : ℕ
-  pub within : start ≤ length trace
-  pub course : Goes (own lab e (drop start trace)) (Going (whole plan)) (Going left)
-  pub good : Part lab (world_of (take start trace)) e → Part lab (world_of trace) e × Promise lab e m (world_of trace) (Going left)
-
--- THE SAME WITH NO PREMISE: to the experiment the world is as if since that moment only its own commands had been sent.
+-- the experiment's own commands in a trace
 abbrev pub own_events : Lab → Experiment → List Event → List Event
 own_events lab e [] = []
 own_events lab e (Did op applied answer ∷ events) = if is_of lab e op then Did op applied answer ∷ own_events lab e events else own_events lab e events
 own_events lab e (event ∷ events) = own_events lab e events
 
+-- to the experiment the world is as if since that moment only its own commands had been sent
 abbrev pub IsAlone : Lab → Experiment → ℕ → List Event → Type 0
 IsAlone lab e start trace = SameFor lab e (fold world_after (world_of (take start trace)) (own_events lab e (drop start trace))) (world_of trace)
 
@@ -60,3 +46,9 @@ pub record OnCourse (lab : Lab) (e : Experiment) (cs : Sent) (start : ℕ) (trac
   pub within : start ≤ length trace
   pub sent : own_events lab e (drop start trace) ≡ acknowledged cs
   pub alone : IsAlone lab e start trace
+
+-- EVERY MOMENT of a course begun in that world: after each acknowledged prefix of the plan, the next command keeps the experiment's part,
+-- applied or not, whatever it answers
+abbrev pub EveryMoment : Lab → Experiment → Plan → World → Type 0
+EveryMoment lab e plan w = (cs : Sent) (mid : Left) (op : DeviceOp) (applied : Bool) (answer : Result Answer Fault)
+    → Goes cs (Going (whole plan)) (Going mid) → next mid.todo mid.watch mid.boot ≡ Some op → Part lab (did (ran w cs) op applied answer) e

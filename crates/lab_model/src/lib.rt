@@ -1,8 +1,8 @@
 //! The definitions of the model, and its laws.
 #![tactic(auto)]
 
-ghost use Rattle.std.specs.Prelude.{◌≡◌, ◌≢◌, ◌⊎◌, ◌++◌, ◌∷◌, [], ◌<◌, ℕ, List, length, take, Bool, true, false, Option, Some, None, Result};
-ghost use Rattle.lab_base.specs.Lists.{Has};
+ghost use Rattle.std.specs.Prelude.{◌≡◌, ◌≢◌, ◌⊎◌, ◌++◌, ◌∷◌, [], ◌<◌, ℕ, List, length, take, Bool, true, false, Option, Some, None, Result, All};
+ghost use Rattle.lab_base.specs.Lists.{Has, AllDiffer};
 ghost use Rattle.phys_lab.specs.Sides.{joined, AreJoined};
 ghost use Rattle.phys_lab.specs.Labs.{Lab};
 ghost use Rattle.phys_lab.specs.declared.parts.Trunk.{Trunk};
@@ -21,6 +21,9 @@ ghost use Rattle.plant.specs.Disks.{Disk, IsImage, wrote, synced};
 ghost use Rattle.plant.specs.declared.device.DeviceOp.{DeviceOp};
 ghost use Rattle.plant.specs.declared.device.Answer.{Answer};
 ghost use Rattle.plant.specs.declared.device.Fault.{Fault};
+ghost use Rattle.phys_lab.specs.Forests.{first_side_of};
+ghost use Rattle.virt_topo.specs.Cables.{cut_use};
+ghost use Rattle.lab_model.specs.Uses.{cables_of, use_of};
 ghost use Rattle.lab_model.specs.Feasible.{first_violation, violation, Kept, BreaksFirst};
 ghost use Rattle.lab_model.specs.Beside.{IsLeft, violation_beside};
 ghost use Rattle.lab_model.specs.Shapes.{IsShaped};
@@ -30,8 +33,8 @@ ghost use Rattle.lab_model.specs.Cabled.{Cabled};
 ghost use Rattle.lab_model.specs.Parts.{Part, Parts};
 ghost use Rattle.lab_model.specs.Courses.{IsCommandOf, IsDone, commands, undo};
 ghost use Rattle.lab_model.specs.Leavings.{Sent, did, ran, Ends, Gone};
-ghost use Rattle.lab_model.specs.OnCourse.{OnCourse};
-ghost use Rattle.lab_model.specs.Claims.{Which, claimed};
+ghost use Rattle.lab_model.specs.OnCourse.{OnCourse, EveryMoment};
+ghost use Rattle.lab_model.specs.Claims.{Which, claimed, claimed_tags};
 
 /// What is said of the whole is what the parts say together.
 pub fn law_of_parts()
@@ -46,6 +49,20 @@ pub fn other_parts()
     ensures { (lab : Lab) (es : List Experiment) (w : World) (e f : Experiment) (op : DeviceOp) (applied : Bool)
         (answer : Result Answer Fault) → IsLab lab → Holding lab es → Has es e → Has es f → e ≢ f → IsCommandOf lab f op
         → Part lab w e → Part lab (world_after w (Did op applied answer)) e }
+{}
+
+/// Every moment of a swap-in or a change, of a swap-out, and of the undo of each, begun in any world that keeps the part.
+pub fn every_moment()
+    ensures forward { (lab : Lab) (e : Experiment) (old : Option Mapped) (m : Mapped) (w : World) → e.phase ≡ Moving old (Some m) → IsLab lab
+        → AllDiffer (claimed_tags e) → ((which : Which) (n : Mapped) → claimed e which ≡ Some n → Suits lab n) → Part lab w e
+        → EveryMoment lab e (commands lab old (Some m)) w }
+    ensures undone { (lab : Lab) (e : Experiment) (m : Mapped) (new : Option Mapped) (w : World) → e.phase ≡ Moving (Some m) new → IsLab lab
+        → AllDiffer (claimed_tags e) → ((which : Which) (n : Mapped) → claimed e which ≡ Some n → Suits lab n) → Part lab w e
+        → EveryMoment lab e (undo lab (Some m) new) w }
+    ensures out { (lab : Lab) (e : Experiment) (m : Mapped) (w : World) → e.phase ≡ Moving (Some m) None → Part lab w e
+        → EveryMoment lab e (commands lab (Some m) None) w }
+    ensures in_undone { (lab : Lab) (e : Experiment) (m : Mapped) (w : World) → e.phase ≡ Moving None (Some m) → Part lab w e
+        → EveryMoment lab e (undo lab None (Some m)) w }
 {}
 
 /// What a done course leaves of its experiment, from any part.
@@ -77,6 +94,12 @@ pub fn checks()
         → IsSound m.wiring → IsShaped lab m.wiring m.mapping → length m.tags ≡ length m.wiring.segments → Suits lab m }
     ensures left { (lab : Lab) (others : List Experiment) (own : Experiment) (free : Free) (w : Wiring) (m : Mapping) → IsLeft lab others own free
         → IsShaped lab w m → violation lab free w m ≡ violation_beside lab others own w m }
+{}
+
+/// What a mapping uses of a trunk is what it uses of the cut that the trunk's first side makes.
+pub fn uses_of_cuts()
+    ensures { (lab : Lab) (w : Wiring) (m : Mapping) (t : ℕ) → All (λ i. i.0 < length lab.ifaces) m.plugs
+        → cut_use (first_side_of lab.ifaces lab.trunks t) (cables_of w m) ≡ use_of lab w m t }
 {}
 
 /// What a state keeps of its course: kept by others' commands and by the journal's steps, longer by its own, and enough for the part and the end.

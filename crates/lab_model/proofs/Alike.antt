@@ -1,4 +1,4 @@
--- A promise on the rest of a course is kept by its own next command and by steps of others.
+-- Worlds that are alike for an experiment.
 use Rattle.std.proofs.Common.{◌≡◌, Bool, true, false, Some, Result, [], ◌∷◌, refl, sym, ap, ◌∙◌, subst}
 use Rattle.phys_lab.specs.Labs.{Lab}
 use Rattle.virt_topo.specs.declared.experiment.Experiment.{Experiment}
@@ -7,7 +7,6 @@ use Rattle.plant.specs.Worlds.{World, wiped, row_after, node_after, node_polled}
 use Rattle.plant.specs.declared.device.Answer.{Answer}
 use Rattle.plant.specs.declared.device.Fault.{Fault}
 use Rattle.plant.specs.declared.device.DeviceOp.{DeviceOp}
-use Rattle.lab_model.specs.OnCourse.{Promise}
 use Rattle.lab_model.specs.Leavings.{did, SameFor, Sent, ran, Ends}
 use Rattle.lab_model.specs.Claims.{Which, claimed}
 use Rattle.lab_model.specs.Wants.{node_row_of}
@@ -33,13 +32,3 @@ ends_same lab e m which v w mine same ends = record {
   exact = λ name claims placed. subst (λ n. SameNode n (node_row_of lab m name)) (sym (same.nodes name claims)) (ends.exact name claims placed);
   clean = λ name claims absent. subst (λ n. SameNode n wiped) (sym (same.nodes name claims)) (ends.clean name claims absent);
 }
-
-pub own_step : (lab : Lab) (e : Experiment) (m : Mapped) (w : World) (left : Left) (op : DeviceOp) (answer : Result Answer Fault) → next left.todo left.watch left.boot ≡ Some op → Promise lab e m w (Going left)
-    → Promise lab e m (did w op true answer) (answered left.todo left.watch left.boot answer)
-own_step lab e m w left op answer is promise = λ cs goes. promise ((op, answer) ∷ cs) (is, goes)
-
-pub others_step : (lab : Lab) (e : Experiment) (m : Mapped) (which : Which) (v w : World) (course : Course) → claimed e which ≡ Some m → SameFor lab e v w → Promise lab e m v course → Promise lab e m w course
-others_step lab e m which v w course mine same promise = λ cs goes. ends_same lab e m which (ran v cs) (ran w cs) mine (same_ran lab e cs v w same) (promise cs goes)
-
-pub at_end : (lab : Lab) (e : Experiment) (m : Mapped) (w : World) → Promise lab e m w (Going nothing_left) → Ends lab e m w
-at_end lab e m w promise = promise [] refl

@@ -1,4 +1,4 @@
--- The facts of a state: at its beginning, after a command of another, and after its own.
+-- An experiment's own commands in a trace: after a command of another, and after its own.
 use Rattle.std.specs.List.{list_any}
 use Rattle.std.proofs.Common.{◌≡◌, ◌≢◌, inl, inr, ℕ, Bool, true, false, cond, Option, Some, None, Result, List, [], ◌∷◌, ◌++◌, length, drop, refl, sym, ap, ◌∙◌, subst, arith, length-append, ◌≤◌, fold, take}
 use Rattle.std.proofs.lemmas.Bool.{or_cases, false≢true, false_from_ne_true}
@@ -21,25 +21,13 @@ use Rattle.lab_model.specs.Holding.{IsLab, Suits, Holding}
 use Rattle.lab_model.specs.Parts.{Part}
 use Rattle.lab_model.specs.Courses.{op_row, op_node, rows_from, Plan, Left, Course, Going, Cut, Halted, next, answered, whole, Goes, commands, IsCommandOf}
 use Rattle.lab_model.specs.Leavings.{Sent, SameFor, did}
-use Rattle.lab_model.specs.OnCourse.{is_row_of, is_node_of, is_of, own_events, IsAlone, own, Promise, Facts}
+use Rattle.lab_model.specs.OnCourse.{is_row_of, is_node_of, is_of, own_events, IsAlone}
+use Rattle.lab_model.proofs.Alike.{same_did}
 use Rattle.lab_model.proofs.Kept.{Places_from}
 use Rattle.lab_model.proofs.PartLaws.{same_vlan, same_node}
 use Rattle.lab_model.proofs.Steps.{is_row-true, others_same, part_same}
 use Rattle.lab_model.proofs.Whole.{forward_ends}
-use Rattle.lab_model.proofs.Promise.{own_step, others_step, same_did}
 use Rattle.lab_model.proofs.TraceLaws.{world_push}
-
--- at the beginning, over every trace
-pub begun : (lab : Lab) (e : Experiment) (old : Option Mapped) (m : Mapped) → e.phase ≡ Moving old (Some m) → ((which : Which) (n : Mapped) → claimed e which ≡ Some n → Suits lab n)
-    → (trace : List Event) → Facts lab e m (commands lab old (Some m)) (whole (commands lab old (Some m))) trace
-begun lab e old m moving suits trace = record {
-  start = length trace;
-  within = omega arith;
-  course = subst (λ l. Goes (own lab e l) (Going (whole (commands lab old (Some m)))) (Going (whole (commands lab old (Some m))))) (sym (drop_all (length trace) trace (omega arith))) refl;
-  good = λ part.
-      let now : Part lab (world_of trace) e = subst (λ t. Part lab (world_of t) e) (take_all (length trace) trace (omega arith)) part in
-      (now, λ cs goes. forward_ends lab e old (Some m) moving suits (world_of trace) now m refl cs goes);
-}
 
 row_found : (lab : Lab) (os : List Owned) (row : Row) → list_any (λ o. is_row o.row.switch o.row.port o.row.vlan row) os ≡ true → (o : Owned) × Has os o × (o.row ≡ row)
 row_found lab [] row h = absurd (false≢true h)
@@ -74,28 +62,6 @@ not_own lab es is_lab holding e f op in_e in_f differ of_f = false_from_ne_true 
   | inr b ↦ let r = of_node lab e (op_node op) b in differ (same_node lab es is_lab holding e f r.0 in_e in_f r.2 (of_f.node r.0 r.1))
 ])
 
-own_other : (lab : Lab) (e : Experiment) (events : List Event) (op : DeviceOp) (applied : Bool) (answer : Result Answer Fault) → is_of lab e op ≡ false → own lab e (events ++ Did op applied answer ∷ []) ≡ own lab e events
-own_other lab e [] op applied answer is = ap (λ b. cond b ((op, answer) ∷ []) []) is
-own_other lab e (Did o a r ∷ events) op applied answer is = ap (λ l. cond (is_of lab e o) ((o, r) ∷ l) l) (own_other lab e events op applied answer is)
-own_other lab e (Wrote side at bytes ∷ events) op applied answer is = own_other lab e events op applied answer is
-own_other lab e (Synced side ∷ events) op applied answer is = own_other lab e events op applied answer is
-own_other lab e (CutTo side size ∷ events) op applied answer is = own_other lab e events op applied answer is
-own_other lab e (Missed side ∷ events) op applied answer is = own_other lab e events op applied answer is
-own_other lab e (Restarted x y ∷ events) op applied answer is = own_other lab e events op applied answer is
-
-cond_push : (b : Bool) (x c : DeviceOp × Result Answer Fault) (l : Sent) → cond b (x ∷ (l ++ c ∷ [])) (l ++ c ∷ []) ≡ cond b (x ∷ l) l ++ c ∷ []
-cond_push true x c l = refl
-cond_push false x c l = refl
-
-own_push : (lab : Lab) (e : Experiment) (events : List Event) (op : DeviceOp) (applied : Bool) (answer : Result Answer Fault) → is_of lab e op ≡ true → own lab e (events ++ Did op applied answer ∷ []) ≡ own lab e events ++ (op, answer) ∷ []
-own_push lab e [] op applied answer is = ap (λ b. cond b ((op, answer) ∷ []) []) is
-own_push lab e (Did o a r ∷ events) op applied answer is = ap (λ l. cond (is_of lab e o) ((o, r) ∷ l) l) (own_push lab e events op applied answer is) ∙ cond_push (is_of lab e o) (o, r) (op, answer) (own lab e events)
-own_push lab e (Wrote side at bytes ∷ events) op applied answer is = own_push lab e events op applied answer is
-own_push lab e (Synced side ∷ events) op applied answer is = own_push lab e events op applied answer is
-own_push lab e (CutTo side size ∷ events) op applied answer is = own_push lab e events op applied answer is
-own_push lab e (Missed side ∷ events) op applied answer is = own_push lab e events op applied answer is
-own_push lab e (Restarted x y ∷ events) op applied answer is = own_push lab e events op applied answer is
-
 -- a course goes on by the next command
 pub goes_push : (cs : Sent) (course : Course) (left : Left) (op : DeviceOp) (answer : Result Answer Fault) → Goes cs course (Going left) → next left.todo left.watch left.boot ≡ Some op → Goes (cs ++ (op, answer) ∷ []) course (answered left.todo left.watch left.boot answer)
 goes_push [] course left op answer goes comes = subst (λ k. Goes ((op, answer) ∷ []) k (answered left.todo left.watch left.boot answer)) (sym goes) (comes, refl)
@@ -106,46 +72,6 @@ goes_push (c ∷ cs) Halted left op answer goes comes = absurd goes
 pub did_push : (trace : List Event) (op : DeviceOp) (applied : Bool) (answer : Result Answer Fault) → world_of (trace ++ Did op applied answer ∷ []) ≡ did (world_of trace) op applied answer
 did_push trace op true answer = world_push trace (Did op true answer)
 did_push trace op false answer = world_push trace (Did op false answer)
-
--- AFTER A COMMAND OF ANOTHER EXPERIMENT
-pub facts_others : (lab : Lab) (es : List Experiment) → IsLab lab → Holding lab es → (e f : Experiment) (m : Mapped) (which : Which) (plan : Plan) (left : Left) (trace : List Event) (op : DeviceOp) (applied : Bool) (answer : Result Answer Fault)
-    → claimed e which ≡ Some m → Has es e → Has es f → e ≢ f → IsCommandOf lab f op → Facts lab e m plan left trace → Facts lab e m plan left (trace ++ Did op applied answer ∷ [])
-facts_others lab es is_lab holding e f m which plan left trace op applied answer mine in_e in_f differ of_f facts =
-    let same = others_same lab es is_lab holding (world_of trace) e f op applied answer in_e in_f differ of_f in
-    let push = did_push trace op applied answer in
-    record {
-      start = facts.start;
-      within = omega (arith, facts.within, length-append trace (Did op applied answer ∷ []));
-      course = subst (λ cs. Goes cs (Going (whole plan)) (Going left))
-          (sym (ap (λ l. own lab e l) (drop-append-le facts.start trace (Did op applied answer ∷ []) facts.within) ∙ own_other lab e (drop facts.start trace) op applied answer (not_own lab es is_lab holding e f op in_e in_f differ of_f))) facts.course;
-      good = λ part.
-          let was = facts.good (subst (λ t. Part lab (world_of t) e) (take-append-le facts.start trace (Did op applied answer ∷ []) facts.within) part) in
-          subst (λ v. Part lab v e × Promise lab e m v (Going left)) (sym push) (
-            part_same lab (world_of trace) (did (world_of trace) op applied answer) e same was.0,
-            others_step lab e m which (world_of trace) (did (world_of trace) op applied answer) (Going left) mine same was.1,
-          );
-    }
-
--- AFTER ITS OWN COMMAND, acknowledged
-pub facts_own : (lab : Lab) (e : Experiment) (m : Mapped) (plan : Plan) (left after : Left) (trace : List Event) (op : DeviceOp) (answer : Result Answer Fault)
-    → next left.todo left.watch left.boot ≡ Some op → answered left.todo left.watch left.boot answer ≡ Going after → is_of lab e op ≡ true
-    → (Part lab (world_of trace) e → Part lab (did (world_of trace) op true answer) e)
-    → Facts lab e m plan left trace → Facts lab e m plan after (trace ++ Did op true answer ∷ [])
-facts_own lab e m plan left after trace op answer comes goes_on its keeps facts =
-    let push = did_push trace op true answer in
-    record {
-      start = facts.start;
-      within = omega (arith, facts.within, length-append trace (Did op true answer ∷ []));
-      course = subst (λ cs. Goes cs (Going (whole plan)) (Going after))
-          (sym (ap (λ l. own lab e l) (drop-append-le facts.start trace (Did op true answer ∷ []) facts.within) ∙ own_push lab e (drop facts.start trace) op true answer its))
-          (subst (λ k. Goes (own lab e (drop facts.start trace) ++ (op, answer) ∷ []) (Going (whole plan)) k) goes_on (goes_push (own lab e (drop facts.start trace)) (Going (whole plan)) left op answer facts.course comes));
-      good = λ part.
-          let was = facts.good (subst (λ t. Part lab (world_of t) e) (take-append-le facts.start trace (Did op true answer ∷ []) facts.within) part) in
-          subst (λ v. Part lab v e × Promise lab e m v (Going after)) (sym push) (
-            keeps was.0,
-            subst (λ k. Promise lab e m (did (world_of trace) op true answer) k) goes_on (own_step lab e m (world_of trace) left op answer comes was.1),
-          );
-    }
 
 -- alike for the experiment, one after another
 pub same_trans : (lab : Lab) (e : Experiment) (u v w : World) → SameFor lab e u v → SameFor lab e v w → SameFor lab e u w
