@@ -1,17 +1,16 @@
 -- Two switches have one class exactly where trunks join them.
-use Rattle.std.proofs.Common.{◌≡◌, ◌≢◌, inl, inr, ◌⊎◌, ℕ, zero, suc, ◌+◌, ◌-◌, ◌<◌, ◌≤◌, Bool, true, false, cond, eqb, ◌&&◌, ◌||◌, ◌==◌, List, [], ◌∷◌, ◌++◌, length, take, drop, get_or, map, fold, All, slice_index, refl, sym, ap, subst, ◌∙◌, arith, rules, length-append, append_assoc}
+use Rattle.std.proofs.Common.{◌≡◌, ◌≢◌, inl, inr, ℕ, zero, suc, ◌+◌, ◌<◌, Bool, true, false, cond, eqb, ◌&&◌, ◌||◌, List, [], ◌∷◌, ◌++◌, length, get_or, fold, slice_index, refl, sym, ap, ◌∙◌, arith, length-append, append_assoc}
 use Rattle.std.proofs.lemmas.List.{append-nil, length-map, map-append}
 use Rattle.std.specs.List.{AllByRecursion}
-use Rattle.std.proofs.lemmas.Bool.{cases_lt, eqb-true, eq-eqb, or_left, or_right, and_from}
+use Rattle.std.proofs.lemmas.Bool.{cases_lt}
 use Rattle.std.proofs.lemmas.Bool.Decides.{nat_tests}
 use Rattle.std.proofs.lemmas.List.{get_or-map, get_or_append_left, get_or-append-add}
-use Rattle.std.proofs.lemmas.Grind.{common_steps}
 use Rattle.lab_base.specs.Lists.{Has}
 use Rattle.phys_lab.specs.Sides.{joined}
 use Rattle.phys_lab.specs.Forests.{numbers, relabelled, merged, classes_of, IsWithin}
 use Rattle.phys_lab.specs.declared.parts.Trunk.{Trunk}
 use Rattle.lab_base.proofs.Members.{Has-append, Has-left, Has-right}
-use Rattle.phys_lab.proofs.SideLaws.{path_from_joined, joined_from_path, joined_same}
+use Rattle.phys_lab.proofs.SideLaws.{path_from_joined, joined_from_path}
 
 pub length-numbers : (n : ℕ) → length (numbers n) ≡ n
 length-numbers zero = refl

@@ -6,3 +6,6 @@ pub mod FaultLaws
 pub mod BuilderLaws
 pub mod NameLaws
 pub mod SideTables
+pub mod KeptLaws
+pub mod ForestKept
+pub mod Adding

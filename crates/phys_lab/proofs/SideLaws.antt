@@ -43,11 +43,23 @@ pub joined_through : (trunks : List Trunk) (a b c : ℕ) → joined trunks a b �
 joined_through [] a b c p q = eq-eqb a c (eqb-true a b p ∙ eqb-true b c q)
 joined_through (t ∷ trunks) a b c p q = ways_back t trunks a c (through t trunks (λ x y z. joined_through trunks x y z) a b c (ways t trunks a b p) (ways t trunks b c q))
 
+pub joined_back : (trunks : List Trunk) (a b : ℕ) → joined trunks a b ≡ true → joined trunks b a ≡ true
+joined_back [] a b h = eq-eqb b a (sym (eqb-true a b h))
+joined_back (t ∷ trunks) a b h = elim (ways t trunks a b h) [
+  | without x ↦ ways_back t trunks b a (without (joined_back trunks a b x))
+  | across x y ↦ ways_back t trunks b a (back (joined_back trunks t.second.0.0 b y) (joined_back trunks a t.first.0.0 x))
+  | back x y ↦ ways_back t trunks b a (across (joined_back trunks t.first.0.0 b y) (joined_back trunks a t.second.0.0 x))
+]
+
 spans_joined : (trunks : List Trunk) (t : Trunk) (a b : ℕ) → Has trunks t → Spans t a b → joined trunks a b ≡ true
 spans_joined [] t a b h spans = absurd h
 spans_joined (u ∷ trunks) t a b (inl e) (inl s) = ways_back u trunks a b (across (subst (λ x. joined trunks a x ≡ true) (sym s.0 ∙ ap (λ v. v.first.0.0) (sym e)) (joined_same trunks a)) (subst (λ x. joined trunks x b ≡ true) (sym s.1 ∙ ap (λ v. v.second.0.0) (sym e)) (joined_same trunks b)))
 spans_joined (u ∷ trunks) t a b (inl e) (inr s) = ways_back u trunks a b (back (subst (λ x. joined trunks a x ≡ true) (sym s.0 ∙ ap (λ v. v.second.0.0) (sym e)) (joined_same trunks a)) (subst (λ x. joined trunks x b ≡ true) (sym s.1 ∙ ap (λ v. v.first.0.0) (sym e)) (joined_same trunks b)))
 spans_joined (u ∷ trunks) t a b (inr h) spans = or_left _ _ (or_left _ _ (spans_joined trunks t a b h spans))
+
+-- a trunk joins its two switches
+pub trunk_joins : (trunks : List Trunk) (t : Trunk) → Has trunks t → joined trunks t.first.0.0 t.second.0.0 ≡ true
+trunk_joins trunks t h = spans_joined trunks t t.first.0.0 t.second.0.0 h (inl (refl, refl))
 
 pub joined_from_path : (trunks path : List Trunk) (a b : ℕ) → ((t : Trunk) → Has path t → Has trunks t) → Leads path a b → joined trunks a b ≡ true
 joined_from_path trunks [] a b these leads = subst (λ x. joined trunks a x ≡ true) leads (joined_same trunks a)
