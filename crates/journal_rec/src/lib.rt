@@ -1,6 +1,19 @@
-//! Records of the journal.
+//! Records of the journal, and their one spelling as bytes.
 #![tactic(auto)]
 
+mod encoded;
+mod fault;
+mod laws;
+mod reading;
 mod record;
+mod writing;
 
+pub use encoded::Encoded;
+pub use fault::RecFault;
+pub use laws::one_spelling;
+pub use reading::decode;
 pub use record::{Found, Record, Way};
+pub use writing::encode;
+
+#[cfg(test)]
+mod tests;
