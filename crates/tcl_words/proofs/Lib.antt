@@ -1,0 +1,3 @@
+pub mod Nest
+pub mod Reading
+pub mod Steps

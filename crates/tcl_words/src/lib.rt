@@ -1,0 +1,22 @@
+//! The commands and words of a Tcl text.
+//!
+//! `split` reads a text into its commands. Brackets and indexes inside words are passed over; whoever
+//! evaluates a word splits them in their turn.
+#![tactic(auto)]
+
+mod flaw;
+mod frame;
+mod nesting;
+mod parts;
+mod splitting;
+mod tokens;
+mod word;
+mod words;
+
+pub use flaw::{Broken, Flaw};
+pub use parts::{reference_at, script_end};
+pub use splitting::{line_of, split};
+pub use word::{Command, Part, Reference, Word, WordKind};
+
+#[cfg(test)]
+mod tests;

@@ -1,0 +1,49 @@
+//! Commands, their words and the parts of these.
+
+use lab_base::Items;
+
+/// How a word is written.
+#[derive(Clone, Copy, PartialEq, Eq, Debug, Drop)]
+pub enum WordKind {
+    Bare,
+    Quoted,
+    Braced,
+}
+
+/// A part of a word.
+#[derive(Clone, Copy, PartialEq, Eq, Debug, Drop)]
+pub enum Part {
+    /// Bytes that stand for themselves.
+    Plain { start: u32, end: u32 },
+    /// A byte that a backslash stands before, or the blank of a line that goes on.
+    Escape { byte: u8 },
+    /// A variable, from its `$` to behind its name, its `}` or its index.
+    Variable { start: u32, end: u32 },
+    /// A script, without its brackets.
+    Script { start: u32, end: u32 },
+}
+
+/// A word, with its quotes or braces.
+#[derive(Debug, Drop)]
+pub struct Word {
+    pub kind: WordKind,
+    pub start: u32,
+    pub end: u32,
+    pub parts: Items<Part>,
+}
+
+/// A command, and the line on which its first word begins.
+#[derive(Debug, Drop)]
+pub struct Command {
+    pub words: Items<Word>,
+    pub line: u32,
+}
+
+/// A variable where it stands: its name, its index if it has one, and the place behind it.
+#[derive(Debug, Drop)]
+pub struct Reference {
+    pub name_start: usize,
+    pub name_end: usize,
+    pub index: Option<Items<Part>>,
+    pub end: usize,
+}
