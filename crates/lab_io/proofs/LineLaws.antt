@@ -1,11 +1,11 @@
 -- The lines of what is left, as a reader takes them.
-use Rattle.std.specs.Prelude.{◌≡◌, ℕ, ◌+◌, ◌^◌, ◌==◌, ◌||◌, ◌<◌, ◌≤◌, nat_lt, Bool, true, false, List, [], ◌∷◌, ◌++◌, length, Option, Some, None, if◌then◌else◌, refl}
-use Rattle.std.proofs.Common.{ap, ◌∙◌, sym, subst, append_assoc, length-append, arith}
+use Rattle.std.specs.Prelude.{◌≡◌, ℕ, ◌+◌, ◌^◌, ◌==◌, ◌<◌, ◌≤◌, nat_lt, Bool, true, false, List, [], ◌∷◌, ◌++◌, length, Some, None, refl}
+use Rattle.std.proofs.Common.{ap, ◌∙◌, sym, append_assoc, length-append, arith}
 use Rattle.std.proofs.lemmas.Bool.Decides.{nat_tests}
-use Rattle.std.specs.List.{slice_split, count_by}
+use Rattle.std.specs.List.{slice_split}
 use Rattle.std.specs.Str.Lines.{strip_carriage_return}
 use Rattle.std.proofs.lemmas.List.Splits.{slice_split_at, slice_split_none, length-slice_split}
-use Rattle.lab_io.specs.Feeds.{NoFeed, EndedLine, LastLine}
+use Rattle.lab_io.specs.Feeds.{EndedLine, LastLine}
 use Rattle.lab_io.specs.Lines.{line_of, lines_between, lines_from}
 
 -- a line that is short enough and ends within the limit is its text

@@ -1,6 +1,6 @@
-use Rattle.std.proofs.Common.{◌≡◌, ℕ, ◌+◌, ◌^◌, ◌<◌, ◌≤◌, [], ◌++◌, length, take, drop, inl, inr, ⊎_elim, refl, sym, ◌∙◌, ap, subst, arith}
+use Rattle.std.proofs.Common.{◌≡◌, ◌+◌, ◌^◌, ◌<◌, length, take, drop, inl, inr, ⊎_elim, refl, sym, ◌∙◌, ap, subst, arith}
 use Rattle.std.proofs.lemmas.Bool.Decides.{nat_tests}
-use Rattle.std.specs.Io.KnownBytes.{prepend_known, IsAtEnd}
+use Rattle.std.specs.Io.KnownBytes.{prepend_known}
 use Rattle.lab_io.specs.Taken.{above, above_last, beyond, ends_beyond}
 use Rattle.lab_io.proofs.Fronts.{front, ended, at_end, text_short, all_front, length_items, last_line, cut_len, with_feed, length_front}
 use Rattle.lab_io.proofs.lines.next_line.Goals as goal
