@@ -3,3 +3,4 @@ pub mod Fronts
 pub mod Known
 pub mod LineLaws
 pub mod LongLines
+pub mod Passing

@@ -4,3 +4,4 @@ pub mod Feeds
 pub mod Lines
 pub mod Mem
 pub mod Taken
+pub mod Passed

@@ -1,0 +1,76 @@
+-- The commands of a script.
+use Rattle.std.specs.Prelude.{◌≡◌, ◌+◌, ℕ, zero, suc, List, [], ◌∷◌, ◌++◌, Option, Some, None}
+use Rattle.lab_io.specs.Lines.{script_lines}
+use Rattle.script_text.specs.Heads.{said_of}
+use Rattle.script_text.specs.declared.heads.Head.{Head}
+use Rattle.script_text.specs.declared.heads.Head.TheVariants as heads
+use Rattle.script_text.specs.declared.heads.Said.{Said}
+use Rattle.script_text.specs.declared.heads.Said.TheVariants.{Skipped, Unknown, Begins}
+use Rattle.script_text.specs.declared.command.Command.{Command}
+use Rattle.script_text.specs.declared.command.Command.TheVariants.{Ptop, CreateTop, Show, Delete, Status}
+
+-- lines of a script, of which each has a text or is too long
+abbrev pub Lines : Type 0
+Lines = List (Option (List ℕ))
+
+-- what a block of so many lines is: its text, the number of its last line and the lines behind it; or the first line
+-- that is missing or too long
+pub data Block : Type 0 where
+  Whole : (text : List ℕ) (number : ℕ) (rest : Lines) → Block
+  Short : (line : ℕ) → Block
+
+-- the block that begins behind line `number`, with what was read of it already
+abbrev pub block : ℕ → List ℕ → ℕ → Lines → Block
+block zero text number lines = Whole text number lines
+block (suc k) text number [] = Short (number + 1)
+block (suc k) text number (None ∷ lines) = Short (number + 1)
+block (suc k) text number (Some line ∷ lines) = block k (text ++ line ++ 10 ∷ []) (number + 1) lines
+
+-- the next command with the number of its last line and the lines behind it; or the end; or the first line that is not
+-- in the grammar
+pub data Found : Type 0 where
+  Got : (command : Command) (number : ℕ) (rest : Lines) → Found
+  End : Found
+  Bad : (line : ℕ) → Found
+
+abbrev pub with_block : Block → (List ℕ → Command) → Found
+with_block (Whole text number rest) as_command = Got (as_command text) number rest
+with_block (Short line) as_command = Bad line
+
+-- the command that begins at line `number`
+abbrev pub command_at : Head → ℕ → Lines → Found
+command_at (heads.Ptop k) number lines = with_block (block k [] number lines) (λ text. Ptop k text)
+command_at (heads.CreateTop exp k) number lines = with_block (block k [] number lines) (λ text. CreateTop exp k text)
+command_at (heads.Show exp) number lines = Got (Show exp) number lines
+command_at (heads.Delete exp) number lines = Got (Delete exp) number lines
+command_at heads.Status number lines = Got Status number lines
+
+-- what is found at a line by what it says: a skipped line leaves the matter to what is found behind it
+abbrev pub found_by : Said → ℕ → Lines → Found → Found
+found_by Skipped number lines onwards = onwards
+found_by Unknown number lines onwards = Bad number
+found_by (Begins head) number lines onwards = command_at head number lines
+
+-- the next command behind line `number`
+abbrev pub next_of : ℕ → Lines → Found
+next_of number [] = End
+next_of number (None ∷ lines) = Bad (number + 1)
+next_of number (Some line ∷ lines) = found_by (said_of line) (number + 1) lines (next_of (number + 1) lines)
+
+-- how a script ends
+pub data Ending : Type 0 where
+  AtEnd : Ending
+  BadLine : (line : ℕ) → Ending
+
+abbrev pub ending : Ending → Found
+ending AtEnd = End
+ending (BadLine line) = Bad line
+
+-- these are the commands behind line `number`, up to the end or the first line that is not in the grammar
+abbrev pub AreCommands : ℕ → Lines → List Command → Ending → Type 0
+AreCommands number lines [] end = next_of number lines ≡ ending end
+AreCommands number lines (c ∷ commands) end = (after : ℕ) × (rest : Lines) × (next_of number lines ≡ Got c after rest) × AreCommands after rest commands end
+
+-- THE COMMANDS OF A SCRIPT
+abbrev pub IsScript : List ℕ → List Command → Ending → Type 0
+IsScript bytes commands end = AreCommands 0 (script_lines bytes) commands end

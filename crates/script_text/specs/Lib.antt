@@ -1,0 +1,4 @@
+pub mod Heads
+pub mod Commands
+pub mod Taking
+pub mod Replies

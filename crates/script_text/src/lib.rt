@@ -1,0 +1,19 @@
+//! Scripts and replies: the commands of a script's lines, and the text of each reply.
+//!
+//! A command joins by a variant of `Command`, a head and what its head completes to; a reply by a variant of `Reply`
+//! and its text.
+#![tactic(auto)]
+
+mod command;
+mod heads;
+mod next;
+mod replies;
+mod reply;
+
+pub use command::Command;
+pub use next::{Next, ScriptFault, read_command};
+pub use replies::reply_text;
+pub use reply::{PhaseWord, Reply, StatusLine};
+
+#[cfg(test)]
+mod tests;

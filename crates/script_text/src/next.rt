@@ -1,0 +1,189 @@
+ghost use Rattle.std.specs.Prelude.{◌≡◌, ◌≤◌, ◌<◌, ◌+◌, ◌^◌, ℕ, List, [], ◌∷◌, length, None, Some, false, IfOk, IfSome, IfNone, OnOk, IsErrOf};
+ghost use Rattle.std.specs.Io.KnownBytes.{IsAtEnd};
+ghost use Rattle.lab_io.specs.Causes.{Rose};
+ghost use Rattle.lab_io.specs.Feeds.{NoFeed};
+ghost use Rattle.lab_io.specs.Passed.{Passed, IsSettled, stand_of};
+ghost use Rattle.lab_io.specs.Taken.{fault_of, lines_of, taken_of, ended_of, pending_of, rest_of};
+ghost use Rattle.script_text.specs.Taking.{HasLong, Skipped, Begun, Blocked, IsShort, IsCut, Completes, IsBadAt, IsHalf, IsBad, Reads, GoesOn, IsUnfinished};
+
+use crate::Command;
+use crate::heads::{Head, Said, said_in};
+use lab_base::{Memory, Text};
+use lab_io::{Line, LineFault, LineReader, Source};
+use std::alloc::Global;
+
+/// What stands next in a script.
+#[derive(Drop)]
+pub enum Next {
+    Command(Command),
+    /// There is no command more.
+    End,
+}
+
+/// Why there is no next command.
+#[derive(Clone, Copy, Debug, PartialEq, Eq)]
+pub enum ScriptFault {
+    /// The line of this number is the first that is not in the grammar: it is no command, it is too long, or it is
+    /// missing in a block.
+    Bad { line: u64 },
+    ReadFault,
+    Memory,
+}
+
+impl From<Memory> for ScriptFault {
+    ghost use Rattle.script_text.specs.declared.next.ScriptFault.TheVariants as faults;
+
+    ghost from_gives = { λ _ e. e ≡ faults.Memory };
+
+    fn from(_error: Memory) -> ScriptFault {
+        ScriptFault::Memory
+    }
+}
+
+/// Takes a line.
+fn take_line<S: Source>(lines: &mut LineReader, source: &mut S) -> Result<Option<Text>, ScriptFault>
+    requires { fault_of lines.old ≡ None }
+    ensures some { IfOk result (λ line. IfSome line (λ text. Passed (stand_of lines.old (S.left source.old)) (stand_of lines.new (S.left source.new)) (text ∷ []))) }
+    ensures more { IfOk result (λ line. IfSome line (λ text. taken_of lines.old < taken_of lines.new)) }
+    ensures none { IsSettled (stand_of lines.old (S.left source.old)) → IfOk result (λ line. IfNone line (Passed (stand_of lines.old (S.left source.old)) (stand_of lines.new (S.left source.new)) [] × IsAtEnd (rest_of lines.new (S.left source.new)))) }
+    ensures bad { (line : ℕ) → IsErrOf result (ScriptFault.Bad line) → (line ≡ lines_of lines.old + 1) × HasLong (stand_of lines.old (S.left source.old)) }
+    ensures read { IsErrOf result ScriptFault.ReadFault → Rose (S.faults source.old) (S.faults source.new) × NoFeed (pending_of lines.new) × (ended_of lines.old ≡ false) × (rest_of lines.new (S.left source.new) ≡ rest_of lines.old (S.left source.old)) }
+    ensures later { S.faults source.old ≤ S.faults source.new }
+    ensures within { taken_of lines.new ≤ 2 ^ 32 }
+    ensures ok { OnOk result (fault_of lines.new ≡ None) }
+{
+    match lines.next(source) {
+        Ok(Line::Text(text)) => Ok(Some(text)),
+        Ok(Line::End) => Ok(None),
+        Err(LineFault::TooLong(line)) => Err(ScriptFault::Bad { line }),
+        Err(LineFault::ReadFault) => Err(ScriptFault::ReadFault),
+        Err(LineFault::Memory) => Err(ScriptFault::Memory),
+    }
+}
+
+/// Takes lines up to the first that isn't skipped, which begins a command.
+fn find_head<S: Source>(
+    alloc: Global,
+    lines: &mut LineReader,
+    source: &mut S,
+) -> Result<Option<Head>, ScriptFault>
+    requires { fault_of lines.old ≡ None }
+    ensures some { IsSettled (stand_of lines.old (S.left source.old)) → IfOk result (λ found. IfSome found (λ head. Begun (stand_of lines.old (S.left source.old)) (stand_of lines.new (S.left source.new)) head)) }
+    ensures more { IfOk result (λ found. IfSome found (λ head. taken_of lines.old < taken_of lines.new)) }
+    ensures none { IsSettled (stand_of lines.old (S.left source.old)) → IfOk result (λ found. IfNone found (Skipped (stand_of lines.old (S.left source.old)) (stand_of lines.new (S.left source.new)) × IsAtEnd (rest_of lines.new (S.left source.new)))) }
+    ensures bad { IsSettled (stand_of lines.old (S.left source.old)) → (line : ℕ) → IsErrOf result (ScriptFault.Bad line) → IsBad (stand_of lines.old (S.left source.old)) line }
+    ensures read { IsErrOf result ScriptFault.ReadFault → Rose (S.faults source.old) (S.faults source.new) × NoFeed (pending_of lines.new) }
+    ensures unfinished { IsSettled (stand_of lines.old (S.left source.old)) → IsErrOf result ScriptFault.ReadFault → IsUnfinished (stand_of lines.old (S.left source.old)) (stand_of lines.new (S.left source.new)) }
+    ensures later { S.faults source.old ≤ S.faults source.new }
+    ensures within { taken_of lines.new ≤ 2 ^ 32 }
+    ensures ok { OnOk result (fault_of lines.new ≡ None) }
+{
+    'lines: loop {
+        match take_line(lines, source)? {
+            None => return Ok(None),
+            Some(text) => match said_in(alloc, &text)? {
+                Said::Skipped => {}
+                Said::Unknown => {
+                    return Err(ScriptFault::Bad {
+                        line: lines.lines(),
+                    });
+                }
+                Said::Begins(head) => return Ok(Some(head)),
+            },
+        }
+    }
+}
+
+/// Takes the lines of a block.
+fn take_block<S: Source>(
+    alloc: Global,
+    lines: &mut LineReader,
+    source: &mut S,
+    count: u16,
+) -> Result<Text, ScriptFault>
+    requires { fault_of lines.old ≡ None }
+    ensures block { IsSettled (stand_of lines.old (S.left source.old)) → IfOk result (λ text. Blocked (stand_of lines.old (S.left source.old)) (stand_of lines.new (S.left source.new)) count text) }
+    ensures bad { IsSettled (stand_of lines.old (S.left source.old)) → (line : ℕ) → IsErrOf result (ScriptFault.Bad line) → IsShort (stand_of lines.old (S.left source.old)) count line }
+    ensures read { IsErrOf result ScriptFault.ReadFault → Rose (S.faults source.old) (S.faults source.new) × NoFeed (pending_of lines.new) }
+    ensures cut { IsSettled (stand_of lines.old (S.left source.old)) → IsErrOf result ScriptFault.ReadFault → IsCut (stand_of lines.old (S.left source.old)) (stand_of lines.new (S.left source.new)) count }
+    ensures later { S.faults source.old ≤ S.faults source.new }
+    ensures taken { OnOk result (taken_of lines.old ≤ taken_of lines.new) }
+    ensures ok { OnOk result (fault_of lines.new ≡ None) }
+{
+    let mut block = Text::new(alloc);
+    for _number in 0..count {
+        match take_line(lines, source)? {
+            None => {
+                return Err(ScriptFault::Bad {
+                    line: lines.lines() + 1,
+                });
+            }
+            Some(line) => {
+                block.push_bytes(line.bytes())?;
+                block.push(b'\n')?;
+            }
+        }
+    }
+    Ok(block)
+}
+
+/// Takes the blocks of the command that begins so.
+fn with_blocks<S: Source>(
+    alloc: Global,
+    head: Head,
+    lines: &mut LineReader,
+    source: &mut S,
+) -> Result<Command, ScriptFault>
+    requires { fault_of lines.old ≡ None }
+    ensures command { IsSettled (stand_of lines.old (S.left source.old)) → IfOk result (λ command. Completes (stand_of lines.old (S.left source.old)) (stand_of lines.new (S.left source.new)) head command) }
+    ensures bad { IsSettled (stand_of lines.old (S.left source.old)) → (line : ℕ) → IsErrOf result (ScriptFault.Bad line) → IsBadAt (stand_of lines.old (S.left source.old)) head line }
+    ensures read { IsErrOf result ScriptFault.ReadFault → Rose (S.faults source.old) (S.faults source.new) × NoFeed (pending_of lines.new) }
+    ensures unfinished { IsSettled (stand_of lines.old (S.left source.old)) → IsErrOf result ScriptFault.ReadFault → IsHalf (stand_of lines.old (S.left source.old)) (stand_of lines.new (S.left source.new)) head }
+    ensures later { S.faults source.old ≤ S.faults source.new }
+    ensures taken { OnOk result (taken_of lines.old ≤ taken_of lines.new) }
+    ensures ok { OnOk result (fault_of lines.new ≡ None) }
+{
+    match head {
+        Head::Ptop { lines: count } => {
+            let ptop = take_block(alloc, lines, source, count)?;
+            Ok(Command::Ptop { lines: count, ptop })
+        }
+        Head::CreateTop { exp, lines: count } => {
+            let top = take_block(alloc, lines, source, count)?;
+            Ok(Command::CreateTop {
+                exp,
+                lines: count,
+                top,
+            })
+        }
+        Head::Show { exp } => Ok(Command::Show { exp }),
+        Head::Delete { exp } => Ok(Command::Delete { exp }),
+        Head::Status => Ok(Command::Status),
+    }
+}
+
+/// Reads the next command of a script, with its blocks; its words are by the forms of `Command`.
+///
+/// A reader whose source has ended has nothing left (`IsSettled`): so it is with a new reader, and after each line.
+pub fn read_command<S: Source>(
+    alloc: Global,
+    lines: &mut LineReader,
+    source: &mut S,
+) -> Result<Next, ScriptFault>
+    requires { fault_of lines.old ≡ None }
+    ensures next { IsSettled (stand_of lines.old (S.left source.old)) → IfOk result (λ next. Reads (stand_of lines.old (S.left source.old)) next (stand_of lines.new (S.left source.new))) }
+    ensures more { IfOk result (λ next. GoesOn next (taken_of lines.old) (taken_of lines.new)) }
+    ensures bad { IsSettled (stand_of lines.old (S.left source.old)) → (line : ℕ) → IsErrOf result (ScriptFault.Bad line) → IsBad (stand_of lines.old (S.left source.old)) line }
+    ensures read { IsErrOf result ScriptFault.ReadFault → Rose (S.faults source.old) (S.faults source.new) × NoFeed (pending_of lines.new) }
+    ensures unfinished { IsSettled (stand_of lines.old (S.left source.old)) → IsErrOf result ScriptFault.ReadFault → IsUnfinished (stand_of lines.old (S.left source.old)) (stand_of lines.new (S.left source.new)) }
+    ensures later { S.faults source.old ≤ S.faults source.new }
+    ensures ok { OnOk result (fault_of lines.new ≡ None) }
+{
+    match find_head(alloc, lines, source)? {
+        None => Ok(Next::End),
+        Some(head) => {
+            let command = with_blocks(alloc, head, lines, source)?;
+            Ok(Next::Command(command))
+        }
+    }
+}

@@ -1,0 +1,160 @@
+ghost use Rattle.std.specs.Prelude.{◌≡◌, ◌++◌, ◌∷◌, [], codes, IfOk, OnOk};
+ghost use Rattle.std.specs.List.{flat_map};
+ghost use Rattle.script_text.specs.Replies.{phase_word, named_line, fault_line, two_line, lab_line, exp_line, shown_lines, text_of};
+
+use crate::{PhaseWord, Reply, StatusLine};
+use lab_base::{Memory, Name, Text, TextFault};
+use std::alloc::Global;
+
+impl PhaseWord {
+    /// The word of a reply.
+    pub fn word(self) -> &'static str
+        ensures { result.now ≡ phase_word self }
+    {
+        match self {
+            PhaseWord::Out => "out",
+            PhaseWord::In => "in",
+            PhaseWord::Moving => "moving",
+        }
+    }
+}
+
+fn named(alloc: Global, words: &[u8], name: &Name) -> Result<Text, Memory>
+    ensures { IfOk result (λ text. text ≡ named_line words.now name.now) }
+{
+    let mut text = Text::from_slice(alloc, words)?;
+    text.push_bytes(name.bytes())?;
+    text.push(b'\n')?;
+    Ok(text)
+}
+
+fn add_fault(text: &mut Text, fault: TextFault) -> Result<(), Memory>
+    ensures { OnOk result (text.new ≡ fault_line text.old fault) }
+{
+    text.push_number(fault.line.into())?;
+    text.push(b' ')?;
+    text.push_bytes(fault.kind.word().as_bytes())?;
+    text.push(b'\n')
+}
+
+fn add_two(text: &mut Text, first: u16, second: u16) -> Result<(), Memory>
+    ensures { OnOk result (text.new ≡ two_line text.old first second) }
+{
+    text.push_number(first.into())?;
+    text.push(b' ')?;
+    text.push_number(second.into())?;
+    text.push(b'\n')
+}
+
+fn lab(alloc: Global, switches: u16, nodes: u16, trunks: u16) -> Result<Text, Memory>
+    ensures { IfOk result (λ text. text ≡ lab_line switches nodes trunks) }
+{
+    let mut text = Text::from_slice(alloc, b"lab ")?;
+    text.push_number(switches.into())?;
+    text.push(b' ')?;
+    add_two(&mut text, nodes, trunks)?;
+    Ok(text)
+}
+
+/// Words, a name and a blank.
+fn named_head(alloc: Global, words: &[u8], name: &Name) -> Result<Text, Memory>
+    ensures { IfOk result (λ text. text ≡ words.now ++ name.now ++ 32 ∷ []) }
+{
+    let mut text = Text::from_slice(alloc, words)?;
+    text.push_bytes(name.bytes())?;
+    text.push(b' ')?;
+    Ok(text)
+}
+
+fn created(alloc: Global, exp: &Name, nodes: u16, segments: u16) -> Result<Text, Memory>
+    ensures { IfOk result (λ text. text ≡ two_line (codes "created " ++ exp.now ++ 32 ∷ []) nodes segments) }
+{
+    let mut text = named_head(alloc, b"created ", exp)?;
+    add_two(&mut text, nodes, segments)?;
+    Ok(text)
+}
+
+fn shown(alloc: Global, exp: &Name, phase: PhaseWord, top: &Text) -> Result<Text, Memory>
+    ensures { IfOk result (λ text. text ≡ shown_lines exp.now phase top.now) }
+{
+    let mut text = named_head(alloc, b"show ", exp)?;
+    text.push_bytes(phase.word().as_bytes())?;
+    text.push(b'\n')?;
+    text.push_bytes(top.bytes())?;
+    text.push_bytes(b"end ")?;
+    text.push_bytes(exp.bytes())?;
+    text.push(b'\n')?;
+    Ok(text)
+}
+
+fn bad(alloc: Global, exp: &Name, fault: TextFault) -> Result<Text, Memory>
+    ensures { IfOk result (λ text. text ≡ fault_line (codes "bad " ++ exp.now ++ 32 ∷ []) fault) }
+{
+    let mut text = named_head(alloc, b"bad ", exp)?;
+    add_fault(&mut text, fault)?;
+    Ok(text)
+}
+
+fn bad_ptop(alloc: Global, fault: TextFault) -> Result<Text, Memory>
+    ensures { IfOk result (λ text. text ≡ fault_line (codes "bad ptop ") fault) }
+{
+    let mut text = Text::from_slice(alloc, b"bad ptop ")?;
+    add_fault(&mut text, fault)?;
+    Ok(text)
+}
+
+fn line_of(alloc: Global, line: &StatusLine) -> Result<Text, Memory>
+    ensures { IfOk result (λ text. text ≡ exp_line line.now) }
+{
+    let mut text = named_head(alloc, b"exp ", &line.exp)?;
+    text.push_bytes(line.phase.word().as_bytes())?;
+    text.push(b' ')?;
+    add_two(&mut text, line.nodes, line.vlans)?;
+    Ok(text)
+}
+
+fn listed(alloc: Global, experiments: &[StatusLine], nodes: u16, vlans: u16) -> Result<Text, Memory>
+    ensures { IfOk result (λ text. text ≡ flat_map exp_line experiments.now ++ two_line (codes "free ") nodes vlans) }
+{
+    let mut text = Text::new(alloc);
+    for experiment in experiments {
+        let line = line_of(alloc, experiment)?;
+        text.push_bytes(line.bytes())?;
+    }
+    let mut free = Text::from_slice(alloc, b"free ")?;
+    add_two(&mut free, nodes, vlans)?;
+    text.push_bytes(free.bytes())?;
+    Ok(text)
+}
+
+/// The text of a reply: its lines, each with a line feed.
+pub fn reply_text(alloc: Global, reply: &Reply) -> Result<Text, Memory>
+    ensures { IfOk result (λ text. text ≡ text_of reply.now) }
+{
+    match reply {
+        Reply::Lab {
+            switches,
+            nodes,
+            trunks,
+        } => lab(alloc, *switches, *nodes, *trunks),
+        Reply::Created {
+            exp,
+            nodes,
+            segments,
+        } => created(alloc, exp, *nodes, *segments),
+        Reply::Shown { exp, phase, top } => shown(alloc, exp, *phase, top),
+        Reply::Deleted { exp } => named(alloc, b"deleted ", exp),
+        Reply::Listed {
+            experiments,
+            nodes,
+            vlans,
+        } => listed(alloc, experiments.as_slice(), *nodes, *vlans),
+        Reply::NoLab => Text::from_slice(alloc, b"no lab\n"),
+        Reply::LabIsSet => Text::from_slice(alloc, b"lab is set\n"),
+        Reply::Exists { exp } => named(alloc, b"exists ", exp),
+        Reply::Unknown { exp } => named(alloc, b"unknown ", exp),
+        Reply::Bad { exp, fault } => bad(alloc, exp, *fault),
+        Reply::BadPtop { fault } => bad_ptop(alloc, *fault),
+        Reply::FullExperiments => Text::from_slice(alloc, b"full experiments 256\n"),
+    }
+}

@@ -1,0 +1,74 @@
+use lab_base::{Items, Name, Text, TextFault};
+
+/// The phase of an experiment, as a reply has it.
+#[derive(Clone, Copy, Debug, PartialEq, Eq)]
+pub enum PhaseWord {
+    Out,
+    In,
+    Moving,
+}
+
+/// An experiment in the reply to `status`, with the numbers of nodes and of VLAN ids that it claims.
+#[derive(Clone, Copy)]
+pub struct StatusLine {
+    pub exp: Name,
+    pub phase: PhaseWord,
+    pub nodes: u16,
+    pub vlans: u16,
+}
+
+/// The reply to a command.
+#[derive(Drop)]
+pub enum Reply {
+    /// `lab S N T`: to `ptop`, the numbers of switches, nodes and trunks.
+    Lab {
+        switches: u16,
+        nodes: u16,
+        trunks: u16,
+    },
+    /// `created E N S`: to `create-top`, the numbers of virtual nodes and segments.
+    Created {
+        exp: Name,
+        nodes: u16,
+        segments: u16,
+    },
+    /// `show E PHASE`, the canonical top text, and `end E`.
+    Shown {
+        exp: Name,
+        phase: PhaseWord,
+        top: Text,
+    },
+    /// `deleted E`.
+    Deleted {
+        exp: Name,
+    },
+    /// A line `exp E PHASE N V` for each experiment, then `free N V`, the numbers that are free.
+    Listed {
+        experiments: Items<StatusLine>,
+        nodes: u16,
+        vlans: u16,
+    },
+    /// `no lab`.
+    NoLab,
+    /// `lab is set`: to `ptop`, the second time.
+    LabIsSet,
+    /// `exists E`.
+    Exists {
+        exp: Name,
+    },
+    /// `unknown E`.
+    Unknown {
+        exp: Name,
+    },
+    /// `bad E LINE KIND`: a block has no meaning; the line counts from 1 over all blocks of the command.
+    Bad {
+        exp: Name,
+        fault: TextFault,
+    },
+    /// `bad ptop LINE KIND`.
+    BadPtop {
+        fault: TextFault,
+    },
+    /// `full experiments 256`.
+    FullExperiments,
+}

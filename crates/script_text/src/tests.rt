@@ -1,0 +1,140 @@
+use super::*;
+use lab_base::{Items, Kind, Name, Text, TextFault};
+use lab_io::{LineReader, MemSource};
+use std::test::Fail;
+
+fn named(bytes: &[u8]) -> Result<Name, Fail> {
+    Ok(Name::read(bytes).ok().ok_or("a name")?)
+}
+
+/// What the commands of a script are, in short, and the fault that ends them, if any.
+fn read_all(rt: &HostRuntime, bytes: &[u8]) -> Result<(Vec<u8>, Option<ScriptFault>), Fail> {
+    let mut source = MemSource::new(rt.alloc(), bytes, &[])?;
+    let mut lines = LineReader::new(rt.alloc())?;
+    let mut seen = Vec::new(rt.alloc());
+    for _ in 0..1_000 {
+        match read_command(rt.alloc(), &mut lines, &mut source) {
+            Ok(Next::End) => return Ok((seen, None)),
+            Err(fault) => return Ok((seen, Some(fault))),
+            Ok(Next::Command(command)) => match command {
+                Command::Ptop { lines, ptop } => {
+                    seen.push(b'0' + lines as u8)?;
+                    seen.extend_from_slice(ptop.bytes())?;
+                }
+                Command::CreateTop { exp, lines, top } => {
+                    seen.extend_from_slice(exp.bytes())?;
+                    seen.push(b'0' + lines as u8)?;
+                    seen.extend_from_slice(top.bytes())?;
+                }
+                Command::Show { exp } => {
+                    seen.push(b's')?;
+                    seen.extend_from_slice(exp.bytes())?;
+                }
+                Command::Delete { exp } => {
+                    seen.push(b'd')?;
+                    seen.extend_from_slice(exp.bytes())?;
+                }
+                Command::Status => seen.push(b'?')?,
+            },
+        }
+    }
+    Err("no end".into())
+}
+
+#[test]
+fn commands_of_scripts(rt: HostRuntime) -> Result<(), Fail> {
+    let bad = |line| Some(ScriptFault::Bad { line });
+    let cases: [(&[u8], &[u8], Option<ScriptFault>); 17] = [
+        (b"", b"", None),
+        (b"\n \t\n# x\n", b"", None),
+        (b"status\nptop 6\nvlans 100 101\n", b"?", bad(4)),
+        (b"status\nptop 1\n", b"?", bad(3)),
+        (b"ptop 2\r\n# a \r\n\r\nstatus", b"2# a \n\n?", None),
+        (b"ptop 0\nstatus\n", b"0?", None),
+        (
+            b"  create-top\tA 1 \nnode a pc linux",
+            b"A1node a pc linux\n",
+            None,
+        ),
+        (b"show A\ndelete A", b"sAdA", None),
+        (b"\n\nswapin A\n", b"", bad(3)),
+        (b"status now\n", b"", bad(1)),
+        (b"ptop\n", b"", bad(1)),
+        (b"ptop 16385\n", b"", bad(1)),
+        (b"ptop x\n", b"", bad(1)),
+        (b"show A:B\n", b"", bad(1)),
+        (b"create-top A\n", b"", bad(1)),
+        (b"#\nStatus\n", b"", bad(2)),
+        (b"show \0\n", b"", bad(1)),
+    ];
+    for (bytes, wanted, fault) in cases {
+        let (seen, found) = read_all(&rt, bytes)?;
+        assert_eq!(rt; seen.as_slice(), wanted);
+        assert_eq!(rt; found, fault);
+    }
+    Ok(())
+}
+
+#[test]
+fn texts_of_replies(rt: HostRuntime) -> Result<(), Fail> {
+    let alloc = rt.alloc();
+    let exp = named(b"A")?;
+    let fault = TextFault {
+        line: 6,
+        kind: Kind::Cycle,
+    };
+    let mut experiments = Items::new(alloc);
+    experiments.push(StatusLine {
+        exp,
+        phase: PhaseWord::Out,
+        nodes: 0,
+        vlans: 0,
+    })?;
+    let top = Text::from_slice(alloc, b"node a pc linux\n")?;
+    let cases: [(Reply, &[u8]); 12] = [
+        (
+            Reply::Lab {
+                switches: 1,
+                nodes: 2,
+                trunks: 0,
+            },
+            b"lab 1 2 0\n",
+        ),
+        (
+            Reply::Created {
+                exp,
+                nodes: 2,
+                segments: 1,
+            },
+            b"created A 2 1\n",
+        ),
+        (
+            Reply::Shown {
+                exp,
+                phase: PhaseWord::Out,
+                top,
+            },
+            b"show A out\nnode a pc linux\nend A\n",
+        ),
+        (Reply::Deleted { exp }, b"deleted A\n"),
+        (
+            Reply::Listed {
+                experiments,
+                nodes: 2,
+                vlans: 2,
+            },
+            b"exp A out 0 0\nfree 2 2\n",
+        ),
+        (Reply::NoLab, b"no lab\n"),
+        (Reply::LabIsSet, b"lab is set\n"),
+        (Reply::Exists { exp }, b"exists A\n"),
+        (Reply::Unknown { exp }, b"unknown A\n"),
+        (Reply::Bad { exp, fault }, b"bad A 6 cycle\n"),
+        (Reply::BadPtop { fault }, b"bad ptop 6 cycle\n"),
+        (Reply::FullExperiments, b"full experiments 256\n"),
+    ];
+    for (reply, wanted) in cases {
+        assert_eq!(rt; reply_text(alloc, &reply)?.bytes(), wanted);
+    }
+    Ok(())
+}
