@@ -2,7 +2,7 @@
 use Rattle.std.specs.Prelude.{◌≡◌, ◌⊎◌, ℕ, ◌+◌, ◌^◌, ◌≤◌, Bool, true, false, List, [], ◌∷◌, ◌++◌, length, map, Option, Some, None}
 use Rattle.std.specs.Io.KnownBytes.{prepend_known, IsAtEnd}
 use Rattle.lab_io.specs.Lines.{lines_from}
-use Rattle.lab_io.specs.Taken.{rest_of, ended_of, taken_of, lines_of}
+use Rattle.lab_io.specs.Taken.{rest_of, ended_of, taken_of, lines_of, fault_of}
 use Rattle.lab_io.specs.declared.reader.LineReader.{LineReader}
 
 -- where a reader stands: what is left to it, whether its source has ended, and how many bytes and lines were taken
@@ -22,6 +22,10 @@ IsWhole bytes = (bytes ≡ []) ⊎ ((front : List ℕ) × (bytes ≡ front ++ 10
 -- a reader whose source has ended has nothing left
 abbrev pub IsSettled : Stand → Type 0
 IsSettled stand = (stand.ended ≡ false) ⊎ IsAtEnd stand.rest
+
+-- a reader that has met no fault, and is settled, as a new one is, and each one is after a line
+abbrev pub IsReady : LineReader → Option (List ℕ) → Type 0
+IsReady reader left = (fault_of reader ≡ None) × IsSettled (stand_of reader left)
 
 -- nothing may follow where the source has ended
 abbrev pub MayFollow : Stand → List ℕ → Type 0

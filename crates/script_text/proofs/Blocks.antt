@@ -1,13 +1,12 @@
 -- Blocks of lines.
-use Rattle.std.proofs.Common.{◌≡◌, inl, inr, ℕ, zero, suc, ◌+◌, ◌<◌, Bool, Some, None, List, [], ◌∷◌, ◌++◌, length, append_assoc, length-append, arith, Option, refl, sym, subst, ap, ◌∙◌}
+use Rattle.std.proofs.Common.{◌≡◌, ℕ, zero, suc, ◌+◌, ◌<◌, Some, None, List, [], ◌∷◌, ◌++◌, length, append_assoc, length-append, arith, Option, refl, sym, subst, ap, ◌∙◌}
 use Rattle.std.proofs.lemmas.List.{append-nil}
 use Rattle.std.specs.Io.KnownBytes.{IsAtEnd}
 use Rattle.lab_io.specs.Lines.{lines_from}
 use Rattle.lab_io.specs.Passed.{Stand, IsSettled, Passed}
 use Rattle.lab_io.proofs.Passing.{passed_none, passed_more}
 use Rattle.script_text.specs.Commands.{Lines, Whole, Short, block}
-use Rattle.script_text.specs.declared.command.Command.{Command}
-use Rattle.script_text.specs.Taking.{known, joined, StartsLong, NoLine, HasLong, HasNoLine, Blocked, Fewer, IsShort}
+use Rattle.script_text.specs.Taking.{known, joined, StartsLong, NoLine, HasLong, HasNoLine, Blocked, Fewer}
 use Rattle.script_text.proofs.Taken.{told_lines}
 
 -- lines enough are a block

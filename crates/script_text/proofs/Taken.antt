@@ -1,5 +1,5 @@
 -- What a reader's call says of the lines that are left.
-use Rattle.std.proofs.Common.{◌≡◌, ◌⊎◌, inl, inr, ℕ, ◌^◌, ◌≤◌, Bool, true, false, Some, None, List, [], ◌∷◌, ◌++◌, ◌+◌, append_assoc, arith, Option, refl, sym, subst, ap, ◌∙◌}
+use Rattle.std.proofs.Common.{◌≡◌, inl, inr, ℕ, ◌^◌, ◌≤◌, Bool, true, false, Some, None, List, [], ◌∷◌, ◌++◌, ◌+◌, append_assoc, arith, Option, Result, Ok, Err, IfSome, refl, sym, subst, ap, ◌∙◌}
 use Rattle.std.proofs.lemmas.Bool.{true≢false}
 use Rattle.std.proofs.lemmas.List.{append-nil, map-append}
 use Rattle.std.specs.Io.KnownBytes.{prepend_known, IsAtEnd}
@@ -9,7 +9,7 @@ use Rattle.lab_io.specs.Taken.{IsTooLong}
 use Rattle.lab_io.proofs.Passing.{passed_none, passed_more}
 use Rattle.lab_io.proofs.LongLines.{first_is_long}
 use Rattle.script_text.specs.Heads.{said_of}
-use Rattle.script_text.specs.Commands.{Lines, Bad, End, found_by, next_of}
+use Rattle.script_text.specs.Commands.{Lines, Bad, found_by, next_of}
 use Rattle.script_text.specs.declared.heads.Head.{Head}
 use Rattle.script_text.specs.declared.heads.Said.{Said}
 use Rattle.script_text.specs.declared.heads.Said.TheVariants as said
@@ -18,6 +18,11 @@ use Rattle.script_text.specs.Taking.{known, StartsLong, HasLong, Skipped, Begun,
 pub not_true : (b : Bool) → (b ≡ true → ⊥) → b ≡ false
 not_true true h = absurd (h refl)
 not_true false h = refl
+
+-- a reader that answers a line has met no fault
+pub ok_no_fault : {T E : Type 0} (fault : Option E) (result : Result T E) (value : T) → result ≡ Ok value → IfSome fault (λ f. result ≡ Err f) → fault ≡ None
+ok_no_fault None result value ok again = refl
+ok_no_fault (Some f) result value ok again = absurd (cc (ok, again))
 
 -- a source that has ended gives no line
 pub ended_none : (old new : Stand) → IsSettled old → old.ended ≡ true → new ≡ old → Passed old new [] × IsAtEnd new.rest

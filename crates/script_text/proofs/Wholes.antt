@@ -1,15 +1,15 @@
 -- Commands that were read whole, and commands that were not.
-use Rattle.std.proofs.Common.{◌≡◌, inl, inr, ℕ, ◌+◌, Some, List, [], ◌∷◌, ◌++◌, length, arith, refl, sym, subst, ap, ◌∙◌}
+use Rattle.std.proofs.Common.{◌≡◌, inr, ℕ, ◌+◌, List, [], ◌++◌, refl, sym, ap, ◌∙◌}
 use Rattle.std.proofs.lemmas.List.{append-nil}
 use Rattle.std.specs.Io.KnownBytes.{IsAtEnd}
 use Rattle.lab_io.specs.Lines.{lines_from}
-use Rattle.lab_io.specs.Passed.{Stand, IsSettled, Passed}
+use Rattle.lab_io.specs.Passed.{Stand, IsSettled}
 use Rattle.lab_io.proofs.Passing.{passed_none, passed_more}
-use Rattle.script_text.specs.Commands.{Lines, Whole, Short, block, with_block, Got, Bad, End, command_at, next_of}
+use Rattle.script_text.specs.Commands.{Lines, block, with_block, Got, Bad, command_at, next_of}
 use Rattle.script_text.specs.declared.command.Command.{Command}
 use Rattle.script_text.specs.declared.heads.Head.{Head}
 use Rattle.script_text.specs.declared.next.Next.TheVariants as nexts
-use Rattle.script_text.specs.Taking.{known, joined, HasNoLine, Skipped, Begun, Blocked, IsShort, IsCut, Completes, IsBadAt, IsHalf, IsBad, Reads, IsUnfinished}
+use Rattle.script_text.specs.Taking.{known, Skipped, Begun, Blocked, IsShort, IsCut, Completes, IsBadAt, IsHalf, IsBad, Reads, IsUnfinished}
 use Rattle.script_text.proofs.Taken.{told_lines, known_behind}
 use Rattle.script_text.proofs.Blocks.{block_whole, block_short}
 

@@ -2,7 +2,7 @@ ghost use Rattle.std.specs.Prelude.{◌≡◌, ◌≤◌, ◌<◌, ◌+◌, ◌^
 ghost use Rattle.std.specs.Io.KnownBytes.{IsAtEnd};
 ghost use Rattle.lab_io.specs.Causes.{Rose};
 ghost use Rattle.lab_io.specs.Feeds.{NoFeed};
-ghost use Rattle.lab_io.specs.Passed.{Passed, IsSettled, stand_of};
+ghost use Rattle.lab_io.specs.Passed.{Passed, IsReady, stand_of};
 ghost use Rattle.lab_io.specs.Taken.{fault_of, lines_of, taken_of, ended_of, pending_of, rest_of};
 ghost use Rattle.script_text.specs.Taking.{HasLong, Skipped, Begun, Blocked, IsShort, IsCut, Completes, IsBadAt, IsHalf, IsBad, Reads, GoesOn, IsUnfinished};
 
@@ -42,12 +42,11 @@ impl From<Memory> for ScriptFault {
 
 /// Takes a line.
 fn take_line<S: Source>(lines: &mut LineReader, source: &mut S) -> Result<Option<Text>, ScriptFault>
-    requires { fault_of lines.old ≡ None }
     ensures some { IfOk result (λ line. IfSome line (λ text. Passed (stand_of lines.old (S.left source.old)) (stand_of lines.new (S.left source.new)) (text ∷ []))) }
     ensures more { IfOk result (λ line. IfSome line (λ text. taken_of lines.old < taken_of lines.new)) }
-    ensures none { IsSettled (stand_of lines.old (S.left source.old)) → IfOk result (λ line. IfNone line (Passed (stand_of lines.old (S.left source.old)) (stand_of lines.new (S.left source.new)) [] × IsAtEnd (rest_of lines.new (S.left source.new)))) }
-    ensures bad { (line : ℕ) → IsErrOf result (ScriptFault.Bad line) → (line ≡ lines_of lines.old + 1) × HasLong (stand_of lines.old (S.left source.old)) }
-    ensures read { IsErrOf result ScriptFault.ReadFault → Rose (S.faults source.old) (S.faults source.new) × NoFeed (pending_of lines.new) × (ended_of lines.old ≡ false) × (rest_of lines.new (S.left source.new) ≡ rest_of lines.old (S.left source.old)) }
+    ensures none { IsReady lines.old (S.left source.old) → IfOk result (λ line. IfNone line (Passed (stand_of lines.old (S.left source.old)) (stand_of lines.new (S.left source.new)) [] × IsAtEnd (rest_of lines.new (S.left source.new)))) }
+    ensures bad { fault_of lines.old ≡ None → (line : ℕ) → IsErrOf result (ScriptFault.Bad line) → (line ≡ lines_of lines.old + 1) × HasLong (stand_of lines.old (S.left source.old)) }
+    ensures read { fault_of lines.old ≡ None → IsErrOf result ScriptFault.ReadFault → Rose (S.faults source.old) (S.faults source.new) × NoFeed (pending_of lines.new) × (ended_of lines.old ≡ false) × (rest_of lines.new (S.left source.new) ≡ rest_of lines.old (S.left source.old)) }
     ensures later { S.faults source.old ≤ S.faults source.new }
     ensures within { taken_of lines.new ≤ 2 ^ 32 }
     ensures ok { OnOk result (fault_of lines.new ≡ None) }
@@ -67,13 +66,12 @@ fn find_head<S: Source>(
     lines: &mut LineReader,
     source: &mut S,
 ) -> Result<Option<Head>, ScriptFault>
-    requires { fault_of lines.old ≡ None }
-    ensures some { IsSettled (stand_of lines.old (S.left source.old)) → IfOk result (λ found. IfSome found (λ head. Begun (stand_of lines.old (S.left source.old)) (stand_of lines.new (S.left source.new)) head)) }
+    ensures some { IsReady lines.old (S.left source.old) → IfOk result (λ found. IfSome found (λ head. Begun (stand_of lines.old (S.left source.old)) (stand_of lines.new (S.left source.new)) head)) }
     ensures more { IfOk result (λ found. IfSome found (λ head. taken_of lines.old < taken_of lines.new)) }
-    ensures none { IsSettled (stand_of lines.old (S.left source.old)) → IfOk result (λ found. IfNone found (Skipped (stand_of lines.old (S.left source.old)) (stand_of lines.new (S.left source.new)) × IsAtEnd (rest_of lines.new (S.left source.new)))) }
-    ensures bad { IsSettled (stand_of lines.old (S.left source.old)) → (line : ℕ) → IsErrOf result (ScriptFault.Bad line) → IsBad (stand_of lines.old (S.left source.old)) line }
-    ensures read { IsErrOf result ScriptFault.ReadFault → Rose (S.faults source.old) (S.faults source.new) × NoFeed (pending_of lines.new) }
-    ensures unfinished { IsSettled (stand_of lines.old (S.left source.old)) → IsErrOf result ScriptFault.ReadFault → IsUnfinished (stand_of lines.old (S.left source.old)) (stand_of lines.new (S.left source.new)) }
+    ensures none { IsReady lines.old (S.left source.old) → IfOk result (λ found. IfNone found (Skipped (stand_of lines.old (S.left source.old)) (stand_of lines.new (S.left source.new)) × IsAtEnd (rest_of lines.new (S.left source.new)))) }
+    ensures bad { IsReady lines.old (S.left source.old) → (line : ℕ) → IsErrOf result (ScriptFault.Bad line) → IsBad (stand_of lines.old (S.left source.old)) line }
+    ensures read { fault_of lines.old ≡ None → IsErrOf result ScriptFault.ReadFault → Rose (S.faults source.old) (S.faults source.new) × NoFeed (pending_of lines.new) }
+    ensures unfinished { IsReady lines.old (S.left source.old) → IsErrOf result ScriptFault.ReadFault → IsUnfinished (stand_of lines.old (S.left source.old)) (stand_of lines.new (S.left source.new)) }
     ensures later { S.faults source.old ≤ S.faults source.new }
     ensures within { taken_of lines.new ≤ 2 ^ 32 }
     ensures ok { OnOk result (fault_of lines.new ≡ None) }
@@ -101,14 +99,13 @@ fn take_block<S: Source>(
     source: &mut S,
     count: u16,
 ) -> Result<Text, ScriptFault>
-    requires { fault_of lines.old ≡ None }
-    ensures block { IsSettled (stand_of lines.old (S.left source.old)) → IfOk result (λ text. Blocked (stand_of lines.old (S.left source.old)) (stand_of lines.new (S.left source.new)) count text) }
-    ensures bad { IsSettled (stand_of lines.old (S.left source.old)) → (line : ℕ) → IsErrOf result (ScriptFault.Bad line) → IsShort (stand_of lines.old (S.left source.old)) count line }
-    ensures read { IsErrOf result ScriptFault.ReadFault → Rose (S.faults source.old) (S.faults source.new) × NoFeed (pending_of lines.new) }
-    ensures cut { IsSettled (stand_of lines.old (S.left source.old)) → IsErrOf result ScriptFault.ReadFault → IsCut (stand_of lines.old (S.left source.old)) (stand_of lines.new (S.left source.new)) count }
+    ensures block { IsReady lines.old (S.left source.old) → IfOk result (λ text. Blocked (stand_of lines.old (S.left source.old)) (stand_of lines.new (S.left source.new)) count text) }
+    ensures bad { IsReady lines.old (S.left source.old) → (line : ℕ) → IsErrOf result (ScriptFault.Bad line) → IsShort (stand_of lines.old (S.left source.old)) count line }
+    ensures read { fault_of lines.old ≡ None → IsErrOf result ScriptFault.ReadFault → Rose (S.faults source.old) (S.faults source.new) × NoFeed (pending_of lines.new) }
+    ensures cut { IsReady lines.old (S.left source.old) → IsErrOf result ScriptFault.ReadFault → IsCut (stand_of lines.old (S.left source.old)) (stand_of lines.new (S.left source.new)) count }
     ensures later { S.faults source.old ≤ S.faults source.new }
     ensures taken { OnOk result (taken_of lines.old ≤ taken_of lines.new) }
-    ensures ok { OnOk result (fault_of lines.new ≡ None) }
+    ensures ok { fault_of lines.old ≡ None → OnOk result (fault_of lines.new ≡ None) }
 {
     let mut block = Text::new(alloc);
     for _number in 0..count {
@@ -134,14 +131,13 @@ fn with_blocks<S: Source>(
     lines: &mut LineReader,
     source: &mut S,
 ) -> Result<Command, ScriptFault>
-    requires { fault_of lines.old ≡ None }
-    ensures command { IsSettled (stand_of lines.old (S.left source.old)) → IfOk result (λ command. Completes (stand_of lines.old (S.left source.old)) (stand_of lines.new (S.left source.new)) head command) }
-    ensures bad { IsSettled (stand_of lines.old (S.left source.old)) → (line : ℕ) → IsErrOf result (ScriptFault.Bad line) → IsBadAt (stand_of lines.old (S.left source.old)) head line }
-    ensures read { IsErrOf result ScriptFault.ReadFault → Rose (S.faults source.old) (S.faults source.new) × NoFeed (pending_of lines.new) }
-    ensures unfinished { IsSettled (stand_of lines.old (S.left source.old)) → IsErrOf result ScriptFault.ReadFault → IsHalf (stand_of lines.old (S.left source.old)) (stand_of lines.new (S.left source.new)) head }
+    ensures command { IsReady lines.old (S.left source.old) → IfOk result (λ command. Completes (stand_of lines.old (S.left source.old)) (stand_of lines.new (S.left source.new)) head command) }
+    ensures bad { IsReady lines.old (S.left source.old) → (line : ℕ) → IsErrOf result (ScriptFault.Bad line) → IsBadAt (stand_of lines.old (S.left source.old)) head line }
+    ensures read { fault_of lines.old ≡ None → IsErrOf result ScriptFault.ReadFault → Rose (S.faults source.old) (S.faults source.new) × NoFeed (pending_of lines.new) }
+    ensures unfinished { IsReady lines.old (S.left source.old) → IsErrOf result ScriptFault.ReadFault → IsHalf (stand_of lines.old (S.left source.old)) (stand_of lines.new (S.left source.new)) head }
     ensures later { S.faults source.old ≤ S.faults source.new }
     ensures taken { OnOk result (taken_of lines.old ≤ taken_of lines.new) }
-    ensures ok { OnOk result (fault_of lines.new ≡ None) }
+    ensures ok { fault_of lines.old ≡ None → OnOk result (fault_of lines.new ≡ None) }
 {
     match head {
         Head::Ptop { lines: count } => {
@@ -164,18 +160,17 @@ fn with_blocks<S: Source>(
 
 /// Reads the next command of a script, with its blocks; its words are by the forms of `Command`.
 ///
-/// A reader whose source has ended has nothing left (`IsSettled`): so it is with a new reader, and after each line.
+/// A reader that has met a fault answers it again, and nothing else is said of it.
 pub fn read_command<S: Source>(
     alloc: Global,
     lines: &mut LineReader,
     source: &mut S,
 ) -> Result<Next, ScriptFault>
-    requires { fault_of lines.old ≡ None }
-    ensures next { IsSettled (stand_of lines.old (S.left source.old)) → IfOk result (λ next. Reads (stand_of lines.old (S.left source.old)) next (stand_of lines.new (S.left source.new))) }
+    ensures next { IsReady lines.old (S.left source.old) → IfOk result (λ next. Reads (stand_of lines.old (S.left source.old)) next (stand_of lines.new (S.left source.new))) }
     ensures more { IfOk result (λ next. GoesOn next (taken_of lines.old) (taken_of lines.new)) }
-    ensures bad { IsSettled (stand_of lines.old (S.left source.old)) → (line : ℕ) → IsErrOf result (ScriptFault.Bad line) → IsBad (stand_of lines.old (S.left source.old)) line }
-    ensures read { IsErrOf result ScriptFault.ReadFault → Rose (S.faults source.old) (S.faults source.new) × NoFeed (pending_of lines.new) }
-    ensures unfinished { IsSettled (stand_of lines.old (S.left source.old)) → IsErrOf result ScriptFault.ReadFault → IsUnfinished (stand_of lines.old (S.left source.old)) (stand_of lines.new (S.left source.new)) }
+    ensures bad { IsReady lines.old (S.left source.old) → (line : ℕ) → IsErrOf result (ScriptFault.Bad line) → IsBad (stand_of lines.old (S.left source.old)) line }
+    ensures read { fault_of lines.old ≡ None → IsErrOf result ScriptFault.ReadFault → Rose (S.faults source.old) (S.faults source.new) × NoFeed (pending_of lines.new) }
+    ensures unfinished { IsReady lines.old (S.left source.old) → IsErrOf result ScriptFault.ReadFault → IsUnfinished (stand_of lines.old (S.left source.old)) (stand_of lines.new (S.left source.new)) }
     ensures later { S.faults source.old ≤ S.faults source.new }
     ensures ok { OnOk result (fault_of lines.new ≡ None) }
 {

@@ -18,12 +18,12 @@ fn read_all(rt: &HostRuntime, bytes: &[u8]) -> Result<(Vec<u8>, Option<ScriptFau
             Err(fault) => return Ok((seen, Some(fault))),
             Ok(Next::Command(command)) => match command {
                 Command::Ptop { lines, ptop } => {
-                    seen.push(b'0' + lines as u8)?;
+                    seen.push(b'0' + (lines % 10) as u8)?;
                     seen.extend_from_slice(ptop.bytes())?;
                 }
                 Command::CreateTop { exp, lines, top } => {
                     seen.extend_from_slice(exp.bytes())?;
-                    seen.push(b'0' + lines as u8)?;
+                    seen.push(b'0' + (lines % 10) as u8)?;
                     seen.extend_from_slice(top.bytes())?;
                 }
                 Command::Show { exp } => {

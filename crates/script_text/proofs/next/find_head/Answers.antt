@@ -1,50 +1,50 @@
-use Rattle.std.proofs.Common.{◌≡◌, ◌≤◌, ℕ, refl, sym, ap, subst, ◌∙◌, arith}
+use Rattle.std.proofs.Common.{◌≡◌, ℕ, sym, subst, ◌∙◌, arith}
 use Rattle.lab_io.specs.Passed.{stand_of}
 use Rattle.std.proofs.lemmas.Result.{err_from_is_err_and}
 use Rattle.script_text.specs.Taking.{IsBad}
-use Rattle.script_text.proofs.Taken.{none_skipped, skipped_on, begun_on, unknown_bad, long_bad, skipped_unfinished, ended_skipped}
+use Rattle.script_text.proofs.Taken.{none_skipped, skipped_on, begun_on, unknown_bad, skipped_unfinished, ended_skipped}
 use Rattle.script_text.proofs.next.find_head.Goals as goal
 
 pub lines-init : goal.lines-init
 lines-init g c = record {
-  fault = c.requires;
-  skipped = λ settled. none_skipped _ settled;
+  fault = λ h. h;
+  skipped = λ ready. none_skipped _ ready.1;
   later = omega arith;
   taken = omega arith;
 }
 
 pub returns-in_err-take_line-clause-unfinished : goal.returns-in_err-take_line-clause-unfinished
-returns-in_err-take_line-clause-unfinished g c settled is =
+returns-in_err-take_line-clause-unfinished g c ready is =
     let p = err_from_is_err_and c.from_residual.result c.from_residual.ensures.1 in
-    let read = c.in_err-take_line.ensures.read (cc (is, p.1, p.2)) in
-    skipped_unfinished _ _ (stand_of c.take_line.new.lines (g.S.Source.left c.take_line.new.source)) (c.lines.invariant.skipped settled) read.2 read.3
+    let read = c.in_err-take_line.ensures.read (c.lines.invariant.fault ready.0) (cc (is, p.1, p.2)) in
+    skipped_unfinished _ _ (stand_of c.take_line.new.lines (g.S.Source.left c.take_line.new.source)) (c.lines.invariant.skipped ready) read.2 read.3
 
 pub returns-in-None-clause-none : goal.returns-in-None-clause-none
-returns-in-None-clause-none g c settled =
-    let skipped = c.lines.invariant.skipped settled in
-    let none = rw c.in-None.is at c.in_ok-take_line.ensures.none skipped.passed.ends in
+returns-in-None-clause-none g c ready =
+    let skipped = c.lines.invariant.skipped ready in
+    let none = rw c.in-None.is at c.in_ok-take_line.ensures.none (c.lines.invariant.fault ready.0, skipped.passed.ends) in
     (ended_skipped _ _ _ skipped none.0, none.1)
 
 pub returns-in-Unknown-clause-bad : goal.returns-in-Unknown-clause-bad
-returns-in-Unknown-clause-bad g c settled line is =
+returns-in-Unknown-clause-bad g c ready line is =
     let some = rw c.in-Some.is at c.in_ok-take_line.ensures.some in
     let said = sym c.in_ok-said_in-in-Some.ensures ∙ c.in-Unknown.is in
     let number : c.lines-in-Unknown.result ≡ line = cc is in
-    subst (λ (n : ℕ). IsBad (stand_of c.args.lines.now (g.S.Source.left c.args.source.now)) n) (sym c.lines-in-Unknown.ensures ∙ number) (unknown_bad _ _ _ _ (c.lines.invariant.skipped settled) some said)
+    subst (λ (n : ℕ). IsBad (stand_of c.args.lines.now (g.S.Source.left c.args.source.now)) n) (sym c.lines-in-Unknown.ensures ∙ number) (unknown_bad _ _ _ _ (c.lines.invariant.skipped ready) some said)
 
 pub returns-in-Begins-clause-some : goal.returns-in-Begins-clause-some
-returns-in-Begins-clause-some g c settled =
+returns-in-Begins-clause-some g c ready =
     let some = rw c.in-Some.is at c.in_ok-take_line.ensures.some in
     let said = sym c.in_ok-said_in-in-Some.ensures ∙ c.in-Begins.is in
-    begun_on _ _ _ _ (c.lines.invariant.skipped settled) some c.in-Begins.head said
+    begun_on _ _ _ _ (c.lines.invariant.skipped ready) some c.in-Begins.head said
 
 pub lines-preserved : goal.lines-preserved
 lines-preserved g c =
     let some = rw c.in-Some.is at c.in_ok-take_line.ensures.some in
     let more = rw c.in-Some.is at c.in_ok-take_line.ensures.more in
     let said = sym c.in_ok-said_in-in-Some.ensures ∙ c.in-Skipped.is in record {
-      fault = c.in_ok-take_line.ensures.ok;
-      skipped = λ settled. skipped_on _ _ _ _ (c.lines.invariant.skipped settled) some said;
+      fault = λ h. c.in_ok-take_line.ensures.ok;
+      skipped = λ ready. skipped_on _ _ _ _ (c.lines.invariant.skipped ready) some said;
       later = omega (arith, c.lines.invariant.later, c.take_line.ensures.later);
       taken = omega (arith, c.lines.invariant.taken, more);
     }
