@@ -1,4 +1,4 @@
--- An opening: syncs leave fewer images, and after both the live side rests.
+-- Syncs leave fewer images, and after both the live side rests.
 use Rattle.std.specs.Str.{bytes_eq}
 use Rattle.std.proofs.Common.{fold, ◌≡◌, ◌≢◌, inl, inr, ℕ, min, ◌+◌, ◌-◌, ◌<◌, ◌≤◌, ◌||◌, ◌==◌, Bool, true, false, not, nat_lt, if◌then◌else◌, List, [], ◌∷◌, ◌++◌, length, take, drop, get_or, refl, sym, ap, ◌∙◌, subst, arith, append_assoc, length-append, take-append-drop}
 use Rattle.std.proofs.lemmas.List.{get_or_append_left, get_or-append-add, get_or-take, get_or-drop, length-take, length-drop}
@@ -10,12 +10,11 @@ use Rattle.plant.specs.Events.{Event, Missed, Did, Restarted, Cut as CutTo, Wrot
 use Rattle.plant.specs.declared.step.Side.{Side}
 use Rattle.plant.specs.declared.step.Side.TheVariants.{A, B}
 use Rattle.journal_rec.specs.declared.record.Record.{Record}
-use Rattle.lab_model.specs.Sound.{Standing, Keeps, SoundAt}
 use Rattle.journal_model.specs.Payloads.{number, IsRecord}
 use Rattle.journal_model.specs.Journals.{magic, header, Head, Blank, Foreign, Headed, head, Live, On, Wrong, live, of_side, block, Reads}
 use Rattle.journal_model.specs.Appends.{blocks, other_side, IsOlder, IsReadable, IsWithin, AreWithin, IsLawful, Opened}
-use Rattle.lab_model.proofs.TraceLaws.{disk_push, world_push}
-use Rattle.lab_model.proofs.Images.{synced_image}
+use Rattle.journal_model.proofs.Traces.{disk_push}
+use Rattle.journal_model.proofs.Images.{synced_image}
 use Rattle.journal_model.proofs.Gates.{drop_header}
 
 -- AS A SIDE READS is a possible image, whatever is done to it within it
@@ -98,12 +97,6 @@ synced_fewer A trace a b readable possible =
 synced_fewer B trace a b readable possible =
     let now : IsImage (disk A trace) a × IsImage (synced (disk B trace)) b = rw (disk_push A trace (Synced B), disk_push B trace (Synced B)) at possible in
     (now.0, subst (λ l. IsImage (disk B trace) l) (sym (synced_image (disk B trace) b now.1)) (readable_image (disk B trace) readable))
-
--- and so keeps a trace sound, whatever the sides stand for
-pub synced_sound : (StandsFor : List ℕ → List ℕ → Standing → Type 0) (side : Side) (trace : List Event) → IsReadable (disk side trace) → SoundAt StandsFor trace → SoundAt StandsFor (trace ++ Synced side ∷ [])
-synced_sound StandsFor side trace readable sound a b possible =
-    let at = sound a b (synced_fewer side trace a b readable possible) in
-    (at.0, at.1, subst (λ w. Keeps w at.0) (sym (world_push trace (Synced side))) at.2)
 
 -- THE HEAD'S BYTES
 pick : (t u : Bool) (v epoch : List ℕ) → ◌≡◌ {A = Head} (if t then Blank else if u then Headed v else Foreign) (Headed epoch) → (t ≡ false) × (u ≡ true) × (v ≡ epoch)

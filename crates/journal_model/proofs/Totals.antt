@@ -1,5 +1,5 @@
 -- Two sides are records or bad, where it is known of each payload whether it is a record's.
-use Rattle.std.proofs.Common.{◌≡◌, ◌≢◌, ◌⊎◌, inl, inr, ℕ, zero, suc, ◌+◌, ◌-◌, ◌*◌, ◌/◌, ◌%◌, ◌^◌, ◌<◌, ◌≤◌, Bool, true, false, ◌==◌, nat_lt, if◌then◌else◌, List, [], ◌∷◌, ◌++◌, length, take, drop, refl, sym, ap, ◌∙◌, subst, arith, append_assoc, length-append, take-append-drop}
+use Rattle.std.proofs.Common.{◌≡◌, ◌≢◌, ◌⊎◌, inl, inr, ℕ, zero, suc, ◌+◌, ◌-◌, ◌*◌, ◌/◌, ◌%◌, ◌^◌, ◌<◌, ◌≤◌, ◌==◌, if◌then◌else◌, List, [], ◌∷◌, ◌++◌, length, take, drop, refl, sym, ap, ◌∙◌, subst, arith, append_assoc, take-append-drop}
 use Rattle.std.proofs.lemmas.List.{length-take, length-drop}
 use Rattle.std.proofs.lemmas.Bool.{cases_eq, cases_lt}
 use Rattle.lab_base.specs.Lists.{Has}
@@ -9,7 +9,7 @@ use Rattle.plant.specs.declared.step.Side.TheVariants.{A, B}
 use Rattle.journal_rec.specs.declared.record.Record.{Record}
 use Rattle.journal_model.specs.Payloads.{le, number, payload, Decodes}
 use Rattle.journal_model.specs.Journals.{Headed, head, Live, New, On, Wrong, live, of_side, block, Reads, Breaks, no_length, cut_off, no_record, gate_after, RecordsOf, Records, BadOf, Bad, AreBytes}
-use Rattle.journal_model.proofs.Syncs.{live_back, headed_bytes}
+use Rattle.journal_model.proofs.Syncs.{live_back}
 
 digit : (x n : ℕ) → x < 256 → ((x + 256 * n) % 256 ≡ x) × ((x + 256 * n) / 256 ≡ n)
 digit x n h = (omega arith, omega arith)

@@ -1,4 +1,4 @@
--- What an append adds to a trace, and what the images of a trace stand for.
+-- What an append adds to a trace, and the states of the live side and of its images.
 use Rattle.std.specs.Prelude.{◌≡◌, ◌≢◌, ◌⊎◌, ◌<◌, ◌≤◌, ◌+◌, ℕ, List, [], ◌∷◌, ◌++◌, length, slice_index}
 use Rattle.std.specs.List.{flat_map}
 use Rattle.lab_base.specs.Lists.{Has}
@@ -7,22 +7,8 @@ use Rattle.plant.specs.Events.{Event, Wrote, Synced}
 use Rattle.plant.specs.declared.step.Side.{Side}
 use Rattle.plant.specs.declared.step.Side.TheVariants.{A, B}
 use Rattle.journal_rec.specs.declared.record.Record.{Record}
-use Rattle.lab_model.specs.Sound.{Standing}
 use Rattle.journal_model.specs.Payloads.{number, body, IsRecord}
 use Rattle.journal_model.specs.Journals.{header, Head, Blank, Headed, head, On, live, block, gate_after, Records, journal_length}
-use Rattle.journal_model.specs.Labs.{LabState, Texts, LabOf, lab_in}
-
--- what the lab of a state is to the world, with the journal's length
-abbrev pub standing : LabState → ℕ → Standing
-standing s size = record { lab = lab_in s.lab; experiments = s.experiments; size = size }
-
--- THE TWO SIDES STAND FOR that lab
-pub record StandFor (t : Texts) (a b : List ℕ) (s : Standing) : Type 0 where
-  pub records : List Record
-  pub read : Records a b records
-  pub state : LabState
-  pub lab_of : LabOf t records state
-  pub is : s ≡ standing state (journal_length a b records)
 
 -- the records' blocks, one after another, and a side up to the gate after them
 abbrev pub blocks : List Record → List ℕ

@@ -1,7 +1,7 @@
 -- Records as bytes.
 use Rattle.std.specs.Prelude.{◌≡◌, ◌<◌, ◌+◌, ◌*◌, ◌/◌, ◌%◌, ◌^◌, ℕ, true, List, [], ◌∷◌, ◌++◌, length}
-use Rattle.std.proofs.Common.{zero, suc}
 use Rattle.std.specs.List.{flat_map}
+use Rattle.std.proofs.Common.{zero, suc}
 use Rattle.lab_base.specs.Lists.{Has}
 use Rattle.lab_base.specs.Names.{is_name}
 use Rattle.lab_base.specs.declared.ids.VlanId.{VlanId}

@@ -9,7 +9,6 @@ use Rattle.lab_base.specs.declared.ids.VlanId.{VlanId}
 use Rattle.phys_lab.specs.Sides.{trunk_at}
 use Rattle.phys_lab.specs.Labs.{Lab}
 use Rattle.virt_topo.specs.declared.violation.Broken.{Broken}
-use Rattle.virt_topo.specs.declared.violation.Broken.TheVariants as broken
 use Rattle.virt_topo.specs.declared.violation.Subject.{Subject}
 use Rattle.virt_topo.specs.declared.wiring.Wiring.{Wiring}
 use Rattle.virt_topo.specs.declared.mapping.Mapping.{Mapping}
@@ -22,12 +21,13 @@ use Rattle.lab_model.specs.Claims.{Which, Old, New, claimed, Places, Claims, cla
 use Rattle.lab_model.specs.Holding.{Suits, Holding}
 use Rattle.lab_model.specs.Shapes.{IsShaped}
 use Rattle.lab_model.specs.Beside.{is_claimed, violation_beside, all_differ, are_free_tags}
+use Rattle.lab_model.specs.Feasible.{Kept, first_violation, or_later, first_bad}
 use Rattle.lab_model.proofs.WiringLaws.{all_has, has_index}
 use Rattle.lab_model.proofs.SuitLaws.{any_has}
-use Rattle.lab_model.specs.Feasible.{Kept, first_violation, or_later, first_bad, or_later}
 use Rattle.lab_model.proofs.Kept.{places_it_from}
 use Rattle.lab_model.proofs.Records.{apart_mid, flat_mid, Has_other}
 use Rattle.lab_model.proofs.HoldingLaws.{Takes, apart_append}
+use Rattle.virt_topo.specs.declared.violation.Broken.TheVariants as broken
 
 -- THE FIRST THAT FAILS: none where all pass
 pub all_pass : (n from : ℕ) (test : ℕ → Bool) → first_bad n from test ≡ None → (k : ℕ) → from ≤ k → k < from + n → test k ≡ true

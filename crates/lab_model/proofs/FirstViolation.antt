@@ -6,9 +6,7 @@ use Rattle.lab_base.specs.declared.ids.NodeId.{NodeId}
 use Rattle.phys_lab.specs.declared.free.Free.{Free}
 use Rattle.phys_lab.specs.Labs.{Lab}
 use Rattle.virt_topo.specs.declared.violation.Broken.{Broken}
-use Rattle.virt_topo.specs.declared.violation.Broken.TheVariants as broken
 use Rattle.virt_topo.specs.declared.violation.Subject.{Subject}
-use Rattle.virt_topo.specs.declared.violation.Subject.TheVariants as subjects
 use Rattle.virt_topo.specs.declared.wiring.Wiring.{Wiring}
 use Rattle.virt_topo.specs.declared.mapping.Mapping.{Mapping}
 use Rattle.virt_topo.specs.declared.experiment.Experiment.{Experiment}
@@ -17,6 +15,8 @@ use Rattle.lab_model.specs.Rules.{no_place, place_at, keeps_f1, keeps_f2, keeps_
 use Rattle.lab_model.specs.Feasible.{first_bad, first_below, or_later, first_violation, violation, AllPass, FirstFails, Kept, AreKept, BreaksFirst, before, count_of, test_of, subject_of}
 use Rattle.lab_model.specs.Beside.{is_unclaimed, has_room, has_ids, violation_beside, IsLeft}
 use Rattle.lab_model.proofs.FeasibleLaws.{at_zero, first_fails}
+use Rattle.virt_topo.specs.declared.violation.Broken.TheVariants as broken
+use Rattle.virt_topo.specs.declared.violation.Subject.TheVariants as subjects
 
 pub fails_at : (n : ℕ) (test : ℕ → Bool) (k : ℕ) → first_below n test ≡ Some k → FirstFails n test k
 fails_at n test k e = let r = first_fails n 0 test k e in record { below = omega (arith, r.1, zero-add n); fails = r.2; before = λ j h. r.3 j (omega arith) h }

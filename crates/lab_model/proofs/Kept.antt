@@ -1,6 +1,4 @@
 -- Placed and kept nodes, as tests and as facts.
-use Rattle.lab_model.proofs.SuitLaws.{place_in}
-use Rattle.lab_model.proofs.WiringLaws.{sound_ends, sound_pipes}
 use Rattle.std.specs.List.{list_any, filter}
 use Rattle.std.specs.Cmp.Lexicographic.{pointwise}
 use Rattle.std.specs.Str.{bytes_eq}
@@ -21,6 +19,8 @@ use Rattle.lab_model.specs.Claims.{places_it, Places}
 use Rattle.lab_model.specs.Kept.{is_kept, same_pipe, same_rates}
 use Rattle.lab_model.specs.Holding.{Suits}
 use Rattle.lab_model.specs.Courses.{node_names}
+use Rattle.lab_model.proofs.SuitLaws.{place_in}
+use Rattle.lab_model.proofs.WiringLaws.{sound_ends, sound_pipes}
 use Rattle.lab_model.proofs.PartLaws.{Has-get_or}
 use Rattle.lab_model.proofs.OneSided.{end_number-at, wanted_pipe, Has-slice_get}
 

@@ -13,7 +13,6 @@ pub mod FeasibleLaws
 pub mod Finished
 pub mod FirstViolation
 pub mod HoldingLaws
-pub mod Images
 pub mod Kept
 pub mod ListLaws
 pub mod Moves

@@ -1,6 +1,4 @@
 -- Rows and pipes of one mapping alone are isolated.
-use Rattle.lab_model.proofs.SuitLaws.{plug_in, plug_node, plug_once}
-use Rattle.lab_model.proofs.WiringLaws.{sound_pipes}
 use Rattle.std.specs.List.{filter_map, cons_option}
 use Rattle.std.specs.Str.{bytes_eq}
 use Rattle.std.proofs.Common.{◌≡◌, ◌≢◌, inl, inr, ℕ, zero, suc, ◌+◌, ◌-◌, ◌<◌, cond, eqb, Some, None, List, [], ◌∷◌, length, map, get_or, slice_get, refl, sym, ap, ◌∙◌, subst, arith}
@@ -22,6 +20,8 @@ use Rattle.lab_model.specs.Reach.{IsAt, Next, by_switch, by_trunk, by_pipe, Lead
 use Rattle.lab_model.specs.Holding.{IsLab, Suits}
 use Rattle.lab_model.specs.Rules.{plug_at}
 use Rattle.lab_model.specs.Isolated.{IsRow, IsPipe}
+use Rattle.lab_model.proofs.SuitLaws.{plug_in, plug_node, plug_once}
+use Rattle.lab_model.proofs.WiringLaws.{sound_pipes}
 use Rattle.lab_model.proofs.Rows.{owned_from, owned_tag, owned_once}
 
 -- the end with that number is of that virtual node

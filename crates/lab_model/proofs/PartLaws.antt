@@ -1,6 +1,4 @@
 -- The law of parts.
-use Rattle.lab_model.proofs.SuitLaws.{plug_in, plug_node}
-use Rattle.lab_model.proofs.WiringLaws.{sound_ends}
 use Rattle.std.proofs.Common.{◌≡◌, inl, inr, ℕ, zero, suc, ◌<◌, List, [], ◌∷◌, length, get_or, refl, sym, ap, ◌∙◌, subst, arith}
 use Rattle.lab_base.specs.Lists.{Has}
 use Rattle.lab_base.proofs.Members.{Has-left, Has-right, Has-mapped, Apart-same, flat-same}
@@ -18,6 +16,8 @@ use Rattle.lab_model.specs.Holding.{IsLab, Suits, Holding}
 use Rattle.lab_model.specs.Isolated.{Owner, IsRow, IsPipe, Isolated}
 use Rattle.lab_model.specs.Cabled.{Cabled, AllWanted}
 use Rattle.lab_model.specs.Parts.{Parts}
+use Rattle.lab_model.proofs.SuitLaws.{plug_in, plug_node}
+use Rattle.lab_model.proofs.WiringLaws.{sound_ends}
 use Rattle.lab_model.proofs.Rows.{owned_from, owned_tag}
 
 pub Has-get_or : {X : Type 0} (xs : List X) (k : ℕ) (d : X) → k < length xs → Has xs (get_or xs k d)

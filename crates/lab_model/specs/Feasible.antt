@@ -3,12 +3,12 @@ use Rattle.std.specs.Prelude.{◌≡◌, ◌<◌, ◌+◌, ℕ, zero, suc, Bool,
 use Rattle.phys_lab.specs.declared.free.Free.{Free}
 use Rattle.phys_lab.specs.Labs.{Lab}
 use Rattle.virt_topo.specs.declared.violation.Broken.{Broken}
-use Rattle.virt_topo.specs.declared.violation.Broken.TheVariants as broken
 use Rattle.virt_topo.specs.declared.violation.Subject.{Subject}
-use Rattle.virt_topo.specs.declared.violation.Subject.TheVariants as subjects
 use Rattle.virt_topo.specs.declared.wiring.Wiring.{Wiring}
 use Rattle.virt_topo.specs.declared.mapping.Mapping.{Mapping}
 use Rattle.lab_model.specs.Rules.{keeps_f1, keeps_f2, keeps_f3, keeps_f4, keeps_f5, keeps_f6, keeps_f7, keeps_f8}
+use Rattle.virt_topo.specs.declared.violation.Broken.TheVariants as broken
+use Rattle.virt_topo.specs.declared.violation.Subject.TheVariants as subjects
 
 -- the first of that many numbers, from `from` on, that fails the test
 abbrev pub first_bad : ℕ → ℕ → (ℕ → Bool) → Option ℕ

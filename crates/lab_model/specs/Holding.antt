@@ -8,10 +8,10 @@ use Rattle.phys_lab.specs.Labs.{Lab}
 use Rattle.phys_lab.specs.declared.parts.Trunk.{Trunk}
 use Rattle.virt_topo.specs.declared.mapping.Mapped.{Mapped}
 use Rattle.virt_topo.specs.declared.experiment.Experiment.{Experiment}
+use Rattle.virt_topo.specs.Soundness.{IsSound}
 use Rattle.lab_model.specs.Uses.{iface_at}
 use Rattle.lab_model.specs.Shapes.{IsShaped}
 use Rattle.lab_model.specs.Feasible.{AllPass}
-use Rattle.virt_topo.specs.Soundness.{IsSound}
 use Rattle.lab_model.specs.Wants.{switch_name, node_name}
 use Rattle.lab_model.specs.Claims.{Which, claimed, Claims, claimed_tags, claimed_use}
 use Rattle.lab_model.specs.Rules.{keeps_f2, keeps_f3, keeps_f4, keeps_f5, keeps_f7}

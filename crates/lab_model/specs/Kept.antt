@@ -1,5 +1,4 @@
 -- The nodes that a change keeps.
-use Rattle.lab_model.specs.Claims.{places_it}
 use Rattle.std.specs.Prelude.{ℕ, Bool, true, false, ◌&&◌, ◌==◌, List, Option, Some, None}
 use Rattle.std.specs.Cmp.Lexicographic.{pointwise}
 use Rattle.std.specs.Str.{bytes_eq}
@@ -7,6 +6,7 @@ use Rattle.lab_base.specs.declared.rates.Rates.{Rates}
 use Rattle.phys_lab.specs.Labs.{Lab}
 use Rattle.virt_topo.specs.declared.mapping.Mapped.{Mapped}
 use Rattle.plant.specs.Worlds.{PipeRow}
+use Rattle.lab_model.specs.Claims.{places_it}
 use Rattle.lab_model.specs.Wants.{os_on, pipes_on}
 
 abbrev pub same_rates : Rates → Rates → Bool

@@ -12,8 +12,8 @@ use Rattle.virt_topo.specs.Ends.{pipe_from, pipe_to}
 use Rattle.virt_topo.specs.declared.wiring.Pipe.{Pipe}
 use Rattle.virt_topo.specs.declared.wiring.VirtNode.{VirtNode}
 use Rattle.virt_topo.specs.declared.mapping.Mapped.{Mapped}
-use Rattle.plant.specs.Worlds.{Row, PipeRow, NodeRow}
 use Rattle.virt_topo.specs.Cables.{Cable}
+use Rattle.plant.specs.Worlds.{Row, PipeRow, NodeRow}
 use Rattle.lab_model.specs.Uses.{cables_of, iface_at, is_carried}
 use Rattle.lab_model.specs.Shapes.{node_at}
 use Rattle.lab_model.specs.Rules.{place_at, plug_at}

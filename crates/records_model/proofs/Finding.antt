@@ -1,0 +1,66 @@
+-- Experiments by name.
+use Rattle.std.specs.Str.{bytes_eq}
+use Rattle.std.proofs.Common.{◌≡◌, ◌≢◌, inl, inr, ℕ, true, false, Some, None, List, [], ◌∷◌, ◌++◌, map, sym, ap, ◌∙◌}
+use Rattle.std.proofs.lemmas.Bool.{cases_Bool, cond-true, cond-false}
+use Rattle.std.proofs.lemmas.Slice.Eq.{bytes_eq-Decides}
+use Rattle.lab_base.specs.Lists.{Has}
+use Rattle.virt_topo.specs.declared.experiment.Experiment.{Experiment}
+use Rattle.records_model.specs.Labs.{find, replace, others}
+
+pub some_is : {X : Type 0} (x y : X) → Some x ≡ Some y → x ≡ y
+some_is x y e = cc
+
+pub none_some : {X Y : Type 0} (x : X) → None ≡ Some x → Y
+none_some x e = absurd (cc e)
+
+-- where the experiment of a name stands
+pub record Found (name : List ℕ) (es : List Experiment) (e : Experiment) : Type 0 where
+  pub before : List Experiment
+  pub after : List Experiment
+  pub whole : es ≡ before ++ e ∷ after
+  pub name_is : e.name ≡ name
+  pub others_are : others name es ≡ before ++ after
+  pub replaced : (f : Experiment) → replace name f es ≡ before ++ f ∷ after
+
+pub found_from : (name : List ℕ) (es : List Experiment) (e : Experiment) → find name es ≡ Some e → Found name es e
+found_from name [] e h = none_some e h
+found_from name (x ∷ es) e h = elim (cases_Bool (bytes_eq x.name name)) [
+  | inl yes' ↦
+      let same : x ≡ e = some_is x e (sym (cond-true (bytes_eq x.name name) (Some x) (find name es) yes') ∙ h) in
+      record {
+        before = [];
+        after = es;
+        whole = ap (λ y. y ∷ es) same;
+        name_is = sym (ap (λ y. y.name) same) ∙ (bytes_eq-Decides x.name name).0 yes';
+        others_are = cond-true (bytes_eq x.name name) es (x ∷ others name es) yes';
+        replaced = λ f. cond-true (bytes_eq x.name name) (f ∷ es) (x ∷ replace name f es) yes';
+      }
+  | inr no' ↦
+      let r = found_from name es e (sym (cond-false (bytes_eq x.name name) (Some x) (find name es) no') ∙ h) in
+      record {
+        before = x ∷ r.before;
+        after = r.after;
+        whole = ap (λ l. x ∷ l) r.whole;
+        name_is = r.name_is;
+        others_are = cond-false (bytes_eq x.name name) es (x ∷ others name es) no' ∙ ap (λ l. x ∷ l) r.others_are;
+        replaced = λ f. cond-false (bytes_eq x.name name) (f ∷ es) (x ∷ replace name f es) no' ∙ ap (λ l. x ∷ l) (r.replaced f);
+      }
+]
+
+-- none has the name
+pub not_found : (name : List ℕ) (es : List Experiment) → find name es ≡ None → (e : Experiment) → Has es e → e.name ≢ name
+not_found name [] h e in_es same = in_es
+not_found name (x ∷ es) h e in_es same = elim (cases_Bool (bytes_eq x.name name)) [
+  | inl yes' ↦ none_some x (sym h ∙ cond-true (bytes_eq x.name name) (Some x) (find name es) yes')
+  | inr no' ↦ elim in_es [
+    | inl here ↦
+        let differ : false ≡ true = sym no' ∙ (bytes_eq-Decides x.name name).1 (ap (λ y. y.name) here ∙ same) in
+        absurd (cc differ)
+    | inr there ↦ not_found name es (sym (cond-false (bytes_eq x.name name) (Some x) (find name es) no') ∙ h) e there same
+  ]
+]
+
+-- the names of a list in which one element has another with its name in its place
+pub names_mid : (a b : List Experiment) (e f : Experiment) → f.name ≡ e.name → map (λ x. x.name) (a ++ f ∷ b) ≡ map (λ x. x.name) (a ++ e ∷ b)
+names_mid [] b e f same = ap (λ n. n ∷ map (λ x. x.name) b) same
+names_mid (x ∷ a) b e f same = ap (λ l. x.name ∷ l) (names_mid a b e f same)

@@ -1,0 +1,4 @@
+pub mod Appends
+pub mod Labs
+pub mod Openings
+pub mod Works
