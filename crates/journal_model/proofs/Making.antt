@@ -4,7 +4,7 @@ use Rattle.std.proofs.Common.{◌≡◌, ◌≢◌, inl, inr, ℕ, ◌+◌, ◌<
 use Rattle.std.proofs.lemmas.List.{length-drop}
 use Rattle.std.proofs.lemmas.Bool.{lt-ltb, ne_eqb, or_right}
 use Rattle.plant.specs.Disks.{Disk, wrote, synced, IsImage, at_once}
-use Rattle.journal_model.specs.Payloads.{le}
+use Rattle.journal_rec.specs.Payloads.{le}
 use Rattle.journal_model.specs.Journals.{magic, Blank, Foreign, Headed, head}
 use Rattle.journal_model.specs.Appends.{Rests}
 use Rattle.journal_model.specs.Making.{IsShort, IsClosed, made_header, HasHeader}

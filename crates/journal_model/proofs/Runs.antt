@@ -7,7 +7,7 @@ use Rattle.plant.specs.Events.{Event}
 use Rattle.plant.specs.declared.step.Side.{Side}
 use Rattle.plant.specs.declared.step.Side.TheVariants.{A, B}
 use Rattle.journal_rec.specs.declared.record.Record.{Record}
-use Rattle.journal_model.specs.Payloads.{IsRecord, body}
+use Rattle.journal_rec.specs.Payloads.{IsRecord, body}
 use Rattle.journal_model.specs.Journals.{of_side, head, gate_after}
 use Rattle.journal_model.specs.Appends.{front, other_side, IsOlder, Known, Rests, Writes, IsReady, Opens, Run, Nothing, Body, Settled, Gate, All, added, IsOn, AfterRun}
 use Rattle.journal_model.proofs.Images.{synced_image}

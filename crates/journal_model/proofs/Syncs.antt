@@ -10,7 +10,7 @@ use Rattle.plant.specs.Events.{Event, Missed, Did, Restarted, Cut as CutTo, Wrot
 use Rattle.plant.specs.declared.step.Side.{Side}
 use Rattle.plant.specs.declared.step.Side.TheVariants.{A, B}
 use Rattle.journal_rec.specs.declared.record.Record.{Record}
-use Rattle.journal_model.specs.Payloads.{number, IsRecord}
+use Rattle.journal_rec.specs.Payloads.{number, IsRecord}
 use Rattle.journal_model.specs.Journals.{magic, header, Head, Blank, Foreign, Headed, head, Live, On, Wrong, live, of_side, block, Reads}
 use Rattle.journal_model.specs.Appends.{blocks, other_side, IsOlder, IsReadable, IsWithin, AreWithin, IsLawful, Opened}
 use Rattle.journal_model.proofs.Traces.{disk_push}

@@ -7,7 +7,7 @@ use Rattle.plant.specs.Events.{Event, Wrote, Synced}
 use Rattle.plant.specs.declared.step.Side.{Side}
 use Rattle.plant.specs.declared.step.Side.TheVariants.{A, B}
 use Rattle.journal_rec.specs.declared.record.Record.{Record}
-use Rattle.journal_model.specs.Payloads.{number, body, IsRecord}
+use Rattle.journal_rec.specs.Payloads.{number, body, IsRecord}
 use Rattle.journal_model.specs.Journals.{header, Head, Blank, Headed, head, On, live, block, gate_after, Records, journal_length}
 
 -- the records' blocks, one after another, and a side up to the gate after them

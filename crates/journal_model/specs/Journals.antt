@@ -5,7 +5,7 @@ use Rattle.lab_base.specs.Lists.{Has}
 use Rattle.plant.specs.declared.step.Side.{Side}
 use Rattle.plant.specs.declared.step.Side.TheVariants.{A, B}
 use Rattle.journal_rec.specs.declared.record.Record.{Record}
-use Rattle.journal_model.specs.Payloads.{le, number, payload, IsRecord, Decodes}
+use Rattle.journal_rec.specs.Payloads.{le, number, payload, IsRecord, Decodes}
 
 -- `LABJRNL1`
 abbrev pub magic : List ℕ

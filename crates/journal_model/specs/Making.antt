@@ -1,7 +1,7 @@
 -- The states of side A while a new journal is made.
 use Rattle.std.specs.Prelude.{◌≡◌, ◌≢◌, ◌<◌, ℕ, List, [], ◌∷◌, ◌++◌, length}
 use Rattle.plant.specs.Disks.{Disk, at_once}
-use Rattle.journal_model.specs.Payloads.{le}
+use Rattle.journal_rec.specs.Payloads.{le}
 use Rattle.journal_model.specs.Journals.{magic}
 
 -- it has fewer bytes than a header

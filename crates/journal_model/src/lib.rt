@@ -6,23 +6,17 @@ ghost use Rattle.plant.specs.Events.{Event, Synced, Missed, Wrote};
 ghost use Rattle.plant.specs.Disks.{ArePossible, disk};
 ghost use Rattle.plant.specs.declared.step.Side.{Side};
 ghost use Rattle.journal_rec.specs.declared.record.Record.{Record};
-ghost use Rattle.journal_model.specs.Payloads.{payload, IsRecord, Decodes};
+ghost use Rattle.journal_rec.specs.Payloads.{IsRecord};
 ghost use Rattle.journal_model.specs.Journals.{Records, Bad, AreBytes, gate_after};
 ghost use Rattle.journal_model.specs.Appends.{Known, Rests, Run, added, AfterRun, IsLawful, IsReadable};
 
-/// A record has one spelling, and bytes are a payload of at most one record.
-pub fn one_spelling()
-    ensures payloads { (r s : Record) → IsRecord r → IsRecord s → payload r ≡ payload s → r ≡ s }
-    ensures decoded { (bytes : List ℕ) (r s : Record) → Decodes bytes r → Decodes bytes s → r ≡ s }
-{}
-
-/// Two sides have one list of records, or are bad at one position, and not both.
+/// Two sides of bytes have one list of records, or are bad at one position, and not both.
 pub fn one_reading()
     ensures records { (a b : List ℕ) (rs ss : List Record) → Records a b rs → Records a b ss → rs ≡ ss }
     ensures not_both { (a b : List ℕ) (rs : List Record) (side : Side) (at : ℕ) → Records a b rs → Bad a b side at → ⊥ }
     ensures bad { (a b : List ℕ) (side tide : Side) (at au : ℕ) → Bad a b side at → Bad a b tide au → (side ≡ tide) × (at ≡ au) }
-    ensures one_of_both { ((bytes : List ℕ) → ((r : Record) × Decodes bytes r) ⊎ ((r : Record) → Decodes bytes r → ⊥))
-        → (a b : List ℕ) → AreBytes a → AreBytes b → ((rs : List Record) × Records a b rs) ⊎ ((side : Side) × (at : ℕ) × Bad a b side at) }
+    ensures one_of_both { (a b : List ℕ) → AreBytes a → AreBytes b
+        → ((rs : List Record) × Records a b rs) ⊎ ((side : Side) × (at : ℕ) × Bad a b side at) }
 {}
 
 /// What each image has after each part of an append, also one that failed or stopped with any bytes in its range: the old records, or

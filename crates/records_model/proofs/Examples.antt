@@ -16,7 +16,7 @@ use Rattle.virt_topo.specs.declared.experiment.Phase.TheVariants.{Out, Moving}
 use Rattle.plant.specs.declared.step.Side.TheVariants.{A}
 use Rattle.journal_rec.specs.declared.record.Record.TheVariants.{Delete}
 use Rattle.lab_model.specs.Beside.{violation_beside}
-use Rattle.journal_model.specs.Payloads.{payload}
+use Rattle.journal_rec.specs.Payloads.{payload}
 use Rattle.journal_model.specs.Journals.{head, live, New, Wrong, Records, Bad, journal_length, cut_off}
 use Rattle.records_model.specs.Labs.{at_first, LabState, SetLab, Creates, Deletes, BeginsIn, BeginsOut, Commits, Aborts, moved, inside}
 

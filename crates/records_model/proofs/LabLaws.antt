@@ -18,7 +18,7 @@ use Rattle.journal_rec.specs.declared.record.Record.TheVariants.{Lab as LabRecor
 use Rattle.lab_model.specs.Holding.{IsLab, Holding}
 use Rattle.lab_model.specs.Parts.{Parts}
 use Rattle.lab_model.specs.Shapes.{IsShaped}
-use Rattle.journal_model.specs.Payloads.{IsRecord}
+use Rattle.journal_rec.specs.Payloads.{IsRecord}
 use Rattle.records_model.specs.Labs.{LabState, at_first, StopsAt, Move, SetLab, Creates, Deletes, BeginsIn, BeginsOut, BeginsChange, Commits, Aborts, find, replace, others, becomes, is_out, with_replaced, moved_one, deleted, in_state, moved_of, moved, Texts, AreCanonical, Says, Follows, FoldsTo, LabOf, no_lab, Sane, IsReady, KeepsParts}
 use Rattle.lab_model.proofs.Records.{Has_mid, Has_other}
 use Rattle.lab_model.proofs.ListLaws.{holding_drop, holding_add, parts_drop, parts_add}

@@ -6,7 +6,7 @@ use Rattle.plant.specs.Events.{Event, Wrote, Synced}
 use Rattle.plant.specs.Worlds.{world_of}
 use Rattle.plant.specs.declared.step.Side.TheVariants.{A, B}
 use Rattle.lab_model.specs.Sound.{Standing, Keeps, SoundAt}
-use Rattle.journal_model.specs.Payloads.{le}
+use Rattle.journal_rec.specs.Payloads.{le}
 use Rattle.journal_model.specs.Journals.{Blank, head, New, live, RecordsOf, size_of}
 use Rattle.journal_model.specs.Appends.{IsOlder, Rests, IsOn, Opened}
 use Rattle.journal_model.specs.Making.{IsShort, IsClosed, made_header, HasHeader}

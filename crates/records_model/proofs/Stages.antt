@@ -8,7 +8,7 @@ use Rattle.plant.specs.Events.{Event, Wrote, Synced}
 use Rattle.plant.specs.declared.step.Side.{Side}
 use Rattle.journal_rec.specs.declared.record.Record.{Record}
 use Rattle.lab_model.specs.Sound.{Standing, Keeps, SoundAt, Sound}
-use Rattle.journal_model.specs.Payloads.{IsRecord, body}
+use Rattle.journal_rec.specs.Payloads.{IsRecord, body}
 use Rattle.journal_model.specs.Journals.{gate_after}
 use Rattle.journal_model.specs.Appends.{Known, Rests, Run, Nothing, Body, Settled, Gate, All, added, IsOn, AfterRun}
 use Rattle.records_model.specs.Labs.{LabState, Texts, LabOf, Follows}

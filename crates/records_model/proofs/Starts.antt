@@ -18,7 +18,7 @@ use Rattle.plant.specs.declared.step.Side.{Side}
 use Rattle.plant.specs.declared.step.Side.TheVariants.{A, B}
 use Rattle.journal_rec.specs.declared.record.Record.{Record}
 use Rattle.lab_model.specs.Sound.{is_moving, Standing, Keeps, SoundAt}
-use Rattle.journal_model.specs.Payloads.{le}
+use Rattle.journal_rec.specs.Payloads.{le}
 use Rattle.journal_model.specs.Journals.{magic, Head, Blank, Foreign, Headed, head, Live, New, On, Wrong, live, gate_after, size, RecordsOf, size_of, journal_length}
 use Rattle.journal_model.specs.Appends.{All, added, IsReadable, Opened, Rests}
 use Rattle.journal_model.specs.Making.{IsShort, IsClosed, made_header, HasHeader}
@@ -76,7 +76,7 @@ opening t trace read_a read_b sound =
     blanks Blank Blank e = (refl, refl)
     blanks (Headed m) Blank e = absurd (cc e)
     blanks Blank (Headed n) e = absurd (cc e)
-    blanks (Headed m) (Headed n) e = absurd (pick (Rattle.journal_model.specs.Payloads.number m == Rattle.journal_model.specs.Payloads.number n) (nat_lt (Rattle.journal_model.specs.Payloads.number n) (Rattle.journal_model.specs.Payloads.number m)) e)
+    blanks (Headed m) (Headed n) e = absurd (pick (Rattle.journal_rec.specs.Payloads.number m == Rattle.journal_rec.specs.Payloads.number n) (nat_lt (Rattle.journal_rec.specs.Payloads.number n) (Rattle.journal_rec.specs.Payloads.number m)) e)
       where
         pick : (t u : Bool) → ◌≡◌ {A = Live} (if t then Wrong A else if u then On A else On B) New → ⊥
         pick true u e = cc e

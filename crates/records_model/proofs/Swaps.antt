@@ -24,7 +24,7 @@ use Rattle.lab_model.specs.Parts.{Part}
 use Rattle.lab_model.specs.Courses.{IsCommandOf, Plan, Left, Going, Goes, next, whole, commands, undo, IsDone, nothing_left}
 use Rattle.lab_model.specs.Leavings.{Sent, did, ran, Ends, Gone}
 use Rattle.lab_model.specs.Sound.{is_moving}
-use Rattle.journal_model.specs.Payloads.{IsRecord}
+use Rattle.journal_rec.specs.Payloads.{IsRecord}
 use Rattle.journal_model.specs.Journals.{size}
 use Rattle.records_model.specs.Labs.{LabState, Move, Commits, Aborts, Texts, Says, lab_in, IsReady, EndsMove, find, replace, inside, in_phase, becomes, moved_one, moved_in, in_state, moved_of, moved, with_replaced}
 use Rattle.records_model.specs.Works.{AtWork, MayAppend, events, Open, Closes}

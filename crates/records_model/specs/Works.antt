@@ -15,7 +15,7 @@ use Rattle.lab_model.specs.Leavings.{Sent, did, ran}
 use Rattle.lab_model.specs.Parts.{Part}
 use Rattle.lab_model.specs.Courses.{IsCommandOf, Plan, Left, Goes, Going, whole, next, nothing_left}
 use Rattle.lab_model.specs.OnCourse.{OnCourse}
-use Rattle.journal_model.specs.Payloads.{IsRecord}
+use Rattle.journal_rec.specs.Payloads.{IsRecord}
 use Rattle.journal_model.specs.Journals.{gate_after}
 use Rattle.journal_model.specs.Appends.{Opened, Run, All, added}
 use Rattle.records_model.specs.Labs.{LabState, Texts, LabOf, Follows, IsReady, find, replace, lab_in, EndsMove}

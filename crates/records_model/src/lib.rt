@@ -26,7 +26,7 @@ ghost use Rattle.lab_model.specs.Sound.{SoundAt, Standing};
 ghost use Rattle.journal_model.specs.Appends.{Known, Rests, Run, All, added, AfterRun, IsLawful, IsReadable};
 ghost use Rattle.journal_model.specs.Making.{IsShort, IsClosed, made_header};
 ghost use Rattle.journal_model.specs.Journals.{gate_after, size, Records, Bad, AreBytes};
-ghost use Rattle.journal_model.specs.Payloads.{payload, IsRecord, Decodes};
+ghost use Rattle.journal_rec.specs.Payloads.{payload, IsRecord, Decodes};
 ghost use Rattle.records_model.specs.Labs.{LabState, Texts, AreCanonical, StopsAt, mapped, Follows, FoldsTo, LabOf, Sane, IsReady, KeepsParts, BeginsIn, lab_in, in_phase, inside, find};
 ghost use Rattle.records_model.specs.Appends.{StandFor};
 ghost use Rattle.records_model.specs.Openings.{Blanks, Finds, BegunIn};

@@ -12,4 +12,4 @@ pub returns-clause-bad : goal.returns-clause-bad
 returns-clause-bad c = λ a b side tide at au p q. bad_once a b side tide at au p q
 
 pub returns-clause-one_of_both : goal.returns-clause-one_of_both
-returns-clause-one_of_both c = λ decide a b all_a all_b. records_total decide a b all_a all_b
+returns-clause-one_of_both c = λ a b all_a all_b. records_total a b all_a all_b
