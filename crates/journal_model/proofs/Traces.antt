@@ -1,6 +1,5 @@
 -- A side of the disk along a trace.
-use Rattle.std.proofs.Common.{◌≡◌, ◌≢◌, ◌⊎◌, ℕ, Bool, Result, List, [], ◌∷◌, ◌++◌, ◌∙◌, ◌+◌, fold}
-use Rattle.std.proofs.lemmas.Bool.{true≢false}
+use Rattle.std.proofs.Common.{◌≡◌, ℕ, Bool, Result, List, [], ◌∷◌, ◌++◌, fold}
 use Rattle.std.proofs.lemmas.List.Sums.{fold-append}
 use Rattle.plant.specs.Disks.{disk, disk_after, at_once, ArePossible}
 use Rattle.plant.specs.Events.{Event, Did}

@@ -1,5 +1,5 @@
 -- Worlds that are alike for an experiment.
-use Rattle.std.proofs.Common.{◌≡◌, Bool, true, false, Some, Result, [], ◌∷◌, refl, sym, ap, ◌∙◌, subst}
+use Rattle.std.proofs.Common.{◌≡◌, Bool, true, false, Some, Result, [], ◌∷◌, sym, ap, ◌∙◌, subst}
 use Rattle.phys_lab.specs.Labs.{Lab}
 use Rattle.virt_topo.specs.declared.experiment.Experiment.{Experiment}
 use Rattle.virt_topo.specs.declared.mapping.Mapped.{Mapped}
@@ -11,7 +11,6 @@ use Rattle.lab_model.specs.Leavings.{did, SameFor, Sent, ran, Ends}
 use Rattle.lab_model.specs.Claims.{Which, claimed}
 use Rattle.lab_model.specs.Wants.{node_row_of}
 use Rattle.lab_model.specs.Cabled.{SameNode}
-use Rattle.lab_model.specs.Courses.{Left, Course, Going, next, answered, nothing_left}
 
 -- worlds that are alike for an experiment stay alike under one command
 pub same_did : (lab : Lab) (e : Experiment) (v w : World) (op : DeviceOp) (applied : Bool) (answer : Result Answer Fault) → SameFor lab e v w → SameFor lab e (did v op applied answer) (did w op applied answer)

@@ -6,6 +6,7 @@ use Rattle.std.proofs.lemmas.List.{take-append-le, drop-append-le, drop_all, tak
 use Rattle.lab_base.specs.Lists.{Has}
 use Rattle.lab_base.proofs.Members.{Has-left, Has-right}
 use Rattle.phys_lab.specs.Labs.{Lab}
+use Rattle.phys_lab.specs.Kept.{IsLab}
 use Rattle.virt_topo.specs.declared.experiment.Experiment.{Experiment}
 use Rattle.virt_topo.specs.declared.mapping.Mapped.{Mapped}
 use Rattle.plant.specs.Worlds.{Row, World, is_row, world_of, world_after}
@@ -15,7 +16,7 @@ use Rattle.plant.specs.declared.device.Fault.{Fault}
 use Rattle.plant.specs.declared.device.DeviceOp.{DeviceOp}
 use Rattle.plant.specs.declared.device.DeviceOp.TheVariants.{Join, Leave, Shape, Load, Boot as BootIt, Poll, Wipe}
 use Rattle.lab_model.specs.Claims.{Which, Old, New, claimed, Wants, Claims, IsOf, is_placed}
-use Rattle.lab_model.specs.Holding.{IsLab, Holding}
+use Rattle.lab_model.specs.Holding.{Holding}
 use Rattle.lab_model.specs.Parts.{Part}
 use Rattle.lab_model.specs.Courses.{IsCommandOf, rows_from}
 use Rattle.lab_model.specs.Leavings.{Sent, did, ran, SameFor, Ends, Gone}

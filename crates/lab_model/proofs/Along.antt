@@ -8,6 +8,7 @@ use Rattle.lab_base.specs.Lists.{Has, AllDiffer}
 use Rattle.lab_base.specs.declared.boot.Boot.{Boot}
 use Rattle.lab_base.specs.declared.boot.Boot.TheVariants.{Off, Shutdown, Booting, TbSetup, IsUp}
 use Rattle.phys_lab.specs.Labs.{Lab}
+use Rattle.phys_lab.specs.Kept.{IsLab}
 use Rattle.virt_topo.specs.declared.experiment.Experiment.{Experiment}
 use Rattle.virt_topo.specs.declared.mapping.Mapped.{Mapped}
 use Rattle.virt_topo.specs.declared.experiment.Phase.TheVariants.{Moving}
@@ -20,7 +21,7 @@ use Rattle.plant.specs.declared.device.DeviceOp.{DeviceOp}
 use Rattle.plant.specs.declared.device.DeviceOp.TheVariants.{Boot as BootIt, Poll}
 use Rattle.lab_model.specs.Leavings.{did, OneSided, Sent, ran}
 use Rattle.lab_model.specs.Claims.{Which, claimed, claimed_tags}
-use Rattle.lab_model.specs.Holding.{IsLab, Suits}
+use Rattle.lab_model.specs.Holding.{Suits}
 use Rattle.lab_model.specs.Parts.{Part}
 use Rattle.lab_model.specs.Courses.{op_join, op_pipe, op_node, Watch, Left, Going, Cut, Halted, judged, answered, Goes, nothing_left, lawful, Trouble, Unlawful, Late}
 use Rattle.lab_model.proofs.Steps.{did_node}

@@ -6,6 +6,7 @@ use Rattle.lab_base.specs.Lists.{Has, AllDiffer}
 use Rattle.lab_base.proofs.Members.{Has-right, flat-each}
 use Rattle.lab_base.specs.declared.ids.VlanId.{VlanId}
 use Rattle.phys_lab.specs.Labs.{Lab}
+use Rattle.phys_lab.specs.Kept.{IsLab}
 use Rattle.virt_topo.specs.declared.experiment.Experiment.{Experiment}
 use Rattle.virt_topo.specs.declared.mapping.Mapped.{Mapped}
 use Rattle.virt_topo.specs.declared.mapping.Mapping.{Mapping}
@@ -14,7 +15,7 @@ use Rattle.plant.specs.Worlds.{Row, NodeRow, World, wiped}
 use Rattle.lab_model.specs.Wants.{rows_of, node_row_of}
 use Rattle.lab_model.specs.Claims.{Which, Old, New, claimed, claimed_in, Places, Claims, claimed_tags, IsOf}
 use Rattle.lab_model.specs.Kept.{is_kept, same_os}
-use Rattle.lab_model.specs.Holding.{IsLab, Holding}
+use Rattle.lab_model.specs.Holding.{Holding}
 use Rattle.lab_model.specs.Isolated.{IsRow}
 use Rattle.lab_model.specs.Cabled.{SameNode, CabledPhase}
 use Rattle.lab_model.specs.Parts.{Parts}

@@ -1,6 +1,6 @@
 -- The use of a trunk is what is used of the cut that its first side makes.
 use Rattle.std.specs.List.{sum_by, count_by}
-use Rattle.std.proofs.Common.{◌≡◌, inl, inr, ℕ, min, ◌+◌, ◌-◌, ◌*◌, ◌<◌, Bool, false, cond, List, [], ◌∷◌, ◌++◌, map, length, take, drop, fold, refl, sym, ap, ◌∙◌, subst, All}
+use Rattle.std.proofs.Common.{◌≡◌, inl, inr, ℕ, min, ◌+◌, ◌-◌, ◌*◌, ◌<◌, Bool, false, cond, List, [], ◌∷◌, length, drop, fold, refl, ap, ◌∙◌, subst, All}
 use Rattle.std.proofs.lemmas.List.{get_or-map}
 use Rattle.std.proofs.lemmas.List.Elements.{All-take, All-drop}
 use Rattle.lab_base.specs.Lists.{Has}
@@ -12,7 +12,7 @@ use Rattle.virt_topo.specs.declared.wiring.Segment.{Segment}
 use Rattle.virt_topo.specs.declared.wiring.Wiring.{Wiring}
 use Rattle.virt_topo.specs.declared.mapping.Mapping.{Mapping}
 use Rattle.virt_topo.specs.Cables.{Cable, cables, plugs_on, cable_use, cut_use}
-use Rattle.lab_model.specs.Uses.{no_iface, iface_at, switch_of, on_first, trunk_use, cables_of, use_of}
+use Rattle.lab_model.specs.Uses.{no_iface, on_first, cables_of, use_of}
 use Rattle.lab_model.proofs.WiringLaws.{All-has}
 
 fold_same : {A X : Type 0} (f g : A → X → A) (xs : List X) (a : A) → ((b : A) (x : X) → Has xs x → f b x ≡ g b x) → fold f a xs ≡ fold g a xs

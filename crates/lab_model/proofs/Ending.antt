@@ -2,13 +2,14 @@
 use Rattle.std.proofs.Common.{◌≡◌, Some, List, ◌∷◌, ◌++◌, subst}
 use Rattle.lab_base.specs.declared.ids.VlanId.{VlanId}
 use Rattle.phys_lab.specs.Labs.{Lab}
+use Rattle.phys_lab.specs.Kept.{IsLab}
 use Rattle.virt_topo.specs.declared.experiment.Experiment.{Experiment}
 use Rattle.virt_topo.specs.declared.mapping.Mapped.{Mapped}
 use Rattle.virt_topo.specs.declared.mapping.Mapping.{Mapping}
 use Rattle.virt_topo.specs.declared.experiment.Phase.TheVariants.{Out, In}
 use Rattle.plant.specs.Worlds.{World}
 use Rattle.lab_model.specs.Claims.{Which, claimed}
-use Rattle.lab_model.specs.Holding.{IsLab, Holding}
+use Rattle.lab_model.specs.Holding.{Holding}
 use Rattle.lab_model.specs.Parts.{Parts}
 use Rattle.lab_model.specs.Leavings.{Ends, Gone}
 use Rattle.lab_model.proofs.Begins.{end_in, end_out}

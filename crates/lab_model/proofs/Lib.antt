@@ -2,6 +2,7 @@ pub mod Alike
 pub mod Alone
 pub mod Along
 pub mod Begins
+pub mod BesideLaws
 pub mod Built
 pub mod Clearing
 pub mod Commands
@@ -14,6 +15,7 @@ pub mod Finished
 pub mod FirstViolation
 pub mod HoldingLaws
 pub mod Kept
+pub mod LabFacts
 pub mod ListLaws
 pub mod Moves
 pub mod OneSided

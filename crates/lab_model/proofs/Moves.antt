@@ -3,6 +3,7 @@ use Rattle.std.proofs.Common.{◌≡◌, ◌⊎◌, inl, inr, ℕ, Bool, true, f
 use Rattle.std.proofs.lemmas.Bool.{cases_Bool, true≢false, false≢true}
 use Rattle.lab_base.specs.Lists.{Has, AllDiffer}
 use Rattle.phys_lab.specs.Labs.{Lab}
+use Rattle.phys_lab.specs.Kept.{IsLab}
 use Rattle.virt_topo.specs.declared.experiment.Experiment.{Experiment}
 use Rattle.virt_topo.specs.declared.mapping.Mapped.{Mapped}
 use Rattle.virt_topo.specs.declared.experiment.Phase.TheVariants.{Moving}
@@ -16,7 +17,7 @@ use Rattle.lab_model.specs.Leavings.{did, OneSided}
 use Rattle.lab_model.specs.Wants.{rows_of, pipes_on, node_row_of}
 use Rattle.lab_model.specs.Claims.{Which, Old, New, claimed, claimed_in, Wants, Places, Claims, claimed_tags}
 use Rattle.lab_model.specs.Kept.{is_kept}
-use Rattle.lab_model.specs.Holding.{IsLab, Suits}
+use Rattle.lab_model.specs.Holding.{Suits}
 use Rattle.lab_model.specs.Isolated.{IsRow}
 use Rattle.lab_model.specs.Cabled.{SameNode, WantsPipe, CabledPhase}
 use Rattle.lab_model.specs.Parts.{Part}

@@ -8,6 +8,7 @@ use Rattle.std.proofs.lemmas.Slice.Eq.{bytes_eq-Decides}
 use Rattle.lab_base.specs.Lists.{Has, AllDiffer}
 use Rattle.lab_base.proofs.Members.{Apart-left, Apart-right, Apart-across}
 use Rattle.phys_lab.specs.Labs.{Lab}
+use Rattle.phys_lab.specs.Kept.{IsLab}
 use Rattle.virt_topo.specs.Ends.{end_nodes, end_owners, end_number, pipe_from, pipe_to}
 use Rattle.virt_topo.specs.declared.wiring.Pipe.{Pipe}
 use Rattle.virt_topo.specs.declared.mapping.Mapped.{Mapped}
@@ -17,9 +18,10 @@ use Rattle.lab_model.specs.Leavings.{OneSided}
 use Rattle.lab_model.specs.Wants.{Owned, place_of, plug_name, pipe_row, pipes_on, rows_of, cables_in}
 use Rattle.lab_model.specs.Claims.{Which, Old, New, claimed, Wants, Claims, claimed_tags, tags_of, IsOf}
 use Rattle.lab_model.specs.Reach.{IsAt, Next, by_switch, by_trunk, by_pipe, LeadsOn, Reaches}
-use Rattle.lab_model.specs.Holding.{IsLab, Suits}
+use Rattle.lab_model.specs.Holding.{Suits}
 use Rattle.lab_model.specs.Rules.{plug_at}
 use Rattle.lab_model.specs.Isolated.{IsRow, IsPipe}
+use Rattle.lab_model.proofs.LabFacts.{one_port, no_trunk_port, one_name}
 use Rattle.lab_model.proofs.SuitLaws.{plug_in, plug_node, plug_once}
 use Rattle.lab_model.proofs.WiringLaws.{sound_pipes}
 use Rattle.lab_model.proofs.Rows.{owned_from, owned_tag, owned_once}
@@ -77,12 +79,12 @@ module _ (lab : Lab) (m : Mapped) (is_lab : IsLab lab) (suits : Suits lab m) whe
     | inl r ↦
         let in_plugs : e < length m.mapping.plugs = omega (arith, end, suits.shaped.plugs) in
         let r_in : r.number < length m.mapping.plugs = omega (arith, r.is_end, suits.shaped.plugs) in
-        let here : at.number.0 ≡ (plug_at m.mapping e).0 = is_lab.names at.number (plug_at m.mapping e) at.in_lab (plug_in lab m suits e in_plugs) (at.node_is ∙ sym placed ∙ sym (plug_node lab m suits e in_plugs)) at.name_is in
-        let there : at.number.0 ≡ (plug_at m.mapping r.number).0 = is_lab.ports at.number (plug_at m.mapping r.number) at.in_lab (plug_in lab m suits r.number r_in) (sym at.switch_is ∙ r.switch_is) (sym at.port_is ∙ r.port_is) in
+        let here : at.number.0 ≡ (plug_at m.mapping e).0 = one_name lab is_lab at.number (plug_at m.mapping e) at.in_lab (plug_in lab m suits e in_plugs) (at.node_is ∙ sym placed ∙ sym (plug_node lab m suits e in_plugs)) at.name_is in
+        let there : at.number.0 ≡ (plug_at m.mapping r.number).0 = one_port lab is_lab at.number (plug_at m.mapping r.number) at.in_lab (plug_in lab m suits r.number r_in) (sym at.switch_is ∙ r.switch_is) (sym at.port_is ∙ r.port_is) in
         let one : e ≡ r.number = plug_once lab m suits e r.number in_plugs r_in (sym here ∙ there) in
         ap (λ n. get_or (end_owners m.wiring.segments) n []) one ∙ r.owner_is
     | inr t ↦
-        let apart = is_lab.trunk_ports at.number t.trunk at.in_lab t.in_lab in
+        let apart = no_trunk_port lab is_lab at.number t.trunk at.in_lab t.in_lab in
         absurd (elim t.ends [
           | inl a ↦ apart.0 (sym at.switch_is ∙ a.0) (sym at.port_is ∙ a.1)
           | inr b ↦ apart.1 (sym at.switch_is ∙ b.0) (sym at.port_is ∙ b.1)

@@ -1,15 +1,15 @@
 -- An experiment's own commands in a trace: after a command of another, and after its own.
 use Rattle.std.specs.List.{list_any}
-use Rattle.std.proofs.Common.{◌≡◌, ◌≢◌, inl, inr, ℕ, Bool, true, false, cond, Option, Some, None, Result, List, [], ◌∷◌, ◌++◌, length, drop, refl, sym, ap, ◌∙◌, subst, arith, length-append, ◌≤◌, fold, take}
+use Rattle.std.proofs.Common.{◌≡◌, ◌≢◌, inl, inr, ℕ, Bool, true, false, cond, Option, Some, None, Result, List, [], ◌∷◌, ◌++◌, length, drop, refl, sym, ap, ◌∙◌, subst, ◌≤◌, fold, take}
 use Rattle.std.proofs.lemmas.Bool.{or_cases, false≢true, false_from_ne_true}
-use Rattle.std.proofs.lemmas.List.{take-append-le, take_all, drop_all, drop-append-le}
+use Rattle.std.proofs.lemmas.List.{take-append-le, drop-append-le}
 use Rattle.std.proofs.lemmas.List.Sums.{fold-append}
 use Rattle.lab_base.specs.Lists.{Has}
 use Rattle.lab_base.proofs.Members.{Has-append}
 use Rattle.phys_lab.specs.Labs.{Lab}
+use Rattle.phys_lab.specs.Kept.{IsLab}
 use Rattle.virt_topo.specs.declared.experiment.Experiment.{Experiment}
 use Rattle.virt_topo.specs.declared.mapping.Mapped.{Mapped}
-use Rattle.virt_topo.specs.declared.experiment.Phase.TheVariants.{Moving}
 use Rattle.plant.specs.Worlds.{Row, is_row, World, world_after, world_of}
 use Rattle.plant.specs.Events.{Event, Did, Wrote, Synced, Cut as CutTo, Missed, Restarted}
 use Rattle.plant.specs.declared.device.Answer.{Answer}
@@ -17,16 +17,14 @@ use Rattle.plant.specs.declared.device.Fault.{Fault}
 use Rattle.plant.specs.declared.device.DeviceOp.{DeviceOp}
 use Rattle.lab_model.specs.Wants.{Owned}
 use Rattle.lab_model.specs.Claims.{Which, Old, New, claimed, Claims, IsOf, is_placed}
-use Rattle.lab_model.specs.Holding.{IsLab, Suits, Holding}
-use Rattle.lab_model.specs.Parts.{Part}
-use Rattle.lab_model.specs.Courses.{op_row, op_node, rows_from, Plan, Left, Course, Going, Cut, Halted, next, answered, whole, Goes, commands, IsCommandOf}
+use Rattle.lab_model.specs.Holding.{Holding}
+use Rattle.lab_model.specs.Courses.{op_row, op_node, rows_from, Left, Course, Going, Cut, Halted, next, answered, Goes, IsCommandOf}
 use Rattle.lab_model.specs.Leavings.{Sent, SameFor, did}
 use Rattle.lab_model.specs.OnCourse.{is_row_of, is_node_of, is_of, own_events, IsAlone}
 use Rattle.lab_model.proofs.Alike.{same_did}
 use Rattle.lab_model.proofs.Kept.{Places_from}
 use Rattle.lab_model.proofs.PartLaws.{same_vlan, same_node}
-use Rattle.lab_model.proofs.Steps.{is_row-true, others_same, part_same}
-use Rattle.lab_model.proofs.Whole.{forward_ends}
+use Rattle.lab_model.proofs.Steps.{is_row-true, others_same}
 use Rattle.lab_model.proofs.TraceLaws.{world_push}
 
 row_found : (lab : Lab) (os : List Owned) (row : Row) → list_any (λ o. is_row o.row.switch o.row.port o.row.vlan row) os ≡ true → (o : Owned) × Has os o × (o.row ≡ row)

@@ -3,6 +3,7 @@ use Rattle.std.proofs.Common.{◌≡◌, inl, inr, ℕ, zero, suc, ◌<◌, List
 use Rattle.lab_base.specs.Lists.{Has}
 use Rattle.lab_base.proofs.Members.{Has-left, Has-right, Has-mapped, Apart-same, flat-same}
 use Rattle.phys_lab.specs.Labs.{Lab}
+use Rattle.phys_lab.specs.Kept.{IsLab}
 use Rattle.virt_topo.specs.Ends.{end_nodes}
 use Rattle.virt_topo.specs.declared.mapping.Mapped.{Mapped}
 use Rattle.virt_topo.specs.declared.experiment.Experiment.{Experiment}
@@ -12,10 +13,11 @@ use Rattle.lab_model.specs.Wants.{Owned, node_name, place_of, rows_of, cables_in
 use Rattle.lab_model.specs.Rules.{no_place, plug_at}
 use Rattle.lab_model.specs.Claims.{Which, Old, New, claimed, Wants, Places, Claims, claimed_tags, tags_of, IsOf}
 use Rattle.lab_model.specs.Reach.{IsAt, Next, by_switch, by_trunk, by_pipe, LeadsOn}
-use Rattle.lab_model.specs.Holding.{IsLab, Suits, Holding}
+use Rattle.lab_model.specs.Holding.{Suits, Holding}
 use Rattle.lab_model.specs.Isolated.{Owner, IsRow, IsPipe, Isolated}
 use Rattle.lab_model.specs.Cabled.{Cabled, AllWanted}
 use Rattle.lab_model.specs.Parts.{Parts}
+use Rattle.lab_model.proofs.LabFacts.{one_port, no_trunk_port}
 use Rattle.lab_model.proofs.SuitLaws.{plug_in, plug_node}
 use Rattle.lab_model.proofs.WiringLaws.{sound_ends}
 use Rattle.lab_model.proofs.Rows.{owned_from, owned_tag}
@@ -30,13 +32,13 @@ pub placed_at : (lab : Lab) (m : Mapped) (node iface : List ℕ) (o : Owned) →
 placed_at lab m node iface o is_lab suits at wanted = elim (owned_from lab m.wiring.segments m.mapping.plugs m.tags o wanted) [
   | inl r ↦
       let end : r.number < length m.mapping.plugs = omega (arith, r.is_end, suits.shaped.plugs) in
-      let one : at.number.0 ≡ (plug_at m.mapping r.number).0 = is_lab.ports at.number (plug_at m.mapping r.number) at.in_lab (plug_in lab m suits r.number end) (sym at.switch_is ∙ r.switch_is) (sym at.port_is ∙ r.port_is) in
+      let one : at.number.0 ≡ (plug_at m.mapping r.number).0 = one_port lab is_lab at.number (plug_at m.mapping r.number) at.in_lab (plug_in lab m suits r.number end) (sym at.switch_is ∙ r.switch_is) (sym at.port_is ∙ r.port_is) in
       let v = get_or (end_nodes m.wiring.segments) r.number 0 in
       let there : place_of lab m v ≡ node = sym (plug_node lab m suits r.number end) ∙ ap (λ n. node_name lab (iface_at lab (record { 0 = n })).node) (sym one) ∙ at.node_is in
       let h = Has-get_or m.mapping.places v no_place (omega (arith, suits.shaped.places, sound_ends m.wiring suits.sound r.number r.is_end)) in
       subst (λ n. Places lab m n) there (Has-mapped (λ p. node_name lab p.0) m.mapping.places _ h)
   | inr t ↦
-      let apart = is_lab.trunk_ports at.number t.trunk at.in_lab t.in_lab in
+      let apart = no_trunk_port lab is_lab at.number t.trunk at.in_lab t.in_lab in
       absurd (elim t.ends [
         | inl a ↦ apart.0 (sym at.switch_is ∙ a.0) (sym at.port_is ∙ a.1)
         | inr b ↦ apart.1 (sym at.switch_is ∙ b.0) (sym at.port_is ∙ b.1)

@@ -5,6 +5,7 @@ use Rattle.lab_base.specs.Lists.{Has, AllDiffer}
 use Rattle.lab_base.specs.declared.boot.Boot.{Boot}
 use Rattle.lab_base.specs.declared.boot.Boot.TheVariants.{Off, Shutdown, Booting, TbSetup, IsUp}
 use Rattle.phys_lab.specs.Labs.{Lab}
+use Rattle.phys_lab.specs.Kept.{IsLab}
 use Rattle.virt_topo.specs.declared.experiment.Experiment.{Experiment}
 use Rattle.virt_topo.specs.declared.mapping.Mapped.{Mapped}
 use Rattle.virt_topo.specs.declared.experiment.Phase.TheVariants.{Moving}
@@ -16,7 +17,7 @@ use Rattle.plant.specs.declared.device.Fault.TheVariants.{Failed, Stopped}
 use Rattle.plant.specs.declared.device.DeviceOp.{DeviceOp}
 use Rattle.plant.specs.declared.device.DeviceOp.TheVariants.{Boot as BootIt, Poll}
 use Rattle.lab_model.specs.Claims.{Which, claimed, claimed_tags}
-use Rattle.lab_model.specs.Holding.{IsLab, Suits}
+use Rattle.lab_model.specs.Holding.{Suits}
 use Rattle.lab_model.specs.Parts.{Part}
 use Rattle.lab_model.specs.Courses.{op_join, op_pipe, Watch, Left, Course, Going, Cut, Halted, fault_of, next, judged, answered, Goes, lawful, Trouble}
 use Rattle.lab_model.specs.Leavings.{Sent, ran, did, OneSided}

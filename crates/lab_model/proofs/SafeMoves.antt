@@ -5,6 +5,7 @@ use Rattle.std.proofs.lemmas.Option.{same_Some, none-some}
 use Rattle.std.proofs.lemmas.List.{append_assoc}
 use Rattle.lab_base.specs.Lists.{Has, AllDiffer}
 use Rattle.phys_lab.specs.Labs.{Lab}
+use Rattle.phys_lab.specs.Kept.{IsLab}
 use Rattle.virt_topo.specs.declared.experiment.Experiment.{Experiment}
 use Rattle.virt_topo.specs.declared.mapping.Mapped.{Mapped}
 use Rattle.virt_topo.specs.declared.experiment.Phase.TheVariants.{Moving}
@@ -16,7 +17,7 @@ use Rattle.plant.specs.declared.device.DeviceOp.TheVariants.{Boot as BootIt, Pol
 use Rattle.lab_model.specs.Wants.{rows_of}
 use Rattle.lab_model.specs.Claims.{Which, Old, New, claimed, claimed_tags, is_placed}
 use Rattle.lab_model.specs.Kept.{is_kept}
-use Rattle.lab_model.specs.Holding.{IsLab, Suits}
+use Rattle.lab_model.specs.Holding.{Suits}
 use Rattle.lab_model.specs.Parts.{Part}
 use Rattle.lab_model.specs.Courses.{join, leave, load_nodes, rows_from, node_names, fresh, commands, undo, Left, Going, Goes, whole, next}
 use Rattle.lab_model.specs.Leavings.{Sent, ran, did}

@@ -5,6 +5,7 @@ use Rattle.std.proofs.lemmas.Bool.{cases_Bool, and_parts, eqb-true, or_cases}
 use Rattle.std.proofs.lemmas.Slice.Eq.{bytes_eq-Decides}
 use Rattle.lab_base.specs.Lists.{Has}
 use Rattle.phys_lab.specs.Labs.{Lab}
+use Rattle.phys_lab.specs.Kept.{IsLab}
 use Rattle.virt_topo.specs.declared.experiment.Experiment.{Experiment}
 use Rattle.virt_topo.specs.declared.mapping.Mapped.{Mapped}
 use Rattle.virt_topo.specs.declared.experiment.Phase.{Phase}
@@ -17,7 +18,7 @@ use Rattle.plant.specs.declared.device.DeviceOp.TheVariants.{Join, Leave, Shape,
 use Rattle.lab_model.specs.Leavings.{did, SameFor}
 use Rattle.lab_model.specs.Claims.{New, claimed, Claims, claimed_in, IsOf}
 use Rattle.lab_model.specs.Reach.{Next, by_switch, by_trunk, by_pipe, LeadsOn}
-use Rattle.lab_model.specs.Holding.{IsLab, Holding}
+use Rattle.lab_model.specs.Holding.{Holding}
 use Rattle.lab_model.specs.Isolated.{IsRow, IsPipe}
 use Rattle.lab_model.specs.Cabled.{SameNode, CabledPhase}
 use Rattle.lab_model.specs.Parts.{Part, Parts}

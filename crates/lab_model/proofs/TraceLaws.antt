@@ -1,6 +1,6 @@
 -- A step more, and what it leaves of the images.
 use Rattle.std.specs.Str.{bytes_eq}
-use Rattle.std.proofs.Common.{◌≡◌, ◌≢◌, ◌⊎◌, inl, inr, ℕ, Bool, true, false, map, Result, List, [], ◌∷◌, ◌++◌, sym, ap, ◌∙◌}
+use Rattle.std.proofs.Common.{◌≡◌, ◌≢◌, ◌⊎◌, inl, inr, map, List, [], ◌∷◌, ◌++◌, sym, ap, ◌∙◌}
 use Rattle.std.proofs.lemmas.Bool.{cases_Bool, true≢false}
 use Rattle.std.proofs.lemmas.Slice.Eq.{bytes_eq-Decides}
 use Rattle.std.proofs.lemmas.List.Sums.{fold-append}
@@ -8,13 +8,7 @@ use Rattle.lab_base.specs.Lists.{Has, AllDiffer}
 use Rattle.lab_base.proofs.Members.{Has-mapped}
 use Rattle.virt_topo.specs.declared.experiment.Experiment.{Experiment}
 use Rattle.plant.specs.Worlds.{blank, world_of, world_after}
-use Rattle.plant.specs.Disks.{disk, disk_after, at_once, ArePossible}
-use Rattle.plant.specs.Events.{Event, Did}
-use Rattle.plant.specs.declared.step.Side.{Side}
-use Rattle.plant.specs.declared.step.Side.TheVariants.{A, B}
-use Rattle.plant.specs.declared.device.Answer.{Answer}
-use Rattle.plant.specs.declared.device.Fault.{Fault}
-use Rattle.plant.specs.declared.device.DeviceOp.{DeviceOp}
+use Rattle.plant.specs.Events.{Event}
 
 -- the world, and a side, after one step more
 pub world_push : (trace : List Event) (event : Event) → world_of (trace ++ event ∷ []) ≡ world_after (world_of trace) event

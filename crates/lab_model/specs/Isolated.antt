@@ -5,7 +5,7 @@ use Rattle.phys_lab.specs.Labs.{Lab}
 use Rattle.virt_topo.specs.declared.experiment.Experiment.{Experiment}
 use Rattle.plant.specs.Worlds.{Row, PipeRow, World}
 use Rattle.lab_model.specs.Claims.{Which, Wants}
-use Rattle.lab_model.specs.Reach.{Reaches}
+use Rattle.lab_model.specs.Reach.{Next, Reaches}
 
 pub record Owner : Type 0 where
   pub exp : List ℕ
@@ -30,3 +30,9 @@ IsPipe w name pipe = (k : ℕ) × ((w.node name).pipes k ≡ Some pipe)
 pub record Isolated (lab : Lab) (es : List Experiment) (w : World) : Type 0 where
   pub owned : (p : Row) → IsRow w p → (owner : Owner) × Owns lab es p owner
   pub apart : (p q : Row) (a b : Owner) → Reaches lab (IsPipe w) (IsRow w) p q → Owns lab es p a → Owns lab es q b → a ≡ b
+
+-- THE SAME OVER NEIGHBOURS ALONE: each point has an owner, and no second one, and points next to each other have the same.
+pub record IsolatedBeside (lab : Lab) (es : List Experiment) (w : World) : Type 0 where
+  pub owned : (p : Row) → IsRow w p → (owner : Owner) × Owns lab es p owner
+  pub one : (p : Row) (a b : Owner) → IsRow w p → Owns lab es p a → Owns lab es p b → a ≡ b
+  pub beside : (p q : Row) (a b : Owner) → IsRow w p → IsRow w q → Next lab (IsPipe w) p q → Owns lab es p a → Owns lab es q b → a ≡ b

@@ -3,7 +3,6 @@ use Rattle.std.specs.Prelude.{Result, ◌≤◌, ℕ, Bool, false, ◌||◌, Lis
 use Rattle.std.specs.List.{list_any}
 use Rattle.phys_lab.specs.Labs.{Lab}
 use Rattle.virt_topo.specs.declared.experiment.Experiment.{Experiment}
-use Rattle.virt_topo.specs.declared.mapping.Mapped.{Mapped}
 use Rattle.plant.specs.Worlds.{Row, World, is_row, world_after, world_of}
 use Rattle.plant.specs.Events.{Event, Did}
 use Rattle.plant.specs.declared.device.DeviceOp.{DeviceOp}
@@ -11,8 +10,8 @@ use Rattle.plant.specs.declared.device.Answer.{Answer}
 use Rattle.plant.specs.declared.device.Fault.{Fault}
 use Rattle.lab_model.specs.Claims.{claims_it, Old, New, claimed}
 use Rattle.lab_model.specs.Parts.{Part}
-use Rattle.lab_model.specs.Courses.{next, op_row, op_node, rows_from, Plan, Left, Course, Going, whole, Goes, nothing_left}
-use Rattle.lab_model.specs.Leavings.{did, Sent, ran, SameFor, Ends}
+use Rattle.lab_model.specs.Courses.{next, op_row, op_node, rows_from, Plan, Left, Going, whole, Goes}
+use Rattle.lab_model.specs.Leavings.{did, Sent, ran, SameFor}
 
 -- a mapping of the experiment wants the row, as a test
 abbrev pub is_row_of : Lab → Experiment → Option Row → Bool

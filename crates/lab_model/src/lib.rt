@@ -6,29 +6,30 @@ ghost use Rattle.lab_base.specs.Lists.{Has, AllDiffer};
 ghost use Rattle.phys_lab.specs.Sides.{joined, AreJoined};
 ghost use Rattle.phys_lab.specs.Labs.{Lab};
 ghost use Rattle.phys_lab.specs.declared.parts.Trunk.{Trunk};
+ghost use Rattle.phys_lab.specs.declared.free.Free.{Free};
+ghost use Rattle.phys_lab.specs.Forests.{first_side_of};
+ghost use Rattle.phys_lab.specs.Kept.{IsLab};
 ghost use Rattle.virt_topo.specs.declared.experiment.Experiment.{Experiment};
 ghost use Rattle.virt_topo.specs.declared.mapping.Mapped.{Mapped};
 ghost use Rattle.virt_topo.specs.declared.mapping.Mapping.{Mapping};
 ghost use Rattle.virt_topo.specs.declared.wiring.Wiring.{Wiring};
 ghost use Rattle.virt_topo.specs.declared.violation.Broken.{Broken};
 ghost use Rattle.virt_topo.specs.declared.violation.Subject.{Subject};
-ghost use Rattle.phys_lab.specs.declared.free.Free.{Free};
 ghost use Rattle.virt_topo.specs.declared.experiment.Phase.TheVariants.{Moving};
 ghost use Rattle.virt_topo.specs.Soundness.{IsSound};
+ghost use Rattle.virt_topo.specs.Cables.{cut_use};
 ghost use Rattle.plant.specs.Worlds.{World, world_after, world_of};
 ghost use Rattle.plant.specs.Events.{Event, Did};
 ghost use Rattle.plant.specs.Disks.{Disk, IsImage, wrote, synced};
 ghost use Rattle.plant.specs.declared.device.DeviceOp.{DeviceOp};
 ghost use Rattle.plant.specs.declared.device.Answer.{Answer};
 ghost use Rattle.plant.specs.declared.device.Fault.{Fault};
-ghost use Rattle.phys_lab.specs.Forests.{first_side_of};
-ghost use Rattle.virt_topo.specs.Cables.{cut_use};
 ghost use Rattle.lab_model.specs.Uses.{cables_of, use_of};
 ghost use Rattle.lab_model.specs.Feasible.{first_violation, violation, Kept, BreaksFirst};
 ghost use Rattle.lab_model.specs.Beside.{IsLeft, violation_beside};
 ghost use Rattle.lab_model.specs.Shapes.{IsShaped};
-ghost use Rattle.lab_model.specs.Holding.{IsLab, Holding, Suits};
-ghost use Rattle.lab_model.specs.Isolated.{Isolated};
+ghost use Rattle.lab_model.specs.Holding.{Holding, Suits};
+ghost use Rattle.lab_model.specs.Isolated.{Isolated, IsolatedBeside};
 ghost use Rattle.lab_model.specs.Cabled.{Cabled};
 ghost use Rattle.lab_model.specs.Parts.{Part, Parts};
 ghost use Rattle.lab_model.specs.Courses.{IsCommandOf, IsDone, commands, undo};
@@ -42,6 +43,12 @@ pub fn law_of_parts()
         → Parts lab es w → Isolated lab es w × Cabled lab es w }
     ensures parts { (lab : Lab) (es : List Experiment) (w : World) → IsLab lab → Holding lab es
         → Isolated lab es w → Cabled lab es w → Parts lab es w }
+{}
+
+/// Isolation is a matter of neighbours: no lists of points have to be looked at.
+pub fn isolation_beside()
+    ensures from { (lab : Lab) (es : List Experiment) (w : World) → IsolatedBeside lab es w → Isolated lab es w }
+    ensures to { (lab : Lab) (es : List Experiment) (w : World) → Isolated lab es w → IsolatedBeside lab es w }
 {}
 
 /// A command of one experiment keeps the part of each other one.

@@ -6,6 +6,7 @@ use Rattle.lab_base.specs.Lists.{Has, AllDiffer}
 use Rattle.lab_base.proofs.Members.{Has-append, Has-map, Has-mapped, Has-right}
 use Rattle.lab_base.specs.Names.{is_name}
 use Rattle.phys_lab.specs.Labs.{Lab}
+use Rattle.phys_lab.specs.Kept.{IsLab}
 use Rattle.virt_topo.specs.declared.wiring.Wiring.{Wiring}
 use Rattle.virt_topo.specs.declared.experiment.Experiment.{Experiment}
 use Rattle.virt_topo.specs.declared.experiment.Phase.{Phase}
@@ -15,13 +16,14 @@ use Rattle.plant.specs.Worlds.{World}
 use Rattle.journal_rec.specs.declared.record.Way.TheVariants.{In as WayIn, Out as WayOut, Change as WayChange}
 use Rattle.journal_rec.specs.declared.record.Record.{Record}
 use Rattle.journal_rec.specs.declared.record.Record.TheVariants.{Lab as LabRecord, Create, Delete, Begin, Commit, Abort}
-use Rattle.lab_model.specs.Holding.{IsLab, Holding}
+use Rattle.journal_rec.specs.Payloads.{IsRecord}
+use Rattle.lab_model.specs.Holding.{Holding}
 use Rattle.lab_model.specs.Parts.{Parts}
 use Rattle.lab_model.specs.Shapes.{IsShaped}
-use Rattle.journal_rec.specs.Payloads.{IsRecord}
-use Rattle.records_model.specs.Labs.{LabState, at_first, StopsAt, Move, SetLab, Creates, Deletes, BeginsIn, BeginsOut, BeginsChange, Commits, Aborts, find, replace, others, becomes, is_out, with_replaced, moved_one, deleted, in_state, moved_of, moved, Texts, AreCanonical, Says, Follows, FoldsTo, LabOf, no_lab, Sane, IsReady, KeepsParts}
+use Rattle.phys_lab.proofs.Adding.{empty_kept}
 use Rattle.lab_model.proofs.Records.{Has_mid, Has_other}
 use Rattle.lab_model.proofs.ListLaws.{holding_drop, holding_add, parts_drop, parts_add}
+use Rattle.records_model.specs.Labs.{LabState, at_first, StopsAt, Move, SetLab, Creates, Deletes, BeginsIn, BeginsOut, BeginsChange, Commits, Aborts, find, replace, others, becomes, is_out, with_replaced, moved_one, deleted, in_state, moved_of, moved, Texts, AreCanonical, Says, Follows, FoldsTo, LabOf, no_lab, Sane, IsReady, KeepsParts}
 use Rattle.records_model.proofs.Finding.{some_is, none_some, found_from, not_found, names_mid}
 use Rattle.records_model.proofs.Turning.{ShapedFor, ReadyOne, Turned, turned}
 
@@ -266,12 +268,7 @@ pub follows_named : (t : Texts) (s : LabState) (r : Record) (u : LabState) → S
 follows_named t s r u sane is f named = (steps s.lab s.experiments f.move u sane (says_shaped t s r f.move f.says) f.gives).named named (move_named t s r f.move is f.says)
 
 no_forest : IsLab no_lab
-no_forest = record {
-  ports = λ i j h g. absurd (omega arith);
-  trunk_ports = λ i t h g. absurd g;
-  names = λ i j h g. absurd (omega arith);
-  forest = λ n h. absurd (omega arith);
-}
+no_forest = empty_kept 2 2 refl
 
 pub first_sane : Sane at_first
 first_sane = record { is_lab = no_forest; none = λ h. refl; names = tt; wirings = λ e h. absurd h; few = omega arith; holding = no_holding no_lab }

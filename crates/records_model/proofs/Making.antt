@@ -1,5 +1,5 @@
 -- A new journal on side A: three writes, each synced. Until the last gate is open the sides stand for no record, and then too.
-use Rattle.std.proofs.Common.{◌≡◌, ◌≢◌, inl, inr, ℕ, ◌+◌, ◌<◌, ◌≤◌, ◌||◌, ◌==◌, if◌then◌else◌, List, [], ◌∷◌, ◌++◌, refl, sym, ap, ◌∙◌, subst, arith}
+use Rattle.std.proofs.Common.{◌≡◌, inl, inr, ℕ, List, [], ◌∷◌, ◌++◌, refl, sym, ap, ◌∙◌, subst, arith}
 use Rattle.std.proofs.lemmas.Bool.{cases_eq}
 use Rattle.plant.specs.Disks.{Disk, IsImage, at_once, disk, ArePossible}
 use Rattle.plant.specs.Events.{Event, Wrote, Synced}

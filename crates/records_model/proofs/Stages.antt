@@ -1,8 +1,8 @@
 -- An append over a trace: at each of its moments the images have the old records, or these and the new one.
-use Rattle.std.proofs.Common.{◌≡◌, ◌≢◌, ◌⊎◌, inl, inr, ℕ, ◌+◌, fold, List, [], ◌∷◌, ◌++◌, refl, sym, ap, ◌∙◌, subst, append_assoc}
+use Rattle.std.proofs.Common.{◌≡◌, inl, inr, ℕ, ◌+◌, fold, List, [], ◌∷◌, ◌++◌, refl, sym, ap, ◌∙◌, subst, append_assoc}
 use Rattle.std.proofs.lemmas.List.Sums.{fold-append}
 use Rattle.std.proofs.lemmas.List.{append-nil}
-use Rattle.plant.specs.Disks.{at_once, disk, disk_after}
+use Rattle.plant.specs.Disks.{disk}
 use Rattle.plant.specs.Worlds.{World, blank, world_of, world_after}
 use Rattle.plant.specs.Events.{Event, Wrote, Synced}
 use Rattle.plant.specs.declared.step.Side.{Side}

@@ -1,8 +1,9 @@
 -- Sound traces: one step more, a device command, a sync, a restart.
-use Rattle.std.proofs.Common.{◌≡◌, ◌≢◌, ◌⊎◌, inl, inr, ℕ, Bool, true, false, map, Result, List, [], ◌∷◌, ◌++◌, length, refl, sym, ◌∙◌, subst, arith, length-append, ◌+◌, ◌-◌, ◌<◌, ◌≤◌, ◌||◌, ◌==◌, if◌then◌else◌}
-use Rattle.std.proofs.lemmas.Bool.{cases_lt, true≢false}
+use Rattle.std.proofs.Common.{◌≡◌, inl, inr, ℕ, Bool, true, false, map, Result, List, [], ◌∷◌, ◌++◌, length, refl, sym, ◌∙◌, subst, arith, length-append}
+use Rattle.std.proofs.lemmas.Bool.{cases_lt}
 use Rattle.std.proofs.lemmas.List.{take-append-le, take_all}
 use Rattle.lab_base.specs.Lists.{Has, AllDiffer}
+use Rattle.phys_lab.specs.Kept.{IsLab}
 use Rattle.virt_topo.specs.declared.experiment.Experiment.{Experiment}
 use Rattle.plant.specs.Worlds.{World, world_of, world_after}
 use Rattle.plant.specs.Disks.{IsImage, disk, at_once, ArePossible}
@@ -13,7 +14,6 @@ use Rattle.plant.specs.declared.device.Answer.{Answer}
 use Rattle.plant.specs.declared.device.Fault.{Fault}
 use Rattle.plant.specs.declared.device.DeviceOp.{DeviceOp}
 use Rattle.lab_model.specs.Leavings.{did}
-use Rattle.lab_model.specs.Holding.{IsLab}
 use Rattle.lab_model.specs.Parts.{Part, Parts}
 use Rattle.lab_model.specs.Courses.{IsCommandOf}
 use Rattle.lab_model.specs.Sound.{Standing, Keeps, SoundAt, Sound}

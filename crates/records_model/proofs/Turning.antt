@@ -5,6 +5,7 @@ use Rattle.lab_base.specs.Lists.{Has}
 use Rattle.lab_base.proofs.Members.{Has-right}
 use Rattle.lab_base.specs.declared.ids.VlanId.{VlanId}
 use Rattle.phys_lab.specs.Labs.{Lab}
+use Rattle.phys_lab.specs.Kept.{IsLab}
 use Rattle.virt_topo.specs.declared.mapping.Mapping.{Mapping}
 use Rattle.virt_topo.specs.declared.mapping.Mapped.{Mapped}
 use Rattle.virt_topo.specs.declared.experiment.Experiment.{Experiment}
@@ -13,16 +14,16 @@ use Rattle.virt_topo.specs.declared.experiment.Phase.TheVariants.{Out, In, Movin
 use Rattle.virt_topo.specs.Soundness.{IsSound}
 use Rattle.plant.specs.Worlds.{World}
 use Rattle.lab_model.specs.Claims.{Which, Old, New, claimed, claimed_in, tags_of}
-use Rattle.lab_model.specs.Holding.{IsLab, Holding, Suits}
+use Rattle.lab_model.specs.Holding.{Holding, Suits}
 use Rattle.lab_model.specs.Parts.{Parts}
 use Rattle.lab_model.specs.Leavings.{Ends, Gone}
 use Rattle.lab_model.specs.Shapes.{IsShaped}
 use Rattle.lab_model.specs.Beside.{violation_beside, are_free_tags}
-use Rattle.records_model.specs.Labs.{Move, BeginsIn, BeginsOut, BeginsChange, Commits, Aborts, others, inside, in_phase, mapped, can_take, becomes, EndsMove}
 use Rattle.lab_model.proofs.FeasibleLaws.{TakesOne, takes_nothing, takes_claimed, takes_new, takes_both, tags_apart}
 use Rattle.lab_model.proofs.HoldingLaws.{holding_replaced}
 use Rattle.lab_model.proofs.Begins.{begin_in, begin_from}
 use Rattle.lab_model.proofs.Ending.{ended_in, ended_out}
+use Rattle.records_model.specs.Labs.{Move, BeginsIn, BeginsOut, BeginsChange, Commits, Aborts, others, inside, in_phase, mapped, can_take, becomes, EndsMove}
 use Rattle.records_model.proofs.Finding.{some_is, none_some}
 
 -- what the texts of a move say of its values

@@ -2,6 +2,7 @@
 use Rattle.std.proofs.Common.{◌≡◌, ◌+◌, Bool, true, map, Some, Result, List, [], ◌∷◌, ◌++◌, refl, sym, ap, ◌∙◌, subst, append_assoc}
 use Rattle.std.proofs.lemmas.List.{append-nil}
 use Rattle.lab_base.specs.Lists.{Has, AllDiffer}
+use Rattle.phys_lab.specs.Kept.{IsLab}
 use Rattle.virt_topo.specs.declared.experiment.Experiment.{Experiment}
 use Rattle.plant.specs.Worlds.{World, world_of}
 use Rattle.plant.specs.Events.{Event, Did}
@@ -12,16 +13,12 @@ use Rattle.plant.specs.declared.device.Answer.{Answer}
 use Rattle.plant.specs.declared.device.Fault.{Fault}
 use Rattle.plant.specs.declared.device.DeviceOp.{DeviceOp}
 use Rattle.journal_rec.specs.declared.record.Record.{Record}
-use Rattle.lab_model.specs.Holding.{IsLab}
 use Rattle.lab_model.specs.Parts.{Part, Parts}
 use Rattle.lab_model.specs.Courses.{IsCommandOf, Left, Course, Going, Cut, Halted, Goes, answered, next}
 use Rattle.lab_model.specs.Leavings.{Sent, did, ran}
 use Rattle.lab_model.specs.Sound.{Standing, Keeps, SoundAt}
 use Rattle.journal_model.specs.Journals.{gate_after}
 use Rattle.journal_model.specs.Appends.{other_side, Rests, Run, All, added, Opened}
-use Rattle.records_model.specs.Labs.{LabState, Texts, LabOf, lab_in, Sane, KeepsParts}
-use Rattle.records_model.specs.Appends.{standing, StandFor}
-use Rattle.records_model.specs.Works.{IsSound, AtWork, MayAppend, events}
 use Rattle.lab_model.proofs.PartLaws.{whole_from_parts, parts_from_whole}
 use Rattle.lab_model.proofs.Steps.{parts_after}
 use Rattle.lab_model.proofs.TraceLaws.{same_or_not}
@@ -30,9 +27,12 @@ use Rattle.lab_model.proofs.Safe.{cut_ends, halt_ends}
 use Rattle.journal_model.proofs.Traces.{disk_push}
 use Rattle.journal_model.proofs.Gates.{rests_image, on_shut}
 use Rattle.journal_model.proofs.Runs.{run_disk, known_added, known_push, run_images}
+use Rattle.records_model.specs.Labs.{LabState, Texts, LabOf, lab_in, Sane, KeepsParts}
+use Rattle.records_model.specs.Appends.{standing, StandFor}
+use Rattle.records_model.specs.Works.{IsSound, AtWork, MayAppend, events}
 use Rattle.records_model.proofs.TraceLaws.{sound_push}
 use Rattle.records_model.proofs.LabLaws.{lab_sane, follows_sane, follows_parts, folds_push}
-use Rattle.records_model.proofs.Stages.{run_sound, run_sound_at, world_added, stands_on}
+use Rattle.records_model.proofs.Stages.{run_sound, world_added, stands_on}
 
 -- A RECORD keeps what the world keeps
 pub keeps_record : (t : Texts) (trace : List Event) (rs : List Record) (r : Record) (s u : LabState) → Sane s → MayAppend t trace rs s r u → Keeps (world_of trace) (standing s (gate_after rs + 1)) → Keeps (world_of trace) (standing u (gate_after (rs ++ r ∷ []) + 1))

@@ -1,5 +1,5 @@
 -- What an append adds to a trace, and what the images of a trace stand for.
-use Rattle.std.specs.Prelude.{◌≡◌, ◌≢◌, ◌⊎◌, ◌<◌, ◌≤◌, ◌+◌, ℕ, List, [], ◌∷◌, ◌++◌}
+use Rattle.std.specs.Prelude.{◌≡◌, ℕ, List}
 use Rattle.journal_rec.specs.declared.record.Record.{Record}
 use Rattle.lab_model.specs.Sound.{Standing}
 use Rattle.journal_model.specs.Journals.{Records, journal_length}

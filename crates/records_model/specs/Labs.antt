@@ -5,6 +5,8 @@ use Rattle.std.proofs.Common.{zero, suc}
 use Rattle.lab_base.specs.Lists.{Has, AllDiffer}
 use Rattle.lab_base.specs.declared.ids.VlanId.{VlanId}
 use Rattle.phys_lab.specs.Labs.{Lab}
+use Rattle.phys_lab.specs.Faults.{empty_lab}
+use Rattle.phys_lab.specs.Kept.{IsLab}
 use Rattle.virt_topo.specs.declared.wiring.Wiring.{Wiring}
 use Rattle.virt_topo.specs.declared.mapping.Mapping.{Mapping}
 use Rattle.virt_topo.specs.declared.mapping.Mapped.{Mapped}
@@ -17,7 +19,7 @@ use Rattle.journal_rec.specs.declared.record.Way.{Way}
 use Rattle.journal_rec.specs.declared.record.Way.TheVariants.{In as WayIn, Out as WayOut, Change as WayChange}
 use Rattle.journal_rec.specs.declared.record.Record.{Record}
 use Rattle.journal_rec.specs.declared.record.Record.TheVariants.{Lab as LabRecord, Create, Delete, Begin, Commit, Abort}
-use Rattle.lab_model.specs.Holding.{IsLab, Holding}
+use Rattle.lab_model.specs.Holding.{Holding}
 use Rattle.lab_model.specs.Parts.{Parts}
 use Rattle.lab_model.specs.Leavings.{Ends, Gone}
 use Rattle.lab_model.specs.Shapes.{IsShaped}
@@ -166,7 +168,7 @@ abbrev pub LabOf : Texts → List Record → LabState → Type 0
 LabOf t rs s = FoldsTo t at_first rs s
 
 abbrev pub no_lab : Lab
-no_lab = record { range = (0, 0); switches = []; nodes = []; ifaces = []; trunks = [] }
+no_lab = empty_lab 2 2
 
 -- the lab, or an empty one
 abbrev pub lab_in : Option Lab → Lab
