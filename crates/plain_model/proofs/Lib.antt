@@ -1,0 +1,3 @@
+pub mod IsolationLaws
+pub mod Neighbours
+pub mod RowLaws

@@ -1,0 +1,6 @@
+pub mod Isolation
+pub mod OwnerView
+pub mod PipeView
+pub mod RowView
+pub mod Rows
+pub mod WantedView

@@ -1,0 +1,12 @@
+-- What contracts see of an owner.
+use Rattle.std.specs.Prelude.{Bool, true, false}
+use Rattle.lab_model.specs.Claims.{Which, Old, New}
+use Rattle.lab_model.specs.Isolated.{Owner}
+use Rattle.plain_model.specs.declared.owner.Owner.TheInside.{Inside}
+
+abbrev pub half_of : Bool → Which
+half_of true = New
+half_of false = Old
+
+abbrev pub owner_of : Inside → Owner
+owner_of o = record { exp = o.exp; which = half_of o.new; link = o.link }

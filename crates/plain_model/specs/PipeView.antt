@@ -1,0 +1,6 @@
+-- What contracts see of a pipe.
+use Rattle.plain_model.specs.Isolation.{NodePipe}
+use Rattle.plain_model.specs.declared.node_pipe.NodePipe.TheInside.{Inside}
+
+abbrev pub pipe_of : Inside → NodePipe
+pipe_of p = record { node = p.node; from = p.from; to = p.to }

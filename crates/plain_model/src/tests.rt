@@ -1,0 +1,328 @@
+use super::*;
+use lab_base::{Items, Name, NodeId, SwitchId, VlanId};
+use phys_lab::{Iface, Lab, LabBuilder, Node, Trunk};
+use plant::DeviceOp;
+use std::alloc::Global;
+use std::test::Fail;
+
+/// The switch 1 or 2, a port, and a VLAN.
+type At = (u16, u16, u16);
+
+/// An experiment, whether its new mapping, a link, and a row.
+type Claimed = (&'static [u8], bool, &'static [u8], At);
+
+/// A node, and two of its interfaces.
+type Joined = (&'static [u8], &'static [u8], &'static [u8]);
+
+fn named(text: &[u8]) -> Result<Name, Fail> {
+    Ok(Name::read(text).ok().ok_or("a name")?)
+}
+
+fn trunk(link: &[u8], first: (u16, u16), second: (u16, u16)) -> Result<Trunk, Fail> {
+    Ok(Trunk {
+        link: named(link)?,
+        first: (SwitchId(first.0), first.1),
+        second: (SwitchId(second.0), second.1),
+        kbps: 100_000,
+    })
+}
+
+/// Two switches with a trunk at port 24 of each. Node `a` has `e0` at port 1 and `e1` at port 3 of `s1`, node `b`
+/// has `e0` at port 2 of `s1`, and node `c` has `e0` at port 1 of `s2`.
+fn small_lab(alloc: Global) -> Result<Lab, Fail> {
+    let mut builder = LabBuilder::new(alloc, 100, 103)?;
+    builder.add_switch(named(b"s1")?)?;
+    builder.add_switch(named(b"s2")?)?;
+    for name in [b"a", b"b", b"c"] {
+        let mut types = Items::new(alloc);
+        types.push((named(b"pc")?, 1))?;
+        let node = Node {
+            name: named(name)?,
+            types,
+            features: Items::new(alloc),
+        };
+        builder.add_node(node)?;
+    }
+    let ifaces: [(&[u8], u16, &[u8], u16, u16); 4] = [
+        (b"i1", 0, b"e0", 0, 1),
+        (b"i2", 0, b"e1", 0, 3),
+        (b"i3", 1, b"e0", 0, 2),
+        (b"i4", 2, b"e0", 1, 1),
+    ];
+    for (link, node, name, switch, port) in ifaces {
+        builder.add_iface(Iface {
+            link: named(link)?,
+            node: NodeId(node),
+            name: named(name)?,
+            switch: SwitchId(switch),
+            port,
+            kbps: 100_000,
+        })?;
+    }
+    builder.add_trunk(trunk(b"t1", (0, 24), (1, 24))?)?;
+    Ok(builder.finish().ok().ok_or("memory")?)
+}
+
+fn row(at: At) -> Result<Row, Fail> {
+    let switch = if at.0 == 1 {
+        named(b"s1")?
+    } else {
+        named(b"s2")?
+    };
+    Ok(Row {
+        switch,
+        port: at.1,
+        vlan: at.2,
+    })
+}
+
+fn rows(alloc: Global, at: &[At]) -> Result<Vec<Row>, Fail> {
+    let mut rows = Vec::new(alloc);
+    for one in at {
+        rows.push(row(*one)?)?;
+    }
+    Ok(rows)
+}
+
+fn pipes(alloc: Global, joined: &[Joined]) -> Result<Vec<NodePipe>, Fail> {
+    let mut pipes = Vec::new(alloc);
+    for (node, from, to) in joined {
+        pipes.push(NodePipe {
+            node: named(node)?,
+            from: named(from)?,
+            to: named(to)?,
+        })?;
+    }
+    Ok(pipes)
+}
+
+/// Experiment `e` has the link `l` from `a` to `c` over the trunk, with id 100, and the link `m` at `e1` of `a`, with id
+/// 102. Experiment `f` moves: its old mapping has the link `l` at `b` with id 101, and its new one with id 103.
+const CLAIMED: [Claimed; 7] = [
+    (b"e", true, b"l", (1, 1, 100)),
+    (b"e", true, b"l", (2, 1, 100)),
+    (b"e", true, b"l", (1, 24, 100)),
+    (b"e", true, b"l", (2, 24, 100)),
+    (b"e", true, b"m", (1, 3, 102)),
+    (b"f", false, b"l", (1, 2, 101)),
+    (b"f", true, b"l", (1, 2, 103)),
+];
+
+fn wanted(alloc: Global, more: &[Claimed]) -> Result<Vec<Wanted>, Fail> {
+    let mut wanted = Vec::new(alloc);
+    for (exp, new, link, at) in CLAIMED.iter().chain(more.iter()) {
+        wanted.push(Wanted {
+            row: row(*at)?,
+            owner: Owner {
+                exp: named(exp)?,
+                new: *new,
+                link: named(link)?,
+            },
+        })?;
+    }
+    Ok(wanted)
+}
+
+type Case = (
+    &'static str,
+    &'static [Claimed],
+    &'static [At],
+    &'static [Joined],
+    bool,
+);
+
+const WORLDS: [Case; 20] = [
+    ("nothing stands", &[], &[], &[], true),
+    (
+        "a link over the trunk",
+        &[],
+        &[(1, 1, 100), (1, 24, 100), (2, 24, 100), (2, 1, 100)],
+        &[],
+        true,
+    ),
+    ("a part of it", &[], &[(1, 1, 100), (2, 24, 100)], &[], true),
+    (
+        "two links on one switch",
+        &[],
+        &[(1, 1, 100), (1, 3, 102)],
+        &[],
+        true,
+    ),
+    (
+        "a link and the old side of a move",
+        &[],
+        &[(1, 1, 100), (1, 2, 101)],
+        &[],
+        true,
+    ),
+    (
+        "both sides of a move",
+        &[],
+        &[(1, 2, 101), (1, 2, 103)],
+        &[],
+        true,
+    ),
+    (
+        "a pipe with one end in use",
+        &[],
+        &[(1, 1, 100)],
+        &[(b"a", b"e0", b"e1")],
+        true,
+    ),
+    (
+        "a pipe of another node",
+        &[],
+        &[(1, 1, 100), (1, 3, 102)],
+        &[(b"b", b"e0", b"e1")],
+        true,
+    ),
+    (
+        "a pipe of no interface",
+        &[],
+        &[(1, 1, 100), (1, 3, 102)],
+        &[(b"a", b"e0", b"e9")],
+        true,
+    ),
+    (
+        "a row without an owner",
+        &[],
+        &[(1, 1, 100), (2, 2, 100)],
+        &[],
+        false,
+    ),
+    ("a row with another's id", &[], &[(1, 1, 101)], &[], false),
+    ("a row on another switch", &[], &[(2, 3, 102)], &[], false),
+    (
+        "a pipe between two links",
+        &[],
+        &[(1, 1, 100), (1, 3, 102)],
+        &[(b"a", b"e0", b"e1")],
+        false,
+    ),
+    (
+        "the same the other way round",
+        &[],
+        &[(1, 1, 100), (1, 3, 102)],
+        &[(b"a", b"e1", b"e0")],
+        false,
+    ),
+    (
+        "two experiments on one id",
+        &[(b"f", true, b"l", (1, 2, 100))],
+        &[(1, 1, 100), (1, 2, 100)],
+        &[],
+        false,
+    ),
+    (
+        "one row of two experiments",
+        &[(b"f", true, b"l", (1, 1, 100))],
+        &[(1, 1, 100)],
+        &[],
+        false,
+    ),
+    (
+        "two links on one id",
+        &[(b"e", true, b"m", (1, 5, 100))],
+        &[(1, 1, 100), (1, 5, 100)],
+        &[],
+        false,
+    ),
+    (
+        "both sides of a move on one id",
+        &[(b"f", false, b"l", (1, 5, 103))],
+        &[(1, 2, 103), (1, 5, 103)],
+        &[],
+        false,
+    ),
+    (
+        "two experiments at the ends of a trunk",
+        &[
+            (b"e", true, b"l", (1, 24, 101)),
+            (b"f", true, b"k", (2, 24, 101)),
+        ],
+        &[(1, 24, 101), (2, 24, 101)],
+        &[],
+        false,
+    ),
+    (
+        "the same on two ids",
+        &[
+            (b"e", true, b"l", (1, 24, 101)),
+            (b"f", true, b"k", (2, 24, 102)),
+        ],
+        &[(1, 24, 101), (2, 24, 102)],
+        &[],
+        true,
+    ),
+];
+
+#[test]
+fn worlds_are_isolated_or_not(rt: HostRuntime) -> Result<(), Fail> {
+    let alloc = rt.alloc();
+    let lab = small_lab(alloc)?;
+    for (what, more, at, joined, isolated) in WORLDS {
+        let wanted = wanted(alloc, more)?;
+        let rows = rows(alloc, at)?;
+        let pipes = pipes(alloc, joined)?;
+        assert_eq!(rt;
+            (what, is_isolated(&lab, &wanted, &rows, &pipes)),
+            (what, isolated)
+        );
+    }
+    Ok(())
+}
+
+#[test]
+fn sides_of_trunks(rt: HostRuntime) -> Result<(), Fail> {
+    // s1 - s0 - s2, and s3 behind s2
+    let chain = [
+        trunk(b"t0", (0, 1), (1, 1))?,
+        trunk(b"t1", (0, 2), (2, 1))?,
+        trunk(b"t2", (3, 1), (2, 2))?,
+    ];
+    let sides = [
+        [true, false, true, true],
+        [true, true, false, false],
+        [false, false, false, true],
+    ];
+    for (number, side) in sides.iter().enumerate() {
+        for (switch, first) in side.iter().enumerate() {
+            assert_eq!(rt; on_first_side(&chain, number, switch as u16), *first);
+        }
+    }
+    Ok(())
+}
+
+#[test]
+fn rows_after_commands(rt: HostRuntime) -> Result<(), Fail> {
+    let (switch, port, vlan) = (named(b"s1")?, 1, VlanId(100));
+    let join = DeviceOp::Join { switch, port, vlan };
+    let leave = DeviceOp::Leave { switch, port, vlan };
+    let other = DeviceOp::Join {
+        switch,
+        port: 2,
+        vlan,
+    };
+    let wipe = DeviceOp::Wipe { node: switch };
+    let cases: [(&[(DeviceOp, bool)], bool); 8] = [
+        (&[], false),
+        (&[(join, true)], true),
+        (&[(join, false)], false),
+        (&[(join, true), (join, true)], true),
+        (&[(join, true), (leave, true)], false),
+        (&[(join, true), (leave, false)], true),
+        (&[(other, true), (leave, true)], false),
+        (&[(join, true), (wipe, true), (other, true)], true),
+    ];
+    for (commands, stands) in cases {
+        let mut sent = Vec::new(rt.alloc());
+        for (op, applied) in commands {
+            sent.push(Sent {
+                op: *op,
+                applied: *applied,
+            })?;
+        }
+        assert_eq!(rt; has_row(&sent, &row((1, 1, 100))?), stands);
+    }
+    Ok(())
+}

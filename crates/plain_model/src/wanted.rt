@@ -1,0 +1,18 @@
+use crate::{Owner, Row};
+use std::marker::Model;
+
+/// A row that a mapping wants, with its owner.
+#[derive(Drop)]
+pub struct Wanted {
+    pub row: Row,
+    pub owner: Owner,
+}
+
+impl Model for Wanted {
+    ghost use Rattle.plain_model.specs.Isolation.{Wanted as WantedSeen};
+    ghost use Rattle.plain_model.specs.WantedView.{wanted_of};
+
+    ghost Value = { WantedSeen };
+
+    ghost view = { wanted_of };
+}
