@@ -2,3 +2,4 @@ pub mod Ends
 pub mod Cables
 pub mod Repeats
 pub mod Soundness
+pub mod Sought

@@ -1,9 +1,16 @@
 //! Wirings, mappings, and the phases of an experiment.
 #![tactic(auto)]
 
+mod check;
+mod copy;
+mod ends;
 mod experiment;
 mod fault;
+mod known;
+mod limits;
 mod mapping;
+mod pipes;
+mod repeats;
 mod violation;
 mod wiring;
 
@@ -12,3 +19,6 @@ pub use fault::WiringFault;
 pub use mapping::{Mapped, Mapping};
 pub use violation::{Broken, Subject};
 pub use wiring::{Asks, Class, Pipe, Segment, VirtEnd, VirtNode, Wiring};
+
+#[cfg(test)]
+mod tests;

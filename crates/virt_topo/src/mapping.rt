@@ -1,5 +1,11 @@
-use crate::Wiring;
-use lab_base::{IfaceId, Items, Name, NodeId, Tags};
+ghost use Rattle.std.specs.Prelude.{◌≡◌, ◌<◌, ◌≤◌, ◌*◌, ◌-◌, ◌^◌, true, length, All, IfOk, min};
+ghost use Rattle.virt_topo.specs.Ends.{end_nodes};
+ghost use Rattle.virt_topo.specs.Cables.{cables, cut_use, cable_use, plugs_on};
+ghost use Rattle.virt_topo.specs.Soundness.{keeps_limits};
+
+use crate::{Segment, Wiring};
+use lab_base::{IfaceId, Items, Memory, Name, NodeId, Tags};
+use std::alloc::Global;
 
 /// Where a wiring stands in a lab.
 #[derive(Drop)]
@@ -16,4 +22,52 @@ pub struct Mapped {
     pub wiring: Wiring,
     pub mapping: Mapping,
     pub tags: Tags,
+}
+
+/// How many plugs are on a side.
+fn plugs_on(side: &[bool], plugs: &[IfaceId]) -> usize
+    requires { All (λ i. i.0 < length side.now) plugs.now }
+    ensures { result ≡ plugs_on side.now plugs.now }
+{
+    plugs.iter().filter(|plug| side[plug.0 as usize]).count()
+}
+
+/// What a segment with these plugs uses of the cut that parts a side from the rest.
+fn segment_use(side: &[bool], segment: &Segment, plugs: &[IfaceId]) -> u64
+    requires within { All (λ i. i.0 < length side.now) plugs.now }
+    requires few { length plugs.now ≤ 256 }
+    requires slow { segment.now.kbps ≤ 1000000000 }
+    ensures { result ≡ cable_use side.now (record { segment = segment.now; plugs = plugs.now }) }
+{
+    let on_side = plugs_on(side, plugs);
+    on_side.min(plugs.len() - on_side) as u64 * segment.kbps
+}
+
+impl Mapping {
+    /// An equal mapping.
+    pub fn copy(&self, alloc: Global) -> Result<Mapping, Memory>
+        ensures { IfOk result (λ copy. copy ≡ self.now) }
+    {
+        let places = self.places.copy(alloc)?;
+        let plugs = self.plugs.copy(alloc)?;
+        Ok(Mapping { places, plugs })
+    }
+
+    /// What the segments use of the cut that parts the interfaces of a side, which `first` tells, from the rest: of
+    /// each segment the kbps for each plug on that side or for each other plug, whichever are fewer.
+    pub fn cut_use(&self, wiring: &Wiring, first: &[bool]) -> u64
+        requires limits { keeps_limits wiring.now ≡ true }
+        requires plugged { length self.now.plugs ≡ length (end_nodes wiring.now.segments) }
+        requires sides { All (λ i. i.0 < length first.now) self.now.plugs }
+        ensures { result ≡ cut_use first.now (cables wiring.now.segments self.now.plugs) }
+    {
+        let mut used = 0;
+        let mut rest = self.plugs.as_slice();
+        for segment in wiring.segments.as_slice() {
+            let (own, later) = rest.split_at(segment.ends.len());
+            used += segment_use(first, segment, own);
+            rest = later;
+        }
+        used
+    }
 }

@@ -1,0 +1,98 @@
+// The pipes of a wiring.
+ghost use Rattle.std.specs.Prelude.{◌≡◌, ◌≤◌, length, slice_get};
+ghost use Rattle.std.specs.List.{list_any};
+ghost use Rattle.virt_topo.specs.Ends.{end_nodes, end_owners, end_number};
+ghost use Rattle.virt_topo.specs.Repeats.{stands_again};
+ghost use Rattle.virt_topo.specs.Soundness.{has_bad_pipe, is_bad_pipe, is_one_owner, owner_of, shares_end};
+
+use crate::{Pipe, Segment, Wiring};
+use lab_base::Name;
+
+fn owner_among(segments: &[Segment], end: u16) -> Option<Name>
+    ensures { result ≡ slice_get (end_owners segments.now) end }
+{
+    let mut before = end as usize;
+    for segment in segments {
+        if before < segment.ends.len() {
+            return Some(segment.owner);
+        }
+        before -= segment.ends.len();
+    }
+    None
+}
+
+/// The owner of the segment that an end is of.
+fn owner_of(wiring: &Wiring, node: u16, k: u16) -> Option<Name>
+    requires { length (end_nodes wiring.now.segments) ≤ 65536 }
+    ensures { result ≡ owner_of wiring.now (end_number (end_nodes wiring.now.segments) node k) }
+{
+    match wiring.end(node, k) {
+        Some(end) => owner_among(wiring.segments.as_slice(), end),
+        None => None,
+    }
+}
+
+fn is_one_owner(one: Option<Name>, other: Option<Name>) -> bool
+    ensures { result ≡ is_one_owner one other }
+{
+    match (one, other) {
+        (Some(one), Some(other)) => one == other,
+        (Some(_), None) => false,
+        (None, _) => false,
+    }
+}
+
+fn is_bad_pipe(wiring: &Wiring, pipe: &Pipe) -> bool
+    requires { length (end_nodes wiring.now.segments) ≤ 65536 }
+    ensures { result ≡ is_bad_pipe wiring.now pipe.now }
+{
+    pipe.from == pipe.to
+        || !is_one_owner(
+            owner_of(wiring, pipe.node, pipe.from),
+            owner_of(wiring, pipe.node, pipe.to),
+        )
+}
+
+fn have_bad_pipe(wiring: &Wiring, pipes: &[Pipe]) -> bool
+    requires { length (end_nodes wiring.now.segments) ≤ 65536 }
+    ensures { result ≡ list_any (is_bad_pipe wiring.now) pipes.now }
+{
+    pipes.iter().any(|pipe| is_bad_pipe(wiring, pipe))
+}
+
+fn shares_end(one: Pipe, other: &Pipe) -> bool
+    ensures { result ≡ shares_end one other.now }
+{
+    one.node == other.node
+        && (one.from == other.from
+            || one.from == other.to
+            || one.to == other.from
+            || one.to == other.to)
+}
+
+fn share_end(pipes: &[Pipe], pipe: Pipe) -> bool
+    ensures { result ≡ list_any (shares_end pipe) pipes.now }
+{
+    pipes.iter().any(|other| shares_end(pipe, other))
+}
+
+fn repeat_end(pipes: &[Pipe]) -> bool
+    ensures { result ≡ stands_again shares_end pipes.now }
+{
+    let mut rest = pipes;
+    while let Some((first, others)) = rest.split_first() {
+        if share_end(others, *first) {
+            return true;
+        }
+        rest = others;
+    }
+    false
+}
+
+/// Whether a pipe has one end twice, ends of two owners, or an end of an earlier pipe.
+pub(crate) fn has_bad_pipe(wiring: &Wiring) -> bool
+    requires { length (end_nodes wiring.now.segments) ≤ 65536 }
+    ensures { result ≡ has_bad_pipe wiring.now }
+{
+    have_bad_pipe(wiring, wiring.pipes.as_slice()) || repeat_end(wiring.pipes.as_slice())
+}
