@@ -1,5 +1,5 @@
 use super::*;
-use lab_base::{IfaceId, Items, Name, NodeId};
+use lab_base::{Items, Name};
 use std::alloc::Global;
 use std::test::Fail;
 
@@ -47,22 +47,10 @@ fn lan(alloc: Global, kbps: u64) -> Result<Wiring, Fail> {
 }
 
 #[test]
-fn a_lan_over_a_cut(rt: HostRuntime) -> Result<(), Fail> {
+fn a_sound_wiring_and_a_name_given_twice(rt: HostRuntime) -> Result<(), Fail> {
     let alloc = rt.alloc();
     let wiring = lan(alloc, 50_000)?;
     assert_eq!(rt; wiring.check(), Ok(()));
-    assert_eq!(rt; wiring.end(2, 0), Some(2));
-    assert_eq!(rt; wiring.end(2, 1), None);
-    let mut mapping = Mapping {
-        places: Items::new(alloc),
-        plugs: Items::new(alloc),
-    };
-    for plug in 0..4u16 {
-        mapping.places.push((NodeId(plug), named(b"pc")?))?;
-        mapping.plugs.push(IfaceId(plug))?;
-    }
-    let first = [true, true, false, false];
-    assert_eq!(rt; mapping.copy(alloc)?.cut_use(&wiring, &first), 100_000);
     let mut copy = wiring.copy(alloc)?;
     copy.nodes.push(node(alloc, b"b")?)?;
     assert_eq!(rt; copy.check(), Err(WiringFault::Twice));
