@@ -1,5 +1,5 @@
 -- Ends one after another.
-use Rattle.std.specs.Prelude.{nat_le, slice_get, replicate, Some}
+use Rattle.std.specs.Prelude.{nat_le, replicate}
 use Rattle.std.proofs.Common.{◌≡◌, ◌≢◌, ℕ, zero, suc, ◌+◌, ◌-◌, ◌<◌, ◌≤◌, Bool, true, false, cond, eqb, List, [], ◌∷◌, ◌++◌, length, map, drop, get_or, refl, sym, ap, ◌∙◌, arith, length-append}
 use Rattle.std.proofs.Math.Seq.{drop-cons}
 use Rattle.std.proofs.lemmas.Bool.{eq-eqb}
@@ -101,15 +101,15 @@ pub owners_from : (segments : List Segment) (i : ℕ) (s : Segment) → i < leng
     → end_owners (drop i segments) ≡ owners_of s ++ end_owners (drop (i + 1) segments)
 owners_from segments i s lt is = ap end_owners (item_at segments i s lt is)
 
-pub owner_here : {X : Type 0} (n k : ℕ) (a : X) (ys : List X) → k < n → slice_get (replicate n a ++ ys) k ≡ Some a
-owner_here zero k a ys lt = absurd (omega arith)
-owner_here (suc n) zero a ys lt = refl
-owner_here (suc n) (suc k) a ys lt = owner_here n k a ys (omega arith)
+pub owner_here : {X : Type 0} (n k : ℕ) (a d : X) (ys : List X) → k < n → get_or (replicate n a ++ ys) k d ≡ a
+owner_here zero k a d ys lt = absurd (omega arith)
+owner_here (suc n) zero a d ys lt = refl
+owner_here (suc n) (suc k) a d ys lt = owner_here n k a d ys (omega arith)
 
-pub owner_past : {X : Type 0} (n k : ℕ) (a : X) (ys : List X) → n ≤ k → slice_get (replicate n a ++ ys) k ≡ slice_get ys (k - n)
-owner_past zero k a ys le = let same : k ≡ k - 0 = omega arith in ap (λ (i : ℕ). slice_get ys i) same
-owner_past (suc n) zero a ys le = absurd (omega arith)
-owner_past (suc n) (suc k) a ys le = let same : k - n ≡ suc k - suc n = omega arith in owner_past n k a ys (omega arith) ∙ ap (λ (i : ℕ). slice_get ys i) same
+pub owner_past : {X : Type 0} (n k : ℕ) (a d : X) (ys : List X) → n ≤ k → get_or (replicate n a ++ ys) k d ≡ get_or ys (k - n) d
+owner_past zero k a d ys le = let same : k ≡ k - 0 = omega arith in ap (λ (i : ℕ). get_or ys i d) same
+owner_past (suc n) zero a d ys le = absurd (omega arith)
+owner_past (suc n) (suc k) a d ys le = let same : k - n ≡ suc k - suc n = omega arith in owner_past n k a d ys (omega arith) ∙ ap (λ (i : ℕ). get_or ys i d) same
 
 pub length-owners : (segments : List Segment) → length (end_owners segments) ≡ length (end_nodes segments)
 length-owners [] = refl

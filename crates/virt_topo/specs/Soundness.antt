@@ -1,5 +1,5 @@
 -- When a wiring is sound: the first fault that holds.
-use Rattle.std.specs.Prelude.{◌≡◌, ◌%◌, ℕ, Bool, true, false, not, ◌||◌, ◌&&◌, ◌==◌, nat_lt, nat_le, List, [], length, slice_get, Option, Some, None, Result, Ok, Err, if◌then◌else◌}
+use Rattle.std.specs.Prelude.{◌≡◌, ◌%◌, ℕ, Bool, true, false, not, ◌||◌, ◌&&◌, ◌==◌, nat_lt, nat_le, List, [], length, slice_index_or, Option, Some, None, Result, Ok, Err, if◌then◌else◌}
 use Rattle.std.specs.List.{list_all, list_any, flat_map}
 use Rattle.lab_base.specs.declared.rates.Rates.{Rates}
 use Rattle.virt_topo.specs.declared.wiring.Asks.{Asks}
@@ -118,16 +118,12 @@ has_same w = list_any (λ s. stands_again (λ a b. a.node == b.node) s.ends) w.s
 -- PIPES
 
 -- the owner of the segment that an end is of
-abbrev pub owner_of : Wiring → ℕ → Option (List ℕ)
-owner_of w e = slice_get (end_owners w.segments) e
-
-abbrev pub is_one_owner : Option (List ℕ) → Option (List ℕ) → Bool
-is_one_owner (Some a) (Some b) = same_name a b
-is_one_owner a b = false
+abbrev pub owner_at : Wiring → ℕ → List ℕ
+owner_at w e = slice_index_or (end_owners w.segments) e []
 
 -- the ends of a pipe are one, or their segments have two owners
 abbrev pub is_bad_pipe : Wiring → Pipe → Bool
-is_bad_pipe w p = (p.from == p.to) || not (is_one_owner (owner_of w (pipe_from w p)) (owner_of w (pipe_to w p)))
+is_bad_pipe w p = (p.from == p.to) || not (same_name (owner_at w (pipe_from w p)) (owner_at w (pipe_to w p)))
 
 -- two pipes have an end in common
 abbrev pub shares_end : Pipe → Pipe → Bool

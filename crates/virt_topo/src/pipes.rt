@@ -1,44 +1,33 @@
 // The pipes of a wiring.
-ghost use Rattle.std.specs.Prelude.{◌≡◌, ◌≤◌, length, slice_get};
+ghost use Rattle.std.specs.Prelude.{◌≡◌, ◌≤◌, [], length, slice_index_or};
 ghost use Rattle.std.specs.List.{list_any};
 ghost use Rattle.virt_topo.specs.Ends.{end_nodes, end_owners, end_number};
 ghost use Rattle.virt_topo.specs.Repeats.{stands_again};
-ghost use Rattle.virt_topo.specs.Soundness.{has_bad_pipe, is_bad_pipe, is_one_owner, owner_of, shares_end};
+ghost use Rattle.virt_topo.specs.Soundness.{has_bad_pipe, is_bad_pipe, owner_at, shares_end};
 
 use crate::{Pipe, Segment, Wiring};
-use lab_base::Name;
 
-fn owner_among(segments: &[Segment], end: u16) -> Option<Name>
-    ensures { result ≡ slice_get (end_owners segments.now) end }
+fn owner_among(segments: &[Segment], end: u16) -> &[u8]
+    ensures { result.now ≡ slice_index_or (end_owners segments.now) end [] }
 {
     let mut before = end as usize;
     for segment in segments {
         if before < segment.ends.len() {
-            return Some(segment.owner);
+            return segment.owner.bytes();
         }
         before -= segment.ends.len();
     }
-    None
+    &[]
 }
 
-/// The owner of the segment that an end is of.
-fn owner_of(wiring: &Wiring, node: u16, k: u16) -> Option<Name>
+/// The owner of the segment of an end.
+fn owner_at(wiring: &Wiring, node: u16, k: u16) -> &[u8]
     requires { length (end_nodes wiring.now.segments) ≤ 65536 }
-    ensures { result ≡ owner_of wiring.now (end_number (end_nodes wiring.now.segments) node k) }
+    ensures { result.now ≡ owner_at wiring.now (end_number (end_nodes wiring.now.segments) node k) }
 {
     match wiring.end(node, k) {
         Some(end) => owner_among(wiring.segments.as_slice(), end),
-        None => None,
-    }
-}
-
-fn is_one_owner(one: Option<Name>, other: Option<Name>) -> bool
-    ensures { result ≡ is_one_owner one other }
-{
-    match (one, other) {
-        (Some(one), Some(other)) => one == other,
-        (Some(_), None) => false,
-        (None, _) => false,
+        None => &[],
     }
 }
 
@@ -47,10 +36,7 @@ fn is_bad_pipe(wiring: &Wiring, pipe: &Pipe) -> bool
     ensures { result ≡ is_bad_pipe wiring.now pipe.now }
 {
     pipe.from == pipe.to
-        || !is_one_owner(
-            owner_of(wiring, pipe.node, pipe.from),
-            owner_of(wiring, pipe.node, pipe.to),
-        )
+        || owner_at(wiring, pipe.node, pipe.from) != owner_at(wiring, pipe.node, pipe.to)
 }
 
 fn have_bad_pipe(wiring: &Wiring, pipes: &[Pipe]) -> bool

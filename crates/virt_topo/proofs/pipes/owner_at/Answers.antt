@@ -1,10 +1,10 @@
-use Rattle.std.proofs.Common.{◌≡◌, ◌≤◌, ℕ, Bool, true, false, None, length, ltb, refl, arith, sym}
-use Rattle.std.proofs.lemmas.Option.{slice_get_past}
+use Rattle.std.proofs.Common.{◌≡◌, ◌≤◌, ℕ, Bool, true, false, [], None, length, ltb, refl, arith, sym}
+use Rattle.std.proofs.lemmas.List.{get_or_past}
 use Rattle.std.proofs.lemmas.Bool.Decides.{nat_tests}
 use Rattle.virt_topo.specs.Ends.{end_nodes, end_owners, end_number}
 use Rattle.virt_topo.specs.Soundness.{end_if}
 use Rattle.virt_topo.proofs.EndLaws.{length-owners}
-use Rattle.virt_topo.proofs.pipes.owner_of.Goals as goal
+use Rattle.virt_topo.proofs.pipes.owner_at.Goals as goal
 
 none_past : (ends n : ℕ) → None ≡ end_if ends n → ends ≤ n
 none_past ends n is = by (ltb n ends) refl
@@ -17,4 +17,4 @@ pub returns-in-None : goal.returns-in-None
 returns-in-None c =
     let segments = c.args.wiring.now.segments in
     let past = none_past (length (end_nodes segments)) (end_number (end_nodes segments) c.args.node c.args.k) c.in-None.ensures in
-    sym (slice_get_past (end_owners segments) (end_number (end_nodes segments) c.args.node c.args.k) (omega (arith, length-owners segments, past)))
+    sym (get_or_past (end_owners segments) (end_number (end_nodes segments) c.args.node c.args.k) [] (omega (arith, length-owners segments, past)))

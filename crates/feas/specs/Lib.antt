@@ -1,4 +1,0 @@
-pub mod Uses
-pub mod Shapes
-pub mod Rules
-pub mod Feasible
