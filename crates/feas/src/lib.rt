@@ -1,2 +1,15 @@
 //! The checker of the eight rules of mappings.
 #![tactic(auto)]
+
+mod at;
+mod ends;
+mod fault;
+mod nodes;
+mod places;
+mod plugs;
+mod segments;
+mod trunks;
+mod whole;
+
+pub use fault::CheckFault;
+pub use whole::check;

@@ -1,0 +1,16 @@
+use Rattle.std.proofs.Common.{◌≡◌, Bool, List, get_or, leb, ap, arith, ◌∙◌}
+use Rattle.virt_topo.specs.Cables.{cables, cut_use}
+use Rattle.lab_model.specs.Uses.{use_of}
+use Rattle.lab_model.proofs.CutLaws.{cut_is_use}
+use Rattle.feas.proofs.TrunkCount.{few_trunks}
+use Rattle.feas.proofs.trunks.keeps_f6.Goals as goal
+
+pub overflow_cast-trunk : goal.overflow_cast-trunk
+overflow_cast-trunk c = omega (arith, few_trunks c.args.lab.now c.range-kept.ensures.lab)
+
+pub returns : goal.returns
+returns c =
+    let w = c.args.wiring.now in
+    let m = c.args.mapping.now in
+    let used : c.cut_use.result ≡ use_of c.args.lab.now w m c.args.trunk = c.cut_use.ensures ∙ ap (λ (side : List Bool). cut_use side (cables w.segments m.plugs)) c.first_side-first.ensures ∙ cut_is_use c.args.lab.now w m c.args.trunk c.requires.shaped.in_lab in
+    λ i. leb (used i) (get_or (c.as_slice.ensures i) c.args.trunk 0)

@@ -1,0 +1,6 @@
+use Rattle.std.proofs.Common.{arith}
+use Rattle.feas.proofs.TrunkCount.{few_trunks}
+use Rattle.feas.proofs.whole.check.Goals as goal
+
+pub overflow_cast-trunk : goal.overflow_cast-trunk
+overflow_cast-trunk c = omega (arith, c.in-Some-first_overfull.ensures.within, few_trunks c.args.lab.now c.range-kept.ensures.lab)

@@ -1,0 +1,44 @@
+// What numbers of a mapping name.
+ghost use Rattle.std.specs.Prelude.{◌≡◌, ◌<◌, length};
+ghost use Rattle.lab_model.specs.Shapes.{node_at};
+ghost use Rattle.lab_model.specs.Rules.{place_at, plug_at, virt_at};
+ghost use Rattle.lab_model.specs.Uses.{iface_at};
+
+use lab_base::{IfaceId, Name, NodeId};
+use phys_lab::{Iface, Lab, Node};
+use virt_topo::{Mapping, VirtNode, Wiring};
+
+pub(crate) fn virt_at(wiring: &Wiring, virt: usize) -> &VirtNode
+    requires { virt < length wiring.now.nodes }
+    ensures { result.now ≡ virt_at wiring.now virt }
+{
+    &wiring.nodes.as_slice()[virt]
+}
+
+pub(crate) fn place_at(mapping: &Mapping, virt: usize) -> (NodeId, Name)
+    requires { virt < length mapping.now.places }
+    ensures { result ≡ place_at mapping.now virt }
+{
+    mapping.places.as_slice()[virt]
+}
+
+pub(crate) fn node_at(lab: &Lab, node: NodeId) -> &Node
+    requires { node.0 < length lab.now.nodes }
+    ensures { result.now ≡ node_at lab.now node }
+{
+    &lab.nodes()[node.0 as usize]
+}
+
+pub(crate) fn plug_at(mapping: &Mapping, end: usize) -> IfaceId
+    requires { end < length mapping.now.plugs }
+    ensures { result ≡ plug_at mapping.now end }
+{
+    mapping.plugs.as_slice()[end]
+}
+
+pub(crate) fn iface_at(lab: &Lab, plug: IfaceId) -> &Iface
+    requires { plug.0 < length lab.now.ifaces }
+    ensures { result.now ≡ iface_at lab.now plug }
+{
+    &lab.ifaces()[plug.0 as usize]
+}

@@ -1,0 +1,21 @@
+ghost use Rattle.std.specs.Prelude.{◌≡◌};
+ghost use Rattle.feas.specs.declared.fault.CheckFault.TheVariants as faults;
+
+use lab_base::Memory;
+use virt_topo::{Broken, Subject};
+
+/// Why a mapping was not accepted.
+#[derive(Clone, Copy, Debug, PartialEq, Eq)]
+pub enum CheckFault {
+    /// The first rule that is broken, by its first subject that breaks it.
+    Violation { rule: Broken, subject: Subject },
+    Memory,
+}
+
+impl From<Memory> for CheckFault {
+    ghost from_gives = { λ _ e. e ≡ faults.Memory };
+
+    fn from(_error: Memory) -> CheckFault {
+        CheckFault::Memory
+    }
+}

@@ -1,0 +1,112 @@
+// The rule on the virtual nodes of one node.
+ghost use Rattle.std.specs.Prelude.{◌≡◌, IfSome, ◌<◌, ◌&&◌, ◌++◌, ◌∷◌, [], ◌==◌, if◌then◌else◌, length, IfOk, OnOk};
+ghost use Rattle.std.specs.List.{list_all};
+ghost use Rattle.virt_topo.specs.Repeats.{same_name};
+ghost use Rattle.lab_model.specs.Shapes.{IsShaped, node_at};
+ghost use Rattle.lab_model.specs.Rules.{guests, number_of, agree, keeps_f2};
+ghost use Rattle.lab_model.specs.Feasible.{first_below};
+
+use lab_base::{Memory, Name, NodeId};
+use phys_lab::Lab;
+use std::alloc::Global;
+use virt_topo::{Mapping, VirtNode, Wiring};
+
+fn push_guest(
+    listed: &mut Vec<(Name, Name)>,
+    place: &(NodeId, Name),
+    virt: &VirtNode,
+    node: u16,
+) -> Result<(), Memory>
+    ensures { OnOk result (listed.new.items ≡ listed.old.items ++ (if place.now.0.0 == node then (place.now.1, virt.now.os) ∷ [] else [])) }
+{
+    if place.0.0 == node {
+        listed.push((place.1, virt.os))?;
+    }
+    Ok(())
+}
+
+/// By virtual node on a node its type there and its OS.
+fn guests(
+    alloc: Global,
+    nodes: &[VirtNode],
+    places: &[(NodeId, Name)],
+    node: u16,
+) -> Result<Vec<(Name, Name)>, Memory>
+    requires { length places.now ≡ length nodes.now }
+    ensures { IfOk result (λ listed. listed.items ≡ guests nodes.now places.now node) }
+{
+    let mut listed = Vec::new(alloc);
+    for virt in 0..nodes.len() {
+        push_guest(&mut listed, &places[virt], &nodes[virt], node)?;
+    }
+    Ok(listed)
+}
+
+fn number_of(pairs: &[(Name, u16)], name: Name) -> u16
+    ensures { result ≡ number_of pairs.now name }
+{
+    for pair in pairs {
+        if pair.0 == name {
+            return pair.1;
+        }
+    }
+    0
+}
+
+fn are_alike(guests: &[(Name, Name)], kind: Name, os: Name) -> bool
+    ensures { result ≡ list_all (λ h. same_name h.0 kind && same_name h.1 os) guests.now }
+{
+    guests.iter().all(|guest| guest.0 == kind && guest.1 == os)
+}
+
+fn agree(types: &[(Name, u16)], guests: &[(Name, Name)]) -> bool
+    ensures { result ≡ agree types.now guests.now }
+{
+    match guests.split_first() {
+        Some((first, others)) => {
+            are_alike(others, first.0, first.1) && others.len() < number_of(types, first.0) as usize
+        }
+        None => true,
+    }
+}
+
+fn keeps_f2(
+    alloc: Global,
+    lab: &Lab,
+    wiring: &Wiring,
+    mapping: &Mapping,
+    node: usize,
+) -> Result<bool, Memory>
+    requires shaped { IsShaped lab.now wiring.now mapping.now }
+    requires node { node < length lab.now.nodes }
+    ensures { IfOk result (λ kept. kept ≡ keeps_f2 lab.now wiring.now mapping.now node) }
+{
+    let _kept = lab.range();
+    let guests = guests(
+        alloc,
+        wiring.nodes.as_slice(),
+        mapping.places.as_slice(),
+        node as u16,
+    )?;
+    let types = lab.nodes()[node].types.as_slice();
+    Ok(agree(types, &guests))
+}
+
+/// The first node with virtual nodes of two types or OSes, or with too many of them.
+pub(crate) fn first_crowded(
+    alloc: Global,
+    lab: &Lab,
+    wiring: &Wiring,
+    mapping: &Mapping,
+) -> Result<Option<usize>, Memory>
+    requires { IsShaped lab.now wiring.now mapping.now }
+    ensures first { IfOk result (λ first. first ≡ first_below (length lab.now.nodes) (keeps_f2 lab.now wiring.now mapping.now)) }
+    ensures within { IfOk result (λ first. IfSome first (λ node. node < length lab.now.nodes)) }
+{
+    for node in 0..lab.nodes().len() {
+        if !keeps_f2(alloc, lab, wiring, mapping, node)? {
+            return Ok(Some(node));
+        }
+    }
+    Ok(None)
+}
