@@ -1,0 +1,11 @@
+pub mod Codes
+pub mod Causes
+pub mod Counted
+pub mod Courses
+pub mod First
+pub mod Isolated
+pub mod Lab
+pub mod Pairs
+pub mod Script
+pub mod Session
+pub mod Turns

@@ -1,0 +1,35 @@
+ghost use Rattle.std.specs.Prelude.{◌≡◌};
+ghost use Rattle.lab_top.specs.Codes.{code_of};
+
+/// How a run ended.
+#[derive(Clone, Copy, Debug, PartialEq, Eq)]
+pub enum Status {
+    /// The script was read to its end.
+    Done,
+    /// The source failed.
+    ReadFault,
+    /// The sink failed.
+    WriteFault,
+    /// There are words behind the program's name.
+    Usage,
+    /// The first line that is not in the grammar of scripts, the script's first line being 1.
+    BadScript { line: u64 },
+    /// Memory was wanting.
+    Memory,
+}
+
+impl Status {
+    /// The exit code of the program.
+    pub fn code(&self) -> u8
+        ensures { result ≡ code_of self.now }
+    {
+        match self {
+            Status::Done => 0,
+            Status::ReadFault => 1,
+            Status::WriteFault => 2,
+            Status::Usage => 3,
+            Status::BadScript { .. } => 4,
+            Status::Memory => 5,
+        }
+    }
+}

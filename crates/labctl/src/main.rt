@@ -1,0 +1,47 @@
+//! Obeys the script of standard input over a plant in memory, and writes the replies to standard output.
+#![tactic(auto)]
+
+use lab_io::{StdSink, StdSource};
+use lab_top::{Status, labctl};
+use plant::MemLab;
+use std::process::ExitCode;
+use std::{env, io};
+
+/// The words behind the program's name.
+fn words_of(rt: &HostRuntime) -> io::Result<Vec<String>> {
+    let mut words = Vec::new(rt.alloc());
+    for word in env::args(rt)?.skip(1) {
+        words.push(word)?;
+    }
+    Ok(words)
+}
+
+fn run(rt: &HostRuntime) -> Status {
+    let Ok(words) = words_of(rt) else {
+        return Status::Memory;
+    };
+    let Ok(mut plant) = MemLab::blank(rt.alloc()) else {
+        return Status::Memory;
+    };
+    let mut source = StdSource::new(rt);
+    let mut sink = StdSink::new(rt);
+    labctl(rt.alloc(), &words, &mut source, &mut sink, &mut plant)
+}
+
+/// Says on standard error how the run ended, where that is not its end.
+fn tell(rt: &HostRuntime, status: Status) -> io::Result<()> {
+    match status {
+        Status::Done => Ok(()),
+        Status::ReadFault => eprintln!(rt; "labctl: read fault"),
+        Status::WriteFault => eprintln!(rt; "labctl: write fault"),
+        Status::Usage => eprintln!(rt; "labctl: usage"),
+        Status::BadScript { line } => eprintln!(rt; "labctl: bad script line {line}"),
+        Status::Memory => eprintln!(rt; "labctl: out of memory"),
+    }
+}
+
+fn main(rt: HostRuntime) -> ExitCode {
+    let status = run(&rt);
+    let _told = tell(&rt, status);
+    ExitCode::from(status.code())
+}
