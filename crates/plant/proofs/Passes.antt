@@ -1,5 +1,5 @@
 -- A pass over a list that rewrites each item.
-use Rattle.std.proofs.Common.{◌≡◌, ℕ, ◌+◌, ◌-◌, ◌<◌, Bool, List, [], ◌∷◌, ◌++◌, take, drop, get_or, length, map, Option, Some, None, refl, sym, ◌∙◌, ap, arith}
+use Rattle.std.proofs.Common.{◌≡◌, ℕ, zero, suc, ◌+◌, ◌-◌, ◌<◌, Bool, List, [], ◌∷◌, ◌++◌, take, drop, get_or, length, map, Option, Some, None, refl, sym, ◌∙◌, ap, arith}
 use Rattle.std.proofs.lemmas.List.{take_more, length-take-le, get_or-append_right, get_or-drop, length-map}
 use Rattle.std.specs.Option.{option_or}
 use Rattle.plant.specs.declared.plans.Plan.{Plan}
@@ -27,3 +27,9 @@ not_passed {X} f xs now i x lt is at =
 pub fires_more : (device : List ℕ) (plans : List Plan) (i : ℕ) (plan : Plan) → i < length plans → plan ≡ get_or plans i plan → option_or (firing device (take i plans)) (fire device plan) ≡ firing device (take (i + 1) plans)
 fires_more device plans i plan lt is =
     sym (firing-push device (take i plans) plan) ∙ ap (λ (p : Plan). firing device (take i plans ++ p ∷ [])) is ∙ ap (firing device) (sym (take_more plans i plan lt))
+
+-- which default is of no matter within a list
+pub same_default : (xs : List ℕ) (i d e : ℕ) → i < length xs → get_or xs i d ≡ get_or xs i e
+same_default [] i d e lt = absurd (omega arith)
+same_default (x ∷ xs) zero d e lt = refl
+same_default (x ∷ xs) (suc i) d e lt = same_default xs i d e (omega arith)

@@ -3,13 +3,18 @@
 
 mod device;
 mod drill;
+mod face;
 mod mem;
+mod mem_disk;
+mod mem_plant;
 mod moment;
 mod nodes;
+mod past;
 mod plans;
 mod plant;
 mod rows;
 mod step;
+mod stops;
 
 pub use device::{Answer, DeviceOp, Fault, NodeRow};
 pub use drill::{Drill, DrillFault, How, Pick};

@@ -1,7 +1,8 @@
 ghost use Rattle.std.specs.Prelude.{◌≡◌, ℕ, List};
 ghost use Rattle.plant.specs.Worlds.{World, is_row, row_after, world_after};
 ghost use Rattle.plant.specs.declared.rows.Row.{Row};
-ghost use Rattle.plant.specs.MemLab.{event_of, row_of};
+ghost use Rattle.plant.specs.MemLab.{row_of};
+ghost use Rattle.plant.specs.Steps.{event_of};
 
 use crate::{DeviceOp, Step};
 use lab_base::{Name, VlanId};

@@ -1,5 +1,6 @@
 use super::*;
 use lab_base::{Boot, Name, VlanId};
+use std::alloc::Global;
 use std::test::Fail;
 
 fn named(text: &[u8]) -> Result<Name, Fail> {
@@ -50,9 +51,6 @@ fn a_device_fails_as_planned(rt: HostRuntime) -> Result<(), Fail> {
         let name = named(b"s1")?;
         assert_eq!(rt; plant.drill(Drill::Device { name, nth, how }), Ok(()));
     }
-    assert_eq!(rt; plant.drill(Drill::Disk { nth: 1 }), Ok(()));
-    let pick = Pick::All;
-    assert_eq!(rt; plant.drill(Drill::Stop { nth: 1, pick }), Ok(()));
     let switch = named(b"s1")?;
     let other = named(b"s2")?;
     assert_eq!(rt; plant.command(join(&switch, 1)), Ok(Answer::Done));
@@ -94,5 +92,52 @@ fn a_poll_moves_a_boot(rt: HostRuntime) -> Result<(), Fail> {
     };
     assert_eq!(rt; plant.command(poll), Ok(Answer::State(Boot::Off)));
     plant.mark()?;
+    Ok(())
+}
+
+/// What side A reads as after a write of 4 bytes, a sync, and a stop by the pick at a write of 5 bytes behind them.
+fn left_by(alloc: Global, pick: Pick, into: &mut [u8]) -> Result<(), Fail> {
+    let mut plant = MemLab::blank(alloc)?;
+    plant.write(Side::A, 0, b"abcd").ok().ok_or("written")?;
+    plant.sync(Side::A).ok().ok_or("durable")?;
+    plant
+        .drill(Drill::Stop { nth: 1, pick })
+        .ok()
+        .ok_or("planned")?;
+    match plant.write(Side::A, 4, b"efghi") {
+        Err(Fault::Stopped) => plant.restart()?,
+        _ => return Err("no stop".into()),
+    }
+    match plant.length(Side::A) {
+        Ok(n) if n == into.len() as u64 => plant.read(Side::A, 0, into).ok().ok_or("read")?,
+        _ => return Err("another length".into()),
+    }
+    Ok(())
+}
+
+#[test]
+fn a_stop_leaves_by_its_pick(rt: HostRuntime) -> Result<(), Fail> {
+    let mut left = [0; 9];
+    left_by(rt.alloc(), Pick::Nothing, &mut left[..4])?;
+    assert_eq!(rt; left[..4], b"abcd"[..]);
+    left_by(rt.alloc(), Pick::All, &mut left)?;
+    assert_eq!(rt; left[..], b"abcdefghi"[..]);
+    left_by(rt.alloc(), Pick::Torn, &mut left)?;
+    assert_eq!(rt; left[..], b"abcdef\xa5\xa5\xa5"[..]);
+    Ok(())
+}
+
+#[test]
+fn the_disk_fails_as_planned(rt: HostRuntime) -> Result<(), Fail> {
+    let mut plant = MemLab::blank(rt.alloc())?;
+    for nth in [2, 3] {
+        assert_eq!(rt; plant.drill(Drill::Disk { nth }), Ok(()));
+    }
+    assert_eq!(rt; plant.length(Side::B), Ok(0));
+    assert_eq!(rt; plant.write(Side::B, 0, b"x"), Err(Fault::Failed));
+    assert_eq!(rt; plant.sync(Side::B), Err(Fault::Failed));
+    assert_eq!(rt; plant.length(Side::B), Ok(0));
+    assert_eq!(rt; plant.cut(Side::B, 0), Ok(()));
+    assert_eq!(rt; plant.trace().len(), 3);
     Ok(())
 }

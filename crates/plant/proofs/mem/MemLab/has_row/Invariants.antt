@@ -1,5 +1,6 @@
 use Rattle.std.proofs.Common.{◌≡◌, take}
-use Rattle.plant.specs.MemLab.{trace_of, bytes_of, row_of}
+use Rattle.plant.specs.MemLab.{bytes_of, row_of}
+use Rattle.plant.specs.Steps.{trace_of}
 use Rattle.plant.specs.Worlds.{world_of}
 use Rattle.plant.proofs.mem.MemLab.has_row.Given as goal
 

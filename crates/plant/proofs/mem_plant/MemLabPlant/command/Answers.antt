@@ -1,0 +1,22 @@
+use Rattle.std.proofs.Common.{[], ◌∷◌, true, Err, inl, inr, refl}
+use Rattle.plant.specs.Calls.{device_of}
+use Rattle.plant.specs.Events.{Did}
+use Rattle.plant.specs.MemLab.{plans_of}
+use Rattle.plant.specs.Plans.{firing, is_applied}
+use Rattle.plant.specs.Stopping.{stopped_step}
+use Rattle.plant.proofs.Told.{command_stops}
+use Rattle.plant.proofs.mem_plant.MemLabPlant.command.Goals as goal
+
+pub returns-in-None-clause-trace : goal.returns-in-None-clause-trace
+returns-in-None-clause-trace c = (
+  Did c.args.op (is_applied (firing (device_of c.args.op) (plans_of c.args.self.now))) c.send.result ∷ [],
+  c.send.ensures.told,
+  rw c.if-self.false c.send.ensures.fits,
+)
+
+pub returns-in-Some-clause-trace : goal.returns-in-Some-clause-trace
+returns-in-Some-clause-trace c = (
+  stopped_step c.args.op c.in-Some.pick,
+  c.stop_at.ensures.told,
+  rw c.if-self.false (command_stops c.args.op c.in-Some.pick),
+)

@@ -1,0 +1,22 @@
+use Rattle.std.proofs.Common.{refl, sym, ap, arith, ◌≡◌, ◌∙◌, ◌++◌, ◌∷◌, [], length}
+use Rattle.plant.specs.declared.step.Side.TheVariants.{A, B}
+use Rattle.plant.specs.declared.step.Step.TheVariants as steps
+use Rattle.plant.specs.Events as events
+use Rattle.plant.proofs.Growing.{Grown, grown_by, grown, last_range, test}
+use Rattle.plant.proofs.past.Past.did.Goals as goal
+
+pub returns-clause-trace : goal.returns-clause-trace
+returns-clause-trace c =
+    let self = c.args.self.now in
+    let after : Grown self.bytes.items self.steps.items self.bytes.items c.add_step.new.steps.items (events.Did c.args.op.now c.args.applied c.args.answer) = grown_by self.bytes.items self.steps.items c.add_step.new.steps.items (steps.Did c.args.op.now c.args.applied c.args.answer) (events.Did c.args.op.now c.args.applied c.args.answer) c.add_step.ensures.items self.within refl refl in
+    after.trace
+
+pub invariant_of-self : goal.invariant_of-self
+invariant_of-self c =
+    let self = c.args.self.now in
+    let after : Grown self.bytes.items self.steps.items self.bytes.items c.add_step.new.steps.items (events.Did c.args.op.now c.args.applied c.args.answer) = grown_by self.bytes.items self.steps.items c.add_step.new.steps.items (steps.Did c.args.op.now c.args.applied c.args.answer) (events.Did c.args.op.now c.args.applied c.args.answer) c.add_step.ensures.items self.within refl refl in
+    record {
+      within = after.within;
+      a_is = self.a_is ∙ sym (after.disks A);
+      b_is = self.b_is ∙ sym (after.disks B);
+    }
