@@ -26,6 +26,7 @@ claimed_in wiring (In mapping tags) New = Some (record { wiring = wiring; mappin
 claimed_in wiring (Moving old new) Old = old
 claimed_in wiring (Moving old new) New = new
 
+-- the mapping that an experiment claims as its old or its new one
 abbrev pub claimed : Experiment → Which → Option Mapped
 claimed e which = claimed_in e.wiring e.phase which
 
@@ -57,6 +58,7 @@ is_placed lab (Some m) name = places_it lab m name
 abbrev pub claims_it : Lab → Experiment → List ℕ → Bool
 claims_it lab e name = is_placed lab (claimed e Old) name || is_placed lab (claimed e New) name
 
+-- the VLAN ids of a mapping, if there is one
 abbrev pub tags_of : Option Mapped → List ℕ
 tags_of None = []
 tags_of (Some m) = map (λ tag. tag.0) m.tags

@@ -45,19 +45,23 @@ pub record Plan : Type 0 where
   pub load : List DeviceOp
   pub boot : List (List ℕ)
 
+-- the commands that join a row and leave it
 abbrev pub join : Owned → DeviceOp
 join o = Join o.row.switch o.row.port (record { 0 = o.row.vlan })
 
 abbrev pub leave : Owned → DeviceOp
 leave o = Leave o.row.switch o.row.port (record { 0 = o.row.vlan })
 
+-- the rows of a mapping, if there is one
 abbrev pub rows_from : Lab → Option Mapped → List Owned
 rows_from lab None = []
 rows_from lab (Some m) = rows_of lab m
 
+-- the nodes in the lab's order
 abbrev pub node_names : Lab → List (List ℕ)
 node_names lab = map (λ n. n.name) lab.nodes
 
+-- the command that sets a numbered pipe
 abbrev pub shape : List ℕ → ℕ × PipeRow → DeviceOp
 shape node p = Shape node p.0 p.1.from p.1.to p.1.there p.1.back
 
@@ -65,6 +69,7 @@ shape node p = Shape node p.0 p.1.from p.1.to p.1.there p.1.back
 abbrev pub load_node : Lab → Mapped → List ℕ → List DeviceOp
 load_node lab m name = Load name (unwrap_or (os_on lab m.wiring.nodes m.mapping.places name) []) ∷ map (shape name) (enumerate_from 0 (pipes_on lab m name))
 
+-- the same of these nodes
 abbrev pub load_nodes : Lab → Option Mapped → List (List ℕ) → List DeviceOp
 load_nodes lab None names = []
 load_nodes lab (Some m) names = flat_map (load_node lab m) names
@@ -73,7 +78,7 @@ load_nodes lab (Some m) names = flat_map (load_node lab m) names
 abbrev pub fresh : Lab → Option Mapped → Option Mapped → Option Mapped → List (List ℕ)
 fresh lab old new side = filter (λ name. is_placed lab side name && not (is_kept lab old new name)) (node_names lab)
 
--- Commands(move)
+-- the commands of a move from the old mapping to the new one, either of which may be missing
 abbrev pub commands : Lab → Option Mapped → Option Mapped → Plan
 commands lab old new = record {
   clear = map leave (rows_from lab old) ++ map Wipe (fresh lab old new old);
@@ -91,6 +96,7 @@ undo lab old new = record {
   boot = fresh lab old new old;
 }
 
+-- boot states of which the second may follow the first
 abbrev pub lawful : Boot → Boot → Bool
 lawful Off Off = true
 lawful Off Booting = true
@@ -113,17 +119,19 @@ pub data Trouble : Type 0 where
   Late : (node : List ℕ) → Trouble
   Unlawful : (node : List ℕ) (from to : Boot) → Trouble
 
--- what is left of a course: commands, nodes to boot, and perhaps a node that is watched, with its state and its number of polls
+-- a node that is watched since its Boot, with its state and its number of polls
 pub record Watch : Type 0 where
   pub node : List ℕ
   pub state : Boot
   pub polls : ℕ
 
+-- what is left of a course: commands, nodes to boot, and perhaps a watched node
 pub record Left : Type 0 where
   pub todo : List DeviceOp
   pub boot : List (List ℕ)
   pub watch : Option Watch
 
+-- all of a plan is left
 abbrev pub whole : Plan → Left
 whole plan = record { todo = plan.clear ++ plan.cable ++ plan.load; boot = plan.boot; watch = None }
 
@@ -134,6 +142,7 @@ next [] (Some w) boot = Some (Poll w.node)
 next [] None (node ∷ boot) = Some (BootIt node)
 next [] None [] = None
 
+-- the device that a command goes to: a switch or a node
 abbrev pub device : DeviceOp → List ℕ
 device (Join switch port vlan) = switch
 device (Leave switch port vlan) = switch
@@ -149,6 +158,7 @@ pub data Course : Type 0 where
   Cut : Trouble → Course
   Halted : Course
 
+-- a failure cuts the course, and a stop ends it
 abbrev pub fault_of : List ℕ → Fault → Course
 fault_of name Failed = Cut (Device name)
 fault_of name Stopped = Halted
@@ -158,6 +168,7 @@ abbrev pub judged : Watch → Boot → List (List ℕ) → Course
 judged w IsUp boot = Going (record { todo = []; boot = boot; watch = None })
 judged w state boot = if w.polls + 1 == 64 then Cut (Late w.node) else Going (record { todo = []; boot = boot; watch = Some (record { node = w.node; state = state; polls = w.polls + 1 }) })
 
+-- what a watch says of any state: an unlawful pair comes first
 abbrev pub seen : Watch → Boot → List (List ℕ) → Course
 seen w state boot = if lawful w.state state then judged w state boot else Cut (Unlawful w.node w.state state)
 
@@ -179,6 +190,7 @@ Goes (c ∷ cs) (Going left) end = (next left.todo left.watch left.boot ≡ Some
 Goes (c ∷ cs) (Cut what) end = ⊥
 Goes (c ∷ cs) Halted end = ⊥
 
+-- the end of a course
 abbrev pub nothing_left : Left
 nothing_left = record { todo = []; boot = []; watch = None }
 

@@ -7,6 +7,7 @@ use Rattle.plant.specs.Worlds.{Row, PipeRow, World}
 use Rattle.lab_model.specs.Claims.{Which, Wants}
 use Rattle.lab_model.specs.Reach.{Next, Reaches}
 
+-- the owner of a point: an experiment, its old or its new mapping, and a link or LAN
 pub record Owner : Type 0 where
   pub exp : List ℕ
   pub which : Which

@@ -9,6 +9,7 @@ use Rattle.plant.specs.Worlds.{PipeRow}
 use Rattle.lab_model.specs.Claims.{places_it}
 use Rattle.lab_model.specs.Wants.{os_on, pipes_on}
 
+-- the same rates, the same pipe, and the same OS
 abbrev pub same_rates : Rates → Rates → Bool
 same_rates a b = (a.kbps == b.kbps) && (a.micros == b.micros) && (a.ppm == b.ppm)
 

@@ -18,6 +18,7 @@ use Rattle.lab_model.specs.Cabled.{SameNode}
 abbrev pub did : World → DeviceOp → Bool → Result Answer Fault → World
 did w op applied answer = world_after w (Did op applied answer)
 
+-- commands with their answers
 abbrev pub Sent : Type 0
 Sent = List (DeviceOp × Result Answer Fault)
 

@@ -17,6 +17,7 @@ pub record IsAt (lab : Lab) (node iface : List ℕ) (row : Row) : Type 0 where
   pub switch_is : row.switch ≡ switch_name lab (iface_at lab number).switch.0
   pub port_is : row.port ≡ (iface_at lab number).port
 
+-- the row is at the first end of the trunk, or at its second one
 abbrev pub IsFirstEnd : Lab → Trunk → Row → Type 0
 IsFirstEnd lab t row = (row.switch ≡ switch_name lab t.first.0.0) × (row.port ≡ t.first.1)
 

@@ -11,6 +11,7 @@ use Rattle.lab_model.specs.Holding.{Holding}
 use Rattle.lab_model.specs.Isolated.{Isolated}
 use Rattle.lab_model.specs.Cabled.{Cabled}
 
+-- the experiment moves
 abbrev pub is_moving : Experiment → Bool
 is_moving e = moving e.phase
   where

@@ -14,6 +14,7 @@ no_iface = record { link = []; node = record { 0 = 0 }; name = []; switch = reco
 abbrev pub iface_at : Lab → IfaceId → Iface
 iface_at lab i = slice_index_or lab.ifaces i.0 no_iface
 
+-- the switch that an interface sits on
 abbrev pub switch_of : Lab → IfaceId → ℕ
 switch_of lab i = (iface_at lab i).switch.0
 
@@ -25,7 +26,7 @@ on_first lab t c = count_by (λ i. on_first_side lab.trunks t (switch_of lab i))
 abbrev pub is_carried : Lab → ℕ → Cable → Bool
 is_carried lab t c = nat_lt 0 (on_first lab t c) && nat_lt (on_first lab t c) (length c.plugs)
 
--- what the cables use of trunk t
+-- what the cables use of trunk t: each its kbps, times the lesser number of its plugs on a side
 abbrev pub trunk_use : Lab → ℕ → List Cable → ℕ
 trunk_use lab t cs = sum_by (λ c. min (on_first lab t c) (length c.plugs - on_first lab t c) * c.segment.kbps) cs
 

@@ -18,6 +18,7 @@ use Rattle.lab_model.specs.Uses.{cables_of, iface_at, is_carried}
 use Rattle.lab_model.specs.Shapes.{node_at}
 use Rattle.lab_model.specs.Rules.{place_at, plug_at}
 
+-- the name of a switch, and of a node
 abbrev pub switch_name : Lab → ℕ → List ℕ
 switch_name lab s = slice_index_or lab.switches s []
 
@@ -39,6 +40,7 @@ trunk_rows lab vlan c t = if is_carried lab t.0 c
     then record { switch = switch_name lab t.1.first.0.0; port = t.1.first.1; vlan = vlan } ∷ record { switch = switch_name lab t.1.second.0.0; port = t.1.second.1; vlan = vlan } ∷ []
     else []
 
+-- the rows of a cable: those of its plugs, then those of each trunk that carries it
 abbrev pub cable_rows : Lab → ℕ → Cable → List Row
 cable_rows lab vlan c = map (plug_row lab vlan) c.plugs ++ flat_map (trunk_rows lab vlan c) (enumerate_from 0 lab.trunks)
 
@@ -52,6 +54,7 @@ owned_rows lab (c ∷ cs) (tag ∷ tags) = map (λ row. record { row = row; owne
 abbrev pub cables_in : Mapped → List Cable
 cables_in m = cables_of m.wiring m.mapping
 
+-- the rows that a mapping wants, each with its owner
 abbrev pub rows_of : Lab → Mapped → List Owned
 rows_of lab m = owned_rows lab (cables_in m) m.tags
 
@@ -65,6 +68,7 @@ os_on lab [] places name = None
 os_on lab (v ∷ vs) [] name = None
 os_on lab (v ∷ vs) (p ∷ places) name = if bytes_eq (node_name lab p.0) name then Some v.os else os_on lab vs places name
 
+-- the name of an end's interface on its node
 abbrev pub plug_name : Lab → Mapped → ℕ → List ℕ
 plug_name lab m e = (iface_at lab (plug_at m.mapping e)).name
 

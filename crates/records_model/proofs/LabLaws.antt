@@ -23,7 +23,7 @@ use Rattle.lab_model.specs.Shapes.{IsShaped}
 use Rattle.phys_lab.proofs.Adding.{empty_kept}
 use Rattle.lab_model.proofs.Records.{Has_mid, Has_other}
 use Rattle.lab_model.proofs.ListLaws.{holding_drop, holding_add, parts_drop, parts_add}
-use Rattle.records_model.specs.Labs.{LabState, at_first, StopsAt, Move, SetLab, Creates, Deletes, BeginsIn, BeginsOut, BeginsChange, Commits, Aborts, find, replace, others, becomes, is_out, with_replaced, moved_one, deleted, in_state, moved_of, moved, Texts, AreCanonical, Says, Follows, FoldsTo, LabOf, no_lab, Sane, IsReady, KeepsParts}
+use Rattle.records_model.specs.Labs.{LabState, at_first, StopsAt, Move, SetLab, Creates, Deletes, BeginsIn, BeginsOut, BeginsChange, Commits, Aborts, find, replace, others, becomes, is_out, with_replaced, moved_one, deleted, in_state, moved_of, moved, Texts, AreCanonical, Says, Follows, FoldsTo, LabOf, no_lab, Sane, IsRightFor, KeepsParts}
 use Rattle.records_model.proofs.Finding.{some_is, none_some, found_from, not_found, names_mid}
 use Rattle.records_model.proofs.Turning.{ShapedFor, ReadyOne, Turned, turned}
 
@@ -64,7 +64,7 @@ IsNamed move = Unit {0}
 -- what a move gives
 pub record Stepped (s : LabState) (move : Move) (u : LabState) : Type 0 where
   pub sane : Sane u
-  pub parts : (w : World) → IsReady s w move → KeepsParts w s → KeepsParts w u
+  pub parts : (w : World) → IsRightFor s w move → KeepsParts w s → KeepsParts w u
   pub named : AreNamed s → IsNamed move → AreNamed u
 
 abbrev pub state : Lab → List Experiment → LabState
@@ -159,7 +159,7 @@ step_delete lab es name e sane is out =
 
 -- a move of one experiment
 step_one : (lab : Lab) (es : List Experiment) (name : List ℕ) (e g : Experiment) (move : Move) → Sane (state lab es) → find name es ≡ Some e → becomes lab es e e.phase move ≡ Some g → ShapedFor lab e move
-    → ((w : World) → IsReady (state lab es) w move → ReadyOne lab w e move) → Stepped (state lab es) move (state lab (replace name g es))
+    → ((w : World) → IsRightFor (state lab es) w move → ReadyOne lab w e move) → Stepped (state lab es) move (state lab (replace name g es))
 step_one lab es name e g move sane is h shaped ready =
     let f = found_from name es e is in
     let a = f.before in
@@ -200,7 +200,7 @@ found_one lab es name move None xs h = none_some xs h
 found_one lab es name move (Some e) xs h = (e, refl, h)
 
 one : (lab : Lab) (es : List Experiment) (name : List ℕ) (move : Move) (u : LabState) → Sane (state lab es) → in_state lab (moved_one lab es name (find name es) move) ≡ Some u
-    → ((e : Experiment) → find name es ≡ Some e → ShapedFor lab e move) → ((e : Experiment) → find name es ≡ Some e → (w : World) → IsReady (state lab es) w move → ReadyOne lab w e move) → Stepped (state lab es) move u
+    → ((e : Experiment) → find name es ≡ Some e → ShapedFor lab e move) → ((e : Experiment) → find name es ≡ Some e → (w : World) → IsRightFor (state lab es) w move → ReadyOne lab w e move) → Stepped (state lab es) move u
 one lab es name move u sane h shaped ready =
     let in_it = in_state-some lab (moved_one lab es name (find name es) move) u h in
     let e = found_one lab es name move (find name es) in_it.0 in_it.1 in
@@ -251,7 +251,7 @@ steps (Some lab) es (Aborts name) u sane shaped h = one lab es name (Aborts name
 pub follows_sane : (t : Texts) (s : LabState) (r : Record) (u : LabState) → Sane s → Follows t s r u → Sane u
 follows_sane t s r u sane f = (steps s.lab s.experiments f.move u sane (says_shaped t s r f.move f.says) f.gives).sane
 
-pub follows_parts : (t : Texts) (s : LabState) (r : Record) (u : LabState) (w : World) → Sane s → (f : Follows t s r u) → IsReady s w f.move → KeepsParts w s → KeepsParts w u
+pub follows_parts : (t : Texts) (s : LabState) (r : Record) (u : LabState) (w : World) → Sane s → (f : Follows t s r u) → IsRightFor s w f.move → KeepsParts w s → KeepsParts w u
 follows_parts t s r u w sane f ready parts = (steps s.lab s.experiments f.move u sane (says_shaped t s r f.move f.says) f.gives).parts w ready parts
 
 move_named : (t : Texts) (s : LabState) (r : Record) (move : Move) → IsRecord r → Says t s r move → IsNamed move

@@ -26,7 +26,7 @@ use Rattle.lab_model.specs.Leavings.{Sent, did, ran, Ends, Gone}
 use Rattle.lab_model.specs.Sound.{is_moving}
 use Rattle.journal_rec.specs.Payloads.{IsRecord}
 use Rattle.journal_model.specs.Journals.{size}
-use Rattle.records_model.specs.Labs.{LabState, Move, Commits, Aborts, Texts, Says, lab_in, IsReady, EndsMove, find, replace, inside, in_phase, becomes, moved_one, moved_in, in_state, moved_of, moved, with_replaced}
+use Rattle.records_model.specs.Labs.{LabState, Move, Commits, Aborts, Texts, Says, lab_in, IsRightFor, EndsMove, find, replace, inside, in_phase, becomes, moved_one, moved_in, in_state, moved_of, moved, with_replaced}
 use Rattle.records_model.specs.Works.{AtWork, MayAppend, events, Open, Closes}
 use Rattle.lab_model.proofs.PartLaws.{parts_from_whole}
 use Rattle.lab_model.proofs.FeasibleLaws.{sum_mid}
@@ -119,7 +119,7 @@ last_moved : (commit : Bool) (lab : Lab) (es : List Experiment) (name : List ℕ
 last_moved true lab es name = refl
 last_moved false lab es name = refl
 
-last_ready : (commit : Bool) (s : LabState) (w : World) (e : Experiment) → find e.name s.experiments ≡ Some e → EndsMove (lab_in s.lab) w e e.phase commit → IsReady s w (last_move commit e.name)
+last_ready : (commit : Bool) (s : LabState) (w : World) (e : Experiment) → find e.name s.experiments ≡ Some e → EndsMove (lab_in s.lab) w e e.phase commit → IsRightFor s w (last_move commit e.name)
 last_ready true s w e found ends = λ x is. let same : e ≡ x = some_is e x (sym found ∙ is) in subst (λ y. EndsMove (lab_in s.lab) w y y.phase true) same ends
 last_ready false s w e found ends = λ x is. let same : e ≡ x = some_is e x (sym found ∙ is) in subst (λ y. EndsMove (lab_in s.lab) w y y.phase false) same ends
 

@@ -30,6 +30,7 @@ pub record LabState : Type 0 where
   pub lab : Option Lab
   pub experiments : List Experiment
 
+-- before the first record
 abbrev pub at_first : LabState
 at_first = record { lab = None; experiments = [] }
 
@@ -57,6 +58,7 @@ abbrev pub others : List ℕ → List Experiment → List Experiment
 others name [] = []
 others name (e ∷ es) = if bytes_eq e.name name then es else e ∷ others name es
 
+-- the experiment with that mapping, and in that phase
 abbrev pub inside : Experiment → Mapped → Experiment
 inside e m = record { name = e.name; wiring = m.wiring; phase = In m.mapping m.tags }
 
@@ -83,10 +85,12 @@ becomes lab es e (Moving None (Some new)) (Aborts name) = Some (in_phase e Out)
 becomes lab es e (Moving (Some old) (Some new)) (Aborts name) = Some (inside e old)
 becomes lab es e phase move = None
 
+-- the experiment is out
 abbrev pub is_out : Phase → Bool
 is_out Out = true
 is_out phase = false
 
+-- the experiments with one in the place of another
 abbrev pub with_replaced : List ℕ → List Experiment → Option Experiment → Option (List Experiment)
 with_replaced name es None = None
 with_replaced name es (Some f) = Some (replace name f es)
@@ -96,6 +100,7 @@ abbrev pub moved_one : Lab → List Experiment → List ℕ → Option Experimen
 moved_one lab es name None move = None
 moved_one lab es name (Some e) move = with_replaced name es (becomes lab es e e.phase move)
 
+-- the experiments without one that is out
 abbrev pub deleted : List ℕ → List Experiment → Option Experiment → Option (List Experiment)
 deleted name es None = None
 deleted name es (Some e) = if is_out e.phase then Some (others name es) else None
@@ -112,6 +117,7 @@ moved_in lab es (BeginsChange name wiring mapping tags) = moved_one lab es name 
 moved_in lab es (Commits name) = moved_one lab es name (find name es) (Commits name)
 moved_in lab es (Aborts name) = moved_one lab es name (find name es) (Aborts name)
 
+-- the experiments in their lab
 abbrev pub in_state : Lab → Option (List Experiment) → Option LabState
 in_state lab None = None
 in_state lab (Some es) = Some (record { lab = Some lab; experiments = es })
@@ -122,6 +128,7 @@ moved_of None es (SetLab lab) = Some (record { lab = Some lab; experiments = [] 
 moved_of None es move = None
 moved_of (Some lab) es move = in_state lab (moved_in lab es move)
 
+-- the state after a move, if it can follow
 abbrev pub moved : LabState → Move → Option LabState
 moved s move = moved_of s.lab s.experiments move
 
@@ -159,6 +166,7 @@ pub record Follows (t : Texts) (s : LabState) (r : Record) (after : LabState) : 
   pub says : Says t s r move
   pub gives : moved s move ≡ Some after
 
+-- these records lead from one state to the other
 abbrev pub FoldsTo : Texts → LabState → List Record → LabState → Type 0
 FoldsTo t s [] end = s ≡ end
 FoldsTo t s (r ∷ rs) end = (mid : LabState) × Follows t s r mid × FoldsTo t mid rs end
@@ -167,6 +175,7 @@ FoldsTo t s (r ∷ rs) end = (mid : LabState) × Follows t s r mid × FoldsTo t 
 abbrev pub LabOf : Texts → List Record → LabState → Type 0
 LabOf t rs s = FoldsTo t at_first rs s
 
+-- a lab without anything
 abbrev pub no_lab : Lab
 no_lab = empty_lab 2 2
 
@@ -192,11 +201,13 @@ EndsMove lab w e (Moving None (Some new)) false = Gone lab e w
 EndsMove lab w e (Moving (Some old) (Some new)) false = Ends lab e old w
 EndsMove lab w e phase commit = Unit {0}
 
-abbrev pub IsReady : LabState → World → Move → Type 0
-IsReady s w (Commits name) = (e : Experiment) → find name s.experiments ≡ Some e → EndsMove (lab_in s.lab) w e e.phase true
-IsReady s w (Aborts name) = (e : Experiment) → find name s.experiments ≡ Some e → EndsMove (lab_in s.lab) w e e.phase false
-IsReady s w move = Unit {0}
+-- the world is right for the lab after the move
+abbrev pub IsRightFor : LabState → World → Move → Type 0
+IsRightFor s w (Commits name) = (e : Experiment) → find name s.experiments ≡ Some e → EndsMove (lab_in s.lab) w e e.phase true
+IsRightFor s w (Aborts name) = (e : Experiment) → find name s.experiments ≡ Some e → EndsMove (lab_in s.lab) w e e.phase false
+IsRightFor s w move = Unit {0}
 
+-- the world keeps the parts of all experiments
 abbrev pub KeepsParts : World → LabState → Type 0
 KeepsParts w s = Parts (lab_in s.lab) s.experiments w
 

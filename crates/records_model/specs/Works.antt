@@ -18,7 +18,7 @@ use Rattle.lab_model.specs.OnCourse.{OnCourse}
 use Rattle.journal_rec.specs.Payloads.{IsRecord}
 use Rattle.journal_model.specs.Journals.{gate_after}
 use Rattle.journal_model.specs.Appends.{Opened, Run, All, added}
-use Rattle.records_model.specs.Labs.{LabState, Texts, LabOf, Follows, IsReady, find, replace, lab_in, EndsMove}
+use Rattle.records_model.specs.Labs.{LabState, Texts, LabOf, Follows, IsRightFor, find, replace, lab_in, EndsMove}
 use Rattle.records_model.specs.Appends.{standing, StandFor}
 
 -- SOUND, with what records stand for
@@ -39,7 +39,7 @@ HasRoom rs s = gate_after rs + 1 + 39 * count_by is_moving s.experiments ≤ 2 ^
 pub record MayAppend (t : Texts) (trace : List Event) (rs : List Record) (s : LabState) (r : Record) (u : LabState) : Type 0 where
   pub is_record : IsRecord r
   pub follows : Follows t s r u
-  pub ready : IsReady s (world_of trace) follows.move
+  pub ready : IsRightFor s (world_of trace) follows.move
   pub room : HasRoom (rs ++ r ∷ []) u
 
 -- commands that were all applied, with their answers

@@ -27,7 +27,7 @@ ghost use Rattle.journal_model.specs.Appends.{Known, Rests, Run, All, added, Aft
 ghost use Rattle.journal_model.specs.Making.{IsShort, IsClosed, made_header};
 ghost use Rattle.journal_model.specs.Journals.{gate_after, size, Records, Bad, AreBytes};
 ghost use Rattle.journal_rec.specs.Payloads.{payload, IsRecord, Decodes};
-ghost use Rattle.records_model.specs.Labs.{LabState, Texts, AreCanonical, StopsAt, mapped, Follows, FoldsTo, LabOf, Sane, IsReady, KeepsParts, BeginsIn, lab_in, in_phase, inside, find};
+ghost use Rattle.records_model.specs.Labs.{LabState, Texts, AreCanonical, StopsAt, mapped, Follows, FoldsTo, LabOf, Sane, IsRightFor, KeepsParts, BeginsIn, lab_in, in_phase, inside, find};
 ghost use Rattle.records_model.specs.Appends.{StandFor};
 ghost use Rattle.records_model.specs.Openings.{Blanks, Finds, BegunIn};
 ghost use Rattle.records_model.specs.Works.{Running, IsSound, AtWork, HasRoom, MayAppend, events, Open, Closes};
@@ -44,7 +44,7 @@ pub fn lab_of_records()
     ensures stops_once { (t : Texts) (s : LabState) (rs : List Record) (m n : ℕ) → AreCanonical t → StopsAt t s rs m → StopsAt t s rs n → m ≡ n }
     ensures sane { (t : Texts) (rs : List Record) (s : LabState) → LabOf t rs s → Sane s }
     ensures holding { (t : Texts) (rs : List Record) (s : LabState) → LabOf t rs s → Holding (lab_in s.lab) s.experiments }
-    ensures parts { (t : Texts) (s u : LabState) (r : Record) (w : World) → Sane s → (f : Follows t s r u) → IsReady s w f.move
+    ensures parts { (t : Texts) (s u : LabState) (r : Record) (w : World) → Sane s → (f : Follows t s r u) → IsRightFor s w f.move
         → KeepsParts w s → KeepsParts w u }
     ensures room { (rs : List Record) (r : Record) (u : LabState) → Sane u → gate_after rs + 1 + size r + 10240 ≤ 2 ^ 32
         → HasRoom (rs ++ r ∷ []) u }
