@@ -1,0 +1,4 @@
+pub mod Arities
+pub mod LinkLaws
+pub mod ReadLaws
+pub mod SliceLaws

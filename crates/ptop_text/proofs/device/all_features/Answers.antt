@@ -1,0 +1,6 @@
+use Rattle.ptop_text.specs.Lines.{feature_of}
+use Rattle.lab_base.proofs.FieldLists.{one_more}
+use Rattle.ptop_text.proofs.device.all_features.Goals as goal
+
+pub loop-field-preserved : goal.loop-field-preserved
+loop-field-preserved c = one_more feature_of c.loop-field.so_far c.in_ok-so_far.so_far _ c.feature_in.result c.args.fields.now c.loop-field.field-index _ c.loop-field-test.true c.feature_in.ensures c.in_ok-so_far.ensures c.loop-field.invariant

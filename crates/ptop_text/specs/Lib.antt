@@ -1,0 +1,5 @@
+pub mod Reading
+pub mod Lines
+pub mod Adding
+pub mod Refusals
+pub mod Canonical

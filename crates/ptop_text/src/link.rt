@@ -1,0 +1,117 @@
+// The lines of links and of the range.
+ghost use Rattle.std.specs.Prelude.{◌≡◌, ◌∷◌, [], option_map};
+ghost use Rattle.lab_base.specs.Texts.{views};
+ghost use Rattle.lab_base.specs.Parts.{numbered, numbered_parts};
+ghost use Rattle.ptop_text.specs.Lines.{end_of, is_switch_of, first_parts, first_end, link_line, vlans_line};
+
+use crate::fields::short_in;
+use lab_base::{Kind, Name, Parts, both, name_in, number_in, parted};
+use phys_lab::LabBuilder;
+
+/// What stands behind the colon of a link's first end.
+#[derive(Clone, Copy, Drop)]
+pub(crate) enum FirstEnd {
+    Port(u16),
+    Iface(Name),
+}
+
+/// A link, its first end, its second end and its speed.
+pub(crate) type Link = (Name, ((Name, FirstEnd), ((Name, u16), u64)));
+
+fn end_in(is_switch: bool, field: &[u8]) -> Result<FirstEnd, Kind>
+    ensures { result ≡ end_of is_switch field.now }
+{
+    if is_switch {
+        match short_in(field, 1, 4_096) {
+            Ok(port) => Ok(FirstEnd::Port(port)),
+            Err(kind) => Err(kind),
+        }
+    } else {
+        match name_in(field) {
+            Ok(name) => Ok(FirstEnd::Iface(name)),
+            Err(kind) => Err(kind),
+        }
+    }
+}
+
+fn is_switch_of(lab: &LabBuilder, name: Result<Name, Kind>) -> bool
+    ensures { result ≡ is_switch_of lab.now name }
+{
+    match name {
+        Ok(name) => lab.switch_named(name).is_some(),
+        Err(_) => false,
+    }
+}
+
+fn first_in(lab: &LabBuilder, parts: Option<Parts<'_>>) -> Result<(Name, FirstEnd), Kind>
+    ensures { result ≡ first_parts lab.now (option_map (λ parts. (parts.before.now, parts.behind.now)) parts.entry) }
+{
+    match parts {
+        Some(parts) => {
+            let is_switch = is_switch_of(lab, name_in(parts.before));
+            both(name_in(parts.before), end_in(is_switch, parts.behind))
+        }
+        None => Err(Kind::Fields),
+    }
+}
+
+fn first_field(lab: &LabBuilder, field: &[u8]) -> Result<(Name, FirstEnd), Kind>
+    ensures { result ≡ first_end lab.now field.now }
+{
+    first_in(lab, parted(field, b':'))
+}
+
+fn second_in(parts: Option<Parts<'_>>) -> Result<(Name, u16), Kind>
+    ensures { result ≡ numbered_parts 1 4096 (option_map (λ parts. (parts.before.now, parts.behind.now)) parts.entry) }
+{
+    match parts {
+        Some(parts) => both(name_in(parts.before), short_in(parts.behind, 1, 4_096)),
+        None => Err(Kind::Fields),
+    }
+}
+
+fn second_field(field: &[u8]) -> Result<(Name, u16), Kind>
+    ensures { result ≡ numbered 1 4096 field.now }
+{
+    second_in(parted(field, b':'))
+}
+
+fn link_of(
+    lab: &LabBuilder,
+    link: &[u8],
+    first: &[u8],
+    second: &[u8],
+    kbps: &[u8],
+) -> Result<Link, Kind>
+    ensures { result ≡ link_line lab.now (link.now ∷ first.now ∷ second.now ∷ kbps.now ∷ []) }
+{
+    let speed = number_in(kbps, 1, 1_000_000_000);
+    let ends = both(second_field(second), speed);
+    both(name_in(link), both(first_field(lab, first), ends))
+}
+
+/// Reads the fields behind the word `link`, over the lab so far.
+pub(crate) fn link_in(lab: &LabBuilder, fields: &[&[u8]]) -> Result<Link, Kind>
+    ensures { result ≡ link_line lab.now (views fields.now) }
+{
+    match fields {
+        [link, first, second, kbps] => link_of(lab, link, first, second, kbps),
+        [] => Err(Kind::Fields),
+        [_] => Err(Kind::Fields),
+        [_, _] => Err(Kind::Fields),
+        [_, _, _] => Err(Kind::Fields),
+        [_, _, _, _, _, ..] => Err(Kind::Fields),
+    }
+}
+
+/// Reads the fields behind the word `vlans`.
+pub(crate) fn vlans_in(fields: &[&[u8]]) -> Result<(u16, u16), Kind>
+    ensures { result ≡ vlans_line (views fields.now) }
+{
+    match fields {
+        [first, last] => both(short_in(first, 2, 4_094), short_in(last, 2, 4_094)),
+        [] => Err(Kind::Fields),
+        [_] => Err(Kind::Fields),
+        [_, _, _, ..] => Err(Kind::Fields),
+    }
+}
