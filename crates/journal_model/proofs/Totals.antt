@@ -45,7 +45,7 @@ decide bytes all = by (all_of bytes) refl
     by None e = inr (λ r d. none-some r (sym e ∙ ap all_of d.spelled ∙ all_again r d.is_record))
     by (Some r) e = inl (r, all_takes bytes r (bytes_are bytes all) e)
 
-one_block : (rest : List ℕ) (n : ℕ) → AreBytes rest → 4 ≤ length rest → n ≡ number (take 4 rest) → 4 + n + 1 ≤ length rest → (r : Record) → Decodes (take n (drop 4 rest)) r
+pub one_block : (rest : List ℕ) (n : ℕ) → AreBytes rest → 4 ≤ length rest → n ≡ number (take 4 rest) → 4 + n + 1 ≤ length rest → (r : Record) → Decodes (take n (drop 4 rest)) r
     → (more : List ℕ) × (165 ∷ rest ≡ block r ++ more) × (1 ≤ length more) × (length more ≤ length rest) × AreBytes more
 one_block rest n all long is fits r d =
     let first : rest ≡ take 4 rest ++ drop 4 rest = sym (take-append-drop 4 rest) in

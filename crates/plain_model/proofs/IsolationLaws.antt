@@ -1,6 +1,6 @@
 -- The test of isolation says what isolated is.
-use Rattle.std.specs.List.{flat_map, list_any, list_all}
-use Rattle.std.proofs.Common.{◌≡◌, ◌⊎◌, inl, inr, ℕ, Bool, true, false, not, ◌&&◌, ◌||◌, Option, Some, None, List, ◌∷◌, ◌++◌, map, refl, sym, ap, ◌∙◌, subst}
+use Rattle.std.specs.List.{list_any}
+use Rattle.std.proofs.Common.{◌≡◌, inl, inr, Bool, true, not, ◌||◌, Option, Some, None, List, ◌++◌, refl, sym, ap, ◌∙◌, subst}
 use Rattle.std.proofs.lemmas.Bool.{cases_Bool, and_parts, and_from, or_cases, or_left, or_right, not-true, not_from_false, both_ways}
 use Rattle.lab_base.specs.Lists.{Has}
 use Rattle.lab_base.proofs.Members.{Has-append, Has-left, Has-right, Has-map, Has-mapped, Has-flat_map, Has-flat_mapped}
@@ -9,10 +9,9 @@ use Rattle.virt_topo.specs.declared.mapping.Mapped.{Mapped}
 use Rattle.virt_topo.specs.declared.experiment.Experiment.{Experiment}
 use Rattle.plant.specs.Worlds.{Row, World}
 use Rattle.lab_model.specs.Wants.{Owned, rows_of}
-use Rattle.lab_model.specs.Claims.{Which, Old, New, claimed, Wants}
+use Rattle.lab_model.specs.Claims.{Which, Old, New, claimed}
 use Rattle.lab_model.specs.Courses.{rows_from}
-use Rattle.lab_model.specs.Reach.{Next}
-use Rattle.lab_model.specs.Isolated.{Owner, Owns, IsRow, IsPipe, Isolated, IsolatedBeside}
+use Rattle.lab_model.specs.Isolated.{Owner, Owns, IsRow, Isolated, IsolatedBeside}
 use Rattle.lab_model.proofs.WiringLaws.{all_has}
 use Rattle.lab_model.proofs.SuitLaws.{any_has}
 use Rattle.lab_model.proofs.BesideLaws.{from_beside, to_beside}

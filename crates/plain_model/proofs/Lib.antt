@@ -1,3 +1,4 @@
 pub mod IsolationLaws
 pub mod Neighbours
+pub mod ReadLaws
 pub mod RowLaws

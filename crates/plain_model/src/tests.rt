@@ -1,4 +1,5 @@
 use super::*;
+use journal_rec::Record;
 use lab_base::{Items, Name, NodeId, SwitchId, VlanId};
 use phys_lab::{Iface, Lab, LabBuilder, Node, Trunk};
 use plant::DeviceOp;
@@ -323,6 +324,43 @@ fn rows_after_commands(rt: HostRuntime) -> Result<(), Fail> {
             })?;
         }
         assert_eq!(rt; has_row(&sent, &row((1, 1, 100))?), stands);
+    }
+    Ok(())
+}
+
+/// From the gate of the first record on: the record `Delete` of `A`, and a closed gate.
+const ONE: [u8; 9] = [0xa5, 3, 0, 0, 0, 3, 1, b'A', 0];
+
+#[test]
+fn records_from_a_gate_on(rt: HostRuntime) -> Result<(), Fail> {
+    let alloc = rt.alloc();
+    let read = read_from(alloc, &ONE).ok().ok_or("memory")?;
+    assert!(rt; read.whole);
+    assert_eq!(rt; read.records.len(), 1);
+    match &read.records[0] {
+        Record::Delete { exp } => assert_eq!(rt; exp.bytes(), b"A".as_slice()),
+        _ => return Err("another record".into()),
+    }
+    // the place and the byte that is put there, how many bytes are left, and what is read
+    let damaged: [(usize, u8, usize, usize, bool); 9] = [
+        (8, 0, 9, 1, true),
+        (8, 0xa5, 9, 1, false),
+        (0, 0, 9, 0, true),
+        (0, 0xa4, 9, 0, true),
+        (0, 0xa5, 8, 0, false),
+        (0, 0xa5, 4, 0, false),
+        (1, 2, 9, 0, false),
+        (5, 7, 9, 0, false),
+        (7, b' ', 9, 0, false),
+    ];
+    for (place, byte, left, records, whole) in damaged {
+        let mut bytes = ONE;
+        bytes[place] = byte;
+        let read = read_from(alloc, &bytes[..left]).ok().ok_or("memory")?;
+        assert_eq!(rt;
+            (place, byte, read.records.len(), read.whole),
+            (place, byte, records, whole)
+        );
     }
     Ok(())
 }
