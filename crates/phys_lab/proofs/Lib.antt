@@ -9,3 +9,4 @@ pub mod SideTables
 pub mod KeptLaws
 pub mod ForestKept
 pub mod Adding
+pub mod TrunkCount

@@ -2,3 +2,11 @@ pub mod Arities
 pub mod LinkLaws
 pub mod ReadLaws
 pub mod SliceLaws
+pub mod PartsAgain
+pub mod LinesAgain
+pub mod NoFault
+pub mod DeviceAgain
+pub mod LinkAgain
+pub mod Printed
+pub mod LabAgain
+pub mod Sizes

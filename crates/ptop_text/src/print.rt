@@ -1,5 +1,6 @@
-ghost use Rattle.std.specs.Prelude.{◌≡◌, ◌<◌, ◌++◌, ◌∷◌, [], map, length, decimal, codes, OnOk, IfOk};
+ghost use Rattle.std.specs.Prelude.{◌≡◌, ◌<◌, ◌≤◌, ◌++◌, ◌∷◌, [], map, length, decimal, codes, Ok, OnOk, IfOk};
 ghost use Rattle.phys_lab.specs.Forests.{IsWithin};
+ghost use Rattle.ptop_text.specs.Adding.{lab_of_text};
 ghost use Rattle.ptop_text.specs.Canonical.{line_text, text_of, with_number, port_field, node_name, range_line, switch_line, node_line, iface_line, trunk_line, canonical, spaced, feature_fields};
 
 use lab_base::{Memory, Name, SwitchId, Text};
@@ -168,6 +169,8 @@ fn push_trunks(text: &mut Text, lab: &Lab) -> Result<(), Memory>
 /// Prints the canonical text of a lab.
 pub fn print_ptop(alloc: Global, lab: &Lab) -> Result<Text, Memory>
     ensures text { IfOk result (λ text. text ≡ canonical lab.now) }
+    ensures again { IfOk result (λ text. lab_of_text text ≡ Ok lab.now) }
+    ensures size { IfOk result (λ text. length text ≤ 16777216) }
 {
     let mut text = Text::new(alloc);
     push_range(&mut text, lab.range())?;

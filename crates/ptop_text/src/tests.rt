@@ -1,5 +1,7 @@
-use crate::read_ptop;
-use lab_base::{Kind, Text, TextFault, TextRefused};
+ghost use Rattle.std.specs.Prelude.{◌<◌};
+
+use crate::{print_ptop, read_ptop};
+use lab_base::{Kind, SwitchId, Text, TextFault, TextRefused, TrunkId};
 use phys_lab::Lab;
 use std::alloc::Global;
 use std::test::Fail;
@@ -116,5 +118,120 @@ fn a_line_may_pass_a_limit(rt: HostRuntime) -> Result<(), Fail> {
             kind: Kind::Limit
         }
     );
+    Ok(())
+}
+
+fn side(lab: &Lab, trunk: u16, switch: u16) -> Result<bool, Fail> {
+    if (trunk as usize) < lab.trunks().len() && (switch as usize) < lab.switches().len() {
+        Ok(lab.side(TrunkId(trunk), SwitchId(switch)))
+    } else {
+        Err("not of the lab")?
+    }
+}
+
+fn joined(lab: &Lab, a: u16, b: u16) -> Result<bool, Fail> {
+    if (a as usize) < lab.switches().len() && (b as usize) < lab.switches().len() {
+        Ok(lab.joined(SwitchId(a), SwitchId(b)))
+    } else {
+        Err("not of the lab")?
+    }
+}
+
+fn are_sides_of_q(lab: &Lab) -> Result<bool, Fail> {
+    if lab.trunks().is_empty() {
+        return Err("no trunk")?;
+    }
+    Ok(
+        side(lab, 0, 0)?
+            && !side(lab, 0, 1)?
+            && joined(lab, 0, 1)?
+            && lab.first_side(TrunkId(0)) == [true, true, false, false].as_slice(),
+    )
+}
+
+#[test]
+fn a_trunk_parts_its_lab_in_two_sides(rt: HostRuntime) -> Result<(), Fail> {
+    let lab = read(rt.alloc(), LAB_Q)?.ok().ok_or("a fault")?;
+    assert!(rt; are_sides_of_q(&lab)?);
+    Ok(())
+}
+
+fn printed_again(alloc: Global, text: &[u8]) -> Result<Text, Fail> {
+    match read(alloc, text)? {
+        Ok(lab) => Ok(print_ptop(alloc, &lab)?),
+        Err(_) => Err("a fault")?,
+    }
+}
+
+#[test]
+fn a_lab_is_printed_in_one_way(rt: HostRuntime) -> Result<(), Fail> {
+    let written =
+        b"# a lab\n\n node  s1\tswitch:1\nnode a pc  big:02 - fast:0500\nlink x a:e s1:007 10\n";
+    let text = b"vlans 2 4094\nnode s1 switch\nnode a pc:1 big:2 - fast:500\nlink x a:e s1:7 10\n";
+    assert_eq!(rt;
+        printed_again(rt.alloc(), written)?.bytes(),
+        text.as_slice()
+    );
+    for text in [LAB_P, LAB_Q] {
+        assert_eq!(rt; printed_again(rt.alloc(), text)?.bytes(), text);
+    }
+    Ok(())
+}
+
+/// 64 switches in a chain, and 1,024 nodes with 16 interfaces each.
+fn largest(alloc: Global) -> Result<Text, Fail> {
+    let mut text = Text::new(alloc);
+    text.push_bytes(b"vlans 2 4094\n")?;
+    for switch in 0..64u64 {
+        text.push_bytes(b"node s")?;
+        text.push_number(switch)?;
+        text.push_bytes(b" switch\n")?;
+    }
+    for node in 0..1_024u64 {
+        text.push_bytes(b"node n")?;
+        text.push_number(node)?;
+        text.push_bytes(b" pc:1\n")?;
+    }
+    for link in 0..16_384u64 {
+        add_link(&mut text, link)?;
+    }
+    for trunk in 1..64u64 {
+        add_trunk(&mut text, trunk)?;
+    }
+    Ok(text)
+}
+
+fn add_link(text: &mut Text, link: u64) -> Result<(), Fail> {
+    text.push_bytes(b"link l")?;
+    text.push_number(link)?;
+    text.push_bytes(b" n")?;
+    text.push_number(link / 16)?;
+    text.push_bytes(b":e")?;
+    text.push_number(link % 16)?;
+    text.push_bytes(b" s")?;
+    text.push_number(link % 64)?;
+    text.push(b':')?;
+    text.push_number(1 + link / 64)?;
+    text.push_bytes(b" 1000000000\n")?;
+    Ok(())
+}
+
+fn add_trunk(text: &mut Text, trunk: u64) -> Result<(), Fail>
+    requires { 0 < trunk }
+{
+    text.push_bytes(b"link t")?;
+    text.push_number(trunk)?;
+    text.push_bytes(b" s")?;
+    text.push_number(trunk - 1)?;
+    text.push_bytes(b":4095 s")?;
+    text.push_number(trunk)?;
+    text.push_bytes(b":4096 1\n")?;
+    Ok(())
+}
+
+#[test]
+fn the_largest_lab_is_read_and_printed(rt: HostRuntime) -> Result<(), Fail> {
+    let text = largest(rt.alloc())?;
+    assert!(rt; printed_again(rt.alloc(), text.bytes())? == text);
     Ok(())
 }
