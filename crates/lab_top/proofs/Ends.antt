@@ -18,7 +18,7 @@ use Rattle.lab_top.specs.Turns.{Turn, Makes, with_turn, Counts, AreTurns, text, 
 use Rattle.lab_top.specs.Session.{Now, Outside, Takes, Stepped, Unchanged}
 use Rattle.lab_top.specs.First.{First, pairs_of, IsAll, Begun, Wrote}
 use Rattle.lab_top.specs.Isolated.{KeepsThroughout}
-use Rattle.lab_top.proofs.Isolation.{keeps_throughout, keeps_first}
+use Rattle.lab_top.proofs.Isolation.{keeps_throughout, own_first}
 use Rattle.lab_top.proofs.Going.{SoFar, Covered, Taken, taken, joined, AreTurns-push, with_turns-push, pairs-push, answers_then, counts_then}
 
 -- what a reader held back and what the source has left
@@ -64,8 +64,8 @@ next_long bytes old pairs cov still within long =
     let first = first_is_long old.taken cov.rest within (subst (λ (r : Option (List ℕ)). IsTooLong old.taken r) cov.left long) in
     ap script_of cov.split ∙ cov.script cov.rest (inl still) ∙ ap (λ (ls : List (Option (List ℕ))). joined pairs (script_from ls old.machines old.names (old.number + 1))) first.1
 
-pub from_start : (turns : List Turn) → AreTurns (codes "s1") [] turns → KeepsThroughout (codes "s1") [] [] turns
-from_start turns are = keeps_throughout (codes "s1") [] [] turns (keeps_first (codes "s1")) are
+pub from_start : (turns : List Turn) → AreTurns (codes "s1") [] turns → KeepsThroughout [] [] turns
+from_start turns are = keeps_throughout [] [] turns own_first are
 
 -- a run that made no turn
 pub none_made : (start : Outside) (status : Status) → Wrote start.written start.written [] status ≡ (start.written ≡ append_known start.written []) → start.written ≡ append_known start.written []

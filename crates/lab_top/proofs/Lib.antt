@@ -2,6 +2,8 @@ pub mod Counting
 pub mod Ends
 pub mod Following
 pub mod Going
+pub mod InGeneral
 pub mod Isolation
+pub mod OwnWords
 pub mod Rows
 pub mod Words

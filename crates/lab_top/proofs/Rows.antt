@@ -10,7 +10,7 @@ use Rattle.lab_top.specs.declared.course.Outcome.TheVariants.{In, Out, Stuck}
 use Rattle.lab_top.specs.declared.script.Pair.{Pair}
 use Rattle.lab_top.specs.Courses.{done_steps, Troubled, Cut, Courses}
 use Rattle.lab_top.specs.Lab.{joins, leaves}
-use Rattle.lab_top.specs.Isolated.{Wants}
+use Rattle.lab_top.proofs.OwnWords.{Wants}
 
 -- whether a row is there after a step
 abbrev pub stands : Row → Bool → Event → Bool
@@ -125,6 +125,24 @@ module _ (switch : List ℕ) (pair : Pair) (vlan : ℕ) where
   others_stay row was (Did (Boot node) true answer ∷ steps) own is = absurd own.0
   others_stay row was (Did (Poll node) true answer ∷ steps) own is = absurd own.0
   others_stay row was (Did (Wipe node) true answer ∷ steps) own is = absurd own.0
+
+  -- nodes are as they were
+  pub nodes_stay : (name : List ℕ) (w : World) (steps : List Event) → OwnSteps steps → (fold world_after w steps).node name ≡ w.node name
+  nodes_stay name w [] own = refl
+  nodes_stay name w (Wrote side at bytes ∷ steps) own = absurd own.0
+  nodes_stay name w (Synced side ∷ steps) own = absurd own.0
+  nodes_stay name w (CutTo side size ∷ steps) own = absurd own.0
+  nodes_stay name w (Missed side ∷ steps) own = absurd own.0
+  nodes_stay name w (Restarted a b ∷ steps) own = absurd own.0
+  nodes_stay name w (Did (Join s port v) true answer ∷ steps) own = nodes_stay name (world_after w (Did (Join s port v) true answer)) steps own.1
+  nodes_stay name w (Did (Join s port v) false answer ∷ steps) own = nodes_stay name (world_after w (Did (Join s port v) false answer)) steps own.1
+  nodes_stay name w (Did (Leave s port v) true answer ∷ steps) own = nodes_stay name (world_after w (Did (Leave s port v) true answer)) steps own.1
+  nodes_stay name w (Did (Leave s port v) false answer ∷ steps) own = nodes_stay name (world_after w (Did (Leave s port v) false answer)) steps own.1
+  nodes_stay name w (Did (Shape node pipe from to there back) applied answer ∷ steps) own = absurd own.0
+  nodes_stay name w (Did (Load node os) applied answer ∷ steps) own = absurd own.0
+  nodes_stay name w (Did (Boot node) applied answer ∷ steps) own = absurd own.0
+  nodes_stay name w (Did (Poll node) applied answer ∷ steps) own = absurd own.0
+  nodes_stay name w (Did (Wipe node) applied answer ∷ steps) own = absurd own.0
 
   -- after both leaves no own row stands
   pub all_left : (row : Row) (was : Bool) (before : List Event) → OwnSteps before → fold (stands row) was (before ++ done_steps (leaves switch pair vlan)) ≡ true → was ≡ true

@@ -49,7 +49,7 @@ pub record First (old new : Outside) (status : Status) (made : List Turn) : Type
   -- the lab is the fold of the replies, and each reply is that of the table
   pub turns : AreTurns (codes "s1") [] made
   -- from an empty trace on, each prefix of the steps leaves the lab isolated and holding
-  pub keeps : KeepsThroughout (codes "s1") [] [] made
+  pub keeps : KeepsThroughout [] [] made
   -- the pairs are those of the script
   pub begun : (bytes : List ℕ) → old.left ≡ Some bytes → Begun bytes new.left made status
   -- the output is the replies

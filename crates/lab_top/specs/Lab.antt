@@ -13,6 +13,7 @@ use Rattle.lab_top.specs.declared.experiment.Experiment.{Experiment}
 use Rattle.lab_top.specs.declared.experiment.Reply.{Reply}
 use Rattle.lab_top.specs.declared.experiment.Reply.TheVariants.{InfeasibleFirst, InfeasibleSecond, In, Out, Stuck}
 use Rattle.lab_top.specs.Courses.{Courses}
+use Rattle.lab_top.specs.Pairs.{IsOf}
 
 -- an experiment that is out claims nothing
 abbrev pub holds : Phase → Bool
@@ -51,8 +52,9 @@ pub record AreFree (experiments : List Experiment) (pair : Pair) : Type 0 where
   pub first : is_claimed pair.first experiments ≡ false
   pub second : is_claimed pair.second experiments ≡ false
 
--- both machines are free, and these steps joined them in the least free VLAN, or tried to
+-- both machines are of the lab and free, and these steps joined them in the least free VLAN, or tried to
 pub record Joining (switch : List ℕ) (experiments : List Experiment) (pair : Pair) (vlan : ℕ) (how : Outcome) (steps : List Event) : Type 0 where
+  pub of : IsOf 8 pair
   pub machines : AreFree experiments pair
   pub least : IsLeastFree experiments vlan
   pub sent : Courses (joins switch pair vlan) (leaves switch pair vlan) how steps
