@@ -21,11 +21,12 @@ use Rattle.lab_top.specs.General.{the_lab, mapped_of, general}
 use Rattle.plant.specs.Events.{Event}
 use Rattle.plant.specs.Worlds.{PipeRow, world_of}
 use Rattle.lab_model.specs.Cabled.{AllWanted}
-use Rattle.lab_top.specs.Holding.{At, PassesAt, Holding}
 use Rattle.lab_top.specs.Isolated.{Keeps}
 use Rattle.lab_top.specs.Lab.{holds, is_tag}
 use Rattle.lab_top.specs.Pairs.{IsOf}
-use Rattle.lab_top.proofs.OwnWords.{Own, Owns, Wants as OwnWants}
+use Rattle.lab_top.proofs.Claimed.{claims_new, claims_it, has_at, at_has, at_once}
+use Rattle.lab_top.proofs.Holds.{holds_general}
+use Rattle.lab_top.proofs.OwnWords.{At, PassesAt, Holding, Own, Owns, Wants as OwnWants}
 
 abbrev pub row_at : ℕ → ℕ → Row
 row_at k vlan = record { switch = codes "s1"; port = k; vlan = vlan }
@@ -54,26 +55,6 @@ both_rows pair vlan of =
     let b = one_row pair.second vlan of.some_second of.second in
     (λ i. owned (a i) ∷ owned (b i) ∷ [])
 
--- what an experiment claims in the general words
-pub claims_new : (e : Experiment) → holds e.phase ≡ true → claimed (general e) New ≡ Some (mapped_of e.pair e.vlan)
-claims_new e held = by e.phase held
-  where
-    by : (p : Phase) → holds p ≡ true → claimed (general (record e { phase = p })) New ≡ Some (mapped_of e.pair e.vlan)
-    by phase.Out held = absurd (cc held)
-    by phase.In held = refl
-    by phase.Moving held = refl
-
-pub claims_it : (e : Experiment) (which : Which) (m : Mapped) → claimed (general e) which ≡ Some m → (which ≡ New) × (holds e.phase ≡ true) × (m ≡ mapped_of e.pair e.vlan)
-claims_it e which m is = by e.phase which is
-  where
-    by : (p : Phase) (which : Which) → claimed (general (record e { phase = p })) which ≡ Some m → (which ≡ New) × (holds p ≡ true) × (m ≡ mapped_of e.pair e.vlan)
-    by phase.Out Old is = absurd (cc is)
-    by phase.Out New is = absurd (cc is)
-    by phase.In Old is = absurd (cc is)
-    by phase.In New is = (refl, refl, cc is)
-    by phase.Moving Old is = absurd (cc is)
-    by phase.Moving New is = (refl, refl, cc is)
-
 -- a row that is that of a port, in the general words
 pub row_is : (port vlan : ℕ) (row : Row) → is_row (codes "s1") port vlan row ≡ true → row ≡ row_at port vlan
 row_is port vlan row is =
@@ -96,21 +77,6 @@ owner_at : (switch : List ℕ) (es : List Experiment) (n : ℕ) (row : Row) → 
 owner_at switch [] n row own = absurd own
 owner_at switch (e ∷ es) zero row own = (e, refl, own.0, own.1)
 owner_at switch (e ∷ es) (suc n) row own = owner_at switch es n row own
-
-has_at : (es : List Experiment) (n : ℕ) (e : Experiment) → At es n e → Has (map general es) (general e)
-has_at [] n e at = absurd at
-has_at (x ∷ es) zero e at = inl (ap general at)
-has_at (x ∷ es) (suc n) e at = inr (has_at es n e at)
-
-at_has : (es : List Experiment) (g : topo.Experiment) → Has (map general es) g → (n : ℕ) × (e : Experiment) × At es n e × (general e ≡ g)
-at_has [] g has = absurd has
-at_has (x ∷ es) g (inl is) = (zero, x, refl, is)
-at_has (x ∷ es) g (inr has) = let more = at_has es g has in (suc more.0, more.1, more.2, more.3)
-
-at_once : (es : List Experiment) (n : ℕ) (e f : Experiment) → At es n e → At es n f → e ≡ f
-at_once [] n e f a b = absurd a
-at_once (x ∷ es) zero e f a b = sym a ∙ b
-at_once (x ∷ es) (suc n) e f a b = at_once es n e f a b
 
 passes : (test : Experiment → Bool) (es : List Experiment) (n : ℕ) (e : Experiment) → At es n e → test e ≡ true → PassesAt test es n
 passes test [] n e at is = absurd at
@@ -183,14 +149,14 @@ tagged e vlan held is = and (holds e.phase) (e.vlan == vlan) held (eq-eqb e.vlan
 -- EACH MOMENT IN THE GENERAL WORDS
 pub in_general : (es : List Experiment) (trace : List Event) → Own (codes "s1") es trace → Keeps es trace
 in_general es trace own = record {
-  holding = own.holding;
+  holding = holds_general es own.holding;
   wanted = λ row there. let o = own.owned row there in let e = owner_at (codes "s1") es o.0 row o.1 in
       (general e.0, has_at es o.0 e.0 e.1, (New, codes "ab", wants_general e.0 row e.2 e.3 (own.holding.of o.0 e.0 e.1 e.2)));
   isolated = record {
     owned = λ row there. let o = own.owned row there in let e = owner_at (codes "s1") es o.0 row o.1 in (
-        owner_of e.0,
-        record { by = general e.0; listed = has_at es o.0 e.0 e.1; name_is = refl; wants = wants_general e.0 row e.2 e.3 (own.holding.of o.0 e.0 e.1 e.2) },
-      );
+      owner_of e.0,
+      record { by = general e.0; listed = has_at es o.0 e.0 e.1; name_is = refl; wants = wants_general e.0 row e.2 e.3 (own.holding.of o.0 e.0 e.1 e.2) },
+    );
     apart = λ p q a b reaches oa ob.
         let x : Found es p a = found es own.holding p a oa in
         let y : Found es q b = found es own.holding q b ob in

@@ -15,13 +15,12 @@ use Rattle.lab_top.specs.declared.experiment.Phase.TheVariants as phase
 use Rattle.lab_top.specs.declared.experiment.Reply.{Reply}
 use Rattle.lab_top.specs.declared.experiment.Reply.TheVariants.{InfeasibleFirst, InfeasibleSecond, In, Out, Stuck}
 use Rattle.lab_top.specs.Courses.{Courses, done_steps}
-use Rattle.lab_top.specs.Holding.{At, PassesAt, Holding}
 use Rattle.lab_top.specs.Isolated.{under_way, KeepsThroughout}
 use Rattle.lab_top.specs.Lab.{holds, is_claim, is_tag, is_claimed, is_taken, Joining, Answers, phase_of, joins, leaves}
 use Rattle.lab_top.specs.Pairs.{IsOf}
 use Rattle.lab_top.specs.Turns.{Turn, AreTurns, after}
 use Rattle.lab_top.proofs.InGeneral.{in_general}
-use Rattle.lab_top.proofs.OwnWords.{Wants, Owns, Own}
+use Rattle.lab_top.proofs.OwnWords.{At, PassesAt, Holding, Wants, Owns, Own}
 use Rattle.lab_top.proofs.Rows.{OwnSteps, own_courses, own-front, others_stay, nodes_stay, all_left, fold-append, stands, rows_of}
 
 both : (a b : Bool) → (a && b) ≡ true → (a ≡ true) × (b ≡ true)

@@ -1,9 +1,12 @@
+pub mod Claimed
 pub mod Counting
 pub mod Ends
 pub mod Following
 pub mod Going
+pub mod Holds
 pub mod InGeneral
 pub mod Isolation
 pub mod OwnWords
 pub mod Rows
+pub mod Suits
 pub mod Words

@@ -48,7 +48,7 @@ pub record First (old new : Outside) (status : Status) (made : List Turn) : Type
   pub counts : Counts old.faults made new.faults new.stopped
   -- the lab is the fold of the replies, and each reply is that of the table
   pub turns : AreTurns (codes "s1") [] made
-  -- from an empty trace on, each prefix of the steps leaves the lab isolated and holding
+  -- from an empty trace on, each prefix of the steps leaves the lab isolated and holding, and each row wanted
   pub keeps : KeepsThroughout [] [] made
   -- the pairs are those of the script
   pub begun : (bytes : List ℕ) → old.left ≡ Some bytes → Begun bytes new.left made status

@@ -4,7 +4,6 @@ pub mod Counted
 pub mod Courses
 pub mod First
 pub mod General
-pub mod Holding
 pub mod Isolated
 pub mod Lab
 pub mod Pairs

@@ -166,7 +166,18 @@ type Reading = (&'static [u8], &'static [u8], Status);
 
 #[test]
 fn scripts_are_read(rt: HostRuntime) -> Result<(), Fail> {
-    let cases: [Reading; 22] = [
+    let cases: [Reading; 24] = [
+        // The two demos.
+        (
+            b"# One switch with four machines. Two pairs are joined, each in a VLAN of its own.\nmachines 4\npair A pc1 pc2\npair B pc3 pc4\n",
+            b"in A\nin B\n",
+            Status::Done,
+        ),
+        (
+            b"# A machine that an experiment claims is refused to the next one, and all else goes on.\nmachines 6\npair A pc1 pc2\npair B pc2 pc3\npair C pc3 pc1\npair D pc3 pc4\n\n# A name may be given once: the last line is not in the grammar, and what came before it stays done.\npair E pc5 pc6\npair A pc5 pc6\n",
+            b"in A\ninfeasible B F1 a\ninfeasible C F1 b\nin D\nin E\n",
+            Status::BadScript { line: 10 },
+        ),
         (b"", b"", Status::Done),
         (b"\n# nothing\n \t\n", b"", Status::Done),
         (b"pair A pc1 pc2\n", b"", Status::BadScript { line: 1 }),
