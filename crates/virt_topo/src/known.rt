@@ -64,7 +64,8 @@ fn knows_pipes(wiring: &Wiring, pipes: &[Pipe]) -> bool
     pipes.iter().all(|pipe| knows_pipe(wiring, pipe))
 }
 
-pub(crate) fn knows_all(wiring: &Wiring) -> bool
+/// Whether each number names something.
+pub fn knows_all(wiring: &Wiring) -> bool
     requires { length (end_nodes wiring.now.segments) ≤ 65536 }
     ensures { result ≡ knows_all wiring.now }
 {

@@ -16,7 +16,11 @@ mod wiring;
 
 pub use experiment::{Experiment, Phase};
 pub use fault::WiringFault;
+pub use known::knows_all;
+pub use limits::keeps_limits;
 pub use mapping::{Mapped, Mapping};
+pub use pipes::has_bad_pipe;
+pub use repeats::{has_same, has_twice};
 pub use violation::{Broken, Subject};
 pub use wiring::{Asks, Class, Pipe, Segment, VirtEnd, VirtNode, Wiring};
 

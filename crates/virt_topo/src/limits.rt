@@ -106,7 +106,8 @@ fn has_at_most(segments: &[Segment], most: usize) -> bool
     true
 }
 
-pub(crate) fn keeps_limits(wiring: &Wiring) -> bool
+/// Whether the limits are kept.
+pub fn keeps_limits(wiring: &Wiring) -> bool
     ensures { result ≡ keeps_limits wiring.now }
 {
     wiring.classes.len() <= 64

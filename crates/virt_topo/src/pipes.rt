@@ -76,7 +76,7 @@ fn repeat_end(pipes: &[Pipe]) -> bool
 }
 
 /// Whether a pipe has one end twice, ends of two owners, or an end of an earlier pipe.
-pub(crate) fn has_bad_pipe(wiring: &Wiring) -> bool
+pub fn has_bad_pipe(wiring: &Wiring) -> bool
     requires { length (end_nodes wiring.now.segments) ≤ 65536 }
     ensures { result ≡ has_bad_pipe wiring.now }
 {

@@ -197,7 +197,7 @@ fn ask_class_name(classes: &[Class], nodes: &[VirtNode]) -> bool
 }
 
 /// Whether something is given twice.
-pub(crate) fn has_twice(wiring: &Wiring) -> bool
+pub fn has_twice(wiring: &Wiring) -> bool
     ensures { result ≡ has_twice wiring.now }
 {
     let classes = wiring.classes.as_slice();
@@ -232,7 +232,7 @@ fn repeat_node_of(ends: &[VirtEnd]) -> bool
 }
 
 /// Whether a segment has two ends on one virtual node.
-pub(crate) fn has_same(wiring: &Wiring) -> bool
+pub fn has_same(wiring: &Wiring) -> bool
     ensures { result ≡ has_same wiring.now }
 {
     wiring

@@ -1,0 +1,116 @@
+-- The lines of a top text, by their fields behind the keyword.
+use Rattle.std.specs.Prelude.{◌≡◌, ◌+◌, ◌*◌, ℕ, Bool, true, false, not, ◌==◌, nat_le, List, [], ◌∷◌, length, drop, Option, Some, None, Result, Ok, Err, if◌then◌else◌}
+use Rattle.lab_base.specs.Texts.{parted_at}
+use Rattle.lab_base.specs.Parts.{name_of, number_from, numbered}
+use Rattle.lab_base.specs.Kinds.{both_of}
+use Rattle.lab_base.specs.declared.fault.Kind.{Kind}
+use Rattle.lab_base.specs.declared.fault.Kind.TheVariants as kinds
+use Rattle.lab_base.specs.declared.rates.Rates.{Rates}
+use Rattle.line_text.specs.Reading.{and_then}
+use Rattle.line_text.specs.Fields.{field_at, list_behind}
+use Rattle.virt_topo.specs.declared.wiring.Class.{Class}
+
+-- ADDRESSES
+
+abbrev pub leads_with_zero : List ℕ → Bool
+leads_with_zero (a ∷ b ∷ bytes) = a == 48
+leads_with_zero bytes = false
+
+-- one of the numbers of an address, without a leading zero
+abbrev pub octet : ℕ → ℕ → List ℕ → Result ℕ Kind
+octet least most bytes = if leads_with_zero bytes then Err kinds.Number else number_from least most bytes
+
+abbrev pub grown : ℕ → Result ℕ Kind → Result ℕ Kind
+grown value (Ok n) = Ok (value * 256 + n)
+grown value (Err kind) = Err kind
+
+-- a number, a dot, and what is read behind it
+abbrev pub dotted : (ℕ → List ℕ → Result ℕ Kind) → ℕ → Option (List ℕ × List ℕ) → Result ℕ Kind
+dotted next value None = Err kinds.Number
+dotted next value (Some parts) = and_then (grown value (octet 0 255 parts.0)) (λ n. next n parts.1)
+
+abbrev pub fourth : ℕ → List ℕ → Result ℕ Kind
+fourth value bytes = grown value (octet 1 254 bytes)
+
+abbrev pub third : ℕ → List ℕ → Result ℕ Kind
+third value bytes = dotted fourth value (parted_at 46 bytes)
+
+abbrev pub second : ℕ → List ℕ → Result ℕ Kind
+second value bytes = dotted third value (parted_at 46 bytes)
+
+-- four numbers joined by dots, the last one from 1 to 254
+abbrev pub address_of : List ℕ → Result ℕ Kind
+address_of bytes = dotted second 0 (parted_at 46 bytes)
+
+-- PARTS OF LINES
+
+-- the name of an end's virtual node, and its address
+abbrev pub End : Type 0
+End = List ℕ × Option ℕ
+
+abbrev pub bare : Result (List ℕ) Kind → Result End Kind
+bare (Ok name) = Ok (name, None)
+bare (Err kind) = Err kind
+
+abbrev pub addressed : Result (List ℕ × ℕ) Kind → Result End Kind
+addressed (Ok (name, address)) = Ok (name, Some address)
+addressed (Err kind) = Err kind
+
+abbrev pub end_parts : List ℕ → Option (List ℕ × List ℕ) → Result End Kind
+end_parts field None = bare (name_of field)
+end_parts field (Some parts) = addressed (both_of (name_of parts.0) (address_of parts.1))
+
+abbrev pub end_of : List ℕ → Result End Kind
+end_of field = end_parts field (parted_at 61 field)
+
+abbrev pub weight_of : List ℕ → Result (List ℕ × ℕ) Kind
+weight_of field = numbered 0 1000000 field
+
+abbrev pub as_rates : Result (ℕ × (ℕ × ℕ)) Kind → Result Rates Kind
+as_rates (Ok (kbps, (micros, ppm))) = Ok (record { kbps = kbps; micros = micros; ppm = ppm })
+as_rates (Err kind) = Err kind
+
+abbrev pub rates_of : List ℕ → List ℕ → List ℕ → Result Rates Kind
+rates_of kbps micros ppm = as_rates (both_of (number_from 1 1000000000 kbps) (both_of (number_from 0 10000000 micros) (number_from 0 1000000 ppm)))
+
+-- LINES
+
+abbrev pub as_class : Result (List ℕ × (ℕ × List (List ℕ))) Kind → Result Class Kind
+as_class (Ok (name, (weight, types))) = Ok (record { name = name; weight = weight; types = types })
+as_class (Err kind) = Err kind
+
+-- `make-vclass NAME WEIGHT TYPE ..`
+abbrev pub class_line : List (List ℕ) → Result Class Kind
+class_line fields = as_class (both_of (name_of (field_at fields 0)) (both_of (number_from 0 1000000 (field_at fields 1)) (list_behind 2 1 8 name_of fields)))
+
+-- a virtual node's name, its type or class, its OS and its desires
+abbrev pub NodeRead : Type 0
+NodeRead = List ℕ × (List ℕ × (List ℕ × List (List ℕ × ℕ)))
+
+-- `node NAME TYPE OS DESIRE:WEIGHT ..`
+abbrev pub node_line : List (List ℕ) → Result NodeRead Kind
+node_line fields = both_of (name_of (field_at fields 0)) (both_of (name_of (field_at fields 1)) (both_of (name_of (field_at fields 2)) (list_behind 3 0 8 weight_of fields)))
+
+-- `fix-node NODE PLACE`
+abbrev pub fix_line : List (List ℕ) → Result (List ℕ × List ℕ) Kind
+fix_line fields = if length fields == 2 then both_of (name_of (field_at fields 0)) (name_of (field_at fields 1)) else Err kinds.Fields
+
+-- a segment's name, its owner, its kbps and its ends
+abbrev pub LinkRead : Type 0
+LinkRead = List ℕ × (List ℕ × (ℕ × List End))
+
+-- `link NAME OWNER KBPS END ..`
+abbrev pub link_line : List (List ℕ) → Result LinkRead Kind
+link_line fields = both_of (name_of (field_at fields 0)) (both_of (name_of (field_at fields 1)) (both_of (number_from 1 1000000000 (field_at fields 2)) (list_behind 3 2 256 end_of fields)))
+
+-- a pipe's virtual node, its two ends there, and its rates there and back
+abbrev pub PipeRead : Type 0
+PipeRead = List ℕ × ((ℕ × ℕ) × (Rates × Rates))
+
+-- `pipe NODE I J KBPS DELAY LOSS KBPS DELAY LOSS`
+abbrev pub pipe_line : List (List ℕ) → Result PipeRead Kind
+pipe_line fields =
+    if length fields == 9
+    then both_of (name_of (field_at fields 0)) (both_of (both_of (number_from 0 65535 (field_at fields 1)) (number_from 0 65535 (field_at fields 2)))
+        (both_of (rates_of (field_at fields 3) (field_at fields 4) (field_at fields 5)) (rates_of (field_at fields 6) (field_at fields 7) (field_at fields 8))))
+    else Err kinds.Fields

@@ -1,0 +1,281 @@
+// The lines of a top text, by their fields behind the keyword.
+ghost use Rattle.std.specs.Prelude.{◌≡◌, ◌<◌, ◌+◌, [], Ok, IfOk, option_map};
+ghost use Rattle.lab_base.specs.Texts.{views};
+ghost use Rattle.lab_base.specs.Parts.{all_of, name_of, number_from, numbered_parts};
+ghost use Rattle.lab_base.specs.Kinds.{both_of};
+ghost use Rattle.line_text.specs.Fields.{field_at, list_behind};
+ghost use Rattle.top_text.specs.Lines.{bare, addressed, end_parts, end_of, weight_of, as_rates, rates_of, as_class, class_line, node_line, fix_line, link_line, pipe_line};
+
+use crate::address::address_in;
+use lab_base::{Items, Kind, ListRead, Memory, Name, Parts, Rates, add_read, both, name_in, number_in, parted};
+use line_text::{counts, field_at, fields_behind, short_in, weight_in};
+use std::alloc::Global;
+use virt_topo::Class;
+
+/// The name of an end's virtual node, and its address.
+pub(crate) type End = (Name, Option<u32>);
+
+fn name_at(fields: &[&[u8]], n: usize) -> Result<Name, Kind>
+    ensures { result ≡ name_of (field_at (views fields.now) n) }
+{
+    let field = field_at(fields, n);
+    name_in(field)
+}
+
+fn weight_at(fields: &[&[u8]], n: usize) -> Result<u32, Kind>
+    ensures { result ≡ number_from 0 1000000 (field_at (views fields.now) n) }
+{
+    let field = field_at(fields, n);
+    weight_in(field, 1_000_000)
+}
+
+fn kbps_at(fields: &[&[u8]], n: usize) -> Result<u64, Kind>
+    ensures { result ≡ number_from 1 1000000000 (field_at (views fields.now) n) }
+{
+    let field = field_at(fields, n);
+    number_in(field, 1, 1_000_000_000)
+}
+
+fn bare(name: Result<Name, Kind>) -> Result<End, Kind>
+    ensures { result ≡ bare name }
+{
+    match name {
+        Ok(name) => Ok((name, None)),
+        Err(kind) => Err(kind),
+    }
+}
+
+fn addressed(read: Result<(Name, u32), Kind>) -> Result<End, Kind>
+    ensures { result ≡ addressed read }
+{
+    match read {
+        Ok((name, address)) => Ok((name, Some(address))),
+        Err(kind) => Err(kind),
+    }
+}
+
+fn end_parts(field: &[u8], parts: Option<Parts<'_>>) -> Result<End, Kind>
+    ensures { result ≡ end_parts field.now (option_map (λ parts. (parts.before.now, parts.behind.now)) parts.entry) }
+{
+    match parts {
+        Some(parts) => addressed(both(name_in(parts.before), address_in(parts.behind))),
+        None => bare(name_in(field)),
+    }
+}
+
+fn end_in(field: &[u8]) -> Result<End, Kind>
+    ensures { result ≡ end_of field.now }
+{
+    end_parts(field, parted(field, b'='))
+}
+
+fn weight_parts(parts: Option<Parts<'_>>) -> Result<(Name, u32), Kind>
+    ensures { result ≡ numbered_parts 0 1000000 (option_map (λ parts. (parts.before.now, parts.behind.now)) parts.entry) }
+{
+    match parts {
+        Some(parts) => both(name_in(parts.before), weight_in(parts.behind, 1_000_000)),
+        None => Err(Kind::Fields),
+    }
+}
+
+fn desire_in(field: &[u8]) -> Result<(Name, u32), Kind>
+    ensures { result ≡ weight_of field.now }
+{
+    weight_parts(parted(field, b':'))
+}
+
+fn all_names(alloc: Global, fields: &[&[u8]]) -> Result<ListRead<Name>, Memory>
+    ensures { IfOk result (λ read. read ≡ all_of name_of (Ok []) (views fields.now)) }
+{
+    let mut so_far = Ok(Items::new(alloc));
+    for field in fields {
+        so_far = add_read(so_far, name_in(field))?;
+    }
+    Ok(so_far)
+}
+
+fn all_desires(alloc: Global, fields: &[&[u8]]) -> Result<ListRead<(Name, u32)>, Memory>
+    ensures { IfOk result (λ read. read ≡ all_of weight_of (Ok []) (views fields.now)) }
+{
+    let mut so_far = Ok(Items::new(alloc));
+    for field in fields {
+        so_far = add_read(so_far, desire_in(field))?;
+    }
+    Ok(so_far)
+}
+
+fn all_ends(alloc: Global, fields: &[&[u8]]) -> Result<ListRead<End>, Memory>
+    ensures { IfOk result (λ read. read ≡ all_of end_of (Ok []) (views fields.now)) }
+{
+    let mut so_far = Ok(Items::new(alloc));
+    for field in fields {
+        so_far = add_read(so_far, end_in(field))?;
+    }
+    Ok(so_far)
+}
+
+fn types_in(alloc: Global, fields: &[&[u8]]) -> Result<ListRead<Name>, Memory>
+    ensures { IfOk result (λ read. read ≡ list_behind 2 1 8 name_of (views fields.now)) }
+{
+    if counts(fields, 3, 10) {
+        all_names(alloc, fields_behind(fields, 2))
+    } else {
+        Ok(Err(Kind::Fields))
+    }
+}
+
+fn desires_in(alloc: Global, fields: &[&[u8]]) -> Result<ListRead<(Name, u32)>, Memory>
+    ensures { IfOk result (λ read. read ≡ list_behind 3 0 8 weight_of (views fields.now)) }
+{
+    if counts(fields, 3, 11) {
+        all_desires(alloc, fields_behind(fields, 3))
+    } else {
+        Ok(Err(Kind::Fields))
+    }
+}
+
+fn ends_in(alloc: Global, fields: &[&[u8]]) -> Result<ListRead<End>, Memory>
+    ensures { IfOk result (λ read. read ≡ list_behind 3 2 256 end_of (views fields.now)) }
+{
+    if counts(fields, 5, 259) {
+        all_ends(alloc, fields_behind(fields, 3))
+    } else {
+        Ok(Err(Kind::Fields))
+    }
+}
+
+fn as_class(read: Result<(Name, (u32, Items<Name>)), Kind>) -> Result<Class, Kind>
+    ensures { result ≡ as_class read }
+{
+    match read {
+        Ok((name, (weight, types))) => Ok(Class {
+            name,
+            weight,
+            types,
+        }),
+        Err(kind) => Err(kind),
+    }
+}
+
+/// Reads the fields behind the word `make-vclass`.
+pub(crate) fn class_in(alloc: Global, fields: &[&[u8]]) -> Result<Result<Class, Kind>, Memory>
+    ensures { IfOk result (λ read. read ≡ class_line (views fields.now)) }
+{
+    let types = types_in(alloc, fields)?;
+    let weight = weight_at(fields, 1);
+    let behind = both(weight, types);
+    let name = name_at(fields, 0);
+    let whole = both(name, behind);
+    Ok(as_class(whole))
+}
+
+/// A virtual node's name, its type or class, its OS and its desires.
+pub(crate) type NodeRead = (Name, (Name, (Name, Items<(Name, u32)>)));
+
+/// Reads the fields behind the word `node`.
+pub(crate) fn node_in(alloc: Global, fields: &[&[u8]]) -> Result<Result<NodeRead, Kind>, Memory>
+    ensures { IfOk result (λ read. read ≡ node_line (views fields.now)) }
+{
+    let desires = desires_in(alloc, fields)?;
+    let os = name_at(fields, 2);
+    let system = both(os, desires);
+    let kind = name_at(fields, 1);
+    let behind = both(kind, system);
+    let name = name_at(fields, 0);
+    Ok(both(name, behind))
+}
+
+/// Reads the fields behind the word `fix-node`.
+pub(crate) fn fix_in(fields: &[&[u8]]) -> Result<(Name, Name), Kind>
+    ensures { result ≡ fix_line (views fields.now) }
+{
+    if fields.len() == 2 {
+        both(name_at(fields, 0), name_at(fields, 1))
+    } else {
+        Err(Kind::Fields)
+    }
+}
+
+/// A segment's name, its owner, its kbps and its ends.
+pub(crate) type LinkRead = (Name, (Name, (u64, Items<End>)));
+
+/// Reads the fields behind the word `link`.
+pub(crate) fn link_in(alloc: Global, fields: &[&[u8]]) -> Result<Result<LinkRead, Kind>, Memory>
+    ensures { IfOk result (λ read. read ≡ link_line (views fields.now)) }
+{
+    let ends = ends_in(alloc, fields)?;
+    let kbps = kbps_at(fields, 2);
+    let speed = both(kbps, ends);
+    let owner = name_at(fields, 1);
+    let behind = both(owner, speed);
+    let name = name_at(fields, 0);
+    Ok(both(name, behind))
+}
+
+fn as_rates(read: Result<(u64, (u32, u32)), Kind>) -> Result<Rates, Kind>
+    ensures { result ≡ as_rates read }
+{
+    match read {
+        Ok((kbps, (micros, ppm))) => Ok(Rates {
+            kbps,
+            micros,
+            ppm,
+        }),
+        Err(kind) => Err(kind),
+    }
+}
+
+fn rates_in(kbps: &[u8], micros: &[u8], ppm: &[u8]) -> Result<Rates, Kind>
+    ensures { result ≡ rates_of kbps.now micros.now ppm.now }
+{
+    let delay = weight_in(micros, 10_000_000);
+    let loss = weight_in(ppm, 1_000_000);
+    let behind = both(delay, loss);
+    let speed = number_in(kbps, 1, 1_000_000_000);
+    let whole = both(speed, behind);
+    as_rates(whole)
+}
+
+/// A pipe's virtual node, its two ends there, and its rates there and back.
+pub(crate) type PipeRead = (Name, ((u16, u16), (Rates, Rates)));
+
+fn pipe_ends_in(from: &[u8], to: &[u8]) -> Result<(u16, u16), Kind>
+    ensures { result ≡ both_of (number_from 0 65535 from.now) (number_from 0 65535 to.now) }
+{
+    both(short_in(from, 0, 65_535), short_in(to, 0, 65_535))
+}
+
+fn pipe_ends_at(fields: &[&[u8]]) -> Result<(u16, u16), Kind>
+    ensures { result ≡ both_of (number_from 0 65535 (field_at (views fields.now) 1)) (number_from 0 65535 (field_at (views fields.now) 2)) }
+{
+    let from = field_at(fields, 1);
+    let to = field_at(fields, 2);
+    pipe_ends_in(from, to)
+}
+
+/// The rates of three fields.
+fn rates_at(fields: &[&[u8]], n: usize) -> Result<Rates, Kind>
+    requires { n < 10 }
+    ensures { result ≡ rates_of (field_at (views fields.now) n) (field_at (views fields.now) (n + 1)) (field_at (views fields.now) (n + 2)) }
+{
+    let kbps = field_at(fields, n);
+    let micros = field_at(fields, n + 1);
+    let ppm = field_at(fields, n + 2);
+    rates_in(kbps, micros, ppm)
+}
+
+/// Reads the fields behind the word `pipe`.
+pub(crate) fn pipe_in(fields: &[&[u8]]) -> Result<PipeRead, Kind>
+    ensures { result ≡ pipe_line (views fields.now) }
+{
+    if fields.len() != 9 {
+        return Err(Kind::Fields);
+    }
+    let ends = pipe_ends_at(fields);
+    let there = rates_at(fields, 3);
+    let back = rates_at(fields, 6);
+    let rates = both(there, back);
+    let behind = both(ends, rates);
+    let name = name_at(fields, 0);
+    both(name, behind)
+}
