@@ -1,3 +1,4 @@
 pub mod ReadLaws
 pub mod SliceLaws
 pub mod ListLaws
+pub mod PrintLaws

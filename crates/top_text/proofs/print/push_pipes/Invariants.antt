@@ -1,0 +1,8 @@
+use Rattle.std.proofs.Common.{◌≡◌, ◌++◌, map, take}
+use Rattle.std.specs.List.{flat_map}
+use Rattle.line_text.specs.Printing.{spaced, text_of, with_number}
+use Rattle.top_text.specs.Canonical.{end_field, class_fields, node_fields, fix_lines, link_fields, pipe_fields}
+use Rattle.top_text.proofs.print.push_pipes.Given as goal
+
+abbrev pub invariant-loop-pipe : goal.invariant-loop-pipe
+invariant-loop-pipe l = l.text ≡ l.initial.text ++ text_of (map (pipe_fields l.wiring) (take l.pipe-index l.pipes))

@@ -1,0 +1,252 @@
+ghost use Rattle.std.specs.Prelude.{◌≡◌, ◌/◌, ◌%◌, ◌++◌, ◌∷◌, [], map, codes, decimal, OnOk, IfOk};
+ghost use Rattle.std.specs.List.{flat_map};
+ghost use Rattle.line_text.specs.Printing.{line_text, spaced, text_of, with_number};
+ghost use Rattle.top_text.specs.Canonical.{virt_name, class_name, address_text, behind_name, end_field, asked_name, rates_fields, class_fields, node_fields, fix_at, fix_lines, link_fields, pipe_fields, canonical_top};
+
+use lab_base::{Memory, Name, Rates, Text};
+use line_text::{push_field, push_numbered};
+use std::alloc::Global;
+use virt_topo::{Asks, Class, Pipe, Segment, VirtEnd, VirtNode, Wiring};
+
+fn virt_name(wiring: &Wiring, virt: u16) -> &[u8]
+    ensures { result.now ≡ virt_name wiring.now virt }
+{
+    match wiring.nodes.as_slice().get(virt as usize) {
+        Some(node) => node.name.bytes(),
+        None => &[],
+    }
+}
+
+fn class_name(wiring: &Wiring, class: u16) -> &[u8]
+    ensures { result.now ≡ class_name wiring.now class }
+{
+    match wiring.classes.as_slice().get(class as usize) {
+        Some(class) => class.name.bytes(),
+        None => &[],
+    }
+}
+
+fn asked_name<'a>(wiring: &'a Wiring, asks: &'a Asks) -> &'a [u8]
+    ensures { result.now ≡ asked_name wiring.now asks.now }
+{
+    match asks {
+        Asks::Plain(kind) => kind.bytes(),
+        Asks::Class(class) => class_name(wiring, *class),
+    }
+}
+
+/// A space and a word.
+fn push_word(text: &mut Text, word: &[u8]) -> Result<(), Memory>
+    ensures { OnOk result (text.new ≡ text.old ++ 32 ∷ word.now) }
+{
+    text.push(b' ')?;
+    text.push_bytes(word)
+}
+
+/// A space and a number.
+fn push_count(text: &mut Text, number: u64) -> Result<(), Memory>
+    ensures { OnOk result (text.new ≡ text.old ++ 32 ∷ decimal number) }
+{
+    text.push(b' ')?;
+    text.push_number(number)
+}
+
+fn push_names(text: &mut Text, names: &[Name]) -> Result<(), Memory>
+    ensures { OnOk result (text.new ≡ text.old ++ spaced names.now) }
+{
+    for name in names {
+        push_field(text, name)?;
+    }
+    Ok(())
+}
+
+fn push_class(text: &mut Text, class: &Class) -> Result<(), Memory>
+    ensures { OnOk result (text.new ≡ text.old ++ line_text (class_fields class.now)) }
+{
+    text.push_bytes(b"make-vclass")?;
+    push_field(text, &class.name)?;
+    push_count(text, u64::from(class.weight))?;
+    push_names(text, class.types.as_slice())?;
+    text.push(b'\n')
+}
+
+fn push_classes(text: &mut Text, classes: &[Class]) -> Result<(), Memory>
+    ensures { OnOk result (text.new ≡ text.old ++ text_of (map class_fields classes.now)) }
+{
+    for class in classes {
+        push_class(text, class)?;
+    }
+    Ok(())
+}
+
+fn push_desires(text: &mut Text, desires: &[(Name, u32)]) -> Result<(), Memory>
+    ensures { OnOk result (text.new ≡ text.old ++ spaced (map with_number desires.now)) }
+{
+    for desire in desires {
+        push_numbered(text, &desire.0, u64::from(desire.1))?;
+    }
+    Ok(())
+}
+
+fn push_node(text: &mut Text, wiring: &Wiring, node: &VirtNode) -> Result<(), Memory>
+    ensures { OnOk result (text.new ≡ text.old ++ line_text (node_fields wiring.now node.now)) }
+{
+    text.push_bytes(b"node")?;
+    push_field(text, &node.name)?;
+    push_word(text, asked_name(wiring, &node.asks))?;
+    push_field(text, &node.os)?;
+    push_desires(text, node.desires.as_slice())?;
+    text.push(b'\n')
+}
+
+fn push_nodes(text: &mut Text, wiring: &Wiring, nodes: &[VirtNode]) -> Result<(), Memory>
+    ensures { OnOk result (text.new ≡ text.old ++ text_of (map (node_fields wiring.now) nodes.now)) }
+{
+    for node in nodes {
+        push_node(text, wiring, node)?;
+    }
+    Ok(())
+}
+
+fn push_fix(text: &mut Text, name: &Name, fixed: Option<Name>) -> Result<(), Memory>
+    ensures { OnOk result (text.new ≡ text.old ++ text_of (fix_at name.now fixed)) }
+{
+    match fixed {
+        Some(place) => {
+            text.push_bytes(b"fix-node")?;
+            push_field(text, name)?;
+            push_field(text, &place)?;
+            text.push(b'\n')
+        }
+        None => Ok(()),
+    }
+}
+
+fn push_fixes(text: &mut Text, nodes: &[VirtNode]) -> Result<(), Memory>
+    ensures { OnOk result (text.new ≡ text.old ++ text_of (flat_map fix_lines nodes.now)) }
+{
+    for node in nodes {
+        push_fix(text, &node.name, node.fixed)?;
+    }
+    Ok(())
+}
+
+fn push_octets(text: &mut Text, address: u32) -> Result<(), Memory>
+    ensures { OnOk result (text.new ≡ text.old ++ decimal (address / 16777216) ++ 46 ∷ decimal (address / 65536 % 256)) }
+{
+    text.push_number(u64::from(address / 16_777_216))?;
+    text.push(b'.')?;
+    text.push_number(u64::from(address / 65_536 % 256))
+}
+
+fn push_address(text: &mut Text, address: u32) -> Result<(), Memory>
+    ensures { OnOk result (text.new ≡ text.old ++ address_text address) }
+{
+    push_octets(text, address)?;
+    text.push(b'.')?;
+    text.push_number(u64::from(address / 256 % 256))?;
+    text.push(b'.')?;
+    text.push_number(u64::from(address % 256))
+}
+
+fn push_behind_name(text: &mut Text, address: Option<u32>) -> Result<(), Memory>
+    ensures { OnOk result (text.new ≡ text.old ++ behind_name address) }
+{
+    match address {
+        Some(address) => {
+            text.push(b'=')?;
+            push_address(text, address)
+        }
+        None => Ok(()),
+    }
+}
+
+fn push_end(text: &mut Text, wiring: &Wiring, end: VirtEnd) -> Result<(), Memory>
+    ensures { OnOk result (text.new ≡ text.old ++ 32 ∷ end_field wiring.now end) }
+{
+    push_word(text, virt_name(wiring, end.node))?;
+    push_behind_name(text, end.address)
+}
+
+fn push_ends(text: &mut Text, wiring: &Wiring, ends: &[VirtEnd]) -> Result<(), Memory>
+    ensures { OnOk result (text.new ≡ text.old ++ spaced (map (end_field wiring.now) ends.now)) }
+{
+    for end in ends {
+        push_end(text, wiring, *end)?;
+    }
+    Ok(())
+}
+
+fn push_link(text: &mut Text, wiring: &Wiring, segment: &Segment) -> Result<(), Memory>
+    ensures { OnOk result (text.new ≡ text.old ++ line_text (link_fields wiring.now segment.now)) }
+{
+    text.push_bytes(b"link")?;
+    push_field(text, &segment.name)?;
+    push_field(text, &segment.owner)?;
+    push_count(text, segment.kbps)?;
+    push_ends(text, wiring, segment.ends.as_slice())?;
+    text.push(b'\n')
+}
+
+fn push_links(text: &mut Text, wiring: &Wiring, segments: &[Segment]) -> Result<(), Memory>
+    ensures { OnOk result (text.new ≡ text.old ++ text_of (map (link_fields wiring.now) segments.now)) }
+{
+    for segment in segments {
+        push_link(text, wiring, segment)?;
+    }
+    Ok(())
+}
+
+fn push_rates(text: &mut Text, rates: Rates) -> Result<(), Memory>
+    ensures { OnOk result (text.new ≡ text.old ++ spaced (rates_fields rates)) }
+{
+    push_count(text, rates.kbps)?;
+    push_count(text, u64::from(rates.micros))?;
+    push_count(text, u64::from(rates.ppm))
+}
+
+fn push_both_rates(text: &mut Text, there: Rates, back: Rates) -> Result<(), Memory>
+    ensures { OnOk result (text.new ≡ text.old ++ spaced (rates_fields there ++ rates_fields back)) }
+{
+    push_rates(text, there)?;
+    push_rates(text, back)
+}
+
+fn push_pipe(text: &mut Text, wiring: &Wiring, pipe: &Pipe) -> Result<(), Memory>
+    ensures { OnOk result (text.new ≡ text.old ++ line_text (pipe_fields wiring.now pipe.now)) }
+{
+    text.push_bytes(b"pipe")?;
+    push_word(text, virt_name(wiring, pipe.node))?;
+    push_count(text, u64::from(pipe.from))?;
+    push_count(text, u64::from(pipe.to))?;
+    push_both_rates(text, pipe.there, pipe.back)?;
+    text.push(b'\n')
+}
+
+fn push_pipes(text: &mut Text, wiring: &Wiring, pipes: &[Pipe]) -> Result<(), Memory>
+    ensures { OnOk result (text.new ≡ text.old ++ text_of (map (pipe_fields wiring.now) pipes.now)) }
+{
+    for pipe in pipes {
+        push_pipe(text, wiring, pipe)?;
+    }
+    Ok(())
+}
+
+fn push_all(text: &mut Text, wiring: &Wiring) -> Result<(), Memory>
+    ensures { OnOk result (text.new ≡ text.old ++ canonical_top wiring.now) }
+{
+    push_classes(text, wiring.classes.as_slice())?;
+    push_nodes(text, wiring, wiring.nodes.as_slice())?;
+    push_fixes(text, wiring.nodes.as_slice())?;
+    push_links(text, wiring, wiring.segments.as_slice())?;
+    push_pipes(text, wiring, wiring.pipes.as_slice())
+}
+
+/// The canonical text of a wiring.
+pub fn print_top(alloc: Global, wiring: &Wiring) -> Result<Text, Memory>
+    ensures { IfOk result (λ text. text ≡ canonical_top wiring.now) }
+{
+    let mut text = Text::new(alloc);
+    push_all(&mut text, wiring)?;
+    Ok(text)
+}
