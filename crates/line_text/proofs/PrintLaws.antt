@@ -9,9 +9,9 @@ pub text_more : {X : Type 0} (f : X → List (List ℕ)) (xs : List X) (i : ℕ)
 text_more {X} f xs i x old text new lt is so_far more =
     let front = text_of (map f (take i xs)) in
     let step : text_of (map f (take (i + 1) xs)) ≡ front ++ line_text (f x) =
-        ap (λ (l : List X). text_of (map f l)) (take_more xs i x lt)
-        ∙ ap (λ (y : X). text_of (map f (take i xs ++ y ∷ []))) (sym is)
-        ∙ ap (λ (l : List (List (List ℕ))). text_of l) (map-append f (take i xs) (x ∷ []))
-        ∙ flat_map-append line_text (map f (take i xs)) (f x ∷ [])
-        ∙ ap (λ (l : List ℕ). front ++ l) (append-nil (line_text (f x))) in
+    ap (λ (l : List X). text_of (map f l)) (take_more xs i x lt)
+    ∙ ap (λ (y : X). text_of (map f (take i xs ++ y ∷ []))) (sym is)
+    ∙ ap (λ (l : List (List (List ℕ))). text_of l) (map-append f (take i xs) (x ∷ []))
+    ∙ flat_map-append line_text (map f (take i xs)) (f x ∷ [])
+    ∙ ap (λ (l : List ℕ). front ++ l) (append-nil (line_text (f x))) in
     more ∙ ap (λ (t : List ℕ). t ++ line_text (f x)) so_far ∙ append_assoc old front (line_text (f x)) ∙ ap (λ (l : List ℕ). old ++ l) (sym step)

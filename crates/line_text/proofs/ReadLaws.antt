@@ -30,4 +30,3 @@ pub refused : {S : Type 0} (U : Type 0) (fault : LineFault) (n : ℕ) (new last 
     → ((kind : Kind) → read ≡ Err kind → whole ≡ Err (record { line = n; kind = kind })) → ReadsInto {U = U} (Err (refused_at n fault)) last whole
 refused U (line_faults.Kind kind) n new last read whole taken of_kind = of_kind kind taken
 refused U line_faults.Memory n new last read whole taken of_kind = tt
-

@@ -112,5 +112,5 @@ abbrev pub pipe_line : List (List ℕ) → Result PipeRead Kind
 pipe_line fields =
     if length fields == 9
     then both_of (name_of (field_at fields 0)) (both_of (both_of (number_from 0 65535 (field_at fields 1)) (number_from 0 65535 (field_at fields 2)))
-        (both_of (rates_of (field_at fields 3) (field_at fields 4) (field_at fields 5)) (rates_of (field_at fields 6) (field_at fields 7) (field_at fields 8))))
+    (both_of (rates_of (field_at fields 3) (field_at fields 4) (field_at fields 5)) (rates_of (field_at fields 6) (field_at fields 7) (field_at fields 8))))
     else Err kinds.Fields

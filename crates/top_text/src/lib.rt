@@ -7,8 +7,5 @@ mod print;
 mod read;
 mod so_far;
 
-
-
-
 pub use print::print_top;
 pub use read::read_top;

@@ -7,7 +7,9 @@ ghost use Rattle.line_text.specs.Fields.{field_at, list_behind};
 ghost use Rattle.top_text.specs.Lines.{bare, addressed, end_parts, end_of, weight_of, as_rates, rates_of, as_class, class_line, node_line, fix_line, link_line, pipe_line};
 
 use crate::address::address_in;
-use lab_base::{Items, Kind, ListRead, Memory, Name, Parts, Rates, add_read, both, name_in, number_in, parted};
+use lab_base::{
+    Items, Kind, ListRead, Memory, Name, Parts, Rates, add_read, both, name_in, number_in, parted,
+};
 use line_text::{counts, field_at, fields_behind, short_in, weight_in};
 use std::alloc::Global;
 use virt_topo::Class;
@@ -216,11 +218,7 @@ fn as_rates(read: Result<(u64, (u32, u32)), Kind>) -> Result<Rates, Kind>
     ensures { result ≡ as_rates read }
 {
     match read {
-        Ok((kbps, (micros, ppm))) => Ok(Rates {
-            kbps,
-            micros,
-            ppm,
-        }),
+        Ok((kbps, (micros, ppm))) => Ok(Rates { kbps, micros, ppm }),
         Err(kind) => Err(kind),
     }
 }

@@ -9,13 +9,16 @@ ghost use Rattle.virt_topo.specs.Soundness.{keeps_limits};
 ghost use Rattle.top_text.specs.Lines.{class_line, node_line, fix_line, link_line, pipe_line};
 ghost use Rattle.top_text.specs.Adding.{kept, with_class, asks_of, with_node, virt_named, virt_number, end_at, segment_of, with_segment, pipe_of, with_pipe, virt_at, with_place, placed, wire_added, node_added, keyed, added};
 
-use crate::lines::{End, LinkRead, NodeRead, PipeRead, class_in, fix_in, link_in, node_in, pipe_in};
+use crate::lines::{
+    End, LinkRead, NodeRead, PipeRead, class_in, fix_in, link_in, node_in, pipe_in,
+};
 use lab_base::{Items, Kind, Memory, Name};
 use line_text::LineFault;
 use std::alloc::Global;
 use std::mem::replace;
 use virt_topo::{
-    Asks, Class, Pipe, Segment, VirtEnd, VirtNode, Wiring, has_bad_pipe, has_same, has_twice, keeps_limits, knows_all,
+    Asks, Class, Pipe, Segment, VirtEnd, VirtNode, Wiring, has_bad_pipe, has_same, has_twice,
+    keeps_limits, knows_all,
 };
 
 /// A number that names no virtual node.
