@@ -17,7 +17,7 @@ use Rattle.phys_lab.specs.Forests.{IsWithin}
 use Rattle.phys_lab.specs.Kept.{IsLab, IsWhole}
 use Rattle.ptop_text.specs.declared.device.Device.{Device}
 use Rattle.ptop_text.specs.declared.so_far.LabSoFar.{LabSoFar}
-use Rattle.ptop_text.specs.Reading.{and_then}
+use Rattle.line_text.specs.Reading.{and_then}
 use Rattle.ptop_text.specs.Lines.{LinkRead}
 use Rattle.ptop_text.specs.Adding.{made, linked, with_range, with_device, with_link, with_iface_line, with_trunk_line, number_or_none, added, start, lab_read, lab_of_text}
 use Rattle.ptop_text.specs.Canonical.{range_line, switch_line, node_line, iface_line, trunk_line, node_name, switch_name, lab_lines, canonical}

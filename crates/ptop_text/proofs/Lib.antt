@@ -1,7 +1,6 @@
 pub mod Arities
 pub mod LinkLaws
 pub mod ReadLaws
-pub mod SliceLaws
 pub mod PartsAgain
 pub mod LinesAgain
 pub mod NoFault

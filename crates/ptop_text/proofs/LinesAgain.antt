@@ -8,8 +8,8 @@ use Rattle.lab_base.specs.Texts.{fields_of, lines_of, is_skipped}
 use Rattle.lab_base.specs.Lists.{Has}
 use Rattle.lab_base.specs.declared.fault.Kind.{Kind}
 use Rattle.lab_base.proofs.Again.{line_again, field_again, last_field_again}
-use Rattle.ptop_text.specs.Reading.{line_added, at_line, read_from}
-use Rattle.ptop_text.specs.Canonical.{spaced, line_text, text_of}
+use Rattle.line_text.specs.Reading.{line_added, at_line, read_from}
+use Rattle.line_text.specs.Printing.{spaced, line_text, text_of}
 use Rattle.ptop_text.proofs.PartsAgain.{IsPlain}
 
 abbrev ArePlain : List (List ℕ) → Type 0

@@ -18,7 +18,7 @@ use Rattle.lab_base.specs.declared.fault.Kind.{Kind}
 use Rattle.lab_base.specs.declared.fault.Kind.TheVariants as kinds
 use Rattle.lab_base.proofs.Again.{number_again}
 use Rattle.lab_base.proofs.Digits.{own}
-use Rattle.ptop_text.specs.Canonical.{with_number}
+use Rattle.line_text.specs.Printing.{with_number}
 
 pub is_true : (p : Bool) → not p ≡ false → p ≡ true
 is_true true e = refl

@@ -13,7 +13,8 @@ use Rattle.phys_lab.specs.Labs.{Lab}
 use Rattle.phys_lab.specs.Forests.{IsWithin}
 use Rattle.phys_lab.specs.Faults.{is_type, is_feature, is_port_number, is_speed}
 use Rattle.phys_lab.specs.Kept.{IsLab, IsWhole}
-use Rattle.ptop_text.specs.Canonical.{with_number, feature_fields, range_line, switch_line, node_line, iface_line, trunk_line, node_name, switch_name}
+use Rattle.ptop_text.specs.Canonical.{feature_fields, range_line, switch_line, node_line, iface_line, trunk_line, node_name, switch_name}
+use Rattle.line_text.specs.Printing.{with_number}
 use Rattle.ptop_text.proofs.PartsAgain.{IsPlain, plain_name, plain_number, plain_pair, all_has}
 use Rattle.ptop_text.proofs.LinesAgain.{IsPrinted}
 use Rattle.ptop_text.proofs.DeviceAgain.{range_is, type_is, le_from}

@@ -10,7 +10,7 @@ use Rattle.ptop_text.specs.Refusals.{Takes, ReadsInto, refused_at}
 use Rattle.std.proofs.Common.{◌≡◌, ℕ, ◌+◌, List, [], ◌∷◌, Result, Ok, Err, refl, ap, ◌∙◌}
 use Rattle.lab_base.specs.declared.fault.Kind.{Kind}
 use Rattle.lab_base.specs.declared.fault.TextFault.{TextFault}
-use Rattle.ptop_text.specs.Reading.{line_added, at_line, read_from}
+use Rattle.line_text.specs.Reading.{line_added, at_line, read_from}
 
 -- a fault stays
 pub stays : {S : Type 0} (add : S → List (List ℕ) → Result S Kind) (n : ℕ) (fault : TextFault) (lines : List (List ℕ)) → read_from add n (Err fault) lines ≡ Err fault

@@ -17,7 +17,8 @@ use Rattle.phys_lab.specs.Forests.{IsWithin}
 use Rattle.phys_lab.specs.Faults.{is_type, is_feature, is_port_number, is_speed}
 use Rattle.phys_lab.specs.Kept.{IsLab, IsWhole}
 use Rattle.phys_lab.proofs.TrunkCount.{few_trunks}
-use Rattle.ptop_text.specs.Canonical.{spaced, line_text, text_of, with_number, feature_fields, range_line, switch_line, node_line, iface_line, trunk_line, node_name, switch_name, canonical}
+use Rattle.ptop_text.specs.Canonical.{feature_fields, range_line, switch_line, node_line, iface_line, trunk_line, node_name, switch_name, canonical}
+use Rattle.line_text.specs.Printing.{spaced, line_text, text_of, with_number}
 use Rattle.ptop_text.proofs.PartsAgain.{all_has}
 use Rattle.ptop_text.proofs.DeviceAgain.{range_is, type_is, le_from}
 use Rattle.ptop_text.proofs.LinkAgain.{switch_named, node_named, port_is, speed_is}

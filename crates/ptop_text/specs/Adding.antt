@@ -19,7 +19,7 @@ use Rattle.ptop_text.specs.declared.link.FirstEnd.TheVariants as ends
 use Rattle.ptop_text.specs.declared.device.Device.{Device}
 use Rattle.ptop_text.specs.declared.device.Device.TheVariants as devices
 use Rattle.ptop_text.specs.declared.so_far.LabSoFar.{LabSoFar}
-use Rattle.ptop_text.specs.Reading.{and_then, read_from}
+use Rattle.line_text.specs.Reading.{and_then, read_from}
 use Rattle.ptop_text.specs.Lines.{LinkRead, vlans_line, device_line, link_line}
 
 -- why a part can't be added to the lab, as the kind of its line

@@ -1,27 +1,11 @@
 -- The canonical text of a lab.
 use Rattle.std.specs.Prelude.{ℕ, List, [], ◌∷◌, ◌++◌, map, codes, decimal, slice_index_or}
-use Rattle.std.specs.List.{flat_map}
+use Rattle.line_text.specs.Printing.{spaced, text_of, with_number}
 use Rattle.phys_lab.specs.Labs.{Lab}
 use Rattle.phys_lab.specs.declared.parts.Node.{Node}
 use Rattle.phys_lab.specs.declared.parts.Iface.{Iface}
 use Rattle.phys_lab.specs.declared.parts.Trunk.{Trunk}
 use Rattle.lab_base.specs.declared.ids.SwitchId.{SwitchId}
-
--- fields, each behind a space
-abbrev pub spaced : List (List ℕ) → List ℕ
-spaced fields = flat_map (λ field. 32 ∷ field) fields
-
--- a line of a canonical text: its fields with one space between them, and a line feed
-abbrev pub line_text : List (List ℕ) → List ℕ
-line_text [] = 10 ∷ []
-line_text (field ∷ fields) = field ++ spaced fields ++ 10 ∷ []
-
-abbrev pub text_of : List (List (List ℕ)) → List ℕ
-text_of lines = flat_map line_text lines
-
--- a name and a number, joined by a colon
-abbrev pub with_number : List ℕ × ℕ → List ℕ
-with_number pair = pair.0 ++ 58 ∷ decimal pair.1
 
 abbrev pub switch_name : Lab → SwitchId → List ℕ
 switch_name lab switch = slice_index_or lab.switches switch.0 []

@@ -6,8 +6,8 @@ ghost use Rattle.lab_base.specs.Kinds.{both_of};
 ghost use Rattle.phys_lab.specs.Keys.{same_name};
 ghost use Rattle.ptop_text.specs.Lines.{type_parts, type_of, feature_of, is_list, types_of, features_of, dash_in, node_parts, switch_parts, is_switch_word, is_switch_field, is_switch_line, device_line, as_node, as_switch};
 
-use crate::fields::{short_in, weight_in};
 use lab_base::{Items, Kind, ListRead, Memory, Name, Parts, add_read, both, name_in, parted};
+use line_text::{short_in, weight_in};
 use phys_lab::Node;
 use std::alloc::Global;
 
@@ -58,7 +58,7 @@ fn feature_parts(parts: Option<Parts<'_>>) -> Result<(Name, u32), Kind>
     ensures { result ≡ numbered_parts 0 1000000 (option_map (λ parts. (parts.before.now, parts.behind.now)) parts.entry) }
 {
     match parts {
-        Some(parts) => both(name_in(parts.before), weight_in(parts.behind)),
+        Some(parts) => both(name_in(parts.before), weight_in(parts.behind, 1_000_000)),
         None => Err(Kind::Fields),
     }
 }

@@ -4,8 +4,8 @@ ghost use Rattle.lab_base.specs.Texts.{views};
 ghost use Rattle.lab_base.specs.Parts.{numbered, numbered_parts};
 ghost use Rattle.ptop_text.specs.Lines.{end_of, is_switch_of, first_parts, first_end, link_line, vlans_line};
 
-use crate::fields::short_in;
 use lab_base::{Kind, Name, Parts, both, name_in, number_in, parted};
+use line_text::short_in;
 use phys_lab::LabBuilder;
 
 /// What stands behind the colon of a link's first end.

@@ -1,9 +1,11 @@
 ghost use Rattle.std.specs.Prelude.{◌≡◌, ◌<◌, ◌≤◌, ◌++◌, ◌∷◌, [], map, length, decimal, codes, Ok, OnOk, IfOk};
 ghost use Rattle.phys_lab.specs.Forests.{IsWithin};
 ghost use Rattle.ptop_text.specs.Adding.{lab_of_text};
-ghost use Rattle.ptop_text.specs.Canonical.{line_text, text_of, with_number, port_field, node_name, range_line, switch_line, node_line, iface_line, trunk_line, canonical, spaced, feature_fields};
+ghost use Rattle.ptop_text.specs.Canonical.{port_field, node_name, range_line, switch_line, node_line, iface_line, trunk_line, canonical, feature_fields};
+ghost use Rattle.line_text.specs.Printing.{line_text, text_of, with_number, spaced};
 
 use lab_base::{Memory, Name, SwitchId, Text};
+use line_text::push_numbered;
 use phys_lab::{Iface, Lab, Node, Trunk};
 use std::alloc::Global;
 
@@ -23,16 +25,6 @@ fn push_switch(text: &mut Text, name: &Name) -> Result<(), Memory>
     text.push_bytes(b"node ")?;
     text.push_bytes(name.bytes())?;
     text.push_bytes(b" switch\n")
-}
-
-/// A space, a name, a colon and a number.
-fn push_numbered(text: &mut Text, name: &Name, number: u64) -> Result<(), Memory>
-    ensures { OnOk result (text.new ≡ text.old ++ 32 ∷ with_number (name.now, number)) }
-{
-    text.push(b' ')?;
-    text.push_bytes(name.bytes())?;
-    text.push(b':')?;
-    text.push_number(number)
 }
 
 fn push_types(text: &mut Text, types: &[(Name, u16)]) -> Result<(), Memory>

@@ -1,6 +1,6 @@
 ghost use Rattle.std.specs.Prelude.{◌≡◌, ◌<◌, IfOk, Ok, length};
 ghost use Rattle.lab_base.specs.Texts.{lines_of};
-ghost use Rattle.ptop_text.specs.Reading.{line_added, read_from};
+ghost use Rattle.line_text.specs.Reading.{line_added, read_from};
 ghost use Rattle.ptop_text.specs.Adding.{added, start, lab_of_text, Reads};
 ghost use Rattle.ptop_text.specs.Refusals.{Takes, ReadsInto, refused_at};
 

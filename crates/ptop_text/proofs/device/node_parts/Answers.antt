@@ -3,7 +3,7 @@ use Rattle.lab_base.specs.Texts.{views}
 use Rattle.lab_base.specs.Parts.{name_of}
 use Rattle.lab_base.specs.Kinds.{both_of}
 use Rattle.ptop_text.specs.Lines.{as_node, types_of, features_of, node_parts}
-use Rattle.ptop_text.proofs.SliceLaws.{views-take, views-drop, whole_drop}
+use Rattle.line_text.proofs.SliceLaws.{views-take, views-drop, whole_drop}
 use Rattle.ptop_text.proofs.device.node_parts.Goals as goal
 
 pub returns-in_ok-features-in-Some : goal.returns-in_ok-features-in-Some

@@ -1,5 +1,6 @@
 use Rattle.std.proofs.Common.{◌≡◌, ◌++◌, map, take}
-use Rattle.ptop_text.specs.Canonical.{text_of, node_line}
+use Rattle.ptop_text.specs.Canonical.{node_line}
+use Rattle.line_text.specs.Printing.{text_of}
 use Rattle.ptop_text.proofs.print.push_nodes.Given as goal
 
 abbrev pub invariant-loop-node : goal.invariant-loop-node

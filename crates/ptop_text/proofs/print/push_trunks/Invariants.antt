@@ -1,5 +1,6 @@
 use Rattle.std.proofs.Common.{◌≡◌, ◌++◌, map, take}
-use Rattle.ptop_text.specs.Canonical.{text_of, trunk_line}
+use Rattle.ptop_text.specs.Canonical.{trunk_line}
+use Rattle.line_text.specs.Printing.{text_of}
 use Rattle.ptop_text.proofs.print.push_trunks.Given as goal
 
 abbrev pub invariant-loop-trunk : goal.invariant-loop-trunk

@@ -1,5 +1,5 @@
 use Rattle.std.proofs.Common.{◌≡◌, ◌++◌, map, take}
-use Rattle.ptop_text.specs.Canonical.{spaced, with_number}
+use Rattle.line_text.specs.Printing.{spaced, with_number}
 use Rattle.ptop_text.proofs.print.push_types.Given as goal
 
 abbrev pub invariant-loop-kind : goal.invariant-loop-kind

@@ -2,7 +2,7 @@ use Rattle.std.proofs.Common.{sym, ◌∙◌, subst, arith, Ok, Err, Result}
 use Rattle.lab_base.specs.Texts.{lines_of}
 use Rattle.lab_base.specs.declared.fault.TextRefused.{TextRefused}
 use Rattle.ptop_text.specs.declared.line_fault.LineFault.{LineFault}
-use Rattle.ptop_text.specs.Reading.{line_added, read_from}
+use Rattle.line_text.specs.Reading.{line_added, read_from}
 use Rattle.ptop_text.specs.Adding.{added}
 use Rattle.ptop_text.specs.Refusals.{Takes, ReadsInto}
 use Rattle.ptop_text.proofs.ReadLaws.{goes_on, ends, refused}

@@ -1,6 +1,6 @@
 use Rattle.std.proofs.Common.{◌≡◌, ◌≤◌, ◌+◌, Ok, length}
 use Rattle.lab_base.specs.Texts.{lines_of}
-use Rattle.ptop_text.specs.Reading.{read_from}
+use Rattle.line_text.specs.Reading.{read_from}
 use Rattle.ptop_text.specs.Adding.{added}
 use Rattle.ptop_text.proofs.read.add_lines.Given as goal
 

@@ -2,7 +2,7 @@ use Rattle.std.proofs.Common.{subst, Ok, Result}
 use Rattle.lab_base.specs.Texts.{lines_of}
 use Rattle.lab_base.specs.declared.fault.TextRefused.{TextRefused}
 use Rattle.ptop_text.specs.declared.so_far.LabSoFar.{LabSoFar}
-use Rattle.ptop_text.specs.Reading.{read_from}
+use Rattle.line_text.specs.Reading.{read_from}
 use Rattle.ptop_text.specs.Adding.{added, start}
 use Rattle.ptop_text.specs.Refusals.{ReadsInto}
 use Rattle.ptop_text.proofs.ReadLaws.{passes_on}
