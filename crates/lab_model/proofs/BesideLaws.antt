@@ -3,7 +3,7 @@ use Rattle.std.proofs.Common.{◌≡◌, List, [], ◌∷◌, refl, sym, ◌∙�
 use Rattle.phys_lab.specs.Labs.{Lab}
 use Rattle.virt_topo.specs.declared.experiment.Experiment.{Experiment}
 use Rattle.plant.specs.Worlds.{Row, World}
-use Rattle.lab_model.specs.Reach.{Next, LeadsOn, Reaches}
+use Rattle.lab_model.specs.Reach.{LeadsOn}
 use Rattle.lab_model.specs.Isolated.{Owner, Owns, IsRow, IsPipe, Isolated, IsolatedBeside}
 
 module _ (lab : Lab) (es : List Experiment) (w : World) where

@@ -9,7 +9,18 @@ use Rattle.virt_topo.specs.declared.wiring.VirtNode.{VirtNode}
 use Rattle.virt_topo.specs.declared.wiring.VirtEnd.{VirtEnd}
 use Rattle.virt_topo.specs.declared.mapping.Mapped.{Mapped}
 use Rattle.plant.specs.Worlds.{Row}
-use Rattle.plant.specs.declared.device.DeviceOp.TheVariants.{Join, Leave, Load, Wipe}
+use Rattle.plant.specs.declared.device.DeviceOp.TheVariants.{Join, Leave, Load, Wipe, Shape}
+use Rattle.std.proofs.Common.{Ok, Err}
+use Rattle.lab_base.specs.declared.rates.Rates.{Rates}
+use Rattle.plant.specs.declared.device.Answer.TheVariants.{Done}
+use Rattle.plant.specs.declared.device.Fault.TheVariants.{Failed}
+use Rattle.plant.specs.Events.{Did}
+use Rattle.plant.specs.Worlds.{World, world_of}
+use Rattle.virt_topo.specs.declared.experiment.Experiment.{Experiment}
+use Rattle.virt_topo.specs.declared.experiment.Phase.TheVariants.{In}
+use Rattle.lab_model.specs.Kept.{is_kept}
+use Rattle.lab_model.specs.Beside.{is_unclaimed, has_room, has_ids, are_free_tags}
+use Rattle.lab_model.specs.Cabled.{AllWanted, FreeWiped}
 use Rattle.lab_model.specs.Uses.{trunk_use}
 use Rattle.lab_model.specs.Wants.{cables_in, rows_of}
 use Rattle.lab_model.specs.Courses.{commands, undo}
@@ -94,3 +105,67 @@ swap_in_boot = refl
 
 undone : (undo lab_q None (Some (pair 1 0 1 100))).clear ≡ Leave (21 ∷ []) 1 (record { 0 = 100 }) ∷ Leave (21 ∷ []) 2 (record { 0 = 100 }) ∷ Wipe (0 ∷ []) ∷ Wipe (1 ∷ []) ∷ []
 undone = refl
+
+-- WRONG WORLDS AND MAPPINGS, each refused by the word that should refuse it
+abbrev rates : Rates
+rates = record { kbps = 1000; micros = 0; ppm = 0 }
+
+-- a pipe was left on a node that nobody claims
+abbrev left_pipe : World
+left_pipe = world_of (Did (Shape (0 ∷ []) 5 (7 ∷ []) (7 ∷ []) rates rates) true (Ok Done) ∷ [])
+
+pipe_left : FreeWiped lab_q [] left_pipe → ⊥
+pipe_left free = let same = free (0 ∷ []) (λ e h. absurd h) in let none = same.pipes 5 in absurd (cc none)
+
+-- a row that nobody wants
+abbrev left_row : World
+left_row = world_of (Did (Join (21 ∷ []) 1 (record { 0 = 100 })) true (Ok Done) ∷ [])
+
+row_left : AllWanted lab_q [] left_row → ⊥
+row_left wanted = (wanted (row 21 1 100) refl).1
+
+-- and a command that failed and wasn't applied leaves nothing
+unsent : (world_of (Did (Join (21 ∷ []) 1 (record { 0 = 100 })) false (Err Failed) ∷ [])).rows (row 21 1 100) ≡ false
+unsent = refl
+
+-- a node of which the new mapping wants another pipe isn't kept; one of which it wants the same is
+abbrev delayed : ℕ → Mapped
+delayed kbps = record {
+  wiring = record {
+    classes = [];
+    nodes = virt 0 ∷ virt 1 ∷ [];
+    segments = record { name = 1 ∷ []; owner = 1 ∷ []; kbps = 1; ends = end' 0 ∷ end' 1 ∷ [] } ∷ record { name = 2 ∷ []; owner = 1 ∷ []; kbps = 1; ends = end' 0 ∷ end' 1 ∷ [] } ∷ [];
+    pipes = record { node = 0; from = 0; to = 1; there = record rates { kbps = kbps }; back = rates } ∷ [];
+  };
+  mapping = record { places = (record { 0 = 0 }, []) ∷ (record { 0 = 1 }, []) ∷ []; plugs = record { 0 = 0 } ∷ record { 0 = 1 } ∷ record { 0 = 0 } ∷ record { 0 = 1 } ∷ [] };
+  tags = record { 0 = 100 } ∷ record { 0 = 101 } ∷ [];
+}
+
+other_pipe : is_kept lab_q (Some (delayed 1)) (Some (delayed 2)) (0 ∷ []) ≡ false
+other_pipe = refl
+
+same_pipe : is_kept lab_q (Some (delayed 1)) (Some (delayed 1)) (0 ∷ []) ≡ true
+same_pipe = refl
+
+no_pipe : is_kept lab_q (Some (delayed 1)) (Some (delayed 2)) (1 ∷ []) ≡ true
+no_pipe = refl
+
+-- a trunk over its kbps, a node twice claimed, an id out of range and one that stands twice
+abbrev exp : ℕ → Mapped → Experiment
+exp name m = record { name = name ∷ []; wiring = m.wiring; phase = In m.mapping m.tags }
+
+over : has_room lab_q (exp 65 (pair 100000 0 2 100) ∷ []) (pair 1 1 3 101).wiring (pair 1 1 3 101).mapping 0 ≡ false
+over = refl
+
+claimed_twice : is_unclaimed lab_q (exp 65 (pair 1 0 2 100) ∷ []) (pair 1 0 1 101).mapping 0 ≡ false
+claimed_twice = refl
+
+no_such_id : are_free_tags lab_q [] (pair 1 0 1 104).wiring (pair 1 0 1 104).tags ≡ false
+no_such_id = refl
+
+id_in_use : are_free_tags lab_q (exp 65 (pair 1 0 2 100) ∷ []) (pair 1 1 3 100).wiring (pair 1 1 3 100).tags ≡ false
+id_in_use = refl
+
+-- three segments where two ids are left
+no_ids : has_ids lab_q (exp 65 (delayed 1) ∷ []) (exp 66 (pair 1 0 1 102)) (delayed 1).wiring ≡ false
+no_ids = refl
