@@ -1,12 +1,11 @@
 -- What the pairs claim, in the general words.
-use Rattle.std.proofs.Common.{◌≡◌, ◌≢◌, ◌⊎◌, inl, inr, ⊎_elim, ℕ, zero, suc, ◌+◌, ◌-◌, ◌<◌, ◌≤◌, ◌==◌, Bool, true, false, ◌&&◌, ◌||◌, List, [], ◌∷◌, ◌++◌, map, Option, Some, None, refl, sym, ◌∙◌, ap, subst, arith, eq-eqb}
-use Rattle.std.specs.Prelude.{codes}
+use Rattle.std.proofs.Common.{◌≡◌, ◌≢◌, ⊎_elim, ℕ, zero, suc, ◌+◌, ◌-◌, ◌<◌, ◌≤◌, ◌==◌, Bool, true, false, ◌||◌, List, [], ◌∷◌, ◌++◌, map, refl, sym, ◌∙◌, ap, subst, arith, eq-eqb}
 use Rattle.std.specs.List.{flat_map}
 use Rattle.lab_base.specs.Lists.{Has, Apart, AllDiffer}
 use Rattle.phys_lab.specs.declared.parts.Node.{Node}
 use Rattle.virt_topo.specs.declared.mapping.Mapped.{Mapped}
 use Rattle.virt_topo.specs.declared.experiment.Experiment as topo
-use Rattle.lab_model.specs.Claims.{Which, New, claimed, claimed_tags, Claims, Places}
+use Rattle.lab_model.specs.Claims.{New, claimed, claimed_tags, Claims, Places}
 use Rattle.lab_model.specs.Holding as model
 use Rattle.lab_model.specs.Wants.{node_name}
 use Rattle.lab_top.specs.declared.experiment.Experiment.{Experiment}

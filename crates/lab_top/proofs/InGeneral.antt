@@ -1,26 +1,22 @@
 -- Experiments of pairs, in the general words.
-use Rattle.std.proofs.Common.{◌≡◌, ◌⊎◌, inl, inr, ⊎_elim, ℕ, zero, suc, ◌+◌, ◌-◌, ◌<◌, ◌≤◌, ◌==◌, Bool, true, false, ◌&&◌, List, [], ◌∷◌, ◌++◌, map, Option, Some, None, refl, sym, ◌∙◌, ap, subst, arith}
+use Rattle.std.proofs.Common.{◌≡◌, inl, inr, ⊎_elim, ℕ, zero, suc, ◌-◌, ◌<◌, ◌≤◌, ◌==◌, Bool, true, false, ◌&&◌, List, [], ◌∷◌, map, Some, refl, sym, ◌∙◌, ap, subst, arith}
 use Rattle.std.specs.Prelude.{codes}
 use Rattle.std.specs.Str.{bytes_eq}
 use Rattle.std.proofs.lemmas.Bool.{eqb-true, eq-eqb}
 use Rattle.std.proofs.lemmas.Grind.{common_steps}
 use Rattle.std.proofs.lemmas.Slice.Eq.{bytes_eq-Decides}
 use Rattle.lab_base.specs.Lists.{Has}
-use Rattle.plant.specs.Worlds.{Row, World, is_row}
-use Rattle.virt_topo.specs.declared.mapping.Mapped.{Mapped}
+use Rattle.plant.specs.Worlds.{Row, is_row}
 use Rattle.virt_topo.specs.declared.experiment.Experiment as topo
-use Rattle.lab_model.specs.Claims.{Which, Old, New, claimed, Wants}
+use Rattle.lab_model.specs.Claims.{New, claimed, Wants}
 use Rattle.lab_model.specs.Wants.{plug_row, rows_of, Owned}
 use Rattle.lab_model.specs.Isolated as model
-use Rattle.lab_model.specs.Reach.{Next, LeadsOn, Reaches, by_switch, by_trunk, by_pipe}
+use Rattle.lab_model.specs.Reach.{Next, LeadsOn, by_switch, by_trunk, by_pipe}
 use Rattle.lab_top.specs.declared.script.Pair.{Pair}
 use Rattle.lab_top.specs.declared.experiment.Experiment.{Experiment}
-use Rattle.lab_top.specs.declared.experiment.Phase.{Phase}
-use Rattle.lab_top.specs.declared.experiment.Phase.TheVariants as phase
 use Rattle.lab_top.specs.General.{the_lab, mapped_of, general}
 use Rattle.plant.specs.Events.{Event}
 use Rattle.plant.specs.Worlds.{PipeRow, world_of}
-use Rattle.lab_model.specs.Cabled.{AllWanted}
 use Rattle.lab_top.specs.Isolated.{Keeps}
 use Rattle.lab_top.specs.Lab.{holds, is_tag}
 use Rattle.lab_top.specs.Pairs.{IsOf}

@@ -1,11 +1,11 @@
 -- What stays isolated and holding from turn to turn.
-use Rattle.std.proofs.Common.{◌≡◌, ◌⊎◌, inl, inr, ⊎_elim, ℕ, zero, suc, ◌+◌, ◌≤◌, ◌==◌, Bool, true, false, ◌&&◌, ◌||◌, List, [], ◌∷◌, ◌++◌, length, refl, sym, ◌∙◌, ap, subst, append_assoc, eq-eqb}
+use Rattle.std.proofs.Common.{◌≡◌, ◌⊎◌, inl, inr, ⊎_elim, ℕ, zero, suc, ◌≤◌, ◌==◌, Bool, true, false, ◌&&◌, ◌||◌, List, [], ◌∷◌, ◌++◌, length, refl, sym, ◌∙◌, ap, subst, eq-eqb}
 use Rattle.std.specs.Prelude.{fold, codes}
 use Rattle.std.specs.List.{list_any}
 use Rattle.std.proofs.lemmas.List.{append-nil}
 use Rattle.std.proofs.lemmas.Bool.{eqb-true}
 use Rattle.plant.specs.Events.{Event}
-use Rattle.plant.specs.Worlds.{Row, World, NodeRow, is_row, world_of, world_after, blank}
+use Rattle.plant.specs.Worlds.{Row, World, NodeRow, world_of, world_after, blank}
 use Rattle.lab_model.specs.Isolated.{IsRow}
 use Rattle.lab_top.specs.declared.course.Outcome.{Outcome}
 use Rattle.lab_top.specs.declared.course.Outcome.TheVariants as outcome

@@ -1,7 +1,7 @@
 -- The rows of a pair, and who owns them.
-use Rattle.std.proofs.Common.{◌≡◌, ◌⊎◌, ◌≤◌, Bool, ℕ, zero, suc, true, List, [], ◌∷◌, Option, None}
+use Rattle.std.proofs.Common.{◌≡◌, ◌⊎◌, ◌≤◌, Bool, ℕ, zero, suc, true, List, [], ◌∷◌, None}
 use Rattle.plant.specs.Events.{Event}
-use Rattle.plant.specs.Worlds.{Row, PipeRow, world_of, is_row}
+use Rattle.plant.specs.Worlds.{Row, world_of, is_row}
 use Rattle.lab_model.specs.Isolated.{IsRow}
 use Rattle.lab_top.specs.declared.script.Pair.{Pair}
 use Rattle.lab_top.specs.declared.experiment.Experiment.{Experiment}

@@ -1,6 +1,6 @@
 -- The mapping of a pair suits the lab.
-use Rattle.std.proofs.Common.{◌≡◌, ◌≢◌, ℕ, zero, suc, ◌+◌, ◌-◌, ◌<◌, ◌≤◌, ◌==◌, Bool, true, false, ◌&&◌, ◌||◌, not, List, [], ◌∷◌, refl, sym, ◌∙◌, ap, subst, arith, if◌then◌else◌, nat_le, eq-eqb}
-use Rattle.std.specs.Prelude.{codes, All}
+use Rattle.std.proofs.Common.{◌≡◌, ◌≢◌, ℕ, zero, suc, ◌+◌, ◌-◌, ◌<◌, ◌≤◌, ◌==◌, Bool, true, false, ◌&&◌, [], ◌∷◌, refl, ◌∙◌, ap, arith, if◌then◌else◌, eq-eqb}
+use Rattle.std.specs.Prelude.{codes}
 use Rattle.std.proofs.lemmas.Bool.{eqb-true}
 use Rattle.std.proofs.lemmas.List.Elements.{All-cons, All-nil}
 use Rattle.lab_base.specs.declared.ids.IfaceId.{IfaceId}
@@ -8,7 +8,7 @@ use Rattle.phys_lab.specs.declared.parts.Node.{Node}
 use Rattle.phys_lab.specs.declared.parts.Iface.{Iface}
 use Rattle.lab_model.specs.Holding.{Suits}
 use Rattle.lab_model.specs.Feasible.{AllPass}
-use Rattle.lab_model.specs.Rules.{guests, agree, keeps_f2, keeps_f3, keeps_f4, keeps_f5, keeps_f7, are_joined, Guest}
+use Rattle.lab_model.specs.Rules.{agree, keeps_f2, keeps_f3, keeps_f4, keeps_f5, keeps_f7, are_joined}
 use Rattle.lab_model.specs.Shapes.{Place, node_at, has_name}
 use Rattle.lab_model.specs.Uses.{iface_at, switch_of}
 use Rattle.lab_top.specs.declared.script.Pair.{Pair}

@@ -1,5 +1,5 @@
 -- The lab and the experiments of pairs in the general words.
-use Rattle.std.specs.Prelude.{ℕ, ◌+◌, ◌-◌, List, [], ◌∷◌, ◌++◌, map, Option, Some, None, codes}
+use Rattle.std.specs.Prelude.{ℕ, ◌+◌, ◌-◌, List, [], ◌∷◌, ◌++◌, map, Some, None, codes}
 use Rattle.phys_lab.specs.Labs as labs
 use Rattle.phys_lab.specs.declared.parts.Node.{Node}
 use Rattle.phys_lab.specs.declared.parts.Iface.{Iface}
