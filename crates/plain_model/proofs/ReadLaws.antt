@@ -4,6 +4,9 @@ use Rattle.std.proofs.lemmas.List.{take_all, length-drop, length-take, drop_at}
 use Rattle.journal_rec.specs.declared.record.Record.{Record}
 use Rattle.journal_rec.specs.Payloads.{number, payload, Decodes}
 use Rattle.journal_model.specs.Journals.{block, Reads, Breaks, AreBytes}
+use Rattle.plant.specs.declared.step.Side.{Side}
+use Rattle.journal_model.specs.Journals.{head, live, On, of_side}
+use Rattle.journal_model.proofs.Syncs.{live_back, headed_long}
 use Rattle.journal_model.proofs.Totals.{one_block}
 use Rattle.plain_model.specs.declared.reading.Read.{Read}
 use Rattle.plain_model.specs.Readings.{IsRead, HasWhole}
@@ -56,3 +59,7 @@ pub next_ok : {E : Type 0} {P : Read → Type 0} (first : Record) (read : Read) 
     → ((with : Read) → with.records.items ≡ first ∷ read.records.items → with.whole ≡ read.whole → P with) → IfOk answer P
 next_ok first read (Ok with) is each = each with is.0 is.1
 next_ok first read (Err e) is each = tt
+
+-- a live side has a header
+pub live_long : (side : Side) (a b : List ℕ) → live (head a) (head b) ≡ On side → 18 ≤ length (of_side side a b)
+live_long side a b on = let h = live_back side a b on in headed_long (of_side side a b) h.0 h.1

@@ -16,6 +16,7 @@ mod owner;
 mod reading;
 mod row;
 mod sides;
+mod two_sides;
 mod wanted;
 mod world;
 
@@ -25,6 +26,7 @@ pub use owner::Owner;
 pub use reading::{Read, read_from};
 pub use row::Row;
 pub use sides::on_first_side;
+pub use two_sides::{Header, Live, Sides, header_of, live_of, read_sides};
 pub use wanted::Wanted;
 pub use world::{Sent, has_row};
 

@@ -2,7 +2,7 @@ use super::*;
 use journal_rec::Record;
 use lab_base::{Items, Name, NodeId, SwitchId, VlanId};
 use phys_lab::{Iface, Lab, LabBuilder, Node, Trunk};
-use plant::DeviceOp;
+use plant::{DeviceOp, Side};
 use std::alloc::Global;
 use std::test::Fail;
 
@@ -360,6 +360,76 @@ fn records_from_a_gate_on(rt: HostRuntime) -> Result<(), Fail> {
         assert_eq!(rt;
             (place, byte, read.records.len(), read.whole),
             (place, byte, records, whole)
+        );
+    }
+    Ok(())
+}
+
+/// A side with the record `Delete` of `A` has 26 bytes; this is one with that epoch.
+fn side(epoch: u8) -> [u8; 26] {
+    let mut bytes = [0; 26];
+    bytes[0] = 0xa5;
+    bytes[1..9].copy_from_slice(b"LABJRNL1");
+    bytes[9] = epoch;
+    bytes[17..].copy_from_slice(&ONE);
+    bytes
+}
+
+/// `N` for no journal yet, `A` and `B` for the live side with a record, `a` and `b` for one without, `x` and `y` for what makes
+/// side A or B none, and `?` for records that end at something broken.
+fn told(sides: &Sides) -> char {
+    match sides {
+        Sides::New => 'N',
+        Sides::Wrong(Side::A) => 'x',
+        Sides::Wrong(Side::B) => 'y',
+        Sides::Found { side, read } => match (side, read.whole, read.records.is_empty()) {
+            (_, false, _) => '?',
+            (Side::A, _, false) => 'A',
+            (Side::A, _, true) => 'a',
+            (Side::B, _, false) => 'B',
+            (Side::B, _, true) => 'b',
+        },
+    }
+}
+
+fn front(bytes: &[u8], most: usize) -> &[u8] {
+    if most < bytes.len() {
+        &bytes[..most]
+    } else {
+        bytes
+    }
+}
+
+#[test]
+fn records_of_two_sides(rt: HostRuntime) -> Result<(), Fail> {
+    // how many bytes are left of each side, their epochs, the place of side A and the byte that is put there
+    let cases: [(usize, usize, u8, u8, usize, u8, char); 13] = [
+        (0, 0, 1, 1, 25, 0, 'N'),
+        (17, 17, 1, 1, 25, 0, 'N'),
+        (26, 0, 1, 1, 25, 0, 'A'),
+        (0, 26, 1, 1, 25, 0, 'B'),
+        (26, 26, 2, 1, 25, 0, 'A'),
+        (26, 26, 1, 2, 25, 0, 'B'),
+        (26, 26, 1, 1, 25, 0, 'x'),
+        (26, 26, 1, 2, 0, 0, 'B'),
+        (26, 26, 2, 1, 0, 0xa4, 'B'),
+        (26, 26, 1, 2, 3, 0, 'x'),
+        (26, 0, 1, 1, 17, 0, 'a'),
+        (26, 0, 1, 1, 25, 0xa5, '?'),
+        (25, 0, 1, 1, 24, b'A', '?'),
+    ];
+    for (first, second, m, n, place, byte, wanted) in cases {
+        let mut a = side(m);
+        if let Some(damaged) = a.get_mut(place) {
+            *damaged = byte;
+        }
+        let b = side(n);
+        let sides = read_sides(rt.alloc(), front(&a, first), front(&b, second))
+            .ok()
+            .ok_or("memory")?;
+        assert_eq!(rt;
+            (first, second, m, n, place, told(&sides)),
+            (first, second, m, n, place, wanted)
         );
     }
     Ok(())
