@@ -9,3 +9,6 @@ mod so_far;
 
 pub use print::print_top;
 pub use read::read_top;
+
+#[cfg(test)]
+mod tests;

@@ -1,0 +1,92 @@
+ghost use Rattle.std.specs.Prelude.{◌<◌};
+
+use crate::{print_top, read_top};
+use lab_base::{Kind, TextFault, TextRefused};
+use std::alloc::Global;
+use std::test::Fail;
+use virt_topo::Wiring;
+
+const SHAPED: &[u8] =
+    b"node a pc default\nnode b pc default\nnode l.d delay delay\nlink l.0 l 100000 a=10.1.1.1 l.d\nlink l.1 l 100000 l.d b=10.1.1.2\npipe l.d 0 1 100000 2000 0 100000 2000 0\n";
+
+const CLASSES: &[u8] =
+    b"make-vclass v 500 pc pc600\nnode a v linux big:1000 fast:0\nnode b pc linux\nfix-node b pc1\n";
+
+fn read(alloc: Global, text: &[u8]) -> Result<Result<Wiring, TextRefused>, Fail> {
+    if text.len() < 4_294_967_295 {
+        Ok(read_top(alloc, text))
+    } else {
+        Err("long")?
+    }
+}
+
+fn fault(alloc: Global, text: &[u8]) -> Result<TextFault, Fail> {
+    match read(alloc, text)? {
+        Ok(_) => Err("a wiring")?,
+        Err(TextRefused::Text(fault)) => Ok(fault),
+        Err(TextRefused::Memory) => Err("memory")?,
+    }
+}
+
+fn is_canonical(alloc: Global, text: &[u8]) -> Result<bool, Fail> {
+    match read(alloc, text)? {
+        Ok(wiring) => Ok(print_top(alloc, &wiring)?.bytes() == text),
+        Err(_) => Err("a fault")?,
+    }
+}
+
+#[test]
+fn the_first_fault_is_told_with_its_line(rt: HostRuntime) -> Result<(), Fail> {
+    let cases = [
+        (b"nod a pc linux\n".as_slice(), 1, Kind::Word),
+        (b"node a pc\n".as_slice(), 1, Kind::Fields),
+        (b"link l l 1 a\n".as_slice(), 1, Kind::Fields),
+        (b"node a pc linux d\n".as_slice(), 1, Kind::Fields),
+        (b"node a! pc linux\n".as_slice(), 1, Kind::Name),
+        (b"make-vclass v 1000001 pc\n".as_slice(), 1, Kind::Number),
+        (b"link l l 10 a=10.0.0.255 b\n".as_slice(), 1, Kind::Number),
+        (b"link l l 10 a=10.00.0.1 b\n".as_slice(), 1, Kind::Number),
+        (b"node a pc x\nnode a pc x\n".as_slice(), 2, Kind::Twice),
+        (b"make-vclass v 500 pc pc\n".as_slice(), 1, Kind::Twice),
+        (
+            b"node a pc x\nmake-vclass pc 5 y\n".as_slice(),
+            2,
+            Kind::Twice,
+        ),
+        (
+            b"node a pc x\nfix-node a p\nfix-node a q\n".as_slice(),
+            3,
+            Kind::Twice,
+        ),
+        (
+            b"node a pc x\nnode b pc x\nlink l l 1 a=10.0.0.1 b=10.0.0.1\n".as_slice(),
+            3,
+            Kind::Twice,
+        ),
+        (b"fix-node a pc1\n".as_slice(), 1, Kind::Unknown),
+        (
+            b"node a pc x\nlink l l 1 a b\n".as_slice(),
+            2,
+            Kind::Unknown,
+        ),
+        (b"node a pc x\nlink l l 1 a a\n".as_slice(), 2, Kind::Same),
+        (
+            b"node a pc x\nnode b pc x\nlink l l 1 a b\npipe a 0 0 1 0 0 1 0 0\n".as_slice(),
+            4,
+            Kind::Pipe,
+        ),
+        (b"# none\n\n".as_slice(), 3, Kind::Empty),
+        (b"".as_slice(), 1, Kind::Empty),
+    ];
+    for (text, line, kind) in cases {
+        assert_eq!(rt; fault(rt.alloc(), text)?, TextFault { line, kind });
+    }
+    Ok(())
+}
+
+#[test]
+fn canonical_texts_are_read_and_printed(rt: HostRuntime) -> Result<(), Fail> {
+    assert!(rt; is_canonical(rt.alloc(), SHAPED)?);
+    assert!(rt; is_canonical(rt.alloc(), CLASSES)?);
+    Ok(())
+}
