@@ -9,10 +9,10 @@ use Rattle.journal_rec.specs.Payloads.{le, number, name_bytes, text_bytes, tag_b
 use Rattle.journal_rec.specs.Reading.{◌>>=◌, byte_at, number_at, part_at, field_at, text_at, each_at, tags_at}
 use Rattle.journal_rec.proofs.Numbers.{IsBytes, number_le, length_le, le_number, number_below}
 
-IsBytes-drop : (n : ℕ) (bytes : List ℕ) → IsBytes bytes → IsBytes (drop n bytes)
+pub IsBytes-drop : (n : ℕ) (bytes : List ℕ) → IsBytes bytes → IsBytes (drop n bytes)
 IsBytes-drop n bytes h i = rw get_or-drop (h (n + i))
 
-IsBytes-take : (n : ℕ) (bytes : List ℕ) → IsBytes bytes → IsBytes (take n bytes)
+pub IsBytes-take : (n : ℕ) (bytes : List ℕ) → IsBytes bytes → IsBytes (take n bytes)
 IsBytes-take n bytes h i =
     elim (cases_lt i n) [
       | inl lt ↦ rw (get_or-take n bytes i 0 lt) (h i)

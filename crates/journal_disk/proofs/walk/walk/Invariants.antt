@@ -1,0 +1,15 @@
+use Rattle.std.proofs.Common.{◌≡◌, ◌≤◌, ◌-◌, ◌+◌, ◌<◌, List, ◌++◌, drop, length}
+use Rattle.journal_rec.specs.declared.record.Record.{Record}
+use Rattle.journal_model.specs.Journals.{Reads, Breaks, gate_after}
+use Rattle.journal_disk.specs.Walks.{placed}
+use Rattle.journal_disk.proofs.Walking.{SoFar}
+use Rattle.journal_disk.proofs.walk.walk.Given as goal
+
+abbrev pub invariant-gates : goal.invariant-gates
+invariant-gates l = record {
+  inside : l.gate < length l.bytes;
+  so_far : (rs : List Record) × SoFar l.bytes l.gate rs l.found.items;
+}
+
+abbrev pub decreases-gates : goal.decreases-gates
+decreases-gates l = length l.bytes - l.gate

@@ -1,0 +1,33 @@
+-- What the head of a side says, with its epoch as a number.
+use Rattle.std.specs.Prelude.{ℕ, ◌==◌, nat_lt, if◌then◌else◌}
+use Rattle.plant.specs.declared.step.Side.{Side}
+use Rattle.plant.specs.declared.step.Side.TheVariants.{A, B}
+use Rattle.journal_rec.specs.Payloads.{number}
+use Rattle.journal_model.specs.Journals.{Head, Live}
+use Rattle.journal_model.specs.Journals as journals
+use Rattle.journal_disk.specs.declared.front.Front.{Front}
+use Rattle.journal_disk.specs.declared.front.Front.TheVariants.{Blank, Foreign, Headed}
+use Rattle.journal_disk.specs.declared.front.Place.{Place}
+use Rattle.journal_disk.specs.declared.front.Place.TheVariants.{New, On, Wrong}
+
+abbrev pub seen : Head → Front
+seen journals.Blank = Blank
+seen journals.Foreign = Foreign
+seen (journals.Headed epoch) = Headed (number epoch)
+
+abbrev pub seen_live : Live → Place
+seen_live journals.New = New
+seen_live (journals.On side) = On side
+seen_live (journals.Wrong side) = Wrong side
+
+abbrev pub later : ℕ → ℕ → Place
+later m n = if m == n then Wrong A else if nat_lt n m then On A else On B
+
+abbrev pub place_of : Front → Front → Place
+place_of Foreign b = Wrong A
+place_of Blank Foreign = Wrong B
+place_of (Headed m) Foreign = Wrong B
+place_of Blank Blank = New
+place_of Blank (Headed n) = On B
+place_of (Headed m) Blank = On A
+place_of (Headed m) (Headed n) = later m n

@@ -1,0 +1,93 @@
+ghost use Rattle.std.specs.Prelude.{◌<◌, ◌≤◌, ◌+◌, ◌^◌};
+
+use crate::AppendFault;
+use crate::front::OPEN;
+use journal_rec::Encoded;
+use plant::{Plant, Side};
+
+/// A journal that is open: its live side, and its gates up to the first closed one.
+#[derive(Drop)]
+pub struct Journal {
+    pub(crate) side: Side,
+    /// The position of the first closed gate.
+    pub(crate) gate: u64,
+    /// The most bytes of a side.
+    pub(crate) limit: u64,
+    ghost gate_fits: { gate + 1 < 2 ^ 64 },
+    ghost limit_fits: { limit ≤ 2 ^ 32 },
+}
+
+impl Journal {
+    ghost use Rattle.std.specs.Prelude.{◌≡◌, ◌↔◌, ◌<◌, ◌≤◌, ◌+◌, ◌++◌, [], ◌∷◌, ℕ, List, length, Option, Some, Err, IfSome, IsErrOf, OnOk, OnErr, IsTrue};
+    ghost use Rattle.plant.specs.Calls.{Rose};
+    ghost use Rattle.plant.specs.Events.{Event};
+    ghost use Rattle.plant.specs.Told.{with_steps};
+    ghost use Rattle.journal_rec.specs.Payloads.{IsBody};
+    ghost use Rattle.journal_rec.specs.declared.record.Record.{Record};
+    ghost use Rattle.journal_disk.specs.Standing.{side_of, gate_of, length_of, limit_of, IsAt, Appends, Moments};
+
+    /// The position after the first closed gate.
+    pub fn length(&self) -> u64
+        ensures { result ≡ length_of self.now }
+    {
+        self.gate + 1
+    }
+
+    /// Appends a record. After `Ok` it is durable; after `Plant` or `Stopped` the journal has to be opened anew.
+    pub fn append<P: Plant>(&mut self, encoded: &Encoded, plant: &mut P) -> Result<(), AppendFault>
+        // Both sides are as this journal's last call left them.
+        requires { IfSome (P.told plant.old) (λ t. (rs : List Record) × IsAt t.trace self.old rs) }
+        ensures full { limit_of self.old < length_of self.old + length encoded.now → result ≡ Err (AppendFault.Full (length_of self.old) (length encoded.now)) }
+        ensures fits { length_of self.old + length encoded.now ≤ limit_of self.old → (size length : ℕ) → result ≡ Err (AppendFault.Full length size) → ⊥ }
+        ensures nothing { limit_of self.old < length_of self.old + length encoded.now → plant.new ≡ plant.old }
+        ensures plant { IsErrOf result AppendFault.Plant → Rose (P.faults plant.old).disk (P.faults plant.new).disk }
+        ensures later { (P.faults plant.old).disk ≤ (P.faults plant.new).disk }
+        ensures stopped { length_of self.old + length encoded.now ≤ limit_of self.old → IsErrOf result AppendFault.Stopped ↔ IsTrue (P.is_stopped plant.new) }
+        ensures drills { P.takes_drills plant.new ≡ P.takes_drills plant.old }
+        ensures appends { (r : Record) → IsBody encoded.now r → Appends (P.told plant.old) (P.told plant.new) self.old r result }
+        ensures moments { (r : Record) (rs : List Record) → IsBody encoded.now r → IfSome (P.told plant.old) (λ t. IsAt t.trace self.old rs
+            → (steps : List Event) × (P.told plant.new ≡ with_steps (P.told plant.old) steps) × Moments t.trace steps (side_of self.old) rs r result) }
+        ensures stands { OnOk result ((r : Record) (rs : List Record) → IsBody encoded.now r → IfSome (P.told plant.old) (λ t. IsAt t.trace self.old rs
+            → IfSome (P.told plant.new) (λ u. IsAt u.trace self.new (rs ++ r ∷ [])))) }
+        ensures length { OnOk result (length_of self.new ≡ length_of self.old + length encoded.now) }
+        ensures side { side_of self.new ≡ side_of self.old }
+        ensures limit { limit_of self.new ≡ limit_of self.old }
+        ensures err { OnErr result (self.new ≡ self.old) }
+    {
+        self.append_steps(encoded, plant)
+    }
+
+    /// The steps of an append: the body behind the closed gate, a sync, the open gate, a sync.
+    fn append_steps<P: Plant>(
+        &mut self,
+        encoded: &Encoded,
+        plant: &mut P,
+    ) -> Result<(), AppendFault>
+        // Both sides are as this journal's last call left them.
+        requires { IfSome (P.told plant.old) (λ t. (rs : List Record) × IsAt t.trace self.old rs) }
+        ensures full { limit_of self.old < length_of self.old + length encoded.now → result ≡ Err (AppendFault.Full (length_of self.old) (length encoded.now)) }
+        ensures fits { length_of self.old + length encoded.now ≤ limit_of self.old → (size length : ℕ) → result ≡ Err (AppendFault.Full length size) → ⊥ }
+        ensures nothing { limit_of self.old < length_of self.old + length encoded.now → plant.new ≡ plant.old }
+        ensures plant { IsErrOf result AppendFault.Plant → Rose (P.faults plant.old).disk (P.faults plant.new).disk }
+        ensures later { (P.faults plant.old).disk ≤ (P.faults plant.new).disk }
+        ensures stopped { length_of self.old + length encoded.now ≤ limit_of self.old → IsErrOf result AppendFault.Stopped ↔ IsTrue (P.is_stopped plant.new) }
+        ensures drills { P.takes_drills plant.new ≡ P.takes_drills plant.old }
+        ensures appends { (r : Record) → IsBody encoded.now r → Appends (P.told plant.old) (P.told plant.new) self.old r result }
+        ensures length { OnOk result (length_of self.new ≡ length_of self.old + length encoded.now) }
+        ensures side { side_of self.new ≡ side_of self.old }
+        ensures limit { limit_of self.new ≡ limit_of self.old }
+        ensures err { OnErr result (self.new ≡ self.old) }
+    {
+        let length = self.length();
+        let size = encoded.size();
+        if length.saturating_add(size) > self.limit {
+            return Err(AppendFault::Full { length, size });
+        }
+        plant.write(self.side, self.gate + 1, encoded.bytes())?;
+        plant.sync(self.side)?;
+        plant.write(self.side, self.gate, &[OPEN])?;
+        plant.sync(self.side)?;
+        self.gate += size;
+        Ok(())
+    }
+}

@@ -1,0 +1,66 @@
+ghost use Rattle.std.specs.Prelude.{◌≡◌, ◌↔◌, ◌≤◌, ℕ, Err, length, true, false, IfSome, OnOk, IsErrOf, IsTrue};
+ghost use Rattle.plant.specs.Calls.{Rose};
+ghost use Rattle.plant.specs.Disks.{disk};
+ghost use Rattle.plant.specs.Told.{with_steps};
+ghost use Rattle.plant.specs.declared.step.Side.{Side as AnySide};
+ghost use Rattle.plant.specs.declared.step.Side.TheVariants.{A};
+ghost use Rattle.journal_disk.specs.Opening.{cleared, headed, making};
+
+use crate::OpenFault;
+use crate::front::OPEN;
+use plant::{Plant, Side};
+
+/// The header of a new journal behind its gate, with the closed gate of the first record.
+const MADE: [u8; 17] = *b"LABJRNL1\x01\0\0\0\0\0\0\0\0";
+
+/// Closes the header gate of a side that has no header yet.
+fn clear<P: Plant>(plant: &mut P) -> Result<(), OpenFault>
+    ensures ok { OnOk result (P.told plant.new ≡ with_steps (P.told plant.old) (cleared true)) }
+    ensures plant { IsErrOf result OpenFault.Plant → Rose (P.faults plant.old).disk (P.faults plant.new).disk }
+    ensures later { (P.faults plant.old).disk ≤ (P.faults plant.new).disk }
+    ensures stopped { IsErrOf result OpenFault.Stopped ↔ IsTrue (P.is_stopped plant.new) }
+    ensures drills { P.takes_drills plant.new ≡ P.takes_drills plant.old }
+    ensures bad { (side : AnySide) (at : ℕ) → result ≡ Err (OpenFault.Bad side at) → ⊥ }
+    ensures memory { result ≡ Err OpenFault.Memory → ⊥ }
+{
+    plant.write(Side::A, 0, &[0])?;
+    plant.sync(Side::A)?;
+    Ok(())
+}
+
+/// Writes the header behind its closed gate, and opens the gate.
+fn head<P: Plant>(plant: &mut P) -> Result<(), OpenFault>
+    requires { IfSome (P.told plant.old) (λ t. 1 ≤ length (disk A t.trace).reads) }
+    ensures ok { OnOk result (P.told plant.new ≡ with_steps (P.told plant.old) headed) }
+    ensures plant { IsErrOf result OpenFault.Plant → Rose (P.faults plant.old).disk (P.faults plant.new).disk }
+    ensures later { (P.faults plant.old).disk ≤ (P.faults plant.new).disk }
+    ensures stopped { IsErrOf result OpenFault.Stopped ↔ IsTrue (P.is_stopped plant.new) }
+    ensures drills { P.takes_drills plant.new ≡ P.takes_drills plant.old }
+    ensures bad { (side : AnySide) (at : ℕ) → result ≡ Err (OpenFault.Bad side at) → ⊥ }
+    ensures memory { result ≡ Err OpenFault.Memory → ⊥ }
+{
+    plant.write(Side::A, 1, &MADE)?;
+    plant.sync(Side::A)?;
+    plant.write(Side::A, 0, &[OPEN])?;
+    plant.sync(Side::A)?;
+    Ok(())
+}
+
+/// Makes a new journal of epoch 1 on side A. Where the side has no header yet, its gate is closed first.
+pub fn make<P: Plant>(plant: &mut P, is_short: bool) -> Result<(), OpenFault>
+    requires { IfSome (P.told plant.old) (λ t. is_short ≡ false → 1 ≤ length (disk A t.trace).reads) }
+    ensures ok { OnOk result (P.told plant.new ≡ with_steps (P.told plant.old) (making is_short)) }
+    ensures plant { IsErrOf result OpenFault.Plant → Rose (P.faults plant.old).disk (P.faults plant.new).disk }
+    ensures later { (P.faults plant.old).disk ≤ (P.faults plant.new).disk }
+    ensures stopped { IsErrOf result OpenFault.Stopped ↔ IsTrue (P.is_stopped plant.new) }
+    ensures drills { P.takes_drills plant.new ≡ P.takes_drills plant.old }
+    ensures bad { (side : AnySide) (at : ℕ) → result ≡ Err (OpenFault.Bad side at) → ⊥ }
+    ensures memory { result ≡ Err OpenFault.Memory → ⊥ }
+{
+    if is_short {
+        clear(plant)?;
+        head(plant)
+    } else {
+        head(plant)
+    }
+}

@@ -1,0 +1,77 @@
+ghost use Rattle.std.specs.Prelude.{◌≡◌, ◌↔◌, ◌≤◌, ◌^◌, ℕ, List, Err, length, IfOk, IfSome, IsErrOf, IsTrue};
+ghost use Rattle.plant.specs.Calls.{Rose};
+ghost use Rattle.plant.specs.Disks.{disk};
+ghost use Rattle.plant.specs.declared.step.Side.{Side as AnySide};
+ghost use Rattle.plant.specs.declared.step.Side.TheVariants.{A, B};
+ghost use Rattle.journal_rec.specs.declared.record.Record.{Record};
+ghost use Rattle.journal_model.specs.Journals.{Bad, head};
+ghost use Rattle.journal_disk.specs.Fronts.{seen, place_of};
+ghost use Rattle.journal_disk.specs.Walks.{placed};
+ghost use Rattle.journal_disk.specs.Standing.{IsAt, HasAll, limit_of};
+ghost use Rattle.journal_disk.specs.Openings.{IsOpened};
+
+use crate::front::{HEADER, Place, front_of, place_of};
+use crate::make::make;
+use crate::sides::{read_side, sync_sides};
+use crate::walk::{FIRST, WalkFault, walk};
+use crate::{Journal, OpenFault};
+use journal_rec::Found;
+use plant::{Plant, Side};
+use std::alloc::Global;
+
+/// A journal with its records.
+pub type Opened = (Journal, Vec<Found>);
+
+fn place_in(a: &[u8], b: &[u8]) -> Place
+    ensures { result ≡ place_of (seen (head a.now)) (seen (head b.now)) }
+{
+    place_of(front_of(a), front_of(b))
+}
+
+/// The journal on a side with a header.
+fn opened(alloc: Global, side: Side, bytes: &[u8], limit: u64) -> Result<Opened, OpenFault>
+    requires header { 18 ≤ length bytes.now }
+    requires limit { limit ≤ 2 ^ 32 }
+    ensures { IsOpened side limit bytes.now result }
+{
+    match walk(alloc, bytes) {
+        Ok(walked) => {
+            let gate = walked.gate;
+            let journal = Journal { side, gate, limit };
+            Ok((journal, walked.found))
+        }
+        Err(WalkFault::Bad(at)) => Err(OpenFault::Bad { side, at }),
+        Err(WalkFault::Memory) => Err(OpenFault::Memory),
+    }
+}
+
+impl Journal {
+    /// Opens the journal with its records, in order. A new one is made where both sides are blank.
+    /// The limit is the most bytes of a side.
+    pub fn open<P: Plant>(alloc: Global, plant: &mut P, limit: u64) -> Result<Opened, OpenFault>
+        requires least { 18 ≤ limit }
+        requires most { limit ≤ 2 ^ 32 }
+        ensures ok { IfOk result (λ opened. (rs : List Record) × (opened.1.items ≡ placed 17 rs) × IfSome (P.told plant.new) (λ t. IsAt t.trace opened.0 rs × HasAll t.trace rs)) }
+        ensures bad { (side : AnySide) (at : ℕ) → result ≡ Err (OpenFault.Bad side at) → IfSome (P.told plant.new) (λ t. Bad (disk A t.trace).reads (disk B t.trace).reads side at) }
+        ensures plant { IsErrOf result OpenFault.Plant → Rose (P.faults plant.old).disk (P.faults plant.new).disk }
+        ensures later { (P.faults plant.old).disk ≤ (P.faults plant.new).disk }
+        ensures stopped { IsErrOf result OpenFault.Stopped ↔ IsTrue (P.is_stopped plant.new) }
+        ensures drills { P.takes_drills plant.new ≡ P.takes_drills plant.old }
+        ensures limit { IfOk result (λ opened. limit_of opened.0 ≡ limit) }
+    {
+        sync_sides(plant)?;
+        let a = read_side(alloc, plant, Side::A)?;
+        let b = read_side(alloc, plant, Side::B)?;
+        match place_in(&a, &b) {
+            Place::New => {
+                make(plant, a.len() < HEADER)?;
+                let gate = FIRST as u64;
+                let side = Side::A;
+                Ok((Journal { side, gate, limit }, Vec::new(alloc)))
+            }
+            Place::On(Side::A) => opened(alloc, Side::A, &a, limit),
+            Place::On(Side::B) => opened(alloc, Side::B, &b, limit),
+            Place::Wrong(side) => Err(OpenFault::Bad { side, at: 0 }),
+        }
+    }
+}

@@ -1,0 +1,83 @@
+ghost use Rattle.std.specs.Prelude.{◌≡◌, ◌↔◌, ◌≤◌, ◌<◌, ℕ, Option, Err, length, take, drop, vec_len, ◌+◌, IfOk, IfSome, OnOk, OnErr, IsErrOf, IsTrue};
+ghost use Rattle.plant.specs.Calls.{Rose};
+ghost use Rattle.plant.specs.Disks.{disk};
+ghost use Rattle.plant.specs.Told.{with_steps};
+ghost use Rattle.plant.specs.Events.{Event};
+ghost use Rattle.plant.specs.declared.step.Side.{Side as AnySide};
+ghost use Rattle.journal_disk.specs.Opening.{AreBoth, MayMiss};
+ghost use Rattle.std.specs.Prelude.{List, ◌++◌};
+
+use crate::OpenFault;
+use plant::{Plant, Side};
+use std::alloc::Global;
+
+/// How many bytes are read at a time.
+const PIECE: usize = 65_536;
+
+/// Makes both sides durable as they read.
+pub fn sync_sides<P: Plant>(plant: &mut P) -> Result<(), OpenFault>
+    ensures trace { (steps : List Event) × (P.told plant.new ≡ with_steps (P.told plant.old) steps) × AreBoth result steps }
+    ensures plant { IsErrOf result OpenFault.Plant → Rose (P.faults plant.old).disk (P.faults plant.new).disk }
+    ensures later { (P.faults plant.old).disk ≤ (P.faults plant.new).disk }
+    ensures stopped { IsErrOf result OpenFault.Stopped ↔ IsTrue (P.is_stopped plant.new) }
+    ensures drills { P.takes_drills plant.new ≡ P.takes_drills plant.old }
+    ensures bad { (side : AnySide) (at : ℕ) → result ≡ Err (OpenFault.Bad side at) → ⊥ }
+{
+    plant.sync(Side::A)?;
+    plant.sync(Side::B)?;
+    Ok(())
+}
+
+/// Reads so many bytes more of a side.
+fn read_piece<P: Plant>(
+    plant: &mut P,
+    side: Side,
+    bytes: &mut Vec<u8>,
+    size: usize,
+) -> Result<(), OpenFault>
+    requires piece { size ≤ PIECE }
+    requires within { IfSome (P.told plant.old) (λ t. vec_len bytes.old + size ≤ length (disk side t.trace).reads) }
+    ensures trace { MayMiss side (P.told plant.old) (P.told plant.new) result }
+    ensures read { IfSome (P.told plant.old) (λ t. OnOk result (bytes.new.items ≡ bytes.old.items ++ take size (drop (vec_len bytes.old) (disk side t.trace).reads))) }
+    ensures len { OnOk result (vec_len bytes.new ≡ vec_len bytes.old + size) }
+    ensures plant { IsErrOf result OpenFault.Plant → Rose (P.faults plant.old).disk (P.faults plant.new).disk }
+    ensures later { (P.faults plant.old).disk ≤ (P.faults plant.new).disk }
+    ensures stopped { IsErrOf result OpenFault.Stopped ↔ IsTrue (P.is_stopped plant.new) }
+    ensures still { P.is_stopped plant.new ≡ P.is_stopped plant.old }
+    ensures drills { P.takes_drills plant.new ≡ P.takes_drills plant.old }
+    ensures bad { (side : AnySide) (at : ℕ) → result ≡ Err (OpenFault.Bad side at) → ⊥ }
+{
+    let mut piece = [0u8; PIECE];
+    plant.read(side, bytes.len() as u64, &mut piece[..size])?;
+    bytes.extend_from_slice(&piece[..size])?;
+    Ok(())
+}
+
+/// How much is read at once of so many bytes.
+fn piece_of(left: usize) -> usize
+    requires { 0 < left }
+    ensures some { 0 < result }
+    ensures piece { result ≤ PIECE }
+    ensures within { result ≤ left }
+{
+    if left < PIECE { left } else { PIECE }
+}
+
+/// Reads a side, piece after piece.
+pub fn read_side<P: Plant>(alloc: Global, plant: &mut P, side: Side) -> Result<Vec<u8>, OpenFault>
+    ensures trace { MayMiss side (P.told plant.old) (P.told plant.new) result }
+    ensures bytes { IfOk result (λ bytes. IfSome (P.told plant.old) (λ t. bytes.items ≡ (disk side t.trace).reads)) }
+    ensures plant { IsErrOf result OpenFault.Plant → Rose (P.faults plant.old).disk (P.faults plant.new).disk }
+    ensures later { (P.faults plant.old).disk ≤ (P.faults plant.new).disk }
+    ensures stopped { IsErrOf result OpenFault.Stopped ↔ IsTrue (P.is_stopped plant.new) }
+    ensures drills { P.takes_drills plant.new ≡ P.takes_drills plant.old }
+    ensures bad { (side : AnySide) (at : ℕ) → result ≡ Err (OpenFault.Bad side at) → ⊥ }
+{
+    let size = plant.length(side)? as usize;
+    let mut bytes = Vec::with_capacity(alloc, size)?;
+    while bytes.len() < size {
+        let piece = piece_of(size - bytes.len());
+        read_piece(plant, side, &mut bytes, piece)?;
+    }
+    Ok(bytes)
+}
