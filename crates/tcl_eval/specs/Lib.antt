@@ -1,0 +1,12 @@
+pub mod Calls
+pub mod Ends
+pub mod Evals
+pub mod Forms
+pub mod Halts
+pub mod Jobs
+pub mod Numbers
+pub mod Operators
+pub mod Seen
+pub mod Settings
+pub mod Short
+pub mod State

@@ -1,0 +1,439 @@
+//! The evaluation of texts.
+
+ghost use Rattle.std.specs.Prelude.{◌≡◌, ◌≢◌, ℕ, ◌+◌, ◌-◌, ◌^◌, ◌<◌, ◌≤◌, All, IfOk, OnOk, length, drop, Some};
+ghost use Rattle.tcl_words.specs.Words.{LiesIn, CommandLiesIn};
+ghost use Rattle.tcl_eval.specs.Short.{AllShort};
+ghost use Rattle.tcl_eval.specs.Forms.{own};
+ghost use Rattle.tcl_eval.specs.Operators.{opening_of};
+ghost use Rattle.tcl_eval.specs.declared.commands.Own.TheVariants as owns;
+ghost use Rattle.tcl_eval.specs.declared.openings.Opening.TheVariants as openings;
+
+use crate::branches::branches;
+use crate::commands::{Own, own_command};
+use crate::halts::Halt;
+use crate::hosts::Host;
+use crate::limits::{deeper, index_levels, indexed_name, short};
+use crate::lists::{element_at, joined, words_from};
+use crate::literals::literal;
+use crate::machine::Machine;
+use crate::numbers::{number_text, read_number};
+use crate::openings::{Opening, closes_at, opening_at};
+use crate::operators::{TIERS, alive, behind_blanks, negated, operator_at, turned};
+use lab_base::{Kind, Text};
+use tcl_words::{Command, Part, reference_at, script_end, split};
+
+impl<H: Host> Machine<H> {
+    ghost use Rattle.std.specs.Prelude.{◌≡◌, ◌≤◌};
+
+    /// The result of a script: that of its last command.
+    #[cycle(eval)]
+    fn script(&mut self, text: &[u8], levels: u32) -> Result<Text, Halt>
+        requires short { length text.now < 2 ^ 32 - 1 }
+        ensures left { self.new.left ≤ self.old.left }
+    {
+        let commands = split(self.alloc, text)?;
+        let mut value = Text::new(self.alloc);
+        for command in &commands {
+            value = self.command(text, command, levels)?;
+        }
+        Ok(value)
+    }
+
+    /// The result of a script one level deeper.
+    #[cycle(eval)]
+    fn nested(&mut self, text: &[u8], levels: u32) -> Result<Text, Halt>
+        requires short { length text.now < 2 ^ 32 - 1 }
+        ensures left { self.new.left ≤ self.old.left }
+    {
+        let levels = deeper(levels)?;
+        self.script(text, levels)
+    }
+
+    /// The result of a command.
+    #[cycle(eval)]
+    pub fn command(&mut self, text: &[u8], command: &Command, levels: u32) -> Result<Text, Halt>
+        requires short { length text.now < 2 ^ 32 - 1 }
+        requires lies { CommandLiesIn (length text.now) command.now }
+        ensures left { self.new.left ≤ self.old.left }
+    {
+        if self.left == 0 {
+            return Err(Halt::Fault(Kind::Many));
+        }
+        self.left -= 1;
+        let mut words = Vec::new(self.alloc);
+        for word in command.words.as_slice() {
+            words.push(self.substitute(text, word.parts.as_slice(), levels, false)?)?;
+        }
+        let value = self.invoke(&words, levels)?;
+        short(value)
+    }
+
+    /// The text of parts.
+    #[cycle(eval)]
+    fn substitute(
+        &mut self,
+        text: &[u8],
+        parts: &[Part],
+        levels: u32,
+        in_index: bool,
+    ) -> Result<Text, Halt>
+        requires short { length text.now < 2 ^ 32 - 1 }
+        requires lie { All (LiesIn (length text.now)) parts.now }
+        ensures left { self.new.left ≤ self.old.left }
+        ensures value { IfOk result (λ value. length value ≤ 65536) }
+    {
+        let mut value = Text::new(self.alloc);
+        for part in parts {
+            match *part {
+                Part::Plain { start, end } => {
+                    value.push_bytes(&text[start as usize..end as usize])?;
+                }
+                Part::Escape { byte } => value.push(byte)?,
+                Part::Variable { start, .. } => {
+                    let (more, _) = self.variable(text, start as usize, levels, in_index)?;
+                    value.push_bytes(more.bytes())?;
+                }
+                Part::Script { start, end } => {
+                    let more = self.nested(&text[start as usize..end as usize], levels)?;
+                    value.push_bytes(more.bytes())?;
+                }
+            }
+        }
+        short(value)
+    }
+
+    /// The value of the variable at a `$`, and the place behind it.
+    #[cycle(eval)]
+    fn variable(
+        &mut self,
+        text: &[u8],
+        at: usize,
+        levels: u32,
+        in_index: bool,
+    ) -> Result<(Text, usize), Halt>
+        requires short { length text.now < 2 ^ 32 - 1 }
+        requires here { at < length text.now }
+        ensures left { self.new.left ≤ self.old.left }
+        ensures forward { IfOk result (λ found. (at < found.1) × (found.1 ≤ length text.now)) }
+    {
+        let Some(found) = reference_at(self.alloc, text, at)? else {
+            return Err(Halt::Fault(Kind::Syntax));
+        };
+        let name = &text[found.name_start..found.name_end];
+        let Some(index) = &found.index else {
+            let name = Text::from_slice(self.alloc, name)?;
+            return Ok((self.read(&name)?, found.end));
+        };
+        let levels = index_levels(levels, in_index)?;
+        let index = self.substitute(text, index.as_slice(), levels, true)?;
+        let name = short(indexed_name(self.alloc, name, index.bytes())?)?;
+        Ok((self.read(&name)?, found.end))
+    }
+
+    /// The result of words.
+    #[cycle(eval)]
+    fn invoke(&mut self, words: &[Text], levels: u32) -> Result<Text, Halt>
+        requires words { AllShort words.now }
+        ensures left { self.new.left ≤ self.old.left }
+    {
+        match own_command(words) {
+            None => self.run_host(words),
+            Some(Own::Set) => self.run_set(words),
+            Some(Own::Incr) => self.run_incr(words),
+            Some(Own::Append) => self.run_append(words),
+            Some(Own::Lappend) => self.run_lappend(words),
+            Some(Own::Expr) => self.run_expr(words, levels),
+            Some(Own::If) => self.run_if(words, levels),
+            Some(Own::For) => self.run_for(words, levels),
+            Some(Own::Foreach) => self.run_foreach(words, levels),
+        }
+    }
+
+    /// `expr W ..`
+    #[cycle(eval)]
+    fn run_expr(&mut self, words: &[Text], levels: u32) -> Result<Text, Halt>
+        requires own { own words.now ≡ Some owns.Expr }
+        requires words { AllShort words.now }
+        ensures left { self.new.left ≤ self.old.left }
+    {
+        if words.len() < 2 {
+            return Err(Halt::Fault(Kind::Arity));
+        }
+        let text = short(joined(self.alloc, words_from(words, 1), b" ")?)?;
+        let number = self.expression(text.bytes(), levels)?;
+        Ok(number_text(self.alloc, number)?)
+    }
+
+    /// `if C B elseif C B .. else B`
+    #[cycle(eval)]
+    fn run_if(&mut self, words: &[Text], levels: u32) -> Result<Text, Halt>
+        requires own { own words.now ≡ Some owns.If }
+        requires words { AllShort words.now }
+        ensures left { self.new.left ≤ self.old.left }
+    {
+        let Some(branches) = branches(self.alloc, words)? else {
+            return Err(Halt::Fault(Kind::Arity));
+        };
+        for branch in &branches {
+            let taken = match branch.condition {
+                Some(place) => self.condition(words[place].bytes(), levels)?,
+                None => true,
+            };
+            if taken {
+                return self.nested(words[branch.body].bytes(), levels);
+            }
+        }
+        Ok(Text::new(self.alloc))
+    }
+
+    /// `for START CONDITION NEXT BODY`
+    #[cycle(eval)]
+    fn run_for(&mut self, words: &[Text], levels: u32) -> Result<Text, Halt>
+        requires own { own words.now ≡ Some owns.For }
+        requires words { AllShort words.now }
+        ensures left { self.new.left ≤ self.old.left }
+    {
+        if words.len() != 5 {
+            return Err(Halt::Fault(Kind::Arity));
+        }
+        let condition = &words[2];
+        let next = &words[3];
+        let body = &words[4];
+        self.nested(words[1].bytes(), levels)?;
+        while self.condition(condition.bytes(), levels)? {
+            self.nested(body.bytes(), levels)?;
+            self.nested(next.bytes(), levels)?;
+        }
+        Ok(Text::new(self.alloc))
+    }
+
+    /// `foreach V L B`
+    #[cycle(eval)]
+    fn run_foreach(&mut self, words: &[Text], levels: u32) -> Result<Text, Halt>
+        requires own { own words.now ≡ Some owns.Foreach }
+        requires words { AllShort words.now }
+        ensures left { self.new.left ≤ self.old.left }
+    {
+        if words.len() != 4 {
+            return Err(Halt::Fault(Kind::Arity));
+        }
+        let name = &words[1];
+        let list = &words[2];
+        let body = &words[3];
+        let mut at = 0;
+        while let Some((start, end)) = element_at(list.bytes(), at) {
+            let element = Text::from_slice(self.alloc, &list.bytes()[start..end])?;
+            self.write(name, &element)?;
+            self.nested(body.bytes(), levels)?;
+            at = end;
+        }
+        Ok(Text::new(self.alloc))
+    }
+
+    /// Whether a condition holds.
+    #[cycle(eval)]
+    fn condition(&mut self, text: &[u8], levels: u32) -> Result<bool, Halt>
+        requires short { length text.now ≤ 65536 }
+        ensures left { self.new.left ≤ self.old.left }
+        ensures spent { OnOk result (self.new.left < self.old.left) }
+    {
+        if self.left == 0 {
+            return Err(Halt::Fault(Kind::Many));
+        }
+        self.left -= 1;
+        let value = self.expression(text, levels)?;
+        Ok(value != 0)
+    }
+
+    /// The value of an expression. One that is malformed is refused before anything in it is evaluated.
+    #[cycle(eval)]
+    fn expression(&mut self, text: &[u8], levels: u32) -> Result<i64, Halt>
+        requires short { length text.now ≤ 65536 }
+        ensures left { self.new.left ≤ self.old.left }
+    {
+        self.whole(text, levels, false)?;
+        self.whole(text, levels, true)
+    }
+
+    /// The value of a text that is one expression.
+    #[cycle(eval)]
+    fn whole(&mut self, text: &[u8], levels: u32, live: bool) -> Result<i64, Halt>
+        requires short { length text.now ≤ 65536 }
+        ensures left { self.new.left ≤ self.old.left }
+    {
+        let (value, end) = self.tier(text, 0, 0, levels, live)?;
+        if behind_blanks(text, end) < text.len() {
+            return Err(Halt::Fault(Kind::Syntax));
+        }
+        Ok(value)
+    }
+
+    /// The value of operands joined by operators of this tier and tighter ones, and the place behind
+    /// them. Where it isn't live nothing is evaluated, and the value is 0.
+    #[cycle(eval)]
+    fn tier(
+        &mut self,
+        text: &[u8],
+        at: usize,
+        tier: u32,
+        levels: u32,
+        live: bool,
+    ) -> Result<(i64, usize), Halt>
+        requires short { length text.now ≤ 65536 }
+        requires here { at ≤ length text.now }
+        requires tiers { tier ≤ 6 }
+        ensures left { self.new.left ≤ self.old.left }
+        ensures forward { IfOk result (λ found. (at < found.1) × (found.1 ≤ length text.now)) }
+    {
+        if tier == TIERS {
+            return self.operand(text, behind_blanks(text, at), levels, live);
+        }
+        let (mut left, mut at) = self.tier(text, at, tier + 1, levels, live)?;
+        while let Some((operator, start)) = operator_at(text, at, tier) {
+            let needed = live && !operator.is_decided(left);
+            let (right, end) = self.tier(text, start, tier + 1, levels, needed)?;
+            if live {
+                left = operator.apply(left, right)?;
+            }
+            at = end;
+        }
+        Ok((left, at))
+    }
+
+    /// The value of the operand that begins here, and the place behind it.
+    #[cycle(eval)]
+    fn operand(
+        &mut self,
+        text: &[u8],
+        at: usize,
+        levels: u32,
+        live: bool,
+    ) -> Result<(i64, usize), Halt>
+        requires short { length text.now ≤ 65536 }
+        requires here { at ≤ length text.now }
+        ensures left { self.new.left ≤ self.old.left }
+        ensures forward { IfOk result (λ found. (at < found.1) × (found.1 ≤ length text.now)) }
+    {
+        match opening_at(text, at) {
+            Opening::Not => self.not_operand(text, at, levels, live),
+            Opening::Minus => self.minus_operand(text, at, levels, live),
+            Opening::Parenthesis => self.inner_operand(text, at, levels, live),
+            Opening::Digits => Ok(literal(text, at, live)?),
+            Opening::Dollar => self.dollar_operand(text, at, levels, live),
+            Opening::Bracket => self.bracket_operand(text, at, levels, live),
+            Opening::Nothing => Err(Halt::Fault(Kind::Syntax)),
+        }
+    }
+
+    /// The value of the operand behind a `!`: 1 where that is 0, else 0.
+    #[cycle(eval)]
+    fn not_operand(
+        &mut self,
+        text: &[u8],
+        at: usize,
+        levels: u32,
+        live: bool,
+    ) -> Result<(i64, usize), Halt>
+        requires short { length text.now ≤ 65536 }
+        requires here { at < length text.now }
+        requires opening { opening_of (drop at text.now) ≡ openings.Not }
+        ensures left { self.new.left ≤ self.old.left }
+        ensures forward { IfOk result (λ found. (at < found.1) × (found.1 ≤ length text.now)) }
+    {
+        let levels = deeper(levels)?;
+        let (value, end) = self.operand(text, behind_blanks(text, at + 1), levels, live)?;
+        Ok((alive(turned(value), live), end))
+    }
+
+    /// The negative of the operand behind a `-`.
+    #[cycle(eval)]
+    fn minus_operand(
+        &mut self,
+        text: &[u8],
+        at: usize,
+        levels: u32,
+        live: bool,
+    ) -> Result<(i64, usize), Halt>
+        requires short { length text.now ≤ 65536 }
+        requires here { at < length text.now }
+        requires opening { opening_of (drop at text.now) ≡ openings.Minus }
+        ensures left { self.new.left ≤ self.old.left }
+        ensures forward { IfOk result (λ found. (at < found.1) × (found.1 ≤ length text.now)) }
+    {
+        let levels = deeper(levels)?;
+        let (value, end) = self.operand(text, behind_blanks(text, at + 1), levels, live)?;
+        Ok((negated(value)?, end))
+    }
+
+    /// The value between parentheses.
+    #[cycle(eval)]
+    fn inner_operand(
+        &mut self,
+        text: &[u8],
+        at: usize,
+        levels: u32,
+        live: bool,
+    ) -> Result<(i64, usize), Halt>
+        requires short { length text.now ≤ 65536 }
+        requires here { at < length text.now }
+        requires opening { opening_of (drop at text.now) ≡ openings.Parenthesis }
+        ensures left { self.new.left ≤ self.old.left }
+        ensures forward { IfOk result (λ found. (at < found.1) × (found.1 ≤ length text.now)) }
+    {
+        let levels = deeper(levels)?;
+        let (value, end) = self.tier(text, at + 1, 0, levels, live)?;
+        let end = behind_blanks(text, end);
+        if !closes_at(text, end) {
+            return Err(Halt::Fault(Kind::Syntax));
+        }
+        Ok((value, end + 1))
+    }
+
+    /// The number that a variable has.
+    #[cycle(eval)]
+    fn dollar_operand(
+        &mut self,
+        text: &[u8],
+        at: usize,
+        levels: u32,
+        live: bool,
+    ) -> Result<(i64, usize), Halt>
+        requires short { length text.now ≤ 65536 }
+        requires here { at < length text.now }
+        requires opening { opening_of (drop at text.now) ≡ openings.Dollar }
+        ensures left { self.new.left ≤ self.old.left }
+        ensures forward { IfOk result (λ found. (at < found.1) × (found.1 ≤ length text.now)) }
+    {
+        if live {
+            let (value, end) = self.variable(text, at, levels, false)?;
+            return Ok((read_number(value.bytes())?, end));
+        }
+        match reference_at(self.alloc, text, at)? {
+            Some(found) => Ok((0, found.end)),
+            None => Err(Halt::Fault(Kind::Syntax)),
+        }
+    }
+
+    /// The number that the script in a bracket gives.
+    #[cycle(eval)]
+    fn bracket_operand(
+        &mut self,
+        text: &[u8],
+        at: usize,
+        levels: u32,
+        live: bool,
+    ) -> Result<(i64, usize), Halt>
+        requires short { length text.now ≤ 65536 }
+        requires here { at < length text.now }
+        requires opening { opening_of (drop at text.now) ≡ openings.Bracket }
+        ensures left { self.new.left ≤ self.old.left }
+        ensures forward { IfOk result (λ found. (at < found.1) × (found.1 ≤ length text.now)) }
+    {
+        let end = script_end(self.alloc, text, at)?;
+        if !live {
+            return Ok((0, end));
+        }
+        let value = self.nested(&text[at + 1..end - 1], levels)?;
+        Ok((read_number(value.bytes())?, end))
+    }
+}

@@ -1,0 +1,196 @@
+//! What an interpreter holds, and the commands that evaluate nothing.
+
+ghost use Rattle.std.specs.Prelude.{◌≡◌, ℕ, ◌≤◌, List, length, OnOk, IfOk, IfErr};
+ghost use Rattle.tcl_eval.specs.declared.commands.Own.TheVariants as owns;
+
+use crate::halts::Halt;
+use crate::hosts::{Called, Host, HostFault};
+use crate::limits::short;
+use crate::lists::{joined, listed, words_from};
+use crate::numbers::{number_text, read_number};
+use crate::operators::added;
+use indexmap::IndexMap;
+use lab_base::{Kind, Memory, Text};
+use std::alloc::Global;
+
+/// What an interpreter holds.
+#[derive(Drop)]
+pub struct Machine<H> {
+    pub alloc: Global,
+    pub host: H,
+    pub variables: IndexMap<Text, Text>,
+    /// How many commands and conditions may still be evaluated.
+    pub left: u32,
+}
+
+impl<H: Host> Machine<H> {
+    ghost use Rattle.std.specs.Prelude.{◌≡◌, ◌≤◌, ◌∷◌, [], None, Some, Err};
+    ghost use Rattle.tcl_eval.specs.Forms.{own};
+    ghost use Rattle.tcl_eval.specs.Jobs.{Value, Call};
+    ghost use Rattle.tcl_eval.specs.Settings.{step_of};
+    ghost use Rattle.tcl_eval.specs.State.{state, read_of, old_or_empty, with_value};
+    ghost use Rattle.tcl_eval.specs.Ends.{Ends, Gives};
+
+    /// The host.
+    pub fn into_host(self) -> H
+        ensures { result ≡ self.host }
+    {
+        let Machine {
+            alloc: _,
+            host,
+            variables: _,
+            left: _,
+        } = self;
+        host
+    }
+
+    /// The value of a variable that has to be set.
+    pub fn read(&self, name: &Text) -> Result<Text, Halt>
+        ensures { Gives (λ r. r ≡ read_of (state self.now.variables.entries (H.objects self.now.host) self.now.left) name.now) result }
+    {
+        match self.variables.get(name) {
+            Some(value) => Ok(value.copy()?),
+            None => Err(Halt::Fault(Kind::Variable)),
+        }
+    }
+
+    /// The value of a variable, or the empty text.
+    fn read_or_empty(&self, name: &Text) -> Result<Text, Memory>
+        ensures { IfOk result (λ value. value ≡ old_or_empty (state self.now.variables.entries (H.objects self.now.host) self.now.left) name.now) }
+    {
+        match self.variables.get(name) {
+            Some(value) => value.copy(),
+            None => Ok(Text::new(self.alloc)),
+        }
+    }
+
+    /// Gives a variable a value.
+    pub fn write(&mut self, name: &Text, value: &Text) -> Result<(), Memory>
+        ensures written { OnOk result (state self.new.variables.entries (H.objects self.new.host) self.new.left
+            ≡ with_value (state self.old.variables.entries (H.objects self.old.host) self.old.left) name.now value.now) }
+        ensures left { self.new.left ≡ self.old.left }
+    {
+        self.variables.insert(name.copy()?, value.copy()?)?;
+        Ok(())
+    }
+
+    /// Gives a variable a value, and tells the host.
+    fn assign(&mut self, name: &Text, value: &Text) -> Result<Text, Halt>
+        ensures evals { (l : ℕ) (cmd : List ℕ) → own (cmd ∷ name.now ∷ value.now ∷ []) ≡ Some owns.Set
+            → Ends H.calls H.hears Value l (Call (cmd ∷ name.now ∷ value.now ∷ []))
+            (state self.old.variables.entries (H.objects self.old.host) self.old.left)
+            (state self.new.variables.entries (H.objects self.new.host) self.new.left) result }
+        ensures left { self.new.left ≡ self.old.left }
+    {
+        self.write(name, value)?;
+        match self.host.assigned(name, value) {
+            Ok(()) => Ok(value.copy()?),
+            Err(HostFault::Kind(kind)) => Err(Halt::Fault(kind)),
+            Err(HostFault::Memory) => Err(Halt::Memory),
+        }
+    }
+
+    /// `set V`, `set V W`
+    pub fn run_set(&mut self, words: &[Text]) -> Result<Text, Halt>
+        requires own { own words.now ≡ Some owns.Set }
+        ensures evals { (l : ℕ) → Ends H.calls H.hears Value l (Call words.now)
+            (state self.old.variables.entries (H.objects self.old.host) self.old.left)
+            (state self.new.variables.entries (H.objects self.new.host) self.new.left) result }
+        ensures left { self.new.left ≡ self.old.left }
+    {
+        if words.len() == 2 {
+            self.read(&words[1])
+        } else if words.len() == 3 {
+            self.assign(&words[1], &words[2])
+        } else {
+            Err(Halt::Fault(Kind::Arity))
+        }
+    }
+
+    /// Adds a number to a variable.
+    fn add(&mut self, name: &Text, step: Result<i64, Kind>) -> Result<Text, Halt>
+        ensures evals { (l : ℕ) (cmd : List ℕ) (more : List (List ℕ)) → own (cmd ∷ name.now ∷ more) ≡ Some owns.Incr
+            → length more ≤ 1 → step ≡ step_of more → Ends H.calls H.hears Value l (Call (cmd ∷ name.now ∷ more))
+            (state self.old.variables.entries (H.objects self.old.host) self.old.left)
+            (state self.new.variables.entries (H.objects self.new.host) self.new.left) result }
+        ensures left { self.new.left ≡ self.old.left }
+    {
+        let old = self.read(name)?;
+        let new = added(read_number(old.bytes()), step)?;
+        let new = number_text(self.alloc, new)?;
+        self.write(name, &new)?;
+        Ok(new)
+    }
+
+    /// `incr V`, `incr V N`
+    pub fn run_incr(&mut self, words: &[Text]) -> Result<Text, Halt>
+        requires own { own words.now ≡ Some owns.Incr }
+        ensures evals { (l : ℕ) → Ends H.calls H.hears Value l (Call words.now)
+            (state self.old.variables.entries (H.objects self.old.host) self.old.left)
+            (state self.new.variables.entries (H.objects self.new.host) self.new.left) result }
+        ensures left { self.new.left ≡ self.old.left }
+    {
+        if words.len() == 2 {
+            self.add(&words[1], Ok(1))
+        } else if words.len() == 3 {
+            self.add(&words[1], read_number(words[2].bytes()))
+        } else {
+            Err(Halt::Fault(Kind::Arity))
+        }
+    }
+
+    /// `append V W ..`
+    pub fn run_append(&mut self, words: &[Text]) -> Result<Text, Halt>
+        requires own { own words.now ≡ Some owns.Append }
+        ensures evals { (l : ℕ) → Ends H.calls H.hears Value l (Call words.now)
+            (state self.old.variables.entries (H.objects self.old.host) self.old.left)
+            (state self.new.variables.entries (H.objects self.new.host) self.new.left) result }
+        ensures left { self.new.left ≡ self.old.left }
+    {
+        if words.len() < 3 {
+            return Err(Halt::Fault(Kind::Arity));
+        }
+        let name = &words[1];
+        let more = joined(self.alloc, words_from(words, 2), b"")?;
+        let mut value = self.read_or_empty(name)?;
+        value.push_bytes(more.bytes())?;
+        let value = short(value)?;
+        self.write(name, &value)?;
+        Ok(value)
+    }
+
+    /// `lappend V W ..`
+    pub fn run_lappend(&mut self, words: &[Text]) -> Result<Text, Halt>
+        requires own { own words.now ≡ Some owns.Lappend }
+        ensures evals { (l : ℕ) → Ends H.calls H.hears Value l (Call words.now)
+            (state self.old.variables.entries (H.objects self.old.host) self.old.left)
+            (state self.new.variables.entries (H.objects self.new.host) self.new.left) result }
+        ensures left { self.new.left ≡ self.old.left }
+    {
+        if words.len() < 3 {
+            return Err(Halt::Fault(Kind::Arity));
+        }
+        let name = &words[1];
+        let old = self.read_or_empty(name)?;
+        let value = listed(old, words_from(words, 2))?;
+        self.write(name, &value)?;
+        Ok(value)
+    }
+
+    /// A command of the host's.
+    pub fn run_host(&mut self, words: &[Text]) -> Result<Text, Halt>
+        requires own { own words.now ≡ None }
+        ensures evals { (l : ℕ) → Ends H.calls H.hears Value l (Call words.now)
+            (state self.old.variables.entries (H.objects self.old.host) self.old.left)
+            (state self.new.variables.entries (H.objects self.new.host) self.new.left) result }
+        ensures left { self.new.left ≡ self.old.left }
+    {
+        match self.host.call(words) {
+            Ok(Called::Value(value)) => Ok(value),
+            Ok(Called::NotMine) => Err(Halt::Fault(Kind::Command)),
+            Ok(Called::Stop) => Err(Halt::Stop),
+            Err(HostFault::Kind(kind)) => Err(Halt::Fault(kind)),
+            Err(HostFault::Memory) => Err(Halt::Memory),
+        }
+    }
+}
