@@ -15,36 +15,36 @@ some_of texts = map (λ t. Some t) texts
 -- A LINE THAT WAS TAKEN IS PASSED
 pub passed_one : (old new : Stand) (text : List ℕ) → old.ended ≡ false → TookText old.rest new.rest text new.ended old.taken new.taken → new.lines ≡ old.lines + 1 → Passed old new (text ∷ [])
 passed_one old new text open_before t number = elim t.is_line [
-    | inl e ↦ record {
-      raw = t.raw;
-      front = t.front;
-      ends = inl e.1;
-      stays = λ h. open_before;
-      idle = λ h. absurd (true≢false (sym h ∙ open_before));
-      whole = λ h. inr (e.0.0, e.0.1);
-      lines = λ more may.
-          lines-ended old.taken t.raw text more e.0
-          ∙ ap (λ (x : Option (List ℕ)). x ∷ lines_from (old.taken + length t.raw) more) (line-text old.taken (length t.raw) text t.short (subst (λ n. n ≤ 2 ^ 32) t.counted t.within))
-          ∙ ap (λ (n : ℕ). Some text ∷ lines_from n more) (sym t.counted);
-      number = number;
-    }
-    | inr l ↦ record {
-      raw = t.raw;
-      front = t.front;
-      ends = inr l.1;
-      stays = λ h. open_before;
-      idle = λ h. absurd (true≢false (sym h ∙ open_before));
-      whole = λ h. absurd (true≢false (sym l.2 ∙ h));
-      lines = λ more may. elim may [
-        | inl h ↦ absurd (true≢false (sym l.2 ∙ h))
-        | inr none ↦ subst (λ (m : List ℕ). lines_from old.taken (t.raw ++ m) ≡ Some text ∷ lines_from new.taken m) (sym none)
-            (ap (lines_from old.taken) (append-nil t.raw)
-            ∙ lines-last old.taken t.raw text l.0
-            ∙ ap (λ (x : Option (List ℕ)). x ∷ []) (line-text old.taken (length t.raw) text t.short (subst (λ n. n ≤ 2 ^ 32) t.counted t.within)))
-      ];
-      number = number;
-    }
-  ]
+  | inl e ↦ record {
+    raw = t.raw;
+    front = t.front;
+    ends = inl e.1;
+    stays = λ h. open_before;
+    idle = λ h. absurd (true≢false (sym h ∙ open_before));
+    whole = λ h. inr (e.0.0, e.0.1);
+    lines = λ more may.
+        lines-ended old.taken t.raw text more e.0
+        ∙ ap (λ (x : Option (List ℕ)). x ∷ lines_from (old.taken + length t.raw) more) (line-text old.taken (length t.raw) text t.short (subst (λ n. n ≤ 2 ^ 32) t.counted t.within))
+        ∙ ap (λ (n : ℕ). Some text ∷ lines_from n more) (sym t.counted);
+    number = number;
+  }
+  | inr l ↦ record {
+    raw = t.raw;
+    front = t.front;
+    ends = inr l.1;
+    stays = λ h. open_before;
+    idle = λ h. absurd (true≢false (sym h ∙ open_before));
+    whole = λ h. absurd (true≢false (sym l.2 ∙ h));
+    lines = λ more may. elim may [
+      | inl h ↦ absurd (true≢false (sym l.2 ∙ h))
+      | inr none ↦ subst (λ (m : List ℕ). lines_from old.taken (t.raw ++ m) ≡ Some text ∷ lines_from new.taken m) (sym none)
+          (ap (lines_from old.taken) (append-nil t.raw)
+          ∙ lines-last old.taken t.raw text l.0
+          ∙ ap (λ (x : Option (List ℕ)). x ∷ []) (line-text old.taken (length t.raw) text t.short (subst (λ n. n ≤ 2 ^ 32) t.counted t.within)))
+    ];
+    number = number;
+  }
+]
 
 -- NO LINE IS PASSED
 pub passed_none : (old new : Stand) → IsSettled new → (new.ended ≡ false → old.ended ≡ false) → new.rest ≡ old.rest → new.taken ≡ old.taken → new.lines ≡ old.lines → Passed old new []
