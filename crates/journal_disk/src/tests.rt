@@ -1,3 +1,5 @@
+ghost use Rattle.std.specs.Prelude.{◌≤◌, ◌^◌};
+
 use super::*;
 use journal_rec::{Encoded, Found, Record, encode};
 use lab_base::Name;
@@ -85,41 +87,61 @@ fn damaged_sides(rt: HostRuntime) -> Result<(), Fail> {
     is_bad(&rt, alloc, &DELETES_A, &bytes, Side::B, 0)
 }
 
+/// Opens the journal and appends a record; gives the answer, and the journal's length then.
+fn append_once(
+    alloc: Global,
+    plant: &mut MemLab,
+    limit: u64,
+    record: &Encoded,
+) -> Option<(Result<(), AppendFault>, u64)>
+    requires least { 18 ≤ limit }
+    requires most { limit ≤ 2 ^ 32 }
+{
+    match Journal::open(alloc, plant, limit) {
+        Ok((mut journal, _found)) => {
+            let answer = journal.append(record, plant);
+            Some((answer, journal.length()))
+        }
+        Err(_) => None,
+    }
+}
+
 #[test]
 fn full_at_the_limit(rt: HostRuntime) -> Result<(), Fail> {
     let alloc = rt.alloc();
     let record = deletes(alloc, b"A")?;
     let mut plant = MemLab::blank(alloc)?;
-    let (mut journal, _) = Journal::open(alloc, &mut plant, 25).ok().ok_or("open")?;
-    let steps = plant.trace().len();
     let full = AppendFault::Full {
         length: 18,
         size: 8,
     };
-    assert_eq!(rt; journal.append(&record, &mut plant), Err(full));
-    assert_eq!(rt; plant.trace().len(), steps);
-    let (mut journal, _) = Journal::open(alloc, &mut plant, 26).ok().ok_or("open")?;
-    assert_eq!(rt; journal.append(&record, &mut plant), Ok(()));
-    assert_eq!(rt; journal.length(), 26);
+    let (answer, length) = append_once(alloc, &mut plant, 25, &record).ok_or("open")?;
+    assert_eq!(rt; answer, Err(full));
+    assert_eq!(rt; length, 18);
+    assert_eq!(rt; plant.trace().len(), 8);
+    let (answer, length) = append_once(alloc, &mut plant, 26, &record).ok_or("open")?;
+    assert_eq!(rt; answer, Ok(()));
+    assert_eq!(rt; length, 26);
     let mut bytes = [0; 26];
+    let Ok(26) = plant.length(Side::A) else {
+        return Err("another length".into());
+    };
     assert_eq!(rt; plant.read(Side::A, 0, &mut bytes), Ok(()));
     assert_eq!(rt; bytes[..], DELETES_A[..]);
     Ok(())
 }
 
-/// How many records there are after a stop at the nth step of an opening and two appends.
+/// How many records there are after a stop at the nth step of an opening and an append, twice.
 fn left_after(alloc: Global, nth: u32, pick: Pick) -> Result<usize, Fail> {
     let mut plant = MemLab::blank(alloc)?;
     plant
         .drill(Drill::Stop { nth, pick })
         .ok()
         .ok_or("planned")?;
-    if let Ok((mut journal, _)) = Journal::open(alloc, &mut plant, LIMIT) {
-        for name in [b"A", b"B"] {
-            let record = deletes(alloc, name)?;
-            if journal.append(&record, &mut plant).is_err() {
-                break;
-            }
+    for name in [b"A", b"B"] {
+        let record = deletes(alloc, name)?;
+        if !plant.stopped() {
+            let _appended = append_once(alloc, &mut plant, LIMIT, &record).is_some();
         }
     }
     if plant.stopped() {
@@ -132,12 +154,12 @@ fn left_after(alloc: Global, nth: u32, pick: Pick) -> Result<usize, Fail> {
 #[test]
 fn a_stop_at_each_step(rt: HostRuntime) -> Result<(), Fail> {
     let alloc = rt.alloc();
-    // Steps 1 to 8 open a new journal, 9 to 12 append A, and 13 to 16 append B.
-    for nth in 1..17 {
+    // Steps 1 to 8 open a new journal, 9 to 12 append A, 13 and 14 open it again, 15 to 18 append B.
+    for nth in 1..19 {
         let nothing = if nth <= 12 { 0 } else { 1 };
         let all = if nth <= 10 {
             0
-        } else if nth <= 14 {
+        } else if nth <= 16 {
             1
         } else {
             2
