@@ -4,7 +4,7 @@ use Rattle.feas.proofs.FirstLaws.{first_at, none_at}
 use Rattle.feas.proofs.trunks.first_overfull.Goals as goal
 
 pub returns-then-not-keeps_f6-clause-first : goal.returns-then-not-keeps_f6-clause-first
-returns-then-not-keeps_f6-clause-first c = first_at _ (keeps_f6 c.args.lab.now c.args.free.now c.args.wiring.now c.args.mapping.now) c.loop-trunk.trunk c.keeps_f6.result (omega (arith, ap length c.trunks-trunk-end.ensures)) c.keeps_f6.ensures c.if-not-keeps_f6.true c.loop-trunk.invariant
+returns-then-not-keeps_f6-clause-first c = first_at _ (keeps_f6 c.args.lab.now c.args.free.now c.args.wiring.now c.args.mapping.now) c.loop-trunk.trunk c.keeps_f6.result (omega (arith, ap length c.trunks-trunk-end.ensures.list)) c.keeps_f6.ensures c.if-not-keeps_f6.true c.loop-trunk.invariant
 
 pub returns-clause-first : goal.returns-clause-first
-returns-clause-first c = none_at _ (keeps_f6 c.args.lab.now c.args.free.now c.args.wiring.now c.args.mapping.now) c.loop-trunk.trunk (omega (arith, ap length c.trunks-trunk-end.ensures)) c.loop-trunk.invariant
+returns-clause-first c = none_at _ (keeps_f6 c.args.lab.now c.args.free.now c.args.wiring.now c.args.mapping.now) c.loop-trunk.trunk (omega (arith, ap length c.trunks-trunk-end.ensures.list)) c.loop-trunk.invariant
