@@ -1,12 +1,11 @@
 -- What an opening finds after both syncs, and what it makes.
 use Rattle.std.specs.Str.{bytes_eq}
-use Rattle.std.proofs.Common.{◌≡◌, ◌≢◌, ◌⊎◌, inl, inr, ℕ, ◌+◌, ◌<◌, ◌≤◌, ◌||◌, ◌==◌, Bool, true, false, not, nat_lt, if◌then◌else◌, List, [], ◌∷◌, ◌++◌, length, take, drop, Option, Some, None, Result, Ok, Err, refl, sym, ap, ◌∙◌, subst, arith}
+use Rattle.std.proofs.Common.{◌≡◌, ◌≢◌, ℕ, ◌≤◌, ◌||◌, ◌==◌, Bool, true, false, not, nat_lt, if◌then◌else◌, List, [], ◌∷◌, ◌++◌, length, take, drop, Option, Some, None, Result, Ok, Err, refl, sym, ap, ◌∙◌, subst, arith}
 use Rattle.std.specs.Prelude.{IfSome, IfOk}
 use Rattle.std.specs.Global.{Vec}
-use Rattle.std.proofs.lemmas.Bool.{cases_lt, le-ltb, eq-eqb, ltb-true, ltb-false}
-use Rattle.lab_base.specs.Lists.{Has}
-use Rattle.plant.specs.Disks.{Disk, disk, at_once, synced, wrote, ArePossible}
-use Rattle.plant.specs.Events.{Event, Wrote, Synced}
+use Rattle.std.proofs.lemmas.Bool.{le-ltb, eq-eqb, ltb-true, ltb-false}
+use Rattle.plant.specs.Disks.{Disk, disk, at_once, ArePossible}
+use Rattle.plant.specs.Events.{Event}
 use Rattle.plant.specs.Told.{Told, with_steps}
 use Rattle.plant.specs.declared.step.Side.{Side}
 use Rattle.plant.specs.declared.step.Side.TheVariants.{A, B}
@@ -14,24 +13,21 @@ use Rattle.journal_rec.specs.declared.record.Record.{Record}
 use Rattle.journal_rec.specs.declared.record.Record.TheVariants.{Delete}
 use Rattle.journal_rec.specs.declared.record.Found.{Found}
 use Rattle.journal_rec.specs.Payloads.{le, IsRecord}
-use Rattle.journal_model.specs.Journals.{magic, Head, Blank, Foreign, Headed, head, Live, New, On, Wrong, live, of_side, Reads, Breaks, gate_after, Bad, BadOf, Records}
-use Rattle.journal_model.specs.Appends.{IsOlder, Rests, Opened, Run, Nothing, added, IsOn}
-use Rattle.journal_model.specs.Making.{IsShort, IsClosed, made_header, HasHeader}
+use Rattle.journal_model.specs.Journals.{magic, Head, Blank, Foreign, Headed, head, Live, New, On, Wrong, live, of_side, Bad, BadOf}
+use Rattle.journal_model.specs.Appends.{IsOlder, Rests, Opened, Nothing}
+use Rattle.journal_model.specs.Making.{IsShort, IsClosed}
 use Rattle.journal_model.proofs.Traces.{disk_more}
 use Rattle.journal_model.proofs.Runs.{run_images}
 use Rattle.journal_model.proofs.Syncs.{live_back, headed_long, opened_from}
 use Rattle.journal_model.proofs.Making.{short_closed, closed_header, header_rests}
-use Rattle.journal_disk.specs.declared.front.Front.{Front}
-use Rattle.journal_disk.specs.declared.front.Front.TheVariants as fronts
-use Rattle.journal_disk.specs.declared.front.Place.{Place}
 use Rattle.journal_disk.specs.declared.front.Place.TheVariants as places
 use Rattle.journal_disk.specs.declared.fault.OpenFault.{OpenFault}
 use Rattle.journal_disk.specs.declared.fault.OpenFault.TheVariants as faults
 use Rattle.journal_disk.specs.declared.journal.Journal.{Journal}
-use Rattle.journal_disk.specs.Fronts.{seen, seen_live, place_of, later}
-use Rattle.journal_disk.specs.Standing.{side_of, gate_of, limit_of, IsAt, HasAll}
+use Rattle.journal_disk.specs.Fronts.{seen, seen_live, place_of}
+use Rattle.journal_disk.specs.Standing.{side_of, gate_of, IsAt, HasAll}
 use Rattle.journal_disk.specs.Walks.{placed}
-use Rattle.journal_disk.specs.Opening.{both_synced, cleared, headed, making}
+use Rattle.journal_disk.specs.Opening.{both_synced, making}
 use Rattle.journal_disk.specs.Openings.{IsRead, IsOpened}
 use Rattle.std.proofs.lemmas.List.{append-nil}
 
@@ -73,6 +69,9 @@ wrong_live (Wrong s) side e = ap Wrong (inside e)
 
 pub stands_on_side : (a b : List ℕ) (side : Side) → place_of (seen (head a)) (seen (head b)) ≡ places.On side → live (head a) (head b) ≡ On side
 stands_on_side a b side e = on_live (live (head a) (head b)) side (sym (place_live (head a) (head b)) ∙ e)
+
+pub is_new : (a b : List ℕ) → place_of (seen (head a)) (seen (head b)) ≡ places.New → live (head a) (head b) ≡ New
+is_new a b e = new_live (live (head a) (head b)) (sym (place_live (head a) (head b)) ∙ e)
 
 pub has_header : (a b : List ℕ) (side : Side) → place_of (seen (head a)) (seen (head b)) ≡ places.On side → 18 ≤ length (of_side side a b)
 has_header a b side e = let h = live_back side a b (stands_on_side a b side e) in headed_long (of_side side a b) h.0 h.1
@@ -165,7 +164,7 @@ wrong_bad told a b s side at read wrong is =
     in_reads told a b side at read (subst (λ l. BadOf l a b side at) (sym l) (parts.0, sym parts.1))
 
 -- ---- a new journal
-heads_blank : (x y : Head) → live x y ≡ New → (x ≡ Blank) × (y ≡ Blank)
+pub heads_blank : (x y : Head) → live x y ≡ New → (x ≡ Blank) × (y ≡ Blank)
 heads_blank Blank Blank e = (refl, refl)
 heads_blank Foreign y e = absurd (cc e)
 heads_blank Blank Foreign e = absurd (cc e)
@@ -229,8 +228,8 @@ made_ok (Some t) now a b is_short j read new short is side gate =
     subst (λ (o : Option Told). IfSome o (λ t. IsAt t.trace j [] × HasAll t.trace [])) (sym is) (at, has_all (t.trace ++ making is_short) j [] at)
 
 -- both reads, after both syncs
-pub read_in : (told one two three : Option Told) (steps : List Event) (a b : List ℕ) → one ≡ with_steps told steps → steps ≡ both_synced → two ≡ one → three ≡ two
+pub read_in : (told one two three : Option Told) (a b : List ℕ) → one ≡ with_steps told both_synced → two ≡ one → three ≡ two
     → IfSome one (λ t. a ≡ reads_in A t) → IfSome two (λ t. b ≡ reads_in B t) → ReadIn three a b
-read_in told one two three steps a b first synced second third ra rb =
+read_in told one two three a b first second third ra rb =
     let rb' = subst (λ (o : Option Told). IfSome o (λ t. b ≡ reads_in B t)) second rb in
-    subst (λ (o : Option Told). ReadIn o a b) (sym (third ∙ second)) (are_read told one a b (first ∙ ap (with_steps told) synced) ra rb')
+    subst (λ (o : Option Told). ReadIn o a b) (sym (third ∙ second)) (are_read told one a b first ra rb')

@@ -1,4 +1,7 @@
+pub mod Chains
+pub mod Prefixes
 pub mod Walking
 pub mod Parts
-pub mod Quiet
 pub mod Found
+pub mod Made
+pub mod Opening

@@ -1,8 +1,8 @@
 -- The parts of an append, and what each leaves.
-use Rattle.std.proofs.Common.{◌≡◌, ◌⊎◌, inl, inr, ℕ, zero, suc, ◌+◌, ◌≤◌, Bool, true, false, List, [], ◌∷◌, ◌++◌, length, take, drop, Option, Some, None, Result, Ok, Err, refl, sym, ap, ◌∙◌, subst, arith, append_assoc, length-append}
+use Rattle.std.proofs.Common.{◌≡◌, ◌⊎◌, inl, inr, ℕ, ◌+◌, ◌≤◌, Bool, List, [], ◌∷◌, ◌++◌, length, take, drop, Option, Some, None, Result, Ok, Err, refl, sym, ap, ◌∙◌, subst, arith, append_assoc, length-append}
 use Rattle.std.specs.Prelude.{IfSome, OnOk}
 use Rattle.std.proofs.lemmas.List.{append-nil, length-take, length-drop}
-use Rattle.plant.specs.Disks.{Disk, disk, disk_after, at_once, IsImage, ArePossible, put}
+use Rattle.plant.specs.Disks.{Disk, disk, ArePossible, put}
 use Rattle.plant.specs.DiskCalls.{WriteSteps, SyncSteps}
 use Rattle.plant.specs.Events.{Event, Wrote, Synced, Missed}
 use Rattle.plant.specs.Told.{Told, with_steps}
@@ -12,72 +12,41 @@ use Rattle.plant.specs.declared.step.Side.{Side}
 use Rattle.plant.specs.declared.step.Side.TheVariants.{A, B}
 use Rattle.journal_rec.specs.declared.record.Record.{Record}
 use Rattle.journal_rec.specs.Payloads.{le, payload, body, IsBody, IsRecord}
-use Rattle.journal_model.specs.Journals.{gate_after, size}
-use Rattle.journal_model.specs.Appends.{front, Known, Rests, Opened, Run, Nothing, Body, Settled, Gate, All, added, IsOn, AfterRun}
+use Rattle.journal_model.specs.Journals.{size}
+use Rattle.journal_model.specs.Appends.{front, Rests, Opened, Run, Nothing, Body, Settled, Gate, All, added, IsOn, AfterRun}
 use Rattle.journal_model.proofs.Gates.{length_front, gate_push}
 use Rattle.journal_model.proofs.Runs.{known_added, known_push, run_disk, run_images}
-use Rattle.journal_model.proofs.Traces.{disk_push, disk_more}
+use Rattle.journal_model.proofs.Traces.{disk_more}
+use Rattle.journal_disk.proofs.Chains.{Came, sync_came, write_came}
+use Rattle.journal_disk.proofs.Prefixes.{AllPrefixes, each_prefix, one_more, missed_images}
 use Rattle.journal_disk.specs.declared.fault.AppendFault.{AppendFault}
 use Rattle.journal_disk.specs.declared.fault.AppendFault.TheVariants as faults
 use Rattle.journal_disk.specs.declared.journal.Journal.{Journal}
 use Rattle.journal_disk.specs.Faults.{append_fault}
 use Rattle.journal_disk.specs.Standing.{side_of, gate_of, length_of, IsAt, Ends, Appends, Moments}
 
-pub with_steps-append : (told : Option Told) (a b : List Event) → with_steps (with_steps told a) b ≡ with_steps told (a ++ b)
-with_steps-append None a b = refl
-with_steps-append (Some t) a b = ap (λ (l : List Event). let o : Option Told = Some (record t { trace = l }) in o) (append_assoc t.trace a b)
-
--- a call more
-pub chain : (told one two : Option Told) (a b c : List Event) → one ≡ with_steps told a → two ≡ with_steps one b → a ++ b ≡ c → two ≡ with_steps told c
-chain told one two a b c first second is = second ∙ ap (λ t. with_steps t b) first ∙ with_steps-append told a b ∙ ap (with_steps told) is
-
-pub write_ok : (side : Side) (at : ℕ) (bytes : List ℕ) (stopped : Bool) (u : Unit {0}) (steps : List Event) → WriteSteps side at bytes stopped (Ok u) steps → steps ≡ Wrote side at bytes ∷ []
-write_ok side at bytes true u steps h = absurd (cc h.0)
-write_ok side at bytes false u steps h = h
-
-pub sync_ok : (side : Side) (stopped : Bool) (u : Unit {0}) (steps : List Event) → SyncSteps side stopped (Ok u) steps → steps ≡ Synced side ∷ []
-sync_ok side true u steps h = absurd (cc h.0)
-sync_ok side false u steps h = h
-
 -- some part was made, and then a call failed or the plant stopped
 abbrev made : Option Told → Option Told → Journal → Record → Fault → Type 0
 made old new j r fault = Appends old new j r (Err (append_fault fault))
 
-part : (old new : Option Told) (j : Journal) (r : Record) (fault : Fault) (run : Run) (more : List Event) → new ≡ with_steps old (added (side_of j) (gate_of j) r run ++ more) → (more ≡ []) ⊎ (more ≡ Missed (side_of j) ∷ []) → made old new j r fault
-part old new j r Failed run more trace ends = record { run = run; more = more; trace = trace; ends = ends }
-part old new j r Stopped run more trace ends = record { run = run; more = more; trace = trace; ends = ends }
+part : (old new : Option Told) (j : Journal) (r : Record) (fault : Fault) → Came (added (side_of j) (gate_of j) r) (λ _. Unit {0}) old new (side_of j) fault → made old new j r fault
+part old new j r Failed c = record { run = c.far; more = c.more; trace = c.trace; ends = c.last }
+part old new j r Stopped c = record { run = c.far; more = c.more; trace = c.trace; ends = c.last }
 
 -- a sync that was not acknowledged: before it this part was made, and with it that one
 pub sync_part : (old one two : Option Told) (j : Journal) (r : Record) (before after : Run) (stopped : Bool) (fault : Fault) (steps : List Event) → one ≡ with_steps old (added (side_of j) (gate_of j) r before)
     → added (side_of j) (gate_of j) r before ++ Synced (side_of j) ∷ [] ≡ added (side_of j) (gate_of j) r after
     → two ≡ with_steps one steps → SyncSteps (side_of j) stopped (Err fault) steps → made old two j r fault
-sync_part old one two j r before after true fault steps first joined second h =
-    part old two j r fault before [] (chain old one two _ steps _ first second (ap (λ l. added (side_of j) (gate_of j) r before ++ l) h.1)) (inl refl)
-sync_part old one two j r before after false Failed steps first joined second h =
-    part old two j r Failed before (Missed (side_of j) ∷ []) (chain old one two _ steps _ first second (ap (λ l. added (side_of j) (gate_of j) r before ++ l) h)) (inr refl)
-sync_part old one two j r before after false Stopped steps first joined second (inl h) =
-    part old two j r Stopped before [] (chain old one two _ steps _ first second (ap (λ l. added (side_of j) (gate_of j) r before ++ l) h)) (inl refl)
-sync_part old one two j r before after false Stopped steps first joined second (inr h) =
-    part old two j r Stopped after [] (chain old one two _ steps _ first second (ap (λ l. added (side_of j) (gate_of j) r before ++ l) h ∙ joined ∙ sym (append-nil _))) (inl refl)
+sync_part old one two j r before after stopped fault steps first joined second h =
+    part old two j r fault (sync_came (added (side_of j) (gate_of j) r) (λ _. Unit {0}) old one two (side_of j) before after stopped fault steps tt tt first joined second h)
 
 -- a write that was not acknowledged: with other bytes it made that part
 pub write_part : (old one two : Option Told) (j : Journal) (r : Record) (before : Run) (after : List ℕ → Run) (at : ℕ) (bytes : List ℕ) (stopped : Bool) (fault : Fault) (steps : List Event)
     → one ≡ with_steps old (added (side_of j) (gate_of j) r before)
     → ((other : List ℕ) → length other ≡ length bytes → added (side_of j) (gate_of j) r before ++ Wrote (side_of j) at other ∷ [] ≡ added (side_of j) (gate_of j) r (after other))
     → two ≡ with_steps one steps → WriteSteps (side_of j) at bytes stopped (Err fault) steps → made old two j r fault
-write_part old one two j r before after at bytes true fault steps first joined second h =
-    part old two j r fault before [] (chain old one two _ steps _ first second (ap (λ l. added (side_of j) (gate_of j) r before ++ l) h.1)) (inl refl)
-write_part old one two j r before after at bytes false Failed steps first joined second (inl h) =
-    part old two j r Failed before (Missed (side_of j) ∷ []) (chain old one two _ steps _ first second (ap (λ l. added (side_of j) (gate_of j) r before ++ l) h)) (inr refl)
-write_part old one two j r before after at bytes false Failed steps first joined second (inr h) =
-    let front = added (side_of j) (gate_of j) r before in
-    let both : front ++ (Wrote (side_of j) at h.0 ∷ Missed (side_of j) ∷ []) ≡ added (side_of j) (gate_of j) r (after h.0) ++ Missed (side_of j) ∷ [] =
-    sym (append_assoc front (Wrote (side_of j) at h.0 ∷ []) (Missed (side_of j) ∷ [])) ∙ ap (λ l. l ++ Missed (side_of j) ∷ []) (joined h.0 h.1) in
-    part old two j r Failed (after h.0) (Missed (side_of j) ∷ []) (chain old one two _ steps _ first second (ap (λ l. front ++ l) h.2 ∙ both)) (inr refl)
-write_part old one two j r before after at bytes false Stopped steps first joined second (inl h) =
-    part old two j r Stopped before [] (chain old one two _ steps _ first second (ap (λ l. added (side_of j) (gate_of j) r before ++ l) h)) (inl refl)
-write_part old one two j r before after at bytes false Stopped steps first joined second (inr h) =
-    part old two j r Stopped (after bytes) [] (chain old one two _ steps _ first second (ap (λ l. added (side_of j) (gate_of j) r before ++ l) h ∙ joined bytes refl ∙ sym (append-nil _))) (inl refl)
+write_part old one two j r before after at bytes stopped fault steps first joined second h =
+    part old two j r fault (write_came (added (side_of j) (gate_of j) r) (λ _. Unit {0}) old one two (side_of j) before after at bytes stopped fault steps tt (λ _. tt) first joined second h)
 
 -- the one byte of a list of one
 abbrev pub first_byte : List ℕ → ℕ
@@ -120,40 +89,11 @@ gate_within (Some t) two j bytes h is =
     let long = body_longer (side_of j) t.trace (gate_of j + 1) bytes (reads_enough t.trace j h.0 h.1) in
     subst (λ (o : Option Told). IfSome o (λ t. gate_of j ≤ length (disk (side_of j) t.trace).reads)) (sym is) (omega (arith, long))
 
-pub nothing_yet : (told : Option Told) → told ≡ with_steps told []
-nothing_yet None = refl
-nothing_yet (Some t) = ap (λ (l : List Event). let o : Option Told = Some (record t { trace = l }) in o) (sym (append-nil t.trace))
-
 -- an append that was acknowledged
 pub whole_run : (old new : Option Told) (j : Journal) (r : Record) (u : Unit {0}) → new ≡ with_steps old (added (side_of j) (gate_of j) r All) → Appends old new j r (Ok u)
 whole_run old new j r u is = record { run = All; more = []; trace = is ∙ ap (with_steps old) (sym (append-nil (added (side_of j) (gate_of j) r All))); ends = (refl, refl) }
 
 -- ---- moments
-abbrev AllPrefixes : (List Event → Type 0) → List Event → Type 0
-AllPrefixes P [] = P []
-AllPrefixes P (x ∷ xs) = P [] × AllPrefixes (λ l. P (x ∷ l)) xs
-
-each_prefix : (P : List Event → Type 0) (steps front back : List Event) → AllPrefixes P steps → steps ≡ front ++ back → P front
-each_prefix P [] [] back h e = h
-each_prefix P [] (x ∷ front) back h e = absurd (cc e)
-each_prefix P (y ∷ steps) [] back h e = h.0
-each_prefix P (y ∷ steps) (x ∷ front) back h e =
-    subst (λ (z : Event). P (z ∷ front)) (first e) (each_prefix (λ l. P (y ∷ l)) steps front back h.1 (rest e))
-  where
-    first : {x y : Event} {xs ys : List Event} → y ∷ ys ≡ x ∷ xs → y ≡ x
-    first e = cc
-
-    rest : {x y : Event} {xs ys : List Event} → y ∷ ys ≡ x ∷ xs → ys ≡ xs
-    rest e = cc
-
--- a call that missed leaves the images
-missed_images : (side : Side) (trace : List Event) (a b : List ℕ) → ArePossible (trace ++ Missed side ∷ []) a b → ArePossible trace a b
-missed_images side trace a b possible = (subst (λ d. IsImage d a) (disk_push A trace (Missed side) ∙ same A side (disk A trace)) possible.0, subst (λ d. IsImage d b) (disk_push B trace (Missed side) ∙ same B side (disk B trace)) possible.1)
-  where
-    same : (s side : Side) (d : Disk) → disk_after s d (Missed side) ≡ d
-    same A side d = refl
-    same B side d = refl
-
 module _ (trace : List Event) (j : Journal) (rs : List Record) (r : Record) (at : IsAt trace j rs) (is_r : IsRecord r) where
   abbrev Fine : List Event → Type 0
   Fine front = (a b : List ℕ) → ArePossible (trace ++ front) a b → IsOn (side_of j) a b rs ⊎ IsOn (side_of j) a b (rs ++ r ∷ [])
@@ -183,11 +123,7 @@ module _ (trace : List Event) (j : Journal) (rs : List Record) (r : Record) (at 
   prefixes All = (fine Nothing, (fine (Body (body r)), (fine Settled, (fine (Gate 165), fine All))))
 
   prefixes_missed : (run : Run) → AllPrefixes Fine (added (side_of j) (gate_of j) r run ++ Missed (side_of j) ∷ [])
-  prefixes_missed Nothing = (fine Nothing, missed (added (side_of j) (gate_of j) r Nothing) (fine Nothing))
-  prefixes_missed (Body bytes) = (fine Nothing, (fine (Body bytes), missed (added (side_of j) (gate_of j) r (Body bytes)) (fine (Body bytes))))
-  prefixes_missed Settled = (fine Nothing, (fine (Body (body r)), (fine Settled, missed (added (side_of j) (gate_of j) r Settled) (fine Settled))))
-  prefixes_missed (Gate byte) = (fine Nothing, (fine (Body (body r)), (fine Settled, (fine (Gate byte), missed (added (side_of j) (gate_of j) r (Gate byte)) (fine (Gate byte))))))
-  prefixes_missed All = (fine Nothing, (fine (Body (body r)), (fine Settled, (fine (Gate 165), (fine All, missed (added (side_of j) (gate_of j) r All) (fine All))))))
+  prefixes_missed run = one_more Fine (added (side_of j) (gate_of j) r run) (Missed (side_of j)) (prefixes run) (missed (added (side_of j) (gate_of j) r run) (fine run))
 
   all_prefixes : (run : Run) (more : List Event) → (more ≡ []) ⊎ (more ≡ Missed (side_of j) ∷ []) → AllPrefixes Fine (added (side_of j) (gate_of j) r run ++ more)
   all_prefixes run more (inl e) = subst (λ l. AllPrefixes Fine l) (sym (append-nil (added (side_of j) (gate_of j) r run)) ∙ ap (λ l. added (side_of j) (gate_of j) r run ++ l) (sym e)) (prefixes run)
@@ -196,8 +132,8 @@ module _ (trace : List Event) (j : Journal) (rs : List Record) (r : Record) (at 
 few : (side : Side) (result : Result (Unit {0}) AppendFault) (run : Run) (more : List Event) → Ends side result run more → (more ≡ []) ⊎ (more ≡ Missed side ∷ [])
 few side (Ok u) run more h = inl h.1
 few side (Err (faults.Full m n)) run more h = inl h.1
-few side (Err faults.Plant) run more h = h
-few side (Err faults.Stopped) run more h = h
+few side (Err faults.Plant) run more h = inr h
+few side (Err faults.Stopped) run more h = inl h
 
 moments_at : (trace : List Event) (j : Journal) (rs : List Record) (r : Record) (result : Result (Unit {0}) AppendFault) (run : Run) (more : List Event) → IsAt trace j rs → IsRecord r → Ends (side_of j) result run more
     → Moments trace (added (side_of j) (gate_of j) r run ++ more) (side_of j) rs r result

@@ -1,6 +1,5 @@
 -- What the head of a side says, with its epoch as a number.
 use Rattle.std.specs.Prelude.{ℕ, ◌==◌, nat_lt, if◌then◌else◌}
-use Rattle.plant.specs.declared.step.Side.{Side}
 use Rattle.plant.specs.declared.step.Side.TheVariants.{A, B}
 use Rattle.journal_rec.specs.Payloads.{number}
 use Rattle.journal_model.specs.Journals.{Head, Live}

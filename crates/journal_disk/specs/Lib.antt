@@ -1,3 +1,4 @@
+pub mod Before
 pub mod Faults
 pub mod Fronts
 pub mod Opening

@@ -1,31 +1,21 @@
 -- What an opening adds to a trace.
-use Rattle.std.specs.Prelude.{◌≡◌, ◌⊎◌, ℕ, Bool, true, false, List, [], ◌∷◌, ◌++◌, Option, Result, Ok, Err}
+use Rattle.std.specs.Prelude.{◌≡◌, ℕ, Bool, true, false, nat_lt, List, [], ◌∷◌, ◌++◌, length, Option, Result, Ok, Err}
+use Rattle.std.specs.Global.{Vec}
+use Rattle.plant.specs.Disks.{disk}
 use Rattle.plant.specs.Events.{Event, Wrote, Synced, Missed}
 use Rattle.plant.specs.Told.{Told, with_steps}
 use Rattle.plant.specs.declared.step.Side.{Side}
 use Rattle.plant.specs.declared.step.Side.TheVariants.{A, B}
+use Rattle.journal_rec.specs.declared.record.Found.{Found}
+use Rattle.journal_model.specs.Journals.{head, Live, New, live}
 use Rattle.journal_model.specs.Making.{made_header}
 use Rattle.journal_disk.specs.declared.fault.OpenFault.{OpenFault}
-
--- syncs, and calls that missed
-abbrev pub AreQuiet : List Event → Type 0
-AreQuiet [] = Unit {0}
-AreQuiet (Synced side ∷ steps) = AreQuiet steps
-AreQuiet (Missed side ∷ steps) = AreQuiet steps
-AreQuiet (step ∷ steps) = ⊥
+use Rattle.journal_disk.specs.declared.fault.OpenFault.TheVariants as faults
+use Rattle.journal_disk.specs.declared.journal.Journal.{Journal}
 
 -- both sides are synced
 abbrev pub both_synced : List Event
 both_synced = Synced A ∷ Synced B ∷ []
-
-abbrev pub AreBoth : Result (Unit {0}) OpenFault → List Event → Type 0
-AreBoth (Ok done) steps = steps ≡ both_synced
-AreBoth (Err fault) steps = AreQuiet steps
-
--- a call that reads: the trace stands, or a call missed
-abbrev pub MayMiss : {T : Type 0} → Side → Option Told → Option Told → Result T OpenFault → Type 0
-MayMiss side old new (Ok value) = new ≡ old
-MayMiss side old new (Err fault) = (new ≡ old) ⊎ (new ≡ with_steps old (Missed side ∷ []))
 
 -- what makes a new journal on side A; a side without a header gets a closed gate first
 abbrev pub cleared : Bool → List Event
@@ -37,3 +27,107 @@ headed = Wrote A 1 made_header ∷ Synced A ∷ Wrote A 0 (165 ∷ []) ∷ Synce
 
 abbrev pub making : Bool → List Event
 making is_short = cleared is_short ++ headed
+
+-- WHAT A WHOLE OPENING ADDS: both syncs, and where both sides are blank a new journal
+abbrev pub new_journal : Live → Bool → List Event
+new_journal New is_short = making is_short
+new_journal live is_short = []
+
+abbrev pub opening : List ℕ → List ℕ → List Event
+opening a b = both_synced ++ new_journal (live (head a) (head b)) (nat_lt (length a) 18)
+
+-- How far a new journal came on side A: not yet; any byte as the gate of a side without a header; its closed gate, synced; any bytes
+-- behind the closed gate; the header, synced; any byte as the gate; the open gate, synced.
+pub data Made : Type 0 where
+  Untouched : Made
+  Closing : (byte : ℕ) → Made
+  Closed : Made
+  Heading : (bytes : List ℕ) → Made
+  WithHeader : Made
+  Raising : (byte : ℕ) → Made
+  InUse : Made
+
+abbrev pub made_steps : Bool → Made → List Event
+made_steps is_short Untouched = []
+made_steps is_short (Closing byte) = Wrote A 0 (byte ∷ []) ∷ []
+made_steps is_short Closed = cleared is_short
+made_steps is_short (Heading bytes) = cleared is_short ++ Wrote A 1 bytes ∷ []
+made_steps is_short WithHeader = cleared is_short ++ Wrote A 1 made_header ∷ Synced A ∷ []
+made_steps is_short (Raising byte) = cleared is_short ++ Wrote A 1 made_header ∷ Synced A ∷ Wrote A 0 (byte ∷ []) ∷ []
+made_steps is_short InUse = making is_short
+
+-- a gate is closed only where the side has no header
+abbrev pub IsMade : Bool → Made → Type 0
+IsMade is_short (Closing byte) = is_short ≡ true
+IsMade is_short made = Unit {0}
+
+-- HOW FAR AN OPENING CAME: nothing; side A synced; both; and then so much of a new journal
+pub data Far : Type 0 where
+  AtStart : Far
+  OneSynced : Far
+  BothSynced : Far
+  Making : (is_short : Bool) (made : Made) → Far
+
+abbrev pub far_steps : Far → List Event
+far_steps AtStart = []
+far_steps OneSynced = Synced A ∷ []
+far_steps BothSynced = both_synced
+far_steps (Making is_short made) = both_synced ++ made_steps is_short made
+
+-- a new journal is made only where both sides are blank
+abbrev pub MayMake : List ℕ → List ℕ → Far → Type 0
+MayMake a b (Making is_short made) = (live (head a) (head b) ≡ New) × (is_short ≡ nat_lt (length a) 18) × IsMade is_short made
+MayMake a b far = Unit {0}
+
+-- what stands last after a call that failed, or in which the plant stopped
+abbrev pub IsLast : Side → OpenFault → List Event → Type 0
+IsLast side faults.Plant more = more ≡ Missed side ∷ []
+IsLast side faults.Stopped more = more ≡ []
+IsLast side fault more = ⊥
+
+-- the syncs: both are there after Ok
+abbrev pub IsSync : Far → Type 0
+IsSync (Making is_short made) = ⊥
+IsSync far = Unit {0}
+
+abbrev pub SyncEnds : Result (Unit {0}) OpenFault → Far → List Event → Type 0
+SyncEnds (Ok done) far more = (far ≡ BothSynced) × (more ≡ [])
+SyncEnds (Err fault) far more = (side : Side) × IsLast side fault more
+
+pub record Syncs (old new : Option Told) (result : Result (Unit {0}) OpenFault) : Type 0 where
+  pub far : Far
+  pub is_sync : IsSync far
+  pub more : List Event
+  pub trace : new ≡ with_steps old (far_steps far ++ more)
+  pub ends : SyncEnds result far more
+
+-- a call that reads adds a step only where it failed
+abbrev pub MayMiss : {T : Type 0} → Side → Option Told → Option Told → Result T OpenFault → Type 0
+MayMiss side old new (Err faults.Plant) = new ≡ with_steps old (Missed side ∷ [])
+MayMiss side old new result = new ≡ old
+
+-- the making of a journal on side A, up to that part after Ok
+abbrev pub MakeEnds : Made → Result (Unit {0}) OpenFault → Made → List Event → Type 0
+MakeEnds goal (Ok done) made more = (made ≡ goal) × (more ≡ [])
+MakeEnds goal (Err fault) made more = IsLast A fault more
+
+pub record Makes (is_short : Bool) (goal : Made) (old new : Option Told) (result : Result (Unit {0}) OpenFault) : Type 0 where
+  pub made : Made
+  pub is_made : IsMade is_short made
+  pub more : List Event
+  pub trace : new ≡ with_steps old (made_steps is_short made ++ more)
+  pub ends : MakeEnds goal result made more
+
+-- WHAT A CALL OF open ADDED, by its answer
+abbrev pub Ends : Result (Journal × Vec Found) OpenFault → List ℕ → List ℕ → Far → List Event → Type 0
+Ends (Ok opened) a b far more = (far_steps far ≡ opening a b) × (more ≡ [])
+Ends (Err faults.Plant) a b far more = (side : Side) × (more ≡ Missed side ∷ [])
+Ends (Err faults.Stopped) a b far more = more ≡ []
+Ends (Err fault) a b far more = (far ≡ BothSynced) × (more ≡ [])
+
+pub record Opens (trace : List Event) (steps : List Event) (result : Result (Journal × Vec Found) OpenFault) : Type 0 where
+  pub far : Far
+  pub more : List Event
+  pub steps_are : steps ≡ far_steps far ++ more
+  pub blank : MayMake (disk A trace).reads (disk B trace).reads far
+  pub ends : Ends result (disk A trace).reads (disk B trace).reads far more

@@ -34,12 +34,12 @@ pub record IsAt (trace : List Event) (j : Journal) (rs : List Record) : Type 0 w
 abbrev pub HasAll : List Event → List Record → Type 0
 HasAll trace rs = (a b : List ℕ) → ArePossible trace a b → Records a b rs
 
--- which part of an append was made, and whether a call missed
+-- which part of an append was made, and that a call missed where one failed
 abbrev pub Ends : Side → Result (Unit {0}) AppendFault → Run → List Event → Type 0
 Ends side (Ok done) run more = (run ≡ All) × (more ≡ [])
 Ends side (Err (faults.Full size length)) run more = (run ≡ Nothing) × (more ≡ [])
-Ends side (Err faults.Plant) run more = (more ≡ []) ⊎ (more ≡ Missed side ∷ [])
-Ends side (Err faults.Stopped) run more = (more ≡ []) ⊎ (more ≡ Missed side ∷ [])
+Ends side (Err faults.Plant) run more = more ≡ Missed side ∷ []
+Ends side (Err faults.Stopped) run more = more ≡ []
 
 pub record Appends (old new : Option Told) (j : Journal) (r : Record) (result : Result (Unit {0}) AppendFault) : Type 0 where
   pub run : Run

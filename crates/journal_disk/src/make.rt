@@ -4,7 +4,7 @@ ghost use Rattle.plant.specs.Disks.{disk};
 ghost use Rattle.plant.specs.Told.{with_steps};
 ghost use Rattle.plant.specs.declared.step.Side.{Side as AnySide};
 ghost use Rattle.plant.specs.declared.step.Side.TheVariants.{A};
-ghost use Rattle.journal_disk.specs.Opening.{cleared, headed, making};
+ghost use Rattle.journal_disk.specs.Opening.{cleared, headed, making, Makes, Closed, InUse};
 
 use crate::OpenFault;
 use crate::front::OPEN;
@@ -16,6 +16,7 @@ const MADE: [u8; 17] = *b"LABJRNL1\x01\0\0\0\0\0\0\0\0";
 /// Closes the header gate of a side that has no header yet.
 fn clear<P: Plant>(plant: &mut P) -> Result<(), OpenFault>
     ensures ok { OnOk result (P.told plant.new ≡ with_steps (P.told plant.old) (cleared true)) }
+    ensures makes { Makes true Closed (P.told plant.old) (P.told plant.new) result }
     ensures plant { IsErrOf result OpenFault.Plant → Rose (P.faults plant.old).disk (P.faults plant.new).disk }
     ensures later { (P.faults plant.old).disk ≤ (P.faults plant.new).disk }
     ensures stopped { IsErrOf result OpenFault.Stopped ↔ IsTrue (P.is_stopped plant.new) }
@@ -32,6 +33,7 @@ fn clear<P: Plant>(plant: &mut P) -> Result<(), OpenFault>
 fn head<P: Plant>(plant: &mut P) -> Result<(), OpenFault>
     requires { IfSome (P.told plant.old) (λ t. 1 ≤ length (disk A t.trace).reads) }
     ensures ok { OnOk result (P.told plant.new ≡ with_steps (P.told plant.old) headed) }
+    ensures makes { Makes false InUse (P.told plant.old) (P.told plant.new) result }
     ensures plant { IsErrOf result OpenFault.Plant → Rose (P.faults plant.old).disk (P.faults plant.new).disk }
     ensures later { (P.faults plant.old).disk ≤ (P.faults plant.new).disk }
     ensures stopped { IsErrOf result OpenFault.Stopped ↔ IsTrue (P.is_stopped plant.new) }
@@ -50,6 +52,7 @@ fn head<P: Plant>(plant: &mut P) -> Result<(), OpenFault>
 pub fn make<P: Plant>(plant: &mut P, is_short: bool) -> Result<(), OpenFault>
     requires { IfSome (P.told plant.old) (λ t. is_short ≡ false → 1 ≤ length (disk A t.trace).reads) }
     ensures ok { OnOk result (P.told plant.new ≡ with_steps (P.told plant.old) (making is_short)) }
+    ensures makes { Makes is_short InUse (P.told plant.old) (P.told plant.new) result }
     ensures plant { IsErrOf result OpenFault.Plant → Rose (P.faults plant.old).disk (P.faults plant.new).disk }
     ensures later { (P.faults plant.old).disk ≤ (P.faults plant.new).disk }
     ensures stopped { IsErrOf result OpenFault.Stopped ↔ IsTrue (P.is_stopped plant.new) }

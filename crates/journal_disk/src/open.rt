@@ -9,6 +9,10 @@ ghost use Rattle.journal_disk.specs.Fronts.{seen, place_of};
 ghost use Rattle.journal_disk.specs.Walks.{placed};
 ghost use Rattle.journal_disk.specs.Standing.{IsAt, HasAll, limit_of};
 ghost use Rattle.journal_disk.specs.Openings.{IsOpened};
+ghost use Rattle.journal_disk.specs.Opening.{Opens};
+ghost use Rattle.journal_disk.specs.Before.{AreAsBefore};
+ghost use Rattle.plant.specs.Events.{Event};
+ghost use Rattle.plant.specs.Told.{with_steps};
 
 use crate::front::{HEADER, Place, front_of, place_of};
 use crate::make::make;
@@ -58,6 +62,8 @@ impl Journal {
         ensures stopped { IsErrOf result OpenFault.Stopped ↔ IsTrue (P.is_stopped plant.new) }
         ensures drills { P.takes_drills plant.new ≡ P.takes_drills plant.old }
         ensures limit { IfOk result (λ opened. limit_of opened.0 ≡ limit) }
+        ensures opens { (steps : List Event) × (P.told plant.new ≡ with_steps (P.told plant.old) steps) × IfSome (P.told plant.old) (λ t. Opens t.trace steps result) }
+        ensures moments { (steps : List Event) × (P.told plant.new ≡ with_steps (P.told plant.old) steps) × IfSome (P.told plant.old) (λ t. AreAsBefore t.trace steps) }
     {
         sync_sides(plant)?;
         let a = read_side(alloc, plant, Side::A)?;

@@ -4,7 +4,7 @@ ghost use Rattle.plant.specs.Disks.{disk};
 ghost use Rattle.plant.specs.Told.{with_steps};
 ghost use Rattle.plant.specs.Events.{Event};
 ghost use Rattle.plant.specs.declared.step.Side.{Side as AnySide};
-ghost use Rattle.journal_disk.specs.Opening.{AreBoth, MayMiss};
+ghost use Rattle.journal_disk.specs.Opening.{both_synced, Syncs, MayMiss};
 ghost use Rattle.std.specs.Prelude.{List, ◌++◌};
 
 use crate::OpenFault;
@@ -16,7 +16,8 @@ const PIECE: usize = 65_536;
 
 /// Makes both sides durable as they read.
 pub fn sync_sides<P: Plant>(plant: &mut P) -> Result<(), OpenFault>
-    ensures trace { (steps : List Event) × (P.told plant.new ≡ with_steps (P.told plant.old) steps) × AreBoth result steps }
+    ensures ok { OnOk result (P.told plant.new ≡ with_steps (P.told plant.old) both_synced) }
+    ensures syncs { Syncs (P.told plant.old) (P.told plant.new) result }
     ensures plant { IsErrOf result OpenFault.Plant → Rose (P.faults plant.old).disk (P.faults plant.new).disk }
     ensures later { (P.faults plant.old).disk ≤ (P.faults plant.new).disk }
     ensures stopped { IsErrOf result OpenFault.Stopped ↔ IsTrue (P.is_stopped plant.new) }

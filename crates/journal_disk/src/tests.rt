@@ -84,7 +84,12 @@ fn damaged_sides(rt: HostRuntime) -> Result<(), Fail> {
     is_bad(&rt, alloc, &DELETES_A, &DELETES_A, Side::A, 0)?;
     bytes = DELETES_A;
     bytes[8] = b'2';
-    is_bad(&rt, alloc, &DELETES_A, &bytes, Side::B, 0)
+    is_bad(&rt, alloc, &DELETES_A, &bytes, Side::B, 0)?;
+    // A new journal with one wrong byte in its header; two new journals.
+    let mut made = *b"\xa5LABJRNL1\x01\0\0\0\0\0\0\0\0";
+    is_bad(&rt, alloc, &made, &made, Side::A, 0)?;
+    made[8] = b'X';
+    is_bad(&rt, alloc, &made, b"", Side::A, 0)
 }
 
 /// Opens the journal and appends a record; gives the answer, and the journal's length then.
@@ -131,7 +136,15 @@ fn full_at_the_limit(rt: HostRuntime) -> Result<(), Fail> {
     Ok(())
 }
 
-/// How many records there are after a stop at the nth step of an opening and an append, twice.
+/// Whether these are the deletions of A, and then of B, as far as there are any.
+fn are_deletions(records: &[Found]) -> bool {
+    records.iter().zip([b"A", b"B"]).all(|(found, name)| match &found.entry {
+        Record::Delete { exp } => exp.bytes() == name.as_slice(),
+        _ => false,
+    })
+}
+
+/// How many records an opening finds after a stop at the nth step of an opening and an append, twice.
 fn left_after(alloc: Global, nth: u32, pick: Pick) -> Result<usize, Fail> {
     let mut plant = MemLab::blank(alloc)?;
     plant
@@ -148,7 +161,11 @@ fn left_after(alloc: Global, nth: u32, pick: Pick) -> Result<usize, Fail> {
         plant.restart()?;
     }
     let (_, found) = Journal::open(alloc, &mut plant, LIMIT).ok().ok_or("open")?;
-    Ok(found.len())
+    if are_deletions(&found) {
+        Ok(found.len())
+    } else {
+        Err("other records".into())
+    }
 }
 
 #[test]

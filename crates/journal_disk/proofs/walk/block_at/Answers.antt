@@ -1,4 +1,4 @@
-use Rattle.std.proofs.Common.{◌≡◌, List, ℕ, ap, ◌∙◌, subst, arith, take}
+use Rattle.std.proofs.Common.{List, ℕ, ap, ◌∙◌, subst, arith, take}
 use Rattle.journal_rec.specs.Payloads.{number, Decodes}
 use Rattle.journal_disk.proofs.Walking.{whole, tail, slice}
 use Rattle.journal_disk.proofs.walk.block_at.Goals as goal

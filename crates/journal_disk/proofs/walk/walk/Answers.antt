@@ -1,9 +1,6 @@
-use Rattle.std.proofs.Common.{◌≡◌, List, ℕ, ◌++◌, ◌∷◌, [], Ok, Err, Option, Some, None, Result, subst, arith, drop, rules}
+use Rattle.std.proofs.Common.{◌≡◌, ◌++◌, ◌∷◌, [], arith, rules}
 use Rattle.std.proofs.lemmas.List.{length-drop}
-use Rattle.journal_rec.specs.declared.record.Record.{Record}
-use Rattle.journal_rec.specs.declared.fault.RecFault.{RecFault}
-use Rattle.journal_disk.specs.Walks.{IsBlock}
-use Rattle.journal_disk.proofs.Walking.{SoFar, begins, goes_on, closes, breaks_off, tail}
+use Rattle.journal_disk.proofs.Walking.{goes_on, closes, breaks_off, tail}
 use Rattle.journal_disk.proofs.walk.walk.Goals as goal
 
 pub returns-in-Ok-None : goal.returns-in-Ok-None

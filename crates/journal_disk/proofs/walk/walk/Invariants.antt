@@ -1,7 +1,5 @@
-use Rattle.std.proofs.Common.{◌≡◌, ◌≤◌, ◌-◌, ◌+◌, ◌<◌, List, ◌++◌, drop, length}
+use Rattle.std.proofs.Common.{◌-◌, ◌<◌, List, length}
 use Rattle.journal_rec.specs.declared.record.Record.{Record}
-use Rattle.journal_model.specs.Journals.{Reads, Breaks, gate_after}
-use Rattle.journal_disk.specs.Walks.{placed}
 use Rattle.journal_disk.proofs.Walking.{SoFar}
 use Rattle.journal_disk.proofs.walk.walk.Given as goal
 

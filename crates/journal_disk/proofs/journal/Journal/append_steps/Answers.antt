@@ -1,10 +1,11 @@
-use Rattle.std.proofs.Common.{◌≡◌, ◌+◌, ◌++◌, ◌∷◌, [], List, ℕ, Ok, Err, refl, sym, ap, ◌∙◌}
+use Rattle.std.proofs.Common.{◌≡◌, ◌+◌, ◌∷◌, [], List, ℕ, refl, ap, ◌∙◌}
 use Rattle.plant.specs.Told.{with_steps}
 use Rattle.std.proofs.lemmas.Result.{err_from_is_err_and}
 use Rattle.plant.specs.Events.{Wrote, Synced}
 use Rattle.journal_rec.specs.Payloads.{body}
 use Rattle.journal_model.specs.Appends.{Nothing, Body, Settled, Gate, All, added}
-use Rattle.journal_disk.proofs.Parts.{chain, write_ok, sync_ok, sync_part, write_part, first_byte, one_byte, begins_within, gate_within, nothing_yet, whole_run}
+use Rattle.journal_disk.proofs.Chains.{chain, write_ok, sync_ok, nothing_yet}
+use Rattle.journal_disk.proofs.Parts.{sync_part, write_part, first_byte, one_byte, begins_within, gate_within, whole_run}
 use Rattle.journal_disk.proofs.journal.Journal.append_steps.Goals as goal
 
 pub write-requires : goal.write-requires

@@ -1,0 +1,27 @@
+use Rattle.std.proofs.Common.{◌≡◌, ◌∷◌, [], List, ℕ, true, ap, ◌∙◌, refl}
+use Rattle.std.proofs.lemmas.Result.{err_from_is_err_and}
+use Rattle.plant.specs.Events.{Wrote}
+use Rattle.plant.specs.Told.{with_steps}
+use Rattle.plant.specs.declared.step.Side.TheVariants.{A}
+use Rattle.journal_disk.specs.Opening.{Untouched, Closing, Closed, made_steps, IsMade}
+use Rattle.journal_disk.proofs.Chains.{nothing_yet, write_ok, sync_came, write_came}
+use Rattle.journal_disk.proofs.Opening.{make_broke}
+use Rattle.journal_disk.proofs.Parts.{first_byte, one_byte}
+use Rattle.journal_disk.proofs.make.clear.Goals as goal
+
+pub returns-in_err-write-clause-makes : goal.returns-in_err-write-clause-makes
+returns-in_err-write-clause-makes g c =
+    let p = err_from_is_err_and c.from_residual.result c.from_residual.ensures.1 in
+    let t = c.in_err-write.ensures.trace in
+    let told = g.P.Plant.told c.args.plant.now in
+    rw (p.1, p.2) (make_broke true Closed told (g.P.Plant.told c.write.new.self) c.in_err-write.field-0.0 (write_came (made_steps true) (IsMade true) told told (g.P.Plant.told c.write.new.self) A Untouched (λ other. Closing (first_byte other)) 0 (0 ∷ []) (g.P.Plant.is_stopped c.args.plant.now) c.in_err-write.field-0.0 t.0 tt (λ _. refl) (nothing_yet told)
+    (λ other len. ap (λ (l : List ℕ). Wrote A 0 l ∷ []) (one_byte other len)) t.1 t.2))
+
+pub returns-in_err-sync-clause-makes : goal.returns-in_err-sync-clause-makes
+returns-in_err-sync-clause-makes g c =
+    let p = err_from_is_err_and c.from_residual-in_err-sync.result c.from_residual-in_err-sync.ensures.1 in
+    let told = g.P.Plant.told c.args.plant.now in
+    let w = c.in_ok-write.ensures.trace in
+    let one : g.P.Plant.told c.write.new.self ≡ with_steps told (Wrote A 0 (0 ∷ []) ∷ []) = w.1 ∙ ap (λ l. with_steps told l) (write_ok A 0 (0 ∷ []) _ _ w.0 w.2) in
+    let t = c.in_err-sync.ensures.trace in
+    rw (p.1, p.2) (make_broke true Closed told (g.P.Plant.told c.sync.new.self) c.in_err-sync.field-0.0 (sync_came (made_steps true) (IsMade true) told (g.P.Plant.told c.write.new.self) (g.P.Plant.told c.sync.new.self) A (Closing 0) Closed (g.P.Plant.is_stopped c.write.new.self) c.in_err-sync.field-0.0 t.0 refl tt one refl t.1 t.2))
