@@ -1,0 +1,167 @@
+// What a mapping leaves of desires, features and classes.
+ghost use Rattle.std.specs.Prelude.{◌≡◌, ◌<◌, ◌≤◌, ◌*◌, ◌+◌, ◌-◌, ◌&&◌, not, if◌then◌else◌, length};
+ghost use Rattle.std.specs.List.{list_any};
+ghost use Rattle.virt_topo.specs.Repeats.{same_name};
+ghost use Rattle.virt_topo.specs.Soundness.{IsSound};
+ghost use Rattle.lab_model.specs.Shapes.{IsShaped, has_name};
+ghost use Rattle.lab_model.specs.Rules.{is_member, place_at, virt_at};
+ghost use Rattle.cost_rule.specs.Cost.{sum_below, missed_weight, missed, node_soft, kinds_of, class_soft, soft};
+ghost use Rattle.cost_rule.specs.Counting.{is_of_kind, types_from};
+
+use crate::at::{node_at, place_at, virt_at};
+use lab_base::Name;
+use phys_lab::Lab;
+use virt_topo::{Asks, Mapping, Wiring};
+
+fn has_name(pairs: &[(Name, u32)], name: Name) -> bool
+    ensures { result ≡ has_name pairs.now name }
+{
+    pairs.iter().any(|pair| pair.0 == name)
+}
+
+fn missed_weight(wanted: &(Name, u32), given: &[(Name, u32)]) -> u64
+    ensures weight { result ≡ missed_weight given.now wanted.now }
+    ensures small { result ≤ 999 }
+{
+    if wanted.1 < 1_000 && !has_name(given, wanted.0) {
+        wanted.1 as u64
+    } else {
+        0
+    }
+}
+
+/// The weights below 1,000 of the first names that are not among the others.
+fn missed(wanted: &[(Name, u32)], given: &[(Name, u32)]) -> u64
+    requires { length wanted.now ≤ 8 }
+    ensures sum { result ≡ missed wanted.now given.now }
+    ensures small { result ≤ 8 * 999 }
+{
+    let mut total = 0;
+    for pair in wanted {
+        total += missed_weight(pair, given);
+    }
+    total
+}
+
+/// What a virtual node misses of its node, and what it doesn't desire of it.
+fn node_soft(lab: &Lab, wiring: &Wiring, mapping: &Mapping, virt: usize) -> u64
+    requires sound { IsSound wiring.now }
+    requires shaped { IsShaped lab.now wiring.now mapping.now }
+    requires virt { virt < length wiring.now.nodes }
+    ensures sum { result ≡ node_soft lab.now wiring.now mapping.now virt }
+    ensures small { result ≤ 16 * 999 }
+{
+    let _kept = lab.range();
+    let place = place_at(mapping, virt);
+    let desires = virt_at(wiring, virt).desires.as_slice();
+    let features = node_at(lab, place.0).features.as_slice();
+    missed(desires, features) + missed(features, desires)
+}
+
+fn nodes_soft(lab: &Lab, wiring: &Wiring, mapping: &Mapping) -> u64
+    requires sound { IsSound wiring.now }
+    requires shaped { IsShaped lab.now wiring.now mapping.now }
+    ensures sum { result ≡ sum_below (length wiring.now.nodes) (node_soft lab.now wiring.now mapping.now) }
+    ensures small { result ≤ 256 * (16 * 999) }
+{
+    let mut total = 0;
+    for virt in 0..wiring.nodes.len() {
+        total += node_soft(lab, wiring, mapping, virt);
+    }
+    total
+}
+
+fn is_member(class: u16, asks: &Asks) -> bool
+    ensures { result ≡ is_member class asks.now }
+{
+    match asks {
+        Asks::Plain(_) => false,
+        Asks::Class(other) => *other == class,
+    }
+}
+
+/// Whether a virtual node is a member of a class and has the type.
+fn is_of_kind(wiring: &Wiring, mapping: &Mapping, class: u16, kind: Name, virt: usize) -> bool
+    requires virt { virt < length wiring.now.nodes }
+    requires placed { length mapping.now.places ≡ length wiring.now.nodes }
+    ensures { result ≡ is_of_kind wiring.now mapping.now class kind virt }
+{
+    is_member(class, &virt_at(wiring, virt).asks) && kind == place_at(mapping, virt).1
+}
+
+/// Whether a member of the class, from a virtual node on, has the type.
+fn has_kind(wiring: &Wiring, mapping: &Mapping, class: u16, kind: Name, from: usize) -> bool
+    requires placed { length mapping.now.places ≡ length wiring.now.nodes }
+    ensures { result ≡ list_any (same_name kind) (types_from wiring.now mapping.now class from) }
+{
+    for virt in from..wiring.nodes.len() {
+        if is_of_kind(wiring, mapping, class, kind, virt) {
+            return true;
+        }
+    }
+    false
+}
+
+/// Whether a virtual node is a member of a class, and the last one of its type.
+fn is_last_of_kind(wiring: &Wiring, mapping: &Mapping, class: u16, virt: usize) -> bool
+    requires few { length wiring.now.nodes ≤ 256 }
+    requires virt { virt < length wiring.now.nodes }
+    requires placed { length mapping.now.places ≡ length wiring.now.nodes }
+    ensures { result ≡ (is_member class (virt_at wiring.now virt).asks && not (list_any (same_name (place_at mapping.now virt).1) (types_from wiring.now mapping.now class (virt + 1)))) }
+{
+    is_member(class, &virt_at(wiring, virt).asks)
+        && !has_kind(wiring, mapping, class, place_at(mapping, virt).1, virt + 1)
+}
+
+/// How many types the members of a class have.
+fn kinds_of(wiring: &Wiring, mapping: &Mapping, class: u16) -> usize
+    requires few { length wiring.now.nodes ≤ 256 }
+    requires placed { length mapping.now.places ≡ length wiring.now.nodes }
+    ensures number { result ≡ kinds_of wiring.now mapping.now class }
+    ensures within { result ≤ length wiring.now.nodes }
+{
+    let mut kinds = 0;
+    for virt in 0..wiring.nodes.len() {
+        kinds += usize::from(is_last_of_kind(wiring, mapping, class, virt));
+    }
+    kinds
+}
+
+/// What a class with a weight below 1,000 costs for each type but one.
+fn class_soft(wiring: &Wiring, mapping: &Mapping, class: usize) -> u64
+    requires sound { IsSound wiring.now }
+    requires placed { length mapping.now.places ≡ length wiring.now.nodes }
+    requires class { class < length wiring.now.classes }
+    ensures sum { result ≡ class_soft wiring.now mapping.now class }
+    ensures small { result ≤ 999 * 256 }
+{
+    let weight = wiring.classes.as_slice()[class].weight;
+    if weight < 1_000 {
+        weight as u64 * kinds_of(wiring, mapping, class as u16).saturating_sub(1) as u64
+    } else {
+        0
+    }
+}
+
+fn classes_soft(wiring: &Wiring, mapping: &Mapping) -> u64
+    requires sound { IsSound wiring.now }
+    requires placed { length mapping.now.places ≡ length wiring.now.nodes }
+    ensures sum { result ≡ sum_below (length wiring.now.classes) (class_soft wiring.now mapping.now) }
+    ensures small { result ≤ 64 * (999 * 256) }
+{
+    let mut total = 0;
+    for class in 0..wiring.classes.len() {
+        total += class_soft(wiring, mapping, class);
+    }
+    total
+}
+
+/// What a mapping leaves of desires, features and classes.
+pub(crate) fn soft(lab: &Lab, wiring: &Wiring, mapping: &Mapping) -> u64
+    requires sound { IsSound wiring.now }
+    requires shaped { IsShaped lab.now wiring.now mapping.now }
+    ensures sum { result ≡ soft lab.now wiring.now mapping.now }
+    ensures small { result ≤ 1000000000 }
+{
+    nodes_soft(lab, wiring, mapping) + classes_soft(wiring, mapping)
+}
