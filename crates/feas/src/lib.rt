@@ -12,4 +12,5 @@ mod trunks;
 mod whole;
 
 pub use fault::CheckFault;
+pub use places::{is_fixed_at, suits};
 pub use whole::check;

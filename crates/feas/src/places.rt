@@ -120,7 +120,9 @@ fn is_of_one_type(wiring: &Wiring, mapping: &Mapping, asks: &Asks, name: Name) -
     }
 }
 
-fn suits(wiring: &Wiring, node: &VirtNode, features: &[(Name, u32)], name: Name) -> bool
+/// Whether a virtual node suits a node with these features under one of its types: the type is asked for, and desires and
+/// features of weight 1,000 or more meet each other.
+pub fn suits(wiring: &Wiring, node: &VirtNode, features: &[(Name, u32)], name: Name) -> bool
     ensures { result ≡ suits wiring.now node.now features.now name }
 {
     is_asked(wiring, &node.asks, name)
@@ -157,7 +159,8 @@ pub(crate) fn first_unsuited(lab: &Lab, wiring: &Wiring, mapping: &Mapping) -> O
     None
 }
 
-fn is_fixed_at(fixed: Option<Name>, name: Name) -> bool
+/// Whether a virtual node may be on a node of that name: it isn't fixed, or fixed there.
+pub fn is_fixed_at(fixed: Option<Name>, name: Name) -> bool
     ensures { result ≡ is_fixed_at fixed name }
 {
     match fixed {
