@@ -1,0 +1,39 @@
+// The ends of a wiring, each with its speed.
+ghost use Rattle.std.specs.Prelude.{◌≡◌, ◌++◌, map, IfOk, OnOk};
+ghost use Rattle.node_maps.specs.NodeMaps.{end_of, ends_of};
+
+use lab_base::Memory;
+use std::alloc::Global;
+use virt_topo::Segment;
+
+/// An end of a segment.
+#[derive(Clone, Copy)]
+pub struct End {
+    /// The number of its virtual node.
+    pub node: u16,
+    /// The bandwidth of its segment.
+    pub kbps: u64,
+}
+
+fn push_ends(listed: &mut Vec<End>, segment: &Segment) -> Result<(), Memory>
+    ensures { OnOk result (listed.new.items ≡ listed.old.items ++ map (end_of segment.now.kbps) segment.now.ends) }
+{
+    for end in segment.ends.as_slice() {
+        listed.push(End {
+            node: end.node,
+            kbps: segment.kbps,
+        })?;
+    }
+    Ok(())
+}
+
+/// The ends of segments, by segment, then by place in the segment.
+pub fn ends_of(alloc: Global, segments: &[Segment]) -> Result<Vec<End>, Memory>
+    ensures { IfOk result (λ listed. listed.items ≡ ends_of segments.now) }
+{
+    let mut listed = Vec::new(alloc);
+    for segment in segments {
+        push_ends(&mut listed, segment)?;
+    }
+    Ok(listed)
+}

@@ -1,0 +1,14 @@
+//! Node maps: the candidates of virtual nodes, the interface rule, and the mapping of a node map.
+#![tactic(auto)]
+
+mod ends;
+mod ifaces;
+mod lists;
+mod mapped;
+mod suited;
+
+pub use ends::{End, ends_of};
+pub use ifaces::serve;
+pub use lists::{Candidates, Place};
+pub use mapped::{copy_places, node_map};
+pub use suited::candidates;

@@ -1,0 +1,100 @@
+// The candidates of a virtual node.
+ghost use Rattle.std.specs.Prelude.{◌≡◌, ◌<◌, ◌≤◌, ◌++◌, map, filter, length, All, IfOk, OnOk, false, slice_index_or};
+ghost use Rattle.lab_model.specs.Shapes.{IsFreeOf, node_at};
+ghost use Rattle.node_maps.specs.NodeMaps.{lab_places, is_candidate, candidates as candidates_in};
+
+use crate::lists::{Candidates, Place};
+use feas::{is_fixed_at, suits};
+use lab_base::{Items, Memory, NodeId};
+use phys_lab::{Free, Lab, Node};
+use std::alloc::Global;
+use virt_topo::{VirtNode, Wiring};
+
+fn push_places(listed: &mut Vec<Place>, id: NodeId, node: &Node) -> Result<(), Memory>
+    ensures { OnOk result (listed.new.items ≡ listed.old.items ++ map (λ t. (id, t.0)) node.now.types) }
+{
+    for kind in node.types.as_slice() {
+        listed.push((id, kind.0))?;
+    }
+    Ok(())
+}
+
+/// The places of a lab, by node, then by type.
+fn places_of(alloc: Global, lab: &Lab) -> Result<Vec<Place>, Memory>
+    ensures { IfOk result (λ listed. listed.items ≡ lab_places lab.now) }
+{
+    let _kept = lab.range();
+    let nodes = lab.nodes();
+    let mut listed = Vec::new(alloc);
+    for node in 0..nodes.len() {
+        push_places(&mut listed, NodeId(node as u16), &nodes[node])?;
+    }
+    Ok(listed)
+}
+
+fn node_at(lab: &Lab, node: NodeId) -> &Node
+    requires { node.0 < length lab.now.nodes }
+    ensures { result.now ≡ node_at lab.now node }
+{
+    &lab.nodes()[node.0 as usize]
+}
+
+fn is_free(free: &Free, node: NodeId) -> bool
+    requires { node.0 < length free.now.nodes }
+    ensures { result ≡ slice_index_or free.now.nodes node.0 false }
+{
+    free.nodes.as_slice()[node.0 as usize]
+}
+
+/// Whether a place is a candidate: its node is free, and the virtual node suits it.
+fn is_candidate(lab: &Lab, free: &Free, wiring: &Wiring, virt: &VirtNode, place: &Place) -> bool
+    requires free { IsFreeOf lab.now free.now }
+    requires place { place.now.0.0 < length lab.now.nodes }
+    ensures { result ≡ is_candidate lab.now free.now wiring.now virt.now place.now }
+{
+    let node = node_at(lab, place.0);
+    is_free(free, place.0)
+        && suits(wiring, virt, node.features.as_slice(), place.1)
+        && is_fixed_at(virt.fixed, node.name)
+}
+
+fn candidates_of(
+    alloc: Global,
+    lab: &Lab,
+    free: &Free,
+    wiring: &Wiring,
+    virt: &VirtNode,
+    places: &[Place],
+) -> Result<Items<Place>, Memory>
+    requires free { IsFreeOf lab.now free.now }
+    requires places { All (λ p. p.0.0 < length lab.now.nodes) places.now }
+    ensures { IfOk result (λ listed. listed ≡ filter (λ p. is_candidate lab.now free.now wiring.now virt.now p) places.now) }
+{
+    let mut listed = Items::new(alloc);
+    for place in places {
+        if is_candidate(lab, free, wiring, virt, place) {
+            listed.push(*place)?;
+        }
+    }
+    Ok(listed)
+}
+
+/// By virtual node its candidates, in the lab's order: the free places that it suits and where it may be, whatever the
+/// other members of its class are.
+#[tactic(auto, unfolding(crate::specs::NodeMaps::candidates))]
+pub fn candidates(
+    alloc: Global,
+    lab: &Lab,
+    free: &Free,
+    wiring: &Wiring,
+) -> Result<Candidates, Memory>
+    requires { IsFreeOf lab.now free.now }
+    ensures { IfOk result (λ listed. listed ≡ candidates_in lab.now free.now wiring.now) }
+{
+    let places = places_of(alloc, lab)?;
+    let mut lists = Vec::new(alloc);
+    for virt in wiring.nodes.as_slice() {
+        lists.push(candidates_of(alloc, lab, free, wiring, virt, &places)?)?;
+    }
+    Ok(Candidates::of_lists(lists))
+}
