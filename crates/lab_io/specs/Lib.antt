@@ -4,4 +4,5 @@ pub mod Feeds
 pub mod Lines
 pub mod Mem
 pub mod Taken
+pub mod Next
 pub mod Passed

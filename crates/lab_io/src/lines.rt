@@ -1,8 +1,9 @@
 // The lines of a source.
-ghost use Rattle.std.specs.Prelude.{◌≡◌, ◌≢◌, ◌≤◌, ◌<◌, ◌+◌, ◌-◌, ◌^◌, ◌⊎◌, ℕ, length, [], take, drop, None, Some, Ok, Err, IsTrue, IsFalse, slice_index, IfOk, IfErr, IfSome, OnErr, OnOk, IsErrOf, IsSome, vec_len};
+ghost use Rattle.std.specs.Prelude.{◌≡◌, ◌≢◌, ◌≤◌, ◌<◌, ◌+◌, ◌-◌, ◌^◌, ◌⊎◌, ℕ, length, [], take, drop, None, Some, Ok, Err, true, false, IfNone, IsTrue, IsFalse, slice_index, IfOk, IfErr, IfSome, OnErr, OnOk, IsErrOf, IsSome, vec_len};
 ghost use Rattle.std.specs.Io.KnownBytes.{prepend_known};
 ghost use Rattle.lab_io.specs.Causes.{Rose};
 ghost use Rattle.lab_io.specs.Feeds.{NoFeed, without_return};
+ghost use Rattle.lab_io.specs.Next.{IsNext, HasNoText};
 ghost use Rattle.lab_io.specs.Taken.{Took, Counted, IsFound, IsTooLong, rest_of, pending_of, ended_of, fault_of, lines_of, taken_of};
 
 use crate::outside::Source;
@@ -175,6 +176,65 @@ fn next_line<S: Source>(
     }
 }
 
+/// The text of the line of `after` bytes at the front of what is pending, which ends at `end`, where it is not too long.
+fn text_at(
+    alloc: Global,
+    pending: &[u8],
+    taken: u64,
+    end: usize,
+    after: usize,
+) -> Result<Option<Text>, LineFault>
+    requires taken { taken ≤ 2 ^ 32 }
+    requires end { end ≤ length pending.now }
+    ensures text { IfOk result (λ peeked. IfSome peeked (λ text. text ≡ take end pending.now)) }
+    ensures short { IfOk result (λ peeked. IfSome peeked (λ text. end ≤ 4096)) }
+    ensures within { IfOk result (λ peeked. IfSome peeked (λ text. taken + after ≤ 2 ^ 32)) }
+    ensures long { IfOk result (λ peeked. IfNone peeked ((4096 < end) ⊎ (2 ^ 32 < taken + after))) }
+    ensures err { IfErr result (λ fault. fault ≡ LineFault.Memory) }
+{
+    if end > MOST || after as u64 > LIMIT - taken {
+        return Ok(None);
+    }
+    match Text::from_slice(alloc, &pending[..end]) {
+        Ok(text) => Ok(Some(text)),
+        Err(_) => Err(LineFault::Memory),
+    }
+}
+
+/// The text of the line that stands at the front of what is pending, which is not taken; None where there is none, or
+/// where it is too long.
+fn peek_line<S: Source>(
+    alloc: Global,
+    pending: &mut Vec<u8>,
+    taken: u64,
+    source: &mut S,
+) -> Result<Option<Text>, LineFault>
+    requires taken { taken ≤ 2 ^ 32 }
+    ensures text { IfOk result (λ peeked. IfSome peeked (λ text. IsNext (prepend_known pending.new.items (S.left source.new)) taken text)) }
+    ensures none { IfOk result (λ peeked. IfNone peeked (HasNoText taken (prepend_known pending.new.items (S.left source.new)))) }
+    ensures rest { prepend_known pending.new.items (S.left source.new) ≡ prepend_known pending.old.items (S.left source.old) }
+    ensures read { IsErrOf result LineFault.ReadFault → Rose (S.faults source.old) (S.faults source.new) × NoFeed pending.new.items }
+    ensures later { S.faults source.old ≤ S.faults source.new }
+    ensures err { (n : ℕ) → result ≢ Err (LineFault.TooLong n) }
+{
+    match fill(pending, taken, source)? {
+        Found::Feed(at) => {
+            let end = without_return_len(&pending[..at]);
+            match text_at(alloc, pending, taken, end, at + 1) {
+                Ok(Some(text)) => Ok(Some(text)),
+                Ok(None) => Ok(None),
+                Err(fault) => Err(fault),
+            }
+        }
+        Found::Last if pending.is_empty() => Ok(None),
+        Found::Last => {
+            let end = pending.len();
+            text_at(alloc, pending, taken, end, end)
+        }
+        Found::Long => Ok(None),
+    }
+}
+
 impl LineReader {
     /// A reader that has read nothing.
     pub fn new(alloc: Global) -> Result<LineReader, Memory>
@@ -241,6 +301,39 @@ impl LineReader {
                 self.fault = Some(fault);
                 Err(fault)
             }
+        }
+    }
+
+    /// The text of the next line, which is left; None at the end, and where the line is too long. After a fault it
+    /// answers the same fault again, and reads nothing.
+    pub fn peek<S: Source>(&mut self, source: &mut S) -> Result<Option<Text>, LineFault>
+        ensures text { IfOk result (λ peeked. IfSome peeked (λ text. (ended_of self.old ≡ false) × IsNext (rest_of self.new (S.left source.new)) (taken_of self.new) text)) }
+        ensures none { IfOk result (λ peeked. IfNone peeked ((ended_of self.old ≡ true) ⊎ HasNoText (taken_of self.new) (rest_of self.new (S.left source.new)))) }
+        ensures rest { rest_of self.new (S.left source.new) ≡ rest_of self.old (S.left source.old) }
+        ensures lines { lines_of self.new ≡ lines_of self.old }
+        ensures taken { taken_of self.new ≡ taken_of self.old }
+        ensures ended { ended_of self.new ≡ ended_of self.old }
+        ensures read { IsErrOf result LineFault.ReadFault → fault_of self.old ≡ None → (ended_of self.old ≡ false) × Rose (S.faults source.old) (S.faults source.new) × NoFeed (pending_of self.new) }
+        ensures short { fault_of self.old ≡ None → (n : ℕ) → result ≢ Err (LineFault.TooLong n) }
+        ensures later { S.faults source.old ≤ S.faults source.new }
+        ensures ok { OnOk result (fault_of self.new ≡ None) }
+        ensures kept { IfErr result (λ fault. fault_of self.new ≡ Some fault) }
+        ensures again { IfSome (fault_of self.old) (λ fault. result ≡ Err fault) }
+        ensures unread { IsSome (fault_of self.old) → source.new ≡ source.old }
+    {
+        if let Some(fault) = self.fault {
+            return Err(fault);
+        }
+        if !self.ended {
+            match peek_line(self.alloc, &mut self.pending, self.taken, source) {
+                Ok(peeked) => Ok(peeked),
+                Err(error) => {
+                    self.fault = Some(error);
+                    Err(error)
+                }
+            }
+        } else {
+            Ok(None)
         }
     }
 }

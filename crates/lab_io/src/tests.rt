@@ -68,6 +68,25 @@ fn a_line_has_at_most_4096_bytes(rt: HostRuntime) -> Result<(), Fail> {
 }
 
 #[test]
+fn a_peeked_line_is_left(rt: HostRuntime) -> Result<(), Fail> {
+    let mut source = MemSource::new(rt.alloc(), b"a b\r\n\nc", &[])?;
+    let mut reader = LineReader::new(rt.alloc())?;
+    for wanted in [b"a b".as_slice(), b"", b"c"] {
+        for _ in 0..2 {
+            let peeked = reader.peek(&mut source).ok().flatten().ok_or("a line")?;
+            assert_eq!(rt; peeked.bytes(), wanted);
+        }
+        match reader.next(&mut source) {
+            Ok(Line::Text(text)) => assert_eq!(rt; text.bytes(), wanted),
+            _ => return Err("no line".into()),
+        }
+    }
+    let last = reader.peek(&mut source).ok().ok_or("no fault")?;
+    assert_eq!(rt; last.is_none(), true);
+    Ok(())
+}
+
+#[test]
 fn a_read_that_fails_ends_the_lines(rt: HostRuntime) -> Result<(), Fail> {
     let (seen, fault) = read_all(&rt, b"a\nb", &[2])?;
     assert_eq!(rt; seen.as_slice(), b"a|".as_slice());
