@@ -1,3 +1,5 @@
+pub mod FirstLaws
+pub mod HoldsLaws
 pub mod IsolationLaws
 pub mod Neighbours
 pub mod ReadLaws

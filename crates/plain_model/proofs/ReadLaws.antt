@@ -1,9 +1,10 @@
 -- One record more is read.
-use Rattle.std.proofs.Common.{◌≡◌, inl, inr, ℕ, suc, ◌+◌, ◌-◌, ◌<◌, ◌≤◌, List, [], ◌∷◌, ◌++◌, length, take, drop, get_or, Result, Ok, Err, IfOk, refl, sym, ap, ◌∙◌, subst, arith}
+use Rattle.std.proofs.Common.{◌≡◌, inl, inr, ℕ, suc, ◌+◌, ◌-◌, ◌<◌, ◌≤◌, List, [], ◌∷◌, ◌++◌, length, take, drop, get_or, Result, Ok, Err, IfOk, refl, sym, ap, ◌∙◌, subst, arith, sum_by, length-append}
+use Rattle.std.proofs.lemmas.List.Sums.{sum_by-append}
 use Rattle.std.proofs.lemmas.List.{take_all, length-drop, length-take, drop_at}
 use Rattle.journal_rec.specs.declared.record.Record.{Record}
-use Rattle.journal_rec.specs.Payloads.{number, payload, Decodes}
-use Rattle.journal_model.specs.Journals.{block, Reads, Breaks, AreBytes}
+use Rattle.journal_rec.specs.Payloads.{le, number, payload, Decodes}
+use Rattle.journal_model.specs.Journals.{block, size, Reads, Breaks, AreBytes}
 use Rattle.plant.specs.declared.step.Side.{Side}
 use Rattle.journal_model.specs.Journals.{head, live, On, of_side}
 use Rattle.journal_model.proofs.Syncs.{live_back, headed_long}
@@ -32,10 +33,14 @@ behind rest n r all whole is decodes =
     long : 4 + n + 1 ≤ length rest → length (block r) ≡ suc (4 + n)
     long fits = omega (arith, ap length decodes.spelled, length-take n (drop 4 rest), length-drop 4 rest, fits)
 
-with_next : (bytes tail : List ℕ) (r : Record) (read with : Read) → bytes ≡ block r ++ tail → Decodes (payload r) r → IsRead tail read → with.records.items ≡ r ∷ read.records.items → with.whole ≡ read.whole → IsRead bytes with
-with_next bytes tail r read with split decodes is records whole = record {
+block_size : (r : Record) → length (block r) ≡ size r
+block_size r = omega (arith, length-append (165 ∷ le 4 (length (payload r))) (payload r))
+
+with_next : (bytes tail : List ℕ) (r : Record) (read with : Read) → bytes ≡ block r ++ tail → Decodes (payload r) r → IsRead tail read → with.records.items ≡ r ∷ read.records.items → with.whole ≡ read.whole → with.left ≡ read.left → IsRead bytes with
+with_next bytes tail r read with split decodes is records whole left = record {
   whole = λ w. subst (λ l. Reads bytes l) (sym records) (tail, decodes.is_record, split, is.whole (sym whole ∙ w));
   broken = λ w. subst (λ l. Breaks bytes l) (sym records) (tail, decodes.is_record, split, is.broken (sym whole ∙ w));
+  left = omega (arith, ap (λ l. sum_by size l) records, sum_by-append size (r ∷ []) read.records.items, block_size r, left, is.left, ap length split, length-append (block r) tail);
 }
 
 four_off : (n : ℕ) → 4 + n - 4 ≡ n
@@ -46,18 +51,18 @@ pub next_record : (bytes : List ℕ) (n : ℕ) (r : Record) (read with : Read) �
     → HasWhole (take (length bytes - 1) (drop 1 bytes)) → n ≡ number (take 4 (take (length bytes - 1) (drop 1 bytes)))
     → Decodes (take (4 + n - 4) (drop 4 (take (length bytes - 1) (drop 1 bytes)))) r
     → IsRead (take (length (take (length bytes - 1) (drop 1 bytes)) - (4 + n)) (drop (4 + n) (take (length bytes - 1) (drop 1 bytes)))) read
-    → with.records.items ≡ r ∷ read.records.items → with.whole ≡ read.whole → IsRead bytes with
-next_record [] n r read with each some gate whole is decodes read_is records more = absurd (omega (arith, some))
-next_record (g ∷ rest) n r read with each some gate whole is decodes read_is records more =
+    → with.records.items ≡ r ∷ read.records.items → with.whole ≡ read.whole → with.left ≡ read.left → IsRead bytes with
+next_record [] n r read with each some gate whole is decodes read_is records more left = absurd (omega (arith, some))
+next_record (g ∷ rest) n r read with each some gate whole is decodes read_is records more left =
     let same : take (length (g ∷ rest) - 1) (drop 1 (g ∷ rest)) ≡ rest = suffix 1 (g ∷ rest) in
     let split : g ∷ rest ≡ block r ++ drop (4 + n) rest = ap (λ x. x ∷ rest) gate ∙ behind rest n r (are_bytes rest (λ i. each (suc i))) (subst (λ l. HasWhole l) same whole) (is ∙ ap (λ l. number (take 4 l)) same) (subst (λ l. Decodes (take n (drop 4 l)) r) same (subst (λ k. Decodes (take k (drop 4 (take (length (g ∷ rest) - 1) (drop 1 (g ∷ rest))))) r) (four_off n) decodes)) in
     with_next (g ∷ rest) (drop (4 + n) rest) r read with split (record { is_record = decodes.is_record; spelled = refl })
-    (subst (λ l. IsRead l read) (suffix (4 + n) rest) (subst (λ l. IsRead (take (length l - (4 + n)) (drop (4 + n) l)) read) same read_is)) records more
+    (subst (λ l. IsRead l read) (suffix (4 + n) rest) (subst (λ l. IsRead (take (length l - (4 + n)) (drop (4 + n) l)) read) same read_is)) records more left
 
 -- the same of an answer
-pub next_ok : {E : Type 0} {P : Read → Type 0} (first : Record) (read : Read) (answer : Result Read E) → IfOk answer (λ with. (with.records.items ≡ first ∷ read.records.items) × (with.whole ≡ read.whole))
-    → ((with : Read) → with.records.items ≡ first ∷ read.records.items → with.whole ≡ read.whole → P with) → IfOk answer P
-next_ok first read (Ok with) is each = each with is.0 is.1
+pub next_ok : {E : Type 0} {P : Read → Type 0} (first : Record) (read : Read) (answer : Result Read E) → IfOk answer (λ with. (with.records.items ≡ first ∷ read.records.items) × (with.whole ≡ read.whole) × (with.left ≡ read.left))
+    → ((with : Read) → with.records.items ≡ first ∷ read.records.items → with.whole ≡ read.whole → with.left ≡ read.left → P with) → IfOk answer P
+next_ok first read (Ok with) is each = each with is.0 is.1 is.2
 next_ok first read (Err e) is each = tt
 
 -- a live side has a header

@@ -1,3 +1,4 @@
+pub mod Holds
 pub mod Isolation
 pub mod OwnerView
 pub mod PipeView

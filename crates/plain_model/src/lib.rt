@@ -10,23 +10,34 @@ ghost use Rattle.lab_model.specs.Isolated.{Isolated};
 ghost use Rattle.plain_model.specs.Isolation.{NodePipe as PipeSeen, IsSeen, is_isolated, wanted_in};
 ghost use Rattle.plain_model.specs.Rows.{has_row, commands_of};
 
+mod at;
+mod claims;
+mod firsts;
+mod holding;
 mod isolation;
 mod node_pipe;
 mod owner;
+mod places;
+mod plugs;
 mod reading;
 mod row;
 mod sides;
+mod suits;
 mod two_sides;
+mod uses;
 mod wanted;
 mod world;
 
+pub use holding::is_holding;
 pub use isolation::{is_isolated, is_next};
 pub use node_pipe::NodePipe;
 pub use owner::Owner;
 pub use reading::{Read, read_from};
 pub use row::Row;
 pub use sides::on_first_side;
+pub use suits::all_fit;
 pub use two_sides::{Header, Live, Sides, header_of, live_of, read_sides};
+pub use uses::use_of;
 pub use wanted::Wanted;
 pub use world::{Sent, has_row};
 

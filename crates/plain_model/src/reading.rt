@@ -12,6 +12,8 @@ pub struct Read {
     pub records: Vec<Record>,
     /// Whether a closed gate ends them.
     pub whole: bool,
+    /// How many bytes there are from the gate on that ends them.
+    pub left: usize,
 }
 
 fn four(bytes: &[u8]) -> u32
@@ -27,18 +29,20 @@ fn is_whole(rest: &[u8]) -> bool
     rest.len() >= 4 && four(rest) as u64 + 5 <= rest.len() as u64
 }
 
-fn no_more(alloc: Global, whole: bool) -> Read
+fn no_more(alloc: Global, whole: bool, left: usize) -> Read
     ensures records { result.records.items ≡ [] }
     ensures whole { result.whole ≡ whole }
+    ensures left { result.left ≡ left }
 {
     Read {
         records: Vec::new(alloc),
         whole,
+        left,
     }
 }
 
 fn with_first(first: Record, mut read: Read) -> Result<Read, Memory>
-    ensures { IfOk result (λ with. (with.records.items ≡ first ∷ read.records.items) × (with.whole ≡ read.whole)) }
+    ensures { IfOk result (λ with. (with.records.items ≡ first ∷ read.records.items) × (with.whole ≡ read.whole) × (with.left ≡ read.left)) }
 {
     read.records.insert(0, first)?;
     Ok(read)
@@ -50,16 +54,16 @@ pub fn read_from(alloc: Global, bytes: &[u8]) -> Result<Read, Memory>
     ensures { IfOk result (λ read. IsRead bytes.now read) }
 {
     if bytes[0] != 0xa5 {
-        return Ok(no_more(alloc, true));
+        return Ok(no_more(alloc, true, bytes.len()));
     }
     let rest = &bytes[1..];
     if !is_whole(rest) {
-        return Ok(no_more(alloc, false));
+        return Ok(no_more(alloc, false, bytes.len()));
     }
     let size = four(rest) as usize;
     match decode(alloc, &rest[4..4 + size]) {
         Ok(first) => with_first(first, read_from(alloc, &rest[4 + size..])?),
-        Err(RecFault::Bad) => Ok(no_more(alloc, false)),
+        Err(RecFault::Bad) => Ok(no_more(alloc, false, bytes.len())),
         Err(RecFault::Memory) => Err(Memory),
     }
 }

@@ -3,7 +3,7 @@ ghost use Rattle.phys_lab.specs.Sides.{joined, on_first_side};
 
 use phys_lab::Trunk;
 
-fn is_joined(trunks: &[Trunk], a: u16, b: u16) -> bool
+pub(crate) fn is_joined(trunks: &[Trunk], a: u16, b: u16) -> bool
     ensures { result ≡ joined trunks.now a b }
 {
     match trunks.split_first() {

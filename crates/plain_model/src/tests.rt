@@ -375,19 +375,18 @@ fn side(epoch: u8) -> [u8; 26] {
     bytes
 }
 
-/// `N` for no journal yet, `A` and `B` for the live side with a record, `a` and `b` for one without, `x` and `y` for what makes
-/// side A or B none, and `?` for records that end at something broken.
-fn told(sides: &Sides) -> char {
+/// `N` for no journal yet, `A` and `B` for the live side with a record, `a` and `b` for one without, and `x` and `y` for a bad
+/// side A or B, with the position.
+fn told(sides: &Sides) -> (char, usize) {
     match sides {
-        Sides::New => 'N',
-        Sides::Wrong(Side::A) => 'x',
-        Sides::Wrong(Side::B) => 'y',
-        Sides::Found { side, read } => match (side, read.whole, read.records.is_empty()) {
-            (_, false, _) => '?',
-            (Side::A, _, false) => 'A',
-            (Side::A, _, true) => 'a',
-            (Side::B, _, false) => 'B',
-            (Side::B, _, true) => 'b',
+        Sides::New => ('N', 0),
+        Sides::Bad { side: Side::A, at } => ('x', *at),
+        Sides::Bad { side: Side::B, at } => ('y', *at),
+        Sides::Found { side, records } => match (side, records.is_empty()) {
+            (Side::A, false) => ('A', 0),
+            (Side::A, true) => ('a', 0),
+            (Side::B, false) => ('B', 0),
+            (Side::B, true) => ('b', 0),
         },
     }
 }
@@ -402,21 +401,23 @@ fn front(bytes: &[u8], most: usize) -> &[u8] {
 
 #[test]
 fn records_of_two_sides(rt: HostRuntime) -> Result<(), Fail> {
-    // how many bytes are left of each side, their epochs, the place of side A and the byte that is put there
-    let cases: [(usize, usize, u8, u8, usize, u8, char); 13] = [
-        (0, 0, 1, 1, 25, 0, 'N'),
-        (17, 17, 1, 1, 25, 0, 'N'),
-        (26, 0, 1, 1, 25, 0, 'A'),
-        (0, 26, 1, 1, 25, 0, 'B'),
-        (26, 26, 2, 1, 25, 0, 'A'),
-        (26, 26, 1, 2, 25, 0, 'B'),
-        (26, 26, 1, 1, 25, 0, 'x'),
-        (26, 26, 1, 2, 0, 0, 'B'),
-        (26, 26, 2, 1, 0, 0xa4, 'B'),
-        (26, 26, 1, 2, 3, 0, 'x'),
-        (26, 0, 1, 1, 17, 0, 'a'),
-        (26, 0, 1, 1, 25, 0xa5, '?'),
-        (25, 0, 1, 1, 24, b'A', '?'),
+    // how many bytes are left of each side, their epochs, the place of side A and the byte that is put there, and what
+    // they read as
+    let cases: [(usize, usize, u8, u8, usize, u8, (char, usize)); 14] = [
+        (0, 0, 1, 1, 25, 0, ('N', 0)),
+        (17, 17, 1, 1, 25, 0, ('N', 0)),
+        (26, 0, 1, 1, 25, 0, ('A', 0)),
+        (0, 26, 1, 1, 25, 0, ('B', 0)),
+        (26, 26, 2, 1, 25, 0, ('A', 0)),
+        (26, 26, 1, 2, 25, 0, ('B', 0)),
+        (26, 26, 1, 1, 25, 0, ('x', 0)),
+        (26, 26, 1, 2, 0, 0, ('B', 0)),
+        (26, 26, 2, 1, 0, 0xa4, ('B', 0)),
+        (26, 26, 1, 2, 3, 0, ('x', 0)),
+        (26, 0, 1, 1, 17, 0, ('a', 0)),
+        (26, 0, 1, 1, 25, 0xa5, ('x', 25)),
+        (25, 0, 1, 1, 24, b'A', ('x', 17)),
+        (26, 25, 1, 2, 25, 0, ('y', 17)),
     ];
     for (first, second, m, n, place, byte, wanted) in cases {
         let mut a = side(m);

@@ -1,8 +1,9 @@
-ghost use Rattle.std.specs.Prelude.{◌≡◌, ◌≤◌, length, take, drop, IfOk};
+ghost use Rattle.std.specs.Prelude.{◌≡◌, ◌≤◌, length, take, IfOk};
 ghost use Rattle.journal_rec.specs.Payloads.{number};
-ghost use Rattle.plain_model.specs.Readings.{IsHead, IsLiveOf, IsRead, AreSides};
+ghost use Rattle.plain_model.specs.Readings.{IsHead, IsLiveOf, IsSideRead, AreSides};
 
-use crate::{Read, read_from};
+use crate::read_from;
+use journal_rec::Record;
 use lab_base::Memory;
 use plant::Side;
 use std::alloc::Global;
@@ -82,16 +83,25 @@ pub enum Sides {
     /// Both are blank.
     New,
     /// The live side, with its records.
-    Found { side: Side, read: Read },
-    /// This side makes them no journal.
-    Wrong(Side),
+    Found { side: Side, records: Vec<Record> },
+    /// This side makes them no journal, at this position.
+    Bad { side: Side, at: usize },
 }
 
-fn records_of(alloc: Global, bytes: &[u8]) -> Result<Read, Memory>
+fn records_of(alloc: Global, side: Side, bytes: &[u8]) -> Result<Sides, Memory>
     requires { 18 ≤ length bytes.now }
-    ensures { IfOk result (λ read. IsRead (drop 17 bytes.now) read) }
+    ensures { IfOk result (λ sides. IsSideRead side bytes.now sides) }
 {
-    read_from(alloc, &bytes[17..])
+    let read = read_from(alloc, &bytes[17..])?;
+    if read.whole {
+        Ok(Sides::Found {
+            side,
+            records: read.records,
+        })
+    } else {
+        let at = bytes.len() - read.left;
+        Ok(Sides::Bad { side, at })
+    }
 }
 
 /// Reads the records of two sides.
@@ -100,20 +110,8 @@ pub fn read_sides(alloc: Global, a: &[u8], b: &[u8]) -> Result<Sides, Memory>
 {
     match live_of(a, b) {
         Live::New => Ok(Sides::New),
-        Live::Wrong(side) => Ok(Sides::Wrong(side)),
-        Live::On(Side::A) => {
-            let read = records_of(alloc, a)?;
-            Ok(Sides::Found {
-                side: Side::A,
-                read,
-            })
-        }
-        Live::On(Side::B) => {
-            let read = records_of(alloc, b)?;
-            Ok(Sides::Found {
-                side: Side::B,
-                read,
-            })
-        }
+        Live::Wrong(side) => Ok(Sides::Bad { side, at: 0 }),
+        Live::On(Side::A) => records_of(alloc, Side::A, a),
+        Live::On(Side::B) => records_of(alloc, Side::B, b),
     }
 }

@@ -1,0 +1,229 @@
+-- The test of holding says what holding is.
+use Rattle.std.specs.List.{list_any, list_all, flat_map}
+use Rattle.std.specs.Str.{bytes_eq}
+use Rattle.std.proofs.Common.{◌≡◌, inl, inr, ℕ, ◌<◌, ◌≤◌, Bool, true, false, not, is_none, Option, Some, None, List, [], ◌∷◌, length, refl, sym, ap, ◌∙◌, subst, arith}
+use Rattle.std.proofs.lemmas.Bool.{cases_Bool, and_parts, and_from, or_cases, or_left, or_right, not-true, not_from_false, both_ways, eqb-true, eq-eqb, leb-true, le-leb, ltb-true, lt-ltb}
+use Rattle.std.proofs.lemmas.Slice.Eq.{bytes_eq-Decides}
+use Rattle.lab_base.specs.Lists.{Apart, AllDiffer}
+use Rattle.lab_base.proofs.Members.{Has-map, Has-mapped}
+use Rattle.lab_base.specs.declared.ids.IfaceId.{IfaceId}
+use Rattle.lab_base.specs.declared.ids.VlanId.{VlanId}
+use Rattle.phys_lab.specs.Labs.{Lab}
+use Rattle.virt_topo.specs.declared.wiring.Wiring.{Wiring}
+use Rattle.virt_topo.specs.declared.mapping.Mapping.{Mapping}
+use Rattle.virt_topo.specs.declared.mapping.Mapped.{Mapped}
+use Rattle.virt_topo.specs.declared.experiment.Experiment.{Experiment}
+use Rattle.virt_topo.specs.declared.experiment.Phase.TheVariants.{In, Moving}
+use Rattle.lab_model.specs.Shapes.{Place, node_at, has_name, IsShaped}
+use Rattle.lab_model.specs.Feasible.{AllPass, first_below}
+use Rattle.lab_model.specs.Beside.{all_differ}
+use Rattle.lab_model.specs.Wants.{node_name}
+use Rattle.lab_model.specs.Claims.{Which, Old, New, claimed, claimed_in, Claims, Places, claims_it, is_placed, places_it, claimed_tags}
+use Rattle.lab_model.specs.Holding.{Suits, Holding}
+use Rattle.lab_model.proofs.WiringLaws.{All-has, all_has, has_at}
+use Rattle.lab_model.proofs.SuitLaws.{any_has}
+use Rattle.lab_model.proofs.FeasibleLaws.{at_zero, differ_from}
+use Rattle.lab_model.proofs.FirstViolation.{passes, fails}
+use Rattle.plain_model.specs.Holds.{all_pass, is_place, is_plug, is_shaped, suits, fits_in, fits, shares_in, shares, are_apart, has_room, is_in_range, is_holding}
+use Rattle.plain_model.proofs.Neighbours.{any_some, all_from}
+
+none_of : {X : Type 0} (o : Option X) → is_none o ≡ true → o ≡ None
+none_of None e = refl
+none_of (Some x) e = absurd (cc e)
+
+pub pass_from : (n : ℕ) (test : ℕ → Bool) → all_pass n test ≡ true → AllPass n test
+pass_from n test e = at_zero n test (none_of (first_below n test) e)
+
+pub pass_test : (n : ℕ) (test : ℕ → Bool) → AllPass n test → all_pass n test ≡ true
+pass_test n test all = ap (λ (o : Option ℕ). is_none o) (passes n test all)
+
+pub pass_fails : (n : ℕ) (test : ℕ → Bool) (k : ℕ) (kept : Bool) → k < n → kept ≡ test k → kept ≡ false → AllPass k test → false ≡ all_pass n test
+pass_fails n test k kept lt is failed before = sym (ap (λ (o : Option ℕ). is_none o) (fails n test k (record { below = lt; fails = sym is ∙ failed; before = before })))
+
+pub pass_all : (n : ℕ) (test : ℕ → Bool) (k : ℕ) → n ≤ k → AllPass k test → true ≡ all_pass n test
+pass_all n test k le before = sym (pass_test n test (λ j lt. before j (omega (arith, lt))))
+
+-- SUITS
+
+pub shaped_from : (lab : Lab) (w : Wiring) (m : Mapping) → is_shaped lab w m ≡ true → IsShaped lab w m
+shaped_from lab w m e =
+    let a = and_parts _ _ e in
+    let b = and_parts _ _ a.1 in
+    let c = and_parts _ _ b.1 in
+    record {
+      places = eqb-true _ _ a.0;
+      plugs = eqb-true _ _ b.0;
+      in_nodes = λ k d h. ltb-true _ _ (and_parts _ _ (all_has (is_place lab) m.places _ c.0 (has_at m.places k d h))).0;
+      in_lab = λ k d h. ltb-true _ _ (all_has (is_plug lab) m.plugs _ c.1 (has_at m.plugs k d h));
+      of_node = λ k d h. (and_parts _ _ (all_has (is_place lab) m.places _ c.0 (has_at m.places k d h))).1;
+    }
+
+shaped_test : (lab : Lab) (w : Wiring) (m : Mapping) → IsShaped lab w m → is_shaped lab w m ≡ true
+shaped_test lab w m is =
+    and_from _ _ (eq-eqb _ _ is.places) (and_from _ _ (eq-eqb _ _ is.plugs) (and_from _ _
+    (all_from (is_place lab) m.places (λ p h. and_from _ _ (lt-ltb _ _ (All-has (λ (p : Place). p.0.0 < length lab.nodes) m.places p is.in_nodes h)) (All-has (λ (p : Place). has_name (node_at lab p.0).types p.1 ≡ true) m.places p is.of_node h)))
+    (all_from (is_plug lab) m.plugs (λ i h. lt-ltb _ _ (All-has (λ (i : IfaceId). i.0 < length lab.ifaces) m.plugs i is.in_lab h)))))
+
+pub suits_from : (lab : Lab) (m : Mapped) → suits lab m ≡ true → Suits lab m
+suits_from lab m e =
+    let a = and_parts _ _ e in
+    let b = and_parts _ _ a.1 in
+    let c = and_parts _ _ b.1 in
+    let f2 = and_parts _ _ c.1 in
+    let f3 = and_parts _ _ f2.1 in
+    let f4 = and_parts _ _ f3.1 in
+    let f5 = and_parts _ _ f4.1 in
+    record {
+      sound = none_of _ a.0;
+      shaped = shaped_from lab m.wiring m.mapping b.0;
+      tags = eqb-true _ _ c.0;
+      one_kind = pass_from _ _ f2.0;
+      asked = pass_from _ _ f3.0;
+      fixed = pass_from _ _ f4.0;
+      plugged = pass_from _ _ f5.0;
+      joined = pass_from _ _ f5.1;
+    }
+
+suits_test : (lab : Lab) (m : Mapped) → Suits lab m → suits lab m ≡ true
+suits_test lab m is =
+    and_from _ _ (ap (λ o. is_none o) is.sound) (and_from _ _ (shaped_test lab m.wiring m.mapping is.shaped) (and_from _ _ (eq-eqb _ _ is.tags)
+    (and_from _ _ (pass_test _ _ is.one_kind) (and_from _ _ (pass_test _ _ is.asked) (and_from _ _ (pass_test _ _ is.fixed)
+    (and_from _ _ (pass_test _ _ is.plugged) (pass_test _ _ is.joined)))))))
+
+pub in_from : (lab : Lab) (o : Option Mapped) (m : Mapped) → fits_in lab o ≡ true → o ≡ Some m → Suits lab m
+in_from lab o m e is = suits_from lab m (subst (λ x. fits_in lab x ≡ true) is e)
+
+in_test : (lab : Lab) (o : Option Mapped) → ((m : Mapped) → o ≡ Some m → Suits lab m) → fits_in lab o ≡ true
+in_test lab None each = refl
+in_test lab (Some m) each = suits_test lab m (each m refl)
+
+pub fits_from : (lab : Lab) (e : Experiment) → fits lab e ≡ true → (which : Which) (m : Mapped) → claimed e which ≡ Some m → Suits lab m
+fits_from lab e t Old m is = in_from lab (claimed e Old) m (and_parts _ _ t).0 is
+fits_from lab e t New m is = in_from lab (claimed e New) m (and_parts _ _ t).1 is
+
+fits_test : (lab : Lab) (e : Experiment) → ((which : Which) (m : Mapped) → claimed e which ≡ Some m → Suits lab m) → fits lab e ≡ true
+fits_test lab e each = and_from _ _ (in_test lab (claimed e Old) (each Old)) (in_test lab (claimed e New) (each New))
+
+pub in_shaped : (lab : Lab) (e : Experiment) (mapping : Mapping) (tags : List VlanId) → e.phase ≡ In mapping tags → fits lab e ≡ true → IsShaped lab e.wiring mapping
+in_shaped lab e mapping tags is t = (fits_from lab e t New (record { wiring = e.wiring; mapping = mapping; tags = tags }) (ap (λ p. claimed_in e.wiring p New) is)).shaped
+
+pub moving_fits : (lab : Lab) (e : Experiment) (old new : Option Mapped) → e.phase ≡ Moving old new → fits lab e ≡ true → (fits_in lab old ≡ true) × (fits_in lab new ≡ true)
+moving_fits lab e old new is t =
+    let a = and_parts _ _ t in
+    (sym (ap (λ p. fits_in lab (claimed_in e.wiring p Old)) is) ∙ a.0, sym (ap (λ p. fits_in lab (claimed_in e.wiring p New)) is) ∙ a.1)
+
+-- CLAIMS
+
+same_bytes : (a b : List ℕ) → bytes_eq a b ≡ true → a ≡ b
+same_bytes a b e = (bytes_eq-Decides a b).0 e
+
+bytes_same : (a b : List ℕ) → a ≡ b → bytes_eq a b ≡ true
+bytes_same a b e = (bytes_eq-Decides a b).1 e
+
+pub places_from : (lab : Lab) (m : Mapped) (name : List ℕ) → places_it lab m name ≡ true → Places lab m name
+places_from lab m name e =
+    let r = any_some (λ (p : Place). bytes_eq (node_name lab p.0) name) m.mapping.places e in
+    subst (λ n. Places lab m n) (same_bytes _ _ r.2) (Has-mapped (λ (p : Place). node_name lab p.0) m.mapping.places r.0 r.1)
+
+pub places_test : (lab : Lab) (m : Mapped) (name : List ℕ) → Places lab m name → places_it lab m name ≡ true
+places_test lab m name h =
+    let r = Has-map (λ (p : Place). node_name lab p.0) m.mapping.places name h in
+    any_has (λ (p : Place). bytes_eq (node_name lab p.0) name) m.mapping.places r.0 r.1 (bytes_same _ _ r.2)
+
+placed_from : (lab : Lab) (o : Option Mapped) (name : List ℕ) → is_placed lab o name ≡ true → (m : Mapped) × (o ≡ Some m) × Places lab m name
+placed_from lab None name e = absurd (cc e)
+placed_from lab (Some m) name e = (m, refl, places_from lab m name e)
+
+placed_test : (lab : Lab) (o : Option Mapped) (m : Mapped) (name : List ℕ) → o ≡ Some m → Places lab m name → is_placed lab o name ≡ true
+placed_test lab o m name is h = subst (λ x. is_placed lab x name ≡ true) (sym is) (places_test lab m name h)
+
+pub claims_from : (lab : Lab) (e : Experiment) (name : List ℕ) → claims_it lab e name ≡ true → Claims lab e name
+claims_from lab e name t = elim (or_cases _ _ t) [
+  | inl old ↦ let r = placed_from lab (claimed e Old) name old in record { which = Old; mapped = r.0; is = r.1; placed = r.2 }
+  | inr new ↦ let r = placed_from lab (claimed e New) name new in record { which = New; mapped = r.0; is = r.1; placed = r.2 }
+]
+
+pub claims_test : (lab : Lab) (e : Experiment) (name : List ℕ) → Claims lab e name → claims_it lab e name ≡ true
+claims_test lab e name c = by c.which c.is
+  where
+    by : (which : Which) → claimed e which ≡ Some c.mapped → claims_it lab e name ≡ true
+    by Old is = or_left _ _ (placed_test lab (claimed e Old) c.mapped name is c.placed)
+    by New is = or_right _ _ (placed_test lab (claimed e New) c.mapped name is c.placed)
+
+shares_of : (lab : Lab) (f : Experiment) (o : Option Mapped) (m : Mapped) (name : List ℕ) → o ≡ Some m → Places lab m name → Claims lab f name → shares_in lab f o ≡ true
+shares_of lab f o m name is placed claims =
+    let r = Has-map (λ (p : Place). node_name lab p.0) m.mapping.places name placed in
+    subst (λ x. shares_in lab f x ≡ true) (sym is)
+    (any_has (λ (p : Place). claims_it lab f (node_name lab p.0)) m.mapping.places r.0 r.1 (subst (λ n. claims_it lab f n ≡ true) (sym r.2) (claims_test lab f name claims)))
+
+shares_test : (lab : Lab) (f e : Experiment) (name : List ℕ) → Claims lab e name → Claims lab f name → shares lab f e ≡ true
+shares_test lab f e name c d = by c.which c.is
+  where
+    by : (which : Which) → claimed e which ≡ Some c.mapped → shares lab f e ≡ true
+    by Old is = or_left _ _ (shares_of lab f (claimed e Old) c.mapped name is c.placed d)
+    by New is = or_right _ _ (shares_of lab f (claimed e New) c.mapped name is c.placed d)
+
+shared : (lab : Lab) (f : Experiment) (o : Option Mapped) → shares_in lab f o ≡ true → (m : Mapped) × (name : List ℕ) × (o ≡ Some m) × Places lab m name × Claims lab f name
+shared lab f None e = absurd (cc e)
+shared lab f (Some m) e =
+    let r = any_some (λ (p : Place). claims_it lab f (node_name lab p.0)) m.mapping.places e in
+    (m, node_name lab r.0.0, refl, Has-mapped (λ (p : Place). node_name lab p.0) m.mapping.places r.0 r.1, claims_from lab f (node_name lab r.0.0) r.2)
+
+shares_from : (lab : Lab) (f e : Experiment) → shares lab f e ≡ true → (name : List ℕ) × Claims lab e name × Claims lab f name
+shares_from lab f e t = elim (or_cases _ _ t) [
+  | inl old ↦ let r = shared lab f (claimed e Old) old in (r.1, record { which = Old; mapped = r.0; is = r.2; placed = r.3 }, r.4)
+  | inr new ↦ let r = shared lab f (claimed e New) new in (r.1, record { which = New; mapped = r.0; is = r.2; placed = r.3 }, r.4)
+]
+
+abbrev NoneShared : Lab → Experiment → Experiment → Type 0
+NoneShared lab e f = (name : List ℕ) → Claims lab e name → Claims lab f name → ⊥
+
+apart_from : (lab : Lab) (es : List Experiment) → are_apart lab es ≡ true → Apart (NoneShared lab) es
+apart_from lab [] t = tt
+apart_from lab (e ∷ es) t =
+    let a = and_parts _ _ t in
+    (λ f h name c d. both_ways (shares lab f e) (not-true _ (all_has (λ f. not (shares lab f e)) es f a.0 h)) (shares_test lab f e name c d), apart_from lab es a.1)
+
+apart_test : (lab : Lab) (es : List Experiment) → Apart (NoneShared lab) es → are_apart lab es ≡ true
+apart_test lab [] apart = refl
+apart_test lab (e ∷ es) apart = and_from _ _
+    (all_from (λ f. not (shares lab f e)) es (λ f h. elim (cases_Bool (shares lab f e)) [
+      | inl is ↦ let r = shares_from lab f e is in absurd (apart.0 f h r.0 r.1 r.2)
+      | inr not_is ↦ not_from_false _ not_is
+    ]))
+    (apart_test lab es apart.1)
+
+-- VLAN IDS
+
+differ_test : (xs : List ℕ) → AllDiffer xs → all_differ xs ≡ true
+differ_test [] h = refl
+differ_test (x ∷ xs) h = and_from _ _ (elim (cases_Bool (list_any (λ y. Rattle.std.specs.Prelude.nat_eq y x) xs)) [
+  | inl is ↦ let r = any_some _ xs is in absurd (h.0 r.0 r.1 (sym (eqb-true _ _ r.2)))
+  | inr not_is ↦ not_from_false _ not_is
+]) (differ_test xs h.1)
+
+range_from : (lab : Lab) (tag : ℕ) → is_in_range lab tag ≡ true → (lab.range.0 ≤ tag) × (tag ≤ lab.range.1)
+range_from lab tag e = let a = and_parts _ _ e in (leb-true _ _ a.0, leb-true _ _ a.1)
+
+-- THE TEST IS TRUE exactly where trunks, nodes and VLAN ids hold what is claimed
+pub holding_from : (lab : Lab) (es : List Experiment) → is_holding lab es ≡ true → Holding lab es
+holding_from lab es e =
+    let a = and_parts _ _ e in
+    let b = and_parts _ _ a.1 in
+    let c = and_parts _ _ b.1 in
+    let d = and_parts _ _ c.1 in
+    record {
+      fits = λ f which m h is. fits_from lab f (all_has (fits lab) es f a.0 h) which m is;
+      nodes = apart_from lab es b.0;
+      trunks = λ t h. leb-true _ _ (pass_from _ _ c.0 t h);
+      tags = differ_from (flat_map claimed_tags es) d.0;
+      in_range = λ tag h. range_from lab tag (all_has (is_in_range lab) (flat_map claimed_tags es) tag d.1 h);
+    }
+
+pub holding_test : (lab : Lab) (es : List Experiment) → Holding lab es → is_holding lab es ≡ true
+holding_test lab es is =
+    and_from _ _ (all_from (fits lab) es (λ e h. fits_test lab e (λ which m c. is.fits e which m h c)))
+    (and_from _ _ (apart_test lab es is.nodes)
+    (and_from _ _ (pass_test (length lab.trunks) (has_room lab es) (λ t h. le-leb _ _ (is.trunks t h)))
+    (and_from _ _ (differ_test (flat_map claimed_tags es) is.tags)
+    (all_from (is_in_range lab) (flat_map claimed_tags es) (λ tag h. let r = is.in_range tag h in and_from _ _ (le-leb _ _ r.0) (le-leb _ _ r.1))))))

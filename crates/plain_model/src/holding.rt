@@ -1,0 +1,66 @@
+// Whether trunks, nodes and VLAN ids hold what is claimed.
+ghost use Rattle.std.specs.Prelude.{◌≡◌, ◌↔◌, ◌==◌, IsTrue, IfOk};
+ghost use Rattle.std.specs.List.{flat_map, list_all, list_any};
+ghost use Rattle.lab_model.specs.Beside.{all_differ};
+ghost use Rattle.lab_model.specs.Claims.{claimed_tags};
+ghost use Rattle.lab_model.specs.Holding.{Holding};
+ghost use Rattle.plain_model.specs.Holds.{is_in_range, are_tags, is_holding};
+
+use crate::claims::{are_apart, claimed_tags};
+use crate::suits::all_fit;
+use crate::uses::have_room;
+use lab_base::Memory;
+use phys_lab::Lab;
+use std::alloc::Global;
+use virt_topo::Experiment;
+
+fn has_number(numbers: &[u16], number: u16) -> bool
+    ensures { result ≡ list_any (λ y. y == number) numbers.now }
+{
+    numbers.iter().any(|other| *other == number)
+}
+
+fn all_differ(numbers: &[u16]) -> bool
+    ensures { result ≡ all_differ numbers.now }
+{
+    match numbers.split_first() {
+        Some((number, others)) => !has_number(others, *number) && all_differ(others),
+        None => true,
+    }
+}
+
+fn is_in_range(lab: &Lab, tag: u16) -> bool
+    ensures { result ≡ is_in_range lab.now tag }
+{
+    let (least, most) = lab.range();
+    least <= tag && tag <= most
+}
+
+fn are_in_range(lab: &Lab, tags: &[u16]) -> bool
+    ensures { result ≡ list_all (is_in_range lab.now) tags.now }
+{
+    tags.iter().all(|tag| is_in_range(lab, *tag))
+}
+
+fn are_tags(lab: &Lab, tags: &[u16]) -> bool
+    ensures { result ≡ are_tags lab.now tags.now }
+{
+    all_differ(tags) && are_in_range(lab, tags)
+}
+
+fn holds(lab: &Lab, experiments: &[Experiment], tags: &[u16]) -> bool
+    requires { tags.now ≡ flat_map claimed_tags experiments.now }
+    ensures { result ≡ is_holding lab.now experiments.now }
+{
+    all_fit(lab, experiments)
+        && (are_apart(lab, experiments) && (have_room(lab, experiments) && are_tags(lab, tags)))
+}
+
+/// Whether trunks, nodes and VLAN ids hold what the experiments claim: each claimed mapping suits the lab, no node is
+/// claimed twice, each trunk has room for all, and all ids differ and are in the lab's range.
+pub fn is_holding(alloc: Global, lab: &Lab, experiments: &[Experiment]) -> Result<bool, Memory>
+    ensures { IfOk result (λ holds. IsTrue holds ↔ Holding lab.now experiments.now) }
+{
+    let tags = claimed_tags(alloc, experiments)?;
+    Ok(holds(lab, experiments, &tags))
+}
