@@ -2,5 +2,4 @@ pub mod FirstLaws
 pub mod GuestLaws
 pub mod EndLists
 pub mod JoinLaws
-pub mod TrunkCount
 pub mod CableSteps

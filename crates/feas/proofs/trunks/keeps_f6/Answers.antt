@@ -2,7 +2,7 @@ use Rattle.std.proofs.Common.{◌≡◌, Bool, List, get_or, leb, ap, arith, ◌
 use Rattle.virt_topo.specs.Cables.{cables, cut_use}
 use Rattle.lab_model.specs.Uses.{use_of}
 use Rattle.lab_model.proofs.CutLaws.{cut_is_use}
-use Rattle.feas.proofs.TrunkCount.{few_trunks}
+use Rattle.phys_lab.proofs.TrunkCount.{few_trunks}
 use Rattle.feas.proofs.trunks.keeps_f6.Goals as goal
 
 pub overflow_cast-trunk : goal.overflow_cast-trunk

@@ -1,5 +1,5 @@
 use Rattle.std.proofs.Common.{arith}
-use Rattle.feas.proofs.TrunkCount.{few_trunks}
+use Rattle.phys_lab.proofs.TrunkCount.{few_trunks}
 use Rattle.feas.proofs.whole.check.Goals as goal
 
 pub overflow_cast-trunk : goal.overflow_cast-trunk
