@@ -1,5 +1,5 @@
 -- What a wiring without a fault keeps.
-use Rattle.std.proofs.Common.{◌≡◌, ℕ, zero, suc, ◌+◌, ◌≤◌, Bool, true, false, cond, not, List, [], ◌∷◌, ◌++◌, length, map, Option, Some, None, Result, Ok, Err, refl, sym, ap, ◌∙◌, arith, length-append}
+use Rattle.std.proofs.Common.{◌≡◌, ℕ, ◌+◌, ◌≤◌, Bool, true, false, cond, not, List, [], ◌∷◌, ◌++◌, length, map, Result, Ok, Err, refl, arith, length-append}
 use Rattle.std.specs.Prelude.{◌==◌}
 use Rattle.std.proofs.lemmas.List.{length-map}
 use Rattle.lab_base.specs.Kinds.{both_of}
@@ -10,8 +10,6 @@ use Rattle.line_text.proofs.ListLaws.{both_read, list_few}
 use Rattle.virt_topo.specs.declared.wiring.Segment.{Segment}
 use Rattle.virt_topo.specs.declared.wiring.VirtEnd.{VirtEnd}
 use Rattle.virt_topo.specs.declared.wiring.Wiring.{Wiring}
-use Rattle.virt_topo.specs.declared.fault.WiringFault.{WiringFault}
-use Rattle.virt_topo.specs.declared.fault.WiringFault.TheVariants as faults
 use Rattle.virt_topo.specs.Ends.{end_nodes}
 use Rattle.virt_topo.specs.Soundness.{keeps_limits, knows_all, has_twice, has_same, has_bad_pipe, IsSound}
 use Rattle.virt_topo.proofs.CableLaws.{limits_of}

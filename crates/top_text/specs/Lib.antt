@@ -1,3 +1,6 @@
 pub mod Lines
 pub mod Adding
 pub mod Canonical
+pub mod Solutions
+pub mod Names
+pub mod CanonicalSolution

@@ -1,5 +1,5 @@
 -- The lines of a top text, by their fields behind the keyword.
-use Rattle.std.specs.Prelude.{◌≡◌, ◌+◌, ◌*◌, ℕ, Bool, true, false, not, ◌==◌, nat_le, List, [], ◌∷◌, length, drop, Option, Some, None, Result, Ok, Err, if◌then◌else◌}
+use Rattle.std.specs.Prelude.{◌+◌, ◌*◌, ℕ, Bool, false, ◌==◌, List, ◌∷◌, length, Option, Some, None, Result, Ok, Err, if◌then◌else◌}
 use Rattle.lab_base.specs.Texts.{parted_at}
 use Rattle.lab_base.specs.Parts.{name_of, number_from, numbered}
 use Rattle.lab_base.specs.Kinds.{both_of}

@@ -17,7 +17,7 @@ use virt_topo::Class;
 /// The name of an end's virtual node, and its address.
 pub(crate) type End = (Name, Option<u32>);
 
-fn name_at(fields: &[&[u8]], n: usize) -> Result<Name, Kind>
+pub(crate) fn name_at(fields: &[&[u8]], n: usize) -> Result<Name, Kind>
     ensures { result ≡ name_of (field_at (views fields.now) n) }
 {
     let field = field_at(fields, n);

@@ -8,10 +8,10 @@ use line_text::{push_field, push_numbered};
 use std::alloc::Global;
 use virt_topo::{Asks, Class, Pipe, Segment, VirtEnd, VirtNode, Wiring};
 
-fn virt_name(wiring: &Wiring, virt: u16) -> &[u8]
+pub(crate) fn virt_name(wiring: &Wiring, virt: usize) -> &[u8]
     ensures { result.now ≡ virt_name wiring.now virt }
 {
-    match wiring.nodes.as_slice().get(virt as usize) {
+    match wiring.nodes.as_slice().get(virt) {
         Some(node) => node.name.bytes(),
         None => &[],
     }
@@ -36,7 +36,7 @@ fn asked_name<'a>(wiring: &'a Wiring, asks: &'a Asks) -> &'a [u8]
 }
 
 /// A space and a word.
-fn push_word(text: &mut Text, word: &[u8]) -> Result<(), Memory>
+pub(crate) fn push_word(text: &mut Text, word: &[u8]) -> Result<(), Memory>
     ensures { OnOk result (text.new ≡ text.old ++ 32 ∷ word.now) }
 {
     text.push(b' ')?;
@@ -164,7 +164,7 @@ fn push_behind_name(text: &mut Text, address: Option<u32>) -> Result<(), Memory>
 fn push_end(text: &mut Text, wiring: &Wiring, end: VirtEnd) -> Result<(), Memory>
     ensures { OnOk result (text.new ≡ text.old ++ 32 ∷ end_field wiring.now end) }
 {
-    push_word(text, virt_name(wiring, end.node))?;
+    push_word(text, virt_name(wiring, usize::from(end.node)))?;
     push_behind_name(text, end.address)
 }
 
@@ -216,7 +216,7 @@ fn push_pipe(text: &mut Text, wiring: &Wiring, pipe: &Pipe) -> Result<(), Memory
     ensures { OnOk result (text.new ≡ text.old ++ line_text (pipe_fields wiring.now pipe.now)) }
 {
     text.push_bytes(b"pipe")?;
-    push_word(text, virt_name(wiring, pipe.node))?;
+    push_word(text, virt_name(wiring, usize::from(pipe.node)))?;
     push_count(text, u64::from(pipe.from))?;
     push_count(text, u64::from(pipe.to))?;
     push_both_rates(text, pipe.there, pipe.back)?;

@@ -1,6 +1,5 @@
-use Rattle.lab_base.specs.Parts.{name_of}
 use Rattle.lab_base.proofs.FieldLists.{one_more}
-use Rattle.top_text.specs.Lines.{weight_of, end_of}
+use Rattle.top_text.specs.Lines.{weight_of}
 use Rattle.top_text.proofs.lines.all_desires.Goals as goal
 
 pub loop-field-preserved : goal.loop-field-preserved

@@ -1,7 +1,6 @@
 use Rattle.std.proofs.Common.{◌≡◌, [], Ok, drop}
 use Rattle.lab_base.specs.Texts.{views}
 use Rattle.lab_base.specs.Parts.{all_of, name_of}
-use Rattle.top_text.specs.Lines.{weight_of, end_of}
 use Rattle.top_text.proofs.lines.all_names.Given as goal
 
 abbrev pub invariant-loop-field : goal.invariant-loop-field

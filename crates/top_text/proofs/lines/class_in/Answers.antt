@@ -1,6 +1,6 @@
 use Rattle.std.proofs.Common.{◌∙◌}
 use Rattle.lab_base.specs.Kinds.{both_of}
-use Rattle.top_text.specs.Lines.{as_class, as_rates}
+use Rattle.top_text.specs.Lines.{as_class}
 use Rattle.top_text.proofs.lines.class_in.Goals as goal
 
 pub returns : goal.returns

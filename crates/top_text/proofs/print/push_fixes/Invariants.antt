@@ -1,7 +1,7 @@
-use Rattle.std.proofs.Common.{◌≡◌, ◌++◌, map, take}
+use Rattle.std.proofs.Common.{◌≡◌, ◌++◌, take}
 use Rattle.std.specs.List.{flat_map}
-use Rattle.line_text.specs.Printing.{spaced, text_of, with_number}
-use Rattle.top_text.specs.Canonical.{end_field, class_fields, node_fields, fix_lines, link_fields, pipe_fields}
+use Rattle.line_text.specs.Printing.{text_of}
+use Rattle.top_text.specs.Canonical.{fix_lines}
 use Rattle.top_text.proofs.print.push_fixes.Given as goal
 
 abbrev pub invariant-loop-node : goal.invariant-loop-node

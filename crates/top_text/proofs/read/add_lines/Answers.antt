@@ -1,4 +1,4 @@
-use Rattle.std.proofs.Common.{◌≡◌, ℕ, Err, Ok, Result, length, sym, ap, subst, arith, ◌∙◌}
+use Rattle.std.proofs.Common.{ℕ, Err, Ok, Result, length, sym, ap, subst, arith, ◌∙◌}
 use Rattle.lab_base.specs.Texts.{lines_of}
 use Rattle.lab_base.specs.declared.fault.TextRefused.{TextRefused}
 use Rattle.line_text.specs.declared.line_fault.LineFault.{LineFault}
