@@ -1,0 +1,10 @@
+//! Annealing and descent from a feasible node map.
+#![tactic(auto)]
+
+mod descent;
+mod search;
+mod walk;
+
+pub use descent::descend;
+pub use search::{Priced, Search};
+pub use walk::anneal;

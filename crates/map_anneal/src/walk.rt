@@ -1,0 +1,179 @@
+// The annealing walk.
+ghost use Rattle.std.specs.Prelude.{◌≡◌, ◌<◌, ◌+◌, ◌*◌, ◌/◌, ◌%◌, nat_le, nat_lt, if◌then◌else◌, length, IfOk, OnOk};
+ghost use Rattle.node_maps.specs.Least.{IsFirstLeast};
+ghost use Rattle.virt_topo.specs.Soundness.{IsSound};
+ghost use Rattle.lab_model.specs.Shapes.{IsFreeOf};
+ghost use Rattle.map_anneal.specs.Sought.{sought, choices, price, IsNodeMap};
+ghost use Rattle.map_anneal.specs.Searches.{sought_by, IsSearch};
+ghost use Rattle.map_anneal.specs.Walk.{drawn, one_try, round, cooled, walk as walk_of, Walker};
+
+use crate::search::{Priced, Search};
+use cost_rule::Rule;
+use lab_base::Memory;
+use node_maps::{candidates, ends_of};
+use phys_lab::{Free, Lab};
+use rand_core::SeedableRng;
+use rand_core::utils::NextWord;
+use rand_pcg::Pcg32;
+use std::alloc::Global;
+use virt_topo::{Mapping, Wiring};
+
+/// The words of one try.
+#[derive(Clone, Copy)]
+struct Words {
+    first: u32,
+    second: u32,
+    third: u32,
+}
+
+#[tactic(auto, unfolding(crate::specs::Walk::drawn))]
+fn draw(generator: &mut Pcg32) -> Words
+    ensures first { result.first ≡ (drawn generator.old).first }
+    ensures second { result.second ≡ (drawn generator.old).second }
+    ensures third { result.third ≡ (drawn generator.old).third }
+    ensures after { generator.new ≡ (drawn generator.old).after }
+{
+    let first = generator.next_word();
+    let second = generator.next_word();
+    let third = generator.next_word();
+    Words {
+        first,
+        second,
+        third,
+    }
+}
+
+/// Whether a map of that cost is added after one of cost `last`, by the heat and the third word.
+fn is_accepted(cost: u64, last: u64, third: u32, heat: u64) -> bool
+    ensures { result ≡ nat_le cost (last + (third % 1024) * heat / 1024) }
+{
+    let slack = u128::from(third % 1024) * u128::from(heat) / 1024;
+    u128::from(cost) <= u128::from(last) + slack
+}
+
+/// A heat after a round.
+fn cooler(heat: u64) -> u64
+    ensures { result ≡ heat * 9 / 10 }
+{
+    (u128::from(heat) * 9 / 10) as u64
+}
+
+/// Puts the next map in the place of the best one where it is cheaper.
+fn keep_cheaper(alloc: Global, best: &mut Priced, next: &Priced) -> Result<(), Memory>
+    ensures { OnOk result (best.new ≡ (if nat_lt next.now.cost best.old.cost then next.now else best.old)) }
+{
+    if next.cost < best.cost {
+        *best = next.copy(alloc)?;
+    }
+    Ok(())
+}
+
+/// A walk: its last map, its cheapest map so far, and the generator of the words to come.
+#[derive(Drop)]
+struct Walk {
+    last: Priced,
+    best: Priced,
+    generator: Pcg32,
+}
+
+impl Walk {
+    ghost use Rattle.map_anneal.specs.Walks.{IsWalk, Keeps};
+
+    /// One try.
+    fn step(&mut self, alloc: Global, search: &Search, rule: &Rule, heat: u64) -> Result<(), Memory>
+        requires search { IsSearch search.now }
+        requires walk { IsWalk (sought_by search.now rule.now.number) self.old }
+        requires some { 0 < length (choices (sought_by search.now rule.now.number)) }
+        ensures walk { OnOk result (IsWalk (sought_by search.now rule.now.number) self.new) }
+        ensures step { OnOk result ((x : Walker) → Keeps (sought_by search.now rule.now.number) self.old x → Keeps (sought_by search.now rule.now.number) self.new (one_try (sought_by search.now rule.now.number) heat x)) }
+    {
+        let words = draw(&mut self.generator);
+        let Some(next) = search.named(alloc, rule, &self.last.mapping, words.first, words.second)?
+        else {
+            return Ok(());
+        };
+        if !is_accepted(next.cost, self.last.cost, words.third, heat) {
+            return Ok(());
+        }
+        keep_cheaper(alloc, &mut self.best, &next)?;
+        self.last = next;
+        Ok(())
+    }
+
+    /// The tries at one heat.
+    fn round(
+        &mut self,
+        alloc: Global,
+        search: &Search,
+        rule: &Rule,
+        heat: u64,
+    ) -> Result<(), Memory>
+        requires search { IsSearch search.now }
+        requires walk { IsWalk (sought_by search.now rule.now.number) self.old }
+        ensures walk { OnOk result (IsWalk (sought_by search.now rule.now.number) self.new) }
+        ensures round { OnOk result ((x : Walker) → Keeps (sought_by search.now rule.now.number) self.old x → Keeps (sought_by search.now rule.now.number) self.new (round (sought_by search.now rule.now.number) heat x)) }
+    {
+        let tries = 8 * search.candidates.len();
+        for _number in 0..tries {
+            self.step(alloc, search, rule, heat)?;
+        }
+        Ok(())
+    }
+
+    /// The rounds, while the heat is above 0.
+    fn cool(&mut self, alloc: Global, search: &Search, rule: &Rule, from: u64) -> Result<(), Memory>
+        requires search { IsSearch search.now }
+        requires walk { IsWalk (sought_by search.now rule.now.number) self.old }
+        ensures walk { OnOk result (IsWalk (sought_by search.now rule.now.number) self.new) }
+        ensures cooled { OnOk result ((x : Walker) → Keeps (sought_by search.now rule.now.number) self.old x → Keeps (sought_by search.now rule.now.number) self.new (cooled (sought_by search.now rule.now.number) from from x)) }
+    {
+        let mut heat = from;
+        while heat > 0 {
+            self.round(alloc, search, rule, heat)?;
+            heat = cooler(heat);
+        }
+        Ok(())
+    }
+}
+
+/// The cheapest map of the walk of a start and a seed, the earliest among equals.
+#[tactic(auto, unfolding(crate::specs::Walk::walk))]
+pub fn anneal(
+    alloc: Global,
+    lab: &Lab,
+    free: &Free,
+    wiring: &Wiring,
+    start: &Mapping,
+    rule: &Rule,
+    seed: u64,
+) -> Result<Mapping, Memory>
+    requires free { IsFreeOf lab.now free.now }
+    requires sound { IsSound wiring.now }
+    requires start { IsNodeMap (sought lab.now free.now wiring.now rule.now.number) start.now }
+    ensures node_map { IfOk result (λ m. IsNodeMap (sought lab.now free.now wiring.now rule.now.number) m) }
+    ensures least { IfOk result (λ m. IsFirstLeast (price (sought lab.now free.now wiring.now rule.now.number)) (walk_of (sought lab.now free.now wiring.now rule.now.number) start.now seed) m) }
+{
+    let listed = candidates(alloc, lab, free, wiring)?;
+    let ends = ends_of(alloc, wiring.segments.as_slice())?;
+    let search = Search {
+        lab,
+        free,
+        wiring,
+        ends: &ends,
+        candidates: &listed,
+    };
+    let cost = rule.ask(lab, wiring, start);
+    let mut walk = Walk {
+        last: Priced {
+            mapping: start.copy(alloc)?,
+            cost,
+        },
+        best: Priced {
+            mapping: start.copy(alloc)?,
+            cost,
+        },
+        generator: Pcg32::seed_from_u64(seed),
+    };
+    walk.cool(alloc, &search, rule, cost)?;
+    Ok(walk.best.mapping)
+}
