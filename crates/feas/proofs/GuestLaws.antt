@@ -22,6 +22,11 @@ guest_step vs places i n v p lt few is at =
     by true rest = refl
     by false rest = refl
 
+-- nobody is on a node where nobody more is placed
+pub no_guests : (vs : List VirtNode) (n : ℕ) → guests vs [] n ≡ []
+no_guests [] n = refl
+no_guests (v ∷ vs) n = refl
+
 pub first_step : (c : ℕ) (vs : List VirtNode) (places : List Place) (i : ℕ) (d : VirtNode) (e : Place) → i < length vs → i < length places
     → first_type c (drop i vs) (drop i places) ≡ cond (is_member c (get_or vs i d).asks) (get_or places i e).1 (first_type c (drop (i + 1) vs) (drop (i + 1) places))
 first_step c vs places i d e lt few =

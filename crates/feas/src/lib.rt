@@ -12,5 +12,6 @@ mod trunks;
 mod whole;
 
 pub use fault::CheckFault;
+pub use nodes::may_share;
 pub use places::{is_fixed_at, suits};
 pub use whole::check;

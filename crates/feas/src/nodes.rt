@@ -1,11 +1,12 @@
 // The rule on the virtual nodes of one node.
-ghost use Rattle.std.specs.Prelude.{◌≡◌, IfSome, ◌<◌, ◌&&◌, ◌++◌, ◌∷◌, [], ◌==◌, if◌then◌else◌, length, IfOk, OnOk};
+ghost use Rattle.std.specs.Prelude.{◌≡◌, IfSome, ◌<◌, ◌≤◌, ◌&&◌, ◌++◌, ◌∷◌, [], ◌==◌, if◌then◌else◌, length, IfOk, OnOk};
 ghost use Rattle.std.specs.List.{list_all};
 ghost use Rattle.virt_topo.specs.Repeats.{same_name};
 ghost use Rattle.lab_model.specs.Shapes.{IsShaped, node_at};
 ghost use Rattle.lab_model.specs.Rules.{guests, number_of, agree, keeps_f2};
 ghost use Rattle.lab_model.specs.Feasible.{first_below};
 
+use crate::at::node_at;
 use lab_base::{Memory, Name, NodeId};
 use phys_lab::Lab;
 use std::alloc::Global;
@@ -32,11 +33,11 @@ fn guests(
     places: &[(NodeId, Name)],
     node: u16,
 ) -> Result<Vec<(Name, Name)>, Memory>
-    requires { length places.now ≡ length nodes.now }
+    requires { length places.now ≤ length nodes.now }
     ensures { IfOk result (λ listed. listed.items ≡ guests nodes.now places.now node) }
 {
     let mut listed = Vec::new(alloc);
-    for virt in 0..nodes.len() {
+    for virt in 0..places.len() {
         push_guest(&mut listed, &places[virt], &nodes[virt], node)?;
     }
     Ok(listed)
@@ -70,6 +71,24 @@ fn agree(types: &[(Name, u16)], guests: &[(Name, Name)]) -> bool
     }
 }
 
+/// Whether the first virtual nodes, which have these places, may share a node: those on it have one type and one OS and
+/// are at most as many as that type's count there.
+pub fn may_share(
+    alloc: Global,
+    lab: &Lab,
+    nodes: &[VirtNode],
+    places: &[(NodeId, Name)],
+    node: NodeId,
+) -> Result<bool, Memory>
+    requires few { length places.now ≤ length nodes.now }
+    requires node { node.0 < length lab.now.nodes }
+    ensures { IfOk result (λ yes. yes ≡ agree (node_at lab.now node).types (guests nodes.now places.now node.0)) }
+{
+    let guests = guests(alloc, nodes, places, node.0)?;
+    let types = node_at(lab, node).types.as_slice();
+    Ok(agree(types, &guests))
+}
+
 fn keeps_f2(
     alloc: Global,
     lab: &Lab,
@@ -82,14 +101,14 @@ fn keeps_f2(
     ensures { IfOk result (λ kept. kept ≡ keeps_f2 lab.now wiring.now mapping.now node) }
 {
     let _kept = lab.range();
-    let guests = guests(
+    let kept = may_share(
         alloc,
+        lab,
         wiring.nodes.as_slice(),
         mapping.places.as_slice(),
-        node as u16,
+        NodeId(node as u16),
     )?;
-    let types = lab.nodes()[node].types.as_slice();
-    Ok(agree(types, &guests))
+    Ok(kept)
 }
 
 /// The first node with virtual nodes of two types or OSes, or with too many of them.
