@@ -1,19 +1,67 @@
--- A row after commands.
-use Rattle.std.specs.Prelude.{Bool, false, List, [], ◌∷◌, fold, if◌then◌else◌}
+-- Rows and nodes after commands.
+use Rattle.std.specs.Prelude.{ℕ, Bool, false, List, [], ◌∷◌, fold, Option, Some, None, if◌then◌else◌}
+use Rattle.std.specs.List.{filter, filter_map}
+use Rattle.lab_base.specs.declared.boot.Boot.{Boot}
 use Rattle.plant.specs.Events.{Event, Did}
-use Rattle.plant.specs.Worlds.{Row, row_after}
+use Rattle.plant.specs.Worlds.{Row, PipeRow, NodeRow, World, blank, row_after, node_after, node_polled, world_after}
+use Rattle.lab_model.specs.Courses.{op_join, op_pipe, op_node}
+use Rattle.plain_model.specs.Isolation.{NodePipe}
 use Rattle.plain_model.specs.declared.world.Sent.{Sent}
 
--- whether the row stands after one command more
+-- the commands of a trace, each with whether it was applied, and its answer
+abbrev pub commands_of : List Event → List Sent
+commands_of [] = []
+commands_of (Did op applied answer ∷ events) = record { op = op; applied = applied; answer = answer } ∷ commands_of events
+commands_of (event ∷ events) = commands_of events
+
+-- the world after these commands
+abbrev pub sent_to : World → Sent → World
+sent_to w sent = world_after w (Did sent.op sent.applied sent.answer)
+
+abbrev pub world_sent : List Sent → World
+world_sent commands = fold sent_to blank commands
+
+-- whether the row stands after one command more, and after these
 abbrev pub row_then : Row → Bool → Sent → Bool
 row_then row had sent = if sent.applied then row_after sent.op row had else had
 
--- whether the row stands after these commands
 abbrev pub has_row : List Sent → Row → Bool
 has_row commands row = fold (row_then row) false commands
 
--- the commands of a trace, each with whether it was applied
-abbrev pub commands_of : List Event → List Sent
-commands_of [] = []
-commands_of (Did op applied answer ∷ events) = record { op = op; applied = applied } ∷ commands_of events
-commands_of (event ∷ events) = commands_of events
+-- what a node holds after one command more
+abbrev pub node_then : List ℕ → NodeRow → Sent → NodeRow
+node_then name had sent = node_polled sent.op sent.answer name (if sent.applied then node_after sent.op name had else had)
+
+-- its OS, its boot state, and its pipe of that number, which depend on nothing else of it
+abbrev pub os_then : List ℕ → Option (List ℕ) → Sent → Option (List ℕ)
+os_then name had sent = (node_then name (record { os = had; pipes = λ k. None; boot = None }) sent).os
+
+abbrev pub boot_then : List ℕ → Option Boot → Sent → Option Boot
+boot_then name had sent = (node_then name (record { os = None; pipes = λ k. None; boot = had }) sent).boot
+
+abbrev pub pipe_then : List ℕ → ℕ → Option PipeRow → Sent → Option PipeRow
+pipe_then name k had sent = (node_then name (record { os = None; pipes = λ j. had; boot = None }) sent).pipes k
+
+abbrev pub node_sent : List Sent → List ℕ → NodeRow
+node_sent commands name = (world_sent commands).node name
+
+-- the rows that some command joined and that stand
+abbrev pub standing : List Sent → List Row
+standing commands = filter (has_row commands) (filter_map (λ sent. op_join sent.op) commands)
+
+-- the nodes that commands went to, and the pipes that they set
+abbrev pub named : List Sent → List (List ℕ)
+named commands = filter_map (λ sent. op_node sent.op) commands
+
+abbrev pub set_pipes : List Sent → List (List ℕ × ℕ × PipeRow)
+set_pipes commands = filter_map (λ sent. op_pipe sent.op) commands
+
+-- the pipe of a node, as isolation sees it
+abbrev pub pipe_seen : List ℕ → Option PipeRow → List NodePipe → List NodePipe
+pipe_seen node None pipes = pipes
+pipe_seen node (Some pipe) pipes = record { node = node; from = pipe.from; to = pipe.to } ∷ pipes
+
+-- the pipes that stand on nodes
+abbrev pub pipes_of : List Sent → List (List ℕ × ℕ × PipeRow) → List NodePipe
+pipes_of commands [] = []
+pipes_of commands (p ∷ set) = pipe_seen p.0 ((node_sent commands p.0).pipes p.1) (pipes_of commands set)

@@ -1,14 +1,16 @@
 //! Plain, slow programs of the definitions, for tests.
 #![tactic(auto)]
 
-ghost use Rattle.std.specs.Prelude.{◌≡◌, List, true};
+ghost use Rattle.std.specs.Prelude.{◌≡◌, ℕ, List, true, fold, Some, None};
+ghost use Rattle.lab_base.specs.declared.boot.Boot.TheVariants.{Off};
 ghost use Rattle.phys_lab.specs.Labs.{Lab};
 ghost use Rattle.virt_topo.specs.declared.experiment.Experiment.{Experiment};
 ghost use Rattle.plant.specs.Events.{Event};
 ghost use Rattle.plant.specs.Worlds.{Row as RowSeen, World, world_of};
 ghost use Rattle.lab_model.specs.Isolated.{Isolated};
 ghost use Rattle.plain_model.specs.Isolation.{NodePipe as PipeSeen, IsSeen, is_isolated, wanted_in};
-ghost use Rattle.plain_model.specs.Rows.{has_row, commands_of};
+ghost use Rattle.plain_model.specs.Rows.{commands_of, world_sent, node_sent, has_row, os_then, boot_then, pipe_then};
+ghost use Rattle.plain_model.specs.declared.world.Sent.{Sent};
 
 mod at;
 mod claims;
@@ -17,6 +19,7 @@ mod holding;
 mod isolation;
 mod node_pipe;
 mod owner;
+mod pipe;
 mod places;
 mod plugs;
 mod reading;
@@ -32,6 +35,7 @@ pub use holding::is_holding;
 pub use isolation::{is_isolated, is_next};
 pub use node_pipe::NodePipe;
 pub use owner::Owner;
+pub use pipe::Pipe;
 pub use reading::{Read, read_from};
 pub use row::Row;
 pub use sides::on_first_side;
@@ -39,7 +43,7 @@ pub use suits::all_fit;
 pub use two_sides::{Header, Live, Sides, header_of, live_of, read_sides};
 pub use uses::use_of;
 pub use wanted::Wanted;
-pub use world::{Sent, has_row};
+pub use world::{Sent, boot_of, has_row, os_of, pipe_of};
 
 #[cfg(test)]
 mod tests;
@@ -52,7 +56,11 @@ pub fn isolation_tested()
         → Isolated lab es w → is_isolated lab (wanted_in lab es) rows pipes ≡ true }
 {}
 
-/// The rows of the world of a trace are those that its commands leave.
-pub fn rows_told()
-    ensures { (row : RowSeen) (trace : List Event) → (world_of trace).rows row ≡ has_row (commands_of trace) row }
+/// The world of a trace is what its commands leave: its rows, and of each node the OS, the boot state and the pipes.
+pub fn worlds_told()
+    ensures world { (trace : List Event) → world_of trace ≡ world_sent (commands_of trace) }
+    ensures rows { (row : RowSeen) (commands : List Sent) → (world_sent commands).rows row ≡ has_row commands row }
+    ensures os { (name : List ℕ) (commands : List Sent) → (node_sent commands name).os ≡ fold (os_then name) None commands }
+    ensures boot { (name : List ℕ) (commands : List Sent) → (node_sent commands name).boot ≡ fold (boot_then name) (Some Off) commands }
+    ensures pipes { (name : List ℕ) (k : ℕ) (commands : List Sent) → (node_sent commands name).pipes k ≡ fold (pipe_then name k) None commands }
 {}

@@ -2,7 +2,7 @@ use super::*;
 use journal_rec::Record;
 use lab_base::{Items, Name, NodeId, SwitchId, VlanId};
 use phys_lab::{Iface, Lab, LabBuilder, Node, Trunk};
-use plant::{DeviceOp, Side};
+use plant::{Answer, DeviceOp, Side};
 use std::alloc::Global;
 use std::test::Fail;
 
@@ -321,6 +321,7 @@ fn rows_after_commands(rt: HostRuntime) -> Result<(), Fail> {
             sent.push(Sent {
                 op: *op,
                 applied: *applied,
+                answer: Ok(Answer::Done),
             })?;
         }
         assert_eq!(rt; has_row(&sent, &row((1, 1, 100))?), stands);
