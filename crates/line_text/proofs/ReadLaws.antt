@@ -1,13 +1,11 @@
 -- Reading on behind some lines.
-use Rattle.lab_base.specs.declared.fault.TextRefused.{TextRefused}
-use Rattle.lab_base.specs.declared.fault.TextRefused.TheVariants as refusals
 use Rattle.line_text.specs.declared.line_fault.LineFault.{LineFault}
 use Rattle.line_text.specs.declared.line_fault.LineFault.TheVariants as line_faults
 use Rattle.line_text.specs.Refusals.{Takes, ReadsInto, refused_at}
-use Rattle.std.proofs.Common.{◌≡◌, ℕ, ◌+◌, List, [], ◌∷◌, Result, Ok, Err, refl, sym, ap, subst, ◌∙◌}
+use Rattle.std.proofs.Common.{◌≡◌, ℕ, ◌+◌, List, [], ◌∷◌, Result, Ok, Err, refl, ap, ◌∙◌}
 use Rattle.lab_base.specs.declared.fault.Kind.{Kind}
 use Rattle.lab_base.specs.declared.fault.TextFault.{TextFault}
-use Rattle.line_text.specs.Reading.{line_added, at_line, with_line, read_from}
+use Rattle.line_text.specs.Reading.{line_added, at_line, read_from}
 
 -- a fault stays
 pub stays : {S : Type 0} (add : S → List (List ℕ) → Result S Kind) (n : ℕ) (fault : TextFault) (lines : List (List ℕ)) → read_from add n (Err fault) lines ≡ Err fault

@@ -1,6 +1,6 @@
 -- Fields behind slices.
-use Rattle.std.proofs.Common.{◌≡◌, ℕ, zero, suc, ◌+◌, ◌-◌, Bool, true, false, not, cond, ltb, List, [], ◌∷◌, length, take, drop, map, Option, Some, None, refl, sym, ap, subst, ◌∙◌, arith, length-drop, Bor}
-use Rattle.std.specs.List.{position, prefix_len, position_or_len}
+use Rattle.std.proofs.Common.{◌≡◌, ℕ, suc, ◌+◌, ◌-◌, Bool, not, cond, ltb, List, [], ◌∷◌, length, take, drop, map, Some, None, refl, sym, ap, arith, length-drop, Bor}
+use Rattle.std.specs.List.{position, prefix_len}
 use Rattle.std.proofs.lemmas.List.{length-map, take-map, drop-map, take_all}
 use Rattle.lab_base.specs.Texts.{views}
 

@@ -19,7 +19,7 @@ use Rattle.ptop_text.specs.declared.device.Device.TheVariants as devices
 use Rattle.ptop_text.specs.Lines.{vlans_line, is_switch_word, type_parts, type_of, feature_of, is_list, types_of, features_of, dash_in, as_node, node_parts, switch_parts, is_switch_field, as_switch, is_switch_line, device_line}
 use Rattle.ptop_text.specs.Canonical.{feature_fields}
 use Rattle.line_text.specs.Printing.{with_number}
-use Rattle.ptop_text.proofs.PartsAgain.{negated, position_at, position_none, drop_next, named_part, name_again, number_back, numbered_again, all_again, all_has}
+use Rattle.line_text.proofs.PartsAgain.{negated, position_at, position_none, drop_next, named_part, name_again, number_back, numbered_again, all_again, all_has}
 
 pub le_from : (a b : ℕ) → nat_le a b ≡ true → a ≤ b
 le_from a b h = grind (arith, nat_tests)

@@ -21,7 +21,7 @@ use Rattle.line_text.specs.Reading.{and_then}
 use Rattle.ptop_text.specs.Lines.{LinkRead}
 use Rattle.ptop_text.specs.Adding.{made, linked, with_range, with_device, with_link, with_iface_line, with_trunk_line, number_or_none, added, start, lab_read, lab_of_text}
 use Rattle.ptop_text.specs.Canonical.{range_line, switch_line, node_line, iface_line, trunk_line, node_name, switch_name, lab_lines, canonical}
-use Rattle.ptop_text.proofs.LinesAgain.{IsPrinted, Adds, adds_append, adds_each, read_again}
+use Rattle.line_text.proofs.LinesAgain.{IsPrinted, Adds, adds_append, adds_each, read_again}
 use Rattle.ptop_text.proofs.NoFault.{lab_after, no_switch_fault, no_node_fault, no_iface_fault, no_trunk_fault, at_seam}
 use Rattle.ptop_text.proofs.DeviceAgain.{range_is, range_again, switch_again, node_again}
 use Rattle.ptop_text.proofs.Printed.{range_printed, switch_printed, node_printed, iface_printed, trunk_printed}

@@ -1,8 +1,6 @@
 pub mod Arities
 pub mod LinkLaws
 pub mod ReadLaws
-pub mod PartsAgain
-pub mod LinesAgain
 pub mod NoFault
 pub mod DeviceAgain
 pub mod LinkAgain

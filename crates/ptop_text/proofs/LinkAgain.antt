@@ -18,7 +18,7 @@ use Rattle.ptop_text.specs.declared.link.FirstEnd.TheVariants as ends
 use Rattle.ptop_text.specs.Lines.{end_of, as_port, as_iface, is_switch_of, first_parts, first_end, link_line}
 use Rattle.ptop_text.specs.Adding.{switch_at, node_at}
 use Rattle.line_text.specs.Printing.{with_number}
-use Rattle.ptop_text.proofs.PartsAgain.{less, negated, position_none, named_part, name_again, number_back, numbered_again}
+use Rattle.line_text.proofs.PartsAgain.{less, negated, position_none, named_part, name_again, number_back, numbered_again}
 use Rattle.ptop_text.proofs.DeviceAgain.{le_from}
 
 -- THE PLACE OF A NAME

@@ -5,7 +5,7 @@ use Rattle.std.specs.List.{list_all}
 use Rattle.std.proofs.lemmas.Bool.{and_parts}
 use Rattle.lab_base.specs.Names.{is_name}
 use Rattle.lab_base.specs.Lists.{Has}
-use Rattle.lab_base.proofs.Members.{Has-append, Has-map}
+use Rattle.lab_base.proofs.Members.{Has-append}
 use Rattle.phys_lab.specs.declared.parts.Node.{Node}
 use Rattle.phys_lab.specs.declared.parts.Iface.{Iface}
 use Rattle.phys_lab.specs.declared.parts.Trunk.{Trunk}
@@ -15,19 +15,11 @@ use Rattle.phys_lab.specs.Faults.{is_type, is_feature, is_port_number, is_speed}
 use Rattle.phys_lab.specs.Kept.{IsLab, IsWhole}
 use Rattle.ptop_text.specs.Canonical.{feature_fields, range_line, switch_line, node_line, iface_line, trunk_line, node_name, switch_name}
 use Rattle.line_text.specs.Printing.{with_number}
-use Rattle.ptop_text.proofs.PartsAgain.{IsPlain, plain_name, plain_number, plain_pair, all_has}
-use Rattle.ptop_text.proofs.LinesAgain.{IsPrinted}
+use Rattle.line_text.proofs.PartsAgain.{IsPlain, plain_name, plain_number, plain_pair, all_has}
+use Rattle.line_text.proofs.LinesAgain.{IsPrinted}
+use Rattle.line_text.proofs.Plain.{ArePlain, none, more, pairs_plain}
 use Rattle.ptop_text.proofs.DeviceAgain.{range_is, type_is, le_from}
 use Rattle.ptop_text.proofs.LinkAgain.{switch_named, node_named, port_is, speed_is}
-
-record ArePlain (fields : List (List ℕ)) : Type 0 where
-  each : (f : List ℕ) → Has fields f → IsPlain f
-
-none : ArePlain []
-none = record { each = λ f h. absurd h }
-
-more : (field : List ℕ) (fields : List (List ℕ)) → IsPlain field → ArePlain fields → ArePlain (field ∷ fields)
-more field fields one all = record { each = λ f h. elim h [ inl e ↦ subst IsPlain e one | inr g ↦ all.each f g ] }
 
 vlans : IsPlain (codes "vlans")
 vlans = record { filled = refl; no_blank = refl; no_feed = refl }
@@ -54,9 +46,6 @@ range_printed lab is =
 
 pub switch_printed : (name : List ℕ) → is_name name ≡ true → IsPrinted (switch_line name)
 switch_printed name named = record { kept = refl; plain = (more _ _ node (more _ _ (plain_name name named) (more _ _ switch none))).each }
-
-pairs_plain : (pairs : List (List ℕ × ℕ)) → ((pair : List ℕ × ℕ) → Has pairs pair → IsPlain (with_number pair)) → ArePlain (map with_number pairs)
-pairs_plain pairs each = record { each = λ f h. let at = Has-map with_number pairs f h in subst IsPlain at.2 (each at.0 at.1) }
 
 features_plain : (features : List (List ℕ × ℕ)) → ((pair : List ℕ × ℕ) → Has features pair → IsPlain (with_number pair)) → ArePlain (feature_fields features)
 features_plain [] each = none

@@ -1,6 +1,6 @@
 -- The canonical text of a lab.
 use Rattle.std.specs.Prelude.{ℕ, List, [], ◌∷◌, ◌++◌, map, codes, decimal, slice_index_or}
-use Rattle.line_text.specs.Printing.{spaced, text_of, with_number}
+use Rattle.line_text.specs.Printing.{text_of, with_number}
 use Rattle.phys_lab.specs.Labs.{Lab}
 use Rattle.phys_lab.specs.declared.parts.Node.{Node}
 use Rattle.phys_lab.specs.declared.parts.Iface.{Iface}

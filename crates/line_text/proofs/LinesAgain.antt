@@ -10,7 +10,7 @@ use Rattle.lab_base.specs.declared.fault.Kind.{Kind}
 use Rattle.lab_base.proofs.Again.{line_again, field_again, last_field_again}
 use Rattle.line_text.specs.Reading.{line_added, at_line, read_from}
 use Rattle.line_text.specs.Printing.{spaced, line_text, text_of}
-use Rattle.ptop_text.proofs.PartsAgain.{IsPlain}
+use Rattle.line_text.proofs.PartsAgain.{IsPlain}
 
 abbrev ArePlain : List (List ℕ) → Type 0
 ArePlain fields = (f : List ℕ) → Has fields f → IsPlain f
