@@ -1,0 +1,119 @@
+-- Choices, one candidate more, and the best of their maps.
+use Rattle.std.proofs.Common.{◌≡◌, ◌≤◌, ◌<◌, ◌∙◌, ◌+◌, ◌++◌, ◌∷◌, [], inl, inr, ℕ, List, length, take, drop, map, get_or, Contains, Option, Some, None, nat_lt, refl, sym, ap, subst, suc, zero, length-append, arith}
+use Rattle.std.specs.List.{filter_map, cons_option}
+use Rattle.std.proofs.lemmas.Grind.{flat_map-append}
+use Rattle.std.proofs.lemmas.List.{take_more, map-append, get_or_append_left}
+use Rattle.std.proofs.lemmas.List.Elements.{filter_map-append}
+use Rattle.std.proofs.Math.Seq.{get_or-append_seam}
+use Rattle.std.proofs.lemmas.Bool.{cases_lt, cond_both, ltb-true, ltb-false}
+use Rattle.virt_topo.specs.declared.mapping.Mapping.{Mapping}
+use Rattle.lab_model.specs.Shapes.{Place}
+use Rattle.virt_topo.proofs.EndLaws.{item_at as drop_item}
+use Rattle.node_maps.specs.NodeMaps.{IsChoice}
+use Rattle.node_maps.specs.Least.{IsFirstLeast}
+use Rattle.node_maps.proofs.Leasts.{least_alone, least_kept, least_taken}
+use Rattle.map_anneal.specs.declared.search.Priced.{Priced}
+use Rattle.map_anneal.specs.Sought.{Sought, mapped, price}
+use Rattle.map_anneal.specs.Searches.{IsPriced}
+use Rattle.assign_core.specs.Bests.{IsBest, IsPartial, cheaper_of}
+use Rattle.assign_core.specs.Exact.{extended, all_choices}
+
+get_or-within : {X : Type 0} (xs : List X) (k : ℕ) (d e : X) → k < length xs → get_or xs k d ≡ get_or xs k e
+get_or-within [] k d e lt = absurd (omega arith)
+get_or-within (x ∷ xs) zero d e lt = refl
+get_or-within (x ∷ xs) (suc k) d e lt = get_or-within xs k d e (omega arith)
+
+pub partial_none : (cs : List (List Place)) → IsPartial cs []
+partial_none cs = record { within = omega arith; among = λ v d lt. absurd (omega arith) }
+
+pub partial_more : (cs : List (List Place)) (places : List Place) (p : Place) → IsPartial cs places → length places < length cs
+    → Contains (get_or cs (length places) []) p → IsPartial cs (places ++ p ∷ [])
+partial_more cs places p h lt among =
+    let longer : length (places ++ p ∷ []) ≡ length places + 1 = length-append places (p ∷ []) in
+    record {
+      within = omega (arith, longer);
+      among = λ v d here. elim (cases_lt v (length places)) [
+        | inl before ↦ (
+            let In : Place → Type 0 = λ q. Contains (get_or cs v []) q in
+            subst In (sym (get_or_append_left places (p ∷ []) d v before)) (h.among v d before))
+        | inr after ↦ (
+            let same : length places ≡ v = omega (arith, longer) in
+            let At : ℕ → Type 0 = λ n. Contains (get_or cs n []) (get_or (places ++ p ∷ []) n d) in
+            let In : Place → Type 0 = λ q. Contains (get_or cs (length places) []) q in
+            subst At same (subst In (sym (get_or-append_seam places p [] d)) among))
+      ];
+    }
+
+pub partial_whole : (cs : List (List Place)) (places : List Place) → IsPartial cs places → length places ≡ length cs → IsChoice cs places
+partial_whole cs places h e = record { one_each = e; among = λ v d lt. h.among v d (omega arith) }
+
+all_choices-append : (a b cs : List (List Place)) → all_choices (a ++ b) cs ≡ all_choices a cs ++ all_choices b cs
+all_choices-append a b [] = refl
+all_choices-append a b (c ∷ cs) =
+    ap (λ m. all_choices m cs) (flat_map-append (λ m. map (λ p. m ++ p ∷ []) c) a b) ∙ all_choices-append (extended a c) (extended b c) cs
+
+append_nil : {X : Type 0} (xs : List X) → xs ++ [] ≡ xs
+append_nil [] = refl
+append_nil (x ∷ xs) = ap (λ ys. x ∷ ys) (append_nil xs)
+
+pub get_or_here : (cs : List (List Place)) (d : ℕ) → d < length cs → get_or cs d [] ≡ get_or cs d (get_or cs d [])
+get_or_here cs d lt = get_or-within cs d [] (get_or cs d []) lt
+
+all_choices-none : (cs : List (List Place)) → all_choices [] cs ≡ []
+all_choices-none [] = refl
+all_choices-none (c ∷ cs) = all_choices-none cs
+
+-- the maps of all choices that begin with one of these
+abbrev pub found : Sought → List (List Place) → List (List Place) → List Mapping
+found s begun cs = filter_map (λ p. mapped s p) (all_choices begun cs)
+
+abbrev pub with_each : List Place → List Place → List (List Place)
+with_each places c = map (λ p. places ++ p ∷ []) c
+
+pub found_none : (s : Sought) (cs : List (List Place)) → found s [] cs ≡ []
+found_none s cs = ap (λ xs. filter_map (λ p. mapped s p) xs) (all_choices-none cs)
+
+pub found-append : (s : Sought) (a b cs : List (List Place)) → found s (a ++ b) cs ≡ found s a cs ++ found s b cs
+found-append s a b cs =
+    ap (λ xs. filter_map (λ p. mapped s p) xs) (all_choices-append a b cs)
+    ∙ filter_map-append (λ p. mapped s p) (all_choices a cs) (all_choices b cs)
+
+pub found_one_more : (s : Sought) (places c : List Place) (k : ℕ) (x : Place) (cs : List (List Place)) → k < length c → x ≡ get_or c k x
+    → found s (with_each places (take (k + 1) c)) cs ≡ found s (with_each places (take k c)) cs ++ found s ((places ++ x ∷ []) ∷ []) cs
+found_one_more s places c k x cs lt is =
+    let ext : Place → List Place = λ p. places ++ p ∷ [] in
+    let more : with_each places (take (k + 1) c) ≡ with_each places (take k c) ++ (places ++ x ∷ []) ∷ [] =
+    ap (λ xs. map ext xs) (take_more c k x lt) ∙ map-append ext (take k c) (get_or c k x ∷ [])
+    ∙ ap (λ y. map ext (take k c) ++ ext y ∷ []) (sym is) in
+    ap (λ xs. found s xs cs) more ∙ found-append s (with_each places (take k c)) ((places ++ x ∷ []) ∷ []) cs
+
+pub found_here : (s : Sought) (places : List Place) (cs : List (List Place)) → length places < length cs
+    → found s (places ∷ []) (drop (length places) cs) ≡ found s (with_each places (get_or cs (length places) [])) (drop (length places + 1) cs)
+found_here s places cs lt =
+    let d = length places in
+    ap (λ xs. found s (places ∷ []) xs) (drop_item cs d (get_or cs d []) lt (get_or_here cs d lt))
+    ∙ ap (λ xs. found s xs (drop (d + 1) cs)) (append_nil (with_each places (get_or cs d [])))
+
+pub best_more : (s : Sought) (maps : List Mapping) (o : Option Priced) (p : Priced) → IsBest s maps o → IsPriced s p → IsBest s (maps ++ p.mapping ∷ []) (cheaper_of o p)
+best_more s maps None p h is =
+    let P : List Mapping → Type 0 = λ xs. IsFirstLeast (price s) (xs ++ p.mapping ∷ []) p.mapping in
+    record { priced = is; least = subst P (sym h) (least_alone (price s) p.mapping) }
+best_more s maps (Some q) p h is =
+    cond_both (nat_lt p.cost q.cost) (Some p) (Some q) (λ o. IsBest s (maps ++ p.mapping ∷ []) o)
+    (λ below. record { priced = is; least = least_taken (price s) maps q.mapping p.mapping h.least (let lt : p.cost < q.cost = ltb-true p.cost q.cost below in omega (arith, is.cost, h.priced.cost)) })
+    (λ above. record { priced = h.priced; least = least_kept (price s) maps q.mapping p.mapping h.least (let le : q.cost ≤ p.cost = ltb-false p.cost q.cost above in omega (arith, is.cost, h.priced.cost)) })
+
+-- where all virtual nodes are placed there is one map to ask, or none
+pub best_leaf_none : (s : Sought) (maps : List Mapping) (places : List Place) (o : Option Priced) (rest : List (List Place)) → rest ≡ [] → mapped s places ≡ None
+    → IsBest s maps o → IsBest s (maps ++ found s (places ∷ []) rest) o
+best_leaf_none s maps places o rest empty none h =
+    let e : maps ++ found s (places ∷ []) rest ≡ maps =
+    ap (λ xs. maps ++ found s (places ∷ []) xs) empty ∙ ap (λ m. maps ++ cons_option m []) none ∙ append_nil maps in
+    subst (λ xs. IsBest s xs o) (sym e) h
+
+pub best_leaf_some : (s : Sought) (maps : List Mapping) (places : List Place) (o : Option Priced) (p : Priced) (rest : List (List Place)) → rest ≡ [] → mapped s places ≡ Some p.mapping
+    → IsPriced s p → IsBest s maps o → IsBest s (maps ++ found s (places ∷ []) rest) (cheaper_of o p)
+best_leaf_some s maps places o p rest empty some is h =
+    let e : maps ++ found s (places ∷ []) rest ≡ maps ++ p.mapping ∷ [] =
+    ap (λ xs. maps ++ found s (places ∷ []) xs) empty ∙ ap (λ m. maps ++ cons_option m []) some in
+    subst (λ xs. IsBest s xs (cheaper_of o p)) (sym e) (best_more s maps o p h is)

@@ -1,0 +1,28 @@
+-- The cheapest map that the code keeps.
+use Rattle.std.specs.Prelude.{◌≡◌, ◌≤◌, ◌<◌, ℕ, List, [], length, Option, Some, None, Contains, slice_index_or, nat_lt, if◌then◌else◌}
+use Rattle.virt_topo.specs.declared.mapping.Mapping.{Mapping}
+use Rattle.lab_model.specs.Shapes.{Place}
+use Rattle.node_maps.specs.Least.{IsFirstLeast}
+use Rattle.map_anneal.specs.declared.search.Priced.{Priced}
+use Rattle.map_anneal.specs.Sought.{Sought, price}
+use Rattle.map_anneal.specs.Searches.{IsPriced}
+
+-- the cheapest of these feasible node maps with its cost, the first among equals
+pub record IsCheapest (s : Sought) (maps : List Mapping) (p : Priced) : Type 0 where
+  pub priced : IsPriced s p
+  pub least : IsFirstLeast (price s) maps p.mapping
+
+-- the cheapest of these, or None where there are none
+abbrev pub IsBest : Sought → List Mapping → Option Priced → Type 0
+IsBest s maps None = maps ≡ []
+IsBest s maps (Some p) = IsCheapest s maps p
+
+-- a candidate for each of the first virtual nodes
+pub record IsPartial (cs : List (List Place)) (places : List Place) : Type 0 where
+  pub within : length places ≤ length cs
+  pub among : (v : ℕ) (d : Place) → v < length places → Contains (slice_index_or cs v []) (slice_index_or places v d)
+
+-- the best map after one more
+abbrev pub cheaper_of : Option Priced → Priced → Option Priced
+cheaper_of None next = Some next
+cheaper_of (Some kept) next = if nat_lt next.cost kept.cost then Some next else Some kept

@@ -1,0 +1,11 @@
+//! The search: FirstFit, the exact search, and what is answered where candidates are few or many.
+#![tactic(auto)]
+
+mod exact;
+mod first;
+mod whole;
+
+pub use exact::best_of_all;
+pub use first::first_fit;
+pub use node_maps::{Candidates, candidates};
+pub use whole::{Solved, are_few, solve};
