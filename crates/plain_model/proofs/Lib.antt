@@ -4,3 +4,4 @@ pub mod IsolationLaws
 pub mod Neighbours
 pub mod ReadLaws
 pub mod RowLaws
+pub mod WantLaws

@@ -5,4 +5,5 @@ pub mod PipeView
 pub mod Readings
 pub mod RowView
 pub mod Rows
+pub mod WantedRows
 pub mod WantedView

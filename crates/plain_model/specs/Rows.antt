@@ -1,10 +1,11 @@
 -- Rows and nodes after commands.
 use Rattle.std.specs.Prelude.{ℕ, Bool, false, List, [], ◌∷◌, fold, Option, Some, None, if◌then◌else◌}
-use Rattle.std.specs.List.{filter, filter_map}
+use Rattle.std.specs.List.{flat_map}
 use Rattle.lab_base.specs.declared.boot.Boot.{Boot}
+use Rattle.plant.specs.declared.device.DeviceOp.{DeviceOp}
+use Rattle.plant.specs.declared.device.DeviceOp.TheVariants.{Join, Shape}
 use Rattle.plant.specs.Events.{Event, Did}
 use Rattle.plant.specs.Worlds.{Row, PipeRow, NodeRow, World, blank, row_after, node_after, node_polled, world_after}
-use Rattle.lab_model.specs.Courses.{op_join, op_pipe, op_node}
 use Rattle.plain_model.specs.Isolation.{NodePipe}
 use Rattle.plain_model.specs.declared.world.Sent.{Sent}
 
@@ -45,23 +46,28 @@ pipe_then name k had sent = (node_then name (record { os = None; pipes = λ j. h
 abbrev pub node_sent : List Sent → List ℕ → NodeRow
 node_sent commands name = (world_sent commands).node name
 
+-- the row that the command joins, if it stands after all commands
+abbrev pub row_seen : List Sent → Row → List Row
+row_seen commands row = if has_row commands row then row ∷ [] else []
+
+abbrev pub rows_by : List Sent → DeviceOp → List Row
+rows_by commands (Join switch port vlan) = row_seen commands (record { switch = switch; port = port; vlan = vlan.0 })
+rows_by commands op = []
+
 -- the rows that some command joined and that stand
-abbrev pub standing : List Sent → List Row
-standing commands = filter (has_row commands) (filter_map (λ sent. op_join sent.op) commands)
-
--- the nodes that commands went to, and the pipes that they set
-abbrev pub named : List Sent → List (List ℕ)
-named commands = filter_map (λ sent. op_node sent.op) commands
-
-abbrev pub set_pipes : List Sent → List (List ℕ × ℕ × PipeRow)
-set_pipes commands = filter_map (λ sent. op_pipe sent.op) commands
+abbrev pub rows_of : List Sent → List Sent → List Row
+rows_of commands sent = flat_map (λ s. rows_by commands s.op) sent
 
 -- the pipe of a node, as isolation sees it
-abbrev pub pipe_seen : List ℕ → Option PipeRow → List NodePipe → List NodePipe
-pipe_seen node None pipes = pipes
-pipe_seen node (Some pipe) pipes = record { node = node; from = pipe.from; to = pipe.to } ∷ pipes
+abbrev pub pipe_seen : List ℕ → Option PipeRow → List NodePipe
+pipe_seen node None = []
+pipe_seen node (Some pipe) = record { node = node; from = pipe.from; to = pipe.to } ∷ []
 
--- the pipes that stand on nodes
-abbrev pub pipes_of : List Sent → List (List ℕ × ℕ × PipeRow) → List NodePipe
-pipes_of commands [] = []
-pipes_of commands (p ∷ set) = pipe_seen p.0 ((node_sent commands p.0).pipes p.1) (pipes_of commands set)
+-- the pipe that the command sets, as it stands after all commands
+abbrev pub pipes_by : List Sent → DeviceOp → List NodePipe
+pipes_by commands (Shape node number from to there back) = pipe_seen node (fold (pipe_then node number) None commands)
+pipes_by commands op = []
+
+-- the pipes that some command set and that stand
+abbrev pub pipes_of : List Sent → List Sent → List NodePipe
+pipes_of commands sent = flat_map (λ s. pipes_by commands s.op) sent

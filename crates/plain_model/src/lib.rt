@@ -24,11 +24,13 @@ mod places;
 mod plugs;
 mod reading;
 mod row;
+mod seen;
 mod sides;
 mod suits;
 mod two_sides;
 mod uses;
 mod wanted;
+mod wants;
 mod world;
 
 pub use holding::is_holding;
@@ -38,11 +40,13 @@ pub use owner::Owner;
 pub use pipe::Pipe;
 pub use reading::{Read, read_from};
 pub use row::Row;
+pub use seen::{pipes_after, rows_after};
 pub use sides::on_first_side;
 pub use suits::all_fit;
 pub use two_sides::{Header, Live, Sides, header_of, live_of, read_sides};
 pub use uses::use_of;
 pub use wanted::Wanted;
+pub use wants::wanted_rows;
 pub use world::{Sent, boot_of, has_row, os_of, pipe_of};
 
 #[cfg(test)]
