@@ -1,0 +1,5 @@
+pub mod Counting
+pub mod FromScripts
+pub mod IdleLaws
+pub mod Named
+pub mod StepLaws

@@ -1,0 +1,5 @@
+pub mod Counts
+pub mod Steps
+pub mod Experiments
+pub mod Idle
+pub mod Blocks

@@ -1,0 +1,19 @@
+ghost use Rattle.std.specs.Prelude.{◌≡◌};
+
+use lab_base::Memory;
+
+/// Why a command was not answered.
+#[derive(Clone, Copy, Debug, PartialEq, Eq)]
+pub enum CoreFault {
+    Memory,
+}
+
+impl From<Memory> for CoreFault {
+    ghost use Rattle.lab_core.specs.declared.fault.CoreFault.TheVariants as faults;
+
+    ghost from_gives = { λ _ e. e ≡ faults.Memory };
+
+    fn from(_error: Memory) -> CoreFault {
+        CoreFault::Memory
+    }
+}
