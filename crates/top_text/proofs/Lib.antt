@@ -4,3 +4,7 @@ pub mod Places
 pub mod IfaceCount
 pub mod GivenLaws
 pub mod ZipLaws
+pub mod OwnPlaces
+pub mod SoundTests
+pub mod SolutionAgain
+pub mod SolutionSizes

@@ -4,3 +4,4 @@ pub mod Canonical
 pub mod Solutions
 pub mod Names
 pub mod CanonicalSolution
+pub mod Printable

@@ -1,10 +1,14 @@
-ghost use Rattle.std.specs.Prelude.{◌≡◌, ◌<◌, ◌++◌, ◌∷◌, [], map, length, All, OnOk, IfOk};
+ghost use Rattle.std.specs.Prelude.{◌≡◌, ◌<◌, ◌≤◌, ◌++◌, ◌∷◌, [], true, map, length, All, Ok, OnOk, IfOk};
 ghost use Rattle.std.specs.List.{zip};
+ghost use Rattle.lab_base.specs.Names.{is_name};
 ghost use Rattle.line_text.specs.Printing.{line_text, text_of, with_number};
 ghost use Rattle.virt_topo.specs.Ends.{end_nodes};
+ghost use Rattle.virt_topo.specs.Soundness.{IsSound};
 ghost use Rattle.lab_model.specs.Shapes.{IsShaped, node_at};
 ghost use Rattle.lab_model.specs.Uses.{iface_at};
 ghost use Rattle.top_text.specs.Canonical.{virt_name};
+ghost use Rattle.top_text.specs.Printable.{are_named};
+ghost use Rattle.top_text.specs.Solutions.{mapping_of_text};
 ghost use Rattle.top_text.specs.CanonicalSolution.{end_keys, place_fields, iface_field, plug_fields, canonical_solution};
 
 use crate::ends::end_keys;
@@ -29,7 +33,8 @@ fn push_place(
     place: (NodeId, Name),
 ) -> Result<(), Memory>
     requires { place.0.0 < length lab.now.nodes }
-    ensures { OnOk result (text.new ≡ text.old ++ line_text (place_fields lab.now (virt.now, place))) }
+    ensures text { OnOk result (text.new ≡ text.old ++ line_text (place_fields lab.now (virt.now, place))) }
+    ensures named { OnOk result (is_name virt.now.name ≡ true) }
 {
     text.push_bytes(b"node")?;
     push_field(text, &virt.name)?;
@@ -46,7 +51,8 @@ fn push_places(
 ) -> Result<(), Memory>
     requires places { length places.now ≡ length nodes.now }
     requires within { All (λ p. p.0.0 < length lab.now.nodes) places.now }
-    ensures { OnOk result (text.new ≡ text.old ++ text_of (map (place_fields lab.now) (zip nodes.now places.now))) }
+    ensures text { OnOk result (text.new ≡ text.old ++ text_of (map (place_fields lab.now) (zip nodes.now places.now))) }
+    ensures named { OnOk result (are_named nodes.now ≡ true) }
 {
     for virt in 0..nodes.len() {
         push_place(text, lab, &nodes[virt], places[virt])?;
@@ -115,7 +121,8 @@ fn push_mapping(
     mapping: &Mapping,
 ) -> Result<(), Memory>
     requires { IsShaped lab.now wiring.now mapping.now }
-    ensures { OnOk result (text.new ≡ text.old ++ canonical_solution lab.now wiring.now mapping.now) }
+    ensures text { OnOk result (text.new ≡ text.old ++ canonical_solution lab.now wiring.now mapping.now) }
+    ensures named { OnOk result (are_named wiring.now.nodes ≡ true) }
 {
     let keys = end_keys(alloc, wiring.segments.as_slice())?;
     push_places(
@@ -135,8 +142,11 @@ pub fn print_solution(
     mapping: &Mapping,
 ) -> Result<Text, Memory>
     requires { IsShaped lab.now wiring.now mapping.now }
-    ensures { IfOk result (λ text. text ≡ canonical_solution lab.now wiring.now mapping.now) }
+    ensures text { IfOk result (λ text. text ≡ canonical_solution lab.now wiring.now mapping.now) }
+    ensures again { IsSound wiring.now → IfOk result (λ text. mapping_of_text lab.now wiring.now text ≡ Ok mapping.now) }
+    ensures size { IsSound wiring.now → IfOk result (λ text. length text ≤ 16777216) }
 {
+    let _kept = lab.range();
     let mut text = Text::new(alloc);
     push_mapping(&mut text, alloc, lab, wiring, mapping)?;
     Ok(text)

@@ -1,0 +1,46 @@
+-- The place of what has a key of its own.
+use Rattle.std.proofs.Common.{◌≡◌, ◌≢◌, ℕ, zero, suc, ◌+◌, ◌<◌, Bool, true, false, not, cond, ltb, ◌||◌, List, [], ◌∷◌, length, map, get_or, Some, None, refl, ap, ◌∙◌, arith, inl, inr}
+use Rattle.std.specs.List.{list_any, position, prefix_len}
+use Rattle.std.proofs.lemmas.Bool.{or_parts}
+use Rattle.lab_base.specs.Lists.{Has, AllDiffer}
+use Rattle.line_text.proofs.PartsAgain.{less}
+use Rattle.virt_topo.specs.Repeats.{stands_again}
+
+pub neither : (a b : Bool) → a ≡ false → b ≡ false → (a || b) ≡ false
+neither a b x y = λ i. x i || y i
+
+module _ {X K : Type 0} (same : K → K → Bool) (self : (k : K) → same k k ≡ true) (symm : (a b : K) → same a b ≡ same b a) (key : X → K) where
+  none_at : (k : K) (xs : List X) (i : ℕ) (d : K) → list_any (λ y. same k (key y)) xs ≡ false → i < length xs → same k (get_or (map key xs) i d) ≡ false
+  none_at k [] i d none lt = absurd (omega arith)
+  none_at k (x ∷ xs) zero d none lt = (or_parts _ _ none).0
+  none_at k (x ∷ xs) (suc i) d none lt = none_at k xs i d (or_parts (same k (key x)) (list_any (λ y. same k (key y)) xs) none).1 (omega arith)
+
+  own_prefix : (xs : List X) (i : ℕ) (d : K) → stands_again (λ a b. same (key a) (key b)) xs ≡ false → i < length xs → prefix_len (λ y. not (same (get_or (map key xs) i d) (key y))) xs ≡ i
+  own_prefix [] i d once lt = absurd (omega arith)
+  own_prefix (x ∷ xs) zero d once lt = ap (λ (b : Bool). cond (not b) (1 + prefix_len (λ y. not (same (key x) (key y))) xs) 0) (self (key x))
+  own_prefix (x ∷ xs) (suc i) d once lt =
+      let parts = or_parts (list_any (λ y. same (key x) (key y)) xs) (stands_again (λ a b. same (key a) (key b)) xs) once in
+      let k = get_or (map key xs) i d in
+      let other : same k (key x) ≡ false = symm k (key x) ∙ none_at (key x) xs i d parts.0 (omega arith) in
+      let one : 1 + i ≡ suc i = omega arith in
+      ap (λ (b : Bool). cond (not b) (1 + prefix_len (λ y. not (same k (key y))) xs) 0) other
+      ∙ ap (λ (n : ℕ). 1 + n) (own_prefix xs i d parts.1 (omega arith)) ∙ one
+
+  -- the first place of the key at i is i
+  pub own_place : (xs : List X) (i : ℕ) (d : K) → stands_again (λ a b. same (key a) (key b)) xs ≡ false → i < length xs → position (λ y. same (get_or (map key xs) i d) (key y)) xs ≡ Some i
+  own_place xs i d once lt =
+      let at = own_prefix xs i d once lt in
+      (λ j. cond (ltb (at j) (length xs)) (Some (at j)) None) ∙ ap (λ (b : Bool). cond b (Some i) None) (less i (length xs) lt)
+
+  -- keys that differ stand once
+  pub differ_once : ((a b : K) → same a b ≡ true → a ≡ b) → (xs : List X) → AllDiffer (map key xs) → stands_again (λ a b. same (key a) (key b)) xs ≡ false
+  differ_once sound [] differ = refl
+  differ_once sound (x ∷ xs) differ = neither _ _ (others xs (λ y h. differ.0 y h)) (differ_once sound xs differ.1)
+    where
+      others : (ys : List X) → ((k : K) → Has (map key ys) k → key x ≢ k) → list_any (λ y. same (key x) (key y)) ys ≡ false
+      others [] apart = refl
+      others (y ∷ ys) apart = neither _ _ (one (same (key x) (key y)) refl) (others ys (λ k h. apart k (inr h)))
+        where
+          one : (b : Bool) → same (key x) (key y) ≡ b → b ≡ false
+          one false e = refl
+          one true e = absurd (apart (key y) (inl refl) (sound (key x) (key y) e))
