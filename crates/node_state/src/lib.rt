@@ -1,0 +1,11 @@
+//! The boot states of nodes: which may follow which, and how long a booting node is watched.
+#![tactic(auto)]
+
+mod pairs;
+mod watch;
+
+pub use pairs::lawful;
+pub use watch::{Seen, Watch};
+
+#[cfg(test)]
+mod tests;
