@@ -1,0 +1,17 @@
+-- What the calls on claims answer.
+use Rattle.std.specs.Prelude.{◌≡◌, ◌<◌, ◌≤◌, ℕ, List, [], length, map, take, Result, Ok, Err}
+use Rattle.lab_base.specs.declared.ids.VlanId.{VlanId}
+use Rattle.phys_lab.specs.Labs.{Lab}
+use Rattle.claims.specs.Held.{Held}
+use Rattle.claims.specs.declared.fault.TakeFault.{TakeFault}
+use Rattle.claims.specs.declared.fault.TakeFault.TheVariants as faults
+
+-- the claims of a lab in which nothing is claimed
+abbrev pub none_of : Lab → Held
+none_of lab = record { range = lab.range; nodes = length lab.nodes; kbps = map (λ t. t.kbps) lab.trunks; entries = [] }
+
+-- the least n of the free VLAN ids, TooFew exactly where there are fewer; or Memory
+abbrev pub AreTaken : List ℕ → ℕ → Result (List VlanId) TakeFault → Type 0
+AreTaken free n (Ok tags) = (n ≤ length free) × (map (λ tag. tag.0) tags ≡ take n free)
+AreTaken free n (Err (faults.TooFew few)) = (few ≡ length free) × (few < n)
+AreTaken free n (Err faults.Memory) = Unit {0}

@@ -1,0 +1,20 @@
+ghost use Rattle.std.specs.Prelude.{◌≡◌};
+ghost use Rattle.claims.specs.declared.fault.TakeFault.TheVariants as faults;
+
+use lab_base::Memory;
+
+/// Why VLAN ids were not taken.
+#[derive(Clone, Copy, Debug, PartialEq, Eq)]
+pub enum TakeFault {
+    /// Only so many are free.
+    TooFew(u16),
+    Memory,
+}
+
+impl From<Memory> for TakeFault {
+    ghost from_gives = { λ _ e. e ≡ faults.Memory };
+
+    fn from(_error: Memory) -> TakeFault {
+        TakeFault::Memory
+    }
+}

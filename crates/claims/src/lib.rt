@@ -1,0 +1,14 @@
+//! What the experiments of a lab claim, and what they leave.
+#![tactic(auto)]
+
+mod claim;
+mod claims;
+mod fault;
+mod hold;
+mod left;
+mod tables;
+
+pub use claim::Claim;
+pub use claims::Claims;
+pub use fault::TakeFault;
+pub use hold::Hold;
