@@ -104,6 +104,9 @@ fits_from lab e t New m is = in_from lab (claimed e New) m (and_parts _ _ t).1 i
 fits_test : (lab : Lab) (e : Experiment) → ((which : Which) (m : Mapped) → claimed e which ≡ Some m → Suits lab m) → fits lab e ≡ true
 fits_test lab e each = and_from _ _ (in_test lab (claimed e Old) (each Old)) (in_test lab (claimed e New) (each New))
 
+pub in_suits : (lab : Lab) (e : Experiment) (mapping : Mapping) (tags : List VlanId) → e.phase ≡ In mapping tags → fits lab e ≡ true → Suits lab (record { wiring = e.wiring; mapping = mapping; tags = tags })
+in_suits lab e mapping tags is t = fits_from lab e t New (record { wiring = e.wiring; mapping = mapping; tags = tags }) (ap (λ p. claimed_in e.wiring p New) is)
+
 pub in_shaped : (lab : Lab) (e : Experiment) (mapping : Mapping) (tags : List VlanId) → e.phase ≡ In mapping tags → fits lab e ≡ true → IsShaped lab e.wiring mapping
 in_shaped lab e mapping tags is t = (fits_from lab e t New (record { wiring = e.wiring; mapping = mapping; tags = tags }) (ap (λ p. claimed_in e.wiring p New) is)).shaped
 

@@ -23,7 +23,7 @@ from_some : (lab : Lab) (o : Option Mapped) (x : Owned) → Has (rows_from lab o
 from_some lab None x h = absurd h
 from_some lab (Some m) x h = (m, refl, h)
 
-wanted_owns : (lab : Lab) (es : List Experiment) (a : Wanted) → Has (wanted_in lab es) a → Owns lab es a.row a.owner
+pub wanted_owns : (lab : Lab) (es : List Experiment) (a : Wanted) → Has (wanted_in lab es) a → Owns lab es a.row a.owner
 wanted_owns lab es a h =
     let e = Has-flat_map (λ e. wanted_by lab e Old ++ wanted_by lab e New) es a h in
     elim (Has-append (wanted_by lab e.0 Old) (wanted_by lab e.0 New) a e.2) [
@@ -37,7 +37,7 @@ wanted_owns lab es a h =
         let m = from_some lab (claimed e which) o.0 o.1 in
         subst (λ x. Owns lab es x.row x.owner) o.2 (record { by = e; listed = in_es; name_is = refl; wants = record { mapped = m.0; is = m.1; row_of = m.2 } })
 
-owns_wanted : (lab : Lab) (es : List Experiment) (p : Row) (a : Owner) → Owns lab es p a → Has (wanted_in lab es) (record { row = p; owner = a })
+pub owns_wanted : (lab : Lab) (es : List Experiment) (p : Row) (a : Owner) → Owns lab es p a → Has (wanted_in lab es) (record { row = p; owner = a })
 owns_wanted lab es p a owns =
     Has-flat_mapped (λ e. wanted_by lab e Old ++ wanted_by lab e New) es owns.by (record { row = p; owner = a }) owns.listed (either a.which refl)
   where

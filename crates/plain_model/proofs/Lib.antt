@@ -1,7 +1,11 @@
+pub mod CabledLaws
 pub mod FirstLaws
 pub mod HoldsLaws
 pub mod IsolationLaws
+pub mod KeptLaws
 pub mod Neighbours
+pub mod NodeLaws
 pub mod ReadLaws
 pub mod RowLaws
+pub mod SeenLaws
 pub mod WantLaws

@@ -94,3 +94,8 @@ pub moving_pushed : (lab : Lab) (e : Experiment) (o n : Option Mapped) (old mid 
 moving_pushed lab e o n old mid new is one two =
     two ∙ ap (λ l. l ++ map (owned_as e.name New) (rows_from lab n)) one ∙ append_assoc old _ _
     ∙ ap (λ p. old ++ (map (owned_as e.name Old) (rows_from lab (claimed_in e.wiring p Old)) ++ map (owned_as e.name New) (rows_from lab (claimed_in e.wiring p New)))) (sym is)
+
+pub in_rows : (lab : Lab) (e : Experiment) (mapping : Mapping) (tags : List VlanId) → e.phase ≡ In mapping tags → wanted_by lab e Old ++ wanted_by lab e New ≡ wanted_by lab e New
+in_rows lab e mapping tags is =
+    ap (λ p. map (owned_as e.name Old) (rows_from lab (claimed_in e.wiring p Old)) ++ map (owned_as e.name New) (rows_from lab (claimed_in e.wiring p New))) is
+    ∙ sym (ap (λ p. map (owned_as e.name New) (rows_from lab (claimed_in e.wiring p New))) is)

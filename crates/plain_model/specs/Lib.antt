@@ -1,3 +1,4 @@
+pub mod Cabling
 pub mod Holds
 pub mod Isolation
 pub mod OwnerView

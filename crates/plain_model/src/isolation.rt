@@ -133,7 +133,7 @@ fn is_wanted(wanted: &[Wanted], p: &Row) -> bool
     wanted.iter().any(|a| same_row(p, &a.row))
 }
 
-fn are_wanted(wanted: &[Wanted], rows: &[Row]) -> bool
+pub(crate) fn are_wanted(wanted: &[Wanted], rows: &[Row]) -> bool
     ensures { result ≡ list_all (λ p. list_any (λ a. same_row p a.row) wanted.now) rows.now }
 {
     rows.iter().all(|p| is_wanted(wanted, p))

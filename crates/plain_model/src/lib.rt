@@ -13,11 +13,14 @@ ghost use Rattle.plain_model.specs.Rows.{commands_of, world_sent, node_sent, has
 ghost use Rattle.plain_model.specs.declared.world.Sent.{Sent};
 
 mod at;
+mod cabled;
 mod claims;
 mod firsts;
 mod holding;
+mod isolated;
 mod isolation;
 mod node_pipe;
+mod nodes;
 mod owner;
 mod pipe;
 mod places;
@@ -33,7 +36,9 @@ mod wanted;
 mod wants;
 mod world;
 
+pub use cabled::is_cabled;
 pub use holding::is_holding;
+pub use isolated::is_isolated_after;
 pub use isolation::{is_isolated, is_next};
 pub use node_pipe::NodePipe;
 pub use owner::Owner;

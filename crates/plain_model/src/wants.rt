@@ -280,6 +280,20 @@ fn push_wanted(listed: &mut Vec<Wanted>, lab: &Lab, experiment: &Experiment) -> 
     }
 }
 
+/// The rows of an experiment's old mapping, then those of its new one.
+pub(crate) fn wanted_of(
+    alloc: Global,
+    lab: &Lab,
+    experiment: &Experiment,
+) -> Result<Vec<Wanted>, Memory>
+    requires { fits lab.now experiment.now ≡ true }
+    ensures { IfOk result (λ listed. listed.items ≡ wanted_by lab.now experiment.now Old ++ wanted_by lab.now experiment.now New) }
+{
+    let mut listed = Vec::new(alloc);
+    push_wanted(&mut listed, lab, experiment)?;
+    Ok(listed)
+}
+
 fn push_all(listed: &mut Vec<Wanted>, lab: &Lab, experiments: &[Experiment]) -> Result<(), Memory>
     requires { all_fit lab.now experiments.now ≡ true }
     ensures { OnOk result (listed.new.items ≡ listed.old.items ++ wanted_in lab.now experiments.now) }
