@@ -67,18 +67,6 @@ next_long bytes old pairs cov still within long =
 pub from_start : (turns : List Turn) → AreTurns (codes "s1") [] turns → KeepsThroughout [] [] turns
 from_start turns are = keeps_throughout [] [] turns own_first are
 
--- a run that made no turn
-pub none_made : (start : Outside) (status : Status) → Wrote start.written start.written [] status ≡ (start.written ≡ append_known start.written []) → start.written ≡ append_known start.written []
-    → ((bytes : List ℕ) → start.left ≡ Some bytes → Begun bytes start.left [] status) → First start start status []
-none_made start status is nothing begun = record {
-  told = refl;
-  counts = refl;
-  turns = tt;
-  keeps = from_start [] tt;
-  begun = begun;
-  wrote = subst (λ (T : Type 0). T) (sym is) nothing;
-}
-
 module _ (start : Outside) (old new : Now) (left : Option (List ℕ)) (turns : List Turn) (so : SoFar start old turns) (covers : (bytes : List ℕ) → start.left ≡ Some bytes → Covered bytes old (pairs_of turns)) (within : old.taken ≤ 2 ^ 32) where
   abbrev end : Outside
   end = record { left = left; told = new.seen.told; faults = new.seen.faults; stopped = new.seen.stopped; written = new.written }

@@ -8,6 +8,7 @@ use Rattle.lab_io.proofs.Known.{append_known-append}
 use Rattle.lab_io.proofs.LineLaws.{lines-ended, lines-last, line-text}
 use Rattle.lab_io.specs.Feeds.{LastLine}
 use Rattle.lab_io.specs.Lines.{line_of, lines_from}
+use Rattle.lab_io.specs.Passed.{IsWhole}
 use Rattle.lab_io.specs.Taken.{TookText}
 use Rattle.plant.specs.declared.moment.Faults.{Faults}
 use Rattle.plant.specs.Calls.{Rose}
@@ -21,7 +22,7 @@ use Rattle.lab_top.specs.Lab.{Answers, is_failed}
 use Rattle.lab_top.specs.Script.{Script, before, goes_on, script_from, script_of, said_of}
 use Rattle.lab_top.specs.Turns.{Turn, Makes, Seen, with_turn, with_turns, Counts, after, after_turns, AreTurns, text, texts}
 use Rattle.lab_top.specs.Session.{Now, Outside, Takes, Obeyed}
-use Rattle.lab_top.specs.First.{pairs_of, IsWhole}
+use Rattle.lab_top.specs.First.{pairs_of}
 
 -- one turn more
 pub AreTurns-push : (switch : List ℕ) (experiments : List Experiment) (turns : List Turn) (turn : Turn) → AreTurns switch experiments turns
@@ -78,24 +79,10 @@ pub record Covered (bytes : List ℕ) (now : Now) (pairs : List Pair) : Type 0 w
   pub done : List ℕ
   pub rest : List ℕ
   pub split : bytes ≡ done ++ rest
-  pub size : length done ≡ now.taken
   pub left : now.rest ≡ Some rest
   pub ends : (now.ended ≡ false) ⊎ (rest ≡ [])
   pub whole : now.ended ≡ false → IsWhole done
   pub script : (more : List ℕ) → (now.ended ≡ false) ⊎ (more ≡ []) → script_of (done ++ more) ≡ joined pairs (script_from (lines_from now.taken more) now.machines now.names (now.number + 1))
-
--- before the first line
-pub none_yet : (bytes : List ℕ) (now : Now) → now.rest ≡ Some bytes → now.ended ≡ false → now.machines ≡ 0 → now.names ≡ [] → now.number ≡ 0 → now.taken ≡ 0 → Covered bytes now []
-none_yet bytes now left still machines names number taken = record {
-  done = [];
-  rest = bytes;
-  split = refl;
-  size = sym taken;
-  left = left;
-  ends = inl still;
-  whole = λ e. inl refl;
-  script = λ more e. (λ i. script_from (lines_from (sym taken i) more) (sym machines i) (sym names i) (sym number i + 1));
-}
 
 -- the pair that a line says
 abbrev pub pair_said : Said → List Pair
@@ -126,7 +113,6 @@ pub record Taken (old new : Now) (rest : List ℕ) (text : List ℕ) : Type 0 wh
   pub raw : List ℕ
   pub after : List ℕ
   pub split : rest ≡ raw ++ after
-  pub size : new.taken ≡ old.taken + length raw
   pub left : new.rest ≡ Some after
   pub ends : (new.ended ≡ false) ⊎ (after ≡ [])
   pub whole : new.ended ≡ false → (front : List ℕ) × (raw ≡ front ++ 10 ∷ [])
@@ -162,7 +148,6 @@ taken old new rest text is takes = by new.rest refl
       raw = t.raw;
       after = after;
       split = cc (is, t.front);
-      size = t.counted;
       left = e;
       ends = ⊎_elim (λ d. inl d.1) (λ d. inr (at_end after (subst IsAtEnd e d.1))) t.is_line;
       whole = λ still. ⊎_elim (λ d. (d.0.0, d.0.1)) (λ d. absurd (differ new.ended still d.2)) t.is_line;
@@ -176,7 +161,6 @@ covered_step bytes old new pairs text cov takes done = record {
   done = cov.done ++ t.raw;
   rest = t.after;
   split = cov.split ∙ ap (λ (l : List ℕ). cov.done ++ l) t.split ∙ sym (append_assoc cov.done t.raw t.after);
-  size = omega (arith, length-append cov.done t.raw, cov.size, t.size);
   left = t.left;
   ends = t.ends;
   whole = λ still. let w = t.whole still in inr (cov.done ++ w.0, ap (λ (l : List ℕ). cov.done ++ l) w.1 ∙ sym (append_assoc cov.done w.0 (10 ∷ [])));

@@ -10,3 +10,6 @@ pub mod OwnWords
 pub mod Rows
 pub mod Suits
 pub mod Words
+pub mod Forms
+pub mod Commanding
+pub mod Starts

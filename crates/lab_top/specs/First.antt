@@ -1,7 +1,8 @@
--- What a whole run says of the bytes that it read, the bytes that it wrote and the plant's past.
-use Rattle.std.specs.Prelude.{◌≡◌, ◌⊎◌, ℕ, ◌<◌, List, [], ◌∷◌, ◌++◌, length, take, map, Option, Some, codes}
+-- What a run of pairs says of the bytes that it read, the bytes that it wrote and the plant's past.
+use Rattle.std.specs.Prelude.{◌≡◌, ℕ, ◌<◌, List, [], ◌∷◌, ◌++◌, length, take, map, Option, Some, codes}
 use Rattle.std.specs.Io.KnownBytes.{append_known}
 use Rattle.lab_io.specs.Feeds.{NoFeed}
+use Rattle.lab_io.specs.Passed.{IsWhole}
 use Rattle.lab_top.specs.declared.script.Pair.{Pair}
 use Rattle.lab_top.specs.declared.status.Status.{Status}
 use Rattle.lab_top.specs.declared.status.Status.TheVariants.{Done, ReadFault, WriteFault, Usage, BadScript, Memory}
@@ -12,10 +13,6 @@ use Rattle.lab_top.specs.Turns.{Turn, with_turns, AreTurns, Counts, text, texts}
 
 abbrev pub pairs_of : List Turn → List Pair
 pairs_of turns = map (λ turn. turn.pair) turns
-
--- nothing, or lines with their line feeds
-abbrev pub IsWhole : List ℕ → Type 0
-IsWhole bytes = (bytes ≡ []) ⊎ ((front : List ℕ) × (bytes ≡ front ++ 10 ∷ []))
 
 -- the script is these pairs, up to its end
 abbrev pub IsAll : List ℕ → List Turn → Type 0
@@ -40,7 +37,7 @@ abbrev pub Wrote : Option (List ℕ) → Option (List ℕ) → List Turn → Sta
 Wrote old new turns WriteFault = (before : List Turn) × (turn : Turn) × (n : ℕ) × (turns ≡ before ++ turn ∷ []) × (n < length (text turn)) × (new ≡ append_known old (texts before ++ take n (text turn)))
 Wrote old new turns status = new ≡ append_known old (texts turns)
 
--- A RUN, by the turns that it made
+-- A RUN OF PAIRS, by the turns that it made
 pub record First (old new : Outside) (status : Status) (made : List Turn) : Type 0 where
   -- the marks are the moments just before the pairs that were begun, and the steps are those of the replies
   pub told : new.told ≡ with_turns old.told made

@@ -10,3 +10,7 @@ pub mod Pairs
 pub mod Script
 pub mod Session
 pub mod Turns
+pub mod Forms
+pub mod CommandTurns
+pub mod Ran
+pub mod Run

@@ -1,10 +1,14 @@
-//! One run of the program: the script is read line by line, and each line is obeyed and answered before the next.
+//! One run of the program: the script is read command by command, and each is obeyed and answered before the next.
 #![tactic(auto)]
 
 mod answer;
+mod command;
+mod commands;
 mod course;
 mod experiment;
+mod form;
 mod lab;
+mod pairs;
 mod script;
 mod status;
 mod step;
@@ -14,5 +18,7 @@ mod turn;
 pub use status::Status;
 pub use top::labctl;
 
+#[cfg(test)]
+mod command_tests;
 #[cfg(test)]
 mod tests;

@@ -11,14 +11,14 @@ fn named(text: &[u8]) -> Result<Name, Fail> {
 
 /// What is left behind a run.
 #[derive(Drop)]
-struct Ran {
-    status: Status,
-    output: Vec<u8>,
-    plant: MemLab,
+pub(crate) struct Ran {
+    pub(crate) status: Status,
+    pub(crate) output: Vec<u8>,
+    pub(crate) plant: MemLab,
 }
 
 /// Runs a script, with failures of these commands to the switch.
-fn run(alloc: Global, script: &[u8], fails: &[(u32, How)]) -> Result<Ran, Fail> {
+pub(crate) fn run(alloc: Global, script: &[u8], fails: &[(u32, How)]) -> Result<Ran, Fail> {
     let mut plant = MemLab::blank(alloc)?;
     for (nth, how) in fails {
         let name = named(b"s1")?;

@@ -1,19 +1,19 @@
-ghost use Rattle.std.specs.Prelude.{◌≡◌, ◌≢◌, ◌↔◌, ◌≤◌, ◌<◌, List, [], length};
+ghost use Rattle.std.specs.Prelude.{◌≡◌, ◌↔◌, ◌≤◌, ◌<◌, length};
 ghost use Rattle.lab_io.specs.Causes.{Rose};
-ghost use Rattle.lab_top.specs.First.{First};
-ghost use Rattle.lab_top.specs.Session.{Outside};
-ghost use Rattle.lab_top.specs.Turns.{Turn};
+ghost use Rattle.lab_top.specs.Run.{Run};
 
-use crate::lab::Lab;
+use crate::commands::obey_commands;
+use crate::form::{Form, find_form};
+use crate::pairs::obey_pairs;
 use crate::status::Status;
-use crate::step::obey_line;
-use lab_io::{LineReader, Sink, Source};
+use lab_io::{LineFault, LineReader, Sink, Source};
 use plant::Plant;
 use std::alloc::Global;
 
-/// Obeys the script of the source, line by line, and writes a reply to each pair before it reads the next line.
+/// Obeys the script of the source, and writes a reply to each of its commands, or pairs, before it reads the next.
 ///
-/// `words` are those behind the program's name; there may be none.
+/// The script is one of pairs where its first line that isn't skipped begins with the word `machines`. `words` are those
+/// behind the program's name; there may be none.
 pub fn labctl<S: Source, K: Sink, P: Plant>(
     alloc: Global,
     words: &[String],
@@ -21,9 +21,9 @@ pub fn labctl<S: Source, K: Sink, P: Plant>(
     sink: &mut K,
     plant: &mut P,
 ) -> Status
-    ensures first { (turns : List Turn) × First
+    ensures run { Run
         (record { left = S.left source.old; told = P.told plant.old; faults = P.faults plant.old; stopped = P.is_stopped plant.old; written = K.written sink.old })
-        (record { left = S.left source.new; told = P.told plant.new; faults = P.faults plant.new; stopped = P.is_stopped plant.new; written = K.written sink.new }) result turns }
+        (record { left = S.left source.new; told = P.told plant.new; faults = P.faults plant.new; stopped = P.is_stopped plant.new; written = K.written sink.new }) result }
     ensures usage { (result ≡ Status.Usage) ↔ (0 < length words.now) }
     ensures unread { result ≡ Status.Usage → source.new ≡ source.old }
     ensures unwritten { result ≡ Status.Usage → sink.new ≡ sink.old }
@@ -40,11 +40,11 @@ pub fn labctl<S: Source, K: Sink, P: Plant>(
     let Ok(mut reader) = LineReader::new(alloc) else {
         return Status::Memory;
     };
-    let mut lab = Lab::new(alloc);
-    'lines: loop {
-        match obey_line(alloc, &mut reader, &mut lab, source, sink, plant) {
-            Ok(()) => {}
-            Err(status) => return status,
-        }
+    match find_form(alloc, &mut reader, source) {
+        Ok(Form::Pairs) => obey_pairs(alloc, &mut reader, source, sink, plant),
+        Ok(Form::Commands) => obey_commands(alloc, &mut reader, source, sink, plant),
+        Err(LineFault::TooLong(line)) => Status::BadScript { line },
+        Err(LineFault::ReadFault) => Status::ReadFault,
+        Err(LineFault::Memory) => Status::Memory,
     }
 }

@@ -1,65 +1,34 @@
-use Rattle.std.proofs.Common.{List, [], refl, sym, ◌∙◌, ap, subst, arith}
-use Rattle.std.specs.Io.KnownBytes.{prepend_known}
-use Rattle.lab_io.proofs.Known.{append_known-nil, prepend_known-nil}
-use Rattle.lab_top.specs.declared.script.Pair.{Pair}
-use Rattle.lab_top.specs.declared.status.Status.TheVariants.{Usage, Memory}
+use Rattle.std.proofs.Common.{refl}
+use Rattle.lab_top.specs.declared.status.Status.TheVariants.{Usage, BadScript, ReadFault, Memory}
 use Rattle.lab_top.specs.Script.{script_of}
-use Rattle.lab_top.specs.Session.{Outside, now_of}
-use Rattle.lab_top.proofs.Going.{Covered, none_yet, so_far_step, covered_step}
-use Rattle.lab_top.proofs.Ends.{ends, none_made}
+use Rattle.lab_top.specs.Session.{Outside}
+use Rattle.lab_top.proofs.Starts.{nothing_begun, cut_pairs, cut_commands}
 use Rattle.lab_top.proofs.top.labctl.Goals as goal
 
-pub returns-then-not-is_empty-clause-first : goal.returns-then-not-is_empty-clause-first
-returns-then-not-is_empty-clause-first g c =
+pub returns-then-not-is_empty-clause-run : goal.returns-then-not-is_empty-clause-run
+returns-then-not-is_empty-clause-run g c =
     let start : Outside = record { left = g.S.Source.left c.args.source.now; told = g.P.Plant.told c.args.plant.now; faults = g.P.Plant.faults c.args.plant.now; stopped = g.P.Plant.is_stopped c.args.plant.now; written = g.K.Sink.written c.args.sink.now } in
-    ([], none_made start Usage refl (sym (append_known-nil (g.K.Sink.written c.args.sink.now))) (λ bytes is. (refl, is)))
+    nothing_begun start start.left Usage (λ same. (same, same)) (λ bytes is. ((refl, is), (refl, is)))
 
-pub returns-in_default-clause-first : goal.returns-in_default-clause-first
-returns-in_default-clause-first g c =
+pub returns-in_default-clause-run : goal.returns-in_default-clause-run
+returns-in_default-clause-run g c =
     let start : Outside = record { left = g.S.Source.left c.args.source.now; told = g.P.Plant.told c.args.plant.now; faults = g.P.Plant.faults c.args.plant.now; stopped = g.P.Plant.is_stopped c.args.plant.now; written = g.K.Sink.written c.args.sink.now } in
-    ([], none_made start Memory refl (sym (append_known-nil (g.K.Sink.written c.args.sink.now))) (λ bytes is. ((script_of bytes).pairs, refl)))
+    nothing_begun start start.left Memory (λ same. (same, same)) (λ bytes is. (((script_of bytes).pairs, refl), tt))
 
-pub lines-init : goal.lines-init
-lines-init g c =
-    let e = c.in-Ok.ensures in
-    let l = c.new-lab.ensures in
-    let left = g.S.Source.left c.args.source.now in
-    record {
-      fault = e.fault;
-      within = omega (arith, e.taken);
-      going = (
-        [],
-        record { are = tt; experiments = l.experiments; told = refl; counts = refl; written = sym (append_known-nil (g.K.Sink.written c.args.sink.now)); switch = l.switch },
-        λ bytes is. none_yet bytes _ (ap (λ p. prepend_known p left) e.pending ∙ prepend_known-nil left ∙ is) e.ended l.machines l.names e.lines e.taken,
-      );
-      read = omega arith;
-      write = omega arith;
-      drills = refl;
-    }
-
-pub lines-preserved : goal.lines-preserved
-lines-preserved g c =
-    let e = c.in-Ok-obey_line.ensures in
-    let step = e.stepped in
-    let was = c.lines.invariant.going in
-    let here : Outside = record { left = g.S.Source.left c.obey_line.new.source; told = g.P.Plant.told c.obey_line.new.plant; faults = g.P.Plant.faults c.obey_line.new.plant; stopped = g.P.Plant.is_stopped c.obey_line.new.plant; written = g.K.Sink.written c.obey_line.new.sink } in
-    let more = so_far_step _ _ _ was.0 _ was.1 step.3 step.2 in
-    record {
-      fault = e.fault;
-      within = e.within;
-      going = (
-        more.0,
-        more.1,
-        λ bytes is. subst (λ (ps : List Pair). Covered bytes (now_of c.obey_line.new.reader c.obey_line.new.lab here) ps) (sym more.2)
-            (covered_step bytes _ _ _ step.0 (was.2 bytes is) step.1 step.3),
-      );
-      read = omega (arith, e.read_later, c.lines.invariant.read);
-      write = omega (arith, e.write_later, c.lines.invariant.write);
-      drills = e.drills ∙ c.lines.invariant.drills;
-    }
-
-pub returns-in-Err-clause-first : goal.returns-in-Err-clause-first
-returns-in-Err-clause-first g c =
-    let was = c.lines.invariant.going in
+pub returns-in-Err-TooLong-clause-run : goal.returns-in-Err-TooLong-clause-run
+returns-in-Err-TooLong-clause-run g c =
     let start : Outside = record { left = g.S.Source.left c.args.source.now; told = g.P.Plant.told c.args.plant.now; faults = g.P.Plant.faults c.args.plant.now; stopped = g.P.Plant.is_stopped c.args.plant.now; written = g.K.Sink.written c.args.sink.now } in
-    ends start _ _ (g.S.Source.left c.obey_line.new.source) was.0 was.1 was.2 c.lines.invariant.within c.in-Err.status c.in-Err.ensures.stepped
+    let e = rw c.in-Err-TooLong.field-0-is at c.in-Err-TooLong.ensures in
+    rw c.in-Err-TooLong.field-0-is (nothing_begun start (g.S.Source.left c.find_form.new.source) (BadScript c.in-Err-TooLong.line) (λ same. (same, same)) (λ bytes is. absurd (e.short bytes is c.in-Err-TooLong.line refl)))
+
+pub returns-in-Err-ReadFault-clause-run : goal.returns-in-Err-ReadFault-clause-run
+returns-in-Err-ReadFault-clause-run g c =
+    let start : Outside = record { left = g.S.Source.left c.args.source.now; told = g.P.Plant.told c.args.plant.now; faults = g.P.Plant.faults c.args.plant.now; stopped = g.P.Plant.is_stopped c.args.plant.now; written = g.K.Sink.written c.args.sink.now } in
+    let left = g.S.Source.left c.find_form.new.source in
+    let e = rw c.in-Err-ReadFault.field-0-is at c.in-Err-ReadFault.ensures in
+    nothing_begun start left ReadFault (λ same. (same, same)) (λ bytes is. let cut = e.cut refl bytes is in (cut_pairs bytes left cut, cut_commands bytes left cut))
+
+pub returns-clause-run : goal.returns-clause-run
+returns-clause-run g c =
+    let start : Outside = record { left = g.S.Source.left c.args.source.now; told = g.P.Plant.told c.args.plant.now; faults = g.P.Plant.faults c.args.plant.now; stopped = g.P.Plant.is_stopped c.args.plant.now; written = g.K.Sink.written c.args.sink.now } in
+    nothing_begun start (g.S.Source.left c.find_form.new.source) Memory (λ same. (same, same)) (λ bytes is. (((script_of bytes).pairs, refl), tt))

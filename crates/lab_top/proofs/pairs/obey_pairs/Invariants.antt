@@ -1,10 +1,12 @@
-use Rattle.std.proofs.Common.{◌≡◌, ◌≤◌, ◌-◌, ◌^◌, ℕ, List, None, Some}
+use Rattle.std.proofs.Common.{◌≡◌, ◌≤◌, ◌-◌, ◌^◌, ℕ, List, None}
+use Rattle.lab_io.specs.Passed.{stand_of}
 use Rattle.lab_io.specs.Taken.{fault_of, taken_of}
+use Rattle.lab_top.specs.First.{pairs_of}
+use Rattle.lab_top.specs.Forms.{Behind}
 use Rattle.lab_top.specs.Session.{Outside, now_of}
 use Rattle.lab_top.specs.Turns.{Turn}
-use Rattle.lab_top.specs.First.{pairs_of}
 use Rattle.lab_top.proofs.Going.{SoFar, Covered}
-use Rattle.lab_top.proofs.top.labctl.Given as goal
+use Rattle.lab_top.proofs.pairs.obey_pairs.Given as goal
 
 abbrev pub invariant-lines : goal.invariant-lines
 invariant-lines g l =
@@ -14,7 +16,7 @@ invariant-lines g l =
       fault : fault_of l.reader ≡ None;
       within : taken_of l.reader ≤ 2 ^ 32;
       going : (turns : List Turn) × SoFar start (now_of l.reader l.lab here) turns
-          × ((bytes : List ℕ) → g.S.Source.left l.fn.source ≡ Some bytes → Covered bytes (now_of l.reader l.lab here) (pairs_of turns));
+          × ((bytes : List ℕ) → Behind bytes (stand_of l.fn.reader (g.S.Source.left l.fn.source)) → Covered bytes (now_of l.reader l.lab here) (pairs_of turns));
       read : g.S.Source.faults l.fn.source ≤ g.S.Source.faults l.source;
       write : g.K.Sink.faults l.fn.sink ≤ g.K.Sink.faults l.sink;
       drills : g.P.Plant.takes_drills l.plant ≡ g.P.Plant.takes_drills l.fn.plant;

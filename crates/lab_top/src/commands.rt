@@ -1,0 +1,54 @@
+ghost use Rattle.std.specs.Prelude.{◌≡◌, ◌≤◌, ℕ, List, Option, Some};
+ghost use Rattle.lab_io.specs.Causes.{Rose};
+ghost use Rattle.lab_io.specs.Passed.{IsReady, stand_of};
+ghost use Rattle.script_text.specs.declared.command.Command as commands;
+ghost use Rattle.lab_top.specs.CommandTurns.{CommandTurn};
+ghost use Rattle.lab_top.specs.Forms.{Behind};
+ghost use Rattle.lab_top.specs.Ran.{Ran};
+
+use crate::command::answer_command;
+use crate::status::Status;
+use crate::turn::TurnFault;
+use lab_core::Controller;
+use lab_io::{LineReader, Sink, Source};
+use plant::Plant;
+use script_text::{Next, ScriptFault, read_command};
+use std::alloc::Global;
+
+/// Obeys the commands of a script one after another, and writes the reply to each before it reads the next.
+pub(crate) fn obey_commands<S: Source, K: Sink, P: Plant>(
+    alloc: Global,
+    reader: &mut LineReader,
+    source: &mut S,
+    sink: &mut K,
+    plant: &mut P,
+) -> Status
+    requires { IsReady reader.old (S.left source.old) }
+    ensures ran { (left : Option (List ℕ)) → ((bytes : List ℕ) → left ≡ Some bytes → Behind bytes (stand_of reader.old (S.left source.old)))
+        → (turns : List CommandTurn) × (waiting : Option commands.Command) × Ran
+        (record { left = left; told = P.told plant.old; faults = P.faults plant.old; stopped = P.is_stopped plant.old; written = K.written sink.old })
+        (record { left = S.left source.new; told = P.told plant.new; faults = P.faults plant.new; stopped = P.is_stopped plant.new; written = K.written sink.new }) result turns waiting }
+    ensures read { result ≡ Status.ReadFault → Rose (S.faults source.old) (S.faults source.new) }
+    ensures read_later { S.faults source.old ≤ S.faults source.new }
+    ensures write { result ≡ Status.WriteFault → Rose (K.faults sink.old) (K.faults sink.new) }
+    ensures write_later { K.faults sink.old ≤ K.faults sink.new }
+    ensures drills { P.takes_drills plant.new ≡ P.takes_drills plant.old }
+    ensures usage { result ≡ Status.Usage → ⊥ }
+{
+    let mut controller = Controller::new(alloc);
+    'commands: loop {
+        match read_command(alloc, reader, source) {
+            Ok(Next::Command(command)) => {
+                match answer_command(alloc, &mut controller, command, sink, plant) {
+                    Ok(()) => {}
+                    Err(TurnFault::Memory) => return Status::Memory,
+                    Err(TurnFault::WriteFault) => return Status::WriteFault,
+                }
+            }
+            Ok(Next::End) => return Status::Done,
+            Err(ScriptFault::Bad { line }) => return Status::BadScript { line },
+            Err(ScriptFault::ReadFault) => return Status::ReadFault,
+            Err(ScriptFault::Memory) => return Status::Memory,
+        }
+    }
+}
