@@ -8,3 +8,11 @@ pub mod OwnPlaces
 pub mod SoundTests
 pub mod SolutionAgain
 pub mod SolutionSizes
+pub mod AddressAgain
+pub mod PartLaws
+pub mod TopLines
+pub mod TopAgain
+pub mod TopPrinted
+pub mod TopWhole
+pub mod PipeCount
+pub mod TopSizes

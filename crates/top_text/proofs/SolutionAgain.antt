@@ -50,7 +50,7 @@ use Rattle.top_text.proofs.EndKeys.{ends_of, count_few, number_at, keys_length}
 use Rattle.top_text.proofs.ZipLaws.{zip_length}
 use Rattle.top_text.proofs.OwnPlaces.{own_place, differ_once}
 
-symm_name : (a b : List ℕ) → same_name a b ≡ same_name b a
+pub symm_name : (a b : List ℕ) → same_name a b ≡ same_name b a
 symm_name a b = nat_list_eq_equiv.symm a b
 
 eqb_symm : (a b : ℕ) → eqb a b ≡ eqb b a
@@ -123,14 +123,14 @@ pair_at {X} {Y} (f ∷ front) z rest (x ∷ xs) (y ∷ ys) e =
     let p = pair_at front z rest xs ys same in
     record { first = p.first; second = p.second; within = omega (arith, p.within); beside = omega (arith, p.beside) }
 
-map_at : {X K : Type 0} (f : X → K) (xs : List X) (i : ℕ) (d : X) → get_or (map f xs) i (f d) ≡ f (get_or xs i d)
+pub map_at : {X K : Type 0} (f : X → K) (xs : List X) (i : ℕ) (d : X) → get_or (map f xs) i (f d) ≡ f (get_or xs i d)
 map_at f [] i d = refl
 map_at f (x ∷ xs) zero d = refl
 map_at f (x ∷ xs) (suc i) d = map_at f xs i d
 
 -- WHAT PRINTED NAMES NAME
 
-virt_own : (w : Wiring) → IsSound w → (i : ℕ) (v : VirtNode) → i < length w.nodes → v ≡ get_or w.nodes i v → virt_named w v.name ≡ Some i
+pub virt_own : (w : Wiring) → IsSound w → (i : ℕ) (v : VirtNode) → i < length w.nodes → v ≡ get_or w.nodes i v → virt_named w v.name ≡ Some i
 virt_own w sound i v lt is =
     let name : get_or (map (λ (n : VirtNode). n.name) w.nodes) i v.name ≡ v.name = map_at (λ (n : VirtNode). n.name) w.nodes i v ∙ sym (ap (λ (n : VirtNode). n.name) is) in
     ap (λ (k : List ℕ). position (λ n. same_name k n.name) w.nodes) (sym name)
@@ -229,7 +229,7 @@ plug_at (f ∷ front) z rest earlier (v ∷ ends) (y ∷ plugs) e =
     record {
       before = v ∷ p.before;
       behind = p.behind;
-      is = ap (λ (l : List ℕ). v ∷ l) p.is;
+      is = ap (λ (l : List ℕ). v ∷ l) {y = p.before ++ z.0.0 ∷ p.behind} p.is;
       count = ap suc p.count;
       number = p.number ∙ ap (ends_of z.0.0) (append_assoc earlier (v ∷ []) p.before);
       plug = p.plug;

@@ -5,3 +5,4 @@ pub mod Solutions
 pub mod Names
 pub mod CanonicalSolution
 pub mod Printable
+pub mod Once

@@ -4,6 +4,7 @@
 mod address;
 mod ends;
 mod given;
+mod laws;
 mod lines;
 mod names;
 mod print;
@@ -13,10 +14,13 @@ mod solution;
 mod solution_lines;
 mod solution_print;
 
+pub use laws::texts_are_of_one;
 pub use print::print_top;
 pub use read::read_top;
 pub use solution::read_solution;
 pub use solution_print::print_solution;
 
+#[cfg(test)]
+mod solution_tests;
 #[cfg(test)]
 mod tests;

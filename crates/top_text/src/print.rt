@@ -1,6 +1,10 @@
-ghost use Rattle.std.specs.Prelude.{◌≡◌, ◌/◌, ◌%◌, ◌++◌, ◌∷◌, [], map, codes, decimal, OnOk, IfOk};
-ghost use Rattle.std.specs.List.{flat_map};
+ghost use Rattle.std.specs.Prelude.{◌≡◌, ◌≤◌, ◌/◌, ◌%◌, ◌++◌, ◌∷◌, [], true, map, length, codes, decimal, Ok, OnOk, IfOk};
+ghost use Rattle.std.specs.List.{flat_map, list_all};
+ghost use Rattle.lab_base.specs.Names.{is_name};
 ghost use Rattle.line_text.specs.Printing.{line_text, spaced, text_of, with_number};
+ghost use Rattle.virt_topo.specs.Soundness.{IsSound};
+ghost use Rattle.top_text.specs.Adding.{wiring_of_text};
+ghost use Rattle.top_text.specs.Printable.{named_asks, named_class, named_node, named_place, named_segment, is_address, is_printable};
 ghost use Rattle.top_text.specs.Canonical.{virt_name, class_name, address_text, behind_name, end_field, asked_name, rates_fields, class_fields, node_fields, fix_at, fix_lines, link_fields, pipe_fields, canonical_top};
 
 use lab_base::{Memory, Name, Rates, Text};
@@ -27,7 +31,8 @@ fn class_name(wiring: &Wiring, class: u16) -> &[u8]
 }
 
 fn asked_name<'a>(wiring: &'a Wiring, asks: &'a Asks) -> &'a [u8]
-    ensures { result.now ≡ asked_name wiring.now asks.now }
+    ensures name { result.now ≡ asked_name wiring.now asks.now }
+    ensures named { named_asks asks.now ≡ true }
 {
     match asks {
         Asks::Plain(kind) => kind.bytes(),
@@ -52,7 +57,8 @@ fn push_count(text: &mut Text, number: u64) -> Result<(), Memory>
 }
 
 fn push_names(text: &mut Text, names: &[Name]) -> Result<(), Memory>
-    ensures { OnOk result (text.new ≡ text.old ++ spaced names.now) }
+    ensures text { OnOk result (text.new ≡ text.old ++ spaced names.now) }
+    ensures named { OnOk result (list_all is_name names.now ≡ true) }
 {
     for name in names {
         push_field(text, name)?;
@@ -61,7 +67,8 @@ fn push_names(text: &mut Text, names: &[Name]) -> Result<(), Memory>
 }
 
 fn push_class(text: &mut Text, class: &Class) -> Result<(), Memory>
-    ensures { OnOk result (text.new ≡ text.old ++ line_text (class_fields class.now)) }
+    ensures text { OnOk result (text.new ≡ text.old ++ line_text (class_fields class.now)) }
+    ensures named { OnOk result (named_class class.now ≡ true) }
 {
     text.push_bytes(b"make-vclass")?;
     push_field(text, &class.name)?;
@@ -71,7 +78,8 @@ fn push_class(text: &mut Text, class: &Class) -> Result<(), Memory>
 }
 
 fn push_classes(text: &mut Text, classes: &[Class]) -> Result<(), Memory>
-    ensures { OnOk result (text.new ≡ text.old ++ text_of (map class_fields classes.now)) }
+    ensures text { OnOk result (text.new ≡ text.old ++ text_of (map class_fields classes.now)) }
+    ensures named { OnOk result (list_all named_class classes.now ≡ true) }
 {
     for class in classes {
         push_class(text, class)?;
@@ -80,7 +88,8 @@ fn push_classes(text: &mut Text, classes: &[Class]) -> Result<(), Memory>
 }
 
 fn push_desires(text: &mut Text, desires: &[(Name, u32)]) -> Result<(), Memory>
-    ensures { OnOk result (text.new ≡ text.old ++ spaced (map with_number desires.now)) }
+    ensures text { OnOk result (text.new ≡ text.old ++ spaced (map with_number desires.now)) }
+    ensures named { OnOk result (list_all (λ d. is_name d.0) desires.now ≡ true) }
 {
     for desire in desires {
         push_numbered(text, &desire.0, u64::from(desire.1))?;
@@ -89,7 +98,8 @@ fn push_desires(text: &mut Text, desires: &[(Name, u32)]) -> Result<(), Memory>
 }
 
 fn push_node(text: &mut Text, wiring: &Wiring, node: &VirtNode) -> Result<(), Memory>
-    ensures { OnOk result (text.new ≡ text.old ++ line_text (node_fields wiring.now node.now)) }
+    ensures text { OnOk result (text.new ≡ text.old ++ line_text (node_fields wiring.now node.now)) }
+    ensures named { OnOk result (named_node node.now ≡ true) }
 {
     text.push_bytes(b"node")?;
     push_field(text, &node.name)?;
@@ -100,7 +110,8 @@ fn push_node(text: &mut Text, wiring: &Wiring, node: &VirtNode) -> Result<(), Me
 }
 
 fn push_nodes(text: &mut Text, wiring: &Wiring, nodes: &[VirtNode]) -> Result<(), Memory>
-    ensures { OnOk result (text.new ≡ text.old ++ text_of (map (node_fields wiring.now) nodes.now)) }
+    ensures text { OnOk result (text.new ≡ text.old ++ text_of (map (node_fields wiring.now) nodes.now)) }
+    ensures named { OnOk result (list_all named_node nodes.now ≡ true) }
 {
     for node in nodes {
         push_node(text, wiring, node)?;
@@ -109,7 +120,8 @@ fn push_nodes(text: &mut Text, wiring: &Wiring, nodes: &[VirtNode]) -> Result<()
 }
 
 fn push_fix(text: &mut Text, name: &Name, fixed: Option<Name>) -> Result<(), Memory>
-    ensures { OnOk result (text.new ≡ text.old ++ text_of (fix_at name.now fixed)) }
+    ensures text { OnOk result (text.new ≡ text.old ++ text_of (fix_at name.now fixed)) }
+    ensures named { OnOk result (named_place fixed ≡ true) }
 {
     match fixed {
         Some(place) => {
@@ -123,7 +135,8 @@ fn push_fix(text: &mut Text, name: &Name, fixed: Option<Name>) -> Result<(), Mem
 }
 
 fn push_fixes(text: &mut Text, nodes: &[VirtNode]) -> Result<(), Memory>
-    ensures { OnOk result (text.new ≡ text.old ++ text_of (flat_map fix_lines nodes.now)) }
+    ensures text { OnOk result (text.new ≡ text.old ++ text_of (flat_map fix_lines nodes.now)) }
+    ensures named { OnOk result (list_all (λ v. named_place v.fixed) nodes.now ≡ true) }
 {
     for node in nodes {
         push_fix(text, &node.name, node.fixed)?;
@@ -150,7 +163,8 @@ fn push_address(text: &mut Text, address: u32) -> Result<(), Memory>
 }
 
 fn push_behind_name(text: &mut Text, address: Option<u32>) -> Result<(), Memory>
-    ensures { OnOk result (text.new ≡ text.old ++ behind_name address) }
+    ensures text { OnOk result (text.new ≡ text.old ++ behind_name address) }
+    ensures named { OnOk result (is_address address ≡ true) }
 {
     match address {
         Some(address) => {
@@ -162,14 +176,16 @@ fn push_behind_name(text: &mut Text, address: Option<u32>) -> Result<(), Memory>
 }
 
 fn push_end(text: &mut Text, wiring: &Wiring, end: VirtEnd) -> Result<(), Memory>
-    ensures { OnOk result (text.new ≡ text.old ++ 32 ∷ end_field wiring.now end) }
+    ensures text { OnOk result (text.new ≡ text.old ++ 32 ∷ end_field wiring.now end) }
+    ensures named { OnOk result (is_address end.address ≡ true) }
 {
     push_word(text, virt_name(wiring, usize::from(end.node)))?;
     push_behind_name(text, end.address)
 }
 
 fn push_ends(text: &mut Text, wiring: &Wiring, ends: &[VirtEnd]) -> Result<(), Memory>
-    ensures { OnOk result (text.new ≡ text.old ++ spaced (map (end_field wiring.now) ends.now)) }
+    ensures text { OnOk result (text.new ≡ text.old ++ spaced (map (end_field wiring.now) ends.now)) }
+    ensures named { OnOk result (list_all (λ e. is_address e.address) ends.now ≡ true) }
 {
     for end in ends {
         push_end(text, wiring, *end)?;
@@ -178,7 +194,8 @@ fn push_ends(text: &mut Text, wiring: &Wiring, ends: &[VirtEnd]) -> Result<(), M
 }
 
 fn push_link(text: &mut Text, wiring: &Wiring, segment: &Segment) -> Result<(), Memory>
-    ensures { OnOk result (text.new ≡ text.old ++ line_text (link_fields wiring.now segment.now)) }
+    ensures text { OnOk result (text.new ≡ text.old ++ line_text (link_fields wiring.now segment.now)) }
+    ensures named { OnOk result (named_segment segment.now ≡ true) }
 {
     text.push_bytes(b"link")?;
     push_field(text, &segment.name)?;
@@ -189,7 +206,8 @@ fn push_link(text: &mut Text, wiring: &Wiring, segment: &Segment) -> Result<(), 
 }
 
 fn push_links(text: &mut Text, wiring: &Wiring, segments: &[Segment]) -> Result<(), Memory>
-    ensures { OnOk result (text.new ≡ text.old ++ text_of (map (link_fields wiring.now) segments.now)) }
+    ensures text { OnOk result (text.new ≡ text.old ++ text_of (map (link_fields wiring.now) segments.now)) }
+    ensures named { OnOk result (list_all named_segment segments.now ≡ true) }
 {
     for segment in segments {
         push_link(text, wiring, segment)?;
@@ -233,7 +251,8 @@ fn push_pipes(text: &mut Text, wiring: &Wiring, pipes: &[Pipe]) -> Result<(), Me
 }
 
 fn push_all(text: &mut Text, wiring: &Wiring) -> Result<(), Memory>
-    ensures { OnOk result (text.new ≡ text.old ++ canonical_top wiring.now) }
+    ensures text { OnOk result (text.new ≡ text.old ++ canonical_top wiring.now) }
+    ensures named { OnOk result (is_printable wiring.now ≡ true) }
 {
     push_classes(text, wiring.classes.as_slice())?;
     push_nodes(text, wiring, wiring.nodes.as_slice())?;
@@ -244,7 +263,10 @@ fn push_all(text: &mut Text, wiring: &Wiring) -> Result<(), Memory>
 
 /// The canonical text of a wiring.
 pub fn print_top(alloc: Global, wiring: &Wiring) -> Result<Text, Memory>
-    ensures { IfOk result (λ text. text ≡ canonical_top wiring.now) }
+    ensures text { IfOk result (λ text. text ≡ canonical_top wiring.now) }
+    ensures again { IsSound wiring.now → IfOk result (λ text. wiring_of_text text ≡ Ok wiring.now) }
+    ensures size { IsSound wiring.now → IfOk result (λ text. length text ≤ 16777216) }
+    ensures printable { OnOk result (is_printable wiring.now ≡ true) }
 {
     let mut text = Text::new(alloc);
     push_all(&mut text, wiring)?;

@@ -12,6 +12,8 @@ const SHAPED: &[u8] =
 const CLASSES: &[u8] =
     b"make-vclass v 500 pc pc600\nnode a v linux big:1000 fast:0\nnode b pc linux\nfix-node b pc1\n";
 
+const TWO: &[u8] = b"node a pc linux\nnode b pc linux\nlink ab ab 100000 a b\n";
+
 fn read(alloc: Global, text: &[u8]) -> Result<Result<Wiring, TextRefused>, Fail> {
     if text.len() < 4_294_967_295 {
         Ok(read_top(alloc, text))
@@ -88,5 +90,6 @@ fn the_first_fault_is_told_with_its_line(rt: HostRuntime) -> Result<(), Fail> {
 fn canonical_texts_are_read_and_printed(rt: HostRuntime) -> Result<(), Fail> {
     assert!(rt; is_canonical(rt.alloc(), SHAPED)?);
     assert!(rt; is_canonical(rt.alloc(), CLASSES)?);
+    assert!(rt; is_canonical(rt.alloc(), TWO)?);
     Ok(())
 }
