@@ -1,7 +1,13 @@
+pub mod Branching
+pub mod Controls
+pub mod Cycle
 pub mod Digits
 pub mod Exits
 pub mod Floor
+pub mod Needs
+pub mod Parts
 pub mod Rules
 pub mod Sums
+pub mod Texts
 pub mod WordLists
 pub mod Elements

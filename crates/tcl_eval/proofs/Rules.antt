@@ -1,5 +1,5 @@
 -- The rules of evaluation, at states and words that are given by equations.
-use Rattle.std.proofs.Common.{◌≡◌, ℕ, ◌+◌, ◌<◌, ◌≤◌, ◌∷◌, ◌++◌, [], List, length, get_or, drop, Option, Some, None, Result, Ok, Err, refl, sym, subst, ap, ◌∙◌, arith}
+use Rattle.std.proofs.Common.{◌≡◌, ℕ, ◌∷◌, [], List, Some, Result, Ok, Err, sym, subst}
 use Rattle.lab_base.specs.declared.fault.Kind.{Kind}
 use Rattle.tcl_eval.specs.declared.hosts.Called.{Called}
 use Rattle.tcl_eval.specs.declared.halts.Halt.{Halt}
@@ -8,7 +8,7 @@ use Rattle.tcl_eval.specs.Ends.{Gives, Ends}
 use Rattle.tcl_eval.specs.declared.commands.Own.TheVariants as owns
 use Rattle.tcl_eval.specs.Forms.{own}
 use Rattle.tcl_eval.specs.State.{State, read_of, with_value, with_objects}
-use Rattle.tcl_eval.specs.Jobs.{Job, Call, Gain, Value, fails, value_or}
+use Rattle.tcl_eval.specs.Jobs.{Job, Call, Value, fails, value_or}
 use Rattle.tcl_eval.specs.Evals.{Evals, gets, sets, set_fails}
 
 module _ {O : Type 0} (calls : O → List (List ℕ) → Result Called Kind × O) (hears : O → List ℕ → List ℕ → Result (Unit {0}) Kind × O) where

@@ -1,5 +1,5 @@
 -- What `incr` adds.
-use Rattle.std.proofs.Common.{◌≡◌, ℕ, ℤ, List, Result, Ok, Err, refl, sym, subst, ap, ◌∙◌}
+use Rattle.std.proofs.Common.{◌≡◌, ℕ, ℤ, List, Result, Ok, Err, refl, subst}
 use Rattle.lab_base.specs.declared.fault.Kind.{Kind}
 use Rattle.tcl_eval.specs.Numbers.{number_of}
 use Rattle.tcl_eval.specs.Settings.{IsSum, number_in}

@@ -1,5 +1,5 @@
 -- Words of commands, by their number.
-use Rattle.std.proofs.Common.{◌≢◌, ◌⊎◌, inl, inr, ◌≡◌, ℕ, ◌+◌, ◌<◌, ◌≤◌, ◌∷◌, [], List, length, get_or, drop, Option, Some, refl, sym, subst, arith}
+use Rattle.std.proofs.Common.{◌≢◌, ◌⊎◌, inl, inr, ◌≡◌, ℕ, ◌<◌, ◌≤◌, ◌∷◌, [], List, length, get_or, drop, Some, subst, arith}
 use Rattle.tcl_eval.specs.declared.commands.Own.{Own}
 use Rattle.tcl_eval.specs.Forms.{own}
 

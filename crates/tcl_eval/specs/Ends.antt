@@ -1,12 +1,10 @@
 -- How functions of the interpreter end, by the meaning of texts.
-use Rattle.std.specs.Prelude.{◌≡◌, ℕ, List, [], ◌∷◌, length, Option, Result, Ok, Err}
+use Rattle.std.specs.Prelude.{ℕ, List, Result, Ok, Err}
 use Rattle.lab_base.specs.declared.fault.Kind.{Kind}
-use Rattle.tcl_words.specs.declared.word.Command.{Command}
-use Rattle.tcl_words.specs.Words.{CommandsOf, line_at, IsRefused}
 use Rattle.tcl_eval.specs.declared.hosts.Called.{Called}
 use Rattle.tcl_eval.specs.declared.halts.Halt.{Halt}
 use Rattle.tcl_eval.specs.declared.halts.Halt.TheVariants.{Fault, Stop, Memory}
-use Rattle.tcl_eval.specs.Jobs.{Job, One, Gain, Value, fails}
+use Rattle.tcl_eval.specs.Jobs.{Job, Gain, fails}
 use Rattle.tcl_eval.specs.State.{State}
 use Rattle.tcl_eval.specs.Evals.{Evals}
 

@@ -3,9 +3,11 @@ pub mod Ends
 pub mod Evals
 pub mod Forms
 pub mod Halts
+pub mod Machines
 pub mod Jobs
 pub mod Numbers
 pub mod Operators
+pub mod Runs
 pub mod Seen
 pub mod Settings
 pub mod Short

@@ -18,17 +18,20 @@ use crate::literals::literal;
 use crate::machine::Machine;
 use crate::numbers::{number_text, read_number};
 use crate::openings::{Opening, closes_at, opening_at};
-use crate::operators::{TIERS, alive, behind_blanks, negated, operator_at, turned};
+use crate::operators::{TIERS, alive, behind_blanks, holds, negated, operator_at, turned};
 use lab_base::{Kind, Text};
 use tcl_words::{Command, Part, reference_at, script_end, split};
 
 impl<H: Host> Machine<H> {
-    ghost use Rattle.std.specs.Prelude.{◌≡◌, ◌≤◌};
+    ghost use Rattle.std.specs.Prelude.{◌≡◌, ◌≤◌, []};
+    ghost use Rattle.tcl_eval.specs.Machines.{Ended, seen};
+    ghost use Rattle.tcl_eval.specs.Jobs.{Value, ValueAt, Truth, Integer, IntegerAt, Whole, Nested, One, Parts, Named, Call, Condition, Expression, Pass, Tier, Operand};
 
     /// The result of a script: that of its last command.
     #[cycle(eval)]
     fn script(&mut self, text: &[u8], levels: u32) -> Result<Text, Halt>
         requires short { length text.now < 2 ^ 32 - 1 }
+        ensures evals { Ended H.calls H.hears Value levels (Whole text.now) (seen H.objects self.old) (seen H.objects self.new) result }
         ensures left { self.new.left ≤ self.old.left }
     {
         let commands = split(self.alloc, text)?;
@@ -43,6 +46,7 @@ impl<H: Host> Machine<H> {
     #[cycle(eval)]
     fn nested(&mut self, text: &[u8], levels: u32) -> Result<Text, Halt>
         requires short { length text.now < 2 ^ 32 - 1 }
+        ensures evals { Ended H.calls H.hears Value levels (Nested text.now) (seen H.objects self.old) (seen H.objects self.new) result }
         ensures left { self.new.left ≤ self.old.left }
     {
         let levels = deeper(levels)?;
@@ -54,6 +58,7 @@ impl<H: Host> Machine<H> {
     pub fn command(&mut self, text: &[u8], command: &Command, levels: u32) -> Result<Text, Halt>
         requires short { length text.now < 2 ^ 32 - 1 }
         requires lies { CommandLiesIn (length text.now) command.now }
+        ensures evals { Ended H.calls H.hears Value levels (One text.now command.now) (seen H.objects self.old) (seen H.objects self.new) result }
         ensures left { self.new.left ≤ self.old.left }
     {
         if self.left == 0 {
@@ -79,6 +84,7 @@ impl<H: Host> Machine<H> {
     ) -> Result<Text, Halt>
         requires short { length text.now < 2 ^ 32 - 1 }
         requires lie { All (LiesIn (length text.now)) parts.now }
+        ensures evals { Ended H.calls H.hears Value levels (Parts text.now in_index parts.now []) (seen H.objects self.old) (seen H.objects self.new) result }
         ensures left { self.new.left ≤ self.old.left }
         ensures value { IfOk result (λ value. length value ≤ 65536) }
     {
@@ -113,6 +119,7 @@ impl<H: Host> Machine<H> {
     ) -> Result<(Text, usize), Halt>
         requires short { length text.now < 2 ^ 32 - 1 }
         requires here { at < length text.now }
+        ensures evals { Ended H.calls H.hears (λ x. ValueAt x.0 x.1) levels (Named text.now at in_index) (seen H.objects self.old) (seen H.objects self.new) result }
         ensures left { self.new.left ≤ self.old.left }
         ensures forward { IfOk result (λ found. (at < found.1) × (found.1 ≤ length text.now)) }
     {
@@ -134,6 +141,7 @@ impl<H: Host> Machine<H> {
     #[cycle(eval)]
     fn invoke(&mut self, words: &[Text], levels: u32) -> Result<Text, Halt>
         requires words { AllShort words.now }
+        ensures evals { Ended H.calls H.hears Value levels (Call words.now) (seen H.objects self.old) (seen H.objects self.new) result }
         ensures left { self.new.left ≤ self.old.left }
     {
         match own_command(words) {
@@ -154,6 +162,7 @@ impl<H: Host> Machine<H> {
     fn run_expr(&mut self, words: &[Text], levels: u32) -> Result<Text, Halt>
         requires own { own words.now ≡ Some owns.Expr }
         requires words { AllShort words.now }
+        ensures evals { Ended H.calls H.hears Value levels (Call words.now) (seen H.objects self.old) (seen H.objects self.new) result }
         ensures left { self.new.left ≤ self.old.left }
     {
         if words.len() < 2 {
@@ -169,6 +178,7 @@ impl<H: Host> Machine<H> {
     fn run_if(&mut self, words: &[Text], levels: u32) -> Result<Text, Halt>
         requires own { own words.now ≡ Some owns.If }
         requires words { AllShort words.now }
+        ensures evals { Ended H.calls H.hears Value levels (Call words.now) (seen H.objects self.old) (seen H.objects self.new) result }
         ensures left { self.new.left ≤ self.old.left }
     {
         let Some(branches) = branches(self.alloc, words)? else {
@@ -191,6 +201,7 @@ impl<H: Host> Machine<H> {
     fn run_for(&mut self, words: &[Text], levels: u32) -> Result<Text, Halt>
         requires own { own words.now ≡ Some owns.For }
         requires words { AllShort words.now }
+        ensures evals { Ended H.calls H.hears Value levels (Call words.now) (seen H.objects self.old) (seen H.objects self.new) result }
         ensures left { self.new.left ≤ self.old.left }
     {
         if words.len() != 5 {
@@ -212,6 +223,7 @@ impl<H: Host> Machine<H> {
     fn run_foreach(&mut self, words: &[Text], levels: u32) -> Result<Text, Halt>
         requires own { own words.now ≡ Some owns.Foreach }
         requires words { AllShort words.now }
+        ensures evals { Ended H.calls H.hears Value levels (Call words.now) (seen H.objects self.old) (seen H.objects self.new) result }
         ensures left { self.new.left ≤ self.old.left }
     {
         if words.len() != 4 {
@@ -234,6 +246,7 @@ impl<H: Host> Machine<H> {
     #[cycle(eval)]
     fn condition(&mut self, text: &[u8], levels: u32) -> Result<bool, Halt>
         requires short { length text.now ≤ 65536 }
+        ensures evals { Ended H.calls H.hears Truth levels (Condition text.now) (seen H.objects self.old) (seen H.objects self.new) result }
         ensures left { self.new.left ≤ self.old.left }
         ensures spent { OnOk result (self.new.left < self.old.left) }
     {
@@ -242,13 +255,14 @@ impl<H: Host> Machine<H> {
         }
         self.left -= 1;
         let value = self.expression(text, levels)?;
-        Ok(value != 0)
+        Ok(holds(value))
     }
 
     /// The value of an expression. One that is malformed is refused before anything in it is evaluated.
     #[cycle(eval)]
     fn expression(&mut self, text: &[u8], levels: u32) -> Result<i64, Halt>
         requires short { length text.now ≤ 65536 }
+        ensures evals { Ended H.calls H.hears Integer levels (Expression text.now) (seen H.objects self.old) (seen H.objects self.new) result }
         ensures left { self.new.left ≤ self.old.left }
     {
         self.whole(text, levels, false)?;
@@ -259,6 +273,7 @@ impl<H: Host> Machine<H> {
     #[cycle(eval)]
     fn whole(&mut self, text: &[u8], levels: u32, live: bool) -> Result<i64, Halt>
         requires short { length text.now ≤ 65536 }
+        ensures evals { Ended H.calls H.hears Integer levels (Pass text.now live) (seen H.objects self.old) (seen H.objects self.new) result }
         ensures left { self.new.left ≤ self.old.left }
     {
         let (value, end) = self.tier(text, 0, 0, levels, live)?;
@@ -282,6 +297,7 @@ impl<H: Host> Machine<H> {
         requires short { length text.now ≤ 65536 }
         requires here { at ≤ length text.now }
         requires tiers { tier ≤ 6 }
+        ensures evals { Ended H.calls H.hears (λ x. IntegerAt x.0 x.1) levels (Tier text.now at tier live) (seen H.objects self.old) (seen H.objects self.new) result }
         ensures left { self.new.left ≤ self.old.left }
         ensures forward { IfOk result (λ found. (at < found.1) × (found.1 ≤ length text.now)) }
     {
@@ -290,7 +306,7 @@ impl<H: Host> Machine<H> {
         }
         let (mut left, mut at) = self.tier(text, at, tier + 1, levels, live)?;
         while let Some((operator, start)) = operator_at(text, at, tier) {
-            let needed = live && !operator.is_decided(left);
+            let needed = operator.is_needed(left, live);
             let (right, end) = self.tier(text, start, tier + 1, levels, needed)?;
             if live {
                 left = operator.apply(left, right)?;
@@ -311,6 +327,7 @@ impl<H: Host> Machine<H> {
     ) -> Result<(i64, usize), Halt>
         requires short { length text.now ≤ 65536 }
         requires here { at ≤ length text.now }
+        ensures evals { Ended H.calls H.hears (λ x. IntegerAt x.0 x.1) levels (Operand text.now at live) (seen H.objects self.old) (seen H.objects self.new) result }
         ensures left { self.new.left ≤ self.old.left }
         ensures forward { IfOk result (λ found. (at < found.1) × (found.1 ≤ length text.now)) }
     {
@@ -337,6 +354,7 @@ impl<H: Host> Machine<H> {
         requires short { length text.now ≤ 65536 }
         requires here { at < length text.now }
         requires opening { opening_of (drop at text.now) ≡ openings.Not }
+        ensures evals { Ended H.calls H.hears (λ x. IntegerAt x.0 x.1) levels (Operand text.now at live) (seen H.objects self.old) (seen H.objects self.new) result }
         ensures left { self.new.left ≤ self.old.left }
         ensures forward { IfOk result (λ found. (at < found.1) × (found.1 ≤ length text.now)) }
     {
@@ -357,6 +375,7 @@ impl<H: Host> Machine<H> {
         requires short { length text.now ≤ 65536 }
         requires here { at < length text.now }
         requires opening { opening_of (drop at text.now) ≡ openings.Minus }
+        ensures evals { Ended H.calls H.hears (λ x. IntegerAt x.0 x.1) levels (Operand text.now at live) (seen H.objects self.old) (seen H.objects self.new) result }
         ensures left { self.new.left ≤ self.old.left }
         ensures forward { IfOk result (λ found. (at < found.1) × (found.1 ≤ length text.now)) }
     {
@@ -377,6 +396,7 @@ impl<H: Host> Machine<H> {
         requires short { length text.now ≤ 65536 }
         requires here { at < length text.now }
         requires opening { opening_of (drop at text.now) ≡ openings.Parenthesis }
+        ensures evals { Ended H.calls H.hears (λ x. IntegerAt x.0 x.1) levels (Operand text.now at live) (seen H.objects self.old) (seen H.objects self.new) result }
         ensures left { self.new.left ≤ self.old.left }
         ensures forward { IfOk result (λ found. (at < found.1) × (found.1 ≤ length text.now)) }
     {
@@ -401,6 +421,7 @@ impl<H: Host> Machine<H> {
         requires short { length text.now ≤ 65536 }
         requires here { at < length text.now }
         requires opening { opening_of (drop at text.now) ≡ openings.Dollar }
+        ensures evals { Ended H.calls H.hears (λ x. IntegerAt x.0 x.1) levels (Operand text.now at live) (seen H.objects self.old) (seen H.objects self.new) result }
         ensures left { self.new.left ≤ self.old.left }
         ensures forward { IfOk result (λ found. (at < found.1) × (found.1 ≤ length text.now)) }
     {
@@ -426,6 +447,7 @@ impl<H: Host> Machine<H> {
         requires short { length text.now ≤ 65536 }
         requires here { at < length text.now }
         requires opening { opening_of (drop at text.now) ≡ openings.Bracket }
+        ensures evals { Ended H.calls H.hears (λ x. IntegerAt x.0 x.1) levels (Operand text.now at live) (seen H.objects self.old) (seen H.objects self.new) result }
         ensures left { self.new.left ≤ self.old.left }
         ensures forward { IfOk result (λ found. (at < found.1) × (found.1 ≤ length text.now)) }
     {

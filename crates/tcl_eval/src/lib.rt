@@ -14,9 +14,11 @@ mod machine;
 mod numbers;
 mod openings;
 mod operators;
+mod runs;
 
 pub use hosts::{Called, Host, HostFault};
-pub use interp::{Interp, Ran};
+pub use interp::Interp;
+pub use runs::Ran;
 
 #[cfg(test)]
 mod table;

@@ -1,7 +1,7 @@
 //! The operators of expressions.
 
 ghost use Rattle.std.specs.Prelude.{◌≡◌, ◌≢◌, ℕ, ℤ, pos, negsuc, neg_ℤ, ◌+ℤ◌, ◌-ℤ◌, int_div, MatchBool, ◌+◌, ◌<◌, ◌≤◌, length, drop, IfSome, MatchOption, Ok, Err, IsTrue, ◌↔◌};
-ghost use Rattle.tcl_eval.specs.Numbers.{IsValue, IsNot, alive, Applies, IsDecided, IsAgainst, IsAlong};
+ghost use Rattle.tcl_eval.specs.Numbers.{IsValue, IsNot, alive, Applies, IsDecided, IsNeeded, IsAgainst, IsAlong};
 ghost use Rattle.tcl_eval.specs.Settings.{IsSum};
 ghost use Rattle.std.specs.List.{prefix_len};
 ghost use Rattle.tcl_words.specs.Tokens.{in_blank};
@@ -56,6 +56,13 @@ impl Operator {
             Operator::And => left == 0,
             _ => false,
         }
+    }
+
+    /// The right side is evaluated: where this is live, and the left side doesn't decide.
+    pub fn is_needed(self, left: i64, live: bool) -> bool
+        ensures { IsNeeded live self left result }
+    {
+        if live { !self.is_decided(left) } else { false }
     }
 
     /// The value of both sides. A side that isn't evaluated is 0.
@@ -113,6 +120,13 @@ pub fn turned(value: i64) -> i64
     ensures { IsNot value result }
 {
     i64::from(value == 0)
+}
+
+/// A condition of this value holds.
+pub fn holds(value: i64) -> bool
+    ensures { MatchBool result (value ≢ pos 0) (value ≡ pos 0) }
+{
+    value != 0
 }
 
 /// A number, 0 where it isn't live.

@@ -1,7 +1,7 @@
-use Rattle.std.proofs.Common.{sym, Ok, ◌≡◌, ℤ, pos, negsuc, neg_ℤ, ◌-ℤ◌, int_div, int_rem, w64, arith, subst, ap, ◌∙◌}
+use Rattle.std.proofs.Common.{sym, Ok, ℤ, pos, neg_ℤ, ◌-ℤ◌, w64, arith, subst}
 use Rattle.std.proofs.lemmas.Int.{ints, to_z-of_z}
 use mir.Val.{SFits}
-use Rattle.tcl_eval.specs.declared.operators.Operator.TheVariants.{Over, Modulo}
+use Rattle.tcl_eval.specs.declared.operators.Operator.TheVariants.{Over}
 use Rattle.tcl_eval.specs.Numbers.{IsValue, Applies}
 use Rattle.tcl_eval.proofs.Floor.{over_sign, over_against, over_along}
 use Rattle.tcl_eval.proofs.operators.quotient.Goals as goal

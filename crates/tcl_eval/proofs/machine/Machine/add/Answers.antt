@@ -1,15 +1,13 @@
-use Rattle.std.proofs.Common.{rules, w64, ◌≡◌, ◌+◌, ◌≤◌, ℕ, [], ◌∷◌, List, length, refl, Result, Ok, Err, ℤ, sym, subst, ap, ◌∙◌}
+use Rattle.std.proofs.Common.{rules, w64, ◌≡◌, ℕ, ◌∷◌, List, Result, Ok, Err, ap, ◌∙◌}
 use Rattle.std.proofs.lemmas.Result.{err_from_is_err_and}
 use mir.Val.{SFits}
 use Rattle.std.proofs.lemmas.Int.{to_z-of_z}
 use Rattle.std.specs.Fmt.{signed_decimal}
 use Rattle.lab_base.specs.declared.fault.Kind.{Kind}
 use Rattle.tcl_eval.specs.Jobs.{Call, Value}
-use Rattle.tcl_eval.specs.Numbers.{number_of}
-use Rattle.tcl_eval.specs.Settings.{IsSum, number_in, step_of}
+use Rattle.tcl_eval.specs.Settings.{step_of}
 use Rattle.tcl_eval.specs.State.{state, read_of}
 use Rattle.tcl_eval.specs.Evals.{incr_fails, incr_adds}
-use Rattle.tcl_eval.specs.Ends.{Ends}
 use Rattle.tcl_eval.proofs.Exits.{gives_ends}
 use Rattle.tcl_eval.proofs.Rules.{value_on}
 use Rattle.tcl_eval.proofs.Sums.{sum_unread, sum_read}

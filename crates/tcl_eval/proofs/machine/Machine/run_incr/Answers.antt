@@ -1,4 +1,4 @@
-use Rattle.std.proofs.Common.{◌≡◌, ◌<◌, ◌≤◌, ℕ, [], ◌∷◌, List, length, refl, arith}
+use Rattle.std.proofs.Common.{ℕ, [], ◌∷◌, List, refl, arith}
 use Rattle.tcl_eval.specs.declared.commands.Own.TheVariants as owns
 use Rattle.tcl_eval.specs.Jobs.{Call, Value}
 use Rattle.tcl_eval.specs.State.{state}

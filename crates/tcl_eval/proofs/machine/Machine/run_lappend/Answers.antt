@@ -1,4 +1,4 @@
-use Rattle.std.proofs.Common.{◌≡◌, ◌<◌, ◌≤◌, ℕ, [], ◌∷◌, List, length, drop, Result, Ok, Err, sym, arith}
+use Rattle.std.proofs.Common.{◌≡◌, ℕ, List, drop, Result, Ok, sym, arith}
 use Rattle.std.proofs.lemmas.Result.{err_from_is_err_and}
 use Rattle.lab_base.specs.declared.fault.Kind.{Kind}
 use Rattle.tcl_eval.specs.declared.commands.Own.TheVariants as owns

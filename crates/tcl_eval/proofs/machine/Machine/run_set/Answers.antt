@@ -1,10 +1,8 @@
-use Rattle.std.proofs.Common.{◌≡◌, ◌≢◌, ℕ, ◌+◌, ◌<◌, ◌≤◌, ◌∷◌, [], List, length, Result, Ok, Err, arith}
-use Rattle.lab_base.specs.declared.fault.Kind.{Kind}
+use Rattle.std.proofs.Common.{ℕ, List, arith}
 use Rattle.tcl_eval.specs.declared.commands.Own.TheVariants as owns
-use Rattle.tcl_eval.specs.declared.halts.Halt.{Halt}
-use Rattle.tcl_eval.specs.Jobs.{Call, Value, value_or}
-use Rattle.tcl_eval.specs.State.{State, state, read_of}
-use Rattle.tcl_eval.specs.Evals.{gets, set_arity}
+use Rattle.tcl_eval.specs.Jobs.{Call, Value}
+use Rattle.tcl_eval.specs.State.{state}
+use Rattle.tcl_eval.specs.Evals.{set_arity}
 use Rattle.tcl_eval.specs.Ends.{Ends}
 use Rattle.tcl_eval.proofs.Rules.{read_ends}
 use Rattle.tcl_eval.proofs.WordLists.{two_words, three_words}
