@@ -9,3 +9,6 @@ pub use exact::best_of_all;
 pub use first::first_fit;
 pub use node_maps::{Candidates, candidates};
 pub use whole::{Solved, are_few, solve};
+
+#[cfg(test)]
+mod tests;
