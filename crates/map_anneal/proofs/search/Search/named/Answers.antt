@@ -1,7 +1,7 @@
 use Rattle.std.proofs.Common.{◌≡◌, ◌<◌, ◌%◌, ◌∙◌, ℕ, List, [], length, get_or, Option, IfOk, sym, ap, subst, arith}
 use Rattle.virt_topo.specs.declared.mapping.Mapping.{Mapping}
 use Rattle.lab_model.specs.Shapes.{Place}
-use Rattle.lab_model.specs.Rules.{place_at, no_place}
+use Rattle.lab_model.specs.Rules.{no_place}
 use Rattle.map_anneal.specs.Sought.{choices, moved}
 use Rattle.map_anneal.specs.Searches.{sought_by, with_price}
 use Rattle.map_anneal.specs.Walk.{named}
