@@ -15,3 +15,6 @@ pub use fault::CheckFault;
 pub use nodes::may_share;
 pub use places::{is_fixed_at, suits};
 pub use whole::check;
+
+#[cfg(test)]
+mod tests;
