@@ -15,7 +15,7 @@ use Rattle.tcl_eval.specs.State.{State, state, with_value}
 use Rattle.tcl_eval.specs.Evals as rules
 use Rattle.tcl_eval.specs.Evals.{Evals}
 use Rattle.tcl_eval.specs.Machines.{seen, Ended, Leads}
-use Rattle.tcl_eval.proofs.Cycle.{got, given, faulted, halted, handed, by, leads, leads_on}
+use Rattle.tcl_eval.proofs.Ended.{got, given, faulted, halted, handed, by, leads, leads_on}
 use Rattle.tcl_eval.proofs.WordLists.{behind_command, four_words, five_words}
 
 -- a variable's new value, in what contracts see

@@ -1,6 +1,8 @@
 pub mod Branching
 pub mod Controls
-pub mod Cycle
+pub mod Ended
+pub mod Scripts
+pub mod Expressions
 pub mod Digits
 pub mod Exits
 pub mod Floor

@@ -22,7 +22,7 @@ use Rattle.tcl_eval.specs.Evals as rules
 use Rattle.tcl_eval.specs.Evals.{Evals}
 use Rattle.tcl_eval.specs.Ends.{Gives}
 use Rattle.tcl_eval.specs.Machines.{seen, Ended, Leads}
-use Rattle.tcl_eval.proofs.Cycle.{got, given, faulted, halted, found_out, given_out, short_out, by, leads_here, leads_on}
+use Rattle.tcl_eval.proofs.Ended.{got, given, faulted, halted, found_out, given_out, short_out, by, leads_here, leads_on}
 
 -- the next part
 pub part_on : (ps : List Part) (i : ℕ) (d p : Part) → i < length ps → get_or ps i d ≡ p → drop i ps ≡ p ∷ drop (i + 1) ps

@@ -14,7 +14,7 @@ use Rattle.tcl_eval.specs.Machines.{Ended}
 use Rattle.tcl_eval.specs.Runs as runs
 use Rattle.tcl_eval.specs.Runs.{Runs, RunsFrom, HasRun, RunLeads, fault_on, last_line_of}
 use Rattle.tcl_eval.proofs.Elements.{item_on}
-use Rattle.tcl_eval.proofs.Cycle.{got}
+use Rattle.tcl_eval.proofs.Ended.{got}
 
 pub last_line_is : (t : List ℕ) → 0 < length t → line_at t (length t - 1) ≡ last_line_of t
 last_line_is [] h = absurd (omega arith)
