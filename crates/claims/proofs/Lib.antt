@@ -3,4 +3,7 @@ pub mod Empty
 pub mod Entries
 pub mod Fits
 pub mod Leavings
+pub mod Matching
+pub mod OthersLeave
+pub mod Ranges
 pub mod Standing

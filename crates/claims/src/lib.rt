@@ -5,6 +5,7 @@ mod claim;
 mod claims;
 mod fault;
 mod hold;
+mod laws;
 mod left;
 mod tables;
 
@@ -12,3 +13,4 @@ pub use claim::Claim;
 pub use claims::Claims;
 pub use fault::TakeFault;
 pub use hold::Hold;
+pub use laws::left_by_others;
