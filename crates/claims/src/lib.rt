@@ -14,3 +14,6 @@ pub use claims::Claims;
 pub use fault::TakeFault;
 pub use hold::Hold;
 pub use laws::left_by_others;
+
+#[cfg(test)]
+mod tests;

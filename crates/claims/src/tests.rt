@@ -1,0 +1,92 @@
+ghost use Rattle.std.specs.Prelude.{◌≡◌, ◌∷◌, [], IfOk};
+ghost use Rattle.claims.specs.Held.{claim_nodes, claim_tags};
+ghost use Rattle.claims.specs.Adding.{HasUses};
+
+use super::*;
+use lab_base::{IfaceId, Items, Memory, Name, NodeId, VlanId};
+use phys_lab::{Lab, LabBuilder, Node};
+use std::alloc::Global;
+use std::test::Fail;
+
+fn named(text: &[u8]) -> Result<Name, Fail> {
+    Ok(Name::read(text).ok().ok_or("a name")?)
+}
+
+fn node(alloc: Global, name: &[u8]) -> Result<Node, Fail> {
+    let mut types = Items::new(alloc);
+    types.push((named(b"pc")?, 1))?;
+    Ok(Node {
+        name: named(name)?,
+        types,
+        features: Items::new(alloc),
+    })
+}
+
+fn add_nodes(alloc: Global, builder: &mut LabBuilder) -> Result<(), Fail> {
+    builder.add_node(node(alloc, b"a")?)?;
+    builder.add_node(node(alloc, b"b")?)?;
+    Ok(())
+}
+
+/// Two nodes, and the VLAN ids 100 and 101.
+fn small_lab(alloc: Global) -> Result<Lab, Fail> {
+    let mut builder = LabBuilder::new(alloc, 100, 101)?;
+    add_nodes(alloc, &mut builder)?;
+    Ok(builder.finish().ok().ok_or("memory")?)
+}
+
+/// The claim of a mapping that has one segment between both nodes, with VLAN id 100.
+fn both_nodes(alloc: Global) -> Result<Claim, Memory>
+    ensures nodes { IfOk result (λ claim. claim_nodes claim ≡ 0 ∷ 1 ∷ []) }
+    ensures tags { IfOk result (λ claim. claim_tags claim ≡ 100 ∷ []) }
+    ensures uses { IfOk result (HasUses 0) }
+{
+    let mut nodes = Items::new(alloc);
+    nodes.push(NodeId(0))?;
+    nodes.push(NodeId(1))?;
+    let mut plugs = Items::new(alloc);
+    plugs.push(IfaceId(0))?;
+    plugs.push(IfaceId(1))?;
+    let mut tags = Items::new(alloc);
+    tags.push(VlanId(100))?;
+    let hold = Hold {
+        nodes,
+        plugs,
+        uses: Items::new(alloc),
+        tags,
+    };
+    Ok(Claim {
+        old: None,
+        new: Some(hold),
+    })
+}
+
+/// No claim on the small lab but that one.
+fn with_one(alloc: Global, lab: &Lab, exp: Name) -> Result<Claims, Fail> {
+    let mut claims = Claims::empty(alloc, lab)?;
+    let range = lab.range();
+    if range.0 == 100 && range.1 == 101 && lab.nodes().len() == 2 && lab.trunks().is_empty() {
+        claims.add(exp, both_nodes(alloc)?)?;
+    }
+    Ok(claims)
+}
+
+#[test]
+fn one_claim_is_counted(rt: HostRuntime) -> Result<(), Fail> {
+    let lab = small_lab(rt.alloc())?;
+    let exp = named(b"e")?;
+    let none = Claims::empty(rt.alloc(), &lab)?;
+    assert_eq!(rt; none.counted(), (2, 2));
+    let mut claims = with_one(rt.alloc(), &lab, exp)?;
+    assert_eq!(rt; claims.counted(), (0, 1));
+    assert_eq!(rt; claims.counted_of(exp), (2, 1));
+    let tags = claims.take_vlans(rt.alloc(), 1)?;
+    assert_eq!(rt; tags.as_slice(), [VlanId(101)].as_slice());
+    assert_eq!(rt;
+        claims.take_vlans(rt.alloc(), 2).err(),
+        Some(TakeFault::TooFew(1))
+    );
+    claims.drop_claim(exp);
+    assert_eq!(rt; claims.counted(), (2, 2));
+    Ok(())
+}
