@@ -37,18 +37,18 @@ Shaped s move = Unit {0}
 
 pub says_shaped : (t : Texts) (s : LabState) (r : Record) (move : Move) → Says t s r move → Shaped s move
 says_shaped t s (LabRecord ptop) move h = subst (λ m. Shaped s m) (sym h.3) h.1
-says_shaped t s (Create exp top) move h = subst (λ m. Shaped s m) (sym h.3) h.1
+says_shaped t s (Create exp top) move h = subst (λ m. Shaped s m) (sym h.3) h.1.sound
 says_shaped t s (Delete exp) move h = subst (λ m. Shaped s m) (sym h) tt
-says_shaped t s (Begin exp (WayIn map tags)) move h = subst (λ m. Shaped s m) (sym h.7) (λ lab e is_lab is_e.
+says_shaped t s (Begin exp (WayIn map tags)) move h = subst (λ m. Shaped s m) (sym h.9) (λ lab e is_lab is_e.
     let one : h.0 ≡ lab = some_is _ _ (sym h.3 ∙ is_lab) in
     let two : h.1 ≡ e = some_is _ _ (sym h.4 ∙ is_e) in
-    subst (λ l. IsShaped l e.wiring h.2) one (subst (λ x. IsShaped h.0 x.wiring h.2) two h.5))
+    subst (λ l. IsShaped l e.wiring h.2) one (subst (λ x. IsShaped h.0 x.wiring h.2) two h.7))
 says_shaped t s (Begin exp WayOut) move h = subst (λ m. Shaped s m) (sym h) tt
-says_shaped t s (Begin exp (WayChange top map tags)) move h = subst (λ m. Shaped s m) (sym h.8) (
-  h.4,
+says_shaped t s (Begin exp (WayChange top map tags)) move h = subst (λ m. Shaped s m) (sym h.9) (
+  h.5.sound,
   λ lab is_lab.
       let one : h.0 ≡ lab = some_is _ _ (sym h.3 ∙ is_lab) in
-      subst (λ l. IsShaped l h.1 h.2) one h.6,
+      subst (λ l. IsShaped l h.1 h.2) one h.7,
 )
 says_shaped t s (Commit exp) move h = subst (λ m. Shaped s m) (sym h) tt
 says_shaped t s (Abort exp) move h = subst (λ m. Shaped s m) (sym h) tt
@@ -258,9 +258,9 @@ move_named : (t : Texts) (s : LabState) (r : Record) (move : Move) → IsRecord 
 move_named t s (LabRecord ptop) move is h = subst (λ m. IsNamed m) (sym h.3) tt
 move_named t s (Create exp top) move is h = subst (λ m. IsNamed m) (sym h.3) is.fields
 move_named t s (Delete exp) move is h = subst (λ m. IsNamed m) (sym h) tt
-move_named t s (Begin exp (WayIn map tags)) move is h = subst (λ m. IsNamed m) (sym h.7) tt
+move_named t s (Begin exp (WayIn map tags)) move is h = subst (λ m. IsNamed m) (sym h.9) tt
 move_named t s (Begin exp WayOut) move is h = subst (λ m. IsNamed m) (sym h) tt
-move_named t s (Begin exp (WayChange top map tags)) move is h = subst (λ m. IsNamed m) (sym h.8) tt
+move_named t s (Begin exp (WayChange top map tags)) move is h = subst (λ m. IsNamed m) (sym h.9) tt
 move_named t s (Commit exp) move is h = subst (λ m. IsNamed m) (sym h) tt
 move_named t s (Abort exp) move is h = subst (λ m. IsNamed m) (sym h) tt
 
@@ -304,16 +304,16 @@ says_once t s (Delete exp) m n can p q = p ∙ sym q
 says_once t s (Begin exp (WayIn map tags)) m n can p q =
     let lab : p.0 ≡ q.0 = some_is _ _ (sym p.3 ∙ q.3) in
     let e : p.1 ≡ q.1 = some_is _ _ (sym p.4 ∙ q.4) in
-    let shaped : IsShaped q.0 q.1.wiring p.2 = subst (λ l. IsShaped l q.1.wiring p.2) lab (subst (λ x. IsShaped p.0 x.wiring p.2) e p.5) in
-    let text : map ≡ t.solution q.0 q.1.wiring p.2 = p.6 ∙ (λ i. t.solution (lab i) (e i).wiring p.2) in
-    p.7 ∙ ap (λ x. BeginsIn exp x tags) (can.solutions q.0 q.1.wiring p.2 q.2 shaped q.5 (sym text ∙ q.6)) ∙ sym q.7
+    let shaped : IsShaped q.0 q.1.wiring p.2 = subst (λ l. IsShaped l q.1.wiring p.2) lab (subst (λ x. IsShaped p.0 x.wiring p.2) e p.7) in
+    let text : map ≡ t.solution q.0 q.1.wiring p.2 = p.8 ∙ (λ i. t.solution (lab i) (e i).wiring p.2) in
+    p.9 ∙ ap (λ x. BeginsIn exp x tags) (can.solutions q.0 q.1.wiring p.2 q.2 q.5 q.6 shaped q.7 (sym text ∙ q.8)) ∙ sym q.9
 says_once t s (Begin exp WayOut) m n can p q = p ∙ sym q
 says_once t s (Begin exp (WayChange top map tags)) m n can p q =
     let lab : p.0 ≡ q.0 = some_is _ _ (sym p.3 ∙ q.3) in
-    let w : p.1 ≡ q.1 = can.tops p.1 q.1 p.4 q.4 (sym p.5 ∙ q.5) in
-    let shaped : IsShaped q.0 q.1 p.2 = subst (λ l. IsShaped l q.1 p.2) lab (subst (λ x. IsShaped p.0 x p.2) w p.6) in
-    let text : map ≡ t.solution q.0 q.1 p.2 = p.7 ∙ (λ i. t.solution (lab i) (w i) p.2) in
-    p.8 ∙ (λ i. BeginsChange exp (w i) (can.solutions q.0 q.1 p.2 q.2 shaped q.6 (sym text ∙ q.7) i) tags) ∙ sym q.8
+    let w : p.1 ≡ q.1 = can.tops p.1 q.1 p.5 q.5 (sym p.6 ∙ q.6) in
+    let shaped : IsShaped q.0 q.1 p.2 = subst (λ l. IsShaped l q.1 p.2) lab (subst (λ x. IsShaped p.0 x p.2) w p.7) in
+    let text : map ≡ t.solution q.0 q.1 p.2 = p.8 ∙ (λ i. t.solution (lab i) (w i) p.2) in
+    p.9 ∙ (λ i. BeginsChange exp (w i) (can.solutions q.0 q.1 p.2 q.2 q.4 q.5 shaped q.7 (sym text ∙ q.8) i) tags) ∙ sym q.9
 says_once t s (Commit exp) m n can p q = p ∙ sym q
 says_once t s (Abort exp) m n can p q = p ∙ sym q
 

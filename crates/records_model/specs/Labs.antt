@@ -132,29 +132,35 @@ moved_of (Some lab) es move = in_state lab (moved_in lab es move)
 abbrev pub moved : LabState → Move → Option LabState
 moved s move = moved_of s.lab s.experiments move
 
--- the canonical texts
+-- the canonical texts, and the test that the parts of a wiring can be printed: its names are names
 pub record Texts : Type 0 where
   pub ptop : Lab → List ℕ
   pub top : Wiring → List ℕ
   pub solution : Lab → Wiring → Mapping → List ℕ
+  pub is_printable : Wiring → Bool
+
+-- a sound wiring that has a text
+pub record HasText (t : Texts) (w : Wiring) : Type 0 where
+  pub sound : IsSound w
+  pub printable : t.is_printable w ≡ true
 
 -- each text is of one value
 pub record AreCanonical (t : Texts) : Type 0 where
   pub ptops : (l m : Lab) → IsLab l → IsLab m → t.ptop l ≡ t.ptop m → l ≡ m
-  pub tops : (w v : Wiring) → IsSound w → IsSound v → t.top w ≡ t.top v → w ≡ v
-  pub solutions : (lab : Lab) (w : Wiring) (m n : Mapping) → IsShaped lab w m → IsShaped lab w n → t.solution lab w m ≡ t.solution lab w n → m ≡ n
+  pub tops : (w v : Wiring) → HasText t w → HasText t v → t.top w ≡ t.top v → w ≡ v
+  pub solutions : (lab : Lab) (w : Wiring) (m n : Mapping) → IsLab lab → HasText t w → IsShaped lab w m → IsShaped lab w n → t.solution lab w m ≡ t.solution lab w n → m ≡ n
 
 -- the record's texts are canonical, and say that move
 abbrev pub SaysBegin : Texts → LabState → List ℕ → Way → Move → Type 0
 SaysBegin t s exp (WayIn map tags) move =
-    (lab : Lab) × (e : Experiment) × (m : Mapping) × (s.lab ≡ Some lab) × (find exp s.experiments ≡ Some e) × IsShaped lab e.wiring m × (map ≡ t.solution lab e.wiring m) × (move ≡ BeginsIn exp m tags)
+    (lab : Lab) × (e : Experiment) × (m : Mapping) × (s.lab ≡ Some lab) × (find exp s.experiments ≡ Some e) × IsLab lab × HasText t e.wiring × IsShaped lab e.wiring m × (map ≡ t.solution lab e.wiring m) × (move ≡ BeginsIn exp m tags)
 SaysBegin t s exp WayOut move = move ≡ BeginsOut exp
 SaysBegin t s exp (WayChange top map tags) move =
-    (lab : Lab) × (w : Wiring) × (m : Mapping) × (s.lab ≡ Some lab) × IsSound w × (top ≡ t.top w) × IsShaped lab w m × (map ≡ t.solution lab w m) × (move ≡ BeginsChange exp w m tags)
+    (lab : Lab) × (w : Wiring) × (m : Mapping) × (s.lab ≡ Some lab) × IsLab lab × HasText t w × (top ≡ t.top w) × IsShaped lab w m × (map ≡ t.solution lab w m) × (move ≡ BeginsChange exp w m tags)
 
 abbrev pub Says : Texts → LabState → Record → Move → Type 0
 Says t s (LabRecord ptop) move = (lab : Lab) × IsLab lab × (ptop ≡ t.ptop lab) × (move ≡ SetLab lab)
-Says t s (Create exp top) move = (w : Wiring) × IsSound w × (top ≡ t.top w) × (move ≡ Creates exp w)
+Says t s (Create exp top) move = (w : Wiring) × HasText t w × (top ≡ t.top w) × (move ≡ Creates exp w)
 Says t s (Delete exp) move = move ≡ Deletes exp
 Says t s (Begin exp way) move = SaysBegin t s exp way move
 Says t s (Commit exp) move = move ≡ Commits exp
