@@ -409,7 +409,7 @@ fn are_cabled(
     }
 }
 
-fn is_claimed(lab: &Lab, experiments: &[Experiment], name: &[u8]) -> bool
+pub(crate) fn is_claimed(lab: &Lab, experiments: &[Experiment], name: &[u8]) -> bool
     ensures { result ≡ is_claimed lab.now experiments.now name.now }
 {
     experiments

@@ -32,6 +32,7 @@ mod sides;
 mod suits;
 mod two_sides;
 mod uses;
+mod violation;
 mod wanted;
 mod wants;
 mod world;
@@ -50,12 +51,17 @@ pub use sides::on_first_side;
 pub use suits::all_fit;
 pub use two_sides::{Header, Live, Sides, header_of, live_of, read_sides};
 pub use uses::use_of;
+pub use violation::first_violation;
 pub use wanted::Wanted;
 pub use wants::wanted_rows;
 pub use world::{Sent, boot_of, has_row, os_of, pipe_of};
 
 #[cfg(test)]
+mod small_worlds;
+#[cfg(test)]
 mod tests;
+#[cfg(test)]
+mod wrong_worlds;
 
 /// The test of isolation is true exactly where a world with these rows and pipes is isolated.
 pub fn isolation_tested()

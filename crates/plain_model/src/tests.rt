@@ -6,8 +6,17 @@ use plant::{Answer, DeviceOp, Side};
 use std::alloc::Global;
 use std::test::Fail;
 
-/// The switch 1 or 2, a port, and a VLAN.
-type At = (u16, u16, u16);
+/// The switch 1, 2 or 3, a port, and a VLAN.
+pub(crate) type At = (u16, u16, u16);
+
+pub(crate) fn switch_of(at: At) -> Result<Name, Fail> {
+    let name: &[u8] = match at.0 {
+        1 => b"s1",
+        2 => b"s2",
+        _ => b"s3",
+    };
+    named(name)
+}
 
 /// An experiment, whether its new mapping, a link, and a row.
 type Claimed = (&'static [u8], bool, &'static [u8], At);
@@ -15,7 +24,7 @@ type Claimed = (&'static [u8], bool, &'static [u8], At);
 /// A node, and two of its interfaces.
 type Joined = (&'static [u8], &'static [u8], &'static [u8]);
 
-fn named(text: &[u8]) -> Result<Name, Fail> {
+pub(crate) fn named(text: &[u8]) -> Result<Name, Fail> {
     Ok(Name::read(text).ok().ok_or("a name")?)
 }
 
@@ -28,27 +37,36 @@ fn trunk(link: &[u8], first: (u16, u16), second: (u16, u16)) -> Result<Trunk, Fa
     })
 }
 
-/// Two switches with a trunk at port 24 of each. Node `a` has `e0` at port 1 and `e1` at port 3 of `s1`, node `b`
-/// has `e0` at port 2 of `s1`, and node `c` has `e0` at port 1 of `s2`.
-fn small_lab(alloc: Global) -> Result<Lab, Fail> {
-    let mut builder = LabBuilder::new(alloc, 100, 103)?;
-    builder.add_switch(named(b"s1")?)?;
-    builder.add_switch(named(b"s2")?)?;
-    for name in [b"a", b"b", b"c"] {
-        let mut types = Items::new(alloc);
-        types.push((named(b"pc")?, 1))?;
-        let node = Node {
-            name: named(name)?,
-            types,
-            features: Items::new(alloc),
-        };
-        builder.add_node(node)?;
+fn node(alloc: Global, name: &[u8]) -> Result<Node, Fail> {
+    let mut types = Items::new(alloc);
+    types.push((named(b"pc")?, 1))?;
+    Ok(Node {
+        name: named(name)?,
+        types,
+        features: Items::new(alloc),
+    })
+}
+
+fn add_devices(alloc: Global, builder: &mut LabBuilder) -> Result<(), Fail> {
+    for name in [b"s1", b"s2", b"s3"] {
+        builder.add_switch(named(name)?)?;
     }
-    let ifaces: [(&[u8], u16, &[u8], u16, u16); 4] = [
+    for name in [b"a", b"b", b"c", b"d", b"e"] {
+        builder.add_node(node(alloc, name)?)?;
+    }
+    Ok(())
+}
+
+fn add_ifaces(builder: &mut LabBuilder) -> Result<(), Fail> {
+    let ifaces: [(&[u8], u16, &[u8], u16, u16); 8] = [
         (b"i1", 0, b"e0", 0, 1),
         (b"i2", 0, b"e1", 0, 3),
         (b"i3", 1, b"e0", 0, 2),
         (b"i4", 2, b"e0", 1, 1),
+        (b"i5", 3, b"e0", 2, 1),
+        (b"i6", 4, b"e0", 2, 2),
+        (b"i7", 3, b"e1", 0, 5),
+        (b"i8", 4, b"e1", 0, 6),
     ];
     for (link, node, name, switch, port) in ifaces {
         builder.add_iface(Iface {
@@ -57,21 +75,26 @@ fn small_lab(alloc: Global) -> Result<Lab, Fail> {
             name: named(name)?,
             switch: SwitchId(switch),
             port,
-            kbps: 100_000,
+            kbps: 1_000_000,
         })?;
     }
+    Ok(())
+}
+
+/// Switches `s1` and `s2` with a trunk at port 24 of each, and `s3` alone. On `s1` node `a` has `e0` at port 1 and `e1`
+/// at port 3, `b` has `e0` at port 2, and `d` and `e` have `e1` at ports 5 and 6; `c` has `e0` at port 1 of `s2`; and `d` and
+/// `e` have `e0` at ports 1 and 2 of `s3`.
+pub(crate) fn small_lab(alloc: Global) -> Result<Lab, Fail> {
+    let mut builder = LabBuilder::new(alloc, 100, 103)?;
+    add_devices(alloc, &mut builder)?;
+    add_ifaces(&mut builder)?;
     builder.add_trunk(trunk(b"t1", (0, 24), (1, 24))?)?;
     Ok(builder.finish().ok().ok_or("memory")?)
 }
 
 fn row(at: At) -> Result<Row, Fail> {
-    let switch = if at.0 == 1 {
-        named(b"s1")?
-    } else {
-        named(b"s2")?
-    };
     Ok(Row {
-        switch,
+        switch: switch_of(at)?,
         port: at.1,
         vlan: at.2,
     })
