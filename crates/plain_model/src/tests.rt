@@ -81,14 +81,19 @@ fn add_ifaces(builder: &mut LabBuilder) -> Result<(), Fail> {
     Ok(())
 }
 
+fn add_parts(alloc: Global, builder: &mut LabBuilder) -> Result<(), Fail> {
+    add_devices(alloc, builder)?;
+    add_ifaces(builder)?;
+    builder.add_trunk(trunk(b"t1", (0, 24), (1, 24))?)?;
+    Ok(())
+}
+
 /// Switches `s1` and `s2` with a trunk at port 24 of each, and `s3` alone. On `s1` node `a` has `e0` at port 1 and `e1`
 /// at port 3, `b` has `e0` at port 2, and `d` and `e` have `e1` at ports 5 and 6; `c` has `e0` at port 1 of `s2`; and `d` and
 /// `e` have `e0` at ports 1 and 2 of `s3`.
 pub(crate) fn small_lab(alloc: Global) -> Result<Lab, Fail> {
     let mut builder = LabBuilder::new(alloc, 100, 103)?;
-    add_devices(alloc, &mut builder)?;
-    add_ifaces(&mut builder)?;
-    builder.add_trunk(trunk(b"t1", (0, 24), (1, 24))?)?;
+    add_parts(alloc, &mut builder)?;
     Ok(builder.finish().ok().ok_or("memory")?)
 }
 
