@@ -10,3 +10,6 @@ mod rows;
 
 pub use commands::{Commands, Ops};
 pub use plans::{plan_in, plan_out};
+
+#[cfg(test)]
+mod tests;
