@@ -6,6 +6,7 @@ pub mod Halts
 pub mod Machines
 pub mod Jobs
 pub mod Numbers
+pub mod Once
 pub mod Operators
 pub mod Runs
 pub mod Seen

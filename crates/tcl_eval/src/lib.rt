@@ -7,6 +7,7 @@ mod evaluation;
 mod halts;
 mod hosts;
 mod interp;
+mod laws;
 mod limits;
 mod lists;
 mod literals;
@@ -18,6 +19,7 @@ mod runs;
 
 pub use hosts::{Called, Host, HostFault};
 pub use interp::Interp;
+pub use laws::meaning_is_one;
 pub use runs::Ran;
 
 #[cfg(test)]

@@ -1,0 +1,11 @@
+// Laws of the definitions.
+ghost use Rattle.std.specs.Prelude.{ℕ, List, Result};
+ghost use Rattle.lab_base.specs.declared.fault.Kind.{Kind};
+ghost use Rattle.tcl_eval.specs.declared.hosts.Called.{Called};
+ghost use Rattle.tcl_eval.specs.Once.{EvalsOnce, RunsOnce};
+
+/// However a host answers, what a text means is one: each job has one end alone, and so has each whole text.
+pub fn meaning_is_one<O>()
+    ensures evals { (calls : O → List (List ℕ) → Result Called Kind × O) (hears : O → List ℕ → List ℕ → Result (Unit {0}) Kind × O) → EvalsOnce calls hears }
+    ensures runs { (calls : O → List (List ℕ) → Result Called Kind × O) (hears : O → List ℕ → List ℕ → Result (Unit {0}) Kind × O) → RunsOnce calls hears }
+{}
