@@ -20,7 +20,7 @@ state lab es = record { lab = lab; experiments = es }
 
 -- any texts do
 abbrev no_texts : Texts
-no_texts = record { ptop = λ l. []; top = λ w. []; solution = λ l w m. [] }
+no_texts = record { ptop = λ l. []; top = λ w. []; solution = λ l w m. []; is_printable = λ w. true }
 
 -- THE MOVES
 
@@ -42,7 +42,7 @@ pub created_idle : (o : Option Lab) (es : List Experiment) (name : List ℕ) (w 
 created_idle None es name w is idle sound none few = absurd (cc is)
 created_idle (Some lab) es name w is idle sound none few = record {
   sane = follows_sane no_texts (state (Some lab) es) (Create name []) (state (Some lab) (es ++ out name w ∷ [])) idle.sane
-      (record { move = Creates name w; says = (w, sound, refl, refl); gives = created_moved lab es name w none few });
+      (record { move = Creates name w; says = (w, record { sound = sound; printable = refl }, refl, refl); gives = created_moved lab es name w none few });
   out = λ e h. elim (Has-append es (out name w ∷ []) e h) [
     | inl before ↦ idle.out e before
     | inr last ↦ elim last [ inl is ↦ sym (ap (λ (x : Experiment). x.phase) is) | inr no' ↦ absurd no' ]
