@@ -39,14 +39,28 @@ fn plug(link: &[u8], node: u16) -> Result<Iface, Fail> {
     })
 }
 
+fn add_machines(alloc: Global, builder: &mut LabBuilder) -> Result<(), Fail> {
+    builder.add_node(machine(alloc, b"pc1")?)?;
+    builder.add_node(machine(alloc, b"pc2")?)?;
+    Ok(())
+}
+
+fn add_plugs(builder: &mut LabBuilder) -> Result<(), Fail> {
+    builder.add_iface(plug(b"l1", 0)?)?;
+    builder.add_iface(plug(b"l2", 1)?)?;
+    Ok(())
+}
+
+fn add_parts(alloc: Global, builder: &mut LabBuilder) -> Result<(), Fail> {
+    builder.add_switch(named(b"s1")?)?;
+    add_machines(alloc, builder)?;
+    add_plugs(builder)
+}
+
 /// A switch, and two machines on it.
 fn lab(alloc: Global) -> Result<Lab, Fail> {
     let mut builder = LabBuilder::new(alloc, 100, 101)?;
-    builder.add_switch(named(b"s1")?)?;
-    builder.add_node(machine(alloc, b"pc1")?)?;
-    builder.add_node(machine(alloc, b"pc2")?)?;
-    builder.add_iface(plug(b"l1", 0)?)?;
-    builder.add_iface(plug(b"l2", 1)?)?;
+    add_parts(alloc, &mut builder)?;
     Ok(builder.finish().ok().ok_or("memory")?)
 }
 
