@@ -14,7 +14,11 @@ pub fn replay(rt: &HostRuntime, bytes: &[u8]) -> anyhow::Result<()> {
         bail!("side A can't be written");
     }
     match Journal::open(rt.alloc(), &mut plant, LIMIT) {
-        Ok((journal, found)) => println!(rt; "{} records, {} bytes", found.len(), journal.length())?,
+        Ok((journal, found)) => println!(rt;
+            "{} records, {} bytes",
+            found.len(),
+            journal.length()
+        )?,
         Err(_) => bail!("the journal can't be opened"),
     }
     Ok(())

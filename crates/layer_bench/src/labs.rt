@@ -67,7 +67,12 @@ pub fn again(rt: &HostRuntime, ptop: &[u8]) -> anyhow::Result<()> {
         bail!("out of memory");
     };
     let lab = lab_of(rt.alloc(), text.bytes())?;
-    println!(rt; "{} nodes, {} interfaces, {} trunks", lab.nodes().len(), lab.ifaces().len(), lab.trunks().len())?;
+    println!(rt;
+        "{} nodes, {} interfaces, {} trunks",
+        lab.nodes().len(),
+        lab.ifaces().len(),
+        lab.trunks().len()
+    )?;
     Ok(())
 }
 
@@ -78,7 +83,11 @@ pub fn top_again(rt: &HostRuntime, top: &[u8]) -> anyhow::Result<()> {
         bail!("out of memory");
     };
     let wiring = wiring_of(rt.alloc(), text.bytes())?;
-    println!(rt; "{} virtual nodes, {} segments", wiring.nodes.len(), wiring.segments.len())?;
+    println!(rt;
+        "{} virtual nodes, {} segments",
+        wiring.nodes.len(),
+        wiring.segments.len()
+    )?;
     Ok(())
 }
 
