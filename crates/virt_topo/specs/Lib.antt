@@ -3,3 +3,4 @@ pub mod Cables
 pub mod Repeats
 pub mod Soundness
 pub mod Sought
+pub mod Topos

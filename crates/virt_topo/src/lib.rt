@@ -1,4 +1,4 @@
-//! Wirings, mappings, and the phases of an experiment.
+//! Wirings, mappings, the phases of an experiment, and the networks of NS files.
 #![tactic(auto)]
 
 mod check;
@@ -11,6 +11,7 @@ mod limits;
 mod mapping;
 mod pipes;
 mod repeats;
+mod topo;
 mod violation;
 mod wiring;
 
@@ -21,6 +22,7 @@ pub use limits::keeps_limits;
 pub use mapping::{Mapped, Mapping};
 pub use pipes::has_bad_pipe;
 pub use repeats::{has_same, has_twice};
+pub use topo::{AskedLink, AskedNode, Topo};
 pub use violation::{Broken, Subject};
 pub use wiring::{Asks, Class, Pipe, Segment, VirtEnd, VirtNode, Wiring};
 

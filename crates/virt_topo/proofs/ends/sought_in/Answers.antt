@@ -1,4 +1,4 @@
-use Rattle.std.proofs.Common.{◌≡◌, ◌<◌, ◌+◌, ◌++◌, ℕ, List, None, length, drop, arith, ap, ◌∙◌}
+use Rattle.std.proofs.Common.{◌≡◌, ◌+◌, ◌++◌, ℕ, None, drop, arith, ap}
 use Rattle.std.proofs.lemmas.List.{length-map}
 use Rattle.virt_topo.specs.Ends.{end_number}
 use Rattle.virt_topo.specs.declared.wiring.VirtEnd.{VirtEnd}

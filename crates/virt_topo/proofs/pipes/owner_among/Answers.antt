@@ -1,4 +1,4 @@
-use Rattle.std.proofs.Common.{◌≡◌, ◌+◌, ◌-◌, ◌++◌, ℕ, List, [], length, drop, get_or, arith, ap, sym, ◌∙◌}
+use Rattle.std.proofs.Common.{◌≡◌, ◌+◌, ◌-◌, ℕ, List, [], length, drop, get_or, arith, ap, sym, ◌∙◌}
 use Rattle.virt_topo.specs.Ends.{end_owners}
 use Rattle.virt_topo.proofs.EndLaws.{owners_from, owner_here, owner_past}
 use Rattle.virt_topo.proofs.pipes.owner_among.Goals as goal

@@ -1,4 +1,4 @@
-use Rattle.std.proofs.Common.{◌≡◌, ◌+◌, Bool, true, false, drop, ap, sym, ◌∙◌}
+use Rattle.std.proofs.Common.{◌+◌, Bool, drop, ap, sym, ◌∙◌}
 use Rattle.std.specs.Prelude.{◌||◌}
 use Rattle.std.specs.List.{list_any}
 use Rattle.virt_topo.specs.Soundness.{all_ends, same_address}

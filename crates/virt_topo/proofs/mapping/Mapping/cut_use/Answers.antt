@@ -1,11 +1,9 @@
-use Rattle.std.proofs.Common.{◌≡◌, ◌+◌, ◌*◌, ◌<◌, ◌≤◌, ℕ, true, List, length, take, drop, All, arith, ap, sym, subst, ◌∙◌}
-use Rattle.std.specs.List.{list_all}
+use Rattle.std.proofs.Common.{◌≡◌, ◌+◌, ◌<◌, ℕ, List, length, take, drop, All, arith, ap, sym, subst, ◌∙◌}
 use Rattle.std.proofs.lemmas.List.Elements.{All-take, All-drop}
 use Rattle.lab_base.specs.declared.ids.IfaceId.{IfaceId}
 use Rattle.virt_topo.specs.declared.wiring.Segment.{Segment}
 use Rattle.virt_topo.specs.Ends.{end_nodes}
 use Rattle.virt_topo.specs.Cables.{cables, cable_use, cut_use}
-use Rattle.virt_topo.specs.Soundness.{limits_segment}
 use Rattle.virt_topo.proofs.EndLaws.{ends_from}
 use Rattle.virt_topo.proofs.CableLaws.{own_limits, whole_bound, use_from, no_use}
 use Rattle.virt_topo.proofs.mapping.Mapping.cut_use.Goals as goal

@@ -1,8 +1,7 @@
-use Rattle.std.proofs.Common.{◌≡◌, ◌+◌, ◌<◌, ◌++◌, ℕ, true, false, List, Some, None, length, drop, arith, refl, ap, sym, ltb, ◌∙◌}
+use Rattle.std.proofs.Common.{◌≡◌, ◌+◌, ◌<◌, ℕ, true, false, List, Some, None, length, drop, arith, refl, ap, sym, ltb}
 use Rattle.std.proofs.lemmas.Bool.Decides.{nat_tests}
 use Rattle.virt_topo.specs.Ends.{end_nodes, end_number}
 use Rattle.virt_topo.specs.Soundness.{end_if}
-use Rattle.virt_topo.specs.declared.wiring.Segment.{Segment}
 use Rattle.virt_topo.proofs.EndLaws.{nodes_with, ends_with, no_more, length-nodes_of}
 use Rattle.virt_topo.proofs.wiring.Wiring.end.Goals as goal
 
