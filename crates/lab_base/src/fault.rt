@@ -5,7 +5,7 @@ use crate::Memory;
 use std::alloc::{AllocError, AllocFailed};
 
 /// What is wrong with a line. The kinds of a ptop, top or solution text come first, in the order in which
-/// they are tried.
+/// they are tried; then those of Tcl words and their evaluation, and those of NS commands.
 #[derive(Clone, Copy, Debug, PartialEq, Eq)]
 pub enum Kind {
     Word,
@@ -40,6 +40,13 @@ pub enum Kind {
     Deep,
     Long,
     Unsupported,
+    Node,
+    Link,
+    Bandwidth,
+    Delay,
+    Loss,
+    Ip,
+    NotRun,
 }
 
 impl Kind {
@@ -80,6 +87,13 @@ impl Kind {
             Kind::Deep => "deep",
             Kind::Long => "long",
             Kind::Unsupported => "unsupported",
+            Kind::Node => "node",
+            Kind::Link => "link",
+            Kind::Bandwidth => "bandwidth",
+            Kind::Delay => "delay",
+            Kind::Loss => "loss",
+            Kind::Ip => "ip",
+            Kind::NotRun => "not-run",
         }
     }
 }
