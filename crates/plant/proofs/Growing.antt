@@ -1,17 +1,16 @@
 -- A step more, whose bytes are the last ones.
-use Rattle.std.proofs.Common.{◌≡◌, ℕ, ◌+◌, ◌-◌, ◌≤◌, Bool, true, false, ◌&&◌, List, [], ◌∷◌, ◌++◌, length, take, drop, map, nat_le, refl, sym, ◌∙◌, ap, subst, arith, length-append, append_assoc}
+use Rattle.std.proofs.Common.{◌≡◌, ℕ, ◌-◌, ◌≤◌, Bool, true, false, ◌&&◌, List, [], ◌∷◌, ◌++◌, length, take, drop, nat_le, refl, sym, ◌∙◌, ap, subst, arith, length-append, append_assoc}
 use Rattle.std.specs.Prelude.{slice_range, fold}
-use Rattle.std.specs.List.{list_all}
 use Rattle.std.proofs.lemmas.List.{map-append, drop-append-le, take-append-le, take_all, length-drop, append-nil}
 use Rattle.std.proofs.Math.Seq.{drop-append_seam}
 use Rattle.std.proofs.lemmas.Bool.Decides.{nat_tests}
 use Rattle.plant.specs.declared.step.Step.{Step}
 use Rattle.plant.specs.declared.step.Step.TheVariants as step
 use Rattle.plant.specs.declared.step.Side.{Side}
-use Rattle.plant.specs.declared.step.Side.TheVariants.{A, B}
-use Rattle.plant.specs.Disks.{Disk, disk, disk_after, at_once}
+use Rattle.plant.specs.Disks.{disk, disk_after, at_once}
 use Rattle.plant.specs.Events.{Event}
 use Rattle.plant.specs.Events as events
+use Rattle.plant.specs.Worlds.{world_of, world_after, blank}
 use Rattle.plant.specs.Steps.{event_of, trace_of, is_range, is_within, are_within}
 
 both : (a b : Bool) → (a && b) ≡ true → (a ≡ true) × (b ≡ true)
@@ -73,7 +72,7 @@ steps_in m n (s ∷ steps) step more is last =
     let b = both (is_within m s) (are_within m steps) is in
     and (is_within n s) (are_within n (steps ++ step ∷ [])) (step_in m n s more b.0) (steps_in m n steps step more b.1 last)
 
-fold-push : {X Y : Type 0} (f : Y → X → Y) (b : Y) (xs : List X) (x : X) → fold f b (xs ++ x ∷ []) ≡ f (fold f b xs) x
+pub fold-push : {X Y : Type 0} (f : Y → X → Y) (b : Y) (xs : List X) (x : X) → fold f b (xs ++ x ∷ []) ≡ f (fold f b xs) x
 fold-push f b [] x = refl
 fold-push f b (y ∷ xs) x = fold-push f (f b y) xs x
 
@@ -85,6 +84,7 @@ pub record Grown (bytes : List ℕ) (steps : List Step) (bytes' : List ℕ) (ste
   pub trace : trace_of bytes' steps' ≡ trace_of bytes steps ++ event ∷ []
   pub within : are_within (length bytes') steps' ≡ true
   pub disks : (side : Side) → disk side (trace_of bytes' steps') ≡ disk_after side (disk side (trace_of bytes steps)) event
+  pub worlds : world_of (trace_of bytes' steps') ≡ world_after (world_of (trace_of bytes steps)) event
 
 pub grown : (bytes more bytes' : List ℕ) (steps steps' : List Step) (step : Step) (event : Event) → bytes' ≡ bytes ++ more → steps' ≡ steps ++ step ∷ [] → are_within (length bytes) steps ≡ true
     → is_within (length (bytes ++ more)) step ≡ true → event_of (bytes ++ more) step ≡ event → Grown bytes steps bytes' steps' event
@@ -96,6 +96,7 @@ grown bytes more bytes' steps steps' step event longer pushed within last is =
       trace = trace;
       within = (λ i. are_within (length (longer i)) (pushed i)) ∙ steps_in (length bytes) (length (bytes ++ more)) steps step (omega (arith, length-append bytes more)) within last;
       disks = λ side. ap (disk side) trace ∙ disk_push side (trace_of bytes steps) event;
+      worlds = ap world_of trace ∙ fold-push world_after blank (trace_of bytes steps) event;
     }
 
 -- a step without bytes

@@ -1,5 +1,5 @@
 -- What MemLab tells after a call.
-use Rattle.std.proofs.Common.{◌≡◌, ◌≤◌, ℕ, Bool, true, false, List, [], ◌∷◌, ◌++◌, length, Option, Some, None, Result, Ok, Err, refl, sym, ap, ◌∙◌, subst, inl, inr}
+use Rattle.std.proofs.Common.{◌≡◌, ℕ, true, false, List, [], ◌∷◌, length, Option, Some, Result, Ok, Err, refl, sym, ap, ◌∙◌, inl, inr}
 use Rattle.std.specs.Prelude.{OnOk, vec_len}
 use Rattle.plant.specs.Disks.{Disk, disk, ArePossible}
 use Rattle.plant.specs.DiskCalls.{MayStop}

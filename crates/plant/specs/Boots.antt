@@ -8,6 +8,8 @@ use Rattle.plant.specs.declared.device.DeviceOp.{DeviceOp}
 use Rattle.plant.specs.declared.device.DeviceOp.TheVariants.{Load, Boot as BootIt, Poll, Wipe}
 use Rattle.plant.specs.declared.device.Answer.{Answer}
 use Rattle.plant.specs.declared.device.Answer.TheVariants.{Done, State}
+use Rattle.plant.specs.declared.motion.Motion.{Motion}
+use Rattle.plant.specs.declared.motion.Motion.TheVariants.{Moves, Hangs, Jumps}
 use Rattle.plant.specs.declared.nodes.NodeState.{NodeState}
 
 -- the entry is the node's
@@ -32,15 +34,25 @@ moved Booting = TbSetup
 moved TbSetup = IsUp
 moved state = state
 
--- the named node's boot state after a command that was applied
-abbrev pub state_after : DeviceOp → List ℕ → Boot → Boot
-state_after (Load node os) name state = if bytes_eq node name then Off else state
-state_after (BootIt node) name state = if bytes_eq node name then Booting else state
-state_after (Poll node) name state = if bytes_eq node name then moved state else state
-state_after (Wipe node) name state = if bytes_eq node name then Off else state
-state_after op name state = state
+-- the same where the node hangs, or jumps
+abbrev pub moved_by : Motion → Boot → Boot
+moved_by Moves state = moved state
+moved_by Hangs state = state
+moved_by Jumps state = IsUp
+
+-- the named node's boot state after a command that was applied; a poll moves as is told
+abbrev pub state_after : DeviceOp → Motion → List ℕ → Boot → Boot
+state_after (Load node os) motion name state = if bytes_eq node name then Off else state
+state_after (BootIt node) motion name state = if bytes_eq node name then Booting else state
+state_after (Poll node) motion name state = if bytes_eq node name then moved_by motion state else state
+state_after (Wipe node) motion name state = if bytes_eq node name then Off else state
+state_after op motion name state = state
+
+-- the same of a command that may not have been applied
+abbrev pub state_sent : DeviceOp → Motion → Bool → List ℕ → Boot → Boot
+state_sent op motion applied name state = if applied then state_after op motion name state else state
 
 -- the answer of a command that is done, by the state that its node had
-abbrev pub answer_of : DeviceOp → (List ℕ → Boot) → Answer
-answer_of (Poll node) state = State (moved (state node))
-answer_of op state = Done
+abbrev pub answer_of : DeviceOp → Motion → (List ℕ → Boot) → Answer
+answer_of (Poll node) motion state = State (moved_by motion (state node))
+answer_of op motion state = Done

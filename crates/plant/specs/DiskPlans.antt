@@ -1,10 +1,10 @@
 -- Failures of the disk, and stops, that wait to happen.
-use Rattle.std.specs.Prelude.{◌≡◌, ℕ, ◌-◌, ◌==◌, Bool, true, false, List, [], ◌∷◌, map, Option, Some, None, Result, Ok, Err, if◌then◌else◌}
+use Rattle.std.specs.Prelude.{ℕ, ◌-◌, ◌==◌, Bool, true, false, List, [], ◌∷◌, map, Option, Some, None, Result, Err, if◌then◌else◌}
 use Rattle.std.specs.List.{list_any}
 use Rattle.plant.specs.declared.device.Fault.{Fault}
 use Rattle.plant.specs.declared.device.Fault.TheVariants.{Failed, Stopped}
 use Rattle.plant.specs.declared.drill.Drill.{Drill}
-use Rattle.plant.specs.declared.drill.Drill.TheVariants.{Device, Disk, Stop}
+use Rattle.plant.specs.declared.drill.Drill.TheVariants.{Disk, Stop}
 use Rattle.plant.specs.declared.drill.Pick.{Pick}
 use Rattle.plant.specs.declared.drill.Pick.TheVariants.{Nothing, All, Torn}
 use Rattle.plant.specs.declared.stops.StopPlan.{StopPlan}

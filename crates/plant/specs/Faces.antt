@@ -1,5 +1,5 @@
 -- A side that a plant in memory keeps.
-use Rattle.std.specs.Prelude.{◌≤◌, ◌+◌, ℕ, List, reverse, vec_len, vec_capacity}
+use Rattle.std.specs.Prelude.{◌≤◌, ◌+◌, reverse, vec_len, vec_capacity}
 use Rattle.plant.specs.Disks.{Disk}
 use Rattle.plant.specs.declared.face.Face.{Face}
 use Rattle.plant.specs.declared.step.Side.{Side}

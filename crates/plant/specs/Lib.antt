@@ -5,6 +5,7 @@ pub mod DiskPlans
 pub mod Disks
 pub mod Events
 pub mod Faces
+pub mod Knows
 pub mod MemLab
 pub mod Picks
 pub mod Plans

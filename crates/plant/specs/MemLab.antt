@@ -1,5 +1,5 @@
 -- What a plant in memory shows.
-use Rattle.std.specs.Prelude.{◌≡◌, ◌≤◌, ℕ, ◌+◌, ◌-◌, ◌&&◌, nat_le, nat_lt, min, Bool, List, Option, vec_len, vec_capacity}
+use Rattle.std.specs.Prelude.{◌≡◌, ℕ, ◌-◌, ◌&&◌, nat_le, nat_lt, min, Bool, List, Option, vec_len, vec_capacity}
 use Rattle.lab_base.specs.declared.boot.Boot.{Boot}
 use Rattle.plant.specs.declared.drill.Pick.{Pick}
 use Rattle.plant.specs.declared.face.Face.{Face}
@@ -29,7 +29,7 @@ told_of m = record { trace = trace_of m.past.bytes.items m.past.steps.items; mar
 
 -- for how many steps more there is room, each with an entry of the table of nodes
 abbrev pub room_of : MemLab → ℕ
-room_of m = min (vec_capacity m.past.steps - vec_len m.past.steps) (vec_capacity m.nodes - vec_len m.nodes)
+room_of m = min (vec_capacity m.past.steps - vec_len m.past.steps) (vec_capacity m.past.nodes - vec_len m.past.nodes)
 
 -- the failures that wait
 abbrev pub plans_of : MemLab → List Plan
@@ -43,7 +43,7 @@ stopped_of m = m.stopped
 
 -- the boot state of a node
 abbrev pub state_of : MemLab → List ℕ → Boot
-state_of m node = state_in node m.nodes.items
+state_of m node = state_in node m.past.nodes.items
 
 -- the failures of the disk that wait, the stop that waits, and the pick of the stop that came
 abbrev pub disk_plans_of : MemLab → List ℕ

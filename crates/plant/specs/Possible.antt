@@ -1,5 +1,5 @@
 -- What the sides of a plant in memory read as is possible.
-use Rattle.std.proofs.Common.{◌≡◌, List, subst}
+use Rattle.std.proofs.Common.{subst}
 use Rattle.plant.specs.Disks.{Disk, disk, IsImage, ArePossible}
 use Rattle.plant.specs.MemLab.{told_of}
 use Rattle.plant.specs.declared.mem.MemLab.{MemLab}

@@ -1,5 +1,6 @@
 ghost use Rattle.std.specs.Prelude.{◌≡◌};
 ghost use Rattle.plant.specs.Calls.{device_of};
+ghost use Rattle.plant.specs.Plans.{is_poll, is_wipe};
 
 use lab_base::{Boot, Name, Rates, VlanId};
 
@@ -69,7 +70,7 @@ pub enum Fault {
 pub struct NodeRow {
     pub os: Option<Name>,
     pub state: Boot,
-    /// How many pipes it has.
+    /// How many pipes are set.
     pub pipes: u32,
 }
 
@@ -86,5 +87,17 @@ impl DeviceOp {
             | DeviceOp::Poll { node }
             | DeviceOp::Wipe { node } => *node,
         }
+    }
+
+    pub(crate) fn is_poll(&self) -> bool
+        ensures { result ≡ is_poll self.now }
+    {
+        matches!(self, DeviceOp::Poll { .. })
+    }
+
+    pub(crate) fn is_wipe(&self) -> bool
+        ensures { result ≡ is_wipe self.now }
+    {
+        matches!(self, DeviceOp::Wipe { .. })
     }
 }

@@ -8,6 +8,8 @@ mod mem;
 mod mem_disk;
 mod mem_plant;
 mod moment;
+mod motion;
+mod node_rows;
 mod nodes;
 mod past;
 mod plans;
@@ -23,5 +25,7 @@ pub use moment::{Faults, Moment, Taken};
 pub use plant::Plant;
 pub use step::{Side, Step};
 
+#[cfg(test)]
+mod drill_tests;
 #[cfg(test)]
 mod tests;

@@ -1,18 +1,18 @@
-ghost use Rattle.std.specs.Prelude.{◌≡◌, ◌↔◌, ◌<◌, ◌≤◌, ◌+◌, ◌++◌, ℕ, List, [], ◌∷◌, map, IfOk, OnOk, OnErr, IsErrOf, IsTrue, IsFalse, Some, Err, true, false, vec_len, vec_capacity, if◌then◌else◌};
+ghost use Rattle.std.specs.Prelude.{◌≡◌, ◌↔◌, ◌<◌, ◌≤◌, ◌+◌, ◌++◌, ℕ, List, [], ◌∷◌, map, IfOk, OnOk, OnErr, IsErrOf, IsTrue, IsFalse, Some, Err, true, false};
 ghost use Rattle.lab_base.specs.declared.boot.Boot.TheVariants.{Off};
 ghost use Rattle.plant.specs.MemLab.{told_of, bytes_of, room_of, plans_of, faults_of, stopped_of, state_of, disk_plans_of, stop_of, pick_of};
 ghost use Rattle.plant.specs.Steps.{trace_of};
-ghost use Rattle.plant.specs.Boots.{answer_of, state_after};
-ghost use Rattle.plant.specs.Calls.{CommandSteps, DeviceCause, device_of};
+ghost use Rattle.plant.specs.Boots.{answer_of, state_sent};
+ghost use Rattle.plant.specs.Calls.{CommandSteps, DeviceCause};
+ghost use Rattle.plant.specs.DiskPlans.{is_done};
 ghost use Rattle.plant.specs.Events.{Did};
-ghost use Rattle.plant.specs.Plans.{firing, counted, answer_by, is_applied};
+ghost use Rattle.plant.specs.Plans.{firing, motion_of, counted, answer_by, is_applied};
 ghost use Rattle.plant.specs.Stopping.{stopped_step};
 ghost use Rattle.plant.specs.Told.{with_steps};
 ghost use Rattle.plant.specs.Worlds.{world_of};
 
-use crate::nodes::{NodeState, apply};
 use crate::past::Past;
-use crate::plans::{Plan, count_down};
+use crate::plans::{Plan, count_down, failure_of, motion_of};
 use crate::rows::Row;
 use crate::stops::StopPlan;
 use crate::{Answer, DeviceOp, Fault, Faults, Moment, Pick, Step, Taken};
@@ -31,12 +31,9 @@ pub(crate) const BYTES: usize = 16_777_216;
 /// for 16 MiB more of written bytes, and on each side for 16 MiB more of it as it reads and as it is durable. So none of
 /// its six calls to the disk and the devices takes memory. At the write, sync, cut or command that would pass the room
 /// it stops, without effect, and a restart then leaves what is durable.
-///
-/// So far the drills of a device with `Hang` or `Jump` are taken, and nothing comes of them.
 #[derive(Drop)]
 pub struct MemLab {
     pub(crate) past: Past,
-    pub(crate) nodes: Vec<NodeState>,
     pub(crate) marks: Vec<Moment>,
     pub(crate) taken: Vec<Taken>,
     pub(crate) plans: Vec<Plan>,
@@ -61,7 +58,6 @@ impl MemLab {
     {
         Ok(MemLab {
             past: Past::new(alloc, ROOM, BYTES)?,
-            nodes: Vec::with_capacity(alloc, ROOM)?,
             marks: Vec::new(alloc),
             taken: Vec::new(alloc),
             plans: Vec::new(alloc),
@@ -102,49 +98,28 @@ impl MemLab {
         there
     }
 
-    /// Adds the step of a command.
-    fn note(&mut self, op: &DeviceOp, applied: bool, answer: Result<Answer, Fault>)
-        requires { vec_len self.old.past.steps < vec_capacity self.old.past.steps }
-        ensures told { Some (told_of self.new) ≡ with_steps (Some (told_of self.old)) (Did op.now applied answer ∷ []) }
-        ensures steps { vec_len self.new.past.steps ≡ vec_len self.old.past.steps + 1 }
-        ensures capacity { vec_capacity self.new.past.steps ≡ vec_capacity self.old.past.steps }
-        ensures disk_plans { disk_plans_of self.new ≡ disk_plans_of self.old }
-        ensures stop { stop_of self.new ≡ stop_of self.old }
-        ensures pick { pick_of self.new ≡ pick_of self.old }
-        ensures nodes { self.new.nodes ≡ self.old.nodes }
-        ensures plans { self.new.plans ≡ self.old.plans }
-        ensures faults { self.new.faults ≡ self.old.faults }
-        ensures stopped { self.new.stopped ≡ self.old.stopped }
-    {
-        self.past.did(op, applied, answer);
-    }
-
     /// Sends a command for which there is room.
     pub(crate) fn send(&mut self, op: &DeviceOp) -> Result<Answer, Fault>
         requires { 0 < room_of self.old }
-        ensures answer { result ≡ answer_by (firing (device_of op.now) (plans_of self.old)) (answer_of op.now (state_of self.old)) }
-        ensures fits { CommandSteps op.now false result (Did op.now (is_applied (firing (device_of op.now) (plans_of self.old))) result ∷ []) }
-        ensures told { Some (told_of self.new) ≡ with_steps (Some (told_of self.old)) (Did op.now (is_applied (firing (device_of op.now) (plans_of self.old))) result ∷ []) }
-        ensures states { (node : List ℕ) → state_of self.new node ≡ (if is_applied (firing (device_of op.now) (plans_of self.old)) then state_after op.now node (state_of self.old node) else state_of self.old node) }
-        ensures plans { plans_of self.new ≡ map (counted (device_of op.now)) (plans_of self.old) }
+        ensures answer { result ≡ answer_by (firing op.now (plans_of self.old)) (answer_of op.now (motion_of op.now (plans_of self.old)) (state_of self.old)) }
+        ensures fits { CommandSteps op.now false result (Did op.now (is_applied (firing op.now (plans_of self.old))) result ∷ []) }
+        ensures told { Some (told_of self.new) ≡ with_steps (Some (told_of self.old)) (Did op.now (is_applied (firing op.now (plans_of self.old))) result ∷ []) }
+        ensures states { (node : List ℕ) → state_of self.new node ≡ state_sent op.now (motion_of op.now (plans_of self.old)) (is_applied (firing op.now (plans_of self.old))) node (state_of self.old node) }
+        ensures plans { plans_of self.new ≡ map (counted op.now (is_applied (firing op.now (plans_of self.old)))) (plans_of self.old) }
         ensures disk_plans { disk_plans_of self.new ≡ disk_plans_of self.old }
         ensures stop { stop_of self.new ≡ stop_of self.old }
         ensures cause { DeviceCause (faults_of self.old) (faults_of self.new) result }
         ensures stopped { stopped_of self.new ≡ stopped_of self.old }
         ensures room { room_of self.old ≤ room_of self.new + 1 }
     {
-        match count_down(&mut self.plans, &op.device()) {
-            None => {
-                let answer = apply(&mut self.nodes, op);
-                self.note(op, true, Ok(answer));
-                Ok(answer)
-            }
+        let motion = motion_of(&self.plans, op);
+        let failure = failure_of(&self.plans, op);
+        count_down(&mut self.plans, op, failure.unwrap_or(true));
+        match failure {
+            None => Ok(self.past.done(op, motion)),
             Some(applied) => {
-                if applied {
-                    let _answer = apply(&mut self.nodes, op);
-                }
                 self.faults.devices = self.faults.devices.saturating_add(1);
-                self.note(op, applied, Err(Fault::Failed));
+                self.past.failed(op, motion, applied, Fault::Failed);
                 Err(Fault::Failed)
             }
         }
@@ -154,7 +129,8 @@ impl MemLab {
     pub(crate) fn stop_at(&mut self, op: &DeviceOp, pick: Pick)
         requires { 0 < room_of self.old }
         ensures told { Some (told_of self.new) ≡ with_steps (Some (told_of self.old)) (stopped_step op.now pick) }
-        ensures plans { plans_of self.new ≡ map (counted (device_of op.now)) (plans_of self.old) }
+        ensures states { (node : List ℕ) → state_of self.new node ≡ state_sent op.now (motion_of op.now (plans_of self.old)) (is_done pick) node (state_of self.old node) }
+        ensures plans { plans_of self.new ≡ map (counted op.now (is_done pick)) (plans_of self.old) }
         ensures disk_plans { disk_plans_of self.new ≡ disk_plans_of self.old }
         ensures stop { stop_of self.new ≡ stop_of self.old }
         ensures faults { faults_of self.new ≡ faults_of self.old }
@@ -162,10 +138,10 @@ impl MemLab {
         ensures pick { pick_of self.new ≡ pick }
         ensures room { room_of self.old ≤ room_of self.new + 1 }
     {
-        let _planned = count_down(&mut self.plans, &op.device());
+        let motion = motion_of(&self.plans, op);
+        count_down(&mut self.plans, op, pick.is_done());
         if pick.is_done() {
-            let _answer = apply(&mut self.nodes, op);
-            self.note(op, true, Err(Fault::Stopped));
+            self.past.failed(op, motion, true, Fault::Stopped);
         }
         self.halt(pick);
     }

@@ -145,7 +145,6 @@ impl MemLab {
         ensures states { (node : List ℕ) → state_of self.new node ≡ state_of self.old node }
     {
         self.past.make_room(ROOM, BYTES)?;
-        self.nodes.try_reserve(ROOM)?;
         self.past.restarted(self.pick);
         self.pick = Pick::Nothing;
         self.stopped = false;

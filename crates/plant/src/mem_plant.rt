@@ -5,10 +5,10 @@ use crate::{Answer, DeviceOp, Drill, DrillFault, Fault, Moment, Pick, Plant, Sid
 use lab_base::Memory;
 
 impl Plant for MemLab {
-    ghost use Rattle.std.specs.Prelude.{◌≡◌, ◌↔◌, ◌<◌, ◌≤◌, ◌+◌, ◌++◌, ℕ, List, [], ◌∷◌, map, length, take, drop, true, false, Some, None, Ok, Err, IfOk, IfSome, OnOk, OnErr, IsErrOf, IsTrue, IsFalse, if◌then◌else◌};
+    ghost use Rattle.std.specs.Prelude.{◌≡◌, ◌↔◌, ◌<◌, ◌≤◌, ◌+◌, ◌++◌, ℕ, List, [], ◌∷◌, map, length, take, drop, true, false, Some, None, Ok, Err, IfOk, IfSome, OnOk, OnErr, IsErrOf, IsTrue, IsFalse};
     ghost use Rattle.lab_base.specs.Lists.{listed};
-    ghost use Rattle.plant.specs.Boots.{answer_of, state_after};
-    ghost use Rattle.plant.specs.Calls.{CommandSteps, DeviceCause, device_of};
+    ghost use Rattle.plant.specs.Boots.{answer_of, state_sent};
+    ghost use Rattle.plant.specs.Calls.{CommandSteps, DeviceCause};
     ghost use Rattle.plant.specs.Disks.{disk, ArePossible};
     ghost use Rattle.plant.specs.DiskCalls.{missed, DiskCause, WriteSteps, SyncSteps, CutSteps};
     ghost use Rattle.plant.specs.DiskPlans.{fails_next, stops_next, stop_planned, disk_planned, counted_all, stop_counted, ended};
@@ -18,7 +18,8 @@ impl Plant for MemLab {
     ghost use Rattle.plant.specs.declared.drill.Pick.TheVariants.{Nothing};
     ghost use Rattle.plant.specs.declared.step.Side.TheVariants.{A, B};
     ghost use Rattle.plant.specs.Possible.{reads_possible_of};
-    ghost use Rattle.plant.specs.Plans.{firing, counted, answer_by, is_applied, plan_of};
+    ghost use Rattle.plant.specs.Plans.{firing, motion_of, counted, answer_by, is_applied, has_effect, plan_of};
+    ghost use Rattle.plant.specs.Stopping.{stopped_step};
     ghost use Rattle.plant.specs.Told.{with_steps, with_mark, with_drill};
 
     ghost told = { λ m. Some (told_of m) };
@@ -189,18 +190,19 @@ impl Plant for MemLab {
         self.start_again()
     }
 
-    /// Fails exactly where a drill says so, and stops exactly where there is no room.
+    /// Fails, hangs, jumps or stops exactly where a drill says so, while there is room; else it stops, without effect.
     fn command(&mut self, op: DeviceOp) -> Result<Answer, Fault>
         ensures trace { (steps : List Event) × (Some (told_of self.new) ≡ with_steps (Some (told_of self.old)) steps) × CommandSteps op (stopped_of self.old) result steps }
         ensures cause { DeviceCause (faults_of self.old) (faults_of self.new) result }
         ensures stopped { IsErrOf result Fault.Stopped ↔ IsTrue (stopped_of self.new) }
         ensures drills { true ≡ true }
-        ensures answer { stopped_of self.old ≡ false → 0 < room_of self.old → stops_next (stop_of self.old) ≡ None → result ≡ answer_by (firing (device_of op) (plans_of self.old)) (answer_of op (state_of self.old)) }
-        ensures applied { stopped_of self.old ≡ false → 0 < room_of self.old → stops_next (stop_of self.old) ≡ None → Some (told_of self.new) ≡ with_steps (Some (told_of self.old)) (Did op (is_applied (firing (device_of op) (plans_of self.old))) result ∷ []) }
-        ensures states { stopped_of self.old ≡ false → 0 < room_of self.old → stops_next (stop_of self.old) ≡ None → (node : List ℕ) → state_of self.new node ≡ (if is_applied (firing (device_of op) (plans_of self.old)) then state_after op node (state_of self.old node) else state_of self.old node) }
-        ensures plans { stopped_of self.old ≡ false → 0 < room_of self.old → plans_of self.new ≡ map (counted (device_of op)) (plans_of self.old) }
+        ensures answer { stopped_of self.old ≡ false → 0 < room_of self.old → stops_next (stop_of self.old) ≡ None → result ≡ answer_by (firing op (plans_of self.old)) (answer_of op (motion_of op (plans_of self.old)) (state_of self.old)) }
+        ensures applied { stopped_of self.old ≡ false → 0 < room_of self.old → stops_next (stop_of self.old) ≡ None → Some (told_of self.new) ≡ with_steps (Some (told_of self.old)) (Did op (is_applied (firing op (plans_of self.old))) result ∷ []) }
+        ensures states { stopped_of self.old ≡ false → 0 < room_of self.old → (node : List ℕ) → state_of self.new node ≡ state_sent op (motion_of op (plans_of self.old)) (has_effect (stops_next (stop_of self.old)) (firing op (plans_of self.old))) node (state_of self.old node) }
+        ensures plans { stopped_of self.old ≡ false → 0 < room_of self.old → plans_of self.new ≡ map (counted op (has_effect (stops_next (stop_of self.old)) (firing op (plans_of self.old)))) (plans_of self.old) }
         ensures stop { stopped_of self.old ≡ false → 0 < room_of self.old → stop_of self.new ≡ stop_counted (stop_of self.old) }
         ensures stops { stopped_of self.old ≡ false → 0 < room_of self.old → IfSome (stops_next (stop_of self.old)) (λ pick. (result ≡ Err Fault.Stopped) × (pick_of self.new ≡ pick)) }
+        ensures effect { stopped_of self.old ≡ false → 0 < room_of self.old → IfSome (stops_next (stop_of self.old)) (λ pick. Some (told_of self.new) ≡ with_steps (Some (told_of self.old)) (stopped_step op pick)) }
         ensures disk_plans { disk_plans_of self.new ≡ disk_plans_of self.old }
         ensures full { room_of self.old ≡ 0 → (result ≡ Err Fault.Stopped) × (told_of self.new ≡ told_of self.old) }
         ensures room { room_of self.old ≤ room_of self.new + 1 }
@@ -209,7 +211,7 @@ impl Plant for MemLab {
             return Err(Fault::Stopped);
         }
         if self.past.steps.len() >= self.past.steps.capacity()
-            || self.nodes.len() >= self.nodes.capacity()
+            || self.past.nodes.len() >= self.past.nodes.capacity()
         {
             self.halt(Pick::Nothing);
             return Err(Fault::Stopped);

@@ -1,9 +1,10 @@
 ghost use Rattle.std.specs.Prelude.{◌≡◌, ◌<◌, ◌≤◌, ◌+◌, List, ℕ, map, option_map, true, vec_len, vec_capacity, if◌then◌else◌};
 ghost use Rattle.std.specs.Str.{bytes_eq};
 ghost use Rattle.std.specs.List.{list_any, find};
-ghost use Rattle.plant.specs.Boots.{is_of, state_in, with_state, moved, state_after, answer_of};
+ghost use Rattle.plant.specs.Boots.{is_of, state_in, with_state, state_after, state_sent, answer_of};
 ghost use Rattle.plant.specs.Calls.{Fits};
 
+use crate::motion::Motion;
 use crate::{Answer, DeviceOp};
 use lab_base::{Boot, Name};
 
@@ -30,17 +31,6 @@ impl NodeState {
     }
 }
 
-/// What a poll makes of a boot state.
-fn moved(state: Boot) -> Boot
-    ensures { result ≡ moved state }
-{
-    match state {
-        Boot::Booting => Boot::TbSetup,
-        Boot::TbSetup => Boot::IsUp,
-        Boot::Off | Boot::Shutdown | Boot::IsUp => state,
-    }
-}
-
 fn entry_of<'a>(nodes: &'a [NodeState], node: &Name) -> Option<&'a NodeState>
     ensures { option_map (λ entry. entry.now) result ≡ find (is_of node.now) nodes.now }
 {
@@ -48,7 +38,7 @@ fn entry_of<'a>(nodes: &'a [NodeState], node: &Name) -> Option<&'a NodeState>
 }
 
 /// The boot state that the table has for a node.
-fn state_in(nodes: &[NodeState], node: &Name) -> Boot
+pub(crate) fn state_in(nodes: &[NodeState], node: &Name) -> Boot
     ensures { result ≡ state_in node.now nodes.now }
 {
     match entry_of(nodes, node) {
@@ -103,10 +93,10 @@ fn set_state(nodes: &mut Vec<NodeState>, node: &Name, state: Boot)
 }
 
 /// Applies a command to the boot states, and answers it.
-pub(crate) fn apply(nodes: &mut Vec<NodeState>, op: &DeviceOp) -> Answer
+pub(crate) fn apply(nodes: &mut Vec<NodeState>, op: &DeviceOp, motion: Motion) -> Answer
     requires { vec_len nodes.old < vec_capacity nodes.old }
-    ensures states { (name : List ℕ) → state_in name nodes.new.items ≡ state_after op.now name (state_in name nodes.old.items) }
-    ensures answer { result ≡ answer_of op.now (λ name. state_in name nodes.old.items) }
+    ensures states { (name : List ℕ) → state_in name nodes.new.items ≡ state_after op.now motion name (state_in name nodes.old.items) }
+    ensures answer { result ≡ answer_of op.now motion (λ name. state_in name nodes.old.items) }
     ensures fits { Fits op.now result }
     ensures len { vec_len nodes.new ≤ vec_len nodes.old + 1 }
     ensures capacity { vec_capacity nodes.new ≡ vec_capacity nodes.old }
@@ -121,10 +111,22 @@ pub(crate) fn apply(nodes: &mut Vec<NodeState>, op: &DeviceOp) -> Answer
             Answer::Done
         }
         DeviceOp::Poll { node } => {
-            let state = moved(state_in(nodes, node));
+            let state = motion.of(state_in(nodes, node));
             set_state(nodes, node, state);
             Answer::State(state)
         }
         DeviceOp::Join { .. } | DeviceOp::Leave { .. } | DeviceOp::Shape { .. } => Answer::Done,
+    }
+}
+
+/// Applies a command to the boot states, or not.
+pub(crate) fn apply_if(applied: bool, nodes: &mut Vec<NodeState>, op: &DeviceOp, motion: Motion)
+    requires { vec_len nodes.old < vec_capacity nodes.old }
+    ensures states { (name : List ℕ) → state_in name nodes.new.items ≡ state_sent op.now motion applied name (state_in name nodes.old.items) }
+    ensures len { vec_len nodes.new ≤ vec_len nodes.old + 1 }
+    ensures capacity { vec_capacity nodes.new ≡ vec_capacity nodes.old }
+{
+    if applied {
+        let _answer = apply(nodes, op, motion);
     }
 }

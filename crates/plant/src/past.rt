@@ -1,26 +1,31 @@
 ghost use Rattle.std.specs.Prelude.{◌≡◌, ◌<◌, ◌≤◌, ◌+◌, ◌++◌, [], ◌∷◌, true, max, length, vec_len, vec_capacity};
 ghost use Rattle.plant.specs.Disks.{disk, wrote, synced, shortened, on_side, same_side};
 ghost use Rattle.plant.specs.Faces.{disk_of, of_side, KeepsRoom, IsReady};
+ghost use Rattle.plant.specs.Knows.{Knows};
 ghost use Rattle.plant.specs.Picks.{left_by};
 ghost use Rattle.plant.specs.Steps.{trace_of, are_within};
 ghost use Rattle.plant.specs.declared.drill.Pick.{Pick};
 ghost use Rattle.plant.specs.declared.step.Side.TheVariants.{A, B};
 
 use crate::face::Face;
+use crate::motion::Motion;
+use crate::nodes::{NodeState, apply, apply_if};
 use crate::{Answer, DeviceOp, Fault, Pick, Side, Step};
 use lab_base::Memory;
 use std::alloc::Global;
 
-/// The steps of a plant in memory, with the sides that they made.
+/// The steps of a plant in memory, with the sides that they made and the boot states of nodes.
 #[derive(Drop)]
 pub struct Past {
     pub steps: Vec<Step>,
     pub bytes: Vec<u8>,
     pub a: Face,
     pub b: Face,
+    pub nodes: Vec<NodeState>,
     ghost within: { are_within (length bytes.items) steps.items ≡ true },
     ghost a_is: { disk_of a ≡ disk A (trace_of bytes.items steps.items) },
     ghost b_is: { disk_of b ≡ disk B (trace_of bytes.items steps.items) },
+    ghost known: { Knows (trace_of bytes.items steps.items) nodes.items },
 }
 
 /// Adds a step for which there is room.
@@ -93,7 +98,9 @@ fn shorten_on(a: &mut Face, b: &mut Face, side: Side, size: usize)
 }
 
 impl Past {
-    ghost use Rattle.std.specs.Prelude.{◌≡◌, ◌≤◌, ◌<◌, ◌+◌, ◌++◌, [], ◌∷◌, length, take, drop, IfOk, OnOk, OnErr, vec_len, vec_capacity};
+    ghost use Rattle.std.specs.Prelude.{◌≡◌, ◌≤◌, ◌<◌, ◌+◌, ◌++◌, ℕ, List, [], ◌∷◌, length, take, drop, true, Ok, Err, IfOk, OnOk, OnErr, vec_len, vec_capacity};
+    ghost use Rattle.plant.specs.Boots.{state_in, state_after, state_sent, answer_of};
+    ghost use Rattle.plant.specs.Calls.{Fits};
     ghost use Rattle.plant.specs.Events as events;
     ghost use Rattle.plant.specs.Disks.{disk};
     ghost use Rattle.plant.specs.Faces.{disk_of, of_side, KeepsRoom, IsReady};
@@ -101,38 +108,67 @@ impl Past {
     ghost use Rattle.plant.specs.Steps.{trace_of};
     ghost use Rattle.plant.specs.declared.drill.Pick.{Pick};
 
-    /// No steps, with room for so many steps and so many bytes, and for so many bytes on each side.
+    /// No steps, with room for so many steps, each with a node, and so many bytes, and for so many bytes on each side.
     pub fn new(alloc: Global, steps: usize, bytes: usize) -> Result<Past, Memory>
         ensures trace { IfOk result (λ past. trace_of past.bytes.items past.steps.items ≡ []) }
         ensures bytes { IfOk result (λ past. past.bytes.items ≡ []) }
         ensures steps_room { IfOk result (λ past. vec_len past.steps + steps ≤ vec_capacity past.steps) }
         ensures bytes_room { IfOk result (λ past. vec_len past.bytes + bytes ≤ vec_capacity past.bytes) }
+        ensures nodes { IfOk result (λ past. past.nodes.items ≡ []) }
+        ensures nodes_room { IfOk result (λ past. vec_len past.nodes + steps ≤ vec_capacity past.nodes) }
     {
         Ok(Past {
             steps: Vec::with_capacity(alloc, steps)?,
             bytes: Vec::with_capacity(alloc, bytes)?,
             a: Face::new(alloc, steps, bytes)?,
             b: Face::new(alloc, steps, bytes)?,
+            nodes: Vec::with_capacity(alloc, steps)?,
         })
     }
 
-    /// A command.
-    pub fn did(&mut self, op: &DeviceOp, applied: bool, answer: Result<Answer, Fault>)
-        requires { vec_len self.old.steps < vec_capacity self.old.steps }
-        ensures trace { trace_of self.new.bytes.items self.new.steps.items ≡ trace_of self.old.bytes.items self.old.steps.items ++ events.Did op.now applied answer ∷ [] }
+    /// A command that is applied and answered.
+    pub fn done(&mut self, op: &DeviceOp, motion: Motion) -> Answer
+        requires steps { vec_len self.old.steps < vec_capacity self.old.steps }
+        requires nodes { vec_len self.old.nodes < vec_capacity self.old.nodes }
+        ensures answer { result ≡ answer_of op.now motion (λ name. state_in name self.old.nodes.items) }
+        ensures fits { Fits op.now result }
+        ensures trace { trace_of self.new.bytes.items self.new.steps.items ≡ trace_of self.old.bytes.items self.old.steps.items ++ events.Did op.now true (Ok result) ∷ [] }
+        ensures states { (name : List ℕ) → state_in name self.new.nodes.items ≡ state_after op.now motion name (state_in name self.old.nodes.items) }
         ensures steps { vec_len self.new.steps ≡ vec_len self.old.steps + 1 }
         ensures capacity { vec_capacity self.new.steps ≡ vec_capacity self.old.steps }
-        ensures bytes { self.new.bytes ≡ self.old.bytes }
-        ensures a { self.new.a ≡ self.old.a }
-        ensures b { self.new.b ≡ self.old.b }
+        ensures nodes { vec_len self.new.nodes ≤ vec_len self.old.nodes + 1 }
+        ensures nodes_capacity { vec_capacity self.new.nodes ≡ vec_capacity self.old.nodes }
     {
-        let op = *op;
+        let answer = apply(&mut self.nodes, op, motion);
         add_step(
             &mut self.steps,
             &Step::Did {
-                op,
+                op: *op,
+                applied: true,
+                answer: Ok(answer),
+            },
+        );
+        answer
+    }
+
+    /// A command that fails so, applied or not.
+    pub fn failed(&mut self, op: &DeviceOp, motion: Motion, applied: bool, fault: Fault)
+        requires steps { vec_len self.old.steps < vec_capacity self.old.steps }
+        requires nodes { vec_len self.old.nodes < vec_capacity self.old.nodes }
+        ensures trace { trace_of self.new.bytes.items self.new.steps.items ≡ trace_of self.old.bytes.items self.old.steps.items ++ events.Did op.now applied (Err fault) ∷ [] }
+        ensures states { (name : List ℕ) → state_in name self.new.nodes.items ≡ state_sent op.now motion applied name (state_in name self.old.nodes.items) }
+        ensures steps { vec_len self.new.steps ≡ vec_len self.old.steps + 1 }
+        ensures capacity { vec_capacity self.new.steps ≡ vec_capacity self.old.steps }
+        ensures nodes { vec_len self.new.nodes ≤ vec_len self.old.nodes + 1 }
+        ensures nodes_capacity { vec_capacity self.new.nodes ≡ vec_capacity self.old.nodes }
+    {
+        apply_if(applied, &mut self.nodes, op, motion);
+        add_step(
+            &mut self.steps,
+            &Step::Did {
+                op: *op,
                 applied,
-                answer,
+                answer: Err(fault),
             },
         );
     }
@@ -146,6 +182,7 @@ impl Past {
         ensures bytes { self.new.bytes ≡ self.old.bytes }
         ensures a { self.new.a ≡ self.old.a }
         ensures b { self.new.b ≡ self.old.b }
+        ensures nodes { self.new.nodes ≡ self.old.nodes }
     {
         add_step(&mut self.steps, &Step::Missed { side });
     }
@@ -164,6 +201,7 @@ impl Past {
         ensures room { vec_capacity self.old.bytes ≤ vec_capacity self.new.bytes }
         ensures a { KeepsRoom self.old.a self.new.a }
         ensures b { KeepsRoom self.old.b self.new.b }
+        ensures nodes { self.new.nodes ≡ self.old.nodes }
     {
         put_on(&mut self.a, &mut self.b, side, at, bytes);
         let start = self.bytes.len();
@@ -190,6 +228,7 @@ impl Past {
         ensures bytes { self.new.bytes ≡ self.old.bytes }
         ensures a { KeepsRoom self.old.a self.new.a }
         ensures b { KeepsRoom self.old.b self.new.b }
+        ensures nodes { self.new.nodes ≡ self.old.nodes }
     {
         sync_on(&mut self.a, &mut self.b, side);
         add_step(&mut self.steps, &Step::Synced { side });
@@ -205,26 +244,30 @@ impl Past {
         ensures bytes { self.new.bytes ≡ self.old.bytes }
         ensures a { KeepsRoom self.old.a self.new.a }
         ensures b { KeepsRoom self.old.b self.new.b }
+        ensures nodes { self.new.nodes ≡ self.old.nodes }
     {
         shorten_on(&mut self.a, &mut self.b, side, size);
         let length = size as u64;
         add_step(&mut self.steps, &Step::Cut { side, length });
     }
 
-    /// Makes room for so many steps and bytes more, after a restart that leaves any of both sides.
+    /// Makes room for so many steps, each with a node, and so many bytes more, after a restart that leaves any of both sides.
     pub fn make_room(&mut self, steps: usize, bytes: usize) -> Result<(), Memory>
         requires { steps < 1000000 }
         ensures trace { trace_of self.new.bytes.items self.new.steps.items ≡ trace_of self.old.bytes.items self.old.steps.items }
+        ensures states { self.new.nodes.items ≡ self.old.nodes.items }
         ensures a_is { disk_of self.new.a ≡ disk_of self.old.a }
         ensures b_is { disk_of self.new.b ≡ disk_of self.old.b }
         ensures steps { OnOk result (vec_len self.new.steps + (steps + 1) ≤ vec_capacity self.new.steps) }
         ensures bytes { OnOk result ((pick : Pick) → (vec_len self.new.bytes + length (left_by pick (disk_of self.new.a))) + length (left_by pick (disk_of self.new.b)) ≤ vec_capacity self.new.bytes) }
+        ensures nodes { OnOk result (vec_len self.new.nodes + steps ≤ vec_capacity self.new.nodes) }
         ensures a { OnOk result (IsReady self.new.a) }
         ensures b { OnOk result (IsReady self.new.b) }
     {
         self.a.make_room(steps, bytes)?;
         self.b.make_room(steps, bytes)?;
         self.steps.try_reserve(steps + 1)?;
+        self.nodes.try_reserve(steps)?;
         let most = most_of(&self.a).saturating_add(most_of(&self.b));
         self.bytes.try_reserve(most.saturating_add(bytes))?;
         Ok(())
@@ -243,6 +286,7 @@ impl Past {
         ensures room { vec_capacity self.old.bytes ≤ vec_capacity self.new.bytes }
         ensures a { KeepsRoom self.old.a self.new.a }
         ensures b { KeepsRoom self.old.b self.new.b }
+        ensures nodes { self.new.nodes ≡ self.old.nodes }
     {
         self.a.restore(pick);
         self.b.restore(pick);

@@ -1,50 +1,96 @@
-ghost use Rattle.std.specs.Prelude.{◌≡◌, ◌<◌, ◌++◌, map, vec_len, vec_capacity};
+ghost use Rattle.std.specs.Prelude.{◌≡◌, ◌<◌, ◌++◌, map, option_map, vec_len, vec_capacity};
+ghost use Rattle.std.specs.List.{list_any, find};
 ghost use Rattle.lab_base.specs.Lists.{listed};
-ghost use Rattle.plant.specs.Plans.{fire, firing, counted, plan_of};
+ghost use Rattle.plant.specs.Plans.{counts, is_due, fails_by, firing, jumps_by, begins_hang, hangs_by, motion_of, counted, plan_of};
 
-use crate::{Drill, How};
+use crate::motion::Motion;
+use crate::{DeviceOp, Drill, How};
 use lab_base::Name;
 
-/// A failure of a command to a device. It is used up at 0.
+/// A drill of a device that waits, or a hang that lasts.
 #[derive(Clone, Copy)]
 pub struct Plan {
     pub device: Name,
-    /// In how many commands to the device, from 1.
+    pub how: How,
+    /// In how many commands to the device, or polls of it, from 1. It is used up at 0.
     pub left: u32,
-    /// Whether the command is applied.
-    pub applied: bool,
+    /// Whether the node hangs by it.
+    pub hangs: bool,
 }
 
-impl Drill {
-    /// The failure of commands that is planned by it.
-    pub(crate) fn plan(&self) -> Option<Plan>
-        ensures { result ≡ plan_of self.now }
+impl Plan {
+    /// Whether the command counts for it.
+    fn counts(&self, op: &DeviceOp) -> bool
+        ensures { result ≡ counts op.now self.now }
     {
-        match self {
-            Drill::Device {
-                name,
-                nth,
-                how: How::Applied,
-            } => Some(Plan {
-                device: *name,
-                left: *nth,
-                applied: true,
-            }),
-            Drill::Device {
-                name,
-                nth,
-                how: How::Not,
-            } => Some(Plan {
-                device: *name,
-                left: *nth,
-                applied: false,
-            }),
-            Drill::Device { .. } | Drill::Disk { .. } | Drill::Stop { .. } => None,
+        self.device == op.device() && (op.is_poll() || !self.how.waits_for_poll())
+    }
+
+    /// Whether the command is the one that it waits for.
+    fn is_due(&self, op: &DeviceOp) -> bool
+        ensures { result ≡ is_due op.now self.now }
+    {
+        self.counts(op) && self.left == 1
+    }
+
+    /// Whether the command fails by it.
+    fn fails(&self, op: &DeviceOp) -> bool
+        ensures { result ≡ fails_by op.now self.now }
+    {
+        self.is_due(op) && !self.how.waits_for_poll()
+    }
+
+    /// Whether the poll jumps by it.
+    fn jumps(&self, op: &DeviceOp) -> bool
+        ensures { result ≡ jumps_by op.now self.now }
+    {
+        self.is_due(op) && self.how.is_jump()
+    }
+
+    /// Whether the node begins to hang by it.
+    fn begins_hang(&self, op: &DeviceOp) -> bool
+        ensures { result ≡ begins_hang op.now self.now }
+    {
+        self.is_due(op) && self.how.is_hang()
+    }
+
+    /// Whether the poll hangs by it.
+    fn hangs(&self, op: &DeviceOp) -> bool
+        ensures { result ≡ hangs_by op.now self.now }
+    {
+        self.begins_hang(op) || self.counts(op) && self.hangs
+    }
+
+    /// Counts a command.
+    fn count(&mut self, op: &DeviceOp, applied: bool)
+        ensures { self.new ≡ counted op.now applied self.old }
+    {
+        let ends = applied && op.is_wipe() && self.device == op.device();
+        self.hangs = self.begins_hang(op) || self.hangs && !ends;
+        if self.counts(op) {
+            self.left = self.left.saturating_sub(1);
         }
     }
 }
 
-/// Adds the failure that a drill plans, where it plans one.
+impl Drill {
+    /// What waits by it for a command.
+    pub(crate) fn plan(&self) -> Option<Plan>
+        ensures { result ≡ plan_of self.now }
+    {
+        match self {
+            Drill::Device { name, nth, how } => Some(Plan {
+                device: *name,
+                how: *how,
+                left: *nth,
+                hangs: false,
+            }),
+            Drill::Disk { .. } | Drill::Stop { .. } => None,
+        }
+    }
+}
+
+/// Adds what a drill plans for a device, where it plans that.
 pub(crate) fn add_plan(plans: &mut Vec<Plan>, drill: &Drill)
     requires { vec_len plans.old < vec_capacity plans.old }
     ensures { plans.new.items ≡ plans.old.items ++ listed (plan_of drill.now) }
@@ -54,28 +100,52 @@ pub(crate) fn add_plan(plans: &mut Vec<Plan>, drill: &Drill)
     }
 }
 
-/// Counts a command to the device in one plan. Tells whether the command is applied, where it fails by the plan.
-fn count_one(plan: &mut Plan, device: &Name) -> Option<bool>
-    ensures fires { result ≡ fire device.now plan.old }
-    ensures counted { plan.new ≡ counted device.now plan.old }
+fn failing<'a>(plans: &'a [Plan], op: &DeviceOp) -> Option<&'a Plan>
+    ensures { option_map (λ plan. plan.now) result ≡ find (fails_by op.now) plans.now }
 {
-    if plan.device != *device {
-        return None;
-    }
-    let fires = plan.left == 1;
-    plan.left = plan.left.saturating_sub(1);
-    if fires { Some(plan.applied) } else { None }
+    plans.iter().find(|plan| plan.fails(op))
 }
 
-/// Counts a command to the device in each plan. Tells whether the command is applied, where it fails by one.
-pub(crate) fn count_down(plans: &mut Vec<Plan>, device: &Name) -> Option<bool>
-    ensures fires { result ≡ firing device.now plans.old.items }
-    ensures counted { plans.new.items ≡ map (counted device.now) plans.old.items }
+/// Whether the command is applied, where it fails.
+pub(crate) fn failure_of(plans: &[Plan], op: &DeviceOp) -> Option<bool>
+    ensures { result ≡ firing op.now plans.now }
 {
-    let mut fired = None;
-    for plan in plans.iter_mut() {
-        let now = count_one(plan, device);
-        fired = fired.or(now);
+    match failing(plans, op) {
+        Some(plan) => Some(plan.how.is_applying()),
+        None => None,
     }
-    fired
+}
+
+fn jumps(plans: &[Plan], op: &DeviceOp) -> bool
+    ensures { result ≡ list_any (jumps_by op.now) plans.now }
+{
+    plans.iter().any(|plan| plan.jumps(op))
+}
+
+fn hangs(plans: &[Plan], op: &DeviceOp) -> bool
+    ensures { result ≡ list_any (hangs_by op.now) plans.now }
+{
+    plans.iter().any(|plan| plan.hangs(op))
+}
+
+/// How the command moves the boot state, where it is a poll.
+pub(crate) fn motion_of(plans: &[Plan], op: &DeviceOp) -> Motion
+    ensures { result ≡ motion_of op.now plans.now }
+{
+    if jumps(plans, op) {
+        Motion::Jumps
+    } else if hangs(plans, op) {
+        Motion::Hangs
+    } else {
+        Motion::Moves
+    }
+}
+
+/// Counts a command in each plan.
+pub(crate) fn count_down(plans: &mut Vec<Plan>, op: &DeviceOp, applied: bool)
+    ensures { plans.new.items ≡ map (counted op.now applied) plans.old.items }
+{
+    for plan in plans.iter_mut() {
+        plan.count(op, applied);
+    }
 }

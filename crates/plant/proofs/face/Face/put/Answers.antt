@@ -1,6 +1,6 @@
-use Rattle.std.proofs.Common.{◌≡◌, ◌++◌, ◌∷◌, [], length, List, ℕ, ◌+◌, ap, subst, sym, arith, ◌∙◌}
+use Rattle.std.proofs.Common.{◌≡◌, ◌++◌, ◌∷◌, [], length, ◌+◌, ap, arith, ◌∙◌}
 use Rattle.std.specs.Prelude.{reverse}
-use Rattle.plant.specs.Disks.{Disk, IsImage, wrote, put}
+use Rattle.plant.specs.Disks.{put}
 use Rattle.plant.specs.Faces.{disk_of}
 use Rattle.plant.proofs.Images.{wrote_image}
 use Rattle.plant.proofs.Alike.{before_put, reverse_push}

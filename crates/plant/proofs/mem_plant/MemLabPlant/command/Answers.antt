@@ -1,5 +1,4 @@
-use Rattle.std.proofs.Common.{[], ◌∷◌, true, Err, inl, inr, refl}
-use Rattle.plant.specs.Calls.{device_of}
+use Rattle.std.proofs.Common.{[], ◌∷◌}
 use Rattle.plant.specs.Events.{Did}
 use Rattle.plant.specs.MemLab.{plans_of}
 use Rattle.plant.specs.Plans.{firing, is_applied}
@@ -9,7 +8,7 @@ use Rattle.plant.proofs.mem_plant.MemLabPlant.command.Goals as goal
 
 pub returns-in-None-clause-trace : goal.returns-in-None-clause-trace
 returns-in-None-clause-trace c = (
-  Did c.args.op (is_applied (firing (device_of c.args.op) (plans_of c.args.self.now))) c.send.result ∷ [],
+  Did c.args.op (is_applied (firing c.args.op (plans_of c.args.self.now))) c.send.result ∷ [],
   c.send.ensures.told,
   rw c.if-self.false c.send.ensures.fits,
 )

@@ -1,6 +1,6 @@
-use Rattle.std.proofs.Common.{◌≡◌, List, [], ◌∷◌, Option, Some, refl, sym, inl, inr, ap, ◌∙◌}
+use Rattle.std.proofs.Common.{List, [], ◌∷◌, Option, Some, refl, sym, inl, ap, ◌∙◌}
 use Rattle.std.proofs.lemmas.List.{append-nil}
-use Rattle.plant.specs.Events.{Event, Wrote, Synced, Cut, Missed}
+use Rattle.plant.specs.Events.{Event, Cut, Missed}
 use Rattle.plant.specs.MemLab.{told_of}
 use Rattle.plant.specs.declared.mem.MemLab.{MemLab}
 use Rattle.plant.specs.Stopping.{stopped_effect}

@@ -1,8 +1,10 @@
-use Rattle.std.proofs.Common.{refl, sym, ap, arith, ◌≡◌, ◌∙◌, ◌++◌, ◌∷◌, [], length}
+use Rattle.std.proofs.Common.{refl, sym, ◌∙◌}
 use Rattle.plant.specs.declared.step.Side.TheVariants.{A, B}
 use Rattle.plant.specs.declared.step.Step.TheVariants as steps
 use Rattle.plant.specs.Events as events
-use Rattle.plant.proofs.Growing.{Grown, grown_by, grown, last_range, test}
+use Rattle.plant.proofs.Growing.{Grown, grown_by}
+use Rattle.plant.specs.Steps.{trace_of}
+use Rattle.plant.proofs.Knowing.{still}
 use Rattle.plant.proofs.past.Past.missed.Goals as goal
 
 pub returns-clause-trace : goal.returns-clause-trace
@@ -19,4 +21,5 @@ invariant_of-self c =
       within = after.within;
       a_is = self.a_is ∙ sym (after.disks A);
       b_is = self.b_is ∙ sym (after.disks B);
+      known = still (trace_of self.bytes.items self.steps.items) (trace_of self.bytes.items c.add_step.new.steps.items) self.nodes.items after.worlds self.known;
     }

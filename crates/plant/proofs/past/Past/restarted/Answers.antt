@@ -1,11 +1,12 @@
-use Rattle.std.proofs.Common.{refl, sym, ap, arith, ◌≡◌, ◌∙◌, ◌++◌, ◌∷◌, [], length, rules, ℕ, List}
+use Rattle.std.proofs.Common.{sym, ap, ◌≡◌, ◌∙◌, ◌++◌, length, rules, ℕ, List}
 use Rattle.plant.specs.declared.step.Side.TheVariants.{A, B}
-use Rattle.plant.specs.declared.step.Step.TheVariants as steps
 use Rattle.plant.specs.Disks.{Disk}
 use Rattle.plant.specs.Faces.{disk_of}
 use Rattle.plant.specs.Picks.{left_by}
 use Rattle.plant.specs.Events as events
 use Rattle.plant.proofs.Growing.{Grown, grown_restart}
+use Rattle.plant.specs.Steps.{trace_of}
+use Rattle.plant.proofs.Knowing.{still}
 use Rattle.plant.proofs.past.Past.restarted.Goals as goal
 
 pub returns-clause-trace : goal.returns-clause-trace
@@ -46,4 +47,5 @@ invariant_of-self-3 c =
       within = after.within;
       a_is = c.restore.ensures.left ∙ sym (after.disks A);
       b_is = c.restore-2.ensures.left ∙ sym (after.disks B);
+      known = still (trace_of self.bytes.items self.steps.items) (trace_of c.extend_from_slice-2.new.self.items c.add_step.new.steps.items) self.nodes.items after.worlds self.known;
     }

@@ -1,9 +1,11 @@
-use Rattle.std.proofs.Common.{refl, sym, ap, arith, ◌≡◌, ◌∙◌, ◌++◌, ◌∷◌, [], length}
+use Rattle.std.proofs.Common.{refl, sym, ap, ◌∙◌}
 use Rattle.plant.specs.declared.step.Side.TheVariants.{A, B}
 use Rattle.plant.specs.declared.step.Step.TheVariants as steps
-use Rattle.plant.specs.Disks.{Disk, on_side, same_side, wrote, synced, shortened}
+use Rattle.plant.specs.Disks.{on_side, same_side, synced}
 use Rattle.plant.specs.Events as events
-use Rattle.plant.proofs.Growing.{Grown, grown_by, grown, last_range, test}
+use Rattle.plant.proofs.Growing.{Grown, grown_by}
+use Rattle.plant.specs.Steps.{trace_of}
+use Rattle.plant.proofs.Knowing.{still}
 use Rattle.plant.proofs.past.Past.synced.Goals as goal
 
 pub returns-clause-trace : goal.returns-clause-trace
@@ -20,4 +22,5 @@ invariant_of-self c =
       within = after.within;
       a_is = c.sync_on.ensures.a ∙ ap (on_side (same_side c.args.side A) synced) self.a_is ∙ sym (after.disks A);
       b_is = c.sync_on.ensures.b ∙ ap (on_side (same_side c.args.side B) synced) self.b_is ∙ sym (after.disks B);
+      known = still (trace_of self.bytes.items self.steps.items) (trace_of self.bytes.items c.add_step.new.steps.items) self.nodes.items after.worlds self.known;
     }

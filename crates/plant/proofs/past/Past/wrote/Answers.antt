@@ -1,9 +1,10 @@
-use Rattle.std.proofs.Common.{refl, sym, ap, arith, ◌≡◌, ◌∙◌, ◌++◌, ◌∷◌, [], length, rules}
+use Rattle.std.proofs.Common.{sym, ap, ◌≡◌, ◌∙◌, ◌++◌, length, rules}
 use Rattle.plant.specs.declared.step.Side.TheVariants.{A, B}
-use Rattle.plant.specs.declared.step.Step.TheVariants as steps
-use Rattle.plant.specs.Disks.{Disk, on_side, same_side, wrote, synced, shortened}
+use Rattle.plant.specs.Disks.{on_side, same_side, wrote}
 use Rattle.plant.specs.Events as events
 use Rattle.plant.proofs.Growing.{Grown, grown_wrote}
+use Rattle.plant.specs.Steps.{trace_of}
+use Rattle.plant.proofs.Knowing.{still}
 use Rattle.plant.proofs.past.Past.wrote.Goals as goal
 
 pub returns-clause-trace : goal.returns-clause-trace
@@ -30,4 +31,5 @@ invariant_of-self c =
       within = after.within;
       a_is = c.put_on.ensures.a ∙ ap (on_side (same_side c.args.side A) (λ d. wrote d c.args.at c.args.bytes.now)) self.a_is ∙ sym (after.disks A);
       b_is = c.put_on.ensures.b ∙ ap (on_side (same_side c.args.side B) (λ d. wrote d c.args.at c.args.bytes.now)) self.b_is ∙ sym (after.disks B);
+      known = still (trace_of self.bytes.items self.steps.items) (trace_of c.extend_from_slice.new.self.items c.add_step.new.steps.items) self.nodes.items after.worlds self.known;
     }
