@@ -6,4 +6,6 @@ pub mod Leavings
 pub mod Matching
 pub mod OthersLeave
 pub mod Ranges
+pub mod Replacing
 pub mod Standing
+pub mod Taking

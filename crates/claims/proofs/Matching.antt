@@ -20,11 +20,11 @@ use Rattle.claims.proofs.Entries.{others_has, others_apart, others_all, use_rest
 abbrev pub Differs : Entry → Entry → Type 0
 Differs f g = f.exp ≢ g.exp
 
-not_eq : (a b : List ℕ) → a ≢ b → bytes_eq a b ≡ false
+pub not_eq : (a b : List ℕ) → a ≢ b → bytes_eq a b ≡ false
 not_eq a b apart = elim (cases_Bool (bytes_eq a b)) [ inl same ↦ absurd (apart ((bytes_eq-Decides a b).0 same)) | inr other ↦ other ]
 
 -- the others have other names
-rest_names : (exp : List ℕ) (fs : List Entry) → Apart Differs fs → (f : Entry) → Has (others exp fs) f → f.exp ≢ exp
+pub rest_names : (exp : List ℕ) (fs : List Entry) → Apart Differs fs → (f : Entry) → Has (others exp fs) f → f.exp ≢ exp
 rest_names exp [] apart f among = absurd among
 rest_names exp (g ∷ fs) apart f among = elim (cases_Bool (bytes_eq g.exp exp)) [
   | inl is_so ↦
@@ -83,7 +83,7 @@ match_rest lab fs a b own m = record {
     apart : (e : Experiment) → Has a e ⊎ Has b e → own.name ≢ e.name
     apart e h = elim (apart_mid (λ (d e : Experiment). d.name ≢ e.name) a b own e m.names h) [ inl p ↦ p | inr p ↦ λ same. p (sym same) ]
 
-none_known : (lab : Lab) (fs : List Entry) → Match lab fs [] → fs ≡ []
+pub none_known : (lab : Lab) (fs : List Entry) → Match lab fs [] → fs ≡ []
 none_known lab [] m = refl
 none_known lab (f ∷ fs) m = absurd ((m.known f (inl refl)).1)
 

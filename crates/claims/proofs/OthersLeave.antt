@@ -36,7 +36,7 @@ use Rattle.claims.proofs.Matching.{Match, match_rest, use_if, sums, test_if, any
 use Rattle.claims.proofs.Ranges.{rest_of_range, in_flat}
 
 -- ---- trunks
-side_use : (lab : Lab) (t : ℕ) → t < length lab.trunks → (o : Option Mapped) → use_in t (hold_in lab o) ≡ use_of_side lab t o
+pub side_use : (lab : Lab) (t : ℕ) → t < length lab.trunks → (o : Option Mapped) → use_in t (hold_in lab o) ≡ use_of_side lab t o
 side_use lab t h None = refl
 side_use lab t h (Some m) = get_or-map-range_with_len (use_of lab m.wiring m.mapping) 0 (length lab.trunks) t t 0 h (omega arith)
 
@@ -106,7 +106,7 @@ module _ (lab : Lab) (is_lab : IsLab lab) where
   node_by fs es n h fits m = anys lab (λ c. is_in n (claim_nodes c)) (λ e. claims_it lab e (node_name lab (record { 0 = n }))) fs es (λ e g. standing_node n h e (fits e g)) m
 
 -- ---- VLAN ids
-side_tags : (lab : Lab) (o : Option Mapped) → tags_in (hold_in lab o) ≡ tags_of o
+pub side_tags : (lab : Lab) (o : Option Mapped) → tags_in (hold_in lab o) ≡ tags_of o
 side_tags lab None = refl
 side_tags lab (Some m) = refl
 
@@ -121,7 +121,7 @@ standing_id lab id e = by e.phase refl
     by (In mapping tags) is = both
     by (Moving old new) is = both
 
-id_by : (lab : Lab) (fs : List Entry) (es : List Experiment) (id : ℕ) → Match lab fs es → has_id fs id ≡ is_in id (flat_map claimed_tags es)
+pub id_by : (lab : Lab) (fs : List Entry) (es : List Experiment) (id : ℕ) → Match lab fs es → has_id fs id ≡ is_in id (flat_map claimed_tags es)
 id_by lab fs es id m = anys lab (λ c. is_in id (claim_tags c)) (λ e. is_in id (claimed_tags e)) fs es (λ e h. standing_id lab id e) m ∙ in_flat claimed_tags es id
 
 side_segments : (lab : Lab) (o : Option Mapped) → ((m : Mapped) → o ≡ Some m → Suits lab m) → segments_in o ≡ length (tags_of o)
@@ -151,7 +151,7 @@ module _ (lab : Lab) (a b : List Experiment) (own : Experiment) (held : Held) (o
   named_apart [] differ = tt
   named_apart (e ∷ es) differ = (λ d h. differ.0 d.name (Has-mapped (λ x. x.name) es d h), named_apart es differ.1)
 
-  matching : AllDiffer (map (λ e. e.name) (a ++ own ∷ b)) → Match lab held.entries (a ++ own ∷ b)
+  pub matching : AllDiffer (map (λ e. e.name) (a ++ own ∷ b)) → Match lab held.entries (a ++ own ∷ b)
   matching names = record { once = of_es.once; known = of_es.known; claims = of_es.claims; names = named_apart (a ++ own ∷ b) names }
 
   moved : sum_by claimed_segments (own ∷ (a ++ b)) ≡ sum_by claimed_segments (a ++ own ∷ b)

@@ -1,13 +1,21 @@
 // Laws of the definitions.
-ghost use Rattle.std.specs.Prelude.{◌≡◌, ◌++◌, ◌∷◌, List, map};
-ghost use Rattle.lab_base.specs.Lists.{AllDiffer};
+ghost use Rattle.std.specs.Prelude.{◌≡◌, ◌≢◌, ◌<◌, ◌++◌, ◌∷◌, [], List, length, map, Option, Some, None, true, false};
+ghost use Rattle.lab_base.specs.Lists.{Has, AllDiffer};
 ghost use Rattle.phys_lab.specs.Labs.{Lab};
 ghost use Rattle.phys_lab.specs.Kept.{IsLab};
 ghost use Rattle.phys_lab.specs.declared.free.Free.{Free as AnyFree};
 ghost use Rattle.virt_topo.specs.declared.experiment.Experiment.{Experiment};
-ghost use Rattle.lab_model.specs.Beside.{IsLeft};
+ghost use Rattle.virt_topo.specs.declared.experiment.Phase.TheVariants.{Out, In, Moving};
+ghost use Rattle.virt_topo.specs.declared.mapping.Mapped.{Mapped};
+ghost use Rattle.virt_topo.specs.Soundness.{IsSound};
+ghost use Rattle.lab_model.specs.Beside.{IsLeft, violation_beside, are_free_tags};
+ghost use Rattle.lab_model.specs.Claims.{New, claimed};
 ghost use Rattle.lab_model.specs.Holding.{Holding};
-ghost use Rattle.claims.specs.Held.{Held, IsLeftTo};
+ghost use Rattle.lab_model.specs.Shapes.{IsShaped};
+ghost use Rattle.claims.specs.Adding.{MayAdd, with_claim, without, narrowed};
+ghost use Rattle.claims.specs.Answered.{none_of};
+ghost use Rattle.claims.specs.Held.{Held, IsLeftTo, others};
+ghost use Rattle.claims.specs.Holds.{claim_of};
 ghost use Rattle.claims.specs.Experiments.{ClaimsOf};
 
 /// What the claims of the experiments leave to one of them is what the other experiments leave to it.
@@ -15,4 +23,65 @@ pub fn left_by_others()
     ensures left { (lab : Lab) (a b : List Experiment) (own : Experiment) (held : Held) (free : AnyFree) → IsLab lab → Holding lab (a ++ own ∷ b)
         → AllDiffer (map (λ e. e.name) (a ++ own ∷ b)) → ClaimsOf lab (a ++ own ∷ b) held → IsLeftTo held own.name free
         → IsLeft lab (a ++ b) own free }
+{}
+
+/// The claims of a lab without experiments.
+pub fn none()
+    ensures { (lab : Lab) → ClaimsOf lab [] (none_of lab) }
+{}
+
+/// An experiment that is made is out, and changes no claim.
+pub fn made()
+    ensures { (lab : Lab) (es : List Experiment) (e : Experiment) (held : Held) → ClaimsOf lab es held → e.phase ≡ Out
+        → ((d : Experiment) → Has es d → d.name ≢ e.name) → ClaimsOf lab (es ++ e ∷ []) held }
+{}
+
+/// Nor does one that is out and goes.
+pub fn gone()
+    ensures { (lab : Lab) (a b : List Experiment) (e : Experiment) (held : Held) → AllDiffer (map (λ e. e.name) (a ++ e ∷ b))
+        → ClaimsOf lab (a ++ e ∷ b) held → e.phase ≡ Out → ClaimsOf lab (a ++ b) held }
+{}
+
+/// An experiment claims something else: its claim stands in the place of the one that it may have had.
+pub fn put()
+    ensures { (lab : Lab) (a b : List Experiment) (e f : Experiment) (held : Held) → AllDiffer (map (λ e. e.name) (a ++ e ∷ b))
+        → ClaimsOf lab (a ++ e ∷ b) held → f.name ≡ e.name → f.phase ≢ Out
+        → ClaimsOf lab (a ++ f ∷ b) (with_claim e.name (claim_of lab f) held) }
+{}
+
+/// An experiment is out and claims nothing more.
+pub fn dropped()
+    ensures { (lab : Lab) (a b : List Experiment) (e f : Experiment) (held : Held) → AllDiffer (map (λ e. e.name) (a ++ e ∷ b))
+        → ClaimsOf lab (a ++ e ∷ b) held → f.name ≡ e.name → f.phase ≡ Out
+        → ClaimsOf lab (a ++ f ∷ b) (without e.name held) }
+{}
+
+/// A move ends: the experiment stands with its new mapping, or again with its old one.
+pub fn narrowed()
+    ensures new { (lab : Lab) (a b : List Experiment) (e f : Experiment) (old : Option Mapped) (m : Mapped) (held : Held)
+        → AllDiffer (map (λ e. e.name) (a ++ e ∷ b)) → ClaimsOf lab (a ++ e ∷ b) held → e.phase ≡ Moving old (Some m)
+        → f.name ≡ e.name → f.wiring ≡ m.wiring → f.phase ≡ In m.mapping m.tags
+        → ClaimsOf lab (a ++ f ∷ b) (narrowed e.name true held) }
+    ensures old { (lab : Lab) (a b : List Experiment) (e f : Experiment) (m : Mapped) (new : Option Mapped) (held : Held)
+        → AllDiffer (map (λ e. e.name) (a ++ e ∷ b)) → ClaimsOf lab (a ++ e ∷ b) held → e.phase ≡ Moving (Some m) new
+        → f.name ≡ e.name → f.wiring ≡ m.wiring → f.phase ≡ In m.mapping m.tags
+        → ClaimsOf lab (a ++ f ∷ b) (narrowed e.name false held) }
+{}
+
+/// The claims of the others are fewer than the experiments.
+pub fn few()
+    ensures { (lab : Lab) (a b : List Experiment) (e : Experiment) (held : Held) → AllDiffer (map (λ e. e.name) (a ++ e ∷ b))
+        → ClaimsOf lab (a ++ e ∷ b) held → length (others e.name held.entries) < length (a ++ e ∷ b) }
+{}
+
+/// A move begins from what the experiment claims, if it claims something: to a mapping that has no violation beside the
+/// others and whose VLAN ids are free, or to nothing. The claim of the experiment that moves may be added.
+pub fn may_add()
+    ensures taken { (lab : Lab) (a b : List Experiment) (e f : Experiment) (m : Mapped) (held : Held) → Holding lab (a ++ e ∷ b)
+        → AllDiffer (map (λ e. e.name) (a ++ e ∷ b)) → ClaimsOf lab (a ++ e ∷ b) held → f.phase ≡ Moving (claimed e New) (Some m)
+        → violation_beside lab (a ++ b) e m.wiring m.mapping ≡ None → IsSound m.wiring → IsShaped lab m.wiring m.mapping
+        → are_free_tags lab (a ++ e ∷ b) m.wiring m.tags ≡ true → MayAdd held e.name (claim_of lab f) }
+    ensures left { (lab : Lab) (a b : List Experiment) (e f : Experiment) (held : Held) → Holding lab (a ++ e ∷ b)
+        → AllDiffer (map (λ e. e.name) (a ++ e ∷ b)) → ClaimsOf lab (a ++ e ∷ b) held → f.phase ≡ Moving (claimed e New) None
+        → MayAdd held e.name (claim_of lab f) }
 {}

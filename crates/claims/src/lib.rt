@@ -13,7 +13,7 @@ pub use claim::Claim;
 pub use claims::Claims;
 pub use fault::TakeFault;
 pub use hold::Hold;
-pub use laws::left_by_others;
+pub use laws::{dropped, few, gone, left_by_others, made, may_add, narrowed, none, put};
 
 #[cfg(test)]
 mod tests;
