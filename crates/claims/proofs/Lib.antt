@@ -2,6 +2,7 @@ pub mod Counting
 pub mod Empty
 pub mod Entries
 pub mod Fits
+pub mod FreeIds
 pub mod Leavings
 pub mod Matching
 pub mod OthersLeave

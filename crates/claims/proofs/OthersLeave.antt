@@ -146,11 +146,12 @@ ids_left lab fs es holding m =
     omega (arith, same, segments_are lab es holding, rest_of_range taken lab.range.0 (size_of lab.range) holding.tags (λ id h. let within = holding.in_range id h in (within.0, omega (arith, within.0, within.1))))
 
 -- ---- WHAT THE CLAIMS LEAVE
-module _ (lab : Lab) (a b : List Experiment) (own : Experiment) (held : Held) (of_es : ClaimsOf lab (a ++ own ∷ b) held) where
-  named_apart : (es : List Experiment) → AllDiffer (map (λ e. e.name) es) → Apart (λ (d e : Experiment). d.name ≢ e.name) es
-  named_apart [] differ = tt
-  named_apart (e ∷ es) differ = (λ d h. differ.0 d.name (Has-mapped (λ x. x.name) es d h), named_apart es differ.1)
+-- experiments whose names differ
+pub named_apart : (es : List Experiment) → AllDiffer (map (λ e. e.name) es) → Apart (λ (d e : Experiment). d.name ≢ e.name) es
+named_apart [] differ = tt
+named_apart (e ∷ es) differ = (λ d h. differ.0 d.name (Has-mapped (λ x. x.name) es d h), named_apart es differ.1)
 
+module _ (lab : Lab) (a b : List Experiment) (own : Experiment) (held : Held) (of_es : ClaimsOf lab (a ++ own ∷ b) held) where
   pub matching : AllDiffer (map (λ e. e.name) (a ++ own ∷ b)) → Match lab held.entries (a ++ own ∷ b)
   matching names = record { once = of_es.once; known = of_es.known; claims = of_es.claims; names = named_apart (a ++ own ∷ b) names }
 

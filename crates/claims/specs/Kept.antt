@@ -1,5 +1,5 @@
 -- What claims keep: the claims stand beside one another, and the tables are those of the claims.
-use Rattle.std.specs.Prelude.{◌≡◌, ◌≢◌, ◌<◌, ◌≤◌, ◌+◌, ℕ, List, length, slice_index_or, None}
+use Rattle.std.specs.Prelude.{◌≡◌, ◌≢◌, ◌<◌, ◌≤◌, ◌+◌, ℕ, List, length, slice_index_or, None, vec_capacity}
 use Rattle.lab_base.specs.Lists.{Has, Apart}
 use Rattle.claims.specs.declared.claim.Claim.{Claim}
 use Rattle.claims.specs.declared.claim.Entry.{Entry}
@@ -41,8 +41,10 @@ pub record Keeps (range : ℕ × ℕ) (kbps : List ℕ) (es : List Entry) (table
 abbrev pub view_of : Inside → Held
 view_of c = held_in c.range c.kbps.items c.entries.items c.tables
 
-abbrev pub IsKept : Inside → Type 0
-IsKept c = Keeps c.range c.kbps.items c.entries.items c.tables
+-- and there is room for the claims of as many experiments as there may be
+pub record IsKept (c : Inside) : Type 0 where
+  pub keeps : Keeps c.range c.kbps.items c.entries.items c.tables
+  pub room : 256 ≤ vec_capacity c.entries
 
 -- a claim that may stand beside these, which are of other experiments
 pub record MayStand (held : Held) (exp : List ℕ) (c : Claim) : Type 0 where

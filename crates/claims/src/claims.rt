@@ -10,6 +10,9 @@ use phys_lab::{Lab, Trunk};
 use std::alloc::Global;
 use std::marker::Model;
 
+/// For how many claims there is room from the start: as many experiments as there may be.
+const MOST: usize = 256;
+
 /// What the experiments of a lab claim.
 #[derive(Drop)]
 pub struct Claims {
@@ -72,6 +75,7 @@ fn put_on(range: (u16, u16), entries: &mut Vec<Entry>, tables: &mut Tables, exp:
     ensures entries { entries.new.items ≡ entries.old.items ++ record { exp = exp; claim = claim } ∷ [] }
     ensures kept { (kbps : List ℕ) → Keeps range kbps entries.old.items tables.old → MayStand (held_in range kbps entries.old.items tables.old) exp claim → Keeps range kbps entries.new.items tables.new }
     ensures nodes { length tables.new.nodes.items ≡ length tables.old.nodes.items }
+    ensures capacity { vec_capacity entries.new ≡ vec_capacity entries.old }
 {
     note(tables, range.0, exp, &claim);
     entries.push_reserved(Entry { exp, claim });
@@ -89,7 +93,8 @@ fn kbps_of(alloc: Global, trunks: &[Trunk]) -> Result<Vec<u64>, Memory>
 }
 
 impl Claims {
-    ghost use Rattle.std.specs.Prelude.{◌≡◌, IfOk, OnOk, OnErr};
+    ghost use Rattle.std.specs.Prelude.{◌≡◌, ◌<◌, length, IfOk, OnOk, OnErr};
+    ghost use Rattle.claims.specs.Held.{others};
     ghost use Rattle.claims.specs.Adding.{MayAdd, with_claim, without, narrowed};
     ghost use Rattle.claims.specs.Answered.{none_of};
 
@@ -102,7 +107,7 @@ impl Claims {
         Ok(Claims {
             range,
             kbps: kbps_of(alloc, lab.trunks())?,
-            entries: Vec::new(alloc),
+            entries: Vec::with_capacity(alloc, MOST)?,
             tables: no_tables(alloc, lab.nodes().len(), lab.trunks().len(), ids)?,
         })
     }
@@ -117,6 +122,17 @@ impl Claims {
         let _old = take_off(self.range, &mut self.entries, &mut self.tables, exp);
         put_on(self.range, &mut self.entries, &mut self.tables, exp, claim);
         Ok(())
+    }
+
+    /// Adds the claim of an experiment, in the place of the one that it may have, where few enough others have one. It
+    /// takes no memory.
+    pub fn note(&mut self, exp: Name, claim: Claim)
+        requires may { MayAdd self.old exp claim }
+        requires few { length (others exp self.old.entries) < 256 }
+        ensures { self.new ≡ with_claim exp claim self.old }
+    {
+        let _old = take_off(self.range, &mut self.entries, &mut self.tables, exp);
+        put_on(self.range, &mut self.entries, &mut self.tables, exp, claim);
     }
 
     /// Keeps one side of the claim of an experiment that moves, as of one that stands in the lab.

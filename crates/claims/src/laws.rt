@@ -1,19 +1,21 @@
 // Laws of the definitions.
-ghost use Rattle.std.specs.Prelude.{◌≡◌, ◌≢◌, ◌<◌, ◌++◌, ◌∷◌, [], List, length, map, Option, Some, None, true, false};
+ghost use Rattle.std.specs.Prelude.{◌≡◌, ◌≢◌, ◌<◌, ◌==◌, ◌&&◌, ◌++◌, ◌∷◌, [], List, length, map, Option, Some, None, true, false};
 ghost use Rattle.lab_base.specs.Lists.{Has, AllDiffer};
+ghost use Rattle.lab_base.specs.declared.ids.VlanId.{VlanId};
 ghost use Rattle.phys_lab.specs.Labs.{Lab};
 ghost use Rattle.phys_lab.specs.Kept.{IsLab};
 ghost use Rattle.phys_lab.specs.declared.free.Free.{Free as AnyFree};
 ghost use Rattle.virt_topo.specs.declared.experiment.Experiment.{Experiment};
 ghost use Rattle.virt_topo.specs.declared.experiment.Phase.TheVariants.{Out, In, Moving};
 ghost use Rattle.virt_topo.specs.declared.mapping.Mapped.{Mapped};
+ghost use Rattle.virt_topo.specs.declared.wiring.Wiring.{Wiring};
 ghost use Rattle.virt_topo.specs.Soundness.{IsSound};
 ghost use Rattle.lab_model.specs.Beside.{IsLeft, violation_beside, are_free_tags};
 ghost use Rattle.lab_model.specs.Claims.{New, claimed};
 ghost use Rattle.lab_model.specs.Holding.{Holding};
 ghost use Rattle.lab_model.specs.Shapes.{IsShaped};
 ghost use Rattle.claims.specs.Adding.{MayAdd, with_claim, without, narrowed};
-ghost use Rattle.claims.specs.Answered.{none_of};
+ghost use Rattle.claims.specs.Answered.{are_free_ids, none_of};
 ghost use Rattle.claims.specs.Held.{Held, IsLeftTo, others};
 ghost use Rattle.claims.specs.Holds.{claim_of};
 ghost use Rattle.claims.specs.Experiments.{ClaimsOf};
@@ -72,6 +74,12 @@ pub fn narrowed()
 pub fn few()
     ensures { (lab : Lab) (a b : List Experiment) (e : Experiment) (held : Held) → AllDiffer (map (λ e. e.name) (a ++ e ∷ b))
         → ClaimsOf lab (a ++ e ∷ b) held → length (others e.name held.entries) < length (a ++ e ∷ b) }
+{}
+
+/// VLAN ids are free to the experiments where they are free beside the claims, one for each segment.
+pub fn free_tags()
+    ensures { (lab : Lab) (es : List Experiment) (held : Held) (w : Wiring) (tags : List VlanId) → AllDiffer (map (λ e. e.name) es)
+        → ClaimsOf lab es held → are_free_tags lab es w tags ≡ ((length tags == length w.segments) && are_free_ids held tags) }
 {}
 
 /// A move begins from what the experiment claims, if it claims something: to a mapping that has no violation beside the

@@ -8,9 +8,9 @@ use Rattle.claims.proofs.claims.Claims.counted.Goals as goal
 pub returns-clause-nodes : goal.returns-clause-nodes
 returns-clause-nodes c =
     let s = c.self.inside in
-    c.free_in-nodes.ensures ∙ ap (λ (l : List (Option (List Rattle.std.specs.Prelude.ℕ))). count_by is_none l) c.deref.ensures.value ∙ nodes_free s.range s.kbps.items s.entries.items s.tables c.self.invariant ∙ ap (λ (h : Held). free_nodes h) c.self.view_is
+    c.free_in-nodes.ensures ∙ ap (λ (l : List (Option (List Rattle.std.specs.Prelude.ℕ))). count_by is_none l) c.deref.ensures.value ∙ nodes_free s.range s.kbps.items s.entries.items s.tables c.self.invariant.keeps ∙ ap (λ (h : Held). free_nodes h) c.self.view_is
 
 pub returns-clause-ids : goal.returns-clause-ids
 returns-clause-ids c =
     let s = c.self.inside in
-    c.free_in-ids.ensures ∙ ap (λ (l : List (Option (List Rattle.std.specs.Prelude.ℕ))). count_by is_none l) c.deref-2.ensures.value ∙ ids_free s.range s.kbps.items s.entries.items s.tables c.self.invariant ∙ ap (λ (h : Held). length (free_ids h)) c.self.view_is
+    c.free_in-ids.ensures ∙ ap (λ (l : List (Option (List Rattle.std.specs.Prelude.ℕ))). count_by is_none l) c.deref-2.ensures.value ∙ ids_free s.range s.kbps.items s.entries.items s.tables c.self.invariant.keeps ∙ ap (λ (h : Held). length (free_ids h)) c.self.view_is

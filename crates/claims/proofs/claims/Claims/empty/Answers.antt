@@ -21,4 +21,7 @@ invariant_of-result c =
     let last : c.range-range.result.1 ≡ lab.range.1 = ap (λ (r : ℕ × ℕ). r.1) range in
     let size : (c.range-range.result.1 - c.range-range.result.0) + 1 ≡ size_of lab.range = omega (arith, first, last, order.order) in
     let kept = empty_kept lab kbps tables _ c.range-range.ensures.lab size (c.in_ok-kbps_of.ensures ∙ ap (λ (l : List Trunk). map (λ t. t.kbps) l) c.trunks.ensures.list) nodes used n.ids in
-    subst (λ (r : ℕ × ℕ). Keeps r kbps c.new.result.items tables) (sym range) (subst (λ (es : List Entry). Keeps lab.range kbps es tables) (sym c.new.ensures.items) kept)
+    record {
+      keeps = subst (λ (r : ℕ × ℕ). Keeps r kbps c.in_ok-with_capacity.field-0.items tables) (sym range) (subst (λ (es : List Entry). Keeps lab.range kbps es tables) (sym c.in_ok-with_capacity.ensures.items) kept);
+      room = c.in_ok-with_capacity.ensures.capacity;
+    }

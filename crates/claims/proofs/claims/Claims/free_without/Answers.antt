@@ -20,4 +20,4 @@ returns c =
     (subst (λ (l : List Entry). (t : ℕ) → t < length c.deref-3.result.now → get_or c.in_ok-left.left t 0 + use_by t (others exp l) ≡ get_or c.deref-3.result.now t 0) c.deref-5.ensures.value c.in_ok-left.ensures.left) in
     let vlans = c.free_in-vlans.ensures ∙ ap (λ (l : List (Option (List ℕ))). count_by is_none l) c.deref.ensures.value in
     subst (λ (h : Held). IsLeftTo h exp (record { nodes = c.in_ok-nodes.nodes; left = c.in_ok-left.left; vlans = c.free_in-vlans.result })) c.self.view_is
-    (left_to_so s.range kbps es s.tables exp c.in_ok-nodes.nodes c.in_ok-left.left c.free_in-vlans.result c.self.invariant nodes len left vlans)
+    (left_to_so s.range kbps es s.tables exp c.in_ok-nodes.nodes c.in_ok-left.left c.free_in-vlans.result c.self.invariant.keeps nodes len left vlans)

@@ -1,4 +1,4 @@
-use Rattle.std.proofs.Common.{◌≡◌, List, Option, None, sym, ap, ◌∙◌, subst}
+use Rattle.std.proofs.Common.{◌≡◌, List, Option, None, sym, ap, ◌∙◌, subst, arith}
 use Rattle.claims.specs.declared.claim.Claim.{Claim}
 use Rattle.claims.specs.declared.claim.Entry.{Entry}
 use Rattle.claims.specs.Held.{Held, claim_named}
@@ -15,9 +15,9 @@ put_on-requires-clause-kept c =
     let es = c.self.inside.entries.items in
     let tables = c.self.inside.tables in
     let after = c.take_off.new.tables in
-    let may = side_stands range kbps es tables after c.args.exp c.args.keep_new c.in-Some.claim c.self.invariant c.take_off.ensures.nodes (sym c.in-Some.ensures.claim) in (
+    let may = side_stands range kbps es tables after c.args.exp c.args.keep_new c.in-Some.claim c.self.invariant.keeps c.take_off.ensures.nodes (sym c.in-Some.ensures.claim) in (
       kbps,
-      c.take_off.ensures.kept kbps c.self.invariant,
+      c.take_off.ensures.kept kbps c.self.invariant.keeps,
       subst (λ (d : Claim). MayStand (held_in range kbps c.take_off.new.entries.items after) c.args.exp d) (sym c.side.ensures)
           (subst (λ (l : List Entry). MayStand (held_in range kbps l after) c.args.exp (side_of c.args.keep_new c.in-Some.claim)) (sym c.take_off.ensures.entries) may),
     )
@@ -29,10 +29,13 @@ invariant_of-self c =
     let es = c.self.inside.entries.items in
     let tables = c.self.inside.tables in
     let after = c.take_off.new.tables in
-    let may = side_stands range kbps es tables after c.args.exp c.args.keep_new c.in-Some.claim c.self.invariant c.take_off.ensures.nodes (sym c.in-Some.ensures.claim) in
-    c.put_on.ensures.kept kbps (c.take_off.ensures.kept kbps c.self.invariant)
-    (subst (λ (d : Claim). MayStand (held_in range kbps c.take_off.new.entries.items after) c.args.exp d) (sym c.side.ensures)
-    (subst (λ (l : List Entry). MayStand (held_in range kbps l after) c.args.exp (side_of c.args.keep_new c.in-Some.claim)) (sym c.take_off.ensures.entries) may))
+    let may = side_stands range kbps es tables after c.args.exp c.args.keep_new c.in-Some.claim c.self.invariant.keeps c.take_off.ensures.nodes (sym c.in-Some.ensures.claim) in
+    record {
+      keeps = c.put_on.ensures.kept kbps (c.take_off.ensures.kept kbps c.self.invariant.keeps)
+          (subst (λ (d : Claim). MayStand (held_in range kbps c.take_off.new.entries.items after) c.args.exp d) (sym c.side.ensures)
+          (subst (λ (l : List Entry). MayStand (held_in range kbps l after) c.args.exp (side_of c.args.keep_new c.in-Some.claim)) (sym c.take_off.ensures.entries) may));
+      room = omega (arith, c.self.invariant.room, c.take_off.ensures.capacity, c.put_on.ensures.capacity);
+    }
 
 pub returns-in_default : goal.returns-in_default
 returns-in_default c =
