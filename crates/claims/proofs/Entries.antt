@@ -62,6 +62,14 @@ others_has exp (f ∷ es) e h = by (bytes_eq f.exp exp) h (others_has exp es e)
     by false (inl same) more = inl same
     by false (inr h) more = inr (more h)
 
+pub others_fewer : (exp : List ℕ) (es : List Entry) → length (others exp es) ≤ length es
+others_fewer exp [] = omega arith
+others_fewer exp (f ∷ es) = by (bytes_eq f.exp exp) (others_fewer exp es)
+  where
+    by : (b : Bool) → length (others exp es) ≤ length es → length (if b then es else f ∷ others exp es) ≤ length (f ∷ es)
+    by true h = omega arith
+    by false h = omega (arith, h)
+
 pub others_apart : (R : Entry → Entry → Type 0) (exp : List ℕ) (es : List Entry) → Apart R es → Apart R (others exp es)
 others_apart R exp [] apart = apart
 others_apart R exp (f ∷ es) apart = by (bytes_eq f.exp exp) (others_apart R exp es apart.1)

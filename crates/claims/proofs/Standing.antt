@@ -149,12 +149,6 @@ may_stand range kbps es tables after exp c k len may = record {
   trunks = may.trunks;
 }
 
--- the same of a view of them, and of the list that is left
-pub may_stand_left : (range : ℕ × ℕ) (kbps : List ℕ) (es left : List Entry) (tables after : Tables) (view : Held) (exp : List ℕ) (c : Claim) → Keeps range kbps es tables → length after.nodes.items ≡ length tables.nodes.items → held_in range kbps es tables ≡ view → left ≡ others exp es
-    → MayAdd view exp c → MayStand (held_in range kbps left after) exp c
-may_stand_left range kbps es left tables after view exp c k len is rest may =
-    subst (λ l. MayStand (held_in range kbps l after) exp c) (sym rest) (may_stand range kbps es tables after exp c k len (subst (λ h. MayAdd h exp c) (sym is) may))
-
 -- so may one side of the experiment's own claim
 side_within : (held : Held) (keep_new : Bool) (c : Claim) → IsWithin held c → IsWithin held (side_of keep_new c)
 side_within lab true c w = record {

@@ -1,5 +1,6 @@
 ghost use Rattle.std.specs.Prelude.{◌≡◌, ◌<◌, ◌≤◌, ◌++◌, ◌∷◌, [], List, ℕ, length, position, map, vec_len, vec_capacity, IfOk, IfSome};
 ghost use Rattle.std.specs.Str.{bytes_eq};
+ghost use Rattle.claims.specs.Adding.{MayAdd};
 ghost use Rattle.claims.specs.Held.{others, claim_named};
 ghost use Rattle.claims.specs.Kept.{Keeps, MayStand, held_in};
 
@@ -81,6 +82,25 @@ fn put_on(range: (u16, u16), entries: &mut Vec<Entry>, tables: &mut Tables, exp:
     entries.push_reserved(Entry { exp, claim });
 }
 
+/// Puts the claim of an experiment in the place of the one that it may have.
+fn put_in_place(
+    range: (u16, u16),
+    entries: &mut Vec<Entry>,
+    tables: &mut Tables,
+    exp: Name,
+    claim: Claim,
+)
+    requires room { length (others exp entries.old.items) < vec_capacity entries.old }
+    requires kept { (kbps : List ℕ) × Keeps range kbps entries.old.items tables.old × MayAdd (held_in range kbps entries.old.items tables.old) exp claim }
+    ensures entries { entries.new.items ≡ others exp entries.old.items ++ record { exp = exp; claim = claim } ∷ [] }
+    ensures kept { (kbps : List ℕ) → Keeps range kbps entries.old.items tables.old → MayAdd (held_in range kbps entries.old.items tables.old) exp claim → Keeps range kbps entries.new.items tables.new }
+    ensures nodes { length tables.new.nodes.items ≡ length tables.old.nodes.items }
+    ensures capacity { vec_capacity entries.new ≡ vec_capacity entries.old }
+{
+    let _old = take_off(range, entries, tables, exp);
+    put_on(range, entries, tables, exp, claim);
+}
+
 /// By trunk its kbps.
 fn kbps_of(alloc: Global, trunks: &[Trunk]) -> Result<Vec<u64>, Memory>
     ensures { IfOk result (λ kbps. kbps.items ≡ map (λ t. t.kbps) trunks.now) }
@@ -119,8 +139,7 @@ impl Claims {
         ensures err { OnErr result (self.new ≡ self.old) }
     {
         self.entries.try_reserve(1)?;
-        let _old = take_off(self.range, &mut self.entries, &mut self.tables, exp);
-        put_on(self.range, &mut self.entries, &mut self.tables, exp, claim);
+        put_in_place(self.range, &mut self.entries, &mut self.tables, exp, claim);
         Ok(())
     }
 
@@ -131,8 +150,7 @@ impl Claims {
         requires few { length (others exp self.old.entries) < 256 }
         ensures { self.new ≡ with_claim exp claim self.old }
     {
-        let _old = take_off(self.range, &mut self.entries, &mut self.tables, exp);
-        put_on(self.range, &mut self.entries, &mut self.tables, exp, claim);
+        put_in_place(self.range, &mut self.entries, &mut self.tables, exp, claim);
     }
 
     /// Keeps one side of the claim of an experiment that moves, as of one that stands in the lab.

@@ -3,7 +3,7 @@ ghost use Rattle.claims.specs.Held.{claim_nodes, claim_tags};
 ghost use Rattle.claims.specs.Adding.{HasUses};
 
 use super::*;
-use lab_base::{IfaceId, Items, Memory, Name, NodeId, VlanId};
+use lab_base::{IfaceId, Items, Memory, Name, NodeId, Tags, VlanId};
 use phys_lab::{Lab, LabBuilder, Node};
 use std::alloc::Global;
 use std::test::Fail;
@@ -88,5 +88,54 @@ fn one_claim_is_counted(rt: HostRuntime) -> Result<(), Fail> {
     );
     claims.drop_claim(exp);
     assert_eq!(rt; claims.counted(), (2, 2));
+    Ok(())
+}
+
+/// No claim on the small lab but that one, which is noted.
+fn with_noted(alloc: Global, lab: &Lab, exp: Name) -> Result<Claims, Fail> {
+    let mut claims = Claims::empty(alloc, lab)?;
+    let range = lab.range();
+    if range.0 == 100 && range.1 == 101 && lab.nodes().len() == 2 && lab.trunks().is_empty() {
+        claims.note(exp, both_nodes(alloc)?);
+    }
+    Ok(claims)
+}
+
+fn tags_of(alloc: Global, ids: &[u16]) -> Result<Tags, Memory> {
+    let mut tags = Items::new(alloc);
+    for id in ids {
+        tags.push(VlanId(*id))?;
+    }
+    Ok(tags)
+}
+
+/// The number of the first case that is answered otherwise, if there is one.
+fn first_wrong(
+    alloc: Global,
+    claims: &Claims,
+    cases: &[(&[u16], bool)],
+) -> Result<Option<usize>, Memory> {
+    for (at, (ids, free)) in cases.iter().enumerate() {
+        if claims.are_free(&tags_of(alloc, ids)?) != *free {
+            return Ok(Some(at));
+        }
+    }
+    Ok(None)
+}
+
+#[test]
+fn a_noted_claim_has_its_ids(rt: HostRuntime) -> Result<(), Fail> {
+    let lab = small_lab(rt.alloc())?;
+    let claims = with_noted(rt.alloc(), &lab, named(b"e")?)?;
+    assert_eq!(rt; claims.counted(), (0, 1));
+    let cases: [(&[u16], bool); 6] = [
+        (&[], true),
+        (&[101], true),
+        (&[100], false),
+        (&[99], false),
+        (&[102], false),
+        (&[101, 101], false),
+    ];
+    assert_eq!(rt; first_wrong(rt.alloc(), &claims, &cases)?, None);
     Ok(())
 }
