@@ -117,7 +117,7 @@ fewer : (lab : Lab) (fs : List Entry) (es : List Experiment) → Match lab fs es
 fewer lab fs [] m = let none : length fs ≡ 0 = ap length (none_known lab fs m) in omega (arith, none)
 fewer lab fs (e ∷ es) m = omega (arith, shorter e.name fs, fewer lab (others e.name fs) es (match_rest lab fs [] es e m))
 
--- ---- NO EXPERIMENT CLAIMS ANYTHING, AND ONE MORE THAT IS OUT
+-- ---- ONE EXPERIMENT MORE, WHICH IS OUT
 pub made_claims : (lab : Lab) (es : List Experiment) (e : Experiment) (held : Held) → ClaimsOf lab es held → e.phase ≡ Out → ((d : Experiment) → Has es d → d.name ≢ e.name) → ClaimsOf lab (es ++ e ∷ []) held
 made_claims lab es e held of_es out new = record {
   range = of_es.range;
