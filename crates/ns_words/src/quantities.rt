@@ -1,0 +1,49 @@
+//! Bandwidths, delays and losses.
+
+ghost use Rattle.std.specs.Prelude.{◌≡◌, ◌<◌, ◌≤◌, ◌↔◌, ℕ, IfSome, Some};
+ghost use Rattle.std.specs.Option.{ForSome};
+ghost use Rattle.ns_words.specs.Quantities.{IsBandwidth, IsDelay, IsLoss};
+ghost use Rattle.ns_words.specs.Values.{bandwidth_of, delay_of, loss_of};
+
+use crate::numeral::numeral_in;
+use crate::units::{loss_scale, rate_scale, time_scale};
+
+fn narrow(value: Option<u64>) -> Option<u32>
+    requires { ForSome value (λ n. n < 4294967296) }
+    ensures { result ≡ value }
+{
+    match value {
+        Some(n) => Some(n as u32),
+        None => None,
+    }
+}
+
+/// Reads a bandwidth: kbps, 1 to 1,000,000,000. None where the word is malformed, or no whole number in this range.
+pub fn bandwidth(word: &[u8]) -> Option<u64>
+    ensures value { result ≡ bandwidth_of word.now }
+    ensures exact { (kbps : ℕ) → (result ≡ Some kbps) ↔ IsBandwidth word.now kbps }
+    ensures limits { IfSome result (λ kbps. (1 ≤ kbps) × (kbps ≤ 1000000000)) }
+{
+    let numeral = numeral_in(word);
+    numeral.measured(rate_scale(numeral.unit), 1_000, 1, 1_000_000_000)
+}
+
+/// Reads a delay: microseconds, at most 10,000,000. None where the word is malformed, or no whole number in this range.
+pub fn delay(word: &[u8]) -> Option<u32>
+    ensures value { result ≡ delay_of word.now }
+    ensures exact { (micros : ℕ) → (result ≡ Some micros) ↔ IsDelay word.now micros }
+    ensures limits { IfSome result (λ micros. micros ≤ 10000000) }
+{
+    let numeral = numeral_in(word);
+    narrow(numeral.measured(time_scale(numeral.unit), 1, 0, 10_000_000))
+}
+
+/// Reads a loss: millionths, at most 1,000,000. None where the word is malformed, or no whole number in this range.
+pub fn loss(word: &[u8]) -> Option<u32>
+    ensures value { result ≡ loss_of word.now }
+    ensures exact { (ppm : ℕ) → (result ≡ Some ppm) ↔ IsLoss word.now ppm }
+    ensures limits { IfSome result (λ ppm. ppm ≤ 1000000) }
+{
+    let numeral = numeral_in(word);
+    narrow(numeral.measured(loss_scale(numeral.unit), 1, 0, 1_000_000))
+}
