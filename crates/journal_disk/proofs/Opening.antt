@@ -25,7 +25,7 @@ use Rattle.journal_disk.specs.declared.front.Place.TheVariants as places
 use Rattle.journal_disk.specs.Fronts.{seen, place_of}
 use Rattle.journal_disk.specs.Openings.{IsOpened}
 use Rattle.journal_disk.specs.Faults.{open_fault}
-use Rattle.journal_disk.specs.Before.{ReadAlike, AreAsBefore}
+use Rattle.journal_disk.specs.Before.{ReadAlike, AreAsBefore, AreSettled, IsOpening, are_synced}
 use Rattle.journal_disk.specs.Opening.{both_synced, cleared, making, new_journal, Made, Untouched, Closing, Closed, Heading, WithHeader, Raising, InUse, made_steps, IsMade, Far, AtStart, OneSynced, BothSynced, Making, far_steps, MayMake, IsLast, IsSync, Syncs, MayMiss, Makes, Ends, Opens}
 use Rattle.journal_disk.proofs.Chains as chains
 use Rattle.journal_disk.proofs.Chains.{chain, nothing_yet, Came, sync_came, write_came}
@@ -279,8 +279,39 @@ module _ (trace : List Event) (reads_so : ArePossible trace (disk A trace).reads
           subst (λ l. AllPrefixes IsFine (far_steps o.far ++ l)) (sym one.1)
           (one_more IsFine (far_steps o.far) (Missed one.0) (prefixes o.far o.blank) (missed (far_steps o.far) one.0 (fine o.far o.blank)))
 
+  -- once both sides are synced
+  read_alike : (a b x y : List ℕ) → x ≡ a → y ≡ b → ReadAlike a b x y
+  read_alike a b x y p q = subst (λ l. ReadAlike a b l y) (sym p) (subst (λ l. ReadAlike a b a l) (sym q) (alike_self a b))
+
+  settled : (far : Far) (more : List Event) → MayMake (disk A trace).reads (disk B trace).reads far → (more ≡ []) ⊎ ((side : Side) × (more ≡ Missed side ∷ []))
+      → are_synced (far_steps far ++ more) ≡ true → (a b : List ℕ) → ArePossible (trace ++ far_steps far) a b → ReadAlike a b (disk A trace).reads (disk B trace).reads
+  settled AtStart more may (inl none) synced a b possible = let no : are_synced [] ≡ true = subst (λ l. are_synced l ≡ true) none synced in absurd (cc no)
+  settled AtStart more may (inr one) synced a b possible = let no : are_synced (Missed one.0 ∷ []) ≡ true = subst (λ l. are_synced l ≡ true) one.1 synced in absurd (cc no)
+  settled OneSynced more may (inl none) synced a b possible = let no : are_synced (Synced A ∷ []) ≡ true = subst (λ l. are_synced (Synced A ∷ l) ≡ true) none synced in absurd (cc no)
+  settled OneSynced more may (inr one) synced a b possible = let no : are_synced (Synced A ∷ Missed one.0 ∷ []) ≡ true = subst (λ l. are_synced (Synced A ∷ l) ≡ true) one.1 synced in absurd (cc no)
+  settled BothSynced more may few synced a b possible =
+      let image_a = synced_image (disk A trace) a (subst (λ d. IsImage d a) (disk_more A trace both_synced) possible.0) in
+      let image_b = synced_image (disk B trace) b (subst (λ d. IsImage d b) (disk_more B trace both_synced) possible.1) in
+      read_alike a b (disk A trace).reads (disk B trace).reads (sym image_a) (sym image_b)
+  settled (Making is_short made) more may few synced a b possible =
+      let blank = heads_blank (head (disk A trace).reads) (head (disk B trace).reads) may.0 in
+      let now : ArePossible ((trace ++ both_synced) ++ made_steps is_short made) a b = subst (λ l. ArePossible l a b) (sym (append_assoc trace both_synced (made_steps is_short made))) possible in
+      let none = made_images (trace ++ both_synced) (disk A trace).reads (disk B trace).reads is_short made (disk_more A trace both_synced) (disk_more B trace both_synced) blank.0 blank.1 may.1 may.2 a b now in
+      alike_records a b (disk A trace).reads (disk B trace).reads [] none (blank_records (disk A trace).reads (disk B trace).reads blank.0 blank.1)
+
+  opens_settled : (steps : List Event) (result : Result (Journal × Vec Found) OpenFault) → Opens trace steps result → AreSettled trace steps
+  opens_settled steps result o synced a b possible =
+      let how = few result _ _ o.far o.more o.ends in
+      let here : ArePossible (trace ++ (far_steps o.far ++ o.more)) a b = subst (λ l. ArePossible (trace ++ l) a b) o.steps_are possible in
+      settled o.far o.more o.blank how (subst (λ l. are_synced l ≡ true) o.steps_are synced) a b (back o.more how here)
+    where
+      back : (more : List Event) → (more ≡ []) ⊎ ((side : Side) × (more ≡ Missed side ∷ [])) → ArePossible (trace ++ (far_steps o.far ++ more)) a b → ArePossible (trace ++ far_steps o.far) a b
+      back more (inl none) h = subst (λ l. ArePossible (trace ++ l) a b) (ap (λ l. far_steps o.far ++ l) none ∙ append-nil (far_steps o.far)) h
+      back more (inr one) h =
+          missed_images one.0 (trace ++ far_steps o.far) a b (subst (λ l. ArePossible l a b) (sym (append_assoc trace (far_steps o.far) (Missed one.0 ∷ []))) (subst (λ l. ArePossible (trace ++ (far_steps o.far ++ l)) a b) one.1 h))
+
 -- EACH MOMENT OF AN OPENING
 pub moments_of : (old new : Option Told) (result : Result (Journal × Vec Found) OpenFault) → IfSome old (λ t. ArePossible t.trace (disk A t.trace).reads (disk B t.trace).reads) → OpenedBy old new result
-    → (steps : List Event) × (new ≡ with_steps old steps) × IfSome old (λ t. AreAsBefore t.trace steps)
+    → (steps : List Event) × (new ≡ with_steps old steps) × IfSome old (λ t. IsOpening t.trace steps result)
 moments_of None new result possible h = (h.0, h.1, tt)
-moments_of (Some t) new result possible h = (h.0, h.1, opens_before t.trace possible h.0 result h.2)
+moments_of (Some t) new result possible h = (h.0, h.1, record { opens = h.2; before = opens_before t.trace possible h.0 result h.2; settled = opens_settled t.trace possible h.0 result h.2 })

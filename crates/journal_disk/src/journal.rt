@@ -26,6 +26,21 @@ impl Journal {
     ghost use Rattle.journal_rec.specs.declared.record.Record.{Record};
     ghost use Rattle.journal_disk.specs.Standing.{side_of, gate_of, length_of, limit_of, IsAt, Appends, Moments};
 
+    /// The side that records are appended to.
+    pub fn side(&self) -> Side
+        ensures { result ≡ side_of self.now }
+    {
+        self.side
+    }
+
+    /// The length that it may not pass.
+    pub fn limit(&self) -> u64
+        ensures limit { result ≡ limit_of self.now }
+        ensures most { limit_of self.now ≤ 2 ^ 32 }
+    {
+        self.limit
+    }
+
     /// The position after the first closed gate.
     pub fn length(&self) -> u64
         ensures { result ≡ length_of self.now }
@@ -42,6 +57,7 @@ impl Journal {
         ensures nothing { limit_of self.old < length_of self.old + length encoded.now → plant.new ≡ plant.old }
         ensures plant { IsErrOf result AppendFault.Plant → Rose (P.faults plant.old).disk (P.faults plant.new).disk }
         ensures later { (P.faults plant.old).disk ≤ (P.faults plant.new).disk }
+        ensures devices { (P.faults plant.new).devices ≡ (P.faults plant.old).devices }
         ensures stopped { length_of self.old + length encoded.now ≤ limit_of self.old → IsErrOf result AppendFault.Stopped ↔ IsTrue (P.is_stopped plant.new) }
         ensures drills { P.takes_drills plant.new ≡ P.takes_drills plant.old }
         ensures appends { (r : Record) → IsBody encoded.now r → Appends (P.told plant.old) (P.told plant.new) self.old r result }
@@ -70,6 +86,7 @@ impl Journal {
         ensures nothing { limit_of self.old < length_of self.old + length encoded.now → plant.new ≡ plant.old }
         ensures plant { IsErrOf result AppendFault.Plant → Rose (P.faults plant.old).disk (P.faults plant.new).disk }
         ensures later { (P.faults plant.old).disk ≤ (P.faults plant.new).disk }
+        ensures devices { (P.faults plant.new).devices ≡ (P.faults plant.old).devices }
         ensures stopped { length_of self.old + length encoded.now ≤ limit_of self.old → IsErrOf result AppendFault.Stopped ↔ IsTrue (P.is_stopped plant.new) }
         ensures drills { P.takes_drills plant.new ≡ P.takes_drills plant.old }
         ensures appends { (r : Record) → IsBody encoded.now r → Appends (P.told plant.old) (P.told plant.new) self.old r result }

@@ -19,6 +19,7 @@ fn clear<P: Plant>(plant: &mut P) -> Result<(), OpenFault>
     ensures makes { Makes true Closed (P.told plant.old) (P.told plant.new) result }
     ensures plant { IsErrOf result OpenFault.Plant → Rose (P.faults plant.old).disk (P.faults plant.new).disk }
     ensures later { (P.faults plant.old).disk ≤ (P.faults plant.new).disk }
+    ensures devices { (P.faults plant.new).devices ≡ (P.faults plant.old).devices }
     ensures stopped { IsErrOf result OpenFault.Stopped ↔ IsTrue (P.is_stopped plant.new) }
     ensures drills { P.takes_drills plant.new ≡ P.takes_drills plant.old }
     ensures bad { (side : AnySide) (at : ℕ) → result ≡ Err (OpenFault.Bad side at) → ⊥ }
@@ -36,6 +37,7 @@ fn head<P: Plant>(plant: &mut P) -> Result<(), OpenFault>
     ensures makes { Makes false InUse (P.told plant.old) (P.told plant.new) result }
     ensures plant { IsErrOf result OpenFault.Plant → Rose (P.faults plant.old).disk (P.faults plant.new).disk }
     ensures later { (P.faults plant.old).disk ≤ (P.faults plant.new).disk }
+    ensures devices { (P.faults plant.new).devices ≡ (P.faults plant.old).devices }
     ensures stopped { IsErrOf result OpenFault.Stopped ↔ IsTrue (P.is_stopped plant.new) }
     ensures drills { P.takes_drills plant.new ≡ P.takes_drills plant.old }
     ensures bad { (side : AnySide) (at : ℕ) → result ≡ Err (OpenFault.Bad side at) → ⊥ }
@@ -55,6 +57,7 @@ pub fn make<P: Plant>(plant: &mut P, is_short: bool) -> Result<(), OpenFault>
     ensures makes { Makes is_short InUse (P.told plant.old) (P.told plant.new) result }
     ensures plant { IsErrOf result OpenFault.Plant → Rose (P.faults plant.old).disk (P.faults plant.new).disk }
     ensures later { (P.faults plant.old).disk ≤ (P.faults plant.new).disk }
+    ensures devices { (P.faults plant.new).devices ≡ (P.faults plant.old).devices }
     ensures stopped { IsErrOf result OpenFault.Stopped ↔ IsTrue (P.is_stopped plant.new) }
     ensures drills { P.takes_drills plant.new ≡ P.takes_drills plant.old }
     ensures bad { (side : AnySide) (at : ℕ) → result ≡ Err (OpenFault.Bad side at) → ⊥ }

@@ -10,7 +10,7 @@ ghost use Rattle.journal_disk.specs.Walks.{placed};
 ghost use Rattle.journal_disk.specs.Standing.{IsAt, HasAll, limit_of};
 ghost use Rattle.journal_disk.specs.Openings.{IsOpened};
 ghost use Rattle.journal_disk.specs.Opening.{Opens};
-ghost use Rattle.journal_disk.specs.Before.{AreAsBefore};
+ghost use Rattle.journal_disk.specs.Before.{IsOpening};
 ghost use Rattle.plant.specs.Events.{Event};
 ghost use Rattle.plant.specs.Told.{with_steps};
 
@@ -59,11 +59,12 @@ impl Journal {
         ensures bad { (side : AnySide) (at : ℕ) → result ≡ Err (OpenFault.Bad side at) → IfSome (P.told plant.new) (λ t. Bad (disk A t.trace).reads (disk B t.trace).reads side at) }
         ensures plant { IsErrOf result OpenFault.Plant → Rose (P.faults plant.old).disk (P.faults plant.new).disk }
         ensures later { (P.faults plant.old).disk ≤ (P.faults plant.new).disk }
+        ensures devices { (P.faults plant.new).devices ≡ (P.faults plant.old).devices }
         ensures stopped { IsErrOf result OpenFault.Stopped ↔ IsTrue (P.is_stopped plant.new) }
         ensures drills { P.takes_drills plant.new ≡ P.takes_drills plant.old }
         ensures limit { IfOk result (λ opened. limit_of opened.0 ≡ limit) }
         ensures opens { (steps : List Event) × (P.told plant.new ≡ with_steps (P.told plant.old) steps) × IfSome (P.told plant.old) (λ t. Opens t.trace steps result) }
-        ensures moments { (steps : List Event) × (P.told plant.new ≡ with_steps (P.told plant.old) steps) × IfSome (P.told plant.old) (λ t. AreAsBefore t.trace steps) }
+        ensures moments { (steps : List Event) × (P.told plant.new ≡ with_steps (P.told plant.old) steps) × IfSome (P.told plant.old) (λ t. IsOpening t.trace steps result) }
     {
         sync_sides(plant)?;
         let a = read_side(alloc, plant, Side::A)?;

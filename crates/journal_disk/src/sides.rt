@@ -20,6 +20,7 @@ pub fn sync_sides<P: Plant>(plant: &mut P) -> Result<(), OpenFault>
     ensures syncs { Syncs (P.told plant.old) (P.told plant.new) result }
     ensures plant { IsErrOf result OpenFault.Plant → Rose (P.faults plant.old).disk (P.faults plant.new).disk }
     ensures later { (P.faults plant.old).disk ≤ (P.faults plant.new).disk }
+    ensures devices { (P.faults plant.new).devices ≡ (P.faults plant.old).devices }
     ensures stopped { IsErrOf result OpenFault.Stopped ↔ IsTrue (P.is_stopped plant.new) }
     ensures drills { P.takes_drills plant.new ≡ P.takes_drills plant.old }
     ensures bad { (side : AnySide) (at : ℕ) → result ≡ Err (OpenFault.Bad side at) → ⊥ }
@@ -43,6 +44,7 @@ fn read_piece<P: Plant>(
     ensures len { OnOk result (vec_len bytes.new ≡ vec_len bytes.old + size) }
     ensures plant { IsErrOf result OpenFault.Plant → Rose (P.faults plant.old).disk (P.faults plant.new).disk }
     ensures later { (P.faults plant.old).disk ≤ (P.faults plant.new).disk }
+    ensures devices { (P.faults plant.new).devices ≡ (P.faults plant.old).devices }
     ensures stopped { IsErrOf result OpenFault.Stopped ↔ IsTrue (P.is_stopped plant.new) }
     ensures still { P.is_stopped plant.new ≡ P.is_stopped plant.old }
     ensures drills { P.takes_drills plant.new ≡ P.takes_drills plant.old }
@@ -70,6 +72,7 @@ pub fn read_side<P: Plant>(alloc: Global, plant: &mut P, side: Side) -> Result<V
     ensures bytes { IfOk result (λ bytes. IfSome (P.told plant.old) (λ t. bytes.items ≡ (disk side t.trace).reads)) }
     ensures plant { IsErrOf result OpenFault.Plant → Rose (P.faults plant.old).disk (P.faults plant.new).disk }
     ensures later { (P.faults plant.old).disk ≤ (P.faults plant.new).disk }
+    ensures devices { (P.faults plant.new).devices ≡ (P.faults plant.old).devices }
     ensures stopped { IsErrOf result OpenFault.Stopped ↔ IsTrue (P.is_stopped plant.new) }
     ensures drills { P.takes_drills plant.new ≡ P.takes_drills plant.old }
     ensures bad { (side : AnySide) (at : ℕ) → result ≡ Err (OpenFault.Bad side at) → ⊥ }

@@ -10,6 +10,7 @@ invariant-loop-side g l = record {
   whole : IfSome (g.P.Plant.told l.fn.plant) (λ t. l.size ≡ length (disk l.side t.trace).reads);
   read : IfSome (g.P.Plant.told l.fn.plant) (λ t. l.bytes.items ≡ take (vec_len l.bytes) (disk l.side t.trace).reads);
   later : (g.P.Plant.faults l.fn.plant).disk ≤ (g.P.Plant.faults l.plant).disk;
+  devices : (g.P.Plant.faults l.plant).devices ≡ (g.P.Plant.faults l.fn.plant).devices;
   stopped : g.P.Plant.is_stopped l.plant ≡ g.P.Plant.is_stopped l.initial.plant;
   drills : g.P.Plant.takes_drills l.plant ≡ g.P.Plant.takes_drills l.fn.plant;
 }
