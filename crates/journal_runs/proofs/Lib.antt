@@ -1,0 +1,6 @@
+pub mod Blank
+pub mod Endings
+pub mod Images
+pub mod Quiet
+pub mod Sounds
+pub mod Stood

@@ -1,0 +1,60 @@
+-- What the steps of an opening show.
+use Rattle.std.proofs.Common.{◌≡◌, ◌⊎◌, inl, inr, ℕ, Bool, true, false, ◌||◌, List, [], ◌∷◌, ◌++◌, Result, Ok, Err, refl, ap, ◌∙◌}
+use Rattle.std.specs.Global.{Vec}
+use Rattle.std.specs.List.{list_any}
+use Rattle.std.proofs.lemmas.List.Folds.{list_any-append}
+use Rattle.plant.specs.Events.{Event, Missed}
+use Rattle.plant.specs.declared.step.Side.{Side}
+use Rattle.journal_rec.specs.declared.record.Found.{Found}
+use Rattle.journal_disk.specs.Opening.{Untouched, Closing, Closed, Heading, WithHeader, Raising, InUse, Far, AtStart, OneSynced, BothSynced, Making, far_steps, Ends, Opens}
+use Rattle.journal_disk.specs.declared.fault.OpenFault.{OpenFault}
+use Rattle.journal_disk.specs.declared.fault.OpenFault.TheVariants as faults
+use Rattle.journal_disk.specs.declared.journal.Journal.{Journal}
+use Rattle.journal_runs.specs.Pieces.{is_command, is_miss, is_restart, has_command, has_miss, has_restart}
+
+-- no device command, no start, no call that missed
+abbrev IsQuiet : List Event → Type 0
+IsQuiet steps = (has_command steps ≡ false) × (has_restart steps ≡ false) × (has_miss steps ≡ false)
+
+far_quiet : (far : Far) → IsQuiet (far_steps far)
+far_quiet AtStart = (refl, refl, refl)
+far_quiet OneSynced = (refl, refl, refl)
+far_quiet BothSynced = (refl, refl, refl)
+far_quiet (Making is_short Untouched) = (refl, refl, refl)
+far_quiet (Making is_short (Closing byte)) = (refl, refl, refl)
+far_quiet (Making true Closed) = (refl, refl, refl)
+far_quiet (Making false Closed) = (refl, refl, refl)
+far_quiet (Making true (Heading bytes)) = (refl, refl, refl)
+far_quiet (Making false (Heading bytes)) = (refl, refl, refl)
+far_quiet (Making true WithHeader) = (refl, refl, refl)
+far_quiet (Making false WithHeader) = (refl, refl, refl)
+far_quiet (Making true (Raising byte)) = (refl, refl, refl)
+far_quiet (Making false (Raising byte)) = (refl, refl, refl)
+far_quiet (Making true InUse) = (refl, refl, refl)
+far_quiet (Making false InUse) = (refl, refl, refl)
+
+last_step : (result : Result (Journal × Vec Found) OpenFault) (a b : List ℕ) (far : Far) (more : List Event) → Ends result a b far more → (more ≡ []) ⊎ ((side : Side) × (more ≡ Missed side ∷ []))
+last_step (Ok opened) a b far more h = inl h.1
+last_step (Err faults.Plant) a b far more h = inr h
+last_step (Err faults.Stopped) a b far more h = inl h
+last_step (Err (faults.Bad side at)) a b far more h = inl h.1
+last_step (Err faults.Memory) a b far more h = inl h.1
+
+-- steps, and then others
+pub shows : (p : Event → Bool) (steps front back : List Event) (x y : Bool) → steps ≡ front ++ back → list_any p front ≡ x → list_any p back ≡ y → list_any p steps ≡ (x || y)
+shows p steps front back x y is first second = ap (list_any p) is ∙ list_any-append p front back ∙ (λ i. first i || second i)
+
+pub last_quiet : (more : List Event) → (more ≡ []) ⊎ ((side : Side) × (more ≡ Missed side ∷ [])) → (has_command more ≡ false) × (has_restart more ≡ false)
+last_quiet more (inl none) = (ap has_command none, ap has_restart none)
+last_quiet more (inr one) = (ap has_command one.1, ap has_restart one.1)
+
+pub opening_quiet : (trace steps : List Event) (result : Result (Journal × Vec Found) OpenFault) → Opens trace steps result → (has_command steps ≡ false) × (has_restart steps ≡ false)
+opening_quiet trace steps result o =
+    let first = far_quiet o.far in
+    let last = last_quiet o.more (last_step result _ _ o.far o.more o.ends) in (
+      shows is_command steps (far_steps o.far) o.more false false o.steps_are first.0 last.0,
+      shows is_restart steps (far_steps o.far) o.more false false o.steps_are first.1 last.1,
+    )
+
+pub opening_missed : (trace steps : List Event) (result : Result (Journal × Vec Found) OpenFault) (o : Opens trace steps result) (y : Bool) → has_miss o.more ≡ y → has_miss steps ≡ y
+opening_missed trace steps result o y last = shows is_miss steps (far_steps o.far) o.more false y o.steps_are (far_quiet o.far).2 last

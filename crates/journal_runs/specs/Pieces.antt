@@ -1,0 +1,34 @@
+-- What the steps of a command show.
+use Rattle.std.specs.Prelude.{◌≡◌, ℕ, Bool, true, false, List, [], ◌∷◌, ◌++◌}
+use Rattle.std.specs.List.{list_any}
+use Rattle.plant.specs.Events.{Event, Missed, Did, Restarted}
+
+abbrev pub is_restart : Event → Bool
+is_restart (Restarted a b) = true
+is_restart event = false
+
+abbrev pub is_miss : Event → Bool
+is_miss (Missed side) = true
+is_miss event = false
+
+abbrev pub is_command : Event → Bool
+is_command (Did op applied answer) = true
+is_command event = false
+
+-- the plant stopped, and was started again; a call of the disk failed; a device command was sent
+abbrev pub has_restart : List Event → Bool
+has_restart events = list_any is_restart events
+
+abbrev pub has_miss : List Event → Bool
+has_miss events = list_any is_miss events
+
+abbrev pub has_command : List Event → Bool
+has_command events = list_any is_command events
+
+-- the plant was started again at the end of these steps, and nowhere before
+pub record EndsRestarted (events : List Event) : Type 0 where
+  pub front : List Event
+  pub a : List ℕ
+  pub b : List ℕ
+  pub is : events ≡ front ++ Restarted a b ∷ []
+  pub once : has_restart front ≡ false
