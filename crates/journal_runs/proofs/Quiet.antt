@@ -33,7 +33,7 @@ far_quiet (Making false (Raising byte)) = (refl, refl, refl)
 far_quiet (Making true InUse) = (refl, refl, refl)
 far_quiet (Making false InUse) = (refl, refl, refl)
 
-last_step : (result : Result (Journal × Vec Found) OpenFault) (a b : List ℕ) (far : Far) (more : List Event) → Ends result a b far more → (more ≡ []) ⊎ ((side : Side) × (more ≡ Missed side ∷ []))
+pub last_step : (result : Result (Journal × Vec Found) OpenFault) (a b : List ℕ) (far : Far) (more : List Event) → Ends result a b far more → (more ≡ []) ⊎ ((side : Side) × (more ≡ Missed side ∷ []))
 last_step (Ok opened) a b far more h = inl h.1
 last_step (Err faults.Plant) a b far more h = inr h
 last_step (Err faults.Stopped) a b far more h = inl h

@@ -25,7 +25,7 @@ ghost use Rattle.journal_runs.specs.Pieces.{has_command, has_miss, has_restart};
 ghost use Rattle.journal_runs.specs.Working.{StandForLab, AllStandFor, StandForEither, Works};
 
 /// An opening sends no device command and starts no plant; no call failed after `Ok`, and one did after `Plant`. A sound trace stays sound,
-/// and after `Ok` the journal is at work.
+/// and after `Ok` the journal is at work. Whatever its answer, both sides read alike before it and after it.
 pub fn openings()
     ensures quiet { (trace steps : List Event) (result : Result (Journal × Vec Found) OpenFault) → IsOpening trace steps result
         → (has_command steps ≡ false) × (has_restart steps ≡ false) }
@@ -37,6 +37,9 @@ pub fn openings()
         → IsOpening trace steps result → IsAt (trace ++ steps) j rs → IsSound t trace → (s : LabState) × Works t (trace ++ steps) j rs s }
     ensures lab { (t : Texts) (trace steps : List Event) (result : Result (Journal × Vec Found) OpenFault) (j : Journal) (rs : List Record) (s : LabState)
         → IsOpening trace steps result → IsAt (trace ++ steps) j rs → IsSound t trace → AreCanonical t → LabOf t rs s → Works t (trace ++ steps) j rs s }
+    ensures alike { (trace steps : List Event) (result : Result (Journal × Vec Found) OpenFault) → IsOpening trace steps result
+        → ArePossible (trace ++ steps) (disk A (trace ++ steps)).reads (disk B (trace ++ steps)).reads
+        → ReadAlike (disk A (trace ++ steps)).reads (disk B (trace ++ steps)).reads (disk A trace).reads (disk B trace).reads }
 {}
 
 /// An append of a record that may follow: after `Ok` the journal is at work with the record, and else each image stands for the lab before it or

@@ -1,5 +1,6 @@
 use Rattle.std.proofs.Common.{◌++◌, ap}
 use Rattle.journal_runs.specs.Pieces.{has_miss}
+use Rattle.journal_runs.proofs.Alike.{opened_alike}
 use Rattle.journal_runs.proofs.Quiet.{opening_quiet, opening_missed}
 use Rattle.journal_runs.proofs.Sounds.{steps_sound, opened_works, works_as}
 use Rattle.journal_runs.proofs.openings.Goals as goal
@@ -21,3 +22,6 @@ returns-clause-works c = λ t trace steps result j rs is at sound. opened_works 
 
 pub returns-clause-lab : goal.returns-clause-lab
 returns-clause-lab c = λ t trace steps result j rs s is at sound can lab. works_as t (trace ++ steps) j rs s at (steps_sound t trace steps (opening_quiet trace steps result is.opens).0 is.before sound) can lab
+
+pub returns-clause-alike : goal.returns-clause-alike
+returns-clause-alike c = λ trace steps result is possible. opened_alike trace steps result is possible
