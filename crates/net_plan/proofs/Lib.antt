@@ -1,0 +1,13 @@
+pub mod ListLaws
+pub mod NameLaws
+pub mod Counts
+pub mod AddressLaws
+pub mod LimitLaws
+pub mod Apart
+pub mod Framing
+pub mod Marks
+pub mod PartNames
+pub mod Numbering
+pub mod Ready
+pub mod SoundParts
+pub mod SoundOnce

@@ -1,0 +1,5 @@
+use Rattle.net_plan.proofs.ListLaws.{Has-at}
+use Rattle.net_plan.proofs.limits.count_ends.Goals as goal
+
+pub ends-count-requires : goal.ends-count-requires
+ends-count-requires c = c.requires.expandable c.link-item.result (Has-at c.args.links.now c.loop-link.link-index c.link-item.result c.loop-link-test.true c.link-item.is)

@@ -1,0 +1,70 @@
+ghost use Rattle.std.specs.Prelude.{◌≡◌, ◌≤◌, ◌+◌, length, sum_by, IfOk};
+ghost use Rattle.virt_topo.specs.Soundness.{IsSound};
+ghost use Rattle.net_plan.specs.Expansion.{wired, expansion, Answers};
+ghost use Rattle.net_plan.specs.Parts.{AreExpandable, delays};
+
+use crate::PlanFault;
+use crate::addresses::addressed;
+use crate::limits::fits;
+use crate::nodes::{asked_nodes, push_all_delay_nodes};
+use crate::pipes::wired_pipes;
+use crate::segments::wired_segments;
+use lab_base::{Items, Memory};
+use std::alloc::Global;
+use virt_topo::{AskedLink, Class, Topo, Wiring};
+
+fn copy_class(alloc: Global, class: &Class) -> Result<Class, Memory>
+    ensures { IfOk result (λ copy. copy ≡ class.now) }
+{
+    let types = class.types.copy(alloc)?;
+    Ok(Class {
+        name: class.name,
+        weight: class.weight,
+        types,
+    })
+}
+
+fn copy_classes(alloc: Global, classes: &[Class]) -> Result<Items<Class>, Memory>
+    ensures { IfOk result (λ copy. copy ≡ classes.now) }
+{
+    let mut copy = Items::new(alloc);
+    for class in classes {
+        copy.push(copy_class(alloc, class)?)?;
+    }
+    Ok(copy)
+}
+
+/// The wiring of a network, whose links and LANs are these.
+fn wired(alloc: Global, topo: &Topo, links: &[AskedLink]) -> Result<Wiring, Memory>
+    requires links { AreExpandable links.now }
+    requires few { length topo.now.nodes + sum_by delays links.now ≤ 256 }
+    ensures { IfOk result (λ wiring. wiring ≡ wired topo.now links.now) }
+{
+    let asked = topo.nodes().len() as u16;
+    let classes = copy_classes(alloc, topo.classes())?;
+    let mut nodes = asked_nodes(alloc, topo.nodes())?;
+    push_all_delay_nodes(alloc, &mut nodes, links)?;
+    let segments = wired_segments(alloc, links, asked)?;
+    let pipes = wired_pipes(alloc, links, asked)?;
+    Ok(Wiring {
+        classes,
+        nodes,
+        segments,
+        pipes,
+    })
+}
+
+/// The wiring of a network, with the address of each end but those of delay nodes, or the first fault that it has.
+pub fn expand(alloc: Global, topo: &Topo) -> Result<Wiring, PlanFault>
+    ensures expansion { Answers result (expansion topo.now) }
+    ensures sound { IfOk result (λ wiring. IsSound wiring) }
+{
+    if !fits(topo) {
+        return Err(PlanFault::Limit);
+    }
+    if topo.nodes().is_empty() {
+        return Err(PlanFault::Empty);
+    }
+    let links = addressed(alloc, topo.links())?;
+    Ok(wired(alloc, topo, links.as_slice())?)
+}

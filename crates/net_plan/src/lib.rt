@@ -1,0 +1,19 @@
+//! The expansion of the network that an NS file asks for into a wiring.
+#![tactic(auto)]
+
+mod addresses;
+mod expansion;
+mod explicit;
+mod fault;
+mod limits;
+mod names;
+mod nodes;
+mod pipes;
+mod segments;
+mod used;
+
+pub use expansion::expand;
+pub use fault::PlanFault;
+
+#[cfg(test)]
+mod tests;

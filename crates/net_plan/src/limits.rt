@@ -1,0 +1,89 @@
+// Whether an expansion keeps the limits.
+ghost use Rattle.std.specs.Prelude.{◌≡◌, ◌≤◌, ◌&&◌, nat_le, length, sum_by};
+ghost use Rattle.virt_topo.specs.Ends.{end_nodes};
+ghost use Rattle.virt_topo.specs.Soundness.{keeps_limits};
+ghost use Rattle.net_plan.specs.Expansion.{wired};
+ghost use Rattle.net_plan.specs.Parts.{IsExpandable, AreExpandable, delays, segments_of};
+
+use crate::nodes::{delays, is_shaped};
+use virt_topo::{AskedLink, Topo};
+
+/// How many segments a link or LAN has.
+fn segments(link: &AskedLink) -> usize
+    requires { IsExpandable link.now }
+    ensures count { result ≡ length (segments_of (0, link.now)) }
+    ensures few { result ≤ 255 }
+{
+    if !is_shaped(link.rates) {
+        return 1;
+    }
+    if link.lan { link.ends.len() + 1 } else { 2 }
+}
+
+/// How many ends these segments have.
+fn ends(link: &AskedLink) -> usize
+    requires { IsExpandable link.now }
+    ensures count { result ≡ length (end_nodes (segments_of (0, link.now))) }
+    ensures few { result ≤ 762 }
+{
+    if !is_shaped(link.rates) {
+        return link.ends.len();
+    }
+    if link.lan { 3 * link.ends.len() } else { 4 }
+}
+
+fn count_delays(links: &[AskedLink]) -> usize
+    requires expandable { AreExpandable links.now }
+    requires few { length links.now ≤ 512 }
+    ensures count { result ≡ sum_by delays links.now }
+    ensures few { result ≤ 130048 }
+{
+    let mut count = 0;
+    for link in links {
+        count += delays(link);
+    }
+    count
+}
+
+fn count_segments(links: &[AskedLink]) -> usize
+    requires expandable { AreExpandable links.now }
+    requires few { length links.now ≤ 512 }
+    ensures { result ≡ sum_by (λ l. length (segments_of (0, l))) links.now }
+{
+    let mut count = 0;
+    for link in links {
+        count += segments(link);
+    }
+    count
+}
+
+fn count_ends(links: &[AskedLink]) -> usize
+    requires expandable { AreExpandable links.now }
+    requires few { length links.now ≤ 512 }
+    ensures { result ≡ sum_by (λ l. length (end_nodes (segments_of (0, l)))) links.now }
+{
+    let mut count = 0;
+    for link in links {
+        count += ends(link);
+    }
+    count
+}
+
+fn are_few(nodes: usize, segments: usize, ends: usize) -> bool
+    ensures { result ≡ (nat_le nodes 256 && (nat_le segments 512 && nat_le ends 4096)) }
+{
+    nodes <= 256 && segments <= 512 && ends <= 4_096
+}
+
+/// Whether the wiring of a network keeps the limits.
+pub(crate) fn fits(topo: &Topo) -> bool
+    ensures { result ≡ keeps_limits (wired topo.now topo.now.links) }
+{
+    let asked = topo.nodes().len();
+    let links = topo.links();
+    are_few(
+        asked + count_delays(links),
+        count_segments(links),
+        count_ends(links),
+    )
+}
