@@ -1,3 +1,4 @@
 pub mod Parts
 pub mod Addresses
 pub mod Expansion
+pub mod Samples
