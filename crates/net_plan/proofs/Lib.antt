@@ -12,3 +12,4 @@ pub mod Ready
 pub mod SoundParts
 pub mod SoundOnce
 pub mod SampleLaws
+pub mod LeastLaws

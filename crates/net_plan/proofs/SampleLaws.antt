@@ -70,16 +70,16 @@ is_network count lan rates addresses few links limits =
       links_differ = once-differ same_name name-tells (λ l. l.name) (map made (range_with_len 1 count)) (subst AllDiffer (sym (link_names lan rates addresses (range_with_len 1 count))) (numbers_differ (codes "tb.l") count links));
       classes_differ = refl;
       node_names = λ m h.
-        let r = Has-map sample_node (range_with_len 1 n) m h in
-        subst (λ (name : List ℕ). HasForm (codes "tb.n") name) (ap (λ (x : AskedNode). x.name) r.2) (form (codes "tb.n") r.0 (omega arith) (omega (arith, (Has-range 1 n r.0 r.1).1)));
+          let r = Has-map sample_node (range_with_len 1 n) m h in
+          subst (λ (name : List ℕ). HasForm (codes "tb.n") name) (ap (λ (x : AskedNode). x.name) r.2) (form (codes "tb.n") r.0 (omega arith) (omega (arith, (Has-range 1 n r.0 r.1).1)));
       link_names = λ l h.
-        let r = Has-map made (range_with_len 1 count) l h in
-        subst (λ (name : List ℕ). HasForm (codes "tb.l") name) (ap (λ (x : AskedLink). x.name) r.2) (form (codes "tb.l") r.0 (omega arith) (omega (arith, (Has-range 1 count r.0 r.1).1)));
+          let r = Has-map made (range_with_len 1 count) l h in
+          subst (λ (name : List ℕ). HasForm (codes "tb.l") name) (ap (λ (x : AskedLink). x.name) r.2) (form (codes "tb.l") r.0 (omega arith) (omega (arith, (Has-range 1 count r.0 r.1).1)));
       class_names = refl;
       types_differ = refl;
       members_differ = has-none (λ l. stands_again (λ a b. eqb a.node b.node) l.ends) (map made (range_with_len 1 count)) (λ l h.
-        let r = Has-map made (range_with_len 1 count) l h in
-        let ends : sample_ends addresses ≡ l.ends = ap (λ (x : AskedLink). x.ends) r.2 in
-        subst (λ (es : List VirtEnd). stands_again (λ a b. eqb a.node b.node) es ≡ false) ends
-        (once-differ nat_eq eqb-true (λ e. e.node) (sample_ends addresses) (subst AllDiffer (sym (end_nodes-from 0 addresses)) (range-differ 0 n))));
+          let r = Has-map made (range_with_len 1 count) l h in
+          let ends : sample_ends addresses ≡ l.ends = ap (λ (x : AskedLink). x.ends) r.2 in
+          subst (λ (es : List VirtEnd). stands_again (λ a b. eqb a.node b.node) es ≡ false) ends
+          (once-differ nat_eq eqb-true (λ e. e.node) (sample_ends addresses) (subst AllDiffer (sym (end_nodes-from 0 addresses)) (range-differ 0 n))));
     }

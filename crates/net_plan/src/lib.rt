@@ -5,6 +5,7 @@ mod addresses;
 mod expansion;
 mod explicit;
 mod fault;
+mod laws;
 mod limits;
 mod names;
 mod nodes;
@@ -14,6 +15,7 @@ mod used;
 
 pub use expansion::expand;
 pub use fault::PlanFault;
+pub use laws::addresses_are_least;
 
 #[cfg(test)]
 mod tests;

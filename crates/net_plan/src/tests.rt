@@ -261,11 +261,40 @@ const OWN: u32 = 168_230_912;
 fn a_link(rt: HostRuntime) -> Result<(), Fail> {
     let alloc = rt.alloc();
     let unshaped = b"tb.n1 default\ntb.n2 default\ntb.l1 tb.l1 100000 0@1.1.1 1@1.1.2\n";
-    assert!(rt; is_shown(alloc, 1, false, rates(100_000, 1_000, 0), &[None, None], unshaped)?);
-    assert!(rt; is_shown(alloc, 1, false, rates(100_000, 1_999, 0), &[None, None], unshaped)?);
-    let shaped = b"tb.n1 default\ntb.n2 default\ntb.l1.d delay\ntb.l1.0 tb.l1 100000 0@1.1.1 2\ntb.l1.1 tb.l1 100000 2 1@1.1.2\npipe 2 100000 2000 0 100000 2000 0\n";
-    assert!(rt; is_shown(alloc, 1, false, rates(100_000, 2_000, 0), &[None, None], shaped)?);
-    let slow = b"tb.n1 default\ntb.n2 default\ntb.l1.d delay\ntb.l1.0 tb.l1 50000 0@1.1.1 2\ntb.l1.1 tb.l1 50000 2 1@1.1.2\npipe 2 50000 0 9 50000 0 9\n";
+    assert!(rt;
+        is_shown(
+            alloc,
+            1,
+            false,
+            rates(100_000, 1_000, 0),
+            &[None, None],
+            unshaped
+        )?
+    );
+    assert!(rt;
+        is_shown(
+            alloc,
+            1,
+            false,
+            rates(100_000, 1_999, 0),
+            &[None, None],
+            unshaped
+        )?
+    );
+    let shaped =
+        b"tb.n1 default\ntb.n2 default\ntb.l1.d delay\ntb.l1.0 tb.l1 100000 0@1.1.1 2\ntb.l1.1 tb.l1 100000 2 1@1.1.2\npipe 2 100000 2000 0 100000 2000 0\n";
+    assert!(rt;
+        is_shown(
+            alloc,
+            1,
+            false,
+            rates(100_000, 2_000, 0),
+            &[None, None],
+            shaped
+        )?
+    );
+    let slow =
+        b"tb.n1 default\ntb.n2 default\ntb.l1.d delay\ntb.l1.0 tb.l1 50000 0@1.1.1 2\ntb.l1.1 tb.l1 50000 2 1@1.1.2\npipe 2 50000 0 9 50000 0 9\n";
     assert!(rt; is_shown(alloc, 1, false, rates(50_000, 0, 9), &[None, None], slow)?);
     Ok(())
 }
@@ -274,20 +303,60 @@ fn a_link(rt: HostRuntime) -> Result<(), Fail> {
 fn a_lan(rt: HostRuntime) -> Result<(), Fail> {
     let alloc = rt.alloc();
     let plain = b"tb.n1 default\ntb.n2 default\ntb.l1 tb.l1 100000 0@1.1.1 1@1.1.2\n";
-    assert!(rt; is_shown(alloc, 1, true, rates(100_000, 1_999, 0), &[None, None], plain)?);
-    let lossy = b"tb.n1 default\ntb.n2 default\ntb.l1.d1 delay\ntb.l1.d2 delay\ntb.l1.m1 tb.l1 100000 0@1.1.1 2\ntb.l1.m2 tb.l1 100000 1@1.1.2 3\ntb.l1 tb.l1 100000 2 3\npipe 2 100000 999 1 100000 1000 0\npipe 3 100000 999 1 100000 1000 0\n";
-    assert!(rt; is_shown(alloc, 1, true, rates(100_000, 1_999, 1), &[None, None], lossy)?);
-    let late = b"tb.n1 default\ntb.n2 default\ntb.n3 default\ntb.l1.d1 delay\ntb.l1.d2 delay\ntb.l1.d3 delay\ntb.l1.m1 tb.l1 100000 0@1.1.1 3\ntb.l1.m2 tb.l1 100000 1@1.1.2 4\ntb.l1.m3 tb.l1 100000 2@1.1.3 5\ntb.l1 tb.l1 100000 3 4 5\npipe 3 100000 2500 0 100000 2501 0\npipe 4 100000 2500 0 100000 2501 0\npipe 5 100000 2500 0 100000 2501 0\n";
-    assert!(rt; is_shown(alloc, 1, true, rates(100_000, 5_001, 0), &[None, None, None], late)?);
+    assert!(rt;
+        is_shown(
+            alloc,
+            1,
+            true,
+            rates(100_000, 1_999, 0),
+            &[None, None],
+            plain
+        )?
+    );
+    let lossy =
+        b"tb.n1 default\ntb.n2 default\ntb.l1.d1 delay\ntb.l1.d2 delay\ntb.l1.m1 tb.l1 100000 0@1.1.1 2\ntb.l1.m2 tb.l1 100000 1@1.1.2 3\ntb.l1 tb.l1 100000 2 3\npipe 2 100000 999 1 100000 1000 0\npipe 3 100000 999 1 100000 1000 0\n";
+    assert!(rt;
+        is_shown(
+            alloc,
+            1,
+            true,
+            rates(100_000, 1_999, 1),
+            &[None, None],
+            lossy
+        )?
+    );
+    let late =
+        b"tb.n1 default\ntb.n2 default\ntb.n3 default\ntb.l1.d1 delay\ntb.l1.d2 delay\ntb.l1.d3 delay\ntb.l1.m1 tb.l1 100000 0@1.1.1 3\ntb.l1.m2 tb.l1 100000 1@1.1.2 4\ntb.l1.m3 tb.l1 100000 2@1.1.3 5\ntb.l1 tb.l1 100000 3 4 5\npipe 3 100000 2500 0 100000 2501 0\npipe 4 100000 2500 0 100000 2501 0\npipe 5 100000 2500 0 100000 2501 0\n";
+    assert!(rt;
+        is_shown(
+            alloc,
+            1,
+            true,
+            rates(100_000, 5_001, 0),
+            &[None, None, None],
+            late
+        )?
+    );
     Ok(())
 }
 
 #[test]
 fn addresses(rt: HostRuntime) -> Result<(), Fail> {
     let alloc = rt.alloc();
-    let own = b"tb.n1 default\ntb.n2 default\ntb.n3 default\ntb.l1 tb.l1 100000 0@7.0.2 1@7.0.1 2@7.0.3\n";
-    assert!(rt; is_shown(alloc, 1, true, rates(100_000, 0, 0), &[None, Some(OWN + 1), None], own)?);
-    let two = b"tb.n1 default\ntb.n2 default\ntb.l1 tb.l1 100000 0@1.1.1 1@1.1.2\ntb.l2 tb.l2 100000 0@1.2.1 1@1.2.2\n";
+    let own =
+        b"tb.n1 default\ntb.n2 default\ntb.n3 default\ntb.l1 tb.l1 100000 0@7.0.2 1@7.0.1 2@7.0.3\n";
+    assert!(rt;
+        is_shown(
+            alloc,
+            1,
+            true,
+            rates(100_000, 0, 0),
+            &[None, Some(OWN + 1), None],
+            own
+        )?
+    );
+    let two =
+        b"tb.n1 default\ntb.n2 default\ntb.l1 tb.l1 100000 0@1.1.1 1@1.1.2\ntb.l2 tb.l2 100000 0@1.2.1 1@1.2.2\n";
     assert!(rt; is_shown(alloc, 2, false, rates(100_000, 0, 0), &[None, None], two)?);
     Ok(())
 }
@@ -297,10 +366,55 @@ fn refusals(rt: HostRuntime) -> Result<(), Fail> {
     let alloc = rt.alloc();
     let nothing = Topo::new(Items::new(alloc), Items::new(alloc), Items::new(alloc));
     assert!(rt; matches!(expand(alloc, &nothing), Err(PlanFault::Empty)));
-    assert!(rt; is_refused(alloc, 257, false, rates(1, 0, 0), &[None, None], PlanFault::Limit)?);
-    assert!(rt; is_refused(alloc, 255, false, rates(100_000, 0, 0), &[None, None], PlanFault::Subnet)?);
-    assert!(rt; is_refused(alloc, 1, false, rates(100_000, 0, 0), &[Some(OWN + 1), Some(OWN + 1)], PlanFault::Address)?);
-    assert!(rt; is_refused(alloc, 1, false, rates(100_000, 0, 0), &[Some(OWN + 1), Some(OWN + 257)], PlanFault::Address)?);
-    assert!(rt; is_refused(alloc, 2, false, rates(100_000, 0, 0), &[Some(OWN + 1), None], PlanFault::Address)?);
+    assert!(rt;
+        is_refused(
+            alloc,
+            257,
+            false,
+            rates(1, 0, 0),
+            &[None, None],
+            PlanFault::Limit
+        )?
+    );
+    assert!(rt;
+        is_refused(
+            alloc,
+            255,
+            false,
+            rates(100_000, 0, 0),
+            &[None, None],
+            PlanFault::Subnet
+        )?
+    );
+    assert!(rt;
+        is_refused(
+            alloc,
+            1,
+            false,
+            rates(100_000, 0, 0),
+            &[Some(OWN + 1), Some(OWN + 1)],
+            PlanFault::Address
+        )?
+    );
+    assert!(rt;
+        is_refused(
+            alloc,
+            1,
+            false,
+            rates(100_000, 0, 0),
+            &[Some(OWN + 1), Some(OWN + 257)],
+            PlanFault::Address
+        )?
+    );
+    assert!(rt;
+        is_refused(
+            alloc,
+            2,
+            false,
+            rates(100_000, 0, 0),
+            &[Some(OWN + 1), None],
+            PlanFault::Address
+        )?
+    );
     Ok(())
 }
