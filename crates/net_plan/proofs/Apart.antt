@@ -1,8 +1,8 @@
 -- Lists whose elements differ.
 use Rattle.std.specs.Prelude.{◌||◌, nat_eq}
-use Rattle.std.proofs.Common.{◌≡◌, ◌≢◌, ◌⊎◌, inl, inr, ℕ, zero, suc, ◌+◌, ◌<◌, ◌≤◌, Bool, true, false, eqb, List, [], ◌∷◌, ◌++◌, length, map, refl, sym, ap, subst, ◌∙◌, arith}
+use Rattle.std.proofs.Common.{◌≡◌, ◌≢◌, inl, inr, ℕ, zero, suc, ◌+◌, ◌<◌, ◌≤◌, Bool, true, false, List, [], ◌∷◌, ◌++◌, map, refl, sym, ap, subst, ◌∙◌, arith}
 use Rattle.std.specs.List.{list_any, flat_map, range_with_len}
-use Rattle.std.proofs.lemmas.Bool.{or_parts, cases_eq, eqb-true, eq-eqb}
+use Rattle.std.proofs.lemmas.Bool.{or_parts, cases_eq, eq-eqb}
 use Rattle.lab_base.specs.Lists.{Has, Apart, AllDiffer}
 use Rattle.lab_base.proofs.Members.{Has-append, Has-map, Has-mapped, Has-flat_map}
 use Rattle.virt_topo.specs.Repeats.{stands_again}

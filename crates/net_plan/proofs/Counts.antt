@@ -1,18 +1,16 @@
 -- How many parts a link or LAN has.
 use Rattle.std.specs.Prelude.{nat_le}
-use Rattle.std.proofs.Common.{◌≡◌, ℕ, zero, suc, ◌+◌, ◌*◌, ◌<◌, ◌≤◌, Bool, true, false, cond, List, [], ◌∷◌, ◌++◌, length, map, sum_by, inl, inr, refl, sym, ap, ◌∙◌, arith, length-append}
-use Rattle.std.specs.List.{flat_map, enumerate_from, range_with_len}
+use Rattle.std.proofs.Common.{◌≡◌, ℕ, ◌+◌, ◌*◌, ◌≤◌, Bool, true, false, cond, List, [], ◌∷◌, ◌++◌, length, map, refl, arith, length-append}
+use Rattle.std.specs.List.{enumerate_from, range_with_len}
 use Rattle.std.proofs.lemmas.Bool.{and_parts, leb-true}
 use Rattle.std.proofs.lemmas.List.{length-map}
 use Rattle.std.proofs.lemmas.List.FromFn.{length-enumerate_from, length-map-range_with_len}
-use Rattle.lab_base.specs.Lists.{Has}
 use Rattle.virt_topo.specs.declared.wiring.VirtEnd.{VirtEnd}
 use Rattle.virt_topo.specs.declared.wiring.Segment.{Segment}
 use Rattle.virt_topo.specs.declared.topo.AskedLink.{AskedLink}
 use Rattle.virt_topo.specs.Ends.{end_nodes}
 use Rattle.virt_topo.specs.Topos.{most_ends}
-use Rattle.net_plan.specs.Parts.{IsExpandable, AreExpandable, is_shaped, delays, delay_nodes, delay_node, member_node_name, part, delay_end, member_segment, lan_segments, link_segments, segments_of}
-use Rattle.net_plan.specs.Expansion.{numbered}
+use Rattle.net_plan.specs.Parts.{IsExpandable, is_shaped, delays, part, delay_end, member_segment, lan_segments}
 
 -- what the limits say of the ends
 pub record IsMeasured (l : AskedLink) : Type 0 where

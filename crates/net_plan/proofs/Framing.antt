@@ -1,18 +1,17 @@
 -- What links and LANs keep when their ends get addresses, and that these differ.
-use Rattle.std.specs.Prelude.{◌||◌, not, nat_le, nat_eq, option_map, option_and_then}
-use Rattle.std.proofs.Common.{◌≡◌, ◌≢◌, ◌⊎◌, inl, inr, ℕ, zero, suc, ◌+◌, ◌*◌, ◌%◌, ◌<◌, ◌≤◌, Bool, true, false, cond, eqb, Option, Some, None, List, [], ◌∷◌, ◌++◌, length, map, refl, sym, ap, subst, ◌∙◌, arith}
-use Rattle.std.specs.List.{list_any, list_all, find, flat_map, filter_map, cons_option, range_with_len}
-use Rattle.std.proofs.lemmas.Bool.{or_parts, and_parts, and_from, cases_Bool, eqb-true, eq-eqb, le-leb, not-true}
-use Rattle.std.proofs.lemmas.List.Elements.{filter_map-append}
+use Rattle.std.specs.Prelude.{◌||◌, not, option_map, option_and_then}
+use Rattle.std.proofs.Common.{◌≡◌, ◌≢◌, ◌⊎◌, inl, inr, ℕ, ◌+◌, ◌*◌, ◌%◌, Bool, true, false, cond, eqb, Option, Some, None, List, [], ◌∷◌, ◌++◌, length, map, refl, sym, ap, subst, ◌∙◌, arith}
+use Rattle.std.specs.List.{list_all, find, cons_option, range_with_len}
+use Rattle.std.proofs.lemmas.Bool.{and_parts, and_from, eq-eqb, le-leb, not-true}
 use Rattle.std.proofs.lemmas.List.{length-map}
 use Rattle.std.proofs.lemmas.Nat.{mod-mul-add}
-use Rattle.lab_base.specs.Lists.{Has, Apart, AllDiffer}
+use Rattle.lab_base.specs.Lists.{Has, AllDiffer}
 use Rattle.lab_base.specs.declared.rates.Rates.{Rates}
 use Rattle.lab_base.proofs.Members.{Has-left, Has-right, Has-append, Has-map, Apart-left, Apart-right, Apart-across}
 use Rattle.virt_topo.specs.declared.wiring.VirtEnd.{VirtEnd}
 use Rattle.virt_topo.specs.declared.topo.AskedLink.{AskedLink}
 use Rattle.virt_topo.specs.Soundness.{is_address}
-use Rattle.net_plan.specs.Addresses.{addresses_of, ends_of, subnet_of, hosts, address_for, taken, all_taken, addressed_ends, addressed_from, addressed}
+use Rattle.net_plan.specs.Addresses.{addresses_of, ends_of, subnet_of, hosts, address_for, taken, all_taken, addressed_ends, addressed_from}
 use Rattle.net_plan.proofs.AddressLaws.{with_address, with_ends, addresses_of_links}
 use Rattle.net_plan.proofs.Apart.{differ-append, Has-range}
 

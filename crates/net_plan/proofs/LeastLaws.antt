@@ -1,12 +1,12 @@
 -- Addresses are given end by end, each the least that is left.
-use Rattle.std.specs.Prelude.{◌||◌, not, nat_eq, option_map, option_and_then}
-use Rattle.std.proofs.Common.{◌≡◌, ◌≢◌, ◌⊎◌, inl, inr, ℕ, zero, suc, ◌+◌, ◌*◌, ◌<◌, ◌≤◌, Bool, true, false, cond, eqb, Option, Some, None, List, [], ◌∷◌, ◌++◌, length, map, refl, sym, ap, subst, ◌∙◌, arith, append_assoc, length-append}
-use Rattle.std.specs.List.{list_any, find, flat_map, enumerate_from, range_with_len}
-use Rattle.std.proofs.lemmas.Bool.{not-true, not-false, cases_eq, eqb-true, eq-eqb, ne_eqb}
+use Rattle.std.specs.Prelude.{◌||◌, not, option_map, option_and_then}
+use Rattle.std.proofs.Common.{◌≡◌, ◌⊎◌, inl, inr, ℕ, zero, suc, ◌+◌, ◌*◌, ◌<◌, ◌≤◌, Bool, true, false, cond, eqb, Option, Some, None, List, [], ◌∷◌, ◌++◌, length, map, refl, sym, ap, subst, ◌∙◌, arith, append_assoc}
+use Rattle.std.specs.List.{find, flat_map, enumerate_from, range_with_len}
+use Rattle.std.proofs.lemmas.Bool.{not-true, not-false, cases_eq, eq-eqb, ne_eqb}
 use Rattle.virt_topo.specs.declared.wiring.VirtEnd.{VirtEnd}
 use Rattle.virt_topo.specs.declared.topo.AskedLink.{AskedLink}
 use Rattle.net_plan.specs.Addresses.{addresses_of, ends_of, subnet_of, hosts, address_for, uses, taken, all_taken, addressed_ends, addressed_from, addressed}
-use Rattle.net_plan.specs.Least.{seats, IsLeast, IsFor, AreLeast, OneLacks}
+use Rattle.net_plan.specs.Least.{seats, IsFor, AreLeast, OneLacks}
 use Rattle.net_plan.proofs.AddressLaws.{with_address, with_ends, addresses_of_links, all_taken-append}
 use Rattle.net_plan.proofs.Framing.{and_then_some, map_some}
 

@@ -1,20 +1,15 @@
 -- What an expansion keeps of the limits.
-use Rattle.std.specs.Prelude.{nat_le, nat_lt, not, ◌&&◌, ◌||◌, codes, decimal}
-use Rattle.std.proofs.Common.{◌≡◌, ℕ, zero, suc, ◌+◌, ◌-◌, ◌*◌, ◌/◌, ◌<◌, ◌≤◌, Bool, true, false, cond, Option, Some, None, List, [], ◌∷◌, ◌++◌, length, map, sum_by, inl, inr, refl, sym, ap, ◌∙◌, arith, length-append}
+use Rattle.std.specs.Prelude.{nat_le, ◌&&◌, codes, decimal}
+use Rattle.std.proofs.Common.{◌≡◌, ℕ, ◌+◌, ◌-◌, ◌/◌, ◌≤◌, Bool, true, false, cond, List, [], ◌∷◌, ◌++◌, length, map, sum_by, inl, inr, refl, sym, ◌∙◌, arith, length-append}
 use Rattle.std.specs.List.{flat_map, list_all, enumerate_from, range_with_len}
 use Rattle.std.proofs.lemmas.Bool.{and_parts, and_from, leb-true, le-leb}
 use Rattle.std.proofs.lemmas.List.{length-map}
 use Rattle.std.proofs.lemmas.List.Concat.{length-flat_map}
 use Rattle.std.proofs.lemmas.List.Sums.{sum_by-cons}
-use Rattle.std.proofs.lemmas.List.Folds.{list_all-append, list_all-map}
-use Rattle.std.proofs.lemmas.List.FromFn.{length-enumerate_from, length-range_with_len, length-map-range_with_len}
-use Rattle.lab_base.specs.Lists.{Has}
+use Rattle.std.proofs.lemmas.List.Folds.{list_all-append}
+use Rattle.std.proofs.lemmas.List.FromFn.{length-map-range_with_len}
 use Rattle.lab_base.specs.declared.rates.Rates.{Rates}
-use Rattle.lab_base.proofs.Members.{Has-append, Has-map, Has-flat_map}
-use Rattle.virt_topo.specs.declared.wiring.VirtNode.{VirtNode}
 use Rattle.virt_topo.specs.declared.wiring.VirtEnd.{VirtEnd}
-use Rattle.virt_topo.specs.declared.wiring.Segment.{Segment}
-use Rattle.virt_topo.specs.declared.wiring.Pipe.{Pipe}
 use Rattle.virt_topo.specs.declared.topo.AskedNode.{AskedNode}
 use Rattle.virt_topo.specs.declared.topo.AskedLink.{AskedLink}
 use Rattle.virt_topo.specs.Ends.{end_nodes}
@@ -23,7 +18,7 @@ use Rattle.virt_topo.specs.Topos.{Topo, IsTopo, limits_link, most_ends}
 use Rattle.net_plan.specs.Parts.{IsExpandable, AreExpandable, is_shaped, asked_node, delays, delay_nodes, delay_node, member_node_name, part, delay_end, member_segment, lan_segments, link_segments, segments_of, link_pipe, lan_pipe, pipes_of}
 use Rattle.net_plan.specs.Expansion.{numbered, wired}
 use Rattle.net_plan.proofs.Counts.{length-lan, length-lan_ends, end_nodes-append, few_ends, measured}
-use Rattle.net_plan.proofs.ListLaws.{all-has, has-all}
+use Rattle.net_plan.proofs.ListLaws.{all-has}
 
 pub expandable : (t : Topo) → IsTopo t → AreExpandable t.links
 expandable t is l h = record { short = (is.link_names l h).short; limits = all-has limits_link t.links l is.links h }

@@ -1,18 +1,18 @@
 -- Names of parts: a link's name, a dot, and a mark without one.
-use Rattle.std.specs.Prelude.{nat_eq, nat_lt, not, codes, decimal, ◌||◌, ◌&&◌}
-use Rattle.std.proofs.Common.{◌≡◌, ◌≢◌, ◌⊎◌, inl, inr, ℕ, zero, suc, ◌+◌, ◌%◌, ◌/◌, ◌^◌, ◌<◌, ◌≤◌, Bool, true, false, cond, eqb, List, [], ◌∷◌, ◌++◌, length, map, refl, sym, ap, subst, ◌∙◌, arith, append_assoc, length-append}
-use Rattle.std.specs.List.{list_any, list_all}
+use Rattle.std.specs.Prelude.{not, decimal, ◌||◌}
+use Rattle.std.proofs.Common.{◌≡◌, ◌≢◌, ◌⊎◌, inl, inr, ℕ, zero, suc, ◌%◌, ◌/◌, ◌^◌, ◌<◌, Bool, true, false, cond, eqb, List, [], ◌∷◌, ◌++◌, refl, sym, ap, subst, ◌∙◌, arith}
+use Rattle.std.specs.List.{list_all}
 use Rattle.std.specs.Char.{is_ascii_digit}
-use Rattle.std.specs.Cmp.Lexicographic.{pointwise, same_text}
+use Rattle.std.specs.Cmp.Lexicographic.{same_text}
 use Rattle.std.specs.Fmt.{digits, digits_onto, digit_glyph}
 use Rattle.std.specs.Str.Parse.{digits_value}
-use Rattle.std.proofs.lemmas.Bool.{and_parts, and_from, eq-eqb, lt-ltb}
+use Rattle.std.proofs.lemmas.Bool.{and_parts, and_from, eq-eqb}
 use Rattle.std.proofs.lemmas.Bool.Decides.{nat_tests}
 use Rattle.std.proofs.lemmas.Fmt.{digits_value-decimal}
 use Rattle.std.proofs.lemmas.List.Folds.{list_all-append}
 use Rattle.lab_base.proofs.Digits.{own}
 use Rattle.virt_topo.specs.Repeats.{same_name}
-use Rattle.virt_topo.specs.Topos.{is_word_byte, IsWord, IsIndex, IsAskedName}
+use Rattle.virt_topo.specs.Topos.{is_word_byte, IsAskedName}
 use Rattle.virt_topo.specs.Topos.IsAskedName.{plain, indexed, numbered_one}
 use Rattle.net_plan.proofs.NameLaws.{list_all-more}
 

@@ -1,14 +1,14 @@
 -- The numbers of delay nodes, and what ends and pipes they have.
-use Rattle.std.specs.Prelude.{nat_lt, nat_eq, replicate, slice_index_or, codes, decimal, ◌||◌, ◌&&◌, not}
-use Rattle.std.proofs.Common.{◌≡◌, ◌≢◌, ◌⊎◌, inl, inr, ℕ, zero, suc, ◌+◌, ◌-◌, ◌<◌, ◌≤◌, Bool, true, false, cond, eqb, List, [], ◌∷◌, ◌++◌, length, map, get_or, sum_by, append_assoc, refl, sym, ap, subst, ◌∙◌, arith, length-append}
-use Rattle.std.specs.List.{flat_map, enumerate_from, range_with_len, list_any}
+use Rattle.std.specs.Prelude.{replicate, slice_index_or}
+use Rattle.std.proofs.Common.{◌≡◌, ◌≢◌, ◌⊎◌, inl, inr, ℕ, suc, ◌+◌, ◌-◌, ◌<◌, ◌≤◌, Bool, true, false, cond, eqb, List, [], ◌∷◌, ◌++◌, length, map, get_or, sum_by, append_assoc, refl, sym, ap, subst, ◌∙◌, arith}
+use Rattle.std.specs.List.{flat_map, enumerate_from, range_with_len}
 use Rattle.std.proofs.lemmas.Bool.{eqb-true, eq-eqb, ne_eqb, cases_eq}
-use Rattle.std.proofs.lemmas.List.{map-append, length-map}
+use Rattle.std.proofs.lemmas.List.{map-append}
 use Rattle.std.proofs.lemmas.List.Sums.{sum_by-cons}
 use Rattle.std.proofs.lemmas.Grind.{flat_map-append}
-use Rattle.lab_base.specs.Lists.{Has, AllDiffer}
+use Rattle.lab_base.specs.Lists.{Has}
 use Rattle.lab_base.specs.declared.rates.Rates.{Rates}
-use Rattle.lab_base.proofs.Members.{Has-map, Has-mapped, Has-append, Has-left, Has-right, Has-flat_map, Has-flat_mapped}
+use Rattle.lab_base.proofs.Members.{Has-map, Has-mapped, Has-append, Has-left, Has-right, Has-flat_map}
 use Rattle.virt_topo.specs.declared.wiring.VirtEnd.{VirtEnd}
 use Rattle.virt_topo.specs.declared.wiring.Segment.{Segment}
 use Rattle.virt_topo.specs.declared.wiring.Pipe.{Pipe}
@@ -16,8 +16,7 @@ use Rattle.virt_topo.specs.declared.topo.AskedLink.{AskedLink}
 use Rattle.virt_topo.specs.Ends.{end_nodes, end_owners, end_number}
 use Rattle.net_plan.specs.Parts.{is_shaped, delays, part, delay_end, member_segment, lan_segments, link_segments, segments_of, link_pipe, lan_pipe, pipes_of}
 use Rattle.net_plan.specs.Expansion.{numbered}
-use Rattle.net_plan.proofs.Apart.{Has-range, range-Has, range-append, range-differ}
-use Rattle.net_plan.proofs.PartNames.{map-flat_map}
+use Rattle.net_plan.proofs.Apart.{Has-range, range-Has, range-append}
 
 -- NUMBERS
 

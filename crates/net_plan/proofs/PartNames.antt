@@ -1,13 +1,11 @@
 -- The names of the parts of links and LANs differ.
-use Rattle.std.specs.Prelude.{nat_le, codes, decimal}
-use Rattle.std.proofs.Common.{◌≡◌, ◌≢◌, ◌⊎◌, inl, inr, ℕ, zero, suc, ◌+◌, ◌<◌, ◌≤◌, Bool, true, false, cond, List, [], ◌∷◌, ◌++◌, length, map, get_or, refl, sym, ap, subst, ◌∙◌, arith, length-append}
+use Rattle.std.specs.Prelude.{codes, decimal}
+use Rattle.std.proofs.Common.{◌≡◌, ◌≢◌, ◌⊎◌, inl, inr, ℕ, ◌+◌, ◌≤◌, Bool, true, false, cond, List, [], ◌∷◌, ◌++◌, length, map, get_or, refl, sym, ap, subst, ◌∙◌, arith, length-append}
 use Rattle.std.specs.List.{flat_map, enumerate_from, range_with_len}
 use Rattle.std.proofs.lemmas.List.{append_cancel_left, map-append}
 use Rattle.lab_base.specs.Lists.{Has, AllDiffer}
-use Rattle.lab_base.proofs.Members.{Has-map, Has-append, Has-flat_map, Has-mapped}
-use Rattle.virt_topo.specs.declared.wiring.VirtNode.{VirtNode}
+use Rattle.lab_base.proofs.Members.{Has-map, Has-append, Has-flat_map}
 use Rattle.virt_topo.specs.declared.wiring.VirtEnd.{VirtEnd}
-use Rattle.virt_topo.specs.declared.wiring.Segment.{Segment}
 use Rattle.virt_topo.specs.declared.topo.AskedNode.{AskedNode}
 use Rattle.virt_topo.specs.declared.topo.AskedLink.{AskedLink}
 use Rattle.virt_topo.specs.Topos.{Topo, IsAskedName}

@@ -1,20 +1,19 @@
 -- What is known of the links and LANs that an expansion is made of.
-use Rattle.std.specs.Prelude.{nat_le, nat_eq, codes, ◌&&◌, ◌||◌, not}
-use Rattle.std.proofs.Common.{◌≡◌, ◌≢◌, ◌⊎◌, inl, inr, ℕ, zero, suc, ◌+◌, ◌*◌, ◌<◌, ◌≤◌, Bool, true, false, cond, eqb, Option, Some, None, List, [], ◌∷◌, ◌++◌, length, map, sum_by, refl, sym, ap, subst, ◌∙◌, arith}
-use Rattle.std.specs.List.{list_all, list_any, flat_map, enumerate_from, range_with_len}
-use Rattle.std.proofs.lemmas.Bool.{and_parts, and_from, or_parts, leb-true, le-leb, ltb-true}
+use Rattle.std.specs.Prelude.{nat_le, nat_eq, codes, ◌&&◌}
+use Rattle.std.proofs.Common.{◌≡◌, inl, inr, ℕ, ◌+◌, ◌*◌, ◌<◌, ◌≤◌, Bool, true, false, cond, eqb, Some, List, [], ◌∷◌, ◌++◌, length, map, sum_by, refl, sym, ap, subst, ◌∙◌, arith}
+use Rattle.std.specs.List.{list_any}
+use Rattle.std.proofs.lemmas.Bool.{and_parts, and_from, or_parts, ltb-true}
 use Rattle.std.proofs.lemmas.List.{length-map}
 use Rattle.std.proofs.lemmas.List.Sums.{sum_by-cons}
 use Rattle.lab_base.specs.Lists.{Has, AllDiffer}
 use Rattle.lab_base.specs.declared.rates.Rates.{Rates}
 use Rattle.lab_base.proofs.Members.{Has-map, Has-mapped}
 use Rattle.virt_topo.specs.declared.wiring.VirtEnd.{VirtEnd}
-use Rattle.virt_topo.specs.declared.topo.AskedNode.{AskedNode}
 use Rattle.virt_topo.specs.declared.topo.AskedLink.{AskedLink}
 use Rattle.virt_topo.specs.Ends.{end_nodes}
 use Rattle.virt_topo.specs.Repeats.{same_name, stands_again}
-use Rattle.virt_topo.specs.Soundness.{is_between, is_address, are_rates, keeps_limits}
-use Rattle.virt_topo.specs.Topos.{Topo, IsTopo, IsAskedName, limits_link, most_ends}
+use Rattle.virt_topo.specs.Soundness.{is_between, are_rates, keeps_limits}
+use Rattle.virt_topo.specs.Topos.{Topo, IsTopo, IsAskedName, most_ends}
 use Rattle.net_plan.specs.Parts.{IsExpandable, AreExpandable, is_shaped, delays, part, lan_segments, link_segments, segments_of}
 use Rattle.net_plan.specs.Addresses.{addresses_of, ends_of, all_taken, has_bad_address, has_two_subnets, addressed}
 use Rattle.net_plan.specs.Expansion.{wired}
@@ -22,7 +21,7 @@ use Rattle.net_plan.proofs.Apart.{differ-once, eqb-self}
 use Rattle.net_plan.proofs.Counts.{two_ends, few_ends, length-lan, length-lan_ends}
 use Rattle.net_plan.proofs.Framing.{AreGiven, IsFramed, size_of, given_links, all_taken-has}
 use Rattle.net_plan.proofs.LimitLaws.{expandable, few_parts, keeps-few}
-use Rattle.net_plan.proofs.ListLaws.{all-has, has-all, none-has}
+use Rattle.net_plan.proofs.ListLaws.{all-has, none-has}
 use Rattle.net_plan.proofs.Marks.{name-self}
 use Rattle.net_plan.proofs.PartNames.{AreNamed}
 

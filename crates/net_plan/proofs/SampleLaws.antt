@@ -1,10 +1,10 @@
 -- The networks of the tests are networks.
 use Rattle.std.specs.Prelude.{nat_lt, nat_eq, codes, decimal}
-use Rattle.std.proofs.Common.{◌≡◌, ◌≢◌, inl, inr, ℕ, zero, suc, ◌+◌, ◌^◌, ◌<◌, ◌≤◌, Bool, true, false, eqb, Option, List, [], ◌∷◌, ◌++◌, length, map, refl, sym, ap, subst, ◌∙◌, arith, length-append}
-use Rattle.std.specs.List.{list_all, list_any, enumerate_from, range_with_len}
+use Rattle.std.proofs.Common.{◌≡◌, ℕ, ◌+◌, ◌^◌, ◌<◌, ◌≤◌, Bool, true, false, eqb, Option, List, [], ◌∷◌, ◌++◌, length, map, refl, sym, ap, subst, arith, length-append}
+use Rattle.std.specs.List.{list_all, enumerate_from, range_with_len}
 use Rattle.std.proofs.lemmas.Bool.{and_from, eqb-true, lt-ltb}
 use Rattle.std.proofs.lemmas.Fmt.{length-decimal-le}
-use Rattle.std.proofs.lemmas.List.{append_cancel_left, length-map}
+use Rattle.std.proofs.lemmas.List.{append_cancel_left}
 use Rattle.std.proofs.lemmas.List.FromFn.{length-map-range_with_len}
 use Rattle.lab_base.specs.Lists.{Has, AllDiffer}
 use Rattle.lab_base.specs.declared.rates.Rates.{Rates}
@@ -13,11 +13,11 @@ use Rattle.virt_topo.specs.declared.wiring.VirtEnd.{VirtEnd}
 use Rattle.virt_topo.specs.declared.topo.AskedNode.{AskedNode}
 use Rattle.virt_topo.specs.declared.topo.AskedLink.{AskedLink}
 use Rattle.virt_topo.specs.Repeats.{same_name, stands_again}
-use Rattle.virt_topo.specs.Topos.{Topo, IsTopo, HasForm, IsAskedName, limits_link, knows_asked}
+use Rattle.virt_topo.specs.Topos.{IsTopo, HasForm, limits_link, knows_asked}
 use Rattle.virt_topo.specs.Topos.IsAskedName.{numbered_one}
 use Rattle.net_plan.specs.Samples.{sample, sample_node, sample_link, sample_ends}
 use Rattle.net_plan.proofs.Apart.{differ-map, range-differ, once-differ, Has-range}
-use Rattle.net_plan.proofs.ListLaws.{has-all, has-none}
+use Rattle.net_plan.proofs.ListLaws.{has-none}
 use Rattle.net_plan.proofs.Marks.{name-tells, decimal_same}
 
 numbers_differ : (mark : List ℕ) (n : ℕ) → n ≤ 512 → AllDiffer (map (λ k. mark ++ decimal k) (range_with_len 1 n))

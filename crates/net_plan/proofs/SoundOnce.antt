@@ -1,7 +1,7 @@
 -- Nothing in an expansion is given twice, and so it is sound.
-use Rattle.std.specs.Prelude.{nat_eq, codes, ◌&&◌, ◌||◌, not, ◌==◌}
-use Rattle.std.proofs.Common.{◌≡◌, ◌≢◌, ◌⊎◌, inl, inr, ℕ, zero, suc, ◌+◌, Bool, true, false, cond, eqb, Option, Some, None, List, [], ◌∷◌, ◌++◌, length, map, refl, sym, ap, subst, ◌∙◌, arith}
-use Rattle.std.specs.List.{list_any, flat_map, filter_map, cons_option, enumerate_from, range_with_len}
+use Rattle.std.specs.Prelude.{codes, ◌||◌, not, ◌==◌}
+use Rattle.std.proofs.Common.{◌≡◌, ◌≢◌, inl, inr, ℕ, ◌+◌, Bool, true, false, cond, eqb, Option, Some, None, List, [], ◌∷◌, ◌++◌, length, map, refl, sym, ap, subst, ◌∙◌, arith}
+use Rattle.std.specs.List.{list_any, flat_map, cons_option, enumerate_from, range_with_len}
 use Rattle.std.proofs.lemmas.Bool.{or_parts, eqb-false, ne_eqb}
 use Rattle.std.proofs.lemmas.Grind.{flat_map-append}
 use Rattle.std.proofs.lemmas.List.Elements.{filter_map-append}
@@ -10,15 +10,12 @@ use Rattle.virt_topo.specs.declared.fault.WiringFault.TheVariants as faults
 use Rattle.virt_topo.specs.declared.wiring.Asks.{Asks}
 use Rattle.virt_topo.specs.declared.wiring.Asks.TheVariants.{Plain, Class as InClass}
 use Rattle.virt_topo.specs.declared.wiring.Class.{Class}
-use Rattle.virt_topo.specs.declared.wiring.VirtNode.{VirtNode}
 use Rattle.virt_topo.specs.declared.wiring.VirtEnd.{VirtEnd}
-use Rattle.virt_topo.specs.declared.wiring.Segment.{Segment}
-use Rattle.virt_topo.specs.declared.topo.AskedNode.{AskedNode}
 use Rattle.virt_topo.specs.declared.topo.AskedLink.{AskedLink}
 use Rattle.virt_topo.specs.Repeats.{same_name, stands_again}
 use Rattle.virt_topo.specs.Soundness.{same_some, same_address, all_ends, asks_class_name, has_twice, IsSound}
 use Rattle.virt_topo.specs.Topos.{Topo, IsTopo, asks_type, is_type_name}
-use Rattle.net_plan.specs.Parts.{IsExpandable, AreExpandable, is_shaped, delays, asked_node, delay_node, delay_nodes, part, delay_end, member_segment, lan_segments, link_segments, segments_of}
+use Rattle.net_plan.specs.Parts.{AreExpandable, is_shaped, delays, part, delay_end, member_segment, lan_segments, link_segments, segments_of}
 use Rattle.net_plan.specs.Addresses.{addresses_of, ends_of}
 use Rattle.net_plan.specs.Expansion.{numbered, wired}
 use Rattle.net_plan.proofs.Apart.{once-differ}

@@ -1,16 +1,12 @@
 -- The parts of an expansion keep what a sound wiring keeps.
-use Rattle.std.specs.Prelude.{nat_le, nat_lt, nat_eq, codes, ◌&&◌, ◌||◌, not, ◌==◌, slice_index_or}
-use Rattle.std.proofs.Common.{◌≡◌, ◌≢◌, ◌⊎◌, inl, inr, ℕ, zero, suc, ◌+◌, ◌<◌, ◌≤◌, Bool, true, false, cond, eqb, Option, Some, None, List, [], ◌∷◌, ◌++◌, length, map, sum_by, refl, sym, ap, subst, ◌∙◌, arith}
-use Rattle.std.specs.List.{list_all, list_any, flat_map, filter_map, cons_option, enumerate_from, range_with_len}
-use Rattle.std.proofs.lemmas.Bool.{and_parts, and_from, or_parts, leb-true, le-leb, ltb-true, lt-ltb, eqb-true, eq-eqb, ne_eqb}
-use Rattle.std.proofs.lemmas.Grind.{flat_map-append}
-use Rattle.std.proofs.lemmas.List.{length-map}
-use Rattle.std.proofs.lemmas.List.Elements.{filter_map-append}
+use Rattle.std.specs.Prelude.{nat_eq, codes, ◌&&◌, ◌||◌, not, ◌==◌, slice_index_or}
+use Rattle.std.proofs.Common.{◌≡◌, inl, inr, ℕ, ◌+◌, ◌<◌, ◌≤◌, Bool, true, false, cond, eqb, List, [], ◌∷◌, ◌++◌, length, map, sum_by, refl, sym, ap, subst, ◌∙◌, arith}
+use Rattle.std.specs.List.{list_all, list_any, flat_map, enumerate_from, range_with_len}
+use Rattle.std.proofs.lemmas.Bool.{and_from, lt-ltb, eqb-true, ne_eqb}
 use Rattle.lab_base.specs.Lists.{Has, AllDiffer}
 use Rattle.lab_base.proofs.Members.{Has-map, Has-mapped, Has-append, Has-flat_map}
 use Rattle.virt_topo.specs.declared.wiring.Asks.{Asks}
 use Rattle.virt_topo.specs.declared.wiring.Asks.TheVariants.{Plain, Class as InClass}
-use Rattle.virt_topo.specs.declared.wiring.Class.{Class}
 use Rattle.virt_topo.specs.declared.wiring.VirtNode.{VirtNode}
 use Rattle.virt_topo.specs.declared.wiring.VirtEnd.{VirtEnd}
 use Rattle.virt_topo.specs.declared.wiring.Segment.{Segment}
@@ -19,19 +15,17 @@ use Rattle.virt_topo.specs.declared.topo.AskedNode.{AskedNode}
 use Rattle.virt_topo.specs.declared.topo.AskedLink.{AskedLink}
 use Rattle.virt_topo.specs.Ends.{end_nodes, end_owners, end_number, pipe_from, pipe_to}
 use Rattle.virt_topo.specs.Repeats.{same_name, stands_again}
-use Rattle.virt_topo.specs.Soundness.{knows_class, knows_node, is_end, knows_pipe, knows_all, same_some, same_address, all_ends, asks_class_name, has_twice, has_same, owner_at, is_bad_pipe, shares_end, has_bad_pipe}
-use Rattle.virt_topo.specs.Topos.{Topo, IsTopo, knows_asked, asks_type, is_type_name}
+use Rattle.virt_topo.specs.Soundness.{knows_class, knows_node, is_end, knows_pipe, knows_all, has_same, owner_at, is_bad_pipe, shares_end, has_bad_pipe}
+use Rattle.virt_topo.specs.Topos.{Topo, knows_asked}
 use Rattle.net_plan.specs.Parts.{is_shaped, asked_node, delay_node, delay_nodes, member_node_name, delays, part, delay_end, member_segment, lan_segments, link_segments, segments_of, pipes_of}
-use Rattle.net_plan.specs.Addresses.{addresses_of, ends_of}
 use Rattle.net_plan.specs.Expansion.{numbered, wired}
 use Rattle.net_plan.proofs.Apart.{once-differ, range-differ}
-use Rattle.net_plan.proofs.AddressLaws.{addresses_of_links}
 use Rattle.net_plan.proofs.Counts.{two_ends}
 use Rattle.net_plan.proofs.LimitLaws.{length-nodes}
-use Rattle.net_plan.proofs.ListLaws.{all-has, has-all, none-has, has-none}
-use Rattle.net_plan.proofs.Marks.{name-self, name-tells}
+use Rattle.net_plan.proofs.ListLaws.{all-has, has-all, has-none}
+use Rattle.net_plan.proofs.Marks.{name-self}
 use Rattle.net_plan.proofs.Numbering.{IsDelayOf, within, one_link, all_pipes, pipe_ends, pipe_delay, has_owner, part_end, all_twice, both_ends, owner_is}
-use Rattle.net_plan.proofs.PartNames.{numbered-link, all_nodes_differ, all_segments_differ}
+use Rattle.net_plan.proofs.PartNames.{numbered-link}
 use Rattle.net_plan.proofs.Ready.{IsReady}
 
 -- WHICH VIRTUAL NODES THERE ARE

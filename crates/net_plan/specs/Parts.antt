@@ -1,9 +1,8 @@
 -- What one link or LAN becomes: delay nodes, segments and pipes.
-use Rattle.std.specs.Prelude.{◌≡◌, ℕ, ◌+◌, ◌-◌, ◌/◌, ◌≤◌, Bool, true, false, not, ◌||◌, ◌==◌, nat_lt, nat_le, List, [], ◌∷◌, ◌++◌, length, map, codes, decimal, None, if◌then◌else◌}
+use Rattle.std.specs.Prelude.{◌≡◌, ℕ, ◌+◌, ◌-◌, ◌/◌, ◌≤◌, Bool, true, not, ◌||◌, ◌==◌, nat_lt, nat_le, List, [], ◌∷◌, ◌++◌, length, map, codes, decimal, None, if◌then◌else◌}
 use Rattle.std.specs.List.{enumerate_from, range_with_len}
 use Rattle.lab_base.specs.Lists.{Has}
 use Rattle.lab_base.specs.declared.rates.Rates.{Rates}
-use Rattle.virt_topo.specs.declared.wiring.Asks.{Asks}
 use Rattle.virt_topo.specs.declared.wiring.Asks.TheVariants.{Plain}
 use Rattle.virt_topo.specs.declared.wiring.VirtNode.{VirtNode}
 use Rattle.virt_topo.specs.declared.wiring.VirtEnd.{VirtEnd}

@@ -1,4 +1,4 @@
-use Rattle.std.proofs.Common.{◌≡◌, ℕ, Bool, List, Some, None, get_or}
+use Rattle.std.proofs.Common.{None, get_or}
 use Rattle.virt_topo.specs.declared.wiring.VirtEnd.{VirtEnd}
 use Rattle.net_plan.specs.Addresses.{uses}
 use Rattle.net_plan.proofs.AddressLaws.{given_more}

@@ -1,4 +1,4 @@
-use Rattle.std.proofs.Common.{◌≡◌, ℕ, ◌+◌, ◌-◌, ◌*◌, map, not}
+use Rattle.std.proofs.Common.{◌≡◌, ◌+◌, ◌-◌, ◌*◌, map, not}
 use Rattle.std.specs.List.{find, range_with_len}
 use Rattle.net_plan.specs.Addresses.{hosts, uses}
 use Rattle.net_plan.proofs.addresses.free_address.Given as goal

@@ -1,9 +1,8 @@
-use Rattle.std.proofs.Common.{◌≡◌, ℕ, ◌+◌, ◌++◌, Bool, true, false, not, List, [], ◌∷◌, drop, take, get_or, refl, sym, ap, ◌∙◌}
-use Rattle.std.specs.Prelude.{◌||◌, nat_eq}
+use Rattle.std.proofs.Common.{◌≡◌, ℕ, ◌+◌, Bool, true, false, not, List, drop, take, sym, ap, ◌∙◌}
+use Rattle.std.specs.Prelude.{◌||◌}
 use Rattle.std.specs.Bool.{OnTrue}
 use Rattle.std.proofs.lemmas.Bool.{not-true, not-false}
 use Rattle.virt_topo.specs.declared.wiring.VirtEnd.{VirtEnd}
-use Rattle.virt_topo.specs.Repeats.{stands_again}
 use Rattle.net_plan.specs.Addresses.{addresses_of, ends_of, uses, all_taken}
 use Rattle.net_plan.proofs.AddressLaws.{repeats, repeats-none, links_used, links_to, all_taken-append}
 use Rattle.net_plan.proofs.explicit.use_all_explicit.Goals as goal

@@ -1,5 +1,4 @@
 use Rattle.std.proofs.Common.{◌≡◌, take, drop}
-use Rattle.std.specs.Prelude.{◌||◌, nat_eq}
 use Rattle.net_plan.specs.Addresses.{addresses_of, uses, all_taken}
 use Rattle.net_plan.proofs.AddressLaws.{repeats}
 use Rattle.net_plan.proofs.explicit.use_explicit.Given as goal

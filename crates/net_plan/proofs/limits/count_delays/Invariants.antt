@@ -1,4 +1,4 @@
-use Rattle.std.proofs.Common.{◌≡◌, ◌≤◌, ◌*◌, length, take, sum_by}
+use Rattle.std.proofs.Common.{◌≡◌, ◌≤◌, ◌*◌, take, sum_by}
 use Rattle.net_plan.specs.Parts.{delays}
 use Rattle.net_plan.proofs.limits.count_delays.Given as goal
 

@@ -1,4 +1,4 @@
-use Rattle.std.proofs.Common.{◌≡◌, ◌∙◌, sym, ap, arith, true}
+use Rattle.std.proofs.Common.{arith}
 use Rattle.net_plan.proofs.Counts.{length-lan_ends}
 use Rattle.net_plan.proofs.limits.ends.Goals as goal
 

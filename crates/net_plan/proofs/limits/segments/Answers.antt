@@ -1,4 +1,4 @@
-use Rattle.std.proofs.Common.{◌≡◌, ◌∙◌, sym, ap, arith, true}
+use Rattle.std.proofs.Common.{arith}
 use Rattle.net_plan.proofs.Counts.{length-lan}
 use Rattle.net_plan.proofs.limits.segments.Goals as goal
 

@@ -1,4 +1,4 @@
-use Rattle.std.proofs.Common.{◌≡◌, ◌++◌, ◌≤◌, length, true, subst, sym, ap, ◌∙◌, arith, List, ℕ, append_assoc}
+use Rattle.std.proofs.Common.{◌≡◌, ◌++◌, true, subst, sym, ap, ◌∙◌, arith, List, ℕ, append_assoc}
 use Rattle.std.specs.Prelude.{decimal}
 use Rattle.lab_base.specs.Names.{is_name}
 use Rattle.net_plan.proofs.NameLaws.{name_with, numbered_mark}

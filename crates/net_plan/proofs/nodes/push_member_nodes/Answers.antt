@@ -1,5 +1,4 @@
-use Rattle.std.proofs.Common.{◌≡◌, ◌++◌, arith, ap, ◌∙◌}
-use Rattle.std.specs.Prelude.{codes, decimal}
+use Rattle.std.proofs.Common.{arith, ap, ◌∙◌}
 use Rattle.net_plan.specs.Parts.{delay_node, member_node_name}
 use Rattle.net_plan.proofs.ListLaws.{push_range}
 use Rattle.net_plan.proofs.nodes.push_member_nodes.Goals as goal

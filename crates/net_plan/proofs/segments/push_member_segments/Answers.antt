@@ -1,9 +1,8 @@
-use Rattle.std.proofs.Common.{◌≡◌, ◌∙◌, ◌++◌, List, length, map, take, ap, arith, None}
+use Rattle.std.proofs.Common.{◌∙◌, ◌++◌, List, map, ap, arith, None}
 use Rattle.std.specs.List.{enumerate_from}
 use Rattle.std.proofs.lemmas.List.{take_all}
 use Rattle.std.proofs.lemmas.List.FromFn.{length-enumerate_from}
 use Rattle.virt_topo.specs.declared.wiring.VirtEnd.{VirtEnd}
-use Rattle.virt_topo.specs.declared.wiring.Segment.{Segment}
 use Rattle.net_plan.specs.Parts.{member_segment}
 use Rattle.net_plan.proofs.ListLaws.{push_numbered}
 use Rattle.net_plan.proofs.segments.push_member_segments.Goals as goal
