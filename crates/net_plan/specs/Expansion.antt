@@ -4,8 +4,8 @@ use Rattle.std.specs.List.{flat_map}
 use Rattle.std.specs.Option.{ok_or}
 use Rattle.virt_topo.specs.declared.wiring.Wiring.{Wiring}
 use Rattle.virt_topo.specs.declared.topo.AskedLink.{AskedLink}
-use Rattle.virt_topo.specs.Topos.{Topo}
-use Rattle.virt_topo.specs.Soundness.{keeps_limits}
+use Rattle.virt_topo.specs.Topos.{Topo, IsTopo}
+use Rattle.virt_topo.specs.Soundness.{keeps_limits, IsSound}
 use Rattle.net_plan.specs.declared.fault.PlanFault.{PlanFault}
 use Rattle.net_plan.specs.declared.fault.PlanFault.TheVariants as faults
 use Rattle.net_plan.specs.Parts.{asked_node, delay_nodes, delays, segments_of, pipes_of}
@@ -26,7 +26,7 @@ wired t links = record {
 }
 
 -- with the address of each end; limits come first, and they hang on no address
-abbrev pub expansion : Topo → Result Wiring PlanFault
+unfoldable pub expansion : Topo → Result Wiring PlanFault
 expansion t =
     if not (keeps_limits (wired t t.links)) then Err faults.Limit
     else if length t.nodes == 0 then Err faults.Empty
@@ -38,3 +38,7 @@ abbrev pub Answers : {X : Type 0} → Result X PlanFault → Result X PlanFault 
 Answers (Ok x) wanted = wanted ≡ Ok x
 Answers (Err faults.Memory) wanted = Unit {0}
 Answers (Err fault) wanted = wanted ≡ Err fault
+
+-- what a network is expanded to is sound
+abbrev pub ExpansionsAreSound : Type 0
+ExpansionsAreSound = (t : Topo) (w : Wiring) → IsTopo t → expansion t ≡ Ok w → IsSound w

@@ -55,6 +55,7 @@ fn wired(alloc: Global, topo: &Topo, links: &[AskedLink]) -> Result<Wiring, Memo
 }
 
 /// The wiring of a network, with the address of each end but those of delay nodes, or the first fault that it has.
+#[tactic(auto, unfolding(crate::specs::Expansion::expansion))]
 pub fn expand(alloc: Global, topo: &Topo) -> Result<Wiring, PlanFault>
     ensures expansion { Answers result (expansion topo.now) }
     ensures sound { IfOk result (λ wiring. IsSound wiring) }

@@ -1,3 +1,4 @@
+ghost use Rattle.net_plan.specs.Expansion.{ExpansionsAreSound};
 ghost use Rattle.net_plan.specs.Least.{GivesLeast, LacksOne};
 
 /// The address of each end is its own, or the least of its subnet that is neither explicit nor that of an earlier
@@ -5,4 +6,9 @@ ghost use Rattle.net_plan.specs.Least.{GivesLeast, LacksOne};
 pub fn addresses_are_least()
     ensures given { GivesLeast }
     ensures none { LacksOne }
+{}
+
+/// What a network is expanded to is a sound wiring.
+pub fn expansions_are_sound()
+    ensures { ExpansionsAreSound }
 {}

@@ -15,7 +15,7 @@ mod used;
 
 pub use expansion::expand;
 pub use fault::PlanFault;
-pub use laws::addresses_are_least;
+pub use laws::{addresses_are_least, expansions_are_sound};
 
 #[cfg(test)]
 mod tests;
