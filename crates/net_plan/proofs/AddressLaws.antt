@@ -9,7 +9,7 @@ use Rattle.virt_topo.specs.declared.wiring.VirtEnd.{VirtEnd}
 use Rattle.virt_topo.specs.declared.topo.AskedLink.{AskedLink}
 use Rattle.virt_topo.specs.Repeats.{stands_again}
 use Rattle.virt_topo.proofs.EndLaws.{item_at}
-use Rattle.net_plan.specs.Addresses.{addresses_of, ends_of, subnet_of, address_for, taken, all_taken, addressed_ends, addressed_from}
+use Rattle.net_plan.specs.Addresses.{addresses_of, ends_of, subnet_of, address_for, taken, all_taken, addressed_ends, addressed_from, repeats}
 
 -- what is put before a list that there may be
 pub before_twice : {X : Type 0} (xs : List X) (x : X) (o : Option (List X)) → option_map (λ rest. xs ++ rest) (option_map (λ rest. x ∷ rest) o) ≡ option_map (λ rest. (xs ++ x ∷ []) ++ rest) o
@@ -77,9 +77,6 @@ links_stop used k links i l lt is given =
     ap (addressed_from used k) (item_at links i l lt is) ∙ ap (option_and_then next) given
 
 -- ADDRESSES THAT ARE USED ALREADY OR STAND AGAIN
-
-abbrev pub repeats : (ℕ → Bool) → List ℕ → Bool
-repeats used xs = list_any used xs || stands_again nat_eq xs
 
 list_any-or : (p q : ℕ → Bool) (xs : List ℕ) → list_any (λ x. p x || q x) xs ≡ (list_any p xs || list_any q xs)
 list_any-or p q [] = refl

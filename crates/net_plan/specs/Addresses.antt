@@ -53,6 +53,10 @@ address_for used None None = None
 abbrev pub uses : List ℕ → (ℕ → Bool)
 uses addresses = λ a. list_any (nat_eq a) addresses
 
+-- one of these is used already, or stands again
+abbrev pub repeats : (ℕ → Bool) → List ℕ → Bool
+repeats used addresses = list_any used addresses || stands_again nat_eq addresses
+
 -- one address more is used
 abbrev pub taken : (ℕ → Bool) → ℕ → (ℕ → Bool)
 taken used a = λ b. (a == b) || used b

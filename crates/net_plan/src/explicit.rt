@@ -1,9 +1,9 @@
 // The addresses that ends ask for.
-ghost use Rattle.std.specs.Prelude.{◌≡◌, false, not, ◌||◌, nat_eq, IfOk, []};
+ghost use Rattle.std.specs.Prelude.{◌≡◌, false, not, nat_eq, IfOk, []};
 ghost use Rattle.std.specs.Bool.{OnTrue};
 ghost use Rattle.std.specs.List.{list_any};
 ghost use Rattle.virt_topo.specs.Repeats.{stands_again};
-ghost use Rattle.net_plan.specs.Addresses.{addresses_of, ends_of, are_in_two_subnets, has_two_subnets, uses, all_taken};
+ghost use Rattle.net_plan.specs.Addresses.{addresses_of, ends_of, are_in_two_subnets, has_two_subnets, uses, repeats, all_taken};
 
 use crate::used::Used;
 use lab_base::Memory;
@@ -42,7 +42,7 @@ pub(crate) fn have_two_subnets(links: &[AskedLink]) -> bool
 
 /// Uses the addresses that ends ask for; false where one of them is used already or given twice.
 fn use_explicit(used: &mut Used, ends: &[VirtEnd]) -> Result<bool, Memory>
-    ensures free { IfOk result (λ free. free ≡ not (list_any (uses used.old) (addresses_of ends.now) || stands_again nat_eq (addresses_of ends.now))) }
+    ensures free { IfOk result (λ free. free ≡ not (repeats (uses used.old) (addresses_of ends.now))) }
     ensures used { IfOk result (λ free. OnTrue free (uses used.new ≡ all_taken (uses used.old) (addresses_of ends.now))) }
 {
     for end in ends {

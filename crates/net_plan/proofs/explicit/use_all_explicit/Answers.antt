@@ -3,8 +3,8 @@ use Rattle.std.specs.Prelude.{◌||◌}
 use Rattle.std.specs.Bool.{OnTrue}
 use Rattle.std.proofs.lemmas.Bool.{not-true, not-false}
 use Rattle.virt_topo.specs.declared.wiring.VirtEnd.{VirtEnd}
-use Rattle.net_plan.specs.Addresses.{addresses_of, ends_of, uses, all_taken}
-use Rattle.net_plan.proofs.AddressLaws.{repeats, repeats-none, links_used, links_to, all_taken-append}
+use Rattle.net_plan.specs.Addresses.{addresses_of, ends_of, uses, all_taken, repeats}
+use Rattle.net_plan.proofs.AddressLaws.{repeats-none, links_used, links_to, all_taken-append}
 use Rattle.net_plan.proofs.explicit.use_all_explicit.Goals as goal
 
 on_true : (b : Bool) (P : Type 0) → b ≡ true → OnTrue b P → P

@@ -1,8 +1,7 @@
 use Rattle.std.proofs.Common.{◌≡◌, false, take, drop}
 use Rattle.std.specs.Prelude.{nat_eq}
 use Rattle.virt_topo.specs.Repeats.{stands_again}
-use Rattle.net_plan.specs.Addresses.{addresses_of, ends_of, uses, all_taken}
-use Rattle.net_plan.proofs.AddressLaws.{repeats}
+use Rattle.net_plan.specs.Addresses.{addresses_of, ends_of, uses, all_taken, repeats}
 use Rattle.net_plan.proofs.explicit.use_all_explicit.Given as goal
 
 abbrev pub invariant-loop-link : goal.invariant-loop-link

@@ -1,8 +1,8 @@
 use Rattle.std.proofs.Common.{◌≡◌, ℕ, Bool, false, None, get_or, drop, ◌+◌, sym, ap, ◌∙◌}
 use Rattle.std.proofs.lemmas.Bool.{not-true}
 use Rattle.virt_topo.specs.declared.wiring.VirtEnd.{VirtEnd}
-use Rattle.net_plan.specs.Addresses.{uses, taken, addresses_of}
-use Rattle.net_plan.proofs.AddressLaws.{AreUsed, repeats, used_more, used_same}
+use Rattle.net_plan.specs.Addresses.{uses, taken, addresses_of, repeats}
+use Rattle.net_plan.proofs.AddressLaws.{AreUsed, used_more, used_same}
 use Rattle.net_plan.proofs.ListLaws.{own_item}
 use Rattle.net_plan.proofs.explicit.use_explicit.Goals as goal
 use Rattle.net_plan.proofs.explicit.use_explicit.Goals.{in-Some+in_ok-insert+else-not-branch, in_default}

@@ -1,6 +1,5 @@
 use Rattle.std.proofs.Common.{◌≡◌, take, drop}
-use Rattle.net_plan.specs.Addresses.{addresses_of, uses, all_taken}
-use Rattle.net_plan.proofs.AddressLaws.{repeats}
+use Rattle.net_plan.specs.Addresses.{addresses_of, uses, all_taken, repeats}
 use Rattle.net_plan.proofs.explicit.use_explicit.Given as goal
 
 abbrev pub invariant-loop-end : goal.invariant-loop-end

@@ -3,7 +3,6 @@ use Rattle.std.specs.Option.{ok_or}
 use Rattle.std.proofs.Common.{◌≡◌, Bool, true, false, cond, Option, Some, None, Ok, Err, length, refl, ap, subst}
 use Rattle.virt_topo.specs.declared.wiring.Wiring.{Wiring}
 use Rattle.virt_topo.specs.Soundness.{keeps_limits, IsSound}
-use Rattle.virt_topo.specs.Topos.{Topo, IsTopo}
 use Rattle.net_plan.specs.declared.fault.PlanFault.TheVariants as faults
 use Rattle.net_plan.specs.Addresses.{has_bad_address, addressed}
 use Rattle.net_plan.specs.Expansion.{wired, expansion}
