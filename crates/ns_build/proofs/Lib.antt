@@ -1,0 +1,14 @@
+pub mod Changing
+pub mod Eaching
+pub mod Tests
+pub mod NamesDiffer
+pub mod Numbering
+pub mod Fitting
+pub mod KeepingNodes
+pub mod KeepingLinks
+pub mod KeepingClasses
+pub mod Chains
+pub mod JudgedObjects
+pub mod JudgedSettings
+pub mod Keeping
+pub mod Meanings

@@ -1,0 +1,19 @@
+use Rattle.std.proofs.Common.{arith, []}
+use Rattle.std.proofs.lemmas.Result.{err_from_is_err_and}
+use Rattle.lab_base.specs.Texts.{views}
+use Rattle.ns_build.specs.Checks.{each}
+use Rattle.ns_build.specs.Commands.{with_end}
+use Rattle.ns_build.proofs.Eaching.{goes_on, breaks_off, ends}
+use Rattle.ns_build.proofs.network.Network.joined_ends.Goals as goal
+
+pub returns-in_err-ends : goal.returns-in_err-ends
+returns-in_err-ends c =
+    let p = err_from_is_err_and c.from_residual.result c.from_residual.ensures.1 in
+    rw (p.1, p.2) (breaks_off (with_end c.args.self.now) c.args.elements.now (each (with_end c.args.self.now) [] (views c.args.elements.now)) _ c.loop-element.ends c.loop-element.element-index _ c.loop-element-test.true c.in_err-ends.ensures c.loop-element.invariant)
+
+pub loop-element-preserved : goal.loop-element-preserved
+loop-element-preserved c =
+    goes_on (with_end c.args.self.now) c.args.elements.now (each (with_end c.args.self.now) [] (views c.args.elements.now)) c.loop-element.ends c.in_ok-ends.ends c.loop-element.element-index _ c.loop-element-test.true c.in_ok-ends.ensures c.loop-element.invariant
+
+pub returns : goal.returns
+returns c = ends (with_end c.args.self.now) c.args.elements.now (each (with_end c.args.self.now) [] (views c.args.elements.now)) c.loop-element.ends c.loop-element.element-index (omega arith) c.loop-element.invariant

@@ -1,0 +1,11 @@
+pub mod Networks
+pub mod Words
+pub mod Checks
+pub mod Gives
+pub mod Keywords
+pub mod Commands
+pub mod Settings
+pub mod Tasks
+pub mod Host
+pub mod Meaning
+pub mod Kept

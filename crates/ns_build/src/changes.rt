@@ -1,0 +1,143 @@
+//! How a network changes.
+
+ghost use Rattle.std.specs.Prelude.{◌≡◌, ◌++◌, ◌∷◌, [], length, map, IfOk, OnOk, OnErr, Some};
+ghost use Rattle.ns_build.specs.Networks as networks;
+ghost use Rattle.ns_build.specs.Networks.{addressed, node_with, link_with};
+ghost use Rattle.ns_build.specs.declared.task.LinkChange.TheVariants as links;
+ghost use Rattle.ns_build.specs.Words.{node_word, link_word};
+ghost use Rattle.ns_build.specs.Host as hosts;
+
+use crate::network::Network;
+use crate::task::{LinkChange, NodeChange, Task};
+use crate::words::{LINK, NODE, SIMULATOR, word_of};
+use lab_base::{Items, Memory, Text};
+use std::alloc::Global;
+use std::mem::replace;
+use tcl_eval::Called;
+use virt_topo::{AskedLink, AskedNode, VirtEnd};
+
+/// An end gets an address, if it is the node's.
+fn address_end(end: &mut VirtEnd, node: u16, address: u32)
+    ensures { end.new ≡ addressed node address end.old }
+{
+    if end.node == node {
+        end.address = Some(address);
+    }
+}
+
+/// The end of a node gets an address.
+fn address_ends(ends: &mut Vec<VirtEnd>, node: u16, address: u32)
+    ensures { ends.new.items ≡ map (addressed node address) ends.old.items }
+{
+    for end in ends.iter_mut() {
+        address_end(end, node, address);
+    }
+}
+
+/// A node gets something.
+fn change_node(node: &mut AskedNode, change: NodeChange)
+    ensures { node.new ≡ node_with change node.old }
+{
+    match change {
+        NodeChange::Name(name) => node.name = name,
+        NodeChange::Asks(asks) => node.asks = asks,
+        NodeChange::Os(os) => node.os = os,
+        NodeChange::Fixed(place) => node.fixed = Some(place),
+    }
+}
+
+/// The end of a node on a link or LAN gets an address.
+fn address_link(alloc: Global, link: &mut AskedLink, node: u16, address: u32)
+    ensures { link.new ≡ link_with (links.Address node address) link.old }
+{
+    let mut ends = replace(&mut link.ends, Items::new(alloc)).into_vec();
+    address_ends(&mut ends, node, address);
+    link.ends = Items::from_vec(ends);
+}
+
+/// A link or LAN gets something.
+fn change_link(alloc: Global, link: &mut AskedLink, change: LinkChange)
+    ensures { link.new ≡ link_with change link.old }
+{
+    match change {
+        LinkChange::Name(name) => link.name = name,
+        LinkChange::Loss(ppm) => link.rates.ppm = ppm,
+        LinkChange::Address { node, address } => address_link(alloc, link, node, address),
+    }
+}
+
+impl Network {
+    fn add_node(&mut self, alloc: Global, node: AskedNode) -> Result<Text, Memory>
+        ensures word { IfOk result (λ word. word ≡ node_word (length self.old.nodes)) }
+        ensures ok { OnOk result (self.new ≡ record self.old { nodes = self.old.nodes ++ node ∷ [] }) }
+        ensures err { OnErr result (self.new ≡ self.old) }
+    {
+        let word = word_of(alloc, NODE, self.nodes.len())?;
+        let AskedNode {
+            name,
+            asks,
+            os,
+            fixed,
+        } = node;
+        self.nodes.push(AskedNode {
+            name,
+            asks,
+            os,
+            fixed,
+        })?;
+        Ok(word)
+    }
+
+    fn add_link(&mut self, alloc: Global, link: AskedLink) -> Result<Text, Memory>
+        ensures word { IfOk result (λ word. word ≡ link_word (length self.old.links)) }
+        ensures ok { OnOk result (self.new ≡ record self.old { links = self.old.links ++ link ∷ [] }) }
+        ensures err { OnErr result (self.new ≡ self.old) }
+    {
+        let word = word_of(alloc, LINK, self.links.len())?;
+        self.links.push(link)?;
+        Ok(word)
+    }
+
+    /// The node at a place gets something, if there is one.
+    fn change_node_at(&mut self, place: u16, change: NodeChange)
+        ensures { self.new ≡ networks.change_node self.old place change }
+    {
+        let place = usize::from(place);
+        if place < self.nodes.len() {
+            change_node(&mut self.nodes[place], change);
+        }
+    }
+
+    /// The link or LAN at a place gets something, if there is one.
+    fn change_link_at(&mut self, alloc: Global, place: usize, change: LinkChange)
+        ensures { self.new ≡ networks.change_link self.old place change }
+    {
+        if place < self.links.len() {
+            change_link(alloc, &mut self.links[place], change);
+        }
+    }
+
+    /// Does what is asked for. Without memory it changes nothing.
+    pub(crate) fn obey(&mut self, alloc: Global, task: Task) -> Result<Called, Memory>
+        ensures called { IfOk result (λ called. called ≡ hosts.result_of self.old task) }
+        ensures ok { OnOk result (self.new ≡ hosts.done self.old task) }
+        ensures err { OnErr result (self.new ≡ self.old) }
+    {
+        match task {
+            Task::NotMine => return Ok(Called::NotMine),
+            Task::Stop => return Ok(Called::Stop),
+            Task::MakeSimulator => {
+                let word = Text::from_slice(alloc, SIMULATOR)?;
+                self.simulator = true;
+                return Ok(Called::Value(word));
+            }
+            Task::AddNode { node } => return Ok(Called::Value(self.add_node(alloc, node)?)),
+            Task::AddLink { link } => return Ok(Called::Value(self.add_link(alloc, link)?)),
+            Task::AddClass { class } => self.classes.push(class)?,
+            Task::Nothing => {}
+            Task::ChangeNode { place, change } => self.change_node_at(place, change),
+            Task::ChangeLink { place, change } => self.change_link_at(alloc, place, change),
+        }
+        Ok(Called::Value(Text::new(alloc)))
+    }
+}

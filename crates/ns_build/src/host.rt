@@ -1,0 +1,84 @@
+//! The host of testbed commands.
+
+ghost use Rattle.std.specs.Prelude.{◌≡◌};
+ghost use Rattle.ns_build.specs.Networks.{empty, topo_of};
+ghost use Rattle.ns_build.specs.Host.{called as called_by, assigned as assigned_by};
+
+use crate::network::Network;
+use crate::refusal::Refusal;
+use lab_base::Text;
+use std::alloc::Global;
+use std::marker::Model;
+use tcl_eval::{Called, Host, HostFault};
+use virt_topo::Topo;
+
+/// What NS texts speak to: a network, which their commands make. Contracts see the network.
+#[derive(Drop)]
+pub struct NsHost {
+    alloc: Global,
+    network: Network,
+}
+
+impl Model for NsHost {
+    ghost use Rattle.ns_build.specs.Networks.{Network as NetworkSeen};
+    ghost use Rattle.ns_build.specs.Kept.{IsKept};
+
+    ghost Value = { NetworkSeen };
+
+    ghost view = { λ host. host.network };
+
+    ghost invariant = { λ host. IsKept host.network };
+}
+
+impl NsHost {
+    /// A host for which nothing is made.
+    pub fn new(alloc: Global) -> NsHost
+        ensures { result ≡ empty }
+    {
+        NsHost {
+            alloc,
+            network: Network::new(alloc),
+        }
+    }
+
+    /// The network that is asked for.
+    pub fn into_topo(self) -> Topo
+        ensures { result ≡ topo_of self }
+    {
+        let NsHost { alloc: _, network } = self;
+        network.into_topo()
+    }
+}
+
+impl Host for NsHost {
+    type Objects = Network;
+
+    ghost objects = { λ host. host };
+
+    ghost calls = { called_by };
+
+    ghost hears = { assigned_by };
+
+    #[tactic(auto, unfolding(crate::specs::Host::called))]
+    fn call(&mut self, words: &[Text]) -> Result<Called, HostFault> {
+        match self.network.judge(self.alloc, words) {
+            Ok(task) => match self.network.obey(self.alloc, task) {
+                Ok(called) => Ok(called),
+                Err(_) => Err(HostFault::Memory),
+            },
+            Err(Refusal::Kind(kind)) => Err(HostFault::Kind(kind)),
+            Err(Refusal::Memory) => Err(HostFault::Memory),
+        }
+    }
+
+    #[tactic(auto, unfolding(crate::specs::Host::assigned))]
+    fn assigned(&mut self, name: &Text, value: &Text) -> Result<(), HostFault> {
+        match self.network.judge_name(name.bytes(), value.bytes()) {
+            Ok(task) => match self.network.obey(self.alloc, task) {
+                Ok(_) => Ok(()),
+                Err(_) => Err(HostFault::Memory),
+            },
+            Err(kind) => Err(HostFault::Kind(kind)),
+        }
+    }
+}

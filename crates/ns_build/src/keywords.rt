@@ -1,0 +1,93 @@
+//! The words that begin a command, and those behind the simulator's word.
+
+ghost use Rattle.std.specs.Prelude.{◌≡◌};
+ghost use Rattle.ns_build.specs.Keywords.{setting_of, keyword_of, verb_of};
+
+/// The first word of a command.
+#[derive(Clone, Copy, PartialEq, Eq, Debug, Drop)]
+pub enum Keyword {
+    New,
+    Source,
+    NodeOs,
+    Hardware,
+    NodeIp,
+    LinkIp,
+    LanIp,
+    LinkLoss,
+    LanLoss,
+    FixNode,
+    SoftVtype,
+    /// Another word that begins with `tb-`.
+    OtherSetting,
+}
+
+/// The word behind the simulator's word.
+#[derive(Clone, Copy, PartialEq, Eq, Debug, Drop)]
+pub enum Verb {
+    MakeNode,
+    DuplexLink,
+    MakeLan,
+    RouteBy,
+    Run,
+}
+
+/// The setting of the testbed that a word begins.
+fn setting_of(word: &[u8]) -> Option<Keyword>
+    ensures { result ≡ setting_of word.now }
+{
+    if word == b"tb-set-node-os".as_slice() {
+        Some(Keyword::NodeOs)
+    } else if word == b"tb-set-hardware".as_slice() {
+        Some(Keyword::Hardware)
+    } else if word == b"tb-set-ip".as_slice() {
+        Some(Keyword::NodeIp)
+    } else if word == b"tb-set-ip-link".as_slice() {
+        Some(Keyword::LinkIp)
+    } else if word == b"tb-set-ip-lan".as_slice() {
+        Some(Keyword::LanIp)
+    } else if word == b"tb-set-link-loss".as_slice() {
+        Some(Keyword::LinkLoss)
+    } else if word == b"tb-set-lan-loss".as_slice() {
+        Some(Keyword::LanLoss)
+    } else if word == b"tb-fix-node".as_slice() {
+        Some(Keyword::FixNode)
+    } else if word == b"tb-make-soft-vtype".as_slice() {
+        Some(Keyword::SoftVtype)
+    } else if word.starts_with(b"tb-".as_slice()) {
+        Some(Keyword::OtherSetting)
+    } else {
+        None
+    }
+}
+
+/// The command that a word begins.
+pub(crate) fn keyword_of(word: &[u8]) -> Option<Keyword>
+    ensures { result ≡ keyword_of word.now }
+{
+    if word == b"new".as_slice() {
+        Some(Keyword::New)
+    } else if word == b"source".as_slice() {
+        Some(Keyword::Source)
+    } else {
+        setting_of(word)
+    }
+}
+
+/// What a word asks the simulator for.
+pub(crate) fn verb_of(word: &[u8]) -> Option<Verb>
+    ensures { result ≡ verb_of word.now }
+{
+    if word == b"node".as_slice() {
+        Some(Verb::MakeNode)
+    } else if word == b"duplex-link".as_slice() {
+        Some(Verb::DuplexLink)
+    } else if word == b"make-lan".as_slice() {
+        Some(Verb::MakeLan)
+    } else if word == b"rtproto".as_slice() {
+        Some(Verb::RouteBy)
+    } else if word == b"run".as_slice() {
+        Some(Verb::Run)
+    } else {
+        None
+    }
+}

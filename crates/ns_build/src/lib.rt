@@ -1,0 +1,27 @@
+//! The networks that NS files ask for.
+//!
+//! `read_ns` runs a text over a host of testbed commands. A command joins by a keyword, a case of `judged` in
+//! `specs/`, and a method of `Network` that judges it.
+#![tactic(auto)]
+
+mod asked;
+mod changes;
+mod checks;
+mod classes;
+mod host;
+mod judging;
+mod keywords;
+mod naming;
+mod network;
+mod objects;
+mod refusal;
+mod settings;
+mod task;
+mod words;
+
+pub use asked::{Asked, read_ns};
+pub use host::NsHost;
+pub use network::Network;
+
+#[cfg(test)]
+mod tests;

@@ -1,0 +1,110 @@
+//! The names that variables give.
+
+ghost use Rattle.std.specs.Prelude.{◌≡◌, ◌<◌, ◌+◌, map};
+ghost use Rattle.std.specs.List.{list_any};
+ghost use Rattle.virt_topo.specs.Repeats.{same_name};
+ghost use Rattle.ns_words.specs.Objects.{numbered_name_of};
+ghost use Rattle.ns_words.specs.declared.names.Numbered.TheVariants as numbered;
+ghost use Rattle.ns_build.specs.Tasks as judges;
+
+use crate::checks::{object_name_in, refuse};
+use crate::network::Network;
+use crate::task::{LinkChange, NodeChange, Task};
+
+use lab_base::{Kind, Name};
+use ns_words::{Numbered, numbered_name};
+use virt_topo::{AskedLink, AskedNode};
+
+/// Whether a node has this name.
+fn has_node(name: Name, nodes: &[AskedNode]) -> bool
+    ensures { result ≡ list_any (λ x. same_name name x.name) nodes.now }
+{
+    nodes.iter().any(|node| name == node.name)
+}
+
+/// Whether a link or LAN has this name.
+fn has_link(name: Name, links: &[AskedLink]) -> bool
+    ensures { result ≡ list_any (λ x. same_name name x.name) links.now }
+{
+    links.iter().any(|link| name == link.name)
+}
+
+/// The name of an object's number.
+fn number_name(of: Numbered, place: usize) -> Name
+    requires { place < 65535 }
+    ensures { result ≡ numbered_name_of of (place + 1) }
+{
+    numbered_name(of, place as u16 + 1)
+}
+
+impl Network {
+    /// Whether the node at a place has the name of its number.
+    fn is_bare_node(&self, place: u16) -> bool
+        requires { place < 65535 }
+        ensures { result ≡ judges.is_numbered (numbered_name_of numbered.Node (place + 1)) (map (λ x. x.name) self.now.nodes) place }
+    {
+        match self.nodes.get(usize::from(place)) {
+            Some(node) => number_name(Numbered::Node, usize::from(place)) == node.name,
+            None => false,
+        }
+    }
+
+    /// Whether the link or LAN at a place has the name of its number.
+    fn is_bare_link(&self, place: usize) -> bool
+        requires { place < 65535 }
+        ensures { result ≡ judges.is_numbered (numbered_name_of numbered.Link (place + 1)) (map (λ x. x.name) self.now.links) place }
+    {
+        match self.links.get(place) {
+            Some(link) => number_name(Numbered::Link, place) == link.name,
+            None => false,
+        }
+    }
+
+    /// The node at a place gets the name of a variable, if it has the name of its number.
+    #[tactic(auto, unfolding(crate::specs::Tasks::named_node))]
+    fn name_node(&self, place: u16, variable: &[u8]) -> Result<Task, Kind>
+        requires { place < 65535 }
+        ensures { result ≡ judges.named_node self.now place variable.now }
+    {
+        if !self.is_bare_node(place) {
+            return Ok(Task::Nothing);
+        }
+        let name = object_name_in(variable)?;
+        refuse(Kind::Twice, has_node(name, &self.nodes))?;
+        Ok(Task::ChangeNode {
+            place,
+            change: NodeChange::Name(name),
+        })
+    }
+
+    /// The link or LAN at a place gets the name of a variable, if it has the name of its number.
+    #[tactic(auto, unfolding(crate::specs::Tasks::named_link))]
+    fn name_link(&self, place: usize, variable: &[u8]) -> Result<Task, Kind>
+        requires { place < 65535 }
+        ensures { result ≡ judges.named_link self.now place variable.now }
+    {
+        if !self.is_bare_link(place) {
+            return Ok(Task::Nothing);
+        }
+        let name = object_name_in(variable)?;
+        refuse(Kind::Twice, has_link(name, &self.links))?;
+        Ok(Task::ChangeLink {
+            place,
+            change: LinkChange::Name(name),
+        })
+    }
+
+    /// What a variable's new value asks for.
+    #[tactic(auto, unfolding(crate::specs::Tasks::judged_name, crate::specs::Tasks::named_by))]
+    pub(crate) fn judge_name(&self, variable: &[u8], value: &[u8]) -> Result<Task, Kind>
+        ensures { result ≡ judges.judged_name self.now variable.now value.now }
+    {
+        if let Some(node) = self.node_of(value) {
+            return self.name_node(node, variable);
+        }
+        match self.link_of(value) {
+            Some(link) => self.name_link(link, variable),
+            None => Ok(Task::Nothing),
+        }
+    }
+}

@@ -1,0 +1,176 @@
+//! The network that a text has made so far.
+
+ghost use Rattle.std.specs.Prelude.{◌≡◌, ◌≤◌, ◌<◌, false, length, map, slice_index_or, count_by, position, IfSome};
+ghost use Rattle.virt_topo.specs.Repeats.{same_name};
+ghost use Rattle.virt_topo.specs.Topos.{IsTopo};
+ghost use Rattle.ns_build.specs.Networks as networks;
+ghost use Rattle.ns_build.specs.Words as words;
+
+use crate::words::{LINK, NODE, place_in};
+use lab_base::{Items, Name};
+use std::alloc::Global;
+use std::marker::Model;
+use virt_topo::{AskedLink, AskedNode, Asks, Class, Topo, VirtEnd};
+
+/// The network that a text has made so far: perhaps a simulator, and nodes, links and LANs, and classes, each in
+/// order of creation. Until a variable names a node, or a link or LAN, it has the name of its number.
+#[derive(Drop)]
+pub struct Network {
+    pub(crate) simulator: bool,
+    pub(crate) nodes: Vec<AskedNode>,
+    pub(crate) links: Vec<AskedLink>,
+    pub(crate) classes: Vec<Class>,
+}
+
+impl Model for Network {
+    ghost use Rattle.ns_build.specs.Networks.{Network as NetworkSeen};
+
+    ghost Value = { NetworkSeen };
+
+    ghost view = { λ n. record { simulator = n.simulator; nodes = n.nodes.items; links = n.links.items; classes = n.classes.items } };
+}
+
+/// Whether a node is an end.
+pub(crate) fn has_end(node: u16, ends: &[VirtEnd]) -> bool
+    ensures { result ≡ networks.has_end node ends.now }
+{
+    ends.iter().any(|end| end.node == node)
+}
+
+/// Whether a node is on a link or LAN.
+fn is_on(node: u16, link: &AskedLink) -> bool
+    ensures { result ≡ networks.is_on node link.now }
+{
+    has_end(node, link.ends.as_slice())
+}
+
+/// How many links and LANs a node is on.
+fn count_on(node: u16, links: &[AskedLink]) -> usize
+    ensures { result ≡ count_by (networks.is_on node) links.now }
+{
+    links.iter().filter(|link| is_on(node, link)).count()
+}
+
+/// The place of the first link or LAN that a node is on.
+fn first_on(node: u16, links: &[AskedLink]) -> Option<usize>
+    ensures { result ≡ position (networks.is_on node) links.now }
+{
+    links.iter().position(|link| is_on(node, link))
+}
+
+/// The place of the class of a name.
+fn class_named(name: Name, classes: &[Class]) -> Option<usize>
+    ensures place { result ≡ position (λ c. same_name c.name name) classes.now }
+    ensures fits { IfSome result (λ place. place < length classes.now) }
+{
+    classes.iter().position(|class| class.name == name)
+}
+
+impl Network {
+    /// A network in which nothing is made.
+    pub fn new(alloc: Global) -> Network
+        ensures { result ≡ networks.empty }
+    {
+        Network {
+            simulator: false,
+            nodes: Vec::new(alloc),
+            links: Vec::new(alloc),
+            classes: Vec::new(alloc),
+        }
+    }
+
+    /// The network that is asked for.
+    pub fn into_topo(self) -> Topo
+        requires { IsTopo (networks.topo_of self) }
+        ensures { result ≡ networks.topo_of self }
+    {
+        let Network {
+            simulator: _,
+            nodes,
+            links,
+            classes,
+        } = self;
+        Topo::new(
+            Items::from_vec(nodes),
+            Items::from_vec(links),
+            Items::from_vec(classes),
+        )
+    }
+
+    /// The place of the node that a word stands for.
+    pub fn node_of(&self, word: &[u8]) -> Option<u16>
+        ensures place { result ≡ words.node_of self.now word.now }
+        ensures fits { IfSome result (λ place. place < 65535) }
+    {
+        place_in(NODE, self.nodes.len(), word)
+    }
+
+    /// The place of the link or LAN that a word stands for.
+    pub fn link_of(&self, word: &[u8]) -> Option<usize>
+        ensures place { result ≡ words.link_of self.now word.now }
+        ensures fits { IfSome result (λ place. place < 65535) }
+    {
+        match place_in(LINK, self.links.len(), word) {
+            Some(place) => Some(usize::from(place)),
+            None => None,
+        }
+    }
+
+    /// Whether there is a LAN at a place.
+    fn is_lan(&self, place: usize) -> bool
+        ensures { result ≡ slice_index_or (map (λ l. l.lan) self.now.links) place false }
+    {
+        match self.links.get(place) {
+            Some(link) => link.lan,
+            None => false,
+        }
+    }
+
+    /// The place of the LAN, or else of the link, that a word stands for.
+    pub fn link_of_kind(&self, lan: bool, word: &[u8]) -> Option<usize>
+        ensures { result ≡ words.link_of_kind self.now lan word.now }
+    {
+        match self.link_of(word) {
+            Some(place) => {
+                if self.is_lan(place) == lan {
+                    Some(place)
+                } else {
+                    None
+                }
+            }
+            None => None,
+        }
+    }
+
+    /// Whether a node is on the link or LAN at a place.
+    pub fn is_on_at(&self, node: u16, place: usize) -> bool
+        ensures { result ≡ networks.is_on_at self.now node place }
+    {
+        match self.links.get(place) {
+            Some(link) => is_on(node, link),
+            None => false,
+        }
+    }
+
+    /// The place of the only link or LAN that a node is on.
+    pub fn only_link(&self, node: u16) -> Option<usize>
+        ensures { result ≡ networks.only_link self.now node }
+    {
+        if count_on(node, &self.links) == 1 {
+            first_on(node, &self.links)
+        } else {
+            None
+        }
+    }
+
+    /// What the name of a type asks for: the class of that name where one is made.
+    pub fn asks_of(&self, name: Name) -> Asks
+        requires { length self.now.classes ≤ 64 }
+        ensures { result ≡ networks.asks_of self.now name }
+    {
+        match class_named(name, &self.classes) {
+            Some(place) => Asks::Class(place as u16),
+            None => Asks::Plain(name),
+        }
+    }
+}

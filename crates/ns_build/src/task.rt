@@ -1,0 +1,42 @@
+//! What a command, or a variable's new value, asks for.
+
+use lab_base::Name;
+use virt_topo::{Asks, AskedLink, AskedNode, Class};
+
+/// What a command, or a variable's new value, asks for. Nodes, and links and LANs, go by their places in the order of
+/// creation.
+#[derive(Drop)]
+pub enum Task {
+    /// It is no command of the testbed.
+    NotMine,
+    /// It does nothing, and its result is empty.
+    Nothing,
+    /// The evaluation ends.
+    Stop,
+    MakeSimulator,
+    AddNode { node: AskedNode },
+    AddLink { link: AskedLink },
+    AddClass { class: Class },
+    ChangeNode { place: u16, change: NodeChange },
+    ChangeLink { place: usize, change: LinkChange },
+}
+
+/// What a node gets.
+#[derive(Clone, Copy)]
+pub enum NodeChange {
+    Name(Name),
+    Asks(Asks),
+    Os(Name),
+    /// The node that it has to be on.
+    Fixed(Name),
+}
+
+/// What a link or LAN gets.
+#[derive(Clone, Copy)]
+pub enum LinkChange {
+    Name(Name),
+    /// In millionths.
+    Loss(u32),
+    /// At the end of a node.
+    Address { node: u16, address: u32 },
+}

@@ -1,0 +1,88 @@
+//! Words of objects, and lists.
+
+ghost use Rattle.std.specs.Prelude.{◌≡◌, ◌<◌, ◌++◌, IfOk, IfSome, decimal};
+ghost use Rattle.std.specs.List.{slice_split};
+ghost use Rattle.lab_base.specs.Texts.{views};
+ghost use Rattle.lab_base.specs.Numbers.{number_of};
+ghost use Rattle.virt_topo.specs.Repeats.{same_name};
+ghost use Rattle.ns_build.specs.Words.{place_below, place_in, is_parting, elements_of};
+
+use lab_base::{Memory, Text, read_number};
+use std::alloc::{AllocError, Global};
+
+/// The simulator's word.
+pub(crate) const SIMULATOR: &[u8] = b":ns";
+
+/// What the words of nodes begin with; the place of the node follows.
+pub(crate) const NODE: &[u8] = b":n";
+
+/// What the words of links and LANs begin with; the place of the link or LAN follows.
+pub(crate) const LINK: &[u8] = b":l";
+
+/// The word of the object at a place.
+pub(crate) fn word_of(alloc: Global, mark: &[u8], place: usize) -> Result<Text, Memory>
+    ensures { IfOk result (λ word. word ≡ mark.now ++ decimal place) }
+{
+    let mut word = Text::from_slice(alloc, mark)?;
+    word.push_number(place as u64)?;
+    Ok(word)
+}
+
+/// Whether these digits are the printed number.
+fn is_printed(number: u16, digits: &[u8]) -> bool
+    ensures { result ≡ same_name digits.now (decimal number) }
+{
+    let mut buffer = itoa::Buffer::new();
+    digits == buffer.format(number).as_bytes()
+}
+
+/// The place that digits stand for as they are printed, where it is below `count`.
+fn place_below(count: usize, digits: &[u8]) -> Option<u16>
+    ensures place { result ≡ place_below count digits.now (number_of 65534 digits.now) }
+    ensures fits { IfSome result (λ place. place < 65535) }
+{
+    match read_number(digits, 65_534) {
+        Ok(number) => {
+            let place = number as u16;
+            if usize::from(place) < count && is_printed(place, digits) {
+                Some(place)
+            } else {
+                None
+            }
+        }
+        Err(_) => None,
+    }
+}
+
+/// The place that a word has behind a mark, where it is below `count`.
+pub(crate) fn place_in(mark: &[u8], count: usize, word: &[u8]) -> Option<u16>
+    ensures place { result ≡ place_in mark.now count word.now }
+    ensures fits { IfSome result (λ place. place < 65535) }
+{
+    if word.starts_with(mark) {
+        place_below(count, &word[mark.len()..])
+    } else {
+        None
+    }
+}
+
+fn is_parting(byte: u8) -> bool
+    ensures { result ≡ is_parting byte }
+{
+    byte == b' ' || byte == b'\t' || byte == b'\n'
+}
+
+fn split_at_partings(alloc: Global, list: &[u8]) -> Result<Vec<&[u8]>, AllocError>
+    ensures { IfOk result (λ parts. views parts.items ≡ slice_split is_parting list.now) }
+{
+    list.split(|byte| is_parting(*byte)).collect(alloc)
+}
+
+/// The elements of a list: what stands between its blanks and line feeds.
+pub(crate) fn elements_in(alloc: Global, list: &[u8]) -> Result<Vec<&[u8]>, Memory>
+    ensures { IfOk result (λ elements. views elements.items ≡ elements_of list.now) }
+{
+    let mut elements = split_at_partings(alloc, list)?;
+    elements.retain(|element| !element.is_empty());
+    Ok(elements)
+}
