@@ -4,29 +4,27 @@ use Rattle.std.specs.Prelude.{nat_lt, ◌==◌}
 use Rattle.std.specs.List.{list_all, list_any}
 use Rattle.virt_topo.specs.declared.wiring.Asks.{Asks}
 use Rattle.virt_topo.specs.declared.wiring.Class.{Class}
-use Rattle.virt_topo.specs.declared.topo.AskedNode.{AskedNode}
 use Rattle.virt_topo.specs.declared.topo.AskedLink.{AskedLink}
 use Rattle.virt_topo.specs.Repeats.{same_name, stands_again}
 use Rattle.virt_topo.specs.Soundness.{is_address, limits_class}
 use Rattle.virt_topo.specs.Topos.{limits_link}
-use Rattle.ns_words.specs.declared.names.Numbered.TheVariants as numbered
-use Rattle.ns_words.specs.Objects.{IsObjectName, numbered_name_of}
+use Rattle.ns_words.specs.Objects.{IsObjectName}
 use Rattle.ns_build.specs.declared.task.Task.{Task}
 use Rattle.ns_build.specs.declared.task.Task.TheVariants as tasks
 use Rattle.ns_build.specs.declared.task.NodeChange.{NodeChange}
 use Rattle.ns_build.specs.declared.task.NodeChange.TheVariants as nodes
 use Rattle.ns_build.specs.declared.task.LinkChange.{LinkChange}
 use Rattle.ns_build.specs.declared.task.LinkChange.TheVariants as links
-use Rattle.ns_build.specs.Networks.{Network, fresh_node, asks_of, refuses_class}
+use Rattle.ns_build.specs.Networks.{Network, next_node, next_link, asks_of, refuses_class}
 use Rattle.ns_build.specs.Tasks.{has_node, has_link}
 
-pub record FitsNode (n : Network) (v : AskedNode) : Type 0 where
+pub record FitsNode (n : Network) (name : List ℕ) : Type 0 where
   pub few : length n.nodes < 256
-  pub fresh : v ≡ fresh_node (length n.nodes)
+  pub next : name ≡ next_node n
 
 pub record FitsLink (n : Network) (l : AskedLink) : Type 0 where
   pub few : length n.links < 512
-  pub name : l.name ≡ numbered_name_of numbered.Link (length n.links + 1)
+  pub name : l.name ≡ next_link n
   pub limits : limits_link l ≡ true
   pub known : list_all (λ e. nat_lt e.node (length n.nodes)) l.ends ≡ true
   pub differ : stands_again (λ a b. a.node == b.node) l.ends ≡ false
@@ -57,7 +55,7 @@ FitsLinkChange n (links.Loss ppm) = ppm ≤ 1000000
 FitsLinkChange n (links.Address v ip) = is_address (Some ip) ≡ true
 
 abbrev pub Fits : Network → Task → Type 0
-Fits n (tasks.AddNode v) = FitsNode n v
+Fits n (tasks.AddNode name) = FitsNode n name
 Fits n (tasks.AddLink l) = FitsLink n l
 Fits n (tasks.AddClass c) = FitsClass n c
 Fits n (tasks.ChangeNode v change) = FitsNodeChange n change

@@ -17,7 +17,7 @@ use Rattle.ns_build.specs.declared.keywords.Verb.{Verb}
 use Rattle.ns_build.specs.declared.keywords.Verb.TheVariants as verbs
 use Rattle.ns_build.specs.declared.task.Task.{Task}
 use Rattle.ns_build.specs.declared.task.Task.TheVariants as tasks
-use Rattle.ns_build.specs.Networks.{Network, fresh_node, fresh_link, lossless, bare_end, has_end}
+use Rattle.ns_build.specs.Networks.{Network, next_node, next_link, fresh_link, lossless, bare_end, has_end}
 use Rattle.ns_build.specs.Words.{node_of, elements_of}
 use Rattle.ns_build.specs.Checks.{◌>>=◌, each, need, refuse, word_at, counted, bandwidth_in, delay_in}
 use Rattle.ns_build.specs.Keywords.{verb_of}
@@ -83,11 +83,11 @@ no_ends n = record { known = refl; addresses = refl; differ = refl }
 -- LINKS AND LANS
 
 link_fits : (n : Network) (lan : Bool) (kbps micros : ℕ) (ends : List VirtEnd) (u : Unit {0}) → link_room n ≡ Ok u → are_rates (lossless kbps micros) ≡ true
-    → is_between 2 (most_ends lan) (length ends) ≡ true → AreEnds n ends → FitsLink n (fresh_link (length n.links) lan (lossless kbps micros) ends)
+    → is_between 2 (most_ends lan) (length ends) ≡ true → AreEnds n ends → FitsLink n (fresh_link (next_link n) lan (lossless kbps micros) ends)
 link_fits n lan kbps micros ends u room rates count are = record {
   few = not_less 512 (length n.links) (refuse_ok kinds.Limit (nat_le 512 (length n.links)) u room);
   name = refl;
-  limits = limits_of (fresh_link (length n.links) lan (lossless kbps micros) ends) rates count are.addresses;
+  limits = limits_of (fresh_link (next_link n) lan (lossless kbps micros) ends) rates count are.addresses;
   known = are.known;
   differ = are.differ;
 }
@@ -96,7 +96,7 @@ new_link_fits : (n : Network) (lan : Bool) (kbps micros : ℕ) (ends : List Virt
     → is_between 2 (most_ends lan) (length ends) ≡ true → AreEnds n ends → okay (new_link n lan kbps micros ends) ≡ Ok task → Fits n task
 unfolding new_link
 new_link_fits n lan kbps micros ends u task room rates count are h =
-    subst (Fits n) (ok_is (tasks.AddLink (fresh_link (length n.links) lan (lossless kbps micros) ends)) task h) (link_fits n lan kbps micros ends u room rates count are)
+    subst (Fits n) (ok_is (tasks.AddLink (fresh_link (next_link n) lan (lossless kbps micros) ends)) task h) (link_fits n lan kbps micros ends u room rates count are)
 
 pub judged_link_fits : (n : Network) (words : List (List ℕ)) (task : Task) → judged_link n words ≡ Ok task → Fits n task
 unfolding judged_link
@@ -139,8 +139,8 @@ unfolding judged_node
 judged_node_fits n words task h =
     let form = then_ok (counted 2 words) _ task h in
     let room = then_ok (refuse kinds.Limit (nat_le 256 (length n.nodes))) _ task form.2 in
-    let fit : FitsNode n (fresh_node (length n.nodes)) = record { few = not_less 256 (length n.nodes) (refuse_ok kinds.Limit (nat_le 256 (length n.nodes)) room.0 room.1); fresh = refl } in
-    subst (Fits n) (ok_is (tasks.AddNode (fresh_node (length n.nodes))) task room.2) fit
+    let fit : FitsNode n (next_node n) = record { few = not_less 256 (length n.nodes) (refuse_ok kinds.Limit (nat_le 256 (length n.nodes)) room.0 room.1); next = refl } in
+    subst (Fits n) (ok_is (tasks.AddNode (next_node n)) task room.2) fit
 
 pub judged_new_fits : (n : Network) (words : List (List ℕ)) (task : Task) → judged_new n words ≡ Ok task → Fits n task
 unfolding judged_new

@@ -109,7 +109,7 @@ kept_done n tasks.NotMine k fit = k
 kept_done n tasks.Nothing k fit = k
 kept_done n tasks.Stop k fit = k
 kept_done n tasks.MakeSimulator k fit = record { topo = k.topo; plain = k.plain; node_names = k.node_names; link_names = k.link_names }
-kept_done n (tasks.AddNode node) k fit = keeps_node n node k fit
+kept_done n (tasks.AddNode name) k fit = keeps_node n name k fit
 kept_done n (tasks.AddLink link) k fit = keeps_link n link k fit
 kept_done n (tasks.AddClass class) k fit = keeps_class n class k fit
 kept_done n (tasks.ChangeNode v change) k fit = keeps_node_change n v change k fit
@@ -129,11 +129,18 @@ empty_kept = record {
     few_nodes = omega arith;
     few_links = omega arith;
     few_classes = omega arith;
-    links = refl; classes = refl; asks = refl; ends = refl;
-    nodes_differ = refl; links_differ = refl; classes_differ = refl;
+    links = refl;
+    classes = refl;
+    asks = refl;
+    ends = refl;
+    nodes_differ = refl;
+    links_differ = refl;
+    classes_differ = refl;
     node_names = λ x m. absurd m;
     link_names = λ x m. absurd m;
-    class_names = refl; types_differ = refl; members_differ = refl;
+    class_names = refl;
+    types_differ = refl;
+    members_differ = refl;
   };
   plain = refl;
   node_names = tt;

@@ -127,10 +127,11 @@ limits_parts : (l : AskedLink) → limits_link l ≡ true
     → (are_rates l.rates ≡ true) × (is_between 2 (most_ends l.lan) (length l.ends) ≡ true) × (list_all (λ e. is_address e.address) l.ends ≡ true)
 limits_parts l h =
     let more : (is_between 2 (most_ends l.lan) (length l.ends) && list_all (λ e. is_address e.address) l.ends) ≡ true
-        = and_second (are_rates l.rates) (is_between 2 (most_ends l.lan) (length l.ends) && list_all (λ e. is_address e.address) l.ends) h in
-    (and_first (are_rates l.rates) (is_between 2 (most_ends l.lan) (length l.ends) && list_all (λ e. is_address e.address) l.ends) h,
-    and_first (is_between 2 (most_ends l.lan) (length l.ends)) (list_all (λ e. is_address e.address) l.ends) more,
-    and_second (is_between 2 (most_ends l.lan) (length l.ends)) (list_all (λ e. is_address e.address) l.ends) more)
+    = and_second (are_rates l.rates) (is_between 2 (most_ends l.lan) (length l.ends) && list_all (λ e. is_address e.address) l.ends) h in (
+      and_first (are_rates l.rates) (is_between 2 (most_ends l.lan) (length l.ends) && list_all (λ e. is_address e.address) l.ends) h,
+      and_first (is_between 2 (most_ends l.lan) (length l.ends)) (list_all (λ e. is_address e.address) l.ends) more,
+      and_second (is_between 2 (most_ends l.lan) (length l.ends)) (list_all (λ e. is_address e.address) l.ends) more,
+    )
 
 pub limits_of : (l : AskedLink) → are_rates l.rates ≡ true → is_between 2 (most_ends l.lan) (length l.ends) ≡ true → list_all (λ e. is_address e.address) l.ends ≡ true → limits_link l ≡ true
 limits_of l rates count addresses =

@@ -19,7 +19,7 @@ use Rattle.ns_words.specs.Objects.{numbered_name_of}
 use Rattle.ns_words.proofs.NameLaws.{has_form, numbered_short}
 use Rattle.ns_build.specs.declared.task.NodeChange.{NodeChange}
 use Rattle.ns_build.specs.declared.task.NodeChange.TheVariants as nodes
-use Rattle.ns_build.specs.Networks.{Network, topo_of, fresh_node, asks_in, asks_of, changed_at, node_with, change_node}
+use Rattle.ns_build.specs.Networks.{Network, topo_of, next_node, fresh_node, asks_in, asks_of, changed_at, node_with, change_node}
 use Rattle.ns_build.specs.Tasks.{has_node}
 use Rattle.ns_build.specs.Kept.{IsKept, AreNumbered}
 use Rattle.ns_build.proofs.Tests.{or_first, or_second, or_neither, all_weak, all_push, all_changed, none_at, none_from, none_push, none_changed, any_map, Has-push, Has-changed, length-changed, map-changed, place_below, no_place}
@@ -44,11 +44,11 @@ ends_more few many links le h =
 no_class_of : (n : Network) → IsKept n → (c : Class) → Has n.classes c → is_type_name (topo_of n) c.name ≡ false
 no_class_of n k c m = none_at (λ (d : Class). is_type_name (topo_of n) d.name) n.classes c k.topo.class_names m
 
-pub keeps_node : (n : Network) (v : AskedNode) → IsKept n → FitsNode n v → IsKept (record n { nodes = n.nodes ++ v ∷ [] })
-keeps_node n v k fit = subst (λ (x : AskedNode). IsKept (record n { nodes = n.nodes ++ x ∷ [] })) (sym fit.fresh) kept
+pub keeps_node : (n : Network) (name : List ℕ) → IsKept n → FitsNode n name → IsKept (record n { nodes = n.nodes ++ fresh_node name ∷ [] })
+keeps_node n name k fit = subst (λ (x : List ℕ). IsKept (record n { nodes = n.nodes ++ fresh_node x ∷ [] })) (sym fit.next) kept
   where
     new : AskedNode
-    new = fresh_node (length n.nodes)
+    new = fresh_node (next_node n)
 
     after : Network
     after = record n { nodes = n.nodes ++ new ∷ [] }

@@ -9,7 +9,7 @@ use Rattle.ns_build.specs.declared.keywords.Verb.{Verb}
 use Rattle.ns_build.specs.declared.keywords.Verb.TheVariants as verbs
 use Rattle.ns_build.specs.declared.task.Task.{Task}
 use Rattle.ns_build.specs.declared.task.Task.TheVariants as tasks
-use Rattle.ns_build.specs.Networks.{Network, fresh_node, fresh_link, lossless, bare_end, has_end}
+use Rattle.ns_build.specs.Networks.{Network, next_node, next_link, fresh_link, lossless, bare_end, has_end}
 use Rattle.ns_build.specs.Words.{node_of, elements_of}
 use Rattle.ns_build.specs.Checks.{◌>>=◌, each, need, refuse, word_at, counted, bandwidth_in, delay_in}
 use Rattle.ns_build.specs.Keywords.{verb_of}
@@ -34,7 +34,7 @@ unfoldable pub judged_node : Network → List (List ℕ) → Result Task Kind
 judged_node n words = do
   form ← counted 2 words
   room ← refuse kinds.Limit (nat_le 256 (length n.nodes))
-  Ok (tasks.AddNode (fresh_node (length n.nodes)))
+  Ok (tasks.AddNode (next_node n))
 
 -- room for one link or LAN more
 abbrev pub link_room : Network → Result (Unit {0}) Kind
@@ -42,7 +42,7 @@ link_room n = refuse kinds.Limit (nat_le 512 (length n.links))
 
 -- a link of these rates
 unfoldable pub new_link : Network → Bool → ℕ → ℕ → List VirtEnd → Task
-new_link n lan kbps micros ends = tasks.AddLink (fresh_link (length n.links) lan (lossless kbps micros) ends)
+new_link n lan kbps micros ends = tasks.AddLink (fresh_link (next_link n) lan (lossless kbps micros) ends)
 
 -- `$ns duplex-link A B BW DELAY DropTail`
 unfoldable pub judged_link : Network → List (List ℕ) → Result Task Kind

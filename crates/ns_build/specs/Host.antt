@@ -7,7 +7,7 @@ use Rattle.tcl_eval.specs.declared.hosts.Called.{Called}
 use Rattle.tcl_eval.specs.declared.hosts.Called.TheVariants.{NotMine, Value, Stop}
 use Rattle.ns_build.specs.declared.task.Task.{Task}
 use Rattle.ns_build.specs.declared.task.Task.TheVariants as tasks
-use Rattle.ns_build.specs.Networks.{Network, change_node, change_link}
+use Rattle.ns_build.specs.Networks.{Network, fresh_node, change_node, change_link}
 use Rattle.ns_build.specs.Words.{simulator_word, node_word, link_word}
 use Rattle.ns_build.specs.Tasks.{judged, judged_name}
 
@@ -16,14 +16,14 @@ abbrev pub result_of : Network → Task → Called
 result_of n tasks.NotMine = NotMine
 result_of n tasks.Stop = Stop
 result_of n tasks.MakeSimulator = Value simulator_word
-result_of n (tasks.AddNode node) = Value (node_word (length n.nodes))
+result_of n (tasks.AddNode name) = Value (node_word (length n.nodes))
 result_of n (tasks.AddLink link) = Value (link_word (length n.links))
 result_of n task = Value []
 
 -- the network after it
 abbrev pub done : Network → Task → Network
 done n tasks.MakeSimulator = record n { simulator = true }
-done n (tasks.AddNode node) = record n { nodes = n.nodes ++ node ∷ [] }
+done n (tasks.AddNode name) = record n { nodes = n.nodes ++ fresh_node name ∷ [] }
 done n (tasks.AddLink link) = record n { links = n.links ++ link ∷ [] }
 done n (tasks.AddClass class) = record n { classes = n.classes ++ class ∷ [] }
 done n (tasks.ChangeNode v change) = change_node n v change

@@ -36,13 +36,20 @@ topo_of n = record { nodes = n.nodes; links = n.links; classes = n.classes }
 
 -- NEW PARTS
 
--- a node at this place: of type `pc`, with the OS `default`
-abbrev pub fresh_node : ℕ → AskedNode
-fresh_node place = record { name = numbered_name_of numbered.Node (place + 1); asks = Plain (codes "pc"); os = codes "default"; fixed = None }
+-- the names of the next node, and of the next link or LAN
+abbrev pub next_node : Network → List ℕ
+next_node n = numbered_name_of numbered.Node (length n.nodes + 1)
 
--- a link or LAN at this place
-abbrev pub fresh_link : ℕ → Bool → Rates → List VirtEnd → AskedLink
-fresh_link place lan rates ends = record { name = numbered_name_of numbered.Link (place + 1); lan = lan; rates = rates; ends = ends }
+abbrev pub next_link : Network → List ℕ
+next_link n = numbered_name_of numbered.Link (length n.links + 1)
+
+-- a node of type `pc`, with the OS `default`
+abbrev pub fresh_node : List ℕ → AskedNode
+fresh_node name = record { name = name; asks = Plain (codes "pc"); os = codes "default"; fixed = None }
+
+-- a link or LAN
+abbrev pub fresh_link : List ℕ → Bool → Rates → List VirtEnd → AskedLink
+fresh_link name lan rates ends = record { name = name; lan = lan; rates = rates; ends = ends }
 
 -- without loss
 abbrev pub lossless : ℕ → ℕ → Rates
@@ -120,4 +127,3 @@ change_node n v change = record n { nodes = changed_at (node_with change) v n.no
 
 abbrev pub change_link : Network → ℕ → LinkChange → Network
 change_link n l change = record n { links = changed_at (link_with change) l n.links }
-

@@ -1,6 +1,7 @@
 //! How a network changes.
 
-ghost use Rattle.std.specs.Prelude.{◌≡◌, ◌++◌, ◌∷◌, [], length, map, IfOk, OnOk, OnErr, Some};
+ghost use Rattle.std.specs.Prelude.{◌≡◌, ◌++◌, ◌∷◌, [], length, map, IfOk, OnOk, OnErr, true};
+ghost use Rattle.lab_base.specs.Names.{is_name};
 ghost use Rattle.ns_build.specs.Networks as networks;
 ghost use Rattle.ns_build.specs.Networks.{addressed, node_with, link_with};
 ghost use Rattle.ns_build.specs.declared.task.LinkChange.TheVariants as links;
@@ -10,11 +11,19 @@ ghost use Rattle.ns_build.specs.Host as hosts;
 use crate::network::Network;
 use crate::task::{LinkChange, NodeChange, Task};
 use crate::words::{LINK, NODE, SIMULATOR, word_of};
-use lab_base::{Items, Memory, Text};
+use lab_base::{Items, Memory, Name, Text};
 use std::alloc::Global;
 use std::mem::replace;
 use tcl_eval::Called;
-use virt_topo::{AskedLink, AskedNode, VirtEnd};
+use virt_topo::{AskedLink, AskedNode, Asks, VirtEnd};
+
+/// A name of these bytes.
+fn fixed_name(bytes: &'static [u8]) -> Name
+    requires { is_name bytes.now ≡ true }
+    ensures { result ≡ bytes.now }
+{
+    Name::read(bytes).unwrap()
+}
 
 /// An end gets an address, if it is the node's.
 fn address_end(end: &mut VirtEnd, node: u16, address: u32)
@@ -67,23 +76,17 @@ fn change_link(alloc: Global, link: &mut AskedLink, change: LinkChange)
 }
 
 impl Network {
-    fn add_node(&mut self, alloc: Global, node: AskedNode) -> Result<Text, Memory>
+    fn add_node(&mut self, alloc: Global, name: Name) -> Result<Text, Memory>
         ensures word { IfOk result (λ word. word ≡ node_word (length self.old.nodes)) }
-        ensures ok { OnOk result (self.new ≡ record self.old { nodes = self.old.nodes ++ node ∷ [] }) }
+        ensures ok { OnOk result (self.new ≡ record self.old { nodes = self.old.nodes ++ networks.fresh_node name ∷ [] }) }
         ensures err { OnErr result (self.new ≡ self.old) }
     {
         let word = word_of(alloc, NODE, self.nodes.len())?;
-        let AskedNode {
-            name,
-            asks,
-            os,
-            fixed,
-        } = node;
         self.nodes.push(AskedNode {
             name,
-            asks,
-            os,
-            fixed,
+            asks: Asks::Plain(fixed_name(b"pc")),
+            os: fixed_name(b"default"),
+            fixed: None,
         })?;
         Ok(word)
     }
@@ -131,7 +134,7 @@ impl Network {
                 self.simulator = true;
                 return Ok(Called::Value(word));
             }
-            Task::AddNode { node } => return Ok(Called::Value(self.add_node(alloc, node)?)),
+            Task::AddNode { name } => return Ok(Called::Value(self.add_node(alloc, name)?)),
             Task::AddLink { link } => return Ok(Called::Value(self.add_link(alloc, link)?)),
             Task::AddClass { class } => self.classes.push(class)?,
             Task::Nothing => {}

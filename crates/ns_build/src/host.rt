@@ -14,7 +14,7 @@ use virt_topo::Topo;
 
 /// What NS texts speak to: a network, which their commands make. Contracts see the network.
 #[derive(Drop)]
-pub struct NsHost {
+pub(crate) struct NsHost {
     alloc: Global,
     network: Network,
 }

@@ -5,7 +5,7 @@ ghost use Rattle.ns_build.specs.Keywords.{setting_of, keyword_of, verb_of};
 
 /// The first word of a command.
 #[derive(Clone, Copy, PartialEq, Eq, Debug, Drop)]
-pub enum Keyword {
+pub(crate) enum Keyword {
     New,
     Source,
     NodeOs,
@@ -23,7 +23,7 @@ pub enum Keyword {
 
 /// The word behind the simulator's word.
 #[derive(Clone, Copy, PartialEq, Eq, Debug, Drop)]
-pub enum Verb {
+pub(crate) enum Verb {
     MakeNode,
     DuplexLink,
     MakeLan,

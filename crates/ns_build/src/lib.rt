@@ -20,8 +20,6 @@ mod task;
 mod words;
 
 pub use asked::{Asked, read_ns};
-pub use host::NsHost;
-pub use network::Network;
 
 #[cfg(test)]
 mod tests;

@@ -10,7 +10,6 @@ ghost use Rattle.ns_build.specs.Tasks as judges;
 use crate::checks::{object_name_in, refuse};
 use crate::network::Network;
 use crate::task::{LinkChange, NodeChange, Task};
-
 use lab_base::{Kind, Name};
 use ns_words::{Numbered, numbered_name};
 use virt_topo::{AskedLink, AskedNode};

@@ -15,7 +15,7 @@ use virt_topo::{AskedLink, AskedNode, Asks, Class, Topo, VirtEnd};
 /// The network that a text has made so far: perhaps a simulator, and nodes, links and LANs, and classes, each in
 /// order of creation. Until a variable names a node, or a link or LAN, it has the name of its number.
 #[derive(Drop)]
-pub struct Network {
+pub(crate) struct Network {
     pub(crate) simulator: bool,
     pub(crate) nodes: Vec<AskedNode>,
     pub(crate) links: Vec<AskedLink>,

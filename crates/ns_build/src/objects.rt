@@ -1,7 +1,6 @@
 //! The commands that make objects.
 
-ghost use Rattle.std.specs.Prelude.{◌≡◌, ◌+◌, ◌<◌, length, true, [], IfOk};
-ghost use Rattle.lab_base.specs.Names.{is_name};
+ghost use Rattle.std.specs.Prelude.{◌≡◌, ◌<◌, length, []};
 ghost use Rattle.ns_build.specs.Networks as networks;
 ghost use Rattle.lab_base.specs.Texts.{views};
 ghost use Rattle.ns_build.specs.Checks.{each};
@@ -14,10 +13,10 @@ use crate::network::{Network, has_end};
 use crate::refusal::Refusal;
 use crate::task::Task;
 use crate::words::elements_in;
-use lab_base::{Items, Kind, Name, Rates, Text};
+use lab_base::{Items, Kind, Rates, Text};
 use ns_words::{Numbered, numbered_name};
 use std::alloc::Global;
-use virt_topo::{AskedLink, AskedNode, Asks, VirtEnd};
+use virt_topo::{AskedLink, VirtEnd};
 
 /// The most nodes.
 const MOST_NODES: usize = 256;
@@ -35,27 +34,6 @@ fn bare_end(node: u16) -> VirtEnd
     VirtEnd {
         node,
         address: None,
-    }
-}
-
-/// A name of these bytes.
-fn fixed_name(bytes: &'static [u8]) -> Name
-    requires { is_name bytes.now ≡ true }
-    ensures { result ≡ bytes.now }
-{
-    Name::read(bytes).unwrap()
-}
-
-/// A node at a place, of type `pc`, with the OS `default`.
-fn fresh_node(place: u16) -> AskedNode
-    requires { place < 65535 }
-    ensures { result ≡ networks.fresh_node place }
-{
-    AskedNode {
-        name: numbered_name(Numbered::Node, place + 1),
-        asks: Asks::Plain(fixed_name(b"pc")),
-        os: fixed_name(b"default"),
-        fixed: None,
     }
 }
 
@@ -83,7 +61,7 @@ impl Network {
             return Err(Kind::Limit);
         }
         Ok(Task::AddNode {
-            node: fresh_node(place as u16),
+            name: numbered_name(Numbered::Node, place as u16 + 1),
         })
     }
 

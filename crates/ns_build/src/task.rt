@@ -1,12 +1,12 @@
 //! What a command, or a variable's new value, asks for.
 
 use lab_base::Name;
-use virt_topo::{Asks, AskedLink, AskedNode, Class};
+use virt_topo::{AskedLink, Asks, Class};
 
 /// What a command, or a variable's new value, asks for. Nodes, and links and LANs, go by their places in the order of
 /// creation.
 #[derive(Drop)]
-pub enum Task {
+pub(crate) enum Task {
     /// It is no command of the testbed.
     NotMine,
     /// It does nothing, and its result is empty.
@@ -14,7 +14,8 @@ pub enum Task {
     /// The evaluation ends.
     Stop,
     MakeSimulator,
-    AddNode { node: AskedNode },
+    /// Of type `pc`, with the OS `default`.
+    AddNode { name: Name },
     AddLink { link: AskedLink },
     AddClass { class: Class },
     ChangeNode { place: u16, change: NodeChange },
@@ -23,7 +24,7 @@ pub enum Task {
 
 /// What a node gets.
 #[derive(Clone, Copy)]
-pub enum NodeChange {
+pub(crate) enum NodeChange {
     Name(Name),
     Asks(Asks),
     Os(Name),
@@ -33,7 +34,7 @@ pub enum NodeChange {
 
 /// What a link or LAN gets.
 #[derive(Clone, Copy)]
-pub enum LinkChange {
+pub(crate) enum LinkChange {
     Name(Name),
     /// In millionths.
     Loss(u32),

@@ -240,10 +240,16 @@ fn sets_of_nodes(rt: HostRuntime) -> Result<(), Fail> {
             "tb-set-hardware $a any; tb-set-hardware $a pc; tb-make-soft-vtype any pc",
             "6\nnode a pc default\nnode b pc default\nclass any 500 pc\n",
         ),
-        ("tb-set-hardware $a fast; tb-make-soft-vtype fast {pc}", "5 twice"),
+        (
+            "tb-set-hardware $a fast; tb-make-soft-vtype fast {pc}",
+            "5 twice",
+        ),
         ("tb-make-soft-vtype pc {pc}", "5 twice"),
         ("tb-make-soft-vtype delay {pc}", "5 twice"),
-        ("tb-make-soft-vtype x {pc}; tb-make-soft-vtype x {pc}", "5 twice"),
+        (
+            "tb-make-soft-vtype x {pc}; tb-make-soft-vtype x {pc}",
+            "5 twice",
+        ),
         ("tb-make-soft-vtype x {pc d pc}", "5 twice"),
         ("tb-make-soft-vtype x {pc d: pc}", "5 name"),
         ("tb-make-soft-vtype x: {pc pc}", "5 name"),
@@ -271,16 +277,40 @@ fn sets_addresses(rt: HostRuntime) -> Result<(), Fail> {
         ),
         ("tb-set-ip $a 10.0.0.256", "5 node"),
         ("tb-set-ip a 10.0.0.1", "5 node"),
-        ("$ns duplex-link $a $b 1Mb 1ms DropTail\n$ns duplex-link $a $b 1Mb 1ms DropTail\ntb-set-ip $a 10.0.0.1", "7 node"),
-        ("$ns duplex-link $a $b 1Mb 1ms DropTail\ntb-set-ip $a 10.0.0.255", "6 ip"),
+        (
+            "$ns duplex-link $a $b 1Mb 1ms DropTail\n$ns duplex-link $a $b 1Mb 1ms DropTail\ntb-set-ip $a 10.0.0.1",
+            "7 node",
+        ),
+        (
+            "$ns duplex-link $a $b 1Mb 1ms DropTail\ntb-set-ip $a 10.0.0.255",
+            "6 ip",
+        ),
         ("tb-set-ip-link x x x", "5 node"),
         ("tb-set-ip-link $a x x", "5 link"),
-        ("set m [$ns make-lan \"$a $b\" 1Mb 1ms]; tb-set-ip-link $a $m 10.0.0.1", "5 link"),
-        ("set l [$ns duplex-link $a $b 1Mb 1ms DropTail]; tb-set-ip-lan $a $l 10.0.0.1", "5 link"),
-        ("set l [$ns duplex-link $a $b 1Mb 1ms DropTail]; tb-set-ip-link [$ns node] $l x", "5 node"),
-        ("set l [$ns duplex-link $a $b 1Mb 1ms DropTail]; tb-set-ip-link $a $l x", "5 ip"),
-        ("set l [$ns duplex-link $a $b 1Mb 1ms DropTail]; tb-set-lan-loss $l 0.1", "5 link"),
-        ("set l [$ns duplex-link $a $b 1Mb 1ms DropTail]; tb-set-link-loss $l 1.1", "5 loss"),
+        (
+            "set m [$ns make-lan \"$a $b\" 1Mb 1ms]; tb-set-ip-link $a $m 10.0.0.1",
+            "5 link",
+        ),
+        (
+            "set l [$ns duplex-link $a $b 1Mb 1ms DropTail]; tb-set-ip-lan $a $l 10.0.0.1",
+            "5 link",
+        ),
+        (
+            "set l [$ns duplex-link $a $b 1Mb 1ms DropTail]; tb-set-ip-link [$ns node] $l x",
+            "5 node",
+        ),
+        (
+            "set l [$ns duplex-link $a $b 1Mb 1ms DropTail]; tb-set-ip-link $a $l x",
+            "5 ip",
+        ),
+        (
+            "set l [$ns duplex-link $a $b 1Mb 1ms DropTail]; tb-set-lan-loss $l 0.1",
+            "5 link",
+        ),
+        (
+            "set l [$ns duplex-link $a $b 1Mb 1ms DropTail]; tb-set-link-loss $l 1.1",
+            "5 loss",
+        ),
         ("tb-set-link-loss $a 0.1", "5 link"),
     ];
     agree_over_two(&rt, rt.alloc(), &rows)
@@ -324,9 +354,18 @@ fn refuses_words_of_the_simulator(rt: HostRuntime) -> Result<(), Fail> {
         ("source x", "5 unsupported"),
         ("source", "5 arity"),
         ("for {set i 0} {$i < 255} {incr i} {$ns node}", "5 limit"),
-        ("for {set i 0} {$i < 513} {incr i} {$ns duplex-link $a $b 1Mb 0 DropTail}", "5 limit"),
-        ("for {set i 0} {$i < 65} {incr i} {tb-make-soft-vtype x$i pc}", "5 limit"),
-        ("for {set i 0} {$i < 254} {incr i} {lappend l [$ns node]}\n$ns make-lan \"$a $l\" 1Mb 0", "6 limit"),
+        (
+            "for {set i 0} {$i < 513} {incr i} {$ns duplex-link $a $b 1Mb 0 DropTail}",
+            "5 limit",
+        ),
+        (
+            "for {set i 0} {$i < 65} {incr i} {tb-make-soft-vtype x$i pc}",
+            "5 limit",
+        ),
+        (
+            "for {set i 0} {$i < 254} {incr i} {lappend l [$ns node]}\n$ns make-lan \"$a $l\" 1Mb 0",
+            "6 limit",
+        ),
     ];
     agree_over_two(&rt, rt.alloc(), &rows)
 }
@@ -341,7 +380,10 @@ fn refuses_whole_texts(rt: HostRuntime) -> Result<(), Fail> {
         ("\n:ns run", "2 command"),
         ("\n:ns run\n set x \"abc", "3 quote"),
         ("set ns [new Simulator]\nif 1 {$ns run}\nnothing", "2\n"),
-        ("set ns [new Simulator]; set a [$ns node]\n$ns run; nothing", "2\nnode a pc default\n"),
+        (
+            "set ns [new Simulator]; set a [$ns node]\n$ns run; nothing",
+            "2\nnode a pc default\n",
+        ),
         ("$x", "1 variable"),
     ];
     agree(&rt, rt.alloc(), &rows)

@@ -18,8 +18,10 @@ returns-in_err-line c =
 
 pub returns-in-Stopped : goal.returns-in-Stopped
 returns-in-Stopped c =
-    record { meaning = stopped c.args.text.now c.new.result c.in_ok-interp.interp _ c.new.ensures c.in_ok-interp.ensures c.in_ok-line.field-0 c.in-Stopped.line c.into_topo.result (omega arith) c.in-Stopped.is
-        (rw c.into_host.ensures at c.into_topo.ensures) c.in_ok-line.ensures.runs }
+    record {
+      meaning = stopped c.args.text.now c.new.result c.in_ok-interp.interp _ c.new.ensures c.in_ok-interp.ensures c.in_ok-line.field-0 c.in-Stopped.line c.into_topo.result (omega arith) c.in-Stopped.is
+          (rw c.into_host.ensures at c.into_topo.ensures) c.in_ok-line.ensures.runs;
+    }
 
 pub returns-in-Ended : goal.returns-in-Ended
 returns-in-Ended c =
