@@ -8,7 +8,7 @@ use Rattle.lab_base.specs.declared.fault.Kind.{Kind}
 use Rattle.virt_topo.specs.Repeats.{same_name}
 use Rattle.ns_build.specs.Words.{place_below, place_in, kept_kind, link_of, link_of_kind}
 use Rattle.ns_build.specs.Checks.{◌>>=◌, each, need, refuse}
-use Rattle.ns_build.proofs.Tests.{and_first}
+use Rattle.ns_build.proofs.Elements.{and_first}
 
 -- a fault, and a value
 abbrev pub fault_of : (A : Type 0) → Kind → Result A Kind

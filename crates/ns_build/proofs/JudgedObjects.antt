@@ -22,7 +22,7 @@ use Rattle.ns_build.specs.Words.{node_of, elements_of}
 use Rattle.ns_build.specs.Checks.{◌>>=◌, each, need, refuse, word_at, counted, bandwidth_in, delay_in}
 use Rattle.ns_build.specs.Keywords.{verb_of}
 use Rattle.ns_build.specs.Commands.{judged_new, judged_source, judged_node, link_room, new_link, judged_link, with_end, judged_lan, judged_routes, judged_run, judged_verb, judged_simulator}
-use Rattle.ns_build.proofs.Tests.{and_both, all_push}
+use Rattle.ns_build.proofs.Elements.{and_both, all_push}
 use Rattle.ns_build.proofs.NamesDiffer.{again_push}
 use Rattle.ns_build.proofs.KeepingLinks.{limits_of}
 use Rattle.ns_build.proofs.Fitting.{FitsNode, FitsLink, Fits}

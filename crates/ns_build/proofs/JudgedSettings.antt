@@ -21,7 +21,7 @@ use Rattle.ns_build.specs.Networks.{Network, fresh_class, is_on_at, only_link, a
 use Rattle.ns_build.specs.Words.{node_of, link_of_kind, elements_of}
 use Rattle.ns_build.specs.Checks.{◌>>=◌, each, need, refuse, word_at, counted, name_in, loss_in, address_in}
 use Rattle.ns_build.specs.Settings.{judged_os, judged_hardware, judged_fixed, judged_ip, judged_end_ip, judged_loss, with_type, judged_class}
-use Rattle.ns_build.proofs.Tests.{and_both, or_first, or_second, none_at, none_from}
+use Rattle.ns_build.proofs.Elements.{and_both, or_first, or_second, none_at, none_from}
 use Rattle.ns_build.proofs.NamesDiffer.{again_push, same_turned}
 use Rattle.ns_build.proofs.Fitting.{FitsClass, Fits}
 use Rattle.ns_build.proofs.Chains.{then_ok, need_ok, refuse_ok, ok_is, each_keeps}

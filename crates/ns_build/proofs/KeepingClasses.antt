@@ -9,7 +9,7 @@ use Rattle.virt_topo.specs.Soundness.{limits_class}
 use Rattle.virt_topo.specs.Topos.{Topo, IsTopo, asks_type, knows_asked, is_type_name}
 use Rattle.ns_build.specs.Networks.{Network, topo_of, refuses_class}
 use Rattle.ns_build.specs.Kept.{IsKept}
-use Rattle.ns_build.proofs.Tests.{or_first, or_second, or_neither, all_weak, all_push, none_push}
+use Rattle.ns_build.proofs.Elements.{or_first, or_second, or_neither, all_weak, all_push, none_push}
 use Rattle.ns_build.proofs.NamesDiffer.{again_push}
 use Rattle.ns_build.proofs.Fitting.{FitsClass}
 use Rattle.ns_build.proofs.KeepingNodes.{knows_more}

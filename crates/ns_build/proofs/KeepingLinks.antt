@@ -21,7 +21,7 @@ use Rattle.ns_build.specs.declared.task.LinkChange.TheVariants as links
 use Rattle.ns_build.specs.Networks.{Network, topo_of, changed_at, addressed, link_with, change_link}
 use Rattle.ns_build.specs.Tasks.{has_link}
 use Rattle.ns_build.specs.Kept.{IsKept, AreNumbered}
-use Rattle.ns_build.proofs.Tests.{and_first, and_second, and_both, or_first, or_second, or_neither, all_weak, all_push, all_changed, none_push, none_changed, any_map, Has-push, Has-changed, length-changed, map-changed}
+use Rattle.ns_build.proofs.Elements.{and_first, and_second, and_both, or_first, or_second, or_neither, all_weak, all_push, all_changed, none_push, none_changed, any_map, Has-push, Has-changed, length-changed, map-changed}
 use Rattle.ns_build.proofs.NamesDiffer.{again_push, again_kept, again_named}
 use Rattle.ns_build.proofs.Numbering.{next_is_new, numbered_push, numbered_named, given_plain}
 use Rattle.ns_build.proofs.Fitting.{FitsLink, FitsLinkChange}

@@ -22,7 +22,7 @@ use Rattle.ns_build.specs.declared.task.NodeChange.TheVariants as nodes
 use Rattle.ns_build.specs.Networks.{Network, topo_of, next_node, fresh_node, asks_in, asks_of, changed_at, node_with, change_node}
 use Rattle.ns_build.specs.Tasks.{has_node}
 use Rattle.ns_build.specs.Kept.{IsKept, AreNumbered}
-use Rattle.ns_build.proofs.Tests.{or_first, or_second, or_neither, all_weak, all_push, all_changed, none_at, none_from, none_push, none_changed, any_map, Has-push, Has-changed, length-changed, map-changed, place_below, no_place}
+use Rattle.ns_build.proofs.Elements.{or_first, or_second, or_neither, all_weak, all_push, all_changed, none_at, none_from, none_push, none_changed, any_map, Has-push, Has-changed, length-changed, map-changed, place_below, no_place}
 use Rattle.ns_build.proofs.NamesDiffer.{again_push, again_kept, again_named}
 use Rattle.ns_build.proofs.Numbering.{next_is_new, numbered_push, numbered_named, given_plain}
 use Rattle.ns_build.proofs.Fitting.{FitsNode, FitsName, FitsAsks, FitsNodeChange}

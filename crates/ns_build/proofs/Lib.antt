@@ -1,6 +1,6 @@
 pub mod Changing
-pub mod Eaching
-pub mod Tests
+pub mod EachWord
+pub mod Elements
 pub mod NamesDiffer
 pub mod Numbering
 pub mod Fitting
@@ -12,3 +12,5 @@ pub mod JudgedObjects
 pub mod JudgedSettings
 pub mod Keeping
 pub mod Meanings
+pub mod OneMeaning
+pub mod ObjectWords

@@ -6,7 +6,7 @@ use Rattle.std.proofs.lemmas.List.Folds.{list_any-append}
 use Rattle.virt_topo.specs.Repeats.{same_name, stands_again}
 use Rattle.ns_words.proofs.Lookups.{same_self, same_true}
 use Rattle.ns_build.specs.Networks.{changed_at}
-use Rattle.ns_build.proofs.Tests.{or_first, or_second, or_neither, none_push}
+use Rattle.ns_build.proofs.Elements.{or_first, or_second, or_neither, none_push}
 
 -- the order of two names is nothing to the test
 pub same_turned : (a b : List ℕ) → same_name a b ≡ false → same_name b a ≡ false

@@ -15,7 +15,7 @@ use Rattle.ns_words.specs.Objects.{IsGiven, IsObjectName, numbered_prefix, numbe
 use Rattle.ns_words.proofs.Lookups.{same_self, same_true}
 use Rattle.ns_build.specs.Networks.{changed_at}
 use Rattle.ns_build.specs.Kept.{has_dot, AreNumbered}
-use Rattle.ns_build.proofs.Tests.{all_at, none_from, or_neither}
+use Rattle.ns_build.proofs.Elements.{all_at, none_from, or_neither}
 
 -- the name of a number has a dot
 pub dotted : (of : Numbered) (k : ℕ) → has_dot (numbered_name_of of k) ≡ true

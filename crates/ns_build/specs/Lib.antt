@@ -9,3 +9,4 @@ pub mod Tasks
 pub mod Host
 pub mod Meaning
 pub mod Kept
+pub mod Once

@@ -11,6 +11,7 @@ mod classes;
 mod host;
 mod judging;
 mod keywords;
+mod laws;
 mod naming;
 mod network;
 mod objects;
@@ -20,6 +21,7 @@ mod task;
 mod words;
 
 pub use asked::{Asked, read_ns};
+pub use laws::{meaning_is_one, words_stand_for_objects};
 
 #[cfg(test)]
 mod tests;

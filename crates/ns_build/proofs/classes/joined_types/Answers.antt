@@ -3,7 +3,7 @@ use Rattle.std.proofs.lemmas.Result.{err_from_is_err_and}
 use Rattle.lab_base.specs.Texts.{views}
 use Rattle.ns_build.specs.Checks.{each}
 use Rattle.ns_build.specs.Settings.{with_type}
-use Rattle.ns_build.proofs.Eaching.{goes_on, breaks_off, ends}
+use Rattle.ns_build.proofs.EachWord.{goes_on, breaks_off, ends}
 use Rattle.ns_build.proofs.classes.joined_types.Goals as goal
 
 pub returns-in_err-types : goal.returns-in_err-types

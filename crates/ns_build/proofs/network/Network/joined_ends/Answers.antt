@@ -3,7 +3,7 @@ use Rattle.std.proofs.lemmas.Result.{err_from_is_err_and}
 use Rattle.lab_base.specs.Texts.{views}
 use Rattle.ns_build.specs.Checks.{each}
 use Rattle.ns_build.specs.Commands.{with_end}
-use Rattle.ns_build.proofs.Eaching.{goes_on, breaks_off, ends}
+use Rattle.ns_build.proofs.EachWord.{goes_on, breaks_off, ends}
 use Rattle.ns_build.proofs.network.Network.joined_ends.Goals as goal
 
 pub returns-in_err-ends : goal.returns-in_err-ends
