@@ -389,12 +389,18 @@ fn refuses_whole_texts(rt: HostRuntime) -> Result<(), Fail> {
     agree(&rt, rt.alloc(), &rows)
 }
 
-#[test]
-fn refuses_long_texts(rt: HostRuntime) -> Result<(), Fail> {
-    let mut text = Text::from_slice(rt.alloc(), b"\n\n\"".as_slice())?;
-    while text.len() < 65_536 {
+/// A quote on line 3 that isn't closed, in a text of 65,536 bytes.
+fn longest(alloc: Global) -> Result<Text, Memory> {
+    let mut text = Text::from_slice(alloc, b"\n\n\"")?;
+    for _ in 0..65_533 {
         text.push(b'x')?;
     }
+    Ok(text)
+}
+
+#[test]
+fn refuses_long_texts(rt: HostRuntime) -> Result<(), Fail> {
+    let mut text = longest(rt.alloc())?;
     agrees(&rt, rt.alloc(), text.bytes(), "3 quote")?;
     text.push(b'\n')?;
     agrees(&rt, rt.alloc(), text.bytes(), "3 long")?;
