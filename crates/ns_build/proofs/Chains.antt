@@ -1,12 +1,12 @@
 -- What a chain of checks passed.
-use Rattle.std.proofs.Common.{◌≡◌, ℕ, ◌<◌, ◌≤◌, Bool, true, false, cond, List, [], ◌∷◌, length, drop, Option, Some, None, Result, Ok, Err, refl, sym, ap, subst, ◌∙◌, arith}
+use Rattle.std.proofs.Common.{◌≡◌, ℕ, ◌<◌, Bool, true, false, cond, List, [], ◌∷◌, length, drop, Option, Some, None, Result, Ok, Err, refl, subst, arith}
 use Rattle.std.specs.Prelude.{nat_lt, nat_eq, ◌&&◌, decimal}
 use Rattle.std.specs.List.{starts_with}
 use Rattle.std.proofs.lemmas.Bool.{ltb-true}
 use Rattle.lab_base.specs.Numbers.{number_of}
 use Rattle.lab_base.specs.declared.fault.Kind.{Kind}
 use Rattle.virt_topo.specs.Repeats.{same_name}
-use Rattle.ns_build.specs.Words.{place_below, place_in, kept_kind, link_of, link_of_kind}
+use Rattle.ns_build.specs.Words.{place_below, place_in}
 use Rattle.ns_build.specs.Checks.{◌>>=◌, each, need, refuse}
 use Rattle.ns_build.proofs.Elements.{and_first}
 

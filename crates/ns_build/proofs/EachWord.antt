@@ -1,5 +1,5 @@
 -- The words of a list one after another.
-use Rattle.std.proofs.Common.{◌≡◌, ℕ, suc, ◌+◌, ◌<◌, ◌≤◌, List, [], ◌∷◌, length, drop, get_or, Result, Ok, Err, sym, ap, subst, ◌∙◌, arith, Bor, drop-cons}
+use Rattle.std.proofs.Common.{◌≡◌, ℕ, suc, ◌+◌, ◌<◌, ◌≤◌, List, ◌∷◌, length, drop, get_or, Result, Ok, Err, sym, ap, subst, ◌∙◌, arith, Bor, drop-cons}
 use Rattle.std.proofs.lemmas.List.{drop_all}
 use Rattle.lab_base.specs.Texts.{views}
 use Rattle.lab_base.specs.declared.fault.Kind.{Kind}

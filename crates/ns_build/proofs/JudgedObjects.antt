@@ -1,15 +1,14 @@
 -- What the commands that make objects ask for fits the network.
-use Rattle.std.proofs.Common.{◌≡◌, ℕ, ◌+◌, ◌<◌, ◌≤◌, Bool, true, false, List, [], ◌∷◌, ◌++◌, length, Option, Some, None, Result, Ok, Err, refl, sym, ap, subst, ◌∙◌, arith}
+use Rattle.std.proofs.Common.{◌≡◌, ℕ, ◌<◌, ◌≤◌, Bool, true, false, List, [], ◌∷◌, ◌++◌, length, Option, Some, None, Ok, refl, subst, arith}
 use Rattle.std.specs.Prelude.{nat_lt, nat_le, not, codes, ◌||◌, ◌&&◌, ◌==◌}
-use Rattle.std.specs.List.{list_all, list_any}
-use Rattle.std.proofs.lemmas.Bool.{ltb-true, lt-ltb, leb-true, le-leb}
+use Rattle.std.specs.List.{list_all}
+use Rattle.std.proofs.lemmas.Bool.{lt-ltb, le-leb}
 use Rattle.std.proofs.lemmas.Bool.Decides.{nat_tests}
-use Rattle.lab_base.specs.declared.fault.Kind.{Kind}
 use Rattle.lab_base.specs.declared.fault.Kind.TheVariants as kinds
 use Rattle.virt_topo.specs.declared.wiring.VirtEnd.{VirtEnd}
 use Rattle.virt_topo.specs.Repeats.{same_name, stands_again}
 use Rattle.virt_topo.specs.Soundness.{is_between, is_address, is_speed, are_rates}
-use Rattle.virt_topo.specs.Topos.{limits_link, most_ends}
+use Rattle.virt_topo.specs.Topos.{most_ends}
 use Rattle.ns_words.specs.Values.{bandwidth_of, delay_of}
 use Rattle.ns_words.specs.Quantities.{IsBandwidth, IsDelay}
 use Rattle.ns_words.proofs.Exact.{bandwidth_exact, delay_exact}
@@ -19,7 +18,7 @@ use Rattle.ns_build.specs.declared.task.Task.{Task}
 use Rattle.ns_build.specs.declared.task.Task.TheVariants as tasks
 use Rattle.ns_build.specs.Networks.{Network, next_node, next_link, fresh_link, lossless, bare_end, has_end}
 use Rattle.ns_build.specs.Words.{node_of, elements_of}
-use Rattle.ns_build.specs.Checks.{◌>>=◌, each, need, refuse, word_at, counted, bandwidth_in, delay_in}
+use Rattle.ns_build.specs.Checks.{each, need, refuse, word_at, counted, bandwidth_in, delay_in}
 use Rattle.ns_build.specs.Keywords.{verb_of}
 use Rattle.ns_build.specs.Commands.{judged_new, judged_source, judged_node, link_room, new_link, judged_link, with_end, judged_lan, judged_routes, judged_run, judged_verb, judged_simulator}
 use Rattle.ns_build.proofs.Elements.{and_both, all_push}

@@ -1,10 +1,8 @@
 -- What the commands that begin with `tb-` ask for fits the network.
-use Rattle.std.proofs.Common.{◌≡◌, ℕ, ◌+◌, ◌<◌, ◌≤◌, Bool, true, false, List, [], ◌∷◌, ◌++◌, length, Option, Some, None, Result, Ok, Err, refl, sym, ap, subst, ◌∙◌, arith}
-use Rattle.std.specs.Prelude.{nat_lt, nat_le, not, ◌||◌, ◌&&◌}
+use Rattle.std.proofs.Common.{◌≡◌, ℕ, ◌<◌, ◌≤◌, Bool, true, false, List, [], ◌∷◌, ◌++◌, length, Some, Ok, refl, subst, arith}
+use Rattle.std.specs.Prelude.{nat_lt, nat_le, not, ◌||◌}
 use Rattle.std.specs.List.{list_any}
 use Rattle.std.proofs.lemmas.Bool.{le-leb}
-use Rattle.lab_base.specs.Lists.{Has}
-use Rattle.lab_base.specs.declared.fault.Kind.{Kind}
 use Rattle.lab_base.specs.declared.fault.Kind.TheVariants as kinds
 use Rattle.virt_topo.specs.Repeats.{same_name, stands_again}
 use Rattle.virt_topo.specs.Soundness.{is_between, is_address}
@@ -19,7 +17,7 @@ use Rattle.ns_build.specs.declared.task.NodeChange.TheVariants as nodes
 use Rattle.ns_build.specs.declared.task.LinkChange.TheVariants as links
 use Rattle.ns_build.specs.Networks.{Network, fresh_class, is_on_at, only_link, asks_of, refuses_class}
 use Rattle.ns_build.specs.Words.{node_of, link_of_kind, elements_of}
-use Rattle.ns_build.specs.Checks.{◌>>=◌, each, need, refuse, word_at, counted, name_in, loss_in, address_in}
+use Rattle.ns_build.specs.Checks.{each, need, refuse, word_at, counted, name_in, loss_in, address_in}
 use Rattle.ns_build.specs.Settings.{judged_os, judged_hardware, judged_fixed, judged_ip, judged_end_ip, judged_loss, with_type, judged_class}
 use Rattle.ns_build.proofs.Elements.{and_both, or_first, or_second, none_at, none_from}
 use Rattle.ns_build.proofs.NamesDiffer.{again_push, same_turned}

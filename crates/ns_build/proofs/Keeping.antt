@@ -1,11 +1,8 @@
 -- THE HOST KEEPS what every network keeps.
-use Rattle.std.proofs.Common.{◌≡◌, ℕ, ◌+◌, Bool, true, false, cond, List, [], ◌∷◌, map, Option, Some, None, Result, Ok, Err, refl, sym, subst, arith}
-use Rattle.std.specs.Prelude.{◌&&◌}
-use Rattle.lab_base.specs.declared.fault.Kind.{Kind}
+use Rattle.std.proofs.Common.{◌≡◌, ℕ, ◌+◌, Bool, true, false, cond, List, [], ◌∷◌, map, Option, Some, None, Ok, refl, sym, subst, arith}
 use Rattle.lab_base.specs.declared.fault.Kind.TheVariants as kinds
 use Rattle.virt_topo.specs.declared.topo.AskedNode.{AskedNode}
 use Rattle.virt_topo.specs.declared.topo.AskedLink.{AskedLink}
-use Rattle.virt_topo.specs.Repeats.{same_name}
 use Rattle.ns_words.specs.declared.names.Numbered.TheVariants as numbered
 use Rattle.ns_words.specs.Objects.{numbered_name_of, object_name_of}
 use Rattle.ns_words.proofs.NameLaws.{name_exact}
@@ -13,13 +10,11 @@ use Rattle.ns_build.specs.declared.keywords.Keyword.{Keyword}
 use Rattle.ns_build.specs.declared.keywords.Keyword.TheVariants as keywords
 use Rattle.ns_build.specs.declared.task.Task.{Task}
 use Rattle.ns_build.specs.declared.task.Task.TheVariants as tasks
-use Rattle.ns_build.specs.declared.task.NodeChange.{NodeChange}
 use Rattle.ns_build.specs.declared.task.NodeChange.TheVariants as nodes
-use Rattle.ns_build.specs.declared.task.LinkChange.{LinkChange}
 use Rattle.ns_build.specs.declared.task.LinkChange.TheVariants as links
 use Rattle.ns_build.specs.Networks.{Network, empty}
-use Rattle.ns_build.specs.Words.{node_of, link_of, simulator_word}
-use Rattle.ns_build.specs.Checks.{◌>>=◌, refuse, object_name_in, need}
+use Rattle.ns_build.specs.Words.{node_of, link_of}
+use Rattle.ns_build.specs.Checks.{◌>>=◌, refuse, object_name_in}
 use Rattle.ns_build.specs.Keywords.{keyword_of}
 use Rattle.ns_build.specs.Commands.{judged_simulator}
 use Rattle.ns_build.specs.Tasks.{judged_keyword, calls_simulator, judged, has_node, has_link, is_numbered, named_node, named_link, named_by, judged_name}

@@ -1,13 +1,13 @@
 -- A network with one class more keeps what networks keep.
-use Rattle.std.proofs.Common.{◌≡◌, ℕ, ◌+◌, ◌<◌, ◌≤◌, Bool, true, false, List, [], ◌∷◌, ◌++◌, length, refl, sym, ap, subst, ◌∙◌, arith, length-append}
+use Rattle.std.proofs.Common.{◌≡◌, Bool, false, [], ◌∷◌, ◌++◌, arith, length-append}
 use Rattle.std.specs.Prelude.{codes, ◌||◌}
-use Rattle.std.specs.List.{list_all, list_any}
+use Rattle.std.specs.List.{list_any}
 use Rattle.virt_topo.specs.declared.wiring.Class.{Class}
 use Rattle.virt_topo.specs.declared.topo.AskedNode.{AskedNode}
 use Rattle.virt_topo.specs.Repeats.{same_name, stands_again}
 use Rattle.virt_topo.specs.Soundness.{limits_class}
-use Rattle.virt_topo.specs.Topos.{Topo, IsTopo, asks_type, knows_asked, is_type_name}
-use Rattle.ns_build.specs.Networks.{Network, topo_of, refuses_class}
+use Rattle.virt_topo.specs.Topos.{IsTopo, asks_type, knows_asked, is_type_name}
+use Rattle.ns_build.specs.Networks.{Network, topo_of}
 use Rattle.ns_build.specs.Kept.{IsKept}
 use Rattle.ns_build.proofs.Elements.{or_first, or_second, or_neither, all_weak, all_push, none_push}
 use Rattle.ns_build.proofs.NamesDiffer.{again_push}

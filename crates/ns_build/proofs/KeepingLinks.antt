@@ -1,27 +1,24 @@
 -- A network with one link or LAN more, or one changed, keeps what networks keep.
-use Rattle.std.proofs.Common.{◌≡◌, ◌⊎◌, inl, inr, ℕ, ◌+◌, ◌^◌, ◌<◌, ◌≤◌, Bool, true, false, List, [], ◌∷◌, ◌++◌, length, map, Option, Some, None, cond, refl, sym, ap, subst, ◌∙◌, arith, length-append}
+use Rattle.std.proofs.Common.{◌≡◌, inl, inr, ℕ, ◌+◌, ◌≤◌, Bool, true, false, List, [], ◌∷◌, ◌++◌, length, map, Some, cond, refl, sym, ap, subst, ◌∙◌, arith, length-append}
 use Rattle.std.proofs.lemmas.List.{length-map, map-append}
 use Rattle.std.specs.Prelude.{nat_lt, nat_le, codes, ◌||◌, ◌&&◌, ◌==◌}
 use Rattle.std.specs.List.{list_all, list_any}
-use Rattle.std.proofs.lemmas.Bool.{ltb-true, lt-ltb, le-leb}
-use Rattle.lab_base.specs.Lists.{Has}
+use Rattle.std.proofs.lemmas.Bool.{le-leb}
 use Rattle.lab_base.specs.declared.rates.Rates.{Rates}
-use Rattle.virt_topo.specs.declared.wiring.Asks.{Asks}
 use Rattle.virt_topo.specs.declared.wiring.VirtEnd.{VirtEnd}
 use Rattle.virt_topo.specs.declared.topo.AskedNode.{AskedNode}
 use Rattle.virt_topo.specs.declared.topo.AskedLink.{AskedLink}
 use Rattle.virt_topo.specs.Repeats.{same_name, stands_again}
 use Rattle.virt_topo.specs.Soundness.{is_between, is_address, is_speed, are_rates}
-use Rattle.virt_topo.specs.Topos.{Topo, IsTopo, HasForm, IsAskedName, knows_asked, limits_link, most_ends}
+use Rattle.virt_topo.specs.Topos.{IsTopo, HasForm, IsAskedName, knows_asked, limits_link, most_ends}
 use Rattle.ns_words.specs.declared.names.Numbered.TheVariants as numbered
 use Rattle.ns_words.specs.Objects.{numbered_name_of}
 use Rattle.ns_words.proofs.NameLaws.{has_form, numbered_short}
 use Rattle.ns_build.specs.declared.task.LinkChange.{LinkChange}
 use Rattle.ns_build.specs.declared.task.LinkChange.TheVariants as links
 use Rattle.ns_build.specs.Networks.{Network, topo_of, changed_at, addressed, link_with, change_link}
-use Rattle.ns_build.specs.Tasks.{has_link}
 use Rattle.ns_build.specs.Kept.{IsKept, AreNumbered}
-use Rattle.ns_build.proofs.Elements.{and_first, and_second, and_both, or_first, or_second, or_neither, all_weak, all_push, all_changed, none_push, none_changed, any_map, Has-push, Has-changed, length-changed, map-changed}
+use Rattle.ns_build.proofs.Elements.{and_first, and_second, and_both, all_weak, all_push, all_changed, none_push, none_changed, any_map, Has-push, Has-changed, length-changed, map-changed}
 use Rattle.ns_build.proofs.NamesDiffer.{again_push, again_kept, again_named}
 use Rattle.ns_build.proofs.Numbering.{next_is_new, numbered_push, numbered_named, given_plain}
 use Rattle.ns_build.proofs.Fitting.{FitsLink, FitsLinkChange}

@@ -1,7 +1,7 @@
 -- A network with one node more, or one changed, keeps what networks keep.
-use Rattle.std.proofs.Common.{◌≡◌, ◌⊎◌, inl, inr, ℕ, ◌+◌, ◌^◌, ◌<◌, ◌≤◌, Bool, true, false, List, [], ◌∷◌, ◌++◌, length, map, Option, Some, None, refl, sym, ap, subst, ◌∙◌, arith, length-append}
+use Rattle.std.proofs.Common.{◌≡◌, inl, inr, ℕ, ◌+◌, ◌<◌, ◌≤◌, true, false, List, [], ◌∷◌, ◌++◌, length, map, Option, Some, None, refl, sym, subst, ◌∙◌, arith, length-append}
 use Rattle.std.proofs.lemmas.List.{length-map}
-use Rattle.std.specs.Prelude.{nat_lt, codes, ◌||◌, ◌==◌, position}
+use Rattle.std.specs.Prelude.{nat_lt, codes, position}
 use Rattle.std.specs.List.{list_all, list_any}
 use Rattle.std.proofs.lemmas.Bool.{ltb-true, lt-ltb}
 use Rattle.std.proofs.lemmas.List.{map-append}
@@ -19,13 +19,12 @@ use Rattle.ns_words.specs.Objects.{numbered_name_of}
 use Rattle.ns_words.proofs.NameLaws.{has_form, numbered_short}
 use Rattle.ns_build.specs.declared.task.NodeChange.{NodeChange}
 use Rattle.ns_build.specs.declared.task.NodeChange.TheVariants as nodes
-use Rattle.ns_build.specs.Networks.{Network, topo_of, next_node, fresh_node, asks_in, asks_of, changed_at, node_with, change_node}
-use Rattle.ns_build.specs.Tasks.{has_node}
+use Rattle.ns_build.specs.Networks.{Network, topo_of, next_node, fresh_node, asks_in, changed_at, node_with, change_node}
 use Rattle.ns_build.specs.Kept.{IsKept, AreNumbered}
 use Rattle.ns_build.proofs.Elements.{or_first, or_second, or_neither, all_weak, all_push, all_changed, none_at, none_from, none_push, none_changed, any_map, Has-push, Has-changed, length-changed, map-changed, place_below, no_place}
 use Rattle.ns_build.proofs.NamesDiffer.{again_push, again_kept, again_named}
 use Rattle.ns_build.proofs.Numbering.{next_is_new, numbered_push, numbered_named, given_plain}
-use Rattle.ns_build.proofs.Fitting.{FitsNode, FitsName, FitsAsks, FitsNodeChange}
+use Rattle.ns_build.proofs.Fitting.{FitsNode, FitsNodeChange}
 
 -- what a node asks for is known where there are as many classes
 pub knows_more : (t u : Topo) (asks : Asks) → length t.classes ≤ length u.classes → knows_asked t asks ≡ true → knows_asked u asks ≡ true

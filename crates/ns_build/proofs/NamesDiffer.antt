@@ -1,8 +1,7 @@
 -- No name stands twice: one element more, one changed, one named anew.
-use Rattle.std.proofs.Common.{◌≡◌, ℕ, zero, suc, Bool, true, false, List, [], ◌∷◌, ◌++◌, map, refl, sym, ap, subst, ◌∙◌}
+use Rattle.std.proofs.Common.{◌≡◌, ℕ, zero, suc, Bool, true, false, List, [], ◌∷◌, ◌++◌, refl, sym, ap, subst, ◌∙◌}
 use Rattle.std.specs.Prelude.{◌||◌}
 use Rattle.std.specs.List.{list_any}
-use Rattle.std.proofs.lemmas.List.Folds.{list_any-append}
 use Rattle.virt_topo.specs.Repeats.{same_name, stands_again}
 use Rattle.ns_words.proofs.Lookups.{same_self, same_true}
 use Rattle.ns_build.specs.Networks.{changed_at}

@@ -1,18 +1,17 @@
 -- The names of numbers, and those that variables give.
-use Rattle.std.proofs.Common.{◌≡◌, ◌≢◌, ◌⊎◌, inl, inr, ℕ, zero, suc, ◌+◌, ◌^◌, ◌<◌, ◌≤◌, Bool, true, false, List, [], ◌∷◌, ◌++◌, length, map, Some, refl, sym, ap, subst, ◌∙◌, arith, add-one}
+use Rattle.std.proofs.Common.{◌≡◌, inl, inr, ℕ, zero, suc, ◌+◌, ◌^◌, ◌<◌, Bool, true, false, List, [], ◌∷◌, ◌++◌, length, map, refl, sym, ap, subst, ◌∙◌, arith}
 use Rattle.std.specs.Prelude.{◌||◌, ◌==◌, decimal}
 use Rattle.std.specs.List.{list_any}
 use Rattle.std.specs.Str.Parse.{digits_value}
 use Rattle.std.proofs.lemmas.Fmt.{decimal_is_IsNumeral}
 use Rattle.std.proofs.lemmas.List.{append_cancel_left}
 use Rattle.std.proofs.lemmas.List.Folds.{list_any-append}
-use Rattle.lab_base.specs.Lists.{Has}
 use Rattle.virt_topo.specs.Repeats.{same_name}
 use Rattle.virt_topo.specs.Topos.{is_word_byte, IsWord, IsIndex}
 use Rattle.ns_words.specs.declared.names.Numbered.{Numbered}
 use Rattle.ns_words.specs.declared.names.Numbered.TheVariants.{Node, Link}
-use Rattle.ns_words.specs.Objects.{IsGiven, IsObjectName, numbered_prefix, numbered_name_of, object_name_of}
-use Rattle.ns_words.proofs.Lookups.{same_self, same_true}
+use Rattle.ns_words.specs.Objects.{IsGiven, IsObjectName, numbered_prefix, numbered_name_of}
+use Rattle.ns_words.proofs.Lookups.{same_true}
 use Rattle.ns_build.specs.Networks.{changed_at}
 use Rattle.ns_build.specs.Kept.{has_dot, AreNumbered}
 use Rattle.ns_build.proofs.Elements.{all_at, none_from, or_neither}

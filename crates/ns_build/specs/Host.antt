@@ -1,8 +1,6 @@
 -- THE TWO CALLS of the host of NS commands.
-use Rattle.std.specs.Prelude.{ℕ, true, List, [], ◌∷◌, ◌++◌, length, Some, Result, Ok, Err}
+use Rattle.std.specs.Prelude.{ℕ, true, List, [], ◌∷◌, ◌++◌, length, Result, Ok, Err}
 use Rattle.lab_base.specs.declared.fault.Kind.{Kind}
-use Rattle.virt_topo.specs.declared.topo.AskedNode.{AskedNode}
-use Rattle.virt_topo.specs.declared.topo.AskedLink.{AskedLink}
 use Rattle.tcl_eval.specs.declared.hosts.Called.{Called}
 use Rattle.tcl_eval.specs.declared.hosts.Called.TheVariants.{NotMine, Value, Stop}
 use Rattle.ns_build.specs.declared.task.Task.{Task}

@@ -1,5 +1,5 @@
 -- The network that a text has made so far.
-use Rattle.std.specs.Prelude.{ℕ, ◌+◌, ◌==◌, nat_lt, Bool, true, false, ◌&&◌, ◌||◌, List, [], ◌∷◌, ◌++◌, length, map, codes, position, count_by, slice_index_or, Option, Some, None, if◌then◌else◌}
+use Rattle.std.specs.Prelude.{ℕ, ◌+◌, ◌==◌, Bool, false, ◌||◌, List, [], ◌∷◌, length, map, codes, position, count_by, slice_index_or, Option, Some, None, if◌then◌else◌}
 use Rattle.std.proofs.Common.{zero, suc}
 use Rattle.std.specs.List.{list_any}
 use Rattle.lab_base.specs.declared.rates.Rates.{Rates}

@@ -1,5 +1,5 @@
 -- A text has one meaning, and a word stands for one object.
-use Rattle.std.specs.Prelude.{◌≡◌, ℕ, ◌<◌, ◌≤◌, false, List, length, Option, Some, None, Result}
+use Rattle.std.specs.Prelude.{◌≡◌, ℕ, ◌<◌, ◌≤◌, false, List, length, Some, None, Result}
 use Rattle.lab_base.specs.declared.fault.TextFault.{TextFault}
 use Rattle.lab_base.specs.Names.{is_name}
 use Rattle.ns_build.specs.declared.asked.Asked.{Asked}

@@ -1,5 +1,5 @@
 -- What the commands that begin with `tb-` ask for, or their first fault.
-use Rattle.std.specs.Prelude.{ℕ, nat_lt, nat_le, Bool, true, false, not, ◌||◌, List, [], ◌∷◌, ◌++◌, length, Option, Some, None, Result, Ok, Err}
+use Rattle.std.specs.Prelude.{ℕ, nat_lt, nat_le, Bool, not, ◌||◌, List, [], ◌∷◌, ◌++◌, length, Result, Ok}
 use Rattle.std.specs.List.{list_any}
 use Rattle.lab_base.specs.declared.fault.Kind.{Kind}
 use Rattle.lab_base.specs.declared.fault.Kind.TheVariants as kinds
