@@ -6,7 +6,7 @@ use Rattle.lab_base.specs.Texts.{is_filled}
 use Rattle.virt_topo.specs.Repeats.{same_name}
 use Rattle.ns_build.specs.Networks.{Network}
 
--- THE WORDS OF OBJECTS begin with a colon, which no name has
+-- THE WORDS OF OBJECTS begin with a colon, which no name has, and have no byte that parts the elements of a list
 
 abbrev pub simulator_word : List ℕ
 simulator_word = codes ":ns"

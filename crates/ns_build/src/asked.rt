@@ -30,7 +30,11 @@ fn refused(line: u32, kind: Kind) -> TextRefused
     TextRefused::Text(TextFault { line, kind })
 }
 
-/// Reads an NS text.
+/// Reads an NS text: the network that its commands make up to `$ns run`.
+///
+/// The error is the first fault of the text, with its line: `long` above 65,536 bytes, then a fault of the words of
+/// the whole text, then one of its evaluation, with the line of the command at the top level, and `not-run` with
+/// the last line where no `$ns run` is reached.
 pub fn read_ns(alloc: Global, text: &[u8]) -> Result<Asked, TextRefused>
     requires short { length text.now < 2 ^ 32 - 1 }
     ensures meaning { HasMeaning text.now result }

@@ -10,7 +10,7 @@ ghost use Rattle.ns_build.specs.Words.{place_below, place_in, is_parting, elemen
 use lab_base::{Memory, Text, read_number};
 use std::alloc::{AllocError, Global};
 
-/// The simulator's word.
+/// The simulator's word. Words of objects begin with a colon, so that they are no names, and can be elements of lists.
 pub(crate) const SIMULATOR: &[u8] = b":ns";
 
 /// What the words of nodes begin with; the place of the node follows.
