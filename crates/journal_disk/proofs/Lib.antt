@@ -5,3 +5,4 @@ pub mod Parts
 pub mod Found
 pub mod Made
 pub mod Opening
+pub mod Holding

@@ -4,7 +4,11 @@ use Rattle.plant.specs.Disks.{ArePossible}
 use Rattle.plant.specs.Events.{Event, Missed}
 use Rattle.plant.specs.Told.{Told, with_steps}
 use Rattle.plant.specs.declared.step.Side.{Side}
+use Rattle.lab_base.specs.Lists.{Has}
 use Rattle.journal_rec.specs.declared.record.Record.{Record}
+use Rattle.journal_rec.specs.declared.record.Found.{Found}
+use Rattle.journal_rec.specs.Payloads.{IsRecord}
+use Rattle.journal_disk.specs.Walks.{placed}
 use Rattle.journal_model.specs.Journals.{gate_after, Records}
 use Rattle.journal_model.specs.Appends.{Opened, Run, Nothing, All, added, IsOn}
 use Rattle.journal_disk.specs.declared.fault.AppendFault.{AppendFault}
@@ -51,3 +55,9 @@ pub record Appends (old new : Option Told) (j : Journal) (r : Record) (result : 
 pub record Moments (trace : List Event) (steps : List Event) (side : Side) (rs : List Record) (r : Record) (result : Result (Unit {0}) AppendFault) : Type 0 where
   pub each : (front back : List Event) → steps ≡ front ++ back → (a b : List ℕ) → ArePossible (trace ++ front) a b → IsOn side a b rs ⊎ IsOn side a b (rs ++ r ∷ [])
   pub ok : OnOk result ((a b : List ℕ) → ArePossible (trace ++ steps) a b → IsOn side a b (rs ++ r ∷ []))
+
+-- THE JOURNAL HOLDS these records, which were found with the places of their gates
+pub record Holds (rs : List Record) (j : Journal) (found : List Found) : Type 0 where
+  pub found_so : found ≡ placed 17 rs
+  pub are_records : (r : Record) → Has rs r → IsRecord r
+  pub gate : gate_of j ≡ gate_after rs

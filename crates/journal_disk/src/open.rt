@@ -7,7 +7,7 @@ ghost use Rattle.journal_rec.specs.declared.record.Record.{Record};
 ghost use Rattle.journal_model.specs.Journals.{Bad, head};
 ghost use Rattle.journal_disk.specs.Fronts.{seen, place_of};
 ghost use Rattle.journal_disk.specs.Walks.{placed};
-ghost use Rattle.journal_disk.specs.Standing.{IsAt, HasAll, limit_of};
+ghost use Rattle.journal_disk.specs.Standing.{IsAt, HasAll, Holds, limit_of};
 ghost use Rattle.journal_disk.specs.Openings.{IsOpened};
 ghost use Rattle.journal_disk.specs.Opening.{Opens};
 ghost use Rattle.journal_disk.specs.Before.{IsOpening};
@@ -56,6 +56,7 @@ impl Journal {
         requires least { 18 ≤ limit }
         requires most { limit ≤ 2 ^ 32 }
         ensures ok { IfOk result (λ opened. (rs : List Record) × (opened.1.items ≡ placed 17 rs) × IfSome (P.told plant.new) (λ t. IsAt t.trace opened.0 rs × HasAll t.trace rs)) }
+        ensures holds { IfOk result (λ opened. (rs : List Record) × Holds rs opened.0 opened.1.items) }
         ensures bad { (side : AnySide) (at : ℕ) → result ≡ Err (OpenFault.Bad side at) → IfSome (P.told plant.new) (λ t. Bad (disk A t.trace).reads (disk B t.trace).reads side at) }
         ensures plant { IsErrOf result OpenFault.Plant → Rose (P.faults plant.old).disk (P.faults plant.new).disk }
         ensures later { (P.faults plant.old).disk ≤ (P.faults plant.new).disk }

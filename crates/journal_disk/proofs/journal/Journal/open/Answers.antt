@@ -8,7 +8,14 @@ use Rattle.journal_disk.specs.Fronts.{seen, place_of}
 use Rattle.journal_disk.specs.Openings.{IsOpened}
 use Rattle.journal_disk.proofs.Opening.{saw, syncs_exit, reads_exit, made_exit, new_exit, on_exit, wrong_exit, moments_of}
 use Rattle.journal_disk.proofs.Found.{read_in, opened_ok, opened_bad, wrong_bad, made_ok}
+use Rattle.journal_disk.proofs.Holding.{holds_read}
 use Rattle.journal_disk.proofs.journal.Journal.open.Goals as goal
+
+pub returns-in-On-A-clause-holds : goal.returns-in-On-A-clause-holds
+returns-in-On-A-clause-holds g c = holds_read A c.args.limit _ c.opened.result c.opened.ensures
+
+pub returns-in-On-B-clause-holds : goal.returns-in-On-B-clause-holds
+returns-in-On-B-clause-holds g c = holds_read B c.args.limit _ c.opened-in-On-B.result c.opened-in-On-B.ensures
 
 pub returns-in-On-A-clause-ok : goal.returns-in-On-A-clause-ok
 returns-in-On-A-clause-ok g c =
