@@ -1,0 +1,9 @@
+pub mod BeginLaws
+pub mod EnterLaws
+pub mod JudgeLaws
+pub mod MoveLaws
+pub mod Named
+pub mod ReplayLaws
+pub mod SizeLaws
+pub mod SwapLaws
+pub mod TextLaws

@@ -1,0 +1,36 @@
+use Rattle.std.proofs.Common.{◌≤◌, sym, subst, ◌∙◌}
+use Rattle.std.proofs.lemmas.Result.{err_from_is_err_and}
+use Rattle.journal_rec.specs.declared.record.Record.TheVariants.{Create}
+use Rattle.virt_topo.specs.declared.wiring.Wiring.{Wiring}
+use Rattle.records_model.specs.Labs.{HasText}
+use Rattle.lab_state.specs.Kept.{state_of}
+use Rattle.lab_state.specs.Texts.{the_texts}
+use Rattle.lab_state.proofs.JudgeLaws.{create_nowhere, create_full, create_twice, create_unread, create_follows, looked_up, unjudged}
+use Rattle.lab_state.proofs.state.LabState.judge_create.Goals as goal
+
+pub returns-then-is_none : goal.returns-then-is_none
+returns-then-is_none c = rw (← c.self.view_is) (create_nowhere c.self.inside.place c.self.inside.experiments.list c.args.exp c.args.text.now c.if-is_none.ensures)
+
+pub returns-then-len-ge-MOST : goal.returns-then-len-ge-MOST
+returns-then-len-ge-MOST c =
+    rw (← c.self.view_is) (create_full c.self.inside.place c.self.inside.experiments.list c.args.exp c.args.text.now (subst (λ n. 256 ≤ n) c.len.ensures c.if-len-ge-MOST.true))
+
+pub returns-then-is_some : goal.returns-then-is_some
+returns-then-is_some c =
+    let es = c.self.inside.experiments.list in
+    rw (← c.self.view_is) (create_twice c.self.inside.place es c.args.exp c.args.text.now (looked_up c.named.result _ c.is_some.result c.named.ensures c.is_some.ensures ∙ c.if-is_some.true))
+
+pub returns-in_err-wiring : goal.returns-in_err-wiring
+returns-in_err-wiring c =
+    let place = c.self.inside.place in
+    let es = c.self.inside.experiments.list in
+    let text = c.args.text.now in
+    let p = err_from_is_err_and c.from_residual.result c.from_residual.ensures.1 in
+    rw (← c.self.view_is, p.1, p.2) (unjudged (state_of place es) (Create c.args.exp text) c.in_err-wiring.field-0.0 _ c.in_err-wiring.ensures.bad (create_unread place es c.args.exp text))
+
+pub returns : goal.returns
+returns c =
+    let place = c.self.inside.place in
+    let es = c.self.inside.experiments.list in
+    let new = looked_up c.named.result _ c.is_some.result c.named.ensures c.is_some.ensures ∙ c.if-is_some.false in
+    rw (← c.self.view_is) (create_follows place es c.args.exp c.args.text.now c.in_ok-wiring.wiring c.if-is_none.ensures (rw c.len.ensures at c.if-len-ge-MOST.false) new c.in_ok-wiring.ensures.ok.0 c.in_ok-wiring.ensures.ok.1)

@@ -1,0 +1,23 @@
+-- What is claimed of a lab, after a claim is noted and after a move has ended.
+use Rattle.std.specs.Prelude.{ℕ, Bool, List, Option, Some, None, if◌then◌else◌}
+use Rattle.claims.specs.declared.claim.Claim.{Claim}
+use Rattle.claims.specs.Held.{Held}
+use Rattle.claims.specs.Adding.{with_claim, without, narrowed}
+use Rattle.lab_state.specs.declared.claimed_lab.ClaimedLab.{ClaimedLab}
+
+-- the lab with other claims
+abbrev pub with_claims : ClaimedLab → Held → ClaimedLab
+with_claims place held = record { lab = place.lab; claims = held }
+
+-- with the claim of an experiment
+abbrev pub noted : List ℕ → Claim → Option ClaimedLab → Option ClaimedLab
+noted exp claim None = None
+noted exp claim (Some place) = Some (with_claims place (with_claim exp claim place.claims))
+
+-- with one side of the claim of an experiment that stands, or without it
+abbrev pub kept_side : Bool → List ℕ → Bool → Held → Held
+kept_side stands exp commit held = if stands then narrowed exp commit held else without exp held
+
+abbrev pub settled : Bool → List ℕ → Bool → Option ClaimedLab → Option ClaimedLab
+settled stands exp commit None = None
+settled stands exp commit (Some place) = Some (with_claims place (kept_side stands exp commit place.claims))

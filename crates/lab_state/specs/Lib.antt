@@ -1,0 +1,11 @@
+pub mod Answers
+pub mod Changes
+pub mod Claimed
+pub mod Ends
+pub mod Experiments
+pub mod Judged
+pub mod Kept
+pub mod Moves
+pub mod Replays
+pub mod Seen
+pub mod Texts

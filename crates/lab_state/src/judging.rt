@@ -1,0 +1,194 @@
+// Judging records.
+ghost use Rattle.std.specs.Prelude.{◌≡◌, ◌<◌, length};
+ghost use Rattle.journal_rec.specs.declared.record.Record.TheVariants as records;
+ghost use Rattle.journal_rec.specs.declared.record.Way.TheVariants as ways;
+ghost use Rattle.journal_rec.specs.Payloads.{IsRecord};
+ghost use Rattle.records_model.specs.Labs.{Sane};
+ghost use Rattle.lab_state.specs.Changes.{ending_record};
+ghost use Rattle.lab_state.specs.Judged.{IsJudged};
+
+use crate::PrepareFault;
+use crate::claimed_lab::ClaimedLab;
+use crate::ending::{is_in, is_out, may_end};
+use crate::prepared::Change;
+use crate::state::LabState;
+use crate::texts::{lab_of, mapping_of, wiring_of};
+use journal_rec::{Record, Way};
+use lab_base::{Name, Tags};
+use virt_topo::{Experiment, Mapped, Phase};
+
+/// The most experiments of a lab.
+const MOST: usize = 256;
+
+impl LabState {
+    /// A lab comes first, and once.
+    fn judge_lab(&self, text: &[u8]) -> Result<Change, PrepareFault>
+        requires { length text.now < 4294967295 }
+        ensures { IsJudged self.now.state (records.Lab text.now) result }
+    {
+        if self.place.is_some() {
+            return Err(PrepareFault::Bad);
+        }
+        let lab = lab_of(self.alloc, text)?;
+        let place = ClaimedLab::new(self.alloc, lab)?;
+        Ok(Change::Set(place))
+    }
+
+    /// A new experiment needs a lab, a new name, and at most 255 experiments there.
+    fn judge_create(&self, exp: Name, text: &[u8]) -> Result<Change, PrepareFault>
+        requires { length text.now < 4294967295 }
+        ensures { IsJudged self.now.state (records.Create exp text.now) result }
+    {
+        if self.place.is_none() {
+            return Err(PrepareFault::Bad);
+        }
+        if self.experiments.len() >= MOST {
+            return Err(PrepareFault::Bad);
+        }
+        if self.experiments.named(exp).is_some() {
+            return Err(PrepareFault::Bad);
+        }
+        let wiring = wiring_of(self.alloc, text)?;
+        Ok(Change::Add(Experiment {
+            name: exp,
+            wiring,
+            phase: Phase::Out,
+        }))
+    }
+
+    /// An experiment that goes has to be out.
+    fn judge_delete(&self, exp: Name) -> Result<Change, PrepareFault>
+        ensures { IsJudged self.now.state (records.Delete exp) result }
+    {
+        match self.experiments.named(exp) {
+            Some(experiment) => {
+                if is_out(&experiment.phase) {
+                    Ok(Change::Remove(exp))
+                } else {
+                    Err(PrepareFault::Bad)
+                }
+            }
+            None => Err(PrepareFault::Bad),
+        }
+    }
+
+    /// A swap-in begins for an experiment that is out.
+    fn judge_in(&self, exp: Name, map: &[u8], tags: &Tags) -> Result<Change, PrepareFault>
+        requires { length map.now < 4294967295 }
+        ensures { IsJudged self.now.state (records.Begin exp (ways.In map.now tags.now)) result }
+    {
+        let Some(place) = &self.place else {
+            return Err(PrepareFault::Bad);
+        };
+        let Some(experiment) = self.experiments.named(exp) else {
+            return Err(PrepareFault::Bad);
+        };
+        if !is_out(&experiment.phase) {
+            return Err(PrepareFault::Bad);
+        }
+        let mapping = mapping_of(self.alloc, &place.lab, &experiment.wiring, map)?;
+        let wiring = experiment.wiring.copy(self.alloc)?;
+        let tags = tags.copy(self.alloc)?;
+        let new = Mapped {
+            wiring,
+            mapping,
+            tags,
+        };
+        place.take(self.alloc, experiment, new)
+    }
+
+    /// A swap-out begins for an experiment that is in.
+    fn judge_out(&self, exp: Name) -> Result<Change, PrepareFault>
+        ensures { IsJudged self.now.state (records.Begin exp ways.Out) result }
+    {
+        let Some(place) = &self.place else {
+            return Err(PrepareFault::Bad);
+        };
+        let Some(experiment) = self.experiments.named(exp) else {
+            return Err(PrepareFault::Bad);
+        };
+        if !is_in(&experiment.phase) {
+            return Err(PrepareFault::Bad);
+        }
+        let change = place.begin(self.alloc, experiment, None)?;
+        Ok(change)
+    }
+
+    /// A change begins for an experiment that is in.
+    fn judge_change(
+        &self,
+        exp: Name,
+        top: &[u8],
+        map: &[u8],
+        tags: &Tags,
+    ) -> Result<Change, PrepareFault>
+        requires top { length top.now < 4294967295 }
+        requires map { length map.now < 4294967295 }
+        ensures { IsJudged self.now.state (records.Begin exp (ways.Change top.now map.now tags.now)) result }
+    {
+        let Some(place) = &self.place else {
+            return Err(PrepareFault::Bad);
+        };
+        let Some(experiment) = self.experiments.named(exp) else {
+            return Err(PrepareFault::Bad);
+        };
+        if !is_in(&experiment.phase) {
+            return Err(PrepareFault::Bad);
+        }
+        let wiring = wiring_of(self.alloc, top)?;
+        let mapping = mapping_of(self.alloc, &place.lab, &wiring, map)?;
+        let tags = tags.copy(self.alloc)?;
+        let new = Mapped {
+            wiring,
+            mapping,
+            tags,
+        };
+        place.take(self.alloc, experiment, new)
+    }
+
+    fn judge_begin(&self, exp: Name, way: &Way) -> Result<Change, PrepareFault>
+        requires { IsRecord (records.Begin exp way.now) }
+        ensures { IsJudged self.now.state (records.Begin exp way.now) result }
+    {
+        match way {
+            Way::In { map, tags } => self.judge_in(exp, map.bytes(), tags),
+            Way::Out => self.judge_out(exp),
+            Way::Change { top, map, tags } => {
+                self.judge_change(exp, top.bytes(), map.bytes(), tags)
+            }
+        }
+    }
+
+    /// A move that ends has begun, and one that is undone was not a swap-out.
+    fn judge_end(&self, exp: Name, commit: bool) -> Result<Change, PrepareFault>
+        ensures { IsJudged self.now.state (ending_record exp commit) result }
+    {
+        match self.experiments.named(exp) {
+            Some(experiment) => {
+                if may_end(&experiment.phase, commit) {
+                    Ok(Change::End { exp, commit })
+                } else {
+                    Err(PrepareFault::Bad)
+                }
+            }
+            None => Err(PrepareFault::Bad),
+        }
+    }
+
+    /// What a record changes; `Bad` exactly where it can't follow. Its clause `sane` is what every lab keeps.
+    pub(crate) fn judge(&self, entry: &Record) -> Result<Change, PrepareFault>
+        requires { IsRecord entry.now }
+        ensures judged { IsJudged self.now.state entry.now result }
+        ensures sane { Sane self.now.state }
+    {
+        let _kept = &self.experiments;
+        match entry {
+            Record::Lab { ptop } => self.judge_lab(ptop.bytes()),
+            Record::Create { exp, top } => self.judge_create(*exp, top.bytes()),
+            Record::Delete { exp } => self.judge_delete(*exp),
+            Record::Begin { exp, way } => self.judge_begin(*exp, way),
+            Record::Commit { exp } => self.judge_end(*exp, true),
+            Record::Abort { exp } => self.judge_end(*exp, false),
+        }
+    }
+}

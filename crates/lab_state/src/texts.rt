@@ -1,0 +1,70 @@
+// Canonical texts: a text is one exactly where reading it gives a value whose canonical text it is.
+ghost use Rattle.std.specs.Prelude.{◌≡◌, ◌<◌, length, IfOk};
+ghost use Rattle.phys_lab.specs.Labs.{Lab as AnyLab};
+ghost use Rattle.phys_lab.specs.Kept.{IsLab};
+ghost use Rattle.virt_topo.specs.declared.wiring.Wiring.{Wiring as AnyWiring};
+ghost use Rattle.virt_topo.specs.declared.mapping.Mapping.{Mapping as AnyMapping};
+ghost use Rattle.lab_model.specs.Shapes.{IsShaped};
+ghost use Rattle.records_model.specs.Labs.{HasText};
+ghost use Rattle.lab_state.specs.Answers.{OnBad};
+ghost use Rattle.lab_state.specs.Texts.{the_texts};
+
+use crate::PrepareFault;
+use phys_lab::Lab;
+use ptop_text::{print_ptop, read_ptop};
+use std::alloc::Global;
+use top_text::{print_solution, print_top, read_solution, read_top};
+use virt_topo::{Mapping, Wiring};
+
+/// The lab whose canonical text this is.
+pub(crate) fn lab_of(alloc: Global, text: &[u8]) -> Result<Lab, PrepareFault>
+    requires { length text.now < 4294967295 }
+    ensures ok { IfOk result (λ lab. IsLab lab × (text.now ≡ the_texts.ptop lab)) }
+    ensures bad { OnBad result ((lab : AnyLab) → IsLab lab → text.now ≡ the_texts.ptop lab → ⊥) }
+{
+    let lab = read_ptop(alloc, text)?;
+    let _kept = lab.range();
+    let printed = print_ptop(alloc, &lab)?;
+    if printed.bytes() == text {
+        Ok(lab)
+    } else {
+        Err(PrepareFault::Bad)
+    }
+}
+
+/// The wiring whose canonical text this is.
+pub(crate) fn wiring_of(alloc: Global, text: &[u8]) -> Result<Wiring, PrepareFault>
+    requires { length text.now < 4294967295 }
+    ensures ok { IfOk result (λ wiring. HasText the_texts wiring × (text.now ≡ the_texts.top wiring)) }
+    ensures bad { OnBad result ((wiring : AnyWiring) → HasText the_texts wiring → text.now ≡ the_texts.top wiring → ⊥) }
+{
+    let wiring = read_top(alloc, text)?;
+    let printed = print_top(alloc, &wiring)?;
+    if printed.bytes() == text {
+        Ok(wiring)
+    } else {
+        Err(PrepareFault::Bad)
+    }
+}
+
+/// The mapping whose canonical text this is, for a lab and a wiring.
+pub(crate) fn mapping_of(
+    alloc: Global,
+    lab: &Lab,
+    wiring: &Wiring,
+    text: &[u8],
+) -> Result<Mapping, PrepareFault>
+    requires short { length text.now < 4294967295 }
+    requires wiring { HasText the_texts wiring.now }
+    ensures ok { IfOk result (λ mapping. IsShaped lab.now wiring.now mapping × (text.now ≡ the_texts.solution lab.now wiring.now mapping)) }
+    ensures bad { OnBad result ((mapping : AnyMapping) → IsShaped lab.now wiring.now mapping → text.now ≡ the_texts.solution lab.now wiring.now mapping → ⊥) }
+{
+    let _kept = lab.range();
+    let mapping = read_solution(alloc, text, lab, wiring)?;
+    let printed = print_solution(alloc, lab, wiring, &mapping)?;
+    if printed.bytes() == text {
+        Ok(mapping)
+    } else {
+        Err(PrepareFault::Bad)
+    }
+}
