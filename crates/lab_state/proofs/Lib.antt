@@ -1,4 +1,5 @@
 pub mod BeginLaws
+pub mod Canonical
 pub mod EnterLaws
 pub mod JudgeLaws
 pub mod MoveLaws
