@@ -5,7 +5,8 @@ use crate::Memory;
 use std::alloc::{AllocError, AllocFailed};
 
 /// What is wrong with a line. The kinds of a ptop, top or solution text come first, in the order in which
-/// they are tried; then those of Tcl words and their evaluation, and those of NS commands.
+/// they are tried; then those of Tcl words and their evaluation, those of NS commands, and those of the expansion
+/// of networks.
 #[derive(Clone, Copy, Debug, PartialEq, Eq)]
 pub enum Kind {
     Word,
@@ -47,6 +48,8 @@ pub enum Kind {
     Loss,
     Ip,
     NotRun,
+    Address,
+    Subnet,
 }
 
 impl Kind {
@@ -94,6 +97,8 @@ impl Kind {
             Kind::Loss => "loss",
             Kind::Ip => "ip",
             Kind::NotRun => "not-run",
+            Kind::Address => "address",
+            Kind::Subnet => "subnet",
         }
     }
 }
