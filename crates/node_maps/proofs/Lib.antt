@@ -1,7 +1,10 @@
 pub mod Leasts
 pub mod Places
-pub mod RuleSteps
 pub mod IfaceCount
 pub mod EndLists
 pub mod Shaped
 pub mod MapLaws
+pub mod IndexLaws
+pub mod CandidateLaws
+pub mod PlugLaws
+pub mod Assembled

@@ -1,61 +1,105 @@
 // The interface rule.
-ghost use Rattle.std.specs.Prelude.{◌≡◌, ◌==◌, [], length, IfOk};
-ghost use Rattle.std.specs.List.{list_any};
-ghost use Rattle.node_maps.specs.NodeMaps.{may_take, first_iface as first_iface_in, with_plug, plugs_from};
+ghost use Rattle.std.specs.Prelude.{◌≡◌, ◌<◌, ◌&&◌, not, nat_le, [], length, All, Some, None, false, if◌then◌else◌, slice_index_or, IfOk, OnOk, IfSome};
+ghost use Rattle.std.specs.List.{find};
+ghost use Rattle.std.specs.Option.{option_map};
+ghost use Rattle.node_maps.specs.NodeMaps.{with_plug, plugs_from};
+ghost use Rattle.node_maps.specs.Indexed.{IsIndex, Marks};
 
 use crate::ends::End;
+use crate::index::{NodeIface, NodeIfaces};
 use crate::lists::Place;
-use lab_base::{IfaceId, Items, Memory, NodeId};
-use phys_lab::{Iface, Lab};
+use lab_base::{IfaceId, Items, Memory};
+use phys_lab::Lab;
 use std::alloc::Global;
 
-fn has_plug(plugs: &[IfaceId], iface: u16) -> bool
-    ensures { result ≡ list_any (λ i. i.0 == iface) plugs.now }
+/// Whether an interface is fast enough and not taken.
+fn may_serve(iface: &NodeIface, taken: &[bool], kbps: u64) -> bool
+    requires { iface.now.id.0 < length taken.now }
+    ensures { result ≡ (nat_le kbps iface.now.kbps && not (slice_index_or taken.now iface.now.id.0 false)) }
 {
-    plugs.iter().any(|plug| plug.0 == iface)
+    kbps <= iface.kbps && !taken[iface.id.0 as usize]
 }
 
-fn may_take(id: u16, iface: &Iface, had: &[IfaceId], node: NodeId, kbps: u64) -> bool
-    ensures { result ≡ may_take id iface.now had.now node kbps }
+/// The first of the interfaces that is fast enough and not taken.
+fn first_free(listed: &[NodeIface], taken: &[bool], kbps: u64) -> Option<IfaceId>
+    requires { All (λ x. x.id.0 < length taken.now) listed.now }
+    ensures first { result ≡ option_map (λ x. x.id) (find (λ x. nat_le kbps x.kbps && not (slice_index_or taken.now x.id.0 false)) listed.now) }
+    ensures within { IfSome result (λ iface. iface.0 < length taken.now) }
 {
-    iface.node.0 == node.0 && kbps <= iface.kbps && !has_plug(had, id)
-}
-
-/// The first interface of the node that is fast enough and that no earlier end has.
-fn first_iface(lab: &Lab, had: &[IfaceId], node: NodeId, kbps: u64) -> Option<IfaceId>
-    ensures { result ≡ first_iface_in 0 lab.now.ifaces had.now node kbps }
-{
-    let _kept = lab.range();
-    let ifaces = lab.ifaces();
-    for iface in 0..ifaces.len() {
-        if may_take(iface as u16, &ifaces[iface], had, node, kbps) {
-            return Some(IfaceId(iface as u16));
+    for iface in listed {
+        if may_serve(iface, taken, kbps) {
+            return Some(iface.id);
         }
     }
     None
 }
 
-/// The plugs with that of one more end, where its virtual node is placed.
-fn add_plug(
-    lab: &Lab,
-    places: &[Place],
-    end: End,
-    mut had: Items<IfaceId>,
-) -> Result<Option<Items<IfaceId>>, Memory>
-    ensures { IfOk result (λ plugs. plugs ≡ with_plug lab.now places.now end had) }
-{
-    let Some(place) = places.get(end.node as usize) else {
-        return Ok(Some(had));
-    };
-    let Some(plug) = first_iface(lab, had.as_slice(), place.0, end.kbps) else {
-        return Ok(None);
-    };
-    had.push(plug)?;
-    Ok(Some(had))
+/// What the interface rule gave so far: the plugs, and by interface whether it is one of them.
+#[derive(Drop)]
+struct Given {
+    plugs: Items<IfaceId>,
+    taken: Vec<bool>,
+}
+
+impl Given {
+    fn nothing(alloc: Global, lab: &Lab) -> Result<Given, Memory>
+        ensures marks { IfOk result (λ given. Marks lab.now given.taken.items given.plugs) }
+        ensures none { IfOk result (λ given. given.plugs ≡ []) }
+    {
+        Ok(Given {
+            plugs: Items::new(alloc),
+            taken: vec![in alloc; false; lab.ifaces().len()]?,
+        })
+    }
+
+    /// Gives one more end its interface, where its virtual node is placed: the first one of the node that is fast enough
+    /// and that no earlier end has. False where there is none.
+    fn add(
+        &mut self,
+        lab: &Lab,
+        index: &NodeIfaces,
+        places: &[Place],
+        end: End,
+    ) -> Result<bool, Memory>
+        requires index { IsIndex lab.now index.now }
+        requires marks { Marks lab.now self.old.taken.items self.old.plugs }
+        ensures marks { OnOk result (Marks lab.now self.new.taken.items self.new.plugs) }
+        ensures plugs { IfOk result (λ yes. with_plug lab.now places.now end self.old.plugs ≡ (if yes then Some self.new.plugs else None)) }
+    {
+        let Some(place) = places.get(end.node as usize) else {
+            return Ok(true);
+        };
+        let Some(iface) = first_free(index.of(place.0), &self.taken, end.kbps) else {
+            return Ok(false);
+        };
+        self.plugs.push(iface)?;
+        self.taken[iface.0 as usize] = true;
+        Ok(true)
+    }
 }
 
 /// The interface rule for the ends whose virtual nodes are placed: each takes the first interface of its node that is
 /// fast enough and that no earlier end has. None where some end gets none.
+pub fn serve_by(
+    alloc: Global,
+    lab: &Lab,
+    index: &NodeIfaces,
+    places: &[Place],
+    ends: &[End],
+) -> Result<Option<Items<IfaceId>>, Memory>
+    requires { IsIndex lab.now index.now }
+    ensures { IfOk result (λ plugs. plugs ≡ plugs_from lab.now places.now ends.now []) }
+{
+    let mut given = Given::nothing(alloc, lab)?;
+    for end in ends {
+        if !given.add(lab, index, places, *end)? {
+            return Ok(None);
+        }
+    }
+    Ok(Some(given.plugs))
+}
+
+/// The same without the interfaces by node, which it makes.
 pub fn serve(
     alloc: Global,
     lab: &Lab,
@@ -64,12 +108,7 @@ pub fn serve(
 ) -> Result<Option<Items<IfaceId>>, Memory>
     ensures { IfOk result (λ plugs. plugs ≡ plugs_from lab.now places.now ends.now []) }
 {
-    let mut had = Items::new(alloc);
-    for end in ends {
-        match add_plug(lab, places, *end, had)? {
-            Some(plugs) => had = plugs,
-            None => return Ok(None),
-        }
-    }
-    Ok(Some(had))
+    let index = NodeIfaces::of_lab(alloc, lab)?;
+    let plugs = serve_by(alloc, lab, &index, places, ends)?;
+    Ok(plugs)
 }

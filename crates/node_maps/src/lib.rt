@@ -3,12 +3,14 @@
 
 mod ends;
 mod ifaces;
+mod index;
 mod lists;
 mod mapped;
 mod suited;
 
 pub use ends::{End, ends_of};
-pub use ifaces::serve;
+pub use ifaces::{serve, serve_by};
+pub use index::{NodeIface, NodeIfaces};
 pub use lists::{Candidates, Place};
 pub use mapped::{copy_places, node_map};
 pub use suited::candidates;
