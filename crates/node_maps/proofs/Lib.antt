@@ -8,3 +8,6 @@ pub mod IndexLaws
 pub mod CandidateLaws
 pub mod PlugLaws
 pub mod Assembled
+pub mod CountLaws
+pub mod SoundLimits
+pub mod MovedLaws

@@ -4,6 +4,7 @@ use Rattle.lab_base.specs.declared.ids.IfaceId.{IfaceId}
 use Rattle.phys_lab.specs.declared.free.Free.{Free}
 use Rattle.phys_lab.specs.Labs.{Lab}
 use Rattle.virt_topo.specs.declared.wiring.Wiring.{Wiring}
+use Rattle.virt_topo.specs.declared.mapping.Mapping.{Mapping}
 use Rattle.lab_model.specs.Shapes.{Place, node_at}
 use Rattle.lab_model.specs.Rules.{agree, guests, is_of_one_type, keeps_f6, keeps_f7, keeps_f8, no_place, virt_at}
 use Rattle.lab_model.specs.Feasible.{AllPass}
@@ -25,6 +26,17 @@ pub record KeepsAll (lab : Lab) (free : Free) (w : Wiring) (places : List Place)
   pub room : AllPass (length lab.trunks) (keeps_f6 lab free w (record { places = places; plugs = plugs }))
   pub joined : AllPass (length w.segments) (keeps_f7 lab w (record { places = places; plugs = plugs }))
   pub ids : keeps_f8 free w ≡ true
+
+-- F2 on two nodes, and F3's words on classes
+pub record KeepsPlaces (lab : Lab) (w : Wiring) (places : List Place) (a b : ℕ) : Type 0 where
+  pub first : may_share lab w places a ≡ true
+  pub second : may_share lab w places b ≡ true
+  pub typed : AllPass (length w.nodes) (has_class_type w places)
+
+-- F6 and F7
+pub record KeepsTrunks (lab : Lab) (free : Free) (w : Wiring) (m : Mapping) : Type 0 where
+  pub room : AllPass (length lab.trunks) (keeps_f6 lab free w m)
+  pub joined : AllPass (length w.segments) (keeps_f7 lab w m)
 
 -- both place the same virtual nodes on each node but these two
 abbrev pub AlikeBut : (a b : ℕ) → Wiring → (places others : List Place) → Type 0
