@@ -6,8 +6,12 @@ use Rattle.virt_topo.specs.Soundness.{IsSound}
 use Rattle.lab_model.specs.Shapes.{IsFreeOf}
 use Rattle.cost_rule.specs.declared.rule.RuleNumber.{RuleNumber}
 use Rattle.node_maps.specs.NodeMaps.{candidates, ends_of}
+use Rattle.node_maps.specs.Indexed.{IsIndex}
+use Rattle.node_maps.specs.Counted.{IsCounted}
 use Rattle.map_anneal.specs.declared.search.Search.{Search}
 use Rattle.map_anneal.specs.declared.search.Priced.{Priced}
+use Rattle.map_anneal.specs.declared.moves.Moves.{Moves}
+use Rattle.map_anneal.specs.declared.moves.Tried.{Tried}
 use Rattle.map_anneal.specs.Sought.{Sought, sought, price, IsNodeMap}
 
 abbrev pub sought_by : Search → RuleNumber → Sought
@@ -28,3 +32,17 @@ with_price s found = option_map (λ m. record { mapping = m; cost = price s m })
 pub record IsPriced (s : Sought) (p : Priced) : Type 0 where
   pub node_map : IsNodeMap s p.mapping
   pub cost : p.cost ≡ price s p.mapping
+
+-- the interfaces by node are the lab's
+pub record IsMoves (x : Moves) : Type 0 where
+  pub search : IsSearch x.search
+  pub ifaces : IsIndex x.search.lab.now x.ifaces.now
+
+-- the map of a try with its cost
+abbrev pub priced_by : Tried → Priced
+priced_by x = record { mapping = x.counted.mapping; cost = x.cost }
+
+-- a feasible node map, counted, with its cost
+pub record IsTried (s : Sought) (x : Tried) : Type 0 where
+  pub priced : IsPriced s (priced_by x)
+  pub counted : IsCounted s.lab s.wiring x.counted

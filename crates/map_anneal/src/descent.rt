@@ -3,18 +3,19 @@ ghost use Rattle.std.specs.Prelude.{◌≡◌, ◌≤◌, ◌<◌, ℕ, length, 
 ghost use Rattle.virt_topo.specs.Soundness.{IsSound};
 ghost use Rattle.lab_model.specs.Shapes.{IsFreeOf};
 ghost use Rattle.map_anneal.specs.Sought.{sought, choices, candidates_at, price, moved, IsNodeMap, IsNoCheaper, NoMove, NoExchange, LocallyBest};
-ghost use Rattle.map_anneal.specs.Searches.{sought_by, with_price, IsSearch, IsPriced};
+ghost use Rattle.map_anneal.specs.Searches.{sought_by, IsMoves, IsTried};
 
-use crate::search::{Priced, Search, place_of};
+use crate::moves::{Moves, Tried};
+use crate::search::{Search, place_of};
 use cost_rule::Rule;
 use lab_base::Memory;
-use node_maps::{Place, candidates, ends_of};
+use node_maps::{NodeIfaces, Place, candidates, ends_of};
 use phys_lab::{Free, Lab};
 use std::alloc::Global;
 use virt_topo::{Mapping, Wiring};
 
 /// The map, if there is one and it costs less.
-fn if_cheaper(found: Option<Priced>, cost: u64) -> Option<Priced>
+fn if_cheaper(found: Option<Tried>, cost: u64) -> Option<Tried>
     ensures cheaper { IfSome result (λ p. (found ≡ Some p) × (p.cost < cost)) }
     ensures none { IfNone result (IfSome found (λ p. cost ≤ p.cost)) }
 {
@@ -27,39 +28,39 @@ fn if_cheaper(found: Option<Priced>, cost: u64) -> Option<Priced>
 /// The map with a virtual node at a candidate, where it is feasible and cheaper.
 fn cheaper_move(
     alloc: Global,
-    search: &Search,
+    moves: &Moves,
     rule: &Rule,
-    at: &Priced,
+    at: &Tried,
     node: usize,
     place: Place,
-) -> Result<Option<Priced>, Memory>
-    requires search { IsSearch search.now }
-    requires at { IsPriced (sought_by search.now rule.now.number) at.now }
-    requires within { node < length (choices (sought_by search.now rule.now.number)) }
-    requires among { Contains (candidates_at (sought_by search.now rule.now.number) node) place }
-    ensures cheaper { IfOk result (λ found. IfSome found (λ p. IsPriced (sought_by search.now rule.now.number) p × (p.cost < at.now.cost))) }
-    ensures none { IfOk result (λ found. IfNone found (IsNoCheaper (sought_by search.now rule.now.number) at.now.mapping (moved (sought_by search.now rule.now.number) at.now.mapping node place))) }
+) -> Result<Option<Tried>, Memory>
+    requires moves { IsMoves moves.now }
+    requires at { IsTried (sought_by moves.now.search rule.now.number) at.now }
+    requires within { node < length (choices (sought_by moves.now.search rule.now.number)) }
+    requires among { Contains (candidates_at (sought_by moves.now.search rule.now.number) node) place }
+    ensures cheaper { IfOk result (λ found. IfSome found (λ p. IsTried (sought_by moves.now.search rule.now.number) p × (p.cost < at.now.cost))) }
+    ensures none { IfOk result (λ found. IfNone found (IsNoCheaper (sought_by moves.now.search rule.now.number) at.now.counted.mapping (moved (sought_by moves.now.search rule.now.number) at.now.counted.mapping node place))) }
 {
-    let found = search.moved(alloc, rule, &at.mapping, node, place)?;
+    let found = moves.moved(alloc, rule, at, node, place)?;
     Ok(if_cheaper(found, at.cost))
 }
 
 /// The first cheaper move of a virtual node.
 fn cheaper_move_of(
     alloc: Global,
-    search: &Search,
+    moves: &Moves,
     rule: &Rule,
-    at: &Priced,
+    at: &Tried,
     node: usize,
-) -> Result<Option<Priced>, Memory>
-    requires search { IsSearch search.now }
-    requires at { IsPriced (sought_by search.now rule.now.number) at.now }
-    requires within { node < length (choices (sought_by search.now rule.now.number)) }
-    ensures cheaper { IfOk result (λ found. IfSome found (λ p. IsPriced (sought_by search.now rule.now.number) p × (p.cost < at.now.cost))) }
-    ensures none { IfOk result (λ found. IfNone found (NoMove (sought_by search.now rule.now.number) at.now.mapping node)) }
+) -> Result<Option<Tried>, Memory>
+    requires moves { IsMoves moves.now }
+    requires at { IsTried (sought_by moves.now.search rule.now.number) at.now }
+    requires within { node < length (choices (sought_by moves.now.search rule.now.number)) }
+    ensures cheaper { IfOk result (λ found. IfSome found (λ p. IsTried (sought_by moves.now.search rule.now.number) p × (p.cost < at.now.cost))) }
+    ensures none { IfOk result (λ found. IfNone found (NoMove (sought_by moves.now.search rule.now.number) at.now.counted.mapping node)) }
 {
-    for place in search.candidates.of(node) {
-        let found = cheaper_move(alloc, search, rule, at, node, *place)?;
+    for place in moves.search.candidates.of(node) {
+        let found = cheaper_move(alloc, moves, rule, at, node, *place)?;
         if found.is_some() {
             return Ok(found);
         }
@@ -70,17 +71,17 @@ fn cheaper_move_of(
 /// The first cheaper move.
 fn any_cheaper_move(
     alloc: Global,
-    search: &Search,
+    moves: &Moves,
     rule: &Rule,
-    at: &Priced,
-) -> Result<Option<Priced>, Memory>
-    requires search { IsSearch search.now }
-    requires at { IsPriced (sought_by search.now rule.now.number) at.now }
-    ensures cheaper { IfOk result (λ found. IfSome found (λ p. IsPriced (sought_by search.now rule.now.number) p × (p.cost < at.now.cost))) }
-    ensures none { IfOk result (λ found. IfNone found ((v : ℕ) → v < length (choices (sought_by search.now rule.now.number)) → NoMove (sought_by search.now rule.now.number) at.now.mapping v)) }
+    at: &Tried,
+) -> Result<Option<Tried>, Memory>
+    requires moves { IsMoves moves.now }
+    requires at { IsTried (sought_by moves.now.search rule.now.number) at.now }
+    ensures cheaper { IfOk result (λ found. IfSome found (λ p. IsTried (sought_by moves.now.search rule.now.number) p × (p.cost < at.now.cost))) }
+    ensures none { IfOk result (λ found. IfNone found ((v : ℕ) → v < length (choices (sought_by moves.now.search rule.now.number)) → NoMove (sought_by moves.now.search rule.now.number) at.now.counted.mapping v)) }
 {
-    for node in 0..search.candidates.len() {
-        let found = cheaper_move_of(alloc, search, rule, at, node)?;
+    for node in 0..moves.search.candidates.len() {
+        let found = cheaper_move_of(alloc, moves, rule, at, node)?;
         if found.is_some() {
             return Ok(found);
         }
@@ -97,46 +98,46 @@ fn has_place(places: &[Place], place: Place) -> bool
 /// The map with the places of two virtual nodes exchanged, where they may be, and it is feasible and cheaper.
 fn cheaper_exchange(
     alloc: Global,
-    search: &Search,
+    moves: &Moves,
     rule: &Rule,
-    at: &Priced,
+    at: &Tried,
     first: usize,
     second: usize,
-) -> Result<Option<Priced>, Memory>
-    requires search { IsSearch search.now }
-    requires at { IsPriced (sought_by search.now rule.now.number) at.now }
-    requires first { first < length (choices (sought_by search.now rule.now.number)) }
-    requires second { second < length (choices (sought_by search.now rule.now.number)) }
-    ensures cheaper { IfOk result (λ found. IfSome found (λ p. IsPriced (sought_by search.now rule.now.number) p × (p.cost < at.now.cost))) }
-    ensures none { IfOk result (λ found. IfNone found (NoExchange (sought_by search.now rule.now.number) at.now.mapping first second)) }
+) -> Result<Option<Tried>, Memory>
+    requires moves { IsMoves moves.now }
+    requires at { IsTried (sought_by moves.now.search rule.now.number) at.now }
+    requires first { first < length (choices (sought_by moves.now.search rule.now.number)) }
+    requires second { second < length (choices (sought_by moves.now.search rule.now.number)) }
+    ensures cheaper { IfOk result (λ found. IfSome found (λ p. IsTried (sought_by moves.now.search rule.now.number) p × (p.cost < at.now.cost))) }
+    ensures none { IfOk result (λ found. IfNone found (NoExchange (sought_by moves.now.search rule.now.number) at.now.counted.mapping first second)) }
 {
-    let places = at.mapping.places.as_slice();
-    if !has_place(search.candidates.of(first), place_of(places, second)) {
+    let places = at.counted.mapping.places.as_slice();
+    if !has_place(moves.search.candidates.of(first), place_of(places, second)) {
         return Ok(None);
     }
-    if !has_place(search.candidates.of(second), place_of(places, first)) {
+    if !has_place(moves.search.candidates.of(second), place_of(places, first)) {
         return Ok(None);
     }
-    let found = search.exchanged(alloc, rule, &at.mapping, first, second)?;
+    let found = moves.exchanged(alloc, rule, at, first, second)?;
     Ok(if_cheaper(found, at.cost))
 }
 
 /// The first cheaper exchange of a virtual node with a later one.
 fn cheaper_exchange_of(
     alloc: Global,
-    search: &Search,
+    moves: &Moves,
     rule: &Rule,
-    at: &Priced,
+    at: &Tried,
     first: usize,
-) -> Result<Option<Priced>, Memory>
-    requires search { IsSearch search.now }
-    requires at { IsPriced (sought_by search.now rule.now.number) at.now }
-    requires first { first < length (choices (sought_by search.now rule.now.number)) }
-    ensures cheaper { IfOk result (λ found. IfSome found (λ p. IsPriced (sought_by search.now rule.now.number) p × (p.cost < at.now.cost))) }
-    ensures none { IfOk result (λ found. IfNone found ((u : ℕ) → first < u → u < length (choices (sought_by search.now rule.now.number)) → NoExchange (sought_by search.now rule.now.number) at.now.mapping first u)) }
+) -> Result<Option<Tried>, Memory>
+    requires moves { IsMoves moves.now }
+    requires at { IsTried (sought_by moves.now.search rule.now.number) at.now }
+    requires first { first < length (choices (sought_by moves.now.search rule.now.number)) }
+    ensures cheaper { IfOk result (λ found. IfSome found (λ p. IsTried (sought_by moves.now.search rule.now.number) p × (p.cost < at.now.cost))) }
+    ensures none { IfOk result (λ found. IfNone found ((u : ℕ) → first < u → u < length (choices (sought_by moves.now.search rule.now.number)) → NoExchange (sought_by moves.now.search rule.now.number) at.now.counted.mapping first u)) }
 {
-    for second in first + 1..search.candidates.len() {
-        let found = cheaper_exchange(alloc, search, rule, at, first, second)?;
+    for second in first + 1..moves.search.candidates.len() {
+        let found = cheaper_exchange(alloc, moves, rule, at, first, second)?;
         if found.is_some() {
             return Ok(found);
         }
@@ -147,17 +148,17 @@ fn cheaper_exchange_of(
 /// The first cheaper exchange.
 fn any_cheaper_exchange(
     alloc: Global,
-    search: &Search,
+    moves: &Moves,
     rule: &Rule,
-    at: &Priced,
-) -> Result<Option<Priced>, Memory>
-    requires search { IsSearch search.now }
-    requires at { IsPriced (sought_by search.now rule.now.number) at.now }
-    ensures cheaper { IfOk result (λ found. IfSome found (λ p. IsPriced (sought_by search.now rule.now.number) p × (p.cost < at.now.cost))) }
-    ensures none { IfOk result (λ found. IfNone found ((v u : ℕ) → v < u → u < length (choices (sought_by search.now rule.now.number)) → NoExchange (sought_by search.now rule.now.number) at.now.mapping v u)) }
+    at: &Tried,
+) -> Result<Option<Tried>, Memory>
+    requires moves { IsMoves moves.now }
+    requires at { IsTried (sought_by moves.now.search rule.now.number) at.now }
+    ensures cheaper { IfOk result (λ found. IfSome found (λ p. IsTried (sought_by moves.now.search rule.now.number) p × (p.cost < at.now.cost))) }
+    ensures none { IfOk result (λ found. IfNone found ((v u : ℕ) → v < u → u < length (choices (sought_by moves.now.search rule.now.number)) → NoExchange (sought_by moves.now.search rule.now.number) at.now.counted.mapping v u)) }
 {
-    for first in 0..search.candidates.len() {
-        let found = cheaper_exchange_of(alloc, search, rule, at, first)?;
+    for first in 0..moves.search.candidates.len() {
+        let found = cheaper_exchange_of(alloc, moves, rule, at, first)?;
         if found.is_some() {
             return Ok(found);
         }
@@ -168,20 +169,20 @@ fn any_cheaper_exchange(
 /// The first cheaper move or exchange.
 fn cheaper_neighbour(
     alloc: Global,
-    search: &Search,
+    moves: &Moves,
     rule: &Rule,
-    at: &Priced,
-) -> Result<Option<Priced>, Memory>
-    requires search { IsSearch search.now }
-    requires at { IsPriced (sought_by search.now rule.now.number) at.now }
-    ensures cheaper { IfOk result (λ found. IfSome found (λ p. IsPriced (sought_by search.now rule.now.number) p × (p.cost < at.now.cost))) }
-    ensures none { IfOk result (λ found. IfNone found (LocallyBest (sought_by search.now rule.now.number) at.now.mapping)) }
+    at: &Tried,
+) -> Result<Option<Tried>, Memory>
+    requires moves { IsMoves moves.now }
+    requires at { IsTried (sought_by moves.now.search rule.now.number) at.now }
+    ensures cheaper { IfOk result (λ found. IfSome found (λ p. IsTried (sought_by moves.now.search rule.now.number) p × (p.cost < at.now.cost))) }
+    ensures none { IfOk result (λ found. IfNone found (LocallyBest (sought_by moves.now.search rule.now.number) at.now.counted.mapping)) }
 {
-    let moved = any_cheaper_move(alloc, search, rule, at)?;
+    let moved = any_cheaper_move(alloc, moves, rule, at)?;
     if moved.is_some() {
         return Ok(moved);
     }
-    let exchanged = any_cheaper_exchange(alloc, search, rule, at)?;
+    let exchanged = any_cheaper_exchange(alloc, moves, rule, at)?;
     Ok(exchanged)
 }
 
@@ -209,13 +210,14 @@ pub fn descend(
         ends: &ends,
         candidates: &listed,
     };
-    let cost = rule.ask(lab, wiring, start);
-    let mut at = Priced {
-        mapping: start.copy(alloc)?,
-        cost,
+    let ifaces = NodeIfaces::of_lab(alloc, lab)?;
+    let moves = Moves {
+        search,
+        ifaces: &ifaces,
     };
-    while let Some(next) = cheaper_neighbour(alloc, &search, rule, &at)? {
+    let mut at = moves.started(alloc, rule, start)?;
+    while let Some(next) = cheaper_neighbour(alloc, &moves, rule, &at)? {
         at = next;
     }
-    Ok(at.mapping)
+    Ok(at.counted.mapping)
 }

@@ -4,13 +4,14 @@ ghost use Rattle.node_maps.specs.Least.{IsFirstLeast};
 ghost use Rattle.virt_topo.specs.Soundness.{IsSound};
 ghost use Rattle.lab_model.specs.Shapes.{IsFreeOf};
 ghost use Rattle.map_anneal.specs.Sought.{sought, choices, price, IsNodeMap};
-ghost use Rattle.map_anneal.specs.Searches.{sought_by, IsSearch};
+ghost use Rattle.map_anneal.specs.Searches.{sought_by, priced_by, IsMoves};
 ghost use Rattle.map_anneal.specs.Walk.{drawn, one_try, round, cooled, walk as walk_of, Walker};
 
+use crate::moves::{Moves, Tried};
 use crate::search::{Priced, Search};
 use cost_rule::Rule;
 use lab_base::Memory;
-use node_maps::{candidates, ends_of};
+use node_maps::{NodeIfaces, candidates, ends_of};
 use phys_lab::{Free, Lab};
 use rand_core::SeedableRng;
 use rand_core::utils::NextWord;
@@ -59,11 +60,11 @@ fn cooler(heat: u64) -> u64
 }
 
 /// Puts the next map in the place of the best one where it is cheaper.
-fn keep_cheaper(alloc: Global, best: &mut Priced, next: &Priced) -> Result<(), Memory>
-    ensures { OnOk result (best.new ≡ (if nat_lt next.now.cost best.old.cost then next.now else best.old)) }
+fn keep_cheaper(alloc: Global, best: &mut Priced, next: &Tried) -> Result<(), Memory>
+    ensures { OnOk result (best.new ≡ (if nat_lt next.now.cost best.old.cost then priced_by next.now else best.old)) }
 {
     if next.cost < best.cost {
-        *best = next.copy(alloc)?;
+        *best = next.priced(alloc)?;
     }
     Ok(())
 }
@@ -71,7 +72,7 @@ fn keep_cheaper(alloc: Global, best: &mut Priced, next: &Priced) -> Result<(), M
 /// A walk: its last map, its cheapest map so far, and the generator of the words to come.
 #[derive(Drop)]
 struct Walk {
-    last: Priced,
+    last: Tried,
     best: Priced,
     generator: Pcg32,
 }
@@ -80,16 +81,15 @@ impl Walk {
     ghost use Rattle.map_anneal.specs.Walks.{IsWalk, Keeps};
 
     /// One try.
-    fn step(&mut self, alloc: Global, search: &Search, rule: &Rule, heat: u64) -> Result<(), Memory>
-        requires search { IsSearch search.now }
-        requires walk { IsWalk (sought_by search.now rule.now.number) self.old }
-        requires some { 0 < length (choices (sought_by search.now rule.now.number)) }
-        ensures walk { OnOk result (IsWalk (sought_by search.now rule.now.number) self.new) }
-        ensures step { OnOk result ((x : Walker) → Keeps (sought_by search.now rule.now.number) self.old x → Keeps (sought_by search.now rule.now.number) self.new (one_try (sought_by search.now rule.now.number) heat x)) }
+    fn step(&mut self, alloc: Global, moves: &Moves, rule: &Rule, heat: u64) -> Result<(), Memory>
+        requires moves { IsMoves moves.now }
+        requires walk { IsWalk (sought_by moves.now.search rule.now.number) self.old }
+        requires some { 0 < length (choices (sought_by moves.now.search rule.now.number)) }
+        ensures walk { OnOk result (IsWalk (sought_by moves.now.search rule.now.number) self.new) }
+        ensures step { OnOk result ((x : Walker) → Keeps (sought_by moves.now.search rule.now.number) self.old x → Keeps (sought_by moves.now.search rule.now.number) self.new (one_try (sought_by moves.now.search rule.now.number) heat x)) }
     {
         let words = draw(&mut self.generator);
-        let Some(next) = search.named(alloc, rule, &self.last.mapping, words.first, words.second)?
-        else {
+        let Some(next) = moves.named(alloc, rule, &self.last, words.first, words.second)? else {
             return Ok(());
         };
         if !is_accepted(next.cost, self.last.cost, words.third, heat) {
@@ -101,35 +101,29 @@ impl Walk {
     }
 
     /// The tries at one heat.
-    fn round(
-        &mut self,
-        alloc: Global,
-        search: &Search,
-        rule: &Rule,
-        heat: u64,
-    ) -> Result<(), Memory>
-        requires search { IsSearch search.now }
-        requires walk { IsWalk (sought_by search.now rule.now.number) self.old }
-        ensures walk { OnOk result (IsWalk (sought_by search.now rule.now.number) self.new) }
-        ensures round { OnOk result ((x : Walker) → Keeps (sought_by search.now rule.now.number) self.old x → Keeps (sought_by search.now rule.now.number) self.new (round (sought_by search.now rule.now.number) heat x)) }
+    fn round(&mut self, alloc: Global, moves: &Moves, rule: &Rule, heat: u64) -> Result<(), Memory>
+        requires moves { IsMoves moves.now }
+        requires walk { IsWalk (sought_by moves.now.search rule.now.number) self.old }
+        ensures walk { OnOk result (IsWalk (sought_by moves.now.search rule.now.number) self.new) }
+        ensures round { OnOk result ((x : Walker) → Keeps (sought_by moves.now.search rule.now.number) self.old x → Keeps (sought_by moves.now.search rule.now.number) self.new (round (sought_by moves.now.search rule.now.number) heat x)) }
     {
-        let tries = 8 * search.candidates.len();
+        let tries = 8 * moves.search.candidates.len();
         for _number in 0..tries {
-            self.step(alloc, search, rule, heat)?;
+            self.step(alloc, moves, rule, heat)?;
         }
         Ok(())
     }
 
     /// The rounds, while the heat is above 0.
-    fn cool(&mut self, alloc: Global, search: &Search, rule: &Rule, from: u64) -> Result<(), Memory>
-        requires search { IsSearch search.now }
-        requires walk { IsWalk (sought_by search.now rule.now.number) self.old }
-        ensures walk { OnOk result (IsWalk (sought_by search.now rule.now.number) self.new) }
-        ensures cooled { OnOk result ((x : Walker) → Keeps (sought_by search.now rule.now.number) self.old x → Keeps (sought_by search.now rule.now.number) self.new (cooled (sought_by search.now rule.now.number) from from x)) }
+    fn cool(&mut self, alloc: Global, moves: &Moves, rule: &Rule, from: u64) -> Result<(), Memory>
+        requires moves { IsMoves moves.now }
+        requires walk { IsWalk (sought_by moves.now.search rule.now.number) self.old }
+        ensures walk { OnOk result (IsWalk (sought_by moves.now.search rule.now.number) self.new) }
+        ensures cooled { OnOk result ((x : Walker) → Keeps (sought_by moves.now.search rule.now.number) self.old x → Keeps (sought_by moves.now.search rule.now.number) self.new (cooled (sought_by moves.now.search rule.now.number) from from x)) }
     {
         let mut heat = from;
         while heat > 0 {
-            self.round(alloc, search, rule, heat)?;
+            self.round(alloc, moves, rule, heat)?;
             heat = cooler(heat);
         }
         Ok(())
@@ -162,18 +156,18 @@ pub fn anneal(
         ends: &ends,
         candidates: &listed,
     };
-    let cost = rule.ask(lab, wiring, start);
+    let ifaces = NodeIfaces::of_lab(alloc, lab)?;
+    let moves = Moves {
+        search,
+        ifaces: &ifaces,
+    };
+    let last = moves.started(alloc, rule, start)?;
+    let cost = last.cost;
     let mut walk = Walk {
-        last: Priced {
-            mapping: start.copy(alloc)?,
-            cost,
-        },
-        best: Priced {
-            mapping: start.copy(alloc)?,
-            cost,
-        },
+        best: last.priced(alloc)?,
+        last,
         generator: Pcg32::seed_from_u64(seed),
     };
-    walk.cool(alloc, &search, rule, cost)?;
+    walk.cool(alloc, &moves, rule, cost)?;
     Ok(walk.best.mapping)
 }

@@ -6,4 +6,4 @@ use Rattle.map_anneal.proofs.descent.cheaper_move_of.Given as goal
 
 abbrev pub invariant-loop-place : goal.invariant-loop-place
 invariant-loop-place g l =
-    (k : ℕ) (d : Place) → k < l.place-index → IsNoCheaper (sought_by l.search l.rule.number) l.at.mapping (moved (sought_by l.search l.rule.number) l.at.mapping l.node (get_or l.place-items k d))
+    (k : ℕ) (d : Place) → k < l.place-index → IsNoCheaper (sought_by l.moves.search l.rule.number) l.at.counted.mapping (moved (sought_by l.moves.search l.rule.number) l.at.counted.mapping l.node (get_or l.place-items k d))

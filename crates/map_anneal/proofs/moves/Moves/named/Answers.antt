@@ -1,30 +1,30 @@
 use Rattle.std.proofs.Common.{◌≡◌, ◌<◌, ◌%◌, ◌∙◌, ℕ, List, [], length, get_or, Option, IfOk, sym, ap, subst, arith}
+use Rattle.std.specs.Option.{option_map}
 use Rattle.virt_topo.specs.declared.mapping.Mapping.{Mapping}
 use Rattle.lab_model.specs.Shapes.{Place}
 use Rattle.lab_model.specs.Rules.{no_place}
 use Rattle.map_anneal.specs.Sought.{choices, moved}
-use Rattle.map_anneal.specs.Searches.{sought_by, with_price}
+use Rattle.map_anneal.specs.Searches.{sought_by, with_price, priced_by}
 use Rattle.map_anneal.specs.Walk.{named}
 use Rattle.map_anneal.proofs.Choices.{choice_some}
-use Rattle.map_anneal.proofs.search.Search.named.Goals as goal
+use Rattle.map_anneal.proofs.moves.Moves.named.Goals as goal
 
 pub candidate-place-requires-clause-some : goal.candidate-place-requires-clause-some
 candidate-place-requires-clause-some g c =
-    let cs = choices (sought_by c.args.self.now c.args.rule.now.number) in
+    let cs = choices (sought_by c.args.self.now.search c.args.rule.now.number) in
     let v = c.args.first % c.len.result in
-    let within : v < length cs = omega (arith, c.len.ensures, ap length c.requires.search.listed, c.requires.some) in
+    let within : v < length cs = omega (arith, c.len.ensures, ap length c.requires.moves.search.listed, c.requires.some) in
     let P : List (List Place) → Type 0 = λ xs. 0 < length (get_or xs v []) in
-    subst P (sym c.requires.search.listed) (choice_some cs c.args.last.now.places v c.requires.choice within)
+    subst P (sym c.requires.moves.search.listed) (choice_some cs c.args.at.now.counted.mapping.places v c.requires.at.priced.node_map.choice within)
 
 pub returns-clause-value : goal.returns-clause-value
 unfolding named
 returns-clause-value g c =
-    let s = sought_by c.args.self.now c.args.rule.now.number in
-    let last = c.args.last.now in
+    let s = sought_by c.args.self.now.search c.args.rule.now.number in
+    let last = c.args.at.now.counted.mapping in
     let at : List (List Place) → ℕ → Option Mapping =
     λ xs n. moved s last (c.args.first % n) (get_or (get_or xs (c.args.first % n) []) (c.args.second % length (get_or xs (c.args.first % n) [])) no_place) in
-    let number : c.len.result ≡ length (choices s) = c.len.ensures ∙ ap length c.requires.search.listed in
+    let number : c.len.result ≡ length (choices s) = c.len.ensures ∙ ap length c.requires.moves.search.listed in
     let same = ap (λ p. moved s last (c.args.first % c.len.result) p) c.candidate-place.ensures.named
-    ∙ ap (λ xs. at xs c.len.result) c.requires.search.listed ∙ ap (λ n. at (choices s) n) number in
-    let Q : Option Mapping → Type 0 = λ o. IfOk c.moved.result (λ found. found ≡ with_price s o) in
-    subst Q same c.moved.ensures.value
+    ∙ ap (λ xs. at xs c.len.result) c.requires.moves.search.listed ∙ ap (λ n. at (choices s) n) number in
+    c.in_ok-found.ensures.value ∙ ap (with_price s) same
