@@ -1,44 +1,54 @@
 -- Places that are changed, beside the others.
-use Rattle.std.proofs.Common.{◌≡◌, ◌≢◌, ◌<◌, ◌∙◌, ◌∷◌, [], inl, inr, ℕ, zero, suc, List, length, get_or, cond, eqb, refl, sym, ap, subst, arith, get_or-set_other, get_or-set_same}
+use Rattle.std.proofs.Common.{◌≡◌, ◌<◌, ◌∙◌, inl, inr, ℕ, List, length, get_or, ap, arith, get_or-set_other, get_or-set_same}
 use Rattle.std.proofs.Math.ListN.{set}
-use Rattle.std.proofs.lemmas.Bool.{cond-false, cases_eq, ne_eqb}
+use Rattle.std.proofs.lemmas.Bool.{cases_eq}
+use Rattle.std.proofs.lemmas.List.{length-set, get_or_default}
 use Rattle.phys_lab.specs.declared.free.Free.{Free}
 use Rattle.phys_lab.specs.Labs.{Lab}
-use Rattle.virt_topo.specs.declared.wiring.VirtNode.{VirtNode}
 use Rattle.virt_topo.specs.declared.wiring.Wiring.{Wiring}
 use Rattle.lab_model.specs.Shapes.{Place}
-use Rattle.lab_model.specs.Rules.{guests, no_place}
+use Rattle.lab_model.specs.Rules.{no_place}
 use Rattle.node_maps.specs.NodeMaps.{candidates, IsChoice}
 use Rattle.node_maps.specs.Moved.{AlikeBut}
-use Rattle.node_maps.proofs.MapLaws.{choice_within, candidates_count}
+use Rattle.node_maps.proofs.MapLaws.{choice_within}
 
--- a node that one place isn't on before and after has the same virtual nodes
-guests_set : (vs : List VirtNode) (places : List Place) (v n : ℕ) (p d : Place) → n ≢ p.0.0 → n ≢ (get_or places v d).0.0 → guests vs (set places v p) n ≡ guests vs places n
-guests_set [] places v n p d new old = refl
-guests_set (x ∷ vs) [] v n p d new old = refl
-guests_set (x ∷ vs) (q ∷ places) zero n p d new old =
-    cond-false (eqb p.0.0 n) ((p.1, x.os) ∷ guests vs places n) (guests vs places n) (ne_eqb p.0.0 n (λ e. new (sym e)))
-    ∙ sym (cond-false (eqb q.0.0 n) ((q.1, x.os) ∷ guests vs places n) (guests vs places n) (ne_eqb q.0.0 n (λ e. old (sym e))))
-guests_set (x ∷ vs) (q ∷ places) (suc v) n p d new old = ap (λ gs. cond (eqb q.0.0 n) ((q.1, x.os) ∷ gs) gs) (guests_set vs places v n p d new old)
+-- the node of a place
+abbrev node : Place → ℕ
+node p = p.0.0
 
-pub alike_moved : (w : Wiring) (places : List Place) (v : ℕ) (p : Place) → AlikeBut p.0.0 (get_or places v no_place).0.0 w (set places v p) places
-alike_moved w places v p = λ n new old. guests_set w.nodes places v n p no_place new old
+-- what stands at a place of a list, and after it was changed
+old_at : (places : List Place) (k v : ℕ) (d : Place) → k ≡ v → v < length places → get_or places k d ≡ get_or places v no_place
+old_at places k v d is lt = ap (λ (j : ℕ). get_or places j d) is ∙ get_or_default places v d no_place lt
 
--- the place of u, after v has taken it
-taken_place : (places : List Place) (v u : ℕ) → v < length places → get_or (set places v (get_or places u no_place)) u no_place ≡ get_or places u no_place
-taken_place places v u lt = elim (cases_eq u v) [
-  | inl is ↦ ap (λ (k : ℕ). get_or (set places v (get_or places u no_place)) k no_place) is ∙ get_or-set_same places v (get_or places u no_place) no_place lt
-  | inr apart ↦ get_or-set_other places v u (get_or places u no_place) no_place apart
-]
+new_at : (places : List Place) (k v : ℕ) (p d : Place) → k ≡ v → v < length places → get_or (set places v p) k d ≡ p
+new_at places k v p d is lt = ap (λ (j : ℕ). get_or (set places v p) j d) is ∙ get_or-set_same places v p d lt
 
-pub alike_exchanged : (w : Wiring) (places : List Place) (v u : ℕ) → v < length places
-    → AlikeBut (get_or places v no_place).0.0 (get_or places u no_place).0.0 w (set (set places v (get_or places u no_place)) u (get_or places v no_place)) places
-alike_exchanged w places v u lt = λ n of_v of_u.
+pub alike_moved : (places : List Place) (v : ℕ) (p : Place) → v < length places → AlikeBut p.0.0 (get_or places v no_place).0.0 (set places v p) places
+alike_moved places v p lt = record {
+  count = length-set places v p;
+  each = λ k d within. elim (cases_eq k v) [
+    | inl is ↦ inr (inl (ap node (new_at places k v p d is lt)), inr (ap node (old_at places k v d is lt)))
+    | inr apart ↦ inl (get_or-set_other places v k p d apart)
+  ];
+}
+
+pub alike_exchanged : (places : List Place) (v u : ℕ) → v < length places → u < length places
+    → AlikeBut (get_or places v no_place).0.0 (get_or places u no_place).0.0 (set (set places v (get_or places u no_place)) u (get_or places v no_place)) places
+alike_exchanged places v u v_in u_in =
     let p = get_or places u no_place in
     let q = get_or places v no_place in
-    let Apart : Place → Type 0 = λ x. n ≢ x.0.0 in
-    guests_set w.nodes (set places v p) u n q no_place of_v (subst Apart (sym (taken_place places v u lt)) of_u)
-    ∙ guests_set w.nodes places v n p no_place of_u of_v
+    let once = set places v p in
+    let there : u < length once = omega (arith, u_in, length-set places v p) in
+    record {
+      count = length-set once u q ∙ length-set places v p;
+      each = λ k d within. elim (cases_eq k u) [
+        | inl is ↦ inr (inl (ap node (new_at once k u q d is there)), inr (ap node (old_at places k u d is u_in)))
+        | inr not_u ↦ elim (cases_eq k v) [
+          | inl is ↦ inr (inr (ap node (get_or-set_other once u k q d not_u ∙ new_at places k v p d is v_in)), inl (ap node (old_at places k v d is v_in)))
+          | inr not_v ↦ inl (get_or-set_other once u k q d not_u ∙ get_or-set_other places v k p d not_v)
+        ]
+      ];
+    }
 
 -- each place of a choice is on a node of the lab
 pub place_within : (lab : Lab) (free : Free) (w : Wiring) (places : List Place) (v : ℕ) → IsChoice (candidates lab free w) places → v < length (candidates lab free w)

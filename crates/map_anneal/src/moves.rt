@@ -109,7 +109,7 @@ impl Moves<'_> {
         requires choice { IsChoice (choices (sought_by self.now.search rule.now.number)) places }
         requires first { first.0 < length self.now.search.lab.now.nodes }
         requires second { second.0 < length self.now.search.lab.now.nodes }
-        requires alike { AlikeBut first.0 second.0 self.now.search.wiring.now places at.now.counted.mapping.places }
+        requires alike { AlikeBut first.0 second.0 places at.now.counted.mapping.places }
         ensures value { IfOk result (λ found. option_map priced_by found ≡ with_price (sought_by self.now.search rule.now.number) (mapped (sought_by self.now.search rule.now.number) places)) }
         ensures tried { IfOk result (λ found. IfSome found (λ x. IsTried (sought_by self.now.search rule.now.number) x)) }
     {

@@ -1,5 +1,5 @@
 -- A node map from its parts.
-use Rattle.std.proofs.Common.{◌≡◌, ◌<◌, ◌∙◌, [], ℕ, List, length, get_or, Bool, true, false, not, ◌&&◌, Option, Some, None, refl, ap, sym, subst, arith}
+use Rattle.std.proofs.Common.{◌≡◌, ◌∙◌, List, Option, Some, None, refl, ap, sym, subst, arith}
 use Rattle.std.specs.Prelude.{is_none}
 use Rattle.std.specs.Option.{option_and_then}
 use Rattle.std.proofs.lemmas.Bool.{and_parts, and_from, cond-true}
@@ -11,9 +11,9 @@ use Rattle.virt_topo.specs.declared.violation.Broken.TheVariants as broken
 use Rattle.virt_topo.specs.declared.wiring.Wiring.{Wiring}
 use Rattle.virt_topo.specs.declared.mapping.Mapping.{Mapping}
 use Rattle.virt_topo.specs.Soundness.{IsSound}
-use Rattle.lab_model.specs.Shapes.{Place, IsShaped}
-use Rattle.lab_model.specs.Rules.{keeps_f1, keeps_f2, keeps_f3, keeps_f4, keeps_f6, keeps_f8}
-use Rattle.lab_model.specs.Feasible.{violation, Kept, AllPass}
+use Rattle.lab_model.specs.Shapes.{Place}
+use Rattle.lab_model.specs.Rules.{keeps_f1, keeps_f6, keeps_f8}
+use Rattle.lab_model.specs.Feasible.{violation, Kept}
 use Rattle.lab_model.proofs.FeasibleLaws.{kept_from}
 use Rattle.lab_model.proofs.FirstViolation.{none_found}
 use Rattle.node_maps.specs.NodeMaps.{candidates, IsChoice, plugs_of, if_feasible, node_map}

@@ -1,5 +1,5 @@
 -- The interface rule by the interfaces of each node.
-use Rattle.std.proofs.Common.{◌≡◌, ◌≤◌, ◌<◌, ◌+◌, ◌∷◌, [], ◌++◌, ◌∙◌, ℕ, suc, zero, List, length, get_or, take, replicate, Bool, true, false, cond, eqb, ◌==◌, not, nat_le, ◌&&◌, ◌||◌, inl, inr, Option, Some, None, All, refl, ap, sym, subst, arith, get_or-set_other, get_or-set_same}
+use Rattle.std.proofs.Common.{◌≡◌, ◌≤◌, ◌<◌, ◌+◌, ◌∷◌, [], ◌++◌, ◌∙◌, ℕ, suc, List, length, get_or, take, replicate, Bool, true, false, cond, eqb, ◌==◌, not, nat_le, ◌&&◌, ◌||◌, inl, inr, Option, Some, All, refl, ap, sym, subst, arith, get_or-set_other, get_or-set_same}
 use Rattle.std.proofs.Math.ListN.{set}
 use Rattle.std.specs.List.{find, list_any}
 use Rattle.std.specs.Option.{option_map}
@@ -107,7 +107,7 @@ list_within lab lists taken had node index marks =
 pub marks_nothing : (lab : Lab) → Marks lab (replicate (length lab.ifaces) false) []
 marks_nothing lab = record { one_each = length-replicate (length lab.ifaces) false; each = λ i lt. get_or-replicate (length lab.ifaces) i false false lt }
 
-any_push : {X : Type 0} (f : X → Bool) (xs : List X) (y : X) → list_any f (xs ++ y ∷ []) ≡ (list_any f xs || (f y || false))
+pub any_push : {X : Type 0} (f : X → Bool) (xs : List X) (y : X) → list_any f (xs ++ y ∷ []) ≡ (list_any f xs || (f y || false))
 any_push f [] y = refl
 any_push f (x ∷ xs) y = either (f x) (list_any f (xs ++ y ∷ [])) (list_any f xs) (f y || false) (any_push f xs y)
   where

@@ -11,3 +11,4 @@ pub mod Assembled
 pub mod CountLaws
 pub mod SoundLimits
 pub mod MovedLaws
+pub mod KeptPlugs

@@ -1,31 +1,48 @@
 -- The node map of places that differ from those of one at hand on two nodes alone.
-use Rattle.std.proofs.Common.{◌≡◌, ◌<◌, ◌∙◌, inl, inr, ℕ, List, length, true, Option, Some, None, IfSome, ap, sym, subst}
+use Rattle.std.proofs.Common.{◌≡◌, ◌≢◌, ◌<◌, ◌∙◌, ◌∷◌, [], inl, inr, ℕ, suc, List, length, true, cond, eqb, Option, Some, None, IfSome, ap, sym, subst, refl, arith}
 use Rattle.std.specs.Prelude.{IfNone}
 use Rattle.std.specs.Option.{option_map}
-use Rattle.std.proofs.lemmas.Bool.{cases_eq}
+use Rattle.std.proofs.lemmas.Bool.{cases_eq, cond-false, ne_eqb}
 use Rattle.lab_base.specs.declared.ids.IfaceId.{IfaceId}
 use Rattle.phys_lab.specs.declared.free.Free.{Free}
 use Rattle.phys_lab.specs.Labs.{Lab}
+use Rattle.virt_topo.specs.declared.wiring.VirtNode.{VirtNode}
 use Rattle.virt_topo.specs.declared.wiring.Wiring.{Wiring}
 use Rattle.virt_topo.specs.declared.mapping.Mapping.{Mapping}
 use Rattle.virt_topo.specs.Soundness.{IsSound}
 use Rattle.lab_model.specs.Shapes.{Place, node_at}
-use Rattle.lab_model.specs.Rules.{agree}
+use Rattle.lab_model.specs.Rules.{agree, guests, Guest}
 use Rattle.lab_model.specs.Feasible.{AllPass}
 use Rattle.node_maps.specs.declared.counted.Counted.{Counted}
 use Rattle.node_maps.specs.NodeMaps.{candidates, IsChoice, plugs_of, node_map}
 use Rattle.node_maps.specs.Counted.{IsCounted}
-use Rattle.node_maps.specs.Moved.{may_share, KeepsAll, KeepsPlaces, KeepsTrunks, AlikeBut}
+use Rattle.node_maps.specs.Moved.{may_share, IsOn, KeepsPlaces, KeepsTrunks, AlikeBut}
 use Rattle.node_maps.proofs.Assembled.{map_of_parts, parts_of_map, no_map}
 
+-- a node that isn't one of the two has the same virtual nodes
+guests_alike : (vs : List VirtNode) (places others : List Place) (a b n : ℕ) → AlikeBut a b places others → n ≢ a → n ≢ b → guests vs places n ≡ guests vs others n
+guests_alike [] places others a b n alike not_a not_b = refl
+guests_alike (v ∷ vs) [] [] a b n alike not_a not_b = refl
+guests_alike (v ∷ vs) [] (q ∷ others) a b n alike not_a not_b = absurd (let count = alike.count in omega (arith, count))
+guests_alike (v ∷ vs) (p ∷ places) [] a b n alike not_a not_b = absurd (let count = alike.count in omega (arith, count))
+guests_alike (v ∷ vs) (p ∷ places) (q ∷ others) a b n alike not_a not_b =
+    let count = alike.count in
+    let rest : guests vs places n ≡ guests vs others n = guests_alike vs places others a b n (record { count = omega (arith, count); each = λ k d lt. alike.each (suc k) d (omega (arith, lt)) }) not_a not_b in
+    let none : (x : Place) (gs : List Guest) → IsOn a b x → cond (eqb x.0.0 n) ((x.1, v.os) ∷ gs) gs ≡ gs = λ x gs on.
+    cond-false (eqb x.0.0 n) ((x.1, v.os) ∷ gs) gs (ne_eqb x.0.0 n (λ e. elim on [ inl is ↦ not_a (sym e ∙ is) | inr is ↦ not_b (sym e ∙ is) ])) in
+    elim (alike.each 0 p (omega arith)) [
+      | inl same ↦ (λ i. cond (eqb (same i).0.0 n) (((same i).1, v.os) ∷ rest i) (rest i))
+      | inr both ↦ none p (guests vs places n) both.0 ∙ rest ∙ sym (none q (guests vs others n) both.1)
+    ]
+
 -- F2 holds on the two nodes, and on each other node as before
-shared_all : (lab : Lab) (w : Wiring) (places last : List Place) (a b : ℕ) → AlikeBut a b w places last → AllPass (length lab.nodes) (may_share lab w last)
+shared_all : (lab : Lab) (w : Wiring) (places last : List Place) (a b : ℕ) → AlikeBut a b places last → AllPass (length lab.nodes) (may_share lab w last)
     → KeepsPlaces lab w places a b → AllPass (length lab.nodes) (may_share lab w places)
 shared_all lab w places last a b alike all kept n lt = elim (cases_eq n a) [
   | inl is ↦ subst (λ (k : ℕ). may_share lab w places k ≡ true) (sym is) kept.first
   | inr not_a ↦ elim (cases_eq n b) [
     | inl is ↦ subst (λ (k : ℕ). may_share lab w places k ≡ true) (sym is) kept.second
-    | inr not_b ↦ ap (agree (node_at lab (record { 0 = n })).types) (alike n not_a not_b) ∙ all n lt
+    | inr not_b ↦ ap (agree (node_at lab (record { 0 = n })).types) (guests_alike w.nodes places last a b n alike not_a not_b) ∙ all n lt
   ]
 ]
 
@@ -34,7 +51,7 @@ pub record Differs (lab : Lab) (free : Free) (w : Wiring) (places : List Place) 
   pub sound : IsSound w
   pub choice : IsChoice (candidates lab free w) places
   pub mapped : node_map lab free w last.places ≡ Some last
-  pub alike : AlikeBut a b w places last.places
+  pub alike : AlikeBut a b places last.places
   pub first : a < length lab.nodes
   pub second : b < length lab.nodes
 

@@ -1,5 +1,5 @@
 -- What a node map keeps, part by part, and places that differ on two nodes alone.
-use Rattle.std.specs.Prelude.{◌≡◌, ◌≢◌, ℕ, Bool, true, List, [], length, Some, slice_index_or}
+use Rattle.std.specs.Prelude.{◌≡◌, ◌⊎◌, ◌<◌, ℕ, Bool, true, List, [], length, Some, slice_index_or}
 use Rattle.lab_base.specs.declared.ids.IfaceId.{IfaceId}
 use Rattle.phys_lab.specs.declared.free.Free.{Free}
 use Rattle.phys_lab.specs.Labs.{Lab}
@@ -38,6 +38,11 @@ pub record KeepsTrunks (lab : Lab) (free : Free) (w : Wiring) (m : Mapping) : Ty
   pub room : AllPass (length lab.trunks) (keeps_f6 lab free w m)
   pub joined : AllPass (length w.segments) (keeps_f7 lab w m)
 
--- both place the same virtual nodes on each node but these two
-abbrev pub AlikeBut : (a b : ℕ) → Wiring → (places others : List Place) → Type 0
-AlikeBut a b w places others = (n : ℕ) → n ≢ a → n ≢ b → guests w.nodes places n ≡ guests w.nodes others n
+-- the place is on one of the two nodes
+abbrev pub IsOn : (a b : ℕ) → Place → Type 0
+IsOn a b p = (p.0.0 ≡ a) ⊎ (p.0.0 ≡ b)
+
+-- each virtual node has the same place in both, or is on one of the two nodes in both
+pub record AlikeBut (a b : ℕ) (places others : List Place) : Type 0 where
+  pub count : length places ≡ length others
+  pub each : (v : ℕ) (d : Place) → v < length places → (slice_index_or places v d ≡ slice_index_or others v d) ⊎ (IsOn a b (slice_index_or places v d) × IsOn a b (slice_index_or others v d))

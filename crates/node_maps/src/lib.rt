@@ -14,7 +14,7 @@ mod suited;
 
 pub use counted::Counted;
 pub use ends::{End, ends_of};
-pub use ifaces::{serve, serve_by};
+pub use ifaces::serve;
 pub use index::{NodeIface, NodeIfaces};
 pub use lists::{Candidates, Place};
 pub use mapped::{copy_places, node_map};

@@ -12,7 +12,7 @@ ghost use Rattle.node_maps.specs.Mappers.{IsMapper};
 use crate::classes::have_class_types;
 use crate::counted::Counted;
 use crate::ends::End;
-use crate::ifaces::serve_by;
+use crate::ifaces::serve_moved;
 use crate::index::NodeIfaces;
 use crate::joined::are_all_joined;
 use crate::lists::Place;
@@ -123,15 +123,16 @@ impl Mapper<'_> {
         requires choice { IsChoice (candidates self.now.lab.now self.now.free.now self.now.wiring.now) places }
         requires first { first.0 < length self.now.lab.now.nodes }
         requires second { second.0 < length self.now.lab.now.nodes }
-        requires alike { AlikeBut first.0 second.0 self.now.wiring.now places last.now.mapping.places }
+        requires alike { AlikeBut first.0 second.0 places last.now.mapping.places }
         ensures map { IfOk result (λ found. option_map (λ x. x.mapping) found ≡ node_map_of self.now.lab.now self.now.free.now self.now.wiring.now places) }
         ensures counted { IfOk result (λ found. IfSome found (λ x. IsCounted self.now.lab.now self.now.wiring.now x)) }
     {
         if !self.keep_places(alloc, places.as_slice(), first, second)? {
             return Ok(None);
         }
-        let Some(plugs) = serve_by(alloc, self.lab, self.ifaces, places.as_slice(), self.ends)?
-        else {
+        let nodes = (first, second);
+        let served = serve_moved(alloc, self, &last.mapping, places.as_slice(), nodes)?;
+        let Some(plugs) = served else {
             return Ok(None);
         };
         let found = self.feasible(alloc, last, Mapping { places, plugs })?;

@@ -1,8 +1,7 @@
-use Rattle.std.proofs.Common.{◌≡◌, ◌<◌, ℕ, false, List, All, length, drop, ap, sym, subst, arith, below_more, ◌∙◌}
+use Rattle.std.proofs.Common.{◌≡◌, ◌<◌, false, List, All, length, ap, sym, subst, arith, below_more, ◌∙◌}
 use Rattle.std.proofs.lemmas.Bool.{both_ways}
 use Rattle.std.proofs.lemmas.List.Elements.{All-drop}
 use Rattle.lab_base.specs.declared.ids.IfaceId.{IfaceId}
-use Rattle.virt_topo.specs.declared.wiring.Segment.{Segment}
 use Rattle.lab_model.specs.Rules.{are_joined, keeps_f7}
 use Rattle.feas.proofs.CableSteps.{cut_at}
 use Rattle.node_maps.proofs.joined.are_all_joined.Goals as goal

@@ -1,4 +1,4 @@
-use Rattle.std.proofs.Common.{◌≡◌, ◌<◌, ◌∙◌, List, [], length, get_or, sym, ap, subst, arith}
+use Rattle.std.proofs.Common.{◌≡◌, ◌<◌, ◌∙◌, List, length, get_or, sym, ap, subst, arith}
 use Rattle.std.proofs.Math.ListN.{set}
 use Rattle.lab_model.specs.Shapes.{Place}
 use Rattle.lab_model.specs.Rules.{place_at, no_place}
@@ -39,7 +39,6 @@ tried-requires-clause-second g c =
 
 pub tried-requires-clause-alike : goal.tried-requires-clause-alike
 tried-requires-clause-alike g c =
-    let w = c.args.self.now.search.wiring.now in
     let places = c.args.at.now.counted.mapping.places in
     let v = c.args.first in
     let u = c.args.second in
@@ -49,9 +48,10 @@ tried-requires-clause-alike g c =
     let other : c.place_of-2.result ≡ p = c.place_of-2.ensures ∙ ap (λ (l : List Place). get_or l u no_place) c.as_slice-places.ensures in
     let changed : c.in_ok-changed.changed ≡ set (set places v p) u q = c.in_ok-changed.ensures ∙ ap (λ (l : List Place). set (set l v (get_or l u no_place)) u (get_or l v no_place)) c.as_slice-places.ensures in
     let within : v < length places = omega (arith, c.requires.first, c.requires.at.priced.node_map.choice.one_each) in
-    subst (λ (l : List Place). AlikeBut c.place_of.result.0.0 c.place_of-2.result.0.0 w l places) (sym changed)
-    (subst (λ (x : Place). AlikeBut x.0.0 c.place_of-2.result.0.0 w (set (set places v p) u q) places) (sym one)
-    (subst (λ (x : Place). AlikeBut q.0.0 x.0.0 w (set (set places v p) u q) places) (sym other) (alike_exchanged w places v u within)))
+    let within_u : u < length places = omega (arith, c.requires.second, c.requires.at.priced.node_map.choice.one_each) in
+    subst (λ (l : List Place). AlikeBut c.place_of.result.0.0 c.place_of-2.result.0.0 l places) (sym changed)
+    (subst (λ (x : Place). AlikeBut x.0.0 c.place_of-2.result.0.0 (set (set places v p) u q) places) (sym one)
+    (subst (λ (x : Place). AlikeBut q.0.0 x.0.0 (set (set places v p) u q) places) (sym other) (alike_exchanged places v u within within_u)))
 
 pub returns-clause-value : goal.returns-clause-value
 returns-clause-value g c =

@@ -1,4 +1,4 @@
-use Rattle.std.proofs.Common.{◌≡◌, ◌<◌, ◌∙◌, List, [], length, get_or, sym, ap, subst, arith, get_or-set_same}
+use Rattle.std.proofs.Common.{◌≡◌, ◌<◌, ◌∙◌, List, length, get_or, sym, ap, subst, arith, get_or-set_same}
 use Rattle.std.proofs.Math.ListN.{set}
 use Rattle.lab_model.specs.Shapes.{Place}
 use Rattle.lab_model.specs.Rules.{no_place}
@@ -40,14 +40,14 @@ tried-requires-clause-second g c =
 
 pub tried-requires-clause-alike : goal.tried-requires-clause-alike
 tried-requires-clause-alike g c =
-    let w = c.args.self.now.search.wiring.now in
     let places = c.args.at.now.counted.mapping.places in
     let v = c.args.node in
     let p = c.args.place in
     let same : c.place_of.result ≡ get_or places v no_place = c.place_of.ensures ∙ ap (λ (l : List Place). get_or l v no_place) c.as_slice-places.ensures in
     let changed : c.in_ok-changed.changed ≡ set places v p = c.in_ok-changed.ensures ∙ ap (λ (l : List Place). set l v p) c.as_slice-places.ensures in
-    subst (λ (l : List Place). AlikeBut p.0.0 c.place_of.result.0.0 w l places) (sym changed)
-    (subst (λ (q : Place). AlikeBut p.0.0 q.0.0 w (set places v p) places) (sym same) (alike_moved w places v p))
+    let within : v < length places = omega (arith, c.requires.within, c.requires.at.priced.node_map.choice.one_each) in
+    subst (λ (l : List Place). AlikeBut p.0.0 c.place_of.result.0.0 l places) (sym changed)
+    (subst (λ (q : Place). AlikeBut p.0.0 q.0.0 (set places v p) places) (sym same) (alike_moved places v p within))
 
 pub returns-clause-value : goal.returns-clause-value
 returns-clause-value g c =

@@ -1,10 +1,9 @@
-use Rattle.std.proofs.Common.{◌≡◌, ◌<◌, ◌%◌, ◌∙◌, ℕ, List, [], length, get_or, Option, IfOk, sym, ap, subst, arith}
-use Rattle.std.specs.Option.{option_map}
+use Rattle.std.proofs.Common.{◌≡◌, ◌<◌, ◌%◌, ◌∙◌, ℕ, List, [], length, get_or, Option, sym, ap, subst, arith}
 use Rattle.virt_topo.specs.declared.mapping.Mapping.{Mapping}
 use Rattle.lab_model.specs.Shapes.{Place}
 use Rattle.lab_model.specs.Rules.{no_place}
 use Rattle.map_anneal.specs.Sought.{choices, moved}
-use Rattle.map_anneal.specs.Searches.{sought_by, with_price, priced_by}
+use Rattle.map_anneal.specs.Searches.{sought_by, with_price}
 use Rattle.map_anneal.specs.Walk.{named}
 use Rattle.map_anneal.proofs.Choices.{choice_some}
 use Rattle.map_anneal.proofs.moves.Moves.named.Goals as goal

@@ -1,7 +1,6 @@
-use Rattle.std.proofs.Common.{◌≡◌, ◌≤◌, ◌<◌, ◌+◌, ◌∙◌, ℕ, List, All, length, drop, ap, sym, subst, arith}
+use Rattle.std.proofs.Common.{◌<◌, ℕ, List, All, length, sym, subst, arith}
 use Rattle.std.proofs.lemmas.List.Elements.{All-drop}
 use Rattle.lab_base.specs.declared.ids.IfaceId.{IfaceId}
-use Rattle.virt_topo.specs.Cables.{cables, cable_use, cut_use}
 use Rattle.virt_topo.proofs.EndLaws.{ends_from}
 use Rattle.virt_topo.proofs.CableLaws.{whole_bound}
 use Rattle.node_maps.specs.Counted.{side_of}

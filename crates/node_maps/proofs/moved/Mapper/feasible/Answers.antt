@@ -1,11 +1,10 @@
-use Rattle.std.proofs.Common.{◌≡◌, ◌<◌, ◌∙◌, ℕ, List, Bool, true, nat_le, All, length, get_or, refl, ap, sym, subst, arith}
+use Rattle.std.proofs.Common.{◌≡◌, ◌<◌, ◌∙◌, ℕ, List, true, nat_le, All, length, get_or, refl, ap, sym, subst, arith}
 use Rattle.lab_base.specs.declared.ids.IfaceId.{IfaceId}
 use Rattle.phys_lab.specs.declared.free.Free.{Free}
 use Rattle.phys_lab.specs.Labs.{Lab}
 use Rattle.virt_topo.specs.declared.wiring.Wiring.{Wiring}
 use Rattle.virt_topo.specs.declared.mapping.Mapping.{Mapping}
 use Rattle.lab_model.specs.Rules.{keeps_f6}
-use Rattle.lab_model.specs.Feasible.{AllPass}
 use Rattle.lab_model.proofs.CutLaws.{cut_is_use}
 use Rattle.node_maps.specs.Counted.{AreUses}
 use Rattle.node_maps.proofs.moved.Mapper.feasible.Goals as goal

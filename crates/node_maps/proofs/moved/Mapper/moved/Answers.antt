@@ -1,9 +1,7 @@
-use Rattle.std.proofs.Common.{◌≡◌, ◌∙◌, [], List, Bool, true, Option, Some, None, length, ap, sym, subst}
-use Rattle.lab_base.specs.declared.ids.IfaceId.{IfaceId}
+use Rattle.std.proofs.Common.{◌≡◌, ◌∙◌, List, Some, None, length, ap, sym, subst}
 use Rattle.lab_model.specs.Shapes.{Place}
-use Rattle.node_maps.specs.declared.ends.End.{End}
-use Rattle.node_maps.specs.NodeMaps.{plugs_from, plugs_of}
-use Rattle.node_maps.specs.Moved.{KeepsPlaces}
+use Rattle.node_maps.specs.NodeMaps.{plugs_of}
+use Rattle.node_maps.specs.Moved.{AlikeBut, KeepsPlaces}
 use Rattle.node_maps.proofs.Assembled.{parts_of_map}
 use Rattle.node_maps.proofs.MapLaws.{choice_within, mapped_shaped}
 use Rattle.node_maps.proofs.Shaped.{shaped}
@@ -30,7 +28,7 @@ returns-in_default-clause-map c =
     let lab = c.args.self.now.lab.now in
     let w = c.args.self.now.wiring.now in
     let none : plugs_of lab w c.args.places ≡ None =
-    sym (c.in_ok-plugs.ensures ∙ (λ i. plugs_from lab (c.as_slice-2.ensures i) (c.requires.mapper.ends i) [])) ∙ c.in_default.is in
+    sym (c.in_ok-served.ensures ∙ ap (plugs_of lab w) c.as_slice-2.ensures) ∙ c.in_default.is in
     no_plugs lab c.args.self.now.free.now w c.args.places none
 
 pub feasible-requires-clause-last : goal.feasible-requires-clause-last
@@ -48,7 +46,7 @@ feasible-requires-clause-shaped c =
     let w = c.args.self.now.wiring.now in
     let is = choice_within lab c.args.self.now.free.now w c.args.places c.requires.choice in
     let given : plugs_of lab w c.args.places ≡ Some c.in-Some.plugs =
-    sym (c.in_ok-plugs.ensures ∙ (λ i. plugs_from lab (c.as_slice-2.ensures i) (c.requires.mapper.ends i) [])) ∙ c.in-Some.is in
+    sym (c.in_ok-served.ensures ∙ ap (plugs_of lab w) c.as_slice-2.ensures) ∙ c.in-Some.is in
     shaped lab w c.args.places c.in-Some.plugs c.requires.mapper.sound is.placed is.are given
 
 pub feasible-requires-clause-joined : goal.feasible-requires-clause-joined
@@ -64,5 +62,26 @@ returns-clause-map c =
     let kept : KeepsPlaces lab w c.args.places c.args.first.0 c.args.second.0 =
     subst (λ (ps : List Place). KeepsPlaces lab w ps c.args.first.0 c.args.second.0) c.as_slice.ensures (c.in_ok-keep_places.ensures.0 c.if-not-branch.false) in
     let given : plugs_of lab w c.args.places ≡ Some c.in-Some.plugs =
-    sym (c.in_ok-plugs.ensures ∙ (λ i. plugs_from lab (c.as_slice-2.ensures i) (c.requires.mapper.ends i) [])) ∙ c.in-Some.is in
+    sym (c.in_ok-served.ensures ∙ ap (plugs_of lab w) c.as_slice-2.ensures) ∙ c.in-Some.is in
     found_is lab free w c.args.places c.in-Some.plugs c.args.last.now.mapping c.args.first.0 c.args.second.0 d kept given c.in_ok-found.found c.in_ok-found.ensures.some c.in_ok-found.ensures.none
+
+pub serve_moved-requires-clause-shaped : goal.serve_moved-requires-clause-shaped
+serve_moved-requires-clause-shaped c =
+    let lab = c.args.self.now.lab.now in
+    let free = c.args.self.now.free.now in
+    let w = c.args.self.now.wiring.now in
+    let last = c.args.last.now.mapping in
+    let is = choice_within lab free w last.places c.requires.last_choice in
+    mapped_shaped lab free w last.places last c.requires.mapper.sound is.placed is.are c.requires.last
+
+pub serve_moved-requires-clause-last : goal.serve_moved-requires-clause-last
+serve_moved-requires-clause-last c =
+    (parts_of_map c.args.self.now.lab.now c.args.self.now.free.now c.args.self.now.wiring.now c.args.last.now.mapping.places c.args.last.now.mapping c.requires.last).given
+
+pub serve_moved-requires-clause-placed : goal.serve_moved-requires-clause-placed
+serve_moved-requires-clause-placed c =
+    ap length c.as_slice-2.ensures ∙ (choice_within c.args.self.now.lab.now c.args.self.now.free.now c.args.self.now.wiring.now c.args.places c.requires.choice).placed
+
+pub serve_moved-requires-clause-alike : goal.serve_moved-requires-clause-alike
+serve_moved-requires-clause-alike c =
+    subst (λ (ps : List Place). AlikeBut c.args.first.0 c.args.second.0 ps c.args.last.now.mapping.places) (sym c.as_slice-2.ensures) c.requires.alike

@@ -1,7 +1,7 @@
 use Rattle.std.proofs.Common.{◌≡◌, [], drop}
 use Rattle.node_maps.specs.Indexed.{Marks}
 use Rattle.node_maps.specs.NodeMaps.{plugs_from}
-use Rattle.node_maps.proofs.ifaces.serve_by.Given as goal
+use Rattle.node_maps.proofs.ifaces.serve.Given as goal
 
 abbrev pub invariant-loop-end : goal.invariant-loop-end
 invariant-loop-end l = record {
