@@ -15,7 +15,7 @@ use virt_topo::{Mapping, Wiring};
 const MOST: usize = 16_777_216;
 
 /// What no experiment claims is all of it.
-fn all_free(alloc: Global, lab: &Lab) -> Result<Free, Memory>
+pub(crate) fn all_free(alloc: Global, lab: &Lab) -> Result<Free, Memory>
     ensures { IfOk result (IsFreeOf lab.now) }
 {
     Ok(Free {
@@ -41,12 +41,12 @@ fn short(text: &[u8]) -> anyhow::Result<()>
     Ok(())
 }
 
-fn lab_of(alloc: Global, ptop: &[u8]) -> anyhow::Result<Lab> {
+pub(crate) fn lab_of(alloc: Global, ptop: &[u8]) -> anyhow::Result<Lab> {
     short(ptop)?;
     read_ptop(alloc, ptop).map_err(fault_of)
 }
 
-fn wiring_of(alloc: Global, top: &[u8]) -> anyhow::Result<Wiring>
+pub(crate) fn wiring_of(alloc: Global, top: &[u8]) -> anyhow::Result<Wiring>
     ensures { IfOk result IsSound }
 {
     short(top)?;

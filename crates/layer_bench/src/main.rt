@@ -4,6 +4,7 @@
 mod journal;
 mod labs;
 mod tcl;
+mod walk;
 
 use anyhow::bail;
 use std::{env, fs};
@@ -31,6 +32,8 @@ fn main(rt: HostRuntime) -> anyhow::Result<()> {
         ("tcl", [text]) => tcl::run(&rt, text),
         ("ptop", [ptop]) => labs::again(&rt, ptop),
         ("top", [top]) => labs::top_again(&rt, top),
+        ("fit", [ptop, top]) => walk::fit(&rt, ptop, top),
+        ("walk", [ptop, top]) => walk::walk(&rt, ptop, top),
         ("check", [ptop, top, solution]) => labs::check(&rt, ptop, top, solution),
         _ => bail!("no layer of that name over so many files"),
     }
