@@ -11,7 +11,7 @@ use Rattle.node_maps.specs.Counted.{IsCounted}
 use Rattle.map_anneal.specs.declared.search.Search.{Search}
 use Rattle.map_anneal.specs.declared.search.Priced.{Priced}
 use Rattle.map_anneal.specs.declared.moves.Moves.{Moves}
-use Rattle.map_anneal.specs.declared.moves.Tried.{Tried}
+use Rattle.map_anneal.specs.declared.tried.Tried.{Tried}
 use Rattle.map_anneal.specs.Sought.{Sought, sought, price, IsNodeMap}
 
 abbrev pub sought_by : Search → RuleNumber → Sought

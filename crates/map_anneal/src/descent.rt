@@ -5,8 +5,9 @@ ghost use Rattle.lab_model.specs.Shapes.{IsFreeOf};
 ghost use Rattle.map_anneal.specs.Sought.{sought, choices, candidates_at, price, moved, IsNodeMap, IsNoCheaper, NoMove, NoExchange, LocallyBest};
 ghost use Rattle.map_anneal.specs.Searches.{sought_by, IsMoves, IsTried};
 
-use crate::moves::{Moves, Tried};
+use crate::moves::Moves;
 use crate::search::{Search, place_of};
+use crate::tried::Tried;
 use cost_rule::Rule;
 use lab_base::Memory;
 use node_maps::{NodeIfaces, Place, candidates, ends_of};

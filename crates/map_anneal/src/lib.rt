@@ -4,9 +4,9 @@
 mod descent;
 mod moves;
 mod search;
+mod tried;
 mod walk;
 
 pub use descent::descend;
-pub use moves::{Moves, Tried};
 pub use search::{Priced, Search};
 pub use walk::anneal;

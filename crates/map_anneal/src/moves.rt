@@ -2,7 +2,8 @@
 ghost use Rattle.std.specs.Prelude.{◌≡◌, ◌<◌, IfOk, [], IfSome, Contains, length, slice_set, slice_index_or};
 ghost use Rattle.lab_model.specs.Rules.{no_place};
 
-use crate::search::{Priced, Search, place_of};
+use crate::search::{Search, place_of};
+use crate::tried::Tried;
 use cost_rule::Rule;
 use lab_base::{Items, Memory, NodeId};
 use node_maps::{Counted, Mapper, NodeIfaces, Place, copy_places};
@@ -14,27 +15,6 @@ use virt_topo::Mapping;
 pub struct Moves<'a> {
     pub search: Search<'a>,
     pub ifaces: &'a NodeIfaces,
-}
-
-/// A mapping with what it uses of each trunk, and its cost.
-#[derive(Drop)]
-pub struct Tried {
-    pub counted: Counted,
-    pub cost: u64,
-}
-
-impl Tried {
-    ghost use Rattle.map_anneal.specs.Searches.{priced_by};
-
-    /// The mapping with its cost.
-    pub fn priced(&self, alloc: Global) -> Result<Priced, Memory>
-        ensures { IfOk result (λ priced. priced ≡ priced_by self.now) }
-    {
-        Ok(Priced {
-            mapping: self.counted.mapping.copy(alloc)?,
-            cost: self.cost,
-        })
-    }
 }
 
 /// The places with one of them changed.

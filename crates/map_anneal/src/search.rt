@@ -27,18 +27,6 @@ pub struct Priced {
     pub cost: u64,
 }
 
-impl Priced {
-    /// An equal value.
-    pub fn copy(&self, alloc: Global) -> Result<Priced, Memory>
-        ensures { IfOk result (λ copy. copy ≡ self.now) }
-    {
-        Ok(Priced {
-            mapping: self.mapping.copy(alloc)?,
-            cost: self.cost,
-        })
-    }
-}
-
 /// The place of a virtual node.
 pub fn place_of(places: &[Place], node: usize) -> Place
     requires { node < length places.now }

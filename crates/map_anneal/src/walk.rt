@@ -7,8 +7,9 @@ ghost use Rattle.map_anneal.specs.Sought.{sought, choices, price, IsNodeMap};
 ghost use Rattle.map_anneal.specs.Searches.{sought_by, priced_by, IsMoves};
 ghost use Rattle.map_anneal.specs.Walk.{drawn, one_try, round, cooled, walk as walk_of, Walker};
 
-use crate::moves::{Moves, Tried};
+use crate::moves::Moves;
 use crate::search::{Priced, Search};
+use crate::tried::Tried;
 use cost_rule::Rule;
 use lab_base::Memory;
 use node_maps::{NodeIfaces, candidates, ends_of};
