@@ -3,7 +3,7 @@ use Rattle.std.proofs.Common.{◌≡◌, ◌≤◌, ◌<◌, ◌+◌, ◌∷◌,
 use Rattle.std.proofs.Math.ListN.{set}
 use Rattle.std.specs.List.{find, list_any}
 use Rattle.std.specs.Option.{option_map}
-use Rattle.std.proofs.lemmas.Bool.{cond_both, cases_eq, eq-eqb, ne_eqb}
+use Rattle.std.proofs.lemmas.Bool.{cond_both, cond-false, both_ways, cases_eq, eq-eqb, ne_eqb}
 use Rattle.std.proofs.lemmas.List.{append-nil, take_more, length-take-le, length-set, length-replicate, get_or-replicate}
 use Rattle.std.proofs.lemmas.List.Elements.{All-cons}
 use Rattle.lab_base.specs.declared.ids.IfaceId.{IfaceId}
@@ -12,7 +12,7 @@ use Rattle.phys_lab.specs.declared.parts.Iface.{Iface}
 use Rattle.phys_lab.specs.Labs.{Lab}
 use Rattle.node_maps.specs.declared.index.NodeIface.{NodeIface}
 use Rattle.node_maps.specs.NodeMaps.{first_iface}
-use Rattle.node_maps.specs.Indexed.{ifaces_of, IsIndex, Marks}
+use Rattle.node_maps.specs.Indexed.{ifaces_of, Marks}
 
 abbrev numbered : ℕ → Iface → NodeIface
 numbered n x = record { id = record { 0 = n }; kbps = x.kbps }
@@ -31,26 +31,52 @@ ifaces_push n (x ∷ xs) y node k e =
     split (eqb x.node.0 node) (numbered n x) (ifaces_of (n + 1) (xs ++ y ∷ []) node) (ifaces_of (n + 1) xs node) (cond (eqb y.node.0 node) (numbered k y ∷ []) [])
     (ifaces_push (n + 1) xs y node k (omega (arith, e)))
 
--- the lists with one interface more
-pub index_push : (lists : List (List NodeIface)) (xs : List Iface) (i : ℕ) (y : Iface) → i < length xs → y ≡ get_or xs i y → y.node.0 < length lists
-    → ((node : ℕ) → get_or lists node [] ≡ ifaces_of 0 (take i xs) node)
-    → (node : ℕ) → get_or (set lists y.node.0 (get_or lists y.node.0 [] ++ numbered i y ∷ [])) node [] ≡ ifaces_of 0 (take (i + 1) xs) node
-index_push lists xs i y lt is within each node =
-    let longer = get_or lists y.node.0 [] ++ numbered i y ∷ [] in
-    let old = ifaces_of 0 (take i xs) node in
+pub take_push : (xs : List Iface) (i : ℕ) (y : Iface) (node : ℕ) → i < length xs → y ≡ get_or xs i y
+    → ifaces_of 0 (take (i + 1) xs) node ≡ ifaces_of 0 (take i xs) node ++ cond (eqb y.node.0 node) (numbered i y ∷ []) []
+take_push xs i y node lt is =
     let more : take (i + 1) xs ≡ take i xs ++ y ∷ [] = take_more xs i y lt ∙ ap (λ z. take i xs ++ z ∷ []) (sym is) in
     let count : i ≡ 0 + length (take i xs) = omega (arith, length-take-le i xs (omega (arith, lt))) in
-    let all : ifaces_of 0 (take (i + 1) xs) node ≡ old ++ cond (eqb y.node.0 node) (numbered i y ∷ []) [] =
-    ap (λ l. ifaces_of 0 l node) more ∙ ifaces_push 0 (take i xs) y node i count in
+    ap (λ l. ifaces_of 0 l node) more ∙ ifaces_push 0 (take i xs) y node i count
+
+-- one interface more, of another node
+index_skip : (lists : List (List NodeIface)) (xs : List Iface) (i : ℕ) (y : Iface) (node : ℕ) → i < length xs → y ≡ get_or xs i y → (node ≡ y.node.0 → ⊥)
+    → get_or lists node [] ≡ ifaces_of 0 (take i xs) node → get_or lists node [] ≡ ifaces_of 0 (take (i + 1) xs) node
+index_skip lists xs i y node lt is apart each =
+    let old = ifaces_of 0 (take i xs) node in
+    each ∙ sym (append-nil old)
+    ∙ ap (λ b. old ++ cond b (numbered i y ∷ []) []) (sym (ne_eqb y.node.0 node (λ e. apart (sym e)))) ∙ sym (take_push xs i y node lt is)
+
+-- the lists with one interface more
+index_push : (lists : List (List NodeIface)) (xs : List Iface) (i : ℕ) (y : Iface) (node : ℕ) → i < length xs → y ≡ get_or xs i y → y.node.0 < length lists
+    → get_or lists node [] ≡ ifaces_of 0 (take i xs) node
+    → get_or (set lists y.node.0 (get_or lists y.node.0 [] ++ numbered i y ∷ [])) node [] ≡ ifaces_of 0 (take (i + 1) xs) node
+index_push lists xs i y node lt is within each =
+    let longer = get_or lists y.node.0 [] ++ numbered i y ∷ [] in
+    let old = ifaces_of 0 (take i xs) node in
     elim (cases_eq node y.node.0) [
       | inl here ↦
           ap (λ (j : ℕ). get_or (set lists y.node.0 longer) j []) here ∙ get_or-set_same lists y.node.0 longer [] within
-          ∙ ap (λ l. l ++ numbered i y ∷ []) (ap (λ (j : ℕ). get_or lists j []) (sym here) ∙ each node)
-          ∙ ap (λ b. old ++ cond b (numbered i y ∷ []) []) (sym (eq-eqb y.node.0 node (sym here))) ∙ sym all
-      | inr apart ↦
-          get_or-set_other lists y.node.0 node longer [] apart ∙ each node ∙ sym (append-nil old)
-          ∙ ap (λ b. old ++ cond b (numbered i y ∷ []) []) (sym (ne_eqb y.node.0 node (λ e. apart (sym e)))) ∙ sym all
+          ∙ ap (λ l. l ++ numbered i y ∷ []) (ap (λ (j : ℕ). get_or lists j []) (sym here) ∙ each)
+          ∙ ap (λ b. old ++ cond b (numbered i y ∷ []) []) (sym (eq-eqb y.node.0 node (sym here))) ∙ sym (take_push xs i y node lt is)
+      | inr apart ↦ get_or-set_other lists y.node.0 node longer [] apart ∙ index_skip lists xs i y node lt is apart each
     ]
+
+-- the same where only the nodes that are used have lists
+pub index_used : (used : List Bool) (lists : List (List NodeIface)) (xs : List Iface) (i : ℕ) (y : Iface) (node : ℕ) → i < length xs → y ≡ get_or xs i y → y.node.0 < length lists
+    → get_or used node false ≡ true → get_or lists node [] ≡ ifaces_of 0 (take i xs) node
+    → get_or (cond (get_or used y.node.0 false) (set lists y.node.0 (get_or lists y.node.0 [] ++ numbered i y ∷ [])) lists) node [] ≡ ifaces_of 0 (take (i + 1) xs) node
+index_used used lists xs i y node lt is within in_use each =
+    cond_both (get_or used y.node.0 false) (set lists y.node.0 (get_or lists y.node.0 [] ++ numbered i y ∷ [])) lists (λ l. get_or l node [] ≡ ifaces_of 0 (take (i + 1) xs) node)
+    (λ yes. index_push lists xs i y node lt is within each)
+    (λ no. index_skip lists xs i y node lt is (λ e. both_ways (get_or used y.node.0 false) no (ap (λ (j : ℕ). get_or used j false) (sym e) ∙ in_use)) each)
+
+-- a number that is no node's has none
+pub no_node : (n : ℕ) (xs : List Iface) (node m : ℕ) → All (λ x. x.node.0 < m) xs → m ≤ node → ifaces_of n xs node ≡ []
+no_node n [] node m within past = refl
+no_node n (x ∷ xs) node m within past =
+    let below : x.node.0 < m = within 0 x (omega arith) in
+    cond-false (eqb x.node.0 node) (numbered n x ∷ ifaces_of (n + 1) xs node) (ifaces_of (n + 1) xs node) (ne_eqb x.node.0 node (λ e. absurd (omega (arith, below, past, e))))
+    ∙ no_node (n + 1) xs node m (λ k d lt. within (suc k) d (omega (arith, lt))) past
 
 -- each is one of those
 pub ifaces_within : (n m : ℕ) (xs : List Iface) (node : ℕ) → n + length xs ≤ m → All (λ (x : NodeIface). x.id.0 < m) (ifaces_of n xs node)
@@ -85,24 +111,24 @@ find_same f g (x ∷ xs) same =
     ap (λ b. cond b (Some x) (find f xs)) (same 0 x (omega arith)) ∙ ap (λ o. cond (g x) (Some x) o) (find_same f g xs (λ k d lt. same (suc k) d (omega (arith, lt))))
 
 -- the first of a node's interfaces that is fast enough and not marked
-pub first_is : (lab : Lab) (lists : List (List NodeIface)) (taken : List Bool) (had : List IfaceId) (node : NodeId) (kbps : ℕ) → IsIndex lab lists → Marks lab taken had
+pub first_is : (lab : Lab) (lists : List (List NodeIface)) (taken : List Bool) (had : List IfaceId) (node : NodeId) (kbps : ℕ) → get_or lists node.0 [] ≡ ifaces_of 0 lab.ifaces node.0 → Marks lab taken had
     → number_of (find (λ x. nat_le kbps x.kbps && not (get_or taken x.id.0 false)) (get_or lists node.0 [])) ≡ first_iface 0 lab.ifaces had node kbps
-first_is lab lists taken had node kbps index marks =
+first_is lab lists taken had node kbps at marks =
     let marked : NodeIface → Bool = λ x. nat_le kbps x.kbps && not (get_or taken x.id.0 false) in
     let none : 0 + length lab.ifaces ≤ length lab.ifaces = omega arith in
     let within = ifaces_within 0 (length lab.ifaces) lab.ifaces node.0 none in
-    ap (λ l. number_of (find marked l)) (index.each node.0)
+    ap (λ l. number_of (find marked l)) at
     ∙ ap number_of (find_same marked (may_serve had kbps) (ifaces_of 0 lab.ifaces node.0) (λ k d lt.
     let x = get_or (ifaces_of 0 lab.ifaces node.0) k d in
     ap (λ b. nat_le kbps x.kbps && not b) (marks.each x.id.0 (within k d lt))))
     ∙ first_of 0 lab.ifaces had node kbps
 
 -- the interfaces of a node have an entry in the table
-pub list_within : (lab : Lab) (lists : List (List NodeIface)) (taken : List Bool) (had : List IfaceId) (node : ℕ) → IsIndex lab lists → Marks lab taken had
+pub list_within : (lab : Lab) (lists : List (List NodeIface)) (taken : List Bool) (had : List IfaceId) (node : ℕ) → get_or lists node [] ≡ ifaces_of 0 lab.ifaces node → Marks lab taken had
     → All (λ (x : NodeIface). x.id.0 < length taken) (get_or lists node [])
-list_within lab lists taken had node index marks =
+list_within lab lists taken had node at marks =
     let none : 0 + length lab.ifaces ≤ length taken = omega (arith, marks.one_each) in
-    subst (λ l. All (λ (x : NodeIface). x.id.0 < length taken) l) (sym (index.each node)) (ifaces_within 0 (length taken) lab.ifaces node none)
+    subst (λ l. All (λ (x : NodeIface). x.id.0 < length taken) l) (sym at) (ifaces_within 0 (length taken) lab.ifaces node none)
 
 pub marks_nothing : (lab : Lab) → Marks lab (replicate (length lab.ifaces) false) []
 marks_nothing lab = record { one_each = length-replicate (length lab.ifaces) false; each = λ i lt. get_or-replicate (length lab.ifaces) i false false lt }

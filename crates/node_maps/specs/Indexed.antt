@@ -4,6 +4,7 @@ use Rattle.std.specs.List.{list_any}
 use Rattle.lab_base.specs.declared.ids.IfaceId.{IfaceId}
 use Rattle.phys_lab.specs.declared.parts.Iface.{Iface}
 use Rattle.phys_lab.specs.Labs.{Lab}
+use Rattle.lab_model.specs.Shapes.{Place}
 use Rattle.node_maps.specs.declared.index.NodeIface.{NodeIface}
 
 -- those of a node among interfaces that are numbered from n on
@@ -14,6 +15,10 @@ ifaces_of n (x ∷ xs) node = if x.node.0 == node then record { id = record { 0 
 -- by node of the lab its interfaces; a number that is no node's has none
 pub record IsIndex (lab : Lab) (lists : List (List NodeIface)) : Type 0 where
   pub each : (node : ℕ) → slice_index_or lists node [] ≡ ifaces_of 0 lab.ifaces node
+
+-- the same for the nodes that have one of these places
+pub record HasPlaces (lab : Lab) (places : List Place) (lists : List (List NodeIface)) : Type 0 where
+  pub each : (k : ℕ) (d : Place) → k < length places → slice_index_or lists (slice_index_or places k d).0.0 [] ≡ ifaces_of 0 lab.ifaces (slice_index_or places k d).0.0
 
 -- the table tells of each interface of the lab whether it is one of the plugs
 pub record Marks (lab : Lab) (taken : List Bool) (plugs : List IfaceId) : Type 0 where

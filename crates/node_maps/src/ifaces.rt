@@ -5,7 +5,7 @@ ghost use Rattle.std.specs.Option.{option_map};
 ghost use Rattle.lab_model.specs.Shapes.{IsShaped};
 ghost use Rattle.lab_model.specs.Rules.{no_place};
 ghost use Rattle.node_maps.specs.NodeMaps.{first_iface, with_plug, plugs_from, plugs_of};
-ghost use Rattle.node_maps.specs.Indexed.{IsIndex, Marks};
+ghost use Rattle.node_maps.specs.Indexed.{IsIndex, HasPlaces, Marks};
 ghost use Rattle.node_maps.specs.Mappers.{IsMapper};
 ghost use Rattle.node_maps.specs.Moved.{AlikeBut};
 
@@ -67,7 +67,7 @@ impl Given {
         places: &[Place],
         end: End,
     ) -> Result<bool, Memory>
-        requires index { IsIndex lab.now index.now }
+        requires index { HasPlaces lab.now places.now index.now }
         requires marks { Marks lab.now self.old.taken.items self.old.plugs }
         ensures marks { OnOk result (Marks lab.now self.new.taken.items self.new.plugs) }
         ensures plugs { IfOk result (λ yes. with_plug lab.now places.now end self.old.plugs ≡ (if yes then Some self.new.plugs else None)) }
@@ -122,7 +122,7 @@ pub fn serve(
 ) -> Result<Option<Items<IfaceId>>, Memory>
     ensures { IfOk result (λ plugs. plugs ≡ plugs_from lab.now places.now ends.now []) }
 {
-    let index = NodeIfaces::of_lab(alloc, lab)?;
+    let index = NodeIfaces::of_places(alloc, lab, places)?;
     let mut given = Given::nothing(alloc, lab)?;
     for end in ends {
         if !given.add(lab, &index, places, *end)? {

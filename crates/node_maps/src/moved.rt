@@ -60,7 +60,7 @@ impl Mapper<'_> {
         Ok(yes)
     }
 
-    /// Whether virtual nodes may share two nodes, and the members of strong classes have one type.
+    /// Whether virtual nodes may share two nodes, and the members of each class with a weight of 1,000 or more have one type.
     fn keep_places(
         &self,
         alloc: Global,
@@ -107,7 +107,8 @@ impl Mapper<'_> {
         Ok(Some(Counted { mapping, uses }))
     }
 
-    /// The node map of places, counted. The places of a node map at hand differ from them on two nodes alone.
+    /// The node map of places, counted; None where it isn't feasible. The places of a node map at hand differ from them on
+    /// these two nodes alone.
     pub fn moved(
         &self,
         alloc: Global,

@@ -9,7 +9,7 @@ use Rattle.lab_model.specs.Shapes.{Place}
 use Rattle.node_maps.specs.declared.ends.End.{End}
 use Rattle.node_maps.specs.declared.index.NodeIface.{NodeIface}
 use Rattle.node_maps.specs.NodeMaps.{first_iface, with_plug}
-use Rattle.node_maps.specs.Indexed.{Marks}
+use Rattle.node_maps.specs.Indexed.{ifaces_of, Marks}
 use Rattle.node_maps.proofs.IndexLaws.{first_is, list_within}
 use Rattle.node_maps.proofs.ifaces.Given.add.Goals as goal
 
@@ -25,9 +25,11 @@ first_free-requires c =
     let taken = c.deref.result.now in
     let lab = c.args.lab.now in
     let had = c.args.self.now.plugs in
+    let index : get_or c.args.index.now c.in-Some.place.now.0.0 [] ≡ ifaces_of 0 lab.ifaces c.in-Some.place.now.0.0 =
+    subst (λ (q : Place). get_or c.args.index.now q.0.0 [] ≡ ifaces_of 0 lab.ifaces q.0.0) (sym c.in-Some.ensures.lookup.1) (c.requires.index.each c.args.end.node c.in-Some.place.now c.in-Some.ensures.lookup.3.0) in
     let marks : Marks lab taken had = subst (λ l. Marks lab l had) (sym c.deref.ensures.value) c.requires.marks in
     let Are : List NodeIface → Type 0 = λ l. All (λ (x : NodeIface). x.id.0 < length taken) l in
-    subst Are (sym c.of.ensures) (list_within lab c.args.index.now taken had c.in-Some.place.now.0.0 c.requires.index marks)
+    subst Are (sym c.of.ensures) (list_within lab c.args.index.now taken had c.in-Some.place.now.0.0 index marks)
 
 pub returns-in_default-first_free-clause-plugs : goal.returns-in_default-first_free-clause-plugs
 returns-in_default-first_free-clause-plugs c =
@@ -36,12 +38,14 @@ returns-in_default-first_free-clause-plugs c =
     let taken = c.deref.result.now in
     let e = c.args.end in
     let p = c.in-Some.place.now in
+    let index : get_or c.args.index.now c.in-Some.place.now.0.0 [] ≡ ifaces_of 0 lab.ifaces c.in-Some.place.now.0.0 =
+    subst (λ (q : Place). get_or c.args.index.now q.0.0 [] ≡ ifaces_of 0 lab.ifaces q.0.0) (sym c.in-Some.ensures.lookup.1) (c.requires.index.each c.args.end.node c.in-Some.place.now c.in-Some.ensures.lookup.3.0) in
     let marks : Marks lab taken had = subst (λ l. Marks lab l had) (sym c.deref.ensures.value) c.requires.marks in
     let found = c.in-Some.ensures.lookup in
     let at = slice_get_read c.args.places.now (length c.args.places.now) e.node p refl found.3.0 found.1 in
     let rule : c.first_free.result ≡ first_iface 0 lab.ifaces had p.0 e.kbps =
     c.first_free.ensures.first ∙ ap (λ l. option_map (λ x. x.id) (find (λ x. nat_le e.kbps x.kbps && not (get_or taken x.id.0 false)) l)) c.of.ensures
-    ∙ first_is lab c.args.index.now taken had p.0 e.kbps c.requires.index marks in
+    ∙ first_is lab c.args.index.now taken had p.0 e.kbps index marks in
     placed lab c.args.places.now e had p None at (sym rule ∙ c.in_default-first_free.is)
 
 pub returns-clause-plugs : goal.returns-clause-plugs
@@ -51,10 +55,12 @@ returns-clause-plugs c =
     let taken = c.deref.result.now in
     let e = c.args.end in
     let p = c.in-Some.place.now in
+    let index : get_or c.args.index.now c.in-Some.place.now.0.0 [] ≡ ifaces_of 0 lab.ifaces c.in-Some.place.now.0.0 =
+    subst (λ (q : Place). get_or c.args.index.now q.0.0 [] ≡ ifaces_of 0 lab.ifaces q.0.0) (sym c.in-Some.ensures.lookup.1) (c.requires.index.each c.args.end.node c.in-Some.place.now c.in-Some.ensures.lookup.3.0) in
     let marks : Marks lab taken had = subst (λ l. Marks lab l had) (sym c.deref.ensures.value) c.requires.marks in
     let found = c.in-Some.ensures.lookup in
     let at = slice_get_read c.args.places.now (length c.args.places.now) e.node p refl found.3.0 found.1 in
     let rule : c.first_free.result ≡ first_iface 0 lab.ifaces had p.0 e.kbps =
     c.first_free.ensures.first ∙ ap (λ l. option_map (λ x. x.id) (find (λ x. nat_le e.kbps x.kbps && not (get_or taken x.id.0 false)) l)) c.of.ensures
-    ∙ first_is lab c.args.index.now taken had p.0 e.kbps c.requires.index marks in
+    ∙ first_is lab c.args.index.now taken had p.0 e.kbps index marks in
     placed lab c.args.places.now e had p (Some c.in-Some-first_free.iface) at (sym rule ∙ c.in-Some-first_free.is) ∙ ap Some (sym c.in_ok-push.ensures.ok)
