@@ -1,29 +1,23 @@
 -- What an experiment may begin to move to.
-use Rattle.std.proofs.Common.{◌≡◌, ◌==◌, ◌≤◌, ℕ, Bool, true, false, inl, inr, Option, Some, None, is_none, List, [], ◌∷◌, ◌++◌, length, map, refl, sym, ap, subst, ◌∙◌, ◌&&◌, if◌then◌else◌, arith}
+use Rattle.std.proofs.Common.{◌≡◌, ◌==◌, ℕ, true, inl, Option, Some, None, is_none, List, ◌∷◌, ◌++◌, length, refl, sym, ap, subst, ◌∙◌, ◌&&◌}
 use Rattle.std.proofs.lemmas.Bool.{and_parts}
-use Rattle.lab_base.specs.Lists.{Has, AllDiffer}
 use Rattle.lab_base.proofs.Members.{Has-right}
-use Rattle.lab_base.specs.declared.ids.VlanId.{VlanId}
 use Rattle.phys_lab.specs.declared.free.Free.{Free}
-use Rattle.phys_lab.specs.Labs.{Lab}
 use Rattle.virt_topo.specs.declared.experiment.Experiment.{Experiment}
 use Rattle.virt_topo.specs.declared.experiment.Phase.{Phase}
 use Rattle.virt_topo.specs.declared.experiment.Phase.TheVariants.{Out, In, Moving}
 use Rattle.virt_topo.specs.declared.mapping.Mapped.{Mapped}
-use Rattle.virt_topo.specs.declared.mapping.Mapping.{Mapping}
 use Rattle.virt_topo.specs.declared.wiring.Wiring.{Wiring}
 use Rattle.virt_topo.specs.Soundness.{IsSound}
 use Rattle.lab_model.specs.Beside.{IsLeft, violation_beside, are_free_tags}
 use Rattle.lab_model.specs.Claims.{Which, Old, New, claimed, claimed_in}
 use Rattle.lab_model.specs.Feasible.{violation}
-use Rattle.lab_model.specs.Holding.{Holding, Suits}
 use Rattle.lab_model.specs.Shapes.{IsShaped, IsFreeOf}
 use Rattle.lab_model.proofs.FirstViolation.{same_violation}
-use Rattle.records_model.specs.Labs.{LabState, Sane, Texts, HasText, find, others, replace, mapped, inside, in_phase, can_take, is_out}
+use Rattle.records_model.specs.Labs.{HasText, find, others, can_take, is_out}
 use Rattle.records_model.proofs.Finding.{Found, found_from, some_is, none_some}
-use Rattle.claims.specs.Held.{Held, IsLeftTo}
+use Rattle.claims.specs.Held.{IsLeftTo}
 use Rattle.claims.specs.Holds.{claim_of}
-use Rattle.claims.specs.Adding.{MayAdd}
 use Rattle.claims.specs.Answered.{are_free_ids}
 use Rattle.claims.specs.Experiments.{ClaimsOf}
 use Rattle.claims.proofs.OthersLeave.{is_left}

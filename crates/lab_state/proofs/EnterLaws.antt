@@ -1,6 +1,6 @@
 -- What is kept where a change is entered.
-use Rattle.std.proofs.Common.{◌≡◌, ◌≢◌, ◌<◌, ◌≤◌, ℕ, Bool, true, false, inl, inr, Option, Some, None, List, [], ◌∷◌, ◌++◌, length, map, refl, sym, ap, subst, ◌∙◌, is_some, IfSome, if◌then◌else◌, arith}
-use Rattle.lab_base.specs.Lists.{Has, AllDiffer}
+use Rattle.std.proofs.Common.{◌≡◌, ◌≢◌, ◌<◌, ℕ, Bool, true, false, inl, inr, Option, Some, None, List, [], ◌∷◌, ◌++◌, length, map, refl, sym, ap, subst, ◌∙◌, is_some, IfSome, if◌then◌else◌, arith}
+use Rattle.lab_base.specs.Lists.{AllDiffer}
 use Rattle.lab_base.proofs.Members.{Has-append, Has-right}
 use Rattle.phys_lab.specs.Labs.{Lab}
 use Rattle.virt_topo.specs.declared.experiment.Experiment.{Experiment}
@@ -11,13 +11,13 @@ use Rattle.virt_topo.specs.declared.wiring.Wiring.{Wiring}
 use Rattle.top_text.specs.Printable.{is_printable}
 use Rattle.lab_model.specs.Claims.{Which, Old, New, claimed, claimed_in}
 use Rattle.lab_model.proofs.Records.{Has_mid, Has_other}
-use Rattle.records_model.specs.Labs.{LabState, Sane, find, others, replace, moved, inside, Follows}
+use Rattle.records_model.specs.Labs.{Sane, find, others, replace, moved, inside}
 use Rattle.records_model.proofs.Finding.{Found, found_from, not_found, some_is, none_some}
 use Rattle.records_model.proofs.LabLaws.{follows_sane}
 use Rattle.claims.specs.declared.claim.Claim.{Claim}
 use Rattle.claims.specs.Held.{Held, others as other_claims}
 use Rattle.claims.specs.Holds.{claim_of, hold_in}
-use Rattle.claims.specs.Adding.{MayAdd, with_claim, without, narrowed, side_of}
+use Rattle.claims.specs.Adding.{MayAdd, with_claim, side_of}
 use Rattle.claims.specs.Answered.{none_of}
 use Rattle.claims.specs.Experiments.{ClaimsOf}
 use Rattle.claims.proofs.Replacing.{made_claims, gone_claims, put_claims, dropped_claims, narrowed_claims, few_claims, stands}

@@ -1,27 +1,18 @@
 -- Which records can follow.
-use Rattle.std.proofs.Common.{◌≡◌, ◌≤◌, ◌<◌, ℕ, Bool, true, false, Option, Some, None, is_some, is_none, List, [], ◌∷◌, ◌++◌, length, nat_le, ◌&&◌, if◌then◌else◌, refl, sym, ap, subst, ◌∙◌, arith, Result, Ok, Err, Bor, option_copied}
+use Rattle.std.proofs.Common.{◌≡◌, ◌≤◌, ◌<◌, ℕ, Bool, true, false, Option, Some, None, is_some, is_none, List, [], ◌∷◌, ◌++◌, length, nat_le, ◌&&◌, if◌then◌else◌, refl, sym, ap, subst, ◌∙◌, arith, Err, Bor, option_copied}
 use Rattle.std.proofs.lemmas.Bool.{and_parts, leb-true, le-leb}
-use Rattle.lab_base.specs.declared.ids.VlanId.{VlanId}
 use Rattle.phys_lab.specs.Labs.{Lab}
 use Rattle.phys_lab.specs.Kept.{IsLab}
 use Rattle.virt_topo.specs.declared.experiment.Experiment.{Experiment}
 use Rattle.virt_topo.specs.declared.experiment.Phase.{Phase}
 use Rattle.virt_topo.specs.declared.experiment.Phase.TheVariants.{Out, In, Moving}
-use Rattle.virt_topo.specs.declared.mapping.Mapped.{Mapped}
-use Rattle.virt_topo.specs.declared.mapping.Mapping.{Mapping}
 use Rattle.virt_topo.specs.declared.wiring.Wiring.{Wiring}
-use Rattle.lab_model.specs.Shapes.{IsShaped}
-use Rattle.lab_model.specs.Claims.{claimed}
-use Rattle.journal_rec.specs.declared.record.Way.TheVariants.{In as WayIn, Out as WayOut, Change as WayChange}
 use Rattle.journal_rec.specs.declared.record.Record.{Record}
-use Rattle.journal_rec.specs.declared.record.Record.TheVariants.{Lab as LabRecord, Create, Delete, Begin, Commit, Abort}
-use Rattle.records_model.specs.Labs.{LabState, Move, SetLab, Creates, Deletes, BeginsIn, BeginsOut, BeginsChange, Texts, HasText, Follows, CannotFollow, find, others, replace, mapped, in_phase, becomes, deleted, is_out, can_take, moved, moved_of, moved_in, in_state}
-use Rattle.records_model.proofs.Finding.{some_is, none_some, found_from}
+use Rattle.journal_rec.specs.declared.record.Record.TheVariants.{Lab as LabRecord, Create, Delete}
+use Rattle.records_model.specs.Labs.{LabState, SetLab, Creates, Deletes, HasText, Follows, CannotFollow, find, others, replace, deleted, is_out, moved, moved_of, moved_in, in_state}
+use Rattle.records_model.proofs.Finding.{some_is, none_some}
 use Rattle.records_model.proofs.LabLaws.{in_state-some}
 use Rattle.claims.specs.Answered.{none_of}
-use Rattle.claims.specs.Holds.{claim_of}
-use Rattle.top_text.specs.Canonical.{canonical_top}
-use Rattle.top_text.specs.CanonicalSolution.{canonical_solution}
 use Rattle.lab_state.specs.declared.claimed_lab.ClaimedLab.{ClaimedLab}
 use Rattle.lab_state.specs.declared.fault.PrepareFault.{PrepareFault}
 use Rattle.lab_state.specs.declared.fault.PrepareFault.TheVariants as faults
@@ -29,13 +20,11 @@ use Rattle.lab_state.specs.declared.prepared.Change.{Change}
 use Rattle.lab_state.specs.declared.prepared.Change.TheVariants as changes
 use Rattle.lab_state.specs.Answers.{OnBad}
 use Rattle.lab_state.specs.Texts.{the_texts}
-use Rattle.lab_state.specs.Kept.{IsKept, ArePrintable, lab_of, state_of}
-use Rattle.lab_state.specs.Changes.{after, Fits, CanEnd, ending, ending_record, or_stays}
-use Rattle.lab_state.specs.Ends.{is_in, may_end, ended}
-use Rattle.lab_state.specs.Moves.{moving, standing_in}
-use Rattle.lab_state.specs.Judged.{CanFollow, IsJudged, IsTaken}
-use Rattle.lab_state.proofs.MoveLaws.{IsOfOne, Turn, turn_of, turned, ending_of, ends_where, ends_not, ending_follows, follows_ending, state}
-use Rattle.lab_state.proofs.BeginLaws.{IsStill, IsOut, IsIn, begins_to, begins_out}
+use Rattle.lab_state.specs.Kept.{IsKept, lab_of, state_of}
+use Rattle.lab_state.specs.Changes.{ending, ending_record, or_stays}
+use Rattle.lab_state.specs.Ends.{may_end, ended}
+use Rattle.lab_state.specs.Judged.{CanFollow, IsJudged}
+use Rattle.lab_state.proofs.MoveLaws.{turn_of, turned, ending_of, ends_where, ends_not, ending_follows, follows_ending, state}
 
 -- ---- a lab
 pub lab_twice : (o : Option ClaimedLab) (es : List Experiment) (ptop : List ℕ) → is_some o ≡ true → CannotFollow the_texts (state_of o es) (LabRecord ptop)

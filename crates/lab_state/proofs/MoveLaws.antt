@@ -1,16 +1,15 @@
 -- What a move of one experiment says of it.
-use Rattle.std.proofs.Common.{◌≡◌, ℕ, Bool, true, false, Option, Some, None, List, [], ◌∷◌, refl, sym, ap, subst, ◌∙◌, is_some, ◌||◌, ◌&&◌}
+use Rattle.std.proofs.Common.{◌≡◌, ℕ, Bool, true, false, Option, Some, None, List, refl, sym, ap, ◌∙◌}
 use Rattle.phys_lab.specs.Labs.{Lab}
 use Rattle.virt_topo.specs.declared.experiment.Experiment.{Experiment}
 use Rattle.virt_topo.specs.declared.experiment.Phase.{Phase}
 use Rattle.virt_topo.specs.declared.experiment.Phase.TheVariants.{Out, In, Moving}
-use Rattle.virt_topo.specs.declared.mapping.Mapped.{Mapped}
 use Rattle.records_model.specs.Labs.{LabState, Move, Commits, Aborts, find, replace, becomes, in_state, moved_one, with_replaced, moved_of, moved, Follows}
 use Rattle.records_model.proofs.Finding.{some_is, none_some}
 use Rattle.records_model.proofs.LabLaws.{in_state-some, with_replaced-some, found_one}
 use Rattle.lab_state.specs.Texts.{the_texts}
-use Rattle.lab_state.specs.Changes.{ending, ending_record, CanEnd}
-use Rattle.lab_state.specs.Ends.{kept_of, standing, ended, may_end}
+use Rattle.lab_state.specs.Changes.{ending, ending_record}
+use Rattle.lab_state.specs.Ends.{kept_of, standing, may_end}
 
 abbrev pub state : Lab → List Experiment → LabState
 state lab es = record { lab = Some lab; experiments = es }

@@ -1,5 +1,5 @@
 -- Experiments at their names.
-use Rattle.std.proofs.Common.{◌≡◌, ℕ, Bool, true, false, is_some, inl, inr, Option, Some, None, Result, Ok, Err, OnOk, OnErr, List, [], ◌∷◌, ◌++◌, map, position, refl, sym, ap, subst, ◌∙◌}
+use Rattle.std.proofs.Common.{◌≡◌, ℕ, Bool, true, false, is_some, inl, inr, Option, Some, None, Result, Ok, Err, OnOk, OnErr, List, [], ◌∷◌, ◌++◌, position, refl, sym, ap, subst, ◌∙◌}
 use Rattle.std.specs.Str.{bytes_eq}
 use Rattle.std.specs.Result.{is_ok}
 use Rattle.std.specs.Map.{lookup, remove_entry, keys_of}

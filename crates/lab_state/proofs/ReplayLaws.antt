@@ -1,6 +1,6 @@
 -- The fold of a list of records.
-use Rattle.std.proofs.Common.{◌≡◌, ◌<◌, ◌+◌, ℕ, zero, suc, List, [], ◌∷◌, ◌++◌, length, take, drop, get_or, map, refl, sym, ap, subst, ◌∙◌, arith, Err}
-use Rattle.std.proofs.lemmas.List.{map-append, take_more, take_all}
+use Rattle.std.proofs.Common.{◌≡◌, ◌<◌, ◌+◌, ℕ, zero, suc, List, [], ◌∷◌, ◌++◌, length, take, drop, get_or, refl, sym, ap, subst, ◌∙◌, arith, Err}
+use Rattle.std.proofs.lemmas.List.{map-append, take_more}
 use Rattle.journal_rec.specs.declared.record.Found.{Found}
 use Rattle.journal_rec.specs.declared.record.Record.{Record}
 use Rattle.records_model.specs.Labs.{LabState, at_first, Follows, FoldsTo, CannotFollow, StopsAt, LabOf}

@@ -1,9 +1,9 @@
 -- The texts of a record are short, since its payload is.
-use Rattle.std.proofs.Common.{◌<◌, ◌++◌, ◌∷◌, ℕ, List, length, length-append, arith}
+use Rattle.std.proofs.Common.{◌<◌, ◌++◌, ℕ, List, length, length-append, arith}
 use Rattle.lab_base.specs.declared.ids.VlanId.{VlanId}
 use Rattle.journal_rec.specs.declared.record.Way.TheVariants.{In as WayIn, Change as WayChange}
 use Rattle.journal_rec.specs.declared.record.Record.TheVariants.{Lab, Create, Begin}
-use Rattle.journal_rec.specs.Payloads.{IsRecord, payload, text_bytes, tags_bytes, way_bytes}
+use Rattle.journal_rec.specs.Payloads.{IsRecord, text_bytes, tags_bytes, way_bytes}
 
 pub lab_short : (ptop : List ℕ) → IsRecord (Lab ptop) → length ptop < 4294967295
 lab_short ptop is = omega (arith, is.size)

@@ -1,19 +1,18 @@
 -- Which swaps can begin.
-use Rattle.std.proofs.Common.{◌≡◌, ℕ, Bool, true, false, Option, Some, None, is_some, List, [], ◌∷◌, refl, sym, ap, subst, ◌∙◌, if◌then◌else◌, Result, Ok, Err}
+use Rattle.std.proofs.Common.{◌≡◌, ℕ, Bool, true, false, Option, Some, None, List, refl, sym, ap, subst, ◌∙◌, if◌then◌else◌, Result, Ok, Err}
 use Rattle.lab_base.specs.declared.ids.VlanId.{VlanId}
 use Rattle.phys_lab.specs.Labs.{Lab}
 use Rattle.phys_lab.specs.Kept.{IsLab}
 use Rattle.virt_topo.specs.declared.experiment.Experiment.{Experiment}
 use Rattle.virt_topo.specs.declared.experiment.Phase.{Phase}
 use Rattle.virt_topo.specs.declared.experiment.Phase.TheVariants.{Out, In, Moving}
-use Rattle.virt_topo.specs.declared.mapping.Mapped.{Mapped}
 use Rattle.virt_topo.specs.declared.mapping.Mapping.{Mapping}
 use Rattle.virt_topo.specs.declared.wiring.Wiring.{Wiring}
 use Rattle.lab_model.specs.Shapes.{IsShaped}
 use Rattle.journal_rec.specs.declared.record.Way.{Way}
 use Rattle.journal_rec.specs.declared.record.Way.TheVariants.{In as WayIn, Out as WayOut, Change as WayChange}
 use Rattle.journal_rec.specs.declared.record.Record.TheVariants.{Begin}
-use Rattle.records_model.specs.Labs.{LabState, Move, BeginsIn, BeginsOut, BeginsChange, HasText, SaysBegin, Follows, CannotFollow, find, replace, mapped, in_phase, becomes, is_out, can_take, moved, moved_of}
+use Rattle.records_model.specs.Labs.{LabState, BeginsIn, BeginsOut, BeginsChange, HasText, Follows, CannotFollow, find, replace, mapped, in_phase, becomes, is_out, can_take, moved}
 use Rattle.records_model.proofs.Finding.{some_is, none_some, found_from}
 use Rattle.claims.specs.Holds.{claim_of}
 use Rattle.top_text.proofs.SolutionAgain.{canonical_again}
@@ -26,14 +25,13 @@ use Rattle.lab_state.specs.declared.fault.PrepareFault.TheVariants as faults
 use Rattle.lab_state.specs.declared.prepared.Change.{Change}
 use Rattle.lab_state.specs.declared.prepared.Change.TheVariants as changes
 use Rattle.lab_state.specs.Texts.{the_texts}
-use Rattle.lab_state.specs.Kept.{IsKept, lab_of, state_of}
-use Rattle.lab_state.specs.Changes.{Begins, after}
+use Rattle.lab_state.specs.Kept.{IsKept, state_of}
 use Rattle.lab_state.specs.Ends.{is_in}
 use Rattle.lab_state.specs.Moves.{moving, standing_in}
 use Rattle.lab_state.specs.Judged.{CanFollow, IsJudged, IsTaken}
 use Rattle.lab_state.proofs.TextLaws.{are_named_of}
-use Rattle.lab_state.proofs.MoveLaws.{IsOfOne, Turn, turn_of, turned, state}
-use Rattle.lab_state.proofs.BeginLaws.{IsStill, IsOut, IsIn, begins_to, begins_out, own_sound, own_printable}
+use Rattle.lab_state.proofs.MoveLaws.{IsOfOne, turn_of, turned, state}
+use Rattle.lab_state.proofs.BeginLaws.{IsOut, IsIn, begins_to, begins_out, own_sound, own_printable}
 
 -- ---- texts are of one value
 pub one_solution : (lab : Lab) (w : Wiring) (m n : Mapping) → IsLab lab → HasText the_texts w → IsShaped lab w m → IsShaped lab w n → the_texts.solution lab w m ≡ the_texts.solution lab w n → m ≡ n

@@ -12,7 +12,7 @@ use Rattle.line_text.specs.Refusals.{Reads}
 use Rattle.ptop_text.specs.Adding.{Reads as PtopReads}
 use Rattle.virt_topo.specs.declared.wiring.VirtNode.{VirtNode}
 use Rattle.virt_topo.specs.declared.wiring.Wiring.{Wiring}
-use Rattle.top_text.specs.Printable.{is_printable, are_named, named_node, named_asks}
+use Rattle.top_text.specs.Printable.{is_printable, are_named, named_node}
 use Rattle.top_text.proofs.TopAgain.{named_of}
 use Rattle.lab_state.specs.Answers.{OnBad, fault_of}
 

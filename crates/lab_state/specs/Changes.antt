@@ -3,7 +3,7 @@ use Rattle.std.specs.Prelude.{◌≡◌, ◌≤◌, ℕ, Bool, true, false, if�
 use Rattle.phys_lab.specs.Labs.{Lab}
 use Rattle.virt_topo.specs.declared.experiment.Experiment.{Experiment}
 use Rattle.virt_topo.specs.declared.experiment.Phase.{Phase}
-use Rattle.virt_topo.specs.declared.experiment.Phase.TheVariants.{Out, In, Moving}
+use Rattle.virt_topo.specs.declared.experiment.Phase.TheVariants.{Out, Moving}
 use Rattle.journal_rec.specs.declared.record.Record.{Record}
 use Rattle.journal_rec.specs.declared.record.Record.TheVariants.{Commit, Abort}
 use Rattle.records_model.specs.Labs.{LabState, Move, Commits, Aborts, find, others, replace, moved, Sane}
@@ -50,6 +50,7 @@ abbrev pub needs : Change → ℕ
 needs (Add e) = 1
 needs change = 0
 
+-- the experiment moves
 abbrev pub is_moving : Phase → Bool
 is_moving (Moving old new) = true
 is_moving phase = false

@@ -14,7 +14,7 @@ mod state;
 mod texts;
 
 pub use fault::{PrepareFault, ReplayFault};
-pub use laws::texts_are_canonical;
+pub use laws::{endings, texts_are_canonical};
 pub use prepared::Prepared;
 pub use state::LabState;
 

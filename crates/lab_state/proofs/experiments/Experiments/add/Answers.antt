@@ -1,9 +1,9 @@
-use Rattle.std.proofs.Common.{◌≡◌, ◌≤◌, ◌++◌, ◌∷◌, [], List, ℕ, refl, sym, subst, ap, ◌∙◌, arith}
+use Rattle.std.proofs.Common.{◌≡◌, refl, sym, subst, ap, ◌∙◌, arith}
 use Rattle.std.specs.Str.{bytes_eq}
 use Rattle.indexmap.specs.IndexMap.{insert_entry}
 use Rattle.indexmap.proofs.CallerLemmas.{insert_entry-new}
 use Rattle.lab_state.specs.Experiments.{experiments_of, AtNames}
-use Rattle.lab_state.proofs.Named.{Entries, not_found, pushed, at_pushed, on_ok}
+use Rattle.lab_state.proofs.Named.{not_found, pushed, at_pushed, on_ok}
 use Rattle.lab_state.proofs.experiments.Experiments.add.Goals as goal
 
 pub invariant_of-self : goal.invariant_of-self

@@ -1,4 +1,3 @@
-use Rattle.std.proofs.Common.{Some, sym, subst, ap, ◌∙◌}
 use Rattle.lab_state.proofs.EnterLaws.{ending_kept}
 use Rattle.lab_state.proofs.state.LabState.end_move.Goals as goal
 

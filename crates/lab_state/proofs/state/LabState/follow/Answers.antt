@@ -1,5 +1,5 @@
 use Rattle.std.proofs.Common.{sym, subst, ap, ◌∙◌}
-use Rattle.records_model.specs.Labs.{Follows, CannotFollow}
+use Rattle.records_model.specs.Labs.{Follows}
 use Rattle.lab_state.specs.Texts.{the_texts}
 use Rattle.lab_state.specs.Changes.{after}
 use Rattle.lab_state.proofs.state.LabState.follow.Goals as goal

@@ -1,10 +1,7 @@
-use Rattle.std.proofs.Common.{◌≤◌, sym, subst, ◌∙◌}
+use Rattle.std.proofs.Common.{◌≤◌, subst, ◌∙◌}
 use Rattle.std.proofs.lemmas.Result.{err_from_is_err_and}
 use Rattle.journal_rec.specs.declared.record.Record.TheVariants.{Create}
-use Rattle.virt_topo.specs.declared.wiring.Wiring.{Wiring}
-use Rattle.records_model.specs.Labs.{HasText}
 use Rattle.lab_state.specs.Kept.{state_of}
-use Rattle.lab_state.specs.Texts.{the_texts}
 use Rattle.lab_state.proofs.JudgeLaws.{create_nowhere, create_full, create_twice, create_unread, create_follows, looked_up, unjudged}
 use Rattle.lab_state.proofs.state.LabState.judge_create.Goals as goal
 
