@@ -1,5 +1,11 @@
-pub mod Counting
+pub mod Answering
+pub mod Appending
+pub mod Canonical
+pub mod Claimed
+pub mod Entering
 pub mod FromScripts
-pub mod IdleLaws
-pub mod Named
+pub mod Judging
+pub mod Opened
+pub mod Openings
+pub mod Shown
 pub mod StepLaws

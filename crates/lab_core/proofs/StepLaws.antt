@@ -1,99 +1,85 @@
--- Each command has one step.
-use Rattle.std.proofs.Common.{◌≡◌, ℕ, Bool, true, false, nat_le, if◌then◌else◌, Option, Some, None, Result, Ok, Err, List, [], ◌∷◌, ◌++◌, length, inl, refl, sym, ap, subst, ◌∙◌}
-use Rattle.lab_base.specs.Lists.{Has}
-use Rattle.lab_base.proofs.Members.{Has-right}
-use Rattle.lab_base.specs.declared.fault.TextFault.{TextFault}
-use Rattle.phys_lab.specs.Labs.{Lab}
-use Rattle.virt_topo.specs.declared.wiring.Wiring.{Wiring}
-use Rattle.virt_topo.specs.declared.experiment.Experiment.{Experiment}
-use Rattle.virt_topo.specs.declared.experiment.Phase.{Phase}
-use Rattle.virt_topo.specs.declared.experiment.Phase.TheVariants.{Out}
-use Rattle.records_model.specs.Labs.{LabState, SetLab, Creates, find, others}
-use Rattle.records_model.proofs.Finding.{some_is, found_from}
-use Rattle.ptop_text.specs.Adding.{lab_of_text}
-use Rattle.top_text.specs.Adding.{wiring_of_text}
-use Rattle.top_text.specs.Canonical.{canonical_top}
-use Rattle.script_text.specs.declared.command.Command.{Command}
-use Rattle.script_text.specs.declared.command.Command.TheVariants as commands
-use Rattle.script_text.specs.declared.reply.PhaseWord.TheVariants as words
+-- Laws of the lab step.
+use Rattle.std.proofs.Common.{◌≡◌, ℕ, ◌||◌, Bool, true, false, List, [], ◌∷◌, ◌++◌, Option, Some, None, Result, Ok, Err, refl, sym, ap, ◌∙◌, subst}
+use Rattle.std.specs.List.{list_any}
+use Rattle.plant.specs.Events.{Event, Restarted}
+use Rattle.journal_rec.specs.declared.record.Record.{Record}
+use Rattle.records_model.specs.Labs.{LabState, Move, moved}
+use Rattle.records_model.proofs.Finding.{some_is}
+use Rattle.journal_runs.specs.Pieces.{has_restart, has_miss, is_restart, EndsRestarted}
 use Rattle.script_text.specs.declared.reply.Reply.{Reply}
-use Rattle.script_text.specs.declared.reply.Reply.TheVariants.{Shown, Deleted, NoLab, LabIsSet, Exists, Unknown, Bad, BadPtop, FullExperiments}
-use Rattle.lab_core.specs.Idle.{AreOut}
-use Rattle.lab_core.specs.Experiments.{out}
-use Rattle.lab_core.specs.Steps.{◌>>=◌, Task, Tell, Make, Later, need_lab, need_none, need_found, need_new, need_meaning, lab_reply, created_reply, show_task, delete_task, status_reply, Does, Obeys, Step, judged}
-use Rattle.lab_core.proofs.IdleLaws.{state, created_moved, deleted_moved}
+use Rattle.lab_core.specs.LabSteps.{Replies, WantsMemory, AppendEnds, whole, broken, Appends, Does, IsDoneBy, refused, does, no_memory}
+use Rattle.lab_core.specs.Pieces.{Breaks, stopped, failed, unanswered}
+use Rattle.lab_core.specs.Sessions.{Open, After}
+use Rattle.lab_core.specs.Steps.{Task, Tell, Append, Is}
 
--- ONLY ONE
+-- a refusal, or a telling, has no steps
+pub no_refused_steps : (s : LabState) (own : List Event) (after : After) (judgement : Result Task Reply) (reply : Reply) → judgement ≡ Err reply → IsDoneBy (Is judgement) s own after → own ≡ []
+no_refused_steps s own after judgement reply is (refused other judged replies) = replies.nothing
+no_refused_steps s own after judgement reply is (does task judged done) = let both : Ok task ≡ Err reply = judged ∙ is in absurd (cc both)
+no_refused_steps s own after judgement reply is (no_memory wants) = wants.nothing
 
-does_once : (s a b : LabState) (task : Task) (p q : Reply) → Does s task p a → Does s task q b → (p ≡ q) × (a ≡ b)
-does_once s a b (Tell told) p q h g = (h.0 ∙ sym g.0, h.1 ∙ sym g.1)
-does_once s a b (Make move told) p q h g = (h.0 ∙ sym g.0, some_is a b (sym h.1 ∙ g.1))
-does_once s a b Later p q h g = absurd h
+pub no_told_steps : (s : LabState) (own : List Event) (after : After) (judgement : Result Task Reply) (reply : Reply) → judgement ≡ Ok (Tell reply) → IsDoneBy (Is judgement) s own after → own ≡ []
+no_told_steps s own after judgement reply is (refused other judged replies) = replies.nothing
+no_told_steps s own after judgement reply is (does task judged done) = by task judged done
+  where
+    by : (task : Task) → Ok task ≡ judgement → Does s task own after → own ≡ []
+    by (Tell told) judged done = done.nothing
+    by (Append entry move told) judged done = let both : Ok (Append entry move told) ≡ Ok (Tell reply) = judged ∙ is in absurd (cc both)
+no_told_steps s own after judgement reply is (no_memory wants) = wants.nothing
 
-obeys_once : (s a b : LabState) (task : Result Task Reply) (p q : Reply) → Obeys s task p a → Obeys s task q b → (p ≡ q) × (a ≡ b)
-obeys_once s a b (Ok task) p q h g = does_once s a b task p q h g
-obeys_once s a b (Err refusal) p q h g = (h.0 ∙ sym g.0, h.1 ∙ sym g.1)
+-- what comes of steps in which nothing failed and nothing stopped
+abbrev pub Went : List Event → Type 0
+Went own = (has_restart own ≡ false) × (has_miss own ≡ false)
 
-pub step_once : (s a b : LabState) (command : Command) (p q : Reply) → Step s command p a → Step s command q b → (p ≡ q) × (a ≡ b)
-step_once s a b command p q h g = obeys_once s a b (judged s command) p q h g
+-- where a reply is told after such steps, they are all of the task
+pub data Whole (s : LabState) (after : After) (reply : Reply) (judgement : Result Task Reply) : Type 0 where
+  refusing : judgement ≡ Err reply → after.lab ≡ s → Whole s after reply judgement
+  telling : judgement ≡ Ok (Tell reply) → after.lab ≡ s → Whole s after reply judgement
+  appending : (entry : Record) (move : Move) → judgement ≡ Ok (Append entry move reply) → moved s move ≡ Some after.lab → Whole s after reply judgement
 
--- AND ONE
-abbrev There : LabState → Result Task Reply → Type 0
-There s task = (reply : Reply) × (after : LabState) × Obeys s task reply after
+or_true : (x r : Bool) → r ≡ true → (x || r) ≡ true
+or_true true r h = refl
+or_true false r h = h
 
-refused : (s : LabState) (refusal : Reply) → There s (Err refusal)
-refused s refusal = (refusal, s, (refl, refl))
+has_started : (front : List Event) (a b : List ℕ) → has_restart (front ++ Restarted a b ∷ []) ≡ true
+has_started [] a b = refl
+has_started (event ∷ front) a b = or_true (is_restart event) (has_restart (front ++ Restarted a b ∷ [])) (has_started front a b)
 
-told : (s : LabState) (reply : Reply) → There s (Ok (Tell reply))
-told s reply = (reply, s, (refl, refl))
+did_go : (own : List Event) (told : Option Reply) (reply : Reply) → Went own → told ≡ Some reply → Breaks own told → ⊥
+did_go own told reply went is (stopped ends replied) = let both : true ≡ false = sym (ap has_restart ends.is ∙ has_started ends.front ends.a ends.b) ∙ went.0 in cc both
+did_go own told reply went is (failed no' miss replied) = let both : true ≡ false = sym miss ∙ went.1 in cc both
+did_go own told reply went is (unanswered none) = let both : None ≡ Some reply = sym none ∙ is in cc both
 
-there_ptop : (o : Option Lab) (es : List Experiment) (read : Result Lab TextFault)
-    → There (state o es) (need_none o >>= λ none. need_meaning BadPtop read >>= λ lab. Ok (Make (SetLab lab) (lab_reply lab)))
-there_ptop (Some l) es read = refused (state (Some l) es) LabIsSet
-there_ptop None es (Err fault) = refused (state None es) (BadPtop fault)
-there_ptop None es (Ok lab) = (lab_reply lab, state (Some lab) [], (refl, refl))
+pub whole_of : (s : LabState) (own : List Event) (after : After) (reply : Reply) (judgement : Result Task Reply) → Went own → after.reply ≡ Some reply → IsDoneBy (Is judgement) s own after → Whole s after reply judgement
+whole_of s own after reply judgement went is (refused other judged replies) =
+    let same : other ≡ reply = some_is other reply (sym (ap (λ (a : After). a.reply) replies.after_is) ∙ is) in
+    refusing (sym judged ∙ ap (λ (r : Reply). let x : Result Task Reply = Err r in x) same) (ap (λ (a : After). a.lab) replies.after_is)
+whole_of s own after reply judgement went is (does task judged done) = by task judged done
+  where
+    by : (task : Task) → Ok task ≡ judgement → Does s task own after → Whole s after reply judgement
+    by (Tell told) judged done =
+        let same : told ≡ reply = some_is told reply (sym (ap (λ (a : After). a.reply) done.after_is) ∙ is) in
+        telling (sym judged ∙ ap (λ (r : Reply). let x : Result Task Reply = Ok (Tell r) in x) same) (ap (λ (a : After). a.lab) done.after_is)
+    by (Append entry move told) judged done = ends done.ends
+      where
+        ends : AppendEnds s done.state told done.run done.more own after → Whole s after reply judgement
+        ends (whole all none after_is) =
+            let same : told ≡ reply = some_is told reply (sym (ap (λ (a : After). a.reply) after_is) ∙ is) in
+            appending entry move (sym judged ∙ ap (λ (r : Reply). let x : Result Task Reply = Ok (Append entry move r) in x) same) (done.moves ∙ ap Some (sym (ap (λ (a : After). a.lab) after_is)))
+        ends (broken breaks either session) = absurd (did_go own after.reply reply went is breaks)
+whole_of s own after reply judgement went is (no_memory wants) = let both : None ≡ Some reply = sym (ap (λ (a : After). a.reply) wants.after_is) ∙ is in absurd (cc both)
 
-abbrev room_by : Bool → Result (Unit {0}) Reply
-room_by full = if full then Err FullExperiments else Ok tt
-
-there_create : (o : Option Lab) (es : List Experiment) (exp : List ℕ) (found : Option Experiment) (read : Result Wiring TextFault) (full : Bool) → find exp es ≡ found → nat_le 256 (length es) ≡ full
-    → There (state o es) (need_lab o >>= λ lab. need_new exp found >>= λ new. need_meaning (Bad exp) read >>= λ wiring. room_by full >>= λ room. Ok (Make (Creates exp wiring) (created_reply exp wiring)))
-there_create None es exp found read full is fits = refused (state None es) NoLab
-there_create (Some lab) es exp (Some e) read full is fits = refused (state (Some lab) es) (Exists exp)
-there_create (Some lab) es exp None (Err fault) full is fits = refused (state (Some lab) es) (Bad exp fault)
-there_create (Some lab) es exp None (Ok w) true is fits = refused (state (Some lab) es) FullExperiments
-there_create (Some lab) es exp None (Ok w) false is fits = (created_reply exp w, state (Some lab) (es ++ out exp w ∷ []), (refl, created_moved lab es exp w is fits))
-
--- the experiment that has the name is out
-found_out : (es : List Experiment) (exp : List ℕ) (e : Experiment) → AreOut es → find exp es ≡ Some e → e.phase ≡ Out
-found_out es exp e out is =
-    let f = found_from exp es e is in
-    out e (subst (λ (l : List Experiment). Has l e) (sym f.whole) (Has-right f.before (e ∷ f.after) e (inl refl)))
-
-there_show : (o : Option Lab) (es : List Experiment) (exp : List ℕ) (found : Option Experiment) → AreOut es → find exp es ≡ found
-    → There (state o es) (need_lab o >>= λ lab. need_found exp found >>= λ e. Ok (show_task e e.phase))
-there_show None es exp found out is = refused (state None es) NoLab
-there_show (Some lab) es exp None out is = refused (state (Some lab) es) (Unknown exp)
-there_show (Some lab) es exp (Some e) out is =
-    subst (λ (p : Phase). There (state (Some lab) es) (Ok (show_task e p))) (sym (found_out es exp e out is)) (told (state (Some lab) es) (Shown e.name words.Out (canonical_top e.wiring)))
-
-there_delete : (o : Option Lab) (es : List Experiment) (exp : List ℕ) (found : Option Experiment) → AreOut es → find exp es ≡ found
-    → There (state o es) (need_lab o >>= λ lab. need_found exp found >>= λ e. Ok (delete_task e e.phase))
-there_delete None es exp found out is = refused (state None es) NoLab
-there_delete (Some lab) es exp None out is = refused (state (Some lab) es) (Unknown exp)
-there_delete (Some lab) es exp (Some e) out is =
-    let phase = found_out es exp e out is in
-    let named : find e.name es ≡ Some e = ap (λ (n : List ℕ). find n es) (found_from exp es e is).name_is ∙ is in
-    subst (λ (p : Phase). There (state (Some lab) es) (Ok (delete_task e p))) (sym phase) (Deleted e.name, state (Some lab) (others e.name es), (refl, deleted_moved lab es e.name e named phase))
-
-there_status : (o : Option Lab) (es : List Experiment) → There (state o es) (need_lab o >>= λ lab. Ok (Tell (status_reply lab es)))
-there_status None es = refused (state None es) NoLab
-there_status (Some lab) es = told (state (Some lab) es) (status_reply lab es)
-
-pub step_there : (s : LabState) (command : Command) → AreOut s.experiments → (reply : Reply) × (after : LabState) × Step s command reply after
-step_there s (commands.Ptop lines text) out = there_ptop s.lab s.experiments (lab_of_text text)
-step_there s (commands.CreateTop exp lines text) out =
-    there_create s.lab s.experiments exp (find exp s.experiments) (wiring_of_text text) (nat_le 256 (length s.experiments)) refl refl
-step_there s (commands.Show exp) out = there_show s.lab s.experiments exp (find exp s.experiments) out refl
-step_there s (commands.Delete exp) out = there_delete s.lab s.experiments exp (find exp s.experiments) out refl
-step_there s commands.Status out = there_status s.lab s.experiments
+-- ONE REPLY AND ONE LAB
+pub whole_once : (s : LabState) (after later : After) (reply other : Reply) (judgement : Result Task Reply) → Whole s after reply judgement → Whole s later other judgement → (reply ≡ other) × (after.lab ≡ later.lab)
+whole_once s after later reply other judgement (refusing p u) (refusing q v) = let both : ◌≡◌ {A = Result Task Reply} (Err reply) (Err other) = sym p ∙ q in (cc both, u ∙ sym v)
+whole_once s after later reply other judgement (refusing p u) (telling q v) = let both : Err reply ≡ Ok (Tell other) = sym p ∙ q in absurd (cc both)
+whole_once s after later reply other judgement (refusing p u) (appending entry move q v) = let both : Err reply ≡ Ok (Append entry move other) = sym p ∙ q in absurd (cc both)
+whole_once s after later reply other judgement (telling p u) (refusing q v) = let both : Ok (Tell reply) ≡ Err other = sym p ∙ q in absurd (cc both)
+whole_once s after later reply other judgement (telling p u) (telling q v) = let both : ◌≡◌ {A = Result Task Reply} (Ok (Tell reply)) (Ok (Tell other)) = sym p ∙ q in (cc both, u ∙ sym v)
+whole_once s after later reply other judgement (telling p u) (appending entry move q v) = let both : ◌≡◌ {A = Result Task Reply} (Ok (Tell reply)) (Ok (Append entry move other)) = sym p ∙ q in absurd (cc both)
+whole_once s after later reply other judgement (appending entry move p u) (refusing q v) = let both : Ok (Append entry move reply) ≡ Err other = sym p ∙ q in absurd (cc both)
+whole_once s after later reply other judgement (appending entry move p u) (telling q v) = let both : ◌≡◌ {A = Result Task Reply} (Ok (Append entry move reply)) (Ok (Tell other)) = sym p ∙ q in absurd (cc both)
+whole_once s after later reply other judgement (appending entry move p u) (appending entry' move' q v) =
+    let both : ◌≡◌ {A = Result Task Reply} (Ok (Append entry move reply)) (Ok (Append entry' move' other)) = sym p ∙ q in
+    let one : move ≡ move' = cc both in
+    (cc both, some_is after.lab later.lab (sym u ∙ ap (λ (m : Move). moved s m) one ∙ v))

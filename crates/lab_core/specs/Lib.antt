@@ -1,5 +1,10 @@
-pub mod Counts
-pub mod Steps
-pub mod Experiments
-pub mod Idle
+pub mod Appended
 pub mod Blocks
+pub mod Counts
+pub mod LabSteps
+pub mod Moments
+pub mod Obeying
+pub mod Opening
+pub mod Pieces
+pub mod Sessions
+pub mod Steps

@@ -1,23 +1,34 @@
--- What a command does to the lab, and its reply.
-use Rattle.std.specs.Prelude.{◌≡◌, ℕ, nat_le, List, length, map, Option, Some, None, Result, Ok, Err, if◌then◌else◌}
+-- What a command does to the lab, and its reply: the first refusal in order, or its task.
+use Rattle.std.specs.Prelude.{◌≡◌, ◌+◌, ℕ, nat_le, List, [], ◌∷◌, length, map, Option, Some, None, Result, Ok, Err, if◌then◌else◌}
+use Rattle.std.specs.List.{zip}
 use Rattle.lab_base.specs.declared.fault.TextFault.{TextFault}
+use Rattle.lab_base.specs.declared.ids.VlanId.{VlanId}
 use Rattle.phys_lab.specs.Labs.{Lab}
+use Rattle.virt_topo.specs.declared.wiring.Segment.{Segment}
 use Rattle.virt_topo.specs.declared.wiring.Wiring.{Wiring}
 use Rattle.virt_topo.specs.declared.experiment.Experiment.{Experiment}
 use Rattle.virt_topo.specs.declared.experiment.Phase.{Phase}
 use Rattle.virt_topo.specs.declared.experiment.Phase.TheVariants.{Out, In, Moving}
-use Rattle.records_model.specs.Labs.{LabState, Move, SetLab, Creates, Deletes, find, moved}
+use Rattle.journal_rec.specs.declared.record.Record.{Record}
+use Rattle.journal_rec.specs.declared.record.Record.TheVariants.{Lab as LabRecord, Create, Delete}
+use Rattle.journal_model.specs.Journals.{size}
+use Rattle.records_model.specs.Labs.{LabState, Move, SetLab, Creates, Deletes, find}
 use Rattle.ptop_text.specs.Adding.{lab_of_text}
+use Rattle.ptop_text.specs.Canonical.{canonical}
 use Rattle.top_text.specs.Adding.{wiring_of_text}
 use Rattle.top_text.specs.Canonical.{canonical_top}
+use Rattle.top_text.specs.CanonicalSolution.{canonical_solution}
 use Rattle.script_text.specs.declared.command.Command.{Command}
 use Rattle.script_text.specs.declared.command.Command.TheVariants as commands
 use Rattle.script_text.specs.declared.reply.PhaseWord.{PhaseWord}
 use Rattle.script_text.specs.declared.reply.PhaseWord.TheVariants as words
 use Rattle.script_text.specs.declared.reply.StatusLine.{StatusLine}
+use Rattle.script_text.specs.declared.reply.TagLine.{TagLine}
+use Rattle.script_text.specs.declared.reply.Placed.{Placed}
 use Rattle.script_text.specs.declared.reply.Reply.{Reply}
-use Rattle.script_text.specs.declared.reply.Reply.TheVariants.{Lab as LabReply, Created, Shown, Deleted, Listed, NoLab, LabIsSet, Exists, Unknown, Bad, BadPtop, FullExperiments}
+use Rattle.script_text.specs.declared.reply.Reply.TheVariants.{Lab as LabReply, Created, Shown, Deleted, Listed, NoLab, LabIsSet, Exists, Unknown, IsIn, IsMoving, Bad, BadPtop, FullExperiments, FullJournal}
 use Rattle.lab_core.specs.Counts.{nodes_claimed, ids_claimed, nodes_free, ids_free}
+use Rattle.lab_core.specs.Sessions.{Setting}
 
 -- THE REFUSALS: each check gives a value, or the reply that refuses the command
 
@@ -54,15 +65,23 @@ need_meaning bad (Err fault) = Err (bad fault)
 abbrev pub need_room : List Experiment → Result (Unit {0}) Reply
 need_room es = if nat_le 256 (length es) then Err FullExperiments else Ok tt
 
+-- `is in E` and `is moving E` exactly where its phase is that one
+abbrev pub need_out : List ℕ → Phase → Result (Unit {0}) Reply
+need_out exp Out = Ok tt
+need_out exp (In mapping tags) = Err (IsIn exp)
+need_out exp (Moving old new) = Err (IsMoving exp)
+
+-- `full journal LENGTH` exactly where the length, the record's size and 10,240 bytes for the last records of moves are above the limit
+abbrev pub need_space : Setting → Record → Result (Unit {0}) Reply
+need_space set entry = if nat_le (set.length + size entry + 10240) set.limit then Ok tt else Err (FullJournal set.length)
+
 -- THE TASKS: what a command that nothing refuses does
 
 pub data Task : Type 0 where
   -- it tells something
   Tell : (reply : Reply) → Task
-  -- it makes a move and tells that it is made
-  Make : (move : Move) (reply : Reply) → Task
-  -- it is for an experiment that isn't out, and no reply to that is there yet
-  Later : Task
+  -- it appends a record, which says the move, and tells that it is made
+  Append : (entry : Record) (move : Move) (reply : Reply) → Task
 
 -- the numbers of switches, nodes and trunks
 abbrev pub lab_reply : Lab → Reply
@@ -72,21 +91,29 @@ lab_reply lab = LabReply (length lab.switches) (length lab.nodes) (length lab.tr
 abbrev pub created_reply : List ℕ → Wiring → Reply
 created_reply exp wiring = Created exp (length wiring.nodes) (length wiring.segments)
 
--- an experiment with its wiring, and without an experiment
-abbrev pub show_task : Experiment → Phase → Task
-show_task e Out = Tell (Shown e.name words.Out (canonical_top e.wiring))
-show_task e phase = Later
-
-abbrev pub delete_task : Experiment → Phase → Task
-delete_task e Out = Make (Deletes e.name) (Deleted e.name)
-delete_task e phase = Later
-
--- a line for each experiment: its phase, and the numbers of nodes and VLAN ids that it claims
+-- the phase of an experiment, as a reply has it
 abbrev pub phase_word : Phase → PhaseWord
 phase_word Out = words.Out
 phase_word (In mapping tags) = words.In
 phase_word (Moving old new) = words.Moving
 
+-- the segments with their VLAN ids
+abbrev pub tag_line : Segment × VlanId → TagLine
+tag_line placed = record { segment = placed.0.name; vlan = placed.1 }
+
+abbrev pub tag_lines : List Segment → List VlanId → List TagLine
+tag_lines segments tags = map tag_line (zip segments tags)
+
+-- where an experiment stands
+abbrev pub placed_at : Lab → Wiring → Phase → Option Placed
+placed_at lab w (In mapping tags) = Some (record { solution = canonical_solution lab w mapping; tags = tag_lines w.segments tags })
+placed_at lab w phase = None
+
+-- an experiment: its wiring, while it moves the one that it had before, and where it stands
+abbrev pub shown_reply : Lab → Experiment → Reply
+shown_reply lab e = Shown e.name (phase_word e.phase) (canonical_top e.wiring) (placed_at lab e.wiring e.phase)
+
+-- a line for each experiment: its phase, and the numbers of nodes and VLAN ids that it claims
 abbrev pub status_line : Lab → Experiment → StatusLine
 status_line lab e = record { exp = e.name; phase = phase_word e.phase; nodes = nodes_claimed lab e; vlans = ids_claimed e }
 
@@ -96,59 +123,59 @@ status_reply lab es = Listed (map (status_line lab) es) (nodes_free lab es) (ids
 
 -- THE FIRST REFUSAL OF A COMMAND, OR ITS TASK
 
-abbrev pub judged_ptop : LabState → List ℕ → Result Task Reply
-judged_ptop s text = do
+-- a record is appended where there is space for it
+abbrev pub appending : Setting → Record → Move → Reply → Result Task Reply
+appending set entry move reply = do
+  space ← need_space set entry
+  Ok (Append entry move reply)
+
+abbrev pub judged_ptop : Setting → LabState → List ℕ → Result Task Reply
+judged_ptop set s text = do
   none ← need_none s.lab
   lab ← need_meaning BadPtop (lab_of_text text)
-  Ok (Make (SetLab lab) (lab_reply lab))
+  appending set (LabRecord (canonical lab)) (SetLab lab) (lab_reply lab)
 
-abbrev pub judged_wiring : LabState → List ℕ → Wiring → Result Task Reply
-judged_wiring s exp wiring = do
+abbrev pub judged_wiring : Setting → LabState → List ℕ → Wiring → Result Task Reply
+judged_wiring set s exp wiring = do
   room ← need_room s.experiments
-  Ok (Make (Creates exp wiring) (created_reply exp wiring))
+  appending set (Create exp (canonical_top wiring)) (Creates exp wiring) (created_reply exp wiring)
 
-abbrev pub judged_create : LabState → List ℕ → List ℕ → Result Task Reply
-judged_create s exp text = do
+abbrev pub judged_create : Setting → LabState → List ℕ → List ℕ → Result Task Reply
+judged_create set s exp text = do
   lab ← need_lab s.lab
   new ← need_new exp (find exp s.experiments)
   wiring ← need_meaning (Bad exp) (wiring_of_text text)
-  judged_wiring s exp wiring
+  judged_wiring set s exp wiring
 
 abbrev pub judged_show : LabState → List ℕ → Result Task Reply
 judged_show s exp = do
   lab ← need_lab s.lab
   e ← need_found exp (find exp s.experiments)
-  Ok (show_task e e.phase)
+  Ok (Tell (shown_reply lab e))
 
-abbrev pub judged_delete : LabState → List ℕ → Result Task Reply
-judged_delete s exp = do
+abbrev pub judged_delete : Setting → LabState → List ℕ → Result Task Reply
+judged_delete set s exp = do
   lab ← need_lab s.lab
   e ← need_found exp (find exp s.experiments)
-  Ok (delete_task e e.phase)
+  out ← need_out exp e.phase
+  appending set (Delete exp) (Deletes exp) (Deleted exp)
 
 abbrev pub judged_status : LabState → Result Task Reply
 judged_status s = do
   lab ← need_lab s.lab
   Ok (Tell (status_reply lab s.experiments))
 
-abbrev pub judged : LabState → Command → Result Task Reply
-judged s (commands.Ptop lines text) = judged_ptop s text
-judged s (commands.CreateTop exp lines text) = judged_create s exp text
-judged s (commands.Show exp) = judged_show s exp
-judged s (commands.Delete exp) = judged_delete s exp
-judged s commands.Status = judged_status s
+abbrev pub judged : Setting → LabState → Command → Result Task Reply
+judged set s (commands.Ptop lines text) = judged_ptop set s text
+judged set s (commands.CreateTop exp lines text) = judged_create set s exp text
+judged set s (commands.Show exp) = judged_show s exp
+judged set s (commands.Delete exp) = judged_delete set s exp
+judged set s commands.Status = judged_status s
 
--- the task is done with that reply, and leaves that lab
-abbrev pub Does : LabState → Task → Reply → LabState → Type 0
-Does s (Tell told) reply after = (reply ≡ told) × (after ≡ s)
-Does s (Make move told) reply after = (reply ≡ told) × (moved s move ≡ Some after)
-Does s Later reply after = ⊥
+-- the refusal, or the task, is this one
+abbrev pub Is : Result Task Reply → Result Task Reply → Type 0
+Is judgement other = other ≡ judgement
 
--- a refused command changes nothing
-abbrev pub Obeys : LabState → Result Task Reply → Reply → LabState → Type 0
-Obeys s (Ok task) reply after = Does s task reply after
-Obeys s (Err refusal) reply after = (reply ≡ refusal) × (after ≡ s)
-
--- THE STEP of a command: its reply, and the lab after it
-abbrev pub Step : LabState → Command → Reply → LabState → Type 0
-Step s command reply after = Obeys s (judged s command) reply after
+-- WHAT IS JUDGED of a command
+abbrev pub Judged : Setting → LabState → Command → Result Task Reply → Type 0
+Judged set s command = Is (judged set s command)

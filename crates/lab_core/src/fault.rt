@@ -2,9 +2,12 @@ ghost use Rattle.std.specs.Prelude.{◌≡◌};
 
 use lab_base::Memory;
 
-/// Why a command was not answered.
+/// Why a command got no reply.
 #[derive(Clone, Copy, Debug, PartialEq, Eq)]
 pub enum CoreFault {
+    /// The plant stopped.
+    Stopped,
+    /// Memory was wanting.
     Memory,
 }
 

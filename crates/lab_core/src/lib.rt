@@ -4,14 +4,13 @@
 #![tactic(auto)]
 
 mod controller;
-mod experiments;
 mod fault;
 mod laws;
+mod records;
 mod replies;
+mod views;
 
 pub use controller::Controller;
 pub use fault::CoreFault;
-pub use laws::{blocks_of_commands, counts_of_idle_labs, steps};
-
-#[cfg(test)]
-mod tests;
+pub use journal_disk::OpenFault;
+pub use laws::{blocks_of_commands, lab_steps};

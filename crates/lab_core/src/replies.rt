@@ -1,5 +1,6 @@
 // The replies that count something.
 ghost use Rattle.std.specs.Prelude.{◌≡◌};
+ghost use Rattle.phys_lab.specs.Kept.{IsLab};
 ghost use Rattle.virt_topo.specs.Soundness.{IsSound};
 ghost use Rattle.lab_core.specs.Steps.{lab_reply, created_reply};
 
@@ -9,7 +10,8 @@ use script_text::Reply;
 use virt_topo::Wiring;
 
 pub(crate) fn lab_reply(lab: &Lab) -> Reply
-    ensures { result ≡ lab_reply lab.now }
+    ensures reply { result ≡ lab_reply lab.now }
+    ensures kept { IsLab lab.now }
 {
     let _kept = lab.range();
     Reply::Lab {

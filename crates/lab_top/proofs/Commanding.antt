@@ -1,51 +1,21 @@
--- A run of commands goes on, one after another.
-use Rattle.std.proofs.Common.{◌≡◌, ◌⊎◌, inl, inr, ⊎_elim, ℕ, ◌+◌, List, [], ◌∷◌, ◌++◌, length, take, Option, Some, None, Ok, Err, refl, sym, ◌∙◌, ap, subst, arith, append_assoc}
-use Rattle.std.specs.Io.KnownBytes.{append_known, prepend_known, IsAtEnd}
-use Rattle.std.proofs.lemmas.List.{append-nil, map-append, length-map}
-use Rattle.std.proofs.lemmas.Grind.{flat_map-append}
+-- What a run of commands begins of its script.
+use Rattle.std.proofs.Common.{◌≡◌, inl, inr, ⊎_elim, ℕ, ◌+◌, List, [], ◌∷◌, ◌++◌, length, Option, Some, refl, sym, ◌∙◌, ap, subst, arith, append_assoc}
+use Rattle.std.specs.Io.KnownBytes.{prepend_known, IsAtEnd}
+use Rattle.std.proofs.lemmas.List.{append-nil, length-map}
 use Rattle.lab_io.specs.Feeds.{NoFeed}
 use Rattle.lab_io.specs.Lines.{lines_from, script_lines}
 use Rattle.lab_io.specs.Passed.{Stand, Passed}
-use Rattle.lab_io.proofs.Known.{append_known-append}
 use Rattle.lab_io.proofs.Passing.{passed_more}
 use Rattle.lab_io.proofs.LineLaws.{lines-none}
-use Rattle.plant.specs.declared.moment.Faults.{Faults}
-use Rattle.plant.specs.Told.{Told, with_mark}
-use Rattle.records_model.specs.Labs.{LabState, at_first}
 use Rattle.script_text.specs.declared.command.Command.{Command}
-use Rattle.script_text.specs.declared.reply.Reply.{Reply}
 use Rattle.script_text.specs.declared.next.Next.TheVariants as nexts
 use Rattle.script_text.specs.Commands.{Lines, next_of, Ending, AtEnd, BadLine, ending, AreCommands, IsScript}
 use Rattle.script_text.specs.Taking.{known, Skipped, Reads, IsBad, IsUnfinished}
-use Rattle.script_text.specs.Replies.{text_of}
 use Rattle.script_text.proofs.Taken.{told_lines, known_behind}
-use Rattle.lab_core.specs.Steps.{Step}
-use Rattle.lab_top.specs.declared.turn.TurnFault.TheVariants as turn_fault
 use Rattle.lab_top.specs.declared.status.Status.TheVariants as statuses
-use Rattle.lab_top.specs.CommandTurns.{CommandTurn, AreCommandTurns, commands_of, lab_after, reply_text, reply_texts, with_marks, Moment, Marked, Answered}
 use Rattle.lab_top.specs.Forms.{at_start}
-use Rattle.lab_top.specs.Ran.{AreFirst, BegunCommands, WroteReplies, begun_of}
+use Rattle.lab_top.specs.Ran.{AreFirst, BegunCommands}
 use Rattle.lab_top.proofs.Forms.{some_parts}
-
--- ONE TURN MORE
-
-AreCommandTurns-push : (lab : LabState) (turns : List CommandTurn) (turn : CommandTurn) → AreCommandTurns lab turns → Step (lab_after lab turns) turn.command turn.reply turn.after → AreCommandTurns lab (turns ++ turn ∷ [])
-AreCommandTurns-push lab [] turn are is = (is, tt)
-AreCommandTurns-push lab (t ∷ turns) turn are is = (are.0, AreCommandTurns-push t.after turns turn are.1 is)
-
-lab_after-push : (lab : LabState) (turns : List CommandTurn) (turn : CommandTurn) → lab_after lab (turns ++ turn ∷ []) ≡ turn.after
-lab_after-push lab [] turn = refl
-lab_after-push lab (t ∷ turns) turn = lab_after-push t.after turns turn
-
-commands-push : (turns : List CommandTurn) (turn : CommandTurn) → commands_of (turns ++ turn ∷ []) ≡ commands_of turns ++ turn.command ∷ []
-commands-push turns turn = map-append (λ (t : CommandTurn). t.command) turns (turn ∷ [])
-
-texts-push : (turns : List CommandTurn) (turn : CommandTurn) → reply_texts (turns ++ turn ∷ []) ≡ reply_texts turns ++ reply_text turn
-texts-push turns turn = flat_map-append reply_text turns (turn ∷ []) ∙ ap (λ (l : List ℕ). reply_texts turns ++ l) (append-nil (reply_text turn))
-
-marks-push : (told : Option Told) (faults : Faults) (commands : List Command) (c : Command) → with_marks told faults (commands ++ c ∷ []) ≡ with_mark (with_marks told faults commands) faults
-marks-push told faults [] c = refl
-marks-push told faults (x ∷ commands) c = marks-push (with_mark told faults) faults commands c
 
 -- THE COMMANDS OF LINES THAT WERE PASSED
 
@@ -143,57 +113,3 @@ module _ (bytes : List ℕ) (now : Stand) (commands : List Command) (cov : Cover
         p.whole u.more,
         ⊎_elim (λ e. inl (all AtEnd e)) (λ e. inr (subst (λ (n : ℕ). IsScript p.raw commands (BadLine (n + 1))) size (all (BadLine (u.mid.lines + 1)) e))) u.unfinished,
       )
-
--- A COMMAND THAT WAS ANSWERED, OR NOT
-module _ (turns : List CommandTurn) (command : Command) (lab after : LabState) (told_first : Option Told) (faults_first : Faults) (written_first : Option (List ℕ)) (old new : Moment)
-    (are : AreCommandTurns at_first turns) (lab_is : lab ≡ lab_after at_first turns) (told_is : old.told ≡ with_marks told_first faults_first (commands_of turns)) (faults_are : old.faults ≡ faults_first) (written_is : old.written ≡ append_known written_first (reply_texts turns)) where
-  marked : Marked old new → new.told ≡ with_marks told_first faults_first (commands_of turns ++ command ∷ [])
-  marked m = m.told ∙ (λ i. with_mark (told_is i) (faults_are i)) ∙ sym (marks-push told_first faults_first (commands_of turns) command)
-
-  -- the turn that its reply makes
-  abbrev pub turn_of : Reply → CommandTurn
-  turn_of reply = record { command = command; reply = reply; after = after }
-
-  abbrev pub more : Reply → List CommandTurn
-  more reply = turns ++ turn_of reply ∷ []
-
-  are_more : (reply : Reply) → Step lab command reply after → AreCommandTurns at_first (more reply)
-  are_more reply step = AreCommandTurns-push at_first turns (turn_of reply) are (subst (λ (l : LabState). Step l command reply after) lab_is step)
-
-  told_more : (reply : Reply) → Marked old new → new.told ≡ with_marks told_first faults_first (commands_of (more reply))
-  told_more reply m = marked m ∙ ap (with_marks told_first faults_first) (sym (commands-push turns (turn_of reply)))
-
-  pub answered_more : Answered lab command old new after (Ok tt)
-      → (made : List CommandTurn) × AreCommandTurns at_first made × (after ≡ lab_after at_first made) × (new.told ≡ with_marks told_first faults_first (commands_of made)) × (new.written ≡ append_known written_first (reply_texts made)) × (commands_of made ≡ commands_of turns ++ command ∷ [])
-  answered_more done = let reply = done.1 in (
-    more reply,
-    are_more reply done.2,
-    sym (lab_after-push at_first turns (turn_of reply)),
-    told_more reply done.0,
-    done.3 ∙ ap (λ (w : Option (List ℕ)). append_known w (text_of reply)) written_is ∙ append_known-append written_first (reply_texts turns) (text_of reply) ∙ ap (append_known written_first) (sym (texts-push turns (turn_of reply))),
-    commands-push turns (turn_of reply),
-  )
-
-  pub answered_cut : Answered lab command old new after (Err turn_fault.WriteFault)
-      → (made : List CommandTurn) × AreCommandTurns at_first made × (new.told ≡ with_marks told_first faults_first (commands_of made)) × (new.faults ≡ faults_first) × (new.stopped ≡ old.stopped) × WroteReplies written_first new.written made statuses.WriteFault × (commands_of made ≡ commands_of turns ++ command ∷ [])
-  answered_cut cut = let reply = cut.1 in (
-    more reply,
-    are_more reply cut.2,
-    told_more reply cut.0,
-    cut.0.faults ∙ faults_are,
-    cut.0.stopped,
-    (
-      turns,
-      turn_of reply,
-      cut.3,
-      refl,
-      cut.4,
-      cut.5 ∙ ap (λ (w : Option (List ℕ)). append_known w (take cut.3 (text_of reply))) written_is ∙ append_known-append written_first (reply_texts turns) (take cut.3 (text_of reply)),
-    ),
-    commands-push turns (turn_of reply),
-  )
-
-  pub answered_not : Answered lab command old new after (Err turn_fault.Memory)
-      → (waiting : Option Command) × ((waiting ≡ None) ⊎ (waiting ≡ Some command)) × (new.told ≡ with_marks told_first faults_first (begun_of turns waiting)) × (new.faults ≡ faults_first) × (new.stopped ≡ old.stopped) × (new.written ≡ append_known written_first (reply_texts turns))
-  answered_not (inl s) = (None, inl refl, s.told ∙ told_is, s.faults ∙ faults_are, s.stopped, s.written ∙ written_is)
-  answered_not (inr m) = (Some command, inr refl, marked m.0, m.0.faults ∙ faults_are, m.0.stopped, m.1 ∙ written_is)

@@ -12,7 +12,7 @@ use Rattle.plant.specs.Told.{Told}
 use Rattle.lab_top.specs.declared.script.Pair.{Pair}
 use Rattle.lab_top.specs.declared.script.Said.{Said}
 use Rattle.lab_top.specs.declared.status.Status.{Status}
-use Rattle.lab_top.specs.declared.status.Status.TheVariants.{Done, ReadFault, WriteFault, Usage, BadScript, Memory}
+use Rattle.lab_top.specs.declared.status.Status.TheVariants.{Done, ReadFault, WriteFault, Usage, BadScript, Memory, JournalBad}
 use Rattle.lab_top.specs.Script.{Script, AtEnd, BadLine, goes_on, script_from, script_of, said_of}
 use Rattle.lab_top.specs.Turns.{Turn, Makes, with_turn, Counts, AreTurns, text, texts}
 use Rattle.lab_top.specs.Session.{Now, Outside, Takes, Stepped, Unchanged}
@@ -143,3 +143,4 @@ module _ (start : Outside) (old new : Now) (left : Option (List ℕ)) (turns : L
         },
       )
   ends Usage is = absurd is
+  ends (JournalBad side at) is = absurd is

@@ -13,3 +13,7 @@ pub mod Words
 pub mod Forms
 pub mod Commanding
 pub mod Starts
+pub mod Turning
+pub mod Obeyed
+pub mod Answering
+pub mod CommandTurns

@@ -9,10 +9,11 @@ use Rattle.script_text.specs.Commands.{Lines, next_of}
 use Rattle.script_text.specs.Taking.{known}
 use Rattle.lab_top.specs.declared.form.Form.TheVariants.{Pairs, Commands}
 use Rattle.lab_top.specs.declared.status.Status.{Status}
-use Rattle.lab_top.specs.declared.status.Status.TheVariants.{Done, ReadFault, WriteFault, Usage, BadScript, Memory}
+use Rattle.lab_top.specs.declared.status.Status.TheVariants.{ReadFault}
 use Rattle.lab_top.specs.First.{Begun, Wrote}
 use Rattle.lab_top.specs.Forms.{is_pairs, form_of, Behind, CutBehind}
-use Rattle.lab_top.specs.Ran.{BegunCommands, MayWait, WroteReplies}
+use Rattle.lab_top.specs.Answering.{Moment}
+use Rattle.lab_top.specs.Ran.{BegunCommands, Answered, GoesOn, WroteReplies}
 use Rattle.lab_top.specs.Run.{Run, RunOf}
 use Rattle.lab_top.specs.Script.{script_from}
 use Rattle.lab_top.specs.Session.{Now, Outside}
@@ -20,6 +21,7 @@ use Rattle.lab_top.specs.Turns.{Turn}
 use Rattle.lab_top.proofs.Ends.{from_start}
 use Rattle.lab_top.proofs.Forms.{some_parts, pairs_behind, commands_behind}
 use Rattle.lab_top.proofs.Going.{SoFar, Covered}
+use Rattle.lab_top.proofs.CommandTurns.{going_none}
 
 -- THE PAIRS begin behind lines that are skipped
 pub covered_behind : (bytes : List ℕ) (stand : Stand) (now : Now) → Behind bytes stand → now.rest ≡ stand.rest → now.ended ≡ stand.ended → now.taken ≡ stand.taken → now.number ≡ stand.lines → now.machines ≡ 0 → now.names ≡ [] → Covered bytes now []
@@ -45,14 +47,6 @@ covered_behind bytes stand now behind rest ended taken number machines names =
     first : 1 + length behind.texts ≡ now.number + 1
     first = omega (arith, number, behind.passed.number)
 
-none_waits : (status : Status) → MayWait status None
-none_waits Done = refl
-none_waits ReadFault = refl
-none_waits WriteFault = refl
-none_waits Usage = refl
-none_waits (BadScript line) = refl
-none_waits Memory = tt
-
 -- A RUN IN WHICH NOTHING IS BEGUN is one of pairs, and one of commands
 module _ (start : Outside) (left : Option (List ℕ)) (status : Status) where
   abbrev end : Outside
@@ -63,8 +57,8 @@ module _ (start : Outside) (left : Option (List ℕ)) (status : Status) where
   told_form (Some bytes) = is_pairs bytes
 
   pub nothing_begun : (start.written ≡ append_known start.written [] → Wrote start.written start.written [] status × WroteReplies start.written start.written [] status)
-      → ((bytes : List ℕ) → start.left ≡ Some bytes → Begun bytes left [] status × BegunCommands bytes left [] status) → Run start end status
-  nothing_begun wrote begun = record {
+      → ((bytes : List ℕ) → start.left ≡ Some bytes → Begun bytes left [] status × BegunCommands bytes left [] status) → Answered status [] → (start.stopped ≡ false → GoesOn status start.stopped) → Run start end status
+  nothing_begun wrote begun answered goes_on = record {
     of_pairs = told_form start.left;
     form = λ bytes is. ap told_form is;
     run = by (told_form start.left);
@@ -73,13 +67,14 @@ module _ (start : Outside) (left : Option (List ℕ)) (status : Status) where
       nothing : Wrote start.written start.written [] status × WroteReplies start.written start.written [] status
       nothing = wrote (sym (append_known-nil start.written))
 
+      first : Moment
+      first = record { told = start.told; faults = start.faults; stopped = start.stopped; controller = None }
+
       by : (pairs : Bool) → RunOf pairs start end status
       by true = ([], record { told = refl; counts = refl; turns = tt; keeps = from_start [] tt; begun = λ bytes is. (begun bytes is).0; wrote = nothing.0 })
-      by false = (
-        [],
-        None,
-        record { told = refl; faults = refl; stopped = refl; turns = tt; answered = none_waits status; begun = λ bytes is. (begun bytes is).1; wrote = nothing.1 },
-      )
+      by false =
+          let so = (going_none first start.written refl).so in
+          ([], record { told = so.told; counts = so.counts; goes_on = goes_on; turns = λ runs. so.are; sound = λ runs. so.sound; answered = answered; begun = λ bytes is. (begun bytes is).1; wrote = nothing.1 })
 
 -- the reading failed before the first line that tells the form
 pub cut_pairs : (bytes : List ℕ) (left : Option (List ℕ)) → CutBehind bytes left → Begun bytes left [] ReadFault

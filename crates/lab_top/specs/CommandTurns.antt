@@ -1,71 +1,111 @@
 -- Turns: a command each, from its mark to its reply.
-use Rattle.std.specs.Prelude.{◌≡◌, ◌⊎◌, ℕ, ◌<◌, Bool, List, [], ◌∷◌, length, take, map, Option, Result, Ok, Err}
+use Rattle.std.specs.Prelude.{◌≡◌, ◌≤◌, ◌^◌, ℕ, Bool, true, false, ◌&&◌, not, is_some, List, [], ◌∷◌, ◌++◌, map, Option, Some, None}
 use Rattle.std.specs.List.{flat_map}
-use Rattle.std.specs.Io.KnownBytes.{append_known}
+use Rattle.plant.specs.Calls.{Rose}
+use Rattle.plant.specs.Disks.{ArePossible}
+use Rattle.plant.specs.Events.{Event}
+use Rattle.plant.specs.Told.{Told, with_steps, with_mark}
 use Rattle.plant.specs.declared.moment.Faults.{Faults}
-use Rattle.plant.specs.Told.{Told, with_mark}
 use Rattle.records_model.specs.Labs.{LabState}
 use Rattle.script_text.specs.declared.command.Command.{Command}
 use Rattle.script_text.specs.declared.reply.Reply.{Reply}
+use Rattle.script_text.specs.declared.reply.Reply.TheVariants.{Down, Stopped}
 use Rattle.script_text.specs.Replies.{text_of}
-use Rattle.lab_core.specs.Steps.{Step}
-use Rattle.lab_top.specs.declared.turn.TurnFault.{TurnFault}
-use Rattle.lab_top.specs.declared.turn.TurnFault.TheVariants.{Memory, WriteFault}
+use Rattle.lab_core.specs.LabSteps.{LabStep}
+use Rattle.lab_core.specs.Moments.{IsLabAt, IsLabOfImage, AllStandFor, StandForLab, IsLengthAt}
+use Rattle.journal_disk.specs.Before.{are_synced}
+use Rattle.journal_runs.specs.Pieces.{has_restart}
+use Rattle.lab_core.specs.Sessions.{Session, Closed, Open}
 
--- a command that was answered: its reply, and the lab after it
+-- A COMMAND THAT WAS BEGUN: the counts of faults at its mark and after it, the session before and after it, the steps of its opening and
+-- its own, and its reply, if it was answered
 pub record CommandTurn : Type 0 where
   pub command : Command
-  pub reply : Reply
-  pub after : LabState
+  pub faults : Faults
+  pub later : Faults
+  pub from : Session
+  pub to : Session
+  pub opening : List Event
+  pub own : List Event
+  pub reply : Option Reply
+
+abbrev pub steps_of : CommandTurn → List Event
+steps_of turn = turn.opening ++ turn.own
 
 abbrev pub commands_of : List CommandTurn → List Command
 commands_of turns = map (λ turn. turn.command) turns
 
--- each reply is that of its command by the lab then, which is the one after the command before it
-abbrev pub AreCommandTurns : LabState → List CommandTurn → Type 0
-AreCommandTurns lab [] = Unit {0}
-AreCommandTurns lab (turn ∷ turns) = Step lab turn.command turn.reply turn.after × AreCommandTurns turn.after turns
+-- what the plant tells after turns: of each the moment is marked, and then its steps are made
+abbrev pub with_turn : Option Told → CommandTurn → Option Told
+with_turn told turn = with_steps (with_mark told turn.faults) (steps_of turn)
 
--- the lab after turns
-abbrev pub lab_after : LabState → List CommandTurn → LabState
-lab_after lab [] = lab
-lab_after lab (turn ∷ turns) = lab_after turn.after turns
+abbrev pub with_turns : Option Told → List CommandTurn → Option Told
+with_turns told [] = told
+with_turns told (turn ∷ turns) = with_turns (with_turn told turn) turns
+
+-- THE COUNTS OF FAULTS: they begin with those of the entry and end with those of the exit, and never fall; the reply `down` comes only where the
+-- disk's rose
+pub record Later (before now : Faults) : Type 0 where
+  pub disk : before.disk ≤ now.disk
+  pub devices : before.devices ≤ now.devices
+
+abbrev pub Counts : Faults → List CommandTurn → Faults → Type 0
+Counts entry [] exit = exit ≡ entry
+Counts entry (turn ∷ turns) exit =
+    (turn.faults ≡ entry) × Later entry turn.later × (turn.reply ≡ Some Down → Rose entry.disk turn.later.disk) × Counts turn.later turns exit
+
+-- THE LAB STEP of a turn between these labs: the limit is 2^32 bytes, and the length is the journal's as its sides read after the opening
+pub record StepsFrom (trace : List Event) (turn : CommandTurn) (s after : LabState) : Type 0 where
+  pub length : ℕ
+  pub length_is : IsLengthAt (trace ++ turn.opening) length
+  pub step : LabStep (record { length = length; limit = 2 ^ 32 }) s turn.from turn.command turn.opening turn.own (record { reply = turn.reply; lab = after; session = turn.to })
+
+-- the first lab is that of the moment; where the plant stopped in an opening before both sides were synced, that of an image
+abbrev pub is_closed : Session → Bool
+is_closed Closed = true
+is_closed Open = false
+
+abbrev pub is_early : CommandTurn → Bool
+is_early turn = is_closed turn.from && (has_restart turn.opening && not (are_synced turn.opening))
+
+abbrev pub FirstLab : Bool → List Event → LabState → Type 0
+FirstLab true trace s = IsLabOfImage trace s
+FirstLab false trace s = IsLabAt trace s
+
+-- after `stopped`, and after a reply that leaves the session open, all images stand for the last lab; after each other reply each image stands for
+-- the lab after a step from an image before it
+abbrev pub leaves_one : Session → Option Reply → Bool
+leaves_one Open reply = true
+leaves_one Closed (Some Stopped) = true
+leaves_one Closed reply = false
+
+abbrev pub ImagesAfter : Bool → List Event → CommandTurn → LabState → Type 0
+ImagesAfter true trace turn last = AllStandFor (trace ++ steps_of turn) last
+ImagesAfter false trace turn last = (a b : List ℕ) → ArePossible (trace ++ steps_of turn) a b
+    → (s : LabState) × (after : LabState) × IsLabOfImage trace s × StandForLab a b after × StepsFrom trace turn s after
+
+-- A TURN over the trace before it: the lab that it goes from, the one that it leaves, and the step between both
+pub record IsTurn (trace : List Event) (turn : CommandTurn) : Type 0 where
+  pub first : LabState
+  pub last : LabState
+  pub before : FirstLab (is_early turn) trace first
+  pub behind : IsLabAt (trace ++ steps_of turn) last
+  pub steps : StepsFrom trace turn first last
+  pub images : is_some turn.reply ≡ true → ImagesAfter (leaves_one turn.to turn.reply) trace turn last
+
+-- turns one after another, the session handed on
+abbrev pub AreTurns : List Event → Session → List CommandTurn → Type 0
+AreTurns trace session [] = Unit {0}
+AreTurns trace session (turn ∷ turns) = (turn.from ≡ session) × IsTurn trace turn × AreTurns (trace ++ steps_of turn) turn.to turns
+
+-- the text of the reply, if there is one
+abbrev pub text_if : Option Reply → List ℕ
+text_if None = []
+text_if (Some reply) = text_of reply
 
 abbrev pub reply_text : CommandTurn → List ℕ
-reply_text turn = text_of turn.reply
+reply_text turn = text_if turn.reply
 
 -- the replies to turns, in order
 abbrev pub reply_texts : List CommandTurn → List ℕ
 reply_texts turns = flat_map reply_text turns
-
--- what the plant tells after commands: the moment before each is marked, with these counts of faults
-abbrev pub with_marks : Option Told → Faults → List Command → Option Told
-with_marks told faults [] = told
-with_marks told faults (command ∷ commands) = with_marks (with_mark told faults) faults commands
-
--- what is seen of the plant and of what was written
-pub record Moment : Type 0 where
-  pub told : Option Told
-  pub faults : Faults
-  pub stopped : Bool
-  pub written : Option (List ℕ)
-
--- the moment was marked, and nothing else was done to the plant
-pub record Marked (old new : Moment) : Type 0 where
-  pub told : new.told ≡ with_mark old.told old.faults
-  pub faults : new.faults ≡ old.faults
-  pub stopped : new.stopped ≡ old.stopped
-
--- nothing was done
-pub record Still (old new : Moment) : Type 0 where
-  pub told : new.told ≡ old.told
-  pub faults : new.faults ≡ old.faults
-  pub stopped : new.stopped ≡ old.stopped
-  pub written : new.written ≡ old.written
-
--- a command was begun and what was written grew by its reply, or by a proper prefix of it; for want of memory it may not
--- be begun, and has no reply
-abbrev pub Answered : LabState → Command → Moment → Moment → LabState → Result (Unit {0}) TurnFault → Type 0
-Answered lab command old new after (Ok done) = Marked old new × (reply : Reply) × Step lab command reply after × (new.written ≡ append_known old.written (text_of reply))
-Answered lab command old new after (Err WriteFault) = Marked old new × (reply : Reply) × Step lab command reply after × (n : ℕ) × (n < length (text_of reply)) × (new.written ≡ append_known old.written (take n (text_of reply)))
-Answered lab command old new after (Err Memory) = Still old new ⊎ (Marked old new × (new.written ≡ old.written))

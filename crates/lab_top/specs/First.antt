@@ -5,7 +5,7 @@ use Rattle.lab_io.specs.Feeds.{NoFeed}
 use Rattle.lab_io.specs.Passed.{IsWhole}
 use Rattle.lab_top.specs.declared.script.Pair.{Pair}
 use Rattle.lab_top.specs.declared.status.Status.{Status}
-use Rattle.lab_top.specs.declared.status.Status.TheVariants.{Done, ReadFault, WriteFault, Usage, BadScript, Memory}
+use Rattle.lab_top.specs.declared.status.Status.TheVariants.{Done, ReadFault, WriteFault, Usage, BadScript, Memory, JournalBad}
 use Rattle.lab_top.specs.Script.{AtEnd, BadLine, script_of}
 use Rattle.lab_top.specs.Isolated.{KeepsThroughout}
 use Rattle.lab_top.specs.Session.{Outside}
@@ -31,6 +31,8 @@ Begun bytes left turns WriteFault = (more : List Pair) × ((script_of bytes).pai
 Begun bytes left turns Memory = (more : List Pair) × ((script_of bytes).pairs ≡ pairs_of turns ++ more)
 -- none, and nothing is taken
 Begun bytes left turns Usage = (turns ≡ []) × (left ≡ Some bytes)
+-- a run of pairs has no journal
+Begun bytes left turns (JournalBad side at) = ⊥
 
 -- all replies, or, after a write that failed, the last one cut to a proper prefix
 abbrev pub Wrote : Option (List ℕ) → Option (List ℕ) → List Turn → Status → Type 0

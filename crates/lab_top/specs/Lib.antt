@@ -1,3 +1,4 @@
+pub mod Answering
 pub mod Codes
 pub mod Causes
 pub mod Counted

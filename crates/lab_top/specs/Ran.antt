@@ -1,21 +1,19 @@
 -- What a run of commands says of the bytes that it read, the bytes that it wrote and the plant's past.
-use Rattle.std.specs.Prelude.{◌≡◌, ◌⊎◌, ℕ, ◌+◌, ◌<◌, List, [], ◌∷◌, ◌++◌, length, take, Option, Some, None}
+use Rattle.std.specs.Prelude.{◌≡◌, ◌⊎◌, ℕ, ◌+◌, ◌<◌, Bool, true, false, is_some, List, [], ◌∷◌, ◌++◌, length, take, Option, Some, None, IfSome}
+use Rattle.std.specs.List.{list_all}
 use Rattle.std.specs.Io.KnownBytes.{append_known}
 use Rattle.lab_io.specs.Feeds.{NoFeed}
 use Rattle.lab_io.specs.Lines.{script_lines}
 use Rattle.lab_io.specs.Passed.{IsWhole}
-use Rattle.records_model.specs.Labs.{at_first}
+use Rattle.records_model.specs.Works.{IsSound}
+use Rattle.lab_state.specs.Texts.{the_texts}
 use Rattle.script_text.specs.declared.command.Command.{Command}
 use Rattle.script_text.specs.Commands.{Lines, Got, next_of, AtEnd, BadLine, IsScript}
 use Rattle.lab_top.specs.declared.status.Status.{Status}
-use Rattle.lab_top.specs.declared.status.Status.TheVariants.{Done, ReadFault, WriteFault, Usage, BadScript, Memory}
+use Rattle.lab_top.specs.declared.status.Status.TheVariants.{Done, ReadFault, WriteFault, Usage, BadScript, Memory, JournalBad}
+use Rattle.lab_core.specs.Sessions.{Closed}
 use Rattle.lab_top.specs.Session.{Outside}
-use Rattle.lab_top.specs.CommandTurns.{CommandTurn, AreCommandTurns, commands_of, with_marks, reply_text, reply_texts}
-
--- the commands that were answered, and perhaps one that was not
-abbrev pub begun_of : List CommandTurn → Option Command → List Command
-begun_of turns None = commands_of turns
-begun_of turns (Some command) = commands_of turns ++ command ∷ []
+use Rattle.lab_top.specs.CommandTurns.{CommandTurn, AreTurns, Counts, commands_of, with_turns, reply_text, reply_texts}
 
 -- these are the first commands behind line `number`
 abbrev pub AreFirst : ℕ → Lines → List Command → Type 0
@@ -37,29 +35,48 @@ BegunCommands bytes left begun ReadFault = (done : List ℕ) × (pending : List 
 -- some of the first
 BegunCommands bytes left begun WriteFault = AreFirst 0 (script_lines bytes) begun
 BegunCommands bytes left begun Memory = AreFirst 0 (script_lines bytes) begun
+BegunCommands bytes left begun (JournalBad side at) = AreFirst 0 (script_lines bytes) begun
 -- none, and nothing is taken
 BegunCommands bytes left begun Usage = (begun ≡ []) × (left ≡ Some bytes)
 
--- all that were begun are answered; at want of memory the last one may not be
-abbrev pub MayWait : Status → Option Command → Type 0
-MayWait Memory waiting = Unit {0}
-MayWait status waiting = waiting ≡ None
+-- all that were begun are answered; at want of memory the last one may not be, and where the sides are no journal it is not
+abbrev pub AreAnswered : List CommandTurn → Type 0
+AreAnswered turns = list_all (λ turn. is_some turn.reply) turns ≡ true
+
+pub record LastIsNot (turns : List CommandTurn) : Type 0 where
+  pub before : List CommandTurn
+  pub turn : CommandTurn
+  pub turns_are : turns ≡ before ++ turn ∷ []
+  pub answered : AreAnswered before
+  pub waits : turn.reply ≡ None
+
+abbrev pub Answered : Status → List CommandTurn → Type 0
+Answered Memory turns = AreAnswered turns ⊎ LastIsNot turns
+Answered (JournalBad side at) turns = LastIsNot turns
+Answered status turns = AreAnswered turns
 
 -- all replies, or, after a write that failed, the last one cut to a proper prefix
 abbrev pub WroteReplies : Option (List ℕ) → Option (List ℕ) → List CommandTurn → Status → Type 0
 WroteReplies old new turns WriteFault = (before : List CommandTurn) × (turn : CommandTurn) × (n : ℕ) × (turns ≡ before ++ turn ∷ []) × (n < length (reply_text turn)) × (new ≡ append_known old (reply_texts before ++ take n (reply_text turn)))
 WroteReplies old new turns status = new ≡ append_known old (reply_texts turns)
 
--- A RUN OF COMMANDS, by the turns that it made, and the command that has no reply
-pub record Ran (old new : Outside) (status : Status) (made : List CommandTurn) (waiting : Option Command) : Type 0 where
-  -- the marks are the moments just before the commands that were begun, and no step is made
-  pub told : new.told ≡ with_marks old.told old.faults (begun_of made waiting)
-  pub faults : new.faults ≡ old.faults
-  pub stopped : new.stopped ≡ old.stopped
-  -- from no lab on, each command is a step from the lab then to the lab after it, with its reply
-  pub turns : AreCommandTurns at_first made
-  pub answered : MayWait status waiting
+-- whether the plant is stopped: only at want of memory
+abbrev pub GoesOn : Status → Bool → Type 0
+GoesOn Memory stopped = Unit {0}
+GoesOn status stopped = stopped ≡ false
+
+-- A RUN OF COMMANDS, by the turns that it made
+pub record Ran (old new : Outside) (status : Status) (made : List CommandTurn) : Type 0 where
+  -- the marks are the moments just before the commands that were begun, and behind each mark stand the steps of its command
+  pub told : new.told ≡ with_turns old.told made
+  pub counts : Counts old.faults made new.faults
+  pub goes_on : old.stopped ≡ false → GoesOn status new.stopped
+  -- over a trace that is sound at the entry each command is a lab step, from the lab of the moment before it to that of the moment after it
+  pub turns : old.stopped ≡ false → IfSome old.told (λ t. IsSound the_texts t.trace → AreTurns t.trace Closed made)
+  -- and the trace is sound at the exit
+  pub sound : old.stopped ≡ false → IfSome old.told (λ t. IsSound the_texts t.trace → IfSome new.told (λ u. IsSound the_texts u.trace))
+  pub answered : Answered status made
   -- the commands are those of the script
-  pub begun : (bytes : List ℕ) → old.left ≡ Some bytes → BegunCommands bytes new.left (begun_of made waiting) status
+  pub begun : (bytes : List ℕ) → old.left ≡ Some bytes → BegunCommands bytes new.left (commands_of made) status
   -- the output is the replies
   pub wrote : WroteReplies old.written new.written made status

@@ -1,6 +1,5 @@
 -- What a whole run of the program says.
-use Rattle.std.specs.Prelude.{◌≡◌, ℕ, Bool, true, false, List, Option, Some}
-use Rattle.script_text.specs.declared.command.Command.{Command}
+use Rattle.std.specs.Prelude.{◌≡◌, ℕ, Bool, true, false, List, Some}
 use Rattle.lab_top.specs.declared.status.Status.{Status}
 use Rattle.lab_top.specs.CommandTurns.{CommandTurn}
 use Rattle.lab_top.specs.First.{First}
@@ -12,7 +11,7 @@ use Rattle.lab_top.specs.Turns.{Turn}
 -- a run of pairs, or of commands
 abbrev pub RunOf : Bool → Outside → Outside → Status → Type 0
 RunOf true old new status = (turns : List Turn) × First old new status turns
-RunOf false old new status = (turns : List CommandTurn) × (waiting : Option Command) × Ran old new status turns waiting
+RunOf false old new status = (turns : List CommandTurn) × Ran old new status turns
 
 -- THE RUN OF THE PROGRAM
 pub record Run (old new : Outside) (status : Status) : Type 0 where

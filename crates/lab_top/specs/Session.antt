@@ -12,7 +12,7 @@ use Rattle.lab_top.specs.declared.script.Said.TheVariants.{Skip, Machines, Pair 
 use Rattle.lab_top.specs.declared.lab.Lab.{Lab}
 use Rattle.lab_top.specs.declared.turn.TurnFault.TheVariants as turn_fault
 use Rattle.lab_top.specs.declared.status.Status.{Status}
-use Rattle.lab_top.specs.declared.status.Status.TheVariants.{Done, ReadFault, WriteFault, Usage, BadScript, Memory}
+use Rattle.lab_top.specs.declared.status.Status.TheVariants.{Done, ReadFault, WriteFault, Usage, BadScript, Memory, JournalBad}
 use Rattle.lab_top.specs.Script.{said_of}
 use Rattle.lab_top.specs.Turns.{Seen, Same, Turned}
 
@@ -74,6 +74,7 @@ Stepped old new left (Err Done) = (new.rest ≡ old.rest) × (IsAtEnd new.rest �
 Stepped old new left (Err ReadFault) = (old.ended ≡ false) × (new.rest ≡ old.rest) × ((pending : List ℕ) × NoFeed pending × (new.rest ≡ prepend_known pending left)) × Unchanged old new
 Stepped old new left (Err WriteFault) = (text : List ℕ) × Takes old text new × (pair : Pair) × (said_of old.machines old.names text ≡ Paired pair) × Turned old.switch pair old.seen new.seen old.written new.written (Err turn_fault.WriteFault)
 Stepped old new left (Err Usage) = ⊥
+Stepped old new left (Err (JournalBad side at)) = ⊥
 Stepped old new left (Err (BadScript line)) = (line ≡ old.number + 1) × Unchanged old new
     × (((text : List ℕ) × Takes old text new × (said_of old.machines old.names text ≡ Bad)) ⊎ ((old.ended ≡ false) × IsTooLong old.taken old.rest))
 Stepped old new left (Err Memory) = Unchanged old new

@@ -1,43 +1,166 @@
-ghost use Rattle.std.specs.Prelude.{◌≡◌, ◌≤◌, IsErrOf};
+ghost use Rattle.std.specs.Prelude.{◌≡◌, Some, ◌↔◌, ◌≤◌, ◌^◌, ℕ, None, IfSome, IsErrOf, IsTrue, false, Err, OnOk, OnErr};
 ghost use Rattle.lab_io.specs.Causes.{Rose};
+ghost use Rattle.plant.specs.Disks.{disk};
+ghost use Rattle.plant.specs.declared.step.Side.{Side as AnySide};
+ghost use Rattle.plant.specs.declared.step.Side.TheVariants.{A, B};
+ghost use Rattle.script_text.specs.Replies.{text_of};
+ghost use Rattle.script_text.specs.declared.reply.Reply.TheVariants.{Down};
 ghost use Rattle.lab_core.specs.Blocks.{HasBlocks};
-ghost use Rattle.lab_top.specs.CommandTurns.{Answered};
+ghost use Rattle.lab_core.specs.Moments.{IsNoJournal};
+ghost use Rattle.lab_top.specs.Answering.{Answered, IsOpen, Made, MayGoOn, OwnTold, Sent, Starts, Unopened, reply_if, session_of};
+ghost use Rattle.lab_top.specs.CommandTurns.{Later};
 
-use crate::turn::TurnFault;
-use lab_core::Controller;
+use lab_core::{Controller, CoreFault, OpenFault};
 use lab_io::{Sink, write_all};
-use plant::Plant;
-use script_text::{Command, reply_text};
+use plant::{Plant, Side};
+use script_text::{Command, Reply, reply_text};
 use std::alloc::Global;
+
+/// How long the journal may be, on each side.
+const LIMIT: u64 = 4_294_967_296;
+
+/// Why a command has no reply, or not a whole one.
+#[derive(Clone, Copy, Debug, PartialEq, Eq)]
+pub(crate) enum CommandFault {
+    /// Memory was wanting.
+    Memory,
+    /// The reply could not be written.
+    WriteFault,
+    /// The sides are no journal.
+    JournalBad { side: Side, at: u64 },
+}
+
+/// Starts a stopped plant again, and tells that it stopped.
+fn start_again<P: Plant>(plant: &mut P) -> Result<Reply, CommandFault>
+    requires { IsTrue (P.is_stopped plant.old) }
+    ensures starts { Starts (P.told plant.old) (P.told plant.new) result }
+    ensures runs { OnOk result (P.is_stopped plant.new ≡ false) }
+    ensures faults { P.faults plant.new ≡ P.faults plant.old }
+    ensures drills { P.takes_drills plant.new ≡ P.takes_drills plant.old }
+{
+    match plant.restart() {
+        Ok(()) => Ok(Reply::Stopped),
+        Err(_) => Err(CommandFault::Memory),
+    }
+}
+
+/// The reply where the controller could not be opened.
+fn unopened<P: Plant>(fault: OpenFault, plant: &mut P) -> Result<Reply, CommandFault>
+    requires { fault ≡ OpenFault.Stopped ↔ IsTrue (P.is_stopped plant.old) }
+    ensures unopened { Unopened fault (P.told plant.old) (P.told plant.new) result }
+    ensures runs { OnOk result (P.is_stopped plant.new ≡ false) }
+    ensures bad { (side : AnySide) (at : ℕ) → result ≡ Err (CommandFault.JournalBad side at) → P.is_stopped plant.new ≡ false }
+    ensures faults { P.faults plant.new ≡ P.faults plant.old }
+    ensures drills { P.takes_drills plant.new ≡ P.takes_drills plant.old }
+{
+    match fault {
+        OpenFault::Plant => Ok(Reply::Down),
+        OpenFault::Stopped => start_again(plant),
+        OpenFault::Bad { side, at } => Err(CommandFault::JournalBad { side, at }),
+        OpenFault::Memory => Err(CommandFault::Memory),
+    }
+}
+
+/// Obeys a command by an open controller, which stays open but for a reply that closes it.
+fn obey_open<P: Plant>(
+    mut opened: Controller,
+    controller: &mut Option<Controller>,
+    command: &Command,
+    plant: &mut P,
+) -> Result<Reply, CommandFault>
+    requires blocks { HasBlocks command.now }
+    requires taken { controller.old ≡ None }
+    requires open { IfSome (P.told plant.old) (λ t. IsOpen t.trace opened) }
+    requires runs { P.is_stopped plant.old ≡ false }
+    ensures own { OwnTold (P.told plant.old) (P.told plant.new) command.now opened (session_of controller.new) (reply_if result) }
+    ensures goes_on { MayGoOn (record { told = P.told plant.new; faults = P.faults plant.new; stopped = P.is_stopped plant.new; controller = controller.new }) }
+    ensures closed { OnErr result (controller.new ≡ None) }
+    ensures memory { OnErr result (result ≡ Err CommandFault.Memory) }
+    ensures runs { OnOk result (P.is_stopped plant.new ≡ false) }
+    ensures down { reply_if result ≡ Some Down → Rose (P.faults plant.old).disk (P.faults plant.new).disk }
+    ensures later { Later (P.faults plant.old) (P.faults plant.new) }
+    ensures drills { P.takes_drills plant.new ≡ P.takes_drills plant.old }
+{
+    match opened.obey(command, plant) {
+        Ok(reply) => {
+            if !reply.closes() {
+                *controller = Some(opened);
+            }
+            Ok(reply)
+        }
+        Err(CoreFault::Stopped) => start_again(plant),
+        Err(CoreFault::Memory) => Err(CommandFault::Memory),
+    }
+}
+
+/// Obeys a command, after it has opened the controller where it is closed.
+fn reply_to<P: Plant>(
+    alloc: Global,
+    controller: &mut Option<Controller>,
+    command: &Command,
+    plant: &mut P,
+) -> Result<Reply, CommandFault>
+    requires blocks { HasBlocks command.now }
+    requires goes_on { MayGoOn (record { told = P.told plant.old; faults = P.faults plant.old; stopped = P.is_stopped plant.old; controller = controller.old }) }
+    ensures made { Made command.now
+        (record { told = P.told plant.old; faults = P.faults plant.old; stopped = P.is_stopped plant.old; controller = controller.old })
+        (record { told = P.told plant.new; faults = P.faults plant.new; stopped = P.is_stopped plant.new; controller = controller.new })
+        (session_of controller.new) (reply_if result) }
+    ensures closed { OnErr result (controller.new ≡ None) }
+    ensures bad { (side : AnySide) (at : ℕ) → result ≡ Err (CommandFault.JournalBad side at)
+        → IfSome (P.told plant.new) (λ t. IsNoJournal (disk A t.trace).reads (disk B t.trace).reads (2 ^ 32) side at) × (P.is_stopped plant.new ≡ false) }
+    ensures no_write { result ≡ Err CommandFault.WriteFault → ⊥ }
+    ensures drills { P.takes_drills plant.new ≡ P.takes_drills plant.old }
+{
+    match controller.take() {
+        Some(opened) => obey_open(opened, controller, command, plant),
+        None => match Controller::open(alloc, LIMIT, plant) {
+            Ok(opened) => obey_open(opened, controller, command, plant),
+            Err(fault) => unopened(fault, plant),
+        },
+    }
+}
+
+/// Writes the text of a reply.
+fn send_reply<K: Sink>(alloc: Global, reply: &Reply, sink: &mut K) -> Result<(), CommandFault>
+    ensures sent { Sent (K.written sink.old) (K.written sink.new) (text_of reply.now) result }
+    ensures write { IsErrOf result CommandFault.WriteFault → Rose (K.faults sink.old) (K.faults sink.new) }
+    ensures later { K.faults sink.old ≤ K.faults sink.new }
+{
+    let Ok(text) = reply_text(alloc, reply) else {
+        return Err(CommandFault::Memory);
+    };
+    match write_all(sink, text.bytes()) {
+        Ok(()) => Ok(()),
+        Err(_) => Err(CommandFault::WriteFault),
+    }
+}
 
 /// Marks the moment, obeys a command, and writes its reply.
 pub(crate) fn answer_command<K: Sink, P: Plant>(
     alloc: Global,
-    controller: &mut Controller,
+    controller: &mut Option<Controller>,
     command: Command,
     sink: &mut K,
     plant: &mut P,
-) -> Result<(), TurnFault>
-    requires { HasBlocks command }
-    ensures answered { Answered controller.old command
-        (record { told = P.told plant.old; faults = P.faults plant.old; stopped = P.is_stopped plant.old; written = K.written sink.old })
-        (record { told = P.told plant.new; faults = P.faults plant.new; stopped = P.is_stopped plant.new; written = K.written sink.new })
-        controller.new result }
-    ensures write { IsErrOf result TurnFault.WriteFault → Rose (K.faults sink.old) (K.faults sink.new) }
+) -> Result<(), CommandFault>
+    requires blocks { HasBlocks command }
+    requires goes_on { MayGoOn (record { told = P.told plant.old; faults = P.faults plant.old; stopped = P.is_stopped plant.old; controller = controller.old }) }
+    ensures answered { Answered command
+        (record { told = P.told plant.old; faults = P.faults plant.old; stopped = P.is_stopped plant.old; controller = controller.old })
+        (record { told = P.told plant.new; faults = P.faults plant.new; stopped = P.is_stopped plant.new; controller = controller.new })
+        (K.written sink.old) (K.written sink.new) result }
+    ensures bad { (side : AnySide) (at : ℕ) → result ≡ Err (CommandFault.JournalBad side at)
+        → IfSome (P.told plant.new) (λ t. IsNoJournal (disk A t.trace).reads (disk B t.trace).reads (2 ^ 32) side at) }
+    ensures write { IsErrOf result CommandFault.WriteFault → Rose (K.faults sink.old) (K.faults sink.new) }
     ensures later { K.faults sink.old ≤ K.faults sink.new }
     ensures drills { P.takes_drills plant.new ≡ P.takes_drills plant.old }
 {
     let Ok(()) = plant.mark() else {
-        return Err(TurnFault::Memory);
+        return Err(CommandFault::Memory);
     };
-    let Ok(reply) = controller.obey(&command) else {
-        return Err(TurnFault::Memory);
-    };
-    let Ok(text) = reply_text(alloc, &reply) else {
-        return Err(TurnFault::Memory);
-    };
-    match write_all(sink, text.bytes()) {
-        Ok(()) => Ok(()),
-        Err(_) => Err(TurnFault::WriteFault),
+    match reply_to(alloc, controller, &command, plant) {
+        Ok(reply) => send_reply(alloc, &reply, sink),
+        Err(fault) => Err(fault),
     }
 }

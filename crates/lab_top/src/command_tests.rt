@@ -16,8 +16,8 @@ const LARGE: &[u8] =
 /// Two virtual nodes and a segment: three lines.
 const PAIR: &[u8] = b"node a pc linux\nnode b pc linux\nlink ab ab 100000 a b\n";
 
-/// Parts of a script, and what comes of it.
-type Case = (&'static [&'static [u8]], &'static [u8], Status);
+/// Parts of a script, and what comes of it: the output, the status, and how many steps there are. An opening of blank sides has 8, and an append 4.
+type Case = (&'static [&'static [u8]], &'static [u8], Status, usize);
 
 #[test]
 fn commands_are_answered(rt: HostRuntime) -> Result<(), Fail> {
@@ -30,13 +30,15 @@ fn commands_are_answered(rt: HostRuntime) -> Result<(), Fail> {
             ],
             b"lab 1 2 0\nfree 2 2\ncreated A 2 1\nshow A out\nnode a pc linux\nnode b pc linux\nlink ab ab 100000 a b\nend A\nexp A out 0 0\nfree 2 2\nexists A\nunknown B\ndeleted A\nfree 2 2\n",
             Status::Done,
+            20,
         ),
         (
             &[b"ptop 6\n", SMALL, b"ptop 6\n", SMALL],
             b"lab 1 2 0\nlab is set\n",
             Status::Done,
+            12,
         ),
-        (&[b"ptop 12\n", LARGE], b"lab 2 4 1\n", Status::Done),
+        (&[b"ptop 12\n", LARGE], b"lab 2 4 1\n", Status::Done, 12),
         // Three switches in a triangle.
         (
             &[
@@ -44,17 +46,20 @@ fn commands_are_answered(rt: HostRuntime) -> Result<(), Fail> {
             ],
             b"bad ptop 6 cycle\n",
             Status::Done,
+            8,
         ),
         // A bad lab is none, and a block that is cut short names its first missing line.
         (
             &[b"status\nptop 1\nnode s1\nshow A\nptop 6\nvlans 100 101\n"],
             b"no lab\nbad ptop 1 fields\nno lab\n",
             Status::BadScript { line: 7 },
+            8,
         ),
         (
             &[b"status\nptop 6\nvlans 100 101\n"],
             b"no lab\n",
             Status::BadScript { line: 4 },
+            8,
         ),
         (
             &[
@@ -66,6 +71,7 @@ fn commands_are_answered(rt: HostRuntime) -> Result<(), Fail> {
             ],
             b"lab 1 2 0\ncreated A 2 1\nexp A out 0 0\nfree 2 2\ndeleted A\nfree 2 2\n",
             Status::Done,
+            20,
         ),
         (
             &[
@@ -75,6 +81,7 @@ fn commands_are_answered(rt: HostRuntime) -> Result<(), Fail> {
             ],
             b"lab 1 2 0\ncreated A 2 2\n",
             Status::Done,
+            16,
         ),
         (
             &[
@@ -88,19 +95,21 @@ fn commands_are_answered(rt: HostRuntime) -> Result<(), Fail> {
             ],
             b"lab 1 2 0\ncreated A 2 1\nexists A\nshow A out\nnode a pc linux\nnode b pc linux\nlink ab ab 100000 a b\nend A\nunknown B\nunknown B\nbad B 1 fields\n",
             Status::Done,
+            16,
         ),
         // A line of pairs is no command.
         (
             &[b"status\nmachines 2\n"],
             b"no lab\n",
             Status::BadScript { line: 2 },
+            8,
         ),
     ];
-    for (parts, output, status) in cases {
+    for (parts, output, status, steps) in cases {
         let ran = run(alloc, &parts.concat(alloc)?, &[])?;
         assert_eq!(rt; ran.output.as_slice(), output);
         assert_eq!(rt; ran.status, status);
-        assert_eq!(rt; ran.plant.trace().len(), 0);
+        assert_eq!(rt; ran.plant.trace().len(), steps);
     }
     Ok(())
 }

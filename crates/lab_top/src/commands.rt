@@ -1,15 +1,18 @@
-ghost use Rattle.std.specs.Prelude.{◌≡◌, ◌≤◌, ℕ, List, Option, Some};
+ghost use Rattle.std.specs.Prelude.{◌≡◌, ◌≤◌, ◌^◌, ℕ, List, Option, Some, IfSome};
 ghost use Rattle.lab_io.specs.Causes.{Rose};
 ghost use Rattle.lab_io.specs.Passed.{IsReady, stand_of};
-ghost use Rattle.script_text.specs.declared.command.Command as commands;
+ghost use Rattle.plant.specs.Disks.{disk};
+ghost use Rattle.plant.specs.declared.step.Side.{Side as AnySide};
+ghost use Rattle.plant.specs.declared.step.Side.TheVariants.{A, B};
+ghost use Rattle.records_model.specs.Works.{IsSound};
+ghost use Rattle.lab_state.specs.Texts.{the_texts};
+ghost use Rattle.lab_core.specs.Moments.{IsNoJournal};
 ghost use Rattle.lab_top.specs.CommandTurns.{CommandTurn};
 ghost use Rattle.lab_top.specs.Forms.{Behind};
 ghost use Rattle.lab_top.specs.Ran.{Ran};
 
-use crate::command::answer_command;
+use crate::command::{CommandFault, answer_command};
 use crate::status::Status;
-use crate::turn::TurnFault;
-use lab_core::Controller;
 use lab_io::{LineReader, Sink, Source};
 use plant::Plant;
 use script_text::{Next, ScriptFault, read_command};
@@ -25,9 +28,12 @@ pub(crate) fn obey_commands<S: Source, K: Sink, P: Plant>(
 ) -> Status
     requires { IsReady reader.old (S.left source.old) }
     ensures ran { (left : Option (List ℕ)) → ((bytes : List ℕ) → left ≡ Some bytes → Behind bytes (stand_of reader.old (S.left source.old)))
-        → (turns : List CommandTurn) × (waiting : Option commands.Command) × Ran
+        → (turns : List CommandTurn) × Ran
         (record { left = left; told = P.told plant.old; faults = P.faults plant.old; stopped = P.is_stopped plant.old; written = K.written sink.old })
-        (record { left = S.left source.new; told = P.told plant.new; faults = P.faults plant.new; stopped = P.is_stopped plant.new; written = K.written sink.new }) result turns waiting }
+        (record { left = S.left source.new; told = P.told plant.new; faults = P.faults plant.new; stopped = P.is_stopped plant.new; written = K.written sink.new }) result turns }
+    ensures bad { (side : AnySide) (at : ℕ) → result ≡ Status.JournalBad side at
+        → IfSome (P.told plant.new) (λ t. IsNoJournal (disk A t.trace).reads (disk B t.trace).reads (2 ^ 32) side at) }
+    ensures never_bad { (side : AnySide) (at : ℕ) → result ≡ Status.JournalBad side at → IfSome (P.told plant.old) (λ t. IsSound the_texts t.trace → ⊥) }
     ensures read { result ≡ Status.ReadFault → Rose (S.faults source.old) (S.faults source.new) }
     ensures read_later { S.faults source.old ≤ S.faults source.new }
     ensures write { result ≡ Status.WriteFault → Rose (K.faults sink.old) (K.faults sink.new) }
@@ -35,14 +41,17 @@ pub(crate) fn obey_commands<S: Source, K: Sink, P: Plant>(
     ensures drills { P.takes_drills plant.new ≡ P.takes_drills plant.old }
     ensures usage { result ≡ Status.Usage → ⊥ }
 {
-    let mut controller = Controller::new(alloc);
+    let mut controller = None;
     'commands: loop {
         match read_command(alloc, reader, source) {
             Ok(Next::Command(command)) => {
                 match answer_command(alloc, &mut controller, command, sink, plant) {
                     Ok(()) => {}
-                    Err(TurnFault::Memory) => return Status::Memory,
-                    Err(TurnFault::WriteFault) => return Status::WriteFault,
+                    Err(CommandFault::Memory) => return Status::Memory,
+                    Err(CommandFault::WriteFault) => return Status::WriteFault,
+                    Err(CommandFault::JournalBad { side, at }) => {
+                        return Status::JournalBad { side, at };
+                    }
                 }
             }
             Ok(Next::End) => return Status::Done,

@@ -21,4 +21,6 @@ pub use top::labctl;
 #[cfg(test)]
 mod command_tests;
 #[cfg(test)]
+mod journal_tests;
+#[cfg(test)]
 mod tests;

@@ -2,6 +2,7 @@ ghost use Rattle.std.specs.Prelude.{◌≡◌, ◌≤◌, ◌^◌, ℕ, List, Op
 ghost use Rattle.lab_io.specs.Causes.{Rose};
 ghost use Rattle.lab_io.specs.Passed.{IsReady, stand_of};
 ghost use Rattle.lab_io.specs.Taken.{taken_of};
+ghost use Rattle.plant.specs.declared.step.Side.{Side as AnySide};
 ghost use Rattle.lab_top.specs.First.{First};
 ghost use Rattle.lab_top.specs.Forms.{Behind};
 ghost use Rattle.lab_top.specs.Turns.{Turn};
@@ -33,6 +34,7 @@ pub(crate) fn obey_pairs<S: Source, K: Sink, P: Plant>(
     ensures write_later { K.faults sink.old ≤ K.faults sink.new }
     ensures drills { P.takes_drills plant.new ≡ P.takes_drills plant.old }
     ensures usage { result ≡ Status.Usage → ⊥ }
+    ensures bad { (side : AnySide) (at : ℕ) → result ≡ Status.JournalBad side at → ⊥ }
 {
     let mut lab = Lab::new(alloc);
     'lines: loop {

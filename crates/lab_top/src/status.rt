@@ -1,6 +1,8 @@
 ghost use Rattle.std.specs.Prelude.{◌≡◌};
 ghost use Rattle.lab_top.specs.Codes.{code_of};
 
+use plant::Side;
+
 /// How a run ended.
 #[derive(Clone, Copy, Debug, PartialEq, Eq)]
 pub enum Status {
@@ -16,6 +18,9 @@ pub enum Status {
     BadScript { line: u64 },
     /// Memory was wanting.
     Memory,
+    /// The sides of the disk are no journal: the side, and the position of the record that can't be read or can't follow, or of
+    /// the last gate where there is no room for the last records of the experiments that move.
+    JournalBad { side: Side, at: u64 },
 }
 
 impl Status {
@@ -30,6 +35,7 @@ impl Status {
             Status::Usage => 3,
             Status::BadScript { .. } => 4,
             Status::Memory => 5,
+            Status::JournalBad { .. } => 6,
         }
     }
 }

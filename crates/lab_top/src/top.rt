@@ -1,5 +1,11 @@
-ghost use Rattle.std.specs.Prelude.{◌≡◌, ◌↔◌, ◌≤◌, ◌<◌, length};
+ghost use Rattle.std.specs.Prelude.{◌≡◌, ◌↔◌, ◌≤◌, ◌<◌, ◌^◌, ℕ, length, IfSome};
 ghost use Rattle.lab_io.specs.Causes.{Rose};
+ghost use Rattle.plant.specs.Disks.{disk};
+ghost use Rattle.plant.specs.declared.step.Side.{Side as AnySide};
+ghost use Rattle.plant.specs.declared.step.Side.TheVariants.{A, B};
+ghost use Rattle.records_model.specs.Works.{IsSound};
+ghost use Rattle.lab_state.specs.Texts.{the_texts};
+ghost use Rattle.lab_core.specs.Moments.{IsNoJournal};
 ghost use Rattle.lab_top.specs.Run.{Run};
 
 use crate::commands::obey_commands;
@@ -24,6 +30,9 @@ pub fn labctl<S: Source, K: Sink, P: Plant>(
     ensures run { Run
         (record { left = S.left source.old; told = P.told plant.old; faults = P.faults plant.old; stopped = P.is_stopped plant.old; written = K.written sink.old })
         (record { left = S.left source.new; told = P.told plant.new; faults = P.faults plant.new; stopped = P.is_stopped plant.new; written = K.written sink.new }) result }
+    ensures bad { (side : AnySide) (at : ℕ) → result ≡ Status.JournalBad side at
+        → IfSome (P.told plant.new) (λ t. IsNoJournal (disk A t.trace).reads (disk B t.trace).reads (2 ^ 32) side at) }
+    ensures never_bad { (side : AnySide) (at : ℕ) → result ≡ Status.JournalBad side at → IfSome (P.told plant.old) (λ t. IsSound the_texts t.trace → ⊥) }
     ensures usage { (result ≡ Status.Usage) ↔ (0 < length words.now) }
     ensures unread { result ≡ Status.Usage → source.new ≡ source.old }
     ensures unwritten { result ≡ Status.Usage → sink.new ≡ sink.old }

@@ -3,7 +3,7 @@
 
 use lab_io::{StdSink, StdSource};
 use lab_top::{Status, labctl};
-use plant::MemLab;
+use plant::{MemLab, Side};
 use std::process::ExitCode;
 use std::{env, io};
 
@@ -37,6 +37,8 @@ fn tell(rt: &HostRuntime, status: Status) -> io::Result<()> {
         Status::Usage => eprintln!(rt; "labctl: usage"),
         Status::BadScript { line } => eprintln!(rt; "labctl: bad script line {line}"),
         Status::Memory => eprintln!(rt; "labctl: out of memory"),
+        Status::JournalBad { side: Side::A, at } => eprintln!(rt; "labctl: bad journal A {at}"),
+        Status::JournalBad { side: Side::B, at } => eprintln!(rt; "labctl: bad journal B {at}"),
     }
 }
 

@@ -1,5 +1,5 @@
 -- The texts of replies.
-use Rattle.std.specs.Prelude.{ℕ, List, [], ◌∷◌, ◌++◌, codes}
+use Rattle.std.specs.Prelude.{ℕ, Bool, true, false, List, [], ◌∷◌, ◌++◌, codes, Option, Some, None}
 use Rattle.std.specs.List.{flat_map}
 use Rattle.std.specs.Fmt.{decimal}
 use Rattle.lab_base.specs.Kinds.{word_of}
@@ -7,6 +7,8 @@ use Rattle.lab_base.specs.declared.fault.TextFault.{TextFault}
 use Rattle.script_text.specs.declared.reply.PhaseWord.{PhaseWord}
 use Rattle.script_text.specs.declared.reply.PhaseWord.TheVariants.{Out, In, Moving}
 use Rattle.script_text.specs.declared.reply.StatusLine.{StatusLine}
+use Rattle.script_text.specs.declared.reply.TagLine.{TagLine}
+use Rattle.script_text.specs.declared.reply.Placed.{Placed}
 use Rattle.script_text.specs.declared.reply.Reply.{Reply}
 use Rattle.script_text.specs.declared.reply.Reply.TheVariants as replies
 
@@ -33,20 +35,39 @@ lab_line switches nodes trunks = codes "lab " ++ decimal switches ++ 32 ∷ [] +
 abbrev pub exp_line : StatusLine → List ℕ
 exp_line e = codes "exp " ++ e.exp ++ 32 ∷ [] ++ phase_word e.phase ++ 32 ∷ [] ++ decimal e.nodes ++ 32 ∷ [] ++ decimal e.vlans ++ 10 ∷ []
 
-abbrev pub shown_lines : List ℕ → PhaseWord → List ℕ → List ℕ
-shown_lines exp phase top = codes "show " ++ exp ++ 32 ∷ [] ++ phase_word phase ++ 10 ∷ [] ++ top ++ codes "end " ++ exp ++ 10 ∷ []
+-- a segment with its VLAN id
+abbrev pub tag_line : TagLine → List ℕ
+tag_line t = codes "tag " ++ t.segment ++ 32 ∷ [] ++ decimal t.vlan.0 ++ 10 ∷ []
+
+-- where an experiment stands, if it is in
+abbrev pub placed_lines : Option Placed → List ℕ
+placed_lines None = []
+placed_lines (Some p) = p.solution ++ flat_map tag_line p.tags
+
+abbrev pub shown_lines : List ℕ → PhaseWord → List ℕ → Option Placed → List ℕ
+shown_lines exp phase top placed = codes "show " ++ exp ++ 32 ∷ [] ++ phase_word phase ++ 10 ∷ [] ++ top ++ placed_lines placed ++ codes "end " ++ exp ++ 10 ∷ []
 
 -- THE TEXT OF A REPLY
 abbrev pub text_of : Reply → List ℕ
 text_of (replies.Lab switches nodes trunks) = lab_line switches nodes trunks
 text_of (replies.Created exp nodes segments) = two_line (codes "created " ++ exp ++ 32 ∷ []) nodes segments
-text_of (replies.Shown exp phase top) = shown_lines exp phase top
+text_of (replies.Shown exp phase top placed) = shown_lines exp phase top placed
 text_of (replies.Deleted exp) = named_line (codes "deleted ") exp
 text_of (replies.Listed experiments nodes vlans) = flat_map exp_line experiments ++ two_line (codes "free ") nodes vlans
 text_of replies.NoLab = codes "no lab\n"
 text_of replies.LabIsSet = codes "lab is set\n"
 text_of (replies.Exists exp) = named_line (codes "exists ") exp
 text_of (replies.Unknown exp) = named_line (codes "unknown ") exp
+text_of (replies.IsIn exp) = named_line (codes "is in ") exp
+text_of (replies.IsMoving exp) = named_line (codes "is moving ") exp
 text_of (replies.Bad exp fault) = fault_line (codes "bad " ++ exp ++ 32 ∷ []) fault
 text_of (replies.BadPtop fault) = fault_line (codes "bad ptop ") fault
 text_of replies.FullExperiments = codes "full experiments 256\n"
+text_of (replies.FullJournal size) = codes "full journal " ++ decimal size ++ 10 ∷ []
+text_of replies.Down = codes "down\n"
+text_of replies.Stopped = codes "stopped\n"
+
+-- THE REPLY TELLS that the journal failed
+abbrev pub closes : Reply → Bool
+closes replies.Down = true
+closes reply = false

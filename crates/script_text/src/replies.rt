@@ -1,8 +1,8 @@
-ghost use Rattle.std.specs.Prelude.{◌≡◌, ◌++◌, ◌∷◌, [], codes, IfOk, OnOk};
+ghost use Rattle.std.specs.Prelude.{◌≡◌, ◌++◌, ◌∷◌, [], codes, decimal, IfOk, OnOk};
 ghost use Rattle.std.specs.List.{flat_map};
-ghost use Rattle.script_text.specs.Replies.{phase_word, named_line, fault_line, two_line, lab_line, exp_line, shown_lines, text_of};
+ghost use Rattle.script_text.specs.Replies.{phase_word, named_line, fault_line, two_line, lab_line, exp_line, tag_line, placed_lines, shown_lines, text_of};
 
-use crate::{PhaseWord, Reply, StatusLine};
+use crate::{PhaseWord, Placed, Reply, StatusLine, TagLine};
 use lab_base::{Memory, Name, Text, TextFault};
 use std::alloc::Global;
 
@@ -74,15 +74,60 @@ fn created(alloc: Global, exp: &Name, nodes: u16, segments: u16) -> Result<Text,
     Ok(text)
 }
 
-fn shown(alloc: Global, exp: &Name, phase: PhaseWord, top: &Text) -> Result<Text, Memory>
-    ensures { IfOk result (λ text. text ≡ shown_lines exp.now phase top.now) }
+fn add_tag(text: &mut Text, tag: &TagLine) -> Result<(), Memory>
+    ensures { OnOk result (text.new ≡ text.old ++ tag_line tag.now) }
+{
+    text.push_bytes(b"tag ")?;
+    text.push_bytes(tag.segment.bytes())?;
+    text.push(b' ')?;
+    text.push_number(tag.vlan.0.into())?;
+    text.push(b'\n')
+}
+
+fn add_tags(text: &mut Text, tags: &[TagLine]) -> Result<(), Memory>
+    ensures { OnOk result (text.new ≡ text.old ++ flat_map tag_line tags.now) }
+{
+    for tag in tags {
+        add_tag(text, tag)?;
+    }
+    Ok(())
+}
+
+fn add_placed(text: &mut Text, placed: &Option<Placed>) -> Result<(), Memory>
+    ensures { OnOk result (text.new ≡ text.old ++ placed_lines placed.now) }
+{
+    let Some(placed) = placed else {
+        return Ok(());
+    };
+    text.push_bytes(placed.solution.bytes())?;
+    add_tags(text, placed.tags.as_slice())
+}
+
+fn shown(
+    alloc: Global,
+    exp: &Name,
+    phase: PhaseWord,
+    top: &Text,
+    placed: &Option<Placed>,
+) -> Result<Text, Memory>
+    ensures { IfOk result (λ text. text ≡ shown_lines exp.now phase top.now placed.now) }
 {
     let mut text = named_head(alloc, b"show ", exp)?;
     text.push_bytes(phase.word().as_bytes())?;
     text.push(b'\n')?;
     text.push_bytes(top.bytes())?;
+    add_placed(&mut text, placed)?;
     text.push_bytes(b"end ")?;
     text.push_bytes(exp.bytes())?;
+    text.push(b'\n')?;
+    Ok(text)
+}
+
+fn full_journal(alloc: Global, length: u64) -> Result<Text, Memory>
+    ensures { IfOk result (λ text. text ≡ codes "full journal " ++ decimal length ++ 10 ∷ []) }
+{
+    let mut text = Text::from_slice(alloc, b"full journal ")?;
+    text.push_number(length)?;
     text.push(b'\n')?;
     Ok(text)
 }
@@ -142,7 +187,12 @@ pub fn reply_text(alloc: Global, reply: &Reply) -> Result<Text, Memory>
             nodes,
             segments,
         } => created(alloc, exp, *nodes, *segments),
-        Reply::Shown { exp, phase, top } => shown(alloc, exp, *phase, top),
+        Reply::Shown {
+            exp,
+            phase,
+            top,
+            placed,
+        } => shown(alloc, exp, *phase, top, placed),
         Reply::Deleted { exp } => named(alloc, b"deleted ", exp),
         Reply::Listed {
             experiments,
@@ -153,8 +203,13 @@ pub fn reply_text(alloc: Global, reply: &Reply) -> Result<Text, Memory>
         Reply::LabIsSet => Text::from_slice(alloc, b"lab is set\n"),
         Reply::Exists { exp } => named(alloc, b"exists ", exp),
         Reply::Unknown { exp } => named(alloc, b"unknown ", exp),
+        Reply::IsIn { exp } => named(alloc, b"is in ", exp),
+        Reply::IsMoving { exp } => named(alloc, b"is moving ", exp),
         Reply::Bad { exp, fault } => bad(alloc, exp, *fault),
         Reply::BadPtop { fault } => bad_ptop(alloc, *fault),
         Reply::FullExperiments => Text::from_slice(alloc, b"full experiments 256\n"),
+        Reply::FullJournal { length } => full_journal(alloc, *length),
+        Reply::Down => Text::from_slice(alloc, b"down\n"),
+        Reply::Stopped => Text::from_slice(alloc, b"stopped\n"),
     }
 }

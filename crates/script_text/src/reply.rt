@@ -1,4 +1,7 @@
-use lab_base::{Items, Name, Text, TextFault};
+ghost use Rattle.std.specs.Prelude.{◌≡◌};
+ghost use Rattle.script_text.specs.Replies.{closes};
+
+use lab_base::{Items, Name, Text, TextFault, VlanId};
 
 /// The phase of an experiment, as a reply has it.
 #[derive(Clone, Copy, Debug, PartialEq, Eq)]
@@ -17,6 +20,20 @@ pub struct StatusLine {
     pub vlans: u16,
 }
 
+/// A segment of an experiment that is in, with its VLAN id.
+#[derive(Clone, Copy)]
+pub struct TagLine {
+    pub segment: Name,
+    pub vlan: VlanId,
+}
+
+/// Where an experiment stands that is in: its canonical solution text, and a line for each segment.
+#[derive(Drop)]
+pub struct Placed {
+    pub solution: Text,
+    pub tags: Items<TagLine>,
+}
+
 /// The reply to a command.
 #[derive(Drop)]
 pub enum Reply {
@@ -32,11 +49,13 @@ pub enum Reply {
         nodes: u16,
         segments: u16,
     },
-    /// `show E PHASE`, the canonical top text, and `end E`.
+    /// `show E PHASE`, the canonical top text, of an experiment that is in its canonical solution text and a line
+    /// `tag SEGMENT VLAN` for each segment, and `end E`.
     Shown {
         exp: Name,
         phase: PhaseWord,
         top: Text,
+        placed: Option<Placed>,
     },
     /// `deleted E`.
     Deleted {
@@ -60,6 +79,14 @@ pub enum Reply {
     Unknown {
         exp: Name,
     },
+    /// `is in E`: the experiment has to be out.
+    IsIn {
+        exp: Name,
+    },
+    /// `is moving E`: the experiment may not move.
+    IsMoving {
+        exp: Name,
+    },
     /// `bad E LINE KIND`: a block has no meaning; the line counts from 1 over all blocks of the command.
     Bad {
         exp: Name,
@@ -71,4 +98,21 @@ pub enum Reply {
     },
     /// `full experiments 256`.
     FullExperiments,
+    /// `full journal LENGTH`: the journal has that length, and no room for a record more.
+    FullJournal {
+        length: u64,
+    },
+    /// `down`: a call on the journal failed.
+    Down,
+    /// `stopped`: the plant stopped in this command.
+    Stopped,
+}
+
+impl Reply {
+    /// Whether it tells that the journal failed. The controller that gave it is of no use then.
+    pub fn closes(&self) -> bool
+        ensures { result ≡ closes self.now }
+    {
+        matches!(self, Reply::Down)
+    }
 }

@@ -1,6 +1,7 @@
 use super::*;
-use lab_base::{Items, Kind, Name, Text, TextFault};
+use lab_base::{Items, Kind, Name, Text, TextFault, VlanId};
 use lab_io::{LineReader, MemSource};
+use std::alloc::Global;
 use std::test::Fail;
 
 fn named(bytes: &[u8]) -> Result<Name, Fail> {
@@ -75,6 +76,24 @@ fn commands_of_scripts(rt: HostRuntime) -> Result<(), Fail> {
     Ok(())
 }
 
+/// The reply of an experiment that is in.
+fn shown_in(alloc: Global, exp: Name) -> Result<Reply, Fail> {
+    let mut tags = Items::new(alloc);
+    tags.push(TagLine {
+        segment: named(b"ab")?,
+        vlan: VlanId(100),
+    })?;
+    Ok(Reply::Shown {
+        exp,
+        phase: PhaseWord::In,
+        top: Text::from_slice(alloc, b"node a pc linux\n")?,
+        placed: Some(Placed {
+            solution: Text::from_slice(alloc, b"node a pc1 pc\n")?,
+            tags,
+        }),
+    })
+}
+
 #[test]
 fn texts_of_replies(rt: HostRuntime) -> Result<(), Fail> {
     let alloc = rt.alloc();
@@ -91,7 +110,7 @@ fn texts_of_replies(rt: HostRuntime) -> Result<(), Fail> {
         vlans: 0,
     })?;
     let top = Text::from_slice(alloc, b"node a pc linux\n")?;
-    let cases: [(Reply, &[u8]); 12] = [
+    let cases: [(Reply, &[u8]); 18] = [
         (
             Reply::Lab {
                 switches: 1,
@@ -113,8 +132,13 @@ fn texts_of_replies(rt: HostRuntime) -> Result<(), Fail> {
                 exp,
                 phase: PhaseWord::Out,
                 top,
+                placed: None,
             },
             b"show A out\nnode a pc linux\nend A\n",
+        ),
+        (
+            shown_in(alloc, exp)?,
+            b"show A in\nnode a pc linux\nnode a pc1 pc\ntag ab 100\nend A\n",
         ),
         (Reply::Deleted { exp }, b"deleted A\n"),
         (
@@ -132,8 +156,14 @@ fn texts_of_replies(rt: HostRuntime) -> Result<(), Fail> {
         (Reply::Bad { exp, fault }, b"bad A 6 cycle\n"),
         (Reply::BadPtop { fault }, b"bad ptop 6 cycle\n"),
         (Reply::FullExperiments, b"full experiments 256\n"),
+        (Reply::IsIn { exp }, b"is in A\n"),
+        (Reply::IsMoving { exp }, b"is moving A\n"),
+        (Reply::FullJournal { length: 18 }, b"full journal 18\n"),
+        (Reply::Down, b"down\n"),
+        (Reply::Stopped, b"stopped\n"),
     ];
     for (reply, wanted) in cases {
+        assert_eq!(rt; reply.closes(), wanted == b"down\n".as_slice());
         assert_eq!(rt; reply_text(alloc, &reply)?.bytes(), wanted);
     }
     Ok(())

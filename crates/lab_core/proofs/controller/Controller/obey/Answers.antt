@@ -1,8 +1,25 @@
-use Rattle.lab_core.proofs.FromScripts.{block_length}
 use Rattle.lab_core.proofs.controller.Controller.obey.Goals as goal
 
-pub set_lab-requires : goal.set_lab-requires
-set_lab-requires c = rw c.bytes.ensures (block_length c.in-Ptop.lines c.in-Ptop.ptop (rw c.in-Ptop.is at c.requires))
+pub returns-clause-obeys : goal.returns-clause-obeys
+returns-clause-obeys g c = c.answer.ensures.obeys
 
-pub create-requires : goal.create-requires
-create-requires c = rw c.bytes-in-CreateTop.ensures (block_length c.in-CreateTop.lines c.in-CreateTop.top (rw c.in-CreateTop.is at c.requires))
+pub returns-clause-stands : goal.returns-clause-stands
+returns-clause-stands g c = c.answer.ensures.stands
+
+pub returns-clause-down : goal.returns-clause-down
+returns-clause-down g c = c.answer.ensures.down
+
+pub returns-clause-later : goal.returns-clause-later
+returns-clause-later g c = c.answer.ensures.later
+
+pub returns-clause-devices : goal.returns-clause-devices
+returns-clause-devices g c = c.answer.ensures.devices
+
+pub returns-clause-stopped : goal.returns-clause-stopped
+returns-clause-stopped g c = c.answer.ensures.stopped
+
+pub returns-clause-drills : goal.returns-clause-drills
+returns-clause-drills g c = c.answer.ensures.drills
+
+pub answer-requires : goal.answer-requires
+answer-requires g c = c.requires

@@ -1,0 +1,29 @@
+use Rattle.std.proofs.Common.{refl, ◌≡◌, ◌<◌, ℕ, length, inr, Some, sym, subst, arith}
+use Rattle.std.specs.Prelude.{slice_get}
+use Rattle.lab_base.specs.Lists.{Has}
+use Rattle.lab_core.proofs.Opened.{entry_among, bad_within, at_bad, lab_held}
+use Rattle.lab_core.proofs.controller.of_journal.Goals as goal
+
+pub replay-requires : goal.replay-requires
+replay-requires c found has =
+    let held = c.requires.holds in
+    held.1.are_records found.entry (entry_among 17 held.0 found (subst (λ l. Has l found) held.1.found_so has))
+
+pub place_of-requires : goal.place_of-requires
+place_of-requires c =
+    let stops = rw c.in-Err-Bad.field-0-is at c.in-Err-Bad.ensures.bad in
+    subst (λ (n : ℕ). n < length c.args.found.now) (sym c.in-Err-Bad.index-is) (bad_within c.args.found.now c.in-Err-Bad.index stops)
+
+pub returns-in-Err-Bad : goal.returns-in-Err-Bad
+returns-in-Err-Bad c rs holds =
+    let stops = rw c.in-Err-Bad.field-0-is at c.in-Err-Bad.ensures.bad in
+    let e = c.place_of.ensures in
+    at_bad c.args.limit rs c.args.journal c.args.found.now c.in-Err-Bad.index e.0 c.side.result c.place_of.result holds stops c.side.ensures (subst (λ (n : ℕ). slice_get c.args.found.now n ≡ Some e.0) c.in-Err-Bad.index-is e.1) e.2
+
+pub returns-then-limit-needed : goal.returns-then-limit-needed
+returns-then-limit-needed c rs holds =
+    let e = c.saturating_add-needed.ensures in
+    (c.side-then-limit-needed.ensures, inr (c.in-Ok.lab.state, lab_held rs c.args.journal c.args.found.now c.in-Ok.lab.state holds c.in-Ok.ensures.ok, omega arith, omega arith))
+
+pub returns : goal.returns
+returns c rs holds = let e = c.saturating_add-needed.ensures in (refl, lab_held rs c.args.journal c.args.found.now c.in-Ok.lab.state holds c.in-Ok.ensures.ok, omega arith)

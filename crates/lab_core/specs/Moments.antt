@@ -1,0 +1,64 @@
+-- The lab of a moment, and what the controller is over a trace.
+use Rattle.std.specs.Prelude.{◌≡◌, ◌+◌, ◌*◌, ◌<◌, ℕ, count_by, List, take}
+use Rattle.plant.specs.Disks.{disk, ArePossible}
+use Rattle.plant.specs.Events.{Event}
+use Rattle.plant.specs.declared.step.Side.{Side}
+use Rattle.plant.specs.declared.step.Side.TheVariants.{A, B}
+use Rattle.journal_rec.specs.declared.record.Record.{Record}
+use Rattle.journal_model.specs.Journals.{Records, Bad, On, live, head, gate_after, journal_length}
+use Rattle.records_model.specs.Labs.{LabState, LabOf, StopsAt, at_first}
+use Rattle.journal_runs.specs.Working as runs
+use Rattle.lab_model.specs.Sound.{is_moving}
+use Rattle.lab_state.specs.Texts.{the_texts}
+use Rattle.journal_disk.specs.Standing.{IsAt}
+use Rattle.journal_disk.specs.declared.journal.Journal.{Journal}
+
+-- two sides stand for that lab
+abbrev pub StandForLab : List ℕ → List ℕ → LabState → Type 0
+StandForLab a b s = runs.StandForLab the_texts a b s
+
+-- THE LAB OF A MOMENT: that of what the sides read as
+abbrev pub IsLabAt : List Event → LabState → Type 0
+IsLabAt trace s = StandForLab (disk A trace).reads (disk B trace).reads s
+
+-- a possible image stands for the lab; all of them do
+pub record IsLabOfImage (trace : List Event) (s : LabState) : Type 0 where
+  pub a : List ℕ
+  pub b : List ℕ
+  pub possible : ArePossible trace a b
+  pub stand : StandForLab a b s
+
+abbrev pub AllStandFor : List Event → LabState → Type 0
+AllStandFor trace s = runs.AllStandFor the_texts trace s
+
+-- the journal's length, as the sides read
+pub record IsLengthAt (trace : List Event) (n : ℕ) : Type 0 where
+  pub records : List Record
+  pub read : Records (disk A trace).reads (disk B trace).reads records
+  pub is : n ≡ journal_length (disk A trace).reads (disk B trace).reads records
+
+-- WHAT CONTRACTS SEE OF A CONTROLLER: its lab, and its journal
+pub record Seen : Type 0 where
+  pub lab : LabState
+  pub journal : Journal
+
+-- the journal and the lab stand for the same records over the trace
+pub record Stands (trace : List Event) (c : Seen) : Type 0 where
+  pub records : List Record
+  pub at : IsAt trace c.journal records
+  pub lab_of : LabOf the_texts records c.lab
+
+-- THE CONTROLLER IS AT WORK over the trace: its lab is that of the records that the live side rests after, the world keeps it, and the trace is sound
+pub record Works (trace : List Event) (c : Seen) : Type 0 where
+  pub records : List Record
+  pub works : runs.Works the_texts trace c.journal records c.lab
+
+-- THE THREE STATES THAT ARE NO JOURNAL, with the side and the position that tell them
+pub data IsNoJournal (a b : List ℕ) (limit : ℕ) (side : Side) (at : ℕ) : Type 0 where
+  -- the sides are bad there
+  bad : Bad a b side at → IsNoJournal a b limit side at
+  -- the record behind that gate is the first that can't follow
+  cannot_follow : (rs : List Record) (n : ℕ) → Records a b rs → live (head a) (head b) ≡ On side → StopsAt the_texts at_first rs n → at ≡ gate_after (take n rs) → IsNoJournal a b limit side at
+  -- there is no room for the last records of the experiments that move; `at` is the last gate
+  no_room : (rs : List Record) (s : LabState) → Records a b rs → live (head a) (head b) ≡ On side → LabOf the_texts rs s
+      → limit < gate_after rs + 1 + 39 * count_by is_moving s.experiments → at ≡ gate_after rs → IsNoJournal a b limit side at

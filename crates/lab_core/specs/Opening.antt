@@ -1,0 +1,47 @@
+-- What a call of `open` adds to a trace, and what it leaves.
+use Rattle.std.specs.Prelude.{◌≡◌, ◌⊎◌, ◌<◌, ◌≤◌, ◌+◌, ◌*◌, ℕ, true, false, count_by, List, ◌++◌, take, IfOk, IsErrOf, Result, Ok, Err}
+use Rattle.plant.specs.Disks.{disk}
+use Rattle.plant.specs.Events.{Event}
+use Rattle.plant.specs.declared.step.Side.TheVariants.{A, B}
+use Rattle.journal_rec.specs.declared.record.Record.{Record}
+use Rattle.journal_model.specs.Journals.{gate_after}
+use Rattle.lab_model.specs.Sound.{is_moving}
+use Rattle.records_model.specs.Labs.{LabState, LabOf, StopsAt, at_first}
+use Rattle.records_model.specs.Works.{IsSound}
+use Rattle.journal_disk.specs.Standing.{gate_of, side_of, length_of}
+use Rattle.journal_disk.specs.declared.journal.Journal.{Journal}
+use Rattle.lab_state.specs.Texts.{the_texts}
+use Rattle.journal_disk.specs.Before.{AreAsBefore, AreSettled, ReadAlike}
+use Rattle.journal_disk.specs.declared.fault.OpenFault.{OpenFault}
+use Rattle.journal_disk.specs.declared.fault.OpenFault.TheVariants as faults
+use Rattle.journal_runs.specs.Pieces.{has_command, has_miss, has_restart}
+use Rattle.lab_core.specs.Moments.{Seen, Works, IsLabAt}
+
+-- WHAT AN OPENING ADDED, whatever its answer
+pub record OpenSteps (trace steps : List Event) : Type 0 where
+  -- no device command, and no start of a stopped plant
+  pub no_command : has_command steps ≡ false
+  pub no_restart : has_restart steps ≡ false
+  -- at each moment each image has the records, or the bad place, of one that was possible when the call began
+  pub before : AreAsBefore trace steps
+  -- and once both sides are synced, those of what the sides read as then
+  pub settled : AreSettled trace steps
+  -- the sides read as the same records, or as bad at the same place, as before
+  pub alike : ReadAlike (disk A (trace ++ steps)).reads (disk B (trace ++ steps)).reads (disk A trace).reads (disk B trace).reads
+  pub sound : IsSound the_texts trace → IsSound the_texts (trace ++ steps)
+
+-- BY ITS ANSWER: after Ok no call failed, the lab is that of the moment, and over a sound trace the controller is at work; after Plant a call failed
+abbrev pub OpenEnds : List Event → List Event → Result Seen OpenFault → Type 0
+OpenEnds trace steps result =
+    IfOk result (λ c. (has_miss steps ≡ false) × IsLabAt (trace ++ steps) c.lab × (IsSound the_texts trace → Works (trace ++ steps) c))
+    × (IsErrOf result faults.Plant → has_miss steps ≡ true)
+
+-- what the records and the limit make of it
+abbrev pub IsOfJournal : ℕ → Journal → List Record → Result Seen OpenFault → Type 0
+IsOfJournal limit j rs (Ok c) = (c.journal ≡ j) × LabOf the_texts rs c.lab × (length_of j + 39 * count_by is_moving c.lab.experiments ≤ limit)
+IsOfJournal limit j rs (Err (faults.Bad side at)) = (side ≡ side_of j)
+    × (((n : ℕ) × StopsAt the_texts at_first rs n × (at ≡ gate_after (take n rs)))
+    ⊎ ((s : LabState) × LabOf the_texts rs s × (limit < length_of j + 39 * count_by is_moving s.experiments) × (at ≡ gate_of j)))
+IsOfJournal limit j rs (Err faults.Memory) = Unit {0}
+IsOfJournal limit j rs (Err faults.Plant) = ⊥
+IsOfJournal limit j rs (Err faults.Stopped) = ⊥

@@ -1,0 +1,13 @@
+-- How a part of a command's steps breaks off.
+use Rattle.std.specs.Prelude.{◌≡◌, true, false, List, Option, Some, None}
+use Rattle.plant.specs.Events.{Event}
+use Rattle.journal_runs.specs.Pieces.{has_restart, has_miss, EndsRestarted}
+use Rattle.script_text.specs.declared.reply.Reply.{Reply}
+use Rattle.script_text.specs.declared.reply.Reply.TheVariants.{Stopped, Down}
+
+-- A PART BREAKS OFF, and the reply tells why: the plant stopped, and was started again; or a call of the disk failed. Or there is no reply,
+-- since memory was wanting or the sides are no journal.
+pub data Breaks (events : List Event) (reply : Option Reply) : Type 0 where
+  stopped : EndsRestarted events → reply ≡ Some Stopped → Breaks events reply
+  failed : has_restart events ≡ false → has_miss events ≡ true → reply ≡ Some Down → Breaks events reply
+  unanswered : reply ≡ None → Breaks events reply

@@ -1,0 +1,273 @@
+-- What a call of the controller leaves is a command that was done.
+use Rattle.std.proofs.Common.{◌≡◌, ℕ, ◌^◌, Bool, true, false, List, [], ◌∷◌, ◌++◌, Option, Some, None, Result, Ok, Err, refl, sym, ◌∙◌, ap, subst, append_assoc, arith}
+use Rattle.std.specs.Prelude.{IfSome, OnOk, ◌≤◌, is_some}
+use Rattle.std.proofs.lemmas.List.{append-nil}
+use Rattle.plant.specs.declared.moment.Faults.{Faults}
+use Rattle.plant.specs.declared.step.Side.TheVariants.{A, B}
+use Rattle.plant.specs.declared.step.Side.{Side}
+use Rattle.plant.specs.Calls.{Rose}
+use Rattle.plant.specs.Disks.{disk, ArePossible}
+use Rattle.plant.specs.Events.{Event, Restarted}
+use Rattle.plant.specs.Told.{Told, with_steps}
+use Rattle.journal_disk.specs.Standing.{limit_of}
+use Rattle.journal_disk.specs.declared.fault.OpenFault.{OpenFault}
+use Rattle.journal_disk.specs.declared.fault.OpenFault.TheVariants as openings
+use Rattle.lab_state.specs.Texts.{the_texts}
+use Rattle.script_text.specs.declared.command.Command.{Command}
+use Rattle.script_text.specs.declared.reply.Reply.{Reply}
+use Rattle.script_text.specs.declared.reply.Reply.TheVariants as replies
+use Rattle.script_text.specs.Replies.{closes}
+use Rattle.lab_core.specs.declared.fault.CoreFault.{CoreFault}
+use Rattle.lab_core.specs.declared.fault.CoreFault.TheVariants as faults
+use Rattle.lab_core.specs.Moments.{Seen, Stands, Works}
+use Rattle.lab_core.specs.Obeying.{setting_of, Leaves, Answers, ObeyEnds, ObeyTold}
+use Rattle.lab_core.specs.Opening.{OpenSteps, OpenEnds}
+use Rattle.lab_core.specs.Pieces.{Breaks, failed, unanswered}
+use Rattle.lab_core.specs.Sessions.{Session, Closed, Open}
+use Rattle.lab_core.specs.Steps.{Judged}
+use Rattle.lab_top.specs.declared.command.CommandFault.{CommandFault}
+use Rattle.lab_top.specs.declared.command.CommandFault.TheVariants as command_faults
+use Rattle.lab_top.specs.CommandTurns.{Later, leaves_one}
+use Rattle.lab_top.specs.Answering.{IsDone, WasOpened, IsOpen, MayGoOn, DoesOwn, OwnTold, Starts, Unopened, Begun, Made, Moment, session_of, reply_if}
+use Rattle.lab_top.proofs.Turning.{sound_before, own_answered, own_closed, own_stopped, own_stays, own_unmade, cut_done, stopped_done, was_open, is_opened}
+
+-- WHAT A PLANT TELLS after more steps
+
+pub map_some : {X : Type 0} {P Q : X → Type 0} (o : Option X) → ((x : X) → P x → Q x) → IfSome o P → IfSome o Q
+map_some None f h = tt
+map_some (Some x) f h = f x h
+
+pub map_both : {X : Type 0} {P Q R : X → Type 0} (o : Option X) → ((x : X) → P x → Q x → R x) → IfSome o P → IfSome o Q → IfSome o R
+map_both None f h k = tt
+map_both (Some x) f h k = f x h k
+
+pub map_three : {X : Type 0} {P Q R S : X → Type 0} (o : Option X) → ((x : X) → P x → Q x → R x → S x) → IfSome o P → IfSome o Q → IfSome o R → IfSome o S
+map_three None f h k m = tt
+map_three (Some x) f h k m = f x h k m
+
+-- of the trace after the steps, and of the trace before them
+pub carried : (old new : Option Told) (steps : List Event) → new ≡ with_steps old steps → (P : List Event → Type 0) → IfSome new (λ t. P t.trace) → IfSome old (λ t. P (t.trace ++ steps))
+carried None new steps is P h = tt
+carried (Some t) new steps is P h = subst (λ (o : Option Told). IfSome o (λ u. P u.trace)) is h
+
+pub carried_on : (old new : Option Told) (steps : List Event) → new ≡ with_steps old steps → (P : List Event → Type 0) → IfSome old (λ t. P (t.trace ++ steps)) → IfSome new (λ t. P t.trace)
+carried_on None new steps is P h = subst (λ (o : Option Told). IfSome o (λ u. P u.trace)) (sym is) tt
+carried_on (Some t) new steps is P h = subst (λ (o : Option Told). IfSome o (λ u. P u.trace)) (sym is) h
+
+pub steps_twice : (old : Option Told) (a b : List Event) → with_steps (with_steps old a) b ≡ with_steps old (a ++ b)
+steps_twice None a b = refl
+steps_twice (Some t) a b = ap (λ l. let o : Option Told = Some (record t { trace = l }) in o) (append_assoc t.trace a b)
+
+pub steps_none : (old : Option Told) → old ≡ with_steps old []
+steps_none None = refl
+steps_none (Some t) = ap (λ l. let o : Option Told = Some (record t { trace = l }) in o) (sym (append-nil t.trace))
+
+-- a reply that closes is not `stopped`
+not_one : (reply : Reply) → closes reply ≡ true → leaves_one Closed (Some reply) ≡ false
+not_one replies.Down is = refl
+not_one replies.Stopped is = absurd (cc is)
+not_one (replies.Lab switches nodes trunks) is = refl
+not_one (replies.Created exp nodes segments) is = refl
+not_one (replies.Shown exp phase top placed) is = refl
+not_one (replies.Deleted exp) is = refl
+not_one (replies.Listed experiments nodes vlans) is = refl
+not_one replies.NoLab is = refl
+not_one replies.LabIsSet is = refl
+not_one (replies.Exists exp) is = refl
+not_one (replies.Unknown exp) is = refl
+not_one (replies.IsIn exp) is = refl
+not_one (replies.IsMoving exp) is = refl
+not_one (replies.Bad exp fault) is = refl
+not_one (replies.BadPtop fault) is = refl
+not_one replies.FullExperiments is = refl
+not_one (replies.FullJournal size) is = refl
+
+abbrev pub AsRead : List Event → Type 0
+AsRead trace = ArePossible trace (disk A trace).reads (disk B trace).reads
+
+-- OVER ONE TRACE
+module _ (trace : List Event) (command : Command) (c : Seen) (own : List Event) where
+  abbrev Ends : Seen → Result Reply CoreFault → Type 0
+  Ends d result = Works trace c → ObeyEnds trace (Judged (setting_of c) c.lab command) c own d result
+
+  module _ (before : List Event) (from : Session) (opening : List Event) (is : trace ≡ before ++ opening) (w : WasOpened before from opening c) where
+    works : Works trace c
+    works = subst (λ l. Works l c) (sym is) w.works
+
+  own_on : (d : Seen) (reply : Reply) → Ends d (Ok reply) → closes reply ≡ false → DoesOwn trace command c own Open (Some reply)
+  own_on d reply ends goes before from opening is w =
+      let e = subst (λ b. Answers trace (Judged (setting_of c) c.lab command) c own reply d b) goes (ends (works before from opening is w)) in
+      own_answered before from opening c w command own d reply e.0 (subst (λ l. Works (l ++ own) d) is e.1)
+
+  own_off : (d : Seen) (reply : Reply) → Ends d (Ok reply) → closes reply ≡ true → AsRead (trace ++ own) → DoesOwn trace command c own Closed (Some reply)
+  own_off d reply ends shut there before from opening is w =
+      let e = subst (λ b. Answers trace (Judged (setting_of c) c.lab command) c own reply d b) shut (ends (works before from opening is w)) in
+      own_closed before from opening c w command own reply (not_one reply shut) (subst (λ l. Leaves l (Judged (setting_of c) c.lab command) c own reply (λ a b. [])) is e) (subst (λ l. AsRead (l ++ own)) is there)
+
+  own_again : (d : Seen) (a b : List ℕ) → Ends d (Err faults.Stopped) → ArePossible (trace ++ own) a b → DoesOwn trace command c (own ++ Restarted a b ∷ []) Closed (Some replies.Stopped)
+  own_again d a b ends there before from opening is w =
+      own_stopped before from opening c w command own a b
+      (subst (λ l. Leaves l (Judged (setting_of c) c.lab command) c own replies.Stopped (λ x y. Restarted x y ∷ [])) is (ends (works before from opening is w)))
+      (subst (λ l. ArePossible (l ++ own) a b) is there)
+
+  own_stuck : (d : Seen) → Ends d (Err faults.Stopped) → AsRead (trace ++ own) → DoesOwn trace command c own Closed None
+  own_stuck d ends there before from opening is w =
+      own_stays before from opening c w command own
+      (subst (λ l. Leaves l (Judged (setting_of c) c.lab command) c own replies.Stopped (λ x y. Restarted x y ∷ [])) is (ends (works before from opening is w)))
+      (subst (λ l. AsRead (l ++ own)) is there)
+
+  own_none : (d : Seen) → Ends d (Err faults.Memory) → DoesOwn trace command c own Closed None
+  own_none d ends before from opening is w =
+      let e = ends (works before from opening is w) in
+      subst (λ l. IsDone before command from Closed opening l None) (sym e.0) (own_unmade before from opening c w command)
+
+  still_open : (d : Seen) (reply : Reply) → Ends d (Ok reply) → closes reply ≡ false → IsOpen trace c → Stands (trace ++ own) d → IsOpen (trace ++ own) d
+  still_open d reply ends goes is stands = record {
+    stands = stands;
+    works = λ sound.
+        let was = is.works (sound_before the_texts trace own sound) in
+        let e = subst (λ b. Answers trace (Judged (setting_of c) c.lab command) c own reply d b) goes (ends was.0) in
+        (e.1, e.2 ∙ was.1);
+  }
+
+-- OF WHAT A PLANT TELLS
+module _ (old mid : Option Told) (command : Command) (c d : Seen) where
+  abbrev Told_of : Result Reply CoreFault → Type 0
+  Told_of result = ObeyTold old mid (Judged (setting_of c) c.lab command) c d result
+
+  pub obeyed_on : (reply : Reply) → Told_of (Ok reply) → closes reply ≡ false → OwnTold old mid command c Open (Some reply)
+  obeyed_on reply told goes = (told.0, told.1, map_some old (λ t ends. own_on t.trace command c told.0 d reply ends goes) told.2)
+
+  pub obeyed_off : (reply : Reply) → Told_of (Ok reply) → closes reply ≡ true → IfSome mid (λ t. AsRead t.trace) → OwnTold old mid command c Closed (Some reply)
+  obeyed_off reply told shut there = (
+    told.0,
+    told.1,
+    map_both old (λ t ends here. own_off t.trace command c told.0 d reply ends shut here) told.2 (carried old mid told.0 told.1 AsRead there),
+  )
+
+  pub obeyed_stopped : (new : Option Told) (result : Result Reply CommandFault) → Told_of (Err faults.Stopped) → Starts mid new result → IfSome mid (λ t. AsRead t.trace) → OwnTold old new command c Closed (reply_if result)
+  obeyed_stopped new (Ok reply) told starts there =
+      let a = starts.1.0 in
+      let b = starts.1.1 in (
+        told.0 ++ Restarted a b ∷ [],
+        starts.1.2 ∙ ap (λ o. with_steps o (Restarted a b ∷ [])) told.1 ∙ steps_twice old told.0 (Restarted a b ∷ []),
+        map_both old (λ t ends here. subst (λ r. DoesOwn t.trace command c (told.0 ++ Restarted a b ∷ []) Closed (Some r)) (sym starts.0) (own_again t.trace command c told.0 d a b ends here)) told.2
+            (carried old mid told.0 told.1 (λ l. ArePossible l a b) starts.1.3),
+      )
+  obeyed_stopped new (Err fault) told starts there = (
+    told.0,
+    starts.1 ∙ told.1,
+    map_both old (λ t ends here. own_stuck t.trace command c told.0 d ends here) told.2 (carried old mid told.0 told.1 AsRead there),
+  )
+
+  pub obeyed_not : Told_of (Err faults.Memory) → OwnTold old mid command c Closed None
+  obeyed_not told = (told.0, told.1, map_some old (λ t ends. own_none t.trace command c told.0 d ends) told.2)
+
+  pub goes_open : (reply : Reply) (faults : Faults) (stopped : Bool) → Told_of (Ok reply) → closes reply ≡ false → IfSome old (λ t. IsOpen t.trace c) → IfSome mid (λ t. Stands t.trace d) → stopped ≡ false
+      → MayGoOn (record { told = mid; faults = faults; stopped = stopped; controller = Some d })
+  goes_open reply faults stopped told goes is stands runs = record {
+    controller = carried_on old mid told.0 told.1 (λ l. IsOpen l d)
+        (map_three old (λ t ends was here. still_open t.trace command c told.0 d reply ends goes was here) told.2 is (carried old mid told.0 told.1 (λ l. Stands l d) stands));
+    runs = λ some. runs;
+  }
+
+pub goes_closed : (told : Option Told) (faults : Faults) (stopped : Bool) → MayGoOn (record { told = told; faults = faults; stopped = stopped; controller = None })
+goes_closed None faults stopped = record { controller = tt; runs = λ some. absurd (cc some) }
+goes_closed (Some t) faults stopped = record { controller = tt; runs = λ some. absurd (cc some) }
+
+-- WHAT A COMMAND BEGAN, by an open controller
+pub begun_open : (command : Command) (old new : Option Told) (c : Seen) (to : Session) (reply : Option Reply) → IfSome old (λ t. IsOpen t.trace c) → OwnTold old new command c to reply → Begun command old new Open to reply
+begun_open command old new c to reply is own = record {
+  opening = [];
+  own = own.0;
+  told = own.1;
+  done = map_both old (λ t open_now does sound. does t.trace Open [] (sym (append-nil t.trace)) (was_open t.trace c open_now sound)) is own.2;
+}
+
+-- by one that was opened first
+pub begun_opened : (command : Command) (old mid new : Option Told) (steps : List Event) (c : Seen) (to : Session) (reply : Option Reply) → mid ≡ with_steps old steps → IfSome old (λ t. OpenSteps t.trace steps × OpenEnds t.trace steps (Ok c)) → IfSome old (λ t. AsRead t.trace)
+    → limit_of c.journal ≡ 2 ^ 32 → OwnTold mid new command c to reply → Begun command old new Closed to reply
+begun_opened command old mid new steps c to reply is opens there limit own = record {
+  opening = steps;
+  own = own.0;
+  told = own.1 ∙ ap (λ o. with_steps o own.0) is ∙ steps_twice old steps own.0;
+  done = map_three old (λ t o read does sound. does t.trace Closed steps refl (is_opened t.trace steps c o.0 o.1 limit read sound)) opens there (carried old mid steps is (λ l. DoesOwn l command c own.0 to reply) own.2);
+}
+
+-- and where it could not be opened
+module _ (command : Command) (old mid new : Option Told) (steps : List Event) (is : mid ≡ with_steps old steps) (there : IfSome old (λ t. AsRead t.trace)) (then : IfSome mid (λ t. AsRead t.trace)) where
+  cut_begun_so : (reply : Option Reply) → leaves_one Closed reply ≡ false → new ≡ mid → IfSome old (λ t. OpenSteps t.trace steps × Breaks steps reply) → Begun command old new Closed Closed reply
+  cut_begun_so reply other same opens = record {
+    opening = steps;
+    own = [];
+    told = same ∙ is ∙ ap (λ l. with_steps old l) (sym (append-nil steps));
+    done = map_three old (λ t o read now sound. cut_done t.trace steps o.0 read sound command now reply other o.1) opens there (carried old mid steps is AsRead then);
+  }
+
+  cut_silent : new ≡ mid → (fault : OpenFault) → IfSome old (λ t. OpenSteps t.trace steps × OpenEnds t.trace steps (Err fault)) → Begun command old new Closed Closed None
+  cut_silent same fault opens = cut_begun_so None refl same (map_some old (λ t o. (o.0, unanswered refl)) opens)
+
+  pub begun_unopened : (fault : OpenFault) (result : Result Reply CommandFault) → Unopened fault mid new result → IfSome old (λ t. OpenSteps t.trace steps × OpenEnds t.trace steps (Err fault)) → Begun command old new Closed Closed (reply_if result)
+  begun_unopened openings.Plant result un opens =
+      subst (λ r. Begun command old new Closed Closed (reply_if r)) (sym un.0) (cut_begun_so (Some replies.Down) refl un.1 (map_some old (λ t o. (o.0, failed o.0.no_restart (o.1.1 refl) refl)) opens))
+  begun_unopened openings.Stopped (Ok reply) un opens =
+      let a = un.1.0 in
+      let b = un.1.1 in
+      subst (λ r. Begun command old new Closed Closed (Some r)) (sym un.0) (record {
+        opening = steps ++ Restarted a b ∷ [];
+        own = [];
+        told = un.1.2 ∙ ap (λ o. with_steps o (Restarted a b ∷ [])) is ∙ steps_twice old steps (Restarted a b ∷ []) ∙ ap (λ l. with_steps old l) (sym (append-nil (steps ++ Restarted a b ∷ [])));
+        done = map_three old (λ t o read now sound. stopped_done t.trace steps o.0 read sound command a b now) opens there (carried old mid steps is (λ l. ArePossible l a b) un.1.3);
+      })
+  begun_unopened openings.Stopped (Err fault) un opens = cut_silent un.1 openings.Stopped opens
+  begun_unopened (openings.Bad side at) result un opens = subst (λ r. Begun command old new Closed Closed (reply_if r)) (sym un.0) (cut_silent un.1 (openings.Bad side at) opens)
+  begun_unopened openings.Memory result un opens = subst (λ r. Begun command old new Closed Closed (reply_if r)) (sym un.0) (cut_silent un.1 openings.Memory opens)
+
+-- WHY: the reply `down`, and sides that are no journal
+pub down_unopened : (fault : OpenFault) (mid new : Option Told) (result : Result Reply CommandFault) → Unopened fault mid new result → reply_if result ≡ Some replies.Down → fault ≡ openings.Plant
+down_unopened openings.Plant mid new result un is = refl
+down_unopened openings.Stopped mid new (Ok reply) un is = absurd (cc (un.0, is))
+down_unopened openings.Stopped mid new (Err fault) un is = absurd (cc is)
+down_unopened (openings.Bad side at) mid new result un is = absurd (cc (sym (ap reply_if un.0) ∙ is))
+down_unopened openings.Memory mid new result un is = absurd (cc (sym (ap reply_if un.0) ∙ is))
+
+pub bad_unopened : (fault : OpenFault) (mid new : Option Told) (result : Result Reply CommandFault) (side : Side) (at : ℕ) → Unopened fault mid new result → result ≡ Err (command_faults.JournalBad side at) → (fault ≡ openings.Bad side at) × (new ≡ mid)
+bad_unopened openings.Plant mid new result side at un is = absurd (cc (un.0, is))
+bad_unopened openings.Stopped mid new (Ok reply) side at un is = absurd (cc is)
+bad_unopened openings.Stopped mid new (Err fault) side at un is = absurd (cc (un.0, is))
+bad_unopened (openings.Bad s n) mid new result side at un is = (cc (un.0, is), un.1)
+bad_unopened openings.Memory mid new result side at un is = absurd (cc (un.0, is))
+
+pub written_not : (fault : OpenFault) (mid new : Option Told) (result : Result Reply CommandFault) → Unopened fault mid new result → result ≡ Err command_faults.WriteFault → ⊥
+written_not openings.Plant mid new result un is = absurd (cc (un.0, is))
+written_not openings.Stopped mid new (Ok reply) un is = absurd (cc is)
+written_not openings.Stopped mid new (Err fault) un is = absurd (cc (un.0, is))
+written_not (openings.Bad s n) mid new result un is = absurd (cc (un.0, is))
+written_not openings.Memory mid new result un is = absurd (cc (un.0, is))
+
+-- a count that rose since a later moment rose since an earlier one
+pub rose_since : (a b now : ℕ) → a ≤ b → Rose b now → Rose a now
+rose_since a b now within rose = omega (arith, within, rose)
+
+pub runs_if : (result : Result Reply CommandFault) (stopped : Bool) → OnOk result (stopped ≡ false) → is_some (reply_if result) ≡ true → stopped ≡ false
+runs_if (Ok reply) stopped runs some = runs
+runs_if (Err fault) stopped runs some = absurd (cc some)
+
+pub open_opened : (old mid : Option Told) (steps : List Event) (c : Seen) → mid ≡ with_steps old steps → IfSome old (λ t. OpenSteps t.trace steps × OpenEnds t.trace steps (Ok c)) → IfSome mid (λ t. Stands t.trace c) → limit_of c.journal ≡ 2 ^ 32 → IfSome mid (λ t. IsOpen t.trace c)
+open_opened old mid steps c is opens stands limit =
+    carried_on old mid steps is (λ l. IsOpen l c)
+    (map_both old (λ t o here. record { stands = here; works = λ sound. (o.1.0.2 (sound_before the_texts t.trace steps sound), limit) }) opens (carried old mid steps is (λ l. Stands l c) stands))
+
+-- whatever was begun, with the counts of faults and what is kept
+pub made_so : (command : Command) (old new : Moment) (to : Session) (reply : Option Reply) → Begun command old.told new.told (session_of old.controller) to reply → Later old.faults new.faults → (reply ≡ Some replies.Down → Rose old.faults.disk new.faults.disk)
+    → (is_some reply ≡ true → new.stopped ≡ false) → MayGoOn new → Made command old new to reply
+made_so command old new to reply begun later down runs goes_on = record { begun = begun; later = later; down = down; runs = runs; goes_on = goes_on }
+
+pub later_same : (a b now : Faults) → a.disk ≤ b.disk → b.devices ≡ a.devices → now ≡ b → Later a now
+later_same a b now disk devices same = record {
+  disk = subst (λ (f : Faults). a.disk ≤ f.disk) (sym same) disk;
+  devices = subst (λ (f : Faults). a.devices ≤ f.devices) (sym same) (omega (arith, devices));
+}
+
+pub rose_same : (a : ℕ) (b now : Faults) → Rose a b.disk → now ≡ b → Rose a now.disk
+rose_same a b now rose same = subst (λ (f : Faults). Rose a f.disk) (sym same) rose

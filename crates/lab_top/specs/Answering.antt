@@ -1,0 +1,132 @@
+-- What one command makes of the plant and of the controller.
+use Rattle.std.specs.Prelude.{◌≡◌, ◌⊎◌, ℕ, ◌<◌, ◌^◌, Bool, true, false, is_some, List, [], ◌∷◌, ◌++◌, length, take, Option, Some, None, IfSome, Result, Ok, Err}
+use Rattle.std.specs.Io.KnownBytes.{append_known}
+use Rattle.plant.specs.Calls.{Rose}
+use Rattle.plant.specs.Disks.{disk, ArePossible}
+use Rattle.plant.specs.Events.{Event, Restarted}
+use Rattle.plant.specs.Told.{Told, with_steps, with_mark}
+use Rattle.plant.specs.declared.moment.Faults.{Faults}
+use Rattle.plant.specs.declared.step.Side.TheVariants.{A, B}
+use Rattle.records_model.specs.Works.{IsSound}
+use Rattle.journal_disk.specs.Standing.{limit_of}
+use Rattle.journal_disk.specs.declared.fault.OpenFault.{OpenFault}
+use Rattle.journal_disk.specs.declared.fault.OpenFault.TheVariants as openings
+use Rattle.journal_runs.specs.Pieces.{has_restart}
+use Rattle.lab_state.specs.Texts.{the_texts}
+use Rattle.script_text.specs.declared.command.Command.{Command}
+use Rattle.script_text.specs.declared.reply.Reply.{Reply}
+use Rattle.script_text.specs.declared.reply.Reply.TheVariants.{Down, Stopped}
+use Rattle.script_text.specs.Replies.{text_of}
+use Rattle.lab_core.specs.LabSteps.{LabStep, Obeys}
+use Rattle.lab_core.specs.Moments.{Seen, Stands, Works, IsLabAt}
+use Rattle.lab_core.specs.Sessions.{Session, Closed, Open, Setting, After}
+use Rattle.lab_top.specs.declared.command.CommandFault.{CommandFault}
+use Rattle.lab_top.specs.declared.command.CommandFault.TheVariants.{Memory, WriteFault, JournalBad}
+use Rattle.lab_top.specs.CommandTurns.{IsTurn, Later}
+
+-- what is seen of the plant between two commands, and the controller where it is open
+pub record Moment : Type 0 where
+  pub told : Option Told
+  pub faults : Faults
+  pub stopped : Bool
+  pub controller : Option Seen
+
+abbrev pub session_of : Option Seen → Session
+session_of None = Closed
+session_of (Some c) = Open
+
+-- a controller that is open over the trace: over a sound one it is at work
+pub record IsOpen (trace : List Event) (c : Seen) : Type 0 where
+  pub stands : Stands trace c
+  pub works : IsSound the_texts trace → Works trace c × (limit_of c.journal ≡ 2 ^ 32)
+
+-- where the plant tells its past, an open controller stands over it; and the plant is not stopped then
+pub record MayGoOn (now : Moment) : Type 0 where
+  pub controller : IfSome now.told (λ t. IfSome now.controller (λ c. IsOpen t.trace c))
+  pub runs : is_some now.controller ≡ true → now.stopped ≡ false
+
+-- A COMMAND WAS DONE over the trace, by the steps of its opening and its own: they are a turn, and the trace stays sound
+pub record IsDone (trace : List Event) (command : Command) (from to : Session) (opening own : List Event) (reply : Option Reply) : Type 0 where
+  pub turn : (faults later : Faults) → IsTurn trace (record {
+    command = command;
+    faults = faults;
+    later = later;
+    from = from;
+    to = to;
+    opening = opening;
+    own = own;
+    reply = reply;
+  })
+  pub sound : IsSound the_texts (trace ++ (opening ++ own))
+
+-- a controller that was opened by these steps over the trace, or was open before, and is at work behind them
+pub record WasOpened (trace : List Event) (from : Session) (opening : List Event) (c : Seen) : Type 0 where
+  pub possible : ArePossible trace (disk A trace).reads (disk B trace).reads
+  pub first : IsLabAt trace c.lab
+  pub no_restart : has_restart opening ≡ false
+  pub works : Works (trace ++ opening) c
+  pub limit : limit_of c.journal ≡ 2 ^ 32
+  pub step : (set : Setting) (command : Command) (own : List Event) (after : After) → Obeys set c.lab command own after → LabStep set c.lab from command opening own after
+
+-- what an open controller does of a command is done, however it was opened
+abbrev pub DoesOwn : List Event → Command → Seen → List Event → Session → Option Reply → Type 0
+DoesOwn trace command c own to reply = (before : List Event) (from : Session) (opening : List Event) → trace ≡ before ++ opening → WasOpened before from opening c → IsDone before command from to opening own reply
+
+abbrev pub OwnTold : Option Told → Option Told → Command → Seen → Session → Option Reply → Type 0
+OwnTold old new command c to reply = (own : List Event) × (new ≡ with_steps old own) × IfSome old (λ t. DoesOwn t.trace command c own to reply)
+
+abbrev pub reply_if : Result Reply CommandFault → Option Reply
+reply_if (Ok reply) = Some reply
+reply_if (Err fault) = None
+
+-- A STOPPED PLANT IS STARTED AGAIN, and the reply tells it; or memory is wanting, and nothing is done
+abbrev pub Starts : Option Told → Option Told → Result Reply CommandFault → Type 0
+Starts old new (Ok reply) = (reply ≡ Stopped) × ((a b : List ℕ) × (new ≡ with_steps old (Restarted a b ∷ [])) × IfSome old (λ t. ArePossible t.trace a b))
+Starts old new (Err fault) = (fault ≡ Memory) × (new ≡ old)
+
+-- what is done where the controller could not be opened
+abbrev pub Unopened : OpenFault → Option Told → Option Told → Result Reply CommandFault → Type 0
+Unopened openings.Plant old new result = (result ≡ Ok Down) × (new ≡ old)
+Unopened openings.Stopped old new result = Starts old new result
+Unopened (openings.Bad side at) old new result = (result ≡ Err (JournalBad side at)) × (new ≡ old)
+Unopened openings.Memory old new result = (result ≡ Err Memory) × (new ≡ old)
+
+-- A COMMAND WAS BEGUN, with a reply or none, by some steps: over a sound trace it was done
+pub record Begun (command : Command) (old new : Option Told) (from to : Session) (reply : Option Reply) : Type 0 where
+  pub opening : List Event
+  pub own : List Event
+  pub told : new ≡ with_steps old (opening ++ own)
+  pub done : IfSome old (λ t. IsSound the_texts t.trace → IsDone t.trace command from to opening own reply)
+
+pub record Made (command : Command) (old new : Moment) (to : Session) (reply : Option Reply) : Type 0 where
+  pub begun : Begun command old.told new.told (session_of old.controller) to reply
+  pub later : Later old.faults new.faults
+  pub down : reply ≡ Some Down → Rose old.faults.disk new.faults.disk
+  pub runs : is_some reply ≡ true → new.stopped ≡ false
+  pub goes_on : MayGoOn new
+
+-- a reply's text is written, or a proper prefix of it; or memory is wanting, and nothing is
+abbrev pub Sent : Option (List ℕ) → Option (List ℕ) → List ℕ → Result (Unit {0}) CommandFault → Type 0
+Sent before now text (Ok done) = now ≡ append_known before text
+Sent before now text (Err WriteFault) = (n : ℕ) × (n < length text) × (now ≡ append_known before (take n text))
+Sent before now text (Err Memory) = now ≡ before
+Sent before now text (Err (JournalBad side at)) = ⊥
+
+-- nothing was done to the plant
+pub record Same (old new : Moment) : Type 0 where
+  pub told : new.told ≡ old.told
+  pub faults : new.faults ≡ old.faults
+  pub stopped : new.stopped ≡ old.stopped
+
+-- the moment is marked
+abbrev pub marked : Moment → Moment
+marked old = record old { told = with_mark old.told old.faults }
+
+-- A COMMAND WAS ANSWERED: it was begun behind a mark, and what was written grew by its reply, or by a proper prefix of it. At want of memory it has no
+-- reply, or wasn't even begun; where the sides are no journal it has none.
+abbrev pub Answered : Command → Moment → Moment → Option (List ℕ) → Option (List ℕ) → Result (Unit {0}) CommandFault → Type 0
+Answered command old new before now (Ok done) = (reply : Reply) × Made command (marked old) new (session_of new.controller) (Some reply) × (now ≡ append_known before (text_of reply))
+Answered command old new before now (Err WriteFault) =
+    (reply : Reply) × Made command (marked old) new (session_of new.controller) (Some reply) × (n : ℕ) × (n < length (text_of reply)) × (now ≡ append_known before (take n (text_of reply)))
+Answered command old new before now (Err Memory) = (Same old new ⊎ Made command (marked old) new Closed None) × (now ≡ before)
+Answered command old new before now (Err (JournalBad side at)) = Made command (marked old) new Closed None × (new.stopped ≡ false) × (now ≡ before)

@@ -1,0 +1,212 @@
+use super::*;
+use crate::tests::Ran;
+use lab_io::{MemSink, MemSource};
+use plant::{Drill, MemLab, Pick, Plant, Side};
+use std::alloc::Global;
+use std::test::Fail;
+
+/// A lab is set, and an experiment is made and deleted; behind each of the three the experiments are listed.
+const SCRIPT: &[u8] =
+    b"ptop 6\nvlans 100 101\nnode s1 switch\nnode pc1 pc:1\nnode pc2 pc:1\nlink l1 pc1:eth0 s1:1 100000\nlink l2 pc2:eth0 s1:2 100000\nstatus\ncreate-top A 3\nnode a pc linux\nnode b pc linux\nlink ab ab 100000 a b\nstatus\ndelete A\nstatus\n";
+
+/// What is replied where nothing fails.
+const WHOLE: &[u8] =
+    b"lab 1 2 0\nfree 2 2\ncreated A 2 1\nexp A out 0 0\nfree 2 2\ndeleted A\nfree 2 2\n";
+
+/// Runs the script over the plant.
+fn run_over(alloc: Global, script: &[u8], mut plant: MemLab) -> Result<Ran, Fail> {
+    let mut source = MemSource::new(alloc, script, &[])?;
+    let mut sink = MemSink::new(alloc, 8_192, &[])?;
+    let words = Vec::new(alloc);
+    let status = labctl(alloc, &words, &mut source, &mut sink, &mut plant);
+    let output = sink.bytes().to_vec(alloc)?;
+    Ok(Ran {
+        status,
+        output,
+        plant,
+    })
+}
+
+/// Whether the run with a failure ends so.
+fn ends_so(alloc: Global, drill: Drill, output: &[u8]) -> Result<bool, Fail> {
+    let mut plant = MemLab::blank(alloc)?;
+    plant.drill(drill).ok().ok_or("a drill")?;
+    let ran = run_over(alloc, SCRIPT, plant)?;
+    Ok(ran.output.as_slice() == output && ran.status == Status::Done)
+}
+
+/// The first call at which the output is this one, and the first one behind it at which it is not.
+type Span = (u32, u32, &'static [u8]);
+
+/// The first stop in the span whose output is another one.
+fn other_stop(alloc: Global, pick: Pick, span: &Span) -> Result<Option<u32>, Fail> {
+    let (first, end, output) = *span;
+    for nth in first..end {
+        if !ends_so(alloc, Drill::Stop { nth, pick }, output)? {
+            return Ok(Some(nth));
+        }
+    }
+    Ok(None)
+}
+
+/// The first failure of the disk in the span whose output is another one.
+fn other_failure(alloc: Global, span: &Span) -> Result<Option<u32>, Fail> {
+    let (first, end, output) = *span;
+    for nth in first..end {
+        if !ends_so(alloc, Drill::Disk { nth }, output)? {
+            return Ok(Some(nth));
+        }
+    }
+    Ok(None)
+}
+
+/// What is replied where the plant stops in `ptop`, `create-top` and `delete`, and the record is lost; and where it is kept.
+const SET_LOST: &[u8] = b"stopped\nno lab\nno lab\nno lab\nno lab\nno lab\n";
+
+const SET_KEPT: &[u8] =
+    b"stopped\nfree 2 2\ncreated A 2 1\nexp A out 0 0\nfree 2 2\ndeleted A\nfree 2 2\n";
+
+const MADE_LOST: &[u8] = b"lab 1 2 0\nfree 2 2\nstopped\nfree 2 2\nunknown A\nfree 2 2\n";
+
+const MADE_KEPT: &[u8] =
+    b"lab 1 2 0\nfree 2 2\nstopped\nexp A out 0 0\nfree 2 2\ndeleted A\nfree 2 2\n";
+
+const DELETED_LOST: &[u8] =
+    b"lab 1 2 0\nfree 2 2\ncreated A 2 1\nexp A out 0 0\nfree 2 2\nstopped\nexp A out 0 0\nfree 2 2\n";
+
+const DELETED_KEPT: &[u8] =
+    b"lab 1 2 0\nfree 2 2\ncreated A 2 1\nexp A out 0 0\nfree 2 2\nstopped\nfree 2 2\n";
+
+#[test]
+fn a_stop_leaves_a_record_whole_or_not_at_all(rt: HostRuntime) -> Result<(), Fail> {
+    // An opening has 8 steps: both sides are synced, the header gate is closed, the header is written and the gate is opened,
+    // each with a sync. An append has 4, of which the third opens the gate.
+    let lost: [Span; 4] = [
+        (1, 13, SET_LOST),
+        (13, 17, MADE_LOST),
+        (17, 21, DELETED_LOST),
+        (21, 22, WHOLE),
+    ];
+    // A gate that was opened is kept, though the plant stopped before it was durable.
+    let kept: [Span; 7] = [
+        (1, 11, SET_LOST),
+        (11, 13, SET_KEPT),
+        (13, 15, MADE_LOST),
+        (15, 17, MADE_KEPT),
+        (17, 19, DELETED_LOST),
+        (19, 21, DELETED_KEPT),
+        (21, 22, WHOLE),
+    ];
+    for span in &lost {
+        assert_eq!(rt; other_stop(rt.alloc(), Pick::Nothing, span)?, None);
+    }
+    for span in &kept {
+        assert_eq!(rt; other_stop(rt.alloc(), Pick::All, span)?, None);
+        // The last half of a byte is the byte, and garbage is an open gate.
+        assert_eq!(rt; other_stop(rt.alloc(), Pick::Torn, span)?, None);
+    }
+    Ok(())
+}
+
+#[test]
+fn a_failure_of_the_disk_closes_the_controller(rt: HostRuntime) -> Result<(), Fail> {
+    // An opening of blank sides has 10 calls, since it asks for both lengths too; an append has 4, and only behind the last one
+    // does the record stand.
+    let spans: [Span; 7] = [
+        (1, 14, b"down\nno lab\nno lab\nno lab\nno lab\nno lab\n"),
+        (
+            14,
+            15,
+            b"down\nfree 2 2\ncreated A 2 1\nexp A out 0 0\nfree 2 2\ndeleted A\nfree 2 2\n",
+        ),
+        (
+            15,
+            18,
+            b"lab 1 2 0\nfree 2 2\ndown\nfree 2 2\nunknown A\nfree 2 2\n",
+        ),
+        (
+            18,
+            19,
+            b"lab 1 2 0\nfree 2 2\ndown\nexp A out 0 0\nfree 2 2\ndeleted A\nfree 2 2\n",
+        ),
+        (
+            19,
+            22,
+            b"lab 1 2 0\nfree 2 2\ncreated A 2 1\nexp A out 0 0\nfree 2 2\ndown\nexp A out 0 0\nfree 2 2\n",
+        ),
+        (
+            22,
+            23,
+            b"lab 1 2 0\nfree 2 2\ncreated A 2 1\nexp A out 0 0\nfree 2 2\ndown\nfree 2 2\n",
+        ),
+        (23, 24, WHOLE),
+    ];
+    for span in &spans {
+        assert_eq!(rt; other_failure(rt.alloc(), span)?, None);
+    }
+    Ok(())
+}
+
+/// Runs `status` over a side A of these bytes.
+fn run_on_side(alloc: Global, bytes: &[u8]) -> Result<Ran, Fail> {
+    let mut plant = MemLab::blank(alloc)?;
+    plant.write(Side::A, 0, bytes).ok().ok_or("a write")?;
+    run_over(alloc, b"status\n", plant)
+}
+
+#[test]
+fn sides_that_are_no_journal_end_the_run(rt: HostRuntime) -> Result<(), Fail> {
+    let cases: [(&'static [u8], u64); 4] = [
+        // The first record deletes an experiment.
+        (
+            b"\xa5LABJRNL1\x01\0\0\0\0\0\0\0\xa5\x03\0\0\0\x03\x01A\0",
+            17,
+        ),
+        // A record's end is missing.
+        (b"\xa5LABJRNL1\x01\0\0\0\0\0\0\0\xa5\x03\0\0\0\x03", 17),
+        // Its payload is no record.
+        (b"\xa5LABJRNL1\x01\0\0\0\0\0\0\0\xa5\x01\0\0\0\xff\0", 17),
+        // The header is another's.
+        (b"\xa5LABJRNL2\x01\0\0\0\0\0\0\0\0", 0),
+    ];
+    for (bytes, at) in cases {
+        let ran = run_on_side(rt.alloc(), bytes)?;
+        assert_eq!(rt; ran.output.as_slice(), b"".as_slice());
+        assert_eq!(rt; ran.status, Status::JournalBad { side: Side::A, at });
+        assert_eq!(rt; ran.status.code(), 6);
+    }
+    Ok(())
+}
+
+/// Adds a command that makes the experiment of this number.
+fn add_creation(script: &mut Vec<u8>, number: u16) -> Result<(), Fail> {
+    script.extend_from_slice(b"create-top e")?;
+    for place in [100, 10, 1] {
+        script.push(b'0' + (number / place % 10) as u8)?;
+    }
+    script.extend_from_slice(b" 1\nnode a pc linux\n")?;
+    Ok(())
+}
+
+/// A script that sets the lab and makes so many experiments.
+fn creations(alloc: Global, count: u16) -> Result<Vec<u8>, Fail> {
+    let mut script = b"ptop 2\nvlans 100 101\nnode s1 switch\n".to_vec(alloc)?;
+    for number in 0..count {
+        add_creation(&mut script, number)?;
+    }
+    Ok(script)
+}
+
+#[test]
+fn only_so_many_experiments_are_made(rt: HostRuntime) -> Result<(), Fail> {
+    let script = creations(rt.alloc(), 257)?;
+    let plant = MemLab::blank(rt.alloc())?;
+    let ran = run_over(rt.alloc(), &script, plant)?;
+    let last = b"created e255 1 0\nfull experiments 256\n";
+    let output = ran.output.as_slice();
+    // The first reply, and 256 of one length.
+    assert_eq!(rt; output.len(), 10 + 256 * 17 + 21);
+    assert_eq!(rt; &output[output.len() - last.len()..], last.as_slice());
+    assert_eq!(rt; ran.status, Status::Done);
+    Ok(())
+}
