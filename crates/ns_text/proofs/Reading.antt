@@ -1,0 +1,59 @@
+-- How a network that was read and expanded gives the wiring of a text.
+use Rattle.std.proofs.Common.{◌≡◌, List, ℕ, Result, Ok, Err, sym, ap, subst, ◌∙◌}
+use Rattle.lab_base.specs.declared.fault.Kind.{Kind}
+use Rattle.lab_base.specs.declared.fault.TextFault.{TextFault}
+use Rattle.lab_base.specs.declared.fault.TextRefused.{TextRefused}
+use Rattle.lab_base.specs.declared.fault.TextRefused.TheVariants as refusals
+use Rattle.virt_topo.specs.declared.wiring.Wiring.{Wiring}
+use Rattle.ns_build.specs.Meaning.{MeaningOf, HasMeaning}
+use Rattle.ns_build.specs.declared.asked.Asked.{Asked}
+use Rattle.ns_build.proofs.OneMeaning.{meaning_once}
+use Rattle.net_plan.specs.Expansion.{expansion}
+use Rattle.net_plan.specs.declared.fault.PlanFault.{PlanFault}
+use Rattle.net_plan.specs.declared.fault.PlanFault.TheVariants as faults
+use Rattle.ns_text.specs.Wirings.{IsKind, WiringOf, Becomes, HasWiring, WiringIsOne}
+
+pub reads : (t : List ℕ) (asked : Asked) (result : Result Wiring TextRefused) → HasMeaning t (Ok asked) → Becomes asked result → HasWiring t result
+unfolding HasMeaning HasWiring
+reads t asked (Ok w) means becomes = WiringOf.expanded means becomes
+reads t asked (Err (refusals.Text fault)) means becomes =
+    subst (λ (n : ℕ). WiringOf t (Err (record { line = n; kind = fault.kind }))) (sym becomes.3) (WiringOf.refused means becomes.1 becomes.2)
+reads t asked (Err refusals.Memory) means becomes = tt
+
+pub fails : (t : List ℕ) (e : TextRefused) → HasMeaning t (Err e) → HasWiring t (Err e)
+unfolding HasMeaning HasWiring
+fails t (refusals.Text fault) means = WiringOf.faulty means
+fails t refusals.Memory means = tt
+
+-- ONE KIND for a refusal
+kind_once : (fault : PlanFault) (k l : Kind) → IsKind fault k → IsKind fault l → k ≡ l
+kind_once faults.Limit k l p q = p ∙ sym q
+kind_once faults.Empty k l p q = p ∙ sym q
+kind_once faults.Address k l p q = p ∙ sym q
+kind_once faults.Subnet k l p q = p ∙ sym q
+kind_once faults.Memory k l p q = absurd p
+
+same_asked : (t : List ℕ) (a b : Asked) → MeaningOf t (Ok a) → MeaningOf t (Ok b) → a ≡ b
+same_asked t a b p q = let both : Ok a ≡ Ok b = meaning_once t (Ok a) (Ok b) p q in cc both
+
+pub wiring_once : WiringIsOne
+wiring_once t a b (WiringOf.expanded {asked = x} {w = w} p e) (WiringOf.expanded {asked = y} {w = v} q f) =
+    let both : ◌≡◌ {A = Result Wiring PlanFault} (Ok w) (Ok v) = sym e ∙ ap (λ (k : Asked). expansion k.topo) (same_asked t x y p q) ∙ f in
+    let same : w ≡ v = cc both in λ i. Ok (same i)
+wiring_once t a b (WiringOf.expanded {asked = x} {w = w} p e) (WiringOf.refused {asked = y} {fault = fault} {kind = kind} q f is) =
+    let both : ◌≡◌ {A = Result Wiring PlanFault} (Ok w) (Err fault) = sym e ∙ ap (λ (k : Asked). expansion k.topo) (same_asked t x y p q) ∙ f in absurd (cc both)
+wiring_once t a b (WiringOf.expanded {asked = x} {w = w} p e) (WiringOf.faulty {fault = fault} q) = let both : ◌≡◌ {A = Result Asked TextFault} (Ok x) (Err fault) = meaning_once t (Ok x) (Err fault) p q in absurd (cc both)
+wiring_once t a b (WiringOf.refused {asked = x} {fault = fault} {kind = kind} p e is) (WiringOf.expanded {asked = y} {w = v} q f) =
+    let both : ◌≡◌ {A = Result Wiring PlanFault} (Err fault) (Ok v) = sym e ∙ ap (λ (k : Asked). expansion k.topo) (same_asked t x y p q) ∙ f in absurd (cc both)
+wiring_once t a b (WiringOf.refused {asked = x} {fault = fault} {kind = kind} p e is) (WiringOf.refused {asked = y} {fault = other} {kind = kind2} q f is2) =
+    let one = same_asked t x y p q in
+    let both : ◌≡◌ {A = Result Wiring PlanFault} (Err fault) (Err other) = sym e ∙ ap (λ (k : Asked). expansion k.topo) one ∙ f in
+    let same : fault ≡ other = cc both in
+    let kinds : kind ≡ kind2 = kind_once other kind kind2 (subst (λ g. IsKind g kind) same is) is2 in
+    λ i. Err (record { line = (one i).line; kind = kinds i })
+wiring_once t a b (WiringOf.refused {asked = x} {fault = fault} {kind = kind} p e is) (WiringOf.faulty {fault = other} q) = let both : ◌≡◌ {A = Result Asked TextFault} (Ok x) (Err other) = meaning_once t (Ok x) (Err other) p q in absurd (cc both)
+wiring_once t a b (WiringOf.faulty {fault = fault} p) (WiringOf.expanded {asked = y} {w = v} q f) = let both : ◌≡◌ {A = Result Asked TextFault} (Err fault) (Ok y) = meaning_once t (Err fault) (Ok y) p q in absurd (cc both)
+wiring_once t a b (WiringOf.faulty {fault = fault} p) (WiringOf.refused {asked = y} {fault = other} {kind = kind} q f is) = let both : ◌≡◌ {A = Result Asked TextFault} (Err fault) (Ok y) = meaning_once t (Err fault) (Ok y) p q in absurd (cc both)
+wiring_once t a b (WiringOf.faulty {fault = fault} p) (WiringOf.faulty {fault = other} q) =
+    let both : ◌≡◌ {A = Result Asked TextFault} (Err fault) (Err other) = meaning_once t (Err fault) (Err other) p q in
+    let same : fault ≡ other = cc both in λ i. Err (same i)

@@ -1,0 +1,11 @@
+//! From the text of an NS file to the wiring of its network.
+#![tactic(auto)]
+
+mod laws;
+mod read;
+
+pub use laws::wiring_is_one;
+pub use read::read_network;
+
+#[cfg(test)]
+mod tests;

@@ -1,0 +1,105 @@
+use super::*;
+use lab_base::{Kind, Text, TextFault, TextRefused};
+use std::test::Fail;
+use top_text::{print_top, read_top};
+
+/// Two nodes, and what joins them.
+fn linked(rt: &HostRuntime, joins: &[u8]) -> Result<Vec<u8>, Fail> {
+    let mut text = Vec::new(rt.alloc());
+    text.extend_from_slice(
+        b"set ns [new Simulator]\nset a [$ns node]\nset b [$ns node]\nset c [$ns node]\n",
+    )?;
+    text.extend_from_slice(joins)?;
+    text.extend_from_slice(b"\n$ns run\n")?;
+    Ok(text)
+}
+
+/// The canonical text of the wiring, and that of the wiring that it is read back as.
+fn expanded(rt: &HostRuntime, text: &[u8]) -> Result<(Text, Text), Fail> {
+    let wiring = read_network(rt.alloc(), text).ok().ok_or("a network")?;
+    let top = print_top(rt.alloc(), &wiring)?;
+    let again = read_top(rt.alloc(), top.bytes()).ok().ok_or("a wiring")?;
+    let printed = print_top(rt.alloc(), &again)?;
+    Ok((top, printed))
+}
+
+/// The fault of a text.
+fn fault_of(rt: &HostRuntime, text: &[u8]) -> Result<TextFault, Fail> {
+    match read_network(rt.alloc(), text) {
+        Err(TextRefused::Text(fault)) => Ok(fault),
+        Ok(_) | Err(TextRefused::Memory) => Err("a fault".into()),
+    }
+}
+
+#[test]
+fn a_lan_of_three_nodes(rt: HostRuntime) -> Result<(), Fail> {
+    let text =
+        b"set ns [new Simulator]\nsource tb_compat.tcl\nset lanstr \"\"\nfor {set i 1} {$i <= 3} {incr i} {\n  set node($i) [$ns node]\n  append lanstr \"$node($i) \"\n}\nset big [$ns make-lan \"$lanstr\" 100Mb 0ms]\n$ns rtproto Static\n$ns run\n";
+    let (top, again) = expanded(&rt, text)?;
+    assert_eq!(rt; top.bytes(), again.bytes());
+    assert_eq!(rt;
+        top.bytes(),
+        b"node node-1 pc default\nnode node-2 pc default\nnode node-3 pc default\nlink big big 100000 node-1=10.1.1.1 node-2=10.1.1.2 node-3=10.1.1.3\n".as_slice()
+    );
+    Ok(())
+}
+
+#[test]
+fn links_and_lans_are_expanded(rt: HostRuntime) -> Result<(), Fail> {
+    let cases: [(&[u8], &[u8]); 5] = [
+        (
+            b"set l [$ns duplex-link $a $b 100Mb 1ms DropTail]",
+            b"link l l 100000 a=10.1.1.1 b=10.1.1.2\n",
+        ),
+        (
+            b"set l [$ns duplex-link $a $b 100Mb 2ms DropTail]",
+            b"node l.d delay delay\nlink l.0 l 100000 a=10.1.1.1 l.d\nlink l.1 l 100000 l.d b=10.1.1.2\npipe l.d 0 1 100000 2000 0 100000 2000 0\n",
+        ),
+        (
+            b"set big [$ns make-lan \"$a $b $c\" 100Mb 5.001ms]",
+            b"node big.d1 delay delay\nnode big.d2 delay delay\nnode big.d3 delay delay\nlink big.m1 big 100000 a=10.1.1.1 big.d1\nlink big.m2 big 100000 b=10.1.1.2 big.d2\nlink big.m3 big 100000 c=10.1.1.3 big.d3\nlink big big 100000 big.d1 big.d2 big.d3\npipe big.d1 0 1 100000 2500 0 100000 2501 0\npipe big.d2 0 1 100000 2500 0 100000 2501 0\npipe big.d3 0 1 100000 2500 0 100000 2501 0\n",
+        ),
+        (
+            b"set big [$ns make-lan \"$a $b\" 100Mb 1.999ms]",
+            b"link big big 100000 a=10.1.1.1 b=10.1.1.2\n",
+        ),
+        (
+            b"set big [$ns make-lan \"$a $b\" 100Mb 1.999ms]\ntb-set-lan-loss $big 0.000001",
+            b"node big.d1 delay delay\nnode big.d2 delay delay\nlink big.m1 big 100000 a=10.1.1.1 big.d1\nlink big.m2 big 100000 b=10.1.1.2 big.d2\nlink big big 100000 big.d1 big.d2\npipe big.d1 0 1 100000 999 1 100000 1000 0\npipe big.d2 0 1 100000 999 1 100000 1000 0\n",
+        ),
+    ];
+    for (joins, behind) in cases {
+        let mut wanted = Vec::new(rt.alloc());
+        wanted.extend_from_slice(b"node a pc default\nnode b pc default\nnode c pc default\n")?;
+        wanted.extend_from_slice(behind)?;
+        let text = linked(&rt, joins)?;
+        let (top, again) = expanded(&rt, &text)?;
+        assert_eq!(rt; top.bytes(), again.bytes());
+        assert_eq!(rt; top.bytes(), wanted.as_slice());
+    }
+    Ok(())
+}
+
+#[test]
+fn faults_have_their_lines(rt: HostRuntime) -> Result<(), Fail> {
+    let cases: [(&[u8], u32, Kind); 4] = [
+        (b"set x \"abc\n", 1, Kind::Quote),
+        (b"set ns [new Simulator]\n$ns run\n", 2, Kind::Empty),
+        (
+            b"set ns [new Simulator]\nset a [$ns node]\nset b [$ns node]\nset l [$ns duplex-link $a $b 100Mb 1ms DropTail]\ntb-set-ip $a 10.1.1.1\ntb-set-ip $b 10.1.1.1\n$ns run\n",
+            7,
+            Kind::Address,
+        ),
+        (
+            b"set ns [new Simulator]\nset a [$ns node]\nset b [$ns node]\n\nset l [$ns duplex-link $a $b 100Mb 1ms RED]\n$ns run\n",
+            5,
+            Kind::Unsupported,
+        ),
+    ];
+    for (text, line, kind) in cases {
+        let fault = fault_of(&rt, text)?;
+        assert_eq!(rt; fault.line, line);
+        assert_eq!(rt; fault.kind, kind);
+    }
+    Ok(())
+}

@@ -1,0 +1,14 @@
+pub mod Appending
+pub mod Begins
+pub mod Commands
+pub mod Fewer
+pub mod Keeping
+pub mod Last
+pub mod MissedCalls
+pub mod Needs
+pub mod Over
+pub mod Pushing
+pub mod SentTurns
+pub mod Standing
+pub mod Turns
+pub mod WrittenTurns

@@ -1,0 +1,10 @@
+mod Knowing
+mod Others
+mod Places
+mod Rooms
+mod Standing
+mod Staying
+mod Stepping
+mod Turning
+mod Watching
+mod Writing

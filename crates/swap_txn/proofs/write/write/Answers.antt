@@ -1,0 +1,28 @@
+use Rattle.std.proofs.Common.{◌+◌, ◌∙◌, Ok, refl, sym, ap, subst}
+use Rattle.journal_disk.specs.Standing.{length_of}
+use Rattle.journal_disk.proofs.Parts.{body_size}
+use Rattle.swap_txn.specs.Troubles.{IsWritten}
+use Rattle.swap_txn.proofs.Writing.{ok_weaker}
+use Rattle.swap_txn.proofs.write.write.Goals as goal
+
+pub returns-in-Ok-clause-writes : goal.returns-in-Ok-clause-writes
+returns-in-Ok-clause-writes g c = λ r is.
+    let e = c.append.ensures in
+    let result = c.append.result in (
+      result,
+      record {
+        fits = λ length size. e.fits c.requires.fits size length;
+        cause = e.plant;
+        later = e.later;
+        devices = e.devices;
+        halts = e.stopped c.requires.fits;
+        appends = e.appends r is;
+        moments = λ rs. e.moments r rs is;
+        stands = ok_weaker result (λ h rs. h r rs is) e.stands;
+        longer = ok_weaker result (λ h. h ∙ ap (λ n. length_of c.args.journal.now + n) (body_size c.args.encoded.now r is)) e.length;
+        side = e.side;
+        limit = e.limit;
+        unwritten = e.err;
+      },
+      subst (λ a. IsWritten tt a (Ok tt)) (sym c.in-Ok.is) refl,
+    )

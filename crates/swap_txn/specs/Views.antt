@@ -1,0 +1,66 @@
+-- What contracts see of a course that is sent, and of what holds it.
+use Rattle.std.specs.Prelude.{◌≡◌, ◌<◌, ◌++◌, ℕ, Bool, true, false, List, [], drop, length, Option, Some, None, Result, Ok, Err}
+use Rattle.plant.specs.declared.device.DeviceOp.{DeviceOp}
+use Rattle.plant.specs.declared.device.Answer.{Answer}
+use Rattle.plant.specs.declared.device.Fault.{Fault}
+use Rattle.lab_model.specs.Courses.{Plan, Left, Watch, Course, Going, Cut, Halted, answered}
+use Rattle.swap_txn.specs.declared.halt.Halt.{Halt}
+use Rattle.swap_txn.specs.declared.halt.Halt.TheVariants.{Trouble, Stopped}
+use Rattle.swap_txn.specs.Troubles.{what_of}
+use Rattle.swap_txn.specs.declared.stage.Stage.{Stage}
+use Rattle.swap_txn.specs.declared.stage.Stage.TheVariants.{Clear, Cable, Load, Boot, Done}
+use Rattle.swap_txn.specs.declared.watched.Watched.{Watched}
+
+-- the listed commands that are left, where that many of the stage's list were sent
+abbrev pub rest : Plan → Stage → ℕ → List DeviceOp
+rest plan Clear at = drop at plan.clear ++ plan.cable ++ plan.load
+rest plan Cable at = drop at plan.cable ++ plan.load
+rest plan Load at = drop at plan.load
+rest plan stage at = []
+
+-- the nodes that are left to boot
+abbrev pub boots : Plan → Stage → ℕ → List (List ℕ)
+boots plan Boot at = drop at plan.boot
+boots plan Done at = []
+boots plan stage at = plan.boot
+
+-- a node that is watched, as a course has it
+abbrev pub watch_of : Option Watched → Option Watch
+watch_of None = None
+watch_of (Some w) = Some (record { node = w.node; state = w.watch.last; polls = w.watch.polls })
+
+abbrev pub left_of : Plan → Stage → ℕ → Option Watched → Left
+left_of plan stage at watched = record { todo = rest plan stage at; boot = boots plan stage at; watch = watch_of watched }
+
+-- how many commands the stage lists
+abbrev pub count_of : Plan → Stage → ℕ
+count_of plan Clear = length plan.clear
+count_of plan Cable = length plan.cable
+count_of plan Load = length plan.load
+count_of plan stage = 0
+
+-- the stage is the first in which something is left
+abbrev pub IsAt : Plan → Stage → ℕ → Option Watched → Type 0
+IsAt plan Boot at None = at < length plan.boot
+IsAt plan Boot at (Some w) = w.watch.polls < 64
+IsAt plan Done at watched = watched ≡ None
+IsAt plan stage at watched = (at < count_of plan stage) × (watched ≡ None)
+
+-- the place in the plan from which these commands are left, and all nodes to boot
+pub record IsPlace (plan : Plan) (todo : List DeviceOp) (stage : Stage) (at : ℕ) : Type 0 where
+  pub left : left_of plan stage at None ≡ record { todo = todo; boot = plan.boot; watch = None }
+  pub place : IsAt plan stage at None
+
+-- what a poll leads to: the node is up, or is polled again, or its trouble, or a stop
+abbrev pub WatchBy : List (List ℕ) → Course → Result Bool Halt → Watched → Type 0
+WatchBy boot (Going left) (Ok true) w = left ≡ record { todo = []; boot = boot; watch = None }
+WatchBy boot (Going left) (Ok false) w = left ≡ record { todo = []; boot = boot; watch = watch_of (Some w) }
+WatchBy boot (Cut trouble) result w = result ≡ Err (Trouble (what_of trouble))
+WatchBy boot Halted result w = result ≡ Err Stopped
+WatchBy boot course result w = ⊥
+
+-- a watched node after a poll that was answered so
+pub record IsPolledBy (old : Watched) (answer : Result Answer Fault) (result : Result Bool Halt) (new : Watched) : Type 0 where
+  pub node : new.node ≡ old.node
+  pub polls : (result ≡ Ok true → ⊥) → new.watch.polls < 64
+  pub leads : (boot : List (List ℕ)) → WatchBy boot (answered [] (watch_of (Some old)) boot answer) result new

@@ -1,0 +1,9 @@
+use crate::What;
+
+/// Why a command or a record was not acknowledged.
+#[derive(Clone, Copy, PartialEq, Eq)]
+pub(crate) enum Halt {
+    Trouble(What),
+    /// The plant is stopped.
+    Stopped,
+}

@@ -1,0 +1,48 @@
+//! The states of one swap, each consumed by its turn.
+#![tactic(auto)]
+
+mod backward;
+mod begun;
+mod booting;
+mod cabling;
+mod clearing;
+mod ended;
+mod forward;
+mod halt;
+mod last;
+mod laws;
+mod live;
+mod loading;
+mod place;
+mod planned;
+mod ready;
+mod sending;
+mod sent;
+mod stage;
+mod state;
+mod turned;
+mod undoing;
+mod undone;
+mod watched;
+mod way_back;
+mod went;
+mod what;
+mod write;
+
+pub use begun::Begun;
+pub use booting::Booting;
+pub use cabling::Cabling;
+pub use clearing::Clearing;
+pub use ended::Ended;
+pub use laws::facts_alone;
+pub use live::Live;
+pub use loading::Loading;
+pub use planned::Planned;
+pub use ready::Ready;
+pub use turned::Turned;
+pub use undoing::Undoing;
+pub use undone::Undone;
+pub use what::What;
+
+#[cfg(test)]
+mod tests;

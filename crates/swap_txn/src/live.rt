@@ -1,0 +1,126 @@
+use crate::backward::Backward;
+use crate::forward::Forward;
+use crate::last::{abort_of, commit_of};
+use crate::sending::Sending;
+use crate::state::any;
+use crate::{Begun, Booting, Cabling, Clearing, Ended, Loading, Ready, Turned, Undoing, Undone};
+use journal_disk::Journal;
+use lab_base::{Memory, Name};
+use plant::Plant;
+use std::alloc::Global;
+use swap_plan::Ops;
+
+/// A swap whose Begin is durable, in the state in which it is.
+#[derive(Drop)]
+pub enum Live {
+    Begun(Begun),
+    Clearing(Clearing),
+    Cabling(Cabling),
+    Loading(Loading),
+    Booting(Booting),
+    Ready(Ready),
+    Undoing(Undoing),
+    Undone(Undone),
+    Ended(Ended),
+}
+
+impl Live {
+    ghost use Rattle.std.specs.Prelude.{◌≡◌, ◌≤◌, ◌+◌, ◌↔◌, IfOk, IsTrue, List};
+    ghost use Rattle.plant.specs.Events.{Event};
+    ghost use Rattle.journal_disk.specs.Standing.{length_of, limit_of};
+    ghost use Rattle.journal_disk.specs.declared.journal.Journal.{Journal as AnyJournal};
+    ghost use Rattle.swap_txn.specs.Facts.{HandsOn, StartsAt, exp_of};
+    ghost use Rattle.swap_txn.specs.Steps.{Stands};
+    ghost use Rattle.swap_txn.specs.Turns.{Turns, Fits, HasWork, IsStopped, IfStanding, begun_again};
+
+    /// The experiment. The record that ends its swap makes the journal at most 39 bytes longer.
+    pub fn exp(&self) -> Name
+        ensures exp { result ≡ exp_of self.now }
+        ensures room { (j : AnyJournal) → length_of j + 39 ≤ limit_of j → Fits self.now j }
+    {
+        let exp = self.name();
+        // A name has at most 32 bytes.
+        let _bytes = exp.bytes();
+        exp
+    }
+
+    fn name(&self) -> Name
+        ensures { result ≡ exp_of self.now }
+    {
+        match self {
+            Live::Begun(state) => state.forward.exp,
+            Live::Clearing(state) => state.forward.exp,
+            Live::Cabling(state) => state.forward.exp,
+            Live::Loading(state) => state.forward.exp,
+            Live::Booting(state) => state.forward.exp,
+            Live::Ready(state) => state.forward.exp,
+            Live::Undoing(state) => state.backward.exp,
+            Live::Undone(state) => state.backward.exp,
+            Live::Ended(ended) => ended.exp,
+        }
+    }
+
+    /// A swap whose Begin is durable already: a swap-out where `out`, which goes on from its beginning, and else a swap-in,
+    /// whose undo begins.
+    pub fn again(alloc: Global, exp: Name, ops: Ops, out: bool) -> Result<Live, Memory>
+        ensures live { IfOk result (λ live. live ≡ begun_again exp ops.commands ops.undo out) }
+        ensures facts { IfOk result (λ live. (trace : List Event) → StartsAt trace live) }
+    {
+        let Ops { commands, undo } = ops;
+        if out {
+            let forward = Forward {
+                exp,
+                sending: Sending::new(commands),
+                commit: commit_of(alloc, exp)?,
+                back: None,
+            };
+            Ok(forward.live())
+        } else {
+            let backward = Backward {
+                exp,
+                sending: Sending::new(undo),
+                abort: abort_of(alloc, exp)?,
+                inside: false,
+                why: None,
+            };
+            Ok(backward.live())
+        }
+    }
+
+    /// One turn of the state that it is in. A swap that ended stays as it is.
+    pub fn turn<P: Plant>(self, journal: &mut Journal, plant: &mut P) -> Turned<Live>
+        requires stands { Stands (P.told plant.old) journal.old }
+        requires fits { Fits self journal.old }
+        ensures turns { Turns self
+            (record { told = P.told plant.old; faults = P.faults plant.old; stopped = P.is_stopped plant.old })
+            (record { told = P.told plant.new; faults = P.faults plant.new; stopped = P.is_stopped plant.new }) journal.old journal.new result }
+        ensures stopped { HasWork self → (IsStopped result ↔ IsTrue (P.is_stopped plant.new)) }
+        ensures stands { IfStanding result (Stands (P.told plant.new) journal.new) }
+        ensures facts { HandsOn (P.told plant.old) (P.told plant.new) self result }
+        ensures limit { limit_of journal.new ≡ limit_of journal.old }
+        ensures drills { P.takes_drills plant.new ≡ P.takes_drills plant.old }
+    {
+        self.turn_state(journal, plant)
+    }
+
+    fn turn_state<P: Plant>(self, journal: &mut Journal, plant: &mut P) -> Turned<Live>
+        requires stands { Stands (P.told plant.old) journal.old }
+        requires fits { Fits self journal.old }
+        ensures turns { Turns self
+            (record { told = P.told plant.old; faults = P.faults plant.old; stopped = P.is_stopped plant.old })
+            (record { told = P.told plant.new; faults = P.faults plant.new; stopped = P.is_stopped plant.new }) journal.old journal.new result }
+        ensures drills { P.takes_drills plant.new ≡ P.takes_drills plant.old }
+    {
+        match self {
+            Live::Begun(state) => any(state.turn(journal, plant)),
+            Live::Clearing(state) => any(state.turn(journal, plant)),
+            Live::Cabling(state) => any(state.turn(journal, plant)),
+            Live::Loading(state) => any(state.turn(journal, plant)),
+            Live::Booting(state) => any(state.turn(journal, plant)),
+            Live::Ready(state) => any(state.turn(journal, plant)),
+            Live::Undoing(state) => any(state.turn(journal, plant)),
+            Live::Undone(state) => any(state.turn(journal, plant)),
+            Live::Ended(ended) => Turned::Same(Live::Ended(ended)),
+        }
+    }
+}
