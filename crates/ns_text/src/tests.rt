@@ -2,6 +2,7 @@ use super::*;
 use lab_base::{Kind, Text, TextFault, TextRefused};
 use std::test::Fail;
 use top_text::{print_top, read_top};
+use virt_topo::Wiring;
 
 /// Two nodes, and what joins them.
 fn linked(rt: &HostRuntime, joins: &[u8]) -> Result<Vec<u8>, Fail> {
@@ -14,18 +15,39 @@ fn linked(rt: &HostRuntime, joins: &[u8]) -> Result<Vec<u8>, Fail> {
     Ok(text)
 }
 
+/// How long a text of these tests may be.
+const MOST: usize = 100_000;
+
+/// What a text of these tests is read as.
+fn read(rt: &HostRuntime, text: &[u8]) -> Result<Result<Wiring, TextRefused>, Fail> {
+    if text.len() > MOST {
+        return Err("a shorter text".into());
+    }
+    Ok(read_network(rt.alloc(), text))
+}
+
+/// The wiring of a top text.
+fn wiring_of(rt: &HostRuntime, top: &[u8]) -> Result<Wiring, Fail> {
+    if top.len() > MOST {
+        return Err("a shorter text".into());
+    }
+    Ok(read_top(rt.alloc(), top).ok().ok_or("a wiring")?)
+}
+
 /// The canonical text of the wiring, and that of the wiring that it is read back as.
 fn expanded(rt: &HostRuntime, text: &[u8]) -> Result<(Text, Text), Fail> {
-    let wiring = read_network(rt.alloc(), text).ok().ok_or("a network")?;
+    let Ok(wiring) = read(rt, text)? else {
+        return Err("a network".into());
+    };
     let top = print_top(rt.alloc(), &wiring)?;
-    let again = read_top(rt.alloc(), top.bytes()).ok().ok_or("a wiring")?;
+    let again = wiring_of(rt, top.bytes())?;
     let printed = print_top(rt.alloc(), &again)?;
     Ok((top, printed))
 }
 
 /// The fault of a text.
 fn fault_of(rt: &HostRuntime, text: &[u8]) -> Result<TextFault, Fail> {
-    match read_network(rt.alloc(), text) {
+    match read(rt, text)? {
         Err(TextRefused::Text(fault)) => Ok(fault),
         Ok(_) | Err(TextRefused::Memory) => Err("a fault".into()),
     }
