@@ -1,5 +1,5 @@
 -- The records that an opened journal holds.
-use Rattle.std.proofs.Common.{◌≡◌, inl, inr, ℕ, List, [], ◌∷◌, drop, Result, Ok, Err, refl, subst}
+use Rattle.std.proofs.Common.{◌≡◌, ◌+◌, inl, inr, ℕ, List, [], ◌∷◌, drop, Result, Ok, Err, refl, ap, subst}
 use Rattle.std.specs.Prelude.{IfOk}
 use Rattle.std.specs.Global.{Vec}
 use Rattle.lab_base.specs.Lists.{Has}
@@ -7,10 +7,11 @@ use Rattle.plant.specs.declared.step.Side.{Side}
 use Rattle.journal_rec.specs.Payloads.{IsRecord}
 use Rattle.journal_rec.specs.declared.record.Record.{Record}
 use Rattle.journal_rec.specs.declared.record.Found.{Found}
-use Rattle.journal_model.specs.Journals.{Reads}
+use Rattle.journal_model.specs.Journals.{Reads, size}
 use Rattle.journal_disk.specs.declared.journal.Journal.{Journal}
 use Rattle.journal_disk.specs.declared.fault.OpenFault.{OpenFault}
 use Rattle.journal_disk.specs.Openings.{IsOpened}
+use Rattle.journal_disk.specs.Walks.{placed}
 use Rattle.journal_disk.specs.Standing.{Holds}
 
 reads_records : (bytes : List ℕ) (rs : List Record) (r : Record) → Reads bytes rs → Has rs r → IsRecord r
@@ -24,3 +25,12 @@ pub holds_read : (side : Side) (limit : ℕ) (bytes : List ℕ) (result : Result
 holds_read side limit bytes (Ok opened) h =
     (h.rs, record { found_so = h.found_so; are_records = λ r has. reads_records (drop 17 bytes) h.rs r h.reads has; gate = h.gate_is })
 holds_read side limit bytes (Err fault) h = tt
+
+entry_among : (gate : ℕ) (rs : List Record) (f : Found) → Has (placed gate rs) f → Has rs f.entry
+entry_among gate [] f has = has
+entry_among gate (r ∷ rs) f (inl is) = inl (ap (λ x. x.entry) is)
+entry_among gate (r ∷ rs) f (inr has) = inr (entry_among (gate + size r) rs f has)
+
+-- WHAT WAS FOUND in a journal are records
+pub found_records : (rs : List Record) (j : Journal) (found : List Found) (f : Found) → Holds rs j found → Has found f → IsRecord f.entry
+found_records rs j found f holds has = holds.are_records f.entry (entry_among 17 rs f (subst (λ l. Has l f) holds.found_so has))

@@ -1,7 +1,10 @@
-ghost use Rattle.std.specs.Prelude.{◌≡◌, ℕ, length, slice_get, option_copied, is_some, ◌≤◌, IfOk, IfSome, OnOk};
+ghost use Rattle.std.specs.Prelude.{◌≡◌, ℕ, length, slice_get, option_copied, is_some, ◌≤◌, true, IfOk, IfSome, OnOk};
+ghost use Rattle.lab_base.specs.Lists.{Has};
 ghost use Rattle.journal_rec.specs.Payloads.{IsRecord};
+ghost use Rattle.virt_topo.specs.declared.experiment.Experiment.{Experiment as AnyExperiment};
 ghost use Rattle.records_model.specs.Labs.{at_first, find, lab_in, Sane, Follows, CannotFollow};
 ghost use Rattle.claims.specs.Experiments.{ClaimsOf};
+ghost use Rattle.top_text.specs.Printable.{is_printable};
 ghost use Rattle.lab_state.specs.Texts.{the_texts};
 ghost use Rattle.lab_state.specs.Answers.{OnBad};
 ghost use Rattle.lab_state.specs.Changes.{after, needs, CanEnter};
@@ -49,10 +52,11 @@ impl LabState {
         }
     }
 
-    /// The lab, if there is one. Its clause `sane` is what holds of every lab that records give.
+    /// The lab, if there is one. Its clauses `sane` and `printable` are what holds of every lab that records give.
     pub fn lab(&self) -> Option<&Lab>
         ensures lab { option_copied result ≡ self.now.state.lab }
         ensures sane { Sane self.now.state }
+        ensures printable { (e : AnyExperiment) → Has self.now.state.experiments e → is_printable e.wiring ≡ true }
     {
         let _kept = &self.experiments;
         match &self.place {

@@ -11,7 +11,8 @@ use Rattle.ns_build.proofs.OneMeaning.{meaning_once}
 use Rattle.net_plan.specs.Expansion.{expansion}
 use Rattle.net_plan.specs.declared.fault.PlanFault.{PlanFault}
 use Rattle.net_plan.specs.declared.fault.PlanFault.TheVariants as faults
-use Rattle.ns_text.specs.Wirings.{IsKind, WiringOf, Becomes, HasWiring, WiringIsOne}
+use Rattle.ns_text.specs.declared.read.Printed.{Printed}
+use Rattle.ns_text.specs.Wirings.{IsKind, WiringOf, Becomes, HasWiring, wiring_alone, WiringIsOne}
 
 pub reads : (t : List ℕ) (asked : Asked) (result : Result Wiring TextRefused) → HasMeaning t (Ok asked) → Becomes asked result → HasWiring t result
 unfolding HasMeaning HasWiring
@@ -24,6 +25,13 @@ pub fails : (t : List ℕ) (e : TextRefused) → HasMeaning t (Err e) → HasWir
 unfolding HasMeaning HasWiring
 fails t (refusals.Text fault) means = WiringOf.faulty means
 fails t refusals.Memory means = tt
+
+-- no memory to print in
+pub unprinted : (t : List ℕ) (result : Result Printed TextRefused) (e : TextRefused) → result ≡ Err e → e ≡ refusals.Memory → HasWiring t (wiring_alone result)
+unfolding HasWiring
+unprinted t result e is why =
+    let P : Result Printed TextRefused → Type 0 = λ r. HasWiring t (wiring_alone r) in
+    let memory : result ≡ Err refusals.Memory = is ∙ ap (λ (f : TextRefused). Err f) why in subst P (sym memory) tt
 
 -- ONE KIND for a refusal
 kind_once : (fault : PlanFault) (k l : Kind) → IsKind fault k → IsKind fault l → k ≡ l

@@ -11,6 +11,7 @@ use Rattle.ns_build.specs.declared.asked.Asked.{Asked}
 use Rattle.net_plan.specs.Expansion.{expansion}
 use Rattle.net_plan.specs.declared.fault.PlanFault.{PlanFault}
 use Rattle.net_plan.specs.declared.fault.PlanFault.TheVariants as faults
+use Rattle.ns_text.specs.declared.read.Printed.{Printed}
 
 -- the kind of a refusal of the expansion
 abbrev pub IsKind : PlanFault → Kind → Type 0
@@ -38,6 +39,11 @@ unfoldable pub HasWiring : List ℕ → Result Wiring TextRefused → Type 0
 HasWiring t (Ok w) = WiringOf t (Ok w)
 HasWiring t (Err (refusals.Text fault)) = WiringOf t (Err fault)
 HasWiring t (Err refusals.Memory) = Unit {0}
+
+-- the wiring alone
+abbrev pub wiring_alone : Result Printed TextRefused → Result Wiring TextRefused
+wiring_alone (Ok printed) = Ok printed.wiring
+wiring_alone (Err why) = Err why
 
 -- a text has one wiring, or one fault
 abbrev pub WiringIsOne : Type 0

@@ -5,7 +5,7 @@ mod laws;
 mod read;
 
 pub use laws::wiring_is_one;
-pub use read::read_network;
+pub use read::{Printed, read_and_print, read_network};
 
 #[cfg(test)]
 mod tests;

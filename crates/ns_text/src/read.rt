@@ -1,13 +1,24 @@
-ghost use Rattle.std.specs.Prelude.{◌≡◌, ◌<◌, ◌-◌, ◌^◌, length, IfOk};
+ghost use Rattle.std.specs.Prelude.{◌≡◌, ◌≤◌, ◌<◌, ◌-◌, ◌^◌, true, length, Ok, IfOk};
 ghost use Rattle.lab_base.specs.declared.fault.TextRefused.TheVariants as refusals;
 ghost use Rattle.virt_topo.specs.Soundness.{IsSound};
-ghost use Rattle.ns_text.specs.Wirings.{Becomes, HasWiring};
+ghost use Rattle.top_text.specs.Adding.{wiring_of_text};
+ghost use Rattle.top_text.specs.Canonical.{canonical_top};
+ghost use Rattle.top_text.specs.Printable.{is_printable};
+ghost use Rattle.ns_text.specs.Wirings.{Becomes, HasWiring, wiring_alone};
 
-use lab_base::{Kind, TextFault, TextRefused};
+use lab_base::{Kind, Text, TextFault, TextRefused};
 use net_plan::{PlanFault, expand};
 use ns_build::{Asked, read_ns};
 use std::alloc::Global;
+use top_text::print_top;
 use virt_topo::Wiring;
+
+/// The wiring of an NS text, and the canonical top text of that wiring.
+#[derive(Drop)]
+pub struct Printed {
+    pub wiring: Wiring,
+    pub top: Text,
+}
 
 /// A fault of the expansion, at the line of `$ns run`.
 fn refused(line: u32, kind: Kind) -> TextRefused
@@ -44,4 +55,19 @@ pub fn read_network(alloc: Global, text: &[u8]) -> Result<Wiring, TextRefused>
         Ok(asked) => wiring_of(alloc, &asked),
         Err(refused) => Err(refused),
     }
+}
+
+/// Reads an NS text as `read_network` does, and prints its wiring: what is printed is read back as the wiring.
+pub fn read_and_print(alloc: Global, text: &[u8]) -> Result<Printed, TextRefused>
+    requires short { length text.now < 2 ^ 32 - 1 }
+    ensures wiring { HasWiring text.now (wiring_alone result) }
+    ensures sound { IfOk result (λ printed. IsSound printed.wiring) }
+    ensures text { IfOk result (λ printed. printed.top ≡ canonical_top printed.wiring) }
+    ensures again { IfOk result (λ printed. wiring_of_text printed.top ≡ Ok printed.wiring) }
+    ensures size { IfOk result (λ printed. length printed.top ≤ 16777216) }
+    ensures printable { IfOk result (λ printed. is_printable printed.wiring ≡ true) }
+{
+    let wiring = read_network(alloc, text)?;
+    let top = print_top(alloc, &wiring)?;
+    Ok(Printed { wiring, top })
 }

@@ -26,6 +26,15 @@ fn read(rt: &HostRuntime, text: &[u8]) -> Result<Result<Wiring, TextRefused>, Fa
     Ok(read_network(rt.alloc(), text))
 }
 
+/// What a text of these tests is read and printed as.
+fn printed(rt: &HostRuntime, text: &[u8]) -> Result<Text, Fail> {
+    if text.len() > MOST {
+        return Err("a shorter text".into());
+    }
+    let printed = read_and_print(rt.alloc(), text).ok().ok_or("a network")?;
+    Ok(printed.top)
+}
+
 /// The wiring of a top text.
 fn wiring_of(rt: &HostRuntime, top: &[u8]) -> Result<Wiring, Fail> {
     if top.len() > MOST {
@@ -36,13 +45,10 @@ fn wiring_of(rt: &HostRuntime, top: &[u8]) -> Result<Wiring, Fail> {
 
 /// The canonical text of the wiring, and that of the wiring that it is read back as.
 fn expanded(rt: &HostRuntime, text: &[u8]) -> Result<(Text, Text), Fail> {
-    let Ok(wiring) = read(rt, text)? else {
-        return Err("a network".into());
-    };
-    let top = print_top(rt.alloc(), &wiring)?;
+    let top = printed(rt, text)?;
     let again = wiring_of(rt, top.bytes())?;
-    let printed = print_top(rt.alloc(), &again)?;
-    Ok((top, printed))
+    let again = print_top(rt.alloc(), &again)?;
+    Ok((top, again))
 }
 
 /// The fault of a text.

@@ -17,6 +17,10 @@ abbrev pub end_keys : List ℕ → List ℕ → List (ℕ × ℕ)
 end_keys earlier [] = []
 end_keys earlier (v ∷ ends) = (v, count_by (λ x. x == v) earlier) ∷ end_keys (earlier ++ v ∷ []) ends
 
+-- an end: its virtual node, and its number among the ends of that one
+abbrev pub end_name : Wiring → ℕ × ℕ → List ℕ
+end_name w key = with_number (virt_name w key.0, key.1)
+
 -- `node V NODE TYPE`
 abbrev pub place_fields : Lab → VirtNode × Place → List (List ℕ)
 place_fields lab placed = codes "node" ∷ placed.0.name ∷ (node_at lab placed.1.0).name ∷ placed.1.1 ∷ []
@@ -27,7 +31,7 @@ iface_field lab plug = (node_at lab (iface_at lab plug).node).name ++ 58 ∷ (if
 
 -- `plug V:K NODE:IFACE`
 abbrev pub plug_fields : Lab → Wiring → (ℕ × ℕ) × IfaceId → List (List ℕ)
-plug_fields lab w plugged = codes "plug" ∷ with_number (virt_name w plugged.0.0, plugged.0.1) ∷ iface_field lab plugged.1 ∷ []
+plug_fields lab w plugged = codes "plug" ∷ end_name w plugged.0 ∷ iface_field lab plugged.1 ∷ []
 
 -- places in the order of virtual nodes, plugs in the order of ends
 abbrev pub mapping_lines : Lab → Wiring → Mapping → List (List (List ℕ))

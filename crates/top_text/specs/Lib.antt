@@ -6,3 +6,4 @@ pub mod Names
 pub mod CanonicalSolution
 pub mod Printable
 pub mod Once
+pub mod Again

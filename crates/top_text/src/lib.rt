@@ -14,11 +14,11 @@ mod solution;
 mod solution_lines;
 mod solution_print;
 
-pub use laws::texts_are_of_one;
+pub use laws::{texts_are_of_one, texts_are_read_back};
 pub use print::print_top;
 pub use read::read_top;
 pub use solution::read_solution;
-pub use solution_print::print_solution;
+pub use solution_print::{print_end, print_solution};
 
 #[cfg(test)]
 mod solution_tests;

@@ -41,7 +41,7 @@ fn asked_name<'a>(wiring: &'a Wiring, asks: &'a Asks) -> &'a [u8]
 }
 
 /// A space and a word.
-pub(crate) fn push_word(text: &mut Text, word: &[u8]) -> Result<(), Memory>
+fn push_word(text: &mut Text, word: &[u8]) -> Result<(), Memory>
     ensures { OnOk result (text.new ≡ text.old ++ 32 ∷ word.now) }
 {
     text.push(b' ')?;

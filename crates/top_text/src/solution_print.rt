@@ -1,18 +1,17 @@
-ghost use Rattle.std.specs.Prelude.{◌≡◌, ◌<◌, ◌≤◌, ◌++◌, ◌∷◌, [], true, map, length, All, Ok, OnOk, IfOk};
+ghost use Rattle.std.specs.Prelude.{◌≡◌, ◌<◌, ◌≤◌, ◌++◌, ◌∷◌, [], true, map, length, slice_index_or, All, Ok, OnOk, IfOk};
 ghost use Rattle.std.specs.List.{zip};
 ghost use Rattle.lab_base.specs.Names.{is_name};
-ghost use Rattle.line_text.specs.Printing.{line_text, text_of, with_number};
+ghost use Rattle.line_text.specs.Printing.{line_text, text_of};
 ghost use Rattle.virt_topo.specs.Ends.{end_nodes};
 ghost use Rattle.virt_topo.specs.Soundness.{IsSound};
 ghost use Rattle.lab_model.specs.Shapes.{IsShaped, node_at};
 ghost use Rattle.lab_model.specs.Uses.{iface_at};
-ghost use Rattle.top_text.specs.Canonical.{virt_name};
 ghost use Rattle.top_text.specs.Printable.{are_named};
 ghost use Rattle.top_text.specs.Solutions.{mapping_of_text};
-ghost use Rattle.top_text.specs.CanonicalSolution.{end_keys, place_fields, iface_field, plug_fields, canonical_solution};
+ghost use Rattle.top_text.specs.CanonicalSolution.{end_keys, end_name, place_fields, iface_field, plug_fields, canonical_solution};
 
 use crate::ends::end_keys;
-use crate::print::{push_word, virt_name};
+use crate::print::virt_name;
 use lab_base::{IfaceId, Memory, Name, NodeId, Text};
 use line_text::push_field;
 use phys_lab::Lab;
@@ -60,11 +59,10 @@ fn push_places(
     Ok(())
 }
 
-/// A space and an end.
 fn push_end(text: &mut Text, wiring: &Wiring, key: (usize, usize)) -> Result<(), Memory>
-    ensures { OnOk result (text.new ≡ text.old ++ 32 ∷ with_number (virt_name wiring.now key.0, key.1)) }
+    ensures { OnOk result (text.new ≡ text.old ++ end_name wiring.now key) }
 {
-    push_word(text, virt_name(wiring, key.0))?;
+    text.push_bytes(virt_name(wiring, key.0))?;
     text.push(b':')?;
     text.push_number(key.1 as u64)
 }
@@ -90,7 +88,7 @@ fn push_plug(
     requires { plug.0 < length lab.now.ifaces }
     ensures { OnOk result (text.new ≡ text.old ++ line_text (plug_fields lab.now wiring.now (key, plug))) }
 {
-    text.push_bytes(b"plug")?;
+    text.push_bytes(b"plug ")?;
     push_end(text, wiring, key)?;
     push_iface(text, lab, plug)?;
     text.push(b'\n')
@@ -149,5 +147,26 @@ pub fn print_solution(
     let _kept = lab.range();
     let mut text = Text::new(alloc);
     push_mapping(&mut text, alloc, lab, wiring, mapping)?;
+    Ok(text)
+}
+
+/// The key of the end of that number.
+fn key_at(keys: &[(usize, usize)], end: u16) -> (usize, usize)
+    ensures { result ≡ slice_index_or keys.now end (0, 0) }
+{
+    match keys.get(end as usize) {
+        Some(key) => *key,
+        None => (0, 0),
+    }
+}
+
+/// The name of an end, `V:K`: its virtual node, and its number among the ends of that one. `end` is its number among all
+/// ends.
+pub fn print_end(alloc: Global, wiring: &Wiring, end: u16) -> Result<Text, Memory>
+    ensures { IfOk result (λ text. text ≡ end_name wiring.now (slice_index_or (end_keys [] (end_nodes wiring.now.segments)) end (0, 0))) }
+{
+    let keys = end_keys(alloc, wiring.segments.as_slice())?;
+    let mut text = Text::new(alloc);
+    push_end(&mut text, wiring, key_at(keys.as_slice(), end))?;
     Ok(text)
 }

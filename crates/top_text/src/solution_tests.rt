@@ -1,6 +1,6 @@
 ghost use Rattle.std.specs.Prelude.{◌<◌};
 
-use crate::{print_solution, read_solution, read_top};
+use crate::{print_end, print_solution, read_solution, read_top};
 use lab_base::{Items, Kind, Name, NodeId, SwitchId, TextFault, TextRefused};
 use phys_lab::{Iface, Lab, LabBuilder, Node};
 use std::alloc::Global;
@@ -8,6 +8,9 @@ use std::test::Fail;
 use virt_topo::Wiring;
 
 const TOP: &[u8] = b"node a pc linux\nnode b pc linux\nlink ab ab 100000 a b\n";
+
+const SHARED: &[u8] =
+    b"node a pc linux\nnode b pc linux\nlink ab ab 100000 a b\nlink ba ba 100000 b a\n";
 
 const ON: &[u8] = b"node a pc1 pc\nnode b pc2 pc\nplug a:0 pc1:eth0\nplug b:0 pc2:eth0\n";
 
@@ -109,6 +112,17 @@ fn a_mapping_has_one_canonical_text(rt: HostRuntime) -> Result<(), Fail> {
     let wiring = wiring(alloc, TOP)?;
     assert!(rt; prints(alloc, &lab, &wiring, ON, ON)?);
     assert!(rt; prints(alloc, &lab, &wiring, MIXED, ON)?);
+    Ok(())
+}
+
+#[test]
+fn an_end_is_named_by_its_virtual_node(rt: HostRuntime) -> Result<(), Fail> {
+    let alloc = rt.alloc();
+    let wiring = wiring(alloc, SHARED)?;
+    let cases = [(0, b"a:0"), (1, b"b:0"), (2, b"b:1"), (3, b"a:1")];
+    for (end, name) in cases {
+        assert_eq!(rt; print_end(alloc, &wiring, end)?.bytes(), name.as_slice());
+    }
     Ok(())
 }
 
