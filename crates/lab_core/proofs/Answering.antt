@@ -1,18 +1,18 @@
 -- What calls leave that add nothing to the journal, and those that append a record.
-use Rattle.std.proofs.Common.{◌≡◌, ◌↔◌, ◌≤◌, ◌⊎◌, inl, inr, ℕ, Bool, true, false, List, [], ◌∷◌, ◌++◌, Option, Some, None, IfSome, IfOk, IsErrOf, IsTrue, Result, Ok, Err, refl, sym, ap, ◌∙◌, subst, arith}
+use Rattle.std.proofs.Common.{◌≡◌, ◌↔◌, inl, inr, Bool, true, false, List, [], Option, Some, None, IfSome, IfOk, IsErrOf, IsTrue, Result, Ok, Err, refl, sym, ap, ◌∙◌, subst, arith}
 use Rattle.std.proofs.lemmas.List.{append-nil}
 use Rattle.plant.specs.Events.{Event}
 use Rattle.plant.specs.Told.{Told, with_steps}
 use Rattle.plant.specs.declared.moment.Faults.{Faults}
 use Rattle.journal_rec.specs.declared.record.Record.{Record}
 use Rattle.journal_disk.specs.Standing.{IsAt}
-use Rattle.script_text.specs.Replies.{closes}
+use Rattle.script_text.specs.Replies.{blames_device, closes}
 use Rattle.script_text.specs.declared.reply.Reply.{Reply}
 use Rattle.lab_core.specs.declared.fault.CoreFault.{CoreFault}
 use Rattle.lab_core.specs.declared.fault.CoreFault.TheVariants as faults
 use Rattle.lab_core.specs.LabSteps.{IsDoneBy, refused, does}
 use Rattle.lab_core.specs.Moments.{Seen, Stands, Works}
-use Rattle.lab_core.specs.Obeying.{ended, Answers, ObeyEnds, ObeyTold, Obeyed, IsTold}
+use Rattle.lab_core.specs.Obeying.{ended, Answers, ObeyEnds, Obeyed, IsTold}
 use Rattle.lab_core.specs.Sessions.{Open}
 use Rattle.lab_core.specs.Steps.{Task, Tell, Is}
 
@@ -32,14 +32,15 @@ goes_on : (is_stopped : Bool) (reply : Reply) → is_stopped ≡ false → IsErr
 goes_on is_stopped reply no' = (λ h. cc h, λ h. absurd (false_true (sym no' ∙ h)))
 
 -- a reply that changes nothing
-pub replied : (told : Option Told) (count : Faults) (is_stopped takes : Bool) (IsJudged : Result Task Reply → Type 0) (c : Seen) (reply : Reply) → IfSome told (λ t. Stands t.trace c) → closes reply ≡ false
+pub replied : (told : Option Told) (count : Faults) (is_stopped takes : Bool) (IsJudged : Result Task Reply → Type 0) (c : Seen) (reply : Reply) → IfSome told (λ t. Stands t.trace c) → closes reply ≡ false → blames_device reply ≡ false
     → IsDoneBy IsJudged c.lab [] (ended reply c.lab Open) → Stays told count is_stopped takes IsJudged c (Ok reply)
-replied told count is_stopped takes IsJudged c reply stands goes done = record {
+replied told count is_stopped takes IsJudged c reply stands goes blameless done = record {
   obeys = ([], no_steps told, by told);
   stands = λ _. stands;
   down = λ closing. let both : true ≡ false = sym closing ∙ goes in absurd (cc both);
+  device = λ blaming. let both : true ≡ false = sym blaming ∙ blameless in absurd (cc both);
   later = omega arith;
-  devices = refl;
+  devices = omega arith;
   stopped = goes_on is_stopped reply;
   drills = refl;
 }
@@ -57,8 +58,9 @@ wanted told count is_stopped takes IsJudged c = record {
   obeys = ([], no_steps told, by told);
   stands = tt;
   down = tt;
+  device = tt;
   later = omega arith;
-  devices = refl;
+  devices = omega arith;
   stopped = λ no'. (λ h. cc h, λ h. absurd (false_true (sym no' ∙ h)));
   drills = refl;
 }
@@ -68,17 +70,17 @@ wanted told count is_stopped takes IsJudged c = record {
     by (Some t) = λ works. (refl, refl, refl)
 
 -- a refusal
-pub refuses : (told : Option Told) (count : Faults) (is_stopped takes : Bool) (judgement : Result Task Reply) (c : Seen) (reply : Reply) → IfSome told (λ t. Stands t.trace c) → closes reply ≡ false → judgement ≡ Err reply
+pub refuses : (told : Option Told) (count : Faults) (is_stopped takes : Bool) (judgement : Result Task Reply) (c : Seen) (reply : Reply) → IfSome told (λ t. Stands t.trace c) → closes reply ≡ false → blames_device reply ≡ false → judgement ≡ Err reply
     → Stays told count is_stopped takes (Is judgement) c (Ok reply)
-refuses told count is_stopped takes judgement c reply stands goes is =
-    replied told count is_stopped takes (Is judgement) c reply stands goes (refused reply (sym is) (record { nothing = refl; after_is = refl }))
+refuses told count is_stopped takes judgement c reply stands goes blameless is =
+    replied told count is_stopped takes (Is judgement) c reply stands goes blameless (refused reply (sym is) (record { nothing = refl; after_is = refl }))
 
 -- an answer that only tells something
 pub tells : (told : Option Told) (count : Faults) (is_stopped takes : Bool) (judgement : Result Task Reply) (c : Seen) (result : Result Reply CoreFault) → IfSome told (λ t. Stands t.trace c)
     → IfOk result (λ reply. IsTold judgement reply) → (result ≡ Err faults.Stopped → ⊥) → Stays told count is_stopped takes (Is judgement) c result
-tells told count is_stopped takes judgement c (Ok reply) stands (inl is, goes) memory = refuses told count is_stopped takes judgement c reply stands goes is
-tells told count is_stopped takes judgement c (Ok reply) stands (inr is, goes) memory =
-    replied told count is_stopped takes (Is judgement) c reply stands goes (does (Tell reply) (sym is) (record { nothing = refl; after_is = refl }))
+tells told count is_stopped takes judgement c (Ok reply) stands (inl is, goes, blameless) memory = refuses told count is_stopped takes judgement c reply stands goes blameless is
+tells told count is_stopped takes judgement c (Ok reply) stands (inr is, goes, blameless) memory =
+    replied told count is_stopped takes (Is judgement) c reply stands goes blameless (does (Tell reply) (sym is) (record { nothing = refl; after_is = refl }))
 tells told count is_stopped takes judgement c (Err faults.Stopped) stands told_is memory = absurd (memory refl)
 tells told count is_stopped takes judgement c (Err faults.Memory) stands told_is memory = wanted told count is_stopped takes (Is judgement) c
 

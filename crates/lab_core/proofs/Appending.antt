@@ -1,9 +1,8 @@
 -- What an append of the controller leaves, however it ended.
-use Rattle.std.proofs.Common.{◌≡◌, ◌≤◌, ◌+◌, ◌^◌, ◌⊎◌, inl, inr, ℕ, Bool, true, false, nat_le, if◌then◌else◌, List, [], ◌∷◌, ◌++◌, Option, Some, None, Result, Ok, Err, refl, sym, ap, ◌∙◌, subst, append_assoc, arith}
+use Rattle.std.proofs.Common.{◌≡◌, ◌≤◌, ◌+◌, ◌^◌, ◌⊎◌, inl, inr, ℕ, true, false, nat_le, List, [], ◌∷◌, ◌++◌, Some, Result, Ok, Err, refl, sym, ap, ◌∙◌, subst, append_assoc, arith}
 use Rattle.std.proofs.lemmas.Bool.{leb-true}
 use Rattle.std.proofs.lemmas.List.{append-nil}
-use Rattle.plant.specs.Disks.{ArePossible}
-use Rattle.plant.specs.Events.{Event, Missed, Restarted}
+use Rattle.plant.specs.Events.{Event, Restarted}
 use Rattle.plant.specs.Worlds.{World, world_of}
 use Rattle.journal_rec.specs.Payloads.{IsRecord}
 use Rattle.journal_rec.specs.declared.record.Record.{Record}
@@ -25,7 +24,7 @@ use Rattle.script_text.specs.declared.reply.Reply.{Reply}
 use Rattle.script_text.specs.declared.reply.Reply.TheVariants as replies
 use Rattle.lab_core.specs.declared.fault.CoreFault.TheVariants as faults
 use Rattle.lab_core.specs.LabSteps.{Behind, missed, restarted, AppendEnds, whole, broken, Appends, IsDoneBy, does}
-use Rattle.lab_core.specs.Moments.{Seen, Stands, Works, StandForLab}
+use Rattle.lab_core.specs.Moments.{Seen, Works}
 use Rattle.lab_core.specs.Obeying.{setting_of, ended, Leaves, Answers, ObeyEnds}
 use Rattle.lab_core.specs.Pieces.{Breaks, stopped, failed}
 use Rattle.lab_core.specs.Sessions.{Open, Closed, After}

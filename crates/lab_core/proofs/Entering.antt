@@ -1,11 +1,9 @@
 -- What a call leaves that appends a record.
-use Rattle.std.proofs.Common.{◌≡◌, ◌↔◌, ◌≤◌, ◌+◌, ◌^◌, inl, inr, ℕ, Bool, true, false, nat_le, List, [], ◌∷◌, ◌++◌, length, Option, Some, None, IfSome, IsErrOf, IsTrue, Result, Ok, Err, refl, sym, ap, ◌∙◌, subst, arith}
-use Rattle.std.proofs.lemmas.Bool.{leb-true}
+use Rattle.std.proofs.Common.{◌≡◌, ◌≤◌, ◌+◌, ◌^◌, ℕ, Bool, true, false, nat_le, List, [], ◌∷◌, ◌++◌, length, Option, Some, None, IfSome, Result, Ok, Err, refl, sym, ap, ◌∙◌, subst, arith}
 use Rattle.plant.specs.Events.{Event}
 use Rattle.plant.specs.Told.{Told, with_steps}
-use Rattle.plant.specs.Worlds.{World}
 use Rattle.plant.specs.declared.moment.Faults.{Faults}
-use Rattle.journal_rec.specs.Payloads.{IsRecord, IsBody, IsShort, AreTags, IsWay, tags_of_way, tags_of, HasFields}
+use Rattle.journal_rec.specs.Payloads.{IsRecord, IsBody, IsShort, IsWay, tags_of_way, tags_of, HasFields}
 use Rattle.journal_rec.specs.declared.record.Way.{Way}
 use Rattle.journal_rec.specs.declared.record.Way.TheVariants.{In as WayIn, Out as WayOut, Change as WayChange}
 use Rattle.journal_rec.specs.declared.record.Record.{Record}
@@ -19,18 +17,18 @@ use Rattle.journal_disk.specs.declared.fault.AppendFault.{AppendFault}
 use Rattle.journal_disk.specs.declared.fault.AppendFault.TheVariants as appending_faults
 use Rattle.journal_disk.specs.declared.journal.Journal.{Journal}
 use Rattle.lab_state.specs.Texts.{the_texts}
-use Rattle.script_text.specs.Replies.{closes}
+use Rattle.lab_state.proofs.Canonical.{texts_once}
+use Rattle.script_text.specs.Replies.{blames_device, closes}
 use Rattle.script_text.specs.declared.reply.Reply.{Reply}
 use Rattle.script_text.specs.declared.reply.Reply.TheVariants as replies
 use Rattle.lab_core.specs.declared.fault.CoreFault.{CoreFault}
 use Rattle.lab_core.specs.declared.fault.CoreFault.TheVariants as faults
 use Rattle.lab_core.specs.Appended.{Appended}
 use Rattle.lab_core.specs.Moments.{Seen, Stands, Works}
-use Rattle.lab_core.specs.Obeying.{setting_of, ObeyEnds, ObeyTold, Obeyed, MayFollow}
+use Rattle.lab_core.specs.Obeying.{setting_of, ObeyEnds, Obeyed, MayFollow}
 use Rattle.lab_core.specs.Steps.{Task, Is, appending}
 use Rattle.lab_core.proofs.Answering.{Stays, refuses, judged_as}
 use Rattle.lab_core.proofs.Appending.{Appending, done, down, stops}
-use Rattle.lab_core.proofs.Canonical.{canonical_texts}
 
 -- a record is short enough to be written
 few_tags : (way : Way) → IsWay way → length (tags_of_way way) ≤ 65535
@@ -53,7 +51,7 @@ is_short r is = record { tags = omega (arith, few_in r is.fields); size = is.siz
 pub no_space : (told : Option Told) (count : Faults) (is_stopped takes : Bool) (c : Seen) (entry : Record) (move : Move) (reply : Reply) → IfSome told (λ t. Stands t.trace c) → nat_le (length_of c.journal + size entry + 10240) (limit_of c.journal) ≡ false
     → Stays told count is_stopped takes (Is (appending (setting_of c) entry move reply)) c (Ok (replies.FullJournal (length_of c.journal)))
 no_space told count is_stopped takes c entry move reply stands full =
-    refuses told count is_stopped takes (appending (setting_of c) entry move reply) c (replies.FullJournal (length_of c.journal)) stands refl (rw full refl)
+    refuses told count is_stopped takes (appending (setting_of c) entry move reply) c (replies.FullJournal (length_of c.journal)) stands refl refl (rw full refl)
 
 pub full_as : (told : Option Told) (count : Faults) (is_stopped takes : Bool) (lab : LabState) (journal : Journal) (now : Seen) (view : ◌≡◌ {A = Seen} (record { lab = lab; journal = journal }) now) (entry : Record) (move : Move) (reply : Reply) (bytes : List ℕ) (long : ℕ)
     → IfSome told (λ t. Stands t.trace now) → length bytes ≡ size entry → nat_le (length_of now.journal + length bytes + 10240) (limit_of now.journal) ≡ false → long ≡ length_of journal
@@ -67,8 +65,8 @@ full_as told count is_stopped takes lab journal now view entry move reply bytes 
 pub appending_of : (old : Seen) (entry : Record) (move : Move) (state : LabState) → IsRecord entry → Says the_texts old.lab entry move → Follows the_texts old.lab entry state → MayFollow old.lab entry
     → nat_le (length_of old.journal + size entry + 10240) (limit_of old.journal) ≡ true → limit_of old.journal ≤ 2 ^ 32 → Appending old entry move state
 appending_of old entry move state is says follows may space most =
-    let one : move ≡ follows.move = says_once the_texts old.lab entry move follows.move canonical_texts says follows.says in
-    let two : may.move ≡ move = says_once the_texts old.lab entry may.move move canonical_texts may.says says in
+    let one : move ≡ follows.move = says_once the_texts old.lab entry move follows.move texts_once says follows.says in
+    let two : may.move ≡ move = says_once the_texts old.lab entry may.move move texts_once may.says says in
     record {
       is_record = is;
       says = says;
@@ -86,7 +84,7 @@ in_seen : (told_then : Option Told) (t : Told) (own : List Event) (P : Told → 
 in_seen told_then t own P is h = subst (λ (o : Option Told). IfSome o P) (sym is) h
 
 module _ (told told_then : Option Told) (count count_then : Faults) (is_stopped is_stopped_then takes takes_then : Bool) (old new : Seen) (entry : Record) (move : Move) (state : LabState) (reply : Reply) (bytes : List ℕ) (a : Appending old entry move state)
-    (stands : IfSome told (λ t. Stands t.trace old)) (goes : closes reply ≡ false) (body : IsBody bytes entry) where
+    (stands : IfSome told (λ t. Stands t.trace old)) (goes : closes reply ≡ false) (blameless : blames_device reply ≡ false) (body : IsBody bytes entry) where
   abbrev Left : Result Reply CoreFault → Type 0
   Left result = Obeyed told told_then count count_then is_stopped is_stopped_then takes takes_then (Is (appending (setting_of old) entry move reply)) old new result
 
@@ -117,8 +115,9 @@ module _ (told told_then : Option Told) (count count_then : Faults) (is_stopped 
         obeys = (own, app.trace, ends told app at);
         stands = λ _. stands_then told own app.trace lab at stands;
         down = λ closing. let both : true ≡ false = sym closing ∙ goes in absurd (cc both);
+        device = λ blaming. let both : true ≡ false = sym blaming ∙ blameless in absurd (cc both);
         later = was.later;
-        devices = was.devices;
+        devices = omega (arith, was.devices);
         stopped = λ _. (λ h. cc h, λ h. let no' : Ok tt' ≡ Err appending_faults.Stopped = was.stopped.1 h in cc no');
         drills = was.drills;
       }
@@ -136,8 +135,9 @@ module _ (told told_then : Option Told) (count count_then : Faults) (is_stopped 
         obeys = (added (side_of old.journal) (gate_of old.journal) entry app.run ++ app.more, app.trace, ends told app);
         stands = λ going. let both : true ≡ false = going in absurd (cc both);
         down = λ _. was.missed refl;
+        device = λ blaming. let both : false ≡ true = blaming in absurd (cc both);
         later = was.later;
-        devices = was.devices;
+        devices = omega (arith, was.devices);
         stopped = λ _. (λ h. cc h, λ h. let no' : Err appending_faults.Plant ≡ Err appending_faults.Stopped = was.stopped.1 h in cc no');
         drills = was.drills;
       }
@@ -154,8 +154,9 @@ module _ (told told_then : Option Told) (count count_then : Faults) (is_stopped 
         obeys = (added (side_of old.journal) (gate_of old.journal) entry app.run ++ app.more, app.trace, ends told app);
         stands = tt;
         down = tt;
+        device = tt;
         later = was.later;
-        devices = was.devices;
+        devices = omega (arith, was.devices);
         stopped = λ _. (λ h. was.stopped.0 refl, λ h. refl);
         drills = was.drills;
       }
@@ -174,7 +175,7 @@ module _ (told told_then : Option Told) (count count_then : Faults) (is_stopped 
 -- THE SAME where the controller's parts are known
 module _ (told told_then : Option Told) (count count_then : Faults) (is_stopped is_stopped_then takes takes_then : Bool) (lab : LabState) (journal : Journal) (now new : Seen) (view : ◌≡◌ {A = Seen} (record { lab = lab; journal = journal }) now) (entry : Record) (move : Move)
     (state : LabState) (reply : Reply) (bytes : List ℕ) (is : IsRecord entry) (says : Says the_texts now.lab entry move) (follows : Follows the_texts lab entry state) (may : MayFollow now.lab entry) (size_is : length bytes ≡ size entry)
-    (space : nat_le (length_of now.journal + length bytes + 10240) (limit_of now.journal) ≡ true) (most : limit_of now.journal ≤ 2 ^ 32) (stands : IfSome told (λ t. Stands t.trace now)) (goes : closes reply ≡ false) (body : IsBody bytes entry) where
+    (space : nat_le (length_of now.journal + length bytes + 10240) (limit_of now.journal) ≡ true) (most : limit_of now.journal ≤ 2 ^ 32) (stands : IfSome told (λ t. Stands t.trace now)) (goes : closes reply ≡ false) (blameless : blames_device reply ≡ false) (body : IsBody bytes entry) where
   following : Appending now entry move state
   following =
       appending_of now entry move state is says (subst (λ (n : Seen). Follows the_texts n.lab entry state) view follows) may
@@ -190,14 +191,14 @@ module _ (told told_then : Option Told) (count count_then : Faults) (is_stopped 
   Leaves result = Obeyed told told_then count count_then is_stopped is_stopped_then takes takes_then (Is (appending (setting_of now) entry move reply)) now new result
 
   pub entered : (tt' : Unit {0}) → Then journal (Ok tt') → new.lab ≡ state → Leaves (Ok reply)
-  entered tt' was after = done_left told told_then count count_then is_stopped is_stopped_then takes takes_then now new entry move state reply bytes following stands goes body tt' (seen_so (Ok tt') was) after
+  entered tt' was after = done_left told told_then count count_then is_stopped is_stopped_then takes takes_then now new entry move state reply bytes following stands goes blameless body tt' (seen_so (Ok tt') was) after
 
   pub missed : (fault : AppendFault) → Then journal (Err fault) → (fault ≡ appending_faults.Stopped → ⊥) → Leaves (Ok replies.Down)
-  missed fault was other = fault_left told told_then count count_then is_stopped is_stopped_then takes takes_then now new entry move state reply bytes following stands goes body fault (seen_so (Err fault) was) other
+  missed fault was other = fault_left told told_then count count_then is_stopped is_stopped_then takes takes_then now new entry move state reply bytes following stands goes blameless body fault (seen_so (Err fault) was) other
 
   pub stopped : (fault : AppendFault) → Then journal (Err fault) → fault ≡ appending_faults.Stopped → Leaves (Err faults.Stopped)
   stopped fault was same =
-      stop_left told told_then count count_then is_stopped is_stopped_then takes takes_then now new entry move state reply bytes following stands goes body (subst (λ (f : AppendFault). Then now.journal (Err f)) same (seen_so (Err fault) was))
+      stop_left told told_then count count_then is_stopped is_stopped_then takes takes_then now new entry move state reply bytes following stands goes blameless body (subst (λ (f : AppendFault). Then now.journal (Err f)) same (seen_so (Err fault) was))
 
 -- and where what is judged is this append
 pub appended_as : (told told_then : Option Told) (count count_then : Faults) (is_stopped is_stopped_then takes takes_then : Bool) (old new : Seen) (result : Result Reply CoreFault) (entry other : Record) (move : Move) (reply reply_is : Reply) (judgement : Result Task Reply) → entry ≡ other → reply ≡ reply_is

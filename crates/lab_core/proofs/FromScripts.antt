@@ -13,7 +13,7 @@ use Rattle.lab_base.specs.Texts.{fields_of, is_skipped}
 use Rattle.lab_base.proofs.Members.{Has-left}
 use Rattle.lab_io.specs.Lines.{line_of, lines_between, lines_from}
 use Rattle.lab_io.specs.Passed.{Stand, Passed}
-use Rattle.script_text.specs.Heads.{counted, named, bare_head, short_head, long_head, head_of, begins}
+use Rattle.script_text.specs.Heads.{counted, named, nth_of, how_of, bare_head, short_head, long_head, drill_head, head_of, begins}
 use Rattle.script_text.specs.Commands.{Lines, Block, Whole, Short, block, Found, Got, with_block, found_by, next_of}
 use Rattle.script_text.specs.Taking.{known, joined, Reads}
 use Rattle.script_text.specs.declared.command.Command.{Command}
@@ -137,19 +137,68 @@ module _ (number : ℕ) (lines : Lines) (onwards : Found) (command : Command) (a
         | inl none ↦ absurd (let g = rw (no', other, delete, none) at h in cc g)
         | inr some ↦ let g = rw (no', other, delete, some.1) at h in subst HasBlocks (got_command g) tt
       ]
-      | inr none ↦ absurd (let g = rw (no', other, none) at h in cc g)
+      | inr none ↦ elim (cases_Bool (bytes_eq word (codes "swapout"))) [
+        | inl out ↦ elim (option_cases (named field)) [
+          | inl bad ↦ absurd (let g = rw (no', other, none, out, bad) at h in cc g)
+          | inr some ↦ let g = rw (no', other, none, out, some.1) at h in subst HasBlocks (got_command g) tt
+        ]
+        | inr last ↦ absurd (let g = rw (no', other, none, last) at h in cc g)
+      ]
     ]
   ]
 
+  swapin : (word first second : List ℕ) → bytes_eq word (codes "create") ≡ false → bytes_eq word (codes "create-top") ≡ false → Gets (found_by (begins (long_head word first second)) number lines onwards) → HasBlocks command
+  swapin word first second no' other h = elim (cases_Bool (bytes_eq word (codes "swapin-with"))) [
+    | inl yes' ↦ elim (option_cases (named first)) [
+      | inl none ↦ absurd (let g = rw (no', other, yes', none) at h in cc g)
+      | inr name ↦ elim (option_cases (counted second)) [
+        | inl none ↦ absurd (let g = rw (no', other, yes', name.1, none) at h in cc g)
+        | inr some ↦
+            let g = rw (no', other, yes', name.1, some.1) at h in
+            block_of lines some.0 number (λ text. commands.SwapinWith name.0 some.0 text) command after rest short (count_small second some.0 some.1) (λ text b. b) g
+      ]
+    ]
+    | inr last ↦ absurd (let g = rw (no', other, last) at h in cc g)
+  ]
+
+  create_top : (word first second : List ℕ) → bytes_eq word (codes "create") ≡ false → Gets (found_by (begins (long_head word first second)) number lines onwards) → HasBlocks command
+  create_top word first second no' h = elim (cases_Bool (bytes_eq word (codes "create-top"))) [
+    | inl yes' ↦ elim (option_cases (named first)) [
+      | inl none ↦ absurd (let g = rw (no', yes', none) at h in cc g)
+      | inr name ↦ elim (option_cases (counted second)) [
+        | inl none ↦ absurd (let g = rw (no', yes', name.1, none) at h in cc g)
+        | inr some ↦
+            let g = rw (no', yes', name.1, some.1) at h in
+            block_of lines some.0 number (λ text. commands.CreateTop name.0 some.0 text) command after rest short (count_small second some.0 some.1) (λ text b. b) g
+      ]
+    ]
+    | inr other ↦ swapin word first second no' other h
+  ]
+
   create : (word first second : List ℕ) → Gets (found_by (begins (long_head word first second)) number lines onwards) → HasBlocks command
-  create word first second h = elim (cases_Bool (bytes_eq word (codes "create-top"))) [
+  create word first second h = elim (cases_Bool (bytes_eq word (codes "create"))) [
     | inl yes' ↦ elim (option_cases (named first)) [
       | inl none ↦ absurd (let g = rw (yes', none) at h in cc g)
       | inr name ↦ elim (option_cases (counted second)) [
         | inl none ↦ absurd (let g = rw (yes', name.1, none) at h in cc g)
         | inr some ↦
             let g = rw (yes', name.1, some.1) at h in
-            block_of lines some.0 number (λ text. commands.CreateTop name.0 some.0 text) command after rest short (count_small second some.0 some.1) (λ text b. b) g
+            block_of lines some.0 number (λ text. commands.Create name.0 some.0 text) command after rest short (count_small second some.0 some.1) (λ text b. b) g
+      ]
+    ]
+    | inr no' ↦ create_top word first second no' h
+  ]
+
+  drill : (word first second third : List ℕ) → Gets (found_by (begins (drill_head word first second third)) number lines onwards) → HasBlocks command
+  drill word first second third h = elim (cases_Bool (bytes_eq word (codes "fail"))) [
+    | inl yes' ↦ elim (option_cases (named first)) [
+      | inl none ↦ absurd (let g = rw (yes', none) at h in cc g)
+      | inr name ↦ elim (option_cases (nth_of second)) [
+        | inl none ↦ absurd (let g = rw (yes', name.1, none) at h in cc g)
+        | inr some ↦ elim (option_cases (how_of third)) [
+          | inl none ↦ absurd (let g = rw (yes', name.1, some.1, none) at h in cc g)
+          | inr how ↦ let g = rw (yes', name.1, some.1, how.1) at h in subst HasBlocks (got_command g) tt
+        ]
       ]
     ]
     | inr no' ↦ absurd (let g = rw no' at h in cc g)
@@ -160,7 +209,8 @@ module _ (number : ℕ) (lines : Lines) (onwards : Found) (command : Command) (a
   begun (word ∷ []) h = bare word h
   begun (word ∷ field ∷ []) h = elim (cases_Bool (bytes_eq word (codes "ptop"))) [ inl yes' ↦ ptop field word yes' h | inr no' ↦ one_name word field no' h ]
   begun (word ∷ first ∷ second ∷ []) h = create word first second h
-  begun (word ∷ first ∷ second ∷ third ∷ fields) h = absurd (cc h)
+  begun (word ∷ first ∷ second ∷ third ∷ []) h = drill word first second third h
+  begun (word ∷ first ∷ second ∷ third ∷ more ∷ fields) h = absurd (cc h)
 
 next_blocks : (number : ℕ) (lines : Lines) (command : Command) (after : ℕ) (rest : Lines) → AreShort lines → next_of number lines ≡ Got command after rest → HasBlocks command
 next_blocks number [] command after rest short h = absurd (cc h)

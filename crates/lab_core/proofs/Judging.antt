@@ -1,5 +1,5 @@
 -- The first refusal of a command, or its task, by what is there; and the records that can follow.
-use Rattle.std.proofs.Common.{◌≡◌, ◌≤◌, ◌<◌, ◌+◌, ◌^◌, ℕ, Bool, true, false, not, is_some, is_none, nat_le, List, [], ◌∷◌, ◌++◌, length, Option, Some, None, Result, Ok, Err, refl, sym, ap, ◌∙◌, subst, arith}
+use Rattle.std.proofs.Common.{◌≡◌, ℕ, Bool, true, false, not, is_some, nat_le, List, [], ◌∷◌, ◌++◌, length, Option, Some, None, Ok, Err, refl, sym, ap, ◌∙◌}
 use Rattle.std.specs.Prelude.{option_copied}
 use Rattle.std.specs.Borrow.{Bor}
 use Rattle.lab_base.specs.declared.fault.TextFault.{TextFault}
@@ -9,22 +9,21 @@ use Rattle.virt_topo.specs.declared.wiring.Wiring.{Wiring}
 use Rattle.virt_topo.specs.declared.mapping.Mapping.{Mapping}
 use Rattle.virt_topo.specs.declared.mapping.Mapped.{Mapped}
 use Rattle.virt_topo.specs.declared.experiment.Experiment.{Experiment}
-use Rattle.virt_topo.specs.declared.experiment.Phase.{Phase}
 use Rattle.virt_topo.specs.declared.experiment.Phase.TheVariants.{Out, In, Moving}
 use Rattle.virt_topo.specs.Soundness.{IsSound}
 use Rattle.lab_base.specs.declared.ids.VlanId.{VlanId}
-use Rattle.journal_rec.specs.declared.record.Record.TheVariants.{Lab as LabRecord, Create, Delete}
-use Rattle.records_model.specs.Labs.{LabState, SetLab, Creates, Deletes, find, others, moved, in_state}
+use Rattle.journal_rec.specs.declared.record.Record.TheVariants.{Lab as LabRecord, Create, Delete, Begin}
+use Rattle.journal_rec.specs.declared.record.Way.TheVariants.{Out as WayOut}
+use Rattle.records_model.specs.Labs.{LabState, SetLab, Creates, Deletes, BeginsOut, find, others, replace, in_phase, mapped}
 use Rattle.ptop_text.specs.Adding.{lab_of_text}
 use Rattle.ptop_text.specs.Canonical.{canonical}
 use Rattle.top_text.specs.Adding.{wiring_of_text}
 use Rattle.top_text.specs.Canonical.{canonical_top}
 use Rattle.top_text.specs.Printable.{is_printable}
-use Rattle.script_text.specs.declared.reply.Reply.{Reply}
-use Rattle.script_text.specs.declared.reply.Reply.TheVariants.{NoLab, LabIsSet, Exists, Unknown, IsIn, IsMoving, Bad, BadPtop, FullExperiments, Deleted}
+use Rattle.script_text.specs.declared.reply.Reply.TheVariants.{NoLab, LabIsSet, Exists, Unknown, IsIn, IsOut, IsMoving, Bad, BadPtop, FullExperiments, Deleted}
 use Rattle.lab_core.specs.Obeying.{MayFollow}
 use Rattle.lab_core.specs.Sessions.{Setting}
-use Rattle.lab_core.specs.Steps.{Task, Tell, appending, judged_ptop, judged_create, judged_wiring, judged_show, judged_delete, judged_status, lab_reply, created_reply, shown_reply, status_reply}
+use Rattle.lab_core.specs.Steps.{Tell, appending, judged_ptop, judged_create, judged_wiring, judged_show, judged_delete, judged_swapout, beginning, judged_status, lab_reply, created_reply, shown_reply, status_reply}
 
 pub there : {X : Type 0} (o : Option X) → is_some o ≡ true → (x : X) × (o ≡ Some x)
 there None h = absurd (cc h)
@@ -84,6 +83,23 @@ module _ (set : Setting) (s : LabState) where
   pub delete_out : (exp : List ℕ) (e : Experiment) → is_some s.lab ≡ true → find exp s.experiments ≡ Some e → e.phase ≡ Out → judged_delete set s exp ≡ appending set (Delete exp) (Deletes exp) (Deleted exp)
   delete_out exp e h found is = let x = there s.lab h in rw (x.1, found, is) refl
 
+  -- `swapout`
+  pub out_none : (exp : List ℕ) → s.lab ≡ None → judged_swapout set s exp ≡ Err NoLab
+  out_none exp none = rw none refl
+
+  pub out_unknown : (exp : List ℕ) (lab : Lab) → s.lab ≡ Some lab → find exp s.experiments ≡ None → judged_swapout set s exp ≡ Err (Unknown exp)
+  out_unknown exp lab is none = rw (is, none) refl
+
+  pub out_out : (exp : List ℕ) (lab : Lab) (e : Experiment) → s.lab ≡ Some lab → find exp s.experiments ≡ Some e → e.phase ≡ Out → judged_swapout set s exp ≡ Err (IsOut exp)
+  out_out exp lab e is found out = rw (is, found, out) refl
+
+  pub out_moving : (exp : List ℕ) (lab : Lab) (e : Experiment) (old new : Option Mapped) → s.lab ≡ Some lab → find exp s.experiments ≡ Some e → e.phase ≡ Moving old new → judged_swapout set s exp ≡ Err (IsMoving exp)
+  out_moving exp lab e old new is found moving = rw (is, found, moving) refl
+
+  pub out_begins : (exp : List ℕ) (lab : Lab) (e : Experiment) (mapping : Mapping) (tags : List VlanId) → s.lab ≡ Some lab → find exp s.experiments ≡ Some e → e.phase ≡ In mapping tags
+      → judged_swapout set s exp ≡ beginning set exp (Begin exp WayOut) (BeginsOut exp)
+  out_begins exp lab e mapping tags is found inside = rw (is, found, inside) refl
+
 module _ (s : LabState) where
   -- `show`
   pub show_none : (exp : List ℕ) → s.lab ≡ None → judged_show s exp ≡ Err NoLab
@@ -125,6 +141,16 @@ module _ (s : LabState) where
 
   pub delete_follows : (exp : List ℕ) (e : Experiment) → is_some s.lab ≡ true → find exp s.experiments ≡ Some e → e.phase ≡ Out → MayFollow s (Delete exp)
   delete_follows exp e h found is = let x = there s.lab h in gone exp e x.0 x.1 found is
+
+  -- a swap-out
+  pub out_follows : (exp : List ℕ) (lab : Lab) (e : Experiment) (mapping : Mapping) (tags : List VlanId) → s.lab ≡ Some lab → find exp s.experiments ≡ Some e → e.phase ≡ In mapping tags → MayFollow s (Begin exp WayOut)
+  out_follows exp lab e mapping tags is found inside = record {
+    move = BeginsOut exp;
+    says = refl;
+    state = record { lab = Some lab; experiments = replace exp (in_phase e (Moving (Some (mapped e.wiring mapping tags)) None)) s.experiments };
+    moves = rw (is, found, inside) refl;
+    ready = λ v. tt;
+  }
 
 -- what a look-up answers
 pub found_some : {X : Type 0} (o : Option X) (found : Option (Bor X)) (b : Bool) → option_copied found ≡ o → b ≡ is_some found → is_some o ≡ b

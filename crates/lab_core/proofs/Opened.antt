@@ -1,10 +1,9 @@
 -- What an opening makes of the records that it found.
-use Rattle.std.proofs.Common.{◌≡◌, ℕ, zero, suc, ◌+◌, ◌<◌, Bool, true, false, if◌then◌else◌, List, [], ◌∷◌, length, map, take, Some, None, inl, inr, refl, sym, ap, subst, ◌∙◌, arith, Err}
+use Rattle.std.proofs.Common.{◌≡◌, ℕ, zero, suc, ◌+◌, ◌<◌, Bool, true, false, if◌then◌else◌, List, [], ◌∷◌, length, map, take, Some, None, inl, refl, sym, ap, subst, ◌∙◌, arith, Err}
 use Rattle.std.specs.Prelude.{count_by, sum_by, slice_get, slice_index_or}
 use Rattle.std.proofs.lemmas.List.Sums.{count_by_more_no, count_by_more_yes, sum_by-cons}
 use Rattle.std.proofs.lemmas.List.{length-map}
 use Rattle.std.proofs.lemmas.Option.{slice_get_within, get_or_from_slice_get}
-use Rattle.lab_base.specs.Lists.{Has}
 use Rattle.virt_topo.specs.declared.experiment.Experiment.{Experiment}
 use Rattle.journal_rec.specs.declared.record.Record.{Record}
 use Rattle.journal_rec.specs.declared.record.Found.{Found}
@@ -37,11 +36,6 @@ is_there (e ∷ es) (suc n) within none = is_there es n (omega (arith, within)) 
 pub records_of_placed : (gate : ℕ) (rs : List Record) → map (λ f. f.entry) (placed gate rs) ≡ rs
 records_of_placed gate [] = refl
 records_of_placed gate (r ∷ rs) = ap (λ l. r ∷ l) (records_of_placed (gate + size r) rs)
-
-pub entry_among : (gate : ℕ) (rs : List Record) (f : Found) → Has (placed gate rs) f → Has rs f.entry
-entry_among gate [] f has = has
-entry_among gate (r ∷ rs) f (inl is) = inl (ap (λ x. x.entry) is)
-entry_among gate (r ∷ rs) f (inr has) = inr (entry_among (gate + size r) rs f has)
 
 -- a record's place is the gate after those before it
 pub place_of : (gate : ℕ) (rs : List Record) (n : ℕ) (d : Found) → n < length rs → (slice_index_or (placed gate rs) n d).at ≡ gate + sum_by size (take n rs)

@@ -24,7 +24,7 @@ use Rattle.journal_runs.proofs.Quiet.{opening_quiet, opening_missed}
 use Rattle.journal_runs.proofs.Sounds.{steps_sound, works_as}
 use Rattle.lab_state.specs.Texts.{the_texts}
 use Rattle.lab_state.specs.Replays.{records_of}
-use Rattle.lab_core.proofs.Canonical.{canonical_texts}
+use Rattle.lab_state.proofs.Canonical.{texts_once}
 use Rattle.lab_core.specs.Moments.{Seen, Works, Stands, IsLabAt, IsNoJournal, bad, cannot_follow, no_room}
 use Rattle.lab_core.specs.Opening.{IsOfJournal, OpenSteps, OpenEnds}
 use Rattle.lab_core.proofs.Opened.{records_of_placed, are_held}
@@ -101,7 +101,7 @@ stands_at : (trace : List Event) (j : Journal) (rs : List Record) (c : Seen) →
 stands_at trace j rs c at same lab = record { records = rs; at = subst (λ (k : Journal). IsAt trace k rs) (sym same) at; lab_of = lab }
 
 works_at : (trace : List Event) (c : Seen) → Stands trace c → IsSound the_texts trace → Works trace c
-works_at trace c stands sound = record { records = stands.records; works = works_as the_texts trace c.journal stands.records c.lab stands.at sound canonical_texts stands.lab_of }
+works_at trace c stands sound = record { records = stands.records; works = works_as the_texts trace c.journal stands.records c.lab stands.at sound texts_once stands.lab_of }
 
 made_ends : (trace steps : List Event) (limit : ℕ) (opened : Journal × Vec Found) (rs : List Record) (result : Result Seen OpenFault) → IsOpening trace steps (Ok opened)
     → IsAt (trace ++ steps) opened.0 rs → IsOfJournal limit opened.0 rs result → OpenEnds trace steps result

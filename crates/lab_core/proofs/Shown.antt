@@ -1,9 +1,8 @@
 -- What is shown of experiments.
 use Rattle.std.specs.List.{zip}
-use Rattle.std.proofs.Common.{◌≡◌, inr, ◌<◌, ◌≤◌, ℕ, zero, suc, ◌+◌, Result, Ok, List, [], ◌∷◌, ◌++◌, length, map, take, get_or, Option, Some, None, slice_get, refl, sym, ap, ◌∙◌, subst, arith}
+use Rattle.std.proofs.Common.{◌≡◌, inr, ◌<◌, ◌≤◌, ℕ, zero, suc, ◌+◌, Result, Ok, List, [], ◌∷◌, ◌++◌, length, map, take, get_or, Some, None, slice_get, refl, sym, ap, ◌∙◌, subst, arith}
 use Rattle.std.proofs.lemmas.List.{map-append, take_more, take_all}
 use Rattle.std.proofs.lemmas.Option.{slice_get_within, get_or_from_slice_get, slice_get-get_or}
-use Rattle.lab_base.specs.Lists.{Has}
 use Rattle.lab_base.specs.declared.ids.VlanId.{VlanId}
 use Rattle.phys_lab.specs.Labs.{Lab}
 use Rattle.virt_topo.specs.declared.mapping.Mapping.{Mapping}
@@ -45,7 +44,7 @@ none_missing (x ∷ xs) n within is = let both : None ≡ Some (get_or (x ∷ xs
 
 -- the reply that shows an experiment, and the one that lists all
 pub told_shown : (s : LabState) (exp : List ℕ) (lab : Lab) (e : Experiment) (reply : Reply) → s.lab ≡ Some lab → find exp s.experiments ≡ Some e → reply ≡ shown_reply lab e → IsTold (judged_show s exp) reply
-told_shown s exp lab e reply is found same = subst (λ (r : Reply). IsTold (judged_show s exp) r) (sym same) (inr (shows s exp lab e is found), refl)
+told_shown s exp lab e reply is found same = subst (λ (r : Reply). IsTold (judged_show s exp) r) (sym same) (inr (shows s exp lab e is found), refl, refl)
 
 pub told_listed : (s : LabState) (held : Held) (lab : Lab) (lines : List StatusLine) (nodes ids : ℕ) → Sane s → s.lab ≡ Some lab → ClaimsOf (lab_in s.lab) s.experiments held → lines ≡ map (status_line (lab_in s.lab)) s.experiments → nodes ≡ free_nodes held → ids ≡ length (free_ids held)
     → IsTold (judged_status s) (Listed lines nodes ids)
@@ -55,7 +54,7 @@ told_listed s held lab lines nodes ids sane is of_es lines_are nodes_are ids_are
     let nodes_so = nodes_are ∙ nodes_left l s.experiments held sane.is_lab sane.holding sane.names of_es in
     let ids_so = ids_are ∙ ids_left_are l s.experiments held sane.is_lab sane.holding sane.names of_es in
     let reply : Listed lines nodes ids ≡ status_reply lab s.experiments = (λ i. Listed (lines_are i) (nodes_so i) (ids_so i)) ∙ ap (λ (x : Lab). status_reply x s.experiments) same in
-    (inr (statuses s lab is ∙ ap (λ (r : Reply). let t : Result Task Reply = Ok (Tell r) in t) (sym reply)), refl)
+    (inr (statuses s lab is ∙ ap (λ (r : Reply). let t : Result Task Reply = Ok (Tell r) in t) (sym reply)), refl, refl)
 
 -- two lists side by side
 pub zip_at : {X Y : Type 0} (xs : List X) (ys : List Y) (n : ℕ) (x : X) (y : Y) → slice_get xs n ≡ Some x → slice_get ys n ≡ Some y → slice_get (zip xs ys) n ≡ Some (x, y)

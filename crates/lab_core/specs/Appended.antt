@@ -1,5 +1,5 @@
 -- What an append to the journal leaves where there is room for the record.
-use Rattle.std.specs.Prelude.{◌≡◌, ◌↔◌, ◌≤◌, ◌++◌, ◌∷◌, [], ℕ, Bool, List, Option, Result, Ok, Err, OnOk, IfSome, IsErrOf, IsTrue}
+use Rattle.std.specs.Prelude.{◌≡◌, ◌↔◌, ◌≤◌, ◌++◌, ◌∷◌, [], ℕ, Bool, List, Option, Result, Err, OnOk, IfSome, IsErrOf, IsTrue}
 use Rattle.plant.specs.Calls.{Rose}
 use Rattle.plant.specs.Told.{Told}
 use Rattle.plant.specs.declared.moment.Faults.{Faults}

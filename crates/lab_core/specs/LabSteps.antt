@@ -1,17 +1,27 @@
 -- THE LAB STEP: what one command may do, by the steps of its opening and its own.
-use Rattle.std.specs.Prelude.{◌≡◌, ◌⊎◌, ℕ, false, List, [], ◌∷◌, ◌++◌, Option, Some, None, Result, Ok, Err}
+use Rattle.std.specs.Prelude.{◌≡◌, ◌⊎◌, ℕ, Bool, true, false, List, [], ◌∷◌, ◌++◌, Option, Some, None, Result, Ok, Err}
 use Rattle.plant.specs.Events.{Event, Missed, Restarted}
+use Rattle.plant.specs.declared.drill.Drill.{Drill}
 use Rattle.plant.specs.declared.step.Side.{Side}
 use Rattle.journal_rec.specs.declared.record.Record.{Record}
 use Rattle.journal_model.specs.Appends.{Run, All, added}
 use Rattle.records_model.specs.Labs.{LabState, Move, Says, moved}
 use Rattle.lab_state.specs.Texts.{the_texts}
+use Rattle.script_text.specs.Drills.{drill_of}
 use Rattle.script_text.specs.declared.command.Command.{Command}
 use Rattle.script_text.specs.declared.reply.Reply.{Reply}
+use Rattle.script_text.specs.declared.reply.Reply.TheVariants.{In, Out, Failed, Planned, NoDrill, Stopped as StoppedReply}
+use Rattle.script_text.specs.declared.reply.FailedEnd.TheVariants as ends
+use Rattle.script_text.specs.declared.reply.What.{What}
+use Rattle.script_text.specs.declared.reply.What.TheVariants as whats
+use Rattle.virt_topo.specs.declared.mapping.Mapped.{Mapped}
+use Rattle.lab_model.specs.Courses.{Trouble, Device, Late, Unlawful}
+use Rattle.swap_runs.specs.Swaps.{Swap as SwapOf}
+use Rattle.swap_runs.specs.Ends.{End, Committed, Aborted, Stuck, Unwritten, Stopped as Halted, SwapSteps}
 use Rattle.lab_core.specs.Sessions.{Session, Closed, Open, Setting, After}
 use Rattle.journal_runs.specs.Pieces.{has_restart, has_miss, has_command}
 use Rattle.lab_core.specs.Pieces.{Breaks}
-use Rattle.lab_core.specs.Steps.{Task, Tell, Append, Judged}
+use Rattle.lab_core.specs.Steps.{Task, Tell, Append, Swap, Judged}
 
 -- THE COMMAND'S OWN STEPS, over an open controller
 
@@ -49,9 +59,56 @@ pub record Appends (s : LabState) (entry : Record) (move : Move) (told : Reply) 
   pub moves : moved s move ≡ Some state
   pub ends : AppendEnds s state told run more own after
 
+-- what is told of a trouble
+abbrev pub what_of : Trouble → What
+what_of (Device name) = whats.Device name
+what_of (Late node) = whats.Late node
+what_of (Unlawful node from to) = whats.Unlawful node from to
+
+-- `in E` after a swap-in, and `out E` after a swap-out
+abbrev pub done_reply : List ℕ → Option Mapped → Reply
+done_reply exp None = Out exp
+done_reply exp (Some m) = In exp
+
+-- THE REPLY TO A SWAP, by its end, and whether the controller stays open
+abbrev pub end_reply : SwapOf → End → Reply
+end_reply p Committed = done_reply p.name p.new
+end_reply p (Aborted why) = Failed p.name ends.Out (what_of why)
+end_reply p (Stuck trouble) = Failed p.name ends.Stuck (what_of trouble)
+end_reply p Unwritten = Failed p.name ends.Stuck whats.Journal
+end_reply p Halted = StoppedReply
+
+abbrev pub end_session : End → Session
+end_session Unwritten = Closed
+end_session Halted = Closed
+end_session end = Open
+
+-- behind the steps of a swap in which the plant stopped stands its start
+abbrev pub StartsBehind : End → List Event → Type 0
+StartsBehind Halted behind = (a : List ℕ) × (b : List ℕ) × (behind ≡ Restarted a b ∷ [])
+StartsBehind end behind = behind ≡ []
+
+-- the reply is told; or there is none, since memory was wanting for it, or for the start of a stopped plant
+pub data IsAnswered (p : SwapOf) (end : End) (behind : List Event) (after : After) : Type 0 where
+  is_told : StartsBehind end behind → after.reply ≡ Some (end_reply p end) → after.session ≡ end_session end → IsAnswered p end behind after
+  unanswered : (behind ≡ []) ⊎ StartsBehind end behind → after.reply ≡ None → after.session ≡ Closed → IsAnswered p end behind after
+
+-- A SWAP: a record that says the move, the commands of the course and of its undo, and the record that ends it, as far as it came
+pub record Swaps (s : LabState) (exp : List ℕ) (entry : Record) (move : Move) (own : List Event) (after : After) : Type 0 where
+  pub swap : SwapOf
+  pub name : swap.name ≡ exp
+  pub says : Says the_texts s entry move
+  pub end : End
+  pub steps : List Event
+  pub behind : List Event
+  pub own_is : own ≡ steps ++ behind
+  pub ends : SwapSteps swap s entry move steps after.lab end
+  pub answered : IsAnswered swap end behind after
+
 abbrev pub Does : LabState → Task → List Event → After → Type 0
 Does s (Tell told) own after = Replies s told own after
 Does s (Append entry move told) own after = Appends s entry move told own after
+Does s (Swap exp entry move) own after = Swaps s exp entry move own after
 
 -- what was judged is done: the first refusal is told, or the task is done; or memory is wanting
 pub data IsDoneBy (IsJudged : Result Task Reply → Type 0) (s : LabState) (own : List Event) (after : After) : Type 0 where
@@ -82,7 +139,18 @@ pub data FromClosed (set : Setting) (s : LabState) (command : Command) (opening 
   opened : Opens opening → Obeys set s command own after → FromClosed set s command opening own after
   not_opened : BreaksOpening s opening own after → FromClosed set s command opening own after
 
--- THE LAB STEP
-abbrev pub LabStep : Setting → LabState → Session → Command → List Event → List Event → After → Type 0
-LabStep set s Closed command opening own after = FromClosed set s command opening own after
-LabStep set s Open command opening own after = (opening ≡ []) × Obeys set s command own after
+-- A DRILL has no steps, and all stays as it was: it is planned where the plant takes drills, and else refused. Or memory is wanting.
+pub data Drills (takes : Bool) (s : LabState) (session : Session) (own : List Event) (after : After) : Type 0 where
+  is_planned : takes ≡ true → own ≡ [] → after ≡ record { reply = Some Planned; lab = s; session = session } → Drills takes s session own after
+  is_refused : takes ≡ false → own ≡ [] → after ≡ record { reply = Some NoDrill; lab = s; session = session } → Drills takes s session own after
+  wants_memory : WantsMemory s own after → Drills takes s session own after
+
+-- a drill needs no open controller; every other command opens it where it is closed
+abbrev pub StepOf : Option Drill → Bool → Setting → LabState → Session → Command → List Event → List Event → After → Type 0
+StepOf (Some drill) takes set s session command opening own after = (opening ≡ []) × Drills takes s session own after
+StepOf None takes set s Closed command opening own after = FromClosed set s command opening own after
+StepOf None takes set s Open command opening own after = (opening ≡ []) × Obeys set s command own after
+
+-- THE LAB STEP, over a plant that takes drills or not
+abbrev pub LabStep : Bool → Setting → LabState → Session → Command → List Event → List Event → After → Type 0
+LabStep takes set s session command opening own after = StepOf (drill_of command) takes set s session command opening own after

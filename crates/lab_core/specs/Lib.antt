@@ -1,10 +1,15 @@
 pub mod Appended
 pub mod Blocks
 pub mod Counts
+pub mod Finishing
 pub mod LabSteps
 pub mod Moments
 pub mod Obeying
 pub mod Opening
 pub mod Pieces
+pub mod Running
+pub mod Said
 pub mod Sessions
 pub mod Steps
+pub mod SwappingIn
+pub mod Tells

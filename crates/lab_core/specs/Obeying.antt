@@ -11,7 +11,7 @@ use Rattle.records_model.specs.Labs.{LabState, Move, Says, moved, IsRightFor}
 use Rattle.records_model.specs.Works.{IsSound}
 use Rattle.lab_state.specs.Texts.{the_texts}
 use Rattle.journal_disk.specs.Standing.{length_of, limit_of}
-use Rattle.script_text.specs.Replies.{closes}
+use Rattle.script_text.specs.Replies.{blames_device, closes}
 use Rattle.script_text.specs.declared.reply.Reply.{Reply}
 use Rattle.script_text.specs.declared.reply.Reply.TheVariants as replies
 use Rattle.lab_core.specs.declared.fault.CoreFault.{CoreFault}
@@ -54,14 +54,15 @@ pub record Obeyed (told told_then : Option Told) (count count_then : Faults) (is
   pub obeys : ObeyTold told told_then IsJudged old new result
   pub stands : IfOk result (λ reply. closes reply ≡ false → IfSome told_then (λ t. Stands t.trace new))
   pub down : IfOk result (λ reply. closes reply ≡ true → Rose count.disk count_then.disk)
+  pub device : IfOk result (λ reply. blames_device reply ≡ true → Rose count.devices count_then.devices)
   pub later : count.disk ≤ count_then.disk
-  pub devices : count_then.devices ≡ count.devices
+  pub devices : count.devices ≤ count_then.devices
   pub stopped : is_stopped ≡ false → IsErrOf result faults.Stopped ↔ IsTrue is_stopped_then
   pub drills : takes_then ≡ takes
 
 -- the reply refuses the command, or tells all that it asks for
 abbrev pub IsTold : Result Task Reply → Reply → Type 0
-IsTold judgement reply = ((judgement ≡ Err reply) ⊎ (judgement ≡ Ok (Tell reply))) × (closes reply ≡ false)
+IsTold judgement reply = ((judgement ≡ Err reply) ⊎ (judgement ≡ Ok (Tell reply))) × (closes reply ≡ false) × (blames_device reply ≡ false)
 
 -- the record can follow, whatever the world
 pub record MayFollow (s : LabState) (entry : Record) : Type 0 where

@@ -1,23 +1,32 @@
 -- What a command does to the lab, and its reply: the first refusal in order, or its task.
-use Rattle.std.specs.Prelude.{◌≡◌, ◌+◌, ℕ, nat_le, List, [], ◌∷◌, length, map, Option, Some, None, Result, Ok, Err, if◌then◌else◌}
+use Rattle.std.specs.Prelude.{◌≡◌, ◌+◌, ℕ, nat_le, List, [], length, map, codes, slice_index_or, Option, Some, None, Result, Ok, Err, if◌then◌else◌}
 use Rattle.std.specs.List.{zip}
 use Rattle.lab_base.specs.declared.fault.TextFault.{TextFault}
 use Rattle.lab_base.specs.declared.ids.VlanId.{VlanId}
 use Rattle.phys_lab.specs.Labs.{Lab}
 use Rattle.virt_topo.specs.declared.wiring.Segment.{Segment}
+use Rattle.virt_topo.specs.declared.mapping.Mapping.{Mapping}
+use Rattle.virt_topo.specs.declared.violation.Broken.{Broken}
+use Rattle.virt_topo.specs.declared.violation.Subject.{Subject}
+use Rattle.virt_topo.specs.declared.violation.Subject.TheVariants.{Virt, Node as OfNode, End, Trunk as OfTrunk, Segment as OfSegment, Vlans}
+use Rattle.virt_topo.specs.Ends.{end_nodes}
 use Rattle.virt_topo.specs.declared.wiring.Wiring.{Wiring}
 use Rattle.virt_topo.specs.declared.experiment.Experiment.{Experiment}
 use Rattle.virt_topo.specs.declared.experiment.Phase.{Phase}
 use Rattle.virt_topo.specs.declared.experiment.Phase.TheVariants.{Out, In, Moving}
 use Rattle.journal_rec.specs.declared.record.Record.{Record}
-use Rattle.journal_rec.specs.declared.record.Record.TheVariants.{Lab as LabRecord, Create, Delete}
+use Rattle.journal_rec.specs.declared.record.Record.TheVariants.{Lab as LabRecord, Create, Delete, Begin}
+use Rattle.journal_rec.specs.declared.record.Way.TheVariants.{In as WayIn, Out as WayOut}
+use Rattle.lab_model.specs.Beside.{violation_beside}
 use Rattle.journal_model.specs.Journals.{size}
-use Rattle.records_model.specs.Labs.{LabState, Move, SetLab, Creates, Deletes, find}
+use Rattle.records_model.specs.Labs.{LabState, Move, SetLab, Creates, Deletes, BeginsIn, BeginsOut, find, others}
+use Rattle.ns_text.specs.Wirings.{WiringOf}
 use Rattle.ptop_text.specs.Adding.{lab_of_text}
 use Rattle.ptop_text.specs.Canonical.{canonical}
 use Rattle.top_text.specs.Adding.{wiring_of_text}
-use Rattle.top_text.specs.Canonical.{canonical_top}
-use Rattle.top_text.specs.CanonicalSolution.{canonical_solution}
+use Rattle.top_text.specs.Canonical.{canonical_top, virt_name}
+use Rattle.top_text.specs.CanonicalSolution.{canonical_solution, end_keys, end_name}
+use Rattle.top_text.specs.Solutions.{mapping_of_text}
 use Rattle.script_text.specs.declared.command.Command.{Command}
 use Rattle.script_text.specs.declared.command.Command.TheVariants as commands
 use Rattle.script_text.specs.declared.reply.PhaseWord.{PhaseWord}
@@ -26,8 +35,8 @@ use Rattle.script_text.specs.declared.reply.StatusLine.{StatusLine}
 use Rattle.script_text.specs.declared.reply.TagLine.{TagLine}
 use Rattle.script_text.specs.declared.reply.Placed.{Placed}
 use Rattle.script_text.specs.declared.reply.Reply.{Reply}
-use Rattle.script_text.specs.declared.reply.Reply.TheVariants.{Lab as LabReply, Created, Shown, Deleted, Listed, NoLab, LabIsSet, Exists, Unknown, IsIn, IsMoving, Bad, BadPtop, FullExperiments, FullJournal}
-use Rattle.lab_core.specs.Counts.{nodes_claimed, ids_claimed, nodes_free, ids_free}
+use Rattle.script_text.specs.declared.reply.Reply.TheVariants.{Lab as LabReply, Created, Shown, Deleted, Listed, NoLab, LabIsSet, Exists, Unknown, IsIn, IsOut, IsMoving, Infeasible, Bad, BadPtop, FullExperiments, FullJournal}
+use Rattle.lab_core.specs.Counts.{nodes_claimed, ids_claimed, nodes_free, ids_free, least_tags}
 use Rattle.lab_core.specs.Sessions.{Setting}
 
 -- THE REFUSALS: each check gives a value, or the reply that refuses the command
@@ -71,6 +80,32 @@ need_out exp Out = Ok tt
 need_out exp (In mapping tags) = Err (IsIn exp)
 need_out exp (Moving old new) = Err (IsMoving exp)
 
+-- `is out E` and `is moving E` exactly where its phase is that one
+abbrev pub need_in : List ℕ → Phase → Result (Unit {0}) Reply
+need_in exp Out = Err (IsOut exp)
+need_in exp (In mapping tags) = Ok tt
+need_in exp (Moving old new) = Err (IsMoving exp)
+
+-- what breaks a rule, as a reply names it
+abbrev pub name_at : List (List ℕ) → ℕ → List ℕ
+name_at names n = slice_index_or names n []
+
+abbrev pub subject_name : Lab → Wiring → Subject → List ℕ
+subject_name lab w (Virt v) = virt_name w v
+subject_name lab w (OfNode n) = name_at (map (λ x. x.name) lab.nodes) n.0
+subject_name lab w (End e) = end_name w (slice_index_or (end_keys [] (end_nodes w.segments)) e (0, 0))
+subject_name lab w (OfTrunk t) = name_at (map (λ x. x.link) lab.trunks) t.0
+subject_name lab w (OfSegment s) = name_at (map (λ x. x.name) w.segments) s
+subject_name lab w Vlans = codes "vlans"
+
+-- `infeasible E RULE SUBJECT` exactly where the mapping breaks a rule beside the other experiments: the first violation
+abbrev pub need_kept : Lab → Experiment → Option (Broken × Subject) → Result (Unit {0}) Reply
+need_kept lab e None = Ok tt
+need_kept lab e (Some (rule, subject)) = Err (Infeasible e.name rule (subject_name lab e.wiring subject))
+
+abbrev pub need_feasible : Lab → List Experiment → Experiment → Mapping → Result (Unit {0}) Reply
+need_feasible lab es e mapping = need_kept lab e (violation_beside lab (others e.name es) e e.wiring mapping)
+
 -- `full journal LENGTH` exactly where the length, the record's size and 10,240 bytes for the last records of moves are above the limit
 abbrev pub need_space : Setting → Record → Result (Unit {0}) Reply
 need_space set entry = if nat_le (set.length + size entry + 10240) set.limit then Ok tt else Err (FullJournal set.length)
@@ -82,6 +117,8 @@ pub data Task : Type 0 where
   Tell : (reply : Reply) → Task
   -- it appends a record, which says the move, and tells that it is made
   Append : (entry : Record) (move : Move) (reply : Reply) → Task
+  -- it begins a swap of the experiment by a record, which says the move, and turns it to its end
+  Swap : (exp : List ℕ) (entry : Record) (move : Move) → Task
 
 -- the numbers of switches, nodes and trunks
 abbrev pub lab_reply : Lab → Reply
@@ -160,22 +197,62 @@ judged_delete set s exp = do
   out ← need_out exp e.phase
   appending set (Delete exp) (Deletes exp) (Deleted exp)
 
+-- a swap begins where there is space for its record
+abbrev pub beginning : Setting → List ℕ → Record → Move → Result Task Reply
+beginning set exp entry move = do
+  space ← need_space set entry
+  Ok (Swap exp entry move)
+
+abbrev pub judged_mapping : Setting → LabState → Lab → Experiment → Mapping → List VlanId → Result Task Reply
+judged_mapping set s lab e mapping tags = do
+  feasible ← need_feasible lab s.experiments e mapping
+  beginning set e.name (Begin e.name (WayIn (canonical_solution lab e.wiring mapping) tags)) (BeginsIn e.name mapping tags)
+
+-- the segments get the least VLAN ids that no claim has
+abbrev pub judged_swapin : Setting → LabState → List ℕ → List ℕ → Result Task Reply
+judged_swapin set s exp text = do
+  lab ← need_lab s.lab
+  e ← need_found exp (find exp s.experiments)
+  out ← need_out exp e.phase
+  mapping ← need_meaning (Bad exp) (mapping_of_text lab e.wiring text)
+  judged_mapping set s lab e mapping (least_tags lab s.experiments (length e.wiring.segments))
+
+abbrev pub judged_swapout : Setting → LabState → List ℕ → Result Task Reply
+judged_swapout set s exp = do
+  lab ← need_lab s.lab
+  e ← need_found exp (find exp s.experiments)
+  inside ← need_in exp e.phase
+  beginning set exp (Begin exp WayOut) (BeginsOut exp)
+
 abbrev pub judged_status : LabState → Result Task Reply
 judged_status s = do
   lab ← need_lab s.lab
   Ok (Tell (status_reply lab s.experiments))
 
-abbrev pub judged : Setting → LabState → Command → Result Task Reply
-judged set s (commands.Ptop lines text) = judged_ptop set s text
-judged set s (commands.CreateTop exp lines text) = judged_create set s exp text
-judged set s (commands.Show exp) = judged_show s exp
-judged set s (commands.Delete exp) = judged_delete set s exp
-judged set s commands.Status = judged_status s
-
 -- the refusal, or the task, is this one
 abbrev pub Is : Result Task Reply → Result Task Reply → Type 0
 Is judgement other = other ≡ judgement
 
--- WHAT IS JUDGED of a command
+-- a new experiment needs a lab and a new name
+abbrev pub need_place : LabState → List ℕ → Result (Unit {0}) Reply
+need_place s exp = do
+  lab ← need_lab s.lab
+  need_new exp (find exp s.experiments)
+
+-- `create`: the NS text is asked for its wiring only where nothing refuses before
+pub data JudgedNetwork (set : Setting) (s : LabState) (exp text : List ℕ) (judgement : Result Task Reply) : Type 0 where
+  refused : (reply : Reply) → need_place s exp ≡ Err reply → judgement ≡ Err reply → JudgedNetwork set s exp text judgement
+  asked : (meaning : Result Wiring TextFault) → need_place s exp ≡ Ok tt → WiringOf text meaning → judgement ≡ (need_meaning (Bad exp) meaning >>= judged_wiring set s exp)
+      → JudgedNetwork set s exp text judgement
+
+-- WHAT IS JUDGED of a command. No drill comes.
 abbrev pub Judged : Setting → LabState → Command → Result Task Reply → Type 0
-Judged set s command = Is (judged set s command)
+Judged set s (commands.Ptop lines text) = Is (judged_ptop set s text)
+Judged set s (commands.Create exp lines text) = JudgedNetwork set s exp text
+Judged set s (commands.CreateTop exp lines text) = Is (judged_create set s exp text)
+Judged set s (commands.Show exp) = Is (judged_show s exp)
+Judged set s (commands.SwapinWith exp lines text) = Is (judged_swapin set s exp text)
+Judged set s (commands.Swapout exp) = Is (judged_swapout set s exp)
+Judged set s (commands.Fail device nth how) = λ judgement. ⊥
+Judged set s (commands.Delete exp) = Is (judged_delete set s exp)
+Judged set s commands.Status = Is (judged_status s)

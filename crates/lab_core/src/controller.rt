@@ -15,21 +15,26 @@ ghost use Rattle.journal_disk.specs.Standing.{limit_of, length_of, Holds, IsAt};
 ghost use Rattle.lab_state.specs.Changes.{after, CanEnter};
 ghost use Rattle.lab_core.specs.Appended.{Appended};
 ghost use Rattle.lab_state.specs.Texts.{the_texts};
-ghost use Rattle.script_text.specs.Replies.{closes};
+ghost use Rattle.top_text.specs.Canonical.{canonical_top};
+ghost use Rattle.top_text.specs.Printable.{is_printable};
+ghost use Rattle.script_text.specs.Replies.{blames_device, closes};
+ghost use Rattle.script_text.specs.Drills.{drill_of};
 ghost use Rattle.lab_core.specs.Blocks.{HasBlocks};
 ghost use Rattle.lab_core.specs.Moments.{Stands, IsNoJournal};
 ghost use Rattle.lab_core.specs.Obeying.{setting_of, ObeyTold, Obeyed, IsTold, MayFollow};
 ghost use Rattle.lab_core.specs.Opening.{IsOfJournal, OpenSteps, OpenEnds};
-ghost use Rattle.lab_core.specs.Steps.{Is, Judged, appending, judged_ptop, judged_create, judged_wiring, judged_show, judged_delete, judged_status};
+ghost use Rattle.lab_core.specs.Steps.{Is, Judged, JudgedNetwork, appending, judged_ptop, judged_create, judged_wiring, judged_show, judged_delete, judged_status};
 
 use crate::CoreFault;
 use crate::records::{create_record, delete_record, lab_record};
 use crate::replies::{created_reply, lab_reply};
+use crate::space::has_space;
 use crate::views::{shown, status_lines};
 use journal_disk::{AppendFault, Journal, OpenFault};
 use journal_rec::{Encoded, Found, Record, encode};
-use lab_base::{Name, TextRefused};
-use lab_state::{LabState, Prepared, ReplayFault};
+use lab_base::{Name, Text, TextRefused};
+use lab_state::{LabState, PrepareFault, Prepared, ReplayFault};
+use ns_text::{Printed, read_and_print};
 use plant::Plant;
 use ptop_text::{print_ptop, read_ptop};
 use script_text::{Command, Reply};
@@ -41,18 +46,15 @@ use virt_topo::{Experiment, Phase, Wiring};
 /// How many experiments there may be.
 const MOST: usize = 256;
 
-/// How many bytes a record has to leave, so that the last record of each move finds room.
-const LAST_RECORDS: u64 = 10_240;
-
 /// How many bytes the last record of one move has at most.
 const LAST_RECORD: u64 = 39;
 
 /// A lab over its journal. Contracts see the lab with its experiments, and the journal.
 #[derive(Drop)]
 pub struct Controller {
-    alloc: Global,
-    lab: LabState,
-    journal: Journal,
+    pub(crate) alloc: Global,
+    pub(crate) lab: LabState,
+    pub(crate) journal: Journal,
 }
 
 impl Model for Controller {
@@ -162,16 +164,18 @@ impl Controller {
         of_journal(alloc, limit, journal, &found)
     }
 
-    /// Obeys a command whose blocks have the lines that its words say, and tells the reply. After a reply that closes, and
-    /// after `Stopped`, the controller is of no use any more.
+    /// Obeys a command whose blocks have the lines that its words say, and tells the reply. A drill is none of its commands:
+    /// those are planned on the plant. After a reply that closes, and after `Stopped`, the controller is of no use any more.
     pub fn obey<P: Plant>(&mut self, command: &Command, plant: &mut P) -> Result<Reply, CoreFault>
         requires blocks { HasBlocks command.now }
+        requires no_drill { drill_of command.now ≡ None }
         requires stands { IfSome (P.told plant.old) (λ t. Stands t.trace self.old) }
         ensures obeys { ObeyTold (P.told plant.old) (P.told plant.new) (Judged (setting_of self.old) self.old.lab command.now) self.old self.new result }
         ensures stands { IfOk result (λ reply. closes reply ≡ false → IfSome (P.told plant.new) (λ t. Stands t.trace self.new)) }
         ensures down { IfOk result (λ reply. closes reply ≡ true → Rose (P.faults plant.old).disk (P.faults plant.new).disk) }
+        ensures device { IfOk result (λ reply. blames_device reply ≡ true → Rose (P.faults plant.old).devices (P.faults plant.new).devices) }
         ensures later { (P.faults plant.old).disk ≤ (P.faults plant.new).disk }
-        ensures devices { (P.faults plant.new).devices ≡ (P.faults plant.old).devices }
+        ensures devices { (P.faults plant.old).devices ≤ (P.faults plant.new).devices }
         ensures stopped { P.is_stopped plant.old ≡ false → IsErrOf result CoreFault.Stopped ↔ IsTrue (P.is_stopped plant.new) }
         ensures drills { P.takes_drills plant.new ≡ P.takes_drills plant.old }
     {
@@ -182,13 +186,18 @@ impl Controller {
     #[tactic(none)]
     fn answer<P: Plant>(&mut self, command: &Command, plant: &mut P) -> Result<Reply, CoreFault>
         requires blocks { HasBlocks command.now }
+        requires no_drill { drill_of command.now ≡ None }
         requires stands { IfSome (P.told plant.old) (λ t. Stands t.trace self.old) }
         ensures { Obeyed (P.told plant.old) (P.told plant.new) (P.faults plant.old) (P.faults plant.new) (P.is_stopped plant.old) (P.is_stopped plant.new) (P.takes_drills plant.old) (P.takes_drills plant.new) (Judged (setting_of self.old) self.old.lab command.now) self.old self.new result }
     {
         match command {
             Command::Ptop { ptop, .. } => self.set_lab(ptop.bytes(), plant),
+            Command::Create { exp, ns, .. } => self.create_network(*exp, ns.bytes(), plant),
             Command::CreateTop { exp, top, .. } => self.create(*exp, top.bytes(), plant),
             Command::Show { exp } => self.show(*exp),
+            Command::SwapinWith { exp, map, .. } => self.swapin_with(*exp, map.bytes(), plant),
+            Command::Swapout { exp } => self.swapout(*exp, plant),
+            Command::Fail { .. } => unreachable!(),
             Command::Delete { exp } => self.delete(*exp, plant),
             Command::Status => self.status(),
         }
@@ -232,23 +241,54 @@ impl Controller {
             return Ok(Reply::Exists { exp });
         }
         match read_top(self.alloc, text) {
-            Ok(wiring) => self.add(exp, &wiring, plant),
+            Ok(wiring) => {
+                let top = print_top(self.alloc, &wiring)?;
+                self.add(exp, &wiring, top, plant)
+            }
             Err(TextRefused::Text(fault)) => Ok(Reply::Bad { exp, fault }),
             Err(TextRefused::Memory) => Err(CoreFault::Memory),
         }
     }
 
-    /// Makes an experiment of a new name, where there is room for one more.
+    #[tactic(none)]
+    fn create_network<P: Plant>(
+        &mut self,
+        exp: Name,
+        text: &[u8],
+        plant: &mut P,
+    ) -> Result<Reply, CoreFault>
+        requires short { length text.now < 4294967295 }
+        requires stands { IfSome (P.told plant.old) (λ t. Stands t.trace self.old) }
+        ensures { Obeyed (P.told plant.old) (P.told plant.new) (P.faults plant.old) (P.faults plant.new) (P.is_stopped plant.old) (P.is_stopped plant.new) (P.takes_drills plant.old) (P.takes_drills plant.new) (JudgedNetwork (setting_of self.old) self.old.lab exp text.now) self.old self.new result }
+    {
+        if self.lab.lab().is_none() {
+            return Ok(Reply::NoLab);
+        }
+        if self.lab.experiment(exp).is_some() {
+            return Ok(Reply::Exists { exp });
+        }
+        match read_and_print(self.alloc, text) {
+            Ok(Printed { wiring, top }) => self.add(exp, &wiring, top, plant),
+            Err(TextRefused::Text(fault)) => Ok(Reply::Bad { exp, fault }),
+            Err(TextRefused::Memory) => Err(CoreFault::Memory),
+        }
+    }
+
+    /// Makes an experiment of a new name by the canonical text of its wiring, where there is room for one more.
     #[tactic(none)]
     fn add<P: Plant>(
         &mut self,
         exp: Name,
         wiring: &Wiring,
+        top: Text,
         plant: &mut P,
     ) -> Result<Reply, CoreFault>
         requires lab { is_some self.old.lab.lab ≡ true }
         requires new { find exp self.old.lab.experiments ≡ None }
         requires sound { IsSound wiring.now }
+        requires text { top ≡ canonical_top wiring.now }
+        requires size { length top ≤ 16777216 }
+        requires printable { is_printable wiring.now ≡ true }
         requires stands { IfSome (P.told plant.old) (λ t. Stands t.trace self.old) }
         ensures { Obeyed (P.told plant.old) (P.told plant.new) (P.faults plant.old) (P.faults plant.new) (P.is_stopped plant.old) (P.is_stopped plant.new) (P.takes_drills plant.old) (P.takes_drills plant.new) (Is (judged_wiring (setting_of self.old) self.old.lab exp wiring.now)) self.old self.new result }
     {
@@ -256,7 +296,6 @@ impl Controller {
             return Ok(Reply::FullExperiments);
         }
         let reply = created_reply(exp, wiring);
-        let top = print_top(self.alloc, wiring)?;
         self.append(&create_record(exp, top), reply, plant)
     }
 
@@ -315,13 +354,7 @@ impl Controller {
         ensures space { result ≡ nat_le (length_of self.now.journal + length encoded.now + 10240) (limit_of self.now.journal) }
         ensures most { limit_of self.now.journal ≤ 2 ^ 32 }
     {
-        let most = self.journal.limit();
-        let needed = self
-            .journal
-            .length()
-            .saturating_add(encoded.size())
-            .saturating_add(LAST_RECORDS);
-        needed <= most
+        has_space(&self.journal, encoded.size())
     }
 
     /// Appends a record that can follow, and tells that it is made.
@@ -334,6 +367,7 @@ impl Controller {
     ) -> Result<Reply, CoreFault>
         requires record { IsRecord entry.now }
         requires goes_on { closes reply ≡ false }
+        requires blameless { blames_device reply ≡ false }
         requires follows { MayFollow self.old.lab entry.now }
         requires stands { IfSome (P.told plant.old) (λ t. Stands t.trace self.old) }
         ensures { (move : Move) → Says the_texts self.old.lab entry.now move → Obeyed (P.told plant.old) (P.told plant.new) (P.faults plant.old) (P.faults plant.new) (P.is_stopped plant.old) (P.is_stopped plant.new) (P.takes_drills plant.old) (P.takes_drills plant.new) (Is (appending (setting_of self.old) entry.now move reply)) self.old self.new result }
@@ -344,16 +378,18 @@ impl Controller {
                 length: self.journal.length(),
             });
         }
-        // No record comes here that can't follow.
-        let Ok(prepared) = self.lab.prepare(entry) else {
-            return Err(CoreFault::Memory);
+        let prepared = match self.lab.prepare(entry) {
+            Ok(prepared) => prepared,
+            Err(PrepareFault::Memory) => return Err(CoreFault::Memory),
+            // The record can follow.
+            Err(PrepareFault::Bad) => unreachable!(),
         };
         match append_prepared(&mut self.lab, &mut self.journal, prepared, &encoded, plant) {
             Ok(()) => Ok(reply),
             Err(AppendFault::Stopped) => Err(CoreFault::Stopped),
             Err(AppendFault::Plant) => Ok(Reply::Down),
             // There is room for it.
-            Err(AppendFault::Full { .. }) => Ok(Reply::Down),
+            Err(AppendFault::Full { .. }) => unreachable!(),
         }
     }
 }

@@ -1,10 +1,13 @@
 // The records that commands append.
-ghost use Rattle.std.specs.Prelude.{◌≡◌, ◌≤◌, length};
+ghost use Rattle.std.specs.Prelude.{◌≡◌, ◌≤◌, ◌<◌, ◌^◌, length};
+ghost use Rattle.lab_base.specs.Lists.{Has};
+ghost use Rattle.lab_base.specs.declared.ids.VlanId.{VlanId};
 ghost use Rattle.journal_rec.specs.Payloads.{IsRecord};
 ghost use Rattle.journal_rec.specs.declared.record.Record.TheVariants as records;
+ghost use Rattle.journal_rec.specs.declared.record.Way.TheVariants as ways;
 
-use journal_rec::Record;
-use lab_base::{Name, Text};
+use journal_rec::{Record, Way};
+use lab_base::{Name, Tags, Text};
 
 pub(crate) fn lab_record(ptop: Text) -> Record
     requires { length ptop ≤ 16777216 }
@@ -29,4 +32,25 @@ pub(crate) fn delete_record(exp: Name) -> Record
 {
     let _named = exp.bytes();
     Record::Delete { exp }
+}
+
+/// The way of a swap-in.
+pub(crate) fn way_in(exp: Name, map: Text, tags: Tags) -> Way
+    requires short { length map ≤ 16777216 }
+    requires few { length tags ≤ 65535 }
+    requires ids { (tag : VlanId) → Has tags tag → tag.0 < 2 ^ 16 }
+    ensures way { result ≡ ways.In map tags }
+    ensures is { IsRecord (records.Begin exp result) }
+{
+    let _named = exp.bytes();
+    Way::In { map, tags }
+}
+
+/// The way of a swap-out.
+pub(crate) fn way_out(exp: Name) -> Way
+    ensures way { result ≡ ways.Out }
+    ensures is { IsRecord (records.Begin exp result) }
+{
+    let _named = exp.bytes();
+    Way::Out
 }

@@ -105,12 +105,12 @@ pub(crate) fn shown(alloc: Global, lab: &Lab, experiment: &Experiment) -> Result
 fn status_line(claims: &Claims, experiment: &Experiment) -> StatusLine
     ensures { (lab : AnyLab) (es : List AnyExperiment) → IsLab lab → ClaimsOf lab es claims.now → Holding lab es → Has es experiment.now → result ≡ status_line lab experiment.now }
 {
-    let (nodes, vlans) = claims.counted_of(experiment.name);
+    let counted = claims.counted_of(experiment.name);
     StatusLine {
         exp: experiment.name,
         phase: phase_word(&experiment.phase),
-        nodes,
-        vlans,
+        nodes: counted.0,
+        vlans: counted.1,
     }
 }
 

@@ -1,31 +1,30 @@
 -- What a run of commands begins of its script.
-use Rattle.std.proofs.Common.{◌≡◌, inl, inr, ⊎_elim, ℕ, ◌+◌, List, [], ◌∷◌, ◌++◌, length, Option, Some, refl, sym, ◌∙◌, ap, subst, arith, append_assoc}
+use Rattle.std.proofs.Common.{◌≡◌, inl, inr, ⊎_elim, ℕ, ◌+◌, false, List, [], ◌∷◌, ◌++◌, length, Option, Some, None, refl, sym, ◌∙◌, ap, subst, arith, append_assoc}
 use Rattle.std.specs.Io.KnownBytes.{prepend_known, IsAtEnd}
 use Rattle.std.proofs.lemmas.List.{append-nil, length-map}
 use Rattle.lab_io.specs.Feeds.{NoFeed}
 use Rattle.lab_io.specs.Lines.{lines_from, script_lines}
 use Rattle.lab_io.specs.Passed.{Stand, Passed}
-use Rattle.lab_io.proofs.Passing.{passed_more}
+use Rattle.lab_io.proofs.Passing.{passed_none, passed_more}
 use Rattle.lab_io.proofs.LineLaws.{lines-none}
 use Rattle.script_text.specs.declared.command.Command.{Command}
 use Rattle.script_text.specs.declared.next.Next.TheVariants as nexts
 use Rattle.script_text.specs.Commands.{Lines, next_of, Ending, AtEnd, BadLine, ending, AreCommands, IsScript}
-use Rattle.script_text.specs.Taking.{known, Skipped, Reads, IsBad, IsUnfinished}
+use Rattle.script_text.specs.Taking.{known, Reads, IsBad, IsUnfinished}
 use Rattle.script_text.proofs.Taken.{told_lines, known_behind}
 use Rattle.lab_top.specs.declared.status.Status.TheVariants as statuses
-use Rattle.lab_top.specs.Forms.{at_start}
+use Rattle.lab_top.specs.Readers.{at_start}
 use Rattle.lab_top.specs.Ran.{AreFirst, BegunCommands}
-use Rattle.lab_top.proofs.Forms.{some_parts}
+
+-- BYTES THAT ARE KNOWN
+some_same : {x y : List ℕ} → Some x ≡ Some y → x ≡ y
+some_same h = cc h
+
+some_parts : (raw : List ℕ) (o : Option (List ℕ)) (bytes : List ℕ) → Some bytes ≡ prepend_known raw o → (rest : List ℕ) × (o ≡ Some rest) × (bytes ≡ raw ++ rest)
+some_parts raw None bytes e = absurd cc
+some_parts raw (Some rest) bytes e = (rest, refl, some_same e)
 
 -- THE COMMANDS OF LINES THAT WERE PASSED
-
-same_next : (a b : ℕ) (xs ys : Lines) (commands : List Command) (end : Ending) → next_of a xs ≡ next_of b ys → AreCommands b ys commands end → AreCommands a xs commands end
-same_next a b xs ys [] end e are = e ∙ are
-same_next a b xs ys (c ∷ commands) end e are = (are.0, are.1, e ∙ are.2, are.3)
-
-same_first : (a b : ℕ) (xs ys : Lines) (commands : List Command) → next_of a xs ≡ next_of b ys → AreFirst b ys commands → AreFirst a xs commands
-same_first a b xs ys [] e are = tt
-same_first a b xs ys (c ∷ commands) e are = (are.0, are.1, e ∙ are.2, are.3)
 
 -- whatever follows the lines that were passed, these are the commands before it
 pub record Covers (start now : Stand) (commands : List Command) : Type 0 where
@@ -34,12 +33,13 @@ pub record Covers (start now : Stand) (commands : List Command) : Type 0 where
   pub are : (more : Lines) (others : List Command) (end : Ending) → AreCommands now.lines more others end → AreCommands start.lines (known texts ++ more) (commands ++ others) end
   pub first : (more : Lines) (others : List Command) → AreFirst now.lines more others → AreFirst start.lines (known texts ++ more) (commands ++ others)
 
-pub covers_none : (start now : Stand) → Skipped start now → Covers start now []
-covers_none start now s = record {
-  texts = s.texts;
-  passed = s.passed;
-  are = λ more others end are. same_next start.lines now.lines (known s.texts ++ more) more others end (s.onwards more) are;
-  first = λ more others are. same_first start.lines now.lines (known s.texts ++ more) more others (s.onwards more) are;
+-- a reader that has read nothing
+pub covers_none : (bytes : List ℕ) (now : Stand) → now.rest ≡ Some bytes → now.ended ≡ false → now.taken ≡ 0 → now.lines ≡ 0 → Covers (at_start bytes) now []
+covers_none bytes now rest ended taken lines = record {
+  texts = [];
+  passed = passed_none (at_start bytes) now (inl ended) (λ h. refl) rest taken lines;
+  are = λ more others end are. subst (λ (n : ℕ). AreCommands n more others end) lines are;
+  first = λ more others are. subst (λ (n : ℕ). AreFirst n more others) lines are;
 }
 
 pub covers_more : (start now new : Stand) (commands : List Command) (c : Command) → Covers start now commands → Reads now (nexts.Command c) new → Covers start new (commands ++ c ∷ [])

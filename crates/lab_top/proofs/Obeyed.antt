@@ -2,6 +2,7 @@
 use Rattle.std.proofs.Common.{◌≡◌, ℕ, ◌^◌, Bool, true, false, List, [], ◌∷◌, ◌++◌, Option, Some, None, Result, Ok, Err, refl, sym, ◌∙◌, ap, subst, append_assoc, arith}
 use Rattle.std.specs.Prelude.{IfSome, OnOk, ◌≤◌, is_some}
 use Rattle.std.proofs.lemmas.List.{append-nil}
+use Rattle.plant.specs.declared.drill.Drill.{Drill}
 use Rattle.plant.specs.declared.moment.Faults.{Faults}
 use Rattle.plant.specs.declared.step.Side.TheVariants.{A, B}
 use Rattle.plant.specs.declared.step.Side.{Side}
@@ -16,7 +17,8 @@ use Rattle.lab_state.specs.Texts.{the_texts}
 use Rattle.script_text.specs.declared.command.Command.{Command}
 use Rattle.script_text.specs.declared.reply.Reply.{Reply}
 use Rattle.script_text.specs.declared.reply.Reply.TheVariants as replies
-use Rattle.script_text.specs.Replies.{closes}
+use Rattle.script_text.specs.Drills.{drill_of}
+use Rattle.script_text.specs.Replies.{blames_device, closes}
 use Rattle.lab_core.specs.declared.fault.CoreFault.{CoreFault}
 use Rattle.lab_core.specs.declared.fault.CoreFault.TheVariants as faults
 use Rattle.lab_core.specs.Moments.{Seen, Stands, Works}
@@ -27,8 +29,8 @@ use Rattle.lab_core.specs.Sessions.{Session, Closed, Open}
 use Rattle.lab_core.specs.Steps.{Judged}
 use Rattle.lab_top.specs.declared.command.CommandFault.{CommandFault}
 use Rattle.lab_top.specs.declared.command.CommandFault.TheVariants as command_faults
-use Rattle.lab_top.specs.CommandTurns.{Later, leaves_one}
-use Rattle.lab_top.specs.Answering.{IsDone, WasOpened, IsOpen, MayGoOn, DoesOwn, OwnTold, Starts, Unopened, Begun, Made, Moment, session_of, reply_if}
+use Rattle.lab_top.specs.CommandTurns.{IsPlannedBy, Later, blames_if, closes_if, leaves_one}
+use Rattle.lab_top.specs.Answering.{IsDone, WasOpened, IsOpen, MayGoOn, DoesOwn, OwnTold, Starts, Unopened, Begun, Made, Moment, session_after, session_of, reply_if}
 use Rattle.lab_top.proofs.Turning.{sound_before, own_answered, own_closed, own_stopped, own_stays, own_unmade, cut_done, stopped_done, was_open, is_opened}
 
 -- WHAT A PLANT TELLS after more steps
@@ -75,6 +77,13 @@ not_one replies.NoLab is = refl
 not_one replies.LabIsSet is = refl
 not_one (replies.Exists exp) is = refl
 not_one (replies.Unknown exp) is = refl
+not_one (replies.In exp) is = refl
+not_one (replies.Out exp) is = refl
+not_one (replies.Failed exp end what) is = refl
+not_one replies.Planned is = refl
+not_one replies.NoDrill is = refl
+not_one (replies.Infeasible exp rule subject) is = refl
+not_one (replies.IsOut exp) is = refl
 not_one (replies.IsIn exp) is = refl
 not_one (replies.IsMoving exp) is = refl
 not_one (replies.Bad exp fault) is = refl
@@ -86,7 +95,7 @@ abbrev pub AsRead : List Event → Type 0
 AsRead trace = ArePossible trace (disk A trace).reads (disk B trace).reads
 
 -- OVER ONE TRACE
-module _ (trace : List Event) (command : Command) (c : Seen) (own : List Event) where
+module _ (takes : Bool) (trace : List Event) (command : Command) (no_drill : drill_of command ≡ None) (c : Seen) (own : List Event) where
   abbrev Ends : Seen → Result Reply CoreFault → Type 0
   Ends d result = Works trace c → ObeyEnds trace (Judged (setting_of c) c.lab command) c own d result
 
@@ -94,32 +103,32 @@ module _ (trace : List Event) (command : Command) (c : Seen) (own : List Event) 
     works : Works trace c
     works = subst (λ l. Works l c) (sym is) w.works
 
-  own_on : (d : Seen) (reply : Reply) → Ends d (Ok reply) → closes reply ≡ false → DoesOwn trace command c own Open (Some reply)
+  own_on : (d : Seen) (reply : Reply) → Ends d (Ok reply) → closes reply ≡ false → DoesOwn takes trace command c own Open (Some reply)
   own_on d reply ends goes before from opening is w =
       let e = subst (λ b. Answers trace (Judged (setting_of c) c.lab command) c own reply d b) goes (ends (works before from opening is w)) in
-      own_answered before from opening c w command own d reply e.0 (subst (λ l. Works (l ++ own) d) is e.1)
+      own_answered takes before from opening c w command no_drill own d reply e.0 (subst (λ l. Works (l ++ own) d) is e.1)
 
-  own_off : (d : Seen) (reply : Reply) → Ends d (Ok reply) → closes reply ≡ true → AsRead (trace ++ own) → DoesOwn trace command c own Closed (Some reply)
+  own_off : (d : Seen) (reply : Reply) → Ends d (Ok reply) → closes reply ≡ true → AsRead (trace ++ own) → DoesOwn takes trace command c own Closed (Some reply)
   own_off d reply ends shut there before from opening is w =
       let e = subst (λ b. Answers trace (Judged (setting_of c) c.lab command) c own reply d b) shut (ends (works before from opening is w)) in
-      own_closed before from opening c w command own reply (not_one reply shut) (subst (λ l. Leaves l (Judged (setting_of c) c.lab command) c own reply (λ a b. [])) is e) (subst (λ l. AsRead (l ++ own)) is there)
+      own_closed takes before from opening c w command no_drill own reply (not_one reply shut) (subst (λ l. Leaves l (Judged (setting_of c) c.lab command) c own reply (λ a b. [])) is e) (subst (λ l. AsRead (l ++ own)) is there)
 
-  own_again : (d : Seen) (a b : List ℕ) → Ends d (Err faults.Stopped) → ArePossible (trace ++ own) a b → DoesOwn trace command c (own ++ Restarted a b ∷ []) Closed (Some replies.Stopped)
+  own_again : (d : Seen) (a b : List ℕ) → Ends d (Err faults.Stopped) → ArePossible (trace ++ own) a b → DoesOwn takes trace command c (own ++ Restarted a b ∷ []) Closed (Some replies.Stopped)
   own_again d a b ends there before from opening is w =
-      own_stopped before from opening c w command own a b
+      own_stopped takes before from opening c w command no_drill own a b
       (subst (λ l. Leaves l (Judged (setting_of c) c.lab command) c own replies.Stopped (λ x y. Restarted x y ∷ [])) is (ends (works before from opening is w)))
       (subst (λ l. ArePossible (l ++ own) a b) is there)
 
-  own_stuck : (d : Seen) → Ends d (Err faults.Stopped) → AsRead (trace ++ own) → DoesOwn trace command c own Closed None
+  own_stuck : (d : Seen) → Ends d (Err faults.Stopped) → AsRead (trace ++ own) → DoesOwn takes trace command c own Closed None
   own_stuck d ends there before from opening is w =
-      own_stays before from opening c w command own
+      own_stays takes before from opening c w command no_drill own
       (subst (λ l. Leaves l (Judged (setting_of c) c.lab command) c own replies.Stopped (λ x y. Restarted x y ∷ [])) is (ends (works before from opening is w)))
       (subst (λ l. AsRead (l ++ own)) is there)
 
-  own_none : (d : Seen) → Ends d (Err faults.Memory) → DoesOwn trace command c own Closed None
+  own_none : (d : Seen) → Ends d (Err faults.Memory) → DoesOwn takes trace command c own Closed None
   own_none d ends before from opening is w =
       let e = ends (works before from opening is w) in
-      subst (λ l. IsDone before command from Closed opening l None) (sym e.0) (own_unmade before from opening c w command)
+      subst (λ l. IsDone takes before command from Closed opening l None) (sym e.0) (own_unmade takes before from opening c w command no_drill)
 
   still_open : (d : Seen) (reply : Reply) → Ends d (Ok reply) → closes reply ≡ false → IsOpen trace c → Stands (trace ++ own) d → IsOpen (trace ++ own) d
   still_open d reply ends goes is stands = record {
@@ -131,43 +140,43 @@ module _ (trace : List Event) (command : Command) (c : Seen) (own : List Event) 
   }
 
 -- OF WHAT A PLANT TELLS
-module _ (old mid : Option Told) (command : Command) (c d : Seen) where
+module _ (takes : Bool) (old mid : Option Told) (command : Command) (no_drill : drill_of command ≡ None) (c d : Seen) where
   abbrev Told_of : Result Reply CoreFault → Type 0
   Told_of result = ObeyTold old mid (Judged (setting_of c) c.lab command) c d result
 
-  pub obeyed_on : (reply : Reply) → Told_of (Ok reply) → closes reply ≡ false → OwnTold old mid command c Open (Some reply)
-  obeyed_on reply told goes = (told.0, told.1, map_some old (λ t ends. own_on t.trace command c told.0 d reply ends goes) told.2)
+  pub obeyed_on : (reply : Reply) → Told_of (Ok reply) → closes reply ≡ false → OwnTold takes old mid command c Open (Some reply)
+  obeyed_on reply told goes = (told.0, told.1, map_some old (λ t ends. own_on takes t.trace command no_drill c told.0 d reply ends goes) told.2)
 
-  pub obeyed_off : (reply : Reply) → Told_of (Ok reply) → closes reply ≡ true → IfSome mid (λ t. AsRead t.trace) → OwnTold old mid command c Closed (Some reply)
+  pub obeyed_off : (reply : Reply) → Told_of (Ok reply) → closes reply ≡ true → IfSome mid (λ t. AsRead t.trace) → OwnTold takes old mid command c Closed (Some reply)
   obeyed_off reply told shut there = (
     told.0,
     told.1,
-    map_both old (λ t ends here. own_off t.trace command c told.0 d reply ends shut here) told.2 (carried old mid told.0 told.1 AsRead there),
+    map_both old (λ t ends here. own_off takes t.trace command no_drill c told.0 d reply ends shut here) told.2 (carried old mid told.0 told.1 AsRead there),
   )
 
-  pub obeyed_stopped : (new : Option Told) (result : Result Reply CommandFault) → Told_of (Err faults.Stopped) → Starts mid new result → IfSome mid (λ t. AsRead t.trace) → OwnTold old new command c Closed (reply_if result)
+  pub obeyed_stopped : (new : Option Told) (result : Result Reply CommandFault) → Told_of (Err faults.Stopped) → Starts mid new result → IfSome mid (λ t. AsRead t.trace) → OwnTold takes old new command c (session_after result None) (reply_if result)
   obeyed_stopped new (Ok reply) told starts there =
       let a = starts.1.0 in
       let b = starts.1.1 in (
         told.0 ++ Restarted a b ∷ [],
         starts.1.2 ∙ ap (λ o. with_steps o (Restarted a b ∷ [])) told.1 ∙ steps_twice old told.0 (Restarted a b ∷ []),
-        map_both old (λ t ends here. subst (λ r. DoesOwn t.trace command c (told.0 ++ Restarted a b ∷ []) Closed (Some r)) (sym starts.0) (own_again t.trace command c told.0 d a b ends here)) told.2
+        map_both old (λ t ends here. subst (λ r. DoesOwn takes t.trace command c (told.0 ++ Restarted a b ∷ []) Closed (Some r)) (sym starts.0) (own_again takes t.trace command no_drill c told.0 d a b ends here)) told.2
             (carried old mid told.0 told.1 (λ l. ArePossible l a b) starts.1.3),
       )
   obeyed_stopped new (Err fault) told starts there = (
     told.0,
     starts.1 ∙ told.1,
-    map_both old (λ t ends here. own_stuck t.trace command c told.0 d ends here) told.2 (carried old mid told.0 told.1 AsRead there),
+    map_both old (λ t ends here. own_stuck takes t.trace command no_drill c told.0 d ends here) told.2 (carried old mid told.0 told.1 AsRead there),
   )
 
-  pub obeyed_not : Told_of (Err faults.Memory) → OwnTold old mid command c Closed None
-  obeyed_not told = (told.0, told.1, map_some old (λ t ends. own_none t.trace command c told.0 d ends) told.2)
+  pub obeyed_not : Told_of (Err faults.Memory) → OwnTold takes old mid command c Closed None
+  obeyed_not told = (told.0, told.1, map_some old (λ t ends. own_none takes t.trace command no_drill c told.0 d ends) told.2)
 
   pub goes_open : (reply : Reply) (faults : Faults) (stopped : Bool) → Told_of (Ok reply) → closes reply ≡ false → IfSome old (λ t. IsOpen t.trace c) → IfSome mid (λ t. Stands t.trace d) → stopped ≡ false
       → MayGoOn (record { told = mid; faults = faults; stopped = stopped; controller = Some d })
   goes_open reply faults stopped told goes is stands runs = record {
     controller = carried_on old mid told.0 told.1 (λ l. IsOpen l d)
-        (map_three old (λ t ends was here. still_open t.trace command c told.0 d reply ends goes was here) told.2 is (carried old mid told.0 told.1 (λ l. Stands l d) stands));
+        (map_three old (λ t ends was here. still_open takes t.trace command no_drill c told.0 d reply ends goes was here) told.2 is (carried old mid told.0 told.1 (λ l. Stands l d) stands));
     runs = λ some. runs;
   }
 
@@ -175,61 +184,82 @@ pub goes_closed : (told : Option Told) (faults : Faults) (stopped : Bool) → Ma
 goes_closed None faults stopped = record { controller = tt; runs = λ some. absurd (cc some) }
 goes_closed (Some t) faults stopped = record { controller = tt; runs = λ some. absurd (cc some) }
 
+-- no failure is planned
+none_planned : (takes : Bool) (command : Command) (reply : Option Reply) → drill_of command ≡ None → IsPlannedBy takes (drill_of command) false reply
+none_planned takes command reply no_drill = subst (λ (d : Option Drill). IsPlannedBy takes d false reply) (sym no_drill) refl
+
 -- WHAT A COMMAND BEGAN, by an open controller
-pub begun_open : (command : Command) (old new : Option Told) (c : Seen) (to : Session) (reply : Option Reply) → IfSome old (λ t. IsOpen t.trace c) → OwnTold old new command c to reply → Begun command old new Open to reply
-begun_open command old new c to reply is own = record {
+pub begun_open : (takes : Bool) (command : Command) → drill_of command ≡ None → (old new : Option Told) (c : Seen) (to : Session) (reply : Option Reply) → IfSome old (λ t. IsOpen t.trace c) → OwnTold takes old new command c to reply → Begun takes command old new Open to reply
+begun_open takes command no_drill old new c to reply is own = record {
   opening = [];
   own = own.0;
+  planned = false;
   told = own.1;
+  planned_by = none_planned takes command reply no_drill;
   done = map_both old (λ t open_now does sound. does t.trace Open [] (sym (append-nil t.trace)) (was_open t.trace c open_now sound)) is own.2;
 }
 
 -- by one that was opened first
-pub begun_opened : (command : Command) (old mid new : Option Told) (steps : List Event) (c : Seen) (to : Session) (reply : Option Reply) → mid ≡ with_steps old steps → IfSome old (λ t. OpenSteps t.trace steps × OpenEnds t.trace steps (Ok c)) → IfSome old (λ t. AsRead t.trace)
-    → limit_of c.journal ≡ 2 ^ 32 → OwnTold mid new command c to reply → Begun command old new Closed to reply
-begun_opened command old mid new steps c to reply is opens there limit own = record {
-  opening = steps;
-  own = own.0;
-  told = own.1 ∙ ap (λ o. with_steps o own.0) is ∙ steps_twice old steps own.0;
-  done = map_three old (λ t o read does sound. does t.trace Closed steps refl (is_opened t.trace steps c o.0 o.1 limit read sound)) opens there (carried old mid steps is (λ l. DoesOwn l command c own.0 to reply) own.2);
-}
+pub begun_opened : (took takes : Bool) → took ≡ takes → (command : Command) → drill_of command ≡ None → (old mid new : Option Told) (steps : List Event) (c : Seen) (to : Session) (reply : Option Reply) → mid ≡ with_steps old steps → IfSome old (λ t. OpenSteps t.trace steps × OpenEnds t.trace steps (Ok c)) → IfSome old (λ t. AsRead t.trace)
+    → limit_of c.journal ≡ 2 ^ 32 → OwnTold took mid new command c to reply → Begun takes command old new Closed to reply
+begun_opened took takes same command no_drill old mid new steps c to reply is opens there limit owned =
+    let own = subst (λ (b : Bool). OwnTold b mid new command c to reply) same owned in
+    record {
+      opening = steps;
+      own = own.0;
+      planned = false;
+      planned_by = none_planned takes command reply no_drill;
+      told = own.1 ∙ ap (λ o. with_steps o own.0) is ∙ steps_twice old steps own.0;
+      done = map_three old (λ t o read does sound. does t.trace Closed steps refl (is_opened t.trace steps c o.0 o.1 limit read sound)) opens there (carried old mid steps is (λ l. DoesOwn takes l command c own.0 to reply) own.2);
+    }
 
 -- and where it could not be opened
-module _ (command : Command) (old mid new : Option Told) (steps : List Event) (is : mid ≡ with_steps old steps) (there : IfSome old (λ t. AsRead t.trace)) (then : IfSome mid (λ t. AsRead t.trace)) where
-  cut_begun_so : (reply : Option Reply) → leaves_one Closed reply ≡ false → new ≡ mid → IfSome old (λ t. OpenSteps t.trace steps × Breaks steps reply) → Begun command old new Closed Closed reply
+module _ (takes : Bool) (command : Command) (no_drill : drill_of command ≡ None) (old mid new : Option Told) (steps : List Event) (is : mid ≡ with_steps old steps) (there : IfSome old (λ t. AsRead t.trace)) (then : IfSome mid (λ t. AsRead t.trace)) where
+  cut_begun_so : (reply : Option Reply) → leaves_one Closed reply ≡ false → new ≡ mid → IfSome old (λ t. OpenSteps t.trace steps × Breaks steps reply) → Begun takes command old new Closed Closed reply
   cut_begun_so reply other same opens = record {
     opening = steps;
     own = [];
+    planned = false;
+    planned_by = none_planned takes command reply no_drill;
     told = same ∙ is ∙ ap (λ l. with_steps old l) (sym (append-nil steps));
-    done = map_three old (λ t o read now sound. cut_done t.trace steps o.0 read sound command now reply other o.1) opens there (carried old mid steps is AsRead then);
+    done = map_three old (λ t o read now sound. cut_done takes t.trace steps o.0 read sound command no_drill now reply other o.1) opens there (carried old mid steps is AsRead then);
   }
 
-  cut_silent : new ≡ mid → (fault : OpenFault) → IfSome old (λ t. OpenSteps t.trace steps × OpenEnds t.trace steps (Err fault)) → Begun command old new Closed Closed None
+  cut_silent : new ≡ mid → (fault : OpenFault) → IfSome old (λ t. OpenSteps t.trace steps × OpenEnds t.trace steps (Err fault)) → Begun takes command old new Closed Closed None
   cut_silent same fault opens = cut_begun_so None refl same (map_some old (λ t o. (o.0, unanswered refl)) opens)
 
-  pub begun_unopened : (fault : OpenFault) (result : Result Reply CommandFault) → Unopened fault mid new result → IfSome old (λ t. OpenSteps t.trace steps × OpenEnds t.trace steps (Err fault)) → Begun command old new Closed Closed (reply_if result)
+  pub begun_unopened : (fault : OpenFault) (result : Result Reply CommandFault) → Unopened fault mid new result → IfSome old (λ t. OpenSteps t.trace steps × OpenEnds t.trace steps (Err fault)) → Begun takes command old new Closed (session_after result None) (reply_if result)
   begun_unopened openings.Plant result un opens =
-      subst (λ r. Begun command old new Closed Closed (reply_if r)) (sym un.0) (cut_begun_so (Some replies.Down) refl un.1 (map_some old (λ t o. (o.0, failed o.0.no_restart (o.1.1 refl) refl)) opens))
+      subst (λ r. Begun takes command old new Closed (session_after r None) (reply_if r)) (sym un.0) (cut_begun_so (Some replies.Down) refl un.1 (map_some old (λ t o. (o.0, failed o.0.no_restart (o.1.1 refl) refl)) opens))
   begun_unopened openings.Stopped (Ok reply) un opens =
       let a = un.1.0 in
       let b = un.1.1 in
-      subst (λ r. Begun command old new Closed Closed (Some r)) (sym un.0) (record {
+      subst (λ r. Begun takes command old new Closed Closed (Some r)) (sym un.0) (record {
         opening = steps ++ Restarted a b ∷ [];
         own = [];
+        planned = false;
+        planned_by = none_planned takes command (Some replies.Stopped) no_drill;
         told = un.1.2 ∙ ap (λ o. with_steps o (Restarted a b ∷ [])) is ∙ steps_twice old steps (Restarted a b ∷ []) ∙ ap (λ l. with_steps old l) (sym (append-nil (steps ++ Restarted a b ∷ [])));
-        done = map_three old (λ t o read now sound. stopped_done t.trace steps o.0 read sound command a b now) opens there (carried old mid steps is (λ l. ArePossible l a b) un.1.3);
+        done = map_three old (λ t o read now sound. stopped_done takes t.trace steps o.0 read sound command no_drill a b now) opens there (carried old mid steps is (λ l. ArePossible l a b) un.1.3);
       })
   begun_unopened openings.Stopped (Err fault) un opens = cut_silent un.1 openings.Stopped opens
-  begun_unopened (openings.Bad side at) result un opens = subst (λ r. Begun command old new Closed Closed (reply_if r)) (sym un.0) (cut_silent un.1 (openings.Bad side at) opens)
-  begun_unopened openings.Memory result un opens = subst (λ r. Begun command old new Closed Closed (reply_if r)) (sym un.0) (cut_silent un.1 openings.Memory opens)
+  begun_unopened (openings.Bad side at) result un opens = subst (λ r. Begun takes command old new Closed (session_after r None) (reply_if r)) (sym un.0) (cut_silent un.1 (openings.Bad side at) opens)
+  begun_unopened openings.Memory result un opens = subst (λ r. Begun takes command old new Closed (session_after r None) (reply_if r)) (sym un.0) (cut_silent un.1 openings.Memory opens)
 
--- WHY: the reply `down`, and sides that are no journal
-pub down_unopened : (fault : OpenFault) (mid new : Option Told) (result : Result Reply CommandFault) → Unopened fault mid new result → reply_if result ≡ Some replies.Down → fault ≡ openings.Plant
-down_unopened openings.Plant mid new result un is = refl
-down_unopened openings.Stopped mid new (Ok reply) un is = absurd (cc (un.0, is))
-down_unopened openings.Stopped mid new (Err fault) un is = absurd (cc is)
-down_unopened (openings.Bad side at) mid new result un is = absurd (cc (sym (ap reply_if un.0) ∙ is))
-down_unopened openings.Memory mid new result un is = absurd (cc (sym (ap reply_if un.0) ∙ is))
+-- WHY: a reply that closes, and sides that are no journal
+pub closes_unopened : (fault : OpenFault) (mid new : Option Told) (result : Result Reply CommandFault) → Unopened fault mid new result → closes_if (reply_if result) ≡ true → fault ≡ openings.Plant
+closes_unopened openings.Plant mid new result un is = refl
+closes_unopened openings.Stopped mid new (Ok reply) un is = absurd (cc (ap closes un.0, is))
+closes_unopened openings.Stopped mid new (Err fault) un is = absurd (cc is)
+closes_unopened (openings.Bad side at) mid new result un is = absurd (cc (ap (λ r. closes_if (reply_if r)) un.0, is))
+closes_unopened openings.Memory mid new result un is = absurd (cc (ap (λ r. closes_if (reply_if r)) un.0, is))
+
+pub blames_unopened : (fault : OpenFault) (mid new : Option Told) (result : Result Reply CommandFault) → Unopened fault mid new result → blames_if (reply_if result) ≡ false
+blames_unopened openings.Plant mid new result un = ap (λ r. blames_if (reply_if r)) un.0
+blames_unopened openings.Stopped mid new (Ok reply) un = ap blames_device un.0
+blames_unopened openings.Stopped mid new (Err fault) un = refl
+blames_unopened (openings.Bad side at) mid new result un = ap (λ r. blames_if (reply_if r)) un.0
+blames_unopened openings.Memory mid new result un = ap (λ r. blames_if (reply_if r)) un.0
 
 pub bad_unopened : (fault : OpenFault) (mid new : Option Told) (result : Result Reply CommandFault) (side : Side) (at : ℕ) → Unopened fault mid new result → result ≡ Err (command_faults.JournalBad side at) → (fault ≡ openings.Bad side at) × (new ≡ mid)
 bad_unopened openings.Plant mid new result side at un is = absurd (cc (un.0, is))
@@ -259,9 +289,9 @@ open_opened old mid steps c is opens stands limit =
     (map_both old (λ t o here. record { stands = here; works = λ sound. (o.1.0.2 (sound_before the_texts t.trace steps sound), limit) }) opens (carried old mid steps is (λ l. Stands l c) stands))
 
 -- whatever was begun, with the counts of faults and what is kept
-pub made_so : (command : Command) (old new : Moment) (to : Session) (reply : Option Reply) → Begun command old.told new.told (session_of old.controller) to reply → Later old.faults new.faults → (reply ≡ Some replies.Down → Rose old.faults.disk new.faults.disk)
-    → (is_some reply ≡ true → new.stopped ≡ false) → MayGoOn new → Made command old new to reply
-made_so command old new to reply begun later down runs goes_on = record { begun = begun; later = later; down = down; runs = runs; goes_on = goes_on }
+pub made_so : (takes : Bool) (command : Command) (old new : Moment) (to : Session) (reply : Option Reply) → Begun takes command old.told new.told (session_of old.controller) to reply → Later old.faults new.faults
+    → (closes_if reply ≡ true → Rose old.faults.disk new.faults.disk) → (blames_if reply ≡ true → Rose old.faults.devices new.faults.devices) → (is_some reply ≡ true → new.stopped ≡ false) → MayGoOn new → Made takes command old new to reply
+made_so takes command old new to reply begun later disk device runs goes_on = record { begun = begun; later = later; disk = disk; device = device; runs = λ some was. runs some; goes_on = goes_on }
 
 pub later_same : (a b now : Faults) → a.disk ≤ b.disk → b.devices ≡ a.devices → now ≡ b → Later a now
 later_same a b now disk devices same = record {

@@ -1,10 +1,11 @@
 -- What one command makes of the plant and of the controller.
-use Rattle.std.specs.Prelude.{◌≡◌, ◌⊎◌, ℕ, ◌<◌, ◌^◌, Bool, true, false, is_some, List, [], ◌∷◌, ◌++◌, length, take, Option, Some, None, IfSome, Result, Ok, Err}
+use Rattle.std.specs.Prelude.{◌≡◌, ◌⊎◌, ℕ, ◌<◌, ◌^◌, Bool, true, false, is_some, List, [], ◌∷◌, ◌++◌, length, take, Option, Some, None, IfSome, Result, Ok, Err, if◌then◌else◌}
 use Rattle.std.specs.Io.KnownBytes.{append_known}
 use Rattle.plant.specs.Calls.{Rose}
 use Rattle.plant.specs.Disks.{disk, ArePossible}
 use Rattle.plant.specs.Events.{Event, Restarted}
-use Rattle.plant.specs.Told.{Told, with_steps, with_mark}
+use Rattle.plant.specs.Told.{Told, with_steps, with_mark, with_drill}
+use Rattle.plant.specs.declared.drill.Drill.{Drill}
 use Rattle.plant.specs.declared.moment.Faults.{Faults}
 use Rattle.plant.specs.declared.step.Side.TheVariants.{A, B}
 use Rattle.records_model.specs.Works.{IsSound}
@@ -15,14 +16,15 @@ use Rattle.journal_runs.specs.Pieces.{has_restart}
 use Rattle.lab_state.specs.Texts.{the_texts}
 use Rattle.script_text.specs.declared.command.Command.{Command}
 use Rattle.script_text.specs.declared.reply.Reply.{Reply}
-use Rattle.script_text.specs.declared.reply.Reply.TheVariants.{Down, Stopped}
+use Rattle.script_text.specs.declared.reply.Reply.TheVariants.{Down, NoDrill, Planned, Stopped}
+use Rattle.script_text.specs.Drills.{drill_of}
 use Rattle.script_text.specs.Replies.{text_of}
 use Rattle.lab_core.specs.LabSteps.{LabStep, Obeys}
 use Rattle.lab_core.specs.Moments.{Seen, Stands, Works, IsLabAt}
 use Rattle.lab_core.specs.Sessions.{Session, Closed, Open, Setting, After}
 use Rattle.lab_top.specs.declared.command.CommandFault.{CommandFault}
 use Rattle.lab_top.specs.declared.command.CommandFault.TheVariants.{Memory, WriteFault, JournalBad}
-use Rattle.lab_top.specs.CommandTurns.{IsTurn, Later}
+use Rattle.lab_top.specs.CommandTurns.{IsPlannedBy, IsTurn, Later, blames_if, closes_if, with_drill_if}
 
 -- what is seen of the plant between two commands, and the controller where it is open
 pub record Moment : Type 0 where
@@ -45,9 +47,9 @@ pub record MayGoOn (now : Moment) : Type 0 where
   pub controller : IfSome now.told (λ t. IfSome now.controller (λ c. IsOpen t.trace c))
   pub runs : is_some now.controller ≡ true → now.stopped ≡ false
 
--- A COMMAND WAS DONE over the trace, by the steps of its opening and its own: they are a turn, and the trace stays sound
-pub record IsDone (trace : List Event) (command : Command) (from to : Session) (opening own : List Event) (reply : Option Reply) : Type 0 where
-  pub turn : (faults later : Faults) → IsTurn trace (record {
+-- A COMMAND WAS DONE over the trace, by the steps of its opening and its own: they are a turn, whatever was planned, and the trace stays sound
+pub record IsDone (takes : Bool) (trace : List Event) (command : Command) (from to : Session) (opening own : List Event) (reply : Option Reply) : Type 0 where
+  pub turn : (faults later : Faults) (planned : Bool) → IsTurn takes trace (record {
     command = command;
     faults = faults;
     later = later;
@@ -55,6 +57,7 @@ pub record IsDone (trace : List Event) (command : Command) (from to : Session) (
     to = to;
     opening = opening;
     own = own;
+    planned = planned;
     reply = reply;
   })
   pub sound : IsSound the_texts (trace ++ (opening ++ own))
@@ -66,18 +69,28 @@ pub record WasOpened (trace : List Event) (from : Session) (opening : List Event
   pub no_restart : has_restart opening ≡ false
   pub works : Works (trace ++ opening) c
   pub limit : limit_of c.journal ≡ 2 ^ 32
-  pub step : (set : Setting) (command : Command) (own : List Event) (after : After) → Obeys set c.lab command own after → LabStep set c.lab from command opening own after
+  pub step : (takes : Bool) (set : Setting) (command : Command) (own : List Event) (after : After) → drill_of command ≡ None → Obeys set c.lab command own after → LabStep takes set c.lab from command opening own after
 
 -- what an open controller does of a command is done, however it was opened
-abbrev pub DoesOwn : List Event → Command → Seen → List Event → Session → Option Reply → Type 0
-DoesOwn trace command c own to reply = (before : List Event) (from : Session) (opening : List Event) → trace ≡ before ++ opening → WasOpened before from opening c → IsDone before command from to opening own reply
+abbrev pub DoesOwn : Bool → List Event → Command → Seen → List Event → Session → Option Reply → Type 0
+DoesOwn takes trace command c own to reply = (before : List Event) (from : Session) (opening : List Event) → trace ≡ before ++ opening → WasOpened before from opening c → IsDone takes before command from to opening own reply
 
-abbrev pub OwnTold : Option Told → Option Told → Command → Seen → Session → Option Reply → Type 0
-OwnTold old new command c to reply = (own : List Event) × (new ≡ with_steps old own) × IfSome old (λ t. DoesOwn t.trace command c own to reply)
+abbrev pub OwnTold : Bool → Option Told → Option Told → Command → Seen → Session → Option Reply → Type 0
+OwnTold takes old new command c to reply = (own : List Event) × (new ≡ with_steps old own) × IfSome old (λ t. DoesOwn takes t.trace command c own to reply)
 
 abbrev pub reply_if : Result Reply CommandFault → Option Reply
 reply_if (Ok reply) = Some reply
 reply_if (Err fault) = None
+
+-- where there is no reply, the session is closed
+abbrev pub session_after : Result Reply CommandFault → Option Seen → Session
+session_after (Ok reply) controller = session_of controller
+session_after (Err fault) controller = Closed
+
+-- A DRILL IS PLANNED on a plant that takes drills, and else refused; or memory is wanting, and nothing is done
+abbrev pub Plans : Bool → Drill → Option Told → Option Told → Result Reply CommandFault → Type 0
+Plans takes drill old new (Ok reply) = ((reply ≡ Planned) × (takes ≡ true) × (new ≡ with_drill old drill)) ⊎ ((reply ≡ NoDrill) × (takes ≡ false) × (new ≡ old))
+Plans takes drill old new (Err fault) = (fault ≡ Memory) × (new ≡ old)
 
 -- A STOPPED PLANT IS STARTED AGAIN, and the reply tells it; or memory is wanting, and nothing is done
 abbrev pub Starts : Option Told → Option Told → Result Reply CommandFault → Type 0
@@ -91,18 +104,21 @@ Unopened openings.Stopped old new result = Starts old new result
 Unopened (openings.Bad side at) old new result = (result ≡ Err (JournalBad side at)) × (new ≡ old)
 Unopened openings.Memory old new result = (result ≡ Err Memory) × (new ≡ old)
 
--- A COMMAND WAS BEGUN, with a reply or none, by some steps: over a sound trace it was done
-pub record Begun (command : Command) (old new : Option Told) (from to : Session) (reply : Option Reply) : Type 0 where
+-- A COMMAND WAS BEGUN, with a reply or none, by some steps, and perhaps a drill that was planned: over a sound trace it was done
+pub record Begun (takes : Bool) (command : Command) (old new : Option Told) (from to : Session) (reply : Option Reply) : Type 0 where
   pub opening : List Event
   pub own : List Event
-  pub told : new ≡ with_steps old (opening ++ own)
-  pub done : IfSome old (λ t. IsSound the_texts t.trace → IsDone t.trace command from to opening own reply)
+  pub planned : Bool
+  pub told : new ≡ with_drill_if (with_steps old (opening ++ own)) (if planned then drill_of command else None)
+  pub planned_by : IsPlannedBy takes (drill_of command) planned reply
+  pub done : IfSome old (λ t. IsSound the_texts t.trace → IsDone takes t.trace command from to opening own reply)
 
-pub record Made (command : Command) (old new : Moment) (to : Session) (reply : Option Reply) : Type 0 where
-  pub begun : Begun command old.told new.told (session_of old.controller) to reply
+pub record Made (takes : Bool) (command : Command) (old new : Moment) (to : Session) (reply : Option Reply) : Type 0 where
+  pub begun : Begun takes command old.told new.told (session_of old.controller) to reply
   pub later : Later old.faults new.faults
-  pub down : reply ≡ Some Down → Rose old.faults.disk new.faults.disk
-  pub runs : is_some reply ≡ true → new.stopped ≡ false
+  pub disk : closes_if reply ≡ true → Rose old.faults.disk new.faults.disk
+  pub device : blames_if reply ≡ true → Rose old.faults.devices new.faults.devices
+  pub runs : is_some reply ≡ true → old.stopped ≡ false → new.stopped ≡ false
   pub goes_on : MayGoOn new
 
 -- a reply's text is written, or a proper prefix of it; or memory is wanting, and nothing is
@@ -124,9 +140,9 @@ marked old = record old { told = with_mark old.told old.faults }
 
 -- A COMMAND WAS ANSWERED: it was begun behind a mark, and what was written grew by its reply, or by a proper prefix of it. At want of memory it has no
 -- reply, or wasn't even begun; where the sides are no journal it has none.
-abbrev pub Answered : Command → Moment → Moment → Option (List ℕ) → Option (List ℕ) → Result (Unit {0}) CommandFault → Type 0
-Answered command old new before now (Ok done) = (reply : Reply) × Made command (marked old) new (session_of new.controller) (Some reply) × (now ≡ append_known before (text_of reply))
-Answered command old new before now (Err WriteFault) =
-    (reply : Reply) × Made command (marked old) new (session_of new.controller) (Some reply) × (n : ℕ) × (n < length (text_of reply)) × (now ≡ append_known before (take n (text_of reply)))
-Answered command old new before now (Err Memory) = (Same old new ⊎ Made command (marked old) new Closed None) × (now ≡ before)
-Answered command old new before now (Err (JournalBad side at)) = Made command (marked old) new Closed None × (new.stopped ≡ false) × (now ≡ before)
+abbrev pub Answered : Bool → Command → Moment → Moment → Option (List ℕ) → Option (List ℕ) → Result (Unit {0}) CommandFault → Type 0
+Answered takes command old new before now (Ok done) = (reply : Reply) × Made takes command (marked old) new (session_of new.controller) (Some reply) × (now ≡ append_known before (text_of reply))
+Answered takes command old new before now (Err WriteFault) =
+    (reply : Reply) × Made takes command (marked old) new (session_of new.controller) (Some reply) × (n : ℕ) × (n < length (text_of reply)) × (now ≡ append_known before (take n (text_of reply)))
+Answered takes command old new before now (Err Memory) = (Same old new ⊎ Made takes command (marked old) new Closed None) × (now ≡ before)
+Answered takes command old new before now (Err (JournalBad side at)) = Made takes command (marked old) new Closed None × (new.stopped ≡ false) × (now ≡ before)

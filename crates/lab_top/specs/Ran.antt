@@ -1,10 +1,12 @@
--- What a run of commands says of the bytes that it read, the bytes that it wrote and the plant's past.
+-- THE RUN OF THE PROGRAM: what it says of the bytes that it read, the bytes that it wrote and the plant's past.
 use Rattle.std.specs.Prelude.{◌≡◌, ◌⊎◌, ℕ, ◌+◌, ◌<◌, Bool, true, false, is_some, List, [], ◌∷◌, ◌++◌, length, take, Option, Some, None, IfSome}
 use Rattle.std.specs.List.{list_all}
 use Rattle.std.specs.Io.KnownBytes.{append_known}
 use Rattle.lab_io.specs.Feeds.{NoFeed}
 use Rattle.lab_io.specs.Lines.{script_lines}
 use Rattle.lab_io.specs.Passed.{IsWhole}
+use Rattle.plant.specs.Told.{Told}
+use Rattle.plant.specs.declared.moment.Faults.{Faults}
 use Rattle.records_model.specs.Works.{IsSound}
 use Rattle.lab_state.specs.Texts.{the_texts}
 use Rattle.script_text.specs.declared.command.Command.{Command}
@@ -12,8 +14,15 @@ use Rattle.script_text.specs.Commands.{Lines, Got, next_of, AtEnd, BadLine, IsSc
 use Rattle.lab_top.specs.declared.status.Status.{Status}
 use Rattle.lab_top.specs.declared.status.Status.TheVariants.{Done, ReadFault, WriteFault, Usage, BadScript, Memory, JournalBad}
 use Rattle.lab_core.specs.Sessions.{Closed}
-use Rattle.lab_top.specs.Session.{Outside}
 use Rattle.lab_top.specs.CommandTurns.{CommandTurn, AreTurns, Counts, commands_of, with_turns, reply_text, reply_texts}
+
+-- what is seen of the outside: what the source has left, what the plant tells, its counts of faults, whether it is stopped, and what was written
+pub record Outside : Type 0 where
+  pub left : Option (List ℕ)
+  pub told : Option Told
+  pub faults : Faults
+  pub stopped : Bool
+  pub written : Option (List ℕ)
 
 -- these are the first commands behind line `number`
 abbrev pub AreFirst : ℕ → Lines → List Command → Type 0
@@ -65,14 +74,14 @@ abbrev pub GoesOn : Status → Bool → Type 0
 GoesOn Memory stopped = Unit {0}
 GoesOn status stopped = stopped ≡ false
 
--- A RUN OF COMMANDS, by the turns that it made
-pub record Ran (old new : Outside) (status : Status) (made : List CommandTurn) : Type 0 where
-  -- the marks are the moments just before the commands that were begun, and behind each mark stand the steps of its command
+-- A RUN, by the turns that it made, over a plant that takes drills or not
+pub record Ran (takes : Bool) (old new : Outside) (status : Status) (made : List CommandTurn) : Type 0 where
+  -- the marks are the moments just before the commands that were begun, behind each mark stand the steps of its command, and the drills are those that were planned
   pub told : new.told ≡ with_turns old.told made
-  pub counts : Counts old.faults made new.faults
+  pub counts : Counts takes old.faults made new.faults
   pub goes_on : old.stopped ≡ false → GoesOn status new.stopped
   -- over a trace that is sound at the entry each command is a lab step, from the lab of the moment before it to that of the moment after it
-  pub turns : old.stopped ≡ false → IfSome old.told (λ t. IsSound the_texts t.trace → AreTurns t.trace Closed made)
+  pub turns : old.stopped ≡ false → IfSome old.told (λ t. IsSound the_texts t.trace → AreTurns takes t.trace Closed made)
   -- and the trace is sound at the exit
   pub sound : old.stopped ≡ false → IfSome old.told (λ t. IsSound the_texts t.trace → IfSome new.told (λ u. IsSound the_texts u.trace))
   pub answered : Answered status made

@@ -1,18 +1,18 @@
-ghost use Rattle.std.specs.Prelude.{◌≡◌, Some, ◌↔◌, ◌≤◌, ◌^◌, ℕ, None, IfSome, IsErrOf, IsTrue, false, Err, OnOk, OnErr};
+ghost use Rattle.std.specs.Prelude.{◌≡◌, ◌↔◌, ◌≤◌, ◌^◌, ℕ, None, IfSome, IsErrOf, IsTrue, true, false, Err, OnOk, OnErr};
 ghost use Rattle.lab_io.specs.Causes.{Rose};
 ghost use Rattle.plant.specs.Disks.{disk};
 ghost use Rattle.plant.specs.declared.step.Side.{Side as AnySide};
 ghost use Rattle.plant.specs.declared.step.Side.TheVariants.{A, B};
+ghost use Rattle.script_text.specs.Drills.{drill_of};
 ghost use Rattle.script_text.specs.Replies.{text_of};
-ghost use Rattle.script_text.specs.declared.reply.Reply.TheVariants.{Down};
 ghost use Rattle.lab_core.specs.Blocks.{HasBlocks};
 ghost use Rattle.lab_core.specs.Moments.{IsNoJournal};
-ghost use Rattle.lab_top.specs.Answering.{Answered, IsOpen, Made, MayGoOn, OwnTold, Sent, Starts, Unopened, reply_if, session_of};
-ghost use Rattle.lab_top.specs.CommandTurns.{Later};
+ghost use Rattle.lab_top.specs.Answering.{Answered, IsOpen, Made, MayGoOn, OwnTold, Plans, Sent, Starts, Unopened, reply_if, session_after};
+ghost use Rattle.lab_top.specs.CommandTurns.{Later, blames_if, closes_if};
 
 use lab_core::{Controller, CoreFault, OpenFault};
 use lab_io::{Sink, write_all};
-use plant::{Plant, Side};
+use plant::{Drill, DrillFault, Plant, Side};
 use script_text::{Command, Reply, reply_text};
 use std::alloc::Global;
 
@@ -69,15 +69,16 @@ fn obey_open<P: Plant>(
     plant: &mut P,
 ) -> Result<Reply, CommandFault>
     requires blocks { HasBlocks command.now }
+    requires no_drill { drill_of command.now ≡ None }
     requires taken { controller.old ≡ None }
     requires open { IfSome (P.told plant.old) (λ t. IsOpen t.trace opened) }
     requires runs { P.is_stopped plant.old ≡ false }
-    ensures own { OwnTold (P.told plant.old) (P.told plant.new) command.now opened (session_of controller.new) (reply_if result) }
+    ensures own { OwnTold (P.takes_drills plant.old) (P.told plant.old) (P.told plant.new) command.now opened (session_after result controller.new) (reply_if result) }
     ensures goes_on { MayGoOn (record { told = P.told plant.new; faults = P.faults plant.new; stopped = P.is_stopped plant.new; controller = controller.new }) }
-    ensures closed { OnErr result (controller.new ≡ None) }
     ensures memory { OnErr result (result ≡ Err CommandFault.Memory) }
     ensures runs { OnOk result (P.is_stopped plant.new ≡ false) }
-    ensures down { reply_if result ≡ Some Down → Rose (P.faults plant.old).disk (P.faults plant.new).disk }
+    ensures disk { closes_if (reply_if result) ≡ true → Rose (P.faults plant.old).disk (P.faults plant.new).disk }
+    ensures device { blames_if (reply_if result) ≡ true → Rose (P.faults plant.old).devices (P.faults plant.new).devices }
     ensures later { Later (P.faults plant.old) (P.faults plant.new) }
     ensures drills { P.takes_drills plant.new ≡ P.takes_drills plant.old }
 {
@@ -93,20 +94,20 @@ fn obey_open<P: Plant>(
     }
 }
 
-/// Obeys a command, after it has opened the controller where it is closed.
-fn reply_to<P: Plant>(
+/// Obeys a command that is no drill, after it has opened the controller where it is closed.
+fn obey<P: Plant>(
     alloc: Global,
     controller: &mut Option<Controller>,
     command: &Command,
     plant: &mut P,
 ) -> Result<Reply, CommandFault>
     requires blocks { HasBlocks command.now }
+    requires no_drill { drill_of command.now ≡ None }
     requires goes_on { MayGoOn (record { told = P.told plant.old; faults = P.faults plant.old; stopped = P.is_stopped plant.old; controller = controller.old }) }
-    ensures made { Made command.now
+    ensures made { Made (P.takes_drills plant.old) command.now
         (record { told = P.told plant.old; faults = P.faults plant.old; stopped = P.is_stopped plant.old; controller = controller.old })
         (record { told = P.told plant.new; faults = P.faults plant.new; stopped = P.is_stopped plant.new; controller = controller.new })
-        (session_of controller.new) (reply_if result) }
-    ensures closed { OnErr result (controller.new ≡ None) }
+        (session_after result controller.new) (reply_if result) }
     ensures bad { (side : AnySide) (at : ℕ) → result ≡ Err (CommandFault.JournalBad side at)
         → IfSome (P.told plant.new) (λ t. IsNoJournal (disk A t.trace).reads (disk B t.trace).reads (2 ^ 32) side at) × (P.is_stopped plant.new ≡ false) }
     ensures no_write { result ≡ Err CommandFault.WriteFault → ⊥ }
@@ -118,6 +119,44 @@ fn reply_to<P: Plant>(
             Ok(opened) => obey_open(opened, controller, command, plant),
             Err(fault) => unopened(fault, plant),
         },
+    }
+}
+
+/// Plans a failure on the plant itself.
+fn plan<P: Plant>(drill: Drill, plant: &mut P) -> Result<Reply, CommandFault>
+    ensures plans { Plans (P.takes_drills plant.old) drill (P.told plant.old) (P.told plant.new) result }
+    ensures faults { P.faults plant.new ≡ P.faults plant.old }
+    ensures stopped { P.is_stopped plant.new ≡ P.is_stopped plant.old }
+    ensures drills { P.takes_drills plant.new ≡ P.takes_drills plant.old }
+{
+    match plant.drill(drill) {
+        Ok(()) => Ok(Reply::Planned),
+        Err(DrillFault::CannotPlan) => Ok(Reply::NoDrill),
+        Err(DrillFault::Memory) => Err(CommandFault::Memory),
+    }
+}
+
+/// The reply to a command. A drill leaves the controller as it is, open or closed.
+fn reply_to<P: Plant>(
+    alloc: Global,
+    controller: &mut Option<Controller>,
+    command: &Command,
+    plant: &mut P,
+) -> Result<Reply, CommandFault>
+    requires blocks { HasBlocks command.now }
+    requires goes_on { MayGoOn (record { told = P.told plant.old; faults = P.faults plant.old; stopped = P.is_stopped plant.old; controller = controller.old }) }
+    ensures made { Made (P.takes_drills plant.old) command.now
+        (record { told = P.told plant.old; faults = P.faults plant.old; stopped = P.is_stopped plant.old; controller = controller.old })
+        (record { told = P.told plant.new; faults = P.faults plant.new; stopped = P.is_stopped plant.new; controller = controller.new })
+        (session_after result controller.new) (reply_if result) }
+    ensures bad { (side : AnySide) (at : ℕ) → result ≡ Err (CommandFault.JournalBad side at)
+        → IfSome (P.told plant.new) (λ t. IsNoJournal (disk A t.trace).reads (disk B t.trace).reads (2 ^ 32) side at) × (P.is_stopped plant.new ≡ false) }
+    ensures no_write { result ≡ Err CommandFault.WriteFault → ⊥ }
+    ensures drills { P.takes_drills plant.new ≡ P.takes_drills plant.old }
+{
+    match command.drill() {
+        Some(drill) => plan(drill, plant),
+        None => obey(alloc, controller, command, plant),
     }
 }
 
@@ -136,7 +175,7 @@ fn send_reply<K: Sink>(alloc: Global, reply: &Reply, sink: &mut K) -> Result<(),
     }
 }
 
-/// Marks the moment, obeys a command, and writes its reply.
+/// Marks the moment, obeys a command or plans the failure of a drill, and writes the reply.
 pub(crate) fn answer_command<K: Sink, P: Plant>(
     alloc: Global,
     controller: &mut Option<Controller>,
@@ -146,7 +185,7 @@ pub(crate) fn answer_command<K: Sink, P: Plant>(
 ) -> Result<(), CommandFault>
     requires blocks { HasBlocks command }
     requires goes_on { MayGoOn (record { told = P.told plant.old; faults = P.faults plant.old; stopped = P.is_stopped plant.old; controller = controller.old }) }
-    ensures answered { Answered command
+    ensures answered { Answered (P.takes_drills plant.old) command
         (record { told = P.told plant.old; faults = P.faults plant.old; stopped = P.is_stopped plant.old; controller = controller.old })
         (record { told = P.told plant.new; faults = P.faults plant.new; stopped = P.is_stopped plant.new; controller = controller.new })
         (K.written sink.old) (K.written sink.new) result }

@@ -1,37 +1,28 @@
 use super::*;
-use crate::tests::run;
+use crate::tests::{LARGE, PAIR, SMALL, run};
 use lab_io::{MemSink, MemSource};
 use plant::MemLab;
 use std::alloc::Global;
+use std::process::Abort;
 use std::test::Fail;
-
-/// One switch with two machines: six lines.
-const SMALL: &[u8] =
-    b"vlans 100 101\nnode s1 switch\nnode pc1 pc:1\nnode pc2 pc:1\nlink l1 pc1:eth0 s1:1 100000\nlink l2 pc2:eth0 s1:2 100000\n";
-
-/// Two switches with two machines each, and a trunk: twelve lines.
-const LARGE: &[u8] =
-    b"vlans 100 103\nnode s1 switch\nnode s2 switch\nnode pc1 pc:1\nnode pc2 pc:1\nnode pc3 pc:1\nnode pc4 pc:1\nlink i1 pc1:eth0 s1:1 1000000\nlink i2 pc2:eth0 s1:2 1000000\nlink i3 pc3:eth0 s2:1 1000000\nlink i4 pc4:eth0 s2:2 1000000\nlink t1 s1:24 s2:24 100000\n";
-
-/// Two virtual nodes and a segment: three lines.
-const PAIR: &[u8] = b"node a pc linux\nnode b pc linux\nlink ab ab 100000 a b\n";
 
 /// Parts of a script, and what comes of it: the output, the status, and how many steps there are. An opening of blank sides has 8, and an append 4.
 type Case = (&'static [&'static [u8]], &'static [u8], Status, usize);
 
+/// Runs each script, and looks at what comes of it.
+fn check(rt: &impl Abort, alloc: Global, cases: &[Case]) -> Result<(), Fail> {
+    for (parts, output, status, steps) in cases {
+        let ran = run(alloc, &parts.concat(alloc)?)?;
+        assert_eq!(rt; ran.output.as_slice(), *output);
+        assert_eq!(rt; ran.status, *status);
+        assert_eq!(rt; ran.plant.trace().len(), *steps);
+    }
+    Ok(())
+}
+
 #[test]
-fn commands_are_answered(rt: HostRuntime) -> Result<(), Fail> {
-    let alloc = rt.alloc();
-    let cases: [Case; 10] = [
-        // The demo.
-        (
-            &[
-                b"# A lab of one switch with two machines, given by its text, and an experiment that asks for both.\nptop 6\nvlans 100 101\nnode s1 switch\nnode pc1 pc:1\nnode pc2 pc:1\nlink l1 pc1:eth0 s1:1 100000\nlink l2 pc2:eth0 s1:2 100000\nstatus\n\ncreate-top A 3\nnode a pc linux\nnode b pc linux\nlink ab ab 100000 a b\nshow A\nstatus\n\n# What a refused command asks for isn't done, and all else goes on.\ncreate-top A 1\nnode a pc linux\ndelete B\ndelete A\nstatus\n",
-            ],
-            b"lab 1 2 0\nfree 2 2\ncreated A 2 1\nshow A out\nnode a pc linux\nnode b pc linux\nlink ab ab 100000 a b\nend A\nexp A out 0 0\nfree 2 2\nexists A\nunknown B\ndeleted A\nfree 2 2\n",
-            Status::Done,
-            20,
-        ),
+fn a_lab_is_set_once(rt: HostRuntime) -> Result<(), Fail> {
+    let cases: [Case; 4] = [
         (
             &[b"ptop 6\n", SMALL, b"ptop 6\n", SMALL],
             b"lab 1 2 0\nlab is set\n",
@@ -48,18 +39,28 @@ fn commands_are_answered(rt: HostRuntime) -> Result<(), Fail> {
             Status::Done,
             8,
         ),
-        // A bad lab is none, and a block that is cut short names its first missing line.
+        // A bad lab is none.
         (
-            &[b"status\nptop 1\nnode s1\nshow A\nptop 6\nvlans 100 101\n"],
+            &[b"status\nptop 1\nnode s1\nshow A\n"],
             b"no lab\nbad ptop 1 fields\nno lab\n",
-            Status::BadScript { line: 7 },
+            Status::Done,
             8,
         ),
+    ];
+    check(&rt, rt.alloc(), &cases)
+}
+
+#[test]
+fn experiments_are_kept(rt: HostRuntime) -> Result<(), Fail> {
+    let cases: [Case; 4] = [
+        // The demo.
         (
-            &[b"status\nptop 6\nvlans 100 101\n"],
-            b"no lab\n",
-            Status::BadScript { line: 4 },
-            8,
+            &[
+                b"# A lab of one switch with two machines, given by its text, and an experiment that asks for both.\nptop 6\nvlans 100 101\nnode s1 switch\nnode pc1 pc:1\nnode pc2 pc:1\nlink l1 pc1:eth0 s1:1 100000\nlink l2 pc2:eth0 s1:2 100000\nstatus\n\ncreate-top A 3\nnode a pc linux\nnode b pc linux\nlink ab ab 100000 a b\nshow A\nstatus\n\n# What a refused command asks for isn't done, and all else goes on.\ncreate-top A 1\nnode a pc linux\ndelete B\ndelete A\nstatus\n",
+            ],
+            b"lab 1 2 0\nfree 2 2\ncreated A 2 1\nshow A out\nnode a pc linux\nnode b pc linux\nlink ab ab 100000 a b\nend A\nexp A out 0 0\nfree 2 2\nexists A\nunknown B\ndeleted A\nfree 2 2\n",
+            Status::Done,
+            20,
         ),
         (
             &[
@@ -97,53 +98,133 @@ fn commands_are_answered(rt: HostRuntime) -> Result<(), Fail> {
             Status::Done,
             16,
         ),
-        // A line of pairs is no command.
+    ];
+    check(&rt, rt.alloc(), &cases)
+}
+
+#[test]
+fn drills_are_planned(rt: HostRuntime) -> Result<(), Fail> {
+    let cases: [Case; 3] = [
+        // A drill opens no controller.
+        (
+            &[b"fail s1 1 not\nfail pc1 2 hang\n"],
+            b"planned\nplanned\n",
+            Status::Done,
+            0,
+        ),
+        // One that is open stays open.
+        (
+            &[b"status\nfail s1 1 applied\nstatus\n"],
+            b"no lab\nplanned\nno lab\n",
+            Status::Done,
+            8,
+        ),
+        (&[b"fail s1 0 not\n"], b"", Status::BadScript { line: 1 }, 0),
+    ];
+    check(&rt, rt.alloc(), &cases)
+}
+
+#[test]
+fn scripts_are_read(rt: HostRuntime) -> Result<(), Fail> {
+    let cases: [Case; 7] = [
+        (&[b""], b"", Status::Done, 0),
+        (
+            &[b"# commands\n \t\n\n status"],
+            b"no lab\n",
+            Status::Done,
+            8,
+        ),
+        (
+            &[b"# commands\n \t\n\n status # no word\n"],
+            b"",
+            Status::BadScript { line: 4 },
+            0,
+        ),
+        (
+            &[b"machines 2\npair A pc1 pc2\n"],
+            b"",
+            Status::BadScript { line: 1 },
+            0,
+        ),
         (
             &[b"status\nmachines 2\n"],
             b"no lab\n",
             Status::BadScript { line: 2 },
             8,
         ),
+        // A block that is cut short names its first missing line.
+        (
+            &[b"status\nptop 6\nvlans 100 101\n"],
+            b"no lab\n",
+            Status::BadScript { line: 4 },
+            8,
+        ),
+        (
+            &[b"status\n\0\0\0\0"],
+            b"no lab\n",
+            Status::BadScript { line: 2 },
+            8,
+        ),
     ];
-    for (parts, output, status, steps) in cases {
-        let ran = run(alloc, &parts.concat(alloc)?, &[])?;
-        assert_eq!(rt; ran.output.as_slice(), output);
-        assert_eq!(rt; ran.status, status);
-        assert_eq!(rt; ran.plant.trace().len(), steps);
+    check(&rt, rt.alloc(), &cases)
+}
+
+/// A script whose first line is made of so many bytes behind a first part.
+fn with_long_line(alloc: Global, before: &[u8], byte: u8, count: usize) -> Result<Vec<u8>, Fail> {
+    let mut script = before.to_vec(alloc)?;
+    for _ in 0..count {
+        script.push(byte)?;
+    }
+    script.extend_from_slice(b"\nstatus\n")?;
+    Ok(script)
+}
+
+#[test]
+fn lines_and_names_have_limits(rt: HostRuntime) -> Result<(), Fail> {
+    let alloc = rt.alloc();
+    let at_first = Status::BadScript { line: 1 };
+    // A name of 32 bytes and one of 33, a comment that fills a line of 4,096 bytes and one of a byte more, and zeros.
+    let cases: [(&[u8], u8, usize, Status); 5] = [
+        (b"show ", b'n', 32, Status::Done),
+        (b"show ", b'n', 33, at_first),
+        (b"#", b'c', 4_095, Status::Done),
+        (b"#", b'c', 4_096, at_first),
+        (b"", 0, 6_000, at_first),
+    ];
+    for (before, byte, count, status) in cases {
+        let script = with_long_line(alloc, before, byte, count)?;
+        assert_eq!(rt; run(alloc, &script)?.status, status);
     }
     Ok(())
 }
 
 #[test]
-fn the_first_line_tells_the_form(rt: HostRuntime) -> Result<(), Fail> {
-    let cases: [(&'static [u8], &'static [u8], Status); 6] = [
-        (
-            b"# pairs\n\n\tmachines 2\npair A pc1 pc2\n",
-            b"in A\n",
-            Status::Done,
-        ),
-        (
-            b"# commands\n \t\n\n status # no word\n",
-            b"",
-            Status::BadScript { line: 4 },
-        ),
-        (b"# commands\n \t\n\n status\n", b"no lab\n", Status::Done),
-        (
-            b"# machines\nmachines2 2\n",
-            b"",
-            Status::BadScript { line: 2 },
-        ),
-        (b"machines\nstatus\n", b"", Status::BadScript { line: 1 }),
-        (
-            b"frobnicate\nmachines 2\n",
-            b"",
-            Status::BadScript { line: 1 },
-        ),
+fn statuses_have_causes(rt: HostRuntime) -> Result<(), Fail> {
+    let alloc = rt.alloc();
+    let mut plant = MemLab::blank(alloc)?;
+    let mut source = MemSource::new(alloc, b"status\n", &[])?;
+    let mut sink = MemSink::new(alloc, 2, &[])?;
+    let mut words = Vec::new(alloc);
+    words.push("--help".to_string(alloc)?)?;
+    let status = labctl(alloc, &words, &mut source, &mut sink, &mut plant);
+    assert_eq!(rt; status, Status::Usage);
+    assert_eq!(rt; sink.bytes().len(), 0);
+    assert_eq!(rt; plant.trace().len(), 0);
+    // The sink has room for two bytes of the reply.
+    let words = Vec::new(alloc);
+    let status = labctl(alloc, &words, &mut source, &mut sink, &mut plant);
+    assert_eq!(rt; status, Status::WriteFault);
+    assert_eq!(rt; sink.bytes(), b"no".as_slice());
+    let codes = [
+        Status::Done,
+        Status::ReadFault,
+        Status::WriteFault,
+        Status::Usage,
+        Status::BadScript { line: 7 },
+        Status::Memory,
     ];
-    for (script, output, status) in cases {
-        let ran = run(rt.alloc(), script, &[])?;
-        assert_eq!(rt; ran.output.as_slice(), output);
-        assert_eq!(rt; ran.status, status);
+    for (code, status) in codes.iter().enumerate() {
+        assert_eq!(rt; usize::from(status.code()), code);
     }
     Ok(())
 }

@@ -1,6 +1,5 @@
-ghost use Rattle.std.specs.Prelude.{◌≡◌, ◌≤◌, ◌^◌, ℕ, List, Option, Some, IfSome};
+ghost use Rattle.std.specs.Prelude.{◌≡◌, ◌≤◌, ◌^◌, ℕ, List, IfSome};
 ghost use Rattle.lab_io.specs.Causes.{Rose};
-ghost use Rattle.lab_io.specs.Passed.{IsReady, stand_of};
 ghost use Rattle.plant.specs.Disks.{disk};
 ghost use Rattle.plant.specs.declared.step.Side.{Side as AnySide};
 ghost use Rattle.plant.specs.declared.step.Side.TheVariants.{A, B};
@@ -8,8 +7,8 @@ ghost use Rattle.records_model.specs.Works.{IsSound};
 ghost use Rattle.lab_state.specs.Texts.{the_texts};
 ghost use Rattle.lab_core.specs.Moments.{IsNoJournal};
 ghost use Rattle.lab_top.specs.CommandTurns.{CommandTurn};
-ghost use Rattle.lab_top.specs.Forms.{Behind};
 ghost use Rattle.lab_top.specs.Ran.{Ran};
+ghost use Rattle.lab_top.specs.Readers.{IsNew};
 
 use crate::command::{CommandFault, answer_command};
 use crate::status::Status;
@@ -26,10 +25,9 @@ pub(crate) fn obey_commands<S: Source, K: Sink, P: Plant>(
     sink: &mut K,
     plant: &mut P,
 ) -> Status
-    requires { IsReady reader.old (S.left source.old) }
-    ensures ran { (left : Option (List ℕ)) → ((bytes : List ℕ) → left ≡ Some bytes → Behind bytes (stand_of reader.old (S.left source.old)))
-        → (turns : List CommandTurn) × Ran
-        (record { left = left; told = P.told plant.old; faults = P.faults plant.old; stopped = P.is_stopped plant.old; written = K.written sink.old })
+    requires { IsNew reader.old }
+    ensures ran { (turns : List CommandTurn) × Ran (P.takes_drills plant.old)
+        (record { left = S.left source.old; told = P.told plant.old; faults = P.faults plant.old; stopped = P.is_stopped plant.old; written = K.written sink.old })
         (record { left = S.left source.new; told = P.told plant.new; faults = P.faults plant.new; stopped = P.is_stopped plant.new; written = K.written sink.new }) result turns }
     ensures bad { (side : AnySide) (at : ℕ) → result ≡ Status.JournalBad side at
         → IfSome (P.told plant.new) (λ t. IsNoJournal (disk A t.trace).reads (disk B t.trace).reads (2 ^ 32) side at) }

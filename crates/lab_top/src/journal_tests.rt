@@ -1,6 +1,5 @@
 use super::*;
-use crate::tests::Ran;
-use lab_io::{MemSink, MemSource};
+use crate::tests::{Ran, run_over};
 use plant::{Drill, MemLab, Pick, Plant, Side};
 use std::alloc::Global;
 use std::test::Fail;
@@ -12,20 +11,6 @@ const SCRIPT: &[u8] =
 /// What is replied where nothing fails.
 const WHOLE: &[u8] =
     b"lab 1 2 0\nfree 2 2\ncreated A 2 1\nexp A out 0 0\nfree 2 2\ndeleted A\nfree 2 2\n";
-
-/// Runs the script over the plant.
-fn run_over(alloc: Global, script: &[u8], mut plant: MemLab) -> Result<Ran, Fail> {
-    let mut source = MemSource::new(alloc, script, &[])?;
-    let mut sink = MemSink::new(alloc, 8_192, &[])?;
-    let words = Vec::new(alloc);
-    let status = labctl(alloc, &words, &mut source, &mut sink, &mut plant);
-    let output = sink.bytes().to_vec(alloc)?;
-    Ok(Ran {
-        status,
-        output,
-        plant,
-    })
-}
 
 /// Whether the run with a failure ends so.
 fn ends_so(alloc: Global, drill: Drill, output: &[u8]) -> Result<bool, Fail> {

@@ -1,4 +1,4 @@
-ghost use Rattle.std.specs.Prelude.{◌≡◌, ◌↔◌, ◌≤◌, ◌<◌, ◌^◌, ℕ, length, IfSome};
+ghost use Rattle.std.specs.Prelude.{◌≡◌, ◌↔◌, ◌≤◌, ◌<◌, ◌^◌, ℕ, List, length, IfSome};
 ghost use Rattle.lab_io.specs.Causes.{Rose};
 ghost use Rattle.plant.specs.Disks.{disk};
 ghost use Rattle.plant.specs.declared.step.Side.{Side as AnySide};
@@ -6,20 +6,18 @@ ghost use Rattle.plant.specs.declared.step.Side.TheVariants.{A, B};
 ghost use Rattle.records_model.specs.Works.{IsSound};
 ghost use Rattle.lab_state.specs.Texts.{the_texts};
 ghost use Rattle.lab_core.specs.Moments.{IsNoJournal};
-ghost use Rattle.lab_top.specs.Run.{Run};
+ghost use Rattle.lab_top.specs.CommandTurns.{CommandTurn};
+ghost use Rattle.lab_top.specs.Ran.{Ran};
 
 use crate::commands::obey_commands;
-use crate::form::{Form, find_form};
-use crate::pairs::obey_pairs;
 use crate::status::Status;
-use lab_io::{LineFault, LineReader, Sink, Source};
+use lab_io::{LineReader, Sink, Source};
 use plant::Plant;
 use std::alloc::Global;
 
-/// Obeys the script of the source, and writes a reply to each of its commands, or pairs, before it reads the next.
+/// Obeys the script of the source, and writes a reply to each of its commands before it reads the next.
 ///
-/// The script is one of pairs where its first line that isn't skipped begins with the word `machines`. `words` are those
-/// behind the program's name; there may be none.
+/// `words` are those behind the program's name; there may be none.
 pub fn labctl<S: Source, K: Sink, P: Plant>(
     alloc: Global,
     words: &[String],
@@ -27,9 +25,9 @@ pub fn labctl<S: Source, K: Sink, P: Plant>(
     sink: &mut K,
     plant: &mut P,
 ) -> Status
-    ensures run { Run
+    ensures run { (turns : List CommandTurn) × Ran (P.takes_drills plant.old)
         (record { left = S.left source.old; told = P.told plant.old; faults = P.faults plant.old; stopped = P.is_stopped plant.old; written = K.written sink.old })
-        (record { left = S.left source.new; told = P.told plant.new; faults = P.faults plant.new; stopped = P.is_stopped plant.new; written = K.written sink.new }) result }
+        (record { left = S.left source.new; told = P.told plant.new; faults = P.faults plant.new; stopped = P.is_stopped plant.new; written = K.written sink.new }) result turns }
     ensures bad { (side : AnySide) (at : ℕ) → result ≡ Status.JournalBad side at
         → IfSome (P.told plant.new) (λ t. IsNoJournal (disk A t.trace).reads (disk B t.trace).reads (2 ^ 32) side at) }
     ensures never_bad { (side : AnySide) (at : ℕ) → result ≡ Status.JournalBad side at → IfSome (P.told plant.old) (λ t. IsSound the_texts t.trace → ⊥) }
@@ -49,11 +47,5 @@ pub fn labctl<S: Source, K: Sink, P: Plant>(
     let Ok(mut reader) = LineReader::new(alloc) else {
         return Status::Memory;
     };
-    match find_form(alloc, &mut reader, source) {
-        Ok(Form::Pairs) => obey_pairs(alloc, &mut reader, source, sink, plant),
-        Ok(Form::Commands) => obey_commands(alloc, &mut reader, source, sink, plant),
-        Err(LineFault::TooLong(line)) => Status::BadScript { line },
-        Err(LineFault::ReadFault) => Status::ReadFault,
-        Err(LineFault::Memory) => Status::Memory,
-    }
+    obey_commands(alloc, &mut reader, source, sink, plant)
 }

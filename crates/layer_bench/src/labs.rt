@@ -25,14 +25,14 @@ pub(crate) fn all_free(alloc: Global, lab: &Lab) -> Result<Free, Memory>
     })
 }
 
-fn fault_of(refused: TextRefused) -> anyhow::Error {
+pub(crate) fn fault_of(refused: TextRefused) -> anyhow::Error {
     match refused {
         TextRefused::Text(fault) => anyhow!("line {}: {}", fault.line, fault.kind.word()),
         TextRefused::Memory => anyhow!("out of memory"),
     }
 }
 
-fn short(text: &[u8]) -> anyhow::Result<()>
+pub(crate) fn short(text: &[u8]) -> anyhow::Result<()>
     ensures { IfOk result (λ _. length text.now < 2 ^ 32 - 1) }
 {
     if text.len() > MOST {

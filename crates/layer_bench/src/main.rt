@@ -3,6 +3,7 @@
 
 mod journal;
 mod labs;
+mod ns;
 mod tcl;
 mod walk;
 
@@ -28,8 +29,11 @@ fn main(rt: HostRuntime) -> anyhow::Result<()> {
         files.push(fs::read(&rt, path.as_str())?)?;
     }
     match (layer.as_str(), files.as_slice()) {
-        ("journal", [side]) => journal::replay(&rt, side),
+        ("journal", [side]) => journal::open(&rt, side),
+        ("lab", [side]) => journal::replay(&rt, side),
         ("tcl", [text]) => tcl::run(&rt, text),
+        ("ns", [text]) => ns::read(&rt, text),
+        ("expand", [text]) => ns::expanded(&rt, text),
         ("ptop", [ptop]) => labs::again(&rt, ptop),
         ("top", [top]) => labs::top_again(&rt, top),
         ("fit", [ptop, top]) => walk::fit(&rt, ptop, top),

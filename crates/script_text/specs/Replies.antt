@@ -9,6 +9,14 @@ use Rattle.script_text.specs.declared.reply.PhaseWord.TheVariants.{Out, In, Movi
 use Rattle.script_text.specs.declared.reply.StatusLine.{StatusLine}
 use Rattle.script_text.specs.declared.reply.TagLine.{TagLine}
 use Rattle.script_text.specs.declared.reply.Placed.{Placed}
+use Rattle.script_text.specs.declared.reply.FailedEnd.{FailedEnd}
+use Rattle.script_text.specs.declared.reply.FailedEnd.TheVariants as ends
+use Rattle.script_text.specs.declared.reply.What.{What}
+use Rattle.script_text.specs.declared.reply.What.TheVariants.{Device, Late, Unlawful, Journal}
+use Rattle.lab_base.specs.declared.boot.Boot.{Boot}
+use Rattle.lab_base.specs.declared.boot.Boot.TheVariants as boots
+use Rattle.virt_topo.specs.declared.violation.Broken.{Broken}
+use Rattle.virt_topo.specs.declared.violation.Broken.TheVariants as rules
 use Rattle.script_text.specs.declared.reply.Reply.{Reply}
 use Rattle.script_text.specs.declared.reply.Reply.TheVariants as replies
 
@@ -47,6 +55,41 @@ placed_lines (Some p) = p.solution ++ flat_map tag_line p.tags
 abbrev pub shown_lines : List ℕ → PhaseWord → List ℕ → Option Placed → List ℕ
 shown_lines exp phase top placed = codes "show " ++ exp ++ 32 ∷ [] ++ phase_word phase ++ 10 ∷ [] ++ top ++ placed_lines placed ++ codes "end " ++ exp ++ 10 ∷ []
 
+-- the words of boot states, of rules and of ends
+abbrev pub boot_word : Boot → List ℕ
+boot_word boots.Off = codes "OFF"
+boot_word boots.Shutdown = codes "SHUTDOWN"
+boot_word boots.Booting = codes "BOOTING"
+boot_word boots.TbSetup = codes "TBSETUP"
+boot_word boots.IsUp = codes "ISUP"
+
+abbrev pub rule_word : Broken → List ℕ
+rule_word rules.F1 = codes "F1"
+rule_word rules.F2 = codes "F2"
+rule_word rules.F3 = codes "F3"
+rule_word rules.F4 = codes "F4"
+rule_word rules.F5 = codes "F5"
+rule_word rules.F6 = codes "F6"
+rule_word rules.F7 = codes "F7"
+rule_word rules.F8 = codes "F8"
+
+abbrev pub end_word : FailedEnd → List ℕ
+end_word ends.Out = codes "out"
+end_word ends.Stuck = codes "stuck"
+
+-- what troubled a swap
+abbrev pub what_words : What → List ℕ
+what_words (Device name) = codes "device " ++ name
+what_words (Late node) = codes "boot " ++ node
+what_words (Unlawful node from to) = codes "boot " ++ node ++ 32 ∷ [] ++ boot_word from ++ 32 ∷ [] ++ boot_word to
+what_words Journal = codes "journal"
+
+abbrev pub failed_line : List ℕ → FailedEnd → What → List ℕ
+failed_line exp end what = codes "failed " ++ exp ++ 32 ∷ [] ++ end_word end ++ 32 ∷ [] ++ what_words what ++ 10 ∷ []
+
+abbrev pub infeasible_line : List ℕ → Broken → List ℕ → List ℕ
+infeasible_line exp rule subject = codes "infeasible " ++ exp ++ 32 ∷ [] ++ rule_word rule ++ 32 ∷ [] ++ subject ++ 10 ∷ []
+
 -- THE TEXT OF A REPLY
 abbrev pub text_of : Reply → List ℕ
 text_of (replies.Lab switches nodes trunks) = lab_line switches nodes trunks
@@ -58,6 +101,13 @@ text_of replies.NoLab = codes "no lab\n"
 text_of replies.LabIsSet = codes "lab is set\n"
 text_of (replies.Exists exp) = named_line (codes "exists ") exp
 text_of (replies.Unknown exp) = named_line (codes "unknown ") exp
+text_of (replies.In exp) = named_line (codes "in ") exp
+text_of (replies.Out exp) = named_line (codes "out ") exp
+text_of (replies.Failed exp end what) = failed_line exp end what
+text_of replies.Planned = codes "planned\n"
+text_of replies.NoDrill = codes "no drill\n"
+text_of (replies.Infeasible exp rule subject) = infeasible_line exp rule subject
+text_of (replies.IsOut exp) = named_line (codes "is out ") exp
 text_of (replies.IsIn exp) = named_line (codes "is in ") exp
 text_of (replies.IsMoving exp) = named_line (codes "is moving ") exp
 text_of (replies.Bad exp fault) = fault_line (codes "bad " ++ exp ++ 32 ∷ []) fault
@@ -70,4 +120,10 @@ text_of replies.Stopped = codes "stopped\n"
 -- THE REPLY TELLS that the journal failed
 abbrev pub closes : Reply → Bool
 closes replies.Down = true
+closes (replies.Failed exp ends.Stuck Journal) = true
 closes reply = false
+
+-- THE REPLY BLAMES A DEVICE: a command to it failed in the swap
+abbrev pub blames_device : Reply → Bool
+blames_device (replies.Failed exp end (Device name)) = true
+blames_device reply = false

@@ -1,16 +1,44 @@
+ghost use Rattle.std.specs.Prelude.{◌≡◌};
+ghost use Rattle.script_text.specs.Drills.{drill_of};
+
 use lab_base::{Name, Text};
+use plant::{Drill, How};
 
 /// A command of a script. A block is its lines, each followed by a line feed.
 #[derive(Drop)]
 pub enum Command {
     /// `ptop N`: sets the lab, once, by the next N lines.
     Ptop { lines: u16, ptop: Text },
+    /// `create E N`: makes an experiment, which is out, by the NS file of the next N lines.
+    Create { exp: Name, lines: u16, ns: Text },
     /// `create-top E N`: makes an experiment, which is out, by the next N lines.
     CreateTop { exp: Name, lines: u16, top: Text },
     /// `show E`.
     Show { exp: Name },
+    /// `swapin-with E N`: swaps in an experiment, which is out, by the solution text of the next N lines.
+    SwapinWith { exp: Name, lines: u16, map: Text },
+    /// `swapout E`: swaps out an experiment, which is in.
+    Swapout { exp: Name },
+    /// `fail DEVICE K HOW`: a drill. The K-th next command to the device fails, K from 1 to 1,000,000.
+    Fail { device: Name, nth: u32, how: How },
     /// `delete E`: removes an experiment, which is out.
     Delete { exp: Name },
     /// `status`.
     Status,
+}
+
+impl Command {
+    /// The failure that it plans, if it is a drill. Drills are planned on the plant; every other command is the controller's.
+    pub fn drill(&self) -> Option<Drill>
+        ensures { result ≡ drill_of self.now }
+    {
+        match self {
+            Command::Fail { device, nth, how } => Some(Drill::Device {
+                name: *device,
+                nth: *nth,
+                how: *how,
+            }),
+            _ => None,
+        }
+    }
 }

@@ -2,20 +2,28 @@
 ghost use Rattle.std.specs.Prelude.{◌≡◌, IfOk};
 ghost use Rattle.std.specs.Str.{bytes_eq};
 ghost use Rattle.lab_base.specs.Texts.{views};
-ghost use Rattle.script_text.specs.Heads.{head_of, bare_head, short_head, long_head, said_of, counted, named};
+ghost use Rattle.script_text.specs.Heads.{head_of, bare_head, short_head, long_head, drill_head, said_of, counted, named, how_of, nth_of};
 
 use lab_base::{Memory, Name, Text, fields_in, is_skipped, read_number};
+use plant::How;
 use std::alloc::Global;
 
 /// The most lines of a block.
 const MOST: u64 = 16_384;
 
+/// The last command or poll that a drill can make fail.
+const LAST: u64 = 1_000_000;
+
 /// The first line of a command, with the number of the lines of its block.
 #[derive(Clone, Copy)]
 pub(crate) enum Head {
     Ptop { lines: u16 },
+    Create { exp: Name, lines: u16 },
     CreateTop { exp: Name, lines: u16 },
     Show { exp: Name },
+    SwapinWith { exp: Name, lines: u16 },
+    Swapout { exp: Name },
+    Fail { device: Name, nth: u32, how: How },
     Delete { exp: Name },
     Status,
 }
@@ -81,6 +89,9 @@ fn short_head(word: &[u8], field: &[u8]) -> Option<Head>
     } else if is_word(word, b"delete") {
         let exp = name_in(field)?;
         Some(Head::Delete { exp })
+    } else if is_word(word, b"swapout") {
+        let exp = name_in(field)?;
+        Some(Head::Swapout { exp })
     } else {
         None
     }
@@ -90,10 +101,59 @@ fn short_head(word: &[u8], field: &[u8]) -> Option<Head>
 fn long_head(word: &[u8], first: &[u8], second: &[u8]) -> Option<Head>
     ensures { result ≡ long_head word.now first.now second.now }
 {
-    if is_word(word, b"create-top") {
+    if is_word(word, b"create") {
+        let exp = name_in(first)?;
+        let lines = count_in(second)?;
+        Some(Head::Create { exp, lines })
+    } else if is_word(word, b"create-top") {
         let exp = name_in(first)?;
         let lines = count_in(second)?;
         Some(Head::CreateTop { exp, lines })
+    } else if is_word(word, b"swapin-with") {
+        let exp = name_in(first)?;
+        let lines = count_in(second)?;
+        Some(Head::SwapinWith { exp, lines })
+    } else {
+        None
+    }
+}
+
+/// How a device fails, by a field.
+fn how_in(field: &[u8]) -> Option<How>
+    ensures { result ≡ how_of field.now }
+{
+    if is_word(field, b"applied") {
+        Some(How::Applied)
+    } else if is_word(field, b"not") {
+        Some(How::Not)
+    } else if is_word(field, b"hang") {
+        Some(How::Hang)
+    } else if is_word(field, b"jump") {
+        Some(How::Jump)
+    } else {
+        None
+    }
+}
+
+/// The number of a command or a poll that a field gives.
+fn nth_in(field: &[u8]) -> Option<u32>
+    ensures { result ≡ nth_of field.now }
+{
+    match read_number(field, LAST) {
+        Ok(0) | Err(_) => None,
+        Ok(nth) => Some(nth as u32),
+    }
+}
+
+/// The head of a command with three fields behind its word.
+fn drill_head(word: &[u8], device: &[u8], nth: &[u8], how: &[u8]) -> Option<Head>
+    ensures { result ≡ drill_head word.now device.now nth.now how.now }
+{
+    if is_word(word, b"fail") {
+        let device = name_in(device)?;
+        let nth = nth_in(nth)?;
+        let how = how_in(how)?;
+        Some(Head::Fail { device, nth, how })
     } else {
         None
     }
@@ -108,7 +168,8 @@ fn head_in(fields: &[&[u8]]) -> Option<Head>
         [word] => bare_head(word),
         [word, field] => short_head(word, field),
         [word, first, second] => long_head(word, first, second),
-        [_, _, _, _, ..] => None,
+        [word, first, second, third] => drill_head(word, first, second, third),
+        [_, _, _, _, _, ..] => None,
     }
 }
 

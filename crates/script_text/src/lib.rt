@@ -13,7 +13,7 @@ mod reply;
 pub use command::Command;
 pub use next::{Next, ScriptFault, read_command};
 pub use replies::reply_text;
-pub use reply::{PhaseWord, Placed, Reply, StatusLine, TagLine};
+pub use reply::{FailedEnd, PhaseWord, Placed, Reply, StatusLine, TagLine, What};
 
 #[cfg(test)]
 mod tests;

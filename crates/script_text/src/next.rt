@@ -144,6 +144,14 @@ fn with_blocks<S: Source>(
             let ptop = take_block(alloc, lines, source, count)?;
             Ok(Command::Ptop { lines: count, ptop })
         }
+        Head::Create { exp, lines: count } => {
+            let ns = take_block(alloc, lines, source, count)?;
+            Ok(Command::Create {
+                exp,
+                lines: count,
+                ns,
+            })
+        }
         Head::CreateTop { exp, lines: count } => {
             let top = take_block(alloc, lines, source, count)?;
             Ok(Command::CreateTop {
@@ -153,6 +161,16 @@ fn with_blocks<S: Source>(
             })
         }
         Head::Show { exp } => Ok(Command::Show { exp }),
+        Head::SwapinWith { exp, lines: count } => {
+            let map = take_block(alloc, lines, source, count)?;
+            Ok(Command::SwapinWith {
+                exp,
+                lines: count,
+                map,
+            })
+        }
+        Head::Swapout { exp } => Ok(Command::Swapout { exp }),
+        Head::Fail { device, nth, how } => Ok(Command::Fail { device, nth, how }),
         Head::Delete { exp } => Ok(Command::Delete { exp }),
         Head::Status => Ok(Command::Status),
     }

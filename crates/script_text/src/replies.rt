@@ -1,10 +1,12 @@
 ghost use Rattle.std.specs.Prelude.{◌≡◌, ◌++◌, ◌∷◌, [], codes, decimal, IfOk, OnOk};
 ghost use Rattle.std.specs.List.{flat_map};
-ghost use Rattle.script_text.specs.Replies.{phase_word, named_line, fault_line, two_line, lab_line, exp_line, tag_line, placed_lines, shown_lines, text_of};
+ghost use Rattle.script_text.specs.declared.reply.What.TheVariants as whats;
+ghost use Rattle.script_text.specs.Replies.{phase_word, named_line, fault_line, two_line, lab_line, exp_line, boot_word, rule_word, end_word, what_words, failed_line, infeasible_line, tag_line, placed_lines, shown_lines, text_of};
 
-use crate::{PhaseWord, Placed, Reply, StatusLine, TagLine};
-use lab_base::{Memory, Name, Text, TextFault};
+use crate::{FailedEnd, PhaseWord, Placed, Reply, StatusLine, TagLine, What};
+use lab_base::{Boot, Memory, Name, Text, TextFault};
 use std::alloc::Global;
+use virt_topo::Broken;
 
 impl PhaseWord {
     /// The word of a reply.
@@ -123,6 +125,93 @@ fn shown(
     Ok(text)
 }
 
+fn boot_word(boot: Boot) -> &'static str
+    ensures { result.now ≡ boot_word boot }
+{
+    match boot {
+        Boot::Off => "OFF",
+        Boot::Shutdown => "SHUTDOWN",
+        Boot::Booting => "BOOTING",
+        Boot::TbSetup => "TBSETUP",
+        Boot::IsUp => "ISUP",
+    }
+}
+
+fn rule_word(rule: Broken) -> &'static str
+    ensures { result.now ≡ rule_word rule }
+{
+    match rule {
+        Broken::F1 => "F1",
+        Broken::F2 => "F2",
+        Broken::F3 => "F3",
+        Broken::F4 => "F4",
+        Broken::F5 => "F5",
+        Broken::F6 => "F6",
+        Broken::F7 => "F7",
+        Broken::F8 => "F8",
+    }
+}
+
+fn end_word(end: FailedEnd) -> &'static str
+    ensures { result.now ≡ end_word end }
+{
+    match end {
+        FailedEnd::Out => "out",
+        FailedEnd::Stuck => "stuck",
+    }
+}
+
+fn add_boots(text: &mut Text, node: &Name, from: Boot, to: Boot) -> Result<(), Memory>
+    ensures { OnOk result (text.new ≡ text.old ++ what_words (whats.Unlawful node.now from to)) }
+{
+    text.push_bytes(b"boot ")?;
+    text.push_bytes(node.bytes())?;
+    text.push(b' ')?;
+    text.push_bytes(boot_word(from).as_bytes())?;
+    text.push(b' ')?;
+    text.push_bytes(boot_word(to).as_bytes())
+}
+
+fn add_named(text: &mut Text, words: &[u8], name: &Name) -> Result<(), Memory>
+    ensures { OnOk result (text.new ≡ text.old ++ words.now ++ name.now) }
+{
+    text.push_bytes(words)?;
+    text.push_bytes(name.bytes())
+}
+
+fn add_what(text: &mut Text, what: &What) -> Result<(), Memory>
+    ensures { OnOk result (text.new ≡ text.old ++ what_words what.now) }
+{
+    match what {
+        What::Device { name } => add_named(text, b"device ", name),
+        What::Late { node } => add_named(text, b"boot ", node),
+        What::Unlawful { node, from, to } => add_boots(text, node, *from, *to),
+        What::Journal => text.push_bytes(b"journal"),
+    }
+}
+
+fn failed(alloc: Global, exp: &Name, end: FailedEnd, what: &What) -> Result<Text, Memory>
+    ensures { IfOk result (λ text. text ≡ failed_line exp.now end what.now) }
+{
+    let mut text = named_head(alloc, b"failed ", exp)?;
+    text.push_bytes(end_word(end).as_bytes())?;
+    text.push(b' ')?;
+    add_what(&mut text, what)?;
+    text.push(b'\n')?;
+    Ok(text)
+}
+
+fn infeasible(alloc: Global, exp: &Name, rule: Broken, subject: &Text) -> Result<Text, Memory>
+    ensures { IfOk result (λ text. text ≡ infeasible_line exp.now rule subject.now) }
+{
+    let mut text = named_head(alloc, b"infeasible ", exp)?;
+    text.push_bytes(rule_word(rule).as_bytes())?;
+    text.push(b' ')?;
+    text.push_bytes(subject.bytes())?;
+    text.push(b'\n')?;
+    Ok(text)
+}
+
 fn full_journal(alloc: Global, length: u64) -> Result<Text, Memory>
     ensures { IfOk result (λ text. text ≡ codes "full journal " ++ decimal length ++ 10 ∷ []) }
 {
@@ -203,6 +292,13 @@ pub fn reply_text(alloc: Global, reply: &Reply) -> Result<Text, Memory>
         Reply::LabIsSet => Text::from_slice(alloc, b"lab is set\n"),
         Reply::Exists { exp } => named(alloc, b"exists ", exp),
         Reply::Unknown { exp } => named(alloc, b"unknown ", exp),
+        Reply::In { exp } => named(alloc, b"in ", exp),
+        Reply::Out { exp } => named(alloc, b"out ", exp),
+        Reply::Failed { exp, end, what } => failed(alloc, exp, *end, what),
+        Reply::Planned => Text::from_slice(alloc, b"planned\n"),
+        Reply::NoDrill => Text::from_slice(alloc, b"no drill\n"),
+        Reply::Infeasible { exp, rule, subject } => infeasible(alloc, exp, *rule, subject),
+        Reply::IsOut { exp } => named(alloc, b"is out ", exp),
         Reply::IsIn { exp } => named(alloc, b"is in ", exp),
         Reply::IsMoving { exp } => named(alloc, b"is moving ", exp),
         Reply::Bad { exp, fault } => bad(alloc, exp, *fault),

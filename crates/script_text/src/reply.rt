@@ -1,7 +1,8 @@
 ghost use Rattle.std.specs.Prelude.{◌≡◌};
 ghost use Rattle.script_text.specs.Replies.{closes};
 
-use lab_base::{Items, Name, Text, TextFault, VlanId};
+use lab_base::{Boot, Items, Name, Text, TextFault, VlanId};
+use virt_topo::Broken;
 
 /// The phase of an experiment, as a reply has it.
 #[derive(Clone, Copy, Debug, PartialEq, Eq)]
@@ -32,6 +33,28 @@ pub struct TagLine {
 pub struct Placed {
     pub solution: Text,
     pub tags: Items<TagLine>,
+}
+
+/// How a swap ended that failed.
+#[derive(Clone, Copy, Debug, PartialEq, Eq)]
+pub enum FailedEnd {
+    /// The experiment is out.
+    Out,
+    /// It is stuck: it moves, and its swap doesn't go on.
+    Stuck,
+}
+
+/// What troubled a swap.
+#[derive(Clone, Copy, PartialEq, Eq)]
+pub enum What {
+    /// `device NAME`: a command to that device failed.
+    Device { name: Name },
+    /// `boot NODE`: the node was not up at the 64th poll.
+    Late { node: Name },
+    /// `boot NODE FROM TO`: the second boot state may not follow the first.
+    Unlawful { node: Name, from: Boot, to: Boot },
+    /// `journal`: a call on the journal failed.
+    Journal,
 }
 
 /// The reply to a command.
@@ -79,6 +102,34 @@ pub enum Reply {
     Unknown {
         exp: Name,
     },
+    /// `in E`: it is swapped in.
+    In {
+        exp: Name,
+    },
+    /// `out E`: it is swapped out.
+    Out {
+        exp: Name,
+    },
+    /// `failed E out WHAT`, `failed E stuck WHAT`.
+    Failed {
+        exp: Name,
+        end: FailedEnd,
+        what: What,
+    },
+    /// `planned`: to a drill.
+    Planned,
+    /// `no drill`: the plant takes no drills.
+    NoDrill,
+    /// `infeasible E RULE SUBJECT`: the first rule that the solution breaks, and its subject.
+    Infeasible {
+        exp: Name,
+        rule: Broken,
+        subject: Text,
+    },
+    /// `is out E`: the experiment has to be in.
+    IsOut {
+        exp: Name,
+    },
     /// `is in E`: the experiment has to be out.
     IsIn {
         exp: Name,
@@ -113,6 +164,12 @@ impl Reply {
     pub fn closes(&self) -> bool
         ensures { result ≡ closes self.now }
     {
-        matches!(self, Reply::Down)
+        match self {
+            Reply::Down => true,
+            Reply::Failed { end, what, .. } => {
+                matches!(end, FailedEnd::Stuck) && matches!(what, What::Journal)
+            }
+            _ => false,
+        }
     }
 }

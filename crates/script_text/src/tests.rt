@@ -1,8 +1,10 @@
 use super::*;
-use lab_base::{Items, Kind, Name, Text, TextFault, VlanId};
+use lab_base::{Boot, Items, Kind, Name, Text, TextFault, VlanId};
 use lab_io::{LineReader, MemSource};
+use plant::How;
 use std::alloc::Global;
 use std::test::Fail;
+use virt_topo::Broken;
 
 fn named(bytes: &[u8]) -> Result<Name, Fail> {
     Ok(Name::read(bytes).ok().ok_or("a name")?)
@@ -27,6 +29,28 @@ fn read_all(rt: &HostRuntime, bytes: &[u8]) -> Result<(Vec<u8>, Option<ScriptFau
                     seen.push(b'0' + (lines % 10) as u8)?;
                     seen.extend_from_slice(top.bytes())?;
                 }
+                Command::Create { exp, lines, ns } => {
+                    seen.push(b'n')?;
+                    seen.extend_from_slice(exp.bytes())?;
+                    seen.push(b'0' + (lines % 10) as u8)?;
+                    seen.extend_from_slice(ns.bytes())?;
+                }
+                Command::SwapinWith { exp, lines, map } => {
+                    seen.push(b'i')?;
+                    seen.extend_from_slice(exp.bytes())?;
+                    seen.push(b'0' + (lines % 10) as u8)?;
+                    seen.extend_from_slice(map.bytes())?;
+                }
+                Command::Swapout { exp } => {
+                    seen.push(b'o')?;
+                    seen.extend_from_slice(exp.bytes())?;
+                }
+                Command::Fail { device, nth, how } => {
+                    seen.push(b'f')?;
+                    seen.extend_from_slice(device.bytes())?;
+                    seen.push(b'0' + (nth % 10) as u8)?;
+                    seen.push(if how == How::Jump { b'j' } else { b'-' })?;
+                }
                 Command::Show { exp } => {
                     seen.push(b's')?;
                     seen.extend_from_slice(exp.bytes())?;
@@ -45,7 +69,7 @@ fn read_all(rt: &HostRuntime, bytes: &[u8]) -> Result<(Vec<u8>, Option<ScriptFau
 #[test]
 fn commands_of_scripts(rt: HostRuntime) -> Result<(), Fail> {
     let bad = |line| Some(ScriptFault::Bad { line });
-    let cases: [(&[u8], &[u8], Option<ScriptFault>); 17] = [
+    let cases: [(&[u8], &[u8], Option<ScriptFault>); 23] = [
         (b"", b"", None),
         (b"\n \t\n# x\n", b"", None),
         (b"status\nptop 6\nvlans 100 101\n", b"?", bad(4)),
@@ -57,6 +81,24 @@ fn commands_of_scripts(rt: HostRuntime) -> Result<(), Fail> {
             b"A1node a pc linux\n",
             None,
         ),
+        (
+            b"create A 2\nset ns [new Simulator]\n# $ns run\n",
+            b"nA2set ns [new Simulator]\n# $ns run\n",
+            None,
+        ),
+        (
+            b"swapin-with A 1\nnode a pc1 pc\nswapout A\n",
+            b"iA1node a pc1 pc\noA",
+            None,
+        ),
+        (
+            b"fail s1 2 applied\nfail pc1 1000000 jump\n",
+            b"fs12-fpc10j",
+            None,
+        ),
+        (b"fail s1 0 not\n", b"", bad(1)),
+        (b"fail s1 1000001 not\n", b"", bad(1)),
+        (b"fail s1 1 never\n", b"", bad(1)),
         (b"show A\ndelete A", b"sAdA", None),
         (b"\n\nswapin A\n", b"", bad(3)),
         (b"status now\n", b"", bad(1)),
@@ -110,7 +152,7 @@ fn texts_of_replies(rt: HostRuntime) -> Result<(), Fail> {
         vlans: 0,
     })?;
     let top = Text::from_slice(alloc, b"node a pc linux\n")?;
-    let cases: [(Reply, &[u8]); 18] = [
+    let cases: [(Reply, &[u8]); 23] = [
         (
             Reply::Lab {
                 switches: 1,
@@ -158,6 +200,11 @@ fn texts_of_replies(rt: HostRuntime) -> Result<(), Fail> {
         (Reply::FullExperiments, b"full experiments 256\n"),
         (Reply::IsIn { exp }, b"is in A\n"),
         (Reply::IsMoving { exp }, b"is moving A\n"),
+        (Reply::In { exp }, b"in A\n"),
+        (Reply::Out { exp }, b"out A\n"),
+        (Reply::IsOut { exp }, b"is out A\n"),
+        (Reply::Planned, b"planned\n"),
+        (Reply::NoDrill, b"no drill\n"),
         (Reply::FullJournal { length: 18 }, b"full journal 18\n"),
         (Reply::Down, b"down\n"),
         (Reply::Stopped, b"stopped\n"),
@@ -166,5 +213,65 @@ fn texts_of_replies(rt: HostRuntime) -> Result<(), Fail> {
         assert_eq!(rt; reply.closes(), wanted == b"down\n".as_slice());
         assert_eq!(rt; reply_text(alloc, &reply)?.bytes(), wanted);
     }
+    Ok(())
+}
+
+#[test]
+fn texts_of_failed_swaps(rt: HostRuntime) -> Result<(), Fail> {
+    let alloc = rt.alloc();
+    let exp = named(b"A")?;
+    let node = named(b"pc2")?;
+    let from = Boot::Booting;
+    let to = Boot::IsUp;
+    let cases: [(FailedEnd, What, &[u8], bool); 5] = [
+        (
+            FailedEnd::Out,
+            What::Device {
+                name: named(b"s1")?,
+            },
+            b"failed A out device s1\n",
+            false,
+        ),
+        (
+            FailedEnd::Out,
+            What::Late { node },
+            b"failed A out boot pc2\n",
+            false,
+        ),
+        (
+            FailedEnd::Out,
+            What::Unlawful { node, from, to },
+            b"failed A out boot pc2 BOOTING ISUP\n",
+            false,
+        ),
+        (
+            FailedEnd::Stuck,
+            What::Device {
+                name: named(b"s1")?,
+            },
+            b"failed A stuck device s1\n",
+            false,
+        ),
+        (
+            FailedEnd::Stuck,
+            What::Journal,
+            b"failed A stuck journal\n",
+            true,
+        ),
+    ];
+    for (end, what, wanted, closes) in cases {
+        let reply = Reply::Failed { exp, end, what };
+        assert_eq!(rt; reply.closes(), closes);
+        assert_eq!(rt; reply_text(alloc, &reply)?.bytes(), wanted);
+    }
+    let reply = Reply::Infeasible {
+        exp,
+        rule: Broken::F5,
+        subject: Text::from_slice(alloc, b"a:1")?,
+    };
+    assert_eq!(rt;
+        reply_text(alloc, &reply)?.bytes(),
+        b"infeasible A F5 a:1\n".as_slice()
+    );
     Ok(())
 }

@@ -1,13 +1,11 @@
 use Rattle.std.proofs.Common.{refl, ◌≡◌, ◌<◌, ℕ, length, inr, Some, sym, subst, arith}
 use Rattle.std.specs.Prelude.{slice_get}
-use Rattle.lab_base.specs.Lists.{Has}
-use Rattle.lab_core.proofs.Opened.{entry_among, bad_within, at_bad, lab_held}
+use Rattle.journal_disk.proofs.Holding.{found_records}
+use Rattle.lab_core.proofs.Opened.{bad_within, at_bad, lab_held}
 use Rattle.lab_core.proofs.controller.of_journal.Goals as goal
 
 pub replay-requires : goal.replay-requires
-replay-requires c found has =
-    let held = c.requires.holds in
-    held.1.are_records found.entry (entry_among 17 held.0 found (subst (λ l. Has l found) held.1.found_so has))
+replay-requires c found has = let held = c.requires.holds in found_records held.0 c.args.journal c.args.found.now found held.1 has
 
 pub place_of-requires : goal.place_of-requires
 place_of-requires c =

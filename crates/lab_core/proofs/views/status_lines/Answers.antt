@@ -1,7 +1,6 @@
-use Rattle.std.proofs.Common.{◌≡◌, ◌<◌, length, Some, None, List, ◌∷◌, [], ◌++◌, map, take, sym, ap, ◌∙◌, arith, slice_get}
+use Rattle.std.proofs.Common.{◌≡◌, ◌<◌, length, Some, None, ◌∷◌, [], ◌++◌, sym, ◌∙◌, arith, slice_get}
 use Rattle.lab_model.proofs.OneSided.{Has-slice_get}
 use Rattle.records_model.specs.Labs.{lab_in}
-use Rattle.script_text.specs.declared.reply.StatusLine.{StatusLine}
 use Rattle.lab_core.specs.Steps.{status_line}
 use Rattle.lab_core.proofs.Shown.{next_line, none_missing}
 use Rattle.lab_core.proofs.views.status_lines.Goals as goal

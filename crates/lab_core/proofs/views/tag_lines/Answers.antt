@@ -1,4 +1,4 @@
-use Rattle.std.proofs.Common.{◌≡◌, suc, ◌<◌, length, get_or, Some, None, ◌∷◌, [], ◌++◌, map, take, sym, ap, refl, ◌∙◌, arith, slice_get}
+use Rattle.std.proofs.Common.{◌≡◌, suc, ◌<◌, length, get_or, Some, ◌∷◌, [], ◌++◌, map, sym, ap, refl, ◌∙◌, arith, slice_get}
 use Rattle.std.specs.List.{zip}
 use Rattle.std.proofs.lemmas.Bool.{leb-false}
 use Rattle.std.proofs.lemmas.List.{take_all}

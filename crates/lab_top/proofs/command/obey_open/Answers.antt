@@ -8,8 +8,8 @@ pub returns-in-Ok-clause-own : goal.returns-in-Ok-clause-own
 returns-in-Ok-clause-own g c =
     let told = c.in-Ok.ensures.obeys in
     elim c.if-not-closes.branch [
-      | then-not-closes w ↦ rw w.controller-is (obeyed_on _ _ c.args.command.now c.args.opened c.obey.new.self c.in-Ok.reply told (cc (c.closes.ensures, w.if-not-closes.true)))
-      | else-not-closes w ↦ rw w.controller-is (rw c.requires.taken (obeyed_off _ _ c.args.command.now c.args.opened c.obey.new.self c.in-Ok.reply told (cc (c.closes.ensures, w.if-not-closes.false)) (g.met.P.Plant.reads_possible c.obey.new.plant)))
+      | then-not-closes w ↦ rw w.controller-is (obeyed_on _ _ _ c.args.command.now c.requires.no_drill c.args.opened c.obey.new.self c.in-Ok.reply told (cc (c.closes.ensures, w.if-not-closes.true)))
+      | else-not-closes w ↦ rw w.controller-is (rw c.requires.taken (obeyed_off _ _ _ c.args.command.now c.requires.no_drill c.args.opened c.obey.new.self c.in-Ok.reply told (cc (c.closes.ensures, w.if-not-closes.false)) (g.met.P.Plant.reads_possible c.obey.new.plant)))
     ]
 
 pub returns-in-Ok-clause-goes_on : goal.returns-in-Ok-clause-goes_on
@@ -18,16 +18,16 @@ returns-in-Ok-clause-goes_on g c =
     elim c.if-not-closes.branch [
       | then-not-closes w ↦
           let goes : closes c.in-Ok.reply ≡ false = cc (c.closes.ensures, w.if-not-closes.true) in
-          rw w.controller-is (goes_open _ _ c.args.command.now c.args.opened c.obey.new.self c.in-Ok.reply _ _ told goes c.requires.open (c.in-Ok.ensures.stands goes) (search rules))
+          rw w.controller-is (goes_open (g.P.Plant.takes_drills c.args.plant.now) _ _ c.args.command.now c.requires.no_drill c.args.opened c.obey.new.self c.in-Ok.reply _ _ told goes c.requires.open (c.in-Ok.ensures.stands goes) (search rules))
       | else-not-closes w ↦ rw w.controller-is (rw c.requires.taken (goes_closed _ _ _))
     ]
 
 pub returns-in-Err-Stopped-clause-own : goal.returns-in-Err-Stopped-clause-own
 returns-in-Err-Stopped-clause-own g c =
     let e = rw c.in-Err-Stopped.field-0-is at c.in-Err-Stopped.ensures in
-    rw c.requires.taken (obeyed_stopped _ _ c.args.command.now c.args.opened c.obey.new.self _ _ e.obeys c.start_again.ensures.starts (g.met.P.Plant.reads_possible c.obey.new.plant))
+    rw c.requires.taken (obeyed_stopped _ _ _ c.args.command.now c.requires.no_drill c.args.opened c.obey.new.self _ _ e.obeys c.start_again.ensures.starts (g.met.P.Plant.reads_possible c.obey.new.plant))
 
 pub returns-clause-own : goal.returns-clause-own
 returns-clause-own g c =
     let e = rw c.in-Err-Memory.field-0-is at c.in-Err-Memory.ensures in
-    rw c.requires.taken (obeyed_not _ _ c.args.command.now c.args.opened c.obey.new.self e.obeys)
+    obeyed_not _ _ _ c.args.command.now c.requires.no_drill c.args.opened c.obey.new.self e.obeys

@@ -1,38 +1,15 @@
-use Rattle.std.proofs.Common.{arith, None, sym, subst, ◌∙◌, ◌≡◌, Some, Option, Err}
-use Rattle.std.specs.Prelude.{IfSome}
-use Rattle.lab_core.specs.Moments.{Seen}
-use Rattle.lab_top.specs.Answering.{IsOpen}
-use Rattle.lab_top.proofs.Obeyed.{begun_open, begun_opened, begun_unopened, down_unopened, goes_closed, later_same, made_so, open_opened, rose_same, rose_since, runs_if}
+use Rattle.std.proofs.Common.{refl, sym}
+use Rattle.lab_top.specs.declared.command.CommandFault.TheVariants as faults
+use Rattle.lab_top.proofs.Drilling.{made_drill, plans_memory}
 use Rattle.lab_top.proofs.command.reply_to.Goals as goal
-
-pub obey_open-requires-in-Ok-clause-open : goal.obey_open-requires-in-Ok-clause-open
-obey_open-requires-in-Ok-clause-open g c =
-    let e = c.in-Ok.ensures in
-    open_opened _ _ e.steps.0 c.in-Ok.opened e.steps.1 e.steps.2 e.stands e.limit
 
 pub returns-in-Some-clause-made : goal.returns-in-Some-clause-made
 returns-in-Some-clause-made g c =
-    let is : c.args.controller.now ≡ Some c.in-Some.opened = sym c.take.ensures.value ∙ c.in-Some.is in
-    let o = c.obey_open.ensures in
-    rw is (made_so c.args.command.now _ _ _ _
-    (begun_open c.args.command.now _ _ c.in-Some.opened _ _ (subst (λ (k : Option Seen). IfSome (g.P.Plant.told c.args.plant.now) (λ t. IfSome k (λ d. IsOpen t.trace d))) is c.requires.goes_on.controller) o.own)
-    o.later o.down (runs_if _ _ o.runs) o.goes_on)
+    let p = c.plan.ensures in
+    made_drill _ c.args.command.now c.in-Some.drill (sym c.in-Some.ensures) _ _ c.plan.result p.plans p.faults p.stopped refl c.requires.goes_on (g.met.P.Plant.reads_possible c.args.plant.now)
 
-pub returns-in-Ok-clause-made : goal.returns-in-Ok-clause-made
-returns-in-Ok-clause-made g c =
-    let is : c.args.controller.now ≡ None = sym c.take.ensures.value ∙ c.in-None.is in
-    let e = c.in-Ok.ensures in
-    let o = c.obey_open-in-Ok.ensures in
-    rw is (made_so c.args.command.now _ _ _ _
-    (begun_opened c.args.command.now _ _ _ e.steps.0 c.in-Ok.opened _ _ e.steps.1 e.steps.2 (g.met.P.Plant.reads_possible c.args.plant.now) e.limit o.own)
-    (record { disk = omega (arith, e.later, o.later.disk); devices = omega (arith, e.devices, o.later.devices) })
-    (λ down. rose_since _ _ _ e.later (o.down down)) (runs_if _ _ o.runs) o.goes_on)
+pub returns-in-Some-clause-bad : goal.returns-in-Some-clause-bad
+returns-in-Some-clause-bad g c side at is = absurd (cc (plans_memory _ c.in-Some.drill _ _ c.plan.result (faults.JournalBad side at) c.plan.ensures.plans is))
 
-pub returns-in-Err-clause-made : goal.returns-in-Err-clause-made
-returns-in-Err-clause-made g c =
-    let is : c.args.controller.now ≡ None = sym c.take.ensures.value ∙ c.in-None.is in
-    let e = c.in-Err.ensures in
-    let u = c.unopened.ensures in
-    rw (is, c.take.ensures.after) (made_so c.args.command.now _ _ _ _
-    (begun_unopened c.args.command.now _ _ _ e.steps.0 e.steps.1 (g.met.P.Plant.reads_possible c.args.plant.now) (g.met.P.Plant.reads_possible c.open.new.plant) c.in-Err.fault _ u.unopened e.steps.2)
-    (later_same _ _ _ e.later e.devices u.faults) (λ down. rose_same _ _ _ (e.plant (λ i. Err (down_unopened c.in-Err.fault _ _ _ u.unopened down i))) u.faults) (runs_if _ _ u.runs) (goes_closed _ _ _))
+pub returns-in-Some-clause-no_write : goal.returns-in-Some-clause-no_write
+returns-in-Some-clause-no_write g c is = absurd (cc (plans_memory _ c.in-Some.drill _ _ c.plan.result faults.WriteFault c.plan.ensures.plans is))

@@ -1,4 +1,4 @@
-use Rattle.std.proofs.Common.{◌≡◌, sym, subst}
+use Rattle.std.proofs.Common.{sym, subst}
 use Rattle.script_text.specs.declared.command.Command.{Command}
 use Rattle.lab_core.specs.Obeying.{setting_of, Obeyed}
 use Rattle.lab_core.specs.Steps.{Judged, judged_show, judged_status}
@@ -45,3 +45,43 @@ returns-in-Delete g c =
 pub returns-in-Status : goal.returns-in-Status
 returns-in-Status g c =
     subst (λ (command : Command). Obeyed (g.P.Plant.told c.args.plant.now) (g.P.Plant.told c.args.plant.now) (g.P.Plant.faults c.args.plant.now) (g.P.Plant.faults c.args.plant.now) (g.P.Plant.is_stopped c.args.plant.now) (g.P.Plant.is_stopped c.args.plant.now) (g.P.Plant.takes_drills c.args.plant.now) (g.P.Plant.takes_drills c.args.plant.now) (Judged (setting_of c.args.self.now) c.args.self.now.lab command) c.args.self.now c.args.self.now c.status.result) (sym c.in-Status.is) (tells (g.P.Plant.told c.args.plant.now) (g.P.Plant.faults c.args.plant.now) (g.P.Plant.is_stopped c.args.plant.now) (g.P.Plant.takes_drills c.args.plant.now) (judged_status c.args.self.now.lab) c.args.self.now c.status.result c.requires.stands c.status.ensures.told c.status.ensures.memory)
+
+pub create_network-requires-clause-short : goal.create_network-requires-clause-short
+create_network-requires-clause-short g c =
+    rw c.bytes-in-Create.ensures (block_length c.in-Create.lines c.in-Create.ns (rw c.in-Create.is at c.requires.blocks))
+
+pub create_network-requires-clause-stands : goal.create_network-requires-clause-stands
+create_network-requires-clause-stands g c =
+    c.requires.stands
+
+pub returns-in-Create : goal.returns-in-Create
+returns-in-Create g c =
+    subst (λ (command : Command). Obeyed (g.P.Plant.told c.args.plant.now) (g.P.Plant.told c.create_network.new.plant) (g.P.Plant.faults c.args.plant.now) (g.P.Plant.faults c.create_network.new.plant) (g.P.Plant.is_stopped c.args.plant.now) (g.P.Plant.is_stopped c.create_network.new.plant) (g.P.Plant.takes_drills c.args.plant.now) (g.P.Plant.takes_drills c.create_network.new.plant) (Judged (setting_of c.args.self.now) c.args.self.now.lab command) c.args.self.now c.create_network.new.self c.create_network.result) (sym c.in-Create.is) (rw c.bytes-in-Create.ensures at c.create_network.ensures)
+
+pub swapout-requires : goal.swapout-requires
+swapout-requires g c =
+    record { stands = c.requires.stands }
+
+pub returns-in-Swapout : goal.returns-in-Swapout
+returns-in-Swapout g c =
+    subst (λ (command : Command). Obeyed (g.P.Plant.told c.args.plant.now) (g.P.Plant.told c.swapout.new.plant) (g.P.Plant.faults c.args.plant.now) (g.P.Plant.faults c.swapout.new.plant) (g.P.Plant.is_stopped c.args.plant.now) (g.P.Plant.is_stopped c.swapout.new.plant) (g.P.Plant.takes_drills c.args.plant.now) (g.P.Plant.takes_drills c.swapout.new.plant) (Judged (setting_of c.args.self.now) c.args.self.now.lab command) c.args.self.now c.swapout.new.self c.swapout.result) (sym c.in-Swapout.is) c.swapout.ensures
+
+pub unreachable-requires : goal.unreachable-requires
+unreachable-requires g c =
+    let drill = rw c.in-Fail.is at c.requires.no_drill in
+    cc drill
+
+pub unreachable-unreachable : goal.unreachable-unreachable
+unreachable-unreachable g c = c.unreachable.type_inv
+
+pub swapin_with-requires-clause-short : goal.swapin_with-requires-clause-short
+swapin_with-requires-clause-short g c =
+    rw c.bytes-in-SwapinWith.ensures (block_length c.in-SwapinWith.lines c.in-SwapinWith.map (rw c.in-SwapinWith.is at c.requires.blocks))
+
+pub swapin_with-requires-clause-stands : goal.swapin_with-requires-clause-stands
+swapin_with-requires-clause-stands g c =
+    c.requires.stands
+
+pub returns-in-SwapinWith : goal.returns-in-SwapinWith
+returns-in-SwapinWith g c =
+    subst (λ (command : Command). Obeyed (g.P.Plant.told c.args.plant.now) (g.P.Plant.told c.swapin_with.new.plant) (g.P.Plant.faults c.args.plant.now) (g.P.Plant.faults c.swapin_with.new.plant) (g.P.Plant.is_stopped c.args.plant.now) (g.P.Plant.is_stopped c.swapin_with.new.plant) (g.P.Plant.takes_drills c.args.plant.now) (g.P.Plant.takes_drills c.swapin_with.new.plant) (Judged (setting_of c.args.self.now) c.args.self.now.lab command) c.args.self.now c.swapin_with.new.self c.swapin_with.result) (sym c.in-SwapinWith.is) (rw c.bytes-in-SwapinWith.ensures at c.swapin_with.ensures)

@@ -1,18 +1,12 @@
-use Rattle.std.proofs.Common.{◌≡◌, ◌≤◌, ◌<◌, ℕ, Bool, true, false, is_some, is_none, length, Option, Some, None, Ok, Err, refl, sym, ap, ◌∙◌, subst, arith}
-use Rattle.std.proofs.lemmas.Bool.{lt-leb, le-leb}
 use Rattle.std.proofs.lemmas.Result.{err_from_is_err_and}
-use Rattle.journal_rec.specs.declared.record.Record.{Record}
-use Rattle.journal_rec.specs.declared.record.Record.TheVariants.{Lab as LabRecord, Create, Delete}
-use Rattle.records_model.specs.Labs.{SetLab, Creates, Deletes, find}
-use Rattle.ptop_text.specs.Canonical.{canonical}
-use Rattle.top_text.specs.Canonical.{canonical_top}
+use Rattle.std.proofs.Common.{refl, sym, ap, ◌∙◌}
+use Rattle.records_model.specs.Labs.{find}
 use Rattle.script_text.specs.declared.reply.Reply.TheVariants as replies
 use Rattle.lab_core.specs.Moments.{Seen}
-use Rattle.lab_core.specs.Obeying.{setting_of, MayFollow}
-use Rattle.lab_core.specs.Steps.{judged_ptop, judged_create, judged_wiring, judged_delete, lab_reply, created_reply}
+use Rattle.lab_core.specs.Obeying.{setting_of}
+use Rattle.lab_core.specs.Steps.{judged_create, judged_wiring}
 use Rattle.lab_core.proofs.Answering.{wanted, refuses, judged_as}
-use Rattle.lab_core.proofs.Entering.{appended_as}
-use Rattle.lab_core.proofs.Judging.{found_some, none_found, one_found, not_there, ptop_set, ptop_bad, ptop_sets, create_none, create_there, create_bad, create_reads, wiring_full, wiring_adds, delete_none, delete_unknown, delete_in, delete_moving, delete_out, lab_follows, create_follows, delete_follows}
+use Rattle.lab_core.proofs.Judging.{found_some, none_found, one_found, not_there, create_none, create_there, create_bad, create_reads}
 use Rattle.lab_core.proofs.controller.Controller.create.Goals as goal
 
 pub same-self : goal.same-self
@@ -21,7 +15,7 @@ same-self g c = refl
 pub returns-then-is_none : goal.returns-then-is_none
 returns-then-is_none g c =
     let none = none_found c.args.self.now.lab.lab c.lab.result c.is_none.result (c.lab.ensures.lab ∙ ap (λ (s : Seen). s.lab.lab) c.self.view_is) c.is_none.ensures c.if-is_none.true in
-    refuses (g.P.Plant.told c.args.plant.now) (g.P.Plant.faults c.args.plant.now) (g.P.Plant.is_stopped c.args.plant.now) (g.P.Plant.takes_drills c.args.plant.now) (judged_create (setting_of c.args.self.now) c.args.self.now.lab c.args.exp c.args.text.now) c.args.self.now replies.NoLab c.requires.stands refl
+    refuses (g.P.Plant.told c.args.plant.now) (g.P.Plant.faults c.args.plant.now) (g.P.Plant.is_stopped c.args.plant.now) (g.P.Plant.takes_drills c.args.plant.now) (judged_create (setting_of c.args.self.now) c.args.self.now.lab c.args.exp c.args.text.now) c.args.self.now replies.NoLab c.requires.stands refl refl
     (create_none (setting_of c.args.self.now) c.args.self.now.lab c.args.exp c.args.text.now none)
 
 pub same-self-then-is_some : goal.same-self-then-is_some
@@ -31,7 +25,7 @@ pub returns-then-is_some : goal.returns-then-is_some
 returns-then-is_some g c =
     let has = one_found c.args.self.now.lab.lab c.lab.result c.is_none.result (c.lab.ensures.lab ∙ ap (λ (s : Seen). s.lab.lab) c.self.view_is) c.is_none.ensures c.if-is_none.false in
     let old = found_some (find c.args.exp c.args.self.now.lab.experiments) c.experiment.result c.is_some.result (c.experiment.ensures ∙ ap (λ (s : Seen). find c.args.exp s.lab.experiments) c.self.view_is) c.is_some.ensures ∙ c.if-is_some.true in
-    refuses (g.P.Plant.told c.args.plant.now) (g.P.Plant.faults c.args.plant.now) (g.P.Plant.is_stopped c.args.plant.now) (g.P.Plant.takes_drills c.args.plant.now) (judged_create (setting_of c.args.self.now) c.args.self.now.lab c.args.exp c.args.text.now) c.args.self.now (replies.Exists c.args.exp) c.requires.stands refl
+    refuses (g.P.Plant.told c.args.plant.now) (g.P.Plant.faults c.args.plant.now) (g.P.Plant.is_stopped c.args.plant.now) (g.P.Plant.takes_drills c.args.plant.now) (judged_create (setting_of c.args.self.now) c.args.self.now.lab c.args.exp c.args.text.now) c.args.self.now (replies.Exists c.args.exp) c.requires.stands refl refl
     (create_there (setting_of c.args.self.now) c.args.self.now.lab c.args.exp c.args.text.now has old)
 
 pub read_top-requires : goal.read_top-requires
@@ -65,8 +59,8 @@ same-self-in-Err-Text g c = refl
 pub same-self-in-Err-Memory : goal.same-self-in-Err-Memory
 same-self-in-Err-Memory g c = refl
 
-pub returns-in-Ok : goal.returns-in-Ok
-returns-in-Ok g c =
+pub returns-in_ok-top-in-Ok : goal.returns-in_ok-top-in-Ok
+returns-in_ok-top-in-Ok g c =
     let has = one_found c.args.self.now.lab.lab c.lab.result c.is_none.result (c.lab.ensures.lab ∙ ap (λ (s : Seen). s.lab.lab) c.self.view_is) c.is_none.ensures c.if-is_none.false in
     let new = not_there (find c.args.exp c.args.self.now.lab.experiments) (found_some (find c.args.exp c.args.self.now.lab.experiments) c.experiment.result c.is_some.result (c.experiment.ensures ∙ ap (λ (s : Seen). find c.args.exp s.lab.experiments) c.self.view_is) c.is_some.ensures ∙ c.if-is_some.false) in
     judged_as (g.P.Plant.told c.args.plant.now) (g.P.Plant.told c.add.new.plant) (g.P.Plant.faults c.args.plant.now) (g.P.Plant.faults c.add.new.plant) (g.P.Plant.is_stopped c.args.plant.now) (g.P.Plant.is_stopped c.add.new.plant) (g.P.Plant.takes_drills c.args.plant.now) (g.P.Plant.takes_drills c.add.new.plant) (judged_wiring (setting_of c.args.self.now) c.args.self.now.lab c.args.exp c.in-Ok.wiring) (judged_create (setting_of c.args.self.now) c.args.self.now.lab c.args.exp c.args.text.now) c.args.self.now c.add.new.self c.add.result (sym (create_reads (setting_of c.args.self.now) c.args.self.now.lab c.args.exp c.args.text.now c.in-Ok.wiring has new c.in-Ok.ensures.reads)) c.add.ensures
@@ -75,9 +69,26 @@ pub returns-in-Err-Text : goal.returns-in-Err-Text
 returns-in-Err-Text g c =
     let has = one_found c.args.self.now.lab.lab c.lab.result c.is_none.result (c.lab.ensures.lab ∙ ap (λ (s : Seen). s.lab.lab) c.self.view_is) c.is_none.ensures c.if-is_none.false in
     let new = not_there (find c.args.exp c.args.self.now.lab.experiments) (found_some (find c.args.exp c.args.self.now.lab.experiments) c.experiment.result c.is_some.result (c.experiment.ensures ∙ ap (λ (s : Seen). find c.args.exp s.lab.experiments) c.self.view_is) c.is_some.ensures ∙ c.if-is_some.false) in
-    refuses (g.P.Plant.told c.args.plant.now) (g.P.Plant.faults c.args.plant.now) (g.P.Plant.is_stopped c.args.plant.now) (g.P.Plant.takes_drills c.args.plant.now) (judged_create (setting_of c.args.self.now) c.args.self.now.lab c.args.exp c.args.text.now) c.args.self.now (replies.Bad c.args.exp c.in-Err-Text.fault) c.requires.stands refl
+    refuses (g.P.Plant.told c.args.plant.now) (g.P.Plant.faults c.args.plant.now) (g.P.Plant.is_stopped c.args.plant.now) (g.P.Plant.takes_drills c.args.plant.now) (judged_create (setting_of c.args.self.now) c.args.self.now.lab c.args.exp c.args.text.now) c.args.self.now (replies.Bad c.args.exp c.in-Err-Text.fault) c.requires.stands refl refl
     (create_bad (setting_of c.args.self.now) c.args.self.now.lab c.args.exp c.args.text.now c.in-Err-Text.fault has new (rw c.in-Err-Text.field-0-is at c.in-Err-Text.ensures.reads))
 
 pub returns-in-Err-Memory : goal.returns-in-Err-Memory
 returns-in-Err-Memory g c =
     wanted (g.P.Plant.told c.args.plant.now) (g.P.Plant.faults c.args.plant.now) (g.P.Plant.is_stopped c.args.plant.now) (g.P.Plant.takes_drills c.args.plant.now) _ c.args.self.now
+
+pub same-self-in_err-top-in-Ok : goal.same-self-in_err-top-in-Ok
+same-self-in_err-top-in-Ok g c = refl
+
+pub returns-in_err-top-in-Ok : goal.returns-in_err-top-in-Ok
+returns-in_err-top-in-Ok g c =
+    let p = err_from_is_err_and c.from_residual.result c.from_residual.ensures.1 in
+    rw (p.1, p.2) (wanted (g.P.Plant.told c.args.plant.now) (g.P.Plant.faults c.args.plant.now) (g.P.Plant.is_stopped c.args.plant.now) (g.P.Plant.takes_drills c.args.plant.now) _ c.args.self.now)
+
+pub add-requires-clause-text : goal.add-requires-clause-text
+add-requires-clause-text g c = c.in_ok-top-in-Ok.ensures.text
+
+pub add-requires-clause-size : goal.add-requires-clause-size
+add-requires-clause-size g c = c.in_ok-top-in-Ok.ensures.size c.in-Ok.ensures.sound
+
+pub add-requires-clause-printable : goal.add-requires-clause-printable
+add-requires-clause-printable g c = c.in_ok-top-in-Ok.ensures.printable

@@ -9,6 +9,9 @@ returns-clause-stands g c = c.answer.ensures.stands
 pub returns-clause-down : goal.returns-clause-down
 returns-clause-down g c = c.answer.ensures.down
 
+pub returns-clause-device : goal.returns-clause-device
+returns-clause-device g c = c.answer.ensures.device
+
 pub returns-clause-later : goal.returns-clause-later
 returns-clause-later g c = c.answer.ensures.later
 

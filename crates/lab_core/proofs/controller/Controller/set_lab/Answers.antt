@@ -1,18 +1,16 @@
-use Rattle.std.proofs.Common.{◌≡◌, ◌≤◌, ◌<◌, ℕ, Bool, true, false, is_some, is_none, length, List, Option, Some, None, Ok, Err, refl, sym, ap, ◌∙◌, subst, arith}
-use Rattle.std.proofs.lemmas.Bool.{lt-leb, le-leb}
+use Rattle.std.proofs.Common.{ℕ, List, refl, sym, ap, ◌∙◌, subst}
 use Rattle.std.proofs.lemmas.Result.{err_from_is_err_and}
 use Rattle.journal_rec.specs.declared.record.Record.{Record}
-use Rattle.journal_rec.specs.declared.record.Record.TheVariants.{Lab as LabRecord, Create, Delete}
-use Rattle.records_model.specs.Labs.{SetLab, Creates, Deletes, find}
+use Rattle.journal_rec.specs.declared.record.Record.TheVariants.{Lab as LabRecord}
+use Rattle.records_model.specs.Labs.{SetLab}
 use Rattle.ptop_text.specs.Canonical.{canonical}
-use Rattle.top_text.specs.Canonical.{canonical_top}
 use Rattle.script_text.specs.declared.reply.Reply.TheVariants as replies
 use Rattle.lab_core.specs.Moments.{Seen}
 use Rattle.lab_core.specs.Obeying.{setting_of, MayFollow}
-use Rattle.lab_core.specs.Steps.{judged_ptop, judged_create, judged_wiring, judged_delete, lab_reply, created_reply}
-use Rattle.lab_core.proofs.Answering.{wanted, refuses, judged_as}
+use Rattle.lab_core.specs.Steps.{judged_ptop, lab_reply}
+use Rattle.lab_core.proofs.Answering.{wanted, refuses}
 use Rattle.lab_core.proofs.Entering.{appended_as}
-use Rattle.lab_core.proofs.Judging.{found_some, none_found, one_found, not_there, ptop_set, ptop_bad, ptop_sets, create_none, create_there, create_bad, create_reads, wiring_full, wiring_adds, delete_none, delete_unknown, delete_in, delete_moving, delete_out, lab_follows, create_follows, delete_follows}
+use Rattle.lab_core.proofs.Judging.{found_some, not_there, ptop_set, ptop_bad, ptop_sets, lab_follows}
 use Rattle.lab_core.proofs.controller.Controller.set_lab.Goals as goal
 
 pub same-self : goal.same-self
@@ -21,7 +19,7 @@ same-self g c = refl
 pub returns-then-is_some : goal.returns-then-is_some
 returns-then-is_some g c =
     let has = found_some c.args.self.now.lab.lab c.lab.result c.is_some.result (c.lab.ensures.lab ∙ ap (λ (s : Seen). s.lab.lab) c.self.view_is) c.is_some.ensures ∙ c.if-is_some.true in
-    refuses (g.P.Plant.told c.args.plant.now) (g.P.Plant.faults c.args.plant.now) (g.P.Plant.is_stopped c.args.plant.now) (g.P.Plant.takes_drills c.args.plant.now) (judged_ptop (setting_of c.args.self.now) c.args.self.now.lab c.args.text.now) c.args.self.now replies.LabIsSet c.requires.stands refl
+    refuses (g.P.Plant.told c.args.plant.now) (g.P.Plant.faults c.args.plant.now) (g.P.Plant.is_stopped c.args.plant.now) (g.P.Plant.takes_drills c.args.plant.now) (judged_ptop (setting_of c.args.self.now) c.args.self.now.lab c.args.text.now) c.args.self.now replies.LabIsSet c.requires.stands refl refl
     (ptop_set (setting_of c.args.self.now) c.args.self.now.lab c.args.text.now has)
 
 pub read_ptop-requires : goal.read_ptop-requires
@@ -51,6 +49,10 @@ pub append-requires-clause-goes_on : goal.append-requires-clause-goes_on
 append-requires-clause-goes_on g c =
     rw c.lab_reply-reply.ensures.reply refl
 
+pub append-requires-clause-blameless : goal.append-requires-clause-blameless
+append-requires-clause-blameless g c =
+    rw c.lab_reply-reply.ensures.reply refl
+
 pub append-requires-clause-follows : goal.append-requires-clause-follows
 append-requires-clause-follows g c =
     let none = not_there c.args.self.now.lab.lab (found_some c.args.self.now.lab.lab c.lab.result c.is_some.result (c.lab.ensures.lab ∙ ap (λ (s : Seen). s.lab.lab) c.self.view_is) c.is_some.ensures ∙ c.if-is_some.false) in
@@ -75,7 +77,7 @@ returns-in_ok-ptop-in-Ok g c =
 pub returns-in-Err-Text : goal.returns-in-Err-Text
 returns-in-Err-Text g c =
     let none = not_there c.args.self.now.lab.lab (found_some c.args.self.now.lab.lab c.lab.result c.is_some.result (c.lab.ensures.lab ∙ ap (λ (s : Seen). s.lab.lab) c.self.view_is) c.is_some.ensures ∙ c.if-is_some.false) in
-    refuses (g.P.Plant.told c.args.plant.now) (g.P.Plant.faults c.args.plant.now) (g.P.Plant.is_stopped c.args.plant.now) (g.P.Plant.takes_drills c.args.plant.now) (judged_ptop (setting_of c.args.self.now) c.args.self.now.lab c.args.text.now) c.args.self.now (replies.BadPtop c.in-Err-Text.fault) c.requires.stands refl
+    refuses (g.P.Plant.told c.args.plant.now) (g.P.Plant.faults c.args.plant.now) (g.P.Plant.is_stopped c.args.plant.now) (g.P.Plant.takes_drills c.args.plant.now) (judged_ptop (setting_of c.args.self.now) c.args.self.now.lab c.args.text.now) c.args.self.now (replies.BadPtop c.in-Err-Text.fault) c.requires.stands refl refl
     (ptop_bad (setting_of c.args.self.now) c.args.self.now.lab c.args.text.now c.in-Err-Text.fault none (rw c.in-Err-Text.field-0-is at c.in-Err-Text.ensures))
 
 pub returns-in-Err-Memory : goal.returns-in-Err-Memory

@@ -1,15 +1,15 @@
-use Rattle.std.proofs.Common.{◌≡◌, inl, inr, ℕ, Option, Some, None, Ok, Err, refl, sym, ap, ◌∙◌, subst}
+use Rattle.std.proofs.Common.{inl, refl, sym, ap, ◌∙◌}
 use Rattle.std.proofs.lemmas.Result.{err_from_is_err_and}
-use Rattle.records_model.specs.Labs.{LabState, Sane, find}
+use Rattle.records_model.specs.Labs.{find}
 use Rattle.lab_core.specs.Moments.{Seen}
-use Rattle.lab_core.proofs.Judging.{show_none, show_unknown, shows}
+use Rattle.lab_core.proofs.Judging.{show_none, show_unknown}
 use Rattle.lab_core.proofs.Shown.{shaped_in, told_shown}
 use Rattle.lab_core.proofs.controller.Controller.show.Goals as goal
 
 pub returns-in_default-clause-told : goal.returns-in_default-clause-told
 returns-in_default-clause-told c =
     let none = sym (c.in_default.ensures.lab ∙ ap (λ (s : Seen). s.lab.lab) c.self.view_is) in
-    (inl (show_none c.args.self.now.lab c.args.exp none), refl)
+    (inl (show_none c.args.self.now.lab c.args.exp none), refl, refl)
 
 pub returns-in_default-clause-memory : goal.returns-in_default-clause-memory
 returns-in_default-clause-memory c = λ h. cc h
@@ -40,7 +40,7 @@ pub returns-in-None-clause-told : goal.returns-in-None-clause-told
 returns-in-None-clause-told c =
     let lab = sym (c.in-Some.ensures.lab ∙ ap (λ (s : Seen). s.lab.lab) c.self.view_is) in
     let gone = sym (c.in-None.ensures ∙ ap (λ (s : Seen). find c.args.exp s.lab.experiments) c.self.view_is) in
-    (inl (show_unknown c.args.self.now.lab c.args.exp c.in-Some.lab.now lab gone), refl)
+    (inl (show_unknown c.args.self.now.lab c.args.exp c.in-Some.lab.now lab gone), refl, refl)
 
 pub returns-in-None-clause-memory : goal.returns-in-None-clause-memory
 returns-in-None-clause-memory c = λ h. cc h

@@ -1,4 +1,4 @@
-use Rattle.std.proofs.Common.{◌≡◌, inl, Some, None, false, is_some, refl, sym, ap, ◌∙◌, subst}
+use Rattle.std.proofs.Common.{inl, refl, sym, subst}
 use Rattle.std.proofs.lemmas.Result.{err_from_is_err_and}
 use Rattle.script_text.specs.declared.reply.Reply.TheVariants.{NoLab, Listed}
 use Rattle.lab_core.specs.Moments.{Seen}
@@ -11,7 +11,7 @@ use Rattle.lab_core.proofs.controller.Controller.status.Goals as goal
 pub returns-in_default-clause-told : goal.returns-in_default-clause-told
 returns-in_default-clause-told c =
     let none = not_there c.self.inside.lab.state.lab (sym c.in_default.ensures.some) in
-    subst (λ (s : Seen). IsTold (judged_status s.lab) NoLab) c.self.view_is (inl (status_none c.self.inside.lab.state none), refl)
+    subst (λ (s : Seen). IsTold (judged_status s.lab) NoLab) c.self.view_is (inl (status_none c.self.inside.lab.state none), refl, refl)
 
 pub returns-in_default-clause-memory : goal.returns-in_default-clause-memory
 returns-in_default-clause-memory c = λ h. cc h

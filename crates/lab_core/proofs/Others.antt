@@ -1,0 +1,140 @@
+-- Moves of one experiment leave those of other names.
+use Rattle.std.proofs.Common.{◌≡◌, ◌≢◌, ◌⊎◌, inl, inr, ℕ, Bool, true, false, cond, is_some, Option, Some, None, List, [], ◌∷◌, ◌++◌, refl, sym, ap, ◌∙◌}
+use Rattle.std.specs.Prelude.{if◌then◌else◌}
+use Rattle.std.specs.Str.{bytes_eq}
+use Rattle.std.proofs.lemmas.Bool.{cases_Bool, cond-true, cond-false, false_from_ne_true}
+use Rattle.std.proofs.lemmas.Slice.Eq.{bytes_eq-Decides}
+use Rattle.phys_lab.specs.Labs.{Lab}
+use Rattle.plant.specs.Events.{Event}
+use Rattle.plant.specs.declared.step.Side.{Side}
+use Rattle.virt_topo.specs.declared.experiment.Experiment.{Experiment}
+use Rattle.virt_topo.specs.declared.experiment.Phase.{Phase}
+use Rattle.virt_topo.specs.declared.experiment.Phase.TheVariants.{Out, In, Moving}
+use Rattle.journal_rec.specs.declared.record.Record.{Record}
+use Rattle.records_model.specs.Labs.{LabState, Move, SetLab, Creates, Deletes, BeginsIn, BeginsOut, BeginsChange, Commits, Aborts, find, others, becomes, is_out, deleted, moved_one, moved_in, moved_of, moved}
+use Rattle.records_model.proofs.Finding.{some_is, none_some, found_from}
+use Rattle.records_model.proofs.LabLaws.{in_state-some, with_replaced-some, found_one}
+use Rattle.records_model.proofs.Swaps.{find_others}
+use Rattle.swap_runs.specs.Swaps.{Swap, Direction, Forward, Back, last_move}
+use Rattle.swap_runs.specs.Ends.{End, Committed, Aborted, Stuck, Unwritten, Stopped, IsBroken, IsStopped, in_course, in_append, SwapEnds, SwapSteps, begun, unwritten, stopped}
+
+differs : (a b : List ℕ) → a ≢ b → bytes_eq a b ≡ false
+differs a b apart = false_from_ne_true (bytes_eq a b) (λ h. apart ((bytes_eq-Decides a b).0 h))
+
+-- ---- lists of experiments
+find_added : (name : List ℕ) (es : List Experiment) (e : Experiment) → e.name ≢ name → find name (es ++ e ∷ []) ≡ find name es
+find_added name [] e apart = cond-false (bytes_eq e.name name) (Some e) None (differs e.name name apart)
+find_added name (x ∷ es) e apart = ap (λ o. cond (bytes_eq x.name name) (Some x) o) (find_added name es e apart)
+
+find_without : (own name : List ℕ) (es : List Experiment) → own ≢ name → find name (others own es) ≡ find name es
+find_without own name [] apart = refl
+find_without own name (x ∷ es) apart = elim (cases_Bool (bytes_eq x.name own)) [
+  | inl yes' ↦
+      let x_is : x.name ≡ own = (bytes_eq-Decides x.name own).0 yes' in
+      ap (λ l. find name l) (cond-true (bytes_eq x.name own) es (x ∷ others own es) yes')
+      ∙ sym (cond-false (bytes_eq x.name name) (Some x) (find name es) (differs x.name name (λ same. apart (sym x_is ∙ same))))
+  | inr no' ↦
+      ap (λ l. find name l) (cond-false (bytes_eq x.name own) es (x ∷ others own es) no')
+      ∙ ap (λ o. cond (bytes_eq x.name name) (Some x) o) (find_without own name es apart)
+]
+
+if_some : {X : Type 0} (b : Bool) (x y : X) → ◌≡◌ {A = Option X} (if b then Some x else None) (Some y) → x ≡ y
+if_some true x y h = some_is x y h
+if_some false x y h = none_some y h
+
+-- what an experiment becomes keeps its name
+becomes_name : (lab : Lab) (es : List Experiment) (e g : Experiment) (phase : Phase) (move : Move) → becomes lab es e phase move ≡ Some g → g.name ≡ e.name
+becomes_name lab es e g Out (BeginsIn name mapping tags) h = sym (ap (λ x. x.name) (if_some _ _ g h))
+becomes_name lab es e g (In old old_tags) (BeginsOut name) h = sym (ap (λ x. x.name) (some_is _ g h))
+becomes_name lab es e g (In old old_tags) (BeginsChange name wiring mapping tags) h = sym (ap (λ x. x.name) (if_some _ _ g h))
+becomes_name lab es e g (Moving None (Some new)) (Commits name) h = sym (ap (λ x. x.name) (some_is _ g h))
+becomes_name lab es e g (Moving (Some old) (Some new)) (Commits name) h = sym (ap (λ x. x.name) (some_is _ g h))
+becomes_name lab es e g (Moving (Some old) None) (Commits name) h = sym (ap (λ x. x.name) (some_is _ g h))
+becomes_name lab es e g (Moving None (Some new)) (Aborts name) h = sym (ap (λ x. x.name) (some_is _ g h))
+becomes_name lab es e g (Moving (Some old) (Some new)) (Aborts name) h = sym (ap (λ x. x.name) (some_is _ g h))
+becomes_name lab es e g phase move h = none_some g h
+
+-- ---- moves
+-- the move is of no experiment of that name
+abbrev pub IsApart : List ℕ → Move → Type 0
+IsApart name (SetLab lab) = Unit {0}
+IsApart name (Creates own wiring) = own ≢ name
+IsApart name (Deletes own) = own ≢ name
+IsApart name (BeginsIn own mapping tags) = own ≢ name
+IsApart name (BeginsOut own) = own ≢ name
+IsApart name (BeginsChange own wiring mapping tags) = own ≢ name
+IsApart name (Commits own) = own ≢ name
+IsApart name (Aborts own) = own ≢ name
+
+-- the lab is set still, and the experiment of that name is as it was
+pub record Stays (name : List ℕ) (s u : LabState) : Type 0 where
+  pub set : is_some u.lab ≡ true
+  pub same : find name u.experiments ≡ find name s.experiments
+
+module _ (name : List ℕ) where
+  one_stays : (lab : Lab) (es : List Experiment) (own : List ℕ) (move : Move) (xs : List Experiment) → own ≢ name → moved_one lab es own (find own es) move ≡ Some xs → find name xs ≡ find name es
+  one_stays lab es own move xs apart h =
+      let e = found_one lab es own move (find own es) xs h in
+      let g = with_replaced-some own es (becomes lab es e.0 e.0.phase move) xs e.2 in
+      let named : g.0.name ≡ own = becomes_name lab es e.0 g.0 e.0.phase move g.1 ∙ (found_from own es e.0 e.1).name_is in
+      ap (λ l. find name l) (sym g.2) ∙ find_others own name es g.0 named (λ same. apart (sym same))
+
+  deleted_stays : (es : List Experiment) (own : List ℕ) (o : Option Experiment) (xs : List Experiment) → own ≢ name → deleted own es o ≡ Some xs → find name xs ≡ find name es
+  deleted_stays es own None xs apart h = none_some xs h
+  deleted_stays es own (Some e) xs apart h = ap (λ l. find name l) (sym (if_some (is_out e.phase) (others own es) xs h)) ∙ find_without own name es apart
+
+  in_stays : (lab : Lab) (es : List Experiment) (move : Move) (xs : List Experiment) → IsApart name move → moved_in lab es move ≡ Some xs → find name xs ≡ find name es
+  in_stays lab es (SetLab l) xs apart h = none_some xs h
+  in_stays lab es (Creates own wiring) xs apart h = ap (λ l. find name l) (sym (if_some _ _ xs h)) ∙ find_added name es (record { name = own; wiring = wiring; phase = Out }) apart
+  in_stays lab es (Deletes own) xs apart h = deleted_stays es own (find own es) xs apart h
+  in_stays lab es (BeginsIn own mapping tags) xs apart h = one_stays lab es own (BeginsIn own mapping tags) xs apart h
+  in_stays lab es (BeginsOut own) xs apart h = one_stays lab es own (BeginsOut own) xs apart h
+  in_stays lab es (BeginsChange own wiring mapping tags) xs apart h = one_stays lab es own (BeginsChange own wiring mapping tags) xs apart h
+  in_stays lab es (Commits own) xs apart h = one_stays lab es own (Commits own) xs apart h
+  in_stays lab es (Aborts own) xs apart h = one_stays lab es own (Aborts own) xs apart h
+
+  of_stays : (o : Option Lab) (es : List Experiment) (move : Move) (u : LabState) → is_some o ≡ true → IsApart name move → moved_of o es move ≡ Some u → (is_some u.lab ≡ true) × (find name u.experiments ≡ find name es)
+  of_stays None es move u set apart h = absurd (cc set)
+  of_stays (Some lab) es move u set apart h =
+      let xs = in_state-some lab (moved_in lab es move) u h in
+      (ap (λ (x : LabState). is_some x.lab) (sym xs.2), ap (λ (x : LabState). find name x.experiments) (sym xs.2) ∙ in_stays lab es move xs.0 apart xs.1)
+
+  -- A MOVE of another experiment
+  pub move_stays : (s u : LabState) (move : Move) → is_some s.lab ≡ true → IsApart name move → moved s move ≡ Some u → Stays name s u
+  move_stays s u move set apart h = let both = of_stays s.lab s.experiments move u set apart h in record { set = both.0; same = both.1 }
+
+  pub same_stays : (s u : LabState) → is_some s.lab ≡ true → u ≡ s → Stays name s u
+  same_stays s u set is = record { set = ap (λ (x : LabState). is_some x.lab) is ∙ set; same = ap (λ (x : LabState). find name x.experiments) is }
+
+  both_stay : (s u v : LabState) → Stays name s u → Stays name u v → Stays name s v
+  both_stay s u v a b = record { set = b.set; same = b.same ∙ a.same }
+
+  pub either_stays : (s u after : LabState) (move : Move) → is_some s.lab ≡ true → IsApart name move → moved s move ≡ Some u → (after ≡ s) ⊎ (after ≡ u) → Stays name s after
+  either_stays s u after move set apart h (inl before) = same_stays s after set before
+  either_stays s u after move set apart h (inr now) = let moves = move_stays s u move set apart h in both_stay s u after moves (same_stays u after moves.set now)
+
+  -- A SWAP of another experiment
+  broken_stays : (behind : Side → List Event) (s after : LabState) (r : Record) (move : Move) (steps : List Event) → is_some s.lab ≡ true → IsApart name move → IsBroken behind s r move steps after → Stays name s after
+  broken_stays behind s after r move steps set apart b = either_stays s b.state after move set apart b.moves b.either
+
+  last_apart : (direction : Direction) (own : List ℕ) → own ≢ name → IsApart name (last_move direction own)
+  last_apart Forward own apart = apart
+  last_apart (Back why) own apart = apart
+
+  ends_stay : (p : Swap) (s after : LabState) (steps : List Event) (end : End) → is_some s.lab ≡ true → p.name ≢ name → SwapEnds p s steps after end → Stays name s after
+  ends_stay p s after steps Committed set apart h = move_stays s after (last_move Forward p.name) set apart h.is.moves
+  ends_stay p s after steps (Aborted why) set apart h = move_stays s after (last_move (Back why) p.name) set apart h.is.moves
+  ends_stay p s after steps (Stuck trouble) set apart h = same_stays s after set h.1
+  ends_stay p s after steps Unwritten set apart h = broken_stays _ s after _ (last_move h.0 p.name) h.1.record_steps set (last_apart h.0 p.name apart) h.1.is
+  ends_stay p s after steps Stopped set apart h = by h
+    where
+      by : IsStopped p s steps after → Stays name s after
+      by (in_course direction along is) = same_stays s after set is
+      by (in_append direction at) = broken_stays _ s after _ (last_move direction p.name) at.record_steps set (last_apart direction p.name apart) at.is
+
+  pub swap_stays : (p : Swap) (s after : LabState) (begin : Record) (move : Move) (steps : List Event) (end : End) → is_some s.lab ≡ true → IsApart name move → p.name ≢ name → SwapSteps p s begin move steps after end → Stays name s after
+  swap_stays p s after begin move steps end set apart own (begun b) =
+      let first = move_stays s b.state move set apart b.begins.moves in
+      both_stay s b.state after first (ends_stay p b.state after b.behind end first.set own b.ends)
+  swap_stays p s after begin move steps end set apart own (unwritten b is) = broken_stays _ s after begin move steps set apart b
+  swap_stays p s after begin move steps end set apart own (stopped b is) = broken_stays _ s after begin move steps set apart b

@@ -1,0 +1,40 @@
+use Rattle.std.proofs.Common.{◌≡◌, ◌≤◌, ℕ, Some, None, Ok, length, sym, ◌∙◌, subst}
+use Rattle.claims.specs.Answered.{AreTaken}
+use Rattle.claims.specs.Held.{free_ids}
+use Rattle.records_model.proofs.Swaps.{found_in}
+use Rattle.lab_core.proofs.Judging.{not_there}
+use Rattle.lab_core.proofs.SwappingIn.{left_is, checks, enough, takes}
+use Rattle.lab_core.proofs.swapin.check_mapping.Goals as goal
+
+pub unreachable-requires : goal.unreachable-requires
+unreachable-requires c =
+    let none = not_there c.args.state.now.state.lab (sym c.in_default.ensures.some) in
+    let both : None ≡ Some c.args.lab.now = sym none ∙ c.requires.out.is_lab in
+    cc both
+
+pub check-requires-clause-free : goal.check-requires-clause-free
+check-requires-clause-free c =
+    (left_is c.args.state.now.state c.args.lab.now c.args.experiment.now c.in-Some.claims.now c.requires.out c.in-Some.ensures.claims c.in_ok-free.free c.in_ok-free.ensures).sizes
+
+pub check-requires-clause-sound : goal.check-requires-clause-sound
+check-requires-clause-sound c =
+    c.requires.out.sane.wirings c.args.experiment.now (found_in c.args.experiment.now.name c.args.state.now.state.experiments c.args.experiment.now c.requires.out.found)
+
+pub check-requires-clause-shaped : goal.check-requires-clause-shaped
+check-requires-clause-shaped c = c.requires.shaped
+
+pub least_tags-requires : goal.least_tags-requires
+least_tags-requires c =
+    subst (λ (n : ℕ). n ≤ length (free_ids c.in-Some.claims.now)) (sym c.len.ensures)
+    (enough c.args.state.now.state c.args.lab.now c.args.experiment.now c.in-Some.claims.now c.requires.out c.in-Some.ensures.claims c.in_ok-free.free c.args.mapping.now c.in_ok-free.ensures c.in-Ok.ensures)
+
+pub returns-in-Ok : goal.returns-in-Ok
+returns-in-Ok c =
+    takes c.args.state.now.state c.args.lab.now c.args.experiment.now c.in-Some.claims.now c.requires.out c.in-Some.ensures.claims c.in_ok-free.free c.args.mapping.now c.in_ok-tags-in-Ok.tags c.in_ok-free.ensures c.requires.shaped c.in-Ok.ensures
+    (subst (λ (n : ℕ). AreTaken (free_ids c.in-Some.claims.now) n (Ok c.in_ok-tags-in-Ok.tags)) c.len.ensures c.in_ok-tags-in-Ok.ensures)
+
+pub returns-in-Err-Violation : goal.returns-in-Err-Violation
+returns-in-Err-Violation c =
+    rw c.in-Err-Violation.field-0-is
+    (sym (checks c.args.state.now.state c.args.lab.now c.args.experiment.now c.in-Some.claims.now c.requires.out c.in-Some.ensures.claims c.in_ok-free.free c.args.mapping.now c.in_ok-free.ensures c.requires.shaped)
+    ∙ (rw c.in-Err-Violation.field-0-is at c.in-Err-Violation.ensures))

@@ -1,0 +1,158 @@
+-- A drill is planned, and all else stays as it was.
+use Rattle.std.proofs.Common.{◌≡◌, inl, inr, ◌^◌, arith, Bool, true, false, List, [], ◌++◌, Option, Some, None, Result, Ok, Err, refl, sym, ap, subst, ◌∙◌}
+use Rattle.std.specs.Prelude.{IfSome, is_some, if◌then◌else◌}
+use Rattle.std.proofs.lemmas.List.{append-nil}
+use Rattle.plant.specs.declared.drill.Drill.{Drill}
+use Rattle.plant.specs.declared.moment.Faults.{Faults}
+use Rattle.plant.specs.Disks.{ArePossible}
+use Rattle.plant.specs.Events.{Event}
+use Rattle.plant.specs.Told.{Told, with_drill, with_steps}
+use Rattle.records_model.specs.Labs.{LabState}
+use Rattle.records_model.specs.Works.{IsSound}
+use Rattle.journal_runs.proofs.Stood.{sound_stands}
+use Rattle.lab_state.specs.Texts.{the_texts}
+use Rattle.script_text.specs.Drills.{drill_of}
+use Rattle.script_text.specs.Replies.{blames_device, closes}
+use Rattle.script_text.specs.declared.command.Command.{Command}
+use Rattle.script_text.specs.declared.reply.Reply.{Reply}
+use Rattle.script_text.specs.declared.reply.Reply.TheVariants as replies
+use Rattle.lab_core.specs.LabSteps.{Drills, StepOf, is_planned, is_refused, wants_memory}
+use Rattle.lab_core.specs.Moments.{Seen, AllStandFor, IsLabAt}
+use Rattle.lab_core.specs.Sessions.{Session, Closed, Open}
+use Rattle.lab_top.specs.declared.command.CommandFault.{CommandFault}
+use Rattle.lab_top.specs.declared.command.CommandFault.TheVariants as faults
+use Rattle.lab_top.specs.Answering.{Begun, IsDone, IsOpen, Made, MayGoOn, Moment, Plans, reply_if, session_after, session_of}
+use Rattle.lab_top.specs.CommandTurns.{FirstLab, ImagesAfter, IsPlannedBy, StepsFrom, blames_if, closes_if, leaves_one, with_drill_if}
+use Rattle.lab_top.proofs.Obeyed.{AsRead, later_same, map_both, map_some, steps_none}
+use Rattle.lab_top.proofs.Turning.{after_of, not_early, sound_length, turn_of, working_all, working_lab}
+
+-- THE TRACE is that before a drill
+pub with_trace : (told : Option Told) (drill : Option Drill) (P : List Event → Type 0) → IfSome told (λ t. P t.trace) → IfSome (with_drill_if told drill) (λ t. P t.trace)
+with_trace told None P h = h
+with_trace None (Some drill) P h = tt
+with_trace (Some t) (Some drill) P h = h
+
+-- THE STEP OF A DRILL over one trace: it has no steps, and its reply, if it has one, leaves the session as it was
+abbrev Stays : Bool → Session → Session → Option Reply → Type 0
+Stays takes from to reply = (s : LabState) → Drills takes s from [] (after_of reply s to)
+
+module _ (takes : Bool) (trace : List Event) (command : Command) (drill : Drill) (is : drill_of command ≡ Some drill) (possible : AsRead trace) (sound : IsSound the_texts trace) (from to : Session) (reply : Option Reply) (stays : Stays takes from to reply) where
+  none : trace ≡ trace ++ []
+  none = sym (append-nil trace)
+
+  drill_steps : (faults later : Faults) (planned : Bool) (s : LabState) → StepsFrom takes trace (turn_of command faults later from to [] [] planned reply) s s
+  drill_steps faults later planned s =
+      let n = sound_length (trace ++ []) (subst AsRead none possible) (subst (λ l. IsSound the_texts l) none sound) in
+      record {
+        length = n.0;
+        length_is = n.1;
+        step = subst (λ (d : Option Drill). StepOf d takes (record { length = n.0; limit = 2 ^ 32 }) s from command [] [] (after_of reply s to)) (sym is) (refl, stays s);
+      }
+
+  images : (one : Bool) (s : LabState) → (one ≡ true → AllStandFor trace s) → (faults later : Faults) (planned : Bool) → ImagesAfter takes one trace (turn_of command faults later from to [] [] planned reply) s
+  images true s all faults later planned = subst (λ l. AllStandFor l s) none (all refl)
+  images false s all faults later planned = λ a b there.
+      let at = subst (λ l. ArePossible l a b) (append-nil trace) there in
+      let lab = sound_stands the_texts trace a b at sound in
+      (lab.0, lab.0, record { a = a; b = b; possible = at; stand = lab.1 }, lab.1, drill_steps faults later planned lab.0)
+
+  pub drill_done : (s : LabState) → IsLabAt trace s → (is_some reply ≡ true → leaves_one to reply ≡ true → AllStandFor trace s) → IsDone takes trace command from to [] [] reply
+  drill_done s at all = record {
+    turn = λ faults later planned. record {
+      first = s;
+      last = s;
+      before = subst (λ b. FirstLab b trace s) (sym (not_early from [] refl)) at;
+      behind = subst (λ l. IsLabAt l s) none at;
+      steps = drill_steps faults later planned s;
+      images = λ some. images (leaves_one to reply) s (all some) faults later planned;
+    };
+    sound = subst (λ l. IsSound the_texts l) none sound;
+  }
+
+-- with a reply, from a session of either kind
+module _ (takes : Bool) (command : Command) (drill : Drill) (is : drill_of command ≡ Some drill) (reply : Reply) (other : leaves_one Closed (Some reply) ≡ false) (stays : (from : Session) → Stays takes from from (Some reply)) where
+  replied_over : (trace : List Event) (controller : Option Seen) → IfSome controller (λ c. IsOpen trace c) → AsRead trace → IsSound the_texts trace → IsDone takes trace command (session_of controller) (session_of controller) [] [] (Some reply)
+  replied_over trace None open_now possible sound =
+      let lab = sound_stands the_texts trace _ _ possible sound in
+      drill_done takes trace command drill is possible sound Closed Closed (Some reply) (stays Closed) lab.0 lab.1 (λ some one. absurd (cc (other, one)))
+  replied_over trace (Some c) open_now possible sound =
+      let works = (open_now.works sound).0 in
+      drill_done takes trace command drill is possible sound Open Open (Some reply) (stays Open) c.lab (working_lab trace c works) (λ some one. working_all trace c works)
+
+silent_over : (takes : Bool) (command : Command) (drill : Drill) → drill_of command ≡ Some drill → (trace : List Event) (from : Session) → AsRead trace → IsSound the_texts trace → IsDone takes trace command from Closed [] [] None
+silent_over takes command drill is trace from possible sound =
+    let lab = sound_stands the_texts trace _ _ possible sound in
+    drill_done takes trace command drill is possible sound from Closed None (λ s. wants_memory (record { nothing = refl; after_is = refl })) lab.0 lab.1 (λ some one. absurd (cc some))
+
+-- WHAT A DRILL BEGAN
+module _ (takes : Bool) (command : Command) (drill : Drill) (is : drill_of command ≡ Some drill) (old new : Option Told) (controller : Option Seen) (open_now : IfSome old (λ t. IfSome controller (λ c. IsOpen t.trace c))) (possible : IfSome old (λ t. AsRead t.trace)) where
+  begun_with : (reply : Reply) (planned : Bool) → leaves_one Closed (Some reply) ≡ false → ((from : Session) → Stays takes from from (Some reply)) → IsPlannedBy takes (Some drill) planned (Some reply)
+      → new ≡ with_drill_if (with_steps old []) (if planned then drill_of command else None) → Begun takes command old new (session_of controller) (session_of controller) (Some reply)
+  begun_with reply planned other stays by told = record {
+    opening = [];
+    own = [];
+    planned = planned;
+    told = told;
+    planned_by = subst (λ (d : Option Drill). IsPlannedBy takes d planned (Some reply)) (sym is) by;
+    done = map_both old (λ t now there sound. replied_over takes command drill is reply other stays t.trace controller now there sound) open_now possible;
+  }
+
+  begun_planned : takes ≡ true → new ≡ with_drill old drill → Begun takes command old new (session_of controller) (session_of controller) (Some replies.Planned)
+  begun_planned takes_it told =
+      begun_with replies.Planned true refl (λ from s. is_planned takes_it refl refl) (refl, takes_it)
+      (told ∙ ap (λ (o : Option Told). with_drill o drill) (steps_none old) ∙ ap (λ (d : Option Drill). with_drill_if (with_steps old []) d) (sym is))
+
+  begun_refused : takes ≡ false → new ≡ old → Begun takes command old new (session_of controller) (session_of controller) (Some replies.NoDrill)
+  begun_refused takes_none told = begun_with replies.NoDrill false refl (λ from s. is_refused takes_none refl refl) (refl, takes_none) (told ∙ steps_none old)
+
+  begun_silent : new ≡ old → Begun takes command old new (session_of controller) Closed None
+  begun_silent told = record {
+    opening = [];
+    own = [];
+    planned = false;
+    told = told ∙ steps_none old;
+    planned_by = subst (λ (d : Option Drill). IsPlannedBy takes d false None) (sym is) (λ none. absurd (cc none));
+    done = map_some old (λ t there sound. silent_over takes command drill is t.trace (session_of controller) there sound) possible;
+  }
+
+  pub begun_drill : (result : Result Reply CommandFault) → Plans takes drill old new result → Begun takes command old new (session_of controller) (session_after result controller) (reply_if result)
+  begun_drill (Ok reply) (inl planned) = subst (λ r. Begun takes command old new (session_of controller) (session_of controller) (Some r)) (sym planned.0) (begun_planned planned.1 planned.2)
+  begun_drill (Ok reply) (inr refused) = subst (λ r. Begun takes command old new (session_of controller) (session_of controller) (Some r)) (sym refused.0) (begun_refused refused.1 refused.2)
+  begun_drill (Err fault) wants = begun_silent wants.1
+
+  goes_on_told : (result : Result Reply CommandFault) → Plans takes drill old new result → IfSome new (λ t. IfSome controller (λ c. IsOpen t.trace c))
+  goes_on_told (Ok reply) (inl planned) = subst (λ (o : Option Told). IfSome o (λ t. IfSome controller (λ c. IsOpen t.trace c))) (sym planned.2) (with_trace old (Some drill) (λ l. IfSome controller (λ c. IsOpen l c)) open_now)
+  goes_on_told (Ok reply) (inr refused) = subst (λ (o : Option Told). IfSome o (λ t. IfSome controller (λ c. IsOpen t.trace c))) (sym refused.2) open_now
+  goes_on_told (Err fault) wants = subst (λ (o : Option Told). IfSome o (λ t. IfSome controller (λ c. IsOpen t.trace c))) (sym wants.1) open_now
+
+-- NO REPLY TO A DRILL closes the controller, or blames a device
+open_not : (takes : Bool) (drill : Drill) (old new : Option Told) (result : Result Reply CommandFault) → Plans takes drill old new result → closes_if (reply_if result) ≡ false
+open_not takes drill old new (Ok reply) (inl planned) = ap closes planned.0
+open_not takes drill old new (Ok reply) (inr refused) = ap closes refused.0
+open_not takes drill old new (Err fault) wants = refl
+
+blames_not : (takes : Bool) (drill : Drill) (old new : Option Told) (result : Result Reply CommandFault) → Plans takes drill old new result → blames_if (reply_if result) ≡ false
+blames_not takes drill old new (Ok reply) (inl planned) = ap blames_device planned.0
+blames_not takes drill old new (Ok reply) (inr refused) = ap blames_device refused.0
+blames_not takes drill old new (Err fault) wants = refl
+
+-- and where there is none, memory is wanting
+pub plans_memory : (takes : Bool) (drill : Drill) (old new : Option Told) (result : Result Reply CommandFault) (fault : CommandFault) → Plans takes drill old new result → result ≡ Err fault → fault ≡ faults.Memory
+plans_memory takes drill old new (Ok reply) fault plans is = absurd (cc is)
+plans_memory takes drill old new (Err other) fault plans is = cc (plans.0, is)
+
+pub made_drill : (takes : Bool) (command : Command) (drill : Drill) → drill_of command ≡ Some drill → (old new : Moment) (result : Result Reply CommandFault) → Plans takes drill old.told new.told result → new.faults ≡ old.faults → new.stopped ≡ old.stopped
+    → new.controller ≡ old.controller → MayGoOn old → IfSome old.told (λ t. AsRead t.trace) → Made takes command old new (session_after result new.controller) (reply_if result)
+made_drill takes command drill is old new result plans count still kept goes_on possible = record {
+  begun = subst (λ c. Begun takes command old.told new.told (session_of old.controller) (session_after result c) (reply_if result)) (sym kept)
+      (begun_drill takes command drill is old.told new.told old.controller goes_on.controller possible result plans);
+  later = later_same old.faults old.faults new.faults (omega arith) refl count;
+  disk = λ shut. absurd (cc (open_not takes drill old.told new.told result plans, shut));
+  device = λ blamed. absurd (cc (blames_not takes drill old.told new.told result plans, blamed));
+  runs = λ some was. still ∙ was;
+  goes_on = record {
+    controller = subst (λ (c : Option Seen). IfSome new.told (λ t. IfSome c (λ d. IsOpen t.trace d))) (sym kept)
+        (goes_on_told takes command drill is old.told new.told old.controller goes_on.controller possible result plans);
+    runs = λ some. still ∙ goes_on.runs (ap is_some (sym kept) ∙ some);
+  };
+}

@@ -1,0 +1,56 @@
+use crate::Status;
+use crate::tests::run;
+use std::alloc::Global;
+use std::test::Fail;
+
+/// `demo/first.lab`: an experiment is swapped in and out, and a device fails.
+const FIRST: &[u8] =
+    b"# A lab of one switch with two machines, and an experiment that asks for both.\nptop 6\nvlans 100 101\nnode s1 switch\nnode pc1 pc:1\nnode pc2 pc:1\nlink l1 pc1:eth0 s1:1 100000\nlink l2 pc2:eth0 s1:2 100000\ncreate-top A 3\nnode a pc linux\nnode b pc linux\nlink ab ab 100000 a b\n\n# It is swapped in: its ports join a VLAN, and its machines are loaded and booted.\nswapin-with A 4\nnode a pc1 pc\nnode b pc2 pc\nplug a:0 pc1:eth0\nplug b:0 pc2:eth0\nshow A\nstatus\nswapout A\n\n# The switch does its second command, but answers that it failed. The undo takes away what may stand.\nfail s1 2 applied\nswapin-with A 4\nnode a pc1 pc\nnode b pc2 pc\nplug a:0 pc1:eth0\nplug b:0 pc2:eth0\nstatus\n\n# Where the undo's first command fails too, the experiment is stuck, and keeps what it may hold.\nfail s1 2 not\nfail s1 3 not\nswapin-with A 4\nnode a pc1 pc\nnode b pc2 pc\nplug a:0 pc1:eth0\nplug b:0 pc2:eth0\nstatus\nswapout A\n";
+
+/// What it replies.
+const FIRST_REPLIES: &[u8] =
+    b"lab 1 2 0\ncreated A 2 1\nin A\nshow A in\nnode a pc linux\nnode b pc linux\nlink ab ab 100000 a b\nnode a pc1 pc\nnode b pc2 pc\nplug a:0 pc1:eth0\nplug b:0 pc2:eth0\ntag ab 100\nend A\nexp A in 2 1\nfree 0 1\nout A\nplanned\nfailed A out device s1\nexp A out 0 0\nfree 2 2\nplanned\nplanned\nfailed A stuck device s1\nexp A moving 2 1\nfree 0 1\nis moving A\n";
+
+/// `demo/lab.lab`: an experiment is made, shown and removed.
+const LAB: &[u8] =
+    b"# A lab of one switch with two machines, given by its text, and an experiment that asks for both.\nptop 6\nvlans 100 101\nnode s1 switch\nnode pc1 pc:1\nnode pc2 pc:1\nlink l1 pc1:eth0 s1:1 100000\nlink l2 pc2:eth0 s1:2 100000\nstatus\n\ncreate-top A 3\nnode a pc linux\nnode b pc linux\nlink ab ab 100000 a b\nshow A\nstatus\n\n# What a refused command asks for isn't done, and all else goes on.\ncreate-top A 1\nnode a pc linux\ndelete B\ndelete A\nstatus\n";
+
+/// What it replies.
+const LAB_REPLIES: &[u8] =
+    b"lab 1 2 0\nfree 2 2\ncreated A 2 1\nshow A out\nnode a pc linux\nnode b pc linux\nlink ab ab 100000 a b\nend A\nexp A out 0 0\nfree 2 2\nexists A\nunknown B\ndeleted A\nfree 2 2\n";
+
+/// `demo/refused.lab`: solutions that are refused.
+const REFUSED: &[u8] =
+    b"# Two switches with two machines each, joined by a trunk of 100,000 kbps.\nptop 12\nvlans 100 103\nnode s1 switch\nnode s2 switch\nnode pc1 pc:1\nnode pc2 pc:1\nnode pc3 pc:1\nnode pc4 pc:1\nlink i1 pc1:eth0 s1:1 1000000\nlink i2 pc2:eth0 s1:2 1000000\nlink i3 pc3:eth0 s2:1 1000000\nlink i4 pc4:eth0 s2:2 1000000\nlink t1 s1:24 s2:24 100000\ncreate-top A 3\nnode a pc linux\nnode b pc linux\nlink ab ab 100000 a b\ncreate-top B 3\nnode a pc linux\nnode b pc linux\nlink ab ab 1 a b\n\n# A fills the trunk.\nswapin-with A 4\nnode a pc1 pc\nnode b pc3 pc\nplug a:0 pc1:eth0\nplug b:0 pc3:eth0\n\n# B asks for a machine that A claims, then for one kbps more than the trunk has, and then for what is there.\nswapin-with B 4\nnode a pc1 pc\nnode b pc2 pc\nplug a:0 pc1:eth0\nplug b:0 pc2:eth0\nswapin-with B 4\nnode a pc2 pc\nnode b pc4 pc\nplug a:0 pc2:eth0\nplug b:0 pc4:eth0\nswapout A\nswapin-with B 4\nnode a pc2 pc\nnode b pc4 pc\nplug a:0 pc2:eth0\nplug b:0 pc4:eth0\nstatus\n\n# The next line is no command: what came before it stays done.\nswapin B\n";
+
+/// What it replies.
+const REFUSED_REPLIES: &[u8] =
+    b"lab 2 4 1\ncreated A 2 1\ncreated B 2 1\nin A\ninfeasible B F1 a\ninfeasible B F6 t1\nout A\nin B\nexp A out 0 0\nexp B in 2 1\nfree 2 3\n";
+
+/// `demo/network.lab`: experiments of NS files.
+const NETWORK: &[u8] =
+    b"# A lab that is only named: experiments are made from NS files, and stay out.\nptop 2\nvlans 100 103\nnode s1 switch\ncreate A 10\nset ns [new Simulator]\nsource tb_compat.tcl\nset lanstr \"\"\nfor {set i 1} {$i <= 3} {incr i} {\n  set node($i) [$ns node]\n  append lanstr \"$node($i) \"\n}\nset big [$ns make-lan \"$lanstr\" 100Mb 0ms]\n$ns rtproto Static\n$ns run\nshow A\n\n# A link of 2 milliseconds goes through a delay node.\ncreate B 5\nset ns [new Simulator]\nset a [$ns node]\nset b [$ns node]\nset l [$ns duplex-link $a $b 100Mb 2ms DropTail]\n$ns run\nshow B\n\n# A queue that isn't kept: the fault is on the fourth line of the block.\ncreate C 5\nset ns [new Simulator]\nset a [$ns node]\nset b [$ns node]\nset l [$ns duplex-link $a $b 100Mb 2ms RED]\n$ns run\n";
+
+/// What it replies.
+const NETWORK_REPLIES: &[u8] =
+    b"lab 1 0 0\ncreated A 3 1\nshow A out\nnode node-1 pc default\nnode node-2 pc default\nnode node-3 pc default\nlink big big 100000 node-1=10.1.1.1 node-2=10.1.1.2 node-3=10.1.1.3\nend A\ncreated B 3 2\nshow B out\nnode a pc default\nnode b pc default\nnode l.d delay delay\nlink l.0 l 100000 a=10.1.1.1 l.d\nlink l.1 l 100000 l.d b=10.1.1.2\npipe l.d 0 1 100000 2000 0 100000 2000 0\nend B\nbad C 4 unsupported\n";
+
+/// Whether the script has these replies, and ends so.
+fn replies_so(alloc: Global, script: &[u8], replies: &[u8], status: Status) -> Result<bool, Fail> {
+    let ran = run(alloc, script)?;
+    Ok(ran.output.as_slice() == replies && ran.status == status)
+}
+
+#[test]
+fn the_demos_are_answered_as_the_manual_says(rt: HostRuntime) -> Result<(), Fail> {
+    let demos: [(&[u8], &[u8], Status); 4] = [
+        (FIRST, FIRST_REPLIES, Status::Done),
+        (LAB, LAB_REPLIES, Status::Done),
+        (REFUSED, REFUSED_REPLIES, Status::BadScript { line: 51 }),
+        (NETWORK, NETWORK_REPLIES, Status::Done),
+    ];
+    for (script, replies, status) in demos {
+        assert!(rt; replies_so(rt.alloc(), script, replies, status)?);
+    }
+    Ok(())
+}
