@@ -1,6 +1,11 @@
+ghost use Rattle.std.specs.Prelude.{◌≤◌, ◌^◌};
+
 use super::*;
 use crate::tests::{Ran, run_over};
+use lab_base::Text;
+use lab_core::Controller;
 use plant::{Drill, MemLab, Pick, Plant, Side};
+use script_text::{Command, Reply, reply_text};
 use std::alloc::Global;
 use std::test::Fail;
 
@@ -193,5 +198,43 @@ fn only_so_many_experiments_are_made(rt: HostRuntime) -> Result<(), Fail> {
     assert_eq!(rt; output.len(), 10 + 256 * 17 + 21);
     assert_eq!(rt; &output[output.len() - last.len()..], last.as_slice());
     assert_eq!(rt; ran.status, Status::Done);
+    Ok(())
+}
+
+/// What a controller of that limit replies to a lab of nothing, over a blank plant.
+fn reply_within(alloc: Global, limit: u64) -> Result<Reply, Fail>
+    requires least { 18 ≤ limit }
+    requires most { limit ≤ 2 ^ 32 }
+{
+    let mut plant = MemLab::blank(alloc)?;
+    let Ok(mut controller) = Controller::open(alloc, limit, &mut plant) else {
+        return Err("an open journal".into());
+    };
+    let command = Command::Ptop {
+        lines: 0,
+        ptop: Text::new(alloc),
+    };
+    match controller.obey(&command, &mut plant) {
+        Ok(reply) => Ok(reply),
+        Err(_) => Err("a reply".into()),
+    }
+}
+
+/// Whether that reply has this text.
+fn replies_so(alloc: Global, limit: u64, text: &[u8]) -> Result<bool, Fail>
+    requires least { 18 ≤ limit }
+    requires most { limit ≤ 2 ^ 32 }
+{
+    let reply = reply_within(alloc, limit)?;
+    Ok(reply_text(alloc, &reply)?.bytes() == text)
+}
+
+#[test]
+fn a_journal_is_full_before_its_limit(rt: HostRuntime) -> Result<(), Fail> {
+    // The record of this lab has 23 bytes, and 10,240 are kept behind it.
+    let full = b"full journal 18\n";
+    assert!(rt; replies_so(rt.alloc(), 10_258, full)?);
+    assert!(rt; replies_so(rt.alloc(), 10_280, full)?);
+    assert!(rt; replies_so(rt.alloc(), 10_281, b"lab 0 0 0\n")?);
     Ok(())
 }

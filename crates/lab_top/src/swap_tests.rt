@@ -271,13 +271,10 @@ fn swapped_in(alloc: Global, before: &[u8]) -> Result<Vec<u8>, Fail> {
 
 /// How many commands were sent to devices.
 fn commands_in(steps: &[Step]) -> usize {
-    let mut count = 0;
-    for step in steps {
-        if matches!(step, Step::Did { .. }) {
-            count += 1;
-        }
-    }
-    count
+    steps
+        .iter()
+        .filter(|step| matches!(step, Step::Did { .. }))
+        .count()
 }
 
 /// Whether the step is a poll that was answered with that state.
@@ -294,13 +291,7 @@ fn is_poll(step: &Step, wanted: Boot) -> bool {
 
 /// How many polls were answered with that state.
 fn polls_of(steps: &[Step], wanted: Boot) -> usize {
-    let mut count = 0;
-    for step in steps {
-        if is_poll(step, wanted) {
-            count += 1;
-        }
-    }
-    count
+    steps.iter().filter(|step| is_poll(step, wanted)).count()
 }
 
 /// Whether the port of the small lab's switch is in its first VLAN.
