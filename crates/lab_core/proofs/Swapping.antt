@@ -20,11 +20,11 @@ use Rattle.journal_disk.specs.Standing.{limit_of, length_of}
 use Rattle.journal_disk.proofs.Parts.{body_size}
 use Rattle.journal_runs.proofs.Sounds.{works_as}
 use Rattle.lab_model.specs.Courses.{Plan, Trouble, Device, Late, Unlawful}
-use Rattle.records_model.specs.Labs.{LabState, Move, BeginsOut, Says, Follows}
+use Rattle.records_model.specs.Labs.{moved, LabState, Move, BeginsOut, Says, Follows}
 use Rattle.records_model.specs.Works.{IsSound}
 use Rattle.swap_txn.specs.declared.what.What.TheVariants as swapping
 use Rattle.swap_txn.specs.Steps.{Seen as PlantSeen}
-use Rattle.swap_runs.specs.Swaps.{Swap as SwapOf}
+use Rattle.swap_runs.specs.Swaps.{Swap as SwapOf, Moves}
 use Rattle.swap_runs.specs.Ends.{End, Committed as CommittedEnd, Aborted as AbortedEnd, Stuck as StuckEnd, Unwritten, Stopped as StoppedEnd, SwapSteps}
 use Rattle.swap_runs.specs.Turning.{StandsFor, IsLater, IsCaused, IsEndCaused}
 use Rattle.swap_runs.proofs.SentTurns.{if_some}
@@ -97,7 +97,7 @@ true_false : true ≡ false → ⊥
 true_false h = cc h
 
 module _ (told told_then : Option Told) (count count_then : Faults) (is_stopped is_stopped_then takes takes_then : Bool) (old new : Seen) (p : SwapOf) (exp : List ℕ) (entry : Record) (move : Move) (judgement : Result Task Reply)
-    (judged : Ok (Swap exp entry move) ≡ judgement) (name : p.name ≡ exp) (says : Says the_texts old.lab entry move) (limit : limit_of new.journal ≡ limit_of old.journal) (drills : takes_then ≡ takes)
+    (judged : Ok (Swap exp entry move) ≡ judgement) (name : p.name ≡ exp) (says : Says the_texts old.lab entry move) (moves : (state : LabState) → moved old.lab move ≡ Some state → Moves p state) (limit : limit_of new.journal ≡ limit_of old.journal) (drills : takes_then ≡ takes)
     (steps : List Event) (trace_is : told_then ≡ with_steps told steps) (later : IsLater (record { told = told; faults = count; stopped = is_stopped }) (record { told = told_then; faults = count_then; stopped = is_stopped_then })) where
   abbrev Left : Result Reply CoreFault → Type 0
   Left result = Obeyed told told_then count count_then is_stopped is_stopped_then takes takes_then (Is judgement) old new result
@@ -105,7 +105,7 @@ module _ (told told_then : Option Told) (count count_then : Faults) (is_stopped 
   swapped : (end : End) (lab : LabState) (behind : List Event) (reply : Reply) (session : Session) → SwapSteps p old.lab entry move steps lab end → StartsBehind end behind → reply ≡ end_reply p end → session ≡ end_session end
       → IsDoneBy (Is judgement) old.lab (steps ++ behind) (ended reply lab session)
   swapped end lab behind reply session all starts reply_is session_is =
-      does (Swap exp entry move) judged (record { swap = p; name = name; says = says; end = end; steps = steps; behind = behind; own_is = refl; ends = all; answered = told_so starts (ap (λ (r : Reply). Some r) reply_is) session_is })
+      does (Swap exp entry move) judged (record { swap = p; name = name; says = says; moves = moves; end = end; steps = steps; behind = behind; own_is = refl; ends = all; answered = told_so starts (ap (λ (r : Reply). Some r) reply_is) session_is })
 
   stands_so : (o : Option Told) → told_then ≡ with_steps o steps → IfSome o (λ t. StandsFor the_texts t.trace (t.trace ++ steps) new.journal new.lab) → IfSome told_then (λ t. Stands t.trace new)
   stands_so None is h = subst (λ (x : Option Told). IfSome x (λ t. Stands t.trace new)) (sym is) tt
@@ -184,12 +184,12 @@ module _ (told told_then : Option Told) (count count_then : Faults) (is_stopped 
   by_end StoppedEnd h cause stop back = halted h (stop tt)
 
 pub swap_ran : (told told_then : Option Told) (count count_then : Faults) (is_stopped is_stopped_then takes takes_then : Bool) (old new : Seen) (p : SwapOf) (exp : List ℕ) (entry : Record) (move : Move) (judgement : Result Task Reply) (finished : Finished)
-    → Ok (Swap exp entry move) ≡ judgement → p.name ≡ exp → Says the_texts old.lab entry move → limit_of new.journal ≡ limit_of old.journal → takes_then ≡ takes
+    → Ok (Swap exp entry move) ≡ judgement → p.name ≡ exp → Says the_texts old.lab entry move → ((state : LabState) → moved old.lab move ≡ Some state → Moves p state) → limit_of new.journal ≡ limit_of old.journal → takes_then ≡ takes
     → HasRun p old.lab entry move (record { told = told; faults = count; stopped = is_stopped }) (record { told = told_then; faults = count_then; stopped = is_stopped_then }) new.journal new.lab finished
     → IsStop finished ↔ IsTrue is_stopped_then
     → Obeyed told told_then count count_then is_stopped is_stopped_then takes takes_then (Is judgement) old new (end_answer p (end_of finished))
-swap_ran told told_then count count_then is_stopped is_stopped_then takes takes_then old new p exp entry move judgement finished judged name says limit drills run stops =
-    by_end told told_then count count_then is_stopped is_stopped_then takes takes_then old new p exp entry move judgement judged name says limit drills run.steps run.told run.later (end_of finished) run.leaves run.cause
+swap_ran told told_then count count_then is_stopped is_stopped_then takes takes_then old new p exp entry move judgement finished judged name says moves limit drills run stops =
+    by_end told told_then count count_then is_stopped is_stopped_then takes takes_then old new p exp entry move judgement judged name says moves limit drills run.steps run.told run.later (end_of finished) run.leaves run.cause
     (λ h. stops.0 ((stop_halts finished).1 h)) (λ h. (stop_halts finished).0 (stops.1 h))
 
 -- no space for its Begin
@@ -207,14 +207,14 @@ stands_for (Some t) c h = record { records = h.records; at = h.at; lab_of = h.la
 
 -- and as it is told
 pub ended_as : (told told_then : Option Told) (count count_then : Faults) (is_stopped is_stopped_then takes takes_then : Bool) (old new : Seen) (p : SwapOf) (exp : List ℕ) (entry : Record) (move other : Move) → Ok (Swap exp entry move) ≡ beginning (setting_of old) exp entry move
-    → (finished : Finished) → move ≡ other → p.name ≡ exp → Says the_texts old.lab entry move → limit_of new.journal ≡ limit_of old.journal → takes_then ≡ takes
+    → (finished : Finished) → move ≡ other → p.name ≡ exp → Says the_texts old.lab entry move → ((state : LabState) → moved old.lab move ≡ Some state → Moves p state) → limit_of new.journal ≡ limit_of old.journal → takes_then ≡ takes
     → HasRun p old.lab entry move (record { told = told; faults = count; stopped = is_stopped }) (record { told = told_then; faults = count_then; stopped = is_stopped_then }) new.journal new.lab finished
     → IsStop finished ↔ IsTrue is_stopped_then → (result : Result Reply CoreFault) → result ≡ end_answer p (end_of finished)
     → Obeyed told told_then count count_then is_stopped is_stopped_then takes takes_then (Is (beginning (setting_of old) exp entry other)) old new result
-ended_as told told_then count count_then is_stopped is_stopped_then takes takes_then old new p exp entry move other judged finished same name says limit drills run stops result is =
+ended_as told told_then count count_then is_stopped is_stopped_then takes takes_then old new p exp entry move other judged finished same name says moves limit drills run stops result is =
     subst (λ (m : Move). Obeyed told told_then count count_then is_stopped is_stopped_then takes takes_then (Is (beginning (setting_of old) exp entry m)) old new result) same
     (subst (λ (r : Result Reply CoreFault). Obeyed told told_then count count_then is_stopped is_stopped_then takes takes_then (Is (beginning (setting_of old) exp entry move)) old new r) (sym is)
-    (swap_ran told told_then count count_then is_stopped is_stopped_then takes takes_then old new p exp entry move (beginning (setting_of old) exp entry move) finished judged name says limit drills run stops))
+    (swap_ran told told_then count count_then is_stopped is_stopped_then takes takes_then old new p exp entry move (beginning (setting_of old) exp entry move) finished judged name says moves limit drills run stops))
 
 -- the same where the judging left the lab as it was
 pub stands_in : (told : Option Told) (lab now : LabState) (j : Journal) → now ≡ lab → IfSome told (λ t. Stands t.trace (record { lab = lab; journal = j })) → IfSome told (λ t. Stands t.trace (record { lab = now; journal = j }))

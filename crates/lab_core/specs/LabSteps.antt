@@ -16,7 +16,7 @@ use Rattle.script_text.specs.declared.reply.What.{What}
 use Rattle.script_text.specs.declared.reply.What.TheVariants as whats
 use Rattle.virt_topo.specs.declared.mapping.Mapped.{Mapped}
 use Rattle.lab_model.specs.Courses.{Trouble, Device, Late, Unlawful}
-use Rattle.swap_runs.specs.Swaps.{Swap as SwapOf}
+use Rattle.swap_runs.specs.Swaps.{Swap as SwapOf, Moves}
 use Rattle.swap_runs.specs.Ends.{End, Committed, Aborted, Stuck, Unwritten, Stopped as Halted, SwapSteps}
 use Rattle.lab_core.specs.Sessions.{Session, Closed, Open, Setting, After}
 use Rattle.journal_runs.specs.Pieces.{has_restart, has_miss, has_command}
@@ -93,11 +93,13 @@ pub data IsAnswered (p : SwapOf) (end : End) (behind : List Event) (after : Afte
   is_told : StartsBehind end behind → after.reply ≡ Some (end_reply p end) → after.session ≡ end_session end → IsAnswered p end behind after
   unanswered : (behind ≡ []) ⊎ StartsBehind end behind → after.reply ≡ None → after.session ≡ Closed → IsAnswered p end behind after
 
--- A SWAP: a record that says the move, the commands of the course and of its undo, and the record that ends it, as far as it came
+-- A SWAP: a record that says the move, by which the experiment moves so; the commands of that course and of its undo; and the record that ends
+-- it, as far as it came
 pub record Swaps (s : LabState) (exp : List ℕ) (entry : Record) (move : Move) (own : List Event) (after : After) : Type 0 where
   pub swap : SwapOf
   pub name : swap.name ≡ exp
   pub says : Says the_texts s entry move
+  pub moves : (state : LabState) → moved s move ≡ Some state → Moves swap state
   pub end : End
   pub steps : List Event
   pub behind : List Event

@@ -120,6 +120,7 @@ silent IsJudged s own after (does (Append entry move told) judged done) = does (
     silent_end state run more (broken breaks lab session) = broken (unanswered refl) lab refl
 silent IsJudged s own after (does (Swap exp entry move) judged done) = does (Swap exp entry move) judged (record {
   swap = done.swap;
+  moves = done.moves;
   name = done.name;
   says = done.says;
   end = done.end;
@@ -220,6 +221,7 @@ unstarted IsJudged s own a b lab (does (Swap exp entry move) judged done) =
     let off = halted_off done.end done.behind done.answered in
     does (Swap exp entry move) judged (record {
       swap = done.swap;
+      moves = done.moves;
       name = done.name;
       says = done.says;
       end = done.end;

@@ -28,7 +28,7 @@ returns-then-has_space g c = λ way move r says.
     let planned = planned_ready c.args.lab.now.state (after c.args.lab.now.state c.args.ready.prepared) c.args.journal.now c.args.ready.planned c.args.exp way r c.size.result c.size.ensures space c.has_space.ensures.most in
     let ran = c.run-finished.ensures.ran r.by.swap (Begin c.args.exp way) r.by.move r.by.name planned in
     let same = one_move c.args.lab.now.state c.args.exp way r.course r.back r.by move says in
-    ended_as (g.P.Plant.told c.args.plant.now) (g.P.Plant.told c.run-finished.new.plant) (g.P.Plant.faults c.args.plant.now) (g.P.Plant.faults c.run-finished.new.plant) (g.P.Plant.is_stopped c.args.plant.now) (g.P.Plant.is_stopped c.run-finished.new.plant) (g.P.Plant.takes_drills c.args.plant.now) (g.P.Plant.takes_drills c.run-finished.new.plant) old new r.by.swap c.args.exp (Begin c.args.exp way) r.by.move move (begins old c.args.exp (Begin c.args.exp way) r.by.move c.args.ready.planned.begin r.body (sym (ap (λ (m : ℕ). nat_le (length_of c.args.journal.now + m + 10240) (limit_of c.args.journal.now)) c.size.ensures) ∙ space)) c.run-finished.result same r.by.name r.by.says c.run-finished.ensures.limit c.run-finished.ensures.drills ran c.run-finished.ensures.stopped c.answer.result (c.answer.ensures r.by.swap r.by.name ran.is_told)
+    ended_as (g.P.Plant.told c.args.plant.now) (g.P.Plant.told c.run-finished.new.plant) (g.P.Plant.faults c.args.plant.now) (g.P.Plant.faults c.run-finished.new.plant) (g.P.Plant.is_stopped c.args.plant.now) (g.P.Plant.is_stopped c.run-finished.new.plant) (g.P.Plant.takes_drills c.args.plant.now) (g.P.Plant.takes_drills c.run-finished.new.plant) old new r.by.swap c.args.exp (Begin c.args.exp way) r.by.move move (begins old c.args.exp (Begin c.args.exp way) r.by.move c.args.ready.planned.begin r.body (sym (ap (λ (m : ℕ). nat_le (length_of c.args.journal.now + m + 10240) (limit_of c.args.journal.now)) c.size.ensures) ∙ space)) c.run-finished.result same r.by.name r.by.says r.by.moves c.run-finished.ensures.limit c.run-finished.ensures.drills ran c.run-finished.ensures.stopped c.answer.result (c.answer.ensures r.by.swap r.by.name ran.is_told)
 
 pub returns-else-has_space : goal.returns-else-has_space
 returns-else-has_space g c = λ way move r says.
