@@ -7,6 +7,7 @@ pub mod Built
 pub mod Clearing
 pub mod Commands
 pub mod CourseLaws
+mod CourseLists
 pub mod CutLaws
 pub mod Ending
 pub mod Ends

@@ -1,6 +1,7 @@
 pub mod Beside
 pub mod Cabled
 pub mod Claims
+pub mod CourseLists
 pub mod Courses
 pub mod Feasible
 pub mod Holding

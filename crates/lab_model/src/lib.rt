@@ -1,7 +1,7 @@
 //! The definitions of the model, and its laws.
 #![tactic(auto)]
 
-ghost use Rattle.std.specs.Prelude.{◌≡◌, ◌≢◌, ◌⊎◌, ◌++◌, ◌∷◌, [], ◌<◌, ℕ, List, length, take, Bool, true, false, Option, Some, None, Result, All};
+ghost use Rattle.std.specs.Prelude.{◌≡◌, ◌≢◌, ◌↔◌, ◌⊎◌, ◌++◌, ◌∷◌, [], ◌<◌, ℕ, List, length, take, Bool, true, false, Option, Some, None, Result, All};
 ghost use Rattle.lab_base.specs.Lists.{Has, AllDiffer};
 ghost use Rattle.phys_lab.specs.Sides.{joined, AreJoined};
 ghost use Rattle.phys_lab.specs.Labs.{Lab};
@@ -32,7 +32,8 @@ ghost use Rattle.lab_model.specs.Holding.{Holding, Suits};
 ghost use Rattle.lab_model.specs.Isolated.{Isolated, IsolatedBeside};
 ghost use Rattle.lab_model.specs.Cabled.{Cabled};
 ghost use Rattle.lab_model.specs.Parts.{Part, Parts};
-ghost use Rattle.lab_model.specs.Courses.{IsCommandOf, IsDone, commands, undo};
+ghost use Rattle.lab_model.specs.Courses.{IsCommandOf, IsCut, IsDone, Plan, Trouble, commands, undo};
+ghost use Rattle.lab_model.specs.CourseLists.{IsCutList, IsDoneList};
 ghost use Rattle.lab_model.specs.Leavings.{Sent, did, ran, Ends, Gone};
 ghost use Rattle.lab_model.specs.OnCourse.{OnCourse, EveryMoment};
 ghost use Rattle.lab_model.specs.Claims.{Which, claimed, claimed_tags};
@@ -124,4 +125,12 @@ pub fn courses_alone()
         → OnCourse lab e cs start trace → Ends lab e m (ran (world_of (take start trace)) cs) → Ends lab e m (world_of trace) }
     ensures gone { (lab : Lab) (e : Experiment) (cs : Sent) (start : ℕ) (trace : List Event) → OnCourse lab e cs start trace
         → Gone lab e (ran (world_of (take start trace)) cs) → Gone lab e (world_of trace) }
+{}
+
+/// A course is done exactly where it is the plan's commands in order, each acknowledged, and then for each node its Boot and lawful polls
+/// from BOOTING on, 64 at most, of which the last alone is ISUP. It is cut exactly where the last command is the trouble, and all before are
+/// such a beginning: a command that failed, a poll that answers an unlawful state, or the 64th without ISUP.
+pub fn courses_are_lists()
+    ensures done { (plan : Plan) (cs : Sent) → IsDone plan cs ↔ IsDoneList plan cs }
+    ensures cut { (plan : Plan) (cs : Sent) (what : Trouble) → IsCut plan cs what ↔ IsCutList plan cs what }
 {}

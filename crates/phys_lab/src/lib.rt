@@ -7,6 +7,7 @@ mod forest;
 mod free;
 mod index;
 mod lab;
+mod laws;
 mod parts;
 mod tests_of;
 
@@ -14,6 +15,7 @@ pub use builder::LabBuilder;
 pub use fault::LabFault;
 pub use free::Free;
 pub use lab::Lab;
+pub use laws::joined_by_lists;
 pub use parts::{Iface, Node, Trunk};
 
 #[cfg(test)]

@@ -29,9 +29,9 @@ use Rattle.tcl_eval.specs.Operators.{operator_from, place, opening_of, digits_of
 use Rattle.tcl_eval.specs.State.{State, read_of, old_or_empty, with_value, with_objects, spent}
 use Rattle.tcl_eval.specs.Settings.{IsSum, number_in, step_of, indexed_name}
 use Rattle.tcl_eval.specs.Jobs.{Job, Nested, Whole, Commands, One, Words, Parts, Named, Call, If, For, Each, Condition, Expression, Pass, Tier, Chain, Operand, Gain, Value, Texts, Integer, Truth, ValueAt, IntegerAt, fails, value_or, value_at, integer_at}
-use Rattle.tcl_eval.proofs.Plans.{Plan, Ends, Asks, Knows, chosen, test, test_some, test_most, what_is}
-use Rattle.tcl_eval.proofs.Passing.{passes_once}
-use Rattle.tcl_eval.proofs.Splitting.{commands_once, reference_once}
+use Rattle.tcl_words.proofs.Plans.{Plan, Ends, Asks, Knows, chosen, test, test_some, test_most, what_is}
+use Rattle.tcl_words.proofs.Passing.{passes_once}
+use Rattle.tcl_words.proofs.OneSplitting.{commands_once, reference_once}
 use Rattle.tcl_eval.proofs.OneNumber.{value_once, sum_once, not_once, needed_once, writes_once, applies_once}
 
 -- so many levels are left behind n more, or there aren't n

@@ -2,7 +2,6 @@ pub mod Branching
 pub mod Controls
 pub mod Ended
 pub mod Scripts
-pub mod Splitting
 pub mod Expressions
 pub mod Digits
 pub mod Evaluating
@@ -13,8 +12,6 @@ pub mod OneMeaning
 pub mod OneNumber
 pub mod OneRun
 pub mod Parts
-pub mod Passing
-pub mod Plans
 pub mod Rules
 pub mod Sums
 pub mod Texts

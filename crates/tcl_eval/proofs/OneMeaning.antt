@@ -13,7 +13,7 @@ use Rattle.tcl_eval.specs.Jobs.{Job, Operand, Gain, fails}
 use Rattle.tcl_eval.specs.Evals as rules
 use Rattle.tcl_eval.specs.Evals.{Evals}
 use Rattle.tcl_eval.specs.Once.{EvalsOnce}
-use Rattle.tcl_eval.proofs.Plans.{Follows, ends, asks, knows, follows_once}
+use Rattle.tcl_words.proofs.Plans.{Follows, ends, asks, knows, follows_once}
 use Rattle.tcl_eval.proofs.Evaluating.{Course, set_plan, incr_plan, append_plan, lappend_plan, expr_plan, for_plan, foreach_plan, evaluating}
 
 no_level : (l : ℕ) → l ≡ 0 → l < 1

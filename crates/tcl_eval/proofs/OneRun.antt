@@ -16,8 +16,8 @@ use Rattle.tcl_eval.specs.Evals.{Evals}
 use Rattle.tcl_eval.specs.Runs as rules
 use Rattle.tcl_eval.specs.Runs.{last_line_of, fault_on, RunsFrom, Runs}
 use Rattle.tcl_eval.specs.Once.{RunsOnce}
-use Rattle.tcl_eval.proofs.Plans.{Plan, Ends, Asks, Knows, Follows, ends, asks, knows, follows_once}
-use Rattle.tcl_eval.proofs.Splitting.{commands_once}
+use Rattle.tcl_words.proofs.Plans.{Plan, Ends, Asks, Knows, Follows, ends, asks, knows, follows_once}
+use Rattle.tcl_words.proofs.OneSplitting.{commands_once}
 use Rattle.tcl_eval.proofs.OneMeaning.{evals_once}
 
 module _ {O : Type 0} (calls : O → List (List ℕ) → Result Called Kind × O) (hears : O → List ℕ → List ℕ → Result (Unit {0}) Kind × O) (t : List ℕ) where

@@ -6,6 +6,7 @@
 
 mod flaw;
 mod frame;
+mod laws;
 mod nesting;
 mod parts;
 mod splitting;
@@ -14,6 +15,7 @@ mod word;
 mod words;
 
 pub use flaw::{Broken, Flaw};
+pub use laws::splittings;
 pub use parts::{reference_at, script_end};
 pub use splitting::{line_of, split};
 pub use word::{Command, Part, Reference, Word, WordKind};

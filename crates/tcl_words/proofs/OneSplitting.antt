@@ -23,8 +23,8 @@ use Rattle.tcl_words.specs.Passes.{flaw, Passes}
 use Rattle.tcl_words.specs.Pieces.{ComesNext}
 use Rattle.tcl_words.specs.Words as rules
 use Rattle.tcl_words.specs.Words.{bytes_from, after_parts, PartsOf, InBraces, word, WordOf, after_words, WordsOf, gap_of, line_at, after_commands, CommandsOf, reference, IsNoVariable, ReferenceOf}
-use Rattle.tcl_eval.proofs.Plans.{Plan, Ends, Asks, Knows, Follows, ends, asks, knows, follows_once, chosen, test_same, test_some, test_most, what_is}
-use Rattle.tcl_eval.proofs.Passing.{passes_once}
+use Rattle.tcl_words.proofs.Plans.{Plan, Ends, Asks, Knows, Follows, ends, asks, knows, follows_once, chosen, test_same, test_some, test_most, what_is}
+use Rattle.tcl_words.proofs.Passing.{passes_once}
 
 false_not_true : {A : Type 0} (b : Bool) → b ≡ true → b ≡ false → A
 false_not_true b is is_not = absurd (cc (is, is_not))

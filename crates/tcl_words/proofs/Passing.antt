@@ -13,7 +13,7 @@ use Rattle.tcl_words.specs.declared.tokens.Token.TheVariants as tokens
 use Rattle.tcl_words.specs.Tokens.{token_of, token_size, blank_of, is_command_end, comment_from, braces_from}
 use Rattle.tcl_words.specs.Passes as rules
 use Rattle.tcl_words.specs.Passes.{flaw, flaw_of, behind_blank, InBracket, GoesOn, IsPlain, Passes}
-use Rattle.tcl_eval.proofs.Plans.{Plan, Ends, Asks, Follows, ends, asks, knows, follows_once, chosen, test_same, test_some, test_most, what_is}
+use Rattle.tcl_words.proofs.Plans.{Plan, Ends, Asks, Follows, ends, asks, knows, follows_once, chosen, test_same, test_some, test_most, what_is}
 
 -- no blank ends a command
 pub end_no_blank : (b : ℕ) (more : List ℕ) → is_command_end (b ∷ more) ≡ true → blank_of (b ∷ more) ≡ 0
