@@ -16,5 +16,3 @@ pub use nodes::may_share;
 pub use places::{is_fixed_at, suits};
 pub use whole::check;
 
-#[cfg(test)]
-mod tests;

@@ -18,5 +18,3 @@ pub use laws::{endings, texts_are_canonical};
 pub use prepared::Prepared;
 pub use state::LabState;
 
-#[cfg(test)]
-mod tests;

@@ -18,5 +18,3 @@ pub use lab::Lab;
 pub use laws::joined_by_lists;
 pub use parts::{Iface, Node, Trunk};
 
-#[cfg(test)]
-mod tests;

@@ -54,12 +54,6 @@ pub use wanted::Wanted;
 pub use wants::wanted_rows;
 pub use world::{Sent, boot_of, has_row, os_of, pipe_of};
 
-#[cfg(test)]
-mod small_worlds;
-#[cfg(test)]
-mod tests;
-#[cfg(test)]
-mod wrong_worlds;
 
 /// The test of isolation is true exactly where a world with these rows and pipes is isolated.
 pub fn isolation_tested()

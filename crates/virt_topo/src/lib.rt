@@ -26,5 +26,3 @@ pub use topo::{AskedLink, AskedNode, Topo};
 pub use violation::{Broken, Subject};
 pub use wiring::{Asks, Class, Pipe, Segment, VirtEnd, VirtNode, Wiring};
 
-#[cfg(test)]
-mod tests;

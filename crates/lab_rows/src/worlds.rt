@@ -1,8 +1,11 @@
-use super::*;
+// Worlds, trunks and records by the plain programs of the definitions.
+use crate::labs::trunk;
 use journal_rec::Record;
-use lab_base::{Items, Name, NodeId, SwitchId, VlanId};
-use phys_lab::{Iface, Lab, LabBuilder, Node, Trunk};
+use lab_base::{Name, VlanId};
+use phys_lab::Lab;
+use plain_model::*;
 use plant::{Answer, DeviceOp, Side};
+use ptop_text::read_ptop;
 use std::alloc::Global;
 use std::test::Fail;
 
@@ -28,73 +31,17 @@ pub(crate) fn named(text: &[u8]) -> Result<Name, Fail> {
     Ok(Name::read(text).ok().ok_or("a name")?)
 }
 
-fn trunk(link: &[u8], first: (u16, u16), second: (u16, u16)) -> Result<Trunk, Fail> {
-    Ok(Trunk {
-        link: named(link)?,
-        first: (SwitchId(first.0), first.1),
-        second: (SwitchId(second.0), second.1),
-        kbps: 100_000,
-    })
-}
-
-fn node(alloc: Global, name: &[u8]) -> Result<Node, Fail> {
-    let mut types = Items::new(alloc);
-    types.push((named(b"pc")?, 1))?;
-    Ok(Node {
-        name: named(name)?,
-        types,
-        features: Items::new(alloc),
-    })
-}
-
-fn add_devices(alloc: Global, builder: &mut LabBuilder) -> Result<(), Fail> {
-    for name in [b"s1", b"s2", b"s3"] {
-        builder.add_switch(named(name)?)?;
-    }
-    for name in [b"a", b"b", b"c", b"d", b"e"] {
-        builder.add_node(node(alloc, name)?)?;
-    }
-    Ok(())
-}
-
-fn add_ifaces(builder: &mut LabBuilder) -> Result<(), Fail> {
-    let ifaces: [(&[u8], u16, &[u8], u16, u16); 8] = [
-        (b"i1", 0, b"e0", 0, 1),
-        (b"i2", 0, b"e1", 0, 3),
-        (b"i3", 1, b"e0", 0, 2),
-        (b"i4", 2, b"e0", 1, 1),
-        (b"i5", 3, b"e0", 2, 1),
-        (b"i6", 4, b"e0", 2, 2),
-        (b"i7", 3, b"e1", 0, 5),
-        (b"i8", 4, b"e1", 0, 6),
-    ];
-    for (link, node, name, switch, port) in ifaces {
-        builder.add_iface(Iface {
-            link: named(link)?,
-            node: NodeId(node),
-            name: named(name)?,
-            switch: SwitchId(switch),
-            port,
-            kbps: 1_000_000,
-        })?;
-    }
-    Ok(())
-}
-
-fn add_parts(alloc: Global, builder: &mut LabBuilder) -> Result<(), Fail> {
-    add_devices(alloc, builder)?;
-    add_ifaces(builder)?;
-    builder.add_trunk(trunk(b"t1", (0, 24), (1, 24))?)?;
-    Ok(())
-}
+const LAB: &[u8] = b"vlans 100 103\nnode s1 switch\nnode s2 switch\nnode s3 switch\n\
+    node a pc:1\nnode b pc:1\nnode c pc:1\nnode d pc:1\nnode e pc:1\n\
+    link i1 a:e0 s1:1 1000000\nlink i2 a:e1 s1:3 1000000\nlink i3 b:e0 s1:2 1000000\n\
+    link i4 c:e0 s2:1 1000000\nlink i5 d:e0 s3:1 1000000\nlink i6 e:e0 s3:2 1000000\n\
+    link i7 d:e1 s1:5 1000000\nlink i8 e:e1 s1:6 1000000\nlink t1 s1:24 s2:24 100000\n";
 
 /// Switches `s1` and `s2` with a trunk at port 24 of each, and `s3` alone. On `s1` node `a` has `e0` at port 1 and `e1`
 /// at port 3, `b` has `e0` at port 2, and `d` and `e` have `e1` at ports 5 and 6; `c` has `e0` at port 1 of `s2`; and `d` and
 /// `e` have `e0` at ports 1 and 2 of `s3`.
 pub(crate) fn small_lab(alloc: Global) -> Result<Lab, Fail> {
-    let mut builder = LabBuilder::new(alloc, 100, 103)?;
-    add_parts(alloc, &mut builder)?;
-    Ok(builder.finish().ok().ok_or("memory")?)
+    Ok(read_ptop(alloc, LAB).ok().ok_or("a lab")?)
 }
 
 fn row(at: At) -> Result<Row, Fail> {

@@ -1,8 +1,8 @@
 // Small labs of experiments, and worlds that commands leave.
-use crate::tests::{At, named, switch_of};
-use crate::{Sent, all_fit, is_cabled, is_holding, is_isolated_after};
+use crate::worlds::{At, named, switch_of};
 use lab_base::{Boot, IfaceId, Items, Name, NodeId, Rates, Tags, VlanId};
 use phys_lab::Lab;
+use plain_model::{Sent, all_fit, is_cabled, is_holding, is_isolated_after};
 use plant::{Answer, DeviceOp, Fault};
 use std::alloc::Global;
 use std::test::Fail;

@@ -1,6 +1,6 @@
 // Labs and worlds, each refused by the word that should refuse it.
 use crate::small_worlds::{Found, Plan, Stands, Step, Text, Virt, experiments, found, push_sent};
-use crate::tests::small_lab;
+use crate::worlds::small_lab;
 use std::test::Fail;
 
 const P: Text = b"pc";
