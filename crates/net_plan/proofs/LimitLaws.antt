@@ -173,7 +173,7 @@ all_segments_keep first (l ∷ links) are =
     list_all-append limits_segment (segments_of (first, l)) (flat_map segments_of (numbered (first + delays l) links))
     ∙ and_from _ _ (segments_keep l first (are l (inl refl))) (all_segments_keep (first + delays l) links (λ m h. are m (inr h)))
 
-pipe_keeps : (rates : Rates) (node : ℕ) → are_rates rates ≡ true → limits_pipe (lan_pipe rates node) ≡ true
+pub pipe_keeps : (rates : Rates) (node : ℕ) → are_rates rates ≡ true → limits_pipe (lan_pipe rates node) ≡ true
 pipe_keeps rates node is =
     let p1 = and_parts (is_speed rates.kbps) _ is in
     let p2 = and_parts (nat_le rates.micros 10000000) _ p1.1 in

@@ -9,7 +9,8 @@ use lab_base::{Items, Memory, Rates};
 use std::alloc::Global;
 use virt_topo::{AskedLink, Pipe};
 
-fn link_pipe(rates: Rates, node: u16) -> Pipe
+/// The pipe of a shaped link: both directions have its rates.
+pub fn link_pipe(rates: Rates, node: u16) -> Pipe
     ensures { result ≡ link_pipe rates node }
 {
     Pipe {
@@ -21,8 +22,8 @@ fn link_pipe(rates: Rates, node: u16) -> Pipe
     }
 }
 
-/// Of the delay the first half, rounded down, is towards the LAN; so is the loss.
-fn lan_pipe(rates: Rates, node: u16) -> Pipe
+/// The pipe of a member of a shaped LAN: of the delay the first half, rounded down, is towards the LAN; so is the loss.
+pub fn lan_pipe(rates: Rates, node: u16) -> Pipe
     ensures { result ≡ lan_pipe rates node }
 {
     let half = rates.micros / 2;

@@ -16,6 +16,8 @@ use Rattle.ns_build.specs.declared.task.NodeChange.TheVariants as nodes
 use Rattle.ns_build.specs.declared.task.LinkChange.{LinkChange}
 use Rattle.ns_build.specs.declared.task.LinkChange.TheVariants as links
 use Rattle.ns_build.specs.Networks.{Network, next_node, next_link, asks_of, refuses_class}
+use Rattle.ns_build.specs.declared.task.Planned.{Planned}
+use Rattle.ns_build.specs.Kept.{IsKeptEvent}
 use Rattle.ns_build.specs.Tasks.{has_node, has_link}
 
 pub record FitsNode (n : Network) (name : List ℕ) : Type 0 where
@@ -41,6 +43,10 @@ pub record FitsName (taken : Bool) (name : List ℕ) : Type 0 where
   pub given : IsObjectName variable name
   pub free : taken ≡ false
 
+pub record FitsEvent (n : Network) (e : Planned) : Type 0 where
+  pub few : length n.events < 1024
+  pub is : IsKeptEvent n e
+
 abbrev pub FitsAsks : Network → Asks → Type 0
 FitsAsks n asks = (type : List ℕ) × (asks ≡ asks_of n type)
 
@@ -58,6 +64,7 @@ abbrev pub Fits : Network → Task → Type 0
 Fits n (tasks.AddNode name) = FitsNode n name
 Fits n (tasks.AddLink l) = FitsLink n l
 Fits n (tasks.AddClass c) = FitsClass n c
+Fits n (tasks.AddEvent e) = FitsEvent n e
 Fits n (tasks.ChangeNode v change) = FitsNodeChange n change
 Fits n (tasks.ChangeLink l change) = FitsLinkChange n change
 Fits n task = Unit {0}

@@ -3,15 +3,11 @@ use Rattle.std.proofs.Common.{◌≡◌, ℕ, ◌<◌, ◌≤◌, Bool, true, fa
 use Rattle.std.specs.Prelude.{nat_lt, nat_le, not, codes, ◌||◌, ◌&&◌, ◌==◌}
 use Rattle.std.specs.List.{list_all}
 use Rattle.std.proofs.lemmas.Bool.{lt-ltb, le-leb}
-use Rattle.std.proofs.lemmas.Bool.Decides.{nat_tests}
 use Rattle.lab_base.specs.declared.fault.Kind.TheVariants as kinds
 use Rattle.virt_topo.specs.declared.wiring.VirtEnd.{VirtEnd}
 use Rattle.virt_topo.specs.Repeats.{same_name, stands_again}
 use Rattle.virt_topo.specs.Soundness.{is_between, is_address, is_speed, are_rates}
 use Rattle.virt_topo.specs.Topos.{most_ends}
-use Rattle.ns_words.specs.Values.{bandwidth_of, delay_of}
-use Rattle.ns_words.specs.Quantities.{IsBandwidth, IsDelay}
-use Rattle.ns_words.proofs.Exact.{bandwidth_exact, delay_exact}
 use Rattle.ns_build.specs.declared.keywords.Verb.{Verb}
 use Rattle.ns_build.specs.declared.keywords.Verb.TheVariants as verbs
 use Rattle.ns_build.specs.declared.task.Task.{Task}
@@ -23,30 +19,13 @@ use Rattle.ns_build.specs.Keywords.{verb_of}
 use Rattle.ns_build.specs.Commands.{judged_new, judged_source, judged_node, link_room, new_link, judged_link, with_end, judged_lan, judged_routes, judged_run, judged_verb, judged_simulator}
 use Rattle.ns_build.proofs.Elements.{and_both, all_push}
 use Rattle.ns_build.proofs.NamesDiffer.{again_push}
+use Rattle.ns_build.proofs.Quantities.{not_less, not_below, speed_fits, delay_fits}
+use Rattle.ns_build.proofs.KeepingEvents.{judged_at_fits}
 use Rattle.ns_build.proofs.KeepingLinks.{limits_of}
 use Rattle.ns_build.proofs.Fitting.{FitsNode, FitsLink, Fits}
 use Rattle.ns_build.proofs.Chains.{fault_of, okay, then_ok, need_ok, refuse_ok, ok_is, each_keeps, place_is_below}
 
--- a test that failed
-pub not_less : (a b : ℕ) → nat_le a b ≡ false → b < a
-not_less a b h = grind (arith, nat_tests)
-
-pub not_below : (a b : ℕ) → nat_lt a b ≡ false → b ≤ a
-not_below a b h = grind (arith, nat_tests)
-
 -- QUANTITIES
-
-speed_fits : (word : List ℕ) (kbps : ℕ) → bandwidth_in word ≡ Ok kbps → is_speed kbps ≡ true
-unfolding bandwidth_in
-speed_fits word kbps h =
-    let w : IsBandwidth word kbps = (bandwidth_exact word kbps).0 (need_ok kinds.Bandwidth (bandwidth_of word) kbps h) in
-    and_both (nat_le 1 kbps) (nat_le kbps 1000000000) (le-leb 1 kbps w.least) (le-leb kbps 1000000000 w.most)
-
-delay_fits : (word : List ℕ) (micros : ℕ) → delay_in word ≡ Ok micros → nat_le micros 10000000 ≡ true
-unfolding delay_in
-delay_fits word micros h =
-    let w : IsDelay word micros = (delay_exact word micros).0 (need_ok kinds.Delay (delay_of word) micros h) in
-    le-leb micros 10000000 w.most
 
 rates_fit : (fast slow : List ℕ) (kbps micros : ℕ) → bandwidth_in fast ≡ Ok kbps → delay_in slow ≡ Ok micros → are_rates (lossless kbps micros) ≡ true
 rates_fit fast slow kbps micros h g =
@@ -169,17 +148,18 @@ judged_run_fits n words task h =
     let form = then_ok (counted 2 words) _ task h in
     subst (Fits n) (ok_is tasks.Stop task form.2) tt
 
-judged_verb_fits : (n : Network) (verb : Option Verb) (words : List (List ℕ)) (task : Task) → judged_verb n verb words ≡ Ok task → Fits n task
+judged_verb_fits : (line : ℕ) (n : Network) (verb : Option Verb) (words : List (List ℕ)) (task : Task) → judged_verb line n verb words ≡ Ok task → Fits n task
 unfolding judged_verb
-judged_verb_fits n (Some verbs.MakeNode) words task h = judged_node_fits n words task h
-judged_verb_fits n (Some verbs.DuplexLink) words task h = judged_link_fits n words task h
-judged_verb_fits n (Some verbs.MakeLan) words task h = judged_lan_fits n words task h
-judged_verb_fits n (Some verbs.RouteBy) words task h = judged_routes_fits n words task h
-judged_verb_fits n (Some verbs.Run) words task h = judged_run_fits n words task h
-judged_verb_fits n None words task h = absurd (let e : fault_of Task kinds.Unsupported ≡ Ok task = h in cc)
+judged_verb_fits line n (Some verbs.MakeNode) words task h = judged_node_fits n words task h
+judged_verb_fits line n (Some verbs.DuplexLink) words task h = judged_link_fits n words task h
+judged_verb_fits line n (Some verbs.MakeLan) words task h = judged_lan_fits n words task h
+judged_verb_fits line n (Some verbs.RouteBy) words task h = judged_routes_fits n words task h
+judged_verb_fits line n (Some verbs.At) words task h = judged_at_fits line n words task h
+judged_verb_fits line n (Some verbs.Run) words task h = judged_run_fits n words task h
+judged_verb_fits line n None words task h = absurd (let e : fault_of Task kinds.Unsupported ≡ Ok task = h in cc)
 
-pub judged_simulator_fits : (n : Network) (words : List (List ℕ)) (task : Task) → judged_simulator n words ≡ Ok task → Fits n task
+pub judged_simulator_fits : (line : ℕ) (n : Network) (words : List (List ℕ)) (task : Task) → judged_simulator line n words ≡ Ok task → Fits n task
 unfolding judged_simulator
-judged_simulator_fits n words task h =
+judged_simulator_fits line n words task h =
     let form = then_ok (refuse kinds.Arity (nat_lt (length words) 2)) _ task h in
-    judged_verb_fits n (verb_of (word_at words 1)) words task form.2
+    judged_verb_fits line n (verb_of (word_at words 1)) words task form.2

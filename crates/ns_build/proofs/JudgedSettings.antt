@@ -23,7 +23,7 @@ use Rattle.ns_build.proofs.Elements.{and_both, or_first, or_second, none_at, non
 use Rattle.ns_build.proofs.NamesDiffer.{again_push, same_turned}
 use Rattle.ns_build.proofs.Fitting.{FitsClass, Fits}
 use Rattle.ns_build.proofs.Chains.{then_ok, need_ok, refuse_ok, ok_is, each_keeps}
-use Rattle.ns_build.proofs.JudgedObjects.{not_less, not_below}
+use Rattle.ns_build.proofs.Quantities.{not_less, not_below}
 
 pub judged_os_fits : (n : Network) (words : List (List ℕ)) (task : Task) → judged_os n words ≡ Ok task → Fits n task
 unfolding judged_os
@@ -76,7 +76,7 @@ judged_end_ip_fits lan n words task h =
     let ip = then_ok (address_in (word_at words 3)) _ task joined.2 in
     subst (Fits n) (ok_is (tasks.ChangeLink l.0 (links.Address v.0 ip.0)) task ip.2) (address_fits (word_at words 3) ip.0 ip.1)
 
-loss_fits : (word : List ℕ) (ppm : ℕ) → loss_in word ≡ Ok ppm → ppm ≤ 1000000
+pub loss_fits : (word : List ℕ) (ppm : ℕ) → loss_in word ≡ Ok ppm → ppm ≤ 1000000
 unfolding loss_in
 loss_fits word ppm h = let w : IsLoss word ppm = (loss_exact word ppm).0 (need_ok kinds.Loss (loss_of word) ppm h) in w.most
 

@@ -27,6 +27,7 @@ use Rattle.ns_build.proofs.JudgedSettings.{judged_os_fits, judged_hardware_fits,
 use Rattle.ns_build.proofs.KeepingNodes.{keeps_node, keeps_node_change}
 use Rattle.ns_build.proofs.KeepingLinks.{keeps_link, keeps_link_change}
 use Rattle.ns_build.proofs.KeepingClasses.{keeps_class}
+use Rattle.ns_build.proofs.KeepingEvents.{keeps_event}
 
 -- COMMANDS
 
@@ -46,13 +47,13 @@ judged_keyword_fits n (Some keywords.SoftVtype) words task h = judged_class_fits
 judged_keyword_fits n (Some keywords.OtherSetting) words task h = absurd (let e : fault_of Task kinds.Unsupported ≡ Ok task = h in cc)
 judged_keyword_fits n None words task h = subst (Fits n) (ok_is tasks.NotMine task h) tt
 
-judged_fits : (n : Network) (words : List (List ℕ)) (task : Task) → judged n words ≡ Ok task → Fits n task
+judged_fits : (line : ℕ) (n : Network) (words : List (List ℕ)) (task : Task) → judged line n words ≡ Ok task → Fits n task
 unfolding judged judged_keyword
-judged_fits n [] task h = subst (Fits n) (ok_is tasks.NotMine task h) tt
-judged_fits n (word ∷ words) task h = by (calls_simulator n word) h
+judged_fits line n [] task h = subst (Fits n) (ok_is tasks.NotMine task h) tt
+judged_fits line n (word ∷ words) task h = by (calls_simulator n word) h
   where
-    by : (t : Bool) → cond t (judged_simulator n (word ∷ words)) (judged_keyword n (keyword_of word) (word ∷ words)) ≡ Ok task → Fits n task
-    by true e = judged_simulator_fits n (word ∷ words) task e
+    by : (t : Bool) → cond t (judged_simulator line n (word ∷ words)) (judged_keyword n (keyword_of word) (word ∷ words)) ≡ Ok task → Fits n task
+    by true e = judged_simulator_fits line n (word ∷ words) task e
     by false e = judged_keyword_fits n (keyword_of word) (word ∷ words) task e
 
 -- NAMES
@@ -103,16 +104,17 @@ kept_done : (n : Network) (task : Task) → IsKept n → Fits n task → IsKept 
 kept_done n tasks.NotMine k fit = k
 kept_done n tasks.Nothing k fit = k
 kept_done n tasks.Stop k fit = k
-kept_done n tasks.MakeSimulator k fit = record { topo = k.topo; plain = k.plain; node_names = k.node_names; link_names = k.link_names }
+kept_done n tasks.MakeSimulator k fit = record { topo = k.topo; plain = k.plain; node_names = k.node_names; link_names = k.link_names; few_events = k.few_events; events = λ e h. record { known = (k.events e h).known; limits = (k.events e h).limits } }
 kept_done n (tasks.AddNode name) k fit = keeps_node n name k fit
 kept_done n (tasks.AddLink link) k fit = keeps_link n link k fit
 kept_done n (tasks.AddClass class) k fit = keeps_class n class k fit
+kept_done n (tasks.AddEvent e) k fit = keeps_event n e k fit
 kept_done n (tasks.ChangeNode v change) k fit = keeps_node_change n v change k fit
 kept_done n (tasks.ChangeLink l change) k fit = keeps_link_change n l change k fit
 
 -- what a command does, and what a variable's name does
-pub keeps : (n after : Network) (words : List (List ℕ)) (task : Task) → IsKept n → judged n words ≡ Ok task → after ≡ done n task → IsKept after
-keeps n after words task k h e = subst IsKept (sym e) (kept_done n task k (judged_fits n words task h))
+pub keeps : (line : ℕ) (n after : Network) (words : List (List ℕ)) (task : Task) → IsKept n → judged line n words ≡ Ok task → after ≡ done n task → IsKept after
+keeps line n after words task k h e = subst IsKept (sym e) (kept_done n task k (judged_fits line n words task h))
 
 pub keeps_name : (n after : Network) (variable value : List ℕ) (task : Task) → IsKept n → judged_name n variable value ≡ Ok task → after ≡ done n task → IsKept after
 keeps_name n after variable value task k h e = subst IsKept (sym e) (kept_done n task k (judged_name_fits n variable value task h))
@@ -140,4 +142,6 @@ empty_kept = record {
   plain = refl;
   node_names = tt;
   link_names = tt;
+  few_events = omega arith;
+  events = λ e m. absurd m;
 }

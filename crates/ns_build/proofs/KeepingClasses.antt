@@ -67,4 +67,6 @@ keeps_class n c k fit = kept
       plain = none_push (λ (d : Class). same_name d.name (codes "pc")) n.classes c k.plain no_pc;
       node_names = k.node_names;
       link_names = k.link_names;
+      few_events = k.few_events;
+      events = λ e h. record { known = (k.events e h).known; limits = (k.events e h).limits };
     }

@@ -80,6 +80,8 @@ keeps_link n l k fit = kept
       plain = k.plain;
       node_names = k.node_names;
       link_names = subst (AreNumbered numbered.Link 1) (sym names) (numbered_push numbered.Link 1 (length n.links + 1) (map (λ (x : AskedLink). x.name) n.links) count k.link_names);
+      few_events = k.few_events;
+      events = λ e h. record { known = omega (arith, (k.events e h).known, length-append n.links (l ∷ [])); limits = (k.events e h).limits };
     }
 
 -- AN ADDRESS
@@ -179,7 +181,14 @@ names_after n place (links.Loss ppm) fit h = subst (AreNumbered numbered.Link 1)
 names_after n place (links.Address v ip) fit h = subst (AreNumbered numbered.Link 1) (sym (map-changed (λ (x : AskedLink). x.name) (link_with (links.Address v ip)) place n.links (λ x. refl))) h
 
 pub keeps_link_change : (n : Network) (place : ℕ) (change : LinkChange) → IsKept n → FitsLinkChange n change → IsKept (change_link n place change)
-keeps_link_change n place change k fit = record { topo = topo; plain = k.plain; node_names = k.node_names; link_names = names_after n place change fit k.link_names }
+keeps_link_change n place change k fit = record {
+  topo = topo;
+  plain = k.plain;
+  node_names = k.node_names;
+  link_names = names_after n place change fit k.link_names;
+  few_events = k.few_events;
+  events = λ e h. record { known = omega (arith, (k.events e h).known, length-changed (link_with change) place n.links); limits = (k.events e h).limits };
+}
   where
     f : AskedLink → AskedLink
     f = link_with change

@@ -99,6 +99,8 @@ keeps_node n name k fit = subst (λ (x : List ℕ). IsKept (record n { nodes = n
       plain = k.plain;
       node_names = subst (AreNumbered numbered.Node 1) (sym names) (numbered_push numbered.Node 1 (length n.nodes + 1) (map (λ (x : AskedNode). x.name) n.nodes) count k.node_names);
       link_names = k.link_names;
+      few_events = k.few_events;
+      events = λ e h. record { known = (k.events e h).known; limits = (k.events e h).limits };
     }
 
 -- A NODE CHANGED
@@ -146,7 +148,7 @@ names_after n v (nodes.Os os) fit h = subst (AreNumbered numbered.Node 1) (sym (
 names_after n v (nodes.Fixed place) fit h = subst (AreNumbered numbered.Node 1) (sym (map-changed (λ (x : AskedNode). x.name) (node_with (nodes.Fixed place)) v n.nodes (λ x. refl))) h
 
 pub keeps_node_change : (n : Network) (v : ℕ) (change : NodeChange) → IsKept n → FitsNodeChange n change → IsKept (change_node n v change)
-keeps_node_change n v change k fit = record { topo = topo; plain = k.plain; node_names = names_after n v change fit k.node_names; link_names = k.link_names }
+keeps_node_change n v change k fit = record { topo = topo; plain = k.plain; node_names = names_after n v change fit k.node_names; link_names = k.link_names; few_events = k.few_events; events = λ e h. record { known = (k.events e h).known; limits = (k.events e h).limits } }
   where
     f : AskedNode → AskedNode
     f = node_with change

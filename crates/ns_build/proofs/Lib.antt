@@ -8,8 +8,10 @@ pub mod KeepingNodes
 pub mod KeepingLinks
 pub mod KeepingClasses
 pub mod Chains
-pub mod JudgedObjects
+pub mod Quantities
 pub mod JudgedSettings
+pub mod KeepingEvents
+pub mod JudgedObjects
 pub mod Keeping
 pub mod Meanings
 pub mod OneMeaning

@@ -10,7 +10,8 @@ use Rattle.tcl_eval.specs.Seen.{Seen}
 use Rattle.tcl_eval.specs.State.{State, state}
 use Rattle.tcl_eval.specs.Runs.{HasRun, fault_on}
 use Rattle.virt_topo.specs.Topos.{Topo}
-use Rattle.ns_build.specs.Networks.{Network, empty, topo_of}
+use Rattle.ns_events.specs.declared.event.Event.{Event}
+use Rattle.ns_build.specs.Networks.{Network, empty, topo_of, events_of}
 use Rattle.ns_build.specs.Host.{called, assigned}
 use Rattle.ns_build.specs.Meaning.{start, MeaningOf, HasMeaning}
 
@@ -24,12 +25,13 @@ module _ (t : List ℕ) (n : Network) (i : Seen Network) (s : State Network) (fr
       let first : i ≡ over empty = is ∙ ap over fresh in
       subst (λ (j : Seen Network). HasRun called assigned t (state j.variables j.host j.left) s r) first (run (ap (λ (j : Seen Network). j.failed) first))
 
-  pub stopped : (ran : Ran) (line : ℕ) (topo : Topo) → length t ≤ 65536 → ran ≡ Stopped line → topo ≡ topo_of s.objects → (i.failed ≡ None → HasRun called assigned t (state i.variables i.host i.left) s (Ok ran))
-      → HasMeaning t (Ok (record { topo = topo; line = line }))
+  pub stopped : (ran : Ran) (line : ℕ) (topo : Topo) (events : List Event) → length t ≤ 65536 → ran ≡ Stopped line → topo ≡ topo_of s.objects → events ≡ events_of s.objects → (i.failed ≡ None → HasRun called assigned t (state i.variables i.host i.left) s (Ok ran))
+      → HasMeaning t (Ok (record { topo = topo; events = events; line = line }))
   unfolding HasRun HasMeaning
-  stopped ran line topo short stop same run =
-      subst (λ (x : Topo). MeaningOf t (Ok (record { topo = x; line = line }))) (sym same)
-      (MeaningOf.asked short (subst (λ (r : Ran). HasRun called assigned t start s (Ok r)) stop (begun (Ok ran) run)))
+  stopped ran line topo events short stop same also run =
+      subst (λ (x : Topo). MeaningOf t (Ok (record { topo = x; events = events; line = line }))) (sym same)
+      (subst (λ (x : List Event). MeaningOf t (Ok (record { topo = topo_of s.objects; events = x; line = line }))) (sym also)
+      (MeaningOf.asked short (subst (λ (r : Ran). HasRun called assigned t start s (Ok r)) stop (begun (Ok ran) run))))
 
   pub ended : (ran : Ran) (line : ℕ) → length t ≤ 65536 → ran ≡ Ended line → (i.failed ≡ None → HasRun called assigned t (state i.variables i.host i.left) s (Ok ran))
       → HasMeaning t (Err (refused.Text (fault_on line kinds.NotRun)))

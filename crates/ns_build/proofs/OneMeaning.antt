@@ -11,14 +11,14 @@ use Rattle.tcl_eval.specs.State.{State}
 use Rattle.tcl_eval.specs.Runs.{Runs, fault_on}
 use Rattle.tcl_eval.proofs.OneRun.{runs_once}
 use Rattle.ns_build.specs.declared.asked.Asked.{Asked}
-use Rattle.ns_build.specs.Networks.{Network, topo_of}
+use Rattle.ns_build.specs.Networks.{Network, topo_of, events_of}
 use Rattle.ns_build.specs.Host.{called, assigned}
 use Rattle.ns_build.specs.Meaning.{start, MeaningOf}
-use Rattle.ns_build.proofs.JudgedObjects.{not_below}
+use Rattle.ns_build.proofs.Quantities.{not_below}
 
 -- what an evaluation comes to
 outcome : Result Ran TextFault → State Network → Result Asked TextFault
-outcome (Ok (Stopped line)) s = Ok (record { topo = topo_of s.objects; line = line })
+outcome (Ok (Stopped line)) s = Ok (record { topo = topo_of s.objects; events = events_of s.objects; line = line })
 outcome (Ok (Ended line)) s = Err (fault_on line kinds.NotRun)
 outcome (Err fault) s = Err fault
 

@@ -11,6 +11,7 @@ use Rattle.ns_build.specs.declared.task.Task.TheVariants as tasks
 use Rattle.ns_build.specs.Networks.{Network, next_node, next_link, fresh_link, lossless, bare_end, has_end}
 use Rattle.ns_build.specs.Words.{node_of, elements_of}
 use Rattle.ns_build.specs.Checks.{◌>>=◌, each, need, refuse, word_at, counted, bandwidth_in, delay_in}
+use Rattle.ns_build.specs.Events.{judged_at}
 use Rattle.ns_build.specs.Keywords.{verb_of}
 
 -- `new Simulator`
@@ -88,16 +89,17 @@ judged_run words = do
   form ← counted 2 words
   Ok tasks.Stop
 
--- the simulator's word, and a word behind it
-unfoldable pub judged_verb : Network → Option Verb → List (List ℕ) → Result Task Kind
-judged_verb n (Some verbs.MakeNode) words = judged_node n words
-judged_verb n (Some verbs.DuplexLink) words = judged_link n words
-judged_verb n (Some verbs.MakeLan) words = judged_lan n words
-judged_verb n (Some verbs.RouteBy) words = judged_routes words
-judged_verb n (Some verbs.Run) words = judged_run words
-judged_verb n None words = Err kinds.Unsupported
+-- the simulator's word, and a word behind it, on a line
+unfoldable pub judged_verb : ℕ → Network → Option Verb → List (List ℕ) → Result Task Kind
+judged_verb line n (Some verbs.MakeNode) words = judged_node n words
+judged_verb line n (Some verbs.DuplexLink) words = judged_link n words
+judged_verb line n (Some verbs.MakeLan) words = judged_lan n words
+judged_verb line n (Some verbs.RouteBy) words = judged_routes words
+judged_verb line n (Some verbs.At) words = judged_at line n words
+judged_verb line n (Some verbs.Run) words = judged_run words
+judged_verb line n None words = Err kinds.Unsupported
 
-unfoldable pub judged_simulator : Network → List (List ℕ) → Result Task Kind
-judged_simulator n words = do
+unfoldable pub judged_simulator : ℕ → Network → List (List ℕ) → Result Task Kind
+judged_simulator line n words = do
   form ← refuse kinds.Arity (nat_lt (length words) 2)
-  judged_verb n (verb_of (word_at words 1)) words
+  judged_verb line n (verb_of (word_at words 1)) words

@@ -24,6 +24,7 @@ done n tasks.MakeSimulator = record n { simulator = true }
 done n (tasks.AddNode name) = record n { nodes = n.nodes ++ fresh_node name ∷ [] }
 done n (tasks.AddLink link) = record n { links = n.links ++ link ∷ [] }
 done n (tasks.AddClass class) = record n { classes = n.classes ++ class ∷ [] }
+done n (tasks.AddEvent event) = record n { events = n.events ++ event ∷ [] }
 done n (tasks.ChangeNode v change) = change_node n v change
 done n (tasks.ChangeLink l change) = change_link n l change
 done n task = n
@@ -37,9 +38,9 @@ abbrev pub heard : Network → Result Task Kind → Result (Unit {0}) Kind × Ne
 heard n (Ok task) = (Ok tt, done n task)
 heard n (Err kind) = (Err kind, n)
 
--- the words of a command
-unfoldable pub called : Network → List (List ℕ) → Result Called Kind × Network
-called n words = answered n (judged n words)
+-- the words of a command, on the line of the command of the whole text that is under way
+unfoldable pub called : ℕ → Network → List (List ℕ) → Result Called Kind × Network
+called line n words = answered n (judged line n words)
 
 -- a variable that `set` gives a value
 unfoldable pub assigned : Network → List ℕ → List ℕ → Result (Unit {0}) Kind × Network

@@ -31,4 +31,5 @@ verb_of word =
     else (if same_name word (codes "duplex-link") then Some verbs.DuplexLink
     else (if same_name word (codes "make-lan") then Some verbs.MakeLan
     else (if same_name word (codes "rtproto") then Some verbs.RouteBy
-    else (if same_name word (codes "run") then Some verbs.Run else None))))
+    else (if same_name word (codes "at") then Some verbs.At
+    else (if same_name word (codes "run") then Some verbs.Run else None)))))

@@ -3,6 +3,7 @@ pub mod Words
 pub mod Checks
 pub mod Gives
 pub mod Keywords
+pub mod Events
 pub mod Commands
 pub mod Settings
 pub mod Tasks

@@ -9,7 +9,7 @@ use Rattle.tcl_eval.specs.declared.runs.Ran.TheVariants.{Stopped, Ended}
 use Rattle.tcl_eval.specs.State.{State, state}
 use Rattle.tcl_eval.specs.Runs.{Runs, fault_on}
 use Rattle.ns_build.specs.declared.asked.Asked.{Asked}
-use Rattle.ns_build.specs.Networks.{Network, empty, topo_of}
+use Rattle.ns_build.specs.Networks.{Network, empty, topo_of, events_of}
 use Rattle.ns_build.specs.Host.{called, assigned}
 
 -- nothing is set or made, and 20,000 commands and conditions are left
@@ -20,7 +20,7 @@ start = state [] empty 20000
 -- to its end, where that is missing, or to its first fault.
 pub data MeaningOf (t : List ℕ) : Result Asked TextFault → Type 0 where
   long : 65536 < length t → MeaningOf t (Err (fault_on (line_at t 65536) kinds.Long))
-  asked : {line : ℕ} {s : State Network} → length t ≤ 65536 → Runs called assigned t start (Ok (Stopped line)) s → MeaningOf t (Ok (record { topo = topo_of s.objects; line = line }))
+  asked : {line : ℕ} {s : State Network} → length t ≤ 65536 → Runs called assigned t start (Ok (Stopped line)) s → MeaningOf t (Ok (record { topo = topo_of s.objects; events = events_of s.objects; line = line }))
   not_run : {line : ℕ} {s : State Network} → length t ≤ 65536 → Runs called assigned t start (Ok (Ended line)) s → MeaningOf t (Err (fault_on line kinds.NotRun))
   faulty : {fault : TextFault} {s : State Network} → length t ≤ 65536 → Runs called assigned t start (Err fault) s → MeaningOf t (Err fault)
 

@@ -17,22 +17,35 @@ use Rattle.ns_build.specs.declared.task.NodeChange.{NodeChange}
 use Rattle.ns_build.specs.declared.task.NodeChange.TheVariants as nodes
 use Rattle.ns_build.specs.declared.task.LinkChange.{LinkChange}
 use Rattle.ns_build.specs.declared.task.LinkChange.TheVariants as links
+use Rattle.ns_build.specs.declared.task.Planned.{Planned}
+use Rattle.ns_events.specs.declared.event.Event.{Event}
 
--- whether it has a simulator; its nodes, links and LANs, and classes. Until a variable names a node, or a link or LAN,
--- it has the name of its number, from 1
+-- whether it has a simulator; its nodes, links and LANs, and classes; and the events of its links and LANs, in text order.
+-- Until a variable names a node, or a link or LAN, it has the name of its number, from 1
 pub record Network : Type 0 where
   pub simulator : Bool
   pub nodes : List AskedNode
   pub links : List AskedLink
   pub classes : List Class
+  pub events : List Planned
 
 -- nothing is made
 abbrev pub empty : Network
-empty = record { simulator = false; nodes = []; links = []; classes = [] }
+empty = record { simulator = false; nodes = []; links = []; classes = []; events = [] }
 
 -- the network that is asked for
 abbrev pub topo_of : Network → Topo
 topo_of n = record { nodes = n.nodes; links = n.links; classes = n.classes }
+
+-- the events that are asked for: the link or LAN of each has the name that it has in the end
+abbrev pub link_name : Network → ℕ → List ℕ
+link_name n place = slice_index_or (map (λ l. l.name) n.links) place []
+
+abbrev pub named_event : Network → Planned → Event
+named_event n e = record { at = e.at; link = link_name n e.place; what = e.what; line = e.line }
+
+abbrev pub events_of : Network → List Event
+events_of n = map (named_event n) n.events
 
 -- NEW PARTS
 

@@ -19,7 +19,7 @@ use Rattle.ns_build.specs.Keywords.{keyword_of}
 use Rattle.ns_build.specs.Commands.{judged_new, judged_source, judged_simulator}
 use Rattle.ns_build.specs.Settings.{judged_os, judged_hardware, judged_fixed, judged_ip, judged_end_ip, judged_loss, judged_class}
 
--- COMMANDS
+-- COMMANDS, of which those of the simulator hang on the line
 
 unfoldable pub judged_keyword : Network → Option Keyword → List (List ℕ) → Result Task Kind
 judged_keyword n (Some keywords.New) words = judged_new n words
@@ -40,10 +40,10 @@ judged_keyword n None words = Ok tasks.NotMine
 abbrev pub calls_simulator : Network → List ℕ → Bool
 calls_simulator n word = n.simulator && same_name word simulator_word
 
-unfoldable pub judged : Network → List (List ℕ) → Result Task Kind
-judged n [] = Ok tasks.NotMine
-judged n (word ∷ words) =
-    if calls_simulator n word then judged_simulator n (word ∷ words) else judged_keyword n (keyword_of word) (word ∷ words)
+unfoldable pub judged : ℕ → Network → List (List ℕ) → Result Task Kind
+judged line n [] = Ok tasks.NotMine
+judged line n (word ∷ words) =
+    if calls_simulator n word then judged_simulator line n (word ∷ words) else judged_keyword n (keyword_of word) (word ∷ words)
 
 -- NAMES
 

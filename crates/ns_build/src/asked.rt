@@ -1,12 +1,14 @@
 //! The reading of NS texts.
 
-ghost use Rattle.std.specs.Prelude.{◌≡◌, ◌-◌, ◌^◌, ◌<◌, length};
+ghost use Rattle.std.specs.Prelude.{◌≡◌, ◌-◌, ◌^◌, ◌<◌, ◌≤◌, IfOk, length};
 ghost use Rattle.lab_base.specs.declared.fault.TextRefused.TheVariants as refusals;
 ghost use Rattle.tcl_eval.specs.Runs.{fault_on};
+ghost use Rattle.ns_build.specs.Kept.{AllKeepLimits};
 ghost use Rattle.ns_build.specs.Meaning.{HasMeaning};
 
 use crate::host::NsHost;
-use lab_base::{Kind, TextFault, TextRefused};
+use lab_base::{Items, Kind, TextFault, TextRefused};
+use ns_events::Event;
 use std::alloc::Global;
 use tcl_eval::{Interp, Ran};
 use tcl_words::line_of;
@@ -19,6 +21,8 @@ const MOST: usize = 65_536;
 #[derive(Drop)]
 pub struct Asked {
     pub topo: Topo,
+    /// The scheduled events of links and LANs, at most 1,024, in text order.
+    pub events: Items<Event>,
     /// The line of `$ns run`.
     pub line: u32,
 }
@@ -30,7 +34,7 @@ fn refused(line: u32, kind: Kind) -> TextRefused
     TextRefused::Text(TextFault { line, kind })
 }
 
-/// Reads an NS text: the network that its commands make up to `$ns run`.
+/// Reads an NS text: the network that its commands make up to `$ns run`, and the events that they schedule.
 ///
 /// The error is the first fault of the text, with its line: `long` above 65,536 bytes, then a fault of the words of
 /// the whole text, then one of its evaluation, with the line of the command at the top level, and `not-run` with
@@ -38,16 +42,23 @@ fn refused(line: u32, kind: Kind) -> TextRefused
 pub fn read_ns(alloc: Global, text: &[u8]) -> Result<Asked, TextRefused>
     requires short { length text.now < 2 ^ 32 - 1 }
     ensures meaning { HasMeaning text.now result }
+    ensures few { IfOk result (λ asked. length asked.events ≤ 1024) }
+    ensures limits { IfOk result (λ asked. AllKeepLimits asked.events) }
 {
     if text.len() > MOST {
         return Err(refused(line_of(text, MOST), Kind::Long));
     }
     let mut interp = Interp::new(alloc, NsHost::new(alloc))?;
     match interp.run(text)? {
-        Ran::Stopped { line } => Ok(Asked {
-            topo: interp.into_host().into_topo(),
-            line,
-        }),
+        Ran::Stopped { line } => {
+            let host = interp.into_host();
+            let events = host.events()?;
+            Ok(Asked {
+                topo: host.into_topo(),
+                events,
+                line,
+            })
+        }
         Ran::Ended { line } => Err(refused(line, Kind::NotRun)),
     }
 }

@@ -137,6 +137,7 @@ impl Network {
             Task::AddNode { name } => return Ok(Called::Value(self.add_node(alloc, name)?)),
             Task::AddLink { link } => return Ok(Called::Value(self.add_link(alloc, link)?)),
             Task::AddClass { class } => self.classes.push(class)?,
+            Task::AddEvent { event } => self.events.push(event)?,
             Task::Nothing => {}
             Task::ChangeNode { place, change } => self.change_node_at(place, change),
             Task::ChangeLink { place, change } => self.change_link_at(alloc, place, change),

@@ -1,12 +1,14 @@
 //! The host of testbed commands.
 
-ghost use Rattle.std.specs.Prelude.{◌≡◌};
-ghost use Rattle.ns_build.specs.Networks.{empty, topo_of};
+ghost use Rattle.std.specs.Prelude.{◌≡◌, ◌≤◌, IfOk, length};
+ghost use Rattle.ns_build.specs.Kept.{AllKeepLimits};
+ghost use Rattle.ns_build.specs.Networks.{empty, topo_of, events_of};
 ghost use Rattle.ns_build.specs.Host.{called as called_by, assigned as assigned_by};
 
 use crate::network::Network;
 use crate::refusal::Refusal;
-use lab_base::Text;
+use lab_base::{Items, Memory, Text};
+use ns_events::Event;
 use std::alloc::Global;
 use std::marker::Model;
 use tcl_eval::{Called, Host, HostFault};
@@ -41,6 +43,15 @@ impl NsHost {
         }
     }
 
+    /// The events that are asked for, in text order.
+    pub fn events(&self) -> Result<Items<Event>, Memory>
+        ensures events { IfOk result (λ events. events ≡ events_of self.now) }
+        ensures few { IfOk result (λ events. length events ≤ 1024) }
+        ensures limits { IfOk result (λ events. AllKeepLimits events) }
+    {
+        self.network.named_events(self.alloc)
+    }
+
     /// The network that is asked for.
     pub fn into_topo(self) -> Topo
         ensures { result ≡ topo_of self }
@@ -60,8 +71,8 @@ impl Host for NsHost {
     ghost hears = { assigned_by };
 
     #[tactic(auto, unfolding(crate::specs::Host::called))]
-    fn call(&mut self, words: &[Text]) -> Result<Called, HostFault> {
-        match self.network.judge(self.alloc, words) {
+    fn call(&mut self, words: &[Text], line: u32) -> Result<Called, HostFault> {
+        match self.network.judge(self.alloc, line, words) {
             Ok(task) => match self.network.obey(self.alloc, task) {
                 Ok(called) => Ok(called),
                 Err(_) => Err(HostFault::Memory),

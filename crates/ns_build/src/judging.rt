@@ -42,16 +42,16 @@ impl Network {
         }
     }
 
-    /// What a command asks for.
+    /// What a command asks for, on a line.
     #[tactic(auto, unfolding(crate::specs::Tasks::judged))]
-    pub(crate) fn judge(&self, alloc: Global, words: &[Text]) -> Result<Task, Refusal>
+    pub(crate) fn judge(&self, alloc: Global, line: u32, words: &[Text]) -> Result<Task, Refusal>
         requires { length self.now.classes ≤ 64 }
-        ensures { Gives result (judged self.now words.now) }
+        ensures { Gives result (judged line self.now words.now) }
     {
         match words {
             [word, ..] => {
                 if self.simulator && word.bytes() == SIMULATOR {
-                    self.judge_simulator(alloc, words)
+                    self.judge_simulator(alloc, line, words)
                 } else {
                     self.judge_keyword(alloc, keyword_of(word.bytes()), words)
                 }

@@ -28,6 +28,7 @@ pub(crate) enum Verb {
     DuplexLink,
     MakeLan,
     RouteBy,
+    At,
     Run,
 }
 
@@ -85,6 +86,8 @@ pub(crate) fn verb_of(word: &[u8]) -> Option<Verb>
         Some(Verb::MakeLan)
     } else if word == b"rtproto".as_slice() {
         Some(Verb::RouteBy)
+    } else if word == b"at".as_slice() {
+        Some(Verb::At)
     } else if word == b"run".as_slice() {
         Some(Verb::Run)
     } else {

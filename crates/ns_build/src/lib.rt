@@ -8,6 +8,7 @@ mod asked;
 mod changes;
 mod checks;
 mod classes;
+mod events;
 mod host;
 mod judging;
 mod keywords;
@@ -23,5 +24,7 @@ mod words;
 pub use asked::{Asked, read_ns};
 pub use laws::{meaning_is_one, words_stand_for_objects};
 
+#[cfg(test)]
+mod event_tests;
 #[cfg(test)]
 mod tests;

@@ -6,13 +6,14 @@ ghost use Rattle.virt_topo.specs.Topos.{IsTopo};
 ghost use Rattle.ns_build.specs.Networks as networks;
 ghost use Rattle.ns_build.specs.Words as words;
 
+use crate::task::Planned;
 use crate::words::{LINK, NODE, place_in};
 use lab_base::{Items, Name};
 use std::alloc::Global;
 use std::marker::Model;
 use virt_topo::{AskedLink, AskedNode, Asks, Class, Topo, VirtEnd};
 
-/// The network that a text has made so far: perhaps a simulator, and nodes, links and LANs, and classes, each in
+/// The network that a text has made so far: perhaps a simulator, and nodes, links and LANs, classes, and events, each in
 /// order of creation. Until a variable names a node, or a link or LAN, it has the name of its number.
 #[derive(Drop)]
 pub(crate) struct Network {
@@ -20,6 +21,7 @@ pub(crate) struct Network {
     pub(crate) nodes: Vec<AskedNode>,
     pub(crate) links: Vec<AskedLink>,
     pub(crate) classes: Vec<Class>,
+    pub(crate) events: Vec<Planned>,
 }
 
 impl Model for Network {
@@ -27,7 +29,7 @@ impl Model for Network {
 
     ghost Value = { NetworkSeen };
 
-    ghost view = { λ n. record { simulator = n.simulator; nodes = n.nodes.items; links = n.links.items; classes = n.classes.items } };
+    ghost view = { λ n. record { simulator = n.simulator; nodes = n.nodes.items; links = n.links.items; classes = n.classes.items; events = n.events.items } };
 }
 
 /// Whether a node is an end.
@@ -76,6 +78,7 @@ impl Network {
             nodes: Vec::new(alloc),
             links: Vec::new(alloc),
             classes: Vec::new(alloc),
+            events: Vec::new(alloc),
         }
     }
 
@@ -89,6 +92,7 @@ impl Network {
             nodes,
             links,
             classes,
+            events: _,
         } = self;
         Topo::new(
             Items::from_vec(nodes),

@@ -149,10 +149,15 @@ impl Network {
         Ok(self.new_link(true, kbps, micros, ends))
     }
 
-    /// The simulator's word, and words behind it.
+    /// The simulator's word, and words behind it, on a line.
     #[tactic(auto, unfolding(crate::specs::Commands::judged_simulator, crate::specs::Commands::judged_verb))]
-    pub(crate) fn judge_simulator(&self, alloc: Global, words: &[Text]) -> Result<Task, Refusal>
-        ensures { Gives result (commands.judged_simulator self.now words.now) }
+    pub(crate) fn judge_simulator(
+        &self,
+        alloc: Global,
+        line: u32,
+        words: &[Text],
+    ) -> Result<Task, Refusal>
+        ensures { Gives result (commands.judged_simulator line self.now words.now) }
     {
         refuse(Kind::Arity, words.len() < 2)?;
         match verb_of(word_at(words, 1)) {
@@ -160,6 +165,7 @@ impl Network {
             Some(Verb::DuplexLink) => self.judge_link(alloc, words),
             Some(Verb::MakeLan) => self.judge_lan(alloc, words),
             Some(Verb::RouteBy) => Ok(judge_routes(words)?),
+            Some(Verb::At) => self.judge_at(alloc, line, words),
             Some(Verb::Run) => Ok(judge_run(words)?),
             None => Err(Refusal::Kind(Kind::Unsupported)),
         }

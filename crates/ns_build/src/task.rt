@@ -1,6 +1,7 @@
 //! What a command, or a variable's new value, asks for.
 
 use lab_base::Name;
+use ns_events::What;
 use virt_topo::{AskedLink, Asks, Class};
 
 /// What a command, or a variable's new value, asks for. Nodes, and links and LANs, go by their places in the order of
@@ -18,8 +19,21 @@ pub(crate) enum Task {
     AddNode { name: Name },
     AddLink { link: AskedLink },
     AddClass { class: Class },
+    AddEvent { event: Planned },
     ChangeNode { place: u16, change: NodeChange },
     ChangeLink { place: usize, change: LinkChange },
+}
+
+/// A scheduled event of a link or LAN.
+#[derive(Clone, Copy)]
+pub(crate) struct Planned {
+    /// In microseconds.
+    pub at: u64,
+    /// The place of the link or LAN.
+    pub place: usize,
+    pub what: What,
+    /// The line of the command of the whole text that schedules it.
+    pub line: u32,
 }
 
 /// What a node gets.

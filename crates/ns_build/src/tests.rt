@@ -335,7 +335,7 @@ fn refuses_words_of_the_simulator(rt: HostRuntime) -> Result<(), Fail> {
         ("$ns make-lan \"$a $b\" 1Mb", "5 arity"),
         ("$ns rtproto Session", "5 unsupported"),
         ("$ns rtproto", "5 arity"),
-        ("$ns at 1.0 x", "5 unsupported"),
+        ("$ns after 1.0 x", "5 unsupported"),
         ("$ns", "5 arity"),
         ("$ns node x", "5 arity"),
         ("$ns run x", "5 arity"),

@@ -80,7 +80,7 @@ fn links_and_lans_are_expanded(rt: HostRuntime) -> Result<(), Fail> {
             b"link l l 100000 a=10.1.1.1 b=10.1.1.2\n",
         ),
         (
-            b"set l [$ns duplex-link $a $b 100Mb 2ms DropTail]",
+            b"set l [$ns duplex-link $a $b 100Mb 2ms DropTail]\n$ns at 1.0 \"$l down\"\n$ns at 2.0 \"$l rates 1Mb 0 0\"",
             b"node l.d delay delay\nlink l.0 l 100000 a=10.1.1.1 l.d\nlink l.1 l 100000 l.d b=10.1.1.2\npipe l.d 0 1 100000 2000 0 100000 2000 0\n",
         ),
         (

@@ -238,6 +238,12 @@ quantity_again units part least most word v are some within =
     not_empty : (k : ℕ) → 1 ≤ k → eqb k 0 ≡ false
     not_empty k h = grind (arith, nat_tests)
 
+-- the digits behind the point are those of the numeral
+pub fraction_is : (units : Units) (part : ℕ) (word : List ℕ) (v : ℕ) → AreUnits units → (q : IsQuantity units part word v) → (numeral_of word).fraction ≡ q.fraction
+fraction_is units part word v are q =
+    ap (λ (w : List ℕ). (numeral_of w).fraction) q.joined
+    ∙ ap (λ (n : Numeral). n.fraction) (numeral_again q.whole q.fraction q.unit q.digits q.few (plain_unit units q.unit q.scale are.plain q.named))
+
 -- what the code answers is the value of the word
 pub value_is : (units : Units) (part least most : ℕ) (word : List ℕ) (n : Numeral) (scale r : Option ℕ) → r ≡ measured part least most n scale → scale ≡ scale_of units n.unit
     → n ≡ numeral_of word → r ≡ quantity_of units part least most word

@@ -1,6 +1,6 @@
 -- A word has at most one value.
 use Rattle.std.specs.Prelude.{◌≡◌, ℕ, List}
-use Rattle.ns_words.specs.Quantities.{IsBandwidth, IsDelay, IsLoss}
+use Rattle.ns_words.specs.Quantities.{IsBandwidth, IsDelay, IsLoss, IsTime}
 use Rattle.ns_words.specs.Addresses.{IsAddress}
 use Rattle.ns_words.specs.Objects.{IsObjectName}
 
@@ -16,6 +16,9 @@ DelayIsOne = GivesOne IsDelay
 
 abbrev pub LossIsOne : Type 0
 LossIsOne = GivesOne IsLoss
+
+abbrev pub TimeIsOne : Type 0
+TimeIsOne = GivesOne IsTime
 
 abbrev pub AddressIsOne : Type 0
 AddressIsOne = GivesOne IsAddress

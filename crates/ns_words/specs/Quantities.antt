@@ -54,6 +54,10 @@ time_units = ([], 1000000) ∷ (codes "s", 1000000) ∷ (codes "ms", 1000) ∷ (
 abbrev pub loss_units : Units
 loss_units = ([], 1000000) ∷ []
 
+-- microseconds, as a time of an event is always in seconds
+abbrev pub second_units : Units
+second_units = ([], 1000000) ∷ []
+
 -- a whole number of kbps from 1 to 10^9
 pub record IsBandwidth (word : List ℕ) (kbps : ℕ) : Type 0 where
   pub quantity : IsQuantity rate_units 1000 word kbps
@@ -69,3 +73,9 @@ pub record IsDelay (word : List ℕ) (micros : ℕ) : Type 0 where
 pub record IsLoss (word : List ℕ) (ppm : ℕ) : Type 0 where
   pub quantity : IsQuantity loss_units 1 word ppm
   pub most : ppm ≤ 1000000
+
+-- seconds with at most six digits behind the point, up to 10^12 microseconds
+pub record IsTime (word : List ℕ) (micros : ℕ) : Type 0 where
+  pub quantity : IsQuantity second_units 1 word micros
+  pub places : length quantity.fraction ≤ 6
+  pub most : micros ≤ 1000000000000

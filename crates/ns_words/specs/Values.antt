@@ -1,11 +1,11 @@
 -- The values of quantities, computed.
-use Rattle.std.specs.Prelude.{◌*◌, ◌/◌, ◌%◌, ◌^◌, ℕ, Bool, false, not, ◌&&◌, ◌==◌, List, [], ◌∷◌, ◌++◌, length, drop, Option, Some, None, if◌then◌else◌}
+use Rattle.std.specs.Prelude.{◌*◌, ◌/◌, ◌%◌, ◌^◌, ℕ, Bool, false, not, ◌&&◌, ◌==◌, nat_le, List, [], ◌∷◌, ◌++◌, length, drop, Option, Some, None, if◌then◌else◌}
 use Rattle.std.specs.Char.{is_ascii_digit}
 use Rattle.std.specs.List.{before_first, position_or_len}
 use Rattle.std.specs.Str.Parse.{digits_value}
 use Rattle.virt_topo.specs.Repeats.{same_name}
 use Rattle.virt_topo.specs.Soundness.{is_between}
-use Rattle.ns_words.specs.Quantities.{Units, rate_units, time_units, loss_units}
+use Rattle.ns_words.specs.Quantities.{Units, rate_units, time_units, loss_units, second_units}
 
 -- how many of the smallest unit a unit is
 abbrev pub scale_of : Units → List ℕ → Option ℕ
@@ -68,3 +68,10 @@ delay_of word = quantity_of time_units 1 0 10000000 word
 
 unfoldable pub loss_of : List ℕ → Option ℕ
 loss_of word = quantity_of loss_units 1 0 1000000 word
+
+-- at most six digits behind the point
+abbrev pub is_to_six : List ℕ → Bool
+is_to_six word = nat_le (length (numeral_of word).fraction) 6
+
+unfoldable pub time_of : List ℕ → Option ℕ
+time_of word = if is_to_six word then quantity_of second_units 1 0 1000000000000 word else None

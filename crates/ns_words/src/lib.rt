@@ -11,7 +11,7 @@ mod units;
 pub use addresses::address;
 pub use laws::values_are_one;
 pub use names::{Numbered, numbered_name, object_name};
-pub use quantities::{bandwidth, delay, loss};
+pub use quantities::{bandwidth, delay, loss, time};
 
 #[cfg(test)]
 mod tests;

@@ -1,12 +1,15 @@
-//! Bandwidths, delays and losses.
+//! Bandwidths, delays, losses and times.
 
 ghost use Rattle.std.specs.Prelude.{◌≡◌, ◌<◌, ◌≤◌, ◌↔◌, ℕ, IfSome, Some};
 ghost use Rattle.std.specs.Option.{ForSome};
-ghost use Rattle.ns_words.specs.Quantities.{IsBandwidth, IsDelay, IsLoss};
-ghost use Rattle.ns_words.specs.Values.{bandwidth_of, delay_of, loss_of};
+ghost use Rattle.ns_words.specs.Quantities.{IsBandwidth, IsDelay, IsLoss, IsTime};
+ghost use Rattle.ns_words.specs.Values.{bandwidth_of, delay_of, loss_of, time_of};
 
 use crate::numeral::numeral_in;
-use crate::units::{loss_scale, rate_scale, time_scale};
+use crate::units::{loss_scale, rate_scale, second_scale, time_scale};
+
+/// The most digits behind the point of a time.
+const MOST_PLACES: usize = 6;
 
 fn narrow(value: Option<u64>) -> Option<u32>
     requires { ForSome value (λ n. n < 4294967296) }
@@ -46,4 +49,18 @@ pub fn loss(word: &[u8]) -> Option<u32>
 {
     let numeral = numeral_in(word);
     narrow(numeral.measured(loss_scale(numeral.unit), 1, 0, 1_000_000))
+}
+
+/// Reads a time: microseconds, at most 1,000,000,000,000. None where the word is malformed, has more than six digits
+/// behind the point, or is no number in this range.
+pub fn time(word: &[u8]) -> Option<u64>
+    ensures value { result ≡ time_of word.now }
+    ensures exact { (micros : ℕ) → (result ≡ Some micros) ↔ IsTime word.now micros }
+    ensures limits { IfSome result (λ micros. micros ≤ 1000000000000) }
+{
+    let numeral = numeral_in(word);
+    if numeral.fraction.len() > MOST_PLACES {
+        return None;
+    }
+    numeral.measured(second_scale(numeral.unit), 1, 0, 1_000_000_000_000)
 }

@@ -62,6 +62,28 @@ fn delays_are_whole_microseconds(rt: HostRuntime) -> Result<(), Fail> {
 }
 
 #[test]
+fn times_are_seconds(rt: HostRuntime) -> Result<(), Fail> {
+    let cases: [(&[u8], Option<u64>); 12] = [
+        (b"1.0", Some(1_000_000)),
+        (b"0", Some(0)),
+        (b"2.000001", Some(2_000_001)),
+        (b"2.0000010", None),
+        (b"007.5", Some(7_500_000)),
+        (b"1000000", Some(1_000_000_000_000)),
+        (b"1000000.000001", None),
+        (b"99999999999999999999", None),
+        (b"1s", None),
+        (b"1.", None),
+        (b"-1", None),
+        (b"", None),
+    ];
+    for (word, wanted) in cases {
+        assert_eq!(rt; time(word), wanted);
+    }
+    Ok(())
+}
+
+#[test]
 fn losses_are_whole_millionths(rt: HostRuntime) -> Result<(), Fail> {
     let cases: [(&[u8], Option<u32>); 10] = [
         (b"0.000001", Some(1)),

@@ -1,7 +1,7 @@
 // Units of quantities.
 ghost use Rattle.std.specs.Prelude.{◌≡◌, ◌≤◌};
 ghost use Rattle.std.specs.Option.{ForSome};
-ghost use Rattle.ns_words.specs.Quantities.{rate_units, time_units, loss_units};
+ghost use Rattle.ns_words.specs.Quantities.{rate_units, time_units, loss_units, second_units};
 ghost use Rattle.ns_words.specs.Values.{scale_of};
 ghost use Rattle.ns_words.specs.Letters.{letter_scale, is_ending, ended};
 
@@ -62,6 +62,18 @@ pub(crate) fn time_scale(unit: &[u8]) -> Option<u64>
 /// A loss has no unit.
 pub(crate) fn loss_scale(unit: &[u8]) -> Option<u64>
     ensures value { result ≡ scale_of loss_units unit.now }
+    ensures limits { ForSome result (λ scale. (1 ≤ scale) × (scale ≤ 1000000000)) }
+{
+    if unit.is_empty() {
+        Some(1_000_000)
+    } else {
+        None
+    }
+}
+
+/// How many microseconds a unit of a time is, which is always in seconds.
+pub(crate) fn second_scale(unit: &[u8]) -> Option<u64>
+    ensures value { result ≡ scale_of second_units unit.now }
     ensures limits { ForSome result (λ scale. (1 ≤ scale) × (scale ≤ 1000000000)) }
 {
     if unit.is_empty() {

@@ -20,14 +20,14 @@ use Rattle.tcl_words.proofs.Plans.{Plan, Ends, Asks, Knows, Follows, ends, asks,
 use Rattle.tcl_words.proofs.OneSplitting.{commands_once}
 use Rattle.tcl_eval.proofs.OneMeaning.{evals_once}
 
-module _ {O : Type 0} (calls : O → List (List ℕ) → Result Called Kind × O) (hears : O → List ℕ → List ℕ → Result (Unit {0}) Kind × O) (t : List ℕ) where
+module _ {O : Type 0} (calls : ℕ → O → List (List ℕ) → Result Called Kind × O) (hears : O → List ℕ → List ℕ → Result (Unit {0}) Kind × O) (t : List ℕ) where
   -- a command has ended so
   abbrev IsEnd : Command → State O → Result Gain Halt × State O → Type 0
-  IsEnd c s x = Evals calls hears 32 (One t c) s x.0 x.1
+  IsEnd c s x = Evals (calls c.line) hears 32 (One t c) s x.0 x.1
 
   end_once : (c : Command) (s : State O) (a b : Result Gain Halt × State O) → IsEnd c s a → IsEnd c s b → a ≡ b
   end_once c s (r, u) (q, w) h g =
-      let same : (r ≡ q) × (u ≡ w) = evals_once calls hears 32 (One t c) s r q u w h g in
+      let same : (r ≡ q) × (u ≡ w) = evals_once (calls c.line) hears 32 (One t c) s r q u w h g in
       ap (λ (x : Result Gain Halt). (x, u)) same.0 ∙ ap (λ (x : State O). (q, x)) same.1
 
   abbrev ended_plan : Command → List Command → Result Gain Halt × State O → Plan (List Command × State O) (Result Ran TextFault × State O)
@@ -60,5 +60,5 @@ module _ {O : Type 0} (calls : O → List (List ℕ) → Result Called Kind × O
       let same : (r, u) ≡ (q, w) = follows_once running (runs_by h) (runs_by g) in
       (ap (λ x. x.0) same, ap (λ x. x.1) same)
 
-pub runs_once : {O : Type 0} (calls : O → List (List ℕ) → Result Called Kind × O) (hears : O → List ℕ → List ℕ → Result (Unit {0}) Kind × O) → RunsOnce calls hears
+pub runs_once : {O : Type 0} (calls : ℕ → O → List (List ℕ) → Result Called Kind × O) (hears : O → List ℕ → List ℕ → Result (Unit {0}) Kind × O) → RunsOnce calls hears
 runs_once calls hears t s r q u w h g = text_once calls hears t s r q u w h g

@@ -24,7 +24,7 @@ pub no_line : (t : List ℕ) → length t ≡ 0 → 1 ≡ last_line_of t
 no_line [] h = refl
 no_line (b ∷ bs) h = absurd (omega arith)
 
-module _ {O : Type 0} (calls : O → List (List ℕ) → Result Called Kind × O) (hears : O → List ℕ → List ℕ → Result (Unit {0}) Kind × O) (t : List ℕ) where
+module _ {O : Type 0} (calls : ℕ → O → List (List ℕ) → Result Called Kind × O) (hears : O → List ℕ → List ℕ → Result (Unit {0}) Kind × O) (t : List ℕ) where
   pub run_refused : (s : State O) (r : TextRefused) → IsRefused t r → HasRun calls hears t s s (Err r)
   unfolding HasRun
   run_refused s (refused.Text fault) h =
@@ -37,19 +37,19 @@ module _ {O : Type 0} (calls : O → List (List ℕ) → Result Called Kind × O
   run_starts cs s of = λ r u h. runs.split of h
 
   pub run_next : (cs : List Command) (i : ℕ) (c : Command) (s u x : State O) (v : List ℕ) → i < length cs → c ≡ get_or cs i c
-      → RunLeads calls hears t (drop i cs) s x → Ended calls hears Value 32 (One t c) s u (Ok v) → RunLeads calls hears t (drop (i + 1) cs) u x
+      → RunLeads calls hears t (drop i cs) s x → Ended (calls c.line) hears Value 32 (One t c) s u (Ok v) → RunLeads calls hears t (drop (i + 1) cs) u x
   unfolding RunLeads
   run_next cs i c s u x v less is on h =
-      λ r w rest. on r w (subst (λ (more : List Command). RunsFrom calls hears t more s r w) (sym (item_on cs i c less is)) (runs.next (got calls hears Value 32 (One t c) s u v h) rest))
+      λ r w rest. on r w (subst (λ (more : List Command). RunsFrom calls hears t more s r w) (sym (item_on cs i c less is)) (runs.next (got (calls c.line) hears Value 32 (One t c) s u v h) rest))
 
   pub run_stops : (cs : List Command) (i : ℕ) (c : Command) (s u x : State O) → i < length cs → c ≡ get_or cs i c
-      → RunLeads calls hears t (drop i cs) s x → Ended calls hears Value 32 (One t c) s u (Err Stop) → HasRun calls hears t x u (Ok (rans.Stopped c.line))
+      → RunLeads calls hears t (drop i cs) s x → Ended (calls c.line) hears Value 32 (One t c) s u (Err Stop) → HasRun calls hears t x u (Ok (rans.Stopped c.line))
   unfolding HasRun RunLeads Ended
   run_stops cs i c s u x less is on h =
       on (Ok (rans.Stopped c.line)) u (subst (λ (more : List Command). RunsFrom calls hears t more s (Ok (rans.Stopped c.line)) u) (sym (item_on cs i c less is)) (runs.stopped h))
 
   pub run_fails : (cs : List Command) (i : ℕ) (c : Command) (k : Kind) (s u x : State O) → i < length cs → c ≡ get_or cs i c
-      → RunLeads calls hears t (drop i cs) s x → Ended calls hears Value 32 (One t c) s u (Err (Fault k)) → HasRun calls hears t x u (Err (refused.Text (fault_on c.line k)))
+      → RunLeads calls hears t (drop i cs) s x → Ended (calls c.line) hears Value 32 (One t c) s u (Err (Fault k)) → HasRun calls hears t x u (Err (refused.Text (fault_on c.line k)))
   unfolding HasRun RunLeads Ended
   run_fails cs i c k s u x less is on h =
       on (Err (fault_on c.line k)) u (subst (λ (more : List Command). RunsFrom calls hears t more s (Err (fault_on c.line k)) u) (sym (item_on cs i c less is)) (runs.failed h))

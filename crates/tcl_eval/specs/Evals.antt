@@ -1,4 +1,5 @@
--- The meaning of texts over any host: a big-step relation. Each rule stands for one case of the language.
+-- The meaning of texts over any host: a big-step relation. Each rule stands for one case of the language. `calls` is
+-- what the host answers on the line of the top-level command under way.
 use Rattle.std.specs.Prelude.{◌≡◌, ◌≢◌, ℕ, ◌+◌, ◌-◌, ◌<◌, ◌≤◌, ℤ, pos, neg_ℤ, Bool, true, false, List, [], ◌∷◌, ◌++◌, Some, None, Result, Ok, Err, length, take, drop, slice_range, if◌then◌else◌}
 use Rattle.std.specs.Fmt.{signed_decimal}
 use Rattle.lab_base.specs.declared.fault.Kind.{Kind}

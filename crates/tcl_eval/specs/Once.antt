@@ -15,6 +15,7 @@ module _ {O : Type 0} (calls : O → List (List ℕ) → Result Called Kind × O
   abbrev pub EvalsOnce : Type 0
   EvalsOnce = (l : ℕ) (j : Job) (s : State O) (r q : Result Gain Halt) (u w : State O) → Evals calls hears l j s r u → Evals calls hears l j s q w → (r ≡ q) × (u ≡ w)
 
+module _ {O : Type 0} (calls : ℕ → O → List (List ℕ) → Result Called Kind × O) (hears : O → List ℕ → List ℕ → Result (Unit {0}) Kind × O) where
   -- from a state a whole text has one end alone
   abbrev pub RunsOnce : Type 0
   RunsOnce = (t : List ℕ) (s : State O) (r q : Result Ran TextFault) (u w : State O) → Runs calls hears t s r u → Runs calls hears t s q w → (r ≡ q) × (u ≡ w)

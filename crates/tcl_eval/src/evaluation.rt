@@ -29,36 +29,42 @@ impl<H: Host> Machine<H> {
 
     /// The result of a script: that of its last command.
     #[cycle(eval)]
-    fn script(&mut self, text: &[u8], levels: u32) -> Result<Text, Halt>
+    fn script(&mut self, text: &[u8], levels: u32, line: u32) -> Result<Text, Halt>
         requires short { length text.now < 2 ^ 32 - 1 }
-        ensures evals { Ended H.calls H.hears Value levels (Whole text.now) (seen H.objects self.old) (seen H.objects self.new) result }
+        ensures evals { Ended (H.calls line) H.hears Value levels (Whole text.now) (seen H.objects self.old) (seen H.objects self.new) result }
         ensures left { self.new.left ≤ self.old.left }
     {
         let commands = split(self.alloc, text)?;
         let mut value = Text::new(self.alloc);
         for command in &commands {
-            value = self.command(text, command, levels)?;
+            value = self.command(text, command, levels, line)?;
         }
         Ok(value)
     }
 
     /// The result of a script one level deeper.
     #[cycle(eval)]
-    fn nested(&mut self, text: &[u8], levels: u32) -> Result<Text, Halt>
+    fn nested(&mut self, text: &[u8], levels: u32, line: u32) -> Result<Text, Halt>
         requires short { length text.now < 2 ^ 32 - 1 }
-        ensures evals { Ended H.calls H.hears Value levels (Nested text.now) (seen H.objects self.old) (seen H.objects self.new) result }
+        ensures evals { Ended (H.calls line) H.hears Value levels (Nested text.now) (seen H.objects self.old) (seen H.objects self.new) result }
         ensures left { self.new.left ≤ self.old.left }
     {
         let levels = deeper(levels)?;
-        self.script(text, levels)
+        self.script(text, levels, line)
     }
 
     /// The result of a command.
     #[cycle(eval)]
-    pub fn command(&mut self, text: &[u8], command: &Command, levels: u32) -> Result<Text, Halt>
+    pub fn command(
+        &mut self,
+        text: &[u8],
+        command: &Command,
+        levels: u32,
+        line: u32,
+    ) -> Result<Text, Halt>
         requires short { length text.now < 2 ^ 32 - 1 }
         requires lies { CommandLiesIn (length text.now) command.now }
-        ensures evals { Ended H.calls H.hears Value levels (One text.now command.now) (seen H.objects self.old) (seen H.objects self.new) result }
+        ensures evals { Ended (H.calls line) H.hears Value levels (One text.now command.now) (seen H.objects self.old) (seen H.objects self.new) result }
         ensures left { self.new.left ≤ self.old.left }
     {
         if self.left == 0 {
@@ -67,9 +73,9 @@ impl<H: Host> Machine<H> {
         self.left -= 1;
         let mut words = Vec::new(self.alloc);
         for word in command.words.as_slice() {
-            words.push(self.substitute(text, word.parts.as_slice(), levels, false)?)?;
+            words.push(self.substitute(text, word.parts.as_slice(), levels, line, false)?)?;
         }
-        let value = self.invoke(&words, levels)?;
+        let value = self.invoke(&words, levels, line)?;
         short(value)
     }
 
@@ -80,11 +86,12 @@ impl<H: Host> Machine<H> {
         text: &[u8],
         parts: &[Part],
         levels: u32,
+        line: u32,
         in_index: bool,
     ) -> Result<Text, Halt>
         requires short { length text.now < 2 ^ 32 - 1 }
         requires lie { All (LiesIn (length text.now)) parts.now }
-        ensures evals { Ended H.calls H.hears Value levels (Parts text.now in_index parts.now []) (seen H.objects self.old) (seen H.objects self.new) result }
+        ensures evals { Ended (H.calls line) H.hears Value levels (Parts text.now in_index parts.now []) (seen H.objects self.old) (seen H.objects self.new) result }
         ensures left { self.new.left ≤ self.old.left }
         ensures value { IfOk result (λ value. length value ≤ 65536) }
     {
@@ -96,11 +103,11 @@ impl<H: Host> Machine<H> {
                 }
                 Part::Escape { byte } => value.push(byte)?,
                 Part::Variable { start, .. } => {
-                    let (more, _) = self.variable(text, start as usize, levels, in_index)?;
+                    let (more, _) = self.variable(text, start as usize, levels, line, in_index)?;
                     value.push_bytes(more.bytes())?;
                 }
                 Part::Script { start, end } => {
-                    let more = self.nested(&text[start as usize..end as usize], levels)?;
+                    let more = self.nested(&text[start as usize..end as usize], levels, line)?;
                     value.push_bytes(more.bytes())?;
                 }
             }
@@ -115,11 +122,12 @@ impl<H: Host> Machine<H> {
         text: &[u8],
         at: usize,
         levels: u32,
+        line: u32,
         in_index: bool,
     ) -> Result<(Text, usize), Halt>
         requires short { length text.now < 2 ^ 32 - 1 }
         requires here { at < length text.now }
-        ensures evals { Ended H.calls H.hears (λ x. ValueAt x.0 x.1) levels (Named text.now at in_index) (seen H.objects self.old) (seen H.objects self.new) result }
+        ensures evals { Ended (H.calls line) H.hears (λ x. ValueAt x.0 x.1) levels (Named text.now at in_index) (seen H.objects self.old) (seen H.objects self.new) result }
         ensures left { self.new.left ≤ self.old.left }
         ensures forward { IfOk result (λ found. (at < found.1) × (found.1 ≤ length text.now)) }
     {
@@ -132,53 +140,53 @@ impl<H: Host> Machine<H> {
             return Ok((self.read(&name)?, found.end));
         };
         let levels = index_levels(levels, in_index)?;
-        let index = self.substitute(text, index.as_slice(), levels, true)?;
+        let index = self.substitute(text, index.as_slice(), levels, line, true)?;
         let name = short(indexed_name(self.alloc, name, index.bytes())?)?;
         Ok((self.read(&name)?, found.end))
     }
 
     /// The result of words.
     #[cycle(eval)]
-    fn invoke(&mut self, words: &[Text], levels: u32) -> Result<Text, Halt>
+    fn invoke(&mut self, words: &[Text], levels: u32, line: u32) -> Result<Text, Halt>
         requires words { AllShort words.now }
-        ensures evals { Ended H.calls H.hears Value levels (Call words.now) (seen H.objects self.old) (seen H.objects self.new) result }
+        ensures evals { Ended (H.calls line) H.hears Value levels (Call words.now) (seen H.objects self.old) (seen H.objects self.new) result }
         ensures left { self.new.left ≤ self.old.left }
     {
         match own_command(words) {
-            None => self.run_host(words),
+            None => self.run_host(words, line),
             Some(Own::Set) => self.run_set(words),
             Some(Own::Incr) => self.run_incr(words),
             Some(Own::Append) => self.run_append(words),
             Some(Own::Lappend) => self.run_lappend(words),
-            Some(Own::Expr) => self.run_expr(words, levels),
-            Some(Own::If) => self.run_if(words, levels),
-            Some(Own::For) => self.run_for(words, levels),
-            Some(Own::Foreach) => self.run_foreach(words, levels),
+            Some(Own::Expr) => self.run_expr(words, levels, line),
+            Some(Own::If) => self.run_if(words, levels, line),
+            Some(Own::For) => self.run_for(words, levels, line),
+            Some(Own::Foreach) => self.run_foreach(words, levels, line),
         }
     }
 
     /// `expr W ..`
     #[cycle(eval)]
-    fn run_expr(&mut self, words: &[Text], levels: u32) -> Result<Text, Halt>
+    fn run_expr(&mut self, words: &[Text], levels: u32, line: u32) -> Result<Text, Halt>
         requires own { own words.now ≡ Some owns.Expr }
         requires words { AllShort words.now }
-        ensures evals { Ended H.calls H.hears Value levels (Call words.now) (seen H.objects self.old) (seen H.objects self.new) result }
+        ensures evals { Ended (H.calls line) H.hears Value levels (Call words.now) (seen H.objects self.old) (seen H.objects self.new) result }
         ensures left { self.new.left ≤ self.old.left }
     {
         if words.len() < 2 {
             return Err(Halt::Fault(Kind::Arity));
         }
         let text = short(joined(self.alloc, words_from(words, 1), b" ")?)?;
-        let number = self.expression(text.bytes(), levels)?;
+        let number = self.expression(text.bytes(), levels, line)?;
         Ok(number_text(self.alloc, number)?)
     }
 
     /// `if C B elseif C B .. else B`
     #[cycle(eval)]
-    fn run_if(&mut self, words: &[Text], levels: u32) -> Result<Text, Halt>
+    fn run_if(&mut self, words: &[Text], levels: u32, line: u32) -> Result<Text, Halt>
         requires own { own words.now ≡ Some owns.If }
         requires words { AllShort words.now }
-        ensures evals { Ended H.calls H.hears Value levels (Call words.now) (seen H.objects self.old) (seen H.objects self.new) result }
+        ensures evals { Ended (H.calls line) H.hears Value levels (Call words.now) (seen H.objects self.old) (seen H.objects self.new) result }
         ensures left { self.new.left ≤ self.old.left }
     {
         let Some(branches) = branches(self.alloc, words)? else {
@@ -186,11 +194,11 @@ impl<H: Host> Machine<H> {
         };
         for branch in &branches {
             let taken = match branch.condition {
-                Some(place) => self.condition(words[place].bytes(), levels)?,
+                Some(place) => self.condition(words[place].bytes(), levels, line)?,
                 None => true,
             };
             if taken {
-                return self.nested(words[branch.body].bytes(), levels);
+                return self.nested(words[branch.body].bytes(), levels, line);
             }
         }
         Ok(Text::new(self.alloc))
@@ -198,10 +206,10 @@ impl<H: Host> Machine<H> {
 
     /// `for START CONDITION NEXT BODY`
     #[cycle(eval)]
-    fn run_for(&mut self, words: &[Text], levels: u32) -> Result<Text, Halt>
+    fn run_for(&mut self, words: &[Text], levels: u32, line: u32) -> Result<Text, Halt>
         requires own { own words.now ≡ Some owns.For }
         requires words { AllShort words.now }
-        ensures evals { Ended H.calls H.hears Value levels (Call words.now) (seen H.objects self.old) (seen H.objects self.new) result }
+        ensures evals { Ended (H.calls line) H.hears Value levels (Call words.now) (seen H.objects self.old) (seen H.objects self.new) result }
         ensures left { self.new.left ≤ self.old.left }
     {
         if words.len() != 5 {
@@ -210,20 +218,20 @@ impl<H: Host> Machine<H> {
         let condition = &words[2];
         let next = &words[3];
         let body = &words[4];
-        self.nested(words[1].bytes(), levels)?;
-        while self.condition(condition.bytes(), levels)? {
-            self.nested(body.bytes(), levels)?;
-            self.nested(next.bytes(), levels)?;
+        self.nested(words[1].bytes(), levels, line)?;
+        while self.condition(condition.bytes(), levels, line)? {
+            self.nested(body.bytes(), levels, line)?;
+            self.nested(next.bytes(), levels, line)?;
         }
         Ok(Text::new(self.alloc))
     }
 
     /// `foreach V L B`
     #[cycle(eval)]
-    fn run_foreach(&mut self, words: &[Text], levels: u32) -> Result<Text, Halt>
+    fn run_foreach(&mut self, words: &[Text], levels: u32, line: u32) -> Result<Text, Halt>
         requires own { own words.now ≡ Some owns.Foreach }
         requires words { AllShort words.now }
-        ensures evals { Ended H.calls H.hears Value levels (Call words.now) (seen H.objects self.old) (seen H.objects self.new) result }
+        ensures evals { Ended (H.calls line) H.hears Value levels (Call words.now) (seen H.objects self.old) (seen H.objects self.new) result }
         ensures left { self.new.left ≤ self.old.left }
     {
         if words.len() != 4 {
@@ -236,7 +244,7 @@ impl<H: Host> Machine<H> {
         while let Some((start, end)) = element_at(list.bytes(), at) {
             let element = Text::from_slice(self.alloc, &list.bytes()[start..end])?;
             self.write(name, &element)?;
-            self.nested(body.bytes(), levels)?;
+            self.nested(body.bytes(), levels, line)?;
             at = end;
         }
         Ok(Text::new(self.alloc))
@@ -244,9 +252,9 @@ impl<H: Host> Machine<H> {
 
     /// Whether a condition holds.
     #[cycle(eval)]
-    fn condition(&mut self, text: &[u8], levels: u32) -> Result<bool, Halt>
+    fn condition(&mut self, text: &[u8], levels: u32, line: u32) -> Result<bool, Halt>
         requires short { length text.now ≤ 65536 }
-        ensures evals { Ended H.calls H.hears Truth levels (Condition text.now) (seen H.objects self.old) (seen H.objects self.new) result }
+        ensures evals { Ended (H.calls line) H.hears Truth levels (Condition text.now) (seen H.objects self.old) (seen H.objects self.new) result }
         ensures left { self.new.left ≤ self.old.left }
         ensures spent { OnOk result (self.new.left < self.old.left) }
     {
@@ -254,29 +262,29 @@ impl<H: Host> Machine<H> {
             return Err(Halt::Fault(Kind::Many));
         }
         self.left -= 1;
-        let value = self.expression(text, levels)?;
+        let value = self.expression(text, levels, line)?;
         Ok(holds(value))
     }
 
     /// The value of an expression. One that is malformed is refused before anything in it is evaluated.
     #[cycle(eval)]
-    fn expression(&mut self, text: &[u8], levels: u32) -> Result<i64, Halt>
+    fn expression(&mut self, text: &[u8], levels: u32, line: u32) -> Result<i64, Halt>
         requires short { length text.now ≤ 65536 }
-        ensures evals { Ended H.calls H.hears Integer levels (Expression text.now) (seen H.objects self.old) (seen H.objects self.new) result }
+        ensures evals { Ended (H.calls line) H.hears Integer levels (Expression text.now) (seen H.objects self.old) (seen H.objects self.new) result }
         ensures left { self.new.left ≤ self.old.left }
     {
-        self.whole(text, levels, false)?;
-        self.whole(text, levels, true)
+        self.whole(text, levels, line, false)?;
+        self.whole(text, levels, line, true)
     }
 
     /// The value of a text that is one expression.
     #[cycle(eval)]
-    fn whole(&mut self, text: &[u8], levels: u32, live: bool) -> Result<i64, Halt>
+    fn whole(&mut self, text: &[u8], levels: u32, line: u32, live: bool) -> Result<i64, Halt>
         requires short { length text.now ≤ 65536 }
-        ensures evals { Ended H.calls H.hears Integer levels (Pass text.now live) (seen H.objects self.old) (seen H.objects self.new) result }
+        ensures evals { Ended (H.calls line) H.hears Integer levels (Pass text.now live) (seen H.objects self.old) (seen H.objects self.new) result }
         ensures left { self.new.left ≤ self.old.left }
     {
-        let (value, end) = self.tier(text, 0, 0, levels, live)?;
+        let (value, end) = self.tier(text, 0, 0, levels, line, live)?;
         if behind_blanks(text, end) < text.len() {
             return Err(Halt::Fault(Kind::Syntax));
         }
@@ -292,22 +300,23 @@ impl<H: Host> Machine<H> {
         at: usize,
         tier: u32,
         levels: u32,
+        line: u32,
         live: bool,
     ) -> Result<(i64, usize), Halt>
         requires short { length text.now ≤ 65536 }
         requires here { at ≤ length text.now }
         requires tiers { tier ≤ 6 }
-        ensures evals { Ended H.calls H.hears (λ x. IntegerAt x.0 x.1) levels (Tier text.now at tier live) (seen H.objects self.old) (seen H.objects self.new) result }
+        ensures evals { Ended (H.calls line) H.hears (λ x. IntegerAt x.0 x.1) levels (Tier text.now at tier live) (seen H.objects self.old) (seen H.objects self.new) result }
         ensures left { self.new.left ≤ self.old.left }
         ensures forward { IfOk result (λ found. (at < found.1) × (found.1 ≤ length text.now)) }
     {
         if tier == TIERS {
-            return self.operand(text, behind_blanks(text, at), levels, live);
+            return self.operand(text, behind_blanks(text, at), levels, line, live);
         }
-        let (mut left, mut at) = self.tier(text, at, tier + 1, levels, live)?;
+        let (mut left, mut at) = self.tier(text, at, tier + 1, levels, line, live)?;
         while let Some((operator, start)) = operator_at(text, at, tier) {
             let needed = operator.is_needed(left, live);
-            let (right, end) = self.tier(text, start, tier + 1, levels, needed)?;
+            let (right, end) = self.tier(text, start, tier + 1, levels, line, needed)?;
             if live {
                 left = operator.apply(left, right)?;
             }
@@ -323,21 +332,22 @@ impl<H: Host> Machine<H> {
         text: &[u8],
         at: usize,
         levels: u32,
+        line: u32,
         live: bool,
     ) -> Result<(i64, usize), Halt>
         requires short { length text.now ≤ 65536 }
         requires here { at ≤ length text.now }
-        ensures evals { Ended H.calls H.hears (λ x. IntegerAt x.0 x.1) levels (Operand text.now at live) (seen H.objects self.old) (seen H.objects self.new) result }
+        ensures evals { Ended (H.calls line) H.hears (λ x. IntegerAt x.0 x.1) levels (Operand text.now at live) (seen H.objects self.old) (seen H.objects self.new) result }
         ensures left { self.new.left ≤ self.old.left }
         ensures forward { IfOk result (λ found. (at < found.1) × (found.1 ≤ length text.now)) }
     {
         match opening_at(text, at) {
-            Opening::Not => self.not_operand(text, at, levels, live),
-            Opening::Minus => self.minus_operand(text, at, levels, live),
-            Opening::Parenthesis => self.inner_operand(text, at, levels, live),
+            Opening::Not => self.not_operand(text, at, levels, line, live),
+            Opening::Minus => self.minus_operand(text, at, levels, line, live),
+            Opening::Parenthesis => self.inner_operand(text, at, levels, line, live),
             Opening::Digits => Ok(literal(text, at, live)?),
-            Opening::Dollar => self.dollar_operand(text, at, levels, live),
-            Opening::Bracket => self.bracket_operand(text, at, levels, live),
+            Opening::Dollar => self.dollar_operand(text, at, levels, line, live),
+            Opening::Bracket => self.bracket_operand(text, at, levels, line, live),
             Opening::Nothing => Err(Halt::Fault(Kind::Syntax)),
         }
     }
@@ -349,17 +359,18 @@ impl<H: Host> Machine<H> {
         text: &[u8],
         at: usize,
         levels: u32,
+        line: u32,
         live: bool,
     ) -> Result<(i64, usize), Halt>
         requires short { length text.now ≤ 65536 }
         requires here { at < length text.now }
         requires opening { opening_of (drop at text.now) ≡ openings.Not }
-        ensures evals { Ended H.calls H.hears (λ x. IntegerAt x.0 x.1) levels (Operand text.now at live) (seen H.objects self.old) (seen H.objects self.new) result }
+        ensures evals { Ended (H.calls line) H.hears (λ x. IntegerAt x.0 x.1) levels (Operand text.now at live) (seen H.objects self.old) (seen H.objects self.new) result }
         ensures left { self.new.left ≤ self.old.left }
         ensures forward { IfOk result (λ found. (at < found.1) × (found.1 ≤ length text.now)) }
     {
         let levels = deeper(levels)?;
-        let (value, end) = self.operand(text, behind_blanks(text, at + 1), levels, live)?;
+        let (value, end) = self.operand(text, behind_blanks(text, at + 1), levels, line, live)?;
         Ok((alive(turned(value), live), end))
     }
 
@@ -370,17 +381,18 @@ impl<H: Host> Machine<H> {
         text: &[u8],
         at: usize,
         levels: u32,
+        line: u32,
         live: bool,
     ) -> Result<(i64, usize), Halt>
         requires short { length text.now ≤ 65536 }
         requires here { at < length text.now }
         requires opening { opening_of (drop at text.now) ≡ openings.Minus }
-        ensures evals { Ended H.calls H.hears (λ x. IntegerAt x.0 x.1) levels (Operand text.now at live) (seen H.objects self.old) (seen H.objects self.new) result }
+        ensures evals { Ended (H.calls line) H.hears (λ x. IntegerAt x.0 x.1) levels (Operand text.now at live) (seen H.objects self.old) (seen H.objects self.new) result }
         ensures left { self.new.left ≤ self.old.left }
         ensures forward { IfOk result (λ found. (at < found.1) × (found.1 ≤ length text.now)) }
     {
         let levels = deeper(levels)?;
-        let (value, end) = self.operand(text, behind_blanks(text, at + 1), levels, live)?;
+        let (value, end) = self.operand(text, behind_blanks(text, at + 1), levels, line, live)?;
         Ok((negated(value)?, end))
     }
 
@@ -391,17 +403,18 @@ impl<H: Host> Machine<H> {
         text: &[u8],
         at: usize,
         levels: u32,
+        line: u32,
         live: bool,
     ) -> Result<(i64, usize), Halt>
         requires short { length text.now ≤ 65536 }
         requires here { at < length text.now }
         requires opening { opening_of (drop at text.now) ≡ openings.Parenthesis }
-        ensures evals { Ended H.calls H.hears (λ x. IntegerAt x.0 x.1) levels (Operand text.now at live) (seen H.objects self.old) (seen H.objects self.new) result }
+        ensures evals { Ended (H.calls line) H.hears (λ x. IntegerAt x.0 x.1) levels (Operand text.now at live) (seen H.objects self.old) (seen H.objects self.new) result }
         ensures left { self.new.left ≤ self.old.left }
         ensures forward { IfOk result (λ found. (at < found.1) × (found.1 ≤ length text.now)) }
     {
         let levels = deeper(levels)?;
-        let (value, end) = self.tier(text, at + 1, 0, levels, live)?;
+        let (value, end) = self.tier(text, at + 1, 0, levels, line, live)?;
         let end = behind_blanks(text, end);
         if !closes_at(text, end) {
             return Err(Halt::Fault(Kind::Syntax));
@@ -416,17 +429,18 @@ impl<H: Host> Machine<H> {
         text: &[u8],
         at: usize,
         levels: u32,
+        line: u32,
         live: bool,
     ) -> Result<(i64, usize), Halt>
         requires short { length text.now ≤ 65536 }
         requires here { at < length text.now }
         requires opening { opening_of (drop at text.now) ≡ openings.Dollar }
-        ensures evals { Ended H.calls H.hears (λ x. IntegerAt x.0 x.1) levels (Operand text.now at live) (seen H.objects self.old) (seen H.objects self.new) result }
+        ensures evals { Ended (H.calls line) H.hears (λ x. IntegerAt x.0 x.1) levels (Operand text.now at live) (seen H.objects self.old) (seen H.objects self.new) result }
         ensures left { self.new.left ≤ self.old.left }
         ensures forward { IfOk result (λ found. (at < found.1) × (found.1 ≤ length text.now)) }
     {
         if live {
-            let (value, end) = self.variable(text, at, levels, false)?;
+            let (value, end) = self.variable(text, at, levels, line, false)?;
             return Ok((read_number(value.bytes())?, end));
         }
         match reference_at(self.alloc, text, at)? {
@@ -442,12 +456,13 @@ impl<H: Host> Machine<H> {
         text: &[u8],
         at: usize,
         levels: u32,
+        line: u32,
         live: bool,
     ) -> Result<(i64, usize), Halt>
         requires short { length text.now ≤ 65536 }
         requires here { at < length text.now }
         requires opening { opening_of (drop at text.now) ≡ openings.Bracket }
-        ensures evals { Ended H.calls H.hears (λ x. IntegerAt x.0 x.1) levels (Operand text.now at live) (seen H.objects self.old) (seen H.objects self.new) result }
+        ensures evals { Ended (H.calls line) H.hears (λ x. IntegerAt x.0 x.1) levels (Operand text.now at live) (seen H.objects self.old) (seen H.objects self.new) result }
         ensures left { self.new.left ≤ self.old.left }
         ensures forward { IfOk result (λ found. (at < found.1) × (found.1 ≤ length text.now)) }
     {
@@ -455,7 +470,7 @@ impl<H: Host> Machine<H> {
         if !live {
             return Ok((0, end));
         }
-        let value = self.nested(&text[at + 1..end - 1], levels)?;
+        let value = self.nested(&text[at + 1..end - 1], levels, line)?;
         Ok((read_number(value.bytes())?, end))
     }
 }

@@ -33,15 +33,16 @@ pub trait Host {
     /// The objects that it has.
     ghost objects: { Self → Self.Objects };
 
-    /// What it answers to the words of a command, and its objects afterwards.
-    ghost calls: { Self.Objects → List (List ℕ) → Result Called Kind × Self.Objects };
+    /// What it answers on a line to the words of a command, and its objects afterwards.
+    ghost calls: { ℕ → Self.Objects → List (List ℕ) → Result Called Kind × Self.Objects };
 
     /// What it answers to a variable's new value, and its objects afterwards.
     ghost hears: { Self.Objects → List ℕ → List ℕ → Result (Unit {0}) Kind × Self.Objects };
 
-    /// Obeys a command that isn't the interpreter's own.
-    fn call(&mut self, words: &[Text]) -> Result<Called, HostFault>
-        ensures { AnswersBy calls (objects self.old) words.now result (objects self.new) };
+    /// Obeys a command that isn't the interpreter's own. The line is that of the command of the whole text that is
+    /// under way.
+    fn call(&mut self, words: &[Text], line: u32) -> Result<Called, HostFault>
+        ensures { AnswersBy (calls line) (objects self.old) words.now result (objects self.new) };
 
     /// Is told that `set` gave a variable a value.
     fn assigned(&mut self, name: &Text, value: &Text) -> Result<(), HostFault>

@@ -76,8 +76,8 @@ impl<H: Host> Machine<H> {
 
     /// Gives a variable a value, and tells the host.
     fn assign(&mut self, name: &Text, value: &Text) -> Result<Text, Halt>
-        ensures evals { (l : ℕ) (cmd : List ℕ) → own (cmd ∷ name.now ∷ value.now ∷ []) ≡ Some owns.Set
-            → Ends H.calls H.hears Value l (Call (cmd ∷ name.now ∷ value.now ∷ []))
+        ensures evals { (line l : ℕ) (cmd : List ℕ) → own (cmd ∷ name.now ∷ value.now ∷ []) ≡ Some owns.Set
+            → Ends (H.calls line) H.hears Value l (Call (cmd ∷ name.now ∷ value.now ∷ []))
             (state self.old.variables.entries (H.objects self.old.host) self.old.left)
             (state self.new.variables.entries (H.objects self.new.host) self.new.left) result }
         ensures left { self.new.left ≡ self.old.left }
@@ -93,7 +93,7 @@ impl<H: Host> Machine<H> {
     /// `set V`, `set V W`
     pub fn run_set(&mut self, words: &[Text]) -> Result<Text, Halt>
         requires own { own words.now ≡ Some owns.Set }
-        ensures evals { (l : ℕ) → Ends H.calls H.hears Value l (Call words.now)
+        ensures evals { (line l : ℕ) → Ends (H.calls line) H.hears Value l (Call words.now)
             (state self.old.variables.entries (H.objects self.old.host) self.old.left)
             (state self.new.variables.entries (H.objects self.new.host) self.new.left) result }
         ensures left { self.new.left ≡ self.old.left }
@@ -109,8 +109,8 @@ impl<H: Host> Machine<H> {
 
     /// Adds a number to a variable.
     fn add(&mut self, name: &Text, step: Result<i64, Kind>) -> Result<Text, Halt>
-        ensures evals { (l : ℕ) (cmd : List ℕ) (more : List (List ℕ)) → own (cmd ∷ name.now ∷ more) ≡ Some owns.Incr
-            → length more ≤ 1 → step ≡ step_of more → Ends H.calls H.hears Value l (Call (cmd ∷ name.now ∷ more))
+        ensures evals { (line l : ℕ) (cmd : List ℕ) (more : List (List ℕ)) → own (cmd ∷ name.now ∷ more) ≡ Some owns.Incr
+            → length more ≤ 1 → step ≡ step_of more → Ends (H.calls line) H.hears Value l (Call (cmd ∷ name.now ∷ more))
             (state self.old.variables.entries (H.objects self.old.host) self.old.left)
             (state self.new.variables.entries (H.objects self.new.host) self.new.left) result }
         ensures left { self.new.left ≡ self.old.left }
@@ -125,7 +125,7 @@ impl<H: Host> Machine<H> {
     /// `incr V`, `incr V N`
     pub fn run_incr(&mut self, words: &[Text]) -> Result<Text, Halt>
         requires own { own words.now ≡ Some owns.Incr }
-        ensures evals { (l : ℕ) → Ends H.calls H.hears Value l (Call words.now)
+        ensures evals { (line l : ℕ) → Ends (H.calls line) H.hears Value l (Call words.now)
             (state self.old.variables.entries (H.objects self.old.host) self.old.left)
             (state self.new.variables.entries (H.objects self.new.host) self.new.left) result }
         ensures left { self.new.left ≡ self.old.left }
@@ -142,7 +142,7 @@ impl<H: Host> Machine<H> {
     /// `append V W ..`
     pub fn run_append(&mut self, words: &[Text]) -> Result<Text, Halt>
         requires own { own words.now ≡ Some owns.Append }
-        ensures evals { (l : ℕ) → Ends H.calls H.hears Value l (Call words.now)
+        ensures evals { (line l : ℕ) → Ends (H.calls line) H.hears Value l (Call words.now)
             (state self.old.variables.entries (H.objects self.old.host) self.old.left)
             (state self.new.variables.entries (H.objects self.new.host) self.new.left) result }
         ensures left { self.new.left ≡ self.old.left }
@@ -162,7 +162,7 @@ impl<H: Host> Machine<H> {
     /// `lappend V W ..`
     pub fn run_lappend(&mut self, words: &[Text]) -> Result<Text, Halt>
         requires own { own words.now ≡ Some owns.Lappend }
-        ensures evals { (l : ℕ) → Ends H.calls H.hears Value l (Call words.now)
+        ensures evals { (line l : ℕ) → Ends (H.calls line) H.hears Value l (Call words.now)
             (state self.old.variables.entries (H.objects self.old.host) self.old.left)
             (state self.new.variables.entries (H.objects self.new.host) self.new.left) result }
         ensures left { self.new.left ≡ self.old.left }
@@ -177,15 +177,15 @@ impl<H: Host> Machine<H> {
         Ok(value)
     }
 
-    /// A command of the host's.
-    pub fn run_host(&mut self, words: &[Text]) -> Result<Text, Halt>
+    /// A command of the host's, on the line of the command of the whole text that is under way.
+    pub fn run_host(&mut self, words: &[Text], line: u32) -> Result<Text, Halt>
         requires own { own words.now ≡ None }
-        ensures evals { (l : ℕ) → Ends H.calls H.hears Value l (Call words.now)
+        ensures evals { (l : ℕ) → Ends (H.calls line) H.hears Value l (Call words.now)
             (state self.old.variables.entries (H.objects self.old.host) self.old.left)
             (state self.new.variables.entries (H.objects self.new.host) self.new.left) result }
         ensures left { self.new.left ≡ self.old.left }
     {
-        match self.host.call(words) {
+        match self.host.call(words, line) {
             Ok(Called::Value(value)) => Ok(value),
             Ok(Called::NotMine) => Err(Halt::Fault(Kind::Command)),
             Ok(Called::Stop) => Err(Halt::Stop),

@@ -42,7 +42,7 @@ impl<H: Host> Machine<H> {
         let commands = split(self.alloc, text)?;
         for command in &commands {
             let line = command.line;
-            match self.command(text, command, LEVELS) {
+            match self.command(text, command, LEVELS, line) {
                 Ok(_) => {}
                 Err(Halt::Stop) => return Ok(Ran::Stopped { line }),
                 Err(Halt::Fault(kind)) => {

@@ -18,11 +18,11 @@ impl Host for Nobody {
 
     ghost objects = { λ host. tt };
 
-    ghost calls = { λ objects words. (Ok called.NotMine, objects) };
+    ghost calls = { λ line objects words. (Ok called.NotMine, objects) };
 
     ghost hears = { λ objects name value. (Ok tt, objects) };
 
-    fn call(&mut self, _words: &[Text]) -> Result<Called, HostFault> {
+    fn call(&mut self, _words: &[Text], _line: u32) -> Result<Called, HostFault> {
         Ok(Called::NotMine)
     }
 
@@ -40,11 +40,11 @@ impl Host for Stopper {
 
     ghost objects = { λ host. tt };
 
-    ghost calls = { λ objects words. (Ok called.Stop, objects) };
+    ghost calls = { λ line objects words. (Ok called.Stop, objects) };
 
     ghost hears = { λ objects name value. (Ok tt, objects) };
 
-    fn call(&mut self, _words: &[Text]) -> Result<Called, HostFault> {
+    fn call(&mut self, _words: &[Text], _line: u32) -> Result<Called, HostFault> {
         Ok(Called::Stop)
     }
 

@@ -20,7 +20,7 @@ pub use fault::WiringFault;
 pub use known::knows_all;
 pub use limits::keeps_limits;
 pub use mapping::{Mapped, Mapping};
-pub use pipes::has_bad_pipe;
+pub use pipes::{has_bad_pipe, owner_at};
 pub use repeats::{has_same, has_twice};
 pub use topo::{AskedLink, AskedNode, Topo};
 pub use violation::{Broken, Subject};

@@ -20,8 +20,8 @@ fn owner_among(segments: &[Segment], end: u16) -> &[u8]
     &[]
 }
 
-/// The owner of the segment of an end.
-fn owner_at(wiring: &Wiring, node: u16, k: u16) -> &[u8]
+/// The owner of the segment of the end of a virtual node that has `k` earlier ones, or no bytes where there is none.
+pub fn owner_at(wiring: &Wiring, node: u16, k: u16) -> &[u8]
     requires { length (end_nodes wiring.now.segments) ≤ 65536 }
     ensures { result.now ≡ owner_at wiring.now (end_number (end_nodes wiring.now.segments) node k) }
 {

@@ -1,6 +1,6 @@
 use Rattle.std.proofs.Common.{◌≡◌, Option, Some}
 use Rattle.ns_words.specs.Values.{bandwidth_of}
-use Rattle.ns_words.proofs.Exact.{bandwidth_exact, delay_exact, loss_exact}
+use Rattle.ns_words.proofs.Exact.{bandwidth_exact, delay_exact, loss_exact, time_exact}
 use Rattle.ns_words.proofs.AddressLaws.{address_exact}
 use Rattle.ns_words.proofs.NameLaws.{name_exact}
 use Rattle.ns_words.proofs.laws.values_are_one.Goals as goal
@@ -16,6 +16,9 @@ returns-clause-delay c word x y p q = one _ x y ((delay_exact word x).1 p) ((del
 
 pub returns-clause-loss : goal.returns-clause-loss
 returns-clause-loss c word x y p q = one _ x y ((loss_exact word x).1 p) ((loss_exact word y).1 q)
+
+pub returns-clause-time : goal.returns-clause-time
+returns-clause-time c word x y p q = one _ x y ((time_exact word x).1 p) ((time_exact word y).1 q)
 
 pub returns-clause-address : goal.returns-clause-address
 returns-clause-address c word x y p q = one _ x y ((address_exact word x).1 p) ((address_exact word y).1 q)

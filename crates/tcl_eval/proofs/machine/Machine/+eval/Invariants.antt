@@ -70,26 +70,26 @@ decreases-script g l = 24 * l.levels + 20
 abbrev pub invariant-script-loop-command : goal.invariant-script-loop-command
 invariant-script-loop-command g l = record {
   left : l.self.left ≤ l.fn.self.left;
-  rest : Leads g.H.Host.calls g.H.Host.hears l.levels (Commands l.text (drop l.command-index l.command-items) l.value) (seen g.H.Host.objects l.self) (Whole l.text) (seen g.H.Host.objects l.fn.self);
+  rest : Leads (g.H.Host.calls l.line) g.H.Host.hears l.levels (Commands l.text (drop l.command-index l.command-items) l.value) (seen g.H.Host.objects l.self) (Whole l.text) (seen g.H.Host.objects l.fn.self);
 }
 
 abbrev pub invariant-command-loop-word : goal.invariant-command-loop-word
 invariant-command-loop-word g l = record {
   left : l.self.left ≤ l.fn.self.left;
   short : AllShort l.words.items;
-  rest : Leads g.H.Host.calls g.H.Host.hears l.levels (Words l.text (drop l.word-index l.command.words) l.words.items) (seen g.H.Host.objects l.self) (Words l.text l.command.words []) (spent (seen g.H.Host.objects l.fn.self));
+  rest : Leads (g.H.Host.calls l.line) g.H.Host.hears l.levels (Words l.text (drop l.word-index l.command.words) l.words.items) (seen g.H.Host.objects l.self) (Words l.text l.command.words []) (spent (seen g.H.Host.objects l.fn.self));
 }
 
 abbrev pub invariant-substitute-loop-part : goal.invariant-substitute-loop-part
 invariant-substitute-loop-part g l = record {
   left : l.self.left ≤ l.fn.self.left;
-  rest : Leads g.H.Host.calls g.H.Host.hears l.levels (Parts l.text l.in_index (drop l.part-index l.parts) l.value) (seen g.H.Host.objects l.self) (Parts l.text l.in_index l.parts []) (seen g.H.Host.objects l.fn.self);
+  rest : Leads (g.H.Host.calls l.line) g.H.Host.hears l.levels (Parts l.text l.in_index (drop l.part-index l.parts) l.value) (seen g.H.Host.objects l.self) (Parts l.text l.in_index l.parts []) (seen g.H.Host.objects l.fn.self);
 }
 
 abbrev pub invariant-run_if-loop-branch : goal.invariant-run_if-loop-branch
 invariant-run_if-loop-branch g l = record {
   left : l.self.left ≤ l.fn.self.left;
-  rest : Leads g.H.Host.calls g.H.Host.hears l.levels (If (map (branching_of l.words) (drop l.branch-index l.branch-items))) (seen g.H.Host.objects l.self) (Call l.words) (seen g.H.Host.objects l.fn.self);
+  rest : Leads (g.H.Host.calls l.line) g.H.Host.hears l.levels (If (map (branching_of l.words) (drop l.branch-index l.branch-items))) (seen g.H.Host.objects l.self) (Call l.words) (seen g.H.Host.objects l.fn.self);
 }
 
 abbrev pub invariant-run_for-loop-self : goal.invariant-run_for-loop-self
@@ -98,7 +98,7 @@ invariant-run_for-loop-self g l = record {
   condition : length l.condition ≤ 65536;
   next : length l.next ≤ 65536;
   body : length l.body ≤ 65536;
-  rest : Leads g.H.Host.calls g.H.Host.hears l.levels (For l.condition l.next l.body) (seen g.H.Host.objects l.self) (Call l.words) (seen g.H.Host.objects l.fn.self);
+  rest : Leads (g.H.Host.calls l.line) g.H.Host.hears l.levels (For l.condition l.next l.body) (seen g.H.Host.objects l.self) (Call l.words) (seen g.H.Host.objects l.fn.self);
 }
 
 abbrev pub invariant-run_foreach-loop-start : goal.invariant-run_foreach-loop-start
@@ -106,7 +106,7 @@ invariant-run_foreach-loop-start g l = record {
   left : l.self.left ≤ l.fn.self.left;
   at : l.at ≤ length l.list;
   body : length l.body ≤ 65536;
-  rest : Leads g.H.Host.calls g.H.Host.hears l.levels (Each l.name l.list l.at l.body) (seen g.H.Host.objects l.self) (Call l.words) (seen g.H.Host.objects l.fn.self);
+  rest : Leads (g.H.Host.calls l.line) g.H.Host.hears l.levels (Each l.name l.list l.at l.body) (seen g.H.Host.objects l.self) (Call l.words) (seen g.H.Host.objects l.fn.self);
 }
 
 abbrev pub invariant-tier-loop-operator : goal.invariant-tier-loop-operator
@@ -114,7 +114,7 @@ invariant-tier-loop-operator g l = record {
   left : l.self.left ≤ l.fn.self.left;
   at : l.at ≤ length l.text;
   forward : l.fn.at < l.at;
-  rest : Leads g.H.Host.calls g.H.Host.hears l.levels (Chain l.text l.at l.tier l.live l.left) (seen g.H.Host.objects l.self) (Tier l.text l.fn.at l.tier l.live) (seen g.H.Host.objects l.fn.self);
+  rest : Leads (g.H.Host.calls l.line) g.H.Host.hears l.levels (Chain l.text l.at l.tier l.live l.left) (seen g.H.Host.objects l.self) (Tier l.text l.fn.at l.tier l.live) (seen g.H.Host.objects l.fn.self);
 }
 
 abbrev pub decreases-run_for-loop-self : goal.decreases-run_for-loop-self

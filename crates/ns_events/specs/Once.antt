@@ -1,0 +1,20 @@
+-- What is due, and what an event leaves, is one; what `rates` gives is what an expansion gives.
+use Rattle.std.specs.Prelude.{◌≡◌, ℕ, true, List, length, map}
+use Rattle.virt_topo.specs.declared.topo.AskedLink.{AskedLink}
+use Rattle.virt_topo.specs.declared.wiring.Wiring.{Wiring}
+use Rattle.virt_topo.specs.Topos.{limits_link}
+use Rattle.net_plan.specs.Parts.{is_shaped, pipes_of}
+use Rattle.ns_events.specs.declared.event.Event.{Event}
+use Rattle.ns_events.specs.Schedules.{IsSchedule}
+use Rattle.ns_events.specs.Changes.{IsApplied, shaped_pipe}
+
+abbrev pub ScheduleIsOne : Type 0
+ScheduleIsOne = (from to : ℕ) (events one other : List Event) → IsSchedule from to events one → IsSchedule from to events other → one ≡ other
+
+abbrev pub AppliedIsOne : Type 0
+AppliedIsOne = (e : Event) (text now one other : Wiring) → IsApplied e text now one → IsApplied e text now other → one ≡ other
+
+-- the pipes of a shaped link or LAN are those of its rates
+abbrev pub GivenAreShaped : Type 0
+GivenAreShaped = (first : ℕ) (l : AskedLink) → limits_link l ≡ true → is_shaped l.rates ≡ true
+    → pipes_of (first, l) ≡ map (λ p. shaped_pipe (length (pipes_of (first, l))) l.rates p.node) (pipes_of (first, l))

@@ -1,0 +1,17 @@
+// Laws of the definitions.
+ghost use Rattle.ns_events.specs.Once.{ScheduleIsOne, AppliedIsOne, GivenAreShaped};
+
+/// A span of time has one schedule of a list of events.
+pub fn schedule_is_one()
+    ensures { ScheduleIsOne }
+{}
+
+/// An event leaves one wiring.
+pub fn applied_is_one()
+    ensures { AppliedIsOne }
+{}
+
+/// The rates that an event gives to a link or LAN are those that an expansion gives it where it is shaped.
+pub fn given_rates_are_shaped()
+    ensures { GivenAreShaped }
+{}

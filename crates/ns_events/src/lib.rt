@@ -1,0 +1,19 @@
+//! Scheduled link events: which are due in a span of time, and the wiring that each leaves.
+#![tactic(auto)]
+
+mod applied;
+mod event;
+mod fault;
+mod laws;
+mod pipes;
+mod rates;
+mod schedules;
+
+pub use applied::apply;
+pub use event::{Event, What};
+pub use fault::ApplyFault;
+pub use laws::{applied_is_one, given_rates_are_shaped, schedule_is_one};
+pub use schedules::schedule;
+
+#[cfg(test)]
+mod tests;
