@@ -184,6 +184,6 @@ IfStanding (Stuck state OfJournal) P = Unit {0}
 IfStanding turned P = P
 
 -- the state of a swap-out, or of an undo, whose Begin is durable already
-abbrev pub begun_again : List ℕ → Plan → Plan → Bool → Live
-begun_again exp commands undo true = forth_state (record { exp = exp; plan = commands; left = whole commands; undo = None })
-begun_again exp commands undo false = back_state (record { exp = exp; plan = undo; left = whole undo; inside = false; why = None })
+abbrev pub begun_again : List ℕ → Plan → Plan → Bool → Bool → Live
+begun_again exp commands undo inside true = forth_state (record { exp = exp; plan = commands; left = whole commands; undo = None })
+begun_again exp commands undo inside false = back_state (record { exp = exp; plan = undo; left = whole undo; inside = inside; why = None })

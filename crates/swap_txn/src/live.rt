@@ -60,13 +60,17 @@ impl Live {
         }
     }
 
-    /// A swap whose Begin is durable already: a swap-out where `out`, which goes on from its beginning, and else a swap-in,
-    /// whose undo begins.
+    /// A swap whose Begin is durable already: a swap-out where `out`, which goes on from its beginning, and else a swap-in or a
+    /// change, whose undo begins.
     pub fn again(alloc: Global, exp: Name, ops: Ops, out: bool) -> Result<Live, Memory>
-        ensures live { IfOk result (λ live. live ≡ begun_again exp ops.commands ops.undo out) }
+        ensures live { IfOk result (λ live. live ≡ begun_again exp ops.commands ops.undo ops.inside out) }
         ensures facts { IfOk result (λ live. (trace : List Event) → StartsAt trace live) }
     {
-        let Ops { commands, undo } = ops;
+        let Ops {
+            commands,
+            undo,
+            inside,
+        } = ops;
         if out {
             let forward = Forward {
                 exp,
@@ -80,7 +84,7 @@ impl Live {
                 exp,
                 sending: Sending::new(undo),
                 abort: abort_of(alloc, exp)?,
-                inside: false,
+                inside,
                 why: None,
             };
             Ok(backward.live())

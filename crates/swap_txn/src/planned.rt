@@ -52,7 +52,7 @@ impl Planned {
         ensures begin { IfOk result (λ p. IsBody p.begin (records.Begin exp way)) }
         ensures forth { IfOk result (λ p. p.forth ≡ unsent exp way ops.commands ops.undo) }
     {
-        let Ops { commands, undo } = ops;
+        let Ops { commands, undo, .. } = ops;
         let back = way_back(alloc, exp, &way, undo)?;
         let commit = commit_of(alloc, exp)?;
         let begin = encode(alloc, &Record::Begin { exp, way })?;

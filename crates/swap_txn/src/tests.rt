@@ -103,7 +103,11 @@ fn ops_of(alloc: Global, out: bool) -> Result<Ops, Fail> {
     } else {
         (building(alloc)?, clearing(alloc)?)
     };
-    Ok(Ops { commands, undo })
+    Ok(Ops {
+        commands,
+        undo,
+        inside: false,
+    })
 }
 
 /// How a swap ended.

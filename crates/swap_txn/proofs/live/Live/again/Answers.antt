@@ -13,5 +13,5 @@ returns-in_ok-commit_of-clause-facts c =
 pub returns-in_ok-abort_of-clause-facts : goal.returns-in_ok-abort_of-clause-facts
 returns-in_ok-abort_of-clause-facts c =
     let s = c.new-else-out in
-    let b : Back = record { exp = c.args.exp; plan = s.result.plan; left = s.result.left; inside = false; why = None } in
+    let b : Back = record { exp = c.args.exp; plan = s.result.plan; left = s.result.left; inside = c.args.ops.inside; why = None } in
     λ trace. subst (λ live. StartsAt trace live) (sym c.live-else-out.ensures) (back_starts b (s.ensures.left ∙ sym (ap whole s.ensures.plan)) trace)
