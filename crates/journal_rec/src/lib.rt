@@ -14,6 +14,3 @@ pub use laws::one_spelling;
 pub use reading::decode;
 pub use record::{Found, Record, Way};
 pub use writing::encode;
-
-#[cfg(test)]
-mod tests;

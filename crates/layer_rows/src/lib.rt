@@ -3,3 +3,5 @@
 
 #[cfg(test)]
 mod journal_tests;
+#[cfg(test)]
+mod record_tests;

@@ -23,8 +23,3 @@ mod words;
 
 pub use asked::{Asked, read_ns};
 pub use laws::{meaning_is_one, words_stand_for_objects};
-
-#[cfg(test)]
-mod event_tests;
-#[cfg(test)]
-mod tests;

@@ -14,6 +14,3 @@ pub use event::{Event, What};
 pub use fault::ApplyFault;
 pub use laws::{applied_is_one, given_rates_are_shaped, schedule_is_one};
 pub use schedules::schedule;
-
-#[cfg(test)]
-mod tests;

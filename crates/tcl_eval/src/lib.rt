@@ -21,8 +21,3 @@ pub use hosts::{Called, Host, HostFault};
 pub use interp::Interp;
 pub use laws::meaning_is_one;
 pub use runs::Ran;
-
-#[cfg(test)]
-mod table;
-#[cfg(test)]
-mod tests;

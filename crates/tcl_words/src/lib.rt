@@ -19,6 +19,3 @@ pub use laws::splittings;
 pub use parts::{reference_at, script_end};
 pub use splitting::{line_of, split};
 pub use word::{Command, Part, Reference, Word, WordKind};
-
-#[cfg(test)]
-mod tests;

@@ -1,9 +1,9 @@
 ghost use Rattle.std.specs.Prelude.{IfOk};
 ghost use Rattle.virt_topo.specs.Soundness.{IsSound};
 
-use super::*;
 use lab_base::{Items, Name, Rates};
 use net_plan::{lan_pipe, link_pipe};
+use ns_events::*;
 use std::alloc::Global;
 use std::test::Fail;
 use virt_topo::{Asks, Pipe, Segment, VirtEnd, VirtNode, Wiring};

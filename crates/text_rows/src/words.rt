@@ -1,8 +1,9 @@
-use crate::{Command, Part, Word, WordKind, split};
+// The commands and words of Tcl texts.
 use lab_base::TextRefused;
 use std::alloc::{AllocError, Global};
 use std::fmt::Write;
 use std::test::Fail;
+use tcl_words::{Command, Part, Word, WordKind, split};
 
 fn show_part(out: &mut String, part: Part) -> Result<(), AllocError> {
     match part {

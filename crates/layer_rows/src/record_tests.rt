@@ -1,4 +1,5 @@
-use super::*;
+// Payloads of records, byte by byte.
+use journal_rec::*;
 use lab_base::Name;
 use std::alloc::Global;
 use std::process::Abort;

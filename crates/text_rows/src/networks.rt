@@ -1,5 +1,6 @@
-use crate::read_ns;
+// Networks of NS texts.
 use lab_base::{Memory, Name, Text, TextRefused};
+use ns_build::read_ns;
 use std::alloc::Global;
 use std::process::Abort;
 use std::test::Fail;

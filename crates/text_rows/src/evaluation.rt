@@ -2,12 +2,12 @@ ghost use Rattle.std.specs.Prelude.{Ok};
 ghost use Rattle.tcl_eval.specs.declared.hosts.Called.TheVariants as called;
 
 use crate::table::{FIFTH, FIRST, FOURTH, SECOND, THIRD};
-use crate::{Called, Host, HostFault, Interp, Ran};
 use lab_base::{Kind, Text, TextFault, TextRefused};
 use std::alloc::Global;
 use std::fmt::Write;
 use std::process::Abort;
 use std::test::Fail;
+use tcl_eval::{Called, Host, HostFault, Interp, Ran};
 
 /// A host without commands.
 #[derive(Drop)]

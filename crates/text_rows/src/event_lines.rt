@@ -1,5 +1,6 @@
-use crate::read_ns;
+// Lines of scheduled link events.
 use lab_base::{Memory, Text, TextRefused};
+use ns_build::read_ns;
 use ns_events::{Event, What};
 use std::alloc::Global;
 use std::process::Abort;
