@@ -1,5 +1,5 @@
 # Prints what a real Tcl makes of each text: a row of the text and the value that its variable `r` has at the
-# end, or `!` where Tcl refuses it. The rows are those of the table in crates/tcl_eval/src/table.rt:
+# end, or `!` where Tcl refuses it. The rows are those of the table in crates/text_rows/src/table.rt:
 #
 #     tclsh tools/tcl_table.tcl
 #

@@ -1,4 +1,8 @@
 // The eight rules of mappings.
+ghost use Rattle.std.specs.Prelude.{IfOk};
+ghost use Rattle.virt_topo.specs.Soundness.{IsSound};
+ghost use Rattle.lab_model.specs.Shapes.{IsShaped};
+
 use feas::{CheckFault, check};
 use lab_base::{Items, TrunkId};
 use phys_lab::{Free, Lab};
@@ -6,7 +10,7 @@ use ptop_text::read_ptop;
 use std::alloc::Global;
 use std::test::Fail;
 use top_text::{read_solution, read_top};
-use virt_topo::{Broken, Subject};
+use virt_topo::{Broken, Mapping, Subject, Wiring};
 
 /// Two switches with two machines each, and a trunk of 100,000 kbps.
 const LAB: &[u8] = b"vlans 100 103\nnode s1 switch\nnode s2 switch\n\
@@ -54,6 +58,34 @@ fn free(alloc: Global, lab: &Lab, taken: usize, left: u64) -> Result<Free, Fail>
     })
 }
 
+/// How long a text of these rows may be.
+const MOST: usize = 1_000;
+
+fn wiring_of(alloc: Global, top: &[u8]) -> Result<Wiring, Fail>
+    ensures { IfOk result (λ wiring. IsSound wiring) }
+{
+    if top.len() > MOST {
+        return Err("a shorter text".into());
+    }
+    match read_top(alloc, top) {
+        Ok(wiring) => Ok(wiring),
+        Err(_) => Err("a wiring".into()),
+    }
+}
+
+fn mapping_of(alloc: Global, solution: &[u8], lab: &Lab, wiring: &Wiring) -> Result<Mapping, Fail>
+    requires { IsSound wiring.now }
+    ensures { IfOk result (λ mapping. IsShaped lab.now wiring.now mapping) }
+{
+    if solution.len() > MOST {
+        return Err("a shorter text".into());
+    }
+    match read_solution(alloc, solution, lab, wiring) {
+        Ok(mapping) => Ok(mapping),
+        Err(_) => Err("a mapping".into()),
+    }
+}
+
 fn checked(
     alloc: Global,
     top: &[u8],
@@ -62,9 +94,8 @@ fn checked(
     left: u64,
 ) -> Result<Result<(), CheckFault>, Fail> {
     let lab = read_ptop(alloc, LAB).ok().ok_or("a lab")?;
-    let wiring = read_top(alloc, top).ok().ok_or("a wiring")?;
-    let mapping = read_solution(alloc, solution, &lab, &wiring);
-    let mapping = mapping.ok().ok_or("a mapping")?;
+    let wiring = wiring_of(alloc, top)?;
+    let mapping = mapping_of(alloc, solution, &lab, &wiring)?;
     let free = free(alloc, &lab, taken, left)?;
     if free.nodes.len() != lab.nodes().len() || free.left.len() != lab.trunks().len() {
         return Err("what is free of that lab")?;

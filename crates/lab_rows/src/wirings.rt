@@ -13,7 +13,9 @@ fn a_sound_wiring_and_a_name_given_twice(rt: HostRuntime) -> Result<(), Fail> {
     let wiring = read_top(alloc, LAN).ok().ok_or("a wiring")?;
     assert_eq!(rt; wiring.check(), Ok(()));
     let mut copy = wiring.copy(alloc)?;
-    let more = read_top(alloc, b"node b pc linux\n").ok().ok_or("a wiring")?;
+    let more = read_top(alloc, b"node b pc linux\n")
+        .ok()
+        .ok_or("a wiring")?;
     for node in more.nodes.into_vec() {
         copy.nodes.push(node)?;
     }
