@@ -1,5 +1,5 @@
 -- What one turn does outside: a command or a record.
-use Rattle.std.specs.Prelude.{◌≡◌, ◌↔◌, ◌≤◌, ◌+◌, ℕ, Bool, List, [], ◌∷◌, ◌++◌, Option, Some, Result, Err, IsErrOf, IsTrue, IfSome, OnOk, OnErr}
+use Rattle.std.specs.Prelude.{◌≡◌, ◌↔◌, ◌≤◌, ◌+◌, ℕ, List, [], ◌∷◌, ◌++◌, Option, Some, Result, Err, IsErrOf, IsTrue, IfSome, OnOk, OnErr}
 use Rattle.plant.specs.Events.{Event}
 use Rattle.plant.specs.Seen.{Seen}
 use Rattle.plant.specs.Told.{Told, with_steps}
@@ -8,7 +8,6 @@ use Rattle.plant.specs.declared.device.DeviceOp.{DeviceOp}
 use Rattle.plant.specs.declared.device.Answer.{Answer}
 use Rattle.plant.specs.declared.device.Fault.{Fault}
 use Rattle.plant.specs.declared.device.Fault.TheVariants.{Stopped}
-use Rattle.plant.specs.declared.moment.Faults.{Faults}
 use Rattle.journal_rec.specs.declared.record.Record.{Record}
 use Rattle.journal_model.specs.Journals.{size}
 use Rattle.journal_disk.specs.Standing.{side_of, length_of, limit_of, IsAt, Appends, Moments}

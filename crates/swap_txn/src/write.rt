@@ -1,5 +1,5 @@
 // One record to the journal.
-ghost use Rattle.std.specs.Prelude.{◌≡◌, ◌≤◌, ◌+◌, length, Result};
+ghost use Rattle.std.specs.Prelude.{◌≤◌, ◌+◌, length, Result};
 ghost use Rattle.journal_rec.specs.Payloads.{IsBody};
 ghost use Rattle.journal_rec.specs.declared.record.Record.{Record};
 ghost use Rattle.journal_disk.specs.Standing.{length_of, limit_of};
