@@ -6,6 +6,8 @@
 #[cfg(test)]
 mod labs;
 #[cfg(test)]
+mod plans;
+#[cfg(test)]
 mod records;
 #[cfg(test)]
 mod rules;

@@ -61,7 +61,7 @@ fn free(alloc: Global, lab: &Lab, taken: usize, left: u64) -> Result<Free, Fail>
 /// How long a text of these rows may be.
 const MOST: usize = 1_000;
 
-fn wiring_of(alloc: Global, top: &[u8]) -> Result<Wiring, Fail>
+pub(crate) fn wiring_of(alloc: Global, top: &[u8]) -> Result<Wiring, Fail>
     ensures { IfOk result (λ wiring. IsSound wiring) }
 {
     if top.len() > MOST {
@@ -73,7 +73,7 @@ fn wiring_of(alloc: Global, top: &[u8]) -> Result<Wiring, Fail>
     }
 }
 
-fn mapping_of(alloc: Global, solution: &[u8], lab: &Lab, wiring: &Wiring) -> Result<Mapping, Fail>
+pub(crate) fn mapping_of(alloc: Global, solution: &[u8], lab: &Lab, wiring: &Wiring) -> Result<Mapping, Fail>
     requires { IsSound wiring.now }
     ensures { IfOk result (λ mapping. IsShaped lab.now wiring.now mapping) }
 {

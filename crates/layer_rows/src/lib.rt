@@ -5,3 +5,5 @@
 mod journal_tests;
 #[cfg(test)]
 mod record_tests;
+#[cfg(test)]
+mod swap_tests;

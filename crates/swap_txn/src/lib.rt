@@ -40,6 +40,3 @@ pub use ready::Ready;
 pub use turned::Turned;
 pub use undoing::Undoing;
 pub use undone::Undone;
-
-#[cfg(test)]
-mod tests;

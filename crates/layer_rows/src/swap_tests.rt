@@ -4,7 +4,6 @@ ghost use Rattle.journal_rec.specs.Payloads.{way_bytes, tags_of_way};
 ghost use Rattle.journal_disk.specs.Standing.{limit_of};
 ghost use Rattle.swap_txn.specs.Steps.{Stands};
 
-use super::*;
 use journal_disk::Journal;
 use journal_rec::Way;
 use lab_base::{Boot, Items, Name, Tags, Text, VlanId, What};
@@ -13,16 +12,13 @@ use plant_mem::MemLab;
 use std::alloc::Global;
 use std::test::Fail;
 use swap_plan::{Commands, Ops};
+use swap_txn::*;
 
 /// The most bytes of a side.
 const LIMIT: u64 = 1 << 32;
 
-fn named(text: &[u8]) -> Result<Name, Fail> {
-    Ok(Name::read(text).ok().ok_or("a name")?)
-}
-
 fn push_row(listed: &mut Items<DeviceOp>, port: u16, joins: bool) -> Result<(), Fail> {
-    let switch = named(b"s1")?;
+    let switch = Name::read(b"s1")?;
     let vlan = VlanId(100);
     let op = if joins {
         DeviceOp::Join { switch, port, vlan }
@@ -34,14 +30,14 @@ fn push_row(listed: &mut Items<DeviceOp>, port: u16, joins: bool) -> Result<(), 
 }
 
 fn push_load(listed: &mut Items<DeviceOp>, node: &[u8]) -> Result<(), Fail> {
-    let node = named(node)?;
-    let os = named(b"linux")?;
+    let node = Name::read(node)?;
+    let os = Name::read(b"linux")?;
     listed.push(DeviceOp::Load { node, os })?;
     Ok(())
 }
 
 fn push_wipe(listed: &mut Items<DeviceOp>, node: &[u8]) -> Result<(), Fail> {
-    let node = named(node)?;
+    let node = Name::read(node)?;
     listed.push(DeviceOp::Wipe { node })?;
     Ok(())
 }
@@ -62,8 +58,8 @@ fn loads(alloc: Global) -> Result<Items<DeviceOp>, Fail> {
 
 fn nodes(alloc: Global) -> Result<Items<Name>, Fail> {
     let mut listed = Items::new(alloc);
-    listed.push(named(b"pc1")?)?;
-    listed.push(named(b"pc2")?)?;
+    listed.push(Name::read(b"pc1")?)?;
+    listed.push(Name::read(b"pc2")?)?;
     Ok(listed)
 }
 
@@ -256,7 +252,7 @@ fn steps_of(alloc: Global, plant: &MemLab, from: usize) -> Result<Vec<u8>, Fail>
 fn plan(plant: &mut MemLab, fails: &[(&[u8], u32, How)]) -> Result<(), Fail> {
     for (name, nth, how) in fails {
         let drill = Drill::Device {
-            name: named(name)?,
+            name: Name::read(name)?,
             nth: *nth,
             how: *how,
         };
@@ -276,7 +272,7 @@ struct Ran {
 
 /// A swap-in or a swap-out of `A` in which these devices fail so.
 fn run(alloc: Global, out: bool, fails: &[(&[u8], u32, How)]) -> Result<Ran, Fail> {
-    let planned = planned_of(alloc, named(b"A")?, out)?;
+    let planned = planned_of(alloc, Name::read(b"A")?, out)?;
     let mut plant = MemLab::blank(alloc)?;
     plan(&mut plant, fails)?;
     let mut journal = opened(alloc, &mut plant)?;
@@ -290,7 +286,7 @@ fn run(alloc: Global, out: bool, fails: &[(&[u8], u32, How)]) -> Result<Ran, Fai
 fn run_again(alloc: Global, out: bool, inside: bool) -> Result<Ran, Fail> {
     let mut ops = ops_of(alloc, out)?;
     ops.inside = inside;
-    let live = Live::again(alloc, named(b"A")?, ops, out)
+    let live = Live::again(alloc, Name::read(b"A")?, ops, out)
         .ok()
         .ok_or("memory")?;
     let mut plant = MemLab::blank(alloc)?;
@@ -302,7 +298,7 @@ fn run_again(alloc: Global, out: bool, inside: bool) -> Result<Ran, Fail> {
 }
 
 fn ended(inside: bool, committed: bool, why: Option<What>) -> Result<Last, Fail> {
-    let exp = named(b"A")?;
+    let exp = Name::read(b"A")?;
     Ok(Last::Ended(Ended {
         exp,
         inside,
@@ -312,7 +308,7 @@ fn ended(inside: bool, committed: bool, why: Option<What>) -> Result<Last, Fail>
 }
 
 fn has_rows(plant: &MemLab) -> Result<(bool, bool), Fail> {
-    let switch = named(b"s1")?;
+    let switch = Name::read(b"s1")?;
     let first = plant.has_row(switch, 1, VlanId(100));
     let second = plant.has_row(switch, 2, VlanId(100));
     Ok((first, second))
@@ -330,7 +326,7 @@ fn in_from_begin_to_commit(rt: HostRuntime) -> Result<(), Fail> {
 #[test]
 fn a_failed_command_is_undone(rt: HostRuntime) -> Result<(), Fail> {
     let ran = run(rt.alloc(), false, &[(b"s1", 2, How::Applied)])?;
-    assert!(rt; ran.last == ended(false, false, Some(What::Device(named(b"s1")?)))?);
+    assert!(rt; ran.last == ended(false, false, Some(What::Device(Name::read(b"s1")?)))?);
     assert_eq!(rt; ran.steps.as_slice(), b"wsws++!--xxwsws".as_slice());
     assert_eq!(rt; has_rows(&ran.plant)?, (false, false));
     Ok(())
@@ -343,7 +339,7 @@ fn an_undo_that_fails_is_stuck(rt: HostRuntime) -> Result<(), Fail> {
         false,
         &[(b"s1", 2, How::Not), (b"s1", 3, How::Not)],
     )?;
-    assert!(rt; ran.last == Last::Stuck(What::Device(named(b"s1")?)));
+    assert!(rt; ran.last == Last::Stuck(What::Device(Name::read(b"s1")?)));
     assert_eq!(rt; ran.steps.as_slice(), b"wsws++!-!".as_slice());
     Ok(())
 }
@@ -359,7 +355,7 @@ fn out_from_begin_to_commit(rt: HostRuntime) -> Result<(), Fail> {
 #[test]
 fn a_swap_out_that_fails_is_stuck(rt: HostRuntime) -> Result<(), Fail> {
     let ran = run(rt.alloc(), true, &[(b"pc1", 1, How::Not)])?;
-    assert!(rt; ran.last == Last::Stuck(What::Device(named(b"pc1")?)));
+    assert!(rt; ran.last == Last::Stuck(What::Device(Name::read(b"pc1")?)));
     assert_eq!(rt; ran.steps.as_slice(), b"wsws--x!".as_slice());
     Ok(())
 }
@@ -377,7 +373,7 @@ fn begun_already(rt: HostRuntime) -> Result<(), Fail> {
 #[test]
 fn a_node_that_hangs_is_late(rt: HostRuntime) -> Result<(), Fail> {
     let ran = run(rt.alloc(), false, &[(b"pc2", 2, How::Hang)])?;
-    assert!(rt; ran.last == ended(false, false, Some(What::Late(named(b"pc2")?)))?);
+    assert!(rt; ran.last == ended(false, false, Some(What::Late(Name::read(b"pc2")?)))?);
     assert_eq!(rt;
         ran.steps.as_slice(),
         b"wsws++llbppb\
@@ -392,7 +388,7 @@ fn a_node_that_hangs_is_late(rt: HostRuntime) -> Result<(), Fail> {
 fn a_node_that_jumps_is_unlawful(rt: HostRuntime) -> Result<(), Fail> {
     let ran = run(rt.alloc(), false, &[(b"pc2", 1, How::Jump)])?;
     let why = What::Unlawful {
-        node: named(b"pc2")?,
+        node: Name::read(b"pc2")?,
         from: Boot::Booting,
         to: Boot::IsUp,
     };
