@@ -1,6 +1,7 @@
 -- Elements of lists.
-use Rattle.std.proofs.Common.{◌≡◌, ◌≢◌, ◌⊎◌, inl, inr, List, [], ◌∷◌, ◌++◌, map, refl, sym, ap, ◌∙◌, subst}
-use Rattle.std.specs.List.{flat_map}
+use Rattle.std.proofs.Common.{◌≡◌, ◌≢◌, ◌⊎◌, inl, inr, Bool, false, ◌||◌, List, [], ◌∷◌, ◌++◌, map, refl, sym, ap, ◌∙◌, subst}
+use Rattle.std.specs.List.{flat_map, list_any}
+use Rattle.std.proofs.lemmas.Bool.{or_parts}
 use Rattle.lab_base.specs.Lists.{Has, Apart, AllDiffer}
 
 pub Has-left : {X : Type 0} (xs ys : List X) (x : X) → Has xs x → Has (xs ++ ys) x
@@ -75,3 +76,15 @@ pub flat-each : {X Y : Type 0} (f : X → List Y) (xs : List X) (x : X) → AllD
 flat-each f [] x differ h = absurd h
 flat-each f (z ∷ xs) x differ (inl e) = subst (λ u. AllDiffer (f u)) e (Apart-left (λ p q. p ≢ q) (f z) (flat_map f xs) differ)
 flat-each f (z ∷ xs) x differ (inr h) = flat-each f xs x (Apart-right (λ p q. p ≢ q) (f z) (flat_map f xs) differ) h
+
+-- TESTS OF ELEMENTS
+
+-- no element passes the test
+pub none_has : {X : Type 0} (test : X → Bool) (xs : List X) (x : X) → list_any test xs ≡ false → Has xs x → test x ≡ false
+none_has test [] x t h = absurd h
+none_has test (y ∷ xs) x t (inl e) = sym (ap test e) ∙ (or_parts (test y) (list_any test xs) t).0
+none_has test (y ∷ xs) x t (inr h) = none_has test xs x (or_parts (test y) (list_any test xs) t).1 h
+
+pub any_map : {X Y : Type 0} (p : Y → Bool) (f : X → Y) (xs : List X) → list_any p (map f xs) ≡ list_any (λ x. p (f x)) xs
+any_map p f [] = refl
+any_map p f (x ∷ xs) = ap (λ (b : Bool). p (f x) || b) (any_map p f xs)

@@ -2,7 +2,6 @@
 use Rattle.std.specs.Prelude.{ℕ, nat_le, List, [], ◌∷◌, ◌++◌, Option, Some, None, Result, Ok, Err, if◌then◌else◌}
 use Rattle.lab_base.specs.Names.{is_name}
 use Rattle.lab_base.specs.Numbers.{number_of}
-use Rattle.lab_base.specs.Texts.{parted_at}
 use Rattle.lab_base.specs.Kinds.{both_of}
 use Rattle.lab_base.specs.declared.fault.Kind.{Kind}
 use Rattle.lab_base.specs.declared.fault.Kind.TheVariants as kinds
@@ -18,14 +17,6 @@ at_least least (Some n) = if nat_le least n then Ok n else Err kinds.Number
 -- a number in a range
 abbrev pub number_from : ℕ → ℕ → List ℕ → Result ℕ Kind
 number_from least most bytes = at_least least (number_of most bytes)
-
--- a name, and a number behind a colon
-abbrev pub numbered_parts : ℕ → ℕ → Option (List ℕ × List ℕ) → Result (List ℕ × ℕ) Kind
-numbered_parts least most None = Err kinds.Fields
-numbered_parts least most (Some parts) = both_of (name_of parts.0) (number_from least most parts.1)
-
-abbrev pub numbered : ℕ → ℕ → List ℕ → Result (List ℕ × ℕ) Kind
-numbered least most field = numbered_parts least most (parted_at 58 field)
 
 -- the fields of a list one after another, each read in the same way: of all faults the one that is tried first counts
 abbrev pub joined_to : {X : Type 0} → Result (List X × X) Kind → Result (List X) Kind

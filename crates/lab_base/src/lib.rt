@@ -23,7 +23,7 @@ pub use lines::{FirstLine, first_line, is_skipped};
 pub use memory::Memory;
 pub use name::{BadName, Name};
 pub use number::{BadNumber, read_number};
-pub use parts::{ListRead, add_read, name_in, number_in, numbered_in_field};
+pub use parts::{ListRead, add_read, name_in, number_in};
 pub use rates::Rates;
 pub use text::Text;
 

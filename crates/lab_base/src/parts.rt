@@ -1,8 +1,7 @@
-ghost use Rattle.std.specs.Prelude.{◌≡◌, option_map, IfOk};
+ghost use Rattle.std.specs.Prelude.{◌≡◌, IfOk};
 ghost use Rattle.lab_base.specs.Kinds.{both_of};
-ghost use Rattle.lab_base.specs.Parts.{name_of, number_from, numbered, numbered_parts, joined_to};
+ghost use Rattle.lab_base.specs.Parts.{name_of, number_from, joined_to};
 
-use crate::fields::{Parts, parted};
 use crate::{Items, Kind, Memory, Name, both, read_number};
 
 /// What fields give: their values, or the fault that is tried first.
@@ -32,22 +31,6 @@ pub fn number_in(field: &[u8], least: u64, most: u64) -> Result<u64, Kind>
         }
         Err(_) => Err(Kind::Number),
     }
-}
-
-fn numbered_in(parts: Option<Parts<'_>>, least: u64, most: u64) -> Result<(Name, u64), Kind>
-    ensures { result ≡ numbered_parts least most (option_map (λ parts. (parts.before.now, parts.behind.now)) parts.entry) }
-{
-    match parts {
-        Some(parts) => both(name_in(parts.before), number_in(parts.behind, least, most)),
-        None => Err(Kind::Fields),
-    }
-}
-
-/// The name, colon and number that a field is; `fields` where it has no colon, else `name` before `number`.
-pub fn numbered_in_field(field: &[u8], least: u64, most: u64) -> Result<(Name, u64), Kind>
-    ensures { result ≡ numbered least most field.now }
-{
-    numbered_in(parted(field, b':'), least, most)
 }
 
 /// One field more of a list of fields. Of two faults the one that is tried first counts.

@@ -61,9 +61,6 @@ fn lines_and_fields_of_a_text(rt: HostRuntime) -> Result<(), Fail> {
 
 #[test]
 fn of_two_faults_the_one_that_is_tried_first_counts(rt: HostRuntime) -> Result<(), Fail> {
-    assert_eq!(rt; numbered_in_field(b"pc", 1, 9).err(), Some(Kind::Fields));
-    assert_eq!(rt; numbered_in_field(b"p c:x", 1, 9).err(), Some(Kind::Name));
-    assert_eq!(rt; numbered_in_field(b"pc:0", 1, 9).err(), Some(Kind::Number));
     let late: Result<(), Kind> = Err(Kind::Unknown);
     let early: Result<(), Kind> = Err(Kind::Twice);
     assert_eq!(rt; both(late, early).err(), Some(Kind::Twice));

@@ -1,9 +1,9 @@
 // What the first line of a command says.
-ghost use Rattle.std.specs.Prelude.{◌≡◌, ◌≤◌, List, ℕ, IfOk, IfSome};
+ghost use Rattle.std.specs.Prelude.{◌≡◌, ◌≤◌, IfOk, IfSome};
 ghost use Rattle.std.specs.Str.{bytes_eq};
 ghost use Rattle.lab_base.specs.Texts.{views};
 ghost use Rattle.script_text.specs.Blocks.{IsBlock, HasBlocks, IsInRange, SaysInRange};
-ghost use Rattle.script_text.specs.Heads.{completed, counted, named, no_field, only_name, only_count, name_and_count, how_of, nth_of, drill_head, head_by, head_of, said_of};
+ghost use Rattle.script_text.specs.Heads.{completed, counted, named, no_field, only_name, only_count, name_and_count, how_of, nth_of, drill_head, head_by, said_of};
 
 use crate::Command;
 use lab_base::{Memory, Name, Text, fields_in, is_skipped, read_number};
