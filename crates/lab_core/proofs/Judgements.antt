@@ -14,8 +14,8 @@ use Rattle.records_model.proofs.Finding.{found_from}
 use Rattle.ns_text.proofs.Reading.{wiring_once}
 use Rattle.top_text.specs.Adding.{wiring_of_text}
 use Rattle.top_text.specs.Canonical.{canonical_top}
-use Rattle.top_text.specs.CanonicalSolution.{canonical_solution}
-use Rattle.top_text.specs.Solutions.{mapping_of_text}
+use Rattle.solution_text.specs.CanonicalSolution.{canonical_solution}
+use Rattle.solution_text.specs.Solutions.{mapping_of_text}
 use Rattle.script_text.specs.Drills.{drill_of}
 use Rattle.script_text.specs.declared.command.Command.{Command}
 use Rattle.script_text.specs.declared.command.Command.TheVariants as commands

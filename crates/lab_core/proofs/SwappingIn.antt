@@ -38,8 +38,8 @@ use Rattle.claims.specs.Answered.{AreTaken}
 use Rattle.claims.specs.Experiments.{ClaimsOf}
 use Rattle.claims.specs.Held.{Held, IsLeftTo, free_ids}
 use Rattle.claims.proofs.OthersLeave.{is_left}
-use Rattle.top_text.specs.CanonicalSolution.{canonical_solution}
-use Rattle.top_text.specs.Solutions.{mapping_of_text}
+use Rattle.solution_text.specs.CanonicalSolution.{canonical_solution}
+use Rattle.solution_text.specs.Solutions.{mapping_of_text}
 use Rattle.swap_txn.specs.States.{unsent}
 use Rattle.swap_runs.specs.Beginning.{swap_in}
 use Rattle.swap_runs.proofs.Begins.{moves_in}

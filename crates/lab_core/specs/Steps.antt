@@ -25,8 +25,8 @@ use Rattle.ptop_text.specs.Adding.{lab_of_text}
 use Rattle.ptop_text.specs.Canonical.{canonical}
 use Rattle.top_text.specs.Adding.{wiring_of_text}
 use Rattle.top_text.specs.Canonical.{canonical_top, virt_name}
-use Rattle.top_text.specs.CanonicalSolution.{canonical_solution, end_keys, end_name}
-use Rattle.top_text.specs.Solutions.{mapping_of_text}
+use Rattle.solution_text.specs.CanonicalSolution.{canonical_solution, end_keys, end_name}
+use Rattle.solution_text.specs.Solutions.{mapping_of_text}
 use Rattle.script_text.specs.declared.command.Command.{Command}
 use Rattle.script_text.specs.declared.command.Command.TheVariants as commands
 use Rattle.script_text.specs.declared.reply.PhaseWord.{PhaseWord}

@@ -12,7 +12,7 @@ use Rattle.journal_rec.specs.declared.record.Way.TheVariants.{In as WayIn}
 use Rattle.lab_model.specs.Beside.{violation_beside, are_free_tags}
 use Rattle.lab_model.specs.Courses.{Plan, commands, undo}
 use Rattle.records_model.specs.Labs.{LabState, Move, Says, Sane, find, mapped, others}
-use Rattle.top_text.specs.CanonicalSolution.{canonical_solution}
+use Rattle.solution_text.specs.CanonicalSolution.{canonical_solution}
 use Rattle.top_text.specs.Printable.{is_printable}
 use Rattle.lab_state.specs.Texts.{the_texts}
 use Rattle.script_text.specs.Replies.{blames_device, closes}

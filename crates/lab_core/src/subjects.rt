@@ -5,8 +5,8 @@ ghost use Rattle.lab_core.specs.Steps.{name_at, subject_name};
 
 use lab_base::{Memory, Text};
 use phys_lab::Lab;
+use solution_text::print_end;
 use std::alloc::Global;
-use top_text::print_end;
 use virt_topo::{Subject, Wiring};
 
 fn virt_name(wiring: &Wiring, virt: u16) -> &[u8]

@@ -25,9 +25,9 @@ use lab_state::LabState;
 use phys_lab::Lab;
 use plant::Plant;
 use script_text::Reply;
+use solution_text::{print_solution, read_solution};
 use std::alloc::Global;
 use swap_plan::{Ops, plan_in};
-use top_text::{print_solution, read_solution};
 use virt_topo::{Broken, Experiment, Mapping, Phase, Subject};
 
 /// A mapping that was checked beside the other experiments.

@@ -11,7 +11,7 @@ ghost use Rattle.lab_model.specs.Holding.{Holding};
 ghost use Rattle.lab_model.specs.Shapes.{IsShaped};
 ghost use Rattle.records_model.specs.Labs.{lab_in, Sane};
 ghost use Rattle.claims.specs.Experiments.{ClaimsOf};
-ghost use Rattle.top_text.specs.CanonicalSolution.{canonical_solution};
+ghost use Rattle.solution_text.specs.CanonicalSolution.{canonical_solution};
 ghost use Rattle.lab_core.specs.Steps.{phase_word, tag_lines, placed_at, shown_reply, status_line};
 
 use crate::CoreFault;
@@ -20,8 +20,9 @@ use lab_base::{Items, Memory, VlanId};
 use lab_state::LabState;
 use phys_lab::Lab;
 use script_text::{PhaseWord, Placed, Reply, StatusLine, TagLine};
+use solution_text::print_solution;
 use std::alloc::Global;
-use top_text::{print_solution, print_top};
+use top_text::print_top;
 use virt_topo::{Experiment, Mapping, Phase, Segment, Wiring};
 
 fn phase_word(phase: &Phase) -> PhaseWord

@@ -9,7 +9,8 @@ use phys_lab::{Free, Lab};
 use ptop_text::read_ptop;
 use std::alloc::Global;
 use std::test::Fail;
-use top_text::{read_solution, read_top};
+use solution_text::read_solution;
+use top_text::read_top;
 use virt_topo::{Broken, Mapping, Subject, Wiring};
 
 /// Two switches with two machines each, and a trunk of 100,000 kbps.

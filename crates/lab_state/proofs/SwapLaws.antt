@@ -15,10 +15,10 @@ use Rattle.journal_rec.specs.declared.record.Record.TheVariants.{Begin}
 use Rattle.records_model.specs.Labs.{LabState, BeginsIn, BeginsOut, BeginsChange, HasText, Follows, CannotFollow, find, replace, mapped, in_phase, becomes, is_out, can_take, moved}
 use Rattle.records_model.proofs.Finding.{some_is, none_some, found_from}
 use Rattle.claims.specs.Holds.{claim_of}
-use Rattle.top_text.proofs.SolutionAgain.{canonical_again}
+use Rattle.solution_text.proofs.SolutionAgain.{canonical_again}
 use Rattle.top_text.proofs.TopWhole.{top_again}
 use Rattle.top_text.specs.Adding.{wiring_of_text}
-use Rattle.top_text.specs.Solutions.{mapping_of_text}
+use Rattle.solution_text.specs.Solutions.{mapping_of_text}
 use Rattle.lab_state.specs.declared.claimed_lab.ClaimedLab.{ClaimedLab}
 use Rattle.lab_state.specs.declared.fault.PrepareFault.{PrepareFault}
 use Rattle.lab_state.specs.declared.fault.PrepareFault.TheVariants as faults

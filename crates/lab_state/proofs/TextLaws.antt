@@ -9,7 +9,7 @@ use Rattle.lab_base.specs.declared.fault.TextFault.{TextFault}
 use Rattle.lab_base.specs.declared.fault.TextRefused.{TextRefused}
 use Rattle.lab_base.specs.declared.fault.TextRefused.TheVariants as refusals
 use Rattle.line_text.specs.Refusals.{Reads}
-use Rattle.ptop_text.specs.Adding.{Reads as PtopReads}
+use Rattle.line_text.specs.Refusals.{Reads as PtopReads}
 use Rattle.virt_topo.specs.declared.wiring.VirtNode.{VirtNode}
 use Rattle.virt_topo.specs.declared.wiring.Wiring.{Wiring}
 use Rattle.top_text.specs.Printable.{is_printable, are_named, named_node}

@@ -2,7 +2,7 @@
 use Rattle.records_model.specs.Labs.{Texts}
 use Rattle.ptop_text.specs.Canonical.{canonical}
 use Rattle.top_text.specs.Canonical.{canonical_top}
-use Rattle.top_text.specs.CanonicalSolution.{canonical_solution}
+use Rattle.solution_text.specs.CanonicalSolution.{canonical_solution}
 use Rattle.top_text.specs.Printable.{is_printable}
 
 -- THE TEXTS of labs, wirings and mappings, and the test that the names of a wiring are names

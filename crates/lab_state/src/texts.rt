@@ -12,8 +12,9 @@ ghost use Rattle.lab_state.specs.Texts.{the_texts};
 use crate::PrepareFault;
 use phys_lab::Lab;
 use ptop_text::{print_ptop, read_ptop};
+use solution_text::{print_solution, read_solution};
 use std::alloc::Global;
-use top_text::{print_solution, print_top, read_solution, read_top};
+use top_text::{print_top, read_top};
 use virt_topo::{Mapping, Wiring};
 
 /// The lab whose canonical text this is.

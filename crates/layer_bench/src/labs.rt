@@ -7,8 +7,9 @@ use feas::CheckFault;
 use lab_base::{Items, Memory, TextRefused};
 use phys_lab::{Free, Lab};
 use ptop_text::{print_ptop, read_ptop};
+use solution_text::read_solution;
 use std::alloc::Global;
-use top_text::{print_top, read_solution, read_top};
+use top_text::{print_top, read_top};
 use virt_topo::{Mapping, Wiring};
 
 /// The most bytes of a text.

@@ -6,3 +6,4 @@ pub mod PartsAgain
 pub mod LinesAgain
 pub mod Plain
 pub mod Widths
+pub mod AddressLaws

@@ -1,8 +1,11 @@
 -- Lists of fields have as many values as fields.
-use Rattle.std.proofs.Common.{◌≡◌, ℕ, ◌+◌, ◌≤◌, Bool, true, false, cond, List, [], ◌∷◌, ◌++◌, length, drop, Result, Ok, Err, refl, sym, ap, ◌∙◌, arith, length-append, length-drop}
+use Rattle.std.proofs.Common.{◌≡◌, ℕ, ◌+◌, ◌≤◌, ◌<◌, Bool, true, false, cond, List, [], ◌∷◌, ◌++◌, length, take, drop, get_or, Result, Ok, Err, refl, sym, ap, ◌∙◌, arith, length-append, length-drop}
 use Rattle.std.specs.Prelude.{nat_le}
-use Rattle.std.proofs.lemmas.Bool.{and_parts}
+use Rattle.std.specs.List.{list_all}
+use Rattle.std.proofs.lemmas.Bool.{and_from, and_parts}
 use Rattle.std.proofs.lemmas.Bool.Decides.{nat_tests}
+use Rattle.std.proofs.lemmas.List.{take_more}
+use Rattle.std.proofs.lemmas.List.Folds.{list_all-append}
 use Rattle.lab_base.specs.Kinds.{both_of}
 use Rattle.lab_base.specs.Parts.{all_of, joined_to}
 use Rattle.lab_base.specs.declared.fault.Kind.{Kind}
@@ -56,3 +59,10 @@ list_few {X} n least most read fields xs h = by (counts (n + least) (n + most) f
       where
         at_most : (a b : ℕ) → nat_le a b ≡ true → a ≤ b
         at_most a b t = grind (arith, nat_tests)
+
+-- one element more that passes a test
+pub all_next : {X : Type 0} (p : X → Bool) (xs : List X) (i : ℕ) (x : X) → i < length xs → x ≡ get_or xs i x → list_all p (take i xs) ≡ true → p x ≡ true → list_all p (take (i + 1) xs) ≡ true
+all_next p xs i x lt is all here =
+    ap (list_all p) (take_more xs i x lt)
+    ∙ list_all-append p (take i xs) (get_or xs i x ∷ [])
+    ∙ and_from _ _ all (and_from _ _ (sym (ap p is) ∙ here) refl)

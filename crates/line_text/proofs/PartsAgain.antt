@@ -1,6 +1,7 @@
 -- The parts of a printed line are read again.
 use Rattle.std.proofs.Common.{◌≡◌, ℕ, suc, ◌+◌, ◌<◌, ◌≤◌, ◌^◌, Bool, true, false, not, cond, eqb, ltb, ◌||◌, List, [], ◌∷◌, ◌++◌, length, take, drop, map, Some, None, Result, Ok, Err, refl, sym, ap, subst, ◌∙◌, arith, inl, inr, true≢false, length-append}
-use Rattle.std.specs.Prelude.{nat_le, decimal, option_map}
+use Rattle.std.specs.Prelude.{nat_le, decimal, option_map, Option, is_some}
+use Rattle.std.specs.Option.{option_and_then}
 use Rattle.std.specs.Char.{is_ascii_digit}
 use Rattle.std.specs.List.{list_all, position, prefix_len}
 use Rattle.std.proofs.lemmas.Bool.{and_from, and_parts, eq-eqb, eqb-true}
@@ -12,13 +13,14 @@ use Rattle.std.proofs.Math.Seq.{take-append_seam}
 use Rattle.lab_base.specs.Names.{is_name, is_name_byte}
 use Rattle.lab_base.specs.Texts.{parted_at, is_blank, is_filled}
 use Rattle.lab_base.specs.Kinds.{both_of}
-use Rattle.lab_base.specs.Parts.{name_of, number_from, at_least, numbered, numbered_parts, all_of, joined_to}
+use Rattle.lab_base.specs.Parts.{name_of, number_from, at_least, all_of, joined_to}
 use Rattle.lab_base.specs.Lists.{Has}
 use Rattle.lab_base.specs.declared.fault.Kind.{Kind}
 use Rattle.lab_base.specs.declared.fault.Kind.TheVariants as kinds
 use Rattle.lab_base.proofs.Again.{number_again}
 use Rattle.lab_base.proofs.Digits.{own}
 use Rattle.line_text.specs.Printing.{with_number}
+use Rattle.line_text.specs.Pairs.{has_byte, with_one, pair_at, numbered, numbered_parts}
 
 pub is_true : (p : Bool) → not p ≡ false → p ≡ true
 is_true true e = refl
@@ -152,8 +154,30 @@ parted_again at front rest all =
     ap (option_map (λ n. (take n (front ++ at ∷ rest), drop (n + 1) (front ++ at ∷ rest)))) (position_at (λ b. eqb b at) front at rest all (eq-eqb at at refl))
     ∙ (λ i. Some (take-append_seam front (at ∷ rest) i, drop_next front at rest i))
 
-pub named_part : (name rest : List ℕ) → is_name name ≡ true → parted_at 58 (name ++ 58 ∷ rest) ≡ Some (name, rest)
-named_part name rest h = parted_again 58 name rest (others is_name_byte 58 refl name (name_bytes name h))
+-- a byte that doesn't stand in a field
+pub no_byte : (at : ℕ) (field : List ℕ) → list_all (λ b. not (eqb b at)) field ≡ true → has_byte at field ≡ false
+no_byte at field all = ap (λ (o : Option ℕ). is_some {T = List ℕ × List ℕ} (option_map (λ n. (take n field, drop (n + 1) field)) o)) (position_none (λ b. eqb b at) field all)
+
+-- one that stands there once
+pub pair_again : (at : ℕ) (front rest : List ℕ) → list_all (λ b. not (eqb b at)) front ≡ true → list_all (λ b. not (eqb b at)) rest ≡ true → pair_at at (front ++ at ∷ rest) ≡ Some (front, rest)
+pair_again at front rest all others =
+    ap (option_and_then (with_one at)) (parted_again at front rest all)
+    ∙ ap (λ (b : Bool). cond b None (Some (front, rest))) (no_byte at rest others)
+
+pub has_again : (at : ℕ) (front rest : List ℕ) → list_all (λ b. not (eqb b at)) front ≡ true → has_byte at (front ++ at ∷ rest) ≡ true
+has_again at front rest all = ap (λ (o : Option (List ℕ × List ℕ)). is_some o) (parted_again at front rest all)
+
+pub no_byte_name : (at : ℕ) → is_name_byte at ≡ false → (name : List ℕ) → is_name name ≡ true → list_all (λ b. not (eqb b at)) name ≡ true
+no_byte_name at other name h = others is_name_byte at other name (name_bytes name h)
+
+pub no_byte_number : (at : ℕ) → is_ascii_digit at ≡ false → (n : ℕ) → n < 2 ^ 64 → list_all (λ b. not (eqb b at)) (decimal n) ≡ true
+no_byte_number at other n fits = others is_ascii_digit at other (decimal n) (digits_decimal own n fits)
+
+pub named_pair : (name other : List ℕ) → is_name name ≡ true → is_name other ≡ true → pair_at 58 (name ++ 58 ∷ other) ≡ Some (name, other)
+named_pair name other h g = pair_again 58 name other (no_byte_name 58 refl name h) (no_byte_name 58 refl other g)
+
+pub numbered_pair : (name : List ℕ) (n : ℕ) → is_name name ≡ true → n < 2 ^ 64 → pair_at 58 (with_number (name, n)) ≡ Some (name, decimal n)
+numbered_pair name n h fits = pair_again 58 name (decimal n) (no_byte_name 58 refl name h) (no_byte_number 58 refl n fits)
 
 pub number_back : (least most n : ℕ) → least ≤ n → n ≤ most → most < 2 ^ 64 → number_from least most (decimal n) ≡ Ok n
 number_back least most n low high small =
@@ -164,7 +188,7 @@ number_back least most n low high small =
 
 pub numbered_again : (least most : ℕ) (name : List ℕ) (n : ℕ) → is_name name ≡ true → least ≤ n → n ≤ most → most < 2 ^ 64 → numbered least most (with_number (name, n)) ≡ Ok (name, n)
 numbered_again least most name n named low high small =
-    ap (numbered_parts least most) (named_part name (decimal n) named)
+    ap (numbered_parts least most) (numbered_pair name n named (omega arith))
     ∙ (λ i. both_of (name_again name named i) (number_back least most n low high small i))
 
 -- LISTS

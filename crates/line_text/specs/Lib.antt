@@ -2,3 +2,5 @@ pub mod Reading
 pub mod Refusals
 pub mod Printing
 pub mod Fields
+pub mod Pairs
+pub mod Addresses

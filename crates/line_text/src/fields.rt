@@ -1,12 +1,23 @@
 ghost use Rattle.std.specs.Prelude.{◌≡◌, ◌≤◌, drop, length};
+ghost use Rattle.lab_base.specs.Parts.{name_of};
 ghost use Rattle.lab_base.specs.Texts.{views};
 ghost use Rattle.line_text.specs.Fields.{field_at, counts};
+
+use lab_base::{Kind, Name, name_in};
 
 /// The field of a number, counted from 0; empty where there is none.
 pub fn field_at<'a>(fields: &[&'a [u8]], n: usize) -> &'a [u8]
     ensures { result.now ≡ field_at (views fields.now) n }
 {
     if n < fields.len() { fields[n] } else { &[] }
+}
+
+/// The name that the field of a number is, counted from 0; `name` where it is none, or isn't there.
+pub fn name_at(fields: &[&[u8]], n: usize) -> Result<Name, Kind>
+    ensures { result ≡ name_of (field_at (views fields.now) n) }
+{
+    let field = field_at(fields, n);
+    name_in(field)
 }
 
 /// Whether there are `least` to `most` fields.

@@ -1,12 +1,16 @@
 //! What the readers and printers of all texts of lines share.
 #![tactic(auto)]
 
+mod address;
 mod fields;
 mod line_fault;
 mod numbers;
+mod pairs;
 mod printing;
 
-pub use fields::{counts, field_at, fields_behind};
+pub use address::address_in;
+pub use fields::{counts, field_at, fields_behind, name_at};
 pub use line_fault::{LineFault, refusal};
 pub use numbers::{short_in, weight_in};
+pub use pairs::{has_byte, numbered_short, numbered_weight, pair_in};
 pub use printing::{push_field, push_numbered};

@@ -7,7 +7,7 @@ use Rattle.lab_base.specs.declared.fault.Kind.TheVariants as kinds
 use Rattle.virt_topo.specs.Repeats.{same_name, stands_again}
 use Rattle.virt_topo.specs.Soundness.{is_between, is_address}
 use Rattle.ns_words.specs.Values.{loss_of}
-use Rattle.ns_words.specs.Addresses.{IsAddress, address_of}
+use Rattle.ns_words.specs.Addresses.{address_of}
 use Rattle.ns_words.specs.Quantities.{IsLoss}
 use Rattle.ns_words.proofs.Exact.{loss_exact}
 use Rattle.ns_words.proofs.AddressLaws.{address_exact, last_number}
@@ -53,7 +53,7 @@ judged_fixed_fits n words task h =
 address_fits : (word : List ℕ) (ip : ℕ) → address_in word ≡ Ok ip → is_address (Some ip) ≡ true
 unfolding address_in
 address_fits word ip h =
-    let w : IsAddress word ip = (address_exact word ip).0 (need_ok kinds.Ip (address_of word) ip h) in
+    let w = (address_exact word ip).0 (need_ok kinds.Ip (address_of word) ip h) in
     let last = last_number word ip w in
     and_both _ _ (le-leb 1 _ last.0) (le-leb _ 254 last.1)
 

@@ -17,7 +17,7 @@ use Rattle.ns_words.specs.declared.names.Numbered.{Numbered}
 use Rattle.ns_words.specs.declared.names.Numbered.TheVariants.{Node, Link}
 use Rattle.ns_words.specs.Seen.{named_if, numbered_letter}
 use Rattle.ns_words.specs.Objects.{IsGiven, IsObjectName, is_index_byte, is_word, is_index, if_short, plain_of, indexed_of, closed_of, named_of, object_name_of, numbered_prefix, numbered_name_of}
-use Rattle.ns_words.proofs.AddressLaws.{parted_is}
+use Rattle.line_text.proofs.AddressLaws.{parted_is}
 
 within : (a b : ℕ) → a ≤ b → nat_le a b ≡ true
 within a b h = grind (arith, nat_tests)

@@ -1,7 +1,7 @@
 -- A word has at most one value.
 use Rattle.std.specs.Prelude.{◌≡◌, ℕ, List}
 use Rattle.ns_words.specs.Quantities.{IsBandwidth, IsDelay, IsLoss, IsTime}
-use Rattle.ns_words.specs.Addresses.{IsAddress}
+use Rattle.line_text.specs.Addresses.{IsAddress}
 use Rattle.ns_words.specs.Objects.{IsObjectName}
 
 -- a relation gives no word two values

@@ -1,5 +1,5 @@
 -- Lines by their number of fields.
-use Rattle.std.proofs.Common.{◌≡◌, ◌≢◌, ℕ, suc, List, [], ◌∷◌, length, get_or, Err, refl, ap, arith, Bor}
+use Rattle.std.proofs.Common.{◌≡◌, ◌≢◌, ℕ, List, [], ◌∷◌, length, get_or, Err, refl, arith, Bor}
 use Rattle.lab_base.specs.Texts.{views}
 use Rattle.lab_base.specs.declared.fault.Kind.TheVariants as kinds
 use Rattle.phys_lab.specs.Labs.{Lab}
@@ -12,10 +12,6 @@ other_links lab (a ∷ b ∷ []) ne = refl
 other_links lab (a ∷ b ∷ d ∷ []) ne = refl
 other_links lab (a ∷ b ∷ d ∷ e ∷ []) ne = absurd (ne refl)
 other_links lab (a ∷ b ∷ d ∷ e ∷ f ∷ fields) ne = refl
-
-pub length-views : (fields : List (Bor (List ℕ))) → length (views fields) ≡ length fields
-length-views [] = refl
-length-views (x ∷ xs) = ap suc (length-views xs)
 
 pub four : (fields : List (Bor (List ℕ))) (a b d e : Bor (List ℕ)) → length fields ≡ 4
     → (get_or fields 0 a).now ∷ (get_or fields 1 b).now ∷ (get_or fields 2 d).now ∷ (get_or fields 3 e).now ∷ [] ≡ views fields

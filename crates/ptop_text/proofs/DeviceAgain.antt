@@ -16,10 +16,11 @@ use Rattle.phys_lab.specs.Keys.{same_name}
 use Rattle.phys_lab.specs.Faults.{range_fault, is_type, is_feature, is_between}
 use Rattle.phys_lab.specs.Kept.{IsWhole}
 use Rattle.ptop_text.specs.declared.device.Device.TheVariants as devices
-use Rattle.ptop_text.specs.Lines.{vlans_line, is_switch_word, type_parts, type_of, feature_of, is_list, types_of, features_of, dash_in, as_node, node_parts, switch_parts, is_switch_field, as_switch, is_switch_line, device_line}
+use Rattle.ptop_text.specs.Lines.{vlans_line, is_switch_word, bare_type, counted_type, type_of, feature_of, is_list, types_of, features_of, dash_in, as_node, node_parts, switch_parts, is_switch_field, as_switch, is_switch_line, device_line}
 use Rattle.ptop_text.specs.Canonical.{feature_fields}
 use Rattle.line_text.specs.Printing.{with_number}
-use Rattle.line_text.proofs.PartsAgain.{negated, position_at, position_none, drop_next, named_part, name_again, number_back, numbered_again, all_again, all_has}
+use Rattle.line_text.specs.Pairs.{pair_at}
+use Rattle.line_text.proofs.PartsAgain.{negated, position_at, position_none, drop_next, has_again, no_byte_name, numbered_pair, name_again, number_back, numbered_again, all_again, all_has}
 
 pub le_from : (a b : ℕ) → nat_le a b ≡ true → a ≤ b
 le_from a b h = grind (arith, nat_tests)
@@ -85,7 +86,8 @@ type_is kind h =
 type_again : (kind : List ℕ × ℕ) → is_type kind ≡ true → type_of (with_number kind) ≡ Ok kind
 type_again kind h =
     let is = type_is kind h in
-    ap (type_parts (with_number kind)) (named_part kind.0 (decimal kind.1) is.named)
+    ap (λ (b : Bool). cond b (counted_type (pair_at 58 (with_number kind))) (bare_type (with_number kind))) (has_again 58 kind.0 (decimal kind.1) (no_byte_name 58 refl kind.0 is.named))
+    ∙ ap counted_type (numbered_pair kind.0 kind.1 is.named (omega (arith, is.high)))
     ∙ ap (λ (b : Bool). cond b (Err kinds.Fields) (both_of (name_of kind.0) (number_from 1 1000 (decimal kind.1)))) is.other
     ∙ (λ i. both_of (name_again kind.0 is.named i) (number_back 1 1000 kind.1 is.low is.high (omega arith) i))
 
@@ -97,7 +99,7 @@ feature_again feature h =
 no_switch : (kind : List ℕ × ℕ) → is_type kind ≡ true → is_switch_field (with_number kind) ≡ false
 no_switch kind h =
     let is = type_is kind h in
-    ap (switch_parts (with_number kind)) (named_part kind.0 (decimal kind.1) is.named) ∙ ap (λ (b : Bool). b && is_ok (number_from 1 1 (decimal kind.1))) is.other
+    ap (switch_parts (with_number kind)) (numbered_pair kind.0 kind.1 is.named (omega (arith, is.high))) ∙ ap (λ (b : Bool). b && is_ok (number_from 1 1 (decimal kind.1))) is.other
 
 is_listed : (w : List ℕ × ℕ → List ℕ) (xs : List (List ℕ × ℕ)) → 1 ≤ length xs → length xs ≤ 8 → is_list (map w xs) ≡ true
 is_listed w xs some few = and_from _ _ (le_test 1 (length (map w xs)) (omega (arith, length-map xs w))) (le_test (length (map w xs)) 8 (omega (arith, length-map xs w)))

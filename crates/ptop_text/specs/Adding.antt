@@ -1,11 +1,9 @@
 -- What a line of a ptop text adds to the lab so far, or its fault.
-use Rattle.std.specs.Prelude.{◌≡◌, ℕ, true, false, ◌&&◌, ◌||◌, List, [], ◌∷◌, map, position, codes, Option, Some, None, is_some, Result, Ok, Err, if◌then◌else◌}
+use Rattle.std.specs.Prelude.{ℕ, true, false, ◌&&◌, ◌||◌, List, [], ◌∷◌, map, position, codes, Option, Some, None, is_some, Result, Ok, Err, if◌then◌else◌}
 use Rattle.lab_base.specs.Texts.{lines_of}
 use Rattle.lab_base.specs.declared.fault.Kind.{Kind}
 use Rattle.lab_base.specs.declared.fault.Kind.TheVariants as kinds
 use Rattle.lab_base.specs.declared.fault.TextFault.{TextFault}
-use Rattle.lab_base.specs.declared.fault.TextRefused.{TextRefused}
-use Rattle.lab_base.specs.declared.fault.TextRefused.TheVariants as refusals
 use Rattle.lab_base.specs.declared.ids.NodeId.{NodeId}
 use Rattle.lab_base.specs.declared.ids.SwitchId.{SwitchId}
 use Rattle.phys_lab.specs.Labs.{Lab}
@@ -112,9 +110,3 @@ lab_read (Err fault) = Err fault
 -- the lab of a text, or the fault of its first line that has one
 abbrev pub lab_of_text : List ℕ → Result Lab TextFault
 lab_of_text text = lab_read (read_from added 1 (Ok start) (lines_of text))
-
--- a reader answers what the text gives, or Memory
-abbrev pub Reads : {X : Type 0} → Result X TextRefused → Result X TextFault → Type 0
-Reads (Ok x) read = read ≡ Ok x
-Reads (Err (refusals.Text fault)) read = read ≡ Err fault
-Reads (Err refusals.Memory) read = Unit {0}

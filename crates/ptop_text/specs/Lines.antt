@@ -1,8 +1,8 @@
 -- The lines of a ptop text, by their fields behind the keyword.
 use Rattle.std.specs.Prelude.{◌+◌, ℕ, Bool, true, false, ◌&&◌, nat_le, List, [], ◌∷◌, length, take, drop, position, codes, Option, Some, None, is_some, is_ok, Result, Ok, Err, if◌then◌else◌}
-use Rattle.lab_base.specs.Texts.{parted_at}
 use Rattle.lab_base.specs.Kinds.{both_of}
-use Rattle.lab_base.specs.Parts.{name_of, number_from, numbered, all_of}
+use Rattle.lab_base.specs.Parts.{name_of, number_from, all_of}
+use Rattle.line_text.specs.Pairs.{has_byte, pair_at, numbered}
 use Rattle.lab_base.specs.declared.fault.Kind.{Kind}
 use Rattle.lab_base.specs.declared.fault.Kind.TheVariants as kinds
 use Rattle.phys_lab.specs.Labs.{Lab}
@@ -21,12 +21,15 @@ vlans_line fields = Err kinds.Fields
 abbrev pub is_switch_word : List ℕ → Bool
 is_switch_word word = same_name word (codes "switch")
 
-abbrev pub type_parts : List ℕ → Option (List ℕ × List ℕ) → Result (List ℕ × ℕ) Kind
-type_parts field None = if is_switch_word field then Err kinds.Fields else both_of (name_of field) (Ok 1)
-type_parts field (Some parts) = if is_switch_word parts.0 then Err kinds.Fields else both_of (name_of parts.0) (number_from 1 1000 parts.1)
+abbrev pub bare_type : List ℕ → Result (List ℕ × ℕ) Kind
+bare_type field = if is_switch_word field then Err kinds.Fields else both_of (name_of field) (Ok 1)
+
+abbrev pub counted_type : Option (List ℕ × List ℕ) → Result (List ℕ × ℕ) Kind
+counted_type None = Err kinds.Fields
+counted_type (Some parts) = if is_switch_word parts.0 then Err kinds.Fields else both_of (name_of parts.0) (number_from 1 1000 parts.1)
 
 abbrev pub type_of : List ℕ → Result (List ℕ × ℕ) Kind
-type_of field = type_parts field (parted_at 58 field)
+type_of field = if has_byte 58 field then counted_type (pair_at 58 field) else bare_type field
 
 -- a feature and its weight
 abbrev pub feature_of : List ℕ → Result (List ℕ × ℕ) Kind
@@ -61,7 +64,7 @@ switch_parts field None = is_switch_word field
 switch_parts field (Some parts) = is_switch_word parts.0 && is_ok (number_from 1 1 parts.1)
 
 abbrev pub is_switch_field : List ℕ → Bool
-is_switch_field field = switch_parts field (parted_at 58 field)
+is_switch_field field = switch_parts field (pair_at 58 field)
 
 abbrev pub as_switch : Result (List ℕ) Kind → Result Device Kind
 as_switch (Ok name) = Ok (devices.Switch name)
@@ -98,7 +101,7 @@ first_parts lab None = Err kinds.Fields
 first_parts lab (Some parts) = both_of (name_of parts.0) (end_of (is_switch_of lab (name_of parts.0)) parts.1)
 
 abbrev pub first_end : Lab → List ℕ → Result (List ℕ × FirstEnd) Kind
-first_end lab field = first_parts lab (parted_at 58 field)
+first_end lab field = first_parts lab (pair_at 58 field)
 
 -- a link, its first end, its second end, its speed
 abbrev pub LinkRead : Type 0

@@ -1,13 +1,13 @@
 // The lines of switches and nodes.
 ghost use Rattle.std.specs.Prelude.{◌≡◌, [], Ok, IfOk, option_map, position, codes};
 ghost use Rattle.lab_base.specs.Texts.{views};
-ghost use Rattle.lab_base.specs.Parts.{all_of, name_of, numbered_parts};
+ghost use Rattle.lab_base.specs.Parts.{all_of, name_of};
 ghost use Rattle.lab_base.specs.Kinds.{both_of};
 ghost use Rattle.phys_lab.specs.Keys.{same_name};
-ghost use Rattle.ptop_text.specs.Lines.{type_parts, type_of, feature_of, is_list, types_of, features_of, dash_in, node_parts, switch_parts, is_switch_word, is_switch_field, is_switch_line, device_line, as_node, as_switch};
+ghost use Rattle.ptop_text.specs.Lines.{bare_type, counted_type, type_of, feature_of, is_list, types_of, features_of, dash_in, node_parts, switch_parts, is_switch_word, is_switch_field, is_switch_line, device_line, as_node, as_switch};
 
-use lab_base::{Items, Kind, ListRead, Memory, Name, Parts, add_read, both, name_in, parted};
-use line_text::{short_in, weight_in};
+use lab_base::{Items, Kind, ListRead, Memory, Name, Parts, add_read, both, name_in};
+use line_text::{has_byte, numbered_weight, pair_in, short_in};
 use phys_lab::Node;
 use std::alloc::Global;
 
@@ -27,8 +27,19 @@ fn is_switch_word(word: &[u8]) -> bool
     word == b"switch".as_slice()
 }
 
-fn type_parts(field: &[u8], parts: Option<Parts<'_>>) -> Result<(Name, u16), Kind>
-    ensures { result ≡ type_parts field.now (option_map (λ parts. (parts.before.now, parts.behind.now)) parts.entry) }
+/// A type by its name alone, which is count 1.
+fn bare_type(field: &[u8]) -> Result<(Name, u16), Kind>
+    ensures { result ≡ bare_type field.now }
+{
+    if is_switch_word(field) {
+        Err(Kind::Fields)
+    } else {
+        both(name_in(field), Ok(1))
+    }
+}
+
+fn counted_type(parts: Option<Parts<'_>>) -> Result<(Name, u16), Kind>
+    ensures { result ≡ counted_type (option_map (λ parts. (parts.before.now, parts.behind.now)) parts.entry) }
 {
     match parts {
         Some(parts) => {
@@ -38,35 +49,18 @@ fn type_parts(field: &[u8], parts: Option<Parts<'_>>) -> Result<(Name, u16), Kin
                 both(name_in(parts.before), short_in(parts.behind, 1, 1_000))
             }
         }
-        None => {
-            if is_switch_word(field) {
-                Err(Kind::Fields)
-            } else {
-                both(name_in(field), Ok(1))
-            }
-        }
+        None => Err(Kind::Fields),
     }
 }
 
 fn type_in(field: &[u8]) -> Result<(Name, u16), Kind>
     ensures { result ≡ type_of field.now }
 {
-    type_parts(field, parted(field, b':'))
-}
-
-fn feature_parts(parts: Option<Parts<'_>>) -> Result<(Name, u32), Kind>
-    ensures { result ≡ numbered_parts 0 1000000 (option_map (λ parts. (parts.before.now, parts.behind.now)) parts.entry) }
-{
-    match parts {
-        Some(parts) => both(name_in(parts.before), weight_in(parts.behind, 1_000_000)),
-        None => Err(Kind::Fields),
+    if has_byte(field, b':') {
+        counted_type(pair_in(field, b':'))
+    } else {
+        bare_type(field)
     }
-}
-
-fn feature_in(field: &[u8]) -> Result<(Name, u32), Kind>
-    ensures { result ≡ feature_of field.now }
-{
-    feature_parts(parted(field, b':'))
 }
 
 fn is_list(fields: &[&[u8]]) -> bool
@@ -90,7 +84,7 @@ fn all_features(alloc: Global, fields: &[&[u8]]) -> Result<ListRead<(Name, u32)>
 {
     let mut so_far = Ok(Items::new(alloc));
     for field in fields {
-        so_far = add_read(so_far, feature_in(field))?;
+        so_far = add_read(so_far, numbered_weight(field, 1_000_000))?;
     }
     Ok(so_far)
 }
@@ -184,7 +178,7 @@ fn switch_parts(field: &[u8], parts: Option<Parts<'_>>) -> bool
 fn is_switch_field(field: &[u8]) -> bool
     ensures { result ≡ is_switch_field field.now }
 {
-    switch_parts(field, parted(field, b':'))
+    switch_parts(field, pair_in(field, b':'))
 }
 
 fn as_switch(read: Result<Name, Kind>) -> DeviceRead

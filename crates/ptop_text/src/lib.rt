@@ -2,7 +2,6 @@
 #![tactic(auto)]
 
 mod device;
-mod line_fault;
 mod link;
 mod print;
 mod read;

@@ -1,11 +1,10 @@
 // The lines of links and of the range.
 ghost use Rattle.std.specs.Prelude.{◌≡◌, ◌∷◌, [], option_map};
 ghost use Rattle.lab_base.specs.Texts.{views};
-ghost use Rattle.lab_base.specs.Parts.{numbered, numbered_parts};
 ghost use Rattle.ptop_text.specs.Lines.{end_of, is_switch_of, first_parts, first_end, link_line, vlans_line};
 
-use lab_base::{Kind, Name, Parts, both, name_in, number_in, parted};
-use line_text::short_in;
+use lab_base::{Kind, Name, Parts, both, name_in, number_in};
+use line_text::{numbered_short, pair_in, short_in};
 use phys_lab::LabBuilder;
 
 /// What stands behind the colon of a link's first end.
@@ -58,22 +57,7 @@ fn first_in(lab: &LabBuilder, parts: Option<Parts<'_>>) -> Result<(Name, FirstEn
 fn first_field(lab: &LabBuilder, field: &[u8]) -> Result<(Name, FirstEnd), Kind>
     ensures { result ≡ first_end lab.now field.now }
 {
-    first_in(lab, parted(field, b':'))
-}
-
-fn second_in(parts: Option<Parts<'_>>) -> Result<(Name, u16), Kind>
-    ensures { result ≡ numbered_parts 1 4096 (option_map (λ parts. (parts.before.now, parts.behind.now)) parts.entry) }
-{
-    match parts {
-        Some(parts) => both(name_in(parts.before), short_in(parts.behind, 1, 4_096)),
-        None => Err(Kind::Fields),
-    }
-}
-
-fn second_field(field: &[u8]) -> Result<(Name, u16), Kind>
-    ensures { result ≡ numbered 1 4096 field.now }
-{
-    second_in(parted(field, b':'))
+    first_in(lab, pair_in(field, b':'))
 }
 
 fn link_of(
@@ -86,7 +70,7 @@ fn link_of(
     ensures { result ≡ link_line lab.now (link.now ∷ first.now ∷ second.now ∷ kbps.now ∷ []) }
 {
     let speed = number_in(kbps, 1, 1_000_000_000);
-    let ends = both(second_field(second), speed);
+    let ends = both(numbered_short(second, 1, 4_096), speed);
     both(name_in(link), both(first_field(lab, first), ends))
 }
 

@@ -1,7 +1,7 @@
 ghost use Rattle.std.specs.Prelude.{◌≡◌, ◌<◌, ◌≤◌, ◌++◌, ◌∷◌, [], map, length, decimal, codes, Ok, OnOk, IfOk};
 ghost use Rattle.phys_lab.specs.Forests.{IsWithin};
 ghost use Rattle.ptop_text.specs.Adding.{lab_of_text};
-ghost use Rattle.ptop_text.specs.Canonical.{port_field, node_name, range_line, switch_line, node_line, iface_line, trunk_line, canonical, feature_fields};
+ghost use Rattle.ptop_text.specs.Canonical.{port_field, range_line, switch_line, node_line, iface_line, trunk_line, canonical, feature_fields};
 ghost use Rattle.line_text.specs.Printing.{line_text, text_of, with_number, spaced};
 
 use lab_base::{Memory, Name, SwitchId, Text};

@@ -1,12 +1,12 @@
 ghost use Rattle.std.specs.Prelude.{◌≡◌, ◌<◌, IfOk, Ok, length};
 ghost use Rattle.lab_base.specs.Texts.{lines_of};
 ghost use Rattle.line_text.specs.Reading.{line_added, read_from};
-ghost use Rattle.ptop_text.specs.Adding.{added, start, lab_of_text, Reads};
-ghost use Rattle.ptop_text.specs.Refusals.{Takes, ReadsInto, refused_at};
+ghost use Rattle.line_text.specs.Refusals.{Reads, ReadsInto, Takes};
+ghost use Rattle.ptop_text.specs.Adding.{added, start, lab_of_text};
 
-use crate::line_fault::LineFault;
 use crate::so_far::LabSoFar;
-use lab_base::{Memory, TextFault, TextRefused, fields_in, first_line, is_skipped};
+use lab_base::{Memory, TextRefused, fields_in, first_line, is_skipped};
+use line_text::{LineFault, refusal};
 use phys_lab::{Lab, LabBuilder};
 use std::alloc::Global;
 
@@ -29,15 +29,6 @@ fn start(alloc: Global) -> Result<LabSoFar, Memory>
             has_range: false,
         }),
         Err(_) => Err(Memory),
-    }
-}
-
-fn refusal(line: u32, fault: LineFault) -> TextRefused
-    ensures { result ≡ refused_at line fault }
-{
-    match fault {
-        LineFault::Kind(kind) => TextRefused::Text(TextFault { line, kind }),
-        LineFault::Memory => TextRefused::Memory,
     }
 }
 

@@ -1,15 +1,16 @@
 // The lab of the lines read so far.
-ghost use Rattle.std.specs.Prelude.{◌≡◌, ◌∷◌, is_some};
+ghost use Rattle.std.specs.Prelude.{◌≡◌, is_some};
 ghost use Rattle.lab_base.specs.Texts.{views};
 ghost use Rattle.line_text.specs.Reading.{and_then};
 ghost use Rattle.ptop_text.specs.Lines.{vlans_line, device_line, link_line};
 ghost use Rattle.ptop_text.specs.Adding.{with_range, with_device, with_link, with_trunk_line, with_iface_line, switch_number, node_number, switch_at, node_at, unknown_kind, added};
-ghost use Rattle.ptop_text.specs.Refusals.{Takes, link_refusal};
+ghost use Rattle.line_text.specs.Refusals.{Takes};
+ghost use Rattle.ptop_text.specs.Refusals.{refusal_of, link_refusal};
 
 use crate::device::{Device, device_in};
-use crate::line_fault::LineFault;
 use crate::link::{FirstEnd, Link, link_in, vlans_in};
 use lab_base::{Kind, Name, NodeId, SwitchId};
+use line_text::LineFault;
 use phys_lab::{Iface, LabBuilder, LabFault, Trunk};
 use std::alloc::Global;
 
@@ -64,12 +65,27 @@ fn unknown_kind(lab: &LabBuilder, first: Name, second: Name) -> Kind
     }
 }
 
+/// What is answered where the builder refuses a part.
+fn refusal_of(fault: LabFault) -> LineFault
+    ensures { result ≡ refusal_of fault }
+{
+    match fault {
+        LabFault::Range => LineFault::Kind(Kind::Range),
+        LabFault::Twice => LineFault::Kind(Kind::Twice),
+        LabFault::Unknown => LineFault::Kind(Kind::Unknown),
+        LabFault::PortTaken => LineFault::Kind(Kind::Port),
+        LabFault::Cycle => LineFault::Kind(Kind::Cycle),
+        LabFault::Limit => LineFault::Kind(Kind::Limit),
+        LabFault::Memory => LineFault::Memory,
+    }
+}
+
 fn link_refusal(lab: &LabBuilder, first: Name, second: Name, fault: LabFault) -> LineFault
     ensures { result ≡ link_refusal lab.now first second fault }
 {
     match fault {
         LabFault::Unknown => LineFault::Kind(unknown_kind(lab, first, second)),
-        other => LineFault::from(other),
+        other => refusal_of(other),
     }
 }
 
@@ -77,7 +93,7 @@ impl LabSoFar {
     fn add_range(&mut self, range: (u16, u16)) -> Result<(), LineFault>
         ensures { Takes result self.new (with_range self.old range) }
     {
-        self.lab.set_range(range.0, range.1)?;
+        self.lab.set_range(range.0, range.1).map_err(refusal_of)?;
         if self.has_range {
             return Err(LineFault::Kind(Kind::Twice));
         }
@@ -89,10 +105,9 @@ impl LabSoFar {
         ensures { Takes result self.new (with_device self.old device) }
     {
         match device {
-            Device::Switch(name) => self.lab.add_switch(name)?,
-            Device::Node(node) => self.lab.add_node(node)?,
+            Device::Switch(name) => self.lab.add_switch(name).map_err(refusal_of),
+            Device::Node(node) => self.lab.add_node(node).map_err(refusal_of),
         }
-        Ok(())
     }
 
     fn add_trunk(&mut self, trunk: Trunk, first: Name, second: Name) -> Result<(), LineFault>

@@ -1,13 +1,6 @@
 pub mod KeptLaws
-pub mod EndKeys
-pub mod Places
-pub mod IfaceCount
-pub mod GivenLaws
-pub mod ZipLaws
 pub mod OwnPlaces
 pub mod SoundTests
-pub mod SolutionAgain
-pub mod SolutionSizes
 pub mod AddressAgain
 pub mod PartLaws
 pub mod TopLines

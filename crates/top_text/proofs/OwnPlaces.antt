@@ -1,10 +1,17 @@
 -- The place of what has a key of its own.
-use Rattle.std.proofs.Common.{◌≡◌, ◌≢◌, ℕ, zero, suc, ◌+◌, ◌<◌, Bool, true, false, not, cond, ltb, ◌||◌, List, [], ◌∷◌, length, map, get_or, Some, None, refl, ap, ◌∙◌, arith, inl, inr}
+use Rattle.std.proofs.Common.{◌≡◌, ◌≢◌, ℕ, zero, suc, ◌+◌, ◌<◌, Bool, true, false, not, cond, ltb, ◌||◌, List, [], ◌∷◌, length, map, get_or, Some, None, refl, sym, ap, ◌∙◌, arith, inl, inr}
 use Rattle.std.specs.List.{list_any, position, prefix_len}
 use Rattle.std.proofs.lemmas.Bool.{or_parts}
 use Rattle.lab_base.specs.Lists.{Has, AllDiffer}
 use Rattle.line_text.proofs.PartsAgain.{less}
-use Rattle.virt_topo.specs.Repeats.{stands_again}
+use Rattle.std.specs.Cmp.Lexicographic.{nat_list_eq_equiv}
+use Rattle.std.proofs.Math.ListN.{get_or-map}
+use Rattle.virt_topo.specs.Repeats.{same_name, stands_again}
+use Rattle.virt_topo.specs.Soundness.{IsSound}
+use Rattle.virt_topo.specs.declared.wiring.VirtNode.{VirtNode}
+use Rattle.virt_topo.specs.declared.wiring.Wiring.{Wiring}
+use Rattle.top_text.specs.Adding.{virt_named}
+use Rattle.top_text.proofs.SoundTests.{nodes_once}
 
 pub neither : (a b : Bool) → a ≡ false → b ≡ false → (a || b) ≡ false
 neither a b x y = λ i. x i || y i
@@ -44,3 +51,18 @@ module _ {X K : Type 0} (same : K → K → Bool) (self : (k : K) → same k k �
           one : (b : Bool) → same (key x) (key y) ≡ b → b ≡ false
           one false e = refl
           one true e = absurd (apart (key y) (inl refl) (sound (key x) (key y) e))
+
+-- NAMES
+
+pub symm_name : (a b : List ℕ) → same_name a b ≡ same_name b a
+symm_name a b = nat_list_eq_equiv.symm a b
+
+pub same_self : (a : List ℕ) → same_name a a ≡ true
+same_self a = nat_list_eq_equiv.refl a
+
+-- the first virtual node of a name
+pub virt_own : (w : Wiring) → IsSound w → (i : ℕ) (v : VirtNode) → i < length w.nodes → v ≡ get_or w.nodes i v → virt_named w v.name ≡ Some i
+virt_own w sound i v lt is =
+    let name : get_or (map (λ (n : VirtNode). n.name) w.nodes) i v.name ≡ v.name = get_or-map (λ (n : VirtNode). n.name) w.nodes i v ∙ sym (ap (λ (n : VirtNode). n.name) is) in
+    ap (λ (k : List ℕ). position (λ n. same_name k n.name) w.nodes) (sym name)
+    ∙ own_place same_name same_self symm_name (λ (n : VirtNode). n.name) w.nodes i v.name (nodes_once w sound) lt

@@ -8,7 +8,7 @@ use Rattle.std.proofs.lemmas.List.{length-map}
 use Rattle.std.proofs.lemmas.List.Folds.{list_all-append, list_any-append, list_all-map}
 use Rattle.std.proofs.lemmas.Grind.{flat_map-append}
 use Rattle.lab_base.specs.declared.fault.Kind.TheVariants as kinds
-use Rattle.phys_lab.proofs.NameLaws.{any_in_map}
+use Rattle.lab_base.proofs.Members.{any_map}
 use Rattle.virt_topo.specs.declared.wiring.Class.{Class}
 use Rattle.virt_topo.specs.declared.wiring.VirtNode.{VirtNode}
 use Rattle.virt_topo.specs.declared.wiring.VirtEnd.{VirtEnd}
@@ -60,7 +60,7 @@ once_front same whole front rest is once = once_left same front rest (sym (ap (s
 
 once_map : {X Y : Type 0} (same : Y → Y → Bool) (f : X → Y) (xs : List X) → stands_again same (map f xs) ≡ stands_again (λ a b. same (f a) (f b)) xs
 once_map same f [] = refl
-once_map same f (x ∷ xs) = λ i. any_in_map (same (f x)) f xs i || once_map same f xs i
+once_map same f (x ∷ xs) = λ i. any_map (same (f x)) f xs i || once_map same f xs i
 
 few_front : {X : Type 0} (whole front rest : List X) → whole ≡ front ++ rest → length front ≤ length whole
 few_front {X} whole front rest is = omega (arith, ap (λ (l : List X). length l) is, length-append front rest)
@@ -76,7 +76,7 @@ module _ (w p : Wiring) (sound : IsSound w) (part : IsPart w p) where
 
   none_nodes : (test : VirtNode → Bool) → list_any (λ v. test (unfixed v)) w.nodes ≡ false → list_any (λ v. test (unfixed v)) p.nodes ≡ false
   none_nodes test none =
-      sym (any_in_map test unfixed p.nodes) ∙ none_front test (map unfixed w.nodes) (map unfixed p.nodes) part.more_nodes part.nodes (any_in_map test unfixed w.nodes ∙ none)
+      sym (any_map test unfixed p.nodes) ∙ none_front test (map unfixed w.nodes) (map unfixed p.nodes) part.more_nodes part.nodes (any_map test unfixed w.nodes ∙ none)
 
   nodes_few : length p.nodes ≤ length w.nodes
   nodes_few = omega (arith, few_front (map unfixed w.nodes) (map unfixed p.nodes) part.more_nodes part.nodes, length-map w.nodes unfixed, length-map p.nodes unfixed)

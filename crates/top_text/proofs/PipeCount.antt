@@ -1,5 +1,5 @@
 -- A sound wiring has at most as many pipes as ends, since no end is in two pipes.
-use Rattle.std.proofs.Common.{◌≡◌, ℕ, suc, ◌+◌, ◌-◌, ◌<◌, ◌≤◌, Bool, true, false, cond, eqb, List, [], ◌∷◌, length, take, get_or, map, refl, sym, ap, subst, ◌∙◌, arith, inl, inr, true≢false}
+use Rattle.std.proofs.Common.{◌≡◌, ℕ, suc, ◌+◌, ◌-◌, ◌<◌, ◌≤◌, Bool, true, false, cond, eqb, List, [], ◌∷◌, length, take, get_or, count_by, map, refl, sym, ap, subst, ◌∙◌, arith, inl, inr, true≢false}
 use Rattle.std.specs.Prelude.{nat_lt}
 use Rattle.std.specs.List.{list_all, list_any, AllByRecursion, IsDistinct}
 use Rattle.std.proofs.lemmas.Bool.{and_parts, and_from, or_parts, or_left, or_cases, eqb-true, eq-eqb}
@@ -14,9 +14,12 @@ use Rattle.virt_topo.specs.declared.wiring.Wiring.{Wiring}
 use Rattle.virt_topo.specs.Ends.{end_nodes, end_number, pipe_from}
 use Rattle.virt_topo.specs.Repeats.{stands_again}
 use Rattle.virt_topo.specs.Soundness.{IsSound, knows_class, knows_node, knows_pipe, is_bad_pipe, shares_end}
-use Rattle.top_text.proofs.EndKeys.{ends_of}
 use Rattle.top_text.proofs.SoundTests.{sound_tests}
 use Rattle.top_text.proofs.TopLines.{lt_from}
+
+-- how many of the ends are of a virtual node
+abbrev pub ends_of : ℕ → List ℕ → ℕ
+ends_of v ends = count_by (λ x. eqb x v) ends
 
 abbrev is_of : ℕ → ℕ → ℕ
 is_of v x = cond (eqb x v) 1 0

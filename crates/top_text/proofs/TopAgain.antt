@@ -10,7 +10,7 @@ use Rattle.lab_base.specs.Names.{is_name}
 use Rattle.lab_base.specs.Lists.{Has}
 use Rattle.lab_base.specs.declared.fault.Kind.{Kind}
 use Rattle.lab_base.specs.declared.fault.Kind.TheVariants as kinds
-use Rattle.lab_base.proofs.Members.{Has-right}
+use Rattle.lab_base.proofs.Members.{Has-right, none_has}
 use Rattle.line_text.specs.Reading.{and_then}
 use Rattle.line_text.proofs.SliceLaws.{position-map}
 use Rattle.line_text.proofs.PartsAgain.{all_has}
@@ -27,14 +27,14 @@ use Rattle.virt_topo.specs.Ends.{end_nodes, end_number}
 use Rattle.virt_topo.specs.Repeats.{same_name}
 use Rattle.virt_topo.specs.Soundness.{IsSound, are_rates, limits_class, limits_node, limits_segment, limits_pipe, knows_class, knows_node, knows_pipe, asks_class_name}
 use Rattle.virt_topo.proofs.CableLaws.{limits_of, segment_limits, passes_at}
-use Rattle.lab_model.proofs.WiringLaws.{none_has}
 use Rattle.top_text.specs.Lines.{NodeRead, LinkRead, PipeRead}
 use Rattle.top_text.specs.Adding.{kept, with_class, with_node, virt_named, virt_number, number_or_none, end_at, segment_of, with_segment, pipe_of, with_pipe, no_virt, virt_at, placed, added, start}
 use Rattle.top_text.specs.Canonical.{virt_name, class_name, asked_name, class_fields, node_fields, fix_at, fix_lines, link_fields, pipe_fields, wiring_lines}
 use Rattle.top_text.specs.Printable.{named_class, named_asks, named_node, named_place, named_segment, is_printable}
 use Rattle.top_text.proofs.SoundTests.{sound_tests, classes_once, types_apart}
 use Rattle.top_text.proofs.PartLaws.{unfixed, part_kept}
-use Rattle.top_text.proofs.SolutionAgain.{map_at, virt_own}
+use Rattle.std.proofs.Math.ListN.{get_or-map}
+use Rattle.top_text.proofs.OwnPlaces.{virt_own}
 use Rattle.top_text.proofs.TopLines.{end_read, class_again, node_again, asks_again, fix_again, link_again, pipe_again, number_high, lt_from}
 
 -- what the names of a printable wiring are
@@ -64,13 +64,13 @@ module _ (w : Wiring) (sound : IsSound w) (named : IsNamed w) where
   pub node_named_at : (v : ℕ) → v < length w.nodes → is_name (virt_name w v) ≡ true
   node_named_at v lt =
       let node : VirtNode = get_or w.nodes v no_virt in
-      let is : virt_name w v ≡ node.name = map_at (λ (n : VirtNode). n.name) w.nodes v no_virt in
+      let is : virt_name w v ≡ node.name = get_or-map (λ (n : VirtNode). n.name) w.nodes v no_virt in
       subst (λ (k : List ℕ). is_name k ≡ true) (sym is) (and_parts (is_name node.name) _ (passes_at named_node w.nodes v node named.nodes lt (get_or_default w.nodes v no_virt node lt))).0
 
   class_named_at : (c : ℕ) → c < length w.classes → is_name (class_name w c) ≡ true
   class_named_at c lt =
       let class : Class = get_or w.classes c no_class in
-      let is : class_name w c ≡ class.name = map_at (λ (n : Class). n.name) w.classes c no_class in
+      let is : class_name w c ≡ class.name = get_or-map (λ (n : Class). n.name) w.classes c no_class in
       subst (λ (k : List ℕ). is_name k ≡ true) (sym is) (and_parts (is_name class.name) _ (passes_at named_class w.classes c class named.classes lt (get_or_default w.classes c no_class class lt))).0
     where
       no_class : Class
@@ -79,7 +79,7 @@ module _ (w : Wiring) (sound : IsSound w) (named : IsNamed w) where
   number_again : (v : ℕ) → v < length w.nodes → virt_number w (virt_name w v) ≡ v
   number_again v lt =
       let node : VirtNode = get_or w.nodes v no_virt in
-      let is : virt_name w v ≡ node.name = map_at (λ (n : VirtNode). n.name) w.nodes v no_virt in
+      let is : virt_name w v ≡ node.name = get_or-map (λ (n : VirtNode). n.name) w.nodes v no_virt in
       ap (virt_number w) is ∙ ap number_or_none (virt_own w sound v node lt (get_or_default w.nodes v no_virt node lt))
 
   pub asked_named : (asks : Asks) → named_asks asks ≡ true → knows_class w asks ≡ true → is_name (asked_name w asks) ≡ true

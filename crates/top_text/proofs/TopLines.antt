@@ -1,12 +1,12 @@
 -- The lines of a printed wiring are read again.
-use Rattle.std.proofs.Common.{◌≡◌, ℕ, zero, suc, ◌+◌, ◌-◌, ◌%◌, ◌<◌, ◌≤◌, Bool, true, false, not, cond, eqb, List, [], ◌∷◌, ◌++◌, length, take, drop, map, option_map, Option, Some, None, Result, Ok, Err, refl, sym, ap, subst, ◌∙◌, arith}
+use Rattle.std.proofs.Common.{◌≡◌, ℕ, zero, suc, ◌+◌, ◌-◌, ◌%◌, ◌<◌, ◌≤◌, Bool, true, false, not, cond, eqb, List, [], ◌∷◌, ◌++◌, length, map, Option, Some, None, Result, Ok, Err, refl, sym, ap, subst, ◌∙◌, arith}
 use Rattle.std.specs.Prelude.{decimal, nat_le, nat_lt}
 use Rattle.std.specs.List.{list_all, list_any, position}
 use Rattle.std.proofs.lemmas.Bool.{and_parts, and_from, or_parts, eqb-true}
 use Rattle.std.proofs.lemmas.Bool.Decides.{nat_tests}
 use Rattle.std.proofs.lemmas.List.{append-nil, length-map}
 use Rattle.std.proofs.lemmas.Simd.{map-map}
-use Rattle.lab_base.specs.Names.{is_name, is_name_byte}
+use Rattle.lab_base.specs.Names.{is_name}
 use Rattle.lab_base.specs.Kinds.{both_of}
 use Rattle.lab_base.specs.Parts.{name_of, all_of}
 use Rattle.lab_base.specs.Lists.{Has}
@@ -16,7 +16,8 @@ use Rattle.lab_base.specs.declared.rates.Rates.{Rates}
 use Rattle.lab_base.proofs.Members.{Has-map}
 use Rattle.line_text.specs.Fields.{counts}
 use Rattle.line_text.specs.Printing.{with_number}
-use Rattle.line_text.proofs.PartsAgain.{negated, others, position_none, name_bytes, name_again, parted_again, number_back, numbered_again, all_again, all_has}
+use Rattle.line_text.specs.Pairs.{pair_at}
+use Rattle.line_text.proofs.PartsAgain.{negated, position_none, no_byte, no_byte_name, has_again, pair_again, name_again, number_back, numbered_again, all_again, all_has}
 use Rattle.virt_topo.specs.declared.wiring.Asks.{Asks}
 use Rattle.virt_topo.specs.declared.wiring.Asks.TheVariants.{Plain, Class as InClass}
 use Rattle.virt_topo.specs.declared.wiring.Class.{Class}
@@ -30,14 +31,12 @@ use Rattle.virt_topo.specs.Repeats.{same_name, stands_again}
 use Rattle.virt_topo.specs.Soundness.{is_speed, are_rates, limits_class, limits_node, knows_class, asks_class_name}
 use Rattle.virt_topo.specs.Soundness as soundness
 use Rattle.virt_topo.proofs.CableLaws.{SegmentLimits}
-use Rattle.phys_lab.proofs.KeptLaws.{same_name-self}
 use Rattle.top_text.specs.Lines.{End, bare, addressed, end_parts, end_of, weight_of, as_rates, rates_of, as_class, class_line, node_line, fix_line, link_line, pipe_line}
 use Rattle.top_text.specs.Adding.{asks_at}
 use Rattle.top_text.specs.Canonical.{virt_name, class_name, behind_name, address_text, end_field, asked_name, rates_fields}
 use Rattle.top_text.specs.Printable.{named_class, named_asks, named_node, named_segment, is_address}
-use Rattle.top_text.proofs.AddressAgain.{address_again}
-use Rattle.top_text.proofs.OwnPlaces.{own_place}
-use Rattle.top_text.proofs.SolutionAgain.{symm_name}
+use Rattle.top_text.proofs.AddressAgain.{address_again, no_equals}
+use Rattle.top_text.proofs.OwnPlaces.{own_place, same_self, symm_name}
 
 pub le_from : (a b : ℕ) → nat_le a b ≡ true → a ≤ b
 le_from a b h = grind (arith, nat_tests)
@@ -100,7 +99,7 @@ asks_again w (Plain type) once known apart = ap (asks_at type) (position_none (�
         let parts = or_parts (same_name c.name type) (list_any (λ c. same_name c.name type) classes) h in
         and_from _ _ (negated _ (symm_name type c.name ∙ parts.0)) (none classes parts.1)
 asks_again w (InClass c) once known apart =
-    ap (asks_at (class_name w c)) (own_place same_name same_name-self symm_name (λ (k : Class). k.name) w.classes c [] once (lt_from c (length w.classes) known))
+    ap (asks_at (class_name w c)) (own_place same_name same_self symm_name (λ (k : Class). k.name) w.classes c [] once (lt_from c (length w.classes) known))
 
 -- A FIXED PLACE
 
@@ -118,11 +117,12 @@ end_text end = end.0 ++ behind_name end.1
 end_again : (name : List ℕ) (address : Option ℕ) → is_name name ≡ true → is_address address ≡ true → soundness.is_address address ≡ true → end_of (name ++ behind_name address) ≡ Ok (name, address)
 end_again name None named short last =
     ap end_of (append-nil name)
-    ∙ ap (end_parts name) (ap (option_map (λ (n : ℕ). (take n name, drop (n + 1) name))) (position_none (λ byte. eqb byte 61) name (others is_name_byte 61 refl name (name_bytes name named))))
+    ∙ ap (λ (b : Bool). cond b (end_parts (pair_at 61 name)) (bare (name_of name))) (no_byte 61 name (no_byte_name 61 refl name named))
     ∙ ap bare (name_again name named)
 end_again name (Some a) named short last =
     let p = and_parts (nat_le 1 (a % 256)) (nat_le (a % 256) 254) last in
-    ap (end_parts (name ++ 61 ∷ address_text a)) (parted_again 61 name (address_text a) (others is_name_byte 61 refl name (name_bytes name named)))
+    ap (λ (b : Bool). cond b (end_parts (pair_at 61 (name ++ 61 ∷ address_text a))) (bare (name_of (name ++ 61 ∷ address_text a)))) (has_again 61 name (address_text a) (no_byte_name 61 refl name named))
+    ∙ ap end_parts (pair_again 61 name (address_text a) (no_byte_name 61 refl name named) (no_equals a (lt_from a 4294967296 short)))
     ∙ (λ j. addressed (both_of (name_again name named j) (address_again a (lt_from a 4294967296 short) (le_from 1 (a % 256) p.0) (le_from (a % 256) 254 p.1) j)))
 
 ends_again : (w : Wiring) (ends : List VirtEnd) → ((e : VirtEnd) → Has ends e → end_of (end_field w e) ≡ Ok (end_read w e)) → all_of end_of (Ok []) (map (end_field w) ends) ≡ Ok (map (end_read w) ends)

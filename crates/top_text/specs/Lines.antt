@@ -1,46 +1,14 @@
 -- The lines of a top text, by their fields behind the keyword.
-use Rattle.std.specs.Prelude.{◌+◌, ◌*◌, ℕ, Bool, false, ◌==◌, List, ◌∷◌, length, Option, Some, None, Result, Ok, Err, if◌then◌else◌}
-use Rattle.lab_base.specs.Texts.{parted_at}
-use Rattle.lab_base.specs.Parts.{name_of, number_from, numbered}
+use Rattle.std.specs.Prelude.{ℕ, ◌==◌, List, length, Option, Some, None, Result, Ok, Err, if◌then◌else◌}
+use Rattle.lab_base.specs.Parts.{name_of, number_from}
 use Rattle.lab_base.specs.Kinds.{both_of}
 use Rattle.lab_base.specs.declared.fault.Kind.{Kind}
 use Rattle.lab_base.specs.declared.fault.Kind.TheVariants as kinds
 use Rattle.lab_base.specs.declared.rates.Rates.{Rates}
-use Rattle.line_text.specs.Reading.{and_then}
+use Rattle.line_text.specs.Addresses.{address_of}
 use Rattle.line_text.specs.Fields.{field_at, list_behind}
+use Rattle.line_text.specs.Pairs.{has_byte, pair_at, numbered}
 use Rattle.virt_topo.specs.declared.wiring.Class.{Class}
-
--- ADDRESSES
-
-abbrev pub leads_with_zero : List ℕ → Bool
-leads_with_zero (a ∷ b ∷ bytes) = a == 48
-leads_with_zero bytes = false
-
--- one of the numbers of an address, without a leading zero
-abbrev pub octet : ℕ → ℕ → List ℕ → Result ℕ Kind
-octet least most bytes = if leads_with_zero bytes then Err kinds.Number else number_from least most bytes
-
-abbrev pub grown : ℕ → Result ℕ Kind → Result ℕ Kind
-grown value (Ok n) = Ok (value * 256 + n)
-grown value (Err kind) = Err kind
-
--- a number, a dot, and what is read behind it
-abbrev pub dotted : (ℕ → List ℕ → Result ℕ Kind) → ℕ → Option (List ℕ × List ℕ) → Result ℕ Kind
-dotted next value None = Err kinds.Number
-dotted next value (Some parts) = and_then (grown value (octet 0 255 parts.0)) (λ n. next n parts.1)
-
-abbrev pub fourth : ℕ → List ℕ → Result ℕ Kind
-fourth value bytes = grown value (octet 1 254 bytes)
-
-abbrev pub third : ℕ → List ℕ → Result ℕ Kind
-third value bytes = dotted fourth value (parted_at 46 bytes)
-
-abbrev pub second : ℕ → List ℕ → Result ℕ Kind
-second value bytes = dotted third value (parted_at 46 bytes)
-
--- four numbers joined by dots, the last one from 1 to 254
-abbrev pub address_of : List ℕ → Result ℕ Kind
-address_of bytes = dotted second 0 (parted_at 46 bytes)
 
 -- PARTS OF LINES
 
@@ -56,12 +24,12 @@ abbrev pub addressed : Result (List ℕ × ℕ) Kind → Result End Kind
 addressed (Ok (name, address)) = Ok (name, Some address)
 addressed (Err kind) = Err kind
 
-abbrev pub end_parts : List ℕ → Option (List ℕ × List ℕ) → Result End Kind
-end_parts field None = bare (name_of field)
-end_parts field (Some parts) = addressed (both_of (name_of parts.0) (address_of parts.1))
+abbrev pub end_parts : Option (List ℕ × List ℕ) → Result End Kind
+end_parts None = Err kinds.Fields
+end_parts (Some parts) = addressed (both_of (name_of parts.0) (address_of parts.1))
 
 abbrev pub end_of : List ℕ → Result End Kind
-end_of field = end_parts field (parted_at 61 field)
+end_of field = if has_byte 61 field then end_parts (pair_at 61 field) else bare (name_of field)
 
 abbrev pub weight_of : List ℕ → Result (List ℕ × ℕ) Kind
 weight_of field = numbered 0 1000000 field

@@ -1,14 +1,12 @@
-ghost use Rattle.top_text.specs.Again.{TopsAgain, SolutionsAgain};
-ghost use Rattle.top_text.specs.Once.{TopsOnce, SolutionsOnce};
+ghost use Rattle.top_text.specs.Again.{TopsAgain};
+ghost use Rattle.top_text.specs.Once.{TopsOnce};
 
-/// Each canonical text is of one wiring, or of one mapping.
+/// Each canonical text is of one wiring.
 pub fn texts_are_of_one()
-    ensures tops { TopsOnce }
-    ensures solutions { SolutionsOnce }
+    ensures { TopsOnce }
 {}
 
-/// The canonical text of a wiring, or of a mapping, is read back as it.
+/// The canonical text of a wiring is read back as it.
 pub fn texts_are_read_back()
-    ensures tops { TopsAgain }
-    ensures solutions { SolutionsAgain }
+    ensures { TopsAgain }
 {}

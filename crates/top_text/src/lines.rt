@@ -1,28 +1,23 @@
 // The lines of a top text, by their fields behind the keyword.
 ghost use Rattle.std.specs.Prelude.{◌≡◌, ◌<◌, ◌+◌, [], Ok, IfOk, option_map};
 ghost use Rattle.lab_base.specs.Texts.{views};
-ghost use Rattle.lab_base.specs.Parts.{all_of, name_of, number_from, numbered_parts};
+ghost use Rattle.lab_base.specs.Parts.{all_of, name_of, number_from};
 ghost use Rattle.lab_base.specs.Kinds.{both_of};
 ghost use Rattle.line_text.specs.Fields.{field_at, list_behind};
 ghost use Rattle.top_text.specs.Lines.{bare, addressed, end_parts, end_of, weight_of, as_rates, rates_of, as_class, class_line, node_line, fix_line, link_line, pipe_line};
 
-use crate::address::address_in;
 use lab_base::{
-    Items, Kind, ListRead, Memory, Name, Parts, Rates, add_read, both, name_in, number_in, parted,
+    Items, Kind, ListRead, Memory, Name, Parts, Rates, add_read, both, name_in, number_in,
 };
-use line_text::{counts, field_at, fields_behind, short_in, weight_in};
+use line_text::{
+    address_in, counts, field_at, fields_behind, has_byte, name_at, numbered_weight, pair_in,
+    short_in, weight_in,
+};
 use std::alloc::Global;
 use virt_topo::Class;
 
 /// The name of an end's virtual node, and its address.
 pub(crate) type End = (Name, Option<u32>);
-
-pub(crate) fn name_at(fields: &[&[u8]], n: usize) -> Result<Name, Kind>
-    ensures { result ≡ name_of (field_at (views fields.now) n) }
-{
-    let field = field_at(fields, n);
-    name_in(field)
-}
 
 fn weight_at(fields: &[&[u8]], n: usize) -> Result<u32, Kind>
     ensures { result ≡ number_from 0 1000000 (field_at (views fields.now) n) }
@@ -56,34 +51,24 @@ fn addressed(read: Result<(Name, u32), Kind>) -> Result<End, Kind>
     }
 }
 
-fn end_parts(field: &[u8], parts: Option<Parts<'_>>) -> Result<End, Kind>
-    ensures { result ≡ end_parts field.now (option_map (λ parts. (parts.before.now, parts.behind.now)) parts.entry) }
+/// An end with an address, by the parts of its field.
+fn end_parts(parts: Option<Parts<'_>>) -> Result<End, Kind>
+    ensures { result ≡ end_parts (option_map (λ parts. (parts.before.now, parts.behind.now)) parts.entry) }
 {
     match parts {
         Some(parts) => addressed(both(name_in(parts.before), address_in(parts.behind))),
-        None => bare(name_in(field)),
+        None => Err(Kind::Fields),
     }
 }
 
 fn end_in(field: &[u8]) -> Result<End, Kind>
     ensures { result ≡ end_of field.now }
 {
-    end_parts(field, parted(field, b'='))
-}
-
-fn weight_parts(parts: Option<Parts<'_>>) -> Result<(Name, u32), Kind>
-    ensures { result ≡ numbered_parts 0 1000000 (option_map (λ parts. (parts.before.now, parts.behind.now)) parts.entry) }
-{
-    match parts {
-        Some(parts) => both(name_in(parts.before), weight_in(parts.behind, 1_000_000)),
-        None => Err(Kind::Fields),
+    if has_byte(field, b'=') {
+        end_parts(pair_in(field, b'='))
+    } else {
+        bare(name_in(field))
     }
-}
-
-fn desire_in(field: &[u8]) -> Result<(Name, u32), Kind>
-    ensures { result ≡ weight_of field.now }
-{
-    weight_parts(parted(field, b':'))
 }
 
 fn all_names(alloc: Global, fields: &[&[u8]]) -> Result<ListRead<Name>, Memory>
@@ -101,7 +86,7 @@ fn all_desires(alloc: Global, fields: &[&[u8]]) -> Result<ListRead<(Name, u32)>,
 {
     let mut so_far = Ok(Items::new(alloc));
     for field in fields {
-        so_far = add_read(so_far, desire_in(field))?;
+        so_far = add_read(so_far, numbered_weight(field, 1_000_000))?;
     }
     Ok(so_far)
 }

@@ -1,4 +1,4 @@
-ghost use Rattle.std.specs.Prelude.{◌≡◌, ◌≤◌, ◌/◌, ◌%◌, ◌++◌, ◌∷◌, [], true, map, length, codes, decimal, Ok, OnOk, IfOk};
+ghost use Rattle.std.specs.Prelude.{◌≡◌, ◌≤◌, ◌/◌, ◌%◌, ◌++◌, ◌∷◌, [], true, map, length, decimal, Ok, OnOk, IfOk};
 ghost use Rattle.std.specs.List.{flat_map, list_all};
 ghost use Rattle.lab_base.specs.Names.{is_name};
 ghost use Rattle.line_text.specs.Printing.{line_text, spaced, text_of, with_number};
@@ -12,7 +12,8 @@ use line_text::{push_field, push_numbered};
 use std::alloc::Global;
 use virt_topo::{Asks, Class, Pipe, Segment, VirtEnd, VirtNode, Wiring};
 
-pub(crate) fn virt_name(wiring: &Wiring, virt: usize) -> &[u8]
+/// The name of a virtual node; empty where there is none.
+pub fn virt_name(wiring: &Wiring, virt: usize) -> &[u8]
     ensures { result.now ≡ virt_name wiring.now virt }
 {
     match wiring.nodes.as_slice().get(virt) {

@@ -3,7 +3,7 @@ ghost use Rattle.lab_base.specs.Texts.{lines_of};
 ghost use Rattle.line_text.specs.Reading.{line_added, read_from};
 ghost use Rattle.line_text.specs.Refusals.{Reads, ReadsInto, Takes};
 ghost use Rattle.virt_topo.specs.Soundness.{IsSound};
-ghost use Rattle.top_text.specs.Adding.{added, finished, kept, start, wiring_of_text};
+ghost use Rattle.top_text.specs.Adding.{added, kept, start, wiring_of_text};
 
 use crate::so_far::add;
 use lab_base::{Items, Kind, TextFault, TextRefused, fields_in, first_line, is_skipped};

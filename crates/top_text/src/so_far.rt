@@ -1,5 +1,5 @@
 // The wiring of the lines read so far.
-ghost use Rattle.std.specs.Prelude.{◌≡◌, ◌≤◌, ◌<◌, ◌∷◌, Ok, OnOk, IfOk, IfSome, map, length, slice_set, is_some, Some, codes, position};
+ghost use Rattle.std.specs.Prelude.{◌≡◌, ◌≤◌, ◌<◌, Ok, OnOk, IfOk, IfSome, map, length, is_some, Some, codes, position};
 ghost use Rattle.lab_base.specs.Texts.{views};
 ghost use Rattle.line_text.specs.Reading.{and_then};
 ghost use Rattle.line_text.specs.Refusals.{Takes};

@@ -1,9 +1,9 @@
 use Rattle.std.proofs.Common.{sym, ◌∙◌}
 use Rattle.std.proofs.lemmas.Result.{err_from_is_err_and}
 use Rattle.lab_model.specs.Shapes.{IsShaped}
-use Rattle.top_text.specs.Solutions.{mapping_of_text}
-use Rattle.top_text.specs.CanonicalSolution.{canonical_solution}
-use Rattle.top_text.proofs.SolutionAgain.{canonical_again}
+use Rattle.solution_text.specs.Solutions.{mapping_of_text}
+use Rattle.solution_text.specs.CanonicalSolution.{canonical_solution}
+use Rattle.solution_text.proofs.SolutionAgain.{canonical_again}
 use Rattle.lab_state.proofs.TextLaws.{bad_text, misprinted, unequal, are_named_of}
 use Rattle.lab_state.proofs.texts.mapping_of.Goals as goal
 

@@ -3,4 +3,4 @@ use Rattle.lab_base.proofs.FieldLists.{one_more}
 use Rattle.ptop_text.proofs.device.all_features.Goals as goal
 
 pub loop-field-preserved : goal.loop-field-preserved
-loop-field-preserved c = one_more feature_of c.loop-field.so_far c.in_ok-so_far.so_far _ c.feature_in.result c.args.fields.now c.loop-field.field-index _ c.loop-field-test.true c.feature_in.ensures c.in_ok-so_far.ensures c.loop-field.invariant
+loop-field-preserved c = one_more feature_of c.loop-field.so_far c.in_ok-so_far.so_far _ c.numbered_weight.result c.args.fields.now c.loop-field.field-index _ c.loop-field-test.true c.numbered_weight.ensures c.in_ok-so_far.ensures c.loop-field.invariant

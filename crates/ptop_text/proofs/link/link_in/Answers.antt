@@ -1,7 +1,8 @@
 use Rattle.std.proofs.Common.{sym, ap, ◌∙◌, arith}
 use Rattle.lab_base.specs.Texts.{views}
 use Rattle.ptop_text.specs.Lines.{link_line}
-use Rattle.ptop_text.proofs.Arities.{other_links, length-views, four}
+use Rattle.line_text.proofs.SliceLaws.{length-views}
+use Rattle.ptop_text.proofs.Arities.{other_links, four}
 use Rattle.ptop_text.proofs.link.link_in.Goals as goal
 
 pub returns-in-len1 : goal.returns-in-len1

@@ -1,11 +1,11 @@
 use Rattle.std.proofs.Common.{sym, ◌∙◌, subst, arith, Ok, Err, Result}
 use Rattle.lab_base.specs.Texts.{lines_of}
 use Rattle.lab_base.specs.declared.fault.TextRefused.{TextRefused}
-use Rattle.ptop_text.specs.declared.line_fault.LineFault.{LineFault}
+use Rattle.line_text.specs.declared.line_fault.LineFault.{LineFault}
 use Rattle.line_text.specs.Reading.{line_added, read_from}
 use Rattle.ptop_text.specs.Adding.{added}
-use Rattle.ptop_text.specs.Refusals.{Takes, ReadsInto}
-use Rattle.ptop_text.proofs.ReadLaws.{goes_on, ends, refused}
+use Rattle.line_text.specs.Refusals.{Takes, ReadsInto}
+use Rattle.line_text.proofs.ReadLaws.{goes_on, ends, refused}
 use Rattle.ptop_text.proofs.read.add_lines.Goals as goal
 
 pub returns-in-Err : goal.returns-in-Err
@@ -14,7 +14,7 @@ returns-in-Err c =
     let taken : Takes {U = Unit {0}} (Err c.in-Err.fault) c.add_line.new.so_far read =
     subst (λ (r : Result (Unit {0}) LineFault). Takes r c.add_line.new.so_far read) c.in-Err.is c.add_line.ensures in
     subst (λ (e : TextRefused). ReadsInto {U = Unit {0}} (Err e) c.add_line.new.so_far (read_from added 1 (Ok c.args.so_far.now) (lines_of c.args.text.now))) (sym c.refusal.ensures)
-    (refused c.in-Err.fault c.loop-first.line c.add_line.new.so_far c.add_line.new.so_far read _ taken
+    (refused (Unit {0}) c.in-Err.fault c.loop-first.line c.add_line.new.so_far c.add_line.new.so_far read _ taken
     (λ kind is. c.loop-first.invariant.0 ∙ ends added c.loop-first.line c.loop-first.so_far kind c.in-Some.first.line.now _ (lines_of c.in-Some.first.rest.now) c.in-Some.ensures.line is))
 
 pub loop-first-preserved : goal.loop-first-preserved

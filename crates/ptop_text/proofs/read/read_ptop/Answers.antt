@@ -4,7 +4,7 @@ use Rattle.lab_base.specs.declared.fault.TextRefused.{TextRefused}
 use Rattle.ptop_text.specs.declared.so_far.LabSoFar.{LabSoFar}
 use Rattle.line_text.specs.Reading.{read_from}
 use Rattle.ptop_text.specs.Adding.{added, start}
-use Rattle.ptop_text.specs.Refusals.{ReadsInto}
+use Rattle.line_text.specs.Refusals.{ReadsInto}
 use Rattle.ptop_text.proofs.ReadLaws.{passes_on}
 use Rattle.ptop_text.proofs.read.read_ptop.Goals as goal
 

@@ -1,7 +1,7 @@
 use Rattle.line_text.proofs.PrintLaws.{text_more}
 use Rattle.top_text.specs.Printable.{named_class}
 use Rattle.top_text.specs.Canonical.{class_fields}
-use Rattle.top_text.proofs.ZipLaws.{all_next}
+use Rattle.line_text.proofs.ListLaws.{all_next}
 use Rattle.top_text.proofs.print.push_classes.Goals as goal
 
 pub loop-class-preserved : goal.loop-class-preserved

@@ -2,7 +2,7 @@ use Rattle.std.proofs.Common.{sym, subst}
 use Rattle.phys_lab.specs.declared.parts.Iface.{Iface}
 use Rattle.phys_lab.specs.declared.parts.Trunk.{Trunk}
 use Rattle.ptop_text.specs.Adding.{with_trunk_line, with_iface_line}
-use Rattle.ptop_text.specs.Refusals.{Takes}
+use Rattle.line_text.specs.Refusals.{Takes}
 use Rattle.ptop_text.proofs.LinkLaws.{port_link, iface_link}
 use Rattle.ptop_text.proofs.so_far.LabSoFar.add_link.Goals as goal
 

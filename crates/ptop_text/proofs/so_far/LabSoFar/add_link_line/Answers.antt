@@ -1,7 +1,7 @@
 use Rattle.std.proofs.Common.{sym, subst, ◌∙◌}
 use Rattle.line_text.specs.Reading.{and_then}
 use Rattle.ptop_text.specs.Adding.{with_link}
-use Rattle.ptop_text.specs.Refusals.{Takes}
+use Rattle.line_text.specs.Refusals.{Takes}
 use Rattle.ptop_text.proofs.so_far.LabSoFar.add_link_line.Goals as goal
 
 pub returns : goal.returns

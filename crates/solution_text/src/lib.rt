@@ -1,0 +1,17 @@
+//! Mappings as solution text.
+#![tactic(auto)]
+
+mod ends;
+mod given;
+mod laws;
+mod lines;
+mod names;
+mod print;
+mod read;
+
+pub use laws::{texts_are_of_one, texts_are_read_back};
+pub use print::{print_end, print_solution};
+pub use read::read_solution;
+
+#[cfg(test)]
+mod tests;

@@ -1,0 +1,179 @@
+ghost use Rattle.std.specs.Prelude.{◌≡◌, ◌<◌, ◌+◌, IfOk, Ok, length};
+ghost use Rattle.lab_base.specs.Texts.{lines_of, views};
+ghost use Rattle.line_text.specs.Reading.{and_then, line_added, read_from};
+ghost use Rattle.line_text.specs.Refusals.{Reads, ReadsInto, Takes};
+ghost use Rattle.lab_model.specs.Shapes.{IsShaped};
+ghost use Rattle.solution_text.specs.Solutions.{all_given, line_given, line_keyed, mapped, mapping_of_text, nothing, place_line, plug_line, with_place_line, with_plug_line};
+ghost use Rattle.solution_text.specs.Names.{AreNames};
+
+use crate::ends::end_nodes;
+use crate::given::{Given, all_given, none_given};
+use crate::lines::{place_in, plug_in};
+use crate::names::{Names, names_of};
+use lab_base::{Kind, Memory, TextFault, TextRefused, fields_in, first_line, is_skipped};
+use line_text::{LineFault, refusal};
+use phys_lab::Lab;
+use std::alloc::Global;
+use virt_topo::{Mapping, Wiring};
+
+fn add_place_line(
+    given: &mut Given,
+    alloc: Global,
+    names: &Names<'_>,
+    fields: &[&[u8]],
+) -> Result<(), LineFault>
+    requires { AreNames names.now }
+    ensures { Takes result given.new (and_then (place_line (views fields.now)) (with_place_line names.now.lab.now names.now.wiring.now given.old)) }
+{
+    let (virt, (node, kind)) = place_in(fields)?;
+    let virt = names.virt(virt);
+    let node = names.node(node);
+    given.add_place(alloc, names.lab, virt, node, kind)
+}
+
+fn add_plug_line(
+    given: &mut Given,
+    alloc: Global,
+    names: &Names<'_>,
+    fields: &[&[u8]],
+) -> Result<(), LineFault>
+    requires { AreNames names.now }
+    ensures { Takes result given.new (and_then (plug_line (views fields.now)) (with_plug_line names.now.lab.now names.now.wiring.now given.old)) }
+{
+    let (end, iface) = plug_in(fields)?;
+    let end = names.end(end.0, end.1);
+    let iface = names.iface(iface.0, iface.1);
+    given.add_plug(alloc, end, iface)
+}
+
+fn add_keyed(
+    given: &mut Given,
+    alloc: Global,
+    names: &Names<'_>,
+    keyword: &[u8],
+    fields: &[&[u8]],
+) -> Result<(), LineFault>
+    requires { AreNames names.now }
+    ensures { Takes result given.new (line_keyed names.now.lab.now names.now.wiring.now given.old keyword.now (views fields.now)) }
+{
+    if keyword == b"node".as_slice() {
+        add_place_line(given, alloc, names, fields)
+    } else if keyword == b"plug".as_slice() {
+        add_plug_line(given, alloc, names, fields)
+    } else {
+        Err(LineFault::Kind(Kind::Word))
+    }
+}
+
+/// Adds a line that has fields.
+fn add(
+    given: &mut Given,
+    alloc: Global,
+    names: &Names<'_>,
+    fields: &[&[u8]],
+) -> Result<(), LineFault>
+    requires { AreNames names.now }
+    ensures { Takes result given.new (line_given names.now.lab.now names.now.wiring.now given.old (views fields.now)) }
+{
+    match fields {
+        [] => Err(LineFault::Kind(Kind::Word)),
+        [keyword, rest @ ..] => add_keyed(given, alloc, names, keyword, rest),
+    }
+}
+
+fn add_line(
+    given: &mut Given,
+    alloc: Global,
+    names: &Names<'_>,
+    line: &[u8],
+) -> Result<(), LineFault>
+    requires { AreNames names.now }
+    ensures { Takes result given.new (line_added (line_given names.now.lab.now names.now.wiring.now) given.old line.now) }
+{
+    let fields = fields_in(alloc, line)?;
+    if is_skipped(&fields) {
+        return Ok(());
+    }
+    add(given, alloc, names, &fields)
+}
+
+/// Adds the lines of a text; the answer is the number behind its last line.
+fn add_lines(
+    given: &mut Given,
+    alloc: Global,
+    names: &Names<'_>,
+    text: &[u8],
+) -> Result<u32, TextRefused>
+    requires short { length text.now < 4294967295 }
+    requires names { AreNames names.now }
+    ensures reads { ReadsInto result given.new (read_from (line_given names.now.lab.now names.now.wiring.now) 1 (Ok given.old) (lines_of text.now)) }
+    ensures lines { IfOk result (λ line. line ≡ length (lines_of text.now) + 1) }
+{
+    let mut line = 1u32;
+    let mut rest = text;
+    while let Some(first) = first_line(rest) {
+        if let Err(fault) = add_line(given, alloc, names, first.line) {
+            return Err(refusal(line, fault));
+        }
+        line += 1;
+        rest = first.rest;
+    }
+    Ok(line)
+}
+
+fn nothing(alloc: Global, wiring: &Wiring) -> Result<Given, Memory>
+    ensures { IfOk result (λ given. given ≡ nothing wiring.now) }
+{
+    let nodes = end_nodes(alloc, wiring.segments.as_slice())?;
+    let places = none_given(alloc, wiring.nodes.len())?;
+    let plugs = none_given(alloc, nodes.len())?;
+    Ok(Given { places, plugs })
+}
+
+fn missing_at(line: u32) -> TextRefused
+    ensures { result ≡ TextRefused.Text (record { line = line; kind = Kind.Missing }) }
+{
+    TextRefused::Text(TextFault {
+        line,
+        kind: Kind::Missing,
+    })
+}
+
+/// The mapping of what is given; `line` is the number behind the text's last line.
+fn mapping_of(alloc: Global, line: u32, given: &Given) -> Result<Mapping, TextRefused>
+    ensures { Reads result (mapped line (all_given given.now.places) (all_given given.now.plugs)) }
+{
+    let places = all_given(alloc, given.places.as_slice())?;
+    let plugs = all_given(alloc, given.plugs.as_slice())?;
+    match (places, plugs) {
+        (Some(places), Some(plugs)) => Ok(Mapping { places, plugs }),
+        (Some(_), None) => Err(missing_at(line)),
+        (None, _) => Err(missing_at(line)),
+    }
+}
+
+/// Reads the mapping of a solution text, with the names of its lab and wiring.
+fn read_named(alloc: Global, names: &Names<'_>, text: &[u8]) -> Result<Mapping, TextRefused>
+    requires short { length text.now < 4294967295 }
+    requires names { AreNames names.now }
+    ensures { Reads result (mapping_of_text names.now.lab.now names.now.wiring.now text.now) }
+{
+    let mut given = nothing(alloc, names.wiring)?;
+    let line = add_lines(&mut given, alloc, names, text)?;
+    mapping_of(alloc, line, &given)
+}
+
+/// Reads the mapping of a solution text.
+pub fn read_solution(
+    alloc: Global,
+    text: &[u8],
+    lab: &Lab,
+    wiring: &Wiring,
+) -> Result<Mapping, TextRefused>
+    requires { length text.now < 4294967295 }
+    ensures reads { Reads result (mapping_of_text lab.now wiring.now text.now) }
+    ensures shaped { IfOk result (IsShaped lab.now wiring.now) }
+{
+    let names = names_of(alloc, lab, wiring)?;
+    read_named(alloc, &names, text)
+}
