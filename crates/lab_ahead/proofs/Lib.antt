@@ -1,0 +1,10 @@
+mod Counting
+mod Halls
+mod TrailLaws
+mod Exchanges
+mod LookLaws
+mod GivenLaws
+mod SortLaws
+mod Shown
+mod NeedLaws
+mod Spans

@@ -1,0 +1,11 @@
+use Rattle.std.proofs.Common.{◌≡◌, ◌≤◌, ◌+◌, Ok, length}
+use Rattle.lab_base.specs.Texts.{lines_of}
+use Rattle.line_text.specs.Reading.{read_from}
+use Rattle.lab_ahead.specs.Batches.{added}
+use Rattle.lab_ahead.proofs.read.add_lines.Given as goal
+
+abbrev pub invariant-loop-first : goal.invariant-loop-first
+invariant-loop-first l = (read_from added 1 (Ok l.fn.batch) (lines_of l.text) ≡ read_from added l.line (Ok l.batch) (lines_of l.rest)) × (l.line + length l.rest ≤ length l.text + 1)
+
+abbrev pub decreases-loop-first : goal.decreases-loop-first
+decreases-loop-first l = length l.rest

@@ -1,0 +1,4 @@
+pub mod Batches
+pub mod Givings
+pub mod Trails
+pub mod Moments

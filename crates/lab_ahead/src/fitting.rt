@@ -1,0 +1,86 @@
+ghost use Rattle.std.specs.Prelude.{◌≡◌, ◌<◌, ◌≤◌, ◌↔◌, ℕ, List, length, All, IfOk};
+ghost use Rattle.std.specs.Ordering.{nat_cmp};
+ghost use Rattle.std.specs.List.Sorted.{IsStrictlySortedBy};
+ghost use Rattle.std.specs.Cmp.Lexicographic.{slice_cmp};
+ghost use Rattle.lab_base.specs.Lists.{Has, AllDiffer};
+ghost use Rattle.lab_base.specs.declared.ids.NodeId.{NodeId};
+ghost use Rattle.phys_lab.specs.Labs.{Lab};
+ghost use Rattle.lab_ahead.specs.declared.fitting.Need.{Need};
+ghost use Rattle.lab_ahead.specs.Givings.{Fits, IsShort, IsYes, Shows, need_at};
+ghost use Rattle.lab_ahead.specs.Trails.{Reached, given_of, step_at};
+
+use crate::giving::Giving;
+use crate::trail::Step;
+use lab_base::{Items, Memory, Name, NodeId};
+use phys_lab::Lab;
+use std::alloc::Global;
+
+/// So many nodes of a type are needed.
+#[derive(Clone, Copy, PartialEq, Eq)]
+pub struct Need {
+    pub kind: Name,
+    pub count: u16,
+}
+
+/// Whether needs fit: nodes, each with the number of the need that it is given to; or types of which more nodes are
+/// needed together than are left.
+#[derive(Drop)]
+pub enum Fit {
+    Yes(Items<(NodeId, u16)>),
+    No(Items<Name>),
+}
+
+/// The nodes that are given, with the numbers of their needs.
+fn given_of(
+    alloc: Global,
+    left: &[NodeId],
+    owners: &[Option<u16>],
+) -> Result<Items<(NodeId, u16)>, Memory>
+    requires { length owners.now ≡ length left.now }
+    ensures { IfOk result (λ given. given ≡ given_of left.now owners.now) }
+{
+    let mut given = Items::new(alloc);
+    for i in 0..left.len() {
+        if let Some(need) = owners[i] {
+            given.push((left[i], need))?;
+        }
+    }
+    Ok(given)
+}
+
+/// The types of the needs that are reached.
+fn kinds_reached(alloc: Global, needs: &[Need], steps: &[Step]) -> Result<Items<Name>, Memory>
+    requires { All (λ step. step.need < length needs.now) steps.now }
+    ensures rising { IfOk result (IsStrictlySortedBy (slice_cmp nat_cmp)) }
+    ensures all { IfOk result (λ kinds. (n : ℕ) → Reached steps.now n → Has kinds (need_at needs.now n).kind) }
+    ensures only { IfOk result (λ kinds. (kind : List ℕ) → Has kinds kind → (n : ℕ) × Reached steps.now n × ((need_at needs.now n).kind ≡ kind)) }
+{
+    let mut kinds = Vec::new(alloc);
+    for step in steps {
+        kinds.push(needs[step.need as usize].kind)?;
+    }
+    kinds.sort()?;
+    kinds.dedup();
+    Ok(Items::from_vec(kinds))
+}
+
+/// Whether the needs can be met from the nodes that are left: each by as many nodes as it counts that have its type, no node
+/// being given twice. Nodes are exchanged between needs along trails.
+pub fn fits(alloc: Global, lab: &Lab, left: &[NodeId], needs: &[Need]) -> Result<Fit, Memory>
+    requires differ { AllDiffer left.now }
+    requires of_lab { All (λ node. node.0 < length lab.now.nodes) left.now }
+    requires few { length needs.now ≤ 64 }
+    ensures shows { IfOk result (Shows lab.now left.now needs.now) }
+    ensures exact { IfOk result (λ fit. IsYes fit ↔ Fits lab.now left.now needs.now) }
+{
+    let mut giving = Giving::new(alloc, lab, left, needs)?;
+    match giving.serve_all(alloc, needs)? {
+        None => Ok(Fit::Yes(given_of(alloc, left, &giving.owners)?)),
+        Some(trail) => Ok(Fit::No(kinds_reached(alloc, needs, &trail.steps)?)),
+    }
+}
+
+/// Where more nodes of some types are needed together than there are, no giving exists.
+pub fn short_types_never_fit()
+    ensures { (lab : Lab) (left : List NodeId) (needs : List Need) (kinds : List (List ℕ)) → IsShort lab left needs kinds → ¬ Fits lab left needs }
+{}

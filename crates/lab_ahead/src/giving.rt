@@ -1,0 +1,216 @@
+// Nodes given to needs, and exchanged between them.
+ghost use Rattle.std.specs.Prelude.{◌≡◌, ◌<◌, ◌≤◌, ◌+◌, ◌^◌, ◌==◌, ℕ, length, map, replicate, IfOk, OnOk, MatchOption, Some, None, true, All, if◌then◌else◌};
+ghost use Rattle.std.specs.List.{list_any};
+ghost use Rattle.phys_lab.specs.Keys.{same_name};
+ghost use Rattle.lab_ahead.specs.Givings.{has_type, need_at};
+ghost use Rattle.lab_ahead.specs.Trails.{AreMet, Extends, IsClosedAt, IsFree, IsPath, IsSearched, IsTaken, IsTrail, IsStuck, IsWanting, IsWhole, KeepsNodes, held, owner_at, owners_in, serves, step_at, table_in, table_of};
+
+use crate::fitting::Need;
+use crate::trail::{Path, Search, Step, Trail};
+use lab_base::{Memory, Name, NodeId};
+use phys_lab::Lab;
+use std::alloc::Global;
+
+/// By need which of the nodes have its type, and by node the need that it is given to.
+#[derive(Drop)]
+pub(crate) struct Giving {
+    pub(crate) rows: Vec<Vec<bool>>,
+    pub(crate) owners: Vec<Option<u16>>,
+}
+
+fn is_among(types: &[(Name, u16)], kind: &Name) -> bool
+    ensures { result ≡ list_any (λ t. same_name kind.now t.0) types.now }
+{
+    types.iter().any(|t| *kind == t.0)
+}
+
+fn has_type(lab: &Lab, kind: &Name, node: NodeId) -> bool
+    requires { node.0 < length lab.now.nodes }
+    ensures { result ≡ has_type lab.now kind.now node }
+{
+    is_among(lab.nodes()[node.0 as usize].types.as_slice(), kind)
+}
+
+fn row_of(alloc: Global, lab: &Lab, left: &[NodeId], kind: Name) -> Result<Vec<bool>, Memory>
+    requires { All (λ node. node.0 < length lab.now.nodes) left.now }
+    ensures { IfOk result (λ row. row.items ≡ map (has_type lab.now kind) left.now) }
+{
+    let mut row = Vec::new(alloc);
+    for node in left {
+        row.push(has_type(lab, &kind, *node))?;
+    }
+    Ok(row)
+}
+
+impl Giving {
+    /// Nothing is given yet.
+    pub(crate) fn new(
+        alloc: Global,
+        lab: &Lab,
+        left: &[NodeId],
+        needs: &[Need],
+    ) -> Result<Giving, Memory>
+        requires { All (λ node. node.0 < length lab.now.nodes) left.now }
+        ensures table { IfOk result (λ giving. table_in giving ≡ table_of lab.now left.now needs.now) }
+        ensures owners { IfOk result (λ giving. owners_in giving ≡ replicate (length left.now) None) }
+    {
+        let mut rows = Vec::new(alloc);
+        for need in needs {
+            rows.push(row_of(alloc, lab, left, need.kind)?)?;
+        }
+        let owners = vec![in alloc; None; left.len()]?;
+        Ok(Giving { rows, owners })
+    }
+
+    fn first_step(&self, alloc: Global, start: u16) -> Result<Trail, Memory>
+        requires { start < length (table_in self.now) }
+        ensures trail { IfOk result (IsTrail (table_in self.now) (owners_in self.now)) }
+        ensures start { IfOk result (λ trail. (step_at trail.steps.items 0).need ≡ start) }
+    {
+        let mut steps = Vec::new(alloc);
+        steps.push(Step {
+            need: start,
+            position: 0,
+            parent: 0,
+        })?;
+        let mut seen = vec![in alloc; false; self.rows.len()]?;
+        seen[start as usize] = true;
+        Ok(Trail { steps, seen })
+    }
+
+    /// Adds a step, unless its need is reached already.
+    fn reach(&self, trail: &mut Trail, step: Step) -> Result<(), Memory>
+        requires trail { IsTrail (table_in self.now) (owners_in self.now) trail.old }
+        requires back { step.parent < length trail.old.steps.items }
+        requires owned { owner_at (owners_in self.now) step.position ≡ Some step.need }
+        requires inside { step.need < length (table_in self.now) }
+        requires served { serves (table_in self.now) (step_at trail.old.steps.items step.parent).need step.position ≡ true }
+        ensures trail { OnOk result (IsTrail (table_in self.now) (owners_in self.now) trail.new) }
+        ensures extends { OnOk result (Extends trail.old.steps.items trail.new.steps.items) }
+        ensures reached { OnOk result (IsTaken (owners_in self.now) trail.new.steps.items step.position) }
+    {
+        if trail.seen[step.need as usize] {
+            return Ok(());
+        }
+        trail.steps.push(step)?;
+        trail.seen[step.need as usize] = true;
+        Ok(())
+    }
+
+    /// Reaches the needs of all nodes that the need of a step can take; the place of one that is given to none, if there is one.
+    fn look(&self, trail: &mut Trail, place: usize) -> Result<Option<usize>, Memory>
+        requires whole { IsWhole self.now }
+        requires trail { IsTrail (table_in self.now) (owners_in self.now) trail.old }
+        requires place { place < length trail.old.steps.items }
+        ensures trail { OnOk result (IsTrail (table_in self.now) (owners_in self.now) trail.new) }
+        ensures extends { OnOk result (Extends trail.old.steps.items trail.new.steps.items) }
+        ensures answer { IfOk result (λ free. MatchOption free
+            (IsClosedAt (table_in self.now) (owners_in self.now) trail.new.steps.items place)
+            (IsFree (table_in self.now) (owners_in self.now) trail.new.steps.items place)) }
+    {
+        let need = trail.steps[place].need;
+        let row = self.rows[need as usize].as_slice();
+        for i in 0..row.len() {
+            if row[i] {
+                match self.owners[i] {
+                    Some(owner) => self.reach(
+                        trail,
+                        Step {
+                            need: owner,
+                            position: i,
+                            parent: place,
+                        },
+                    )?,
+                    None => return Ok(Some(i)),
+                }
+            }
+        }
+        Ok(None)
+    }
+
+    /// Searches a free node that can come to a need by exchanges along a trail.
+    fn search(&self, alloc: Global, start: u16) -> Result<Search, Memory>
+        requires whole { IsWhole self.now }
+        requires start { start < length (table_in self.now) }
+        ensures { IfOk result (IsSearched (table_in self.now) (owners_in self.now) start) }
+    {
+        let mut trail = self.first_step(alloc, start)?;
+        let mut place = 0;
+        while place < trail.steps.len() {
+            if let Some(position) = self.look(&mut trail, place)? {
+                return Ok(Search::Free(Path {
+                    trail,
+                    place,
+                    position,
+                }));
+            }
+            place += 1;
+        }
+        Ok(Search::Stuck(trail))
+    }
+
+    /// Gives the free node to its step's need, and the node over which that need was reached to the need before it, up to the
+    /// first need.
+    fn exchange(&mut self, start: u16, path: &Path)
+        requires whole { IsWhole self.old }
+        requires path { IsPath (table_in self.old) (owners_in self.old) start path.now }
+        ensures whole { IsWhole self.new }
+        ensures nodes { KeepsNodes self.old self.new }
+        ensures held { (n : ℕ) → held (owners_in self.new) n ≡ held (owners_in self.old) n + (if start == n then 1 else 0) }
+    {
+        let steps = path.trail.steps.as_slice();
+        let mut position = path.position;
+        let mut place = path.place;
+        while place > 0 {
+            let step = steps[place];
+            self.owners[position] = Some(step.need);
+            position = step.position;
+            place = step.parent;
+        }
+        self.owners[position] = Some(start);
+    }
+
+    /// Gives so many nodes to a need. Where that can't be, a trail that is stuck.
+    fn serve(&mut self, alloc: Global, need: u16, count: u16) -> Result<Option<Trail>, Memory>
+        requires whole { IsWhole self.old }
+        requires need { need < length (table_in self.old) }
+        ensures whole { OnOk result (IsWhole self.new) }
+        ensures nodes { OnOk result (KeepsNodes self.old self.new) }
+        ensures others { OnOk result ((n : ℕ) → (need ≡ n → ⊥) → held (owners_in self.new) n ≡ held (owners_in self.old) n) }
+        ensures answer { IfOk result (λ stuck. MatchOption stuck
+            (held (owners_in self.new) need ≡ held (owners_in self.old) need + count)
+            (λ trail. IsStuck (table_in self.new) (owners_in self.new) need trail × (held (owners_in self.new) need < held (owners_in self.old) need + count))) }
+    {
+        for _given in 0..count {
+            match self.search(alloc, need)? {
+                Search::Free(path) => self.exchange(need, &path),
+                Search::Stuck(trail) => return Ok(Some(trail)),
+            }
+        }
+        Ok(None)
+    }
+
+    /// Gives to each need as many nodes as it counts. Where that can't be, a trail that is stuck.
+    pub(crate) fn serve_all(
+        &mut self,
+        alloc: Global,
+        needs: &[Need],
+    ) -> Result<Option<Trail>, Memory>
+        requires whole { IsWhole self.old }
+        requires needs { length (table_in self.old) ≡ length needs.now }
+        requires few { length needs.now ≤ 64 }
+        requires none { (n : ℕ) → held (owners_in self.old) n ≡ 0 }
+        ensures whole { OnOk result (IsWhole self.new) }
+        ensures nodes { OnOk result (KeepsNodes self.old self.new) }
+        ensures answer { IfOk result (λ stuck. MatchOption stuck
+            (AreMet needs.now (length needs.now) (owners_in self.new))
+            (IsWanting needs.now (table_in self.new) (owners_in self.new))) }
+    {
+        for (n, need) in needs.iter().enumerate() {
+            if let Some(trail) = self.serve(alloc, n as u16, need.count)? {
+                return Ok(Some(trail));
+            }
+        }
+        Ok(None)
+    }
+}

@@ -1,0 +1,116 @@
+ghost use Rattle.std.specs.Prelude.{◌≡◌, ◌<◌, Ok, length};
+ghost use Rattle.lab_base.specs.Texts.{lines_of, views};
+ghost use Rattle.line_text.specs.Reading.{and_then, line_added, read_from};
+ghost use Rattle.line_text.specs.Refusals.{Reads, ReadsInto, Takes};
+ghost use Rattle.lab_ahead.specs.Batches.{added, batch_of_text, promise_line, run_line, start, with_promise, with_run};
+
+use crate::batch::{Batch, Promise, Run};
+use crate::lines::{promise_in, run_in};
+use lab_base::{Items, Kind, TextRefused, fields_in, first_line, is_skipped};
+use line_text::{LineFault, refusal};
+use std::alloc::Global;
+
+/// The most promises and the most runs of a batch.
+const MAX_PROMISES: usize = 64;
+
+const MAX_RUNS: usize = 256;
+
+fn add_promise(batch: &mut Batch, promise: Promise) -> Result<(), LineFault>
+    ensures { Takes result batch.new (with_promise batch.old promise) }
+{
+    if batch.promises.len() >= MAX_PROMISES {
+        return Err(LineFault::Kind(Kind::Limit));
+    }
+    batch.promises.push(promise)?;
+    Ok(())
+}
+
+fn add_run(batch: &mut Batch, run: Run) -> Result<(), LineFault>
+    ensures { Takes result batch.new (with_run batch.old run) }
+{
+    if batch.runs.len() >= MAX_RUNS {
+        return Err(LineFault::Kind(Kind::Limit));
+    }
+    batch.runs.push(run)?;
+    Ok(())
+}
+
+fn add_promise_line(batch: &mut Batch, fields: &[&[u8]]) -> Result<(), LineFault>
+    ensures { Takes result batch.new (and_then (promise_line (views fields.now)) (with_promise batch.old)) }
+{
+    let promise = promise_in(fields)?;
+    add_promise(batch, promise)
+}
+
+fn add_run_line(batch: &mut Batch, fields: &[&[u8]]) -> Result<(), LineFault>
+    ensures { Takes result batch.new (and_then (run_line (views fields.now)) (with_run batch.old)) }
+{
+    let run = run_in(fields)?;
+    add_run(batch, run)
+}
+
+/// Adds a line that has fields.
+fn add(batch: &mut Batch, fields: &[&[u8]]) -> Result<(), LineFault>
+    ensures { Takes result batch.new (added batch.old (views fields.now)) }
+{
+    match fields {
+        [] => Err(LineFault::Kind(Kind::Word)),
+        [keyword, rest @ ..] => {
+            if *keyword == b"promise".as_slice() {
+                add_promise_line(batch, rest)
+            } else if *keyword == b"run".as_slice() {
+                add_run_line(batch, rest)
+            } else {
+                Err(LineFault::Kind(Kind::Word))
+            }
+        }
+    }
+}
+
+fn add_line(batch: &mut Batch, alloc: Global, line: &[u8]) -> Result<(), LineFault>
+    ensures { Takes result batch.new (line_added added batch.old line.now) }
+{
+    let fields = fields_in(alloc, line)?;
+    if is_skipped(&fields) {
+        return Ok(());
+    }
+    add(batch, &fields)
+}
+
+/// Adds the lines of a text.
+fn add_lines(batch: &mut Batch, alloc: Global, text: &[u8]) -> Result<(), TextRefused>
+    requires { length text.now < 4294967295 }
+    ensures { ReadsInto result batch.new (read_from added 1 (Ok batch.old) (lines_of text.now)) }
+{
+    let mut line = 1u32;
+    let mut rest = text;
+    while let Some(first) = first_line(rest) {
+        if let Err(fault) = add_line(batch, alloc, first.line) {
+            return Err(refusal(line, fault));
+        }
+        line += 1;
+        rest = first.rest;
+    }
+    Ok(())
+}
+
+fn start(alloc: Global) -> Batch
+    ensures { result ≡ start }
+{
+    Batch {
+        promises: Items::new(alloc),
+        runs: Items::new(alloc),
+    }
+}
+
+/// Reads the lines of a batch: `promise TYPE COUNT FROM TO` and `run EXPERIMENT SEED LENGTH`. A line's faults are tried
+/// in the order `word`, `fields`, `name`, `number`, `range`, `limit`; the first line that has one is told. COUNT is 1 to
+/// 1,024, moments are 0 to 10^12, FROM is below TO, LENGTH is 1 to 10^12; at most 64 lines are promises and 256 runs.
+pub fn read_batch(alloc: Global, text: &[u8]) -> Result<Batch, TextRefused>
+    requires { length text.now < 4294967295 }
+    ensures { Reads result (batch_of_text text.now) }
+{
+    let mut batch = start(alloc);
+    add_lines(&mut batch, alloc, text)?;
+    Ok(batch)
+}
