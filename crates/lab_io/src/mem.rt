@@ -50,13 +50,14 @@ pub struct MemSource {
 
 impl MemSource {
     ghost use Rattle.lab_io.specs.Mem.{source_left, source_calls};
-    ghost use Rattle.lab_io.specs.Calls.{fails_of};
-    ghost use Rattle.std.specs.Prelude.{Some};
+    ghost use Rattle.lab_io.specs.Calls.{number_of, fails_of, faults_of};
 
     /// A source of these bytes; the reads with these numbers, from 1, fail.
     pub fn new(alloc: Global, bytes: &[u8], fails: &[u32]) -> Result<MemSource, Memory>
         ensures left { IfOk result (λ source. source_left source ≡ bytes.now) }
         ensures fails { IfOk result (λ source. fails_of (source_calls source) ≡ fails.now) }
+        ensures first { IfOk result (λ source. number_of (source_calls source) ≡ 1) }
+        ensures faults { IfOk result (λ source. faults_of (source_calls source) ≡ 0) }
     {
         Ok(MemSource {
             bytes: bytes.to_vec(alloc)?,
@@ -71,11 +72,11 @@ impl MemSource {
 }
 
 impl Source for MemSource {
-    ghost use Rattle.std.specs.Prelude.{◌≡◌, ◌<◌, ◌↔◌, length, take, Some, Contains, IfOk, IsErr, OnErr, Ok};
+    ghost use Rattle.std.specs.Prelude.{◌≡◌, ◌<◌, ◌↔◌, length, take, Some, Contains, IfOk, IsErr, OnOk, OnErr, Ok};
     ghost use Rattle.std.specs.Io.{ReadsAtMost};
     ghost use Rattle.std.specs.Io.KnownBytes.{prepend_known, IsAtEnd};
     ghost use Rattle.lab_io.specs.Causes.{HasCause};
-    ghost use Rattle.lab_io.specs.Calls.{number_of, fails_of, faults_of};
+    ghost use Rattle.lab_io.specs.Calls.{number_of, next_number, fails_of, faults_of};
     ghost use Rattle.lab_io.specs.Mem.{source_left, source_calls};
 
     ghost left = { λ s. Some (source_left s) };
@@ -90,6 +91,8 @@ impl Source for MemSource {
         ensures cause { HasCause (faults_of (source_calls self.old)) (faults_of (source_calls self.new)) result }
         ensures exact { IsErr result ↔ Contains (fails_of (source_calls self.old)) (number_of (source_calls self.old)) }
         ensures numbers { fails_of (source_calls self.new) ≡ fails_of (source_calls self.old) }
+        ensures counted { number_of (source_calls self.new) ≡ next_number (number_of (source_calls self.old)) }
+        ensures stands { OnOk result (faults_of (source_calls self.new) ≡ faults_of (source_calls self.old)) }
     {
         if self.calls.count() {
             self.calls.fault();
@@ -114,13 +117,15 @@ pub struct MemSink {
 
 impl MemSink {
     ghost use Rattle.lab_io.specs.Mem.{sink_bytes, sink_room, sink_calls};
-    ghost use Rattle.lab_io.specs.Calls.{fails_of};
+    ghost use Rattle.lab_io.specs.Calls.{number_of, next_number, fails_of, faults_of};
 
     /// A sink with room for so many bytes; the writes with these numbers, from 1, fail.
     pub fn new(alloc: Global, room: usize, fails: &[u32]) -> Result<MemSink, Memory>
         ensures bytes { IfOk result (λ sink. sink_bytes sink ≡ []) }
         ensures room { IfOk result (λ sink. sink_room sink ≡ room) }
         ensures fails { IfOk result (λ sink. fails_of (sink_calls sink) ≡ fails.now) }
+        ensures first { IfOk result (λ sink. number_of (sink_calls sink) ≡ 1) }
+        ensures faults { IfOk result (λ sink. faults_of (sink_calls sink) ≡ 0) }
     {
         Ok(MemSink {
             bytes: Vec::with_capacity(alloc, room)?,
@@ -142,10 +147,10 @@ impl MemSink {
 }
 
 impl Sink for MemSink {
-    ghost use Rattle.std.specs.Prelude.{◌≡◌, ◌<◌, ◌≤◌, ◌↔◌, ◌⊎◌, length, take, Some, Contains, IfOk, IsErr, OnErr};
+    ghost use Rattle.std.specs.Prelude.{◌≡◌, ◌<◌, ◌≤◌, ◌↔◌, ◌⊎◌, length, take, Some, Contains, IfOk, IsErr, OnOk, OnErr};
     ghost use Rattle.std.specs.Io.KnownBytes.{append_known};
     ghost use Rattle.lab_io.specs.Causes.{HasCause};
-    ghost use Rattle.lab_io.specs.Calls.{number_of, fails_of, faults_of};
+    ghost use Rattle.lab_io.specs.Calls.{number_of, next_number, fails_of, faults_of};
     ghost use Rattle.lab_io.specs.Mem.{sink_bytes, sink_room, sink_calls};
 
     ghost written = { λ s. Some (sink_bytes s) };
@@ -160,6 +165,9 @@ impl Sink for MemSink {
         ensures cause { HasCause (faults_of (sink_calls self.old)) (faults_of (sink_calls self.new)) result }
         ensures exact { IsErr result ↔ Contains (fails_of (sink_calls self.old)) (number_of (sink_calls self.old)) ⊎ sink_room self.old ≤ length (sink_bytes self.old) }
         ensures numbers { fails_of (sink_calls self.new) ≡ fails_of (sink_calls self.old) }
+        ensures counted { number_of (sink_calls self.new) ≡ next_number (number_of (sink_calls self.old)) }
+        ensures stands { OnOk result (faults_of (sink_calls self.new) ≡ faults_of (sink_calls self.old)) }
+        ensures room { sink_room self.new ≡ sink_room self.old }
     {
         if self.calls.count() || self.bytes.len() >= self.room {
             self.calls.fault();

@@ -48,26 +48,6 @@ fn lines_are_those_of_the_bytes(rt: HostRuntime) -> Result<(), Fail> {
 }
 
 #[test]
-fn a_line_has_at_most_4096_bytes(rt: HostRuntime) -> Result<(), Fail> {
-    let mut bytes = Vec::new(rt.alloc());
-    bytes.extend_from_slice(b"first\n")?;
-    for _ in 0..4_096 {
-        bytes.push(b'x')?;
-    }
-    let (_, fault) = read_all(&rt, &bytes, &[])?;
-    assert_eq!(rt; fault, None);
-    bytes.extend_from_slice(b"\r\n")?;
-    let (_, fault) = read_all(&rt, &bytes, &[])?;
-    assert_eq!(rt; fault, None);
-    bytes.truncate(6 + 4_096);
-    bytes.extend_from_slice(b"x\nlast\n")?;
-    let (seen, fault) = read_all(&rt, &bytes, &[])?;
-    assert_eq!(rt; seen.as_slice(), b"first|".as_slice());
-    assert_eq!(rt; fault, Some(LineFault::TooLong(2)));
-    Ok(())
-}
-
-#[test]
 fn a_peeked_line_is_left(rt: HostRuntime) -> Result<(), Fail> {
     let mut source = MemSource::new(rt.alloc(), b"a b\r\n\nc", &[])?;
     let mut reader = LineReader::new(rt.alloc())?;
@@ -83,14 +63,6 @@ fn a_peeked_line_is_left(rt: HostRuntime) -> Result<(), Fail> {
     }
     let last = reader.peek(&mut source).ok().ok_or("no fault")?;
     assert_eq!(rt; last.is_none(), true);
-    Ok(())
-}
-
-#[test]
-fn a_read_that_fails_ends_the_lines(rt: HostRuntime) -> Result<(), Fail> {
-    let (seen, fault) = read_all(&rt, b"a\nb", &[2])?;
-    assert_eq!(rt; seen.as_slice(), b"a|".as_slice());
-    assert_eq!(rt; fault, Some(LineFault::ReadFault));
     Ok(())
 }
 

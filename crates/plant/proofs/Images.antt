@@ -1,8 +1,9 @@
 -- What a side reads as stays possible, and so is what is durable of it.
-use Rattle.std.proofs.Common.{◌≡◌, ◌⊎◌, inl, inr, ℕ, min, max, ◌+◌, ◌-◌, ◌<◌, ◌≤◌, List, [], ◌∷◌, ◌++◌, length, take, drop, get_or, refl, ap, ◌∙◌, arith, length-append}
+use Rattle.std.proofs.Common.{◌≡◌, ◌⊎◌, inl, inr, ℕ, zero, suc, min, max, ◌+◌, ◌-◌, ◌<◌, ◌≤◌, List, [], ◌∷◌, ◌++◌, length, take, drop, get_or, refl, ap, ◌∙◌, arith, length-append}
 use Rattle.std.specs.Prelude.{slice_index}
-use Rattle.std.proofs.lemmas.List.{get_or_append_left, get_or-append-add, get_or-take, get_or-drop, length-take, length-drop}
+use Rattle.std.proofs.lemmas.List.{get_or_append_left, get_or-append-add, get_or-take, get_or-drop, length-take, length-drop, length-map}
 use Rattle.lab_base.specs.Lists.{Has}
+use Rattle.plant.specs.Bytes.{AreBytes, as_byte, as_bytes}
 use Rattle.plant.specs.Disks.{Disk, put, wrote, synced, shortened, IsImage, at_once}
 
 -- the bytes of d in no written range are those of image
@@ -51,3 +52,25 @@ wrote_image d at bytes within h = as_read (wrote d at bytes) (λ k a b free.
   where
     place_back : (k at : ℕ) (bytes : List ℕ) → at + length bytes ≤ k → at + length bytes + (k - (at + length bytes)) ≡ k
     place_back k at bytes above = omega arith
+
+-- an image with bytes in place of what is none
+get_bytes : (image : List ℕ) (k : ℕ) → get_or (as_bytes image) k 0 ≡ as_byte (get_or image k 0)
+get_bytes [] k = refl
+get_bytes (x ∷ image) zero = refl
+get_bytes (x ∷ image) (suc k) = get_bytes image k
+
+pub all_bytes : (image : List ℕ) → AreBytes (as_bytes image)
+all_bytes image k = let is = get_bytes image k in omega (arith, is)
+
+pub byte_image : (d : Disk) (image : List ℕ) → AreBytes d.durable → IsImage d image → IsImage d (as_bytes image)
+byte_image d image bytes is =
+    let size : length (as_bytes image) ≡ length image = length-map image as_byte in
+    record {
+      no_shorter = omega (arith, is.no_shorter, size);
+      no_longer = omega (arith, is.no_longer, size);
+      kept = λ k a b free.
+          let there : k < length image = omega (arith, b, size) in
+          let same : get_or image k 0 ≡ get_or d.durable k 0 = is.kept k a there free in
+          let small : get_or d.durable k 0 < 256 = bytes k in
+          get_bytes image k ∙ ap as_byte same ∙ omega (arith, small);
+    }

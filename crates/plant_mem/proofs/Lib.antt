@@ -1,8 +1,11 @@
 pub mod Alike
+pub mod Calls
+pub mod Commanding
 pub mod Counts
 pub mod Growing
+pub mod Images
 pub mod Knowing
 pub mod Passes
+pub mod Restarting
+pub mod Sides
 pub mod States
-pub mod Told
-pub mod Torn

@@ -1,8 +1,6 @@
 -- Failures of the disk, and stops, that wait to happen.
-use Rattle.std.specs.Prelude.{ℕ, ◌-◌, ◌==◌, Bool, true, false, List, [], ◌∷◌, map, Option, Some, None, Result, Err, if◌then◌else◌}
+use Rattle.std.specs.Prelude.{ℕ, ◌-◌, ◌==◌, Bool, true, false, List, [], ◌∷◌, map, Option, Some, None, if◌then◌else◌}
 use Rattle.std.specs.List.{list_any}
-use Rattle.plant.specs.declared.device.Fault.{Fault}
-use Rattle.plant.specs.declared.device.Fault.TheVariants.{Failed, Stopped}
 use Rattle.plant.specs.declared.drill.Drill.{Drill}
 use Rattle.plant.specs.declared.drill.Drill.TheVariants.{Disk, Stop}
 use Rattle.plant.specs.declared.drill.Pick.{Pick}
@@ -44,9 +42,3 @@ abbrev pub is_done : Pick → Bool
 is_done Nothing = false
 is_done All = true
 is_done Torn = true
-
--- what a call is answered at which the plant stops so, or that fails so, or would be answered so
-abbrev pub ended : {T : Type 0} → Option Pick → Bool → Result T Fault → Result T Fault
-ended (Some pick) fails answer = Err Stopped
-ended None true answer = Err Failed
-ended None false answer = answer

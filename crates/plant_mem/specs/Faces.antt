@@ -1,5 +1,5 @@
 -- A side that a plant in memory keeps.
-use Rattle.std.specs.Prelude.{◌≤◌, ◌+◌, reverse, vec_len, vec_capacity}
+use Rattle.std.specs.Prelude.{◌≤◌, ℕ, ◌+◌, max, reverse, vec_len, vec_capacity}
 use Rattle.plant.specs.Disks.{Disk}
 use Rattle.plant_mem.specs.declared.face.Face.{Face}
 use Rattle.plant.specs.declared.step.Side.{Side}
@@ -18,7 +18,8 @@ pub record KeepsRoom (old new : Face) : Type 0 where
   pub reads : vec_capacity old.reads ≤ vec_capacity new.reads
   pub table : vec_len new.written + vec_capacity old.written ≤ vec_len old.written + 1 + vec_capacity new.written
 
--- there is room for what a stop may leave of it
-pub record IsReady (face : Face) : Type 0 where
-  pub reads : vec_len face.durable ≤ vec_capacity face.reads
-  pub durable : vec_len face.reads ≤ vec_capacity face.durable
+-- there is room for so many writes more, and for so many bytes more than it has, as it is durable and as it reads
+pub record HasMore (writes bytes : ℕ) (face : Face) : Type 0 where
+  pub reads : max (vec_len face.durable) (vec_len face.reads) + bytes ≤ vec_capacity face.reads
+  pub durable : max (vec_len face.durable) (vec_len face.reads) + bytes ≤ vec_capacity face.durable
+  pub table : vec_len face.written + writes ≤ vec_capacity face.written

@@ -1,10 +1,13 @@
 pub mod Boots
+pub mod Commands
 pub mod DiskPlans
 pub mod Faces
+pub mod Fates
+pub mod Held
 pub mod Knows
 pub mod MemLab
 pub mod Picks
 pub mod Plans
 pub mod Possible
+pub mod Rooms
 pub mod Steps
-pub mod Stopping

@@ -11,12 +11,10 @@ use Rattle.plant.specs.declared.drill.Drill.{Drill}
 use Rattle.plant.specs.declared.drill.Drill.TheVariants.{Device, Disk, Stop}
 use Rattle.plant.specs.declared.drill.How.{How}
 use Rattle.plant.specs.declared.drill.How.TheVariants.{Applied, Hang, Jump}
-use Rattle.plant.specs.declared.drill.Pick.{Pick}
 use Rattle.plant_mem.specs.declared.motion.Motion.{Motion}
 use Rattle.plant_mem.specs.declared.motion.Motion.TheVariants.{Moves, Hangs, Jumps}
 use Rattle.plant_mem.specs.declared.plans.Plan.{Plan}
 use Rattle.plant.specs.Calls.{device_of}
-use Rattle.plant_mem.specs.DiskPlans.{is_done}
 
 -- kinds of commands and of failures
 abbrev pub is_poll : DeviceOp → Bool
@@ -95,11 +93,6 @@ plan_of (Stop nth pick) = None
 abbrev pub is_applied : Option Bool → Bool
 is_applied None = true
 is_applied (Some applied) = applied
-
--- whether it is applied where the plant stops so at it, or doesn't stop
-abbrev pub has_effect : Option Pick → Option Bool → Bool
-has_effect None failure = is_applied failure
-has_effect (Some pick) failure = is_done pick
 
 -- what a command is answered that fails so, or would be answered so
 abbrev pub answer_by : Option Bool → Answer → Result Answer Fault

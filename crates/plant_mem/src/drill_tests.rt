@@ -55,24 +55,6 @@ fn hangs_until_a_wipe(plant: &mut MemLab, node: &Name) -> Result<bool, Fail> {
     Ok(first && again && answers(plant, node, &[Boot::TbSetup, Boot::IsUp]))
 }
 
-/// Whether a hang that waits for its poll outlives a Wipe.
-fn waits_past_a_wipe(plant: &mut MemLab, node: &Name) -> Result<bool, Fail> {
-    plan(plant, node, 1, How::Hang)?;
-    send(plant, DeviceOp::Wipe { node: *node })?;
-    boot(plant, node)?;
-    Ok(answers(plant, node, &[Boot::Booting; 2]))
-}
-
-#[test]
-fn a_node_hangs_as_planned(rt: HostRuntime) -> Result<(), Fail> {
-    let one = named(b"pc1")?;
-    let other = named(b"pc2")?;
-    let mut plant = MemLab::blank(rt.alloc())?;
-    assert!(rt; hangs_until_a_wipe(&mut plant, &one)?);
-    assert!(rt; waits_past_a_wipe(&mut plant, &other)?);
-    Ok(())
-}
-
 /// Whether a boot jumps to its end once.
 fn jumps_once(plant: &mut MemLab, node: &Name) -> Result<bool, Fail> {
     plan(plant, node, 1, How::Jump)?;
@@ -82,44 +64,13 @@ fn jumps_once(plant: &mut MemLab, node: &Name) -> Result<bool, Fail> {
     Ok(first && answers(plant, node, &[Boot::TbSetup]))
 }
 
-/// Whether at one poll a jump wins over a hang that begins with it.
-fn jumps_and_hangs(plant: &mut MemLab, node: &Name) -> Result<bool, Fail> {
-    plan(plant, node, 1, How::Hang)?;
-    plan(plant, node, 1, How::Jump)?;
-    boot(plant, node)?;
-    let first = answers(plant, node, &[Boot::IsUp]);
-    boot(plant, node)?;
-    Ok(first && answers(plant, node, &[Boot::Booting]))
-}
-
 #[test]
-fn a_node_jumps_as_planned(rt: HostRuntime) -> Result<(), Fail> {
+fn a_node_hangs_and_jumps_as_planned(rt: HostRuntime) -> Result<(), Fail> {
     let one = named(b"pc1")?;
     let other = named(b"pc2")?;
     let mut plant = MemLab::blank(rt.alloc())?;
-    assert!(rt; jumps_once(&mut plant, &one)?);
-    assert!(rt; jumps_and_hangs(&mut plant, &other)?);
-    Ok(())
-}
-
-/// The boot state after a failed poll at which a boot jumps.
-fn after_failed_jump(plant: &mut MemLab, node: &Name, how: How) -> Result<Boot, Fail> {
-    boot(plant, node)?;
-    plan(plant, node, 1, How::Jump)?;
-    plan(plant, node, 1, how)?;
-    match poll(plant, node) {
-        Err(Fault::Failed) => Ok(plant.node_row(*node).state),
-        _ => Err("no failure".into()),
-    }
-}
-
-#[test]
-fn a_failed_poll_jumps_where_it_is_applied(rt: HostRuntime) -> Result<(), Fail> {
-    let node = named(b"pc1")?;
-    let mut plant = MemLab::blank(rt.alloc())?;
-    assert!(rt; after_failed_jump(&mut plant, &node, How::Applied)? == Boot::IsUp);
-    assert!(rt; after_failed_jump(&mut plant, &node, How::Not)? == Boot::Booting);
-    assert!(rt; answers(&mut plant, &node, &[Boot::TbSetup]));
+    assert!(rt; hangs_until_a_wipe(&mut plant, &one)?);
+    assert!(rt; jumps_once(&mut plant, &other)?);
     Ok(())
 }
 

@@ -1,4 +1,4 @@
-ghost use Rattle.std.specs.Prelude.{◌≡◌, ◌≤◌, ◌<◌, ◌+◌, List, ℕ, length, min, take, reverse, OnOk, OnErr, vec_len, vec_capacity};
+ghost use Rattle.std.specs.Prelude.{◌≡◌, ◌≤◌, ◌<◌, ◌+◌, List, ℕ, length, max, min, take, reverse, OnOk, OnErr, vec_len, vec_capacity};
 ghost use Rattle.plant.specs.Disks.{IsImage, Disk, put};
 ghost use Rattle.plant_mem.specs.Picks.{garbled, torn};
 
@@ -67,24 +67,30 @@ fn tear(bytes: &mut Vec<u8>, written: &[(usize, usize)])
     }
 }
 
-/// Makes room for so many bytes in all.
-fn make_room(bytes: &mut Vec<u8>, total: usize) -> Result<(), Memory>
+/// The greater of two sizes.
+pub(crate) fn most(a: usize, b: usize) -> usize
+    ensures { result ≡ max a b }
+{
+    std::cmp::max(a, b)
+}
+
+/// Makes room for `most` bytes, which it doesn't pass, and so many more.
+fn make_room(bytes: &mut Vec<u8>, most: usize, more: usize) -> Result<(), Memory>
+    requires { vec_len bytes.old ≤ most }
     ensures items { bytes.new.items ≡ bytes.old.items }
     ensures len { vec_len bytes.new ≡ vec_len bytes.old }
     ensures capacity { vec_capacity bytes.old ≤ vec_capacity bytes.new }
-    ensures ok { OnOk result (total ≤ vec_capacity bytes.new) }
+    ensures ok { OnOk result (most + more ≤ vec_capacity bytes.new) }
 {
-    if total > bytes.len() {
-        bytes.try_reserve(total - bytes.len())?;
-    }
+    bytes.try_reserve((most - bytes.len()).saturating_add(more))?;
     Ok(())
 }
 
 impl Face {
-    ghost use Rattle.std.specs.Prelude.{◌≡◌, ◌≤◌, ◌<◌, ◌+◌, [], length, drop, take, reverse, IfOk, OnOk, OnErr, vec_len, vec_capacity};
+    ghost use Rattle.std.specs.Prelude.{◌≡◌, ◌≤◌, ◌<◌, ◌+◌, [], ℕ, length, drop, take, reverse, IfOk, OnOk, OnErr, vec_len, vec_capacity};
     ghost use Rattle.plant.specs.Disks.{at_once, wrote, synced, shortened};
     ghost use Rattle.plant_mem.specs.Picks.{left_by, torn};
-    ghost use Rattle.plant_mem.specs.Faces.{disk_of};
+    ghost use Rattle.plant_mem.specs.Faces.{disk_of, HasMore};
 
     /// An empty side, with room for so many writes and so many bytes.
     pub fn new(alloc: Global, writes: usize, bytes: usize) -> Result<Face, Memory>
@@ -149,17 +155,11 @@ impl Face {
     /// Makes room for so many bytes more than either has, as it is durable and as it reads, and for so many writes more.
     pub fn make_room(&mut self, writes: usize, bytes: usize) -> Result<(), Memory>
         ensures disk { disk_of self.new ≡ disk_of self.old }
-        ensures reads { OnOk result (vec_len self.new.durable ≤ vec_capacity self.new.reads) }
-        ensures durable { OnOk result (vec_len self.new.reads ≤ vec_capacity self.new.durable) }
-        ensures more_reads { OnOk result (vec_len self.new.reads + bytes ≤ vec_capacity self.new.reads) }
-        ensures more_durable { OnOk result (vec_len self.new.durable + bytes ≤ vec_capacity self.new.durable) }
-        ensures written { OnOk result (vec_len self.new.written + writes ≤ vec_capacity self.new.written) }
+        ensures more { OnOk result (HasMore writes bytes self.new) }
     {
-        let (durable, reads) = (self.durable.len(), self.reads.len());
-        self.durable.try_reserve(bytes)?;
-        self.reads.try_reserve(bytes)?;
-        make_room(&mut self.durable, reads)?;
-        make_room(&mut self.reads, durable)?;
+        let most = most(self.durable.len(), self.reads.len());
+        make_room(&mut self.durable, most, bytes)?;
+        make_room(&mut self.reads, most, bytes)?;
         self.written.try_reserve(writes)?;
         Ok(())
     }
@@ -169,10 +169,7 @@ impl Face {
         requires reads { vec_len self.old.durable ≤ vec_capacity self.old.reads }
         requires durable { vec_len self.old.reads ≤ vec_capacity self.old.durable }
         ensures left { disk_of self.new ≡ at_once (left_by pick (disk_of self.old)) }
-        ensures room { vec_capacity self.old.reads ≤ vec_capacity self.new.reads }
-        ensures durable { vec_capacity self.old.durable ≤ vec_capacity self.new.durable }
-        ensures written { vec_capacity self.new.written ≡ vec_capacity self.old.written }
-        ensures writes { vec_len self.new.written ≡ 0 }
+        ensures more { (writes bytes : ℕ) → HasMore writes bytes self.old → HasMore writes bytes self.new }
     {
         match pick {
             Pick::Nothing => self.forget(),

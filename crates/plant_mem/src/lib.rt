@@ -2,6 +2,7 @@
 #![tactic(auto)]
 
 mod face;
+mod fate;
 mod mem;
 mod mem_disk;
 mod mem_plant;

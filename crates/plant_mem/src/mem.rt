@@ -1,20 +1,19 @@
-ghost use Rattle.std.specs.Prelude.{◌≡◌, ◌↔◌, ◌<◌, ◌≤◌, ◌+◌, ◌++◌, ℕ, List, [], ◌∷◌, map, IfOk, OnOk, OnErr, IsErrOf, IsTrue, IsFalse, Some, Err, true, false};
-ghost use Rattle.lab_base.specs.declared.boot.Boot.TheVariants.{Off};
-ghost use Rattle.plant_mem.specs.MemLab.{told_of, bytes_of, room_of, plans_of, faults_of, stopped_of, state_of, disk_plans_of, stop_of, pick_of};
-ghost use Rattle.plant_mem.specs.Steps.{trace_of};
-ghost use Rattle.plant_mem.specs.Boots.{answer_of, state_sent};
-ghost use Rattle.plant.specs.Calls.{CommandSteps, DeviceCause};
-ghost use Rattle.plant_mem.specs.DiskPlans.{is_done};
+ghost use Rattle.std.specs.Prelude.{◌≡◌, IfOk, OnOk, OnErr, Err, true};
+ghost use Rattle.plant.specs.Calls.{DeviceCause};
 ghost use Rattle.plant.specs.Events.{Did};
-ghost use Rattle.plant_mem.specs.Plans.{firing, motion_of, counted, answer_by, is_applied};
-ghost use Rattle.plant_mem.specs.Stopping.{stopped_step};
-ghost use Rattle.plant.specs.Told.{with_steps};
 ghost use Rattle.plant.specs.Worlds.{world_of};
+ghost use Rattle.plant_mem.specs.Boots.{state_sent};
+ghost use Rattle.plant_mem.specs.Commands.{answer_sent, sent, stopped_at, restarted, after_command, answer_command};
+ghost use Rattle.plant_mem.specs.Held.{held_of, at_first, with_events, effect_if};
+ghost use Rattle.plant_mem.specs.MemLab.{told_of, faults_of, bytes_of, state_of};
+ghost use Rattle.plant_mem.specs.Rooms.{rooms_of, can_command, HasRooms, KeepsRooms};
+ghost use Rattle.plant_mem.specs.Steps.{trace_of};
 
+use crate::motion::Motion;
 use crate::past::Past;
 use crate::plans::{Plan, count_down, failure_of, motion_of};
 use crate::rows::Row;
-use crate::stops::{StopPlan, is_done};
+use crate::stops::{StopPlan, count_stop, is_done};
 use lab_base::{Memory, Name, VlanId};
 use plant::{Answer, DeviceOp, Fault, Faults, Moment, Pick, Step, Taken};
 use std::alloc::Global;
@@ -49,12 +48,8 @@ pub struct MemLab {
 impl MemLab {
     /// A plant in which nothing has happened.
     pub fn blank(alloc: Global) -> Result<MemLab, Memory>
-        ensures told { IfOk result (λ lab. told_of lab ≡ record { trace = []; marks = []; drills = [] }) }
-        ensures room { IfOk result (λ lab. 262144 ≤ room_of lab) }
-        ensures plans { IfOk result (λ lab. plans_of lab ≡ []) }
-        ensures states { IfOk result (λ lab. (node : _) → state_of lab node ≡ Off) }
-        ensures faults { IfOk result (λ lab. faults_of lab ≡ record { disk = 0; devices = 0 }) }
-        ensures stopped { IfOk result (λ lab. stopped_of lab ≡ false) }
+        ensures holds { IfOk result (λ lab. held_of lab ≡ at_first) }
+        ensures rooms { IfOk result (λ lab. HasRooms (told_of lab).trace (rooms_of lab)) }
     {
         Ok(MemLab {
             past: Past::new(alloc, ROOM, BYTES)?,
@@ -100,17 +95,11 @@ impl MemLab {
 
     /// Sends a command for which there is room.
     pub(crate) fn send(&mut self, op: &DeviceOp) -> Result<Answer, Fault>
-        requires { 0 < room_of self.old }
-        ensures answer { result ≡ answer_by (firing op.now (plans_of self.old)) (answer_of op.now (motion_of op.now (plans_of self.old)) (state_of self.old)) }
-        ensures fits { CommandSteps op.now false result (Did op.now (is_applied (firing op.now (plans_of self.old))) result ∷ []) }
-        ensures told { Some (told_of self.new) ≡ with_steps (Some (told_of self.old)) (Did op.now (is_applied (firing op.now (plans_of self.old))) result ∷ []) }
-        ensures states { (node : List ℕ) → state_of self.new node ≡ state_sent op.now (motion_of op.now (plans_of self.old)) (is_applied (firing op.now (plans_of self.old))) node (state_of self.old node) }
-        ensures plans { plans_of self.new ≡ map (counted op.now (is_applied (firing op.now (plans_of self.old)))) (plans_of self.old) }
-        ensures disk_plans { disk_plans_of self.new ≡ disk_plans_of self.old }
-        ensures stop { stop_of self.new ≡ stop_of self.old }
+        requires { can_command self.old ≡ true }
+        ensures answer { result ≡ answer_sent op.now (held_of self.old) }
         ensures cause { DeviceCause (faults_of self.old) (faults_of self.new) result }
-        ensures stopped { stopped_of self.new ≡ stopped_of self.old }
-        ensures room { room_of self.old ≤ room_of self.new + 1 }
+        ensures held { held_of self.new ≡ sent op.now (held_of self.old) }
+        ensures rooms { KeepsRooms 1 0 (rooms_of self.old) (rooms_of self.new) }
     {
         let motion = motion_of(&self.plans, op);
         let failure = failure_of(&self.plans, op);
@@ -127,30 +116,60 @@ impl MemLab {
 
     /// Stops at a command for which there is room. The command is applied, or not, by the pick.
     pub(crate) fn stop_at(&mut self, op: &DeviceOp, pick: Pick)
-        requires { 0 < room_of self.old }
-        ensures told { Some (told_of self.new) ≡ with_steps (Some (told_of self.old)) (stopped_step op.now pick) }
-        ensures states { (node : List ℕ) → state_of self.new node ≡ state_sent op.now (motion_of op.now (plans_of self.old)) (is_done pick) node (state_of self.old node) }
-        ensures plans { plans_of self.new ≡ map (counted op.now (is_done pick)) (plans_of self.old) }
-        ensures disk_plans { disk_plans_of self.new ≡ disk_plans_of self.old }
-        ensures stop { stop_of self.new ≡ stop_of self.old }
-        ensures faults { faults_of self.new ≡ faults_of self.old }
-        ensures stopped { stopped_of self.new ≡ true }
-        ensures pick { pick_of self.new ≡ pick }
-        ensures room { room_of self.old ≤ room_of self.new + 1 }
+        requires { can_command self.old ≡ true }
+        ensures held { held_of self.new ≡ stopped_at op.now pick (held_of self.old) }
+        ensures rooms { KeepsRooms 1 0 (rooms_of self.old) (rooms_of self.new) }
     {
         let motion = motion_of(&self.plans, op);
         count_down(&mut self.plans, op, is_done(pick));
-        if is_done(pick) {
-            self.past.failed(op, motion, true, Fault::Stopped);
-        }
+        self.apply_if(is_done(pick), op, motion);
         self.halt(pick);
     }
 
-    /// Stops.
-    pub(crate) fn halt(&mut self, pick: Pick)
-        ensures { self.new ≡ record self.old { stopped = true; pick = pick } }
+    /// A command at which the plant stops, which is applied or not.
+    fn apply_if(&mut self, applied: bool, op: &DeviceOp, motion: Motion)
+        requires { can_command self.old ≡ true }
+        ensures held { held_of self.new ≡ record (with_events (effect_if applied (Did op.now true (Err Fault.Stopped))) (held_of self.old)) { state = λ node. state_sent op.now motion applied node (state_of self.old node) } }
+        ensures rooms { KeepsRooms 1 0 (rooms_of self.old) (rooms_of self.new) }
     {
-        self.stopped = true;
-        self.pick = pick;
+        if applied {
+            self.past.failed(op, motion, true, Fault::Stopped);
+        }
+    }
+
+    /// Starts again, with what the pick of the stop leaves of each side, and with the rooms of a blank plant.
+    pub(crate) fn start_again(&mut self) -> Result<(), Memory>
+        ensures ok { OnOk result (held_of self.new ≡ restarted (held_of self.old)) }
+        ensures err { OnErr result (held_of self.new ≡ held_of self.old) }
+        ensures rooms { OnOk result (HasRooms (told_of self.new).trace (rooms_of self.new)) }
+    {
+        self.past.make_room(ROOM, BYTES)?;
+        self.past.restarted(self.pick);
+        self.pick = Pick::Nothing;
+        self.stopped = false;
+        Ok(())
+    }
+
+    /// Sends a command, where there is room for it and the plant doesn't stop at it.
+    pub(crate) fn perform(&mut self, op: &DeviceOp) -> Result<Answer, Fault>
+        ensures answer { result ≡ answer_command (can_command self.old) op.now (held_of self.old) }
+        ensures cause { DeviceCause (faults_of self.old) (faults_of self.new) result }
+        ensures held { held_of self.new ≡ after_command (can_command self.old) op.now (held_of self.old) }
+        ensures rooms { KeepsRooms 1 0 (rooms_of self.old) (rooms_of self.new) }
+    {
+        if self.stopped {
+            return Err(Fault::Stopped);
+        }
+        if !self.can_command() {
+            self.halt(Pick::Nothing);
+            return Err(Fault::Stopped);
+        }
+        match count_stop(&mut self.stop) {
+            None => self.send(op),
+            Some(pick) => {
+                self.stop_at(op, pick);
+                Err(Fault::Stopped)
+            }
+        }
     }
 }

@@ -2,7 +2,6 @@ ghost use Rattle.std.specs.Prelude.{◌≡◌, ◌<◌, ◌≤◌, ◌+◌, List
 ghost use Rattle.std.specs.Str.{bytes_eq};
 ghost use Rattle.std.specs.List.{list_any, find};
 ghost use Rattle.plant_mem.specs.Boots.{is_of, state_in, with_state, state_after, state_sent, answer_of};
-ghost use Rattle.plant.specs.Calls.{Fits};
 
 use crate::motion::Motion;
 use lab_base::{Boot, Name};
@@ -97,7 +96,6 @@ pub(crate) fn apply(nodes: &mut Vec<NodeState>, op: &DeviceOp, motion: Motion) -
     requires { vec_len nodes.old < vec_capacity nodes.old }
     ensures states { (name : List ℕ) → state_in name nodes.new.items ≡ state_after op.now motion name (state_in name nodes.old.items) }
     ensures answer { result ≡ answer_of op.now motion (λ name. state_in name nodes.old.items) }
-    ensures fits { Fits op.now result }
     ensures len { vec_len nodes.new ≤ vec_len nodes.old + 1 }
     ensures capacity { vec_capacity nodes.new ≡ vec_capacity nodes.old }
 {

@@ -1,13 +1,13 @@
-ghost use Rattle.std.specs.Prelude.{◌≡◌, ◌<◌, ◌≤◌, ◌+◌, ◌++◌, [], ◌∷◌, true, max, length, vec_len, vec_capacity};
+ghost use Rattle.std.specs.Prelude.{◌≡◌, ◌<◌, ◌≤◌, ◌+◌, ◌++◌, [], ◌∷◌, ℕ, true, length, vec_len, vec_capacity};
 ghost use Rattle.plant.specs.Disks.{disk, wrote, synced, shortened, on_side, same_side};
-ghost use Rattle.plant_mem.specs.Faces.{disk_of, of_side, KeepsRoom, IsReady};
+ghost use Rattle.plant_mem.specs.Faces.{disk_of, of_side, KeepsRoom, HasMore};
 ghost use Rattle.plant_mem.specs.Knows.{Knows};
 ghost use Rattle.plant_mem.specs.Picks.{left_by};
 ghost use Rattle.plant_mem.specs.Steps.{trace_of, are_within};
 ghost use Rattle.plant.specs.declared.drill.Pick.{Pick};
 ghost use Rattle.plant.specs.declared.step.Side.TheVariants.{A, B};
 
-use crate::face::Face;
+use crate::face::{Face, most};
 use crate::motion::Motion;
 use crate::nodes::{NodeState, apply, apply_if};
 use lab_base::Memory;
@@ -45,12 +45,6 @@ fn most_of(face: &Face) -> usize
     ensures { (pick : Pick) → length (left_by pick (disk_of face.now)) ≤ result }
 {
     most(face.durable.len(), face.reads.len())
-}
-
-fn most(a: usize, b: usize) -> usize
-    ensures { result ≡ max a b }
-{
-    std::cmp::max(a, b)
 }
 
 /// Writes on one of both sides.
@@ -100,10 +94,9 @@ fn shorten_on(a: &mut Face, b: &mut Face, side: Side, size: usize)
 impl Past {
     ghost use Rattle.std.specs.Prelude.{◌≡◌, ◌≤◌, ◌<◌, ◌+◌, ◌++◌, ℕ, List, [], ◌∷◌, length, take, drop, true, Ok, Err, IfOk, OnOk, OnErr, vec_len, vec_capacity};
     ghost use Rattle.plant_mem.specs.Boots.{state_in, state_after, state_sent, answer_of};
-    ghost use Rattle.plant.specs.Calls.{Fits};
     ghost use Rattle.plant.specs.Events as events;
     ghost use Rattle.plant.specs.Disks.{disk};
-    ghost use Rattle.plant_mem.specs.Faces.{disk_of, of_side, KeepsRoom, IsReady};
+    ghost use Rattle.plant_mem.specs.Faces.{disk_of, of_side, KeepsRoom, HasMore};
     ghost use Rattle.plant_mem.specs.Picks.{left_by};
     ghost use Rattle.plant_mem.specs.Steps.{trace_of};
     ghost use Rattle.plant.specs.declared.drill.Pick.{Pick};
@@ -114,6 +107,8 @@ impl Past {
         ensures bytes { IfOk result (λ past. past.bytes.items ≡ []) }
         ensures steps_room { IfOk result (λ past. vec_len past.steps + steps ≤ vec_capacity past.steps) }
         ensures bytes_room { IfOk result (λ past. vec_len past.bytes + bytes ≤ vec_capacity past.bytes) }
+        ensures a { IfOk result (λ past. HasMore steps bytes past.a) }
+        ensures b { IfOk result (λ past. HasMore steps bytes past.b) }
         ensures nodes { IfOk result (λ past. past.nodes.items ≡ []) }
         ensures nodes_room { IfOk result (λ past. vec_len past.nodes + steps ≤ vec_capacity past.nodes) }
     {
@@ -131,13 +126,15 @@ impl Past {
         requires steps { vec_len self.old.steps < vec_capacity self.old.steps }
         requires nodes { vec_len self.old.nodes < vec_capacity self.old.nodes }
         ensures answer { result ≡ answer_of op.now motion (λ name. state_in name self.old.nodes.items) }
-        ensures fits { Fits op.now result }
         ensures trace { trace_of self.new.bytes.items self.new.steps.items ≡ trace_of self.old.bytes.items self.old.steps.items ++ events.Did op.now true (Ok result) ∷ [] }
         ensures states { (name : List ℕ) → state_in name self.new.nodes.items ≡ state_after op.now motion name (state_in name self.old.nodes.items) }
         ensures steps { vec_len self.new.steps ≡ vec_len self.old.steps + 1 }
         ensures capacity { vec_capacity self.new.steps ≡ vec_capacity self.old.steps }
         ensures nodes { vec_len self.new.nodes ≤ vec_len self.old.nodes + 1 }
         ensures nodes_capacity { vec_capacity self.new.nodes ≡ vec_capacity self.old.nodes }
+        ensures bytes { self.new.bytes ≡ self.old.bytes }
+        ensures a { self.new.a ≡ self.old.a }
+        ensures b { self.new.b ≡ self.old.b }
     {
         let answer = apply(&mut self.nodes, op, motion);
         add_step(
@@ -161,6 +158,9 @@ impl Past {
         ensures capacity { vec_capacity self.new.steps ≡ vec_capacity self.old.steps }
         ensures nodes { vec_len self.new.nodes ≤ vec_len self.old.nodes + 1 }
         ensures nodes_capacity { vec_capacity self.new.nodes ≡ vec_capacity self.old.nodes }
+        ensures bytes { self.new.bytes ≡ self.old.bytes }
+        ensures a { self.new.a ≡ self.old.a }
+        ensures b { self.new.b ≡ self.old.b }
     {
         apply_if(applied, &mut self.nodes, op, motion);
         add_step(
@@ -259,10 +259,10 @@ impl Past {
         ensures a_is { disk_of self.new.a ≡ disk_of self.old.a }
         ensures b_is { disk_of self.new.b ≡ disk_of self.old.b }
         ensures steps { OnOk result (vec_len self.new.steps + (steps + 1) ≤ vec_capacity self.new.steps) }
-        ensures bytes { OnOk result ((pick : Pick) → (vec_len self.new.bytes + length (left_by pick (disk_of self.new.a))) + length (left_by pick (disk_of self.new.b)) ≤ vec_capacity self.new.bytes) }
+        ensures bytes { OnOk result ((pick : Pick) → (vec_len self.new.bytes + length (left_by pick (disk_of self.new.a))) + length (left_by pick (disk_of self.new.b)) + bytes ≤ vec_capacity self.new.bytes) }
         ensures nodes { OnOk result (vec_len self.new.nodes + steps ≤ vec_capacity self.new.nodes) }
-        ensures a { OnOk result (IsReady self.new.a) }
-        ensures b { OnOk result (IsReady self.new.b) }
+        ensures a { OnOk result (HasMore steps bytes self.new.a) }
+        ensures b { OnOk result (HasMore steps bytes self.new.b) }
     {
         self.a.make_room(steps, bytes)?;
         self.b.make_room(steps, bytes)?;
@@ -277,15 +277,15 @@ impl Past {
     pub fn restarted(&mut self, pick: Pick)
         requires steps { vec_len self.old.steps < vec_capacity self.old.steps }
         requires bytes { (vec_len self.old.bytes + length (left_by pick (disk_of self.old.a))) + length (left_by pick (disk_of self.old.b)) ≤ vec_capacity self.old.bytes }
-        requires a { IsReady self.old.a }
-        requires b { IsReady self.old.b }
+        requires a { HasMore 0 0 self.old.a }
+        requires b { HasMore 0 0 self.old.b }
         ensures trace { trace_of self.new.bytes.items self.new.steps.items ≡ trace_of self.old.bytes.items self.old.steps.items ++ events.Restarted (left_by pick (disk_of self.old.a)) (left_by pick (disk_of self.old.b)) ∷ [] }
         ensures steps { vec_len self.new.steps ≡ vec_len self.old.steps + 1 }
         ensures capacity { vec_capacity self.new.steps ≡ vec_capacity self.old.steps }
         ensures bytes { vec_len self.new.bytes ≡ (vec_len self.old.bytes + length (left_by pick (disk_of self.old.a))) + length (left_by pick (disk_of self.old.b)) }
         ensures room { vec_capacity self.old.bytes ≤ vec_capacity self.new.bytes }
-        ensures a { KeepsRoom self.old.a self.new.a }
-        ensures b { KeepsRoom self.old.b self.new.b }
+        ensures a { (writes bytes : ℕ) → HasMore writes bytes self.old.a → HasMore writes bytes self.new.a }
+        ensures b { (writes bytes : ℕ) → HasMore writes bytes self.old.b → HasMore writes bytes self.new.b }
         ensures nodes { self.new.nodes ≡ self.old.nodes }
     {
         self.a.restore(pick);

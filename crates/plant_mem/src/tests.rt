@@ -1,5 +1,5 @@
 use super::*;
-use lab_base::{Boot, Name, VlanId};
+use lab_base::{Name, VlanId};
 use plant::{Answer, DeviceOp, Drill, Fault, How, Pick, Plant, Side};
 use std::alloc::Global;
 use std::test::Fail;
@@ -66,36 +66,6 @@ fn a_device_fails_as_planned(rt: HostRuntime) -> Result<(), Fail> {
     Ok(())
 }
 
-#[test]
-fn a_poll_moves_a_boot(rt: HostRuntime) -> Result<(), Fail> {
-    let mut plant = MemLab::blank(rt.alloc())?;
-    let poll = DeviceOp::Poll {
-        node: named(b"pc1")?,
-    };
-    assert_eq!(rt; plant.command(poll), Ok(Answer::State(Boot::Off)));
-    let boot = DeviceOp::Boot {
-        node: named(b"pc1")?,
-    };
-    assert_eq!(rt; plant.command(boot), Ok(Answer::Done));
-    for wanted in [Boot::TbSetup, Boot::IsUp, Boot::IsUp] {
-        let poll = DeviceOp::Poll {
-            node: named(b"pc1")?,
-        };
-        assert_eq!(rt; plant.command(poll), Ok(Answer::State(wanted)));
-    }
-    let load = DeviceOp::Load {
-        node: named(b"pc1")?,
-        os: named(b"linux")?,
-    };
-    assert_eq!(rt; plant.command(load), Ok(Answer::Done));
-    let poll = DeviceOp::Poll {
-        node: named(b"pc1")?,
-    };
-    assert_eq!(rt; plant.command(poll), Ok(Answer::State(Boot::Off)));
-    plant.mark()?;
-    Ok(())
-}
-
 /// What side A reads as after a write of 4 bytes, a sync, and a stop by the pick at a write of 5 bytes behind them.
 fn left_by(alloc: Global, pick: Pick, into: &mut [u8]) -> Result<(), Fail> {
     let mut plant = MemLab::blank(alloc)?;
@@ -139,6 +109,7 @@ fn the_disk_fails_as_planned(rt: HostRuntime) -> Result<(), Fail> {
     assert_eq!(rt; plant.sync(Side::B), Err(Fault::Failed));
     assert_eq!(rt; plant.length(Side::B), Ok(0));
     assert_eq!(rt; plant.cut(Side::B, 0), Ok(()));
+    plant.mark()?;
     assert_eq!(rt; plant.trace().len(), 3);
     Ok(())
 }

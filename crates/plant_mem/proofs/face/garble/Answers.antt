@@ -1,5 +1,5 @@
 use Rattle.std.proofs.Common.{arith}
-use Rattle.plant_mem.proofs.Torn.{garbled_nothing}
+use Rattle.plant_mem.proofs.Images.{garbled_nothing}
 use Rattle.plant_mem.proofs.face.garble.Goals as goal
 
 pub returns-else-from-end-clause-garbled : goal.returns-else-from-end-clause-garbled

@@ -1,6 +1,6 @@
 use Rattle.std.proofs.Common.{arith}
 use Rattle.plant_mem.specs.Faces.{disk_of}
-use Rattle.plant_mem.proofs.Torn.{left_short}
+use Rattle.plant_mem.proofs.Images.{left_short}
 use Rattle.plant_mem.proofs.past.most_of.Goals as goal
 
 pub returns : goal.returns

@@ -1,5 +1,5 @@
 use Rattle.plant_mem.specs.Faces.{disk_of}
-use Rattle.plant_mem.proofs.Torn.{torn_image}
+use Rattle.plant_mem.proofs.Images.{torn_image}
 use Rattle.plant_mem.proofs.face.Face.shred.Goals as goal
 
 pub invariant_of-self-clause-readable : goal.invariant_of-self-clause-readable

@@ -49,3 +49,9 @@ invariant_of-self-3 c =
       b_is = c.restore-2.ensures.left ∙ sym (after.disks B);
       known = still (trace_of self.bytes.items self.steps.items) (trace_of c.extend_from_slice-2.new.self.items c.add_step.new.steps.items) self.nodes.items after.worlds self.known;
     }
+
+pub returns-clause-a : goal.returns-clause-a
+returns-clause-a c = λ writes bytes h. let m = c.restore.ensures.more writes bytes h in record { reads = m.reads; durable = m.durable; table = m.table }
+
+pub returns-clause-b : goal.returns-clause-b
+returns-clause-b c = λ writes bytes h. let m = c.restore-2.ensures.more writes bytes h in record { reads = m.reads; durable = m.durable; table = m.table }
