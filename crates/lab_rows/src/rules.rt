@@ -7,9 +7,9 @@ use feas::{CheckFault, check};
 use lab_base::{Items, TrunkId};
 use phys_lab::{Free, Lab};
 use ptop_text::read_ptop;
+use solution_text::read_solution;
 use std::alloc::Global;
 use std::test::Fail;
-use solution_text::read_solution;
 use top_text::read_top;
 use virt_topo::{Broken, Mapping, Subject, Wiring};
 
@@ -74,7 +74,12 @@ pub(crate) fn wiring_of(alloc: Global, top: &[u8]) -> Result<Wiring, Fail>
     }
 }
 
-pub(crate) fn mapping_of(alloc: Global, solution: &[u8], lab: &Lab, wiring: &Wiring) -> Result<Mapping, Fail>
+pub(crate) fn mapping_of(
+    alloc: Global,
+    solution: &[u8],
+    lab: &Lab,
+    wiring: &Wiring,
+) -> Result<Mapping, Fail>
     requires { IsSound wiring.now }
     ensures { IfOk result (λ mapping. IsShaped lab.now wiring.now mapping) }
 {
