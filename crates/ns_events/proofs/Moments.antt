@@ -12,9 +12,6 @@ use Rattle.ns_events.specs.Schedules.{at_moment}
 abbrev pub event_at : ℕ → Event
 event_at moment = record { at = moment; link = codes "l"; what = Down; line = 0 }
 
-by_moment : Event → Event → Bool
-by_moment a b = is_lt (nat_cmp a.at b.at)
-
 -- what a stable sort by time leaves together
 same_moment : (moment : ℕ) (e : Event) → (e.at == moment) ≡ ties (λ a b. is_lt (nat_cmp a.at b.at)) (event_at moment) e
 same_moment moment e = grind (arith, nat_tests)

@@ -42,7 +42,8 @@ fn wiring_of(alloc: Global, asked: &Asked) -> Result<Wiring, TextRefused>
     }
 }
 
-/// Reads an NS text: the wiring of the network that its commands make up to `$ns run`.
+/// Reads an NS text: the wiring of the network that its commands make up to `$ns run`. The events that they schedule are
+/// read, and not kept.
 ///
 /// The error is the first fault of the text, with its line, or that of the expansion, with the line of `$ns run`: a limit,
 /// no node, an address that is given twice or in two subnets, or no subnet or host number for an end.
