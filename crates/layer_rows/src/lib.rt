@@ -2,7 +2,11 @@
 #![tactic(auto)]
 
 #[cfg(test)]
+mod drill_tests;
+#[cfg(test)]
 mod journal_tests;
+#[cfg(test)]
+mod plant_tests;
 #[cfg(test)]
 mod record_tests;
 #[cfg(test)]

@@ -15,8 +15,3 @@ mod rows;
 mod stops;
 
 pub use mem::MemLab;
-
-#[cfg(test)]
-mod drill_tests;
-#[cfg(test)]
-mod tests;

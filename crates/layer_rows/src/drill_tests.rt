@@ -1,11 +1,8 @@
-use super::*;
+// Drills of devices.
 use lab_base::{Boot, Name, Rates};
 use plant::{Answer, DeviceOp, Drill, Fault, How, NodeRow, Plant};
+use plant_mem::*;
 use std::test::Fail;
-
-fn named(text: &[u8]) -> Result<Name, Fail> {
-    Ok(Name::read(text).ok().ok_or("a name")?)
-}
 
 /// Plans a failure of the node.
 fn plan(plant: &mut MemLab, node: &Name, nth: u32, how: How) -> Result<(), Fail> {
@@ -66,8 +63,8 @@ fn jumps_once(plant: &mut MemLab, node: &Name) -> Result<bool, Fail> {
 
 #[test]
 fn a_node_hangs_and_jumps_as_planned(rt: HostRuntime) -> Result<(), Fail> {
-    let one = named(b"pc1")?;
-    let other = named(b"pc2")?;
+    let one = Name::read(b"pc1")?;
+    let other = Name::read(b"pc2")?;
     let mut plant = MemLab::blank(rt.alloc())?;
     assert!(rt; hangs_until_a_wipe(&mut plant, &one)?);
     assert!(rt; jumps_once(&mut plant, &other)?);
@@ -83,8 +80,8 @@ fn shape(node: &Name, pipe: u16, kbps: u64) -> Result<DeviceOp, Fail> {
     Ok(DeviceOp::Shape {
         node: *node,
         pipe,
-        from: named(b"eth0")?,
-        to: named(b"eth1")?,
+        from: Name::read(b"eth0")?,
+        to: Name::read(b"eth1")?,
         there: rates,
         back: rates,
     })
@@ -111,9 +108,9 @@ fn fill(plant: &mut MemLab, node: &Name, os: &Name) -> Result<(), Fail> {
 
 #[test]
 fn a_node_row_shows_what_it_holds(rt: HostRuntime) -> Result<(), Fail> {
-    let node = named(b"pc1")?;
-    let other = named(b"pc2")?;
-    let linux = named(b"linux")?;
+    let node = Name::read(b"pc1")?;
+    let other = Name::read(b"pc2")?;
+    let linux = Name::read(b"linux")?;
     let mut plant = MemLab::blank(rt.alloc())?;
     fill(&mut plant, &node, &linux)?;
     let full = NodeRow {

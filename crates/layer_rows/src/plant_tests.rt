@@ -1,12 +1,9 @@
-use super::*;
+// The plant in memory: its trace and its disk.
 use lab_base::{Name, VlanId};
 use plant::{Answer, DeviceOp, Drill, Fault, How, Pick, Plant, Side};
+use plant_mem::*;
 use std::alloc::Global;
 use std::test::Fail;
-
-fn named(text: &[u8]) -> Result<Name, Fail> {
-    Ok(Name::read(text).ok().ok_or("a name")?)
-}
 
 fn join(switch: &Name, port: u16) -> DeviceOp {
     DeviceOp::Join {
@@ -19,17 +16,17 @@ fn join(switch: &Name, port: u16) -> DeviceOp {
 #[test]
 fn rows_come_and_go(rt: HostRuntime) -> Result<(), Fail> {
     let mut plant = MemLab::blank(rt.alloc())?;
-    let switch = named(b"s1")?;
-    let other = named(b"s2")?;
+    let switch = Name::read(b"s1")?;
+    let other = Name::read(b"s2")?;
     assert_eq!(rt; plant.command(join(&switch, 1)), Ok(Answer::Done));
     assert_eq!(rt; plant.command(join(&switch, 2)), Ok(Answer::Done));
     assert_eq!(rt; plant.command(join(&switch, 2)), Ok(Answer::Done));
     let leave = DeviceOp::Leave {
-        switch: named(b"s1")?,
+        switch: Name::read(b"s1")?,
         port: 2,
         vlan: VlanId(100),
     };
-    assert!(rt; plant.has_row(named(b"s1")?, 2, VlanId(100)));
+    assert!(rt; plant.has_row(Name::read(b"s1")?, 2, VlanId(100)));
     assert_eq!(rt; plant.command(leave), Ok(Answer::Done));
     for (name, port, vlan, wanted) in [
         (&switch, 1, 100, true),
@@ -49,11 +46,11 @@ fn a_device_fails_as_planned(rt: HostRuntime) -> Result<(), Fail> {
     let mut plant = MemLab::blank(rt.alloc())?;
     assert!(rt; plant.drills());
     for (nth, how) in [(2, How::Applied), (3, How::Not), (1, How::Hang)] {
-        let name = named(b"s1")?;
+        let name = Name::read(b"s1")?;
         assert_eq!(rt; plant.drill(Drill::Device { name, nth, how }), Ok(()));
     }
-    let switch = named(b"s1")?;
-    let other = named(b"s2")?;
+    let switch = Name::read(b"s1")?;
+    let other = Name::read(b"s2")?;
     assert_eq!(rt; plant.command(join(&switch, 1)), Ok(Answer::Done));
     assert_eq!(rt; plant.command(join(&other, 2)), Ok(Answer::Done));
     assert_eq!(rt; plant.command(join(&switch, 2)), Err(Fault::Failed));
