@@ -1,5 +1,4 @@
 pub mod Parts
 pub mod Addresses
 pub mod Expansion
-pub mod Samples
 pub mod Least

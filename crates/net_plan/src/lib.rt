@@ -17,6 +17,3 @@ pub use expansion::expand;
 pub use fault::PlanFault;
 pub use laws::{addresses_are_least, expansions_are_sound};
 pub use pipes::{lan_pipe, link_pipe};
-
-#[cfg(test)]
-mod tests;

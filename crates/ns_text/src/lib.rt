@@ -6,6 +6,3 @@ mod read;
 
 pub use laws::wiring_is_one;
 pub use read::{Printed, read_and_print, read_network};
-
-#[cfg(test)]
-mod tests;

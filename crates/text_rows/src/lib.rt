@@ -14,4 +14,6 @@ mod networks;
 #[cfg(test)]
 mod table;
 #[cfg(test)]
+mod wirings;
+#[cfg(test)]
 mod words;

@@ -1,5 +1,6 @@
-use super::*;
+// Wirings of NS texts.
 use lab_base::{Kind, Text, TextFault, TextRefused};
+use ns_text::{read_and_print, read_network};
 use std::test::Fail;
 use top_text::{print_top, read_top};
 use virt_topo::Wiring;
@@ -74,7 +75,7 @@ fn a_lan_of_three_nodes(rt: HostRuntime) -> Result<(), Fail> {
 
 #[test]
 fn links_and_lans_are_expanded(rt: HostRuntime) -> Result<(), Fail> {
-    let cases: [(&[u8], &[u8]); 5] = [
+    let cases: [(&[u8], &[u8]); 8] = [
         (
             b"set l [$ns duplex-link $a $b 100Mb 1ms DropTail]",
             b"link l l 100000 a=10.1.1.1 b=10.1.1.2\n",
@@ -95,6 +96,18 @@ fn links_and_lans_are_expanded(rt: HostRuntime) -> Result<(), Fail> {
             b"set big [$ns make-lan \"$a $b\" 100Mb 1.999ms]\ntb-set-lan-loss $big 0.000001",
             b"node big.d1 delay delay\nnode big.d2 delay delay\nlink big.m1 big 100000 a=10.1.1.1 big.d1\nlink big.m2 big 100000 b=10.1.1.2 big.d2\nlink big big 100000 big.d1 big.d2\npipe big.d1 0 1 100000 999 1 100000 1000 0\npipe big.d2 0 1 100000 999 1 100000 1000 0\n",
         ),
+        (
+            b"set l [$ns duplex-link $a $b 50Mb 0ms DropTail]\ntb-set-link-loss $l 0.000009",
+            b"node l.d delay delay\nlink l.0 l 50000 a=10.1.1.1 l.d\nlink l.1 l 50000 l.d b=10.1.1.2\npipe l.d 0 1 50000 0 9 50000 0 9\n",
+        ),
+        (
+            b"set big [$ns make-lan \"$a $b $c\" 100Mb 0ms]\ntb-set-ip $b 10.7.0.1",
+            b"link big big 100000 a=10.7.0.2 b=10.7.0.1 c=10.7.0.3\n",
+        ),
+        (
+            b"set l [$ns duplex-link $a $b 100Mb 0ms DropTail]\nset m [$ns duplex-link $a $b 100Mb 0ms DropTail]",
+            b"link l l 100000 a=10.1.1.1 b=10.1.1.2\nlink m m 100000 a=10.1.2.1 b=10.1.2.2\n",
+        ),
     ];
     for (joins, behind) in cases {
         let mut wanted = Vec::new(rt.alloc());
@@ -110,7 +123,7 @@ fn links_and_lans_are_expanded(rt: HostRuntime) -> Result<(), Fail> {
 
 #[test]
 fn faults_have_their_lines(rt: HostRuntime) -> Result<(), Fail> {
-    let cases: [(&[u8], u32, Kind); 4] = [
+    let cases: [(&[u8], u32, Kind); 8] = [
         (b"set x \"abc\n", 1, Kind::Quote),
         (b"set ns [new Simulator]\n$ns run\n", 2, Kind::Empty),
         (
@@ -122,6 +135,26 @@ fn faults_have_their_lines(rt: HostRuntime) -> Result<(), Fail> {
             b"set ns [new Simulator]\nset a [$ns node]\nset b [$ns node]\n\nset l [$ns duplex-link $a $b 100Mb 1ms RED]\n$ns run\n",
             5,
             Kind::Unsupported,
+        ),
+        (
+            b"set ns [new Simulator]\nset a [$ns node]\nset b [$ns node]\nfor {set i 1} {$i <= 257} {incr i} {\n$ns duplex-link $a $b 1kb 0ms DropTail\n}\n$ns run\n",
+            7,
+            Kind::Limit,
+        ),
+        (
+            b"set ns [new Simulator]\nset a [$ns node]\nset b [$ns node]\nfor {set i 1} {$i <= 255} {incr i} {\n$ns duplex-link $a $b 100Mb 0ms DropTail\n}\n$ns run\n",
+            7,
+            Kind::Subnet,
+        ),
+        (
+            b"set ns [new Simulator]\nset a [$ns node]\nset b [$ns node]\nset l [$ns duplex-link $a $b 100Mb 1ms DropTail]\ntb-set-ip $a 10.7.0.1\ntb-set-ip $b 10.7.1.1\n$ns run\n",
+            7,
+            Kind::Address,
+        ),
+        (
+            b"set ns [new Simulator]\nset a [$ns node]\nset b [$ns node]\nset l [$ns duplex-link $a $b 100Mb 1ms DropTail]\nset m [$ns duplex-link $a $b 100Mb 1ms DropTail]\ntb-set-ip-link $a $l 10.7.0.1\ntb-set-ip-link $a $m 10.7.0.1\n$ns run\n",
+            8,
+            Kind::Address,
         ),
     ];
     for (text, line, kind) in cases {
