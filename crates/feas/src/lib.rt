@@ -15,4 +15,3 @@ pub use fault::CheckFault;
 pub use nodes::may_share;
 pub use places::{is_fixed_at, suits};
 pub use whole::check;
-

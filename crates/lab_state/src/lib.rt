@@ -17,4 +17,3 @@ pub use fault::{PrepareFault, ReplayFault};
 pub use laws::{endings, texts_are_canonical};
 pub use prepared::Prepared;
 pub use state::LabState;
-

@@ -17,4 +17,3 @@ pub use free::Free;
 pub use lab::Lab;
 pub use laws::joined_by_lists;
 pub use parts::{Iface, Node, Trunk};
-

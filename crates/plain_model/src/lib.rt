@@ -54,7 +54,6 @@ pub use wanted::Wanted;
 pub use wants::wanted_rows;
 pub use world::{Sent, boot_of, has_row, os_of, pipe_of};
 
-
 /// The test of isolation is true exactly where a world with these rows and pipes is isolated.
 pub fn isolation_tested()
     ensures sound { (lab : Lab) (es : List Experiment) (w : World) (rows : List RowSeen) (pipes : List PipeSeen) → IsSeen w rows pipes

@@ -25,4 +25,3 @@ pub use repeats::{has_same, has_twice};
 pub use topo::{AskedLink, AskedNode, Topo};
 pub use violation::{Broken, Subject};
 pub use wiring::{Asks, Class, Pipe, Segment, VirtEnd, VirtNode, Wiring};
-
