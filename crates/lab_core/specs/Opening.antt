@@ -15,7 +15,8 @@ use Rattle.journal_disk.specs.Before.{AreAsBefore, AreSettled, ReadAlike}
 use Rattle.journal_disk.specs.declared.fault.OpenFault.{OpenFault}
 use Rattle.journal_disk.specs.declared.fault.OpenFault.TheVariants as faults
 use Rattle.journal_runs.specs.Pieces.{has_command, has_miss, has_restart}
-use Rattle.lab_core.specs.Moments.{Seen, Works, IsLabAt}
+use Rattle.lab_core.specs.Controller.{Control}
+use Rattle.lab_core.specs.Moments.{IsLabAt}
 
 -- WHAT AN OPENING ADDED, whatever its answer
 pub record OpenSteps (trace steps : List Event) : Type 0 where
@@ -30,14 +31,14 @@ pub record OpenSteps (trace steps : List Event) : Type 0 where
   pub alike : ReadAlike (disk A (trace ++ steps)).reads (disk B (trace ++ steps)).reads (disk A trace).reads (disk B trace).reads
   pub sound : IsSound the_texts trace → IsSound the_texts (trace ++ steps)
 
--- BY ITS ANSWER: after Ok no call failed, the lab is that of the moment, and over a sound trace the controller is at work; after Plant a call failed
-abbrev pub OpenEnds : List Event → List Event → Result Seen OpenFault → Type 0
+-- BY ITS ANSWER: after Ok no call failed, and the lab is that of the moment; after Plant a call failed
+abbrev pub OpenEnds : List Event → List Event → Result Control OpenFault → Type 0
 OpenEnds trace steps result =
-    IfOk result (λ c. (has_miss steps ≡ false) × IsLabAt (trace ++ steps) c.lab × (IsSound the_texts trace → Works (trace ++ steps) c))
+    IfOk result (λ c. (has_miss steps ≡ false) × IsLabAt (trace ++ steps) c.lab)
     × (IsErrOf result faults.Plant → has_miss steps ≡ true)
 
 -- what the records and the limit make of it
-abbrev pub IsOfJournal : ℕ → Journal → List Record → Result Seen OpenFault → Type 0
+abbrev pub IsOfJournal : ℕ → Journal → List Record → Result Control OpenFault → Type 0
 IsOfJournal limit j rs (Ok c) = (c.journal ≡ j) × LabOf the_texts rs c.lab × (length_of j + 39 * count_by is_moving c.lab.experiments ≤ limit)
 IsOfJournal limit j rs (Err (faults.Bad side at)) = (side ≡ side_of j)
     × (((n : ℕ) × StopsAt the_texts at_first rs n × (at ≡ gate_after (take n rs)))
