@@ -8,7 +8,7 @@ ghost use Rattle.map_anneal.specs.Searches.{sought_by, IsMoves, IsTried};
 use crate::moves::Moves;
 use crate::search::{Search, place_of};
 use crate::tried::Tried;
-use cost_rule::Rule;
+use cost_rule::StepRule;
 use lab_base::Memory;
 use node_maps::{NodeIfaces, Place, candidates, ends_of};
 use phys_lab::{Free, Lab};
@@ -30,7 +30,7 @@ fn if_cheaper(found: Option<Tried>, cost: u64) -> Option<Tried>
 fn cheaper_move(
     alloc: Global,
     moves: &Moves,
-    rule: &Rule,
+    rule: &StepRule,
     at: &Tried,
     node: usize,
     place: Place,
@@ -50,7 +50,7 @@ fn cheaper_move(
 fn cheaper_move_of(
     alloc: Global,
     moves: &Moves,
-    rule: &Rule,
+    rule: &StepRule,
     at: &Tried,
     node: usize,
 ) -> Result<Option<Tried>, Memory>
@@ -73,7 +73,7 @@ fn cheaper_move_of(
 fn any_cheaper_move(
     alloc: Global,
     moves: &Moves,
-    rule: &Rule,
+    rule: &StepRule,
     at: &Tried,
 ) -> Result<Option<Tried>, Memory>
     requires moves { IsMoves moves.now }
@@ -100,7 +100,7 @@ fn has_place(places: &[Place], place: Place) -> bool
 fn cheaper_exchange(
     alloc: Global,
     moves: &Moves,
-    rule: &Rule,
+    rule: &StepRule,
     at: &Tried,
     first: usize,
     second: usize,
@@ -127,7 +127,7 @@ fn cheaper_exchange(
 fn cheaper_exchange_of(
     alloc: Global,
     moves: &Moves,
-    rule: &Rule,
+    rule: &StepRule,
     at: &Tried,
     first: usize,
 ) -> Result<Option<Tried>, Memory>
@@ -150,7 +150,7 @@ fn cheaper_exchange_of(
 fn any_cheaper_exchange(
     alloc: Global,
     moves: &Moves,
-    rule: &Rule,
+    rule: &StepRule,
     at: &Tried,
 ) -> Result<Option<Tried>, Memory>
     requires moves { IsMoves moves.now }
@@ -171,7 +171,7 @@ fn any_cheaper_exchange(
 fn cheaper_neighbour(
     alloc: Global,
     moves: &Moves,
-    rule: &Rule,
+    rule: &StepRule,
     at: &Tried,
 ) -> Result<Option<Tried>, Memory>
     requires moves { IsMoves moves.now }
@@ -194,7 +194,7 @@ pub fn descend(
     free: &Free,
     wiring: &Wiring,
     start: &Mapping,
-    rule: &Rule,
+    rule: &StepRule,
 ) -> Result<Mapping, Memory>
     requires free { IsFreeOf lab.now free.now }
     requires sound { IsSound wiring.now }

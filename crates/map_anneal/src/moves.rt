@@ -4,7 +4,7 @@ ghost use Rattle.lab_model.specs.Rules.{no_place};
 
 use crate::search::{Search, place_of};
 use crate::tried::Tried;
-use cost_rule::Rule;
+use cost_rule::StepRule;
 use lab_base::{Items, Memory, NodeId};
 use node_maps::{Counted, Mapper, NodeIfaces, Place, copy_places};
 use std::alloc::Global;
@@ -61,7 +61,7 @@ impl Moves<'_> {
     ghost use Rattle.map_anneal.specs.Searches.{sought_by, with_price, priced_by, IsMoves, IsTried};
 
     /// A feasible node map to begin with, with its cost.
-    pub fn started(&self, alloc: Global, rule: &Rule, start: &Mapping) -> Result<Tried, Memory>
+    pub fn started(&self, alloc: Global, rule: &StepRule, start: &Mapping) -> Result<Tried, Memory>
         requires moves { IsMoves self.now }
         requires start { IsNodeMap (sought_by self.now.search rule.now.number) start.now }
         ensures tried { IfOk result (λ x. IsTried (sought_by self.now.search rule.now.number) x) }
@@ -78,7 +78,7 @@ impl Moves<'_> {
     fn tried(
         &self,
         alloc: Global,
-        rule: &Rule,
+        rule: &StepRule,
         at: &Tried,
         places: Items<Place>,
         first: NodeId,
@@ -112,7 +112,7 @@ impl Moves<'_> {
     pub fn moved(
         &self,
         alloc: Global,
-        rule: &Rule,
+        rule: &StepRule,
         at: &Tried,
         node: usize,
         place: Place,
@@ -136,7 +136,7 @@ impl Moves<'_> {
     pub fn exchanged(
         &self,
         alloc: Global,
-        rule: &Rule,
+        rule: &StepRule,
         at: &Tried,
         first: usize,
         second: usize,
@@ -162,7 +162,7 @@ impl Moves<'_> {
     pub fn named(
         &self,
         alloc: Global,
-        rule: &Rule,
+        rule: &StepRule,
         at: &Tried,
         first: u32,
         second: u32,

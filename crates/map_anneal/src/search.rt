@@ -2,7 +2,7 @@
 ghost use Rattle.std.specs.Prelude.{◌≡◌, ◌<◌, IfOk, ◌%◌, [], IfSome, Contains, length, slice_index_or};
 ghost use Rattle.lab_model.specs.Rules.{no_place};
 
-use cost_rule::Rule;
+use cost_rule::StepRule;
 use lab_base::Memory;
 use node_maps::{Candidates, End, Place, node_map};
 use phys_lab::{Free, Lab};
@@ -44,7 +44,7 @@ impl Search<'_> {
     pub fn priced(
         &self,
         alloc: Global,
-        rule: &Rule,
+        rule: &StepRule,
         places: &[Place],
     ) -> Result<Option<Priced>, Memory>
         requires search { IsSearch self.now }

@@ -10,7 +10,7 @@ ghost use Rattle.map_anneal.specs.Walk.{drawn, one_try, round, cooled, walk as w
 use crate::moves::Moves;
 use crate::search::{Priced, Search};
 use crate::tried::Tried;
-use cost_rule::Rule;
+use cost_rule::StepRule;
 use lab_base::Memory;
 use node_maps::{NodeIfaces, candidates, ends_of};
 use phys_lab::{Free, Lab};
@@ -82,7 +82,13 @@ impl Walk {
     ghost use Rattle.map_anneal.specs.Walks.{IsWalk, Keeps};
 
     /// One try.
-    fn step(&mut self, alloc: Global, moves: &Moves, rule: &Rule, heat: u64) -> Result<(), Memory>
+    fn step(
+        &mut self,
+        alloc: Global,
+        moves: &Moves,
+        rule: &StepRule,
+        heat: u64,
+    ) -> Result<(), Memory>
         requires moves { IsMoves moves.now }
         requires walk { IsWalk (sought_by moves.now.search rule.now.number) self.old }
         requires some { 0 < length (choices (sought_by moves.now.search rule.now.number)) }
@@ -102,7 +108,13 @@ impl Walk {
     }
 
     /// The tries at one heat.
-    fn round(&mut self, alloc: Global, moves: &Moves, rule: &Rule, heat: u64) -> Result<(), Memory>
+    fn round(
+        &mut self,
+        alloc: Global,
+        moves: &Moves,
+        rule: &StepRule,
+        heat: u64,
+    ) -> Result<(), Memory>
         requires moves { IsMoves moves.now }
         requires walk { IsWalk (sought_by moves.now.search rule.now.number) self.old }
         ensures walk { OnOk result (IsWalk (sought_by moves.now.search rule.now.number) self.new) }
@@ -116,7 +128,13 @@ impl Walk {
     }
 
     /// The rounds, while the heat is above 0.
-    fn cool(&mut self, alloc: Global, moves: &Moves, rule: &Rule, from: u64) -> Result<(), Memory>
+    fn cool(
+        &mut self,
+        alloc: Global,
+        moves: &Moves,
+        rule: &StepRule,
+        from: u64,
+    ) -> Result<(), Memory>
         requires moves { IsMoves moves.now }
         requires walk { IsWalk (sought_by moves.now.search rule.now.number) self.old }
         ensures walk { OnOk result (IsWalk (sought_by moves.now.search rule.now.number) self.new) }
@@ -139,7 +157,7 @@ pub fn anneal(
     free: &Free,
     wiring: &Wiring,
     start: &Mapping,
-    rule: &Rule,
+    rule: &StepRule,
     seed: u64,
 ) -> Result<Mapping, Memory>
     requires free { IsFreeOf lab.now free.now }
