@@ -37,6 +37,13 @@ impl Sums {
         self.total
     }
 
+    /// By trunk what the segments use of it.
+    pub fn uses(&self) -> &[u64]
+        ensures { result.now ≡ self.now.uses.items }
+    {
+        &self.uses
+    }
+
     /// Makes changes, one after another: the sums are what counting anew gives of the plugs then.
     pub fn make(
         &mut self,
