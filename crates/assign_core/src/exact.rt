@@ -9,7 +9,7 @@ ghost use Rattle.map_anneal.specs.Searches.{sought_by, IsSearch, IsPriced};
 ghost use Rattle.assign_core.specs.Bests.{IsBest, IsPartial, cheaper_of};
 ghost use Rattle.assign_core.specs.Exact.{all_choices, count, node_maps, IsCheapestOf};
 
-use cost_rule::Rule;
+use cost_rule::StepRule;
 use lab_base::Memory;
 use map_anneal::{Priced, Search};
 use node_maps::{Place, candidates, copy_places, ends_of};
@@ -46,7 +46,7 @@ pub(crate) fn with_more(alloc: Global, places: &[Place], place: Place) -> Result
 fn explore(
     alloc: Global,
     search: &Search,
-    rule: &Rule,
+    rule: &StepRule,
     places: &[Place],
     best: Option<Priced>,
 ) -> Result<Option<Priced>, Memory>
@@ -75,7 +75,7 @@ pub fn best_of_all(
     lab: &Lab,
     free: &Free,
     wiring: &Wiring,
-    rule: &Rule,
+    rule: &StepRule,
 ) -> Result<Option<(Mapping, u64)>, Memory>
     requires free { IsFreeOf lab.now free.now }
     requires sound { IsSound wiring.now }

@@ -2,9 +2,10 @@ ghost use Rattle.std.specs.Prelude.{◌≡◌, IsTrue};
 ghost use Rattle.virt_topo.specs.Soundness.{IsSound};
 ghost use Rattle.lab_model.specs.Shapes.{IsFreeOf, IsShaped};
 ghost use Rattle.cost_rule.specs.Cost.{cost};
+ghost use Rattle.cost_rule.specs.Parts.{cost_of_parts, AreParts};
 
 use super::*;
-use cost_rule::{CostFn, Rule, RuleNumber, cost_of};
+use cost_rule::{CostFn, Parts, PartsFn, Rule, RuleNumber, StepFn, StepRule, cost_of, parts_cost};
 use lab_base::{Items, Memory, Name, NodeId, SwitchId};
 use map_anneal::{anneal, descend};
 use phys_lab::{Free, Iface, Lab, LabBuilder, Node, Trunk};
@@ -262,7 +263,7 @@ fn descended(
     lab: &Lab,
     free: &Free,
     wiring: &Wiring,
-    rule: &Rule,
+    rule: &StepRule,
 ) -> Result<Option<Mapping>, Memory>
     requires free { IsFreeOf lab.now free.now }
     requires sound { IsSound wiring.now }
@@ -280,7 +281,7 @@ fn walked(
     lab: &Lab,
     free: &Free,
     wiring: &Wiring,
-    rule: &Rule,
+    rule: &StepRule,
     seed: u64,
 ) -> Result<Option<Mapping>, Memory>
     requires free { IsFreeOf lab.now free.now }
@@ -350,7 +351,7 @@ fn called(
     lab: &Lab,
     free: &Free,
     wiring: &Wiring,
-    rule: &Rule,
+    rule: &StepRule,
     call: Call,
 ) -> Result<Found, Fail>
     requires free { IsFreeOf lab.now free.now }
@@ -389,8 +390,26 @@ fn asked(alloc: Global, lab: &Lab, wiring: &Wiring, call: Call) -> Result<Found,
         noted.set(noted.get().saturating_add(1));
         cost_of(number, lab, wiring, mapping)
     };
+    let stepped = Rc::clone(&calls)?;
+    let by_step = move |lab: &Lab, wiring: &Wiring, _from: &Mapping, to: &Mapping, _cost: u64| -> u64
+        requires { IsSound wiring.now × IsShaped lab.now wiring.now to.now }
+        ensures { result ≡ cost number lab.now wiring.now to.now }
+    {
+        stepped.set(stepped.get().saturating_add(1));
+        cost_of(number, lab, wiring, to)
+    };
+    let parted = Rc::clone(&calls)?;
+    let by_parts = move |parts: Parts| -> u64
+        requires { AreParts parts }
+        ensures { result ≡ cost_of_parts number parts }
+    {
+        parted.set(parted.get().saturating_add(1));
+        parts_cost(number, parts)
+    };
     let boxed: CostFn = Box::new(alloc, by_number)?;
-    let rule = Rule::new(number, boxed);
+    let step: StepFn = Box::new(alloc, by_step)?;
+    let by_parts: PartsFn = Box::new(alloc, by_parts)?;
+    let rule = StepRule::new(Rule::new(number, boxed), step, by_parts);
     let mut found = called(alloc, lab, &free, wiring, &rule, call)?;
     found.asked = calls.get();
     Ok(found)

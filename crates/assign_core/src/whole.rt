@@ -7,7 +7,7 @@ ghost use Rattle.assign_core.specs.Exact.{count, IsAllowed};
 
 use crate::exact::best_of_all;
 use crate::first::first_fit;
-use cost_rule::Rule;
+use cost_rule::StepRule;
 use lab_base::Memory;
 use map_anneal::{anneal, descend};
 use node_maps::{Candidates, candidates};
@@ -53,7 +53,7 @@ pub fn solve(
     lab: &Lab,
     free: &Free,
     wiring: &Wiring,
-    rule: &Rule,
+    rule: &StepRule,
     seed: u64,
 ) -> Result<Solved, Memory>
     requires free { IsFreeOf lab.now free.now }

@@ -1,3 +1,4 @@
 pub mod Sums
 pub mod KindSteps
 pub mod LimitLaws
+pub mod PartLaws

@@ -23,7 +23,7 @@ fn trunk_use(lab: &Lab, wiring: &Wiring, mapping: &Mapping, trunk: usize) -> u64
     mapping.cut_use(wiring, lab.first_side(TrunkId(trunk as u16)))
 }
 
-fn trunk_uses(lab: &Lab, wiring: &Wiring, mapping: &Mapping) -> u64
+pub(crate) fn trunk_uses(lab: &Lab, wiring: &Wiring, mapping: &Mapping) -> u64
     requires sound { IsSound wiring.now }
     requires shaped { IsShaped lab.now wiring.now mapping.now }
     ensures sum { result ≡ trunk_uses lab.now wiring.now mapping.now }
@@ -44,7 +44,7 @@ fn is_on(node: NodeId, places: &[(NodeId, Name)]) -> bool
 }
 
 /// How many nodes are in use.
-fn nodes_in_use(mapping: &Mapping) -> usize
+pub(crate) fn nodes_in_use(mapping: &Mapping) -> usize
     ensures number { result ≡ nodes_in_use mapping.now }
     ensures few { result ≤ length mapping.now.places }
 {

@@ -21,7 +21,7 @@ pub type CostFn = Box<dyn Fn(&Lab, &Wiring, &Mapping) -> u64>;
 /// A rule that answers what a mapping costs by its number, which contracts see and no call gives.
 #[derive(Drop)]
 pub struct Rule {
-    number: RuleNumber,
+    pub(crate) number: RuleNumber,
     f: CostFn,
     ghost callable: { (lab : _) (wiring : _) (mapping : _) → IsSound wiring.now → IsShaped lab.now wiring.now mapping.now → CostFn.pre f lab wiring mapping },
     ghost answers: { (lab : _) (wiring : _) (mapping : _) (r : _) → IsSound wiring.now → IsShaped lab.now wiring.now mapping.now → CostFn.post f lab wiring mapping r → r ≡ cost number lab.now wiring.now mapping.now },

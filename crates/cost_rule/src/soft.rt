@@ -44,7 +44,7 @@ fn missed(wanted: &[(Name, u32)], given: &[(Name, u32)]) -> u64
 }
 
 /// What a virtual node misses of its node, and what it doesn't desire of it.
-fn node_soft(lab: &Lab, wiring: &Wiring, mapping: &Mapping, virt: usize) -> u64
+pub fn node_soft(lab: &Lab, wiring: &Wiring, mapping: &Mapping, virt: usize) -> u64
     requires sound { IsSound wiring.now }
     requires shaped { IsShaped lab.now wiring.now mapping.now }
     requires virt { virt < length wiring.now.nodes }
@@ -128,7 +128,7 @@ fn kinds_of(wiring: &Wiring, mapping: &Mapping, class: u16) -> usize
 }
 
 /// What a class with a weight below 1,000 costs for each type but one.
-fn class_soft(wiring: &Wiring, mapping: &Mapping, class: usize) -> u64
+pub fn class_soft(wiring: &Wiring, mapping: &Mapping, class: usize) -> u64
     requires sound { IsSound wiring.now }
     requires placed { length mapping.now.places ≡ length wiring.now.nodes }
     requires class { class < length wiring.now.classes }

@@ -2,11 +2,12 @@ ghost use Rattle.std.specs.Prelude.{◌≡◌, ◌*◌, ◌/◌};
 ghost use Rattle.virt_topo.specs.Soundness.{IsSound};
 ghost use Rattle.lab_model.specs.Shapes.{IsFreeOf, IsShaped};
 ghost use Rattle.cost_rule.specs.Cost.{cost};
+ghost use Rattle.cost_rule.specs.Parts.{cost_of_parts, AreParts};
 
 use crate::labs::{all_free, lab_of, wiring_of};
 use anyhow::bail;
 use assign_core::first_fit;
-use cost_rule::{CostFn, Rule, RuleNumber, cost_of};
+use cost_rule::{CostFn, Parts, PartsFn, Rule, RuleNumber, StepFn, StepRule, cost_of, parts_cost};
 use map_anneal::anneal;
 use phys_lab::{Free, Lab};
 use virt_topo::{Mapping, Wiring};
@@ -38,7 +39,7 @@ fn walked(
     lab: &Lab,
     free: &Free,
     wiring: &Wiring,
-    rule: &Rule,
+    rule: &StepRule,
 ) -> anyhow::Result<()>
     requires free { IsFreeOf lab.now free.now }
     requires sound { IsSound wiring.now }
@@ -71,8 +72,19 @@ pub fn walk(rt: &HostRuntime, ptop: &[u8], top: &[u8]) -> anyhow::Result<()> {
         requires { IsSound wiring.now × IsShaped lab.now wiring.now mapping.now }
         ensures { result ≡ cost number lab.now wiring.now mapping.now }
     { cost_of(number, lab, wiring, mapping) };
+    let by_step = move |lab: &Lab, wiring: &Wiring, _from: &Mapping, to: &Mapping, _cost: u64| -> u64
+        requires { IsSound wiring.now × IsShaped lab.now wiring.now to.now }
+        ensures { result ≡ cost number lab.now wiring.now to.now }
+    { cost_of(number, lab, wiring, to) };
+    let by_parts = move |parts: Parts| -> u64
+        requires { AreParts parts }
+        ensures { result ≡ cost_of_parts number parts }
+    { parts_cost(number, parts) };
     let boxed: CostFn = Box::new(rt.alloc(), by_number)?;
-    walked(rt, &lab, &free, &wiring, &Rule::new(number, boxed))
+    let step: StepFn = Box::new(rt.alloc(), by_step)?;
+    let parted: PartsFn = Box::new(rt.alloc(), by_parts)?;
+    let rule = StepRule::new(Rule::new(number, boxed), step, parted);
+    walked(rt, &lab, &free, &wiring, &rule)
 }
 
 /// Places a wiring by FirstFit, as before a walk.

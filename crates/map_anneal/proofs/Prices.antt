@@ -6,7 +6,10 @@ use Rattle.node_maps.specs.NodeMaps.{IsChoice}
 use Rattle.node_maps.proofs.MapLaws.{mapped_is}
 use Rattle.map_anneal.specs.declared.search.Priced.{Priced}
 use Rattle.map_anneal.specs.Sought.{Sought, choices, mapped, price, IsNodeMap}
-use Rattle.map_anneal.specs.Searches.{with_price, IsPriced}
+use Rattle.cost_rule.specs.declared.rule.RuleNumber.{RuleNumber}
+use Rattle.map_anneal.specs.declared.moves.Moves.{Moves}
+use Rattle.map_anneal.specs.declared.tried.Tried.{Tried}
+use Rattle.map_anneal.specs.Searches.{with_price, sought_of, priced_by, IsPriced, IsTried}
 
 pub record HasPrice (s : Sought) (o : Option Mapping) (p : Priced) : Type 0 where
   pub found : o ≡ Some p.mapping
@@ -37,3 +40,7 @@ pub priced_of : (s : Sought) (places : List Place) (p : Priced) → IsChoice (ch
 priced_of s places p choice e =
     let has = with_price_some s (mapped s places) p e in
     record { node_map = mapped_node_map s places p.mapping choice has.found; cost = has.cost }
+
+-- what is tried is a feasible node map with its cost
+pub priced_tried : (moves : Moves) (number : RuleNumber) (x : Tried) → IsTried moves number x → IsPriced (sought_of moves number) (priced_by x)
+priced_tried moves number x is = record { node_map = record { choice = is.board.laid.choice; feasible = is.board.mapped }; cost = is.cost }

@@ -1,6 +1,7 @@
 -- One try of the walk that the code keeps.
-use Rattle.std.proofs.Common.{◌≡◌, ◌≤◌, ◌<◌, ◌∙◌, ◌+◌, ◌*◌, ◌/◌, ◌%◌, ◌++◌, ◌∷◌, [], ℕ, List, nat_le, nat_lt, arith, true, false, Option, Some, None, if◌then◌else◌, sym, ap, subst}
+use Rattle.std.proofs.Common.{◌≡◌, ◌≤◌, ◌<◌, ◌∙◌, ◌+◌, ◌*◌, ◌/◌, ◌%◌, ◌++◌, ◌∷◌, [], ℕ, List, nat_le, nat_lt, arith, true, false, Option, Some, None, if◌then◌else◌, sym, ap, subst, refl}
 use Rattle.std.proofs.lemmas.Bool.{cond-true, cond-false, cond_both, ltb-true, ltb-false}
+use Rattle.std.proofs.lemmas.Bool.Decides.{nat_tests}
 use Rattle.std.specs.Prelude.{option_and_then}
 use Rattle.virt_topo.specs.declared.mapping.Mapping.{Mapping}
 use Rattle.node_maps.specs.Least.{IsFirstLeast}
@@ -9,59 +10,56 @@ use Rattle.map_anneal.specs.declared.search.Priced.{Priced}
 use Rattle.map_anneal.specs.declared.tried.Tried.{Tried}
 use Rattle.map_anneal.specs.declared.walk.Walk.{Walk}
 use Rattle.map_anneal.specs.Sought.{Sought, price}
-use Rattle.map_anneal.specs.Searches.{with_price, IsPriced}
+use Rattle.map_anneal.specs.Searches.{IsPriced}
 use Rattle.map_anneal.specs.Walk.{Walker, Drawn, drawn, named, found, added, one_try}
 use Rattle.map_anneal.specs.Walks.{Keeps}
-use Rattle.map_anneal.proofs.Prices.{with_price_some}
-
-limit : ℕ → ℕ → ℕ → ℕ
-limit heat last w3 = last + (w3 % 1024) * heat / 1024
 
 -- the try adds this map
-pub found_some : (s : Sought) (heat : ℕ) (last p : Priced) (d : Drawn) → IsPriced s last → with_price s (named s last.mapping d.first d.second) ≡ Some p
-    → nat_le p.cost (last.cost + (d.third % 1024) * heat / 1024) ≡ true → found s heat last.mapping d ≡ Some p.mapping
-found_some s heat last p d is e within =
-    let has = with_price_some s (named s last.mapping d.first d.second) p e in
-    let keep : Mapping → Option Mapping = λ m. if nat_le (price s m) (price s last.mapping + (d.third % 1024) * heat / 1024) then Some m else None in
-    let test : nat_le (price s p.mapping) (price s last.mapping + (d.third % 1024) * heat / 1024) ≡ true =
-    ap (λ n. nat_le n (price s last.mapping + (d.third % 1024) * heat / 1024)) (sym has.cost)
-    ∙ ap (λ n. nat_le p.cost (n + (d.third % 1024) * heat / 1024)) (sym is.cost) ∙ within in
-    ap (λ o. option_and_then keep o) has.found
-    ∙ cond-true (nat_le (price s p.mapping) (price s last.mapping + (d.third % 1024) * heat / 1024)) (Some p.mapping) None test
+pub found_some : (s : Sought) (heat : ℕ) (last : Mapping) (m : Mapping) (d : Drawn) → named s last d.first d.second ≡ Some m
+    → price s m < price s last + (d.third % 1024) * heat / 1024 + 1 → found s heat last d ≡ Some m
+found_some s heat last m d is lt =
+    let most = price s last + (d.third % 1024) * heat / 1024 in
+    let keep : Mapping → Option Mapping = λ x. if nat_le (price s x) most then Some x else None in
+    ap (λ o. option_and_then keep o) is ∙ cond-true (nat_le (price s m) most) (Some m) None (within (price s m) most (omega (arith, lt)))
+  where
+    within : (a b : ℕ) → a ≤ b → nat_le a b ≡ true
+    within a b le = grind (arith, nat_tests)
 
 -- the try adds none
-pub found_none : (s : Sought) (heat : ℕ) (last p : Priced) (d : Drawn) → IsPriced s last → with_price s (named s last.mapping d.first d.second) ≡ Some p
-    → nat_le p.cost (last.cost + (d.third % 1024) * heat / 1024) ≡ false → found s heat last.mapping d ≡ None
-found_none s heat last p d is e above =
-    let has = with_price_some s (named s last.mapping d.first d.second) p e in
-    let keep : Mapping → Option Mapping = λ m. if nat_le (price s m) (price s last.mapping + (d.third % 1024) * heat / 1024) then Some m else None in
-    let test : nat_le (price s p.mapping) (price s last.mapping + (d.third % 1024) * heat / 1024) ≡ false =
-    ap (λ n. nat_le n (price s last.mapping + (d.third % 1024) * heat / 1024)) (sym has.cost)
-    ∙ ap (λ n. nat_le p.cost (n + (d.third % 1024) * heat / 1024)) (sym is.cost) ∙ above in
-    ap (λ o. option_and_then keep o) has.found
-    ∙ cond-false (nat_le (price s p.mapping) (price s last.mapping + (d.third % 1024) * heat / 1024)) (Some p.mapping) None test
+pub found_none : (s : Sought) (heat : ℕ) (last : Mapping) (d : Drawn)
+    → ((m : Mapping) → named s last d.first d.second ≡ Some m → price s last + (d.third % 1024) * heat / 1024 + 1 ≤ price s m) → found s heat last d ≡ None
+found_none s heat last d dear = by (named s last d.first d.second) refl
+  where
+    above : (a b : ℕ) → b + 1 ≤ a → nat_le a b ≡ false
+    above a b le = grind (arith, nat_tests)
+
+    by : (o : Option Mapping) → named s last d.first d.second ≡ o → found s heat last d ≡ None
+    by None is = ap (λ o. option_and_then (λ x. if nat_le (price s x) (price s last + (d.third % 1024) * heat / 1024) then Some x else None) o) is
+    by (Some m) is =
+        let most = price s last + (d.third % 1024) * heat / 1024 in
+        ap (λ o. option_and_then (λ x. if nat_le (price s x) most then Some x else None) o) is ∙ cond-false (nat_le (price s m) most) (Some m) None (above (price s m) most (dear m is))
 
 -- the walk after a try that found this
-pub after_try : (s : Sought) (heat : ℕ) (x : Walker) (old : Walk) (o : Option Mapping) → Keeps s old x → found s heat old.last.counted.mapping (drawn old.generator) ≡ o
+pub after_try : (s : Sought) (heat : ℕ) (x : Walker) (old : Walk) (o : Option Mapping) → Keeps s old x → found s heat old.last.board.mapping (drawn old.generator) ≡ o
     → one_try s heat x ≡ added x (drawn old.generator).after o
 after_try s heat x old o keeps e =
     ap (λ w. added x (drawn w).after (found s heat x.last (drawn w))) (sym keeps.words)
     ∙ ap (λ m. added x (drawn old.generator).after (found s heat m (drawn old.generator))) (sym keeps.last)
     ∙ ap (λ f. added x (drawn old.generator).after f) e
 
-pub keeps_added : (s : Sought) (heat : ℕ) (x : Walker) (old new : Walk) (m : Mapping) → Keeps s old x → found s heat old.last.counted.mapping (drawn old.generator) ≡ Some m
-    → new.generator ≡ (drawn old.generator).after → new.last.counted.mapping ≡ m → IsFirstLeast (price s) (x.maps ++ m ∷ []) new.best.mapping
+pub keeps_added : (s : Sought) (heat : ℕ) (x : Walker) (old new : Walk) (m : Mapping) → Keeps s old x → found s heat old.last.board.mapping (drawn old.generator) ≡ Some m
+    → new.generator ≡ (drawn old.generator).after → new.last.board.mapping ≡ m → IsFirstLeast (price s) (x.maps ++ m ∷ []) new.best.mapping
     → Keeps s new (one_try s heat x)
 keeps_added s heat x old new m keeps e words last best =
     let P : Walker → Type 0 = λ y. Keeps s new y in
     subst P (sym (after_try s heat x old (Some m) keeps e)) (record { words = words; last = last; best = best })
 
-pub keeps_same : (s : Sought) (heat : ℕ) (x : Walker) (old new : Walk) → Keeps s old x → found s heat old.last.counted.mapping (drawn old.generator) ≡ None
-    → new.generator ≡ (drawn old.generator).after → new.last ≡ old.last → new.best ≡ old.best → Keeps s new (one_try s heat x)
+pub keeps_same : (s : Sought) (heat : ℕ) (x : Walker) (old new : Walk) → Keeps s old x → found s heat old.last.board.mapping (drawn old.generator) ≡ None
+    → new.generator ≡ (drawn old.generator).after → new.last.board.mapping ≡ old.last.board.mapping → new.best ≡ old.best → Keeps s new (one_try s heat x)
 keeps_same s heat x old new keeps e words last best =
     let P : Walker → Type 0 = λ y. Keeps s new y in
     let Q : Priced → Type 0 = λ p. IsFirstLeast (price s) x.maps p.mapping in
-    subst P (sym (after_try s heat x old None keeps e)) (record { words = words; last = ap (λ (t : Tried). t.counted.mapping) last ∙ keeps.last; best = subst Q (sym best) keeps.best })
+    subst P (sym (after_try s heat x old None keeps e)) (record { words = words; last = last ∙ keeps.last; best = subst Q (sym best) keeps.best })
 
 abbrev pub cheaper : Priced → Priced → Priced
 cheaper best next = if nat_lt next.cost best.cost then next else best

@@ -1,13 +1,13 @@
 -- The searches of the code.
-use Rattle.std.specs.Prelude.{◌≡◌, Option}
+use Rattle.std.specs.Prelude.{◌≡◌, [], Option}
 use Rattle.std.specs.Option.{option_map}
 use Rattle.virt_topo.specs.declared.mapping.Mapping.{Mapping}
 use Rattle.virt_topo.specs.Soundness.{IsSound}
 use Rattle.lab_model.specs.Shapes.{IsFreeOf}
 use Rattle.cost_rule.specs.declared.rule.RuleNumber.{RuleNumber}
 use Rattle.node_maps.specs.NodeMaps.{candidates, ends_of}
-use Rattle.node_maps.specs.Indexed.{IsIndex}
-use Rattle.node_maps.specs.Counted.{IsCounted}
+use Rattle.map_board.specs.Tables.{IsSetting}
+use Rattle.map_board.specs.Boards.{IsBoard}
 use Rattle.map_anneal.specs.declared.search.Search.{Search}
 use Rattle.map_anneal.specs.declared.search.Priced.{Priced}
 use Rattle.map_anneal.specs.declared.moves.Moves.{Moves}
@@ -33,16 +33,21 @@ pub record IsPriced (s : Sought) (p : Priced) : Type 0 where
   pub node_map : IsNodeMap s p.mapping
   pub cost : p.cost ≡ price s p.mapping
 
--- the interfaces by node are the lab's
+-- what is sought where moves are tried
+abbrev pub sought_of : Moves → RuleNumber → Sought
+sought_of x number = sought x.setting.mapper.lab.now x.setting.mapper.free.now x.setting.mapper.wiring.now number
+
+-- the setting is one, and the candidates are its
 pub record IsMoves (x : Moves) : Type 0 where
-  pub search : IsSearch x.search
-  pub ifaces : IsIndex x.search.lab.now x.ifaces.now
+  pub setting : IsSetting x.setting
+  pub listed : x.candidates.now ≡ candidates x.setting.mapper.lab.now x.setting.mapper.free.now x.setting.mapper.wiring.now
 
--- the map of a try with its cost
+-- the map at hand with its cost
 abbrev pub priced_by : Tried → Priced
-priced_by x = record { mapping = x.counted.mapping; cost = x.cost }
+priced_by x = record { mapping = x.board.mapping; cost = x.cost }
 
--- a feasible node map, counted, with its cost
-pub record IsTried (s : Sought) (x : Tried) : Type 0 where
-  pub priced : IsPriced s (priced_by x)
-  pub counted : IsCounted s.lab s.wiring x.counted
+-- a feasible node map with what is kept of it, and its cost
+pub record IsTried (moves : Moves) (number : RuleNumber) (x : Tried) : Type 0 where
+  pub board : IsBoard moves.setting x.board
+  pub none : x.board.back.items ≡ []
+  pub cost : x.cost ≡ price (sought_of moves number) x.board.mapping

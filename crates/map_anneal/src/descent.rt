@@ -1,93 +1,68 @@
 // Descent to a locally best map.
-ghost use Rattle.std.specs.Prelude.{◌≡◌, ◌≤◌, ◌<◌, ℕ, length, IfOk, IfSome, IfNone, Contains, IsTrue, ◌↔◌};
+ghost use Rattle.std.specs.Prelude.{◌≡◌, ◌≤◌, ◌<◌, ℕ, true, false, length, IfOk, OnOk, Contains, IsTrue, ◌↔◌};
 ghost use Rattle.virt_topo.specs.Soundness.{IsSound};
 ghost use Rattle.lab_model.specs.Shapes.{IsFreeOf};
-ghost use Rattle.map_anneal.specs.Sought.{sought, choices, candidates_at, price, moved, IsNodeMap, IsNoCheaper, NoMove, NoExchange, LocallyBest};
-ghost use Rattle.map_anneal.specs.Searches.{sought_by, IsMoves, IsTried};
+ghost use Rattle.map_anneal.specs.Sought.{sought, choices, price, IsNodeMap, NoMove, NoExchange, LocallyBest};
+ghost use Rattle.map_anneal.specs.Searches.{sought_of, IsMoves, IsTried};
 
 use crate::moves::Moves;
-use crate::search::{Search, place_of};
+use crate::search::place_of;
 use crate::tried::Tried;
-use cost_rule::Rule;
+use cost_rule::StepRule;
 use lab_base::Memory;
-use node_maps::{NodeIfaces, Place, candidates, ends_of};
+use map_board::{Setting, Table};
+use node_maps::{Mapper, NodeIfaces, Place, candidates, ends_of};
 use phys_lab::{Free, Lab};
 use std::alloc::Global;
 use virt_topo::{Mapping, Wiring};
 
-/// The map, if there is one and it costs less.
-fn if_cheaper(found: Option<Tried>, cost: u64) -> Option<Tried>
-    ensures cheaper { IfSome result (λ p. (found ≡ Some p) × (p.cost < cost)) }
-    ensures none { IfNone result (IfSome found (λ p. cost ≤ p.cost)) }
-{
-    match found {
-        Some(next) => { if next.cost < cost { Some(next) } else { None } }
-        None => None,
-    }
-}
-
-/// The map with a virtual node at a candidate, where it is feasible and cheaper.
-fn cheaper_move(
-    alloc: Global,
-    moves: &Moves,
-    rule: &Rule,
-    at: &Tried,
-    node: usize,
-    place: Place,
-) -> Result<Option<Tried>, Memory>
-    requires moves { IsMoves moves.now }
-    requires at { IsTried (sought_by moves.now.search rule.now.number) at.now }
-    requires within { node < length (choices (sought_by moves.now.search rule.now.number)) }
-    requires among { Contains (candidates_at (sought_by moves.now.search rule.now.number) node) place }
-    ensures cheaper { IfOk result (λ found. IfSome found (λ p. IsTried (sought_by moves.now.search rule.now.number) p × (p.cost < at.now.cost))) }
-    ensures none { IfOk result (λ found. IfNone found (IsNoCheaper (sought_by moves.now.search rule.now.number) at.now.counted.mapping (moved (sought_by moves.now.search rule.now.number) at.now.counted.mapping node place))) }
-{
-    let found = moves.moved(alloc, rule, at, node, place)?;
-    Ok(if_cheaper(found, at.cost))
-}
-
-/// The first cheaper move of a virtual node.
+/// Makes the first cheaper move of a virtual node, if there is one.
 fn cheaper_move_of(
     alloc: Global,
     moves: &Moves,
-    rule: &Rule,
-    at: &Tried,
+    rule: &StepRule,
+    at: &mut Tried,
     node: usize,
-) -> Result<Option<Tried>, Memory>
+) -> Result<bool, Memory>
     requires moves { IsMoves moves.now }
-    requires at { IsTried (sought_by moves.now.search rule.now.number) at.now }
-    requires within { node < length (choices (sought_by moves.now.search rule.now.number)) }
-    ensures cheaper { IfOk result (λ found. IfSome found (λ p. IsTried (sought_by moves.now.search rule.now.number) p × (p.cost < at.now.cost))) }
-    ensures none { IfOk result (λ found. IfNone found (NoMove (sought_by moves.now.search rule.now.number) at.now.counted.mapping node)) }
+    requires at { IsTried moves.now rule.now.number at.old }
+    requires within { node < length (choices (sought_of moves.now rule.now.number)) }
+    ensures tried { OnOk result (IsTried moves.now rule.now.number at.new) }
+    ensures cheaper { IfOk result (λ yes. yes ≡ true → at.new.cost < at.old.cost) }
+    ensures same { IfOk result (λ yes. yes ≡ false → at.new.board.mapping ≡ at.old.board.mapping) }
+    ensures same_cost { IfOk result (λ yes. yes ≡ false → at.new.cost ≡ at.old.cost) }
+    ensures none { IfOk result (λ yes. yes ≡ false → NoMove (sought_of moves.now rule.now.number) at.old.board.mapping node) }
 {
-    for place in moves.search.candidates.of(node) {
-        let found = cheaper_move(alloc, moves, rule, at, node, *place)?;
-        if found.is_some() {
-            return Ok(found);
+    for place in moves.candidates.of(node) {
+        let below = u128::from(at.cost);
+        if at.move_if(alloc, moves, rule, node, *place, below)? {
+            return Ok(true);
         }
     }
-    Ok(None)
+    Ok(false)
 }
 
-/// The first cheaper move.
+/// Makes the first cheaper move, if there is one.
 fn any_cheaper_move(
     alloc: Global,
     moves: &Moves,
-    rule: &Rule,
-    at: &Tried,
-) -> Result<Option<Tried>, Memory>
+    rule: &StepRule,
+    at: &mut Tried,
+) -> Result<bool, Memory>
     requires moves { IsMoves moves.now }
-    requires at { IsTried (sought_by moves.now.search rule.now.number) at.now }
-    ensures cheaper { IfOk result (λ found. IfSome found (λ p. IsTried (sought_by moves.now.search rule.now.number) p × (p.cost < at.now.cost))) }
-    ensures none { IfOk result (λ found. IfNone found ((v : ℕ) → v < length (choices (sought_by moves.now.search rule.now.number)) → NoMove (sought_by moves.now.search rule.now.number) at.now.counted.mapping v)) }
+    requires at { IsTried moves.now rule.now.number at.old }
+    ensures tried { OnOk result (IsTried moves.now rule.now.number at.new) }
+    ensures cheaper { IfOk result (λ yes. yes ≡ true → at.new.cost < at.old.cost) }
+    ensures same { IfOk result (λ yes. yes ≡ false → at.new.board.mapping ≡ at.old.board.mapping) }
+    ensures same_cost { IfOk result (λ yes. yes ≡ false → at.new.cost ≡ at.old.cost) }
+    ensures none { IfOk result (λ yes. yes ≡ false → (v : ℕ) → v < length (choices (sought_of moves.now rule.now.number)) → NoMove (sought_of moves.now rule.now.number) at.old.board.mapping v) }
 {
-    for node in 0..moves.search.candidates.len() {
-        let found = cheaper_move_of(alloc, moves, rule, at, node)?;
-        if found.is_some() {
-            return Ok(found);
+    for node in 0..moves.candidates.len() {
+        if cheaper_move_of(alloc, moves, rule, at, node)? {
+            return Ok(true);
         }
     }
-    Ok(None)
+    Ok(false)
 }
 
 fn has_place(places: &[Place], place: Place) -> bool
@@ -96,95 +71,106 @@ fn has_place(places: &[Place], place: Place) -> bool
     places.contains(&place)
 }
 
-/// The map with the places of two virtual nodes exchanged, where they may be, and it is feasible and cheaper.
+/// Exchanges the places of two virtual nodes, where they may be, and the map is feasible and cheaper.
 fn cheaper_exchange(
     alloc: Global,
     moves: &Moves,
-    rule: &Rule,
-    at: &Tried,
+    rule: &StepRule,
+    at: &mut Tried,
     first: usize,
     second: usize,
-) -> Result<Option<Tried>, Memory>
+) -> Result<bool, Memory>
     requires moves { IsMoves moves.now }
-    requires at { IsTried (sought_by moves.now.search rule.now.number) at.now }
-    requires first { first < length (choices (sought_by moves.now.search rule.now.number)) }
-    requires second { second < length (choices (sought_by moves.now.search rule.now.number)) }
-    ensures cheaper { IfOk result (λ found. IfSome found (λ p. IsTried (sought_by moves.now.search rule.now.number) p × (p.cost < at.now.cost))) }
-    ensures none { IfOk result (λ found. IfNone found (NoExchange (sought_by moves.now.search rule.now.number) at.now.counted.mapping first second)) }
+    requires at { IsTried moves.now rule.now.number at.old }
+    requires ordered { first < second }
+    requires second { second < length (choices (sought_of moves.now rule.now.number)) }
+    ensures tried { OnOk result (IsTried moves.now rule.now.number at.new) }
+    ensures cheaper { IfOk result (λ yes. yes ≡ true → at.new.cost < at.old.cost) }
+    ensures same { IfOk result (λ yes. yes ≡ false → at.new.board.mapping ≡ at.old.board.mapping) }
+    ensures same_cost { IfOk result (λ yes. yes ≡ false → at.new.cost ≡ at.old.cost) }
+    ensures none { IfOk result (λ yes. yes ≡ false → NoExchange (sought_of moves.now rule.now.number) at.old.board.mapping first second) }
 {
-    let places = at.counted.mapping.places.as_slice();
-    if !has_place(moves.search.candidates.of(first), place_of(places, second)) {
-        return Ok(None);
+    let one = place_of(at.board.mapping.places.as_slice(), first);
+    let other = place_of(at.board.mapping.places.as_slice(), second);
+    if !has_place(moves.candidates.of(first), other) {
+        return Ok(false);
     }
-    if !has_place(moves.search.candidates.of(second), place_of(places, first)) {
-        return Ok(None);
+    if !has_place(moves.candidates.of(second), one) {
+        return Ok(false);
     }
-    let found = moves.exchanged(alloc, rule, at, first, second)?;
-    Ok(if_cheaper(found, at.cost))
+    let below = u128::from(at.cost);
+    let yes = at.exchange_if(alloc, moves, rule, first, second, below)?;
+    Ok(yes)
 }
 
-/// The first cheaper exchange of a virtual node with a later one.
+/// Makes the first cheaper exchange of a virtual node with a later one, if there is one.
 fn cheaper_exchange_of(
     alloc: Global,
     moves: &Moves,
-    rule: &Rule,
-    at: &Tried,
+    rule: &StepRule,
+    at: &mut Tried,
     first: usize,
-) -> Result<Option<Tried>, Memory>
+) -> Result<bool, Memory>
     requires moves { IsMoves moves.now }
-    requires at { IsTried (sought_by moves.now.search rule.now.number) at.now }
-    requires first { first < length (choices (sought_by moves.now.search rule.now.number)) }
-    ensures cheaper { IfOk result (λ found. IfSome found (λ p. IsTried (sought_by moves.now.search rule.now.number) p × (p.cost < at.now.cost))) }
-    ensures none { IfOk result (λ found. IfNone found ((u : ℕ) → first < u → u < length (choices (sought_by moves.now.search rule.now.number)) → NoExchange (sought_by moves.now.search rule.now.number) at.now.counted.mapping first u)) }
+    requires at { IsTried moves.now rule.now.number at.old }
+    requires first { first < length (choices (sought_of moves.now rule.now.number)) }
+    ensures tried { OnOk result (IsTried moves.now rule.now.number at.new) }
+    ensures cheaper { IfOk result (λ yes. yes ≡ true → at.new.cost < at.old.cost) }
+    ensures same { IfOk result (λ yes. yes ≡ false → at.new.board.mapping ≡ at.old.board.mapping) }
+    ensures same_cost { IfOk result (λ yes. yes ≡ false → at.new.cost ≡ at.old.cost) }
+    ensures none { IfOk result (λ yes. yes ≡ false → (u : ℕ) → first < u → u < length (choices (sought_of moves.now rule.now.number)) → NoExchange (sought_of moves.now rule.now.number) at.old.board.mapping first u) }
 {
-    for second in first + 1..moves.search.candidates.len() {
-        let found = cheaper_exchange(alloc, moves, rule, at, first, second)?;
-        if found.is_some() {
-            return Ok(found);
+    for second in first + 1..moves.candidates.len() {
+        if cheaper_exchange(alloc, moves, rule, at, first, second)? {
+            return Ok(true);
         }
     }
-    Ok(None)
+    Ok(false)
 }
 
-/// The first cheaper exchange.
+/// Makes the first cheaper exchange, if there is one.
 fn any_cheaper_exchange(
     alloc: Global,
     moves: &Moves,
-    rule: &Rule,
-    at: &Tried,
-) -> Result<Option<Tried>, Memory>
+    rule: &StepRule,
+    at: &mut Tried,
+) -> Result<bool, Memory>
     requires moves { IsMoves moves.now }
-    requires at { IsTried (sought_by moves.now.search rule.now.number) at.now }
-    ensures cheaper { IfOk result (λ found. IfSome found (λ p. IsTried (sought_by moves.now.search rule.now.number) p × (p.cost < at.now.cost))) }
-    ensures none { IfOk result (λ found. IfNone found ((v u : ℕ) → v < u → u < length (choices (sought_by moves.now.search rule.now.number)) → NoExchange (sought_by moves.now.search rule.now.number) at.now.counted.mapping v u)) }
+    requires at { IsTried moves.now rule.now.number at.old }
+    ensures tried { OnOk result (IsTried moves.now rule.now.number at.new) }
+    ensures cheaper { IfOk result (λ yes. yes ≡ true → at.new.cost < at.old.cost) }
+    ensures same { IfOk result (λ yes. yes ≡ false → at.new.board.mapping ≡ at.old.board.mapping) }
+    ensures same_cost { IfOk result (λ yes. yes ≡ false → at.new.cost ≡ at.old.cost) }
+    ensures none { IfOk result (λ yes. yes ≡ false → (v u : ℕ) → v < u → u < length (choices (sought_of moves.now rule.now.number)) → NoExchange (sought_of moves.now rule.now.number) at.old.board.mapping v u) }
 {
-    for first in 0..moves.search.candidates.len() {
-        let found = cheaper_exchange_of(alloc, moves, rule, at, first)?;
-        if found.is_some() {
-            return Ok(found);
+    for first in 0..moves.candidates.len() {
+        if cheaper_exchange_of(alloc, moves, rule, at, first)? {
+            return Ok(true);
         }
     }
-    Ok(None)
+    Ok(false)
 }
 
-/// The first cheaper move or exchange.
+/// Makes the first cheaper move or exchange, if there is one.
 fn cheaper_neighbour(
     alloc: Global,
     moves: &Moves,
-    rule: &Rule,
-    at: &Tried,
-) -> Result<Option<Tried>, Memory>
+    rule: &StepRule,
+    at: &mut Tried,
+) -> Result<bool, Memory>
     requires moves { IsMoves moves.now }
-    requires at { IsTried (sought_by moves.now.search rule.now.number) at.now }
-    ensures cheaper { IfOk result (λ found. IfSome found (λ p. IsTried (sought_by moves.now.search rule.now.number) p × (p.cost < at.now.cost))) }
-    ensures none { IfOk result (λ found. IfNone found (LocallyBest (sought_by moves.now.search rule.now.number) at.now.counted.mapping)) }
+    requires at { IsTried moves.now rule.now.number at.old }
+    ensures tried { OnOk result (IsTried moves.now rule.now.number at.new) }
+    ensures cheaper { IfOk result (λ yes. yes ≡ true → at.new.cost < at.old.cost) }
+    ensures same { IfOk result (λ yes. yes ≡ false → at.new.board.mapping ≡ at.old.board.mapping) }
+    ensures same_cost { IfOk result (λ yes. yes ≡ false → at.new.cost ≡ at.old.cost) }
+    ensures none { IfOk result (λ yes. yes ≡ false → LocallyBest (sought_of moves.now rule.now.number) at.old.board.mapping) }
 {
-    let moved = any_cheaper_move(alloc, moves, rule, at)?;
-    if moved.is_some() {
-        return Ok(moved);
+    if any_cheaper_move(alloc, moves, rule, at)? {
+        return Ok(true);
     }
-    let exchanged = any_cheaper_exchange(alloc, moves, rule, at)?;
-    Ok(exchanged)
+    let yes = any_cheaper_exchange(alloc, moves, rule, at)?;
+    Ok(yes)
 }
 
 /// A locally best map that costs at most the start.
@@ -194,7 +180,7 @@ pub fn descend(
     free: &Free,
     wiring: &Wiring,
     start: &Mapping,
-    rule: &Rule,
+    rule: &StepRule,
 ) -> Result<Mapping, Memory>
     requires free { IsFreeOf lab.now free.now }
     requires sound { IsSound wiring.now }
@@ -204,21 +190,26 @@ pub fn descend(
 {
     let listed = candidates(alloc, lab, free, wiring)?;
     let ends = ends_of(alloc, wiring.segments.as_slice())?;
-    let search = Search {
+    let ifaces = NodeIfaces::of_lab(alloc, lab)?;
+    let table = Table::of(alloc, lab, wiring, &ends)?;
+    let mapper = Mapper {
         lab,
         free,
         wiring,
         ends: &ends,
-        candidates: &listed,
-    };
-    let ifaces = NodeIfaces::of_lab(alloc, lab)?;
-    let moves = Moves {
-        search,
         ifaces: &ifaces,
     };
+    let moves = Moves {
+        setting: Setting {
+            mapper,
+            table: &table,
+        },
+        candidates: &listed,
+    };
     let mut at = moves.started(alloc, rule, start)?;
-    while let Some(next) = cheaper_neighbour(alloc, &moves, rule, &at)? {
-        at = next;
+    let mut better = true;
+    while better {
+        better = cheaper_neighbour(alloc, &moves, rule, &mut at)?;
     }
-    Ok(at.counted.mapping)
+    Ok(at.board.mapping)
 }

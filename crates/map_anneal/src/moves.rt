@@ -1,181 +1,228 @@
-// Moves and exchanges of virtual nodes in a map at hand.
-ghost use Rattle.std.specs.Prelude.{◌≡◌, ◌<◌, IfOk, [], IfSome, Contains, length, slice_set, slice_index_or};
-ghost use Rattle.lab_model.specs.Rules.{no_place};
+// Moves and exchanges of virtual nodes in the map at hand.
+ghost use Rattle.std.specs.Prelude.{◌≡◌, ◌<◌, ◌≤◌, ◌%◌, IfOk, OnOk, true, false, List, [], Some, Contains, length, slice_index_or};
+ghost use Rattle.virt_topo.specs.declared.mapping.Mapping.{Mapping as MappingSeen};
+ghost use Rattle.lab_model.specs.Shapes.{Place as PlaceSeen};
+ghost use Rattle.lab_model.specs.Rules.{no_place, place_at};
+ghost use Rattle.node_maps.specs.NodeMaps.{candidates, node_map};
+ghost use Rattle.map_board.specs.Boards.{IsLaid, Was};
+ghost use Rattle.map_board.specs.Seated.{placed_at};
+ghost use Rattle.map_anneal.specs.Sought.{choices, candidates_at, moved, exchanged, price, IsNodeMap};
+ghost use Rattle.map_anneal.specs.Walk.{named};
+ghost use Rattle.map_anneal.specs.Searches.{sought_of, IsMoves, IsTried};
 
-use crate::search::{Search, place_of};
+use crate::search::place_of;
 use crate::tried::Tried;
-use cost_rule::Rule;
-use lab_base::{Items, Memory, NodeId};
-use node_maps::{Counted, Mapper, NodeIfaces, Place, copy_places};
+use cost_rule::StepRule;
+use lab_base::{Memory, NodeId};
+use map_board::{Board, Setting};
+use node_maps::{Candidates, Place};
 use std::alloc::Global;
 use virt_topo::Mapping;
 
-/// A search, with the interfaces of its lab by node.
+/// What moves are tried in.
 #[derive(Clone, Copy)]
 pub struct Moves<'a> {
-    pub search: Search<'a>,
-    pub ifaces: &'a NodeIfaces,
+    pub setting: Setting<'a>,
+    pub candidates: &'a Candidates,
 }
 
-/// The places with one of them changed.
-fn with_place(
-    alloc: Global,
-    places: &[Place],
-    node: usize,
-    place: Place,
-) -> Result<Items<Place>, Memory>
+/// The candidate of a virtual node that a word names.
+fn candidate(listed: &Candidates, node: usize, word: u32) -> Place
+    requires within { node < length listed.now }
+    requires some { 0 < length (slice_index_or listed.now node []) }
+    ensures named { result ≡ slice_index_or (slice_index_or listed.now node []) (word % length (slice_index_or listed.now node [])) no_place }
+    ensures among { Contains (slice_index_or listed.now node []) result }
+{
+    let own = listed.of(node);
+    own[word as usize % own.len()]
+}
+
+/// The node of a virtual node.
+fn node_of(places: &[Place], node: usize) -> NodeId
     requires { node < length places.now }
-    ensures { IfOk result (λ changed. changed ≡ slice_set places.now node place) }
+    ensures { result.0 ≡ (slice_index_or places.now node no_place).0.0 }
 {
-    let mut changed = copy_places(alloc, places)?.into_vec();
-    changed[node] = place;
-    Ok(Items::from_vec(changed))
-}
-
-/// The places with two of them exchanged.
-fn exchange(
-    alloc: Global,
-    places: &[Place],
-    first: usize,
-    second: usize,
-) -> Result<Items<Place>, Memory>
-    requires first { first < length places.now }
-    requires second { second < length places.now }
-    ensures { IfOk result (λ changed. changed ≡ slice_set (slice_set places.now first (slice_index_or places.now second no_place)) second (slice_index_or places.now first no_place)) }
-{
-    let one = place_of(places, first);
-    let other = place_of(places, second);
-    let mut changed = copy_places(alloc, places)?.into_vec();
-    changed[first] = other;
-    changed[second] = one;
-    Ok(Items::from_vec(changed))
+    places[node].0
 }
 
 impl Moves<'_> {
-    ghost use Rattle.std.specs.Option.{option_map};
-    ghost use Rattle.lab_model.specs.Rules.{place_at};
-    ghost use Rattle.node_maps.specs.Moved.{AlikeBut};
-    ghost use Rattle.node_maps.specs.NodeMaps.{IsChoice};
-    ghost use Rattle.map_anneal.specs.Sought.{choices, candidates_at, mapped, moved, exchanged, IsNodeMap};
-    ghost use Rattle.map_anneal.specs.Walk.{named};
-    ghost use Rattle.map_anneal.specs.Searches.{sought_by, with_price, priced_by, IsMoves, IsTried};
-
     /// A feasible node map to begin with, with its cost.
-    pub fn started(&self, alloc: Global, rule: &Rule, start: &Mapping) -> Result<Tried, Memory>
+    pub fn started(&self, alloc: Global, rule: &StepRule, start: &Mapping) -> Result<Tried, Memory>
         requires moves { IsMoves self.now }
-        requires start { IsNodeMap (sought_by self.now.search rule.now.number) start.now }
-        ensures tried { IfOk result (λ x. IsTried (sought_by self.now.search rule.now.number) x) }
-        ensures start { IfOk result (λ x. x.counted.mapping ≡ start.now) }
+        requires start { IsNodeMap (sought_of self.now rule.now.number) start.now }
+        ensures tried { IfOk result (λ x. IsTried self.now rule.now.number x) }
+        ensures start { IfOk result (λ x. x.board.mapping ≡ start.now) }
     {
-        let lab = self.search.lab;
-        let wiring = self.search.wiring;
-        let cost = rule.ask(lab, wiring, start);
-        let counted = Counted::of(alloc, lab, wiring, start.copy(alloc)?)?;
-        Ok(Tried { counted, cost })
+        let mapper = self.setting.mapper;
+        let board = Board::of(alloc, &self.setting, start)?;
+        let cost = rule.ask(mapper.lab, mapper.wiring, start);
+        Ok(Tried { board, cost })
+    }
+}
+
+impl Tried {
+    /// The cost of what is laid.
+    fn asked(&self, moves: &Moves, rule: &StepRule) -> u64
+        requires moves { IsMoves moves.now }
+        requires laid { IsLaid moves.now.setting self.now.board }
+        ensures { result ≡ price (sought_of moves.now rule.now.number) self.now.board.mapping }
+    {
+        let _kept = moves.setting.mapper.lab.range();
+        rule.ask_parts(self.board.parts(&moves.setting))
     }
 
-    /// The node map of places that differ from those at hand on two nodes alone, with its cost, where it is feasible.
-    fn tried(
-        &self,
+    /// Settles places that differ from those of a node map on two nodes alone, where the map is feasible and costs less
+    /// than that; else the plugs stay.
+    fn settle_if(
+        &mut self,
         alloc: Global,
-        rule: &Rule,
-        at: &Tried,
-        places: Items<Place>,
-        first: NodeId,
-        second: NodeId,
-    ) -> Result<Option<Tried>, Memory>
-        requires moves { IsMoves self.now }
-        requires at { IsTried (sought_by self.now.search rule.now.number) at.now }
-        requires choice { IsChoice (choices (sought_by self.now.search rule.now.number)) places }
-        requires first { first.0 < length self.now.search.lab.now.nodes }
-        requires second { second.0 < length self.now.search.lab.now.nodes }
-        requires alike { AlikeBut first.0 second.0 places at.now.counted.mapping.places }
-        ensures value { IfOk result (λ found. option_map priced_by found ≡ with_price (sought_by self.now.search rule.now.number) (mapped (sought_by self.now.search rule.now.number) places)) }
-        ensures tried { IfOk result (λ found. IfSome found (λ x. IsTried (sought_by self.now.search rule.now.number) x)) }
+        moves: &Moves,
+        rule: &StepRule,
+        first: (NodeId, usize),
+        second: (NodeId, usize),
+        below: u128,
+    ) -> Result<bool, Memory>
+        requires moves { IsMoves moves.now }
+        requires laid { IsLaid moves.now.setting self.old.board }
+        requires none { self.old.board.back.items ≡ [] }
+        requires first { first.0.0 < length moves.now.setting.mapper.lab.now.nodes }
+        requires first_virt { first.1 < length moves.now.setting.mapper.wiring.now.nodes }
+        requires second { second.0.0 < length moves.now.setting.mapper.lab.now.nodes }
+        requires second_virt { second.1 < length moves.now.setting.mapper.wiring.now.nodes }
+        ensures laid { OnOk result (IsLaid moves.now.setting self.new.board) }
+        ensures none { OnOk result (self.new.board.back.items ≡ []) }
+        ensures places { OnOk result (self.new.board.mapping.places ≡ self.old.board.mapping.places) }
+        ensures map { IfOk result (λ yes. yes ≡ true → (last : List PlaceSeen) → Was moves.now.setting self.old.board.mapping.places self.old.board.mapping.plugs first.0.0 second.0.0 last → node_map moves.now.setting.mapper.lab.now moves.now.setting.mapper.free.now moves.now.setting.mapper.wiring.now self.old.board.mapping.places ≡ Some self.new.board.mapping) }
+        ensures cost { IfOk result (λ yes. yes ≡ true → self.new.cost ≡ price (sought_of moves.now rule.now.number) self.new.board.mapping) }
+        ensures below { IfOk result (λ yes. yes ≡ true → self.new.cost < below) }
+        ensures plugs { IfOk result (λ yes. yes ≡ false → self.new.board.mapping.plugs ≡ self.old.board.mapping.plugs) }
+        ensures same_cost { IfOk result (λ yes. yes ≡ false → self.new.cost ≡ self.old.cost) }
+        ensures dear { IfOk result (λ yes. yes ≡ false → (last : List PlaceSeen) → Was moves.now.setting self.old.board.mapping.places self.old.board.mapping.plugs first.0.0 second.0.0 last → (m : MappingSeen) → node_map moves.now.setting.mapper.lab.now moves.now.setting.mapper.free.now moves.now.setting.mapper.wiring.now self.old.board.mapping.places ≡ Some m → below ≤ price (sought_of moves.now rule.now.number) m) }
     {
-        let mapper = Mapper {
-            lab: self.search.lab,
-            free: self.search.free,
-            wiring: self.search.wiring,
-            ends: self.search.ends,
-            ifaces: self.ifaces,
-        };
-        let found = mapper.moved(alloc, &at.counted, places, first, second)?;
-        let Some(counted) = found else {
-            return Ok(None);
-        };
-        let cost = rule.ask(self.search.lab, self.search.wiring, &counted.mapping);
-        Ok(Some(Tried { counted, cost }))
+        let setting = moves.setting;
+        if !self.board.settle(alloc, &setting, first, second)? {
+            self.board.take_back(alloc, &setting);
+            return Ok(false);
+        }
+        let cost = self.asked(moves, rule);
+        if u128::from(cost) >= below {
+            self.board.take_back(alloc, &setting);
+            return Ok(false);
+        }
+        self.board.forget();
+        self.cost = cost;
+        Ok(true)
     }
 
-    /// The map with a virtual node at another of its candidates, with its cost, where it is feasible.
-    pub fn moved(
-        &self,
+    /// Moves a virtual node to another of its candidates, where the map is feasible and costs less than that.
+    pub fn move_if(
+        &mut self,
         alloc: Global,
-        rule: &Rule,
-        at: &Tried,
+        moves: &Moves,
+        rule: &StepRule,
         node: usize,
         place: Place,
-    ) -> Result<Option<Tried>, Memory>
-        requires moves { IsMoves self.now }
-        requires at { IsTried (sought_by self.now.search rule.now.number) at.now }
-        requires within { node < length (choices (sought_by self.now.search rule.now.number)) }
-        requires among { Contains (candidates_at (sought_by self.now.search rule.now.number) node) place }
-        ensures value { IfOk result (λ found. option_map priced_by found ≡ with_price (sought_by self.now.search rule.now.number) (moved (sought_by self.now.search rule.now.number) at.now.counted.mapping node place)) }
-        ensures tried { IfOk result (λ found. IfSome found (λ x. IsTried (sought_by self.now.search rule.now.number) x)) }
+        below: u128,
+    ) -> Result<bool, Memory>
+        requires moves { IsMoves moves.now }
+        requires tried { IsTried moves.now rule.now.number self.old }
+        requires within { node < length (choices (sought_of moves.now rule.now.number)) }
+        requires among { Contains (candidates_at (sought_of moves.now rule.now.number) node) place }
+        ensures tried { OnOk result (IsTried moves.now rule.now.number self.new) }
+        ensures map { IfOk result (λ yes. yes ≡ true → moved (sought_of moves.now rule.now.number) self.old.board.mapping node place ≡ Some self.new.board.mapping) }
+        ensures below { IfOk result (λ yes. yes ≡ true → self.new.cost < below) }
+        ensures same { IfOk result (λ yes. yes ≡ false → self.new.board.mapping ≡ self.old.board.mapping) }
+        ensures same_cost { IfOk result (λ yes. yes ≡ false → self.new.cost ≡ self.old.cost) }
+        ensures dear { IfOk result (λ yes. yes ≡ false → (m : MappingSeen) → moved (sought_of moves.now rule.now.number) self.old.board.mapping node place ≡ Some m → below ≤ price (sought_of moves.now rule.now.number) m) }
     {
-        let places = at.counted.mapping.places.as_slice();
-        let from = place_of(places, node).0;
+        let setting = moves.setting;
         let to = place.0;
-        let changed = with_place(alloc, places, node, place)?;
-        let found = self.tried(alloc, rule, at, changed, to, from)?;
-        Ok(found)
+        let from = node_of(self.board.mapping.places.as_slice(), node);
+        let old = place_of(self.board.mapping.places.as_slice(), node);
+        self.board.seat(alloc, &setting, node, place);
+        if self.settle_if(alloc, moves, rule, (to, node), (from, node), below)? {
+            return Ok(true);
+        }
+        self.board.seat(alloc, &setting, node, old);
+        Ok(false)
     }
 
-    /// The map with the places of two virtual nodes exchanged, with its cost, where it is feasible.
-    pub fn exchanged(
-        &self,
+    /// Exchanges the places of two virtual nodes, each of which is a candidate of the other; the plugs stay.
+    fn exchange(&mut self, alloc: Global, moves: &Moves, first: usize, second: usize)
+        requires moves { IsMoves moves.now }
+        requires laid { IsLaid moves.now.setting self.old.board }
+        requires first { first < length moves.now.setting.mapper.wiring.now.nodes }
+        requires second { second < length moves.now.setting.mapper.wiring.now.nodes }
+        requires first_among { Contains (slice_index_or (candidates moves.now.setting.mapper.lab.now moves.now.setting.mapper.free.now moves.now.setting.mapper.wiring.now) first []) (place_at self.old.board.mapping second) }
+        requires second_among { Contains (slice_index_or (candidates moves.now.setting.mapper.lab.now moves.now.setting.mapper.free.now moves.now.setting.mapper.wiring.now) second []) (place_at self.old.board.mapping first) }
+        ensures laid { IsLaid moves.now.setting self.new.board }
+        ensures mapping { self.new.board.mapping ≡ placed_at (placed_at self.old.board.mapping first (place_at self.old.board.mapping second)) second (place_at self.old.board.mapping first) }
+        ensures back { self.new.board.back.items ≡ self.old.board.back.items }
+        ensures cost { self.new.cost ≡ self.old.cost }
+    {
+        let setting = moves.setting;
+        let one = place_of(self.board.mapping.places.as_slice(), first);
+        let other = place_of(self.board.mapping.places.as_slice(), second);
+        self.board.seat(alloc, &setting, first, other);
+        self.board.seat(alloc, &setting, second, one);
+    }
+
+    /// Exchanges the places of two virtual nodes, where the map is feasible and costs less than that.
+    pub fn exchange_if(
+        &mut self,
         alloc: Global,
-        rule: &Rule,
-        at: &Tried,
+        moves: &Moves,
+        rule: &StepRule,
         first: usize,
         second: usize,
-    ) -> Result<Option<Tried>, Memory>
-        requires moves { IsMoves self.now }
-        requires at { IsTried (sought_by self.now.search rule.now.number) at.now }
-        requires first { first < length (choices (sought_by self.now.search rule.now.number)) }
-        requires second { second < length (choices (sought_by self.now.search rule.now.number)) }
-        requires first_among { Contains (candidates_at (sought_by self.now.search rule.now.number) first) (place_at at.now.counted.mapping second) }
-        requires second_among { Contains (candidates_at (sought_by self.now.search rule.now.number) second) (place_at at.now.counted.mapping first) }
-        ensures value { IfOk result (λ found. option_map priced_by found ≡ with_price (sought_by self.now.search rule.now.number) (exchanged (sought_by self.now.search rule.now.number) at.now.counted.mapping first second)) }
-        ensures tried { IfOk result (λ found. IfSome found (λ x. IsTried (sought_by self.now.search rule.now.number) x)) }
+        below: u128,
+    ) -> Result<bool, Memory>
+        requires moves { IsMoves moves.now }
+        requires tried { IsTried moves.now rule.now.number self.old }
+        requires ordered { first < second }
+        requires second { second < length (choices (sought_of moves.now rule.now.number)) }
+        requires first_among { Contains (candidates_at (sought_of moves.now rule.now.number) first) (place_at self.old.board.mapping second) }
+        requires second_among { Contains (candidates_at (sought_of moves.now rule.now.number) second) (place_at self.old.board.mapping first) }
+        ensures tried { OnOk result (IsTried moves.now rule.now.number self.new) }
+        ensures map { IfOk result (λ yes. yes ≡ true → exchanged (sought_of moves.now rule.now.number) self.old.board.mapping first second ≡ Some self.new.board.mapping) }
+        ensures below { IfOk result (λ yes. yes ≡ true → self.new.cost < below) }
+        ensures same { IfOk result (λ yes. yes ≡ false → self.new.board.mapping ≡ self.old.board.mapping) }
+        ensures same_cost { IfOk result (λ yes. yes ≡ false → self.new.cost ≡ self.old.cost) }
+        ensures dear { IfOk result (λ yes. yes ≡ false → (m : MappingSeen) → exchanged (sought_of moves.now rule.now.number) self.old.board.mapping first second ≡ Some m → below ≤ price (sought_of moves.now rule.now.number) m) }
     {
-        let places = at.counted.mapping.places.as_slice();
-        let one = place_of(places, first).0;
-        let other = place_of(places, second).0;
-        let changed = exchange(alloc, places, first, second)?;
-        let found = self.tried(alloc, rule, at, changed, one, other)?;
-        Ok(found)
+        let one = node_of(self.board.mapping.places.as_slice(), first);
+        let other = node_of(self.board.mapping.places.as_slice(), second);
+        self.exchange(alloc, moves, first, second);
+        if self.settle_if(alloc, moves, rule, (one, second), (other, first), below)? {
+            return Ok(true);
+        }
+        self.exchange(alloc, moves, first, second);
+        Ok(false)
     }
 
-    /// The map with a virtual node moved as two words name it, with its cost, where it is feasible.
-    pub fn named(
-        &self,
+    /// Moves a virtual node as two words name it, where the map is feasible and costs less than that.
+    pub fn named_if(
+        &mut self,
         alloc: Global,
-        rule: &Rule,
-        at: &Tried,
+        moves: &Moves,
+        rule: &StepRule,
         first: u32,
         second: u32,
-    ) -> Result<Option<Tried>, Memory>
-        requires moves { IsMoves self.now }
-        requires at { IsTried (sought_by self.now.search rule.now.number) at.now }
-        requires some { 0 < length (choices (sought_by self.now.search rule.now.number)) }
-        ensures value { IfOk result (λ found. option_map priced_by found ≡ with_price (sought_by self.now.search rule.now.number) (named (sought_by self.now.search rule.now.number) at.now.counted.mapping first second)) }
-        ensures tried { IfOk result (λ found. IfSome found (λ x. IsTried (sought_by self.now.search rule.now.number) x)) }
+        below: u128,
+    ) -> Result<bool, Memory>
+        requires moves { IsMoves moves.now }
+        requires tried { IsTried moves.now rule.now.number self.old }
+        requires some { 0 < length (choices (sought_of moves.now rule.now.number)) }
+        ensures tried { OnOk result (IsTried moves.now rule.now.number self.new) }
+        ensures map { IfOk result (λ yes. yes ≡ true → named (sought_of moves.now rule.now.number) self.old.board.mapping first second ≡ Some self.new.board.mapping) }
+        ensures below { IfOk result (λ yes. yes ≡ true → self.new.cost < below) }
+        ensures same { IfOk result (λ yes. yes ≡ false → self.new.board.mapping ≡ self.old.board.mapping) }
+        ensures same_cost { IfOk result (λ yes. yes ≡ false → self.new.cost ≡ self.old.cost) }
+        ensures dear { IfOk result (λ yes. yes ≡ false → (m : MappingSeen) → named (sought_of moves.now rule.now.number) self.old.board.mapping first second ≡ Some m → below ≤ price (sought_of moves.now rule.now.number) m) }
     {
-        let node = first as usize % self.search.candidates.len();
-        let place = self.search.candidate(node, second);
-        let found = self.moved(alloc, rule, at, node, place)?;
-        Ok(found)
+        let node = first as usize % moves.candidates.len();
+        let place = candidate(moves.candidates, node, second);
+        let yes = self.move_if(alloc, moves, rule, node, place, below)?;
+        Ok(yes)
     }
 }

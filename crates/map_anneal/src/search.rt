@@ -1,8 +1,8 @@
 // What a search has at hand, and the maps that it asks about.
-ghost use Rattle.std.specs.Prelude.{◌≡◌, ◌<◌, IfOk, ◌%◌, [], IfSome, Contains, length, slice_index_or};
+ghost use Rattle.std.specs.Prelude.{◌≡◌, ◌<◌, IfOk, IfSome, length, slice_index_or};
 ghost use Rattle.lab_model.specs.Rules.{no_place};
 
-use cost_rule::Rule;
+use cost_rule::StepRule;
 use lab_base::Memory;
 use node_maps::{Candidates, End, Place, node_map};
 use phys_lab::{Free, Lab};
@@ -44,7 +44,7 @@ impl Search<'_> {
     pub fn priced(
         &self,
         alloc: Global,
-        rule: &Rule,
+        rule: &StepRule,
         places: &[Place],
     ) -> Result<Option<Priced>, Memory>
         requires search { IsSearch self.now }
@@ -58,16 +58,5 @@ impl Search<'_> {
         };
         let cost = rule.ask(self.lab, self.wiring, &mapping);
         Ok(Some(Priced { mapping, cost }))
-    }
-
-    /// The candidate of a virtual node that a word names.
-    pub(crate) fn candidate(&self, node: usize, word: u32) -> Place
-        requires within { node < length self.now.candidates.now }
-        requires some { 0 < length (slice_index_or self.now.candidates.now node []) }
-        ensures named { result ≡ slice_index_or (slice_index_or self.now.candidates.now node []) (word % length (slice_index_or self.now.candidates.now node [])) no_place }
-        ensures among { Contains (slice_index_or self.now.candidates.now node []) result }
-    {
-        let listed = self.candidates.of(node);
-        listed[word as usize % listed.len()]
     }
 }

@@ -3,13 +3,13 @@ ghost use Rattle.map_anneal.specs.Searches.{priced_by};
 
 use crate::search::Priced;
 use lab_base::Memory;
-use node_maps::Counted;
+use map_board::Board;
 use std::alloc::Global;
 
-/// A mapping with what it uses of each trunk, and its cost.
+/// The node map at hand, with what is kept of it, and its cost.
 #[derive(Drop)]
 pub struct Tried {
-    pub counted: Counted,
+    pub board: Board,
     pub cost: u64,
 }
 
@@ -19,7 +19,7 @@ impl Tried {
         ensures { IfOk result (λ priced. priced ≡ priced_by self.now) }
     {
         Ok(Priced {
-            mapping: self.counted.mapping.copy(alloc)?,
+            mapping: self.board.mapping.copy(alloc)?,
             cost: self.cost,
         })
     }

@@ -1,18 +1,19 @@
 // The annealing walk.
-ghost use Rattle.std.specs.Prelude.{◌≡◌, ◌<◌, ◌+◌, ◌*◌, ◌/◌, ◌%◌, nat_le, nat_lt, if◌then◌else◌, length, IfOk, OnOk};
+ghost use Rattle.std.specs.Prelude.{◌≡◌, ◌<◌, ◌+◌, ◌*◌, ◌/◌, ◌%◌, nat_lt, if◌then◌else◌, length, IfOk, OnOk};
 ghost use Rattle.node_maps.specs.Least.{IsFirstLeast};
 ghost use Rattle.virt_topo.specs.Soundness.{IsSound};
 ghost use Rattle.lab_model.specs.Shapes.{IsFreeOf};
 ghost use Rattle.map_anneal.specs.Sought.{sought, choices, price, IsNodeMap};
-ghost use Rattle.map_anneal.specs.Searches.{sought_by, priced_by, IsMoves};
+ghost use Rattle.map_anneal.specs.Searches.{sought_of, priced_by, IsMoves};
 ghost use Rattle.map_anneal.specs.Walk.{drawn, one_try, round, cooled, walk as walk_of, Walker};
 
 use crate::moves::Moves;
-use crate::search::{Priced, Search};
+use crate::search::Priced;
 use crate::tried::Tried;
-use cost_rule::Rule;
+use cost_rule::StepRule;
 use lab_base::Memory;
-use node_maps::{NodeIfaces, candidates, ends_of};
+use map_board::{Setting, Table};
+use node_maps::{Mapper, NodeIfaces, candidates, ends_of};
 use phys_lab::{Free, Lab};
 use rand_core::SeedableRng;
 use rand_core::utils::NextWord;
@@ -45,12 +46,11 @@ fn draw(generator: &mut Pcg32) -> Words
     }
 }
 
-/// Whether a map of that cost is added after one of cost `last`, by the heat and the third word.
-fn is_accepted(cost: u64, last: u64, third: u32, heat: u64) -> bool
-    ensures { result ≡ nat_le cost (last + (third % 1024) * heat / 1024) }
+/// Maps that cost less than this are added after one of cost `last`, by the heat and the third word.
+fn bound(last: u64, third: u32, heat: u64) -> u128
+    ensures { result ≡ last + (third % 1024) * heat / 1024 + 1 }
 {
-    let slack = u128::from(third % 1024) * u128::from(heat) / 1024;
-    u128::from(cost) <= u128::from(last) + slack
+    u128::from(last) + u128::from(third % 1024) * u128::from(heat) / 1024 + 1
 }
 
 /// A heat after a round.
@@ -82,33 +82,46 @@ impl Walk {
     ghost use Rattle.map_anneal.specs.Walks.{IsWalk, Keeps};
 
     /// One try.
-    fn step(&mut self, alloc: Global, moves: &Moves, rule: &Rule, heat: u64) -> Result<(), Memory>
+    fn step(
+        &mut self,
+        alloc: Global,
+        moves: &Moves,
+        rule: &StepRule,
+        heat: u64,
+    ) -> Result<(), Memory>
         requires moves { IsMoves moves.now }
-        requires walk { IsWalk (sought_by moves.now.search rule.now.number) self.old }
-        requires some { 0 < length (choices (sought_by moves.now.search rule.now.number)) }
-        ensures walk { OnOk result (IsWalk (sought_by moves.now.search rule.now.number) self.new) }
-        ensures step { OnOk result ((x : Walker) → Keeps (sought_by moves.now.search rule.now.number) self.old x → Keeps (sought_by moves.now.search rule.now.number) self.new (one_try (sought_by moves.now.search rule.now.number) heat x)) }
+        requires walk { IsWalk moves.now rule.now.number self.old }
+        requires some { 0 < length (choices (sought_of moves.now rule.now.number)) }
+        ensures walk { OnOk result (IsWalk moves.now rule.now.number self.new) }
+        ensures step { OnOk result ((x : Walker) → Keeps (sought_of moves.now rule.now.number) self.old x → Keeps (sought_of moves.now rule.now.number) self.new (one_try (sought_of moves.now rule.now.number) heat x)) }
     {
         let words = draw(&mut self.generator);
-        let Some(next) = moves.named(alloc, rule, &self.last, words.first, words.second)? else {
-            return Ok(());
-        };
-        if !is_accepted(next.cost, self.last.cost, words.third, heat) {
+        let below = bound(self.last.cost, words.third, heat);
+        let (first, second) = (words.first, words.second);
+        if !self
+            .last
+            .named_if(alloc, moves, rule, first, second, below)?
+        {
             return Ok(());
         }
-        keep_cheaper(alloc, &mut self.best, &next)?;
-        self.last = next;
+        keep_cheaper(alloc, &mut self.best, &self.last)?;
         Ok(())
     }
 
     /// The tries at one heat.
-    fn round(&mut self, alloc: Global, moves: &Moves, rule: &Rule, heat: u64) -> Result<(), Memory>
+    fn round(
+        &mut self,
+        alloc: Global,
+        moves: &Moves,
+        rule: &StepRule,
+        heat: u64,
+    ) -> Result<(), Memory>
         requires moves { IsMoves moves.now }
-        requires walk { IsWalk (sought_by moves.now.search rule.now.number) self.old }
-        ensures walk { OnOk result (IsWalk (sought_by moves.now.search rule.now.number) self.new) }
-        ensures round { OnOk result ((x : Walker) → Keeps (sought_by moves.now.search rule.now.number) self.old x → Keeps (sought_by moves.now.search rule.now.number) self.new (round (sought_by moves.now.search rule.now.number) heat x)) }
+        requires walk { IsWalk moves.now rule.now.number self.old }
+        ensures walk { OnOk result (IsWalk moves.now rule.now.number self.new) }
+        ensures round { OnOk result ((x : Walker) → Keeps (sought_of moves.now rule.now.number) self.old x → Keeps (sought_of moves.now rule.now.number) self.new (round (sought_of moves.now rule.now.number) heat x)) }
     {
-        let tries = 8 * moves.search.candidates.len();
+        let tries = 8 * moves.candidates.len();
         for _number in 0..tries {
             self.step(alloc, moves, rule, heat)?;
         }
@@ -116,11 +129,17 @@ impl Walk {
     }
 
     /// The rounds, while the heat is above 0.
-    fn cool(&mut self, alloc: Global, moves: &Moves, rule: &Rule, from: u64) -> Result<(), Memory>
+    fn cool(
+        &mut self,
+        alloc: Global,
+        moves: &Moves,
+        rule: &StepRule,
+        from: u64,
+    ) -> Result<(), Memory>
         requires moves { IsMoves moves.now }
-        requires walk { IsWalk (sought_by moves.now.search rule.now.number) self.old }
-        ensures walk { OnOk result (IsWalk (sought_by moves.now.search rule.now.number) self.new) }
-        ensures cooled { OnOk result ((x : Walker) → Keeps (sought_by moves.now.search rule.now.number) self.old x → Keeps (sought_by moves.now.search rule.now.number) self.new (cooled (sought_by moves.now.search rule.now.number) from from x)) }
+        requires walk { IsWalk moves.now rule.now.number self.old }
+        ensures walk { OnOk result (IsWalk moves.now rule.now.number self.new) }
+        ensures cooled { OnOk result ((x : Walker) → Keeps (sought_of moves.now rule.now.number) self.old x → Keeps (sought_of moves.now rule.now.number) self.new (cooled (sought_of moves.now rule.now.number) from from x)) }
     {
         let mut heat = from;
         while heat > 0 {
@@ -139,7 +158,7 @@ pub fn anneal(
     free: &Free,
     wiring: &Wiring,
     start: &Mapping,
-    rule: &Rule,
+    rule: &StepRule,
     seed: u64,
 ) -> Result<Mapping, Memory>
     requires free { IsFreeOf lab.now free.now }
@@ -150,17 +169,21 @@ pub fn anneal(
 {
     let listed = candidates(alloc, lab, free, wiring)?;
     let ends = ends_of(alloc, wiring.segments.as_slice())?;
-    let search = Search {
+    let ifaces = NodeIfaces::of_lab(alloc, lab)?;
+    let table = Table::of(alloc, lab, wiring, &ends)?;
+    let mapper = Mapper {
         lab,
         free,
         wiring,
         ends: &ends,
-        candidates: &listed,
-    };
-    let ifaces = NodeIfaces::of_lab(alloc, lab)?;
-    let moves = Moves {
-        search,
         ifaces: &ifaces,
+    };
+    let moves = Moves {
+        setting: Setting {
+            mapper,
+            table: &table,
+        },
+        candidates: &listed,
     };
     let last = moves.started(alloc, rule, start)?;
     let cost = last.cost;

@@ -16,7 +16,7 @@ use Rattle.node_maps.specs.Moved.{IsOn, AlikeBut}
 use Rattle.node_maps.proofs.IndexLaws.{any_push}
 use Rattle.node_maps.proofs.PlugLaws.{no_id, IsGiven, adds}
 
-abbrev has : List IfaceId → ℕ → Bool
+abbrev pub has : List IfaceId → ℕ → Bool
 has plugs n = list_any (λ i. i.0 == n) plugs
 
 either_way : (here fast one other : Bool) (found rest rests : Option IfaceId) → (here ≡ true → one ≡ other) → rest ≡ rests
@@ -25,7 +25,7 @@ either_way true fast one other found rest rests same later = (λ i. cond (fast &
 either_way false fast one other found rest rests same later = later
 
 -- the first interface depends on the earlier plugs of its node alone
-first_same : (n : ℕ) (xs : List Iface) (had old : List IfaceId) (node : NodeId) (kbps : ℕ)
+pub first_same : (n : ℕ) (xs : List Iface) (had old : List IfaceId) (node : NodeId) (kbps : ℕ)
     → ((k m : ℕ) → m ≡ n + k → k < length xs → (get_or xs k no_iface).node.0 ≡ node.0 → has had m ≡ has old m)
     → first_iface n xs had node kbps ≡ first_iface n xs old node kbps
 first_same n [] had old node kbps same = refl
@@ -66,7 +66,7 @@ follows_more lab a b old had j i f one = record {
       ∙ sym (any_push (λ (x : IfaceId). x.0 == n) old j);
 }
 
-may_node : (lab : Lab) (i : IfaceId) (had : List IfaceId) (node : NodeId) (kbps : ℕ) → may_take i.0 (iface_at lab i) had node kbps ≡ true → (iface_at lab i).node.0 ≡ node.0
+pub may_node : (lab : Lab) (i : IfaceId) (had : List IfaceId) (node : NodeId) (kbps : ℕ) → may_take i.0 (iface_at lab i) had node kbps ≡ true → (iface_at lab i).node.0 ≡ node.0
 may_node lab i had node kbps may =
     eqb-true (iface_at lab i).node.0 node.0
     (and_parts ((iface_at lab i).node.0 == node.0) (nat_le kbps (iface_at lab i).kbps && not (list_any (λ x. x.0 == i.0) had)) may).0

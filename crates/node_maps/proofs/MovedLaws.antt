@@ -36,7 +36,7 @@ guests_alike (v ∷ vs) (p ∷ places) (q ∷ others) a b n alike not_a not_b =
     ]
 
 -- F2 holds on the two nodes, and on each other node as before
-shared_all : (lab : Lab) (w : Wiring) (places last : List Place) (a b : ℕ) → AlikeBut a b places last → AllPass (length lab.nodes) (may_share lab w last)
+pub shared_all : (lab : Lab) (w : Wiring) (places last : List Place) (a b : ℕ) → AlikeBut a b places last → AllPass (length lab.nodes) (may_share lab w last)
     → KeepsPlaces lab w places a b → AllPass (length lab.nodes) (may_share lab w places)
 shared_all lab w places last a b alike all kept n lt = elim (cases_eq n a) [
   | inl is ↦ subst (λ (k : ℕ). may_share lab w places k ≡ true) (sym is) kept.first

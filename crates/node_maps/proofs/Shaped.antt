@@ -26,9 +26,9 @@ first_within n (x ∷ xs) had node kbps i e =
     (λ none h. let later : i.0 < (n + 1) + length xs = first_within (n + 1) xs had node kbps i h in omega arith) e
 
 -- these are so many interfaces of the lab
-record Plugs (lab : Lab) (n : ℕ) (plugs : List IfaceId) : Type 0 where
-  count : length plugs ≡ n
-  within : All (λ i. i.0 < length lab.ifaces) plugs
+pub record Plugs (lab : Lab) (n : ℕ) (plugs : List IfaceId) : Type 0 where
+  pub count : length plugs ≡ n
+  pub within : All (λ i. i.0 < length lab.ifaces) plugs
 
 one_more : (lab : Lab) (o : Option IfaceId) (n : ℕ) (had plugs : List IfaceId) → ((i : IfaceId) → o ≡ Some i → i.0 < length lab.ifaces) → Plugs lab n had
     → option_map (λ i. had ++ i ∷ []) o ≡ Some plugs → Plugs lab (n + 1) plugs
@@ -50,7 +50,7 @@ with_plug_within lab places e n had plugs placed p eq =
     (λ i is. omega (arith, first_within 0 lab.ifaces had q.0 e.kbps i is)) p
     (sym (ap (λ o. option_map_or given o (Some had)) there) ∙ eq)
 
-plugs_within : (lab : Lab) (places : List Place) (es : List End) (n : ℕ) (had plugs : List IfaceId) → All (λ e. e.node < length places) es → Plugs lab n had
+pub plugs_within : (lab : Lab) (places : List Place) (es : List End) (n : ℕ) (had plugs : List IfaceId) → All (λ e. e.node < length places) es → Plugs lab n had
     → plugs_from lab places es had ≡ Some plugs → Plugs lab (n + length es) plugs
 plugs_within lab places [] n had plugs placed p e = subst (λ xs. Plugs lab (n + 0) xs) (cc e) (subst (λ k. Plugs lab k had) (omega arith) p)
 plugs_within lab places (e ∷ es) n had plugs placed p eq =

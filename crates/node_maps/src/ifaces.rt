@@ -1,6 +1,6 @@
 // The interface rule.
-ghost use Rattle.std.specs.Prelude.{◌≡◌, ◌≢◌, ◌<◌, ◌&&◌, not, nat_le, [], length, All, Some, None, false, if◌then◌else◌, slice_index_or, IfOk, OnOk, IfSome};
-ghost use Rattle.std.specs.List.{find};
+ghost use Rattle.std.specs.Prelude.{◌≡◌, ◌≢◌, ◌<◌, ◌&&◌, ◌==◌, ℕ, true, not, nat_le, [], length, All, Some, None, false, if◌then◌else◌, slice_index_or, IfOk, OnOk, IfSome};
+ghost use Rattle.std.specs.List.{find, list_any};
 ghost use Rattle.std.specs.Option.{option_map};
 ghost use Rattle.lab_model.specs.Shapes.{IsShaped};
 ghost use Rattle.lab_model.specs.Rules.{no_place};
@@ -16,6 +16,7 @@ use crate::moved::Mapper;
 use lab_base::{IfaceId, Items, Memory, NodeId};
 use phys_lab::Lab;
 use std::alloc::Global;
+use std::mem;
 use virt_topo::Mapping;
 
 /// Whether an interface is fast enough and not taken.
@@ -40,15 +41,28 @@ fn first_free(listed: &[NodeIface], taken: &[bool], kbps: u64) -> Option<IfaceId
     None
 }
 
+/// No interface is taken any more, where these were.
+fn unmark(taken: &mut Vec<bool>, plugs: &[IfaceId])
+    ensures one_each { length taken.new.items ≡ length taken.old.items }
+    ensures free { (i : ℕ) → (slice_index_or taken.old.items i false ≡ true → list_any (λ p. p.0 == i) plugs.now ≡ true) → slice_index_or taken.new.items i false ≡ false }
+{
+    for plug in plugs {
+        if (plug.0 as usize) < taken.len() {
+            taken[plug.0 as usize] = false;
+        }
+    }
+}
+
 /// What the interface rule gave so far: the plugs, and by interface whether it is one of them.
 #[derive(Drop)]
-struct Given {
+pub struct Given {
     plugs: Items<IfaceId>,
     taken: Vec<bool>,
 }
 
 impl Given {
-    fn nothing(alloc: Global, lab: &Lab) -> Result<Given, Memory>
+    /// Nothing so far.
+    pub fn nothing(alloc: Global, lab: &Lab) -> Result<Given, Memory>
         ensures marks { IfOk result (λ given. Marks lab.now given.taken.items given.plugs) }
         ensures none { IfOk result (λ given. given.plugs ≡ []) }
     {
@@ -58,9 +72,28 @@ impl Given {
         })
     }
 
+    /// The plugs, in the order in which they were given.
+    pub fn plugs(&self) -> &[IfaceId]
+        ensures { result.now ≡ self.now.plugs }
+    {
+        self.plugs.as_slice()
+    }
+
+    /// Forgets what it gave.
+    pub fn clear(&mut self, alloc: Global, _lab: &Lab)
+        requires marks { Marks _lab.now self.old.taken.items self.old.plugs }
+        ensures marks { Marks _lab.now self.new.taken.items self.new.plugs }
+        ensures none { self.new.plugs ≡ [] }
+    {
+        unmark(&mut self.taken, self.plugs.as_slice());
+        let mut plugs = mem::replace(&mut self.plugs, Items::new(alloc)).into_vec();
+        plugs.clear();
+        self.plugs = Items::from_vec(plugs);
+    }
+
     /// Gives one more end its interface, where its virtual node is placed: the first one of the node that is fast enough
     /// and that no earlier end has. False where there is none.
-    fn add(
+    pub fn add(
         &mut self,
         lab: &Lab,
         index: &NodeIfaces,

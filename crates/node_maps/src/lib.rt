@@ -14,9 +14,9 @@ mod suited;
 
 pub use counted::Counted;
 pub use ends::{End, ends_of};
-pub use ifaces::serve;
+pub use ifaces::{Given, serve};
 pub use index::{NodeIface, NodeIfaces};
 pub use lists::{Candidates, Place};
-pub use mapped::{copy_places, node_map};
-pub use moved::Mapper;
+pub use mapped::{copy_places, is_feasible, node_map};
+pub use moved::{Mapper, has_room};
 pub use suited::candidates;

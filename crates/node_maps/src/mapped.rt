@@ -14,7 +14,8 @@ use phys_lab::{Free, Lab};
 use std::alloc::Global;
 use virt_topo::{Mapping, Wiring};
 
-fn is_feasible(
+/// Whether a mapping keeps the eight rules.
+pub fn is_feasible(
     alloc: Global,
     lab: &Lab,
     free: &Free,

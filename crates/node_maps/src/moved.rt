@@ -35,7 +35,7 @@ pub struct Mapper<'a> {
 }
 
 /// Whether each trunk has room for what is used of it.
-fn has_room(free: &Free, uses: &[u64]) -> bool
+pub fn has_room(free: &Free, uses: &[u64]) -> bool
     requires { length uses.now ≡ length free.now.left }
     ensures { IsTrue result ↔ AllPass (length uses.now) (λ t. nat_le (slice_index_or uses.now t 0) (slice_index_or free.now.left t 0)) }
 {

@@ -20,4 +20,4 @@ returns-clause-least g c =
       last = c.in_ok-last.ensures.start;
       best = subst Alone (sym (ap (λ (p : Priced). p.mapping) c.in_ok-priced.ensures ∙ c.in_ok-last.ensures.start)) (least_alone (price s) start);
     }) in
-    subst Whole (c.in_ok-last.ensures.tried.priced.cost ∙ ap (price s) c.in_ok-last.ensures.start) kept.best
+    subst Whole (c.in_ok-last.ensures.tried.cost ∙ ap (price s) c.in_ok-last.ensures.start) kept.best

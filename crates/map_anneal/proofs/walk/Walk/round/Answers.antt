@@ -1,14 +1,14 @@
 use Rattle.std.proofs.Common.{length, ap, add-one, arith}
 use Rattle.node_maps.proofs.MapLaws.{candidates_count}
 use Rattle.cost_rule.proofs.LimitLaws.{sound_limits}
-use Rattle.map_anneal.specs.Searches.{sought_by}
+use Rattle.map_anneal.specs.Searches.{sought_of}
 use Rattle.map_anneal.specs.Walk.{tries}
 use Rattle.map_anneal.proofs.walk.Walk.round.Goals as goal
 
 pub overflow_mul-tries : goal.overflow_mul-tries
 overflow_mul-tries g c =
-    let x = c.args.moves.now.search in
-    omega (arith, c.len-tries.ensures, ap length c.requires.moves.search.listed, candidates_count x.lab.now x.free.now x.wiring.now, (sound_limits x.wiring.now c.requires.moves.search.sound).nodes)
+    let x = c.args.moves.now.setting.mapper in
+    omega (arith, c.len-tries.ensures, ap length c.requires.moves.listed, candidates_count x.lab.now x.free.now x.wiring.now, (sound_limits x.wiring.now c.requires.moves.setting.mapper.sound).nodes)
 
 pub loop-number-init : goal.loop-number-init
 unfolding tries
@@ -17,7 +17,7 @@ loop-number-init g c = record { walk = c.requires.walk; keeps = λ x k. k }
 pub loop-number-preserved : goal.loop-number-preserved
 unfolding tries
 loop-number-preserved g c =
-    let s = sought_by c.args.moves.now.search c.args.rule.now.number in
+    let s = sought_of c.args.moves.now c.args.rule.now.number in
     record {
       walk = c.in_ok-step.ensures.walk;
       keeps = λ x k. rw add-one (c.in_ok-step.ensures.step (tries s c.args.heat c.loop-number._number x) (c.loop-number.invariant.keeps x k));

@@ -1,0 +1,9 @@
+pub mod ByNode
+pub mod WhereLaws
+pub mod GivenAnew
+pub mod ListSteps
+pub mod SeatLaws
+pub mod Choices
+pub mod BoardLaws
+pub mod RowLaws
+pub mod PartSums

@@ -1,0 +1,55 @@
+use Rattle.std.proofs.Common.{◌≡◌, ◌<◌, ◌∙◌, [], ℕ, List, length, get_or, Bool, true, All, ap, sym, subst, arith, ◌==◌}
+use Rattle.std.proofs.lemmas.Bool.{and_parts, eqb-true}
+use Rattle.std.proofs.lemmas.List.{get_or_read}
+use Rattle.lab_model.specs.Shapes.{Place}
+use Rattle.lab_model.specs.Rules.{no_place}
+use Rattle.node_maps.specs.declared.ends.End.{End}
+use Rattle.node_maps.specs.NodeMaps.{ends_of}
+use Rattle.map_board.specs.Nodes.{is_on, numbers_of}
+use Rattle.map_board.specs.Seated.{guests_at}
+use Rattle.map_board.proofs.BoardLaws.{placed_ends, few_ends, none_on, own_on}
+use Rattle.map_board.proofs.give.give.Goals as goal
+
+pub give_listed-requires-clause-listed : goal.give_listed-requires-clause-listed
+give_listed-requires-clause-listed c =
+    let x = c.args.setting.now in
+    let m = c.args.mapping.now in
+    let n = c.args.node.0 in
+    let node = c.requires.node in
+    let seated = c.requires.seated in
+    let count = seated.one_each in
+    let at : ◌≡◌ {A = ℕ} c.index.result.now (get_or c.args.seats.now.guests.items n 0) = get_or_read c.args.seats.now.guests.items n c.index.result.now (omega (arith, node, count)) c.index.ensures 0 in
+    let guests = seated.guests n node in
+    let none : guests_at m.places n ≡ 0 = (let zero_is = c.if-index-eq0.true in omega (arith, at, guests, zero_is)) in
+    none_on n m.places x.mapper.ends.now (placed_ends x m.places c.requires.setting c.requires.shaped.places) none
+    ∙ ap (λ (l : List Place). numbers_of 0 (is_on l n) x.mapper.ends.now) (sym c.as_slice-places.ensures)
+
+pub give_listed-requires-then-is_alone-clause-listed : goal.give_listed-requires-then-is_alone-clause-listed
+give_listed-requires-then-is_alone-clause-listed c =
+    let x = c.args.setting.now in
+    let m = c.args.mapping.now in
+    let n = c.args.node.0 in
+    let v = c.args.virt in
+    let node = c.requires.node in
+    let seated = c.requires.seated in
+    let virt = c.requires.virt in
+    let all = c.requires.shaped.places in
+    let own = c.requires.setting.table.own in
+    let own_all = own.one_each in
+    let both = and_parts _ _ (sym c.is_alone.ensures ∙ c.if-is_alone.true) in
+    let guests = seated.guests n node in
+    let one : guests_at m.places n ≡ 1 = sym guests ∙ eqb-true (get_or c.args.seats.now.guests.items n 0) 1 both.0 in
+    let here : (get_or m.places v no_place).0.0 ≡ n = ap (λ (l : List Place). (get_or l v no_place).0.0) (sym c.as_slice-places.ensures) ∙ eqb-true (get_or c.as_slice-places.result.now v no_place).0.0 n both.1 in
+    c.as_slice-own.ensures
+    ∙ get_or_read x.table.now.own.items v c.index-then-is_alone.result.now (omega (arith, virt, own_all)) c.index-then-is_alone.ensures []
+    ∙ own.each v virt
+    ∙ ap (λ (l : List End). numbers_of 0 (λ e. e.node == v) l) (sym c.requires.setting.mapper.ends)
+    ∙ own_on n v m.places x.mapper.ends.now (placed_ends x m.places c.requires.setting all) (omega (arith, virt, all)) here one
+    ∙ ap (λ (l : List Place). numbers_of 0 (is_on l n) x.mapper.ends.now) (sym c.as_slice-places.ensures)
+
+pub list_ends-requires-clause-few : goal.list_ends-requires-clause-few
+list_ends-requires-clause-few c = few_ends c.args.setting.now c.requires.setting
+
+pub list_ends-requires-clause-placed : goal.list_ends-requires-clause-placed
+list_ends-requires-clause-placed c =
+    placed_ends c.args.setting.now c.as_slice-places.result.now c.requires.setting (ap length c.as_slice-places.ensures ∙ c.requires.shaped.places)

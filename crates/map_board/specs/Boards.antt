@@ -1,0 +1,57 @@
+-- THE BOARD: a node map, and what is kept of it.
+use Rattle.std.specs.Prelude.{◌≡◌, ◌++◌, ◌<◌, ℕ, List, [], length, filter, Some, None}
+use Rattle.lab_base.specs.declared.ids.IfaceId.{IfaceId}
+use Rattle.phys_lab.specs.Labs.{Lab}
+use Rattle.virt_topo.specs.declared.wiring.Wiring.{Wiring}
+use Rattle.virt_topo.specs.declared.mapping.Mapping.{Mapping}
+use Rattle.lab_model.specs.Shapes.{Place, IsShaped}
+use Rattle.trunk_sums.specs.declared.made.Change.{Change}
+use Rattle.trunk_sums.specs.declared.sums.EndRow.{EndRow}
+use Rattle.trunk_sums.specs.Summed.{IsSummed}
+use Rattle.node_maps.specs.declared.ends.End.{End}
+use Rattle.node_maps.specs.declared.ifaces.Given.{Given}
+use Rattle.node_maps.specs.NodeMaps.{candidates, IsChoice, ends_of, node_map, plugs_from}
+use Rattle.node_maps.specs.Indexed.{Marks}
+use Rattle.node_maps.specs.Moved.{AlikeBut}
+use Rattle.map_board.specs.declared.table.Setting.{Setting}
+use Rattle.map_board.specs.declared.board.Board.{Board}
+use Rattle.map_board.specs.Nodes.{is_on, numbers_of, changes_of}
+use Rattle.map_board.specs.Seated.{IsSeated}
+
+-- nothing is given
+pub record IsIdle (lab : Lab) (x : Given) : Type 0 where
+  pub marks : Marks lab x.taken.items x.plugs
+  pub none : x.plugs ≡ []
+
+-- the ends on node n get these plugs, which are noted as changes behind the earlier ones
+pub record IsNoted (lab : Lab) (rows : List EndRow) (es : List End) (places : List Place) (n : ℕ) (earlier later : List Change) : Type 0 where
+  pub plugs : List IfaceId
+  pub given : plugs_from lab places (filter (is_on places n) es) [] ≡ Some plugs
+  pub noted : later ≡ earlier ++ changes_of rows (numbers_of 0 (is_on places n) es) plugs
+
+-- a place for each virtual node and a plug for each end, with what is kept of them; a plug's node need not be its end's
+pub record IsLaid (x : Setting) (b : Board) : Type 0 where
+  pub choice : IsChoice (candidates x.mapper.lab.now x.mapper.free.now x.mapper.wiring.now) b.mapping.places
+  pub shaped : IsShaped x.mapper.lab.now x.mapper.wiring.now b.mapping
+  pub seated : IsSeated x.mapper.lab.now x.mapper.wiring.now b.mapping b.seats
+  pub summed : IsSummed x.mapper.lab.now x.mapper.wiring.now b.mapping.plugs b.sums
+  pub idle : IsIdle x.mapper.lab.now b.given
+
+-- a feasible node map
+pub record IsBoard (x : Setting) (b : Board) : Type 0 where
+  pub laid : IsLaid x b
+  pub mapped : node_map x.mapper.lab.now x.mapper.free.now x.mapper.wiring.now b.mapping.places ≡ Some b.mapping
+
+-- these plugs are those of a node map whose places differ from these on two nodes alone
+pub record Was (x : Setting) (places : List Place) (plugs : List IfaceId) (a b : ℕ) (last : List Place) : Type 0 where
+  pub mapped : node_map x.mapper.lab.now x.mapper.free.now x.mapper.wiring.now last ≡ Some (record { places = last; plugs = plugs })
+  pub choice : IsChoice (candidates x.mapper.lab.now x.mapper.free.now x.mapper.wiring.now) last
+  pub alike : AlikeBut a b places last
+
+-- the ends on two nodes get these plugs, noted as changes
+pub record IsPlanned (x : Setting) (places : List Place) (a b : ℕ) (changes : List Change) : Type 0 where
+  pub one : List IfaceId
+  pub other : List IfaceId
+  pub first : plugs_from x.mapper.lab.now places (filter (is_on places a) x.mapper.ends.now) [] ≡ Some one
+  pub second : plugs_from x.mapper.lab.now places (filter (is_on places b) x.mapper.ends.now) [] ≡ Some other
+  pub noted : changes ≡ changes_of x.table.now.rows.items (numbers_of 0 (is_on places a) x.mapper.ends.now) one ++ changes_of x.table.now.rows.items (numbers_of 0 (is_on places b) x.mapper.ends.now) other

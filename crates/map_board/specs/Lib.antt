@@ -1,0 +1,5 @@
+pub mod Nodes
+pub mod Tables
+pub mod Seated
+pub mod Unmade
+pub mod Boards

@@ -1,0 +1,35 @@
+-- What is kept of the places of a mapping.
+use Rattle.std.specs.Prelude.{◌≡◌, ◌<◌, ◌+◌, ◌==◌, ℕ, List, length, nat_lt, count_by, slice_index_or, slice_set, if◌then◌else◌}
+use Rattle.phys_lab.specs.Labs.{Lab}
+use Rattle.virt_topo.specs.declared.wiring.Asks.{Asks}
+use Rattle.virt_topo.specs.declared.wiring.Asks.TheVariants.{Plain, Class as InClass}
+use Rattle.virt_topo.specs.declared.wiring.Wiring.{Wiring}
+use Rattle.virt_topo.specs.declared.mapping.Mapping.{Mapping}
+use Rattle.lab_model.specs.Shapes.{Place}
+use Rattle.lab_model.specs.Rules.{virt_at}
+use Rattle.cost_rule.specs.Cost.{node_soft, class_soft, soft, nodes_in_use}
+use Rattle.map_board.specs.declared.seats.Seats.{Seats}
+
+-- how many virtual nodes are on node n
+abbrev pub guests_at : List Place → ℕ → ℕ
+guests_at places n = count_by (λ p. p.0.0 == n) places
+
+-- by node how many virtual nodes are on it; how many nodes are in use; what is soft
+pub record IsSeated (lab : Lab) (w : Wiring) (m : Mapping) (x : Seats) : Type 0 where
+  pub one_each : length x.guests.items ≡ length lab.nodes
+  pub guests : (n : ℕ) → n < length lab.nodes → slice_index_or x.guests.items n 0 ≡ guests_at m.places n
+  pub nodes : x.nodes ≡ nodes_in_use m
+  pub soft : x.soft ≡ soft lab w m
+
+-- what the class that a virtual node asks for costs, if it asks for one
+abbrev pub asked_soft : Wiring → Mapping → Asks → ℕ
+asked_soft w m (Plain t) = 0
+asked_soft w m (InClass c) = if nat_lt c (length w.classes) then class_soft w m c else 0
+
+-- what hangs on the place of virtual node v
+abbrev pub seat_soft : Lab → Wiring → Mapping → ℕ → ℕ
+seat_soft lab w m v = node_soft lab w m v + asked_soft w m (virt_at w v).asks
+
+-- the mapping with virtual node v at another place
+abbrev pub placed_at : Mapping → ℕ → Place → Mapping
+placed_at m v p = record { places = slice_set m.places v p; plugs = m.plugs }

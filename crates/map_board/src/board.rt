@@ -1,0 +1,264 @@
+// The board.
+ghost use Rattle.std.specs.Prelude.{◌≡◌, true, false, ◌<◌, [], List, Some, None, length, slice_index_or, if◌then◌else◌, Contains, IfOk, OnOk};
+ghost use Rattle.lab_base.specs.declared.ids.IfaceId.{IfaceId as IfaceSeen};
+ghost use Rattle.lab_model.specs.Shapes.{Place as PlaceSeen};
+ghost use Rattle.node_maps.specs.NodeMaps.{candidates, IsChoice, node_map, plugs_of};
+ghost use Rattle.map_board.specs.Tables.{IsSetting};
+ghost use Rattle.map_board.specs.Boards.{IsLaid, IsBoard, IsPlanned, Was};
+
+use crate::give::give;
+use crate::remake::{remake, unmake};
+use crate::seats::Seats;
+use crate::table::Setting;
+use cost_rule::Parts;
+use lab_base::{Items, Memory, NodeId};
+use node_maps::{Given, Place, has_room, is_feasible};
+use std::alloc::Global;
+use std::mem;
+use trunk_sums::{Change, Sums};
+use virt_topo::Mapping;
+
+/// A node map, and what is kept of it.
+#[derive(Drop)]
+pub struct Board {
+    pub mapping: Mapping,
+    pub(crate) seats: Seats,
+    pub(crate) sums: Sums,
+    pub(crate) given: Given,
+    pub(crate) listed: Vec<u16>,
+    pub(crate) changes: Vec<Change>,
+    /// What takes the last try back.
+    pub(crate) back: Vec<Change>,
+}
+
+impl Board {
+    ghost use Rattle.cost_rule.specs.Parts.{parts_of};
+    ghost use Rattle.trunk_sums.specs.Remade.{remade, AreChanges};
+    ghost use Rattle.map_board.specs.Seated.{placed_at};
+    ghost use Rattle.map_board.specs.Unmade.{unmade};
+
+    /// The board of a feasible node map.
+    pub fn of(alloc: Global, setting: &Setting, start: &Mapping) -> Result<Board, Memory>
+        requires setting { IsSetting setting.now }
+        requires choice { IsChoice (candidates setting.now.mapper.lab.now setting.now.mapper.free.now setting.now.mapper.wiring.now) start.now.places }
+        requires mapped { node_map setting.now.mapper.lab.now setting.now.mapper.free.now setting.now.mapper.wiring.now start.now.places ≡ Some start.now }
+        ensures board { IfOk result (IsBoard setting.now) }
+        ensures start { IfOk result (λ board. board.mapping ≡ start.now) }
+        ensures none { IfOk result (λ board. board.back.items ≡ []) }
+    {
+        let mapper = setting.mapper;
+        let mapping = start.copy(alloc)?;
+        let seats = Seats::of(alloc, mapper.lab, mapper.wiring, &mapping)?;
+        let sums = Sums::of(alloc, mapper.lab, mapper.wiring, &mapping)?;
+        let given = Given::nothing(alloc, mapper.lab)?;
+        Ok(Board {
+            mapping,
+            seats,
+            sums,
+            given,
+            listed: Vec::new(alloc),
+            changes: Vec::new(alloc),
+            back: Vec::new(alloc),
+        })
+    }
+
+    /// The parts of the cost.
+    pub fn parts(&self, setting: &Setting) -> Parts
+        requires setting { IsSetting setting.now }
+        requires laid { IsLaid setting.now self.now }
+        ensures { result ≡ parts_of setting.now.mapper.lab.now setting.now.mapper.wiring.now self.now.mapping }
+    {
+        let mapper = setting.mapper;
+        let plugs = self.mapping.plugs.as_slice();
+        Parts {
+            uses: self.sums.total(mapper.lab, mapper.wiring, plugs),
+            nodes: self.seats.nodes,
+            soft: self.seats.soft,
+        }
+    }
+
+    /// A virtual node goes to another of its candidates; the plugs stay.
+    pub fn seat(&mut self, alloc: Global, setting: &Setting, virt: usize, place: Place)
+        requires setting { IsSetting setting.now }
+        requires laid { IsLaid setting.now self.old }
+        requires virt { virt < length setting.now.mapper.wiring.now.nodes }
+        requires among { Contains (slice_index_or (candidates setting.now.mapper.lab.now setting.now.mapper.free.now setting.now.mapper.wiring.now) virt []) place }
+        ensures laid { IsLaid setting.now self.new }
+        ensures mapping { self.new.mapping ≡ placed_at self.old.mapping virt place }
+        ensures back { self.new.back.items ≡ self.old.back.items }
+    {
+        let mapper = setting.mapper;
+        self.seats.seat(
+            alloc,
+            mapper.lab,
+            mapper.wiring,
+            &mut self.mapping,
+            virt,
+            place,
+        );
+    }
+
+    /// Plans the plugs of the ends on two nodes; false where some end gets none.
+    fn plan(
+        &mut self,
+        alloc: Global,
+        setting: &Setting,
+        first: (NodeId, usize),
+        second: (NodeId, usize),
+    ) -> Result<bool, Memory>
+        requires setting { IsSetting setting.now }
+        requires laid { IsLaid setting.now self.old }
+        requires first { first.0.0 < length setting.now.mapper.lab.now.nodes }
+        requires first_virt { first.1 < length setting.now.mapper.wiring.now.nodes }
+        requires second { second.0.0 < length setting.now.mapper.lab.now.nodes }
+        requires second_virt { second.1 < length setting.now.mapper.wiring.now.nodes }
+        ensures laid { OnOk result (IsLaid setting.now self.new) }
+        ensures mapping { self.new.mapping ≡ self.old.mapping }
+        ensures back { self.new.back.items ≡ self.old.back.items }
+        ensures planned { IfOk result (λ yes. yes ≡ true → IsPlanned setting.now self.new.mapping.places first.0.0 second.0.0 self.new.changes.items) }
+        ensures none { IfOk result (λ yes. yes ≡ false → plugs_of setting.now.mapper.lab.now setting.now.mapper.wiring.now self.new.mapping.places ≡ None) }
+    {
+        self.changes.clear();
+        let yes = give(
+            alloc,
+            setting,
+            &self.mapping,
+            &self.seats,
+            first.0,
+            first.1,
+            &mut self.listed,
+            &mut self.given,
+            &mut self.changes,
+        )?;
+        if !yes {
+            return Ok(false);
+        }
+        let both = give(
+            alloc,
+            setting,
+            &self.mapping,
+            &self.seats,
+            second.0,
+            second.1,
+            &mut self.listed,
+            &mut self.given,
+            &mut self.changes,
+        )?;
+        Ok(both)
+    }
+
+    /// Makes what is planned.
+    fn make(&mut self, alloc: Global, setting: &Setting) -> Result<(), Memory>
+        requires setting { IsSetting setting.now }
+        requires laid { IsLaid setting.now self.old }
+        requires changes { AreChanges setting.now.mapper.lab.now setting.now.mapper.wiring.now self.old.changes.items }
+        requires none { self.old.back.items ≡ [] }
+        ensures laid { OnOk result (IsLaid setting.now self.new) }
+        ensures places { OnOk result (self.new.mapping.places ≡ self.old.mapping.places) }
+        ensures plugs { OnOk result (self.new.mapping.plugs ≡ remade self.old.mapping.plugs self.old.changes.items) }
+        ensures back { OnOk result (unmade self.new.mapping.plugs self.new.back.items ≡ self.old.mapping.plugs) }
+        ensures backward { OnOk result (AreChanges setting.now.mapper.lab.now setting.now.mapper.wiring.now self.new.back.items) }
+    {
+        let mapper = setting.mapper;
+        let mut plugs = mem::replace(&mut self.mapping.plugs, Items::new(alloc)).into_vec();
+        remake(
+            mapper.lab,
+            mapper.wiring,
+            &setting.table.crossings,
+            &mut self.sums,
+            &mut plugs,
+            &self.changes,
+            &mut self.back,
+        )?;
+        self.mapping.plugs = Items::from_vec(plugs);
+        Ok(())
+    }
+
+    /// Takes the changes of the plugs back.
+    pub fn take_back(&mut self, alloc: Global, setting: &Setting)
+        requires setting { IsSetting setting.now }
+        requires laid { IsLaid setting.now self.old }
+        requires backward { AreChanges setting.now.mapper.lab.now setting.now.mapper.wiring.now self.old.back.items }
+        ensures laid { IsLaid setting.now self.new }
+        ensures places { self.new.mapping.places ≡ self.old.mapping.places }
+        ensures plugs { self.new.mapping.plugs ≡ unmade self.old.mapping.plugs self.old.back.items }
+        ensures none { self.new.back.items ≡ [] }
+    {
+        let mapper = setting.mapper;
+        let mut plugs = mem::replace(&mut self.mapping.plugs, Items::new(alloc)).into_vec();
+        unmake(
+            mapper.lab,
+            mapper.wiring,
+            &setting.table.crossings,
+            &mut self.sums,
+            &mut plugs,
+            &mut self.back,
+        );
+        self.mapping.plugs = Items::from_vec(plugs);
+    }
+
+    /// Forgets how the last try is taken back.
+    pub fn forget(&mut self)
+        ensures mapping { self.new.mapping ≡ self.old.mapping }
+        ensures seats { self.new.seats ≡ self.old.seats }
+        ensures sums { self.new.sums ≡ self.old.sums }
+        ensures given { self.new.given ≡ self.old.given }
+        ensures none { self.new.back.items ≡ [] }
+    {
+        self.back.clear();
+    }
+
+    /// Whether a mapping keeps the eight rules, whose plugs the interface rule gave, and whose places differ from those of a
+    /// node map on two nodes alone.
+    fn is_kept(
+        &self,
+        alloc: Global,
+        setting: &Setting,
+        first: NodeId,
+        second: NodeId,
+    ) -> Result<bool, Memory>
+        requires setting { IsSetting setting.now }
+        requires laid { IsLaid setting.now self.now }
+        requires first { first.0 < length setting.now.mapper.lab.now.nodes }
+        requires second { second.0 < length setting.now.mapper.lab.now.nodes }
+        ensures { IfOk result (λ yes. (last : List PlaceSeen) (old : List IfaceSeen) → Was setting.now self.now.mapping.places old first.0 second.0 last → plugs_of setting.now.mapper.lab.now setting.now.mapper.wiring.now self.now.mapping.places ≡ Some self.now.mapping.plugs → node_map setting.now.mapper.lab.now setting.now.mapper.free.now setting.now.mapper.wiring.now self.now.mapping.places ≡ (if yes then Some self.now.mapping else None)) }
+    {
+        let mapper = setting.mapper;
+        let _kept = mapper.lab.range();
+        if setting.table.plain && self.seats.are_few(first, second) {
+            return Ok(has_room(mapper.free, self.sums.uses()));
+        }
+        let yes = is_feasible(alloc, mapper.lab, mapper.free, mapper.wiring, &self.mapping)?;
+        Ok(yes)
+    }
+
+    /// Gives the ends on two nodes their plugs anew, where virtual nodes of a node map went from one of them to the other;
+    /// false where that is no node map. The virtual nodes may be the only ones there.
+    pub fn settle(
+        &mut self,
+        alloc: Global,
+        setting: &Setting,
+        first: (NodeId, usize),
+        second: (NodeId, usize),
+    ) -> Result<bool, Memory>
+        requires setting { IsSetting setting.now }
+        requires laid { IsLaid setting.now self.old }
+        requires first { first.0.0 < length setting.now.mapper.lab.now.nodes }
+        requires first_virt { first.1 < length setting.now.mapper.wiring.now.nodes }
+        requires second { second.0.0 < length setting.now.mapper.lab.now.nodes }
+        requires second_virt { second.1 < length setting.now.mapper.wiring.now.nodes }
+        requires none { self.old.back.items ≡ [] }
+        ensures laid { OnOk result (IsLaid setting.now self.new) }
+        ensures places { OnOk result (self.new.mapping.places ≡ self.old.mapping.places) }
+        ensures back { OnOk result (unmade self.new.mapping.plugs self.new.back.items ≡ self.old.mapping.plugs) }
+        ensures backward { OnOk result (AreChanges setting.now.mapper.lab.now setting.now.mapper.wiring.now self.new.back.items) }
+        ensures map { IfOk result (λ yes. (last : List PlaceSeen) → Was setting.now self.old.mapping.places self.old.mapping.plugs first.0.0 second.0.0 last → node_map setting.now.mapper.lab.now setting.now.mapper.free.now setting.now.mapper.wiring.now self.old.mapping.places ≡ (if yes then Some self.new.mapping else None)) }
+    {
+        if !self.plan(alloc, setting, first, second)? {
+            return Ok(false);
+        }
+        self.make(alloc, setting)?;
+        let yes = self.is_kept(alloc, setting, first.0, second.0)?;
+        Ok(yes)
+    }
+}

@@ -1,0 +1,182 @@
+// The interfaces of the ends on one node.
+ghost use Rattle.std.specs.Prelude.{◌≡◌, true, false, ◌<◌, ◌≤◌, ◌++◌, ◌==◌, [], map, length, slice_index_or, Some, None, if◌then◌else◌, filter, ◌&&◌, All, IfOk, OnOk};
+ghost use Rattle.lab_model.specs.Shapes.{IsShaped};
+ghost use Rattle.lab_model.specs.Rules.{no_place};
+ghost use Rattle.node_maps.specs.NodeMaps.{plugs_from};
+ghost use Rattle.node_maps.specs.Indexed.{Marks};
+ghost use Rattle.map_board.specs.Nodes.{is_on, numbers_of, changes_of, no_end};
+ghost use Rattle.map_board.specs.Tables.{IsSetting};
+ghost use Rattle.map_board.specs.Boards.{IsIdle, IsNoted};
+ghost use Rattle.map_board.specs.Seated.{IsSeated};
+
+use crate::seats::Seats;
+use crate::table::Setting;
+use lab_base::{IfaceId, Memory, NodeId};
+use node_maps::{End, Given, Place};
+use std::alloc::Global;
+use trunk_sums::{Change, EndRow};
+use virt_topo::Mapping;
+
+/// The numbers of the ends on a node.
+fn list_ends(
+    listed: &mut Vec<u16>,
+    places: &[Place],
+    ends: &[End],
+    node: NodeId,
+) -> Result<(), Memory>
+    requires few { length ends.now ≤ 4096 }
+    requires placed { All (λ e. e.node < length places.now) ends.now }
+    ensures { OnOk result (listed.new.items ≡ numbers_of 0 (is_on places.now node.0) ends.now) }
+{
+    listed.clear();
+    let mut number = 0u16;
+    for end in ends {
+        if places[end.node as usize].0.0 == node.0 {
+            listed.push(number)?;
+        }
+        number += 1;
+    }
+    Ok(())
+}
+
+/// Gives the ends of these numbers their interfaces; false where some end gets none.
+fn serve_listed(
+    setting: &Setting,
+    places: &[Place],
+    listed: &[u16],
+    given: &mut Given,
+) -> Result<bool, Memory>
+    requires setting { IsSetting setting.now }
+    requires idle { IsIdle setting.now.mapper.lab.now given.old }
+    requires within { All (λ k. k < length setting.now.mapper.ends.now) listed.now }
+    ensures marks { OnOk result (Marks setting.now.mapper.lab.now given.new.taken.items given.new.plugs) }
+    ensures given { IfOk result (λ yes. plugs_from setting.now.mapper.lab.now places.now (map (λ k. slice_index_or setting.now.mapper.ends.now k no_end) listed.now) [] ≡ (if yes then Some given.new.plugs else None)) }
+{
+    let mapper = setting.mapper;
+    for number in listed {
+        if !given.add(
+            mapper.lab,
+            mapper.ifaces,
+            places,
+            mapper.ends[*number as usize],
+        )? {
+            return Ok(false);
+        }
+    }
+    Ok(true)
+}
+
+/// Notes the plugs of the ends of these numbers.
+fn note(
+    rows: &[EndRow],
+    listed: &[u16],
+    plugs: &[IfaceId],
+    changes: &mut Vec<Change>,
+) -> Result<(), Memory>
+    requires one_each { length listed.now ≡ length plugs.now }
+    requires within { All (λ k. k < length rows.now) listed.now }
+    ensures { OnOk result (changes.new.items ≡ changes.old.items ++ changes_of rows.now listed.now plugs.now) }
+{
+    for number in 0..listed.len() {
+        let end = listed[number];
+        changes.push(Change {
+            end,
+            row: rows[end as usize],
+            to: plugs[number],
+        })?;
+    }
+    Ok(())
+}
+
+/// Gives the ends of these numbers, which are those on a node, their interfaces, and notes them; false where some end gets
+/// none.
+fn serve_noted(
+    setting: &Setting,
+    places: &[Place],
+    node: NodeId,
+    listed: &[u16],
+    given: &mut Given,
+    changes: &mut Vec<Change>,
+) -> Result<bool, Memory>
+    requires setting { IsSetting setting.now }
+    requires placed { length places.now ≡ length setting.now.mapper.wiring.now.nodes }
+    requires listed { listed.now ≡ numbers_of 0 (is_on places.now node.0) setting.now.mapper.ends.now }
+    requires idle { IsIdle setting.now.mapper.lab.now given.old }
+    ensures marks { OnOk result (Marks setting.now.mapper.lab.now given.new.taken.items given.new.plugs) }
+    ensures given { IfOk result (λ yes. yes ≡ true → IsNoted setting.now.mapper.lab.now setting.now.table.now.rows.items setting.now.mapper.ends.now places.now node.0 changes.old.items changes.new.items) }
+    ensures none { IfOk result (λ yes. yes ≡ false → plugs_from setting.now.mapper.lab.now places.now (filter (is_on places.now node.0) setting.now.mapper.ends.now) [] ≡ None) }
+{
+    let yes = serve_listed(setting, places, listed, given)?;
+    if !yes {
+        return Ok(false);
+    }
+    note(&setting.table.rows, listed, given.plugs(), changes)?;
+    Ok(true)
+}
+
+/// The same, which then forgets what was given.
+fn give_listed(
+    alloc: Global,
+    setting: &Setting,
+    places: &[Place],
+    node: NodeId,
+    listed: &[u16],
+    given: &mut Given,
+    changes: &mut Vec<Change>,
+) -> Result<bool, Memory>
+    requires setting { IsSetting setting.now }
+    requires placed { length places.now ≡ length setting.now.mapper.wiring.now.nodes }
+    requires listed { listed.now ≡ numbers_of 0 (is_on places.now node.0) setting.now.mapper.ends.now }
+    requires idle { IsIdle setting.now.mapper.lab.now given.old }
+    ensures idle { OnOk result (IsIdle setting.now.mapper.lab.now given.new) }
+    ensures given { IfOk result (λ yes. yes ≡ true → IsNoted setting.now.mapper.lab.now setting.now.table.now.rows.items setting.now.mapper.ends.now places.now node.0 changes.old.items changes.new.items) }
+    ensures none { IfOk result (λ yes. yes ≡ false → plugs_from setting.now.mapper.lab.now places.now (filter (is_on places.now node.0) setting.now.mapper.ends.now) [] ≡ None) }
+{
+    let yes = serve_noted(setting, places, node, listed, given, changes)?;
+    given.clear(alloc, setting.mapper.lab);
+    Ok(yes)
+}
+
+/// Whether a virtual node is the only one on a node.
+fn is_alone(places: &[Place], seats: &Seats, node: NodeId, virt: usize) -> bool
+    requires virt { virt < length places.now }
+    requires node { node.0 < length seats.now.guests.items }
+    ensures { result ≡ ((slice_index_or seats.now.guests.items node.0 0 == 1) && ((slice_index_or places.now virt no_place).0.0 == node.0)) }
+{
+    seats.guests[node.0 as usize] == 1 && places[virt].0.0 == node.0
+}
+
+/// Gives the ends on a node their interfaces, and notes them; false where some end gets none. The virtual node may be the
+/// only one there.
+pub(crate) fn give(
+    alloc: Global,
+    setting: &Setting,
+    mapping: &Mapping,
+    seats: &Seats,
+    node: NodeId,
+    virt: usize,
+    listed: &mut Vec<u16>,
+    given: &mut Given,
+    changes: &mut Vec<Change>,
+) -> Result<bool, Memory>
+    requires setting { IsSetting setting.now }
+    requires shaped { IsShaped setting.now.mapper.lab.now setting.now.mapper.wiring.now mapping.now }
+    requires seated { IsSeated setting.now.mapper.lab.now setting.now.mapper.wiring.now mapping.now seats.now }
+    requires node { node.0 < length setting.now.mapper.lab.now.nodes }
+    requires virt { virt < length setting.now.mapper.wiring.now.nodes }
+    requires idle { IsIdle setting.now.mapper.lab.now given.old }
+    ensures idle { OnOk result (IsIdle setting.now.mapper.lab.now given.new) }
+    ensures given { IfOk result (λ yes. yes ≡ true → IsNoted setting.now.mapper.lab.now setting.now.table.now.rows.items setting.now.mapper.ends.now mapping.now.places node.0 changes.old.items changes.new.items) }
+    ensures none { IfOk result (λ yes. yes ≡ false → plugs_from setting.now.mapper.lab.now mapping.now.places (filter (is_on mapping.now.places node.0) setting.now.mapper.ends.now) [] ≡ None) }
+{
+    let places = mapping.places.as_slice();
+    if seats.guests[node.0 as usize] == 0 {
+        return give_listed(alloc, setting, places, node, &[], given, changes);
+    }
+    if is_alone(places, seats, node, virt) {
+        let own = setting.table.own[virt].as_slice();
+        return give_listed(alloc, setting, places, node, own, given, changes);
+    }
+    list_ends(listed, places, setting.mapper.ends, node)?;
+    give_listed(alloc, setting, places, node, listed, given, changes)
+}

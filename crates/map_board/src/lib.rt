@@ -1,0 +1,13 @@
+//! A node map whose tries change it in place, and what is kept of it: by node how many virtual nodes are on it, by trunk
+//! what is used of it, and the parts of its cost.
+#![tactic(auto)]
+
+mod board;
+mod give;
+mod remake;
+mod seats;
+mod table;
+
+pub use board::Board;
+pub use seats::Seats;
+pub use table::{Setting, Table};

@@ -1,0 +1,163 @@
+// What is kept of the places of a mapping.
+ghost use Rattle.std.specs.Prelude.{◌≡◌, ◌<◌, ◌≤◌, ◌+◌, ◌-◌, ◌==◌, ◌&&◌, nat_le, ℕ, length, slice_index_or, slice_set, if◌then◌else◌, IfOk, OnOk, All, true};
+ghost use Rattle.virt_topo.specs.Soundness.{IsSound};
+ghost use Rattle.lab_model.specs.Shapes.{IsShaped, node_at, has_name};
+ghost use Rattle.lab_model.specs.Rules.{no_place};
+ghost use Rattle.map_board.specs.Seated.{IsSeated, guests_at, seat_soft as seat_soft_in, asked_soft as asked_soft_in, placed_at};
+
+use cost_rule::{class_soft, node_soft, parts_of};
+use lab_base::{Items, Memory, NodeId};
+use node_maps::Place;
+use phys_lab::Lab;
+use std::alloc::Global;
+use std::mem;
+use virt_topo::{Asks, Mapping, Wiring};
+
+/// By node how many virtual nodes are on it, how many nodes are in use, and what is soft.
+#[derive(Drop)]
+pub struct Seats {
+    pub(crate) guests: Vec<u16>,
+    pub(crate) nodes: u64,
+    pub(crate) soft: u64,
+}
+
+fn asked_soft(wiring: &Wiring, mapping: &Mapping, asks: &Asks) -> u64
+    requires sound { IsSound wiring.now }
+    requires placed { length mapping.now.places ≡ length wiring.now.nodes }
+    ensures is { result ≡ asked_soft_in wiring.now mapping.now asks.now }
+    ensures small { result ≤ 1000000000 }
+{
+    match asks {
+        Asks::Plain(_) => 0,
+        Asks::Class(class) => {
+            if (*class as usize) < wiring.classes.len() {
+                class_soft(wiring, mapping, *class as usize)
+            } else {
+                0
+            }
+        }
+    }
+}
+
+/// What hangs on the place of a virtual node.
+fn seat_soft(lab: &Lab, wiring: &Wiring, mapping: &Mapping, virt: usize) -> u64
+    requires sound { IsSound wiring.now }
+    requires shaped { IsShaped lab.now wiring.now mapping.now }
+    requires virt { virt < length wiring.now.nodes }
+    ensures is { result ≡ seat_soft_in lab.now wiring.now mapping.now virt }
+{
+    let asks = &wiring.nodes.as_slice()[virt].asks;
+    node_soft(lab, wiring, mapping, virt) + asked_soft(wiring, mapping, asks)
+}
+
+fn node_of(mapping: &Mapping, virt: usize) -> NodeId
+    requires { virt < length mapping.now.places }
+    ensures { result.0 ≡ (slice_index_or mapping.now.places virt no_place).0.0 }
+{
+    mapping.places.as_slice()[virt].0
+}
+
+fn set_place(alloc: Global, mapping: &mut Mapping, virt: usize, place: Place)
+    requires { virt < length mapping.old.places }
+    ensures { mapping.new ≡ placed_at mapping.old virt place }
+{
+    let mut places = mem::replace(&mut mapping.places, Items::new(alloc)).into_vec();
+    places[virt] = place;
+    mapping.places = Items::from_vec(places);
+}
+
+fn count_guests(alloc: Global, lab: &Lab, mapping: &Mapping) -> Result<Vec<u16>, Memory>
+    requires few { length mapping.now.places ≤ 256 }
+    requires within { All (λ p. p.0.0 < length lab.now.nodes) mapping.now.places }
+    ensures one_each { IfOk result (λ guests. length guests.items ≡ length lab.now.nodes) }
+    ensures guests { IfOk result (λ guests. (n : ℕ) → n < length lab.now.nodes → slice_index_or guests.items n 0 ≡ guests_at mapping.now.places n) }
+{
+    let mut guests = vec![in alloc; 0u16; lab.nodes().len()]?;
+    for place in mapping.places.as_slice() {
+        guests[place.0.0 as usize] += 1;
+    }
+    Ok(guests)
+}
+
+impl Seats {
+    /// Those of a mapping.
+    pub fn of(alloc: Global, lab: &Lab, wiring: &Wiring, mapping: &Mapping) -> Result<Seats, Memory>
+        requires sound { IsSound wiring.now }
+        requires shaped { IsShaped lab.now wiring.now mapping.now }
+        ensures { IfOk result (λ seats. IsSeated lab.now wiring.now mapping.now seats) }
+    {
+        let guests = count_guests(alloc, lab, mapping)?;
+        let parts = parts_of(lab, wiring, mapping);
+        Ok(Seats {
+            guests,
+            nodes: parts.nodes,
+            soft: parts.soft,
+        })
+    }
+
+    /// Whether at most one virtual node is on each of two nodes.
+    pub(crate) fn are_few(&self, first: NodeId, second: NodeId) -> bool
+        requires first { first.0 < length self.now.guests.items }
+        requires second { second.0 < length self.now.guests.items }
+        ensures { result ≡ (nat_le (slice_index_or self.now.guests.items first.0 0) 1 && nat_le (slice_index_or self.now.guests.items second.0 0) 1) }
+    {
+        self.guests[first.0 as usize] <= 1 && self.guests[second.0 as usize] <= 1
+    }
+
+    fn leave(&mut self, node: NodeId)
+        requires within { node.0 < length self.old.guests.items }
+        requires guest { 0 < slice_index_or self.old.guests.items node.0 0 }
+        requires used { slice_index_or self.old.guests.items node.0 0 ≡ 1 → 0 < self.old.nodes }
+        ensures guests { self.new.guests.items ≡ slice_set self.old.guests.items node.0 (slice_index_or self.old.guests.items node.0 0 - 1) }
+        ensures nodes { self.new.nodes + (if slice_index_or self.old.guests.items node.0 0 == 1 then 1 else 0) ≡ self.old.nodes }
+        ensures soft { self.new.soft ≡ self.old.soft }
+    {
+        self.guests[node.0 as usize] -= 1;
+        if self.guests[node.0 as usize] == 0 {
+            self.nodes -= 1;
+        }
+    }
+
+    fn join(&mut self, node: NodeId)
+        requires within { node.0 < length self.old.guests.items }
+        requires few { slice_index_or self.old.guests.items node.0 0 ≤ 256 }
+        requires few_nodes { self.old.nodes ≤ 256 }
+        ensures guests { self.new.guests.items ≡ slice_set self.old.guests.items node.0 (slice_index_or self.old.guests.items node.0 0 + 1) }
+        ensures nodes { self.new.nodes ≡ self.old.nodes + (if slice_index_or self.old.guests.items node.0 0 == 0 then 1 else 0) }
+        ensures soft { self.new.soft ≡ self.old.soft }
+    {
+        if self.guests[node.0 as usize] == 0 {
+            self.nodes += 1;
+        }
+        self.guests[node.0 as usize] += 1;
+    }
+
+    /// A virtual node goes to another place.
+    pub fn seat(
+        &mut self,
+        alloc: Global,
+        lab: &Lab,
+        wiring: &Wiring,
+        mapping: &mut Mapping,
+        virt: usize,
+        place: Place,
+    )
+        requires sound { IsSound wiring.now }
+        requires shaped { IsShaped lab.now wiring.now mapping.old }
+        requires seated { IsSeated lab.now wiring.now mapping.old self.old }
+        requires virt { virt < length wiring.now.nodes }
+        requires node { place.0.0 < length lab.now.nodes }
+        requires typed { has_name (node_at lab.now place.0).types place.1 ≡ true }
+        ensures mapping { mapping.new ≡ placed_at mapping.old virt place }
+        ensures shaped { IsShaped lab.now wiring.now mapping.new }
+        ensures seated { IsSeated lab.now wiring.now mapping.new self.new }
+    {
+        let _kept = lab.range();
+        let from = node_of(mapping, virt);
+        let others = self.soft - seat_soft(lab, wiring, mapping, virt);
+        self.leave(from);
+        self.join(place.0);
+        set_place(alloc, mapping, virt, place);
+        self.soft = others + seat_soft(lab, wiring, mapping, virt);
+    }
+}

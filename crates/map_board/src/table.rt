@@ -1,0 +1,146 @@
+// What tries look up.
+ghost use Rattle.std.specs.Prelude.{◌≡◌, ◌<◌, ◌≤◌, ◌==◌, ◌++◌, ℕ, true, [], length, replicate, IfOk, OnOk, IsTrue};
+ghost use Rattle.phys_lab.specs.Sides.{joined};
+ghost use Rattle.virt_topo.specs.Soundness.{IsSound};
+ghost use Rattle.lab_model.specs.Rules.{class_at};
+ghost use Rattle.node_maps.specs.NodeMaps.{ends_of};
+ghost use Rattle.map_board.specs.Nodes.{numbers_of};
+ghost use Rattle.map_board.specs.Tables.{IsPlain, AreRows, AreOwn, IsTableOf};
+
+use lab_base::{Items, Memory, SwitchId};
+use node_maps::{End, Mapper};
+use phys_lab::Lab;
+use std::alloc::Global;
+use trunk_sums::{Crossings, EndRow};
+use virt_topo::{Segment, Wiring};
+
+/// What tries look up of a lab and a wiring.
+#[derive(Drop)]
+pub struct Table {
+    /// By end its segment, how many ends that has, and its speed.
+    pub(crate) rows: Vec<EndRow>,
+    /// By virtual node the numbers of its ends.
+    pub(crate) own: Vec<Items<u16>>,
+    pub(crate) crossings: Crossings,
+    /// No class has a weight of 1,000 or more, and all switches are joined.
+    pub(crate) plain: bool,
+}
+
+/// What the node maps of a wiring are made from, and what their tries look up.
+#[derive(Clone, Copy)]
+pub struct Setting<'a> {
+    pub mapper: Mapper<'a>,
+    pub table: &'a Table,
+}
+
+fn push_rows(rows: &mut Vec<EndRow>, number: u16, segment: &Segment) -> Result<(), Memory>
+    requires { length segment.now.ends ≤ 256 }
+    ensures { OnOk result (rows.new.items ≡ rows.old.items ++ replicate (length segment.now.ends) (record { segment = number; ends = length segment.now.ends; kbps = segment.now.kbps })) }
+{
+    let ends = segment.ends.len();
+    for _end in 0..ends {
+        rows.push(EndRow {
+            segment: number,
+            ends: ends as u16,
+            kbps: segment.kbps,
+        })?;
+    }
+    Ok(())
+}
+
+fn rows_of(alloc: Global, wiring: &Wiring) -> Result<Vec<EndRow>, Memory>
+    requires { IsSound wiring.now }
+    ensures { IfOk result (λ rows. AreRows wiring.now rows.items) }
+{
+    let mut rows = Vec::new(alloc);
+    let mut number = 0u16;
+    for segment in wiring.segments.as_slice() {
+        push_rows(&mut rows, number, segment)?;
+        number += 1;
+    }
+    Ok(rows)
+}
+
+/// The numbers of a virtual node's ends.
+fn own_ends(alloc: Global, ends: &[End], virt: u16) -> Result<Items<u16>, Memory>
+    requires { length ends.now ≤ 4096 }
+    ensures { IfOk result (λ own. own ≡ numbers_of 0 (λ e. e.node == virt) ends.now) }
+{
+    let mut own = Items::new(alloc);
+    let mut number = 0u16;
+    for end in ends {
+        if end.node == virt {
+            own.push(number)?;
+        }
+        number += 1;
+    }
+    Ok(own)
+}
+
+fn own_of(alloc: Global, wiring: &Wiring, ends: &[End]) -> Result<Vec<Items<u16>>, Memory>
+    requires sound { IsSound wiring.now }
+    requires ends { ends.now ≡ ends_of wiring.now.segments }
+    ensures { IfOk result (λ own. AreOwn wiring.now own.items) }
+{
+    let mut own = Vec::new(alloc);
+    for virt in 0..wiring.nodes.len() {
+        own.push(own_ends(alloc, ends, virt as u16)?)?;
+    }
+    Ok(own)
+}
+
+/// Whether no class has a weight of 1,000 or more.
+fn are_light(wiring: &Wiring) -> bool
+    ensures { IsTrue result → (c : ℕ) → c < length wiring.now.classes → (class_at wiring.now c).weight < 1000 }
+{
+    for class in wiring.classes.as_slice() {
+        if class.weight >= 1_000 {
+            return false;
+        }
+    }
+    true
+}
+
+fn is_joined_to_all(lab: &Lab, switch: usize) -> bool
+    requires { switch < length lab.now.switches }
+    ensures { IsTrue result → (b : ℕ) → b < length lab.now.switches → joined lab.now.trunks switch b ≡ true }
+{
+    let _kept = lab.range();
+    for other in 0..lab.switches().len() {
+        if !lab.joined(SwitchId(switch as u16), SwitchId(other as u16)) {
+            return false;
+        }
+    }
+    true
+}
+
+fn are_all_joined(lab: &Lab) -> bool
+    ensures { IsTrue result → (a b : ℕ) → a < length lab.now.switches → b < length lab.now.switches → joined lab.now.trunks a b ≡ true }
+{
+    for switch in 0..lab.switches().len() {
+        if !is_joined_to_all(lab, switch) {
+            return false;
+        }
+    }
+    true
+}
+
+impl Table {
+    /// What the tries of a wiring on a lab look up.
+    pub fn of(alloc: Global, lab: &Lab, wiring: &Wiring, ends: &[End]) -> Result<Table, Memory>
+        requires sound { IsSound wiring.now }
+        requires ends { ends.now ≡ ends_of wiring.now.segments }
+        ensures { IfOk result (IsTableOf lab.now wiring.now) }
+    {
+        let rows = rows_of(alloc, wiring)?;
+        let own = own_of(alloc, wiring, ends)?;
+        let crossings = Crossings::of_lab(alloc, lab)?;
+        let plain = are_light(wiring) && are_all_joined(lab);
+        Ok(Table {
+            rows,
+            own,
+            crossings,
+            plain,
+        })
+    }
+}

@@ -1,0 +1,33 @@
+-- The trunks that part two switches.
+use Rattle.std.specs.Prelude.{◌≡◌, ◌<◌, ◌≤◌, ◌+◌, ◌*◌, ℕ, Bool, true, false, List, [], ◌∷◌, length, All, slice_index_or, if◌then◌else◌}
+use Rattle.phys_lab.specs.Labs.{Lab}
+use Rattle.phys_lab.specs.Sides.{on_first_side}
+use Rattle.phys_lab.specs.declared.parts.Iface.{Iface}
+use Rattle.trunk_sums.specs.declared.crossing.Crossing.{Crossing}
+use Rattle.trunk_sums.specs.Crossed.{ups, downs}
+
+abbrev pub no_iface : Iface
+no_iface = record { link = []; node = record { 0 = 0 }; name = []; switch = record { 0 = 0 }; port = 0; kbps = 0 }
+
+-- 1 where the switch is on the first side of trunk t
+abbrev pub on_side : Lab → ℕ → ℕ → ℕ
+on_side lab t switch = if on_first_side lab.trunks t switch then 1 else 0
+
+-- what is crossed of trunk t from one side to another
+abbrev pub crossing_of : (from to : Bool) → ℕ → List Crossing
+crossing_of true true t = []
+crossing_of true false t = record { trunk = t; onto = false } ∷ []
+crossing_of false true t = record { trunk = t; onto = true } ∷ []
+crossing_of false false t = []
+
+-- what is crossed of the trunks below n from switch a to switch b: each that parts them, once
+pub record AreBetween (lab : Lab) (a b n : ℕ) (cs : List Crossing) : Type 0 where
+  pub within : All (λ c. c.trunk < n) cs
+  pub few : length cs ≤ n
+  pub each : (t : ℕ) → t < n → on_side lab t a + ups t cs ≡ on_side lab t b + downs t cs
+  pub gone : (t : ℕ) → t < n → downs t cs ≤ on_side lab t a
+  pub come : (t : ℕ) → t < n → ups t cs + on_side lab t a ≤ 1
+
+-- by pair of switches what is crossed: of a and b at 64 * a + b
+pub record IsTable (lab : Lab) (lists : List (List Crossing)) : Type 0 where
+  pub each : (a b : ℕ) → a < length lab.switches → b < length lab.switches → AreBetween lab a b (length lab.trunks) (slice_index_or lists (64 * a + b) [])

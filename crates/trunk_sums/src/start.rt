@@ -1,0 +1,119 @@
+// The running sums of a mapping to begin with.
+ghost use Rattle.std.specs.Prelude.{◌≡◌, ◌<◌, ◌≤◌, ◌+◌, ◌*◌, ℕ, true, length, All, IfOk, slice_index_or, sum_by};
+ghost use Rattle.virt_topo.specs.Cables.{plugs_on};
+ghost use Rattle.virt_topo.specs.Ends.{end_nodes};
+ghost use Rattle.virt_topo.specs.Soundness.{keeps_limits};
+ghost use Rattle.trunk_sums.specs.Crossed.{side_of};
+ghost use Rattle.trunk_sums.specs.Summed.{IsSummed, own_plugs, used};
+
+use crate::sums::Sums;
+use lab_base::{IfaceId, Memory, TrunkId};
+use phys_lab::Lab;
+use std::alloc::Global;
+use virt_topo::{Mapping, Wiring};
+
+fn plugs_on(side: &[bool], plugs: &[IfaceId]) -> usize
+    requires { All (λ i. i.0 < length side.now) plugs.now }
+    ensures is { result ≡ plugs_on side.now plugs.now }
+    ensures within { result ≤ length plugs.now }
+{
+    plugs.iter().filter(|plug| side[plug.0 as usize]).count()
+}
+
+/// Counts the plugs of a segment on the first side of each trunk, from a place on.
+fn count_row(lab: &Lab, place: usize, plugs: &[IfaceId], counts: &mut Vec<u16>)
+    requires room { place + 64 ≤ length counts.old.items }
+    requires in_lab { All (λ i. i.0 < length lab.now.ifaces) plugs.now }
+    requires few { length plugs.now ≤ 256 }
+    ensures room { length counts.new.items ≡ length counts.old.items }
+    ensures row { (t : ℕ) → t < length lab.now.trunks → slice_index_or counts.new.items (place + t) 0 ≡ plugs_on (side_of lab.now t) plugs.now }
+    ensures earlier { (k : ℕ) → k < place → slice_index_or counts.new.items k 0 ≡ slice_index_or counts.old.items k 0 }
+{
+    let _kept = lab.range();
+    for trunk in 0..lab.trunks().len() {
+        let side = lab.first_side(TrunkId(trunk as u16));
+        counts[place + trunk] = plugs_on(side, plugs) as u16;
+    }
+}
+
+fn counts_of(
+    alloc: Global,
+    lab: &Lab,
+    wiring: &Wiring,
+    plugs: &[IfaceId],
+) -> Result<Vec<u16>, Memory>
+    requires limits { keeps_limits wiring.now ≡ true }
+    requires plugged { length plugs.now ≡ length (end_nodes wiring.now.segments) }
+    requires in_lab { All (λ i. i.0 < length lab.now.ifaces) plugs.now }
+    ensures room { IfOk result (λ counts. length counts.items ≡ 64 * length wiring.now.segments) }
+    ensures each { IfOk result (λ counts. (s t : ℕ) → s < length wiring.now.segments → t < length lab.now.trunks → slice_index_or counts.items (64 * s + t) 0 ≡ plugs_on (side_of lab.now t) (own_plugs wiring.now.segments plugs.now s)) }
+{
+    let _kept = lab.range();
+    let mut counts = vec![in alloc; 0u16; 64 * wiring.segments.len()]?;
+    let mut rest = plugs;
+    let mut place = 0usize;
+    for segment in wiring.segments.as_slice() {
+        let (own, later) = rest.split_at(segment.ends.len());
+        count_row(lab, place, own, &mut counts);
+        rest = later;
+        place += 64;
+    }
+    Ok(counts)
+}
+
+fn use_of(lab: &Lab, wiring: &Wiring, mapping: &Mapping, trunk: usize) -> u64
+    requires limits { keeps_limits wiring.now ≡ true }
+    requires plugged { length mapping.now.plugs ≡ length (end_nodes wiring.now.segments) }
+    requires in_lab { All (λ i. i.0 < length lab.now.ifaces) mapping.now.plugs }
+    requires trunk { trunk < length lab.now.trunks }
+    ensures { result ≡ used lab.now wiring.now mapping.now.plugs trunk }
+{
+    let _kept = lab.range();
+    mapping.cut_use(wiring, lab.first_side(TrunkId(trunk as u16)))
+}
+
+fn uses_of(alloc: Global, lab: &Lab, wiring: &Wiring, mapping: &Mapping) -> Result<Vec<u64>, Memory>
+    requires limits { keeps_limits wiring.now ≡ true }
+    requires plugged { length mapping.now.plugs ≡ length (end_nodes wiring.now.segments) }
+    requires in_lab { All (λ i. i.0 < length lab.now.ifaces) mapping.now.plugs }
+    ensures one_each { IfOk result (λ uses. length uses.items ≡ length lab.now.trunks) }
+    ensures each { IfOk result (λ uses. (t : ℕ) → t < length lab.now.trunks → slice_index_or uses.items t 0 ≡ used lab.now wiring.now mapping.now.plugs t) }
+{
+    let mut uses = Vec::new(alloc);
+    for trunk in 0..lab.trunks().len() {
+        uses.push(use_of(lab, wiring, mapping, trunk))?;
+    }
+    Ok(uses)
+}
+
+fn sum_of(uses: &[u64]) -> u64
+    requires few { length uses.now ≤ 64 }
+    requires small { (t : ℕ) → t < length uses.now → slice_index_or uses.now t 0 ≤ 4096 * 1000000000 }
+    ensures { result ≡ sum_by (λ (u : ℕ). u) uses.now }
+{
+    let mut total = 0;
+    for used in uses {
+        total += *used;
+    }
+    total
+}
+
+impl Sums {
+    /// The sums of a mapping.
+    pub fn of(alloc: Global, lab: &Lab, wiring: &Wiring, mapping: &Mapping) -> Result<Sums, Memory>
+        requires limits { keeps_limits wiring.now ≡ true }
+        requires plugged { length mapping.now.plugs ≡ length (end_nodes wiring.now.segments) }
+        requires in_lab { All (λ i. i.0 < length lab.now.ifaces) mapping.now.plugs }
+        ensures { IfOk result (λ sums. IsSummed lab.now wiring.now mapping.now.plugs sums) }
+    {
+        let _kept = lab.range();
+        let counts = counts_of(alloc, lab, wiring, mapping.plugs.as_slice())?;
+        let uses = uses_of(alloc, lab, wiring, mapping)?;
+        let total = sum_of(&uses);
+        Ok(Sums {
+            counts,
+            uses,
+            total,
+        })
+    }
+}

@@ -1,0 +1,127 @@
+// Running sums over trunks.
+ghost use Rattle.std.specs.Prelude.{◌≡◌, ◌<◌, ◌≤◌, ◌+◌, ◌*◌, ◌-◌, ◌⊎◌, ℕ, min, true, false, length, slice_index_or, slice_set, All, sum_by};
+ghost use Rattle.trunk_sums.specs.Counts.{share, after};
+ghost use Rattle.trunk_sums.specs.Crossed.{ups, downs};
+
+use crate::crossing::Crossing;
+use lab_base::IfaceId;
+use phys_lab::Lab;
+use virt_topo::Wiring;
+
+/// Of an end its segment, how many ends that has, and its speed.
+#[derive(Clone, Copy)]
+pub struct EndRow {
+    pub segment: u16,
+    pub ends: u16,
+    pub kbps: u64,
+}
+
+/// By segment and trunk how many plugs are on the trunk's first side, those of segment s from `64 * s` on; by trunk what the
+/// segments use of it; and the sum of these uses.
+#[derive(Drop)]
+pub struct Sums {
+    pub(crate) counts: Vec<u16>,
+    pub(crate) uses: Vec<u64>,
+    pub(crate) total: u64,
+}
+
+/// What a segment uses of a trunk with so many plugs on one side.
+#[inline(always)]
+fn share_of(ends: u16, on: u16, kbps: u64) -> u64
+    requires within { on ≤ ends }
+    requires few { ends ≤ 256 }
+    requires slow { kbps ≤ 1000000000 }
+    ensures is { result ≡ share ends on kbps }
+    ensures small { result ≤ 256 * 1000000000 }
+{
+    on.min(ends - on) as u64 * kbps
+}
+
+impl Sums {
+    /// A plug of a segment crosses a trunk, whose count stands at a place.
+    #[inline(always)]
+    fn cross_one(&mut self, place: usize, crossing: Crossing, row: EndRow)
+        requires place { place < length self.old.counts.items }
+        requires trunk { crossing.trunk < length self.old.uses.items }
+        requires few { row.ends ≤ 256 }
+        requires slow { row.kbps ≤ 1000000000 }
+        requires onto { crossing.onto ≡ true → slice_index_or self.old.counts.items place 0 < row.ends }
+        requires off { crossing.onto ≡ false → 0 < slice_index_or self.old.counts.items place 0 }
+        requires within { slice_index_or self.old.counts.items place 0 ≤ row.ends }
+        requires counted { share row.ends (slice_index_or self.old.counts.items place 0) row.kbps ≤ slice_index_or self.old.uses.items crossing.trunk 0 }
+        requires summed { share row.ends (slice_index_or self.old.counts.items place 0) row.kbps ≤ self.old.total }
+        requires small { slice_index_or self.old.uses.items crossing.trunk 0 ≤ 9223372036854775808 }
+        requires whole { self.old.total ≤ 9223372036854775808 }
+        ensures counts { self.new.counts.items ≡ slice_set self.old.counts.items place (after crossing.onto (slice_index_or self.old.counts.items place 0)) }
+        ensures uses { self.new.uses.items ≡ slice_set self.old.uses.items crossing.trunk (slice_index_or self.old.uses.items crossing.trunk 0 - share row.ends (slice_index_or self.old.counts.items place 0) row.kbps + share row.ends (after crossing.onto (slice_index_or self.old.counts.items place 0)) row.kbps) }
+        ensures total { self.new.total ≡ self.old.total - share row.ends (slice_index_or self.old.counts.items place 0) row.kbps + share row.ends (after crossing.onto (slice_index_or self.old.counts.items place 0)) row.kbps }
+        ensures bound { self.new.total ≤ self.old.total + 256 * 1000000000 }
+    {
+        let on = self.counts[place];
+        let now = if crossing.onto { on + 1 } else { on - 1 };
+        let before = share_of(row.ends, on, row.kbps);
+        let behind = share_of(row.ends, now, row.kbps);
+        self.counts[place] = now;
+        let used = self.uses[crossing.trunk as usize];
+        self.uses[crossing.trunk as usize] = used - before + behind;
+        self.total = self.total - before + behind;
+    }
+
+    /// A plug of a segment crosses trunks.
+    pub fn cross(&mut self, row: EndRow, crossed: &[Crossing])
+        requires room { 64 * row.segment + 64 ≤ length self.old.counts.items }
+        requires one_each { length self.old.uses.items ≤ 64 }
+        requires within { All (λ c. c.trunk < length self.old.uses.items) crossed.now }
+        requires short { length crossed.now ≤ 64 }
+        requires few { row.ends ≤ 256 }
+        requires slow { row.kbps ≤ 1000000000 }
+        requires come { (t : ℕ) → t < length self.old.uses.items → slice_index_or self.old.counts.items (64 * row.segment + t) 0 + ups t crossed.now ≤ row.ends }
+        requires gone { (t : ℕ) → t < length self.old.uses.items → downs t crossed.now ≤ slice_index_or self.old.counts.items (64 * row.segment + t) 0 }
+        requires counted { (t : ℕ) → t < length self.old.uses.items → share row.ends (slice_index_or self.old.counts.items (64 * row.segment + t) 0) row.kbps ≤ slice_index_or self.old.uses.items t 0 }
+        requires small { (t : ℕ) → t < length self.old.uses.items → slice_index_or self.old.uses.items t 0 ≤ 4096 * 1000000000 }
+        requires summed { self.old.total ≡ sum_by (λ (u : ℕ). u) self.old.uses.items }
+        requires whole { self.old.total ≤ 64 * (4096 * 1000000000) }
+        ensures room { length self.new.counts.items ≡ length self.old.counts.items }
+        ensures one_each { length self.new.uses.items ≡ length self.old.uses.items }
+        ensures row { (t : ℕ) → t < length self.old.uses.items → slice_index_or self.new.counts.items (64 * row.segment + t) 0 + downs t crossed.now ≡ slice_index_or self.old.counts.items (64 * row.segment + t) 0 + ups t crossed.now }
+        ensures others { (k : ℕ) → (k < 64 * row.segment) ⊎ (64 * row.segment + 64 ≤ k) → slice_index_or self.new.counts.items k 0 ≡ slice_index_or self.old.counts.items k 0 }
+        ensures uses { (t : ℕ) → t < length self.old.uses.items → slice_index_or self.new.uses.items t 0 + share row.ends (slice_index_or self.old.counts.items (64 * row.segment + t) 0) row.kbps ≡ slice_index_or self.old.uses.items t 0 + share row.ends (slice_index_or self.new.counts.items (64 * row.segment + t) 0) row.kbps }
+        ensures summed { self.new.total ≡ sum_by (λ (u : ℕ). u) self.new.uses.items }
+    {
+        for crossing in crossed {
+            let place = 64 * row.segment as usize + crossing.trunk as usize;
+            self.cross_one(place, *crossing, row);
+        }
+    }
+
+    ghost use Rattle.virt_topo.specs.Soundness.{keeps_limits};
+    ghost use Rattle.virt_topo.specs.Ends.{end_nodes};
+    ghost use Rattle.trunk_sums.specs.Crossed.{AreCrossed};
+    ghost use Rattle.trunk_sums.specs.Summed.{IsRow, IsSummed};
+
+    /// An end goes to another plug: the sums are again what counting anew gives. Taking it back is the same with the plugs
+    /// exchanged.
+    pub fn replug(
+        &mut self,
+        lab: &Lab,
+        wiring: &Wiring,
+        plugs: &mut Vec<IfaceId>,
+        end: usize,
+        row: EndRow,
+        to: IfaceId,
+        crossed: &[Crossing],
+    )
+        requires limits { keeps_limits wiring.now ≡ true }
+        requires plugged { length plugs.old.items ≡ length (end_nodes wiring.now.segments) }
+        requires row { IsRow wiring.now end row }
+        requires crossed { AreCrossed lab.now (slice_index_or plugs.old.items end (record { 0 = 0 })) to crossed.now }
+        requires summed { IsSummed lab.now wiring.now plugs.old.items self.old }
+        ensures plugs { plugs.new.items ≡ slice_set plugs.old.items end to }
+        ensures summed { IsSummed lab.now wiring.now plugs.new.items self.new }
+    {
+        let _kept = lab.range();
+        let _count = wiring.segments.len();
+        self.cross(row, crossed);
+        plugs[end] = to;
+    }
+}

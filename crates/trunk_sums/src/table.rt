@@ -1,0 +1,139 @@
+// The trunks that part switches, by pair of switches.
+ghost use Rattle.std.specs.Prelude.{◌≡◌, ◌<◌, ◌+◌, ◌++◌, ℕ, [], length, IfOk, OnOk, slice_index_or};
+ghost use Rattle.trunk_sums.specs.Between.{AreBetween, IsTable, crossing_of, no_iface};
+ghost use Rattle.trunk_sums.specs.Crossed.{AreCrossed};
+
+use crate::crossing::Crossing;
+use lab_base::{IfaceId, Items, Memory, SwitchId, TrunkId};
+use phys_lab::Lab;
+use std::alloc::Global;
+use std::marker::Model;
+
+fn push_crossing(
+    listed: &mut Items<Crossing>,
+    trunk: u16,
+    from: bool,
+    to: bool,
+) -> Result<(), Memory>
+    ensures { OnOk result (listed.new ≡ listed.old ++ crossing_of from to trunk) }
+{
+    if from != to {
+        listed.push(Crossing { trunk, onto: to })?;
+    }
+    Ok(())
+}
+
+/// The trunks that part two switches.
+fn between(
+    alloc: Global,
+    lab: &Lab,
+    from: SwitchId,
+    to: SwitchId,
+) -> Result<Items<Crossing>, Memory>
+    requires from { from.0 < length lab.now.switches }
+    requires to { to.0 < length lab.now.switches }
+    ensures { IfOk result (λ cs. AreBetween lab.now from.0 to.0 (length lab.now.trunks) cs) }
+{
+    let _kept = lab.range();
+    let mut listed = Items::new(alloc);
+    for number in 0..lab.trunks().len() {
+        let trunk = number as u16;
+        let left = lab.side(TrunkId(trunk), from);
+        let taken = lab.side(TrunkId(trunk), to);
+        push_crossing(&mut listed, trunk, left, taken)?;
+    }
+    Ok(listed)
+}
+
+/// By pair of switches the trunks that part them: those of a and b stand at `64 * a + b`.
+#[derive(Drop)]
+pub struct Crossings {
+    lists: Vec<Items<Crossing>>,
+}
+
+impl Model for Crossings {
+    ghost use Rattle.std.specs.Prelude.{List};
+    ghost use Rattle.trunk_sums.specs.declared.crossing.Crossing.{Crossing as CrossingSeen};
+
+    ghost Value = { List (List CrossingSeen) };
+
+    ghost view = { λ a. a.lists.items };
+}
+
+/// Adds what is crossed from one number to another, where both are switches.
+fn push_pair(
+    alloc: Global,
+    lists: &mut Vec<Items<Crossing>>,
+    lab: &Lab,
+    from: usize,
+    to: usize,
+) -> Result<(), Memory>
+    ensures length { OnOk result (length lists.new.items ≡ length lists.old.items + 1) }
+    ensures kept { OnOk result ((k : ℕ) → k < length lists.old.items → slice_index_or lists.new.items k [] ≡ slice_index_or lists.old.items k []) }
+    ensures pair { OnOk result (from < length lab.now.switches → to < length lab.now.switches → AreBetween lab.now from to (length lab.now.trunks) (slice_index_or lists.new.items (length lists.old.items) [])) }
+{
+    let _kept = lab.range();
+    let switches = lab.switches().len();
+    if from < switches && to < switches {
+        let list = between(alloc, lab, SwitchId(from as u16), SwitchId(to as u16))?;
+        lists.push(list)?;
+    } else {
+        lists.push(Items::new(alloc))?;
+    }
+    Ok(())
+}
+
+/// What is crossed by pair of switches.
+fn table_of(alloc: Global, lab: &Lab) -> Result<Vec<Items<Crossing>>, Memory>
+    ensures { IfOk result (λ lists. IsTable lab.now lists.items) }
+{
+    let _kept = lab.range();
+    let mut lists = Vec::new(alloc);
+    for number in 0..4_096usize {
+        push_pair(alloc, &mut lists, lab, number / 64, number % 64)?;
+    }
+    Ok(lists)
+}
+
+fn switch_of(lab: &Lab, plug: IfaceId) -> SwitchId
+    requires { plug.0 < length lab.now.ifaces }
+    ensures is { result.0 ≡ (slice_index_or lab.now.ifaces plug.0 no_iface).switch.0 }
+    ensures within { result.0 < length lab.now.switches }
+{
+    lab.ifaces()[plug.0 as usize].switch
+}
+
+impl Crossings {
+    /// Those of a lab.
+    pub fn of_lab(alloc: Global, lab: &Lab) -> Result<Crossings, Memory>
+        ensures { IfOk result (IsTable lab.now) }
+    {
+        Ok(Crossings {
+            lists: table_of(alloc, lab)?,
+        })
+    }
+
+    /// The list at a place.
+    #[inline(always)]
+    fn of(&self, place: usize) -> &[Crossing]
+        ensures { result.now ≡ slice_index_or self.now place [] }
+    {
+        match self.lists.get(place) {
+            Some(list) => list.as_slice(),
+            None => &[],
+        }
+    }
+
+    /// What a plug crosses that goes from one interface to another.
+    #[inline(always)]
+    pub fn between(&self, lab: &Lab, from: IfaceId, to: IfaceId) -> &[Crossing]
+        requires table { IsTable lab.now self.now }
+        requires from { from.0 < length lab.now.ifaces }
+        requires to { to.0 < length lab.now.ifaces }
+        ensures { AreCrossed lab.now from to result.now }
+    {
+        let one = switch_of(lab, from);
+        let other = switch_of(lab, to);
+        self.of(64 * one.0 as usize + other.0 as usize)
+    }
+}
