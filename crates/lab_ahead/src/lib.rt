@@ -14,6 +14,3 @@ pub use batch::{Batch, Promise, Run};
 pub use fitting::{Fit, Need, fits, short_types_never_fit};
 pub use read::read_batch;
 pub use times::{Left, later_moments, left_at, moments, needs_at};
-
-#[cfg(test)]
-mod tests;

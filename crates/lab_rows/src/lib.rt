@@ -8,6 +8,8 @@ mod labs;
 #[cfg(test)]
 mod plans;
 #[cfg(test)]
+mod promises;
+#[cfg(test)]
 mod records;
 #[cfg(test)]
 mod rules;

@@ -1,6 +1,7 @@
 //! Runs one layer on files, for measuring: the words are the layer's name, then its files.
 #![tactic(auto)]
 
+mod ahead;
 mod journal;
 mod labs;
 mod ns;
@@ -36,6 +37,7 @@ fn main(rt: HostRuntime) -> anyhow::Result<()> {
         ("expand", [text]) => ns::expanded(&rt, text),
         ("ptop", [ptop]) => labs::again(&rt, ptop),
         ("top", [top]) => labs::top_again(&rt, top),
+        ("ahead", [ptop, batch]) => ahead::fitted(&rt, ptop, batch),
         ("fit", [ptop, top]) => walk::fit(&rt, ptop, top),
         ("walk", [ptop, top]) => walk::walk(&rt, ptop, top),
         ("check", [ptop, top, solution]) => labs::check(&rt, ptop, top, solution),

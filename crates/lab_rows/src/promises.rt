@@ -1,6 +1,7 @@
+// Promises made in advance.
 ghost use Rattle.std.specs.Prelude.{◌<◌};
 
-use crate::{Batch, Fit, Left, Need, fits, left_at, moments, needs_at, read_batch};
+use lab_ahead::{Batch, Fit, Left, Need, fits, left_at, moments, needs_at, read_batch};
 use lab_base::{Items, Kind, Name, NodeId, TextFault, TextRefused};
 use phys_lab::{Lab, LabBuilder, Node};
 use std::alloc::Global;
