@@ -15,6 +15,3 @@ pub use claims::Claims;
 pub use fault::TakeFault;
 pub use hold::Hold;
 pub use laws::{dropped, few, free_tags, gone, left_by_others, made, may_add, narrowed, none, put};
-
-#[cfg(test)]
-mod tests;

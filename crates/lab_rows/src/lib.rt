@@ -4,6 +4,8 @@
 #![tactic(auto)]
 
 #[cfg(test)]
+mod claimed;
+#[cfg(test)]
 mod labs;
 #[cfg(test)]
 mod plans;

@@ -12,6 +12,3 @@ pub use addresses::address;
 pub use laws::values_are_one;
 pub use names::{Numbered, numbered_name, object_name};
 pub use quantities::{bandwidth, delay, loss, time};
-
-#[cfg(test)]
-mod tests;

@@ -9,6 +9,3 @@ mod so_far;
 
 pub use print::print_ptop;
 pub use read::read_ptop;
-
-#[cfg(test)]
-mod tests;

@@ -14,6 +14,3 @@ pub use command::Command;
 pub use next::{Next, ScriptFault, read_command};
 pub use replies::reply_text;
 pub use reply::{FailedEnd, PhaseWord, Placed, Reply, StatusLine, TagLine, What};
-
-#[cfg(test)]
-mod tests;

@@ -12,6 +12,3 @@ mod read;
 pub use laws::{texts_are_of_one, texts_are_read_back};
 pub use print::{print_end, print_solution};
 pub use read::read_solution;
-
-#[cfg(test)]
-mod tests;

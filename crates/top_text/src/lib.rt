@@ -10,6 +10,3 @@ mod so_far;
 pub use laws::{texts_are_of_one, texts_are_read_back};
 pub use print::{print_top, virt_name};
 pub use read::read_top;
-
-#[cfg(test)]
-mod tests;

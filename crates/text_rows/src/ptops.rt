@@ -1,8 +1,9 @@
+// Texts of labs.
 ghost use Rattle.std.specs.Prelude.{◌<◌};
 
-use crate::{print_ptop, read_ptop};
 use lab_base::{Kind, SwitchId, Text, TextFault, TextRefused, TrunkId};
 use phys_lab::Lab;
+use ptop_text::{print_ptop, read_ptop};
 use std::alloc::Global;
 use std::test::Fail;
 

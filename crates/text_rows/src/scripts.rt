@@ -1,7 +1,8 @@
-use super::*;
+// Commands of scripts, and replies.
 use lab_base::{Boot, Items, Kind, Memory, Name, Text, TextFault, VlanId};
 use lab_io::{LineReader, MemSource};
 use plant::How;
+use script_text::*;
 use std::alloc::Global;
 use std::test::Fail;
 use virt_topo::Broken;

@@ -1,4 +1,5 @@
-use super::*;
+// Values of the words of NS texts.
+use ns_words::*;
 use std::test::Fail;
 
 #[test]

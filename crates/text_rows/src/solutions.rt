@@ -1,10 +1,11 @@
+// Texts of mappings.
 ghost use Rattle.std.specs.Prelude.{◌<◌, IfOk};
 ghost use Rattle.lab_model.specs.Shapes.{IsShaped};
 
-use crate::{print_end, print_solution, read_solution};
 use lab_base::{Kind, Memory, TextFault, TextRefused};
 use phys_lab::Lab;
 use ptop_text::read_ptop;
+use solution_text::{print_end, print_solution, read_solution};
 use std::alloc::Global;
 use std::test::Fail;
 use top_text::read_top;

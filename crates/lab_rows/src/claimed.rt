@@ -1,8 +1,9 @@
+// Claims of experiments.
 ghost use Rattle.std.specs.Prelude.{◌≡◌, ◌∷◌, [], IfOk};
 ghost use Rattle.claims.specs.Held.{claim_nodes, claim_tags};
 ghost use Rattle.claims.specs.Adding.{HasUses};
 
-use super::*;
+use claims::*;
 use lab_base::{IfaceId, Items, Memory, Name, NodeId, Tags, VlanId};
 use phys_lab::{Lab, LabBuilder, Node};
 use std::alloc::Global;

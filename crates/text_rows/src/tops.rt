@@ -1,9 +1,10 @@
+// Texts of wirings.
 ghost use Rattle.std.specs.Prelude.{◌<◌};
 
-use crate::{print_top, read_top};
 use lab_base::{Kind, Memory, TextFault, TextRefused};
 use std::alloc::Global;
 use std::test::Fail;
+use top_text::{print_top, read_top};
 use virt_topo::Wiring;
 
 const SHAPED: &[u8] =
