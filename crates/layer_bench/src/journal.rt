@@ -5,7 +5,8 @@ ghost use Rattle.journal_disk.specs.Standing.{Holds};
 use anyhow::bail;
 use journal_disk::{Journal, Opened};
 use lab_state::LabState;
-use plant::{MemLab, Plant, Side};
+use plant::{Plant, Side};
+use plant_mem::MemLab;
 use std::alloc::Global;
 
 /// The most bytes of a side.
