@@ -7,6 +7,7 @@ pub mod FromScripts
 pub mod Judgements
 pub mod Judging
 pub mod Networks
+pub mod OneJournal
 pub mod Opened
 pub mod Openings
 pub mod Others

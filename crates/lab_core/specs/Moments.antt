@@ -1,5 +1,5 @@
 -- The lab of a moment, and what the controller is over a trace.
-use Rattle.std.specs.Prelude.{◌≡◌, ◌+◌, ◌*◌, ◌<◌, ℕ, count_by, List, take}
+use Rattle.std.specs.Prelude.{◌≡◌, ◌+◌, ◌*◌, ◌<◌, ◌≤◌, ℕ, count_by, List, take}
 use Rattle.plant.specs.Disks.{disk, ArePossible}
 use Rattle.plant.specs.Events.{Event}
 use Rattle.plant.specs.declared.step.Side.{Side}
@@ -52,6 +52,14 @@ pub record Stands (trace : List Event) (c : Seen) : Type 0 where
 pub record Works (trace : List Event) (c : Seen) : Type 0 where
   pub records : List Record
   pub works : runs.Works the_texts trace c.journal records c.lab
+
+-- THE SIDES ARE A JOURNAL: each of its records can follow, and behind them is room for the last records of the experiments that move
+pub record IsJournal (a b : List ℕ) (limit : ℕ) : Type 0 where
+  pub records : List Record
+  pub lab : LabState
+  pub read : Records a b records
+  pub lab_of : LabOf the_texts records lab
+  pub room : gate_after records + 1 + 39 * count_by is_moving lab.experiments ≤ limit
 
 -- THE THREE STATES THAT ARE NO JOURNAL, with the side and the position that tell them
 pub data IsNoJournal (a b : List ℕ) (limit : ℕ) (side : Side) (at : ℕ) : Type 0 where

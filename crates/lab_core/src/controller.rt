@@ -148,7 +148,7 @@ impl Controller {
         requires least { 18 ≤ limit }
         requires most { limit ≤ 2 ^ 32 }
         ensures steps { (steps : List Event) × (P.told plant.new ≡ with_steps (P.told plant.old) steps)
-            × IfSome (P.told plant.old) (λ t. OpenSteps t.trace steps × OpenEnds t.trace steps result) }
+            × IfSome (P.told plant.old) (λ t. OpenSteps t.trace steps × OpenEnds t.trace steps limit result) }
         ensures bad { (side : AnySide) (at : ℕ) → result ≡ Err (OpenFault.Bad side at)
             → IfSome (P.told plant.new) (λ t. IsNoJournal (disk A t.trace).reads (disk B t.trace).reads limit side at) }
         ensures stands { IfOk result (λ controller. IfSome (P.told plant.new) (λ t. Stands t.trace controller)) }

@@ -1,9 +1,8 @@
 -- A drill is planned, and all else stays as it was.
 use Rattle.std.proofs.Common.{◌≡◌, inl, inr, ◌^◌, arith, Bool, true, false, List, [], ◌++◌, Option, Some, None, Result, Ok, Err, refl, sym, ap, subst, ◌∙◌}
-use Rattle.std.specs.Prelude.{IfSome, is_some, if◌then◌else◌}
+use Rattle.std.specs.Prelude.{IfSome, OnErr, is_some, if◌then◌else◌}
 use Rattle.std.proofs.lemmas.List.{append-nil}
 use Rattle.plant.specs.declared.drill.Drill.{Drill}
-use Rattle.plant.specs.declared.moment.Faults.{Faults}
 use Rattle.plant.specs.Disks.{ArePossible}
 use Rattle.plant.specs.Events.{Event}
 use Rattle.plant.specs.Told.{Told, with_drill, with_steps}
@@ -21,10 +20,10 @@ use Rattle.lab_core.specs.Moments.{Seen, AllStandFor, IsLabAt}
 use Rattle.lab_core.specs.Sessions.{Session, Closed, Open}
 use Rattle.lab_top.specs.declared.command.CommandFault.{CommandFault}
 use Rattle.lab_top.specs.declared.command.CommandFault.TheVariants as faults
-use Rattle.lab_top.specs.Answering.{Begun, IsDone, IsOpen, Made, MayGoOn, Moment, Plans, reply_if, session_after, session_of}
-use Rattle.lab_top.specs.CommandTurns.{FirstLab, ImagesAfter, IsPlannedBy, StepsFrom, blames_if, closes_if, leaves_one, with_drill_if}
-use Rattle.lab_top.proofs.Obeyed.{AsRead, later_same, map_both, map_some, steps_none}
-use Rattle.lab_top.proofs.Turning.{after_of, not_early, sound_length, turn_of, working_all, working_lab}
+use Rattle.lab_top.specs.Answering.{Begins, Ends, IsOpen, Made, MayGoOn, Moment, Plans, piece_of, reply_if, session_after, session_of}
+use Rattle.lab_top.specs.Pieces.{Finds, FirstLab, ImagesAfter, IsDone, IsPlannedBy, StepsFrom, blames_if, closes_if, leaves_one, stays_open, with_drill_if}
+use Rattle.lab_top.proofs.Obeyed.{AsRead, ends_of, later_same, map_both, map_some, steps_none}
+use Rattle.lab_top.proofs.Stepping.{after_of, not_early, sound_length, working_all, working_lab}
 
 -- THE TRACE is that before a drill
 pub with_trace : (told : Option Told) (drill : Option Drill) (P : List Event → Type 0) → IfSome told (λ t. P t.trace) → IfSome (with_drill_if told drill) (λ t. P t.trace)
@@ -40,8 +39,8 @@ module _ (takes : Bool) (trace : List Event) (command : Command) (drill : Drill)
   none : trace ≡ trace ++ []
   none = sym (append-nil trace)
 
-  drill_steps : (faults later : Faults) (planned : Bool) (s : LabState) → StepsFrom takes trace (turn_of command faults later from to [] [] planned reply) s s
-  drill_steps faults later planned s =
+  drill_steps : (s : LabState) → StepsFrom takes trace (piece_of command from to [] [] reply) s s
+  drill_steps s =
       let n = sound_length (trace ++ []) (subst AsRead none possible) (subst (λ l. IsSound the_texts l) none sound) in
       record {
         length = n.0;
@@ -49,29 +48,27 @@ module _ (takes : Bool) (trace : List Event) (command : Command) (drill : Drill)
         step = subst (λ (d : Option Drill). StepOf d takes (record { length = n.0; limit = 2 ^ 32 }) s from command [] [] (after_of reply s to)) (sym is) (refl, stays s);
       }
 
-  images : (one : Bool) (s : LabState) → (one ≡ true → AllStandFor trace s) → (faults later : Faults) (planned : Bool) → ImagesAfter takes one trace (turn_of command faults later from to [] [] planned reply) s
-  images true s all faults later planned = subst (λ l. AllStandFor l s) none (all refl)
-  images false s all faults later planned = λ a b there.
+  images : (one : Bool) (s : LabState) → (one ≡ true → AllStandFor trace s) → ImagesAfter takes one trace (piece_of command from to [] [] reply) s
+  images true s all = subst (λ l. AllStandFor l s) none (all refl)
+  images false s all = λ a b there.
       let at = subst (λ l. ArePossible l a b) (append-nil trace) there in
       let lab = sound_stands the_texts trace a b at sound in
-      (lab.0, lab.0, record { a = a; b = b; possible = at; stand = lab.1 }, lab.1, drill_steps faults later planned lab.0)
+      (lab.0, lab.0, record { a = a; b = b; possible = at; stand = lab.1 }, lab.1, drill_steps lab.0)
 
-  pub drill_done : (s : LabState) → IsLabAt trace s → (is_some reply ≡ true → leaves_one to reply ≡ true → AllStandFor trace s) → IsDone takes trace command from to [] [] reply
+  pub drill_done : (s : LabState) → IsLabAt trace s → (is_some reply ≡ true → leaves_one to reply ≡ true → AllStandFor trace s) → IsDone takes trace (piece_of command from to [] [] reply)
   drill_done s at all = record {
-    turn = λ faults later planned. record {
-      first = s;
-      last = s;
-      before = subst (λ b. FirstLab b trace s) (sym (not_early from [] refl)) at;
-      behind = subst (λ l. IsLabAt l s) none at;
-      steps = drill_steps faults later planned s;
-      images = λ some. images (leaves_one to reply) s (all some) faults later planned;
-    };
+    first = s;
+    last = s;
+    before = subst (λ b. FirstLab b trace s) (sym (not_early from [] refl)) at;
+    behind = subst (λ l. IsLabAt l s) none at;
+    steps = drill_steps s;
+    images = λ some. images (leaves_one to reply) s (all some);
     sound = subst (λ l. IsSound the_texts l) none sound;
   }
 
 -- with a reply, from a session of either kind
 module _ (takes : Bool) (command : Command) (drill : Drill) (is : drill_of command ≡ Some drill) (reply : Reply) (other : leaves_one Closed (Some reply) ≡ false) (stays : (from : Session) → Stays takes from from (Some reply)) where
-  replied_over : (trace : List Event) (controller : Option Seen) → IfSome controller (λ c. IsOpen trace c) → AsRead trace → IsSound the_texts trace → IsDone takes trace command (session_of controller) (session_of controller) [] [] (Some reply)
+  replied_over : (trace : List Event) (controller : Option Seen) → IfSome controller (λ c. IsOpen trace c) → AsRead trace → IsSound the_texts trace → IsDone takes trace (piece_of command (session_of controller) (session_of controller) [] [] (Some reply))
   replied_over trace None open_now possible sound =
       let lab = sound_stands the_texts trace _ _ possible sound in
       drill_done takes trace command drill is possible sound Closed Closed (Some reply) (stays Closed) lab.0 lab.1 (λ some one. absurd (cc (other, one)))
@@ -79,45 +76,56 @@ module _ (takes : Bool) (command : Command) (drill : Drill) (is : drill_of comma
       let works = (open_now.works sound).0 in
       drill_done takes trace command drill is possible sound Open Open (Some reply) (stays Open) c.lab (working_lab trace c works) (λ some one. working_all trace c works)
 
-silent_over : (takes : Bool) (command : Command) (drill : Drill) → drill_of command ≡ Some drill → (trace : List Event) (from : Session) → AsRead trace → IsSound the_texts trace → IsDone takes trace command from Closed [] [] None
+silent_over : (takes : Bool) (command : Command) (drill : Drill) → drill_of command ≡ Some drill → (trace : List Event) (from : Session) → AsRead trace → IsSound the_texts trace → IsDone takes trace (piece_of command from Closed [] [] None)
 silent_over takes command drill is trace from possible sound =
     let lab = sound_stands the_texts trace _ _ possible sound in
     drill_done takes trace command drill is possible sound from Closed None (λ s. wants_memory (record { nothing = refl; after_is = refl })) lab.0 lab.1 (λ some one. absurd (cc some))
 
 -- WHAT A DRILL BEGAN
 module _ (takes : Bool) (command : Command) (drill : Drill) (is : drill_of command ≡ Some drill) (old new : Option Told) (controller : Option Seen) (open_now : IfSome old (λ t. IfSome controller (λ c. IsOpen t.trace c))) (possible : IfSome old (λ t. AsRead t.trace)) where
-  begun_with : (reply : Reply) (planned : Bool) → leaves_one Closed (Some reply) ≡ false → ((from : Session) → Stays takes from from (Some reply)) → IsPlannedBy takes (Some drill) planned (Some reply)
-      → new ≡ with_drill_if (with_steps old []) (if planned then drill_of command else None) → Begun takes command old new (session_of controller) (session_of controller) (Some reply)
-  begun_with reply planned other stays by told = record {
+  found : (to : Session) (reply : Option Reply) (trace : List Event) → (is_some reply ≡ true → to ≡ session_of controller) → Finds (drill_of command) (session_of controller) trace (piece_of command (session_of controller) to [] [] reply)
+  found to reply trace same = subst (λ (d : Option Drill). Finds d (session_of controller) trace (piece_of command (session_of controller) to [] [] reply)) (sym is) (refl, refl, same)
+
+  begun_with : (reply : Reply) (planned : Bool) → leaves_one Closed (Some reply) ≡ false → stays_open (Some reply) ≡ true → ((from : Session) → Stays takes from from (Some reply)) → IsPlannedBy takes (Some drill) planned (Some reply)
+      → new ≡ with_drill_if (with_steps old []) (if planned then drill_of command else None) → Begins takes command old new (session_of controller) (session_of controller) (Some reply)
+  begun_with reply planned other goes stays by told = record {
     opening = [];
     own = [];
     planned = planned;
     told = told;
     planned_by = subst (λ (d : Option Drill). IsPlannedBy takes d planned (Some reply)) (sym is) by;
-    done = map_both old (λ t now there sound. replied_over takes command drill is reply other stays t.trace controller now there sound) open_now possible;
+    is_piece = map_both old (λ t now there. record {
+      finds = found (session_of controller) (Some reply) t.trace (λ some. refl);
+      leaves = λ shut. absurd (cc (goes, shut));
+      done = λ sound. replied_over takes command drill is reply other stays t.trace controller now there sound;
+    }) open_now possible;
   }
 
-  begun_planned : takes ≡ true → new ≡ with_drill old drill → Begun takes command old new (session_of controller) (session_of controller) (Some replies.Planned)
+  begun_planned : takes ≡ true → new ≡ with_drill old drill → Begins takes command old new (session_of controller) (session_of controller) (Some replies.Planned)
   begun_planned takes_it told =
-      begun_with replies.Planned true refl (λ from s. is_planned takes_it refl refl) (refl, takes_it)
+      begun_with replies.Planned true refl refl (λ from s. is_planned takes_it refl refl) (refl, takes_it)
       (told ∙ ap (λ (o : Option Told). with_drill o drill) (steps_none old) ∙ ap (λ (d : Option Drill). with_drill_if (with_steps old []) d) (sym is))
 
-  begun_refused : takes ≡ false → new ≡ old → Begun takes command old new (session_of controller) (session_of controller) (Some replies.NoDrill)
-  begun_refused takes_none told = begun_with replies.NoDrill false refl (λ from s. is_refused takes_none refl refl) (refl, takes_none) (told ∙ steps_none old)
+  begun_refused : takes ≡ false → new ≡ old → Begins takes command old new (session_of controller) (session_of controller) (Some replies.NoDrill)
+  begun_refused takes_none told = begun_with replies.NoDrill false refl refl (λ from s. is_refused takes_none refl refl) (refl, takes_none) (told ∙ steps_none old)
 
-  begun_silent : new ≡ old → Begun takes command old new (session_of controller) Closed None
+  begun_silent : new ≡ old → Begins takes command old new (session_of controller) Closed None
   begun_silent told = record {
     opening = [];
     own = [];
     planned = false;
     told = told ∙ steps_none old;
     planned_by = subst (λ (d : Option Drill). IsPlannedBy takes d false None) (sym is) (λ none. absurd (cc none));
-    done = map_some old (λ t there sound. silent_over takes command drill is t.trace (session_of controller) there sound) possible;
+    is_piece = map_some old (λ t there. record {
+      finds = found Closed None t.trace (λ some. absurd (cc some));
+      leaves = λ shut. refl;
+      done = λ sound. silent_over takes command drill is t.trace (session_of controller) there sound;
+    }) possible;
   }
 
-  pub begun_drill : (result : Result Reply CommandFault) → Plans takes drill old new result → Begun takes command old new (session_of controller) (session_after result controller) (reply_if result)
-  begun_drill (Ok reply) (inl planned) = subst (λ r. Begun takes command old new (session_of controller) (session_of controller) (Some r)) (sym planned.0) (begun_planned planned.1 planned.2)
-  begun_drill (Ok reply) (inr refused) = subst (λ r. Begun takes command old new (session_of controller) (session_of controller) (Some r)) (sym refused.0) (begun_refused refused.1 refused.2)
+  pub begun_drill : (result : Result Reply CommandFault) → Plans takes drill old new result → Begins takes command old new (session_of controller) (session_after result controller) (reply_if result)
+  begun_drill (Ok reply) (inl planned) = subst (λ r. Begins takes command old new (session_of controller) (session_of controller) (Some r)) (sym planned.0) (begun_planned planned.1 planned.2)
+  begun_drill (Ok reply) (inr refused) = subst (λ r. Begins takes command old new (session_of controller) (session_of controller) (Some r)) (sym refused.0) (begun_refused refused.1 refused.2)
   begun_drill (Err fault) wants = begun_silent wants.1
 
   goes_on_told : (result : Result Reply CommandFault) → Plans takes drill old new result → IfSome new (λ t. IfSome controller (λ c. IsOpen t.trace c))
@@ -137,22 +145,22 @@ blames_not takes drill old new (Ok reply) (inr refused) = ap blames_device refus
 blames_not takes drill old new (Err fault) wants = refl
 
 -- and where there is none, memory is wanting
-pub plans_memory : (takes : Bool) (drill : Drill) (old new : Option Told) (result : Result Reply CommandFault) (fault : CommandFault) → Plans takes drill old new result → result ≡ Err fault → fault ≡ faults.Memory
-plans_memory takes drill old new (Ok reply) fault plans is = absurd (cc is)
-plans_memory takes drill old new (Err other) fault plans is = cc (plans.0, is)
+only_memory : (takes : Bool) (drill : Drill) (old new : Option Told) (result : Result Reply CommandFault) → Plans takes drill old new result → OnErr result (result ≡ Err faults.Memory)
+only_memory takes drill old new (Ok reply) plans = tt
+only_memory takes drill old new (Err fault) plans = ap (λ f. let r : Result Reply CommandFault = Err f in r) plans.0
 
-pub made_drill : (takes : Bool) (command : Command) (drill : Drill) → drill_of command ≡ Some drill → (old new : Moment) (result : Result Reply CommandFault) → Plans takes drill old.told new.told result → new.faults ≡ old.faults → new.stopped ≡ old.stopped
-    → new.controller ≡ old.controller → MayGoOn old → IfSome old.told (λ t. AsRead t.trace) → Made takes command old new (session_after result new.controller) (reply_if result)
-made_drill takes command drill is old new result plans count still kept goes_on possible = record {
-  begun = subst (λ c. Begun takes command old.told new.told (session_of old.controller) (session_after result c) (reply_if result)) (sym kept)
-      (begun_drill takes command drill is old.told new.told old.controller goes_on.controller possible result plans);
-  later = later_same old.faults old.faults new.faults (omega arith) refl count;
-  disk = λ shut. absurd (cc (open_not takes drill old.told new.told result plans, shut));
-  device = λ blamed. absurd (cc (blames_not takes drill old.told new.told result plans, blamed));
-  runs = λ some was. still ∙ was;
-  goes_on = record {
-    controller = subst (λ (c : Option Seen). IfSome new.told (λ t. IfSome c (λ d. IsOpen t.trace d))) (sym kept)
-        (goes_on_told takes command drill is old.told new.told old.controller goes_on.controller possible result plans);
-    runs = λ some. still ∙ goes_on.runs (ap is_some (sym kept) ∙ some);
-  };
-}
+pub ends_drill : (takes : Bool) (command : Command) (drill : Drill) → drill_of command ≡ Some drill → (old new : Moment) (result : Result Reply CommandFault) → Plans takes drill old.told new.told result → new.faults ≡ old.faults → new.stopped ≡ old.stopped
+    → new.controller ≡ old.controller → MayGoOn old → IfSome old.told (λ t. AsRead t.trace) → Ends takes command old new result
+ends_drill takes command drill is old new result plans count still kept goes_on possible =
+    ends_of takes command old new result
+    (subst (λ c. Begins takes command old.told new.told (session_of old.controller) (session_after result c) (reply_if result)) (sym kept) (begun_drill takes command drill is old.told new.told old.controller goes_on.controller possible result plans))
+    (later_same old.faults old.faults new.faults (omega arith) refl count)
+    (λ shut. absurd (cc (open_not takes drill old.told new.told result plans, shut)))
+    (λ blamed. absurd (cc (blames_not takes drill old.told new.told result plans, blamed)))
+    (λ some was. still ∙ was)
+    (only_memory takes drill old.told new.told result plans)
+    (record {
+      controller = subst (λ (c : Option Seen). IfSome new.told (λ t. IfSome c (λ d. IsOpen t.trace d))) (sym kept)
+          (goes_on_told takes command drill is old.told new.told old.controller goes_on.controller possible result plans);
+      runs = λ some. still ∙ goes_on.runs (ap is_some (sym kept) ∙ some);
+    })

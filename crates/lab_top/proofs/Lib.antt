@@ -1,6 +1,8 @@
-pub mod Commanding
-pub mod Turning
-pub mod Drilling
-pub mod Obeyed
-pub mod Answering
-pub mod CommandTurns
+mod Answering
+mod BadJournals
+mod Commanding
+mod Drilling
+mod Obeyed
+mod Pieces
+mod Stepping
+mod Wording

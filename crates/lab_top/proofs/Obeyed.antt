@@ -1,6 +1,6 @@
 -- What a call of the controller leaves is a command that was done.
 use Rattle.std.proofs.Common.{◌≡◌, ℕ, ◌^◌, Bool, true, false, List, [], ◌∷◌, ◌++◌, Option, Some, None, Result, Ok, Err, refl, sym, ◌∙◌, ap, subst, append_assoc, arith}
-use Rattle.std.specs.Prelude.{IfSome, OnOk, ◌≤◌, is_some}
+use Rattle.std.specs.Prelude.{IfSome, OnOk, OnErr, ◌≤◌, is_some}
 use Rattle.std.proofs.lemmas.List.{append-nil}
 use Rattle.plant.specs.declared.drill.Drill.{Drill}
 use Rattle.plant.specs.declared.moment.Faults.{Faults}
@@ -23,15 +23,15 @@ use Rattle.lab_core.specs.declared.fault.CoreFault.{CoreFault}
 use Rattle.lab_core.specs.declared.fault.CoreFault.TheVariants as faults
 use Rattle.lab_core.specs.Moments.{Seen, Stands, Works}
 use Rattle.lab_core.specs.Obeying.{setting_of, Leaves, Answers, ObeyEnds, ObeyTold}
-use Rattle.lab_core.specs.Opening.{OpenSteps, OpenEnds}
+use Rattle.lab_core.specs.Opening.{OpenSteps, HasOpened, HasFoundNone, OpenEnds}
 use Rattle.lab_core.specs.Pieces.{Breaks, failed, unanswered}
 use Rattle.lab_core.specs.Sessions.{Session, Closed, Open}
 use Rattle.lab_core.specs.Steps.{Judged}
 use Rattle.lab_top.specs.declared.command.CommandFault.{CommandFault}
 use Rattle.lab_top.specs.declared.command.CommandFault.TheVariants as command_faults
-use Rattle.lab_top.specs.CommandTurns.{IsPlannedBy, Later, blames_if, closes_if, leaves_one}
-use Rattle.lab_top.specs.Answering.{IsDone, WasOpened, IsOpen, MayGoOn, DoesOwn, OwnTold, Starts, Unopened, Begun, Made, Moment, session_after, session_of, reply_if}
-use Rattle.lab_top.proofs.Turning.{sound_before, own_answered, own_closed, own_stopped, own_stays, own_unmade, cut_done, stopped_done, was_open, is_opened}
+use Rattle.lab_top.specs.Pieces.{Finds, IsDone, IsOpening, IsPlannedBy, Later, blames_if, broken_off, closes_if, leaves_one, opened, stays_open}
+use Rattle.lab_top.specs.Answering.{WasOpened, IsOpen, MayGoOn, DoesOwn, OwnTold, Starts, Unopened, Begins, Made, FoundNone, Ends, Moment, piece_of, session_after, session_of, reply_if}
+use Rattle.lab_top.proofs.Stepping.{sound_before, own_answered, own_closed, own_stopped, own_stays, own_unmade, cut_done, stopped_done, again_breaks, again_quiet, was_open, is_opened}
 
 -- WHAT A PLANT TELLS after more steps
 
@@ -96,41 +96,41 @@ AsRead trace = ArePossible trace (disk A trace).reads (disk B trace).reads
 
 -- OVER ONE TRACE
 module _ (takes : Bool) (trace : List Event) (command : Command) (no_drill : drill_of command ≡ None) (c : Seen) (own : List Event) where
-  abbrev Ends : Seen → Result Reply CoreFault → Type 0
-  Ends d result = Works trace c → ObeyEnds trace (Judged (setting_of c) c.lab command) c own d result
+  abbrev Obeys : Seen → Result Reply CoreFault → Type 0
+  Obeys d result = Works trace c → ObeyEnds trace (Judged (setting_of c) c.lab command) c own d result
 
   module _ (before : List Event) (from : Session) (opening : List Event) (is : trace ≡ before ++ opening) (w : WasOpened before from opening c) where
     works : Works trace c
     works = subst (λ l. Works l c) (sym is) w.works
 
-  own_on : (d : Seen) (reply : Reply) → Ends d (Ok reply) → closes reply ≡ false → DoesOwn takes trace command c own Open (Some reply)
+  own_on : (d : Seen) (reply : Reply) → Obeys d (Ok reply) → closes reply ≡ false → DoesOwn takes trace command c own Open (Some reply)
   own_on d reply ends goes before from opening is w =
       let e = subst (λ b. Answers trace (Judged (setting_of c) c.lab command) c own reply d b) goes (ends (works before from opening is w)) in
       own_answered takes before from opening c w command no_drill own d reply e.0 (subst (λ l. Works (l ++ own) d) is e.1)
 
-  own_off : (d : Seen) (reply : Reply) → Ends d (Ok reply) → closes reply ≡ true → AsRead (trace ++ own) → DoesOwn takes trace command c own Closed (Some reply)
+  own_off : (d : Seen) (reply : Reply) → Obeys d (Ok reply) → closes reply ≡ true → AsRead (trace ++ own) → DoesOwn takes trace command c own Closed (Some reply)
   own_off d reply ends shut there before from opening is w =
       let e = subst (λ b. Answers trace (Judged (setting_of c) c.lab command) c own reply d b) shut (ends (works before from opening is w)) in
       own_closed takes before from opening c w command no_drill own reply (not_one reply shut) (subst (λ l. Leaves l (Judged (setting_of c) c.lab command) c own reply (λ a b. [])) is e) (subst (λ l. AsRead (l ++ own)) is there)
 
-  own_again : (d : Seen) (a b : List ℕ) → Ends d (Err faults.Stopped) → ArePossible (trace ++ own) a b → DoesOwn takes trace command c (own ++ Restarted a b ∷ []) Closed (Some replies.Stopped)
+  own_again : (d : Seen) (a b : List ℕ) → Obeys d (Err faults.Stopped) → ArePossible (trace ++ own) a b → DoesOwn takes trace command c (own ++ Restarted a b ∷ []) Closed (Some replies.Stopped)
   own_again d a b ends there before from opening is w =
       own_stopped takes before from opening c w command no_drill own a b
       (subst (λ l. Leaves l (Judged (setting_of c) c.lab command) c own replies.Stopped (λ x y. Restarted x y ∷ [])) is (ends (works before from opening is w)))
       (subst (λ l. ArePossible (l ++ own) a b) is there)
 
-  own_stuck : (d : Seen) → Ends d (Err faults.Stopped) → AsRead (trace ++ own) → DoesOwn takes trace command c own Closed None
+  own_stuck : (d : Seen) → Obeys d (Err faults.Stopped) → AsRead (trace ++ own) → DoesOwn takes trace command c own Closed None
   own_stuck d ends there before from opening is w =
       own_stays takes before from opening c w command no_drill own
       (subst (λ l. Leaves l (Judged (setting_of c) c.lab command) c own replies.Stopped (λ x y. Restarted x y ∷ [])) is (ends (works before from opening is w)))
       (subst (λ l. AsRead (l ++ own)) is there)
 
-  own_none : (d : Seen) → Ends d (Err faults.Memory) → DoesOwn takes trace command c own Closed None
+  own_none : (d : Seen) → Obeys d (Err faults.Memory) → DoesOwn takes trace command c own Closed None
   own_none d ends before from opening is w =
       let e = ends (works before from opening is w) in
-      subst (λ l. IsDone takes before command from Closed opening l None) (sym e.0) (own_unmade takes before from opening c w command no_drill)
+      subst (λ l. IsDone takes before (piece_of command from Closed opening l None)) (sym e.0) (own_unmade takes before from opening c w command no_drill)
 
-  still_open : (d : Seen) (reply : Reply) → Ends d (Ok reply) → closes reply ≡ false → IsOpen trace c → Stands (trace ++ own) d → IsOpen (trace ++ own) d
+  still_open : (d : Seen) (reply : Reply) → Obeys d (Ok reply) → closes reply ≡ false → IsOpen trace c → Stands (trace ++ own) d → IsOpen (trace ++ own) d
   still_open d reply ends goes is stands = record {
     stands = stands;
     works = λ sound.
@@ -184,96 +184,130 @@ pub goes_closed : (told : Option Told) (faults : Faults) (stopped : Bool) → Ma
 goes_closed None faults stopped = record { controller = tt; runs = λ some. absurd (cc some) }
 goes_closed (Some t) faults stopped = record { controller = tt; runs = λ some. absurd (cc some) }
 
--- no failure is planned
-none_planned : (takes : Bool) (command : Command) (reply : Option Reply) → drill_of command ≡ None → IsPlannedBy takes (drill_of command) false reply
-none_planned takes command reply no_drill = subst (λ (d : Option Drill). IsPlannedBy takes d false reply) (sym no_drill) refl
+-- WHAT A COMMAND BEGAN
+module _ (takes : Bool) (command : Command) (no_drill : drill_of command ≡ None) where
+  -- no failure is planned
+  pub none_planned : (reply : Option Reply) → IsPlannedBy takes (drill_of command) false reply
+  none_planned reply = subst (λ (d : Option Drill). IsPlannedBy takes d false reply) (sym no_drill) refl
 
--- WHAT A COMMAND BEGAN, by an open controller
-pub begun_open : (takes : Bool) (command : Command) → drill_of command ≡ None → (old new : Option Told) (c : Seen) (to : Session) (reply : Option Reply) → IfSome old (λ t. IsOpen t.trace c) → OwnTold takes old new command c to reply → Begun takes command old new Open to reply
-begun_open takes command no_drill old new c to reply is own = record {
-  opening = [];
-  own = own.0;
-  planned = false;
-  told = own.1;
-  planned_by = none_planned takes command reply no_drill;
-  done = map_both old (λ t open_now does sound. does t.trace Open [] (sym (append-nil t.trace)) (was_open t.trace c open_now sound)) is own.2;
-}
+  pub found : (trace : List Event) (from to : Session) (opening own : List Event) (reply : Option Reply) → Finds None from trace (piece_of command from to opening own reply)
+      → Finds (drill_of command) from trace (piece_of command from to opening own reply)
+  found trace from to opening own reply is = subst (λ (d : Option Drill). Finds d from trace (piece_of command from to opening own reply)) (sym no_drill) is
 
--- by one that was opened first
-pub begun_opened : (took takes : Bool) → took ≡ takes → (command : Command) → drill_of command ≡ None → (old mid new : Option Told) (steps : List Event) (c : Seen) (to : Session) (reply : Option Reply) → mid ≡ with_steps old steps → IfSome old (λ t. OpenSteps t.trace steps × OpenEnds t.trace steps (Ok c)) → IfSome old (λ t. AsRead t.trace)
-    → limit_of c.journal ≡ 2 ^ 32 → OwnTold took mid new command c to reply → Begun takes command old new Closed to reply
-begun_opened took takes same command no_drill old mid new steps c to reply is opens there limit owned =
-    let own = subst (λ (b : Bool). OwnTold b mid new command c to reply) same owned in
-    record {
-      opening = steps;
-      own = own.0;
-      planned = false;
-      planned_by = none_planned takes command reply no_drill;
-      told = own.1 ∙ ap (λ o. with_steps o own.0) is ∙ steps_twice old steps own.0;
-      done = map_three old (λ t o read does sound. does t.trace Closed steps refl (is_opened t.trace steps c o.0 o.1 limit read sound)) opens there (carried old mid steps is (λ l. DoesOwn takes l command c own.0 to reply) own.2);
-    }
-
--- and where it could not be opened
-module _ (takes : Bool) (command : Command) (no_drill : drill_of command ≡ None) (old mid new : Option Told) (steps : List Event) (is : mid ≡ with_steps old steps) (there : IfSome old (λ t. AsRead t.trace)) (then : IfSome mid (λ t. AsRead t.trace)) where
-  cut_begun_so : (reply : Option Reply) → leaves_one Closed reply ≡ false → new ≡ mid → IfSome old (λ t. OpenSteps t.trace steps × Breaks steps reply) → Begun takes command old new Closed Closed reply
-  cut_begun_so reply other same opens = record {
-    opening = steps;
-    own = [];
+  -- by an open controller
+  pub begins_open : (old new : Option Told) (c : Seen) (to : Session) (reply : Option Reply) → (stays_open reply ≡ false → to ≡ Closed) → IfSome old (λ t. IsOpen t.trace c) → OwnTold takes old new command c to reply
+      → Begins takes command old new Open to reply
+  begins_open old new c to reply leaves is own = record {
+    opening = [];
+    own = own.0;
     planned = false;
-    planned_by = none_planned takes command reply no_drill;
-    told = same ∙ is ∙ ap (λ l. with_steps old l) (sym (append-nil steps));
-    done = map_three old (λ t o read now sound. cut_done takes t.trace steps o.0 read sound command no_drill now reply other o.1) opens there (carried old mid steps is AsRead then);
+    told = own.1;
+    planned_by = none_planned reply;
+    is_piece = map_both old (λ t open_now does. record {
+      finds = found t.trace Open to [] own.0 reply refl;
+      leaves = leaves;
+      done = λ sound. does t.trace Open [] (sym (append-nil t.trace)) (was_open t.trace c open_now sound);
+    }) is own.2;
   }
 
-  cut_silent : new ≡ mid → (fault : OpenFault) → IfSome old (λ t. OpenSteps t.trace steps × OpenEnds t.trace steps (Err fault)) → Begun takes command old new Closed Closed None
-  cut_silent same fault opens = cut_begun_so None refl same (map_some old (λ t o. (o.0, unanswered refl)) opens)
-
-  pub begun_unopened : (fault : OpenFault) (result : Result Reply CommandFault) → Unopened fault mid new result → IfSome old (λ t. OpenSteps t.trace steps × OpenEnds t.trace steps (Err fault)) → Begun takes command old new Closed (session_after result None) (reply_if result)
-  begun_unopened openings.Plant result un opens =
-      subst (λ r. Begun takes command old new Closed (session_after r None) (reply_if r)) (sym un.0) (cut_begun_so (Some replies.Down) refl un.1 (map_some old (λ t o. (o.0, failed o.0.no_restart (o.1.1 refl) refl)) opens))
-  begun_unopened openings.Stopped (Ok reply) un opens =
-      let a = un.1.0 in
-      let b = un.1.1 in
-      subst (λ r. Begun takes command old new Closed Closed (Some r)) (sym un.0) (record {
-        opening = steps ++ Restarted a b ∷ [];
-        own = [];
+  -- by one that was opened first
+  pub begins_opened : (took : Bool) → took ≡ takes → (old mid new : Option Told) (steps : List Event) (c : Seen) (to : Session) (reply : Option Reply) → (stays_open reply ≡ false → to ≡ Closed) → mid ≡ with_steps old steps
+      → IfSome old (λ t. OpenSteps t.trace steps × HasOpened t.trace steps (2 ^ 32) c) → IfSome old (λ t. AsRead t.trace) → limit_of c.journal ≡ 2 ^ 32 → OwnTold took mid new command c to reply → Begins takes command old new Closed to reply
+  begins_opened took same old mid new steps c to reply leaves is opens there limit owned =
+      let own = subst (λ (b : Bool). OwnTold b mid new command c to reply) same owned in
+      record {
+        opening = steps;
+        own = own.0;
         planned = false;
-        planned_by = none_planned takes command (Some replies.Stopped) no_drill;
-        told = un.1.2 ∙ ap (λ o. with_steps o (Restarted a b ∷ [])) is ∙ steps_twice old steps (Restarted a b ∷ []) ∙ ap (λ l. with_steps old l) (sym (append-nil (steps ++ Restarted a b ∷ [])));
-        done = map_three old (λ t o read now sound. stopped_done takes t.trace steps o.0 read sound command no_drill a b now) opens there (carried old mid steps is (λ l. ArePossible l a b) un.1.3);
+        planned_by = none_planned reply;
+        told = own.1 ∙ ap (λ o. with_steps o own.0) is ∙ steps_twice old steps own.0;
+        is_piece = map_three old (λ t o read does. record {
+          finds = found t.trace Closed to steps own.0 reply (o.0.no_command, opened o.1.no_miss o.0.no_restart o.1.journal);
+          leaves = leaves;
+          done = λ sound. does t.trace Closed steps refl (is_opened t.trace steps c o.0 o.1 limit read sound);
+        }) opens there (carried old mid steps is (λ l. DoesOwn takes l command c own.0 to reply) own.2);
+      }
+
+  -- and where it could not be opened
+  module _ (told new : Option Told) (mid : Option Told) (steps : List Event) (is : mid ≡ with_steps told steps) (there : IfSome told (λ t. AsRead t.trace)) where
+    abbrev pub begins_cut : (reply : Option Reply) → leaves_one Closed reply ≡ false → new ≡ mid → IfSome mid (λ t. AsRead t.trace) → IfSome told (λ t. OpenSteps t.trace steps × Breaks steps reply) → Begins takes command told new Closed Closed reply
+    begins_cut reply other same then opens = record {
+      opening = steps;
+      own = [];
+      planned = false;
+      planned_by = none_planned reply;
+      told = same ∙ is ∙ ap (λ l. with_steps told l) (sym (append-nil steps));
+      is_piece = map_three told (λ t o read now. record {
+        finds = found t.trace Closed Closed steps [] reply (o.0.no_command, broken_off o.1 refl refl);
+        leaves = λ shut. refl;
+        done = λ sound. cut_done takes t.trace steps o.0 read sound command no_drill now reply other o.1;
+      }) opens there (carried told mid steps is AsRead then);
+    }
+
+    pub begins_again : (a b : List ℕ) → new ≡ with_steps mid (Restarted a b ∷ []) → IfSome mid (λ t. ArePossible t.trace a b) → IfSome told (λ t. OpenSteps t.trace steps) → Begins takes command told new Closed Closed (Some replies.Stopped)
+    begins_again a b again possible opens = record {
+      opening = steps ++ Restarted a b ∷ [];
+      own = [];
+      planned = false;
+      planned_by = none_planned (Some replies.Stopped);
+      told = again ∙ ap (λ o. with_steps o (Restarted a b ∷ [])) is ∙ steps_twice told steps (Restarted a b ∷ []) ∙ ap (λ l. with_steps told l) (sym (append-nil (steps ++ Restarted a b ∷ [])));
+      is_piece = map_three told (λ t o read now. record {
+        finds = found t.trace Closed Closed (steps ++ Restarted a b ∷ []) [] (Some replies.Stopped) (again_quiet steps a b o.no_command, broken_off (again_breaks steps a b o.no_restart) refl refl);
+        leaves = λ shut. refl;
+        done = λ sound. stopped_done takes t.trace steps o read sound command no_drill a b now;
+      }) opens there (carried told mid steps is (λ l. ArePossible l a b) possible);
+    }
+
+-- WHERE THE CONTROLLER COULD NOT BE OPENED, from a moment at which it is closed
+module _ (takes : Bool) (command : Command) (no_drill : drill_of command ≡ None) (told : Option Told) (faults : Faults) (stopped : Bool) (new : Moment) (mid : Option Told) (steps : List Event) (is : mid ≡ with_steps told steps)
+    (there : IfSome told (λ t. AsRead t.trace)) (then : IfSome mid (λ t. AsRead t.trace)) (later : Later faults new.faults) (goes_on : MayGoOn new) (closed : new.controller ≡ None) where
+  abbrev old : Moment
+  old = record { told = told; faults = faults; stopped = stopped; controller = None }
+
+  abbrev made : (reply : Option Reply) → Begins takes command told new.told Closed Closed reply → (closes_if reply ≡ true → Rose faults.disk new.faults.disk) → blames_if reply ≡ false → (is_some reply ≡ true → new.stopped ≡ false) → Made takes command old new Closed reply
+  made reply begun disk blameless runs = record { begun = begun; later = later; disk = disk; device = λ blamed. absurd (cc (blameless, blamed)); runs = λ some was. runs some; goes_on = goes_on }
+
+  abbrev silent_end : new.told ≡ mid → IfSome told (λ t. OpenSteps t.trace steps) → Made takes command old new Closed None
+  silent_end same opens = made None (begins_cut takes command no_drill told new.told mid steps is there None refl same then (map_some told (λ t o. (o, unanswered refl)) opens)) (λ shut. absurd (cc shut)) refl (λ some. absurd (cc some))
+
+  in_reply : (reply : Reply) → Made takes command old new Closed (Some reply) → Ends takes command old new (Ok reply)
+  in_reply reply it = subst (λ (k : Option Seen). Made takes command old new (session_of k) (Some reply)) (sym closed) it
+
+  pub ends_unopened : (fault : OpenFault) (result : Result Reply CommandFault) → Unopened fault mid new.told result → IfSome told (λ t. OpenSteps t.trace steps × OpenEnds t.trace steps (2 ^ 32) (Err fault))
+      → (fault ≡ openings.Plant → Rose faults.disk new.faults.disk) → (is_some (reply_if result) ≡ true → new.stopped ≡ false) → ((side : Side) (at : ℕ) → result ≡ Err (command_faults.JournalBad side at) → new.stopped ≡ false)
+      → Ends takes command old new result
+  ends_unopened openings.Plant result un opens missed runs bad =
+      subst (λ r. Ends takes command old new r) (sym un.0)
+      (in_reply replies.Down (made (Some replies.Down) (begins_cut takes command no_drill told new.told mid steps is there (Some replies.Down) refl un.1 then (map_some told (λ t o. (o.0, failed o.0.no_restart o.1 refl)) opens))
+      (λ shut. missed refl) refl (λ some. runs (ap (λ r. is_some (reply_if r)) un.0))))
+  ends_unopened openings.Stopped (Ok reply) un opens missed runs bad =
+      subst (λ r. Ends takes command old new (Ok r)) (sym un.0)
+      (in_reply replies.Stopped (made (Some replies.Stopped) (begins_again takes command no_drill told new.told mid steps is there un.1.0 un.1.1 un.1.2 un.1.3 (map_some told (λ t o. o.0) opens))
+      (λ shut. absurd (cc shut)) refl (λ some. runs refl)))
+  ends_unopened openings.Stopped (Err fault) un opens missed runs bad = subst (λ f. Ends takes command old new (Err f)) (sym un.0) (silent_end un.1 (map_some told (λ t o. o.0) opens))
+  ends_unopened (openings.Bad side at) result un opens missed runs bad =
+      subst (λ r. Ends takes command old new r) (sym un.0) (record {
+        made = silent_end un.1 (map_some told (λ t o. o.0) opens);
+        finds = map_some told (λ t o. record {
+          no_drill = no_drill;
+          closed = refl;
+          no_journal = o.1.no_journal;
+          synced = o.1.synced;
+          nothing = refl;
+          no_reply = refl;
+          as_before = λ s. subst (λ l. (disk s (t.trace ++ l)).reads ≡ (disk s t.trace).reads) (sym (append-nil steps)) (o.1.as_before s);
+        }) opens;
+        runs = bad side at un.0;
       })
-  begun_unopened openings.Stopped (Err fault) un opens = cut_silent un.1 openings.Stopped opens
-  begun_unopened (openings.Bad side at) result un opens = subst (λ r. Begun takes command old new Closed (session_after r None) (reply_if r)) (sym un.0) (cut_silent un.1 (openings.Bad side at) opens)
-  begun_unopened openings.Memory result un opens = subst (λ r. Begun takes command old new Closed (session_after r None) (reply_if r)) (sym un.0) (cut_silent un.1 openings.Memory opens)
+  ends_unopened openings.Memory result un opens missed runs bad = subst (λ r. Ends takes command old new r) (sym un.0) (silent_end un.1 (map_some told (λ t o. o.0) opens))
 
--- WHY: a reply that closes, and sides that are no journal
-pub closes_unopened : (fault : OpenFault) (mid new : Option Told) (result : Result Reply CommandFault) → Unopened fault mid new result → closes_if (reply_if result) ≡ true → fault ≡ openings.Plant
-closes_unopened openings.Plant mid new result un is = refl
-closes_unopened openings.Stopped mid new (Ok reply) un is = absurd (cc (ap closes un.0, is))
-closes_unopened openings.Stopped mid new (Err fault) un is = absurd (cc is)
-closes_unopened (openings.Bad side at) mid new result un is = absurd (cc (ap (λ r. closes_if (reply_if r)) un.0, is))
-closes_unopened openings.Memory mid new result un is = absurd (cc (ap (λ r. closes_if (reply_if r)) un.0, is))
-
-pub blames_unopened : (fault : OpenFault) (mid new : Option Told) (result : Result Reply CommandFault) → Unopened fault mid new result → blames_if (reply_if result) ≡ false
-blames_unopened openings.Plant mid new result un = ap (λ r. blames_if (reply_if r)) un.0
-blames_unopened openings.Stopped mid new (Ok reply) un = ap blames_device un.0
-blames_unopened openings.Stopped mid new (Err fault) un = refl
-blames_unopened (openings.Bad side at) mid new result un = ap (λ r. blames_if (reply_if r)) un.0
-blames_unopened openings.Memory mid new result un = ap (λ r. blames_if (reply_if r)) un.0
-
-pub bad_unopened : (fault : OpenFault) (mid new : Option Told) (result : Result Reply CommandFault) (side : Side) (at : ℕ) → Unopened fault mid new result → result ≡ Err (command_faults.JournalBad side at) → (fault ≡ openings.Bad side at) × (new ≡ mid)
-bad_unopened openings.Plant mid new result side at un is = absurd (cc (un.0, is))
-bad_unopened openings.Stopped mid new (Ok reply) side at un is = absurd (cc is)
-bad_unopened openings.Stopped mid new (Err fault) side at un is = absurd (cc (un.0, is))
-bad_unopened (openings.Bad s n) mid new result side at un is = (cc (un.0, is), un.1)
-bad_unopened openings.Memory mid new result side at un is = absurd (cc (un.0, is))
-
-pub written_not : (fault : OpenFault) (mid new : Option Told) (result : Result Reply CommandFault) → Unopened fault mid new result → result ≡ Err command_faults.WriteFault → ⊥
-written_not openings.Plant mid new result un is = absurd (cc (un.0, is))
-written_not openings.Stopped mid new (Ok reply) un is = absurd (cc is)
-written_not openings.Stopped mid new (Err fault) un is = absurd (cc (un.0, is))
-written_not (openings.Bad s n) mid new result un is = absurd (cc (un.0, is))
-written_not openings.Memory mid new result un is = absurd (cc (un.0, is))
+-- WHATEVER WAS BEGUN, with the counts of faults and what is kept
+pub ends_of : (takes : Bool) (command : Command) (old new : Moment) (result : Result Reply CommandFault) → Begins takes command old.told new.told (session_of old.controller) (session_after result new.controller) (reply_if result)
+    → Later old.faults new.faults → (closes_if (reply_if result) ≡ true → Rose old.faults.disk new.faults.disk) → (blames_if (reply_if result) ≡ true → Rose old.faults.devices new.faults.devices)
+    → (is_some (reply_if result) ≡ true → old.stopped ≡ false → new.stopped ≡ false) → OnErr result (result ≡ Err command_faults.Memory) → MayGoOn new → Ends takes command old new result
+ends_of takes command old new (Ok reply) begun later disk device runs memory goes_on = record { begun = begun; later = later; disk = disk; device = device; runs = runs; goes_on = goes_on }
+ends_of takes command old new (Err fault) begun later disk device runs memory goes_on =
+    subst (λ r. Ends takes command old new r) (sym memory) (record { begun = begun; later = later; disk = disk; device = device; runs = runs; goes_on = goes_on })
 
 -- a count that rose since a later moment rose since an earlier one
 pub rose_since : (a b now : ℕ) → a ≤ b → Rose b now → Rose a now
@@ -283,15 +317,10 @@ pub runs_if : (result : Result Reply CommandFault) (stopped : Bool) → OnOk res
 runs_if (Ok reply) stopped runs some = runs
 runs_if (Err fault) stopped runs some = absurd (cc some)
 
-pub open_opened : (old mid : Option Told) (steps : List Event) (c : Seen) → mid ≡ with_steps old steps → IfSome old (λ t. OpenSteps t.trace steps × OpenEnds t.trace steps (Ok c)) → IfSome mid (λ t. Stands t.trace c) → limit_of c.journal ≡ 2 ^ 32 → IfSome mid (λ t. IsOpen t.trace c)
+pub open_opened : (old mid : Option Told) (steps : List Event) (c : Seen) → mid ≡ with_steps old steps → IfSome old (λ t. OpenSteps t.trace steps × HasOpened t.trace steps (2 ^ 32) c) → IfSome mid (λ t. Stands t.trace c) → limit_of c.journal ≡ 2 ^ 32 → IfSome mid (λ t. IsOpen t.trace c)
 open_opened old mid steps c is opens stands limit =
     carried_on old mid steps is (λ l. IsOpen l c)
-    (map_both old (λ t o here. record { stands = here; works = λ sound. (o.1.0.2 (sound_before the_texts t.trace steps sound), limit) }) opens (carried old mid steps is (λ l. Stands l c) stands))
-
--- whatever was begun, with the counts of faults and what is kept
-pub made_so : (takes : Bool) (command : Command) (old new : Moment) (to : Session) (reply : Option Reply) → Begun takes command old.told new.told (session_of old.controller) to reply → Later old.faults new.faults
-    → (closes_if reply ≡ true → Rose old.faults.disk new.faults.disk) → (blames_if reply ≡ true → Rose old.faults.devices new.faults.devices) → (is_some reply ≡ true → new.stopped ≡ false) → MayGoOn new → Made takes command old new to reply
-made_so takes command old new to reply begun later disk device runs goes_on = record { begun = begun; later = later; disk = disk; device = device; runs = λ some was. runs some; goes_on = goes_on }
+    (map_both old (λ t o here. record { stands = here; works = λ sound. (o.1.works (sound_before the_texts t.trace steps sound), limit) }) opens (carried old mid steps is (λ l. Stands l c) stands))
 
 pub later_same : (a b now : Faults) → a.disk ≤ b.disk → b.devices ≡ a.devices → now ≡ b → Later a now
 later_same a b now disk devices same = record {

@@ -7,6 +7,7 @@ use Rattle.plant.specs.Events.{Event, Restarted}
 use Rattle.plant.specs.Told.{Told, with_steps, with_mark, with_drill}
 use Rattle.plant.specs.declared.drill.Drill.{Drill}
 use Rattle.plant.specs.declared.moment.Faults.{Faults}
+use Rattle.plant.specs.declared.step.Side.{Side}
 use Rattle.plant.specs.declared.step.Side.TheVariants.{A, B}
 use Rattle.records_model.specs.Works.{IsSound}
 use Rattle.journal_disk.specs.Standing.{limit_of}
@@ -24,7 +25,7 @@ use Rattle.lab_core.specs.Moments.{Seen, Stands, Works, IsLabAt}
 use Rattle.lab_core.specs.Sessions.{Session, Closed, Open, Setting, After}
 use Rattle.lab_top.specs.declared.command.CommandFault.{CommandFault}
 use Rattle.lab_top.specs.declared.command.CommandFault.TheVariants.{Memory, WriteFault, JournalBad}
-use Rattle.lab_top.specs.CommandTurns.{IsPlannedBy, IsTurn, Later, blames_if, closes_if, with_drill_if}
+use Rattle.lab_top.specs.Pieces.{Piece, FindsNone, IsDone, IsPiece, IsPlannedBy, Later, blames_if, closes_if, stays_open, with_drill_if}
 
 -- what is seen of the plant between two commands, and the controller where it is open
 pub record Moment : Type 0 where
@@ -47,20 +48,9 @@ pub record MayGoOn (now : Moment) : Type 0 where
   pub controller : IfSome now.told (λ t. IfSome now.controller (λ c. IsOpen t.trace c))
   pub runs : is_some now.controller ≡ true → now.stopped ≡ false
 
--- A COMMAND WAS DONE over the trace, by the steps of its opening and its own: they are a turn, whatever was planned, and the trace stays sound
-pub record IsDone (takes : Bool) (trace : List Event) (command : Command) (from to : Session) (opening own : List Event) (reply : Option Reply) : Type 0 where
-  pub turn : (faults later : Faults) (planned : Bool) → IsTurn takes trace (record {
-    command = command;
-    faults = faults;
-    later = later;
-    from = from;
-    to = to;
-    opening = opening;
-    own = own;
-    planned = planned;
-    reply = reply;
-  })
-  pub sound : IsSound the_texts (trace ++ (opening ++ own))
+-- the piece of a command
+abbrev pub piece_of : Command → Session → Session → List Event → List Event → Option Reply → Piece
+piece_of command from to opening own reply = record { command = command; from = from; to = to; opening = opening; own = own; reply = reply }
 
 -- a controller that was opened by these steps over the trace, or was open before, and is at work behind them
 pub record WasOpened (trace : List Event) (from : Session) (opening : List Event) (c : Seen) : Type 0 where
@@ -73,7 +63,7 @@ pub record WasOpened (trace : List Event) (from : Session) (opening : List Event
 
 -- what an open controller does of a command is done, however it was opened
 abbrev pub DoesOwn : Bool → List Event → Command → Seen → List Event → Session → Option Reply → Type 0
-DoesOwn takes trace command c own to reply = (before : List Event) (from : Session) (opening : List Event) → trace ≡ before ++ opening → WasOpened before from opening c → IsDone takes before command from to opening own reply
+DoesOwn takes trace command c own to reply = (before : List Event) (from : Session) (opening : List Event) → trace ≡ before ++ opening → WasOpened before from opening c → IsDone takes before (piece_of command from to opening own reply)
 
 abbrev pub OwnTold : Bool → Option Told → Option Told → Command → Seen → Session → Option Reply → Type 0
 OwnTold takes old new command c to reply = (own : List Event) × (new ≡ with_steps old own) × IfSome old (λ t. DoesOwn takes t.trace command c own to reply)
@@ -104,22 +94,35 @@ Unopened openings.Stopped old new result = Starts old new result
 Unopened (openings.Bad side at) old new result = (result ≡ Err (JournalBad side at)) × (new ≡ old)
 Unopened openings.Memory old new result = (result ≡ Err Memory) × (new ≡ old)
 
--- A COMMAND WAS BEGUN, with a reply or none, by some steps, and perhaps a drill that was planned: over a sound trace it was done
-pub record Begun (takes : Bool) (command : Command) (old new : Option Told) (from to : Session) (reply : Option Reply) : Type 0 where
+-- A COMMAND WAS BEGUN, by some steps, and perhaps a drill that was planned; it has a reply or none
+pub record Begins (takes : Bool) (command : Command) (old new : Option Told) (from to : Session) (reply : Option Reply) : Type 0 where
   pub opening : List Event
   pub own : List Event
   pub planned : Bool
   pub told : new ≡ with_drill_if (with_steps old (opening ++ own)) (if planned then drill_of command else None)
   pub planned_by : IsPlannedBy takes (drill_of command) planned reply
-  pub done : IfSome old (λ t. IsSound the_texts t.trace → IsDone takes t.trace command from to opening own reply)
+  pub is_piece : IfSome old (λ t. IsPiece takes t.trace (piece_of command from to opening own reply))
 
 pub record Made (takes : Bool) (command : Command) (old new : Moment) (to : Session) (reply : Option Reply) : Type 0 where
-  pub begun : Begun takes command old.told new.told (session_of old.controller) to reply
+  pub begun : Begins takes command old.told new.told (session_of old.controller) to reply
   pub later : Later old.faults new.faults
   pub disk : closes_if reply ≡ true → Rose old.faults.disk new.faults.disk
   pub device : blames_if reply ≡ true → Rose old.faults.devices new.faults.devices
   pub runs : is_some reply ≡ true → old.stopped ≡ false → new.stopped ≡ false
   pub goes_on : MayGoOn new
+
+-- the sides are no journal, and the plant is not stopped
+pub record FoundNone (takes : Bool) (command : Command) (old new : Moment) (side : Side) (at : ℕ) : Type 0 where
+  pub made : Made takes command old new Closed None
+  pub finds : IfSome old.told (λ t. FindsNone t.trace (piece_of command (session_of old.controller) Closed made.begun.opening made.begun.own None) side at)
+  pub runs : new.stopped ≡ false
+
+-- A COMMAND WAS OBEYED, or its drill planned: it was begun; and where the sides are no journal it found them so
+abbrev pub Ends : Bool → Command → (old new : Moment) → Result Reply CommandFault → Type 0
+Ends takes command old new (Ok reply) = Made takes command old new (session_of new.controller) (Some reply)
+Ends takes command old new (Err Memory) = Made takes command old new Closed None
+Ends takes command old new (Err WriteFault) = ⊥
+Ends takes command old new (Err (JournalBad side at)) = FoundNone takes command old new side at
 
 -- a reply's text is written, or a proper prefix of it; or memory is wanting, and nothing is
 abbrev pub Sent : Option (List ℕ) → Option (List ℕ) → List ℕ → Result (Unit {0}) CommandFault → Type 0
@@ -145,4 +148,4 @@ Answered takes command old new before now (Ok done) = (reply : Reply) × Made ta
 Answered takes command old new before now (Err WriteFault) =
     (reply : Reply) × Made takes command (marked old) new (session_of new.controller) (Some reply) × (n : ℕ) × (n < length (text_of reply)) × (now ≡ append_known before (take n (text_of reply)))
 Answered takes command old new before now (Err Memory) = (Same old new ⊎ Made takes command (marked old) new Closed None) × (now ≡ before)
-Answered takes command old new before now (Err (JournalBad side at)) = Made takes command (marked old) new Closed None × (new.stopped ≡ false) × (now ≡ before)
+Answered takes command old new before now (Err (JournalBad side at)) = FoundNone takes command (marked old) new side at × (now ≡ before)

@@ -1,14 +1,12 @@
-ghost use Rattle.std.specs.Prelude.{◌≡◌, ◌↔◌, ◌≤◌, ◌^◌, ℕ, None, IfSome, IsErrOf, IsTrue, true, false, Err, OnOk, OnErr};
+ghost use Rattle.std.specs.Prelude.{◌≡◌, ◌↔◌, ◌≤◌, ℕ, None, IfSome, IsErrOf, IsTrue, true, false, Err, OnOk, OnErr};
 ghost use Rattle.lab_io.specs.Causes.{Rose};
-ghost use Rattle.plant.specs.Disks.{disk};
 ghost use Rattle.plant.specs.declared.step.Side.{Side as AnySide};
-ghost use Rattle.plant.specs.declared.step.Side.TheVariants.{A, B};
 ghost use Rattle.script_text.specs.Drills.{drill_of};
 ghost use Rattle.script_text.specs.Replies.{text_of};
 ghost use Rattle.lab_core.specs.Blocks.{HasBlocks};
-ghost use Rattle.lab_core.specs.Moments.{IsNoJournal};
-ghost use Rattle.lab_top.specs.Answering.{Answered, IsOpen, Made, MayGoOn, OwnTold, Plans, Sent, Starts, Unopened, reply_if, session_after};
-ghost use Rattle.lab_top.specs.CommandTurns.{Later, blames_if, closes_if};
+ghost use Rattle.lab_core.specs.Sessions.{Closed};
+ghost use Rattle.lab_top.specs.Answering.{Answered, Ends, IsOpen, MayGoOn, OwnTold, Plans, Sent, Starts, Unopened, reply_if, session_after};
+ghost use Rattle.lab_top.specs.Pieces.{Later, blames_if, closes_if, stays_open};
 
 use lab_core::{Controller, CoreFault, OpenFault};
 use lab_io::{Sink, write_all};
@@ -74,6 +72,7 @@ fn obey_open<P: Plant>(
     requires open { IfSome (P.told plant.old) (λ t. IsOpen t.trace opened) }
     requires runs { P.is_stopped plant.old ≡ false }
     ensures own { OwnTold (P.takes_drills plant.old) (P.told plant.old) (P.told plant.new) command.now opened (session_after result controller.new) (reply_if result) }
+    ensures closed { stays_open (reply_if result) ≡ false → session_after result controller.new ≡ Closed }
     ensures goes_on { MayGoOn (record { told = P.told plant.new; faults = P.faults plant.new; stopped = P.is_stopped plant.new; controller = controller.new }) }
     ensures memory { OnErr result (result ≡ Err CommandFault.Memory) }
     ensures runs { OnOk result (P.is_stopped plant.new ≡ false) }
@@ -104,13 +103,9 @@ fn obey<P: Plant>(
     requires blocks { HasBlocks command.now }
     requires no_drill { drill_of command.now ≡ None }
     requires goes_on { MayGoOn (record { told = P.told plant.old; faults = P.faults plant.old; stopped = P.is_stopped plant.old; controller = controller.old }) }
-    ensures made { Made (P.takes_drills plant.old) command.now
+    ensures ends { Ends (P.takes_drills plant.old) command.now
         (record { told = P.told plant.old; faults = P.faults plant.old; stopped = P.is_stopped plant.old; controller = controller.old })
-        (record { told = P.told plant.new; faults = P.faults plant.new; stopped = P.is_stopped plant.new; controller = controller.new })
-        (session_after result controller.new) (reply_if result) }
-    ensures bad { (side : AnySide) (at : ℕ) → result ≡ Err (CommandFault.JournalBad side at)
-        → IfSome (P.told plant.new) (λ t. IsNoJournal (disk A t.trace).reads (disk B t.trace).reads (2 ^ 32) side at) × (P.is_stopped plant.new ≡ false) }
-    ensures no_write { result ≡ Err CommandFault.WriteFault → ⊥ }
+        (record { told = P.told plant.new; faults = P.faults plant.new; stopped = P.is_stopped plant.new; controller = controller.new }) result }
     ensures drills { P.takes_drills plant.new ≡ P.takes_drills plant.old }
 {
     match controller.take() {
@@ -145,13 +140,9 @@ fn reply_to<P: Plant>(
 ) -> Result<Reply, CommandFault>
     requires blocks { HasBlocks command.now }
     requires goes_on { MayGoOn (record { told = P.told plant.old; faults = P.faults plant.old; stopped = P.is_stopped plant.old; controller = controller.old }) }
-    ensures made { Made (P.takes_drills plant.old) command.now
+    ensures ends { Ends (P.takes_drills plant.old) command.now
         (record { told = P.told plant.old; faults = P.faults plant.old; stopped = P.is_stopped plant.old; controller = controller.old })
-        (record { told = P.told plant.new; faults = P.faults plant.new; stopped = P.is_stopped plant.new; controller = controller.new })
-        (session_after result controller.new) (reply_if result) }
-    ensures bad { (side : AnySide) (at : ℕ) → result ≡ Err (CommandFault.JournalBad side at)
-        → IfSome (P.told plant.new) (λ t. IsNoJournal (disk A t.trace).reads (disk B t.trace).reads (2 ^ 32) side at) × (P.is_stopped plant.new ≡ false) }
-    ensures no_write { result ≡ Err CommandFault.WriteFault → ⊥ }
+        (record { told = P.told plant.new; faults = P.faults plant.new; stopped = P.is_stopped plant.new; controller = controller.new }) result }
     ensures drills { P.takes_drills plant.new ≡ P.takes_drills plant.old }
 {
     match command.drill() {
@@ -189,8 +180,6 @@ pub(crate) fn answer_command<K: Sink, P: Plant>(
         (record { told = P.told plant.old; faults = P.faults plant.old; stopped = P.is_stopped plant.old; controller = controller.old })
         (record { told = P.told plant.new; faults = P.faults plant.new; stopped = P.is_stopped plant.new; controller = controller.new })
         (K.written sink.old) (K.written sink.new) result }
-    ensures bad { (side : AnySide) (at : ℕ) → result ≡ Err (CommandFault.JournalBad side at)
-        → IfSome (P.told plant.new) (λ t. IsNoJournal (disk A t.trace).reads (disk B t.trace).reads (2 ^ 32) side at) }
     ensures write { IsErrOf result CommandFault.WriteFault → Rose (K.faults sink.old) (K.faults sink.new) }
     ensures later { K.faults sink.old ≤ K.faults sink.new }
     ensures drills { P.takes_drills plant.new ≡ P.takes_drills plant.old }

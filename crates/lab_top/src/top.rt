@@ -6,8 +6,9 @@ ghost use Rattle.plant.specs.declared.step.Side.TheVariants.{A, B};
 ghost use Rattle.records_model.specs.Works.{IsSound};
 ghost use Rattle.lab_state.specs.Texts.{the_texts};
 ghost use Rattle.lab_core.specs.Moments.{IsNoJournal};
-ghost use Rattle.lab_top.specs.CommandTurns.{CommandTurn};
+ghost use Rattle.lab_top.specs.Pieces.{Begun};
 ghost use Rattle.lab_top.specs.Ran.{Ran};
+ghost use Rattle.lab_top.specs.Words.{choices_of};
 
 use crate::commands::obey_commands;
 use crate::status::Status;
@@ -25,9 +26,9 @@ pub fn labctl<S: Source, K: Sink, P: Plant>(
     sink: &mut K,
     plant: &mut P,
 ) -> Status
-    ensures run { (turns : List CommandTurn) × Ran (P.takes_drills plant.old)
+    ensures run { (made : List Begun) × Ran (P.takes_drills plant.old) (choices_of words.now)
         (record { left = S.left source.old; told = P.told plant.old; faults = P.faults plant.old; stopped = P.is_stopped plant.old; written = K.written sink.old })
-        (record { left = S.left source.new; told = P.told plant.new; faults = P.faults plant.new; stopped = P.is_stopped plant.new; written = K.written sink.new }) result turns }
+        (record { left = S.left source.new; told = P.told plant.new; faults = P.faults plant.new; stopped = P.is_stopped plant.new; written = K.written sink.new }) result made }
     ensures bad { (side : AnySide) (at : ℕ) → result ≡ Status.JournalBad side at
         → IfSome (P.told plant.new) (λ t. IsNoJournal (disk A t.trace).reads (disk B t.trace).reads (2 ^ 32) side at) }
     ensures never_bad { (side : AnySide) (at : ℕ) → result ≡ Status.JournalBad side at → IfSome (P.told plant.old) (λ t. IsSound the_texts t.trace → ⊥) }

@@ -1,4 +1,4 @@
-use Rattle.std.proofs.Common.{rules, false, ◌≡◌}
+use Rattle.std.proofs.Common.{rules, false, ◌≡◌, refl}
 use Rattle.script_text.specs.Replies.{closes}
 use Rattle.lab_top.proofs.Obeyed.{obeyed_on, obeyed_off, obeyed_stopped, obeyed_not, goes_open, goes_closed}
 use Rattle.lab_top.proofs.command.obey_open.Goals.{then-not-closes, else-not-closes}
@@ -31,3 +31,9 @@ pub returns-clause-own : goal.returns-clause-own
 returns-clause-own g c =
     let e = rw c.in-Err-Memory.field-0-is at c.in-Err-Memory.ensures in
     obeyed_not _ _ _ c.args.command.now c.requires.no_drill c.args.opened c.obey.new.self e.obeys
+
+pub returns-in-Ok-clause-closed : goal.returns-in-Ok-clause-closed
+returns-in-Ok-clause-closed g c shut = elim c.if-not-closes.branch [
+  | then-not-closes w ↦ absurd (cc (c.closes.ensures, w.if-not-closes.true, shut))
+  | else-not-closes w ↦ rw (w.controller-is, c.requires.taken) refl
+]

@@ -1,9 +1,8 @@
--- Turns, from what an opening and an open controller leave.
+-- Lab steps of pieces, from what an opening and an open controller leave.
 use Rattle.std.proofs.Common.{◌≡◌, ◌⊎◌, inl, inr, ℕ, ◌+◌, ◌^◌, Bool, true, false, ◌||◌, ◌&&◌, List, [], ◌∷◌, ◌++◌, length, Option, Some, None, Result, Ok, refl, sym, ◌∙◌, ap, subst, arith, append_assoc, length-append}
 use Rattle.std.specs.Prelude.{not, is_some}
 use Rattle.std.proofs.lemmas.List.{append-nil, take-append-le}
 use Rattle.std.proofs.lemmas.List.Folds.{list_any-append}
-use Rattle.plant.specs.declared.moment.Faults.{Faults}
 use Rattle.plant.specs.declared.step.Side.TheVariants.{A, B}
 use Rattle.plant.specs.Disks.{disk, ArePossible}
 use Rattle.plant.specs.Events.{Event, Missed, Restarted}
@@ -32,12 +31,12 @@ use Rattle.swap_runs.specs.Ends.{End, Committed, Aborted, Stuck, Unwritten, Stop
 use Rattle.lab_core.specs.LabSteps.{LabStep, StepOf, IsDoneBy, refused, does, no_memory, AppendEnds, whole, broken, Behind, nothing, missed, restarted as restarted_behind, IsAnswered, is_told, unanswered as no_answer, end_reply, opened, not_opened, is_planned, is_refused, wants_memory}
 use Rattle.lab_core.specs.Moments.{Seen, Works, StandForLab, IsLabAt, IsLabOfImage, AllStandFor, IsLengthAt}
 use Rattle.lab_core.specs.Obeying.{setting_of, ended, Leaves}
-use Rattle.lab_core.specs.Opening.{OpenSteps, OpenEnds}
+use Rattle.lab_core.specs.Opening.{OpenSteps, HasOpened}
 use Rattle.lab_core.specs.Pieces.{Breaks, stopped, unanswered}
 use Rattle.lab_core.specs.Sessions.{Session, Closed, Open, Setting, After}
 use Rattle.lab_core.specs.Steps.{Task, Tell, Append, Swap, Judged}
-use Rattle.lab_top.specs.CommandTurns.{CommandTurn, StepsFrom, FirstLab, ImagesAfter, is_closed, leaves_one}
-use Rattle.lab_top.specs.Answering.{IsDone, WasOpened, IsOpen}
+use Rattle.lab_top.specs.Pieces.{IsDone, StepsFrom, FirstLab, ImagesAfter, is_closed, leaves_one}
+use Rattle.lab_top.specs.Answering.{WasOpened, IsOpen, piece_of}
 
 -- PREFIXES of sound traces
 pub sound_before : (t : Texts) (trace more : List Event) → IsSound t (trace ++ more) → IsSound t trace
@@ -75,20 +74,6 @@ restarted_reads_possible trace a b =
     let reads = restarted_reads trace a b in
     let now = trace ++ Restarted a b ∷ [] in
     subst (λ l. ArePossible now l (disk B now).reads) (sym reads.0) (subst (λ l. ArePossible now a l) (sym reads.1) (restarted_possible trace a b))
-
--- A TURN'S PARTS
-abbrev pub turn_of : Command → Faults → Faults → Session → Session → List Event → List Event → Bool → Option Reply → CommandTurn
-turn_of command faults later from to opening own planned reply = record {
-  command = command;
-  faults = faults;
-  later = later;
-  from = from;
-  to = to;
-  opening = opening;
-  own = own;
-  planned = planned;
-  reply = reply;
-}
 
 pub not_early : (from : Session) (opening : List Event) → has_restart opening ≡ false → (is_closed from && (has_restart opening && not (are_synced opening))) ≡ false
 not_early Closed opening none = ap (λ b. b && not (are_synced opening)) none
@@ -145,16 +130,15 @@ silent_step None takes set s Closed command opening own after (opened opens obey
 silent_step None takes set s Closed command opening own after (not_opened breaks) = not_opened (record { no_command = breaks.no_command; nothing = breaks.nothing; breaks = unanswered refl; lab = breaks.lab; session = refl })
 silent_step None takes set s Open command opening own after step = (step.0, silent (Judged set s command) s own after step.1)
 
-pub silent_done : (takes : Bool) (trace : List Event) (command : Command) (from to : Session) (opening own : List Event) (reply : Option Reply) → IsDone takes trace command from to opening own reply → IsDone takes trace command from Closed opening own None
+pub silent_done : (takes : Bool) (trace : List Event) (command : Command) (from to : Session) (opening own : List Event) (reply : Option Reply) → IsDone takes trace (piece_of command from to opening own reply)
+    → IsDone takes trace (piece_of command from Closed opening own None)
 silent_done takes trace command from to opening own reply done = record {
-  turn = λ faults later planned. let turn = done.turn faults later planned in record {
-    first = turn.first;
-    last = turn.last;
-    before = turn.before;
-    behind = turn.behind;
-    steps = record { length = turn.steps.length; length_is = turn.steps.length_is; step = silent_step (drill_of command) takes _ turn.first from command opening own (after_of reply turn.last to) turn.steps.step };
-    images = λ some. absurd (cc some);
-  };
+  first = done.first;
+  last = done.last;
+  before = done.before;
+  behind = done.behind;
+  steps = record { length = done.steps.length; length_is = done.steps.length_is; step = silent_step (drill_of command) takes _ done.first from command opening own (after_of reply done.last to) done.steps.step };
+  images = λ some. absurd (cc some);
   sound = done.sound;
 }
 
@@ -176,7 +160,7 @@ last_same (z ∷ xs) (w ∷ ys) x y is =
     rest : z ∷ (xs ++ x ∷ []) ≡ w ∷ (ys ++ y ∷ []) → xs ++ x ∷ [] ≡ ys ++ y ∷ []
     rest e = cc
 
-no_restart_in : (own : List Event) → has_restart own ≡ false → (a b : List ℕ) (more : List Event) → own ≡ more ++ Restarted a b ∷ [] → ⊥
+pub no_restart_in : (own : List Event) → has_restart own ≡ false → (a b : List ℕ) (more : List Event) → own ≡ more ++ Restarted a b ∷ [] → ⊥
 no_restart_in own none a b more is = absurd (cc (sym none ∙ shows is_restart own more (Restarted a b ∷ []) (has_restart more) true is refl refl ∙ or_true (has_restart more)))
   where
     or_true : (x : Bool) → x || true ≡ true
@@ -252,9 +236,9 @@ step_of takes set s from command opening own after no_drill step = subst (λ (d 
 
 -- WHAT AN OPEN CONTROLLER DOES OF ITS OWN
 module _ (takes : Bool) (before : List Event) (from : Session) (opening : List Event) (c : Seen) (w : WasOpened before from opening c) (command : Command) (no_drill : drill_of command ≡ None) where
-  own_step : (own : List Event) (to : Session) (reply : Option Reply) (faults later : Faults) (planned : Bool) (lab : LabState) → IsDoneBy (Judged (setting_of c) c.lab command) c.lab own (after_of reply lab to)
-      → StepsFrom takes before (turn_of command faults later from to opening own planned reply) c.lab lab
-  own_step own to reply faults later planned lab done = record {
+  own_step : (own : List Event) (to : Session) (reply : Option Reply) (lab : LabState) → IsDoneBy (Judged (setting_of c) c.lab command) c.lab own (after_of reply lab to)
+      → StepsFrom takes before (piece_of command from to opening own reply) c.lab lab
+  own_step own to reply lab done = record {
     length = length_of c.journal;
     length_is = working_length (before ++ opening) c w.works;
     step = w.step takes (record { length = length_of c.journal; limit = 2 ^ 32 }) command own (after_of reply lab to) no_drill
@@ -262,38 +246,35 @@ module _ (takes : Bool) (before : List Event) (from : Session) (opening : List E
   }
 
   own_done : (own : List Event) (to : Session) (reply : Option Reply) (lab : LabState) → IsDoneBy (Judged (setting_of c) c.lab command) c.lab own (after_of reply lab to) → IsLabAt ((before ++ opening) ++ own) lab
-      → IsSound the_texts ((before ++ opening) ++ own)
-      → ((faults later : Faults) (planned : Bool) → is_some reply ≡ true → ImagesAfter takes (leaves_one to reply) before (turn_of command faults later from to opening own planned reply) lab) → IsDone takes before command from to opening own reply
+      → IsSound the_texts ((before ++ opening) ++ own) → (is_some reply ≡ true → ImagesAfter takes (leaves_one to reply) before (piece_of command from to opening own reply) lab) → IsDone takes before (piece_of command from to opening own reply)
   own_done own to reply lab done at sound images = record {
-    turn = λ faults later planned. record {
-      first = c.lab;
-      last = lab;
-      before = subst (λ b. FirstLab b before c.lab) (sym (not_early from opening w.no_restart)) w.first;
-      behind = subst (λ l. IsLabAt l lab) (append_assoc before opening own) at;
-      steps = own_step own to reply faults later planned lab done;
-      images = images faults later planned;
-    };
+    first = c.lab;
+    last = lab;
+    before = subst (λ b. FirstLab b before c.lab) (sym (not_early from opening w.no_restart)) w.first;
+    behind = subst (λ l. IsLabAt l lab) (append_assoc before opening own) at;
+    steps = own_step own to reply lab done;
+    images = images;
     sound = subst (λ l. IsSound the_texts l) (append_assoc before opening own) sound;
   }
 
   -- it goes on
   pub own_answered : (own : List Event) (new : Seen) (reply : Reply) → IsDoneBy (Judged (setting_of c) c.lab command) c.lab own (ended reply new.lab Open) → Works ((before ++ opening) ++ own) new
-      → IsDone takes before command from Open opening own (Some reply)
+      → IsDone takes before (piece_of command from Open opening own (Some reply))
   own_answered own new reply done works = own_done own Open (Some reply) new.lab done (working_lab _ new works) works.works.work.sound
-      (λ faults later planned some. subst (λ l. AllStandFor l new.lab) (append_assoc before opening own) (working_all _ new works))
+      (λ some. subst (λ l. AllStandFor l new.lab) (append_assoc before opening own) (working_all _ new works))
 
   first_image : IsLabOfImage before c.lab
   first_image = record { a = (disk A before).reads; b = (disk B before).reads; possible = w.possible; stand = w.first }
 
   -- a reply closes it
   pub own_closed : (own : List Event) (reply : Reply) → leaves_one Closed (Some reply) ≡ false → Leaves (before ++ opening) (Judged (setting_of c) c.lab command) c own reply (λ a b. [])
-      → ArePossible ((before ++ opening) ++ own) (disk A ((before ++ opening) ++ own)).reads (disk B ((before ++ opening) ++ own)).reads → IsDone takes before command from Closed opening own (Some reply)
+      → ArePossible ((before ++ opening) ++ own) (disk A ((before ++ opening) ++ own)).reads (disk B ((before ++ opening) ++ own)).reads → IsDone takes before (piece_of command from Closed opening own (Some reply))
   own_closed own reply other leaves possible =
       let x = image _ _ possible in
       own_done own Closed (Some reply) x.0 x.2 x.1 leaves.sound
-      (λ faults later planned some. subst (λ b. ImagesAfter takes b before (turn_of command faults later from Closed opening own planned (Some reply)) x.0) (sym other)
+      (λ some. subst (λ b. ImagesAfter takes b before (piece_of command from Closed opening own (Some reply)) x.0) (sym other)
       (λ a b there. let y = image a b (subst (λ l. ArePossible l a b) (sym (append_assoc before opening own)) there) in
-      (c.lab, y.0, first_image, y.1, own_step own Closed (Some reply) faults later planned y.0 y.2)))
+      (c.lab, y.0, first_image, y.1, own_step own Closed (Some reply) y.0 y.2)))
     where
       image : (a b : List ℕ) → ArePossible ((before ++ opening) ++ own) a b → (lab : LabState) × StandForLab a b lab × IsDoneBy (Judged (setting_of c) c.lab command) c.lab own (ended reply lab Closed)
       image a b there =
@@ -302,7 +283,7 @@ module _ (takes : Bool) (before : List Event) (from : Session) (opening : List E
 
   -- the plant stopped, and is started again with an image
   pub own_stopped : (own : List Event) (a b : List ℕ) → Leaves (before ++ opening) (Judged (setting_of c) c.lab command) c own replies.Stopped (λ x y. Restarted x y ∷ [])
-      → ArePossible ((before ++ opening) ++ own) a b → IsDone takes before command from Closed opening (own ++ Restarted a b ∷ []) (Some replies.Stopped)
+      → ArePossible ((before ++ opening) ++ own) a b → IsDone takes before (piece_of command from Closed opening (own ++ Restarted a b ∷ []) (Some replies.Stopped))
   own_stopped own a b leaves possible =
       let trace = (before ++ opening) ++ own in
       let own_steps = own ++ Restarted a b ∷ [] in
@@ -311,21 +292,21 @@ module _ (takes : Bool) (before : List Event) (from : Session) (opening : List E
       let all : AllStandFor (trace ++ Restarted a b ∷ []) x.0 = restarted_stand the_texts trace a b x.0 x.1 in
       own_done own_steps Closed (Some replies.Stopped) x.0 x.2 (subst (λ l. IsLabAt l x.0) join (restarted_lab trace a b x.0 x.1))
       (subst (λ l. IsSound the_texts l) join (restarted the_texts trace a b possible leaves.sound).0)
-      (λ faults later planned some. subst (λ l. AllStandFor l x.0) (join ∙ append_assoc before opening own_steps) all)
+      (λ some. subst (λ l. AllStandFor l x.0) (join ∙ append_assoc before opening own_steps) all)
 
   -- memory is wanting before anything is done
-  pub own_unmade : IsDone takes before command from Closed opening [] None
-  own_unmade = own_done [] Closed None c.lab (no_memory (record { nothing = refl; after_is = refl })) (subst (λ l. IsLabAt l c.lab) none (working_lab _ c w.works)) (subst (λ l. IsSound the_texts l) none w.works.works.work.sound) (λ faults later planned some. absurd (cc some))
+  pub own_unmade : IsDone takes before (piece_of command from Closed opening [] None)
+  own_unmade = own_done [] Closed None c.lab (no_memory (record { nothing = refl; after_is = refl })) (subst (λ l. IsLabAt l c.lab) none (working_lab _ c w.works)) (subst (λ l. IsSound the_texts l) none w.works.works.work.sound) (λ some. absurd (cc some))
     where
       none : before ++ opening ≡ (before ++ opening) ++ []
       none = sym (append-nil (before ++ opening))
 
   -- the plant stopped, and isn't started again
   pub own_stays : (own : List Event) → Leaves (before ++ opening) (Judged (setting_of c) c.lab command) c own replies.Stopped (λ x y. Restarted x y ∷ [])
-      → ArePossible ((before ++ opening) ++ own) (disk A ((before ++ opening) ++ own)).reads (disk B ((before ++ opening) ++ own)).reads → IsDone takes before command from Closed opening own None
+      → ArePossible ((before ++ opening) ++ own) (disk A ((before ++ opening) ++ own)).reads (disk B ((before ++ opening) ++ own)).reads → IsDone takes before (piece_of command from Closed opening own None)
   own_stays own leaves possible =
       let x = leaves.images _ _ possible in
-      own_done own Closed None x.0 (unstarted (Judged (setting_of c) c.lab command) c.lab own _ _ x.0 x.2) x.1 leaves.sound (λ faults later planned some. absurd (cc some))
+      own_done own Closed None x.0 (unstarted (Judged (setting_of c) c.lab command) c.lab own _ _ x.0 x.2) x.1 leaves.sound (λ some. absurd (cc some))
 
 -- WHERE THE CONTROLLER ISN'T OPENED
 
@@ -338,33 +319,38 @@ synced_with steps a b i =
     (list_any-append (is_sync_of A) steps (Restarted a b ∷ []) ∙ or_none _) i
     && (list_any-append (is_sync_of B) steps (Restarted a b ∷ []) ∙ or_none _) i
 
+-- a stopped plant that is started again behind these steps
+pub again_quiet : (steps : List Event) (a b : List ℕ) → has_command steps ≡ false → has_command (steps ++ Restarted a b ∷ []) ≡ false
+again_quiet steps a b none = shows is_command (steps ++ Restarted a b ∷ []) steps (Restarted a b ∷ []) false false refl none refl
+
+pub again_breaks : (steps : List Event) (a b : List ℕ) → has_restart steps ≡ false → Breaks (steps ++ Restarted a b ∷ []) (Some replies.Stopped)
+again_breaks steps a b none = stopped (record { front = steps; a = a; b = b; is = refl; once = none }) refl
+
 module _ (takes : Bool) (trace steps : List Event) (o : OpenSteps trace steps) (possible : ArePossible trace (disk A trace).reads (disk B trace).reads) (sound : IsSound the_texts trace) (command : Command) (no_drill : drill_of command ≡ None) where
   -- the step, over steps that end so
   cut_step : (opening : List Event) (reply : Option Reply) (n : ℕ) → IsLengthAt (trace ++ opening) n → has_command opening ≡ false → Breaks opening reply
-      → (faults later : Faults) (planned : Bool) (lab : LabState) → StepsFrom takes trace (turn_of command faults later Closed Closed opening [] planned reply) lab lab
-  cut_step opening reply n length quiet breaks faults later planned lab = record {
+      → (lab : LabState) → StepsFrom takes trace (piece_of command Closed Closed opening [] reply) lab lab
+  cut_step opening reply n length quiet breaks lab = record {
     length = n;
     length_is = length;
     step = step_of takes _ lab Closed command opening [] (after_of reply lab Closed) no_drill (not_opened (record { no_command = quiet; nothing = refl; breaks = breaks; lab = refl; session = refl }));
   }
 
   -- a call of the disk failed, memory was wanting, or the sides are no journal
-  pub cut_done : ArePossible (trace ++ steps) (disk A (trace ++ steps)).reads (disk B (trace ++ steps)).reads → (reply : Option Reply) → leaves_one Closed reply ≡ false → Breaks steps reply → IsDone takes trace command Closed Closed steps [] reply
+  pub cut_done : ArePossible (trace ++ steps) (disk A (trace ++ steps)).reads (disk B (trace ++ steps)).reads → (reply : Option Reply) → leaves_one Closed reply ≡ false → Breaks steps reply → IsDone takes trace (piece_of command Closed Closed steps [] reply)
   cut_done there reply other breaks =
       let now = sound_stands the_texts trace _ _ possible sound in
       let n = sound_length (trace ++ steps) there (o.sound sound) in
       let none : trace ++ steps ≡ trace ++ (steps ++ []) = ap (λ l. trace ++ l) (sym (append-nil steps)) in
       record {
-        turn = λ faults later planned. record {
-          first = now.0;
-          last = now.0;
-          before = subst (λ b. FirstLab b trace now.0) (sym (not_early Closed steps o.no_restart)) now.1;
-          behind = subst (λ l. IsLabAt l now.0) none ((stood_alike the_texts _ _ _ _ now.0 o.alike).1 now.1);
-          steps = cut_step steps reply n.0 n.1 o.no_command breaks faults later planned now.0;
-          images = λ some. subst (λ b. ImagesAfter takes b trace (turn_of command faults later Closed Closed steps [] planned reply) now.0) (sym other)
-              (λ a b at. let x = stood_before the_texts trace steps a b o.before (subst (λ l. ArePossible l a b) (sym none) at) sound in
-              (x.2, x.2, record { a = x.0; b = x.1; possible = x.3; stand = x.4 }, x.5, cut_step steps reply n.0 n.1 o.no_command breaks faults later planned x.2));
-        };
+        first = now.0;
+        last = now.0;
+        before = subst (λ b. FirstLab b trace now.0) (sym (not_early Closed steps o.no_restart)) now.1;
+        behind = subst (λ l. IsLabAt l now.0) none ((stood_alike the_texts _ _ _ _ now.0 o.alike).1 now.1);
+        steps = cut_step steps reply n.0 n.1 o.no_command breaks now.0;
+        images = λ some. subst (λ b. ImagesAfter takes b trace (piece_of command Closed Closed steps [] reply) now.0) (sym other)
+            (λ a b at. let x = stood_before the_texts trace steps a b o.before (subst (λ l. ArePossible l a b) (sym none) at) sound in
+            (x.2, x.2, record { a = x.0; b = x.1; possible = x.3; stand = x.4 }, x.5, cut_step steps reply n.0 n.1 o.no_command breaks x.2));
         sound = subst (λ l. IsSound the_texts l) none (o.sound sound);
       }
 
@@ -385,9 +371,6 @@ module _ (takes : Bool) (trace steps : List Event) (o : OpenSteps trace steps) (
     has_started : has_restart opening ≡ true
     has_started = shows is_restart opening steps (Restarted a b ∷ []) false true refl o.no_restart refl
 
-    quiet : has_command opening ≡ false
-    quiet = shows is_command opening steps (Restarted a b ∷ []) false false refl o.no_command refl
-
     -- the first lab, and that it is the last one
     which_first : (synced : Bool) → are_synced steps ≡ synced → (s : LabState) × FirstLab (not synced) trace s × StandForLab a b s
     which_first true both = let now = sound_stands the_texts trace _ _ possible sound in (now.0, now.1, stood_settled the_texts trace steps a b now.0 o.settled both there now.1)
@@ -399,19 +382,17 @@ module _ (takes : Bool) (trace steps : List Event) (o : OpenSteps trace steps) (
     early : (true && (has_restart opening && not (are_synced opening))) ≡ not (are_synced steps)
     early = (λ i. has_started i && not (synced_with steps a b i))
 
-    pub stopped_done : IsDone takes trace command Closed Closed opening [] (Some replies.Stopped)
+    pub stopped_done : IsDone takes trace (piece_of command Closed Closed opening [] (Some replies.Stopped))
     stopped_done =
         let n = sound_length (trace ++ opening) (subst (λ l. ArePossible l (disk A l).reads (disk B l).reads) join (restarted_reads_possible (trace ++ steps) a b)) sound_now in
         let s = first.0 in
         record {
-          turn = λ faults later planned. record {
-            first = s;
-            last = s;
-            before = subst (λ e. FirstLab e trace s) (sym early) first.1;
-            behind = subst (λ l. IsLabAt l s) (join ∙ none) (restarted_lab (trace ++ steps) a b s first.2);
-            steps = cut_step opening (Some replies.Stopped) n.0 n.1 quiet (stopped (record { front = steps; a = a; b = b; is = refl; once = o.no_restart }) refl) faults later planned s;
-            images = λ some. subst (λ l. AllStandFor l s) (join ∙ none) (restarted_stand the_texts (trace ++ steps) a b s first.2);
-          };
+          first = s;
+          last = s;
+          before = subst (λ e. FirstLab e trace s) (sym early) first.1;
+          behind = subst (λ l. IsLabAt l s) (join ∙ none) (restarted_lab (trace ++ steps) a b s first.2);
+          steps = cut_step opening (Some replies.Stopped) n.0 n.1 (again_quiet steps a b o.no_command) (again_breaks steps a b o.no_restart) s;
+          images = λ some. subst (λ l. AllStandFor l s) (join ∙ none) (restarted_stand the_texts (trace ++ steps) a b s first.2);
           sound = subst (λ l. IsSound the_texts l) none sound_now;
         }
 
@@ -428,13 +409,13 @@ was_open trace c is sound =
       step = λ takes set command own after no_drill obeys. step_of takes set c.lab Open command [] own after no_drill (refl, obeys);
     }
 
-pub is_opened : (trace steps : List Event) (c : Seen) → OpenSteps trace steps → OpenEnds trace steps (Ok c) → limit_of c.journal ≡ 2 ^ 32 → ArePossible trace (disk A trace).reads (disk B trace).reads → IsSound the_texts trace
+pub is_opened : (trace steps : List Event) (c : Seen) → OpenSteps trace steps → HasOpened trace steps (2 ^ 32) c → limit_of c.journal ≡ 2 ^ 32 → ArePossible trace (disk A trace).reads (disk B trace).reads → IsSound the_texts trace
     → WasOpened trace Closed steps c
 is_opened trace steps c o ends limit possible sound = record {
   possible = possible;
-  first = (stood_alike the_texts _ _ _ _ c.lab o.alike).0 ends.0.1;
+  first = (stood_alike the_texts _ _ _ _ c.lab o.alike).0 ends.lab;
   no_restart = o.no_restart;
-  works = ends.0.2 sound;
+  works = ends.works sound;
   limit = limit;
-  step = λ takes set command own after no_drill obeys. step_of takes set c.lab Closed command steps own after no_drill (opened (record { no_command = o.no_command; no_miss = ends.0.0; no_restart = o.no_restart }) obeys);
+  step = λ takes set command own after no_drill obeys. step_of takes set c.lab Closed command steps own after no_drill (opened (record { no_command = o.no_command; no_miss = ends.no_miss; no_restart = o.no_restart }) obeys);
 }
