@@ -51,20 +51,19 @@ impl Journal {
     /// Appends a record. After `Ok` it is durable; after `Plant` or `Stopped` the journal has to be opened anew.
     pub fn append<P: Plant>(&mut self, encoded: &Encoded, plant: &mut P) -> Result<(), AppendFault>
         // Both sides are as this journal's last call left them.
-        requires { IfSome (P.told plant.old) (λ t. (rs : List Record) × IsAt t.trace self.old rs) }
+        requires { IfSome (P.seen plant.old).told (λ t. (rs : List Record) × IsAt t.trace self.old rs) }
         ensures full { limit_of self.old < length_of self.old + length encoded.now → result ≡ Err (AppendFault.Full (length_of self.old) (length encoded.now)) }
         ensures fits { length_of self.old + length encoded.now ≤ limit_of self.old → (size length : ℕ) → result ≡ Err (AppendFault.Full length size) → ⊥ }
         ensures nothing { limit_of self.old < length_of self.old + length encoded.now → plant.new ≡ plant.old }
-        ensures plant { IsErrOf result AppendFault.Plant → Rose (P.faults plant.old).disk (P.faults plant.new).disk }
-        ensures later { (P.faults plant.old).disk ≤ (P.faults plant.new).disk }
-        ensures devices { (P.faults plant.new).devices ≡ (P.faults plant.old).devices }
-        ensures stopped { length_of self.old + length encoded.now ≤ limit_of self.old → IsErrOf result AppendFault.Stopped ↔ IsTrue (P.is_stopped plant.new) }
-        ensures drills { P.takes_drills plant.new ≡ P.takes_drills plant.old }
-        ensures appends { (r : Record) → IsBody encoded.now r → Appends (P.told plant.old) (P.told plant.new) self.old r result }
-        ensures moments { (r : Record) (rs : List Record) → IsBody encoded.now r → IfSome (P.told plant.old) (λ t. IsAt t.trace self.old rs
-            → (steps : List Event) × (P.told plant.new ≡ with_steps (P.told plant.old) steps) × Moments t.trace steps (side_of self.old) rs r result) }
-        ensures stands { OnOk result ((r : Record) (rs : List Record) → IsBody encoded.now r → IfSome (P.told plant.old) (λ t. IsAt t.trace self.old rs
-            → IfSome (P.told plant.new) (λ u. IsAt u.trace self.new (rs ++ r ∷ [])))) }
+        ensures plant { IsErrOf result AppendFault.Plant → Rose (P.seen plant.old).faults.disk (P.seen plant.new).faults.disk }
+        ensures later { (P.seen plant.old).faults.disk ≤ (P.seen plant.new).faults.disk }
+        ensures devices { (P.seen plant.new).faults.devices ≡ (P.seen plant.old).faults.devices }
+        ensures stopped { length_of self.old + length encoded.now ≤ limit_of self.old → IsErrOf result AppendFault.Stopped ↔ IsTrue (P.seen plant.new).stopped }
+        ensures appends { (r : Record) → IsBody encoded.now r → Appends (P.seen plant.old).told (P.seen plant.new).told self.old r result }
+        ensures moments { (r : Record) (rs : List Record) → IsBody encoded.now r → IfSome (P.seen plant.old).told (λ t. IsAt t.trace self.old rs
+            → (steps : List Event) × ((P.seen plant.new).told ≡ with_steps (P.seen plant.old).told steps) × Moments t.trace steps (side_of self.old) rs r result) }
+        ensures stands { OnOk result ((r : Record) (rs : List Record) → IsBody encoded.now r → IfSome (P.seen plant.old).told (λ t. IsAt t.trace self.old rs
+            → IfSome (P.seen plant.new).told (λ u. IsAt u.trace self.new (rs ++ r ∷ [])))) }
         ensures length { OnOk result (length_of self.new ≡ length_of self.old + length encoded.now) }
         ensures side { side_of self.new ≡ side_of self.old }
         ensures limit { limit_of self.new ≡ limit_of self.old }
@@ -80,16 +79,15 @@ impl Journal {
         plant: &mut P,
     ) -> Result<(), AppendFault>
         // Both sides are as this journal's last call left them.
-        requires { IfSome (P.told plant.old) (λ t. (rs : List Record) × IsAt t.trace self.old rs) }
+        requires { IfSome (P.seen plant.old).told (λ t. (rs : List Record) × IsAt t.trace self.old rs) }
         ensures full { limit_of self.old < length_of self.old + length encoded.now → result ≡ Err (AppendFault.Full (length_of self.old) (length encoded.now)) }
         ensures fits { length_of self.old + length encoded.now ≤ limit_of self.old → (size length : ℕ) → result ≡ Err (AppendFault.Full length size) → ⊥ }
         ensures nothing { limit_of self.old < length_of self.old + length encoded.now → plant.new ≡ plant.old }
-        ensures plant { IsErrOf result AppendFault.Plant → Rose (P.faults plant.old).disk (P.faults plant.new).disk }
-        ensures later { (P.faults plant.old).disk ≤ (P.faults plant.new).disk }
-        ensures devices { (P.faults plant.new).devices ≡ (P.faults plant.old).devices }
-        ensures stopped { length_of self.old + length encoded.now ≤ limit_of self.old → IsErrOf result AppendFault.Stopped ↔ IsTrue (P.is_stopped plant.new) }
-        ensures drills { P.takes_drills plant.new ≡ P.takes_drills plant.old }
-        ensures appends { (r : Record) → IsBody encoded.now r → Appends (P.told plant.old) (P.told plant.new) self.old r result }
+        ensures plant { IsErrOf result AppendFault.Plant → Rose (P.seen plant.old).faults.disk (P.seen plant.new).faults.disk }
+        ensures later { (P.seen plant.old).faults.disk ≤ (P.seen plant.new).faults.disk }
+        ensures devices { (P.seen plant.new).faults.devices ≡ (P.seen plant.old).faults.devices }
+        ensures stopped { length_of self.old + length encoded.now ≤ limit_of self.old → IsErrOf result AppendFault.Stopped ↔ IsTrue (P.seen plant.new).stopped }
+        ensures appends { (r : Record) → IsBody encoded.now r → Appends (P.seen plant.old).told (P.seen plant.new).told self.old r result }
         ensures length { OnOk result (length_of self.new ≡ length_of self.old + length encoded.now) }
         ensures side { side_of self.new ≡ side_of self.old }
         ensures limit { limit_of self.new ≡ limit_of self.old }

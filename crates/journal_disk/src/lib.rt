@@ -12,6 +12,3 @@ mod walk;
 pub use fault::{AppendFault, OpenFault};
 pub use journal::Journal;
 pub use open::Opened;
-
-#[cfg(test)]
-mod tests;

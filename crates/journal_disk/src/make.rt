@@ -15,13 +15,12 @@ const MADE: [u8; 17] = *b"LABJRNL1\x01\0\0\0\0\0\0\0\0";
 
 /// Closes the header gate of a side that has no header yet.
 fn clear<P: Plant>(plant: &mut P) -> Result<(), OpenFault>
-    ensures ok { OnOk result (P.told plant.new ≡ with_steps (P.told plant.old) (cleared true)) }
-    ensures makes { Makes true Closed (P.told plant.old) (P.told plant.new) result }
-    ensures plant { IsErrOf result OpenFault.Plant → Rose (P.faults plant.old).disk (P.faults plant.new).disk }
-    ensures later { (P.faults plant.old).disk ≤ (P.faults plant.new).disk }
-    ensures devices { (P.faults plant.new).devices ≡ (P.faults plant.old).devices }
-    ensures stopped { IsErrOf result OpenFault.Stopped ↔ IsTrue (P.is_stopped plant.new) }
-    ensures drills { P.takes_drills plant.new ≡ P.takes_drills plant.old }
+    ensures ok { OnOk result ((P.seen plant.new).told ≡ with_steps (P.seen plant.old).told (cleared true)) }
+    ensures makes { Makes true Closed (P.seen plant.old).told (P.seen plant.new).told result }
+    ensures plant { IsErrOf result OpenFault.Plant → Rose (P.seen plant.old).faults.disk (P.seen plant.new).faults.disk }
+    ensures later { (P.seen plant.old).faults.disk ≤ (P.seen plant.new).faults.disk }
+    ensures devices { (P.seen plant.new).faults.devices ≡ (P.seen plant.old).faults.devices }
+    ensures stopped { IsErrOf result OpenFault.Stopped ↔ IsTrue (P.seen plant.new).stopped }
     ensures bad { (side : AnySide) (at : ℕ) → result ≡ Err (OpenFault.Bad side at) → ⊥ }
     ensures memory { result ≡ Err OpenFault.Memory → ⊥ }
 {
@@ -32,14 +31,13 @@ fn clear<P: Plant>(plant: &mut P) -> Result<(), OpenFault>
 
 /// Writes the header behind its closed gate, and opens the gate.
 fn head<P: Plant>(plant: &mut P) -> Result<(), OpenFault>
-    requires { IfSome (P.told plant.old) (λ t. 1 ≤ length (disk A t.trace).reads) }
-    ensures ok { OnOk result (P.told plant.new ≡ with_steps (P.told plant.old) headed) }
-    ensures makes { Makes false InUse (P.told plant.old) (P.told plant.new) result }
-    ensures plant { IsErrOf result OpenFault.Plant → Rose (P.faults plant.old).disk (P.faults plant.new).disk }
-    ensures later { (P.faults plant.old).disk ≤ (P.faults plant.new).disk }
-    ensures devices { (P.faults plant.new).devices ≡ (P.faults plant.old).devices }
-    ensures stopped { IsErrOf result OpenFault.Stopped ↔ IsTrue (P.is_stopped plant.new) }
-    ensures drills { P.takes_drills plant.new ≡ P.takes_drills plant.old }
+    requires { IfSome (P.seen plant.old).told (λ t. 1 ≤ length (disk A t.trace).reads) }
+    ensures ok { OnOk result ((P.seen plant.new).told ≡ with_steps (P.seen plant.old).told headed) }
+    ensures makes { Makes false InUse (P.seen plant.old).told (P.seen plant.new).told result }
+    ensures plant { IsErrOf result OpenFault.Plant → Rose (P.seen plant.old).faults.disk (P.seen plant.new).faults.disk }
+    ensures later { (P.seen plant.old).faults.disk ≤ (P.seen plant.new).faults.disk }
+    ensures devices { (P.seen plant.new).faults.devices ≡ (P.seen plant.old).faults.devices }
+    ensures stopped { IsErrOf result OpenFault.Stopped ↔ IsTrue (P.seen plant.new).stopped }
     ensures bad { (side : AnySide) (at : ℕ) → result ≡ Err (OpenFault.Bad side at) → ⊥ }
     ensures memory { result ≡ Err OpenFault.Memory → ⊥ }
 {
@@ -52,14 +50,13 @@ fn head<P: Plant>(plant: &mut P) -> Result<(), OpenFault>
 
 /// Makes a new journal of epoch 1 on side A. Where the side has no header yet, its gate is closed first.
 pub fn make<P: Plant>(plant: &mut P, is_short: bool) -> Result<(), OpenFault>
-    requires { IfSome (P.told plant.old) (λ t. is_short ≡ false → 1 ≤ length (disk A t.trace).reads) }
-    ensures ok { OnOk result (P.told plant.new ≡ with_steps (P.told plant.old) (making is_short)) }
-    ensures makes { Makes is_short InUse (P.told plant.old) (P.told plant.new) result }
-    ensures plant { IsErrOf result OpenFault.Plant → Rose (P.faults plant.old).disk (P.faults plant.new).disk }
-    ensures later { (P.faults plant.old).disk ≤ (P.faults plant.new).disk }
-    ensures devices { (P.faults plant.new).devices ≡ (P.faults plant.old).devices }
-    ensures stopped { IsErrOf result OpenFault.Stopped ↔ IsTrue (P.is_stopped plant.new) }
-    ensures drills { P.takes_drills plant.new ≡ P.takes_drills plant.old }
+    requires { IfSome (P.seen plant.old).told (λ t. is_short ≡ false → 1 ≤ length (disk A t.trace).reads) }
+    ensures ok { OnOk result ((P.seen plant.new).told ≡ with_steps (P.seen plant.old).told (making is_short)) }
+    ensures makes { Makes is_short InUse (P.seen plant.old).told (P.seen plant.new).told result }
+    ensures plant { IsErrOf result OpenFault.Plant → Rose (P.seen plant.old).faults.disk (P.seen plant.new).faults.disk }
+    ensures later { (P.seen plant.old).faults.disk ≤ (P.seen plant.new).faults.disk }
+    ensures devices { (P.seen plant.new).faults.devices ≡ (P.seen plant.old).faults.devices }
+    ensures stopped { IsErrOf result OpenFault.Stopped ↔ IsTrue (P.seen plant.new).stopped }
     ensures bad { (side : AnySide) (at : ℕ) → result ≡ Err (OpenFault.Bad side at) → ⊥ }
     ensures memory { result ≡ Err OpenFault.Memory → ⊥ }
 {

@@ -16,13 +16,12 @@ const PIECE: usize = 65_536;
 
 /// Makes both sides durable as they read.
 pub fn sync_sides<P: Plant>(plant: &mut P) -> Result<(), OpenFault>
-    ensures ok { OnOk result (P.told plant.new ≡ with_steps (P.told plant.old) both_synced) }
-    ensures syncs { Syncs (P.told plant.old) (P.told plant.new) result }
-    ensures plant { IsErrOf result OpenFault.Plant → Rose (P.faults plant.old).disk (P.faults plant.new).disk }
-    ensures later { (P.faults plant.old).disk ≤ (P.faults plant.new).disk }
-    ensures devices { (P.faults plant.new).devices ≡ (P.faults plant.old).devices }
-    ensures stopped { IsErrOf result OpenFault.Stopped ↔ IsTrue (P.is_stopped plant.new) }
-    ensures drills { P.takes_drills plant.new ≡ P.takes_drills plant.old }
+    ensures ok { OnOk result ((P.seen plant.new).told ≡ with_steps (P.seen plant.old).told both_synced) }
+    ensures syncs { Syncs (P.seen plant.old).told (P.seen plant.new).told result }
+    ensures plant { IsErrOf result OpenFault.Plant → Rose (P.seen plant.old).faults.disk (P.seen plant.new).faults.disk }
+    ensures later { (P.seen plant.old).faults.disk ≤ (P.seen plant.new).faults.disk }
+    ensures devices { (P.seen plant.new).faults.devices ≡ (P.seen plant.old).faults.devices }
+    ensures stopped { IsErrOf result OpenFault.Stopped ↔ IsTrue (P.seen plant.new).stopped }
     ensures bad { (side : AnySide) (at : ℕ) → result ≡ Err (OpenFault.Bad side at) → ⊥ }
 {
     plant.sync(Side::A)?;
@@ -38,16 +37,15 @@ fn read_piece<P: Plant>(
     size: usize,
 ) -> Result<(), OpenFault>
     requires piece { size ≤ PIECE }
-    requires within { IfSome (P.told plant.old) (λ t. vec_len bytes.old + size ≤ length (disk side t.trace).reads) }
-    ensures trace { MayMiss side (P.told plant.old) (P.told plant.new) result }
-    ensures read { IfSome (P.told plant.old) (λ t. OnOk result (bytes.new.items ≡ bytes.old.items ++ take size (drop (vec_len bytes.old) (disk side t.trace).reads))) }
+    requires within { IfSome (P.seen plant.old).told (λ t. vec_len bytes.old + size ≤ length (disk side t.trace).reads) }
+    ensures trace { MayMiss side (P.seen plant.old).told (P.seen plant.new).told result }
+    ensures read { IfSome (P.seen plant.old).told (λ t. OnOk result (bytes.new.items ≡ bytes.old.items ++ take size (drop (vec_len bytes.old) (disk side t.trace).reads))) }
     ensures len { OnOk result (vec_len bytes.new ≡ vec_len bytes.old + size) }
-    ensures plant { IsErrOf result OpenFault.Plant → Rose (P.faults plant.old).disk (P.faults plant.new).disk }
-    ensures later { (P.faults plant.old).disk ≤ (P.faults plant.new).disk }
-    ensures devices { (P.faults plant.new).devices ≡ (P.faults plant.old).devices }
-    ensures stopped { IsErrOf result OpenFault.Stopped ↔ IsTrue (P.is_stopped plant.new) }
-    ensures still { P.is_stopped plant.new ≡ P.is_stopped plant.old }
-    ensures drills { P.takes_drills plant.new ≡ P.takes_drills plant.old }
+    ensures plant { IsErrOf result OpenFault.Plant → Rose (P.seen plant.old).faults.disk (P.seen plant.new).faults.disk }
+    ensures later { (P.seen plant.old).faults.disk ≤ (P.seen plant.new).faults.disk }
+    ensures devices { (P.seen plant.new).faults.devices ≡ (P.seen plant.old).faults.devices }
+    ensures stopped { IsErrOf result OpenFault.Stopped ↔ IsTrue (P.seen plant.new).stopped }
+    ensures still { (P.seen plant.new).stopped ≡ (P.seen plant.old).stopped }
     ensures bad { (side : AnySide) (at : ℕ) → result ≡ Err (OpenFault.Bad side at) → ⊥ }
 {
     let mut piece = [0u8; PIECE];
@@ -68,13 +66,12 @@ fn piece_of(left: usize) -> usize
 
 /// Reads a side, piece after piece.
 pub fn read_side<P: Plant>(alloc: Global, plant: &mut P, side: Side) -> Result<Vec<u8>, OpenFault>
-    ensures trace { MayMiss side (P.told plant.old) (P.told plant.new) result }
-    ensures bytes { IfOk result (λ bytes. IfSome (P.told plant.old) (λ t. bytes.items ≡ (disk side t.trace).reads)) }
-    ensures plant { IsErrOf result OpenFault.Plant → Rose (P.faults plant.old).disk (P.faults plant.new).disk }
-    ensures later { (P.faults plant.old).disk ≤ (P.faults plant.new).disk }
-    ensures devices { (P.faults plant.new).devices ≡ (P.faults plant.old).devices }
-    ensures stopped { IsErrOf result OpenFault.Stopped ↔ IsTrue (P.is_stopped plant.new) }
-    ensures drills { P.takes_drills plant.new ≡ P.takes_drills plant.old }
+    ensures trace { MayMiss side (P.seen plant.old).told (P.seen plant.new).told result }
+    ensures bytes { IfOk result (λ bytes. IfSome (P.seen plant.old).told (λ t. bytes.items ≡ (disk side t.trace).reads)) }
+    ensures plant { IsErrOf result OpenFault.Plant → Rose (P.seen plant.old).faults.disk (P.seen plant.new).faults.disk }
+    ensures later { (P.seen plant.old).faults.disk ≤ (P.seen plant.new).faults.disk }
+    ensures devices { (P.seen plant.new).faults.devices ≡ (P.seen plant.old).faults.devices }
+    ensures stopped { IsErrOf result OpenFault.Stopped ↔ IsTrue (P.seen plant.new).stopped }
     ensures bad { (side : AnySide) (at : ℕ) → result ≡ Err (OpenFault.Bad side at) → ⊥ }
 {
     let size = plant.length(side)? as usize;

@@ -13,6 +13,7 @@ mod number;
 mod parts;
 mod rates;
 mod text;
+mod what;
 
 pub use boot::Boot;
 pub use fault::{Kind, TextFault, TextRefused, both};
@@ -26,6 +27,7 @@ pub use number::{BadNumber, read_number};
 pub use parts::{ListRead, add_read, name_in, number_in, numbered_in_field};
 pub use rates::Rates;
 pub use text::Text;
+pub use what::What;
 
 #[cfg(test)]
 mod tests;

@@ -9,7 +9,8 @@ use Rattle.records_model.specs.Labs.{LabState, LabOf, StopsAt, at_first}
 use Rattle.records_model.proofs.LabLaws.{folds_once, folds_or_stops, stops_once}
 use Rattle.lab_state.specs.Texts.{the_texts}
 use Rattle.lab_state.proofs.Canonical.{texts_once}
-use Rattle.lab_core.specs.Moments.{IsJournal, IsNoJournal, bad, cannot_follow, no_room}
+use Rattle.lab_core.specs.Moments.{IsNoJournal, bad, cannot_follow, no_room}
+use Rattle.lab_core.specs.Opening.{IsJournal}
 
 lab_as : (a b : List ℕ) (rs ss : List Record) (s : LabState) → Records a b rs → Records a b ss → LabOf the_texts rs s → LabOf the_texts ss s
 lab_as a b rs ss s read other lab = subst (λ l. LabOf the_texts l s) (records_once a b rs ss read other) lab

@@ -1,5 +1,5 @@
 -- What a call of `open` adds, and what it leaves, by what the journal's opening says and what the records made of it.
-use Rattle.std.proofs.Common.{◌≡◌, inl, inr, ℕ, ◌+◌, ◌*◌, ◌<◌, ◌≤◌, Bool, List, [], ◌∷◌, ◌++◌, count_by, Option, Some, None, Result, Ok, Err, IfSome, refl, sym, ap, subst, ◌∙◌, arith}
+use Rattle.std.proofs.Common.{◌≡◌, inl, inr, ℕ, ◌+◌, ◌*◌, ◌<◌, ◌≤◌, ◌^◌, Bool, List, [], ◌∷◌, ◌++◌, count_by, Option, Some, None, Result, Ok, Err, IfSome, IfOk, refl, sym, ap, subst, ◌∙◌, arith}
 use Rattle.std.specs.Prelude.{length, nat_lt}
 use Rattle.std.proofs.lemmas.List.Sums.{fold-append}
 use Rattle.std.specs.Global.{Vec}
@@ -13,10 +13,9 @@ use Rattle.journal_rec.specs.declared.record.Found.{Found}
 use Rattle.lab_model.specs.Sound.{is_moving}
 use Rattle.journal_model.specs.Journals.{Bad, Records, RecordsOf, Live, New, On, Wrong, live, head, gate_after}
 use Rattle.records_model.specs.Labs.{LabState, LabOf}
-use Rattle.records_model.specs.Works.{IsSound}
 use Rattle.journal_disk.specs.Before.{IsOpening}
 use Rattle.journal_disk.specs.Opening.{both_synced, new_journal, far_steps}
-use Rattle.journal_disk.specs.Standing.{side_of, gate_of, length_of, Holds, IsAt, HasAll}
+use Rattle.journal_disk.specs.Standing.{side_of, gate_of, length_of, limit_of, Holds, IsAt, HasAll}
 use Rattle.journal_disk.specs.Walks.{placed}
 use Rattle.journal_disk.specs.declared.journal.Journal.{Journal}
 use Rattle.journal_disk.specs.declared.fault.OpenFault.{OpenFault}
@@ -29,7 +28,11 @@ use Rattle.journal_runs.proofs.Sounds.{steps_sound, works_as}
 use Rattle.lab_state.specs.Texts.{the_texts}
 use Rattle.lab_state.specs.Replays.{records_of}
 use Rattle.lab_state.proofs.Canonical.{texts_once}
-use Rattle.lab_core.specs.Moments.{Seen, Works, IsLabAt, IsNoJournal, bad, cannot_follow, no_room}
+use Rattle.records_model.proofs.LabLaws.{lab_sane}
+use Rattle.swap_turns.specs.Running.{Stands}
+use Rattle.swap_turns.proofs.MovesAreSwaps.{lab_swaps}
+use Rattle.lab_core.specs.Controller.{Control, Works}
+use Rattle.lab_core.specs.Moments.{IsLabAt, IsNoJournal, bad, cannot_follow, no_room}
 use Rattle.lab_core.specs.Opening.{IsOfJournal, OpenSteps, HasFoundNone, OpenEnds}
 use Rattle.lab_core.proofs.Opened.{records_of_placed, are_held}
 
@@ -42,17 +45,17 @@ abbrev pub ReadsPossible : Option Told → Type 0
 ReadsPossible told = IfSome told (λ t. ArePossible t.trace (disk A t.trace).reads (disk B t.trace).reads)
 
 -- the clause of `open` on what it adds
-abbrev pub Opening : ℕ → Option Told → Option Told → Result Seen OpenFault → Type 0
+abbrev pub Opening : ℕ → Option Told → Option Told → Result Control OpenFault → Type 0
 Opening limit old new result = (steps : List Event) × (new ≡ with_steps old steps) × IfSome old (λ t. OpenSteps t.trace steps × OpenEnds t.trace steps limit result)
 
 -- THE JOURNAL THAT WAS OPENED, with its records, and what they made of it
-pub record Made (new : Option Told) (limit : ℕ) (j : Journal) (result : Result Seen OpenFault) : Type 0 where
+pub record Made (new : Option Told) (limit : ℕ) (j : Journal) (result : Result Control OpenFault) : Type 0 where
   pub records : List Record
   pub at : IfSome new (λ t. IsAt t.trace j records)
   pub made : IsOfJournal limit j records result
 
 -- both clauses of the journal's opening speak of the same records
-pub made_of : (new : Option Told) (limit : ℕ) (j : Journal) (items found : List Found) (result : Result Seen OpenFault) → found ≡ items
+pub made_of : (new : Option Told) (limit : ℕ) (j : Journal) (items found : List Found) (result : Result Control OpenFault) → found ≡ items
     → ((rs : List Record) × (items ≡ placed 17 rs) × IfSome new (λ t. IsAt t.trace j rs × HasAll t.trace rs))
     → ((rs : List Record) × Holds rs j items)
     → ((rs : List Record) → Holds rs j found → IsOfJournal limit j rs result)
@@ -105,10 +108,10 @@ failed_ends trace steps limit faults.Stopped is reads = tt
 failed_ends trace steps limit faults.Memory is reads = tt
 failed_ends trace steps limit (faults.Bad side at) is reads = found_none trace steps limit side at (is.opens.steps_are ∙ (λ i. far_steps (is.opens.ends.0 i) ++ is.opens.ends.1 i)) (bad (reads side at refl))
 
-pub failed_opening : (limit : ℕ) (old new : Option Told) (fault : OpenFault) (result : Result Seen OpenFault) → result ≡ Err fault → Moments old new (Err fault) → ReadsPossible new
+pub failed_opening : (limit : ℕ) (old new : Option Told) (fault : OpenFault) (result : Result Control OpenFault) → result ≡ Err fault → Moments old new (Err fault) → ReadsPossible new
     → ((side : Side) (at : ℕ) → fault ≡ faults.Bad side at → IfSome new (λ t. Bad (disk A t.trace).reads (disk B t.trace).reads side at)) → Opening limit old new result
 failed_opening limit old new fault result is moments possible reads =
-    subst (λ (r : Result Seen OpenFault). Opening limit old new r) (sym is)
+    subst (λ (r : Result Control OpenFault). Opening limit old new r) (sym is)
     (moments.0, moments.1, by old moments.0 (subst ReadsPossible moments.1 possible) (λ side at e. subst (λ (o : Option Told). IfSome o (λ t. Bad (disk A t.trace).reads (disk B t.trace).reads side at)) moments.1 (reads side at e)) moments.2)
   where
     by : (t : Option Told) (steps : List Event) → ReadsPossible (with_steps t steps) → ((side : Side) (at : ℕ) → fault ≡ faults.Bad side at → IfSome (with_steps t steps) (λ u. Bad (disk A u.trace).reads (disk B u.trace).reads side at))
@@ -117,11 +120,8 @@ failed_opening limit old new fault result is moments possible reads =
     by (Some t) steps possible reads is = (steps_of t.trace steps (Err fault) is possible, failed_ends t.trace steps limit fault is reads)
 
 -- A JOURNAL THAT WAS OPENED
-lab_at : (trace : List Event) (j : Journal) (rs : List Record) (c : Seen) → IsAt trace j rs → LabOf the_texts rs c.lab → IsLabAt trace c.lab
+lab_at : (trace : List Event) (j : Journal) (rs : List Record) (c : Control) → IsAt trace j rs → LabOf the_texts rs c.lab → IsLabAt trace c.lab
 lab_at trace j rs c at lab = record { records = rs; read = (reads_on trace (side_of j) rs at.opened).reads; lab_of = lab }
-
-works_at : (trace : List Event) (j : Journal) (rs : List Record) (c : Seen) → IsAt trace j rs → c.journal ≡ j → LabOf the_texts rs c.lab → IsSound the_texts trace → Works trace c
-works_at trace j rs c at same lab sound = record { records = rs; works = works_as the_texts trace c.journal rs c.lab (subst (λ (k : Journal). IsAt trace k rs) (sym same) at) sound texts_once lab }
 
 -- where it is none, it is not a new one
 not_new : (a b : List ℕ) (limit : ℕ) (j : Journal) (rs : List Record) (side : Side) (place : ℕ) → Records a b rs → gate_of j ≡ gate_after rs → 18 ≤ limit → IsOfJournal limit j rs (Err (faults.Bad side place))
@@ -151,12 +151,11 @@ module _ (trace steps : List Event) (limit : ℕ) (least : 18 ≤ limit) (opened
   read_before : Records (disk A trace).reads (disk B trace).reads rs
   read_before = (o.alike.records rs).0 (reads_on (trace ++ steps) (side_of opened.0) rs at.opened).reads
 
-  made_ends : (result : Result Seen OpenFault) → IsOfJournal limit opened.0 rs result → OpenEnds trace steps limit result
+  made_ends : (result : Result Control OpenFault) → IsOfJournal limit opened.0 rs result → OpenEnds trace steps limit result
   made_ends (Ok c) made = record {
     no_miss = opening_missed trace steps (Ok opened) is.opens _ (ap has_miss is.opens.ends.1);
     journal = record { records = rs; lab = c.lab; read = read_before; lab_of = made.1; room = omega (arith, at.gate, made.2) };
     lab = lab_at (trace ++ steps) opened.0 rs c at made.1;
-    works = λ sound. works_at (trace ++ steps) opened.0 rs c at made.0 made.1 (o.sound sound);
   }
   made_ends (Err faults.Plant) made = absurd made
   made_ends (Err faults.Stopped) made = tt
@@ -166,7 +165,7 @@ module _ (trace steps : List Event) (limit : ℕ) (least : 18 ≤ limit) (opened
       (is.opens.steps_are ∙ (λ i. is.opens.ends.0 i ++ is.opens.ends.1 i) ∙ ap (λ l. l ++ []) (only_synced (live (head (disk A trace).reads) (head (disk B trace).reads)) (nat_lt (length (disk A trace).reads) 18) (not_new (disk A trace).reads (disk B trace).reads limit opened.0 rs side place read_before at.gate least made)))
       (no_journal (trace ++ steps) limit opened.0 rs side place at made)
 
-pub made_opening : (old new : Option Told) (limit : ℕ) → 18 ≤ limit → (opened : Journal × Vec Found) (result : Result Seen OpenFault) → Made new limit opened.0 result → Moments old new (Ok opened) → ReadsPossible new → Opening limit old new result
+pub made_opening : (old new : Option Told) (limit : ℕ) → 18 ≤ limit → (opened : Journal × Vec Found) (result : Result Control OpenFault) → Made new limit opened.0 result → Moments old new (Ok opened) → ReadsPossible new → Opening limit old new result
 made_opening old new limit least opened result made moments possible =
     (moments.0, moments.1, by old moments.0 (subst ReadsPossible moments.1 possible) (subst (λ (n : Option Told). IfSome n (λ u. IsAt u.trace opened.0 made.records)) moments.1 made.at) moments.2)
   where
@@ -178,7 +177,7 @@ made_opening old new limit least opened result made moments possible =
         (o, made_ends t.trace steps limit least opened made.records is at o result made.made)
 
 -- THE STATES THAT ARE NO JOURNAL, as the sides read behind the opening
-pub bad_behind : (limit : ℕ) (old new : Option Told) (result : Result Seen OpenFault) (side : Side) (place : ℕ) → Opening limit old new result → result ≡ Err (faults.Bad side place)
+pub bad_behind : (limit : ℕ) (old new : Option Told) (result : Result Control OpenFault) (side : Side) (place : ℕ) → Opening limit old new result → result ≡ Err (faults.Bad side place)
     → IfSome new (λ t. IsNoJournal (disk A t.trace).reads (disk B t.trace).reads limit side place)
 bad_behind limit old new result side place opening is =
     subst (λ (o : Option Told). IfSome o (λ t. IsNoJournal (disk A t.trace).reads (disk B t.trace).reads limit side place)) (sym opening.1) (by old opening.2)
@@ -186,5 +185,19 @@ bad_behind limit old new result side place opening is =
     by : (t : Option Told) → IfSome t (λ u. OpenSteps u.trace opening.0 × OpenEnds u.trace opening.0 limit result) → IfSome (with_steps t opening.0) (λ u. IsNoJournal (disk A u.trace).reads (disk B u.trace).reads limit side place)
     by None ends = tt
     by (Some t) ends =
-        let found = subst (λ (r : Result Seen OpenFault). OpenEnds t.trace opening.0 limit r) is ends.1 in
+        let found = subst (λ (r : Result Control OpenFault). OpenEnds t.trace opening.0 limit r) is ends.1 in
         subst (λ a. IsNoJournal a (disk B (t.trace ++ opening.0)).reads limit side place) (sym (found.as_before A)) (subst (λ b. IsNoJournal (disk A t.trace).reads b limit side place) (sym (found.as_before B)) found.no_journal)
+
+-- THE CONTROLLER WORKS
+pub made_works : (new : Option Told) (limit : ℕ) (j : Journal) (result : Result Control OpenFault) → Made new limit j result → limit_of j ≡ limit → limit ≤ 2 ^ 32 → IfOk result (λ c. Works new c)
+made_works new limit j (Err fault) made limit_is most = tt
+made_works new limit j (Ok c) made limit_is most = subst (λ (k : Journal). Works new (record c { journal = k })) (sym made.made.0) (record {
+  sane = lab_sane the_texts made.records c.lab made.made.1;
+  swaps = lab_swaps the_texts made.records c.lab made.made.1;
+  room = record { few = omega (arith, made.made.2, limit_is); limit = omega (arith, limit_is, most) };
+  stands = by new made.at;
+})
+  where
+    by : (o : Option Told) → IfSome o (λ t. IsAt t.trace j made.records) → IfSome o (λ t. Stands the_texts t.trace j c.lab)
+    by None at = tt
+    by (Some t) at = record { records = made.records; at = at; lab_of = made.made.1; works = λ sound. works_as the_texts t.trace j made.records c.lab at sound texts_once made.made.1 }

@@ -15,8 +15,14 @@ use Rattle.records_model.specs.Labs.{LabState, Move, SetLab, Creates, Deletes, B
 use Rattle.records_model.proofs.Finding.{some_is, none_some, found_from}
 use Rattle.records_model.proofs.LabLaws.{in_state-some, with_replaced-some, found_one}
 use Rattle.records_model.proofs.Swaps.{find_others}
-use Rattle.swap_runs.specs.Swaps.{Swap, Direction, Forward, Back, last_move}
-use Rattle.swap_runs.specs.Ends.{End, Committed, Aborted, Stuck, Unwritten, Stopped, IsBroken, IsStopped, in_course, in_append, SwapEnds, SwapSteps, begun, unwritten, stopped}
+use Rattle.swap_turns.specs.Swaps.{Swap}
+use Rattle.swap_turns.specs.Records.{IsBroken}
+use Rattle.swap_turns.specs.Beginning.{opened}
+use Rattle.swap_turns.specs.Legs.{commits, last_move, last_move_by}
+use Rattle.swap_turns.specs.Running.{OpenSwap}
+use Rattle.swap_turns.specs.Turning.{Outcome, More, TurnsBack, Ended, Stuck, Unwritten, Stopped, TurnSteps}
+use Rattle.swap_turns.specs.Whole.{SwapSteps, begun, unwritten, stopped}
+use Rattle.swap_turns.proofs.Finishing.{onward_swap}
 
 differs : (a b : List ℕ) → a ≢ b → bytes_eq a b ≡ false
 differs a b apart = false_from_ne_true (bytes_eq a b) (λ h. apart ((bytes_eq-Decides a b).0 h))
@@ -117,24 +123,26 @@ module _ (name : List ℕ) where
   broken_stays : (behind : Side → List Event) (s after : LabState) (r : Record) (move : Move) (steps : List Event) → is_some s.lab ≡ true → IsApart name move → IsBroken behind s r move steps after → Stays name s after
   broken_stays behind s after r move steps set apart b = either_stays s b.state after move set apart b.moves b.either
 
-  last_apart : (direction : Direction) (own : List ℕ) → own ≢ name → IsApart name (last_move direction own)
-  last_apart Forward own apart = apart
-  last_apart (Back why) own apart = apart
+  last_apart : (commit : Bool) (own : List ℕ) → own ≢ name → IsApart name (last_move_by commit own)
+  last_apart true own apart = apart
+  last_apart false own apart = apart
 
-  ends_stay : (p : Swap) (s after : LabState) (steps : List Event) (end : End) → is_some s.lab ≡ true → p.name ≢ name → SwapEnds p s steps after end → Stays name s after
-  ends_stay p s after steps Committed set apart h = move_stays s after (last_move Forward p.name) set apart h.is.moves
-  ends_stay p s after steps (Aborted why) set apart h = move_stays s after (last_move (Back why) p.name) set apart h.is.moves
-  ends_stay p s after steps (Stuck trouble) set apart h = same_stays s after set h.1
-  ends_stay p s after steps Unwritten set apart h = broken_stays _ s after _ (last_move h.0 p.name) h.1.record_steps set (last_apart h.0 p.name apart) h.1.is
-  ends_stay p s after steps Stopped set apart h = by h
-    where
-      by : IsStopped p s steps after → Stays name s after
-      by (in_course direction along is) = same_stays s after set is
-      by (in_append direction at) = broken_stays _ s after _ (last_move direction p.name) at.record_steps set (last_apart direction p.name apart) at.is
+  turn_stays : (s after : LabState) (o : OpenSwap) (steps : List Event) (outcome : Outcome) → is_some s.lab ≡ true → o.swap.name ≢ name → TurnSteps s o steps outcome after → Stays name s after
+  turn_stays s after o steps More set apart h = same_stays s after set h.2
+  turn_stays s after o steps (TurnsBack why) set apart h = same_stays s after set h.4
+  turn_stays s after o steps (Ended leg) set apart h = move_stays s after (last_move o.swap leg) set (last_apart (commits o.swap leg) o.swap.name apart) h.0.1.moves
+  turn_stays s after o steps (Stuck trouble) set apart h = same_stays s after set h.3
+  turn_stays s after o steps Unwritten set apart h = broken_stays _ s after _ (last_move o.swap o.leg) steps set (last_apart (commits o.swap o.leg) o.swap.name apart) h.1
+  turn_stays s after o steps Stopped set apart h = elim h [
+    | inl course ↦ same_stays s after set course.1
+    | inr last ↦ broken_stays _ s after _ (last_move o.swap o.leg) steps set (last_apart (commits o.swap o.leg) o.swap.name apart) last.1
+  ]
 
-  pub swap_stays : (p : Swap) (s after : LabState) (begin : Record) (move : Move) (steps : List Event) (end : End) → is_some s.lab ≡ true → IsApart name move → p.name ≢ name → SwapSteps p s begin move steps after end → Stays name s after
-  swap_stays p s after begin move steps end set apart own (begun b) =
+  pub swap_stays : (p : Swap) (s after : LabState) (begin : Record) (move : Move) (steps : List Event) (outcome : Outcome) → is_some s.lab ≡ true → IsApart name move → p.name ≢ name → SwapSteps p s begin move steps after outcome → Stays name s after
+  swap_stays p s after begin move steps outcome set apart own (begun b) =
       let first = move_stays s b.state move set apart b.begins.moves in
-      both_stay s b.state after first (ends_stay p b.state after b.behind end first.set own b.ends)
-  swap_stays p s after begin move steps end set apart own (unwritten b is) = broken_stays _ s after begin move steps set apart b
-  swap_stays p s after begin move steps end set apart own (stopped b is) = broken_stays _ s after begin move steps set apart b
+      let f = b.finishes in
+      let named : f.at.swap.name ≡ p.name = ap (λ (q : Swap). q.name) (onward_swap b.state (opened p) f.front f.at f.onward) in
+      both_stay s b.state after first (turn_stays b.state after f.at f.behind outcome first.set (λ same. own (sym named ∙ same)) f.turn)
+  swap_stays p s after begin move steps outcome set apart own (unwritten b is) = broken_stays _ s after begin move steps set apart b
+  swap_stays p s after begin move steps outcome set apart own (stopped b is) = broken_stays _ s after begin move steps set apart b

@@ -1,33 +1,17 @@
 -- What is shown of experiments.
 use Rattle.std.specs.List.{zip}
-use Rattle.std.proofs.Common.{◌≡◌, inr, ◌<◌, ◌≤◌, ℕ, zero, suc, ◌+◌, Result, Ok, List, [], ◌∷◌, ◌++◌, length, map, take, get_or, Some, None, slice_get, refl, sym, ap, ◌∙◌, subst, arith}
+use Rattle.std.proofs.Common.{◌≡◌, ◌<◌, ◌≤◌, ℕ, zero, suc, ◌+◌, Result, Ok, List, [], ◌∷◌, ◌++◌, length, map, take, get_or, Some, None, slice_get, sym, ap, ◌∙◌, arith}
 use Rattle.std.proofs.lemmas.List.{map-append, take_more, take_all}
 use Rattle.std.proofs.lemmas.Option.{slice_get_within, get_or_from_slice_get, slice_get-get_or}
-use Rattle.lab_base.specs.declared.ids.VlanId.{VlanId}
 use Rattle.phys_lab.specs.Labs.{Lab}
-use Rattle.virt_topo.specs.declared.mapping.Mapping.{Mapping}
-use Rattle.virt_topo.specs.declared.experiment.Experiment.{Experiment}
-use Rattle.virt_topo.specs.declared.experiment.Phase.{Phase}
-use Rattle.virt_topo.specs.declared.experiment.Phase.TheVariants.{In}
-use Rattle.lab_model.specs.Claims.{New, claimed_in}
-use Rattle.lab_model.specs.Shapes.{IsShaped}
-use Rattle.records_model.specs.Labs.{LabState, Sane, find, lab_in, mapped}
-use Rattle.records_model.proofs.Swaps.{found_in}
+use Rattle.records_model.specs.Labs.{LabState, Sane, lab_in}
 use Rattle.claims.specs.Held.{Held, free_nodes, free_ids}
 use Rattle.claims.specs.Experiments.{ClaimsOf}
 use Rattle.script_text.specs.declared.reply.StatusLine.{StatusLine}
 use Rattle.script_text.specs.declared.reply.Reply.{Reply}
 use Rattle.script_text.specs.declared.reply.Reply.TheVariants.{Listed}
-use Rattle.lab_core.specs.Obeying.{IsTold}
-use Rattle.lab_core.specs.Steps.{Task, Tell, judged_show, judged_status, shown_reply, status_line, status_reply}
+use Rattle.lab_core.specs.Judge.{Task, Tell, judged_status, status_line, status_reply}
 use Rattle.lab_core.proofs.Claimed.{nodes_left, ids_left_are}
-use Rattle.lab_core.proofs.Judging.{shows, statuses}
-
--- an experiment that is in is shaped for the lab
-pub shaped_in : (s : LabState) (lab : Lab) (e : Experiment) (exp : List ℕ) → Sane s → s.lab ≡ Some lab → find exp s.experiments ≡ Some e → (mapping : Mapping) (tags : List VlanId) → e.phase ≡ In mapping tags → IsShaped lab e.wiring mapping
-shaped_in s lab e exp sane is found mapping tags phase =
-    let suits = sane.holding.fits e New (mapped e.wiring mapping tags) (found_in exp s.experiments e found) (ap (λ (p : Phase). claimed_in e.wiring p New) phase) in
-    subst (λ (l : Lab). IsShaped l e.wiring mapping) (ap lab_in is) suits.shaped
 
 -- one line more
 pub next_line : {X Y : Type 0} (f : X → Y) (xs : List X) (n : ℕ) (x : X) → slice_get xs n ≡ Some x → map f (take (n + 1) xs) ≡ map f (take n xs) ++ f x ∷ []
@@ -42,19 +26,20 @@ none_missing [] n within is = absurd (nothing n within)
     nothing n h = omega (arith, h)
 none_missing (x ∷ xs) n within is = let both : None ≡ Some (get_or (x ∷ xs) n x) = sym is ∙ slice_get-get_or (x ∷ xs) n x within in absurd (cc both)
 
--- the reply that shows an experiment, and the one that lists all
-pub told_shown : (s : LabState) (exp : List ℕ) (lab : Lab) (e : Experiment) (reply : Reply) → s.lab ≡ Some lab → find exp s.experiments ≡ Some e → reply ≡ shown_reply lab e → IsTold (judged_show s exp) reply
-told_shown s exp lab e reply is found same = subst (λ (r : Reply). IsTold (judged_show s exp) r) (sym same) (inr (shows s exp lab e is found), refl, refl)
-
-pub told_listed : (s : LabState) (held : Held) (lab : Lab) (lines : List StatusLine) (nodes ids : ℕ) → Sane s → s.lab ≡ Some lab → ClaimsOf (lab_in s.lab) s.experiments held → lines ≡ map (status_line (lab_in s.lab)) s.experiments → nodes ≡ free_nodes held → ids ≡ length (free_ids held)
-    → IsTold (judged_status s) (Listed lines nodes ids)
-told_listed s held lab lines nodes ids sane is of_es lines_are nodes_are ids_are =
+-- the reply that lists all
+pub listed : (s : LabState) (held : Held) (lab : Lab) (lines : List StatusLine) (nodes ids : ℕ) → Sane s → s.lab ≡ Some lab → ClaimsOf (lab_in s.lab) s.experiments held → lines ≡ map (status_line (lab_in s.lab)) s.experiments → nodes ≡ free_nodes held → ids ≡ length (free_ids held)
+    → status_reply lab s.experiments ≡ Listed lines nodes ids
+listed s held lab lines nodes ids sane is of_es lines_are nodes_are ids_are =
     let l = lab_in s.lab in
     let same : l ≡ lab = ap lab_in is in
     let nodes_so = nodes_are ∙ nodes_left l s.experiments held sane.is_lab sane.holding sane.names of_es in
     let ids_so = ids_are ∙ ids_left_are l s.experiments held sane.is_lab sane.holding sane.names of_es in
-    let reply : Listed lines nodes ids ≡ status_reply lab s.experiments = (λ i. Listed (lines_are i) (nodes_so i) (ids_so i)) ∙ ap (λ (x : Lab). status_reply x s.experiments) same in
-    (inr (statuses s lab is ∙ ap (λ (r : Reply). let t : Result Task Reply = Ok (Tell r) in t) (sym reply)), refl, refl)
+    sym ((λ i. Listed (lines_are i) (nodes_so i) (ids_so i)) ∙ ap (λ (x : Lab). status_reply x s.experiments) same)
+
+pub judged_listed : (s : LabState) (held : Held) (lab : Lab) (lines : List StatusLine) (nodes ids : ℕ) → Sane s → s.lab ≡ Some lab → ClaimsOf (lab_in s.lab) s.experiments held → lines ≡ map (status_line (lab_in s.lab)) s.experiments → nodes ≡ free_nodes held → ids ≡ length (free_ids held)
+    → judged_status s ≡ Ok (Tell (Listed lines nodes ids))
+judged_listed s held lab lines nodes ids sane is of_es lines_are nodes_are ids_are =
+    rw is (ap (λ (r : Reply). let x : Result Task Reply = Ok (Tell r) in x) (listed s held lab lines nodes ids sane is of_es lines_are nodes_are ids_are))
 
 -- two lists side by side
 pub zip_at : {X Y : Type 0} (xs : List X) (ys : List Y) (n : ℕ) (x : X) (y : Y) → slice_get xs n ≡ Some x → slice_get ys n ≡ Some y → slice_get (zip xs ys) n ≡ Some (x, y)

@@ -7,7 +7,7 @@ use Rattle.lab_base.specs.declared.ids.VlanId.{VlanId}
 use Rattle.journal_rec.specs.Payloads.{IsRecord, tag_bytes, tags_bytes, way_bytes}
 use Rattle.journal_rec.specs.declared.record.Record.TheVariants.{Begin}
 use Rattle.journal_rec.specs.declared.record.Way.TheVariants.{In as WayIn}
-use Rattle.lab_core.proofs.Beginning.{name_short}
+use Rattle.lab_core.proofs.JudgeTasks.{name_short}
 
 tags_size : (tags : List VlanId) → length (flat_map tag_bytes tags) ≡ 2 * length tags
 tags_size [] = refl

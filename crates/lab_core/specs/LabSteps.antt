@@ -1,34 +1,38 @@
 -- THE LAB STEP: what one command may do, by the steps of its opening and its own.
-use Rattle.std.specs.Prelude.{◌≡◌, ◌⊎◌, ℕ, Bool, true, false, List, [], ◌∷◌, ◌++◌, Option, Some, None, Result, Ok, Err}
+use Rattle.std.specs.Prelude.{◌≡◌, ◌⊎◌, ◌+◌, nat_le, ℕ, Bool, true, false, List, [], ◌∷◌, ◌++◌, Option, Some, None, Result, Ok, Err}
 use Rattle.plant.specs.Events.{Event, Missed, Restarted}
 use Rattle.plant.specs.declared.drill.Drill.{Drill}
 use Rattle.plant.specs.declared.step.Side.{Side}
 use Rattle.journal_rec.specs.declared.record.Record.{Record}
+use Rattle.journal_rec.specs.declared.record.Record.TheVariants.{Begin}
 use Rattle.journal_model.specs.Appends.{Run, All, added}
+use Rattle.journal_model.specs.Journals.{size}
 use Rattle.records_model.specs.Labs.{LabState, Move, Says, moved}
 use Rattle.lab_state.specs.Texts.{the_texts}
 use Rattle.script_text.specs.Drills.{drill_of}
 use Rattle.script_text.specs.declared.command.Command.{Command}
 use Rattle.script_text.specs.declared.reply.Reply.{Reply}
-use Rattle.script_text.specs.declared.reply.Reply.TheVariants.{In, Out, Failed, Planned, NoDrill, Stopped as StoppedReply}
+use Rattle.script_text.specs.declared.reply.Reply.TheVariants.{In, Out, Failed, FullJournal, Planned, NoDrill, Stopped as StoppedReply}
 use Rattle.script_text.specs.declared.reply.FailedEnd.TheVariants as ends
 use Rattle.script_text.specs.declared.reply.What.{What}
 use Rattle.script_text.specs.declared.reply.What.TheVariants as whats
 use Rattle.virt_topo.specs.declared.mapping.Mapped.{Mapped}
 use Rattle.lab_model.specs.Courses.{Trouble, Device, Late, Unlawful}
-use Rattle.swap_runs.specs.Swaps.{Swap as SwapOf, Moves}
-use Rattle.swap_runs.specs.Ends.{End, Committed, Aborted, Stuck, Unwritten, Stopped as Halted, SwapSteps}
-use Rattle.lab_core.specs.Sessions.{Session, Closed, Open, Setting, After}
+use Rattle.swap_turns.specs.Swaps.{Swap as SwapOf, Moves}
+use Rattle.swap_turns.specs.Legs.{Forth, Undo}
+use Rattle.swap_turns.specs.Turning.{Outcome, Ended, Stuck, Unwritten, Stopped as Halted}
+use Rattle.swap_turns.specs.Whole.{SwapSteps}
+use Rattle.lab_core.specs.Sessions.{OpenSwap, Session, Closed, Open, Setting, After}
 use Rattle.journal_runs.specs.Pieces.{has_restart, has_miss, has_command}
-use Rattle.lab_core.specs.Pieces.{Breaks}
-use Rattle.lab_core.specs.Steps.{Task, Tell, Append, Swap, Judged}
+use Rattle.lab_core.specs.Breaks.{Breaks}
+use Rattle.lab_core.specs.Judge.{Task, Tell, Append, Swap, Judged}
 
--- THE COMMAND'S OWN STEPS, over an open controller
+-- THE COMMAND'S OWN STEPS, over an open controller with those open swaps
 
 -- the command does nothing, with that reply
-pub record Replies (s : LabState) (reply : Reply) (own : List Event) (after : After) : Type 0 where
+pub record Replies (s : LabState) (opens : List OpenSwap) (reply : Reply) (own : List Event) (after : After) : Type 0 where
   pub nothing : own ≡ []
-  pub after_is : after ≡ record { reply = Some reply; lab = s; session = Open }
+  pub after_is : after ≡ record { reply = Some reply; lab = s; session = Open opens }
 
 -- memory is wanting before anything is done
 pub record WantsMemory (s : LabState) (own : List Event) (after : After) : Type 0 where
@@ -42,22 +46,23 @@ pub data Behind (side : Side) (more : List Event) : Type 0 where
   restarted : (a b : List ℕ) → more ≡ Restarted a b ∷ [] → Behind side more
 
 -- the append is whole, and its reply is told; or the part breaks off, with the lab before the record or after it
-pub data AppendEnds (s state : LabState) (told : Reply) (run : Run) (more own : List Event) (after : After) : Type 0 where
-  whole : run ≡ All → more ≡ [] → after ≡ record { reply = Some told; lab = state; session = Open } → AppendEnds s state told run more own after
-  broken : Breaks own after.reply → (after.lab ≡ s) ⊎ (after.lab ≡ state) → after.session ≡ Closed → AppendEnds s state told run more own after
+pub data AppendEnds (s : LabState) (opens : List OpenSwap) (state : LabState) (told : Reply) (run : Run) (more own : List Event) (after : After) : Type 0 where
+  whole : run ≡ All → more ≡ [] → after ≡ record { reply = Some told; lab = state; session = Open opens } → AppendEnds s opens state told run more own after
+  broken : Breaks own after.reply → (after.lab ≡ s) ⊎ (after.lab ≡ state) → after.session ≡ Closed → AppendEnds s opens state told run more own after
 
--- one append of a record that says the move, and no other step
-pub record Appends (s : LabState) (entry : Record) (move : Move) (told : Reply) (own : List Event) (after : After) : Type 0 where
+-- one append of a record, which says a move of the lab, and no other step
+pub record Appends (s : LabState) (opens : List OpenSwap) (entry : Record) (told : Reply) (own : List Event) (after : After) : Type 0 where
   pub side : Side
   pub gate : ℕ
   pub run : Run
   pub more : List Event
   pub steps : own ≡ added side gate entry run ++ more
   pub behind : Behind side more
+  pub move : Move
   pub says : Says the_texts s entry move
   pub state : LabState
   pub moves : moved s move ≡ Some state
-  pub ends : AppendEnds s state told run more own after
+  pub ends : AppendEnds s opens state told run more own after
 
 -- what is told of a trouble
 abbrev pub what_of : Trouble → What
@@ -70,76 +75,106 @@ abbrev pub done_reply : List ℕ → Option Mapped → Reply
 done_reply exp None = Out exp
 done_reply exp (Some m) = In exp
 
--- THE REPLY TO A SWAP, by its end, and whether the controller stays open
-abbrev pub end_reply : SwapOf → End → Reply
-end_reply p Committed = done_reply p.name p.new
-end_reply p (Aborted why) = Failed p.name ends.Out (what_of why)
-end_reply p (Stuck trouble) = Failed p.name ends.Stuck (what_of trouble)
-end_reply p Unwritten = Failed p.name ends.Stuck whats.Journal
-end_reply p Halted = StoppedReply
+-- THE REPLY TO A SWAP, by its outcome, and whether the controller stays open. No other outcome ends a whole swap.
+abbrev pub end_reply : SwapOf → Outcome → Option Reply
+end_reply p (Ended Forth) = Some (done_reply p.name p.new)
+end_reply p (Ended (Undo why)) = Some (Failed p.name ends.Out (what_of why))
+end_reply p (Stuck trouble) = Some (Failed p.name ends.Stuck (what_of trouble))
+end_reply p Unwritten = Some (Failed p.name ends.Stuck whats.Journal)
+end_reply p Halted = Some StoppedReply
+end_reply p outcome = None
 
-abbrev pub end_session : End → Session
-end_session Unwritten = Closed
-end_session Halted = Closed
-end_session end = Open
+abbrev pub end_session : List OpenSwap → Outcome → Session
+end_session opens Unwritten = Closed
+end_session opens Halted = Closed
+end_session opens outcome = Open opens
 
 -- behind the steps of a swap in which the plant stopped stands its start
-abbrev pub StartsBehind : End → List Event → Type 0
+abbrev pub StartsBehind : Outcome → List Event → Type 0
 StartsBehind Halted behind = (a : List ℕ) × (b : List ℕ) × (behind ≡ Restarted a b ∷ [])
-StartsBehind end behind = behind ≡ []
+StartsBehind outcome behind = behind ≡ []
 
 -- the reply is told; or there is none, since memory was wanting for it, or for the start of a stopped plant
-pub data IsAnswered (p : SwapOf) (end : End) (behind : List Event) (after : After) : Type 0 where
-  is_told : StartsBehind end behind → after.reply ≡ Some (end_reply p end) → after.session ≡ end_session end → IsAnswered p end behind after
-  unanswered : (behind ≡ []) ⊎ StartsBehind end behind → after.reply ≡ None → after.session ≡ Closed → IsAnswered p end behind after
+pub data IsAnswered (opens : List OpenSwap) (p : SwapOf) (outcome : Outcome) (behind : List Event) (after : After) : Type 0 where
+  is_told : StartsBehind outcome behind → after.reply ≡ end_reply p outcome → after.session ≡ end_session opens outcome → IsAnswered opens p outcome behind after
+  unanswered : (behind ≡ []) ⊎ StartsBehind outcome behind → after.reply ≡ None → after.session ≡ Closed → IsAnswered opens p outcome behind after
 
--- A SWAP: a record that says the move, by which the experiment moves so; the commands of that course and of its undo; and the record that ends
+-- A SWAP: a record that says a move, by which the experiment moves so; the commands of that course and of its undo; and the record that ends
 -- it, as far as it came
-pub record Swaps (s : LabState) (exp : List ℕ) (entry : Record) (move : Move) (own : List Event) (after : After) : Type 0 where
+pub record Swaps (s : LabState) (opens : List OpenSwap) (exp : List ℕ) (entry : Record) (own : List Event) (after : After) : Type 0 where
   pub swap : SwapOf
   pub name : swap.name ≡ exp
+  pub move : Move
   pub says : Says the_texts s entry move
   pub moves : (state : LabState) → moved s move ≡ Some state → Moves swap state
-  pub end : End
+  pub outcome : Outcome
   pub steps : List Event
   pub behind : List Event
   pub own_is : own ≡ steps ++ behind
-  pub ends : SwapSteps swap s entry move steps after.lab end
-  pub answered : IsAnswered swap end behind after
+  pub ends : SwapSteps swap s entry move steps after.lab outcome
+  pub answered : IsAnswered opens swap outcome behind after
 
-abbrev pub Does : LabState → Task → List Event → After → Type 0
-Does s (Tell told) own after = Replies s told own after
-Does s (Append entry move told) own after = Appends s entry move told own after
-Does s (Swap exp entry move) own after = Swaps s exp entry move own after
+-- `full journal LENGTH` exactly where the length, the record's size and 10,240 bytes for the last records of moves are above the limit
+abbrev pub has_space : Setting → Record → Bool
+has_space set entry = nat_le (set.length + size entry + 10240) set.limit
 
--- what was judged is done: the first refusal is told, or the task is done; or memory is wanting
-pub data IsDoneBy (IsJudged : Result Task Reply → Type 0) (s : LabState) (own : List Event) (after : After) : Type 0 where
-  refused : (reply : Reply) → IsJudged (Err reply) → Replies s reply own after → IsDoneBy IsJudged s own after
-  does : (task : Task) → IsJudged (Ok task) → Does s task own after → IsDoneBy IsJudged s own after
-  no_memory : WantsMemory s own after → IsDoneBy IsJudged s own after
+-- where there is space for the first record of a task, the task is done; else the journal is full
+abbrev pub IfSpace : Bool → ℕ → LabState → List OpenSwap → Type 0 → List Event → After → Type 0
+IfSpace true length s opens Done own after = Done
+IfSpace false length s opens Done own after = Replies s opens (FullJournal length) own after
 
-abbrev pub Obeys : Setting → LabState → Command → List Event → After → Type 0
-Obeys set s command own after = IsDoneBy (Judged set s command) s own after
+-- A TASK IS DONE
+abbrev pub Performs : Setting → LabState → List OpenSwap → Task → List Event → After → Type 0
+Performs set s opens (Tell told) own after = Replies s opens told own after
+Performs set s opens (Append entry told) own after = IfSpace (has_space set entry) set.length s opens (Appends s opens entry told own after) own after
+Performs set s opens (Swap exp way) own after = IfSpace (has_space set (Begin exp way)) set.length s opens (Swaps s opens exp (Begin exp way) own after) own after
 
--- THE STEPS OF THE OPENING, from a closed controller
+-- THE JUDGEMENT IS DONE: the refusal is told, or the task is done
+abbrev pub Does : Setting → LabState → List OpenSwap → Result Task Reply → List Event → After → Type 0
+Does set s opens (Err refusal) own after = Replies s opens refusal own after
+Does set s opens (Ok task) own after = Performs set s opens task own after
 
--- it opened: no device command was sent, no call of the disk failed and the plant did not stop
-pub record Opens (opening : List Event) : Type 0 where
-  pub no_command : has_command opening ≡ false
+-- what was judged is done, or memory is wanting
+pub data IsDoneBy (IsJudged : Result Task Reply → Type 0) (set : Setting) (s : LabState) (opens : List OpenSwap) (own : List Event) (after : After) : Type 0 where
+  does : (judgement : Result Task Reply) → IsJudged judgement → Does set s opens judgement own after → IsDoneBy IsJudged set s opens own after
+  no_memory : WantsMemory s own after → IsDoneBy IsJudged set s opens own after
+
+-- THE STEPS OF THE OPENING, from a closed controller: a part that reads, and then moves
+
+-- a part that reads sends no device command
+abbrev pub Reads : List Event → Type 0
+Reads reading = has_command reading ≡ false
+
+-- the moves of an opening lead from one lab to another. There are none yet.
+pub record Settles (s : LabState) (moving : List Event) (mid : LabState) : Type 0 where
+  pub none : moving ≡ []
+  pub same : mid ≡ s
+
+-- it opened, and led to that lab: no call of the disk failed, and the plant did not stop
+pub record Opens (s : LabState) (opening : List Event) (mid : LabState) : Type 0 where
+  pub reading : List Event
+  pub moving : List Event
+  pub is : opening ≡ reading ++ moving
+  pub reads : Reads reading
+  pub settles : Settles s moving mid
   pub no_miss : has_miss opening ≡ false
   pub no_restart : has_restart opening ≡ false
 
--- it broke off: no device command was sent, nothing of the command's own is done, and the lab is as it was
+-- it broke off, in that lab: nothing of the command's own is done
 pub record BreaksOpening (s : LabState) (opening own : List Event) (after : After) : Type 0 where
-  pub no_command : has_command opening ≡ false
+  pub reading : List Event
+  pub moving : List Event
+  pub is : opening ≡ reading ++ moving
+  pub reads : Reads reading
+  pub settles : Settles s moving after.lab
   pub nothing : own ≡ []
   pub breaks : Breaks opening after.reply
-  pub lab : after.lab ≡ s
   pub session : after.session ≡ Closed
 
-pub data FromClosed (set : Setting) (s : LabState) (command : Command) (opening own : List Event) (after : After) : Type 0 where
-  opened : Opens opening → Obeys set s command own after → FromClosed set s command opening own after
-  not_opened : BreaksOpening s opening own after → FromClosed set s command opening own after
+-- what is judged from the lab to which the opening led
+pub data FromClosed (Judges : LabState → Result Task Reply → Type 0) (set : Setting) (s : LabState) (opening own : List Event) (after : After) : Type 0 where
+  opened : (mid : LabState) → Opens s opening mid → IsDoneBy (Judges mid) set mid [] own after → FromClosed Judges set s opening own after
+  not_opened : BreaksOpening s opening own after → FromClosed Judges set s opening own after
 
 -- A DRILL has no steps, and all stays as it was: it is planned where the plant takes drills, and else refused. Or memory is wanting.
 pub data Drills (takes : Bool) (s : LabState) (session : Session) (own : List Event) (after : After) : Type 0 where
@@ -148,11 +183,18 @@ pub data Drills (takes : Bool) (s : LabState) (session : Session) (own : List Ev
   wants_memory : WantsMemory s own after → Drills takes s session own after
 
 -- a drill needs no open controller; every other command opens it where it is closed
-abbrev pub StepOf : Option Drill → Bool → Setting → LabState → Session → Command → List Event → List Event → After → Type 0
-StepOf (Some drill) takes set s session command opening own after = (opening ≡ []) × Drills takes s session own after
-StepOf None takes set s Closed command opening own after = FromClosed set s command opening own after
-StepOf None takes set s Open command opening own after = (opening ≡ []) × Obeys set s command own after
+abbrev pub StepOf : Option Drill → (LabState → Result Task Reply → Type 0) → Bool → Setting → LabState → Session → List Event → List Event → After → Type 0
+StepOf (Some drill) Judges takes set s session opening own after = (opening ≡ []) × Drills takes s session own after
+StepOf None Judges takes set s Closed opening own after = FromClosed Judges set s opening own after
+StepOf None Judges takes set s (Open opens) opening own after = (opening ≡ []) × IsDoneBy (Judges s) set s opens own after
 
 -- THE LAB STEP, over a plant that takes drills or not
 abbrev pub LabStep : Bool → Setting → LabState → Session → Command → List Event → List Event → After → Type 0
-LabStep takes set s session command opening own after = StepOf (drill_of command) takes set s session command opening own after
+LabStep takes set s session command opening own after = StepOf (drill_of command) (λ lab. Judged lab command) takes set s session opening own after
+
+-- the lab step by one judgement of the command
+abbrev pub IsThis : Result Task Reply → Command → LabState → Result Task Reply → Type 0
+IsThis judgement command s other = (other ≡ judgement) × Judged s command other
+
+abbrev pub LabStepBy : Result Task Reply → Bool → Setting → LabState → Session → Command → List Event → List Event → After → Type 0
+LabStepBy judgement takes set s session command opening own after = StepOf (drill_of command) (IsThis judgement command) takes set s session opening own after

@@ -1,5 +1,5 @@
--- The lab of a moment, and what the controller is over a trace.
-use Rattle.std.specs.Prelude.{◌≡◌, ◌+◌, ◌*◌, ◌<◌, ◌≤◌, ℕ, count_by, List, take}
+-- The lab of a moment, and the states that are no journal.
+use Rattle.std.specs.Prelude.{◌≡◌, ◌+◌, ◌*◌, ◌<◌, ℕ, count_by, List, take}
 use Rattle.plant.specs.Disks.{disk, ArePossible}
 use Rattle.plant.specs.Events.{Event}
 use Rattle.plant.specs.declared.step.Side.{Side}
@@ -10,8 +10,6 @@ use Rattle.records_model.specs.Labs.{LabState, LabOf, StopsAt, at_first}
 use Rattle.journal_runs.specs.Working as runs
 use Rattle.lab_model.specs.Sound.{is_moving}
 use Rattle.lab_state.specs.Texts.{the_texts}
-use Rattle.journal_disk.specs.Standing.{IsAt}
-use Rattle.journal_disk.specs.declared.journal.Journal.{Journal}
 
 -- two sides stand for that lab
 abbrev pub StandForLab : List ℕ → List ℕ → LabState → Type 0
@@ -36,30 +34,6 @@ pub record IsLengthAt (trace : List Event) (n : ℕ) : Type 0 where
   pub records : List Record
   pub read : Records (disk A trace).reads (disk B trace).reads records
   pub is : n ≡ journal_length (disk A trace).reads (disk B trace).reads records
-
--- WHAT CONTRACTS SEE OF A CONTROLLER: its lab, and its journal
-pub record Seen : Type 0 where
-  pub lab : LabState
-  pub journal : Journal
-
--- the journal and the lab stand for the same records over the trace
-pub record Stands (trace : List Event) (c : Seen) : Type 0 where
-  pub records : List Record
-  pub at : IsAt trace c.journal records
-  pub lab_of : LabOf the_texts records c.lab
-
--- THE CONTROLLER IS AT WORK over the trace: its lab is that of the records that the live side rests after, the world keeps it, and the trace is sound
-pub record Works (trace : List Event) (c : Seen) : Type 0 where
-  pub records : List Record
-  pub works : runs.Works the_texts trace c.journal records c.lab
-
--- THE SIDES ARE A JOURNAL: each of its records can follow, and behind them is room for the last records of the experiments that move
-pub record IsJournal (a b : List ℕ) (limit : ℕ) : Type 0 where
-  pub records : List Record
-  pub lab : LabState
-  pub read : Records a b records
-  pub lab_of : LabOf the_texts records lab
-  pub room : gate_after records + 1 + 39 * count_by is_moving lab.experiments ≤ limit
 
 -- THE THREE STATES THAT ARE NO JOURNAL, with the side and the position that tell them
 pub data IsNoJournal (a b : List ℕ) (limit : ℕ) (side : Side) (at : ℕ) : Type 0 where

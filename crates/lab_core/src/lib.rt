@@ -1,25 +1,25 @@
 //! The controller of a lab: it obeys the commands of a script one after another.
 //!
-//! A command joins by a case of `Judged` in `specs/Steps.antt` and a method of `Controller` that obeys it.
+//! A command is judged, and then done. It joins by a case of `Judged` in `specs/Judge.antt`, and one of `judge`.
 #![tactic(auto)]
 
 mod controller;
 mod fault;
-mod finish;
+mod judge;
+mod judge_swap;
 mod laws;
+mod needs;
+mod perform;
 mod records;
 mod replies;
-mod run;
 mod sides;
-mod space;
 mod subjects;
-mod swap;
-mod swapin;
-mod swaps;
+mod swapping;
+mod task;
 mod views;
 
 pub use controller::Controller;
 pub use fault::CoreFault;
 pub use journal_disk::OpenFault;
-pub use laws::{blocks_of_commands, lab_steps, labs_are_kept};
+pub use laws::{lab_steps, labs_are_kept, solutions};
 pub use sides::journals;

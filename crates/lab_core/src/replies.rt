@@ -2,7 +2,7 @@
 ghost use Rattle.std.specs.Prelude.{◌≡◌};
 ghost use Rattle.phys_lab.specs.Kept.{IsLab};
 ghost use Rattle.virt_topo.specs.Soundness.{IsSound};
-ghost use Rattle.lab_core.specs.Steps.{lab_reply, created_reply};
+ghost use Rattle.lab_core.specs.Judge.{lab_reply, created_reply};
 
 use lab_base::Name;
 use phys_lab::Lab;

@@ -1,7 +1,8 @@
 // What two sides are.
 ghost use Rattle.std.specs.Prelude.{◌≡◌, ℕ, List};
 ghost use Rattle.plant.specs.declared.step.Side.{Side};
-ghost use Rattle.lab_core.specs.Moments.{IsJournal, IsNoJournal};
+ghost use Rattle.lab_core.specs.Moments.{IsNoJournal};
+ghost use Rattle.lab_core.specs.Opening.{IsJournal};
 
 /// Two sides that are no journal are none at one place alone, and then they are no journal with room.
 pub fn journals()

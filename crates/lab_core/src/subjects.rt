@@ -1,7 +1,7 @@
 // What breaks a rule, as replies name it.
 ghost use Rattle.std.specs.Prelude.{◌≡◌, map, IfOk};
 ghost use Rattle.top_text.specs.Canonical.{virt_name};
-ghost use Rattle.lab_core.specs.Steps.{name_at, subject_name};
+ghost use Rattle.lab_core.specs.Judge.{name_at, subject_name};
 
 use lab_base::{Memory, Text};
 use phys_lab::Lab;

@@ -12,7 +12,7 @@ ghost use Rattle.lab_model.specs.Shapes.{IsShaped};
 ghost use Rattle.records_model.specs.Labs.{lab_in, Sane};
 ghost use Rattle.claims.specs.Experiments.{ClaimsOf};
 ghost use Rattle.top_text.specs.CanonicalSolution.{canonical_solution};
-ghost use Rattle.lab_core.specs.Steps.{phase_word, tag_lines, placed_at, shown_reply, status_line};
+ghost use Rattle.lab_core.specs.Judge.{phase_word, tag_lines, placed_at, shown_reply, status_line};
 
 use crate::CoreFault;
 use claims::Claims;

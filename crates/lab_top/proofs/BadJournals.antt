@@ -1,8 +1,8 @@
 -- A run over sides that are no journal.
-use Rattle.std.proofs.Common.{◌≡◌, ◌⊎◌, inl, inr, ℕ, ◌^◌, Bool, true, false, ◌&&◌, List, [], ◌∷◌, ◌++◌, Option, Some, None, refl, sym, ◌∙◌, ap, subst}
+use Rattle.std.proofs.Common.{◌≡◌, ◌⊎◌, inl, inr, ℕ, ◌^◌, Bool, true, false, ◌||◌, ◌&&◌, List, [], ◌∷◌, ◌++◌, Option, Some, None, refl, sym, ◌∙◌, ap, subst}
 use Rattle.std.specs.Prelude.{IfSome, is_some}
 use Rattle.plant.specs.Disks.{disk}
-use Rattle.plant.specs.Events.{Event}
+use Rattle.plant.specs.Events.{Event, Restarted}
 use Rattle.plant.specs.Told.{Told}
 use Rattle.plant.specs.declared.drill.Drill.{Drill}
 use Rattle.plant.specs.declared.step.Side.{Side}
@@ -10,7 +10,7 @@ use Rattle.plant.specs.declared.step.Side.TheVariants.{A, B}
 use Rattle.journal_runs.specs.Pieces.{has_miss, has_restart}
 use Rattle.script_text.specs.Drills.{drill_of}
 use Rattle.lab_core.specs.Moments.{IsNoJournal}
-use Rattle.lab_core.specs.Pieces.{stopped, failed, unanswered}
+use Rattle.lab_core.specs.Breaks.{stopped, failed, unanswered}
 use Rattle.lab_core.specs.Sessions.{Session, Closed, Open}
 use Rattle.lab_core.proofs.OneJournal.{not_both, one_place}
 use Rattle.lab_top.specs.declared.status.Status.{Status}
@@ -18,7 +18,8 @@ use Rattle.lab_top.specs.declared.status.Status.TheVariants.{Done, ReadFault, Wr
 use Rattle.lab_top.specs.Pieces.{Piece, Begun, ArePieces, Finds, IsOpening, IsPiece, broken_off, opened, steps_of, trace_after}
 use Rattle.lab_top.specs.Ran.{AreAnswered, Answered, EndsSo, LastFindsNone, Outside, Ran}
 use Rattle.lab_top.specs.Words.{Choices}
-use Rattle.lab_top.proofs.Stepping.{no_restart_in}
+use Rattle.journal_runs.specs.Pieces.{is_restart}
+use Rattle.journal_runs.proofs.Quiet.{shows}
 
 -- ONE OF THE PIECES
 pub piece_at : (takes : Bool) (trace : List Event) (session : Session) (before after : List Begun) (b : Begun) → ArePieces takes trace session (before ++ b ∷ after) → IsPiece takes (trace_after trace before) b.piece
@@ -27,11 +28,18 @@ piece_at takes trace session (x ∷ before) after b are = piece_at takes (trace 
 
 opening_of : (drill : Option Drill) (from : Session) (trace : List Event) (piece : Piece) → drill ≡ None → from ≡ Closed → Finds drill from trace piece → IsOpening trace piece
 opening_of (Some drill) from trace piece no_drill closed finds = absurd (cc no_drill)
-opening_of None Open trace piece no_drill closed finds = absurd (cc closed)
+opening_of None (Open opens) trace piece no_drill closed finds = absurd (cc closed)
 opening_of None Closed trace piece no_drill closed finds = finds.1
 
 abbrev NoJournal : List Event → Side → ℕ → Type 0
 NoJournal trace side at = IsNoJournal (disk A trace).reads (disk B trace).reads (2 ^ 32) side at
+
+or_true : (x : Bool) → x || true ≡ true
+or_true true = refl
+or_true false = refl
+
+no_restart_in : (own : List Event) → has_restart own ≡ false → (a b : List ℕ) (more : List Event) → own ≡ more ++ Restarted a b ∷ [] → ⊥
+no_restart_in own none a b more is = absurd (cc (sym none ∙ shows is_restart own more (Restarted a b ∷ []) (has_restart more) true is refl refl ∙ or_true (has_restart more)))
 
 no_reply : (trace : List Event) (piece : Piece) (side : Side) (at : ℕ) → IsOpening trace piece → has_miss piece.opening ≡ false → has_restart piece.opening ≡ false → NoJournal trace side at → piece.reply ≡ None
 no_reply trace piece side at (opened no_miss no_restart journal) miss restart missing = absurd (not_both _ _ _ side at journal missing)
@@ -40,11 +48,11 @@ no_reply trace piece side at (broken_off (failed once missed is) nothing shut) m
 no_reply trace piece side at (broken_off (unanswered is) nothing shut) miss restart missing = is
 
 -- WHICH IS NOT ANSWERED
-and_left : (x y : Bool) → x && y ≡ true → x ≡ true
+pub and_left : (x y : Bool) → x && y ≡ true → x ≡ true
 and_left true y is = refl
 and_left false y is = absurd (cc is)
 
-and_right : (x y : Bool) → x && y ≡ true → y ≡ true
+pub and_right : (x y : Bool) → x && y ≡ true → y ≡ true
 and_right true y is = is
 and_right false y is = absurd (cc is)
 
@@ -89,7 +97,7 @@ module _ (trace : List Event) (before after : List Begun) (b : Begun) (side : Si
   by Memory all ends = inl refl
   by (JournalBad s n) all ends = inr (found s n ends)
 
-pub ends_bad : (takes : Bool) (choices : Option Choices) (old new : Outside) (status : Status) (before after : List Begun) (b : Begun) (t : Told) (side : Side) (at : ℕ) → Ran takes choices old new status (before ++ b ∷ after) → old.told ≡ Some t
+pub ends_bad : (takes : Bool) (choices : Option Choices) (old new : Outside) (status : Status) (before after : List Begun) (b : Begun) (t : Told) (side : Side) (at : ℕ) → Ran takes choices old new status (before ++ b ∷ after) → old.plant.told ≡ Some t
     → drill_of b.piece.command ≡ None → b.piece.from ≡ Closed → has_miss b.piece.opening ≡ false → has_restart b.piece.opening ≡ false
     → IsNoJournal (disk A (trace_after t.trace before)).reads (disk B (trace_after t.trace before)).reads (2 ^ 32) side at → (status ≡ Memory) ⊎ (status ≡ JournalBad side at)
 ends_bad takes choices old new status before after b t side at r is no_drill closed miss restart missing =

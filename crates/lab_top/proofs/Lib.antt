@@ -2,7 +2,10 @@ mod Answering
 mod BadJournals
 mod Commanding
 mod Drilling
+mod Kept
 mod Obeyed
 mod Pieces
+mod Solutions
 mod Stepping
+mod Undrilled
 mod Wording

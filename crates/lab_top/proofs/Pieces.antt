@@ -12,6 +12,7 @@ use Rattle.plant.specs.declared.step.Side.TheVariants.{A, B}
 use Rattle.plant.specs.Disks.{disk, ArePossible}
 use Rattle.plant.specs.Events.{Event}
 use Rattle.plant.specs.declared.drill.Drill.{Drill}
+use Rattle.plant.specs.Seen.{Seen}
 use Rattle.plant.specs.Told.{Told, with_mark, with_drill, with_steps}
 use Rattle.journal_model.specs.Journals.{gate_after, journal_length, size_of}
 use Rattle.records_model.specs.Works.{IsSound}
@@ -22,7 +23,7 @@ use Rattle.script_text.specs.declared.command.Command.{Command}
 use Rattle.script_text.specs.declared.reply.Reply.{Reply}
 use Rattle.script_text.specs.Replies.{text_of}
 use Rattle.lab_core.specs.Moments.{IsNoJournal, bad, cannot_follow, no_room}
-use Rattle.lab_core.specs.Sessions.{Session, Closed}
+use Rattle.lab_core.specs.Sessions.{Session, Closed, Open, HandsOn, OpenSwap, open_at}
 use Rattle.lab_top.specs.declared.command.CommandFault.{CommandFault}
 use Rattle.lab_top.specs.declared.command.CommandFault.TheVariants as faults
 use Rattle.lab_top.specs.declared.status.Status.TheVariants as statuses
@@ -47,7 +48,7 @@ trace-push : (trace : List Event) (begun : List Begun) (b : Begun) → trace_aft
 trace-push trace [] b = refl
 trace-push trace (x ∷ begun) b = trace-push (trace ++ steps_of x.piece) begun b
 
-pieces-push : (takes : Bool) (trace : List Event) (session : Session) (begun : List Begun) (b : Begun) → ArePieces takes trace session begun → b.piece.from ≡ last_session session begun → IsPiece takes (trace_after trace begun) b.piece
+pieces-push : (takes : Bool) (trace : List Event) (session : Session) (begun : List Begun) (b : Begun) → ArePieces takes trace session begun → HandsOn (last_session session begun) b.piece.from → IsPiece takes (trace_after trace begun) b.piece
     → ArePieces takes trace session (begun ++ b ∷ [])
 pieces-push takes trace session [] b are from is = (from, is, tt)
 pieces-push takes trace session (x ∷ begun) b are from is = (are.0, are.1, pieces-push takes (trace ++ steps_of x.piece) x.piece.to begun b are.2 from is)
@@ -116,31 +117,38 @@ unmarked : (told : Option Told) (faults : Faults) (P : List Event → Type 0) �
 unmarked None faults P h = tt
 unmarked (Some t) faults P h = h
 
+-- the session is handed on as it is
+pub handed : (old new : Session) → old ≡ new → HandsOn old new
+handed Closed Closed same = tt
+handed Closed (Open opens) same = absurd (cc same)
+handed (Open opens) Closed same = absurd (cc same)
+handed (Open opens) (Open others) same = let is : opens ≡ others = cc same in record { number = ap length (sym is); each = λ name. ap (open_at name) (sym is) }
+
 -- THE PIECES SO FAR, from the first moment to this one
 pub record PiecesSoFar (takes : Bool) (start now : Moment) (begun : List Begun) : Type 0 where
-  pub told : now.told ≡ with_pieces start.told begun
-  pub counts : Counts takes start.faults begun now.faults
-  pub are : IfSome start.told (λ t. ArePieces takes t.trace Closed begun)
+  pub told : now.plant.told ≡ with_pieces start.plant.told begun
+  pub counts : Counts takes start.plant.faults begun now.plant.faults
+  pub are : IfSome start.plant.told (λ t. ArePieces takes t.trace Closed begun)
 
 module _ (takes : Bool) (start before now : Moment) (begun : List Begun) (so : PiecesSoFar takes start before begun) (session : last_session Closed begun ≡ session_of before.controller)
     (command : Command) (to : Session) (reply : Option Reply) (made : Made takes command (marked before) now to reply) where
   abbrev pub next : Begun
   next = record {
-    faults = before.faults;
+    faults = before.plant.faults;
     piece = piece_of command (session_of before.controller) to made.begun.opening made.begun.own reply;
     planned = made.begun.planned;
-    later = now.faults;
+    later = now.plant.faults;
   }
 
   -- what holds over the trace at the mark
-  pub at_mark : (P : List Event → Type 0) → IfSome (marked before).told (λ u. P u.trace) → IfSome start.told (λ t. P (trace_after t.trace begun))
-  at_mark P h = from_told start.told before.told begun so.told P (unmarked before.told before.faults P h)
+  pub at_mark : (P : List Event → Type 0) → IfSome (marked before).plant.told (λ u. P u.trace) → IfSome start.plant.told (λ t. P (trace_after t.trace begun))
+  at_mark P h = from_told start.plant.told before.plant.told begun so.told P (unmarked before.plant.told before.plant.faults P h)
 
   pub one_more : PiecesSoFar takes start now (begun ++ next ∷ [])
   one_more = record {
-    told = made.begun.told ∙ ap (λ (o : Option Told). with_piece o next) so.told ∙ sym (told-push start.told begun next);
-    counts = counts-push takes start.faults before.faults begun next so.counts refl (record { later = made.later; disk = made.disk; device = made.device; planned = made.begun.planned_by });
-    are = map_both start.told (λ t are is. pieces-push takes t.trace Closed begun next are (sym session) is) so.are (at_mark (λ l. IsPiece takes l next.piece) made.begun.is_piece);
+    told = made.begun.told ∙ ap (λ (o : Option Told). with_piece o next) so.told ∙ sym (told-push start.plant.told begun next);
+    counts = counts-push takes start.plant.faults before.plant.faults begun next so.counts refl (record { later = made.later; disk = made.disk; device = made.device; planned = made.begun.planned_by });
+    are = map_both start.plant.told (λ t are is. pieces-push takes t.trace Closed begun next are (handed (last_session Closed begun) next.piece.from session) is) so.are (at_mark (λ l. IsPiece takes l next.piece) made.begun.is_piece);
   }
 
 -- THE RUN SO FAR: all commands that were begun are answered
@@ -149,7 +157,7 @@ pub record Going (takes : Bool) (start now : Moment) (first written : Option (Li
   pub session : last_session Closed begun ≡ session_of now.controller
   pub answered : AreAnswered begun
   pub wrote : written ≡ append_known first (reply_texts begun)
-  pub runs : start.stopped ≡ false → now.stopped ≡ false
+  pub runs : start.plant.stopped ≡ false → now.plant.stopped ≡ false
 
 pub all_some : {X : Type 0} {P : X → Type 0} (o : Option X) → ((x : X) → P x) → IfSome o P
 all_some None f = tt
@@ -157,7 +165,7 @@ all_some (Some x) f = f x
 
 pub going_none : (takes : Bool) (start : Moment) (written : Option (List ℕ)) → session_of start.controller ≡ Closed → Going takes start start written written []
 going_none takes start written closed = record {
-  so = record { told = refl; counts = refl; are = all_some start.told (λ t. tt) };
+  so = record { told = refl; counts = refl; are = all_some start.plant.told (λ t. tt) };
   session = sym closed;
   answered = refl;
   wrote = sym (append_known-nil written);
@@ -166,11 +174,11 @@ going_none takes start written closed = record {
 
 -- A RUN THAT ENDED
 abbrev pub outside : Moment → Option (List ℕ) → Option (List ℕ) → Outside
-outside now left written = record { left = left; told = now.told; faults = now.faults; stopped = now.stopped; written = written }
+outside now left written = record { left = left; plant = now.plant; written = written }
 
 abbrev pub Ends : Bool → (start now : Moment) → Option (List ℕ) → Option (List ℕ) → Status → List Begun → Type 0
 Ends takes start now first new status made =
-    PiecesSoFar takes start now made × IfSome start.told (λ t. EndsSo t.trace made status) × StatusAnswered status made × WroteReplies first new made status × (start.stopped ≡ false → GoesOn status now.stopped)
+    PiecesSoFar takes start now made × IfSome start.plant.told (λ t. EndsSo t.trace made status) × StatusAnswered status made × WroteReplies first new made status × (start.plant.stopped ≡ false → GoesOn status now.plant.stopped)
 
 pub ran : (takes : Bool) (choices : Option Choices) (start now : Moment) (first new left rest : Option (List ℕ)) (status : Status) (made : List Begun) → ((status ≡ statuses.Usage) → choices ≡ None) → (choices ≡ None → status ≡ statuses.Usage)
     → Ends takes start now first new status made → ((bytes : List ℕ) → left ≡ Some bytes → BegunCommands bytes rest (commands_of made) status) → Ran takes choices (outside start left first) (outside now rest new) status made
@@ -181,15 +189,15 @@ ran takes choices start now first new left rest status made refused none ends be
   goes_on = ends.4;
   pieces = ends.0.are;
   ends = ends.1;
-  sound = sound start.told ends.0.told ends.0.are;
+  sound = sound start.plant.told ends.0.told ends.0.are;
   answered = ends.2;
   begun = begun;
   wrote = ends.3;
 }
   where
-    sound : (told : Option Told) → now.told ≡ with_pieces told made → IfSome told (λ t. ArePieces takes t.trace Closed made) → IfSome told (λ t. IsSound the_texts t.trace → IfSome now.told (λ u. IsSound the_texts u.trace))
+    sound : (told : Option Told) → now.plant.told ≡ with_pieces told made → IfSome told (λ t. ArePieces takes t.trace Closed made) → IfSome told (λ t. IsSound the_texts t.trace → IfSome now.plant.told (λ u. IsSound the_texts u.trace))
     sound None is are = tt
-    sound (Some t) is are = λ first. to_told (Some t) now.told made is (IsSound the_texts) (sound_after takes t.trace Closed made are first)
+    sound (Some t) is are = λ first. to_told (Some t) now.plant.told made is (IsSound the_texts) (sound_after takes t.trace Closed made are first)
 
 -- of words that choose something
 pub begun_ran : (takes : Bool) (start now : Moment) (first new left rest : Option (List ℕ)) (status : Status) (made : List Begun) → Ends takes start now first new status made → ((bytes : List ℕ) → left ≡ Some bytes → BegunCommands bytes rest (commands_of made) status)
@@ -198,14 +206,11 @@ begun_ran takes start now first new left rest status made ends begun not = ran t
 
 -- where all are answered
 pub going_ends : (takes : Bool) (start now : Moment) (first new : Option (List ℕ)) (begun : List Begun) → Going takes start now first new begun → (status : Status) → ((t : Told) → EndsSo t.trace begun status)
-    → (now.stopped ≡ false → GoesOn status now.stopped) → (AreAnswered begun → StatusAnswered status begun) → (new ≡ append_known first (reply_texts begun) → WroteReplies first new begun status) → Ends takes start now first new status begun
-going_ends takes start now first new begun going status ends goes_on answered wrote = (going.so, all_some start.told ends, answered going.answered, wrote going.wrote, λ was. goes_on (going.runs was))
+    → (now.plant.stopped ≡ false → GoesOn status now.plant.stopped) → (AreAnswered begun → StatusAnswered status begun) → (new ≡ append_known first (reply_texts begun) → WroteReplies first new begun status) → Ends takes start now first new status begun
+going_ends takes start now first new begun going status ends goes_on answered wrote = (going.so, all_some start.plant.told ends, answered going.answered, wrote going.wrote, λ was. goes_on (going.runs was))
 
 -- A COMMAND MORE
-module _ (took takes : Bool) (same : took ≡ takes) (start before now : Moment) (first old new : Option (List ℕ)) (begun : List Begun) (going : Going takes start before first old begun) (command : Command) where
-  taken : (result : Result (Unit {0}) CommandFault) → Answered took command before now old new result → Answered takes command before now old new result
-  taken result answered = subst (λ (b : Bool). Answered b command before now old new result) same answered
-
+module _ (takes : Bool) (start before now : Moment) (first old new : Option (List ℕ)) (begun : List Begun) (going : Going takes start before first old begun) (command : Command) where
   wrote_more : (part : List ℕ) → new ≡ append_known old part → new ≡ append_known first (reply_texts begun ++ part)
   wrote_more part is = is ∙ ap (λ (w : Option (List ℕ)). append_known w part) going.wrote ∙ append_known-append first (reply_texts begun) part
 
@@ -216,8 +221,8 @@ module _ (took takes : Bool) (same : took ≡ takes) (start before now : Moment)
     so_now : PiecesSoFar takes start now (begun ++ one ∷ [])
     so_now = one_more takes start before now begun going.so going.session command to reply made
 
-  more_by : Answered takes command before now old new (Ok tt) → (b : Begun) × (b.piece.command ≡ command) × Going takes start now first new (begun ++ b ∷ [])
-  more_by (reply, made, wrote) =
+  pub going_more : Answered takes command before now old new (Ok tt) → (b : Begun) × (b.piece.command ≡ command) × Going takes start now first new (begun ++ b ∷ [])
+  going_more (reply, made, wrote) =
       let b = one (session_of now.controller) (Some reply) made in (
         b,
         refl,
@@ -230,26 +235,20 @@ module _ (took takes : Bool) (same : took ≡ takes) (start before now : Moment)
         },
       )
 
-  pub going_more : Answered took command before now old new (Ok tt) → (b : Begun) × (b.piece.command ≡ command) × Going takes start now first new (begun ++ b ∷ [])
-  going_more answered = more_by (taken (Ok tt) answered)
-
   -- a reply that was cut
-  cut_by : Answered takes command before now old new (Err faults.WriteFault) → (made : List Begun) × (commands_of made ≡ commands_of begun ++ command ∷ []) × Ends takes start now first new statuses.WriteFault made
-  cut_by (reply, made, n, less, wrote) =
+  pub going_cut : Answered takes command before now old new (Err faults.WriteFault) → (made : List Begun) × (commands_of made ≡ commands_of begun ++ command ∷ []) × Ends takes start now first new statuses.WriteFault made
+  going_cut (reply, made, n, less, wrote) =
       let b = one (session_of now.controller) (Some reply) made in (
         begun ++ b ∷ [],
         commands-push begun b,
         (
           so_now (session_of now.controller) (Some reply) made,
-          all_some start.told (λ t. tt),
+          all_some start.plant.told (λ t. tt),
           answered-push begun b going.answered refl,
           (begun, b, n, refl, less, wrote_more (take n (text_of reply)) wrote),
           λ was. made.runs refl (going.runs was),
         ),
       )
-
-  pub going_cut : Answered took command before now old new (Err faults.WriteFault) → (made : List Begun) × (commands_of made ≡ commands_of begun ++ command ∷ []) × Ends takes start now first new statuses.WriteFault made
-  going_cut answered = cut_by (taken (Err faults.WriteFault) answered)
 
   -- a command that has no reply
   module _ (made : Made takes command (marked before) now Closed None) (wrote : new ≡ old) where
@@ -262,46 +261,38 @@ module _ (took takes : Bool) (same : took ≡ takes) (start before now : Moment)
     wrote_none : new ≡ append_known first (reply_texts silent)
     wrote_none = wrote ∙ going.wrote ∙ ap (append_known first) (sym (append-nil (reply_texts begun)) ∙ sym (texts-push begun (one Closed None made)))
 
-  memory_by : Answered takes command before now old new (Err faults.Memory)
+  pub going_memory : Answered takes command before now old new (Err faults.Memory)
       → (made : List Begun) × ((commands_of made ≡ commands_of begun) ⊎ (commands_of made ≡ commands_of begun ++ command ∷ [])) × Ends takes start now first new statuses.Memory made
-  memory_by (inl still, wrote) = (
+  going_memory (inl still, wrote) = (
     begun,
     inl refl,
     (
-      record { told = still.told ∙ going.so.told; counts = subst (λ f. Counts takes start.faults begun f) (sym still.faults) going.so.counts; are = going.so.are },
-      all_some start.told (λ t. tt),
+      record { told = ap (λ (p : Seen). p.told) still ∙ going.so.told; counts = subst (λ (p : Seen). Counts takes start.plant.faults begun p.faults) (sym still) going.so.counts; are = going.so.are },
+      all_some start.plant.told (λ t. tt),
       inl going.answered,
       wrote ∙ going.wrote,
       λ was. tt,
     ),
   )
-  memory_by (inr made, wrote) =
-      (silent made wrote, inr (commands-push begun (one Closed None made)), (so_now Closed None made, all_some start.told (λ t. tt), inr (waits made wrote), wrote_none made wrote, λ was. tt))
-
-  pub going_memory : Answered took command before now old new (Err faults.Memory)
-      → (made : List Begun) × ((commands_of made ≡ commands_of begun) ⊎ (commands_of made ≡ commands_of begun ++ command ∷ [])) × Ends takes start now first new statuses.Memory made
-  going_memory answered = memory_by (taken (Err faults.Memory) answered)
+  going_memory (inr made, wrote) =
+      (silent made wrote, inr (commands-push begun (one Closed None made)), (so_now Closed None made, all_some start.plant.told (λ t. tt), inr (waits made wrote), wrote_none made wrote, λ was. tt))
 
   -- sides that are no journal
-  bad_by : (side : Side) (at : ℕ) → Answered takes command before now old new (Err (faults.JournalBad side at)) → (made : List Begun) × (commands_of made ≡ commands_of begun ++ command ∷ []) × Ends takes start now first new (statuses.JournalBad side at) made
-  bad_by side at (found, wrote) =
+  pub going_bad : (side : Side) (at : ℕ) → Answered takes command before now old new (Err (faults.JournalBad side at)) → (made : List Begun) × (commands_of made ≡ commands_of begun ++ command ∷ []) × Ends takes start now first new (statuses.JournalBad side at) made
+  going_bad side at (found, wrote) =
       let made = found.made in
       let last = one Closed None made in (
         silent made wrote,
         commands-push begun last,
         (
           so_now Closed None made,
-          map_some start.told (λ t finds. record { before = begun; last = last; made_are = refl; answered = going.answered; finds = finds })
+          map_some start.plant.told (λ t finds. record { before = begun; last = last; made_are = refl; answered = going.answered; finds = finds })
               (at_mark takes start before now begun going.so going.session command Closed None made (λ l. FindsNone l last.piece side at) found.finds),
           waits made wrote,
           wrote_none made wrote,
           λ was. found.runs,
         ),
       )
-
-  pub going_bad : (side : Side) (at : ℕ) → Answered took command before now old new (Err (faults.JournalBad side at))
-      → (made : List Begun) × (commands_of made ≡ commands_of begun ++ command ∷ []) × Ends takes start now first new (statuses.JournalBad side at) made
-  going_bad side at answered = bad_by side at (taken (Err (faults.JournalBad side at)) answered)
 
 -- A RUN THAT ENDS WITH JournalBad
 abbrev NoJournal : Side → ℕ → List Event → Type 0
@@ -316,8 +307,8 @@ last_bad trace made side at l =
     (subst (λ b. IsNoJournal (disk A (trace_after trace l.before)).reads b (2 ^ 32) side at) (sym (l.finds.as_before B)) l.finds.no_journal)))
 
 pub ran_bad : (takes : Bool) (choices : Option Choices) (old new : Outside) (side : Side) (at : ℕ) (made : List Begun) → Ran takes choices old new (statuses.JournalBad side at) made
-    → IfSome new.told (λ t. IsNoJournal (disk A t.trace).reads (disk B t.trace).reads (2 ^ 32) side at)
-ran_bad takes choices old new side at made r = to_told old.told new.told made r.told (NoJournal side at) (map_some old.told (λ t l. last_bad t.trace made side at l) r.ends)
+    → IfSome new.plant.told (λ t. IsNoJournal (disk A t.trace).reads (disk B t.trace).reads (2 ^ 32) side at)
+ran_bad takes choices old new side at made r = to_told old.plant.told new.plant.told made r.told (NoJournal side at) (map_some old.plant.told (λ t l. last_bad t.trace made side at l) r.ends)
 
 -- over a sound trace the sides are a journal
 sides_read : (trace : List Event) (side : Side) (at : ℕ) → ArePossible trace (disk A trace).reads (disk B trace).reads → IsSound the_texts trace → IsNoJournal (disk A trace).reads (disk B trace).reads (2 ^ 32) side at → ⊥
@@ -329,7 +320,7 @@ sides_read trace side at possible sound (no_room rs s read on lab less is) =
     omega (arith, size, room, less)
 
 pub never_bad : (takes : Bool) (choices : Option Choices) (old new : Outside) (side : Side) (at : ℕ) (made : List Begun) → Ran takes choices old new (statuses.JournalBad side at) made
-    → IfSome new.told (λ t. ArePossible t.trace (disk A t.trace).reads (disk B t.trace).reads) → IfSome old.told (λ t. IsSound the_texts t.trace → ⊥)
+    → IfSome new.plant.told (λ t. ArePossible t.trace (disk A t.trace).reads (disk B t.trace).reads) → IfSome old.plant.told (λ t. IsSound the_texts t.trace → ⊥)
 never_bad takes choices old new side at made r there =
-    map_three old.told (λ t l are possible sound. sides_read (trace_after t.trace made) side at possible (sound_after takes t.trace Closed made are sound) (last_bad t.trace made side at l)) r.ends r.pieces
-    (from_told old.told new.told made r.told (λ l. ArePossible l (disk A l).reads (disk B l).reads) there)
+    map_three old.plant.told (λ t l are possible sound. sides_read (trace_after t.trace made) side at possible (sound_after takes t.trace Closed made are sound) (last_bad t.trace made side at l)) r.ends r.pieces
+    (from_told old.plant.told new.plant.told made r.told (λ l. ArePossible l (disk A l).reads (disk B l).reads) there)

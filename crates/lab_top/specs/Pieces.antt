@@ -1,15 +1,16 @@
 -- Pieces: what a command does, from its mark to its reply.
-use Rattle.std.specs.Prelude.{◌≡◌, ◌≤◌, ◌^◌, ℕ, Bool, true, false, ◌&&◌, not, is_some, List, [], ◌∷◌, ◌++◌, map, Option, Some, None, if◌then◌else◌}
+use Rattle.std.specs.Prelude.{◌≡◌, ◌≢◌, ◌⊎◌, ◌≤◌, ◌^◌, ℕ, Bool, true, false, ◌&&◌, not, is_some, List, [], ◌∷◌, ◌++◌, map, Option, Some, None, if◌then◌else◌}
 use Rattle.std.specs.List.{flat_map}
 use Rattle.plant.specs.Calls.{Rose}
 use Rattle.plant.specs.Disks.{disk, ArePossible}
-use Rattle.plant.specs.Events.{Event}
+use Rattle.plant.specs.Events.{Event, Restarted}
 use Rattle.plant.specs.Told.{Told, with_steps, with_mark, with_drill}
 use Rattle.plant.specs.declared.drill.Drill.{Drill}
 use Rattle.plant.specs.declared.moment.Faults.{Faults}
 use Rattle.plant.specs.declared.step.Side.{Side}
 use Rattle.plant.specs.declared.step.Side.TheVariants.{A, B}
-use Rattle.records_model.specs.Labs.{LabState}
+use Rattle.virt_topo.specs.declared.experiment.Experiment.{Experiment}
+use Rattle.records_model.specs.Labs.{LabState, find}
 use Rattle.records_model.specs.Works.{IsSound}
 use Rattle.journal_disk.specs.Before.{are_synced}
 use Rattle.journal_disk.specs.Opening.{both_synced}
@@ -21,9 +22,11 @@ use Rattle.script_text.specs.declared.reply.Reply.TheVariants.{Planned, NoDrill,
 use Rattle.script_text.specs.Drills.{drill_of}
 use Rattle.script_text.specs.Replies.{text_of, closes, blames_device}
 use Rattle.lab_core.specs.LabSteps.{LabStep}
-use Rattle.lab_core.specs.Moments.{IsJournal, IsNoJournal, IsLabAt, IsLabOfImage, AllStandFor, StandForLab, IsLengthAt}
-use Rattle.lab_core.specs.Pieces.{Breaks}
-use Rattle.lab_core.specs.Sessions.{Session, Closed, Open}
+use Rattle.lab_core.specs.Moments.{IsNoJournal, IsLabAt, IsLabOfImage, AllStandFor, StandForLab, IsLengthAt}
+use Rattle.lab_core.specs.Breaks.{Breaks}
+use Rattle.lab_core.specs.Tells.{name_of}
+use Rattle.lab_core.specs.Opening.{IsJournal}
+use Rattle.lab_core.specs.Sessions.{Session, Closed, Open, HandsOn}
 
 -- A PIECE: a command, the session before and after it, the steps of its opening and its own, and its reply, if it was answered
 pub record Piece : Type 0 where
@@ -120,12 +123,17 @@ pub data IsOpening (trace : List Event) (piece : Piece) : Type 0 where
 abbrev pub Finds : Option Drill → Session → List Event → Piece → Type 0
 Finds (Some drill) from trace piece = (piece.opening ≡ []) × (piece.own ≡ []) × (is_some piece.reply ≡ true → piece.to ≡ from)
 Finds None Closed trace piece = (has_command piece.opening ≡ false) × IsOpening trace piece
-Finds None Open trace piece = piece.opening ≡ []
+Finds None (Open opens) trace piece = piece.opening ≡ []
 
--- the session stays open only behind a reply that doesn't close it
+-- the session stays open only behind a reply that doesn't close it, and is closed only behind one that closes it, behind `stopped`, or where there is none
 abbrev pub stays_open : Option Reply → Bool
 stays_open None = false
 stays_open (Some reply) = not (closes reply)
+
+abbrev pub may_shut : Option Reply → Bool
+may_shut None = true
+may_shut (Some Stopped) = true
+may_shut (Some reply) = closes reply
 
 -- THE SIDES ARE NO JOURNAL, and the program leaves them as they are: a command that is no drill finds the session closed; both sides are synced, and
 -- nothing else is done, so neither reads other than before
@@ -138,16 +146,31 @@ pub record FindsNone (trace : List Event) (piece : Piece) (side : Side) (at : �
   pub no_reply : piece.reply ≡ None
   pub as_before : (s : Side) → (disk s (trace ++ steps_of piece)).reads ≡ (disk s trace).reads
 
--- THE LAB STEP of a piece between these labs: the limit is 2^32 bytes, and the length is the journal's as its sides read after the opening
+-- the replies to drills
+abbrev pub is_of_drill : Reply → Bool
+is_of_drill Planned = true
+is_of_drill NoDrill = true
+is_of_drill reply = false
+
+-- THE LAB STEP of a piece between these labs: the limit is 2^32 bytes, and the length is the journal's as its sides read after the opening.
+-- One that isn't answered is a lab step but for its reply, and perhaps for the start of a plant that stopped.
+abbrev pub ButForReply : Option Reply → Session → Option Reply → Session → List Event → Type 0
+ButForReply (Some reply) to told session behind = (told ≡ Some reply) × (session ≡ to) × (behind ≡ [])
+ButForReply None to told session behind = (behind ≡ []) ⊎ ((a b : List ℕ) × (behind ≡ Restarted a b ∷ []))
+
 pub record StepsFrom (takes : Bool) (trace : List Event) (piece : Piece) (s after : LabState) : Type 0 where
   pub length : ℕ
   pub length_is : IsLengthAt (trace ++ piece.opening) length
-  pub step : LabStep takes (record { length = length; limit = 2 ^ 32 }) s piece.from piece.command piece.opening piece.own (record { reply = piece.reply; lab = after; session = piece.to })
+  pub told : Option Reply
+  pub session : Session
+  pub behind : List Event
+  pub is_told : ButForReply piece.reply piece.to told session behind
+  pub step : LabStep takes (record { length = length; limit = 2 ^ 32 }) s piece.from piece.command piece.opening (piece.own ++ behind) (record { reply = told; lab = after; session = session })
 
 -- the first lab is that of the moment; where the plant stopped in an opening before both sides were synced, that of an image
 abbrev pub is_closed : Session → Bool
 is_closed Closed = true
-is_closed Open = false
+is_closed (Open opens) = false
 
 abbrev pub is_early : Piece → Bool
 is_early piece = is_closed piece.from && (has_restart piece.opening && not (are_synced piece.opening))
@@ -159,7 +182,7 @@ FirstLab false trace s = IsLabAt trace s
 -- after `stopped`, and after a reply that leaves the session open, all images stand for the last lab; after each other reply each image stands for
 -- the lab after a step from an image before it
 abbrev pub leaves_one : Session → Option Reply → Bool
-leaves_one Open reply = true
+leaves_one (Open opens) reply = true
 leaves_one Closed (Some Stopped) = true
 leaves_one Closed reply = false
 
@@ -168,26 +191,42 @@ ImagesAfter takes true trace piece last = AllStandFor (trace ++ steps_of piece) 
 ImagesAfter takes false trace piece last = (a b : List ℕ) → ArePossible (trace ++ steps_of piece) a b
     → (s : LabState) × (after : LabState) × IsLabOfImage trace s × StandForLab a b after × StepsFrom takes trace piece s after
 
--- A PIECE IS DONE over the trace before it: the lab that it goes from, the one that it leaves, and the step between both; and the trace stays sound
-pub record IsDone (takes : Bool) (trace : List Event) (piece : Piece) : Type 0 where
+-- A PIECE IS A LAB STEP over the trace before it: the lab that it goes from, the one that it leaves, and the step between both
+pub record Leads (takes : Bool) (trace : List Event) (piece : Piece) : Type 0 where
   pub first : LabState
   pub last : LabState
   pub before : FirstLab (is_early piece) trace first
   pub behind : IsLabAt (trace ++ steps_of piece) last
   pub steps : StepsFrom takes trace piece first last
-  pub images : is_some piece.reply ≡ true → ImagesAfter takes (leaves_one piece.to piece.reply) trace piece last
+
+-- over a sound trace it is one, whatever its reply; each image stands for such a lab, and the trace stays sound
+pub record IsDone (takes : Bool) (trace : List Event) (piece : Piece) : Type 0 where
+  pub leads : Leads takes trace piece
+  pub images : is_some piece.reply ≡ true → ImagesAfter takes (leaves_one piece.to piece.reply) trace piece leads.last
   pub sound : IsSound the_texts (trace ++ steps_of piece)
 
--- OVER ANY TRACE a piece finds the journal so, and over a sound one it is done
+-- OVER ANY TRACE a piece finds the journal so; where it leaves the session open, the sides stand for the lab, and it is a lab step
 pub record IsPiece (takes : Bool) (trace : List Event) (piece : Piece) : Type 0 where
+  pub readable : ArePossible trace (disk A trace).reads (disk B trace).reads
   pub finds : Finds (drill_of piece.command) piece.from trace piece
   pub leaves : stays_open piece.reply ≡ false → piece.to ≡ Closed
+  pub shuts : drill_of piece.command ≡ None → is_closed piece.to ≡ true → may_shut piece.reply ≡ true
+  pub leads : drill_of piece.command ≡ None → is_closed piece.to ≡ false → Leads takes trace piece
   pub done : IsSound the_texts trace → IsDone takes trace piece
+
+-- each image that is possible stands for a lab in which the experiment is so
+abbrev pub AllHave : List Event → Experiment → Type 0
+AllHave trace e = (a b : List ℕ) → ArePossible trace a b → (u : LabState) × StandForLab a b u × (find e.name u.experiments ≡ Some e)
+
+-- none of the commands is about the experiment of that name
+abbrev pub AreOthers : List ℕ → List Begun → Type 0
+AreOthers name [] = Unit {0}
+AreOthers name (b ∷ begun) = (name_of b.piece.command ≢ Some name) × AreOthers name begun
 
 -- pieces one after another, the session handed on
 abbrev pub ArePieces : Bool → List Event → Session → List Begun → Type 0
 ArePieces takes trace session [] = Unit {0}
-ArePieces takes trace session (b ∷ begun) = (b.piece.from ≡ session) × IsPiece takes trace b.piece × ArePieces takes (trace ++ steps_of b.piece) b.piece.to begun
+ArePieces takes trace session (b ∷ begun) = HandsOn session b.piece.from × IsPiece takes trace b.piece × ArePieces takes (trace ++ steps_of b.piece) b.piece.to begun
 
 -- the text of the reply, if there is one
 abbrev pub text_if : Option Reply → List ℕ

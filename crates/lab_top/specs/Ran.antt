@@ -6,8 +6,7 @@ use Rattle.lab_io.specs.Feeds.{NoFeed}
 use Rattle.lab_io.specs.Lines.{script_lines}
 use Rattle.lab_io.specs.Passed.{IsWhole}
 use Rattle.plant.specs.Events.{Event}
-use Rattle.plant.specs.Told.{Told}
-use Rattle.plant.specs.declared.moment.Faults.{Faults}
+use Rattle.plant.specs.Seen.{Seen}
 use Rattle.plant.specs.declared.step.Side.{Side}
 use Rattle.records_model.specs.Works.{IsSound}
 use Rattle.lab_state.specs.Texts.{the_texts}
@@ -19,12 +18,10 @@ use Rattle.lab_core.specs.Sessions.{Closed}
 use Rattle.lab_top.specs.Pieces.{Begun, ArePieces, Counts, FindsNone, commands_of, trace_after, with_pieces, reply_text, reply_texts}
 use Rattle.lab_top.specs.Words.{Choices}
 
--- what is seen of the outside: what the source has left, what the plant tells, its counts of faults, whether it is stopped, and what was written
+-- the outside: what the source has left, what is seen of the plant, and what was written
 pub record Outside : Type 0 where
   pub left : Option (List ℕ)
-  pub told : Option Told
-  pub faults : Faults
-  pub stopped : Bool
+  pub plant : Seen
   pub written : Option (List ℕ)
 
 -- these are the first commands behind line `number`
@@ -94,16 +91,16 @@ pub record Ran (takes : Bool) (choices : Option Choices) (old new : Outside) (st
   -- words that say nothing are refused, and nothing is done
   pub usage : (status ≡ Usage) ↔ (choices ≡ None)
   -- the marks are the moments just before the commands that were begun, behind each mark stand the steps of its command, and the drills are those that were planned
-  pub told : new.told ≡ with_pieces old.told made
-  pub counts : Counts takes old.faults made new.faults
-  pub goes_on : old.stopped ≡ false → GoesOn status new.stopped
-  -- over any trace each command finds the journal as its piece says; over one that is sound at the entry each is a lab step, from the lab of the moment
-  -- before it to that of the moment after it
-  pub pieces : IfSome old.told (λ t. ArePieces takes t.trace Closed made)
+  pub told : new.plant.told ≡ with_pieces old.plant.told made
+  pub counts : Counts takes old.plant.faults made new.plant.faults
+  pub goes_on : old.plant.stopped ≡ false → GoesOn status new.plant.stopped
+  -- over any trace each command finds the journal as its piece says, and is a lab step, from the lab of the moment before it to that of the moment after
+  -- it, where it leaves the session open; over one that is sound at the entry each is
+  pub pieces : IfSome old.plant.told (λ t. ArePieces takes t.trace Closed made)
   -- JournalBad comes where the last command found the sides to be no journal, and left them so
-  pub ends : IfSome old.told (λ t. EndsSo t.trace made status)
+  pub ends : IfSome old.plant.told (λ t. EndsSo t.trace made status)
   -- and a trace that is sound at the entry is sound at the exit
-  pub sound : IfSome old.told (λ t. IsSound the_texts t.trace → IfSome new.told (λ u. IsSound the_texts u.trace))
+  pub sound : IfSome old.plant.told (λ t. IsSound the_texts t.trace → IfSome new.plant.told (λ u. IsSound the_texts u.trace))
   pub answered : Answered status made
   -- the commands are those of the script
   pub begun : (bytes : List ℕ) → old.left ≡ Some bytes → BegunCommands bytes new.left (commands_of made) status

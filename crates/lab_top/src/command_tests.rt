@@ -1,7 +1,7 @@
 use super::*;
 use crate::tests::{LARGE, PAIR, Row, SMALL, other_row, run};
 use lab_io::{MemSink, MemSource};
-use plant::MemLab;
+use plant_mem::MemLab;
 use std::alloc::Global;
 use std::test::Fail;
 

@@ -21,14 +21,13 @@ pub(crate) fn obey_commands<S: Source, K: Sink, P: Plant>(
     plant: &mut P,
 ) -> Status
     requires { IsNew reader.old }
-    ensures ran { (made : List Begun) × Ran (P.takes_drills plant.old) (Some Usual)
-        (record { left = S.left source.old; told = P.told plant.old; faults = P.faults plant.old; stopped = P.is_stopped plant.old; written = K.written sink.old })
-        (record { left = S.left source.new; told = P.told plant.new; faults = P.faults plant.new; stopped = P.is_stopped plant.new; written = K.written sink.new }) result made }
+    ensures ran { (made : List Begun) × Ran P.takes_drills (Some Usual)
+        (record { left = S.left source.old; plant = P.seen plant.old; written = K.written sink.old })
+        (record { left = S.left source.new; plant = P.seen plant.new; written = K.written sink.new }) result made }
     ensures read { result ≡ Status.ReadFault → Rose (S.faults source.old) (S.faults source.new) }
     ensures read_later { S.faults source.old ≤ S.faults source.new }
     ensures write { result ≡ Status.WriteFault → Rose (K.faults sink.old) (K.faults sink.new) }
     ensures write_later { K.faults sink.old ≤ K.faults sink.new }
-    ensures drills { P.takes_drills plant.new ≡ P.takes_drills plant.old }
 {
     let mut controller = None;
     'commands: loop {

@@ -7,7 +7,7 @@ mod laws;
 mod status;
 mod top;
 
-pub use laws::bad_journals;
+pub use laws::{bad_journals, runs};
 pub use status::Status;
 pub use top::labctl;
 

@@ -1,7 +1,8 @@
 use crate::Status;
 use crate::tests::{LARGE, PAIR, Row, SMALL, other_row, run, run_over};
 use lab_base::{Boot, Name, VlanId};
-use plant::{Answer, DeviceOp, Drill, MemLab, Plant, Step};
+use plant::{Answer, DeviceOp, Drill, Plant, Step};
+use plant_mem::MemLab;
 use std::alloc::Global;
 use std::test::Fail;
 

@@ -1,6 +1,6 @@
 use super::*;
 use lab_io::{MemSink, MemSource};
-use plant::MemLab;
+use plant_mem::MemLab;
 use std::alloc::Global;
 use std::test::Fail;
 

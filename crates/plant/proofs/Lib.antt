@@ -1,8 +1,1 @@
-pub mod Alike
-pub mod Counts
-pub mod Growing
 pub mod Images
-pub mod Knowing
-pub mod Passes
-pub mod States
-pub mod Told

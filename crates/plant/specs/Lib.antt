@@ -1,16 +1,7 @@
-pub mod Boots
 pub mod Calls
 pub mod DiskCalls
-pub mod DiskPlans
 pub mod Disks
 pub mod Events
-pub mod Faces
-pub mod Knows
-pub mod MemLab
-pub mod Picks
-pub mod Plans
-pub mod Possible
-pub mod Steps
-pub mod Stopping
+pub mod Seen
 pub mod Told
 pub mod Worlds

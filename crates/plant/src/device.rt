@@ -1,6 +1,5 @@
 ghost use Rattle.std.specs.Prelude.{◌≡◌};
 ghost use Rattle.plant.specs.Calls.{device_of};
-ghost use Rattle.plant.specs.Plans.{is_poll, is_wipe};
 
 use lab_base::{Boot, Name, Rates, VlanId};
 
@@ -87,17 +86,5 @@ impl DeviceOp {
             | DeviceOp::Poll { node }
             | DeviceOp::Wipe { node } => *node,
         }
-    }
-
-    pub(crate) fn is_poll(&self) -> bool
-        ensures { result ≡ is_poll self.now }
-    {
-        matches!(self, DeviceOp::Poll { .. })
-    }
-
-    pub(crate) fn is_wipe(&self) -> bool
-        ensures { result ≡ is_wipe self.now }
-    {
-        matches!(self, DeviceOp::Wipe { .. })
     }
 }

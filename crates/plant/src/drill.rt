@@ -1,6 +1,3 @@
-ghost use Rattle.std.specs.Prelude.{◌≡◌};
-ghost use Rattle.plant.specs.Plans.{is_applying, is_hang, is_jump, waits_for_poll};
-
 use lab_base::Name;
 
 /// How a device fails.
@@ -14,34 +11,6 @@ pub enum How {
     Hang,
     /// That poll sets and answers `IsUp`.
     Jump,
-}
-
-impl How {
-    /// Whether a command that fails so is applied.
-    pub(crate) fn is_applying(self) -> bool
-        ensures { result ≡ is_applying self }
-    {
-        matches!(&self, How::Applied)
-    }
-
-    pub(crate) fn is_hang(self) -> bool
-        ensures { result ≡ is_hang self }
-    {
-        matches!(&self, How::Hang)
-    }
-
-    pub(crate) fn is_jump(self) -> bool
-        ensures { result ≡ is_jump self }
-    {
-        matches!(&self, How::Jump)
-    }
-
-    /// Whether it waits for a poll, and not for any command.
-    pub(crate) fn waits_for_poll(self) -> bool
-        ensures { result ≡ waits_for_poll self }
-    {
-        self.is_hang() || self.is_jump()
-    }
 }
 
 /// What a stop leaves of what is not durable.

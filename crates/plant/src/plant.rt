@@ -1,10 +1,10 @@
-ghost use Rattle.std.specs.Prelude.{◌≡◌, ◌↔◌, ◌≤◌, ◌+◌, ℕ, List, [], ◌∷◌, length, take, drop, Bool, Option, IsTrue, IsFalse, IsErrOf, IfOk, IfSome, OnOk, OnErr};
+ghost use Rattle.std.specs.Prelude.{◌≡◌, ◌↔◌, ◌≤◌, ◌+◌, ℕ, List, [], ◌∷◌, length, take, drop, Bool, IsTrue, IsFalse, IsErrOf, IfOk, IfSome, OnOk, OnErr};
 ghost use Rattle.plant.specs.Disks.{disk, ArePossible};
 ghost use Rattle.plant.specs.DiskCalls.{missed, DiskCause, WriteSteps, SyncSteps, CutSteps};
 ghost use Rattle.plant.specs.Events.{Event, Restarted};
-ghost use Rattle.plant.specs.Told.{Told, with_steps, with_mark, with_drill};
+ghost use Rattle.plant.specs.Seen.{Seen};
+ghost use Rattle.plant.specs.Told.{with_steps, with_mark, with_drill};
 ghost use Rattle.plant.specs.Calls.{CommandSteps, DeviceCause};
-ghost use Rattle.plant.specs.declared.moment.Faults.{Faults};
 ghost use Rattle.plant.specs.declared.step.Side.TheVariants.{A, B};
 
 use crate::{Answer, DeviceOp, Drill, DrillFault, Fault, Side};
@@ -14,102 +14,82 @@ use lab_base::Memory;
 ///
 /// The disk has two sides. What a call does to them is the step that it adds to the trace.
 pub trait Plant {
-    /// Its past, where it tells it: the trace, the moments that were marked, and the drills that were taken.
-    ghost told: { Self → Option Told };
+    /// Its past, where it tells it, both counts of faults, and whether it is stopped.
+    ghost seen: { Self → Seen };
 
-    /// How often the disk and the devices failed.
-    ghost faults: { Self → Faults };
-
-    /// Whether it is stopped.
-    ghost is_stopped: { Self → Bool };
-
-    /// Whether it takes drills.
-    ghost takes_drills: { Self → Bool };
+    /// Whether plants of this type take drills.
+    ghost takes_drills: { Bool };
 
     /// How long a side is, as it reads.
     fn length(&mut self, side: Side) -> Result<u64, Fault>
-        ensures trace { told self.new ≡ with_steps (told self.old) (missed side result) }
-        ensures length { IfSome (told self.old) (λ t. IfOk result (λ n. n ≡ length (disk side t.trace).reads)) }
-        ensures cause { DiskCause (faults self.old) (faults self.new) result }
-        ensures stopped { IsErrOf result Fault.Stopped ↔ IsTrue (is_stopped self.new) }
-        ensures still { is_stopped self.new ≡ is_stopped self.old }
-        ensures drills { takes_drills self.new ≡ takes_drills self.old };
+        ensures trace { (seen self.new).told ≡ with_steps (seen self.old).told (missed side result) }
+        ensures length { IfSome (seen self.old).told (λ t. IfOk result (λ n. n ≡ length (disk side t.trace).reads)) }
+        ensures cause { DiskCause (seen self.old).faults (seen self.new).faults result }
+        ensures stopped { IsErrOf result Fault.Stopped ↔ IsTrue (seen self.new).stopped }
+        ensures still { (seen self.new).stopped ≡ (seen self.old).stopped };
 
     /// Fills the buffer with what a side reads as from that place on.
     fn read(&mut self, side: Side, at: u64, into: &mut [u8]) -> Result<(), Fault>
-        requires { IfSome (told self.old) (λ t. at + length into.old ≤ length (disk side t.trace).reads) }
-        ensures trace { told self.new ≡ with_steps (told self.old) (missed side result) }
-        ensures read { IfSome (told self.old) (λ t. OnOk result (into.new ≡ take (length into.old) (drop at (disk side t.trace).reads))) }
-        ensures cause { DiskCause (faults self.old) (faults self.new) result }
-        ensures stopped { IsErrOf result Fault.Stopped ↔ IsTrue (is_stopped self.new) }
-        ensures still { is_stopped self.new ≡ is_stopped self.old }
-        ensures drills { takes_drills self.new ≡ takes_drills self.old };
+        requires { IfSome (seen self.old).told (λ t. at + length into.old ≤ length (disk side t.trace).reads) }
+        ensures trace { (seen self.new).told ≡ with_steps (seen self.old).told (missed side result) }
+        ensures read { IfSome (seen self.old).told (λ t. OnOk result (into.new ≡ take (length into.old) (drop at (disk side t.trace).reads))) }
+        ensures cause { DiskCause (seen self.old).faults (seen self.new).faults result }
+        ensures stopped { IsErrOf result Fault.Stopped ↔ IsTrue (seen self.new).stopped }
+        ensures still { (seen self.new).stopped ≡ (seen self.old).stopped };
 
     /// Writes over what is there, and past the end.
     fn write(&mut self, side: Side, at: u64, bytes: &[u8]) -> Result<(), Fault>
-        requires { IfSome (told self.old) (λ t. at ≤ length (disk side t.trace).reads) }
-        ensures trace { (steps : List Event) × (told self.new ≡ with_steps (told self.old) steps) × WriteSteps side at bytes.now (is_stopped self.old) result steps }
-        ensures cause { DiskCause (faults self.old) (faults self.new) result }
-        ensures stopped { IsErrOf result Fault.Stopped ↔ IsTrue (is_stopped self.new) }
-        ensures drills { takes_drills self.new ≡ takes_drills self.old };
+        requires { IfSome (seen self.old).told (λ t. at ≤ length (disk side t.trace).reads) }
+        ensures trace { (steps : List Event) × ((seen self.new).told ≡ with_steps (seen self.old).told steps) × WriteSteps side at bytes.now (seen self.old).stopped result steps }
+        ensures cause { DiskCause (seen self.old).faults (seen self.new).faults result }
+        ensures stopped { IsErrOf result Fault.Stopped ↔ IsTrue (seen self.new).stopped };
 
     /// Makes a side durable as it reads.
     fn sync(&mut self, side: Side) -> Result<(), Fault>
-        ensures trace { (steps : List Event) × (told self.new ≡ with_steps (told self.old) steps) × SyncSteps side (is_stopped self.old) result steps }
-        ensures cause { DiskCause (faults self.old) (faults self.new) result }
-        ensures stopped { IsErrOf result Fault.Stopped ↔ IsTrue (is_stopped self.new) }
-        ensures drills { takes_drills self.new ≡ takes_drills self.old };
+        ensures trace { (steps : List Event) × ((seen self.new).told ≡ with_steps (seen self.old).told steps) × SyncSteps side (seen self.old).stopped result steps }
+        ensures cause { DiskCause (seen self.old).faults (seen self.new).faults result }
+        ensures stopped { IsErrOf result Fault.Stopped ↔ IsTrue (seen self.new).stopped };
 
     /// Cuts a side to a length.
     fn cut(&mut self, side: Side, size: u64) -> Result<(), Fault>
-        requires { IfSome (told self.old) (λ t. size ≤ length (disk side t.trace).reads) }
-        ensures trace { (steps : List Event) × (told self.new ≡ with_steps (told self.old) steps) × CutSteps side size (is_stopped self.old) result steps }
-        ensures cause { DiskCause (faults self.old) (faults self.new) result }
-        ensures stopped { IsErrOf result Fault.Stopped ↔ IsTrue (is_stopped self.new) }
-        ensures drills { takes_drills self.new ≡ takes_drills self.old };
+        requires { IfSome (seen self.old).told (λ t. size ≤ length (disk side t.trace).reads) }
+        ensures trace { (steps : List Event) × ((seen self.new).told ≡ with_steps (seen self.old).told steps) × CutSteps side size (seen self.old).stopped result steps }
+        ensures cause { DiskCause (seen self.old).faults (seen self.new).faults result }
+        ensures stopped { IsErrOf result Fault.Stopped ↔ IsTrue (seen self.new).stopped };
 
     /// Starts a stopped plant again. Its devices are as they were, and each side is an image that was possible.
     fn restart(&mut self) -> Result<(), Memory>
-        requires { IsTrue (is_stopped self.old) }
-        ensures ok { OnOk result ((a b : List ℕ) × (told self.new ≡ with_steps (told self.old) (Restarted a b ∷ [])) × IfSome (told self.old) (λ t. ArePossible t.trace a b)) }
-        ensures goes_on { OnOk result (IsFalse (is_stopped self.new)) }
-        ensures err { OnErr result (told self.new ≡ told self.old) }
-        ensures still { OnErr result (is_stopped self.new ≡ is_stopped self.old) }
-        ensures faults { faults self.new ≡ faults self.old }
-        ensures drills { takes_drills self.new ≡ takes_drills self.old };
+        requires { IsTrue (seen self.old).stopped }
+        ensures ok { OnOk result ((a b : List ℕ) × ((seen self.new).told ≡ with_steps (seen self.old).told (Restarted a b ∷ [])) × IfSome (seen self.old).told (λ t. ArePossible t.trace a b)) }
+        ensures goes_on { OnOk result (IsFalse (seen self.new).stopped) }
+        ensures faults { (seen self.new).faults ≡ (seen self.old).faults }
+        ensures err { OnErr result (seen self.new ≡ seen self.old) };
 
     /// Sends a command to its device. `Failed` and `Stopped` say nothing of whether it was applied.
     fn command(&mut self, op: DeviceOp) -> Result<Answer, Fault>
-        ensures trace { (steps : List Event) × (told self.new ≡ with_steps (told self.old) steps) × CommandSteps op (is_stopped self.old) result steps }
-        ensures cause { DeviceCause (faults self.old) (faults self.new) result }
-        ensures stopped { IsErrOf result Fault.Stopped ↔ IsTrue (is_stopped self.new) }
-        ensures drills { takes_drills self.new ≡ takes_drills self.old };
+        ensures trace { (steps : List Event) × ((seen self.new).told ≡ with_steps (seen self.old).told steps) × CommandSteps op (seen self.old).stopped result steps }
+        ensures cause { DeviceCause (seen self.old).faults (seen self.new).faults result }
+        ensures stopped { IsErrOf result Fault.Stopped ↔ IsTrue (seen self.new).stopped };
 
     /// Plans a failure.
     fn drill(&mut self, drill: Drill) -> Result<(), DrillFault>
-        ensures ok { OnOk result (told self.new ≡ with_drill (told self.old) drill) }
-        ensures err { OnErr result (told self.new ≡ told self.old) }
-        ensures cannot { IsErrOf result DrillFault.CannotPlan ↔ IsFalse (takes_drills self.old) }
-        ensures faults { faults self.new ≡ faults self.old }
-        ensures stopped { is_stopped self.new ≡ is_stopped self.old }
-        ensures drills { takes_drills self.new ≡ takes_drills self.old };
+        ensures ok { OnOk result (seen self.new ≡ record (seen self.old) { told = with_drill (seen self.old).told drill }) }
+        ensures err { OnErr result (seen self.new ≡ seen self.old) }
+        ensures cannot { IsErrOf result DrillFault.CannotPlan ↔ IsFalse takes_drills };
 
     /// Notes the present moment: the length of the trace, with both counts of faults.
     fn mark(&mut self) -> Result<(), Memory>
-        ensures ok { OnOk result (told self.new ≡ with_mark (told self.old) (faults self.old)) }
-        ensures err { OnErr result (told self.new ≡ told self.old) }
-        ensures faults { faults self.new ≡ faults self.old }
-        ensures stopped { is_stopped self.new ≡ is_stopped self.old }
-        ensures drills { takes_drills self.new ≡ takes_drills self.old };
+        ensures ok { OnOk result (seen self.new ≡ record (seen self.old) { told = with_mark (seen self.old).told (seen self.old).faults }) }
+        ensures err { OnErr result (seen self.new ≡ seen self.old) };
 
     /// Whether it is stopped.
     fn stopped(&self) -> bool
-        ensures { result ≡ is_stopped self.now };
+        ensures { result ≡ (seen self.now).stopped };
 
     /// Whether it takes drills.
     fn drills(&self) -> bool
-        ensures { result ≡ takes_drills self.now };
+        ensures { result ≡ takes_drills };
 
     /// What the sides read as is possible at each moment, since every write begins within its side.
-    ghost reads_possible: { (plant : Self) → IfSome (told plant) (λ t. ArePossible t.trace (disk A t.trace).reads (disk B t.trace).reads) };
+    ghost reads_possible: { (plant : Self) → IfSome (seen plant).told (λ t. ArePossible t.trace (disk A t.trace).reads (disk B t.trace).reads) };
 }

@@ -4,9 +4,7 @@ pub mod LabLaws
 pub mod Making
 pub mod Stages
 pub mod Starts
-pub mod SwapIn
 pub mod Swaps
-pub mod Together
 pub mod TraceLaws
 pub mod Turning
 pub mod Work

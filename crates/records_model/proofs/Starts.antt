@@ -1,16 +1,8 @@
--- How the controller gets to work: an opening, a new journal, and the Begin of a swap.
+-- How the controller gets to work: an opening, and a new journal.
 use Rattle.std.specs.Str.{bytes_eq}
-use Rattle.std.proofs.Common.{◌≡◌, ◌≢◌, ◌⊎◌, inl, inr, ℕ, ◌+◌, ◌^◌, ◌<◌, ◌≤◌, ◌||◌, ◌==◌, Bool, true, false, not, nat_lt, if◌then◌else◌, Option, Some, None, List, [], ◌∷◌, ◌++◌, length, take, drop, refl, sym, ap, ◌∙◌, subst, arith}
+use Rattle.std.proofs.Common.{ℕ, ◌≡◌, ◌≢◌, ◌⊎◌, inl, inr, ◌+◌, ◌^◌, ◌<◌, ◌≤◌, ◌||◌, ◌==◌, Bool, true, false, not, nat_lt, if◌then◌else◌, List, [], ◌∷◌, ◌++◌, length, take, drop, refl, sym, ap, ◌∙◌, subst, arith}
 use Rattle.std.proofs.lemmas.Bool.{cases_lt, le-ltb, eq-eqb}
 use Rattle.std.proofs.lemmas.List.Sums.{count_by-le-length}
-use Rattle.lab_base.specs.declared.ids.VlanId.{VlanId}
-use Rattle.phys_lab.specs.Labs.{Lab}
-use Rattle.virt_topo.specs.declared.wiring.Wiring.{Wiring}
-use Rattle.virt_topo.specs.declared.mapping.Mapping.{Mapping}
-use Rattle.virt_topo.specs.declared.mapping.Mapped.{Mapped}
-use Rattle.virt_topo.specs.declared.experiment.Experiment.{Experiment}
-use Rattle.virt_topo.specs.declared.experiment.Phase.{Phase}
-use Rattle.virt_topo.specs.declared.experiment.Phase.TheVariants.{Out, In, Moving}
 use Rattle.plant.specs.Disks.{wrote, synced, IsImage, at_once, disk, ArePossible}
 use Rattle.plant.specs.Events.{Event, Wrote, Synced, Missed, Restarted}
 use Rattle.plant.specs.Worlds.{world_of}
@@ -20,24 +12,23 @@ use Rattle.journal_rec.specs.declared.record.Record.{Record}
 use Rattle.lab_model.specs.Sound.{is_moving, Standing, Keeps, SoundAt}
 use Rattle.journal_rec.specs.Payloads.{le}
 use Rattle.journal_model.specs.Journals.{magic, Head, Blank, Foreign, Headed, head, Live, New, On, Wrong, live, gate_after, size, RecordsOf, size_of, journal_length}
-use Rattle.journal_model.specs.Appends.{All, added, IsReadable, Opened, Rests}
+use Rattle.journal_model.specs.Appends.{IsReadable, Opened, Rests}
 use Rattle.journal_model.specs.Making.{IsShort, IsClosed, made_header, HasHeader}
-use Rattle.records_model.specs.Labs.{LabState, at_first, Move, BeginsIn, BeginsOut, BeginsChange, Texts, LabOf, Sane, find, in_phase, mapped, can_take, becomes, moved_one, moved_of, in_state}
+use Rattle.records_model.specs.Labs.{LabState, at_first, Texts, AreCanonical, LabOf, Sane}
 use Rattle.records_model.specs.Appends.{standing, StandFor}
-use Rattle.records_model.specs.Works.{IsSound, AtWork, HasRoom, MayAppend}
-use Rattle.records_model.specs.Openings.{Blanks, Finds, nothing, works, BegunIn, OpenedBy}
+use Rattle.records_model.specs.Works.{IsSound, AtWork, HasRoom}
+use Rattle.records_model.specs.Openings.{Blanks, Finds, nothing, works}
 use Rattle.lab_model.proofs.TraceLaws.{world_push}
 use Rattle.journal_model.proofs.Traces.{disk_push}
 use Rattle.journal_model.proofs.Gates.{gate_push}
+use Rattle.journal_model.proofs.Readings.{records_once}
 use Rattle.journal_model.proofs.Syncs.{readable_image, readable_once, opened_from}
 use Rattle.records_model.proofs.TraceLaws.{synced_sound}
 use Rattle.journal_model.proofs.Making.{short_closed, closed_header, header_rests}
 use Rattle.records_model.proofs.TraceLaws.{sound_push, restart_sound}
-use Rattle.records_model.proofs.Finding.{some_is, none_some, found_from}
-use Rattle.records_model.proofs.LabLaws.{in_state-some, with_replaced-some, found_one}
+use Rattle.records_model.proofs.LabLaws.{folds_once}
 use Rattle.records_model.proofs.Making.{blanks_wrote, blanks_synced, keeps_made, clear_sound, closed_sound, heading_sound, header_sound, opening_sound, made}
-use Rattle.records_model.proofs.Work.{append_works, rest_sound}
-use Rattle.records_model.proofs.Swaps.{find_replaced}
+use Rattle.records_model.proofs.Work.{rest_sound}
 
 -- THE TWO SYNCS of an opening keep the trace sound
 pub syncs_sound : (t : Texts) (trace : List Event) → IsReadable (disk A trace) → IsReadable (disk B trace) → IsSound t trace → IsSound t (trace ++ Synced A ∷ []) × IsSound t ((trace ++ Synced A ∷ []) ++ Synced B ∷ [])
@@ -161,104 +152,6 @@ makes t trace b sound shut =
 pub room_accepted : (rs : List Record) (r : Record) (u : LabState) → Sane u → gate_after rs + 1 + size r + 10240 ≤ 2 ^ 32 → HasRoom (rs ++ r ∷ []) u
 room_accepted rs r u sane fits = omega (arith, fits, gate_push rs r, sane.few, count_by-le-length is_moving u.experiments)
 
--- A BEGIN opens a swap
-if_some : (t : Bool) (f g : Experiment) → ◌≡◌ {A = Option Experiment} (if t then Some f else None) (Some g) → f ≡ g
-if_some true f g h = some_is f g h
-if_some false f g h = none_some g h
-
-becomes_in : (lab : Lab) (es : List Experiment) (e g : Experiment) (p : Phase) (name : List ℕ) (mapping : Mapping) (tags : List VlanId) → becomes lab es e p (BeginsIn name mapping tags) ≡ Some g → in_phase e (Moving None (Some (mapped e.wiring mapping tags))) ≡ g
-becomes_in lab es e g Out name mapping tags h = if_some (can_take lab es e (mapped e.wiring mapping tags)) (in_phase e (Moving None (Some (mapped e.wiring mapping tags)))) g h
-becomes_in lab es e g (In m ts) name mapping tags h = none_some g h
-becomes_in lab es e g (Moving None None) name mapping tags h = none_some g h
-becomes_in lab es e g (Moving (Some old) None) name mapping tags h = none_some g h
-becomes_in lab es e g (Moving None (Some new)) name mapping tags h = none_some g h
-becomes_in lab es e g (Moving (Some old) (Some new)) name mapping tags h = none_some g h
-
-begun : (o : Option Lab) (es : List Experiment) (name : List ℕ) (mapping : Mapping) (tags : List VlanId) (u : LabState) → moved_of o es (BeginsIn name mapping tags) ≡ Some u → (was : Experiment) × (find name es ≡ Some was) × (find name u.experiments ≡ Some (in_phase was (Moving None (Some (mapped was.wiring mapping tags))))) × (was.name ≡ name)
-begun None es name mapping tags u h = none_some u h
-begun (Some lab) es name mapping tags u h =
-    let in_it = in_state-some lab (moved_one lab es name (find name es) (BeginsIn name mapping tags)) u h in
-    let e = found_one lab es name (BeginsIn name mapping tags) (find name es) in_it.0 in_it.1 in
-    let g = with_replaced-some name es (becomes lab es e.0 e.0.phase (BeginsIn name mapping tags)) in_it.0 e.2 in
-    let now = becomes_in lab es e.0 g.0 e.0.phase name mapping tags g.1 in
-    let named : e.0.name ≡ name = (found_from name es e.0 e.1).name_is in
-    let there : find name in_it.0 ≡ Some g.0 = ap (λ l. find name l) (sym g.2) ∙ find_replaced name es e.0 g.0 e.1 (ap (λ x. x.name) (sym now) ∙ named) in
-    (e.0, e.1, ap (λ (x : LabState). find name x.experiments) (sym in_it.2) ∙ there ∙ ap (λ x. Some x) (sym now), named)
-
-pub begin_opens : (t : Texts) (trace : List Event) (side : Side) (rs : List Record) (s : LabState) (r : Record) (u : LabState) (name : List ℕ) (mapping : Mapping) (tags : List VlanId) → AtWork t trace side rs s → (may : MayAppend t trace rs s r u) → may.follows.move ≡ BeginsIn name mapping tags
-    → BegunIn t (trace ++ added side (gate_after rs) r All) side (rs ++ r ∷ []) s u name mapping tags
-begin_opens t trace side rs s r u name mapping tags work may is =
-    let b = begun s.lab s.experiments name mapping tags u (ap (λ m. moved_of s.lab s.experiments m) (sym is) ∙ may.follows.gives) in
-    let e = in_phase b.0 (Moving None (Some (mapped b.0.wiring mapping tags))) in
-    record {
-      was = b.0;
-      found = b.1;
-      exp = e;
-      name_is = b.3;
-      open_is = record {
-        work = append_works t trace side rs s r u work may;
-        found = ap (λ n. find n u.experiments) b.3 ∙ b.2;
-        moving = refl;
-      };
-    }
-
--- A CHANGE and a swap-out begin in the same way
-becomes_out : (lab : Lab) (es : List Experiment) (e g : Experiment) (p : Phase) (name : List ℕ) → becomes lab es e p (BeginsOut name) ≡ Some g → (m : Mapped) × (in_phase e (Moving (Some m) None) ≡ g)
-becomes_out lab es e g Out name h = none_some g h
-becomes_out lab es e g (In m ts) name h = (mapped e.wiring m ts, some_is _ g h)
-becomes_out lab es e g (Moving None None) name h = none_some g h
-becomes_out lab es e g (Moving (Some old) None) name h = none_some g h
-becomes_out lab es e g (Moving None (Some new)) name h = none_some g h
-becomes_out lab es e g (Moving (Some old) (Some new)) name h = none_some g h
-
-becomes_change : (lab : Lab) (es : List Experiment) (e g : Experiment) (p : Phase) (name : List ℕ) (w : Wiring) (mapping : Mapping) (tags : List VlanId) → becomes lab es e p (BeginsChange name w mapping tags) ≡ Some g → (m : Mapped) × (in_phase e (Moving (Some m) (Some (mapped w mapping tags))) ≡ g)
-becomes_change lab es e g Out name w mapping tags h = none_some g h
-becomes_change lab es e g (In m ts) name w mapping tags h = (mapped e.wiring m ts, if_some (can_take lab es e (mapped w mapping tags)) (in_phase e (Moving (Some (mapped e.wiring m ts)) (Some (mapped w mapping tags)))) g h)
-becomes_change lab es e g (Moving None None) name w mapping tags h = none_some g h
-becomes_change lab es e g (Moving (Some old) None) name w mapping tags h = none_some g h
-becomes_change lab es e g (Moving None (Some new)) name w mapping tags h = none_some g h
-becomes_change lab es e g (Moving (Some old) (Some new)) name w mapping tags h = none_some g h
-
-turned : (lab : Lab) (es : List Experiment) (name : List ℕ) (move : Move) (u : LabState) → in_state lab (moved_one lab es name (find name es) move) ≡ Some u → (was g : Experiment) × (find name es ≡ Some was) × (becomes lab es was was.phase move ≡ Some g) × (g.name ≡ was.name → find name u.experiments ≡ Some g) × (was.name ≡ name)
-turned lab es name move u h =
-    let in_it = in_state-some lab (moved_one lab es name (find name es) move) u h in
-    let e = found_one lab es name move (find name es) in_it.0 in_it.1 in
-    let g = with_replaced-some name es (becomes lab es e.0 e.0.phase move) in_it.0 e.2 in
-    let named : e.0.name ≡ name = (found_from name es e.0 e.1).name_is in
-    (e.0, g.0, e.1, g.1, (λ same. ap (λ (x : LabState). find name x.experiments) (sym in_it.2) ∙ ap (λ l. find name l) (sym g.2) ∙ find_replaced name es e.0 g.0 e.1 (same ∙ named)), named)
-
-out_opens_in : (t : Texts) (trace : List Event) (side : Side) (rs : List Record) (o : Option Lab) (es : List Experiment) (u : LabState) (name : List ℕ) → AtWork t trace side rs u → moved_of o es (BeginsOut name) ≡ Some u → OpenedBy t trace side rs u name None
-out_opens_in t trace side rs None es u name work h = none_some u h
-out_opens_in t trace side rs (Some lab) es u name work h =
-    let x = turned lab es name (BeginsOut name) u h in
-    let m = becomes_out lab es x.0 x.1 x.0.phase name x.3 in
-    record {
-      exp = x.1;
-      old = m.0;
-      name_is = sym (ap (λ y. y.name) m.1) ∙ x.5;
-      open_is = record { work = work; found = ap (λ n. find n u.experiments) (sym (ap (λ y. y.name) m.1) ∙ x.5) ∙ x.4 (sym (ap (λ y. y.name) m.1)); moving = sym (ap (λ y. y.phase) m.1) };
-    }
-
-change_opens_in : (t : Texts) (trace : List Event) (side : Side) (rs : List Record) (o : Option Lab) (es : List Experiment) (u : LabState) (name : List ℕ) (w : Wiring) (mapping : Mapping) (tags : List VlanId) → AtWork t trace side rs u → moved_of o es (BeginsChange name w mapping tags) ≡ Some u → OpenedBy t trace side rs u name (Some (mapped w mapping tags))
-change_opens_in t trace side rs None es u name w mapping tags work h = none_some u h
-change_opens_in t trace side rs (Some lab) es u name w mapping tags work h =
-    let x = turned lab es name (BeginsChange name w mapping tags) u h in
-    let m = becomes_change lab es x.0 x.1 x.0.phase name w mapping tags x.3 in
-    record {
-      exp = x.1;
-      old = m.0;
-      name_is = sym (ap (λ y. y.name) m.1) ∙ x.5;
-      open_is = record { work = work; found = ap (λ n. find n u.experiments) (sym (ap (λ y. y.name) m.1) ∙ x.5) ∙ x.4 (sym (ap (λ y. y.name) m.1)); moving = sym (ap (λ y. y.phase) m.1) };
-    }
-
-pub out_opens : (t : Texts) (trace : List Event) (side : Side) (rs : List Record) (s : LabState) (r : Record) (u : LabState) (name : List ℕ) → AtWork t trace side rs s → (may : MayAppend t trace rs s r u) → may.follows.move ≡ BeginsOut name → OpenedBy t (trace ++ added side (gate_after rs) r All) side (rs ++ r ∷ []) u name None
-out_opens t trace side rs s r u name work may is =
-    out_opens_in t (trace ++ added side (gate_after rs) r All) side (rs ++ r ∷ []) s.lab s.experiments u name (append_works t trace side rs s r u work may) (ap (λ m. moved_of s.lab s.experiments m) (sym is) ∙ may.follows.gives)
-
-pub change_opens : (t : Texts) (trace : List Event) (side : Side) (rs : List Record) (s : LabState) (r : Record) (u : LabState) (name : List ℕ) (w : Wiring) (mapping : Mapping) (tags : List VlanId) → AtWork t trace side rs s → (may : MayAppend t trace rs s r u) → may.follows.move ≡ BeginsChange name w mapping tags → OpenedBy t (trace ++ added side (gate_after rs) r All) side (rs ++ r ∷ []) u name (Some (mapped w mapping tags))
-change_opens t trace side rs s r u name w mapping tags work may is =
-    change_opens_in t (trace ++ added side (gate_after rs) r All) side (rs ++ r ∷ []) s.lab s.experiments u name w mapping tags (append_works t trace side rs s r u work may) (ap (λ m. moved_of s.lab s.experiments m) (sym is) ∙ may.follows.gives)
-
 -- AFTER A STOP: the images that it left are made durable, both sides are synced, and what they stand for is at work
 pub restarted : (t : Texts) (trace : List Event) (a b : List ℕ) → ArePossible trace a b → IsSound t trace → IsSound t (trace ++ Restarted a b ∷ []) × Finds t (((trace ++ Restarted a b ∷ []) ++ Synced A ∷ []) ++ Synced B ∷ [])
 restarted t trace a b was sound =
@@ -276,3 +169,10 @@ missed_sound t trace side sound =
     let was : ArePossible trace x y = rw (disk_push A trace (Missed side), disk_push B trace (Missed side)) at possible in
     let at = now x y was in
     (at.0, at.1, subst (λ w. Keeps w at.0) (sym (world_push trace (Missed side))) at.2))
+
+-- TWO SIDES stand for one lab
+pub stands_once : (t : Texts) (a b : List ℕ) (x y : Standing) → AreCanonical t → StandFor t a b x → StandFor t a b y → x ≡ y
+stands_once t a b x y can p q =
+    let rs = records_once a b p.records q.records p.read q.read in
+    let s = folds_once t at_first q.records p.state q.state can (subst (λ l. LabOf t l p.state) rs p.lab_of) q.lab_of in
+    p.is ∙ (λ i. standing (s i) (journal_length a b (rs i))) ∙ sym q.is

@@ -1,6 +1,5 @@
 -- What keeps the controller at work, and its trace sound.
-use Rattle.std.proofs.Common.{◌≡◌, ◌+◌, Bool, true, map, Some, Result, List, [], ◌∷◌, ◌++◌, refl, sym, ap, ◌∙◌, subst, append_assoc}
-use Rattle.std.proofs.lemmas.List.{append-nil}
+use Rattle.std.proofs.Common.{◌≡◌, ◌+◌, Bool, map, Result, List, [], ◌∷◌, ◌++◌, sym, ◌∙◌, subst}
 use Rattle.lab_base.specs.Lists.{Has, AllDiffer}
 use Rattle.phys_lab.specs.Kept.{IsLab}
 use Rattle.virt_topo.specs.declared.experiment.Experiment.{Experiment}
@@ -14,22 +13,21 @@ use Rattle.plant.specs.declared.device.Fault.{Fault}
 use Rattle.plant.specs.declared.device.DeviceOp.{DeviceOp}
 use Rattle.journal_rec.specs.declared.record.Record.{Record}
 use Rattle.lab_model.specs.Parts.{Part, Parts}
-use Rattle.lab_model.specs.Courses.{IsCommandOf, Left, Course, Going, Cut, Halted, Goes, answered, next}
-use Rattle.lab_model.specs.Leavings.{Sent, did, ran}
+use Rattle.lab_model.specs.Courses.{IsCommandOf}
+use Rattle.lab_model.specs.Leavings.{did}
 use Rattle.lab_model.specs.Sound.{Standing, Keeps, SoundAt}
 use Rattle.journal_model.specs.Journals.{gate_after}
 use Rattle.journal_model.specs.Appends.{other_side, Rests, Run, All, added, Opened}
 use Rattle.lab_model.proofs.PartLaws.{whole_from_parts, parts_from_whole}
 use Rattle.lab_model.proofs.Steps.{parts_after}
 use Rattle.lab_model.proofs.TraceLaws.{same_or_not}
-use Rattle.lab_model.proofs.OwnEvents.{did_push, goes_push}
-use Rattle.lab_model.proofs.Safe.{cut_ends, halt_ends}
+use Rattle.lab_model.proofs.OwnEvents.{did_push}
 use Rattle.journal_model.proofs.Traces.{disk_push}
 use Rattle.journal_model.proofs.Gates.{rests_image, on_shut}
-use Rattle.journal_model.proofs.Runs.{run_disk, known_added, known_push, run_images}
+use Rattle.journal_model.proofs.Runs.{run_disk, known_added, known_push}
 use Rattle.records_model.specs.Labs.{LabState, Texts, LabOf, lab_in, Sane, KeepsParts}
 use Rattle.records_model.specs.Appends.{standing, StandFor}
-use Rattle.records_model.specs.Works.{IsSound, AtWork, MayAppend, events}
+use Rattle.records_model.specs.Works.{IsSound, AtWork, MayAppend}
 use Rattle.records_model.proofs.TraceLaws.{sound_push}
 use Rattle.records_model.proofs.LabLaws.{lab_sane, follows_sane, follows_parts, folds_push}
 use Rattle.records_model.proofs.Stages.{run_sound, world_added, stands_on}
@@ -113,43 +111,3 @@ did_works t trace side rs s by op applied answer work listed its stays =
       keeps = keeps;
       sound = sound_push (λ a b x. StandFor t a b x) trace (Did op applied answer) work.sound (rest_sound t (trace ++ Did op applied answer ∷ []) side rs s opened work.lab_of keeps);
     }
-
--- A COURSE: its commands one after another, each the experiment's own and safe
-ran_push : (cs : Sent) (w : World) (op : DeviceOp) (answer : Result Answer Fault) → ran w (cs ++ (op, answer) ∷ []) ≡ did (ran w cs) op true answer
-ran_push [] w op answer = refl
-ran_push (c ∷ cs) w op answer = ran_push cs (did w c.0 true c.1) op answer
-
-module _ (t : Texts) (side : Side) (rs : List Record) (s : LabState) (by : Experiment) (listed : Has s.experiments by) (w : World) (begin : Left)
-    (own : (cs : Sent) (mid : Left) (op : DeviceOp) → Goes cs (Going begin) (Going mid) → next mid.todo mid.watch mid.boot ≡ Some op → IsCommandOf (lab_in s.lab) by op)
-    (safe : (cs : Sent) (mid : Left) (op : DeviceOp) (applied : Bool) (answer : Result Answer Fault) → Goes cs (Going begin) (Going mid) → next mid.todo mid.watch mid.boot ≡ Some op → Part (lab_in s.lab) (did (ran w cs) op applied answer) by) where
-  pub record After (trace : List Event) (cs : Sent) : Type 0 where
-    pub work : AtWork t trace side rs s
-    pub world : world_of trace ≡ ran w cs
-
-  one_more : (trace : List Event) (cs : Sent) (mid : Left) (op : DeviceOp) (applied : Bool) (answer : Result Answer Fault) → After trace cs → Goes cs (Going begin) (Going mid) → next mid.todo mid.watch mid.boot ≡ Some op → AtWork t (trace ++ Did op applied answer ∷ []) side rs s
-  one_more trace cs mid op applied answer after goes comes =
-      did_works t trace side rs s by op applied answer after.work listed (own cs mid op goes comes)
-      (λ part. subst (λ v. Part (lab_in s.lab) (did v op applied answer) by) (sym after.world) (safe cs mid op applied answer goes comes))
-
-  along_course : (trace : List Event) (past cs : Sent) (mid end : Left) → After trace past → Goes past (Going begin) (Going mid) → Goes cs (Going mid) (Going end) → After (trace ++ events cs) (past ++ cs)
-  along_course trace past [] mid end after before goes = subst (λ l. After l (past ++ [])) (sym (append-nil trace)) (subst (λ l. After trace l) (sym (append-nil past)) after)
-  along_course trace past (c ∷ cs) mid end after before goes =
-      let step : AtWork t (trace ++ Did c.0 true c.1 ∷ []) side rs s = one_more trace past mid c.0 true c.1 after before goes.0 in
-      let next_after : After (trace ++ Did c.0 true c.1 ∷ []) (past ++ c ∷ []) = record { work = step; world = did_push trace c.0 true c.1 ∙ ap (λ v. did v c.0 true c.1) after.world ∙ sym (ran_push past w c.0 c.1) } in
-      go (answered mid.todo mid.watch mid.boot c.1) refl (λ left is. along_course (trace ++ Did c.0 true c.1 ∷ []) (past ++ c ∷ []) cs left end next_after (subst (λ k. Goes (past ++ c ∷ []) (Going begin) k) is (goes_push past (Going begin) mid c.0 c.1 before goes.0)))
-    where
-      go : (course : Course) → answered mid.todo mid.watch mid.boot c.1 ≡ course → ((left : Left) → answered mid.todo mid.watch mid.boot c.1 ≡ Going left → Goes cs (Going left) (Going end) → After ((trace ++ Did c.0 true c.1 ∷ []) ++ events cs) ((past ++ c ∷ []) ++ cs)) → After (trace ++ events (c ∷ cs)) (past ++ c ∷ cs)
-      go (Going left) is further =
-          subst (λ l. After l (past ++ c ∷ cs)) (append_assoc trace (Did c.0 true c.1 ∷ []) (events cs))
-          (subst (λ l. After ((trace ++ Did c.0 true c.1 ∷ []) ++ events cs) l) (append_assoc past (c ∷ []) cs) (further left is (subst (λ k. Goes cs k (Going end)) is goes.1)))
-      go (Cut what) is further = absurd (cut_ends cs what end (subst (λ k. Goes cs k (Going end)) is goes.1))
-      go Halted is further = absurd (halt_ends cs end (subst (λ k. Goes cs k (Going end)) is goes.1))
-
-  -- the controller is at work after any acknowledged prefix of the course
-  pub course_works : (trace : List Event) (cs : Sent) (mid : Left) → AtWork t trace side rs s → world_of trace ≡ w → Goes cs (Going begin) (Going mid) → After (trace ++ events cs) cs
-  course_works trace cs mid work same goes = along_course trace [] cs begin mid (record { work = work; world = same }) refl goes
-
-  -- and after the next command, applied or not, whatever it answers
-  pub next_works : (trace : List Event) (cs : Sent) (mid : Left) (op : DeviceOp) (applied : Bool) (answer : Result Answer Fault) → AtWork t trace side rs s → world_of trace ≡ w → Goes cs (Going begin) (Going mid) → next mid.todo mid.watch mid.boot ≡ Some op
-      → AtWork t ((trace ++ events cs) ++ Did op applied answer ∷ []) side rs s
-  next_works trace cs mid op applied answer work same goes comes = one_more (trace ++ events cs) cs mid op applied answer (course_works trace cs mid work same goes) goes comes

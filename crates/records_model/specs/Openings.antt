@@ -1,9 +1,5 @@
 -- What an opening finds, and the states of side A while a new journal is made.
-use Rattle.std.specs.Prelude.{◌≡◌, ℕ, List, Option, Some, None}
-use Rattle.lab_base.specs.declared.ids.VlanId.{VlanId}
-use Rattle.virt_topo.specs.declared.mapping.Mapping.{Mapping}
-use Rattle.virt_topo.specs.declared.mapping.Mapped.{Mapped}
-use Rattle.virt_topo.specs.declared.experiment.Experiment.{Experiment}
+use Rattle.std.specs.Prelude.{ℕ, ◌≡◌, List}
 use Rattle.plant.specs.Disks.{at_once, disk}
 use Rattle.plant.specs.Events.{Event}
 use Rattle.plant.specs.Worlds.{world_of}
@@ -12,9 +8,9 @@ use Rattle.plant.specs.declared.step.Side.TheVariants.{A, B}
 use Rattle.journal_rec.specs.declared.record.Record.{Record}
 use Rattle.lab_model.specs.Sound.{Keeps}
 use Rattle.journal_model.specs.Journals.{Blank, head}
-use Rattle.records_model.specs.Labs.{LabState, Texts, at_first, find, mapped}
+use Rattle.records_model.specs.Labs.{LabState, Texts, at_first}
 use Rattle.records_model.specs.Appends.{standing}
-use Rattle.records_model.specs.Works.{AtWork, Open}
+use Rattle.records_model.specs.Works.{AtWork}
 
 -- what is known while a journal is made
 pub record Blanks (trace : List Event) : Type 0 where
@@ -27,18 +23,3 @@ pub record Blanks (trace : List Event) : Type 0 where
 pub data Finds (t : Texts) (trace : List Event) : Type 0 where
   nothing : Blanks trace → (bytes : List ℕ) → disk A trace ≡ at_once bytes → head bytes ≡ Blank → Finds t trace
   works : (side : Side) (rs : List Record) (s : LabState) → AtWork t trace side rs s → Finds t trace
-
--- which mapping a swap-in that was begun moves to
-pub record BegunIn (t : Texts) (trace : List Event) (side : Side) (rs : List Record) (s u : LabState) (name : List ℕ) (mapping : Mapping) (tags : List VlanId) : Type 0 where
-  pub was : Experiment
-  pub found : find name s.experiments ≡ Some was
-  pub exp : Experiment
-  pub name_is : exp.name ≡ name
-  pub open_is : Open t trace side rs u exp None (Some (mapped was.wiring mapping tags))
-
--- the experiment that a record began to move, from that mapping
-pub record OpenedBy (t : Texts) (trace : List Event) (side : Side) (rs : List Record) (u : LabState) (name : List ℕ) (new : Option Mapped) : Type 0 where
-  pub exp : Experiment
-  pub old : Mapped
-  pub name_is : exp.name ≡ name
-  pub open_is : Open t trace side rs u exp (Some old) new

@@ -1,5 +1,5 @@
 -- Blocks of lines.
-use Rattle.std.proofs.Common.{◌≡◌, ℕ, zero, suc, ◌+◌, ◌<◌, Some, None, List, [], ◌∷◌, ◌++◌, length, append_assoc, length-append, arith, Option, refl, sym, subst, ap, ◌∙◌}
+use Rattle.std.proofs.Common.{◌≡◌, ℕ, zero, suc, ◌+◌, ◌*◌, ◌<◌, ◌≤◌, inl, inr, Some, None, List, [], ◌∷◌, ◌++◌, length, append_assoc, length-append, arith, Option, refl, sym, subst, ap, ◌∙◌}
 use Rattle.std.proofs.lemmas.List.{append-nil}
 use Rattle.std.specs.Io.KnownBytes.{IsAtEnd}
 use Rattle.lab_io.specs.Lines.{lines_from}
@@ -7,6 +7,9 @@ use Rattle.lab_io.specs.Passed.{Stand, IsSettled, Passed}
 use Rattle.lab_io.proofs.Passing.{passed_none, passed_more}
 use Rattle.script_text.specs.Commands.{Lines, Whole, Short, block}
 use Rattle.script_text.specs.Taking.{known, joined, StartsLong, NoLine, HasLong, HasNoLine, Blocked, Fewer}
+use Rattle.lab_base.specs.Lists.{Has}
+use Rattle.lab_base.proofs.Members.{Has-append}
+use Rattle.script_text.specs.Blocks.{IsBlock}
 use Rattle.script_text.proofs.Taken.{told_lines}
 
 -- lines enough are a block
@@ -69,3 +72,31 @@ long_no_line b long bytes is = by (lines_from b.taken bytes) (long bytes is)
     by [] h = absurd h
     by (None ∷ lines) h = tt
     by (Some line ∷ lines) h = absurd h
+
+-- THE BLOCK OF A COMMAND, line by line
+pub none_block : IsBlock 0 []
+none_block = record { lines = []; few = omega arith; all = refl; short = λ line h. absurd h; text_is = refl }
+
+pub block_on : (k : ℕ) (text with_line new line : List ℕ) → IsBlock k text → k + 1 ≤ 16384 → length line ≤ 4096 → with_line ≡ text ++ line → new ≡ with_line ++ 10 ∷ [] → IsBlock (k + 1) new
+block_on k text with_line new line b few short is_line is = record {
+  lines = b.lines ++ line ∷ [];
+  few = few;
+  all = length-append b.lines (line ∷ []) ∙ ap (λ (n : ℕ). n + 1) b.all;
+  short = λ l h. elim (Has-append b.lines (line ∷ []) l h) [
+    | inl old ↦ b.short l old
+    | inr (inl e) ↦ subst (λ (x : List ℕ). length x ≤ 4096) e short
+    | inr (inr none) ↦ absurd none
+  ];
+  text_is = is ∙ ap (λ (l : List ℕ). l ++ 10 ∷ []) (is_line ∙ ap (λ (l : List ℕ). l ++ line) b.text_is) ∙ sym (joined_on b.lines line);
+}
+
+-- ITS LENGTH
+joined_length : (lines : List (List ℕ)) → ((line : List ℕ) → Has lines line → length line ≤ 4096) → length (joined lines) ≤ length lines * 4097
+joined_length [] short = omega arith
+joined_length (line ∷ lines) short =
+    let own = length-append line (10 ∷ []) in
+    let all = length-append (line ++ 10 ∷ []) (joined lines) in
+    omega (arith, own, all, short line (inl refl), joined_length lines (λ x g. short x (inr g)))
+
+pub block_length : (count : ℕ) (text : List ℕ) → IsBlock count text → length text < 4294967295
+block_length count text b = omega (arith, b.few, b.all, ap length b.text_is, joined_length b.lines b.short)

@@ -1,5 +1,5 @@
 -- Commands that were read whole, and commands that were not.
-use Rattle.std.proofs.Common.{◌≡◌, inr, ℕ, ◌+◌, List, [], ◌++◌, refl, sym, ap, ◌∙◌}
+use Rattle.std.proofs.Common.{inr, ℕ, ◌+◌, List, [], ◌++◌, refl, sym, ap, ◌∙◌}
 use Rattle.std.proofs.lemmas.List.{append-nil}
 use Rattle.std.specs.Io.KnownBytes.{IsAtEnd}
 use Rattle.lab_io.specs.Lines.{lines_from}
@@ -8,34 +8,35 @@ use Rattle.lab_io.proofs.Passing.{passed_none, passed_more}
 use Rattle.script_text.specs.Commands.{Lines, block, with_block, Got, Bad, command_at, next_of}
 use Rattle.script_text.specs.declared.command.Command.{Command}
 use Rattle.script_text.specs.declared.heads.Head.{Head}
+use Rattle.script_text.specs.declared.heads.Head.TheVariants as heads
+use Rattle.script_text.specs.declared.heads.OneBlock.{OneBlock}
+use Rattle.script_text.specs.Heads.{completed}
 use Rattle.script_text.specs.declared.next.Next.TheVariants as nexts
 use Rattle.script_text.specs.Taking.{known, Skipped, Begun, Blocked, IsShort, IsCut, Completes, IsBadAt, IsHalf, IsBad, Reads, IsUnfinished}
 use Rattle.script_text.proofs.Taken.{told_lines, known_behind}
 use Rattle.script_text.proofs.Blocks.{block_whole, block_short}
 
 -- A COMMAND WITH ONE BLOCK
-module _ (head : Head) (k : ℕ) (as_command : List ℕ → Command) (one : (n : ℕ) (ls : Lines) → command_at head n ls ≡ with_block (block k [] n ls) as_command) where
-  pub block_completes : (a b : Stand) (text : List ℕ) → Blocked a b k text → Completes a b head (as_command text)
+module _ (what : OneBlock) (k : ℕ) where
+  pub block_completes : (a b : Stand) (text : List ℕ) → Blocked a b k text → Completes a b (heads.Block what k) (completed what k text)
   block_completes a b text s = record {
     texts = s.texts;
     passed = s.passed;
     gives = λ more.
-        one a.lines (known s.texts ++ more)
-        ∙ ap (λ (n : ℕ). with_block (block n [] a.lines (known s.texts ++ more)) as_command) (sym s.all)
-        ∙ ap (λ w. with_block w as_command) (block_whole s.texts [] a.lines more)
-        ∙ (λ i. Got (as_command (sym s.text_is i)) (sym s.passed.number i) more);
+        ap (λ (n : ℕ). with_block (block n [] a.lines (known s.texts ++ more)) (completed what k)) (sym s.all)
+        ∙ ap (λ w. with_block w (completed what k)) (block_whole s.texts [] a.lines more)
+        ∙ (λ i. Got (completed what k (sym s.text_is i)) (sym s.passed.number i) more);
   }
 
-  pub short_bad : (a : Stand) (line : ℕ) → IsShort a k line → IsBadAt a head line
+  pub short_bad : (a : Stand) (line : ℕ) → IsShort a k line → IsBadAt a (heads.Block what k) line
   short_bad a line s bytes is =
       let told = told_lines a s.mid s.some.texts bytes s.some.passed is in
-      one a.lines (lines_from a.taken bytes)
-      ∙ ap (λ (ls : Lines). with_block (block k [] a.lines ls) as_command) told.2
-      ∙ ap (λ w. with_block w as_command) (block_short k s.some.texts [] a.lines (lines_from s.mid.taken told.0) s.some.few (s.none told.0 told.1))
+      ap (λ (ls : Lines). with_block (block k [] a.lines ls) (completed what k)) told.2
+      ∙ ap (λ w. with_block w (completed what k)) (block_short k s.some.texts [] a.lines (lines_from s.mid.taken told.0) s.some.few (s.none told.0 told.1))
       ∙ ap (λ (n : ℕ). Bad (n + 1)) (sym s.some.passed.number)
       ∙ ap (λ (n : ℕ). Bad n) (sym s.line_is)
 
-  pub cut_half : (a new : Stand) → IsCut a new k → IsHalf a new head
+  pub cut_half : (a new : Stand) → IsCut a new k → IsHalf a new (heads.Block what k)
   cut_half a new s = record {
     mid = s.mid;
     texts = s.some.texts;
@@ -43,15 +44,14 @@ module _ (head : Head) (k : ℕ) (as_command : List ℕ → Command) (one : (n :
     same = s.same;
     more = s.more;
     half =
-        one a.lines (known s.some.texts)
-        ∙ ap (λ (ls : Lines). with_block (block k [] a.lines ls) as_command) (sym (append-nil (known s.some.texts)))
-        ∙ ap (λ w. with_block w as_command) (block_short k s.some.texts [] a.lines [] s.some.few tt)
+        ap (λ (ls : Lines). with_block (block k [] a.lines ls) (completed what k)) (sym (append-nil (known s.some.texts)))
+        ∙ ap (λ w. with_block w (completed what k)) (block_short k s.some.texts [] a.lines [] s.some.few tt)
         ∙ ap (λ (n : ℕ). Bad (n + 1)) (sym s.some.passed.number);
   }
 
 -- a command without a block
-pub bare_completes : (a : Stand) (head : Head) (command : Command) → IsSettled a → ((more : Lines) → command_at head a.lines more ≡ Got command a.lines more) → Completes a a head command
-bare_completes a head command settled gives = record { texts = []; passed = passed_none a a settled (λ h. h) refl refl refl; gives = gives }
+pub whole_completes : (a : Stand) (command : Command) → IsSettled a → Completes a a (heads.Whole command) command
+whole_completes a command settled = record { texts = []; passed = passed_none a a settled (λ h. h) refl refl refl; gives = λ more. refl }
 
 -- BEHIND SKIPPED LINES AND A HEAD
 pub command_next : (a b c : Stand) (head : Head) (command : Command) → Begun a b head → Completes b c head command → Reads a (nexts.Command command) c

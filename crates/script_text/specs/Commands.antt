@@ -1,13 +1,12 @@
 -- The commands of a script.
 use Rattle.std.specs.Prelude.{◌≡◌, ◌+◌, ℕ, zero, suc, List, [], ◌∷◌, ◌++◌, Option, Some, None}
 use Rattle.lab_io.specs.Lines.{script_lines}
-use Rattle.script_text.specs.Heads.{said_of}
+use Rattle.script_text.specs.Heads.{completed, said_of}
 use Rattle.script_text.specs.declared.heads.Head.{Head}
 use Rattle.script_text.specs.declared.heads.Head.TheVariants as heads
 use Rattle.script_text.specs.declared.heads.Said.{Said}
 use Rattle.script_text.specs.declared.heads.Said.TheVariants.{Skipped, Unknown, Begins}
 use Rattle.script_text.specs.declared.command.Command.{Command}
-use Rattle.script_text.specs.declared.command.Command.TheVariants.{Ptop, Create, CreateTop, Show, SwapinWith, Swapout, Fail, Delete, Status}
 
 -- lines of a script, of which each has a text or is too long
 abbrev pub Lines : Type 0
@@ -39,15 +38,8 @@ with_block (Short line) as_command = Bad line
 
 -- the command that begins at line `number`
 abbrev pub command_at : Head → ℕ → Lines → Found
-command_at (heads.Ptop k) number lines = with_block (block k [] number lines) (λ text. Ptop k text)
-command_at (heads.Create exp k) number lines = with_block (block k [] number lines) (λ text. Create exp k text)
-command_at (heads.CreateTop exp k) number lines = with_block (block k [] number lines) (λ text. CreateTop exp k text)
-command_at (heads.Show exp) number lines = Got (Show exp) number lines
-command_at (heads.SwapinWith exp k) number lines = with_block (block k [] number lines) (λ text. SwapinWith exp k text)
-command_at (heads.Swapout exp) number lines = Got (Swapout exp) number lines
-command_at (heads.Fail device nth how) number lines = Got (Fail device nth how) number lines
-command_at (heads.Delete exp) number lines = Got (Delete exp) number lines
-command_at heads.Status number lines = Got Status number lines
+command_at (heads.Whole command) number lines = Got command number lines
+command_at (heads.Block what k) number lines = with_block (block k [] number lines) (completed what k)
 
 -- what is found at a line by what it says: a skipped line leaves the matter to what is found behind it
 abbrev pub found_by : Said → ℕ → Lines → Found → Found

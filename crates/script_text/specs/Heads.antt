@@ -5,12 +5,23 @@ use Rattle.std.specs.Str.{bytes_eq}
 use Rattle.lab_base.specs.Names.{is_name}
 use Rattle.lab_base.specs.Numbers.{number_of}
 use Rattle.lab_base.specs.Texts.{fields_of, is_skipped}
+use Rattle.script_text.specs.declared.command.Command.{Command}
+use Rattle.script_text.specs.declared.command.Command.TheVariants as commands
+use Rattle.script_text.specs.declared.heads.OneBlock.{OneBlock}
+use Rattle.script_text.specs.declared.heads.OneBlock.TheVariants.{Ptop, Create, CreateTop, SwapinWith}
 use Rattle.script_text.specs.declared.heads.Head.{Head}
-use Rattle.script_text.specs.declared.heads.Head.TheVariants.{Ptop, Create, CreateTop, Show, SwapinWith, Swapout, Fail, Delete, Status}
+use Rattle.script_text.specs.declared.heads.Head.TheVariants.{Whole, Block}
 use Rattle.plant.specs.declared.drill.How.{How}
 use Rattle.plant.specs.declared.drill.How.TheVariants.{Applied, Not, Hang, Jump}
 use Rattle.script_text.specs.declared.heads.Said.{Said}
 use Rattle.script_text.specs.declared.heads.Said.TheVariants.{Skipped, Unknown, Begins}
+
+-- the command that a block of so many lines completes
+abbrev pub completed : OneBlock → ℕ → List ℕ → Command
+completed Ptop k text = commands.Ptop k text
+completed (Create exp) k text = commands.Create exp k text
+completed (CreateTop exp) k text = commands.CreateTop exp k text
+completed (SwapinWith exp) k text = commands.SwapinWith exp k text
 
 -- the number of lines of a block
 abbrev pub counted : List ℕ → Option ℕ
@@ -20,27 +31,22 @@ counted field = number_of 16384 field
 abbrev pub named : List ℕ → Option (List ℕ)
 named field = if is_name field then Some field else None
 
--- the commands of one, two and three fields
-abbrev pub bare_head : List ℕ → Option Head
-bare_head word = if bytes_eq word (codes "status") then Some Status else None
+-- what the fields behind a word are: none, a name, a number of lines, or a name and a number of lines
+abbrev pub no_field : List (List ℕ) → Option (Unit {0})
+no_field [] = Some tt
+no_field fields = None
 
-abbrev pub short_head : List ℕ → List ℕ → Option Head
-short_head word field =
-    if bytes_eq word (codes "ptop") then option_map (λ lines. Ptop lines) (counted field)
-    else if bytes_eq word (codes "show") then option_map (λ exp. Show exp) (named field)
-    else if bytes_eq word (codes "delete") then option_map (λ exp. Delete exp) (named field)
-    else if bytes_eq word (codes "swapout") then option_map (λ exp. Swapout exp) (named field)
-    else None
+abbrev pub only_name : List (List ℕ) → Option (List ℕ)
+only_name (exp ∷ []) = named exp
+only_name fields = None
 
-abbrev pub with_count : (List ℕ → ℕ → Head) → Option ℕ → List ℕ → Option Head
-with_count head count exp = option_map (λ lines. head exp lines) count
+abbrev pub only_count : List (List ℕ) → Option ℕ
+only_count (lines ∷ []) = counted lines
+only_count fields = None
 
-abbrev pub long_head : List ℕ → List ℕ → List ℕ → Option Head
-long_head word first second =
-    if bytes_eq word (codes "create") then option_and_then (with_count Create (counted second)) (named first)
-    else if bytes_eq word (codes "create-top") then option_and_then (with_count CreateTop (counted second)) (named first)
-    else if bytes_eq word (codes "swapin-with") then option_and_then (with_count SwapinWith (counted second)) (named first)
-    else None
+abbrev pub name_and_count : List (List ℕ) → Option (List ℕ × ℕ)
+name_and_count (exp ∷ lines ∷ []) = option_and_then (λ name. option_map (λ k. (name, k)) (counted lines)) (named exp)
+name_and_count fields = None
 
 -- how a device fails, and which command or poll of it, from 1
 abbrev pub how_of : List ℕ → Option How
@@ -58,21 +64,31 @@ from_one (suc n) = Some (suc n)
 abbrev pub nth_of : List ℕ → Option ℕ
 nth_of field = option_and_then from_one (number_of 1000000 field)
 
--- the command of four fields, a drill
+-- a drill
 abbrev pub with_how : List ℕ → ℕ → Option How → Option Head
-with_how device nth how = option_map (λ h. Fail device nth h) how
+with_how device nth how = option_map (λ h. Whole (commands.Fail device nth h)) how
 
-abbrev pub drill_head : List ℕ → List ℕ → List ℕ → List ℕ → Option Head
-drill_head word device nth how =
-    if bytes_eq word (codes "fail") then option_and_then (λ name. option_and_then (λ n. with_how name n (how_of how)) (nth_of nth)) (named device)
+abbrev pub drill_head : List (List ℕ) → Option Head
+drill_head (device ∷ nth ∷ how ∷ []) = option_and_then (λ name. option_and_then (λ n. with_how name n (how_of how)) (nth_of nth)) (named device)
+drill_head fields = None
+
+-- A COMMAND BY ITS WORD and the fields behind it
+abbrev pub head_by : List ℕ → List (List ℕ) → Option Head
+head_by word fields =
+    if bytes_eq word (codes "ptop") then option_map (λ k. Block Ptop k) (only_count fields)
+    else if bytes_eq word (codes "create") then option_map (λ given. Block (Create given.0) given.1) (name_and_count fields)
+    else if bytes_eq word (codes "create-top") then option_map (λ given. Block (CreateTop given.0) given.1) (name_and_count fields)
+    else if bytes_eq word (codes "show") then option_map (λ exp. Whole (commands.Show exp)) (only_name fields)
+    else if bytes_eq word (codes "swapin-with") then option_map (λ given. Block (SwapinWith given.0) given.1) (name_and_count fields)
+    else if bytes_eq word (codes "swapout") then option_map (λ exp. Whole (commands.Swapout exp)) (only_name fields)
+    else if bytes_eq word (codes "delete") then option_map (λ exp. Whole (commands.Delete exp)) (only_name fields)
+    else if bytes_eq word (codes "status") then option_map (λ none. Whole commands.Status) (no_field fields)
+    else if bytes_eq word (codes "fail") then drill_head fields
     else None
 
 abbrev pub head_of : List (List ℕ) → Option Head
-head_of (word ∷ []) = bare_head word
-head_of (word ∷ field ∷ []) = short_head word field
-head_of (word ∷ first ∷ second ∷ []) = long_head word first second
-head_of (word ∷ first ∷ second ∷ third ∷ []) = drill_head word first second third
-head_of fields = None
+head_of [] = None
+head_of (word ∷ fields) = head_by word fields
 
 -- what a line says where a command may begin
 abbrev pub begins : Option Head → Said

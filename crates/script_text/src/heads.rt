@@ -1,35 +1,39 @@
 // What the first line of a command says.
-ghost use Rattle.std.specs.Prelude.{◌≡◌, IfOk};
+ghost use Rattle.std.specs.Prelude.{◌≡◌, ◌≤◌, List, ℕ, IfOk, IfSome};
 ghost use Rattle.std.specs.Str.{bytes_eq};
 ghost use Rattle.lab_base.specs.Texts.{views};
-ghost use Rattle.script_text.specs.Heads.{head_of, bare_head, short_head, long_head, drill_head, said_of, counted, named, how_of, nth_of};
+ghost use Rattle.script_text.specs.Blocks.{IsBlock, HasBlocks, IsInRange, SaysInRange};
+ghost use Rattle.script_text.specs.Heads.{completed, counted, named, no_field, only_name, only_count, name_and_count, how_of, nth_of, drill_head, head_by, head_of, said_of};
 
+use crate::Command;
 use lab_base::{Memory, Name, Text, fields_in, is_skipped, read_number};
 use plant::How;
 use std::alloc::Global;
 
 /// The most lines of a block.
-const MOST: u64 = 16_384;
+const MAX_LINES: u64 = 16_384;
 
 /// The last command or poll that a drill can make fail.
-const LAST: u64 = 1_000_000;
+const MAX_NTH: u64 = 1_000_000;
 
-/// The first line of a command, with the number of the lines of its block.
+/// A command that one block completes.
 #[derive(Clone, Copy)]
+pub(crate) enum OneBlock {
+    Ptop,
+    Create { exp: Name },
+    CreateTop { exp: Name },
+    SwapinWith { exp: Name },
+}
+
+/// The first line of a command: the command, or what it is once the lines of its block are there.
+#[derive(Drop)]
 pub(crate) enum Head {
-    Ptop { lines: u16 },
-    Create { exp: Name, lines: u16 },
-    CreateTop { exp: Name, lines: u16 },
-    Show { exp: Name },
-    SwapinWith { exp: Name, lines: u16 },
-    Swapout { exp: Name },
-    Fail { device: Name, nth: u32, how: How },
-    Delete { exp: Name },
-    Status,
+    Whole(Command),
+    Block { what: OneBlock, lines: u16 },
 }
 
 /// What a line says where a command may begin.
-#[derive(Clone, Copy)]
+#[derive(Drop)]
 pub(crate) enum Said {
     /// It has no field, or its first one begins with `#`.
     Skipped,
@@ -38,11 +42,39 @@ pub(crate) enum Said {
     Begins(Head),
 }
 
+impl OneBlock {
+    /// The command with its block.
+    pub(crate) fn completed(self, lines: u16, text: Text) -> Command
+        ensures command { result ≡ completed self lines text }
+        ensures blocks { IsBlock lines text → HasBlocks result }
+    {
+        match self {
+            OneBlock::Ptop => Command::Ptop { lines, ptop: text },
+            OneBlock::Create { exp } => Command::Create {
+                exp,
+                lines,
+                ns: text,
+            },
+            OneBlock::CreateTop { exp } => Command::CreateTop {
+                exp,
+                lines,
+                top: text,
+            },
+            OneBlock::SwapinWith { exp } => Command::SwapinWith {
+                exp,
+                lines,
+                map: text,
+            },
+        }
+    }
+}
+
 /// The number of lines that a field gives.
 fn count_in(field: &[u8]) -> Option<u16>
-    ensures { result ≡ counted field.now }
+    ensures count { result ≡ counted field.now }
+    ensures few { IfSome result (λ lines. lines ≤ 16384) }
 {
-    match read_number(field, MOST) {
+    match read_number(field, MAX_LINES) {
         Ok(lines) => Some(lines as u16),
         Err(_) => None,
     }
@@ -58,64 +90,57 @@ fn name_in(field: &[u8]) -> Option<Name>
     }
 }
 
+/// Whether there is no field.
+fn no_field(fields: &[&[u8]]) -> Option<()>
+    ensures { result ≡ no_field (views fields.now) }
+{
+    match fields {
+        [] => Some(()),
+        _ => None,
+    }
+}
+
+/// The name that the only field gives.
+fn only_name(fields: &[&[u8]]) -> Option<Name>
+    ensures { result ≡ only_name (views fields.now) }
+{
+    match fields {
+        [exp] => name_in(exp),
+        _ => None,
+    }
+}
+
+/// The number of lines that the only field gives.
+fn only_count(fields: &[&[u8]]) -> Option<u16>
+    ensures count { result ≡ only_count (views fields.now) }
+    ensures few { IfSome result (λ lines. lines ≤ 16384) }
+{
+    match fields {
+        [lines] => count_in(lines),
+        _ => None,
+    }
+}
+
+/// The name and the number of lines that two fields give.
+fn name_and_count(fields: &[&[u8]]) -> Option<(Name, u16)>
+    ensures pair { result ≡ name_and_count (views fields.now) }
+    ensures few { IfSome result (λ given. given.1 ≤ 16384) }
+{
+    match fields {
+        [exp, lines] => {
+            let exp = name_in(exp)?;
+            let lines = count_in(lines)?;
+            Some((exp, lines))
+        }
+        _ => None,
+    }
+}
+
 /// Whether a field is that word.
 fn is_word(field: &[u8], word: &[u8]) -> bool
     ensures { result ≡ bytes_eq field.now word.now }
 {
     field == word
-}
-
-/// The head of a command of one field.
-fn bare_head(word: &[u8]) -> Option<Head>
-    ensures { result ≡ bare_head word.now }
-{
-    if is_word(word, b"status") {
-        Some(Head::Status)
-    } else {
-        None
-    }
-}
-
-/// The head of a command with one field behind its word.
-fn short_head(word: &[u8], field: &[u8]) -> Option<Head>
-    ensures { result ≡ short_head word.now field.now }
-{
-    if is_word(word, b"ptop") {
-        let lines = count_in(field)?;
-        Some(Head::Ptop { lines })
-    } else if is_word(word, b"show") {
-        let exp = name_in(field)?;
-        Some(Head::Show { exp })
-    } else if is_word(word, b"delete") {
-        let exp = name_in(field)?;
-        Some(Head::Delete { exp })
-    } else if is_word(word, b"swapout") {
-        let exp = name_in(field)?;
-        Some(Head::Swapout { exp })
-    } else {
-        None
-    }
-}
-
-/// The head of a command with two fields behind its word.
-fn long_head(word: &[u8], first: &[u8], second: &[u8]) -> Option<Head>
-    ensures { result ≡ long_head word.now first.now second.now }
-{
-    if is_word(word, b"create") {
-        let exp = name_in(first)?;
-        let lines = count_in(second)?;
-        Some(Head::Create { exp, lines })
-    } else if is_word(word, b"create-top") {
-        let exp = name_in(first)?;
-        let lines = count_in(second)?;
-        Some(Head::CreateTop { exp, lines })
-    } else if is_word(word, b"swapin-with") {
-        let exp = name_in(first)?;
-        let lines = count_in(second)?;
-        Some(Head::SwapinWith { exp, lines })
-    } else {
-        None
-    }
 }
 
 /// How a device fails, by a field.
@@ -139,49 +164,89 @@ fn how_in(field: &[u8]) -> Option<How>
 fn nth_in(field: &[u8]) -> Option<u32>
     ensures { result ≡ nth_of field.now }
 {
-    match read_number(field, LAST) {
+    match read_number(field, MAX_NTH) {
         Ok(0) | Err(_) => None,
         Ok(nth) => Some(nth as u32),
     }
 }
 
-/// The head of a command with three fields behind its word.
-fn drill_head(word: &[u8], device: &[u8], nth: &[u8], how: &[u8]) -> Option<Head>
-    ensures { result ≡ drill_head word.now device.now nth.now how.now }
+/// The drill that fields give.
+fn drill_head(fields: &[&[u8]]) -> Option<Head>
+    ensures head { result ≡ drill_head (views fields.now) }
+    ensures range { IfSome result IsInRange }
 {
-    if is_word(word, b"fail") {
-        let device = name_in(device)?;
-        let nth = nth_in(nth)?;
-        let how = how_in(how)?;
-        Some(Head::Fail { device, nth, how })
+    match fields {
+        [device, nth, how] => {
+            let device = name_in(device)?;
+            let nth = nth_in(nth)?;
+            let how = how_in(how)?;
+            Some(Head::Whole(Command::Fail { device, nth, how }))
+        }
+        _ => None,
+    }
+}
+
+/// The head that a word and the fields behind it are: the words of all commands.
+fn head_by(word: &[u8], fields: &[&[u8]]) -> Option<Head>
+    ensures head { result ≡ head_by word.now (views fields.now) }
+    ensures range { IfSome result IsInRange }
+{
+    if is_word(word, b"ptop") {
+        let lines = only_count(fields)?;
+        Some(Head::Block {
+            what: OneBlock::Ptop,
+            lines,
+        })
+    } else if is_word(word, b"create") {
+        let (exp, lines) = name_and_count(fields)?;
+        Some(Head::Block {
+            what: OneBlock::Create { exp },
+            lines,
+        })
+    } else if is_word(word, b"create-top") {
+        let (exp, lines) = name_and_count(fields)?;
+        Some(Head::Block {
+            what: OneBlock::CreateTop { exp },
+            lines,
+        })
+    } else if is_word(word, b"show") {
+        let exp = only_name(fields)?;
+        Some(Head::Whole(Command::Show { exp }))
+    } else if is_word(word, b"swapin-with") {
+        let (exp, lines) = name_and_count(fields)?;
+        Some(Head::Block {
+            what: OneBlock::SwapinWith { exp },
+            lines,
+        })
+    } else if is_word(word, b"swapout") {
+        let exp = only_name(fields)?;
+        Some(Head::Whole(Command::Swapout { exp }))
+    } else if is_word(word, b"delete") {
+        let exp = only_name(fields)?;
+        Some(Head::Whole(Command::Delete { exp }))
+    } else if is_word(word, b"status") {
+        no_field(fields)?;
+        Some(Head::Whole(Command::Status))
+    } else if is_word(word, b"fail") {
+        drill_head(fields)
     } else {
         None
     }
 }
 
-/// The head that the fields of a line are.
-fn head_in(fields: &[&[u8]]) -> Option<Head>
-    ensures { result ≡ head_of (views fields.now) }
-{
-    match fields {
-        [] => None,
-        [word] => bare_head(word),
-        [word, field] => short_head(word, field),
-        [word, first, second] => long_head(word, first, second),
-        [word, first, second, third] => drill_head(word, first, second, third),
-        [_, _, _, _, _, ..] => None,
-    }
-}
-
 /// What a line says where a command may begin.
 pub(crate) fn said_in(alloc: Global, line: &Text) -> Result<Said, Memory>
-    ensures { IfOk result (λ said. said ≡ said_of line.now) }
+    ensures said { IfOk result (λ said. said ≡ said_of line.now) }
+    ensures range { IfOk result SaysInRange }
 {
     let fields = fields_in(alloc, line.bytes())?;
     if is_skipped(&fields) {
         return Ok(Said::Skipped);
     }
-    match head_in(&fields) {
+    let [word, rest @ ..] = fields.as_slice() else {
+        return Ok(Said::Unknown);
+    };
+    match head_by(word, rest) {
         Some(head) => Ok(Said::Begins(head)),
         None => Ok(Said::Unknown),
     }

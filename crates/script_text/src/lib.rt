@@ -1,7 +1,7 @@
 //! Scripts and replies: the commands of a script's lines, and the text of each reply.
 //!
-//! A command joins by a variant of `Command`, a head and what its head completes to; a reply by a variant of `Reply`
-//! and its text.
+//! A command joins by a variant of `Command` and a row of the table of words, `head_by`; one with a block also by a
+//! variant of `OneBlock`. A reply joins by a variant of `Reply` and its text.
 #![tactic(auto)]
 
 mod command;

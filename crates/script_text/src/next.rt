@@ -4,6 +4,7 @@ ghost use Rattle.lab_io.specs.Causes.{Rose};
 ghost use Rattle.lab_io.specs.Feeds.{NoFeed};
 ghost use Rattle.lab_io.specs.Passed.{Passed, IsReady, stand_of};
 ghost use Rattle.lab_io.specs.Taken.{fault_of, lines_of, taken_of, ended_of, pending_of, rest_of};
+ghost use Rattle.script_text.specs.Blocks.{IsBlock, HasBlocks, NextHasBlocks, IsInRange};
 ghost use Rattle.script_text.specs.Taking.{HasLong, Skipped, Begun, Blocked, IsShort, IsCut, Completes, IsBadAt, IsHalf, IsBad, Reads, GoesOn, IsUnfinished};
 
 use crate::Command;
@@ -43,6 +44,7 @@ impl From<Memory> for ScriptFault {
 /// Takes a line.
 fn take_line<S: Source>(lines: &mut LineReader, source: &mut S) -> Result<Option<Text>, ScriptFault>
     ensures some { IfOk result (λ line. IfSome line (λ text. Passed (stand_of lines.old (S.left source.old)) (stand_of lines.new (S.left source.new)) (text ∷ []))) }
+    ensures short { IfOk result (λ line. IfSome line (λ text. length text ≤ 4096)) }
     ensures more { IfOk result (λ line. IfSome line (λ text. taken_of lines.old < taken_of lines.new)) }
     ensures none { IsReady lines.old (S.left source.old) → IfOk result (λ line. IfNone line (Passed (stand_of lines.old (S.left source.old)) (stand_of lines.new (S.left source.new)) [] × IsAtEnd (rest_of lines.new (S.left source.new)))) }
     ensures bad { fault_of lines.old ≡ None → (line : ℕ) → IsErrOf result (ScriptFault.Bad line) → (line ≡ lines_of lines.old + 1) × HasLong (stand_of lines.old (S.left source.old)) }
@@ -67,6 +69,7 @@ fn find_head<S: Source>(
     source: &mut S,
 ) -> Result<Option<Head>, ScriptFault>
     ensures some { IsReady lines.old (S.left source.old) → IfOk result (λ found. IfSome found (λ head. Begun (stand_of lines.old (S.left source.old)) (stand_of lines.new (S.left source.new)) head)) }
+    ensures range { IfOk result (λ found. IfSome found IsInRange) }
     ensures more { IfOk result (λ found. IfSome found (λ head. taken_of lines.old < taken_of lines.new)) }
     ensures none { IsReady lines.old (S.left source.old) → IfOk result (λ found. IfNone found (Skipped (stand_of lines.old (S.left source.old)) (stand_of lines.new (S.left source.new)) × IsAtEnd (rest_of lines.new (S.left source.new)))) }
     ensures bad { IsReady lines.old (S.left source.old) → (line : ℕ) → IsErrOf result (ScriptFault.Bad line) → IsBad (stand_of lines.old (S.left source.old)) line }
@@ -100,6 +103,7 @@ fn take_block<S: Source>(
     count: u16,
 ) -> Result<Text, ScriptFault>
     ensures block { IsReady lines.old (S.left source.old) → IfOk result (λ text. Blocked (stand_of lines.old (S.left source.old)) (stand_of lines.new (S.left source.new)) count text) }
+    ensures lines { count ≤ 16384 → IfOk result (λ text. IsBlock count text) }
     ensures bad { IsReady lines.old (S.left source.old) → (line : ℕ) → IsErrOf result (ScriptFault.Bad line) → IsShort (stand_of lines.old (S.left source.old)) count line }
     ensures read { fault_of lines.old ≡ None → IsErrOf result ScriptFault.ReadFault → Rose (S.faults source.old) (S.faults source.new) × NoFeed (pending_of lines.new) }
     ensures cut { IsReady lines.old (S.left source.old) → IsErrOf result ScriptFault.ReadFault → IsCut (stand_of lines.old (S.left source.old)) (stand_of lines.new (S.left source.new)) count }
@@ -124,7 +128,7 @@ fn take_block<S: Source>(
     Ok(block)
 }
 
-/// Takes the blocks of the command that begins so.
+/// Takes the blocks of the command that begins so, as many as its head has.
 fn with_blocks<S: Source>(
     alloc: Global,
     head: Head,
@@ -132,6 +136,7 @@ fn with_blocks<S: Source>(
     source: &mut S,
 ) -> Result<Command, ScriptFault>
     ensures command { IsReady lines.old (S.left source.old) → IfOk result (λ command. Completes (stand_of lines.old (S.left source.old)) (stand_of lines.new (S.left source.new)) head command) }
+    ensures blocks { IsInRange head → IfOk result HasBlocks }
     ensures bad { IsReady lines.old (S.left source.old) → (line : ℕ) → IsErrOf result (ScriptFault.Bad line) → IsBadAt (stand_of lines.old (S.left source.old)) head line }
     ensures read { fault_of lines.old ≡ None → IsErrOf result ScriptFault.ReadFault → Rose (S.faults source.old) (S.faults source.new) × NoFeed (pending_of lines.new) }
     ensures unfinished { IsReady lines.old (S.left source.old) → IsErrOf result ScriptFault.ReadFault → IsHalf (stand_of lines.old (S.left source.old)) (stand_of lines.new (S.left source.new)) head }
@@ -140,39 +145,11 @@ fn with_blocks<S: Source>(
     ensures ok { fault_of lines.old ≡ None → OnOk result (fault_of lines.new ≡ None) }
 {
     match head {
-        Head::Ptop { lines: count } => {
-            let ptop = take_block(alloc, lines, source, count)?;
-            Ok(Command::Ptop { lines: count, ptop })
+        Head::Whole(command) => Ok(command),
+        Head::Block { what, lines: count } => {
+            let text = take_block(alloc, lines, source, count)?;
+            Ok(what.completed(count, text))
         }
-        Head::Create { exp, lines: count } => {
-            let ns = take_block(alloc, lines, source, count)?;
-            Ok(Command::Create {
-                exp,
-                lines: count,
-                ns,
-            })
-        }
-        Head::CreateTop { exp, lines: count } => {
-            let top = take_block(alloc, lines, source, count)?;
-            Ok(Command::CreateTop {
-                exp,
-                lines: count,
-                top,
-            })
-        }
-        Head::Show { exp } => Ok(Command::Show { exp }),
-        Head::SwapinWith { exp, lines: count } => {
-            let map = take_block(alloc, lines, source, count)?;
-            Ok(Command::SwapinWith {
-                exp,
-                lines: count,
-                map,
-            })
-        }
-        Head::Swapout { exp } => Ok(Command::Swapout { exp }),
-        Head::Fail { device, nth, how } => Ok(Command::Fail { device, nth, how }),
-        Head::Delete { exp } => Ok(Command::Delete { exp }),
-        Head::Status => Ok(Command::Status),
     }
 }
 
@@ -185,6 +162,7 @@ pub fn read_command<S: Source>(
     source: &mut S,
 ) -> Result<Next, ScriptFault>
     ensures next { IsReady lines.old (S.left source.old) → IfOk result (λ next. Reads (stand_of lines.old (S.left source.old)) next (stand_of lines.new (S.left source.new))) }
+    ensures blocks { IfOk result NextHasBlocks }
     ensures more { IfOk result (λ next. GoesOn next (taken_of lines.old) (taken_of lines.new)) }
     ensures bad { IsReady lines.old (S.left source.old) → (line : ℕ) → IsErrOf result (ScriptFault.Bad line) → IsBad (stand_of lines.old (S.left source.old)) line }
     ensures read { fault_of lines.old ≡ None → IsErrOf result ScriptFault.ReadFault → Rose (S.faults source.old) (S.faults source.new) × NoFeed (pending_of lines.new) }

@@ -1,10 +1,10 @@
 mod Knowing
 mod Others
 mod Places
+mod Quiet
 mod Rooms
 mod Standing
-mod Staying
 mod Stepping
-mod Turning
+pub mod Turning
 mod Watching
 mod Writing

@@ -1,5 +1,5 @@
 -- The journal's sides after a turn, and the stop of the plant in it.
-use Rattle.std.proofs.Common.{◌≡◌, ◌↔◌, ℕ, Bool, true, false, cond, List, [], ◌∷◌, ◌++◌, Option, Some, None, Result, Ok, Err, IfSome, IsTrue, inl, inr, refl, sym, ap, ◌∙◌, subst}
+use Rattle.std.proofs.Common.{ℕ, ◌≡◌, ◌↔◌, Bool, true, false, cond, List, [], ◌∷◌, ◌++◌, Option, Some, None, IsSome, Result, Ok, Err, IfSome, IsTrue, inl, inr, refl, sym, ap, ◌∙◌, subst}
 use Rattle.std.proofs.lemmas.List.{append-nil}
 use Rattle.std.proofs.lemmas.Option.{same_Some}
 use Rattle.lab_base.specs.declared.boot.Boot.{Boot}
@@ -24,18 +24,16 @@ use Rattle.journal_disk.specs.declared.fault.AppendFault.{AppendFault}
 use Rattle.journal_disk.specs.declared.fault.AppendFault.TheVariants as faults
 use Rattle.lab_model.specs.Courses.{Left, Watch, Course, Going, Cut, Halted, next, answered, lawful}
 use Rattle.lab_model.specs.Courses as courses
-use Rattle.swap_txn.specs.declared.what.What.TheVariants as whats
-use Rattle.swap_txn.specs.declared.stage.Stage.{Stage}
-use Rattle.swap_txn.specs.declared.stage.Stage.TheVariants as stages
-use Rattle.swap_txn.specs.declared.ended.Ended.{Ended}
+use Rattle.lab_base.specs.declared.what.What.TheVariants as whats
 use Rattle.swap_txn.specs.declared.live.Live.{Live}
-use Rattle.swap_txn.specs.declared.live.Live.TheVariants as lives
 use Rattle.swap_txn.specs.declared.turned.Turned.{Turned}
 use Rattle.swap_txn.specs.declared.turned.Turned.TheVariants.{Same, Next, Trouble, Stuck, Stopped}
-use Rattle.swap_txn.specs.States.{Undo, Forth, Back, stage_of}
-use Rattle.swap_txn.specs.Steps.{Seen, Stands, Sends, Writes}
+use Rattle.swap_txn.specs.States.{View}
+use Rattle.plant.specs.Seen.{Seen}
+use Rattle.swap_txn.specs.Steps.{Stands, Sends, Writes}
 use Rattle.swap_txn.specs.Troubles.{what_of}
-use Rattle.swap_txn.specs.Turns.{held, TroubledBy, ForthBy, BackBy, WrittenBy, SendsForth, SendsBack, WritesLast, FromBegun, FromUndoing, Turns, TurnsBy, HasWork, IsStopped, IfStanding}
+use Rattle.swap_txn.specs.Turns.{view_of, last_of, held, WrittenBy, Turns, TurnsBy, HasWork, IsStopped, IfStanding}
+use Rattle.swap_txn.proofs.Turning.{Each, by_each}
 
 -- a device command leaves both sides as they are
 did_disk : (side : Side) (trace : List Event) (op : DeviceOp) (applied : Bool) (answer : Result Answer Fault) → disk side (trace ++ Did op applied answer ∷ []) ≡ disk side trace
@@ -87,49 +85,33 @@ standing_from (Stuck state (whats.Unlawful node from to)) P p = p
 standing_from (Stuck state whats.Journal) P p = tt
 standing_from Stopped P p = tt
 
-forth_stands : (hold : Forth → Live) (f : Forth) (was now : Seen) (j k : Journal) (turned : Turned Live) → SendsForth hold f was now j k turned → Stands was.told j → IfStanding turned (Stands now.told k)
-forth_stands hold f was now j k turned s stands = standing_from turned _ (subst (λ i. Stands now.told i) (sym s.journal) (sends_stand was.told now.told s.sends.op was.stopped s.sends.answer s.sends.sent.steps j s.sends.sent.trace s.sends.sent.made stands))
-
-back_stands : (b : Back) (was now : Seen) (j k : Journal) (turned : Turned Live) → SendsBack b was now j k turned → Stands was.told j → IfStanding turned (Stands now.told k)
-back_stands b was now j k turned s stands = standing_from turned _ (subst (λ i. Stands now.told i) (sym s.journal) (sends_stand was.told now.told s.sends.op was.stopped s.sends.answer s.sends.sent.steps j s.sends.sent.trace s.sends.sent.made stands))
-
 pub written_stands : {T : Type 0} → (state : T) (following : Live) (r : Record) (was now : Seen) (j k : Journal) (answer : Result (Unit {0}) AppendFault) (turned : Turned T) → Writes r was now j k answer → WrittenBy state following answer turned → Stands was.told j → IfStanding turned (Stands now.told k)
 written_stands state following r was now j k (Ok done) turned writes turns stands = subst (λ t. IfStanding t (Stands now.told k)) (sym turns) (writes_stand r was now j k done writes stands)
 written_stands state following r was now j k (Err faults.Plant) turned writes turns stands = subst (λ t. IfStanding t (Stands now.told k)) (sym turns) tt
 written_stands state following r was now j k (Err faults.Stopped) turned writes turns stands = subst (λ t. IfStanding t (Stands now.told k)) (sym turns) tt
 written_stands state following r was now j k (Err (faults.Full length size)) turned writes turns stands = absurd turns
 
-last_stands : (left : Left) (r : Record) (state : Live) (ended : Ended) (was now : Seen) (j k : Journal) (turned : Turned Live) → WritesLast left r state ended was now j k turned → Stands was.told j → IfStanding turned (Stands now.told k)
-last_stands left r state ended was now j k turned w stands = written_stands state (lives.Ended ended) r was now j k w.answer turned w.writes w.turns stands
-
 -- THE SIDES AFTER A TURN of a swap that is still open
-stands_by : (live : Live) (was now : Seen) (j k : Journal) (turned : Turned Live) → TurnsBy live was now j k turned → Stands was.told j → IfStanding turned (Stands now.told k)
-stands_by (lives.Begun f) was now j k turned h stands = by (stage_of f.plan f.left) h
+each_stands : (v : View) (was now : Seen) (j k : Journal) → Stands was.told j → Each (λ turned. IfStanding turned (Stands now.told k)) v was now j k
+each_stands v was now j k stands = record {
+  on = λ left state s same is. let h = after _ s same in (h, h);
+  back = λ trouble u s same some. after _ s same;
+  cut = λ trouble watch state s same none is. standing_from (Stuck state (what_of trouble)) _ (after _ s same);
+  halted = λ s same. tt;
+  ended = λ done none w. writes_stand (last_of v) was now j k done w stands;
+  missed = λ state none w is. tt;
+  stopped = λ none w. tt;
+}
   where
-    by : (s : Stage) → FromBegun s f was now j k turned → IfStanding turned (Stands now.told k)
-    by stages.Done h = last_stands _ _ _ _ was now j k turned h stands
-    by stages.Clear h = forth_stands _ f was now j k turned h stands
-    by stages.Cable h = forth_stands _ f was now j k turned h stands
-    by stages.Load h = forth_stands _ f was now j k turned h stands
-    by stages.Boot h = forth_stands _ f was now j k turned h stands
-stands_by (lives.Clearing f) was now j k turned h stands = forth_stands _ f was now j k turned h stands
-stands_by (lives.Cabling f) was now j k turned h stands = forth_stands _ f was now j k turned h stands
-stands_by (lives.Loading f) was now j k turned h stands = forth_stands _ f was now j k turned h stands
-stands_by (lives.Booting f) was now j k turned h stands = forth_stands _ f was now j k turned h stands
-stands_by (lives.Ready f) was now j k turned h stands = last_stands _ _ _ _ was now j k turned h stands
-stands_by (lives.Undoing b) was now j k turned h stands = by (stage_of b.plan b.left) h
-  where
-    by : (s : Stage) → FromUndoing s b was now j k turned → IfStanding turned (Stands now.told k)
-    by stages.Done h = last_stands _ _ _ _ was now j k turned h stands
-    by stages.Clear h = back_stands b was now j k turned h stands
-    by stages.Cable h = back_stands b was now j k turned h stands
-    by stages.Load h = back_stands b was now j k turned h stands
-    by stages.Boot h = back_stands b was now j k turned h stands
-stands_by (lives.Undone b) was now j k turned h stands = last_stands _ _ _ _ was now j k turned h stands
-stands_by (lives.Ended e) was now j k turned h stands = standing_from turned _ (subst (λ i. Stands now.told i) (sym h.2) (subst (λ (s : Seen). Stands s.told j) (sym h.1) stands))
+    after : (course : Course) → Sends v.left was now course → k ≡ j → Stands now.told k
+    after course s same = subst (λ i. Stands now.told i) (sym same) (sends_stand was.told now.told s.op was.stopped s.answer s.sent.steps j s.sent.trace s.sent.made stands)
+
+stands_by : (o : Option View) (live : Live) (was now : Seen) (j k : Journal) (turned : Turned Live) → view_of live ≡ o → TurnsBy o live was now j k turned → Stands was.told j → IfStanding turned (Stands now.told k)
+stands_by None live was now j k turned is h stands = standing_from turned _ (subst (λ i. Stands now.told i) (sym h.2) (subst (λ (s : Seen). Stands s.told j) (sym h.1) stands))
+stands_by (Some v) live was now j k turned is h stands = by_each (λ turned. IfStanding turned (Stands now.told k)) live v was now j k is (each_stands v was now j k stands) turned h
 
 pub turn_stands : (live : Live) (was now : Seen) (j k : Journal) (turned : Turned Live) → Turns live was now j k turned → Stands was.told j → IfStanding turned (Stands now.told k)
-turn_stands live was now j k turned h stands = stands_by live was now j k turned h.by stands
+turn_stands live was now j k turned h stands = stands_by (view_of live) live was now j k turned refl h.by stands
 
 -- A COURSE IS HALTED exactly by a stop
 seen_goes : (w : Watch) (state : Boot) (boot : List (List ℕ)) → courses.seen w state boot ≡ Halted → ⊥
@@ -180,32 +162,7 @@ sends_halted left was now course s = (
   λ stopped. s.goes ∙ ap (λ a. answered left.todo left.watch left.boot a) (s.sent.halts.1 stopped) ∙ halts_then left.todo left.watch left.boot s.op s.comes,
 )
 
--- A TURN IS STOPPED exactly by a halt of its course
-moved_on : (b : Bool) (x y : Live) → IsStopped (cond b (Same x) (Next y)) → ⊥
-moved_on true x y h = h
-moved_on false x y h = h
-
-stopped_at : {T : Type 0} → (turned : Turned T) → IsStopped turned → turned ≡ Stopped
-stopped_at (Same state) h = absurd h
-stopped_at (Next live) h = absurd h
-stopped_at (Trouble b what) h = absurd h
-stopped_at (Stuck state what) h = absurd h
-stopped_at Stopped h = refl
-
-forth_halted : (hold : Forth → Live) (f : Forth) (course : Course) (turned : Turned Live) → ForthBy hold f course turned → IsStopped turned ↔ (course ≡ Halted)
-forth_halted hold f (Going left) turned h = (λ is. absurd (moved_on _ _ _ (subst (λ t. IsStopped t) h is)), λ is. absurd (cc is))
-forth_halted hold f (Cut trouble) turned h = (λ is. absurd (by f.undo h is), λ is. absurd (cc is))
-  where
-    by : (undo : Option Undo) → TroubledBy hold f (what_of trouble) undo turned → IsStopped turned → ⊥
-    by None h is = subst (λ t. IsStopped t) h.1 is
-    by (Some u) h is = subst (λ t. IsStopped t) h is
-forth_halted hold f Halted turned h = (λ is. refl, λ is. subst (λ t. IsStopped t) (sym h) tt)
-
-back_halted : (b : Back) (course : Course) (turned : Turned Live) → BackBy b course turned → IsStopped turned ↔ (course ≡ Halted)
-back_halted b (Going left) turned h = (λ is. absurd (moved_on _ _ _ (subst (λ t. IsStopped t) h is)), λ is. absurd (cc is))
-back_halted b (Cut trouble) turned h = (λ is. absurd (subst (λ t. IsStopped t) h.1 is), λ is. absurd (cc is))
-back_halted b Halted turned h = (λ is. refl, λ is. subst (λ t. IsStopped t) (sym h) tt)
-
+-- A TURN IS STOPPED exactly by a stop
 pub written_halted : {T : Type 0} → (state : T) (following : Live) (answer : Result (Unit {0}) AppendFault) (turned : Turned T) → WrittenBy state following answer turned → IsStopped turned ↔ (answer ≡ Err faults.Stopped)
 written_halted state following (Ok done) turned h = (λ is. absurd (subst (λ t. IsStopped t) h is), λ is. absurd (cc is))
 written_halted state following (Err faults.Plant) turned h = (λ is. absurd (subst (λ t. IsStopped t) h is), λ is. absurd (cc is))
@@ -215,42 +172,26 @@ written_halted state following (Err (faults.Full length size)) turned h = absurd
 both : {P Q R : Type 0} → P ↔ Q → Q ↔ R → P ↔ R
 both a b = (λ p. b.0 (a.0 p), λ r. a.1 (b.1 r))
 
-forth_stops : (hold : Forth → Live) (f : Forth) (was now : Seen) (j k : Journal) (turned : Turned Live) → SendsForth hold f was now j k turned → IsStopped turned ↔ IsTrue now.stopped
-forth_stops hold f was now j k turned s = both (forth_halted hold f s.course turned s.turns) (sends_halted f.left was now s.course s.sends)
-
-back_stops : (b : Back) (was now : Seen) (j k : Journal) (turned : Turned Live) → SendsBack b was now j k turned → IsStopped turned ↔ IsTrue now.stopped
-back_stops b was now j k turned s = both (back_halted b s.course turned s.turns) (sends_halted b.left was now s.course s.sends)
-
-last_stops : (left : Left) (r : Record) (state : Live) (ended : Ended) (was now : Seen) (j k : Journal) (turned : Turned Live) → WritesLast left r state ended was now j k turned → IsStopped turned ↔ IsTrue now.stopped
-last_stops left r state ended was now j k turned w = both (written_halted state (lives.Ended ended) w.answer turned w.turns) w.writes.halts
-
-stops_by : (live : Live) (was now : Seen) (j k : Journal) (turned : Turned Live) → TurnsBy live was now j k turned → HasWork live → IsStopped turned ↔ IsTrue now.stopped
-stops_by (lives.Begun f) was now j k turned h work = by (stage_of f.plan f.left) h
+each_stops : (v : View) (was now : Seen) (j k : Journal) → Each (λ turned. IsStopped turned ↔ IsTrue now.stopped) v was now j k
+each_stops v was now j k = record {
+  on = λ left state s same is. let none = sends_halted v.left was now _ s in (goes_on none (λ x. cc x), goes_on none (λ x. cc x));
+  back = λ trouble u s same some. goes_on (sends_halted v.left was now _ s) (λ x. cc x);
+  cut = λ trouble watch state s same none is. goes_on (sends_halted v.left was now _ s) (λ x. cc x);
+  halted = λ s same. both (λ h. refl, λ h. tt) (sends_halted v.left was now Halted s);
+  ended = λ done none w. goes_on w.halts (λ x. cc x);
+  missed = λ state none w is. goes_on w.halts (λ x. cc x);
+  stopped = λ none w. both (λ h. refl, λ h. tt) w.halts;
+}
   where
-    by : (s : Stage) → FromBegun s f was now j k turned → IsStopped turned ↔ IsTrue now.stopped
-    by stages.Done h = last_stops _ _ _ _ was now j k turned h
-    by stages.Clear h = forth_stops _ f was now j k turned h
-    by stages.Cable h = forth_stops _ f was now j k turned h
-    by stages.Load h = forth_stops _ f was now j k turned h
-    by stages.Boot h = forth_stops _ f was now j k turned h
-stops_by (lives.Clearing f) was now j k turned h work = forth_stops _ f was now j k turned h
-stops_by (lives.Cabling f) was now j k turned h work = forth_stops _ f was now j k turned h
-stops_by (lives.Loading f) was now j k turned h work = forth_stops _ f was now j k turned h
-stops_by (lives.Booting f) was now j k turned h work = forth_stops _ f was now j k turned h
-stops_by (lives.Ready f) was now j k turned h work = last_stops _ _ _ _ was now j k turned h
-stops_by (lives.Undoing b) was now j k turned h work = by (stage_of b.plan b.left) h
-  where
-    by : (s : Stage) → FromUndoing s b was now j k turned → IsStopped turned ↔ IsTrue now.stopped
-    by stages.Done h = last_stops _ _ _ _ was now j k turned h
-    by stages.Clear h = back_stops b was now j k turned h
-    by stages.Cable h = back_stops b was now j k turned h
-    by stages.Load h = back_stops b was now j k turned h
-    by stages.Boot h = back_stops b was now j k turned h
-stops_by (lives.Undone b) was now j k turned h work = last_stops _ _ _ _ was now j k turned h
-stops_by (lives.Ended e) was now j k turned h work = absurd work
+    goes_on : {P Q : Type 0} → P ↔ Q → (P → ⊥) → ⊥ ↔ Q
+    goes_on is none = (λ h. absurd h, λ q. none (is.1 q))
+
+stops_by : (o : Option View) (live : Live) (was now : Seen) (j k : Journal) (turned : Turned Live) → view_of live ≡ o → TurnsBy o live was now j k turned → IsSome o → IsStopped turned ↔ IsTrue now.stopped
+stops_by None live was now j k turned is h work = absurd (cc work)
+stops_by (Some v) live was now j k turned is h work = by_each (λ turned. IsStopped turned ↔ IsTrue now.stopped) live v was now j k is (each_stops v was now j k) turned h
 
 pub turn_stops : (live : Live) (was now : Seen) (j k : Journal) (turned : Turned Live) → Turns live was now j k turned → HasWork live → IsStopped turned ↔ IsTrue now.stopped
-turn_stops live was now j k turned h work = stops_by live was now j k turned h.by work
+turn_stops live was now j k turned h work = stops_by (view_of live) live was now j k turned refl h.by work
 
 -- the same of the answer of a state's turn
 pub held_stops : {T : Type 0} → (hold : T → Live) (turned : Turned T) (P : Type 0) → IsStopped (held hold turned) ↔ P → IsStopped turned ↔ P
@@ -275,30 +216,20 @@ pub written_stops : {T : Type 0} → (state : T) (following : Live) (r : Record)
 written_stops state following r was now j k answer turned writes turns = both (written_halted state following answer turned turns) writes.halts
 
 -- the limit of the journal stays
-limit_by : (live : Live) (was now : Seen) (j k : Journal) (turned : Turned Live) → TurnsBy live was now j k turned → limit_of k ≡ limit_of j
-limit_by (lives.Begun f) was now j k turned h = by (stage_of f.plan f.left) h
-  where
-    by : (s : Stage) → FromBegun s f was now j k turned → limit_of k ≡ limit_of j
-    by stages.Done h = h.writes.limit
-    by stages.Clear h = ap limit_of h.journal
-    by stages.Cable h = ap limit_of h.journal
-    by stages.Load h = ap limit_of h.journal
-    by stages.Boot h = ap limit_of h.journal
-limit_by (lives.Clearing f) was now j k turned h = ap limit_of h.journal
-limit_by (lives.Cabling f) was now j k turned h = ap limit_of h.journal
-limit_by (lives.Loading f) was now j k turned h = ap limit_of h.journal
-limit_by (lives.Booting f) was now j k turned h = ap limit_of h.journal
-limit_by (lives.Ready f) was now j k turned h = h.writes.limit
-limit_by (lives.Undoing b) was now j k turned h = by (stage_of b.plan b.left) h
-  where
-    by : (s : Stage) → FromUndoing s b was now j k turned → limit_of k ≡ limit_of j
-    by stages.Done h = h.writes.limit
-    by stages.Clear h = ap limit_of h.journal
-    by stages.Cable h = ap limit_of h.journal
-    by stages.Load h = ap limit_of h.journal
-    by stages.Boot h = ap limit_of h.journal
-limit_by (lives.Undone b) was now j k turned h = h.writes.limit
-limit_by (lives.Ended e) was now j k turned h = ap limit_of h.2
+each_limit : (v : View) (was now : Seen) (j k : Journal) → Each (λ turned. limit_of k ≡ limit_of j) v was now j k
+each_limit v was now j k = record {
+  on = λ left state s same is. (ap limit_of same, ap limit_of same);
+  back = λ trouble u s same some. ap limit_of same;
+  cut = λ trouble watch state s same none is. ap limit_of same;
+  halted = λ s same. ap limit_of same;
+  ended = λ done none w. w.limit;
+  missed = λ state none w is. w.limit;
+  stopped = λ none w. w.limit;
+}
+
+limit_by : (o : Option View) (live : Live) (was now : Seen) (j k : Journal) (turned : Turned Live) → view_of live ≡ o → TurnsBy o live was now j k turned → limit_of k ≡ limit_of j
+limit_by None live was now j k turned is h = ap limit_of h.2
+limit_by (Some v) live was now j k turned is h = by_each (λ turned. limit_of k ≡ limit_of j) live v was now j k is (each_limit v was now j k) turned h
 
 pub turn_limit : (live : Live) (was now : Seen) (j k : Journal) (turned : Turned Live) → Turns live was now j k turned → limit_of k ≡ limit_of j
-turn_limit live was now j k turned h = limit_by live was now j k turned h.by
+turn_limit live was now j k turned h = limit_by (view_of live) live was now j k turned refl h.by

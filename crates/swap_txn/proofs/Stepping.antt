@@ -8,7 +8,8 @@ use Rattle.plant.specs.declared.device.Fault.{Fault}
 use Rattle.plant.specs.declared.device.Fault.TheVariants.{Failed, Stopped}
 use Rattle.lab_model.specs.Courses.{Left, Course, Going, next, answered, device, fault_of}
 use Rattle.swap_txn.specs.declared.halt.Halt.{Halt}
-use Rattle.swap_txn.specs.Steps.{Seen, Commanded, Sends}
+use Rattle.plant.specs.Seen.{Seen}
+use Rattle.swap_txn.specs.Steps.{Commanded, Sends}
 use Rattle.swap_txn.specs.Troubles.{halt_of, sent_by, StepBy}
 
 -- a command was sent, and the course leads on by its answer

@@ -1,26 +1,28 @@
--- What a command makes of a swap, by its course.
-use Rattle.std.proofs.Common.{◌≡◌, Bool, true, false, cond, List, [], ◌∷◌, Option, Some, None, is_some, Ok, Err, refl, sym, ap, ◌∙◌, subst, arith}
+-- What a command and a record make of a swap.
+use Rattle.std.proofs.Common.{◌≡◌, Bool, true, false, cond, List, [], ◌∷◌, Option, Some, None, Result, Ok, Err, refl, sym, ap, ◌∙◌, subst, arith}
 use Rattle.std.proofs.lemmas.Bool.Decides.{nat_tests}
+use Rattle.lab_base.specs.declared.what.What.{What}
+use Rattle.lab_base.specs.declared.what.What.TheVariants as whats
 use Rattle.plant.specs.declared.device.DeviceOp.{DeviceOp}
+use Rattle.journal_disk.specs.declared.fault.AppendFault.{AppendFault}
+use Rattle.journal_disk.specs.declared.fault.AppendFault.TheVariants as faults
 use Rattle.journal_disk.specs.declared.journal.Journal.{Journal}
 use Rattle.lab_model.specs.Courses.{Plan, Left, Watch, Course, Going, Cut, Halted, nothing_left}
-use Rattle.swap_txn.specs.declared.what.What.{What}
 use Rattle.swap_txn.specs.declared.halt.Halt.TheVariants as halts
+use Rattle.swap_txn.specs.declared.live.Live.{Live}
+use Rattle.swap_txn.specs.declared.live.Live.TheVariants as lives
 use Rattle.swap_txn.specs.declared.stage.Stage.{Stage}
 use Rattle.swap_txn.specs.declared.stage.Stage.TheVariants.{Clear, Cable, Load, Boot, Done}
-use Rattle.swap_txn.specs.declared.live.Live.{Live}
-use Rattle.swap_txn.specs.declared.live.Live.TheVariants.{Begun, Undoing}
 use Rattle.swap_txn.specs.declared.turned.Turned.{Turned}
 use Rattle.swap_txn.specs.declared.turned.Turned.TheVariants.{Same, Next, Trouble, Stuck, Stopped}
-use Rattle.swap_txn.specs.declared.way_back.WayBack.{WayBack}
 use Rattle.swap_txn.specs.declared.went.Went.{Went}
 use Rattle.swap_txn.specs.declared.went.Went.TheVariants as wents
-use Rattle.swap_txn.specs.States.{Undo, Forth, Back, stage_of}
-use Rattle.swap_txn.specs.Steps.{Seen, Sends}
-use Rattle.swap_txn.specs.Troubles.{what_of, StepBy}
-use Rattle.swap_txn.specs.Turns.{forth_at, back_at, forth_state, back_state, same_state, moved, undone, TroubledBy, ForthBy, BackBy, Commits, Aborts, SendsForth, SendsBack, FromBegun, FromUndoing}
-use Rattle.swap_txn.specs.Ways.{undo_of}
-use Rattle.swap_txn.specs.Going.{TurnsBack, WentBy}
+use Rattle.swap_txn.specs.States.{Undo, View, stage_of, undone}
+use Rattle.plant.specs.Seen.{Seen}
+use Rattle.swap_txn.specs.Steps.{Sends, Writes}
+use Rattle.swap_txn.specs.Troubles.{what_of, StepBy, IsWritten}
+use Rattle.swap_txn.specs.Turns.{view_of, with_view, state_at, state_of, same_state, last_of, ended_of, CutBy, SentBy, EndedBy, TurnOf, sends, writes, moved, turned_by, TurnsBy, Turns}
+use Rattle.swap_txn.specs.Going.{CutBack, StaysAt, IfStuck}
 use Rattle.swap_txn.proofs.Places.{boots_are}
 
 -- WHERE NOTHING IS LEFT
@@ -36,198 +38,140 @@ finished plan left done = by left.todo left.watch left.boot done
     by [] (Some w) boot done = let boots : Boot ≡ Done = sym (boots_are plan (record { todo = []; boot = boot; watch = Some w }) refl) ∙ done in absurd (cc boots)
     by (op ∷ todo) watch boot done = absurd (listed op todo watch boot done)
 
--- a step of the course, as what it makes of the swap
-pub went_on : (f : Forth) (course : Course) (new : Left) → StepBy f.left course (Ok tt) new → WentBy f course (wents.On (record f { left = new }))
-went_on f (Going left) new h = ap (λ l. wents.On (record f { left = l })) h.1
-went_on f (Cut trouble) new h = absurd (cc h.0)
-went_on f Halted new h = absurd (cc h)
+pub none_left : (plan : Plan) (left : Left) → left ≡ nothing_left → stage_of plan left ≡ Done
+none_left plan left none = ap (λ l. stage_of plan l) none ∙ boots_are plan nothing_left refl
 
-pub went_back : (f : Forth) (course : Course) (new : Left) (what : What) (went : Went) → StepBy f.left course (Err (halts.Trouble what)) new → TurnsBack (record f { left = new }) what f.undo went → WentBy f course went
-went_back f (Going left) new what went h back = absurd (cc h.0)
-went_back f (Cut trouble) new what went h back =
-    let same : what ≡ what_of trouble = cc h.0 in
-    (h.1.0, subst (λ w. TurnsBack (record f { left = record f.left { watch = h.1.0 } }) w f.undo went) same (subst (λ l. TurnsBack (record f { left = l }) what f.undo went) h.1.1 back))
-went_back f Halted new what went h back = absurd (cc h)
+-- A STEP OF THE COURSE, as what it makes of the swap
+pub sent_on : (v : View) (course : Course) (new : Left) → StepBy v.left course (Ok tt) new → SentBy v course (wents.On (record v { left = new }))
+sent_on v (Going left) new h = ap (λ l. wents.On (record v { left = l })) h.1
+sent_on v (Cut trouble) new h = absurd (cc h.0)
+sent_on v Halted new h = absurd (cc h)
 
-pub went_halted : (f : Forth) (course : Course) (new : Left) → StepBy f.left course (Err halts.Stopped) new → WentBy f course wents.Stopped
-went_halted f (Going left) new h = absurd (cc h.0)
-went_halted f (Cut trouble) new h = absurd (cc h.0)
-went_halted f Halted new h = refl
-
--- from a stage to the same one, and to another one
-other_stage : (s t : Stage) (f g : Forth) → (t ≡ s → ⊥) → same_state (forth_at s f) (forth_at t g) ≡ false
-other_stage Clear Clear f g other = absurd (other refl)
-other_stage Cable Cable f g other = absurd (other refl)
-other_stage Load Load f g other = absurd (other refl)
-other_stage Boot Boot f g other = absurd (other refl)
-other_stage Clear Cable f g other = refl
-other_stage Clear Load f g other = refl
-other_stage Clear Boot f g other = refl
-other_stage Clear Done f g other = refl
-other_stage Cable Clear f g other = refl
-other_stage Cable Load f g other = refl
-other_stage Cable Boot f g other = refl
-other_stage Cable Done f g other = refl
-other_stage Load Clear f g other = refl
-other_stage Load Cable f g other = refl
-other_stage Load Boot f g other = refl
-other_stage Load Done f g other = refl
-other_stage Boot Clear f g other = refl
-other_stage Boot Cable f g other = refl
-other_stage Boot Load f g other = refl
-other_stage Boot Done f g other = refl
-other_stage Done t f g other = refl
-
-same_stage : (s : Stage) (f g : Forth) → (s ≡ Done → ⊥) → same_state (forth_at s f) (forth_at s g) ≡ true
-same_stage Clear f g some = refl
-same_stage Cable f g some = refl
-same_stage Load f g some = refl
-same_stage Boot f g some = refl
-same_stage Done f g some = absurd (some refl)
-
-begun_other : (t : Stage) (f g : Forth) → same_state (Begun f) (forth_at t g) ≡ false
-begun_other Clear f g = refl
-begun_other Cable f g = refl
-begun_other Load f g = refl
-begun_other Boot f g = refl
-begun_other Done f g = refl
-
-moved_by : (b : Bool) (old new : Live) → same_state old new ≡ b → moved old new ≡ cond b (Same new) (Next new)
-moved_by b old new is = ap (λ x. cond x (Same new) (Next new)) is
-
--- THE ANSWER OF A TURN that went on
-pub same_turn : (s : Stage) (f g : Forth) (course : Course) → (s ≡ Done → ⊥) → WentBy f course (wents.On g) → stage_of g.plan g.left ≡ s → ForthBy (forth_at s) f course (Same (forth_at s g))
-same_turn s f g (Going left) some went here =
-    let is : g ≡ record f { left = left } = cc went in
-    let at : forth_state g ≡ forth_at s g = ap (λ t. forth_at t g) here in
-    subst (λ h. Same (forth_at s g) ≡ moved (forth_at s f) (forth_state h)) is (sym (ap (λ l. moved (forth_at s f) l) at ∙ moved_by true (forth_at s f) (forth_at s g) (same_stage s f g some)))
-same_turn s f g (Cut trouble) some went here = absurd (by f.undo went.1)
+pub sent_back : (v : View) (course : Course) (new : Left) (what : What) (went : Went) → StepBy v.left course (Err (halts.Trouble what)) new → CutBack (record v { left = new }) what v.undo went → SentBy v course went
+sent_back v (Going left) new what went h back = absurd (cc h.0)
+sent_back v (Cut trouble) new what went h back = by v.undo (subst (λ w. CutBack (record v { left = new }) w v.undo went) (cc h.0) back)
   where
-    by : (undo : Option Undo) → TurnsBack (record f { left = record f.left { watch = went.0 } }) (what_of trouble) undo (wents.On g) → ⊥
-    by None h = cc h
-    by (Some u) h = cc h
-same_turn s f g Halted some went here = absurd (cc went)
+    by : (undo : Option Undo) → CutBack (record v { left = new }) (what_of trouble) undo went → CutBy v (what_of trouble) undo went
+    by None h' = (h.1.0, h' ∙ ap (λ l. wents.Stuck (record v { left = l }) (what_of trouble)) h.1.1)
+    by (Some u) h' = h'
+sent_back v Halted new what went h back = absurd (cc h)
 
-pub next_turn : (hold : Forth → Live) (f g : Forth) (course : Course) → WentBy f course (wents.On g) → same_state (hold f) (forth_state g) ≡ false → ForthBy hold f course (Next (forth_state g))
-next_turn hold f g (Going left) went other =
-    let is : g ≡ record f { left = left } = cc went in
-    subst (λ h. Next (forth_state g) ≡ moved (hold f) (forth_state h)) is (sym (moved_by false (hold f) (forth_state g) other))
-next_turn hold f g (Cut trouble) went other = absurd (by f.undo went.1)
-  where
-    by : (undo : Option Undo) → TurnsBack (record f { left = record f.left { watch = went.0 } }) (what_of trouble) undo (wents.On g) → ⊥
-    by None h = cc h
-    by (Some u) h = cc h
-next_turn hold f g Halted went other = absurd (cc went)
+pub sent_halted : (v : View) (course : Course) (new : Left) → StepBy v.left course (Err halts.Stopped) new → SentBy v course wents.Stopped
+sent_halted v (Going left) new h = absurd (cc h.0)
+sent_halted v (Cut trouble) new h = absurd (cc h.0)
+sent_halted v Halted new h = refl
 
-pub later_stage : (s : Stage) (f g : Forth) → (stage_of g.plan g.left ≡ s → ⊥) → same_state (forth_at s f) (forth_state g) ≡ false
-later_stage s f g other = other_stage s (stage_of g.plan g.left) f g other
+-- THE LAST RECORD, as what it makes of the swap
+pub ended_ok : (v : View) (answer : Result (Unit {0}) AppendFault) → IsWritten {T = Unit {0}} tt answer (Ok tt) → EndedBy v answer (wents.Ended (ended_of v))
+ended_ok v (Ok done) h = refl
+ended_ok v (Err faults.Plant) h = absurd (cc h)
+ended_ok v (Err faults.Stopped) h = absurd (cc h)
+ended_ok v (Err (faults.Full length size)) h = absurd h
 
-pub after_begun : (f g : Forth) → same_state (Begun f) (forth_state g) ≡ false
-after_begun f g = begun_other (stage_of g.plan g.left) f g
+pub ended_stuck : (v : View) (answer : Result (Unit {0}) AppendFault) (what : What) → IsWritten {T = Unit {0}} tt answer (Err (halts.Trouble what)) → EndedBy v answer (wents.Stuck v what)
+ended_stuck v (Ok done) what h = absurd (cc h)
+ended_stuck v (Err faults.Plant) what h = let e : what ≡ whats.Journal = cc h in ap (λ w. wents.Stuck v w) e
+ended_stuck v (Err faults.Stopped) what h = absurd (cc h)
+ended_stuck v (Err (faults.Full length size)) what h = absurd h
 
--- the answer of a turn that met trouble, or a stop
-pub trouble_turn : (hold : Forth → Live) (f : Forth) (b : Back) (what : What) (course : Course) → WentBy f course (wents.Trouble b what) → ForthBy hold f course (Trouble b what)
-trouble_turn hold f b what (Going left) went = absurd (cc went)
-trouble_turn hold f b what (Cut trouble) went = by f.undo went.1
-  where
-    by : (undo : Option Undo) → TurnsBack (record f { left = record f.left { watch = went.0 } }) (what_of trouble) undo (wents.Trouble b what) → TroubledBy hold f (what_of trouble) undo (Trouble b what)
-    by None h = absurd (cc h)
-    by (Some u) h =
-        let same : b ≡ undone f.exp u (what_of trouble) = cc h in
-        let told : what ≡ what_of trouble = cc h in
-        λ i. Trouble (same i) (told i)
-trouble_turn hold f b what Halted went = absurd (cc went)
+pub ended_stopped : (v : View) (answer : Result (Unit {0}) AppendFault) → IsWritten {T = Unit {0}} tt answer (Err halts.Stopped) → EndedBy v answer wents.Stopped
+ended_stopped v (Ok done) h = absurd (cc h)
+ended_stopped v (Err faults.Plant) h = absurd (cc h)
+ended_stopped v (Err faults.Stopped) h = refl
+ended_stopped v (Err (faults.Full length size)) h = absurd h
 
-pub stuck_turn : (hold : Forth → Live) (f g : Forth) (what : What) (course : Course) → WentBy f course (wents.Stuck g what) → ForthBy hold f course (Stuck (hold g) what)
-stuck_turn hold f g what (Going left) went = absurd (cc went)
-stuck_turn hold f g what (Cut trouble) went = by f.undo went.1
-  where
-    by : (undo : Option Undo) → TurnsBack (record f { left = record f.left { watch = went.0 } }) (what_of trouble) undo (wents.Stuck g what) → TroubledBy hold f (what_of trouble) undo (Stuck (hold g) what)
-    by None h =
-        let same : g ≡ record f { left = record f.left { watch = went.0 } } = cc h in
-        let told : what ≡ what_of trouble = cc h in
-        (went.0, λ i. Stuck (hold (same i)) (told i))
-    by (Some u) h = absurd (cc h)
-stuck_turn hold f g what Halted went = absurd (cc went)
+-- the same of an equal view
+pub sends_at : (old v : View) (was now : Seen) (course : Course) (went : Went) → old ≡ v → Sends old.left was now course → SentBy old course went → (x : Course) × Sends v.left was now x × SentBy v x went
+sends_at old v was now course went same sent by = (course, subst (λ (x : View). Sends x.left was now course) same sent, subst (λ x. SentBy x course went) same by)
 
-pub stopped_turn : (hold : Forth → Live) (f : Forth) (course : Course) → WentBy f course wents.Stopped → ForthBy hold f course Stopped
-stopped_turn hold f (Going left) went = absurd (cc went)
-stopped_turn hold f (Cut trouble) went = absurd (by f.undo went.1)
-  where
-    by : (undo : Option Undo) → TurnsBack (record f { left = record f.left { watch = went.0 } }) (what_of trouble) undo wents.Stopped → ⊥
-    by None h = cc h
-    by (Some u) h = cc h
-stopped_turn hold f Halted went = refl
+pub writes_at : (old v : View) (was now : Seen) (j k : Journal) (answer : Result (Unit {0}) AppendFault) (went : Went) → old ≡ v → Writes (last_of old) was now j k answer → EndedBy old answer went → (x : Result (Unit {0}) AppendFault) × Writes (last_of v) was now j k x × EndedBy v x went
+writes_at old v was now j k answer went same wrote by = (answer, subst (λ x. Writes (last_of x) was now j k answer) same wrote, subst (λ x. EndedBy x answer went) same by)
 
--- THE SAME OF AN UNDO
-back_done : (t : Stage) (b c : Back) → t ≡ Done → moved (Undoing b) (back_at t c) ≡ Next (back_at t c)
-back_done t b c is = let P : Stage → Type 0 = λ s. moved (Undoing b) (back_at s c) ≡ Next (back_at s c) in subst P (sym is) refl
+pub writes_stuck : (old v : View) (was now : Seen) (j k : Journal) (answer : Result (Unit {0}) AppendFault) (what : What) → old ≡ v → Writes (last_of old) was now j k answer → IsWritten {T = Unit {0}} tt answer (Err (halts.Trouble what))
+    → (x : Result (Unit {0}) AppendFault) × Writes (last_of v) was now j k x × EndedBy v x (wents.Stuck v what)
+writes_stuck old v was now j k answer what same wrote is = (answer, subst (λ x. Writes (last_of x) was now j k answer) same wrote, ended_stuck v answer what is)
 
-back_same : (t : Stage) (b c : Back) → (t ≡ Done → ⊥) → moved (Undoing b) (back_at t c) ≡ Same (Undoing c)
-back_same Clear b c some = refl
-back_same Cable b c some = refl
-back_same Load b c some = refl
-back_same Boot b c some = refl
-back_same Done b c some = absurd (some refl)
+pub turn_at : (old v : View) (was now : Seen) (j k : Journal) (went : Went) → old ≡ v → TurnOf old was now j k went → TurnOf v was now j k went
+turn_at old v was now j k went same turn = subst (λ x. TurnOf x was now j k went) same turn
 
-pub undone_turn : (b : Back) (new : Left) (course : Course) → StepBy b.left course (Ok tt) new → stage_of b.plan new ≡ Done → BackBy b course (Next (back_state (record b { left = new })))
-undone_turn b new (Going left) h done =
-    subst (λ l. Next (back_state (record b { left = new })) ≡ moved (Undoing b) (back_state (record b { left = l }))) h.1 (sym (back_done (stage_of b.plan new) b (record b { left = new }) done))
-undone_turn b new (Cut trouble) h done = absurd (cc h.0)
-undone_turn b new Halted h done = absurd (cc h)
+-- and of an equal state and answer
+pub turns_as : (old live : Live) (was now : Seen) (j k : Journal) (given turned : Turned Live) → live ≡ old → turned ≡ given → Turns old was now j k given → Turns live was now j k turned
+turns_as old live was now j k given turned live_is turned_is turns = subst (λ x. Turns x was now j k turned) (sym live_is) (subst (λ x. Turns old was now j k x) (sym turned_is) turns)
 
-pub undoing_turn : (b : Back) (new : Left) (course : Course) → StepBy b.left course (Ok tt) new → (stage_of b.plan new ≡ Done → ⊥) → BackBy b course (Same (Undoing (record b { left = new })))
-undoing_turn b new (Going left) h some =
-    subst (λ l. Same (Undoing (record b { left = new })) ≡ moved (Undoing b) (back_state (record b { left = l }))) h.1 (sym (back_same (stage_of b.plan new) b (record b { left = new }) some))
-undoing_turn b new (Cut trouble) h some = absurd (cc h.0)
-undoing_turn b new Halted h some = absurd (cc h)
+-- a stuck swap is as it was
+pub stuck_suits : (Suits : View → Type 0) (v : View) (went : Went) → ((w : View) → w.commit ≡ v.commit → stage_of w.plan w.left ≡ stage_of v.plan v.left → Suits w) → StaysAt v went → IfStuck went Suits
+stuck_suits Suits v (wents.On w) suits stays = tt
+stuck_suits Suits v (wents.Ended ended) suits stays = tt
+stuck_suits Suits v (wents.Trouble back what) suits stays = tt
+stuck_suits Suits v (wents.Stuck w what) suits stays = suits w stays.0 stays.1
+stuck_suits Suits v wents.Stopped suits stays = tt
 
-pub undo_stuck : (b : Back) (new : Left) (what : What) (course : Course) → StepBy b.left course (Err (halts.Trouble what)) new → BackBy b course (Stuck (Undoing (record b { left = new })) what)
-undo_stuck b new what (Going left) h = absurd (cc h.0)
-undo_stuck b new what (Cut trouble) h =
-    let told : what ≡ what_of trouble = cc h.0 in
-    (h.1.0, λ i. Stuck (Undoing (record b { left = h.1.1 i })) (told i))
-undo_stuck b new what Halted h = absurd (cc h)
+-- A STATE OF THAT NAME
+pub moved_by : (b : Bool) (old new : Live) → same_state old new ≡ b → moved old new ≡ cond b (Same old) (Next new)
+moved_by b old new is = ap (λ x. cond x (Same old) (Next new)) is
 
-pub undo_stopped : (b : Back) (new : Left) (course : Course) → StepBy b.left course (Err halts.Stopped) new → BackBy b course Stopped
-undo_stopped b new (Going left) h = absurd (cc h.0)
-undo_stopped b new (Cut trouble) h = absurd (cc h.0)
-undo_stopped b new Halted h = refl
+pub seen_at : (commit : Bool) (s : Stage) (v : View) → view_of (state_at commit s v) ≡ Some v
+seen_at true Clear v = refl
+seen_at true Cable v = refl
+seen_at true Load v = refl
+seen_at true Boot v = refl
+seen_at true Done v = refl
+seen_at false Clear v = refl
+seen_at false Cable v = refl
+seen_at false Load v = refl
+seen_at false Boot v = refl
+seen_at false Done v = refl
 
--- a turn that sent a command, of an equal state
-pub back_turned : (old b : Back) (was now : Seen) (course : Course) (turned : Turned Live) → old ≡ b → Sends old.left was now course → BackBy old course turned
-    → (x : Course) × Sends b.left was now x × BackBy b x turned
-back_turned old b was now course turned same sends turns = (course, subst (λ (a : Back). Sends a.left was now course) same sends, subst (λ a. BackBy a course turned) same turns)
+pub seen_of : (v : View) → view_of (state_of v) ≡ Some v
+seen_of v = seen_at v.commit (stage_of v.plan v.left) v
 
-pub forth_turned : (hold : Forth → Live) (old f : Forth) (was now : Seen) (course : Course) (turned : Turned Live) → old ≡ f → Sends old.left was now course → ForthBy hold old course turned
-    → (x : Course) × Sends f.left was now x × ForthBy hold f x turned
-forth_turned hold old f was now course turned same sends turns = (course, subst (λ (a : Forth). Sends a.left was now course) same sends, subst (λ a. ForthBy hold a course turned) same turns)
+pub seen_as : (live : Live) (v w : View) → view_of live ≡ Some v → view_of (with_view live w) ≡ Some w
+seen_as (lives.Begun old) v w is = refl
+seen_as (lives.Clearing old) v w is = refl
+seen_as (lives.Cabling old) v w is = refl
+seen_as (lives.Loading old) v w is = refl
+seen_as (lives.Booting old) v w is = refl
+seen_as (lives.Ready old) v w is = refl
+seen_as (lives.Undoing old) v w is = refl
+seen_as (lives.Undone old) v w is = refl
+seen_as (lives.Ended ended) v w is = absurd (cc is)
 
-pub went_turned : (old f : Forth) (was now : Seen) (course : Course) (went : Went) → old ≡ f → Sends old.left was now course → WentBy old course went
-    → (x : Course) × Sends f.left was now x × WentBy f x went
-went_turned old f was now course went same sends goes = (course, subst (λ (a : Forth). Sends a.left was now course) same sends, subst (λ a. WentBy a course went) same goes)
+-- THE WAYS IN WHICH A TURN GOES, each with what it answers: what holds of each holds of the turn
+pub record Each (P : Turned Live → Type 0) (v : View) (was now : Seen) (j k : Journal) : Type 0 where
+  pub on : (left : Left) (state : Live) → Sends v.left was now (Going left) → k ≡ j → view_of state ≡ Some (record v { left = left }) → P (Same state) × P (Next state)
+  pub back : (trouble : _) (u : Undo) → Sends v.left was now (Cut trouble) → k ≡ j → v.undo ≡ Some u → P (Trouble (undone v.exp u (what_of trouble)) (what_of trouble))
+  pub cut : (trouble : _) (watch : Option Watch) (state : Live) → Sends v.left was now (Cut trouble) → k ≡ j → v.undo ≡ None → view_of state ≡ Some (record v { left = record v.left { watch = watch } }) → P (Stuck state (what_of trouble))
+  pub halted : Sends v.left was now Halted → k ≡ j → P Stopped
+  pub ended : (done : Unit {0}) → v.left ≡ nothing_left → Writes (last_of v) was now j k (Ok done) → P (Next (lives.Ended (ended_of v)))
+  pub missed : (state : Live) → v.left ≡ nothing_left → Writes (last_of v) was now j k (Err faults.Plant) → view_of state ≡ Some v → P (Stuck state whats.Journal)
+  pub stopped : v.left ≡ nothing_left → Writes (last_of v) was now j k (Err faults.Stopped) → P Stopped
 
-pub some_undo : (back : Option WayBack) → is_some (undo_of back) ≡ is_some back
-some_undo None = refl
-some_undo (Some w) = refl
+module _ (P : Turned Live → Type 0) (live : Live) (v : View) (was now : Seen) (j k : Journal) (is : view_of live ≡ Some v) (each : Each P v was now j k) where
+  sent : (course : Course) (went : Went) → Sends v.left was now course → k ≡ j → SentBy v course went → P (turned_by (with_view live) went)
+  sent (Going left) went s same by = subst (λ w. P (turned_by (with_view live) w)) (sym by) (at (same_state (with_view live w) (state_of w)) refl)
+    where
+      w : View
+      w = record v { left = left }
 
--- a turn of a swap that was just begun, or whose undo was, by whether it has a command
-pub begun_done : (s : Stage) (f : Forth) (was now : Seen) (j k : Journal) (turned : Turned Live) → s ≡ Done → Commits Begun f was now j k turned → FromBegun s f was now j k turned
-begun_done s f was now j k turned is h = subst (λ t. FromBegun t f was now j k turned) (sym is) h
+      at : (b : Bool) → same_state (with_view live w) (state_of w) ≡ b → P (moved (with_view live w) (state_of w))
+      at true b = subst P (sym (moved_by true _ _ b)) (each.on left (with_view live w) s same (seen_as live v w is)).0
+      at false b = subst P (sym (moved_by false _ _ b)) (each.on left (state_of w) s same (seen_of w)).1
+  sent (Cut trouble) went s same by = at v.undo refl by
+    where
+      at : (undo : Option Undo) → v.undo ≡ undo → CutBy v (what_of trouble) undo went → P (turned_by (with_view live) went)
+      at None none by = subst (λ w. P (turned_by (with_view live) w)) (sym by.1) (each.cut trouble by.0 (with_view live (record v { left = record v.left { watch = by.0 } })) s same none (seen_as live v _ is))
+      at (Some u) some by = subst (λ w. P (turned_by (with_view live) w)) (sym by) (each.back trouble u s same some)
+  sent Halted went s same by = subst (λ w. P (turned_by (with_view live) w)) (sym by) (each.halted s same)
 
-pub begun_sends : (s : Stage) (f : Forth) (was now : Seen) (j k : Journal) (turned : Turned Live) → (s ≡ Done → ⊥) → SendsForth Begun f was now j k turned → FromBegun s f was now j k turned
-begun_sends Clear f was now j k turned some h = h
-begun_sends Cable f was now j k turned some h = h
-begun_sends Load f was now j k turned some h = h
-begun_sends Boot f was now j k turned some h = h
-begun_sends Done f was now j k turned some h = absurd (some refl)
+  wrote : (answer : Result (Unit {0}) AppendFault) (went : Went) → v.left ≡ nothing_left → Writes (last_of v) was now j k answer → EndedBy v answer went → P (turned_by (with_view live) went)
+  wrote (Ok done) went none w by = subst (λ w. P (turned_by (with_view live) w)) (sym by) (each.ended done none w)
+  wrote (Err faults.Plant) went none w by = subst (λ w. P (turned_by (with_view live) w)) (sym by) (each.missed (with_view live v) none w (seen_as live v v is))
+  wrote (Err faults.Stopped) went none w by = subst (λ w. P (turned_by (with_view live) w)) (sym by) (each.stopped none w)
+  wrote (Err (faults.Full length size)) went none w by = absurd by
 
-pub undoing_done : (s : Stage) (b : Back) (was now : Seen) (j k : Journal) (turned : Turned Live) → s ≡ Done → Aborts Undoing b was now j k turned → FromUndoing s b was now j k turned
-undoing_done s b was now j k turned is h = subst (λ t. FromUndoing t b was now j k turned) (sym is) h
-
-pub undoing_sends : (s : Stage) (b : Back) (was now : Seen) (j k : Journal) (turned : Turned Live) → (s ≡ Done → ⊥) → SendsBack b was now j k turned → FromUndoing s b was now j k turned
-undoing_sends Clear b was now j k turned some h = h
-undoing_sends Cable b was now j k turned some h = h
-undoing_sends Load b was now j k turned some h = h
-undoing_sends Boot b was now j k turned some h = h
-undoing_sends Done b was now j k turned some h = absurd (some refl)
+  pub by_each : (turned : Turned Live) → TurnsBy (Some v) live was now j k turned → P turned
+  by_each turned h = subst P (sym h.2) (at h.0 h.1)
+    where
+      at : (went : Went) → TurnOf v was now j k went → P (turned_by (with_view live) went)
+      at went (sends course s same by) = sent course went s same by
+      at went (writes none answer w by) = wrote answer went none w by

@@ -1,5 +1,5 @@
 -- A poll of a watched node, as a step of its course.
-use Rattle.std.proofs.Common.{◌≡◌, ◌<◌, ◌+◌, ℕ, Bool, true, false, cond, eqb, List, [], drop, Option, Some, None, Result, Ok, Err, OnOk, OnErr, refl, sym, ap, ◌∙◌, subst, arith}
+use Rattle.std.proofs.Common.{ℕ, ◌≡◌, ◌<◌, ◌+◌, Bool, true, false, cond, eqb, List, [], drop, Option, Some, None, Result, Ok, Err, OnOk, OnErr, refl, sym, ap, ◌∙◌, subst, arith}
 use Rattle.std.proofs.lemmas.Bool.{eqb-false}
 use Rattle.lab_base.specs.declared.boot.Boot.{Boot}
 use Rattle.lab_base.specs.declared.boot.Boot.TheVariants.{Off, Shutdown, Booting, TbSetup, IsUp}
@@ -11,14 +11,15 @@ use Rattle.node_state.specs.declared.watch.Seen.TheVariants as seen
 use Rattle.node_state.specs.Watched as watched
 use Rattle.lab_model.specs.Courses.{Plan, Left, Watch, Course, Going, Cut, Halted, answered, lawful}
 use Rattle.lab_model.specs.Courses as courses
-use Rattle.swap_txn.specs.declared.what.What.{What}
+use Rattle.lab_base.specs.declared.what.What.{What}
 use Rattle.swap_txn.specs.declared.halt.Halt.{Halt}
 use Rattle.swap_txn.specs.declared.halt.Halt.TheVariants.{Trouble, Stopped as IsStopped}
 use Rattle.swap_txn.specs.declared.stage.Stage.{Stage}
 use Rattle.swap_txn.specs.declared.stage.Stage.TheVariants.{Boot as IsBoot}
 use Rattle.swap_txn.specs.declared.watched.Watched.{Watched}
 use Rattle.swap_txn.specs.States.{stage_of}
-use Rattle.swap_txn.specs.Steps.{Seen, Commanded}
+use Rattle.plant.specs.Seen.{Seen}
+use Rattle.swap_txn.specs.Steps.{Commanded}
 use Rattle.swap_txn.specs.Troubles.{told_by, IsPolled, StepBy}
 use Rattle.swap_txn.specs.Views.{watch_of, left_of, IsAt, WatchBy, IsPolledBy}
 use Rattle.swap_txn.proofs.Places.{boot_left}

@@ -1,6 +1,7 @@
 -- What one turn does outside: a command or a record.
 use Rattle.std.specs.Prelude.{◌≡◌, ◌↔◌, ◌≤◌, ◌+◌, ℕ, Bool, List, [], ◌∷◌, ◌++◌, Option, Some, Result, Err, IsErrOf, IsTrue, IfSome, OnOk, OnErr}
 use Rattle.plant.specs.Events.{Event}
+use Rattle.plant.specs.Seen.{Seen}
 use Rattle.plant.specs.Told.{Told, with_steps}
 use Rattle.plant.specs.Calls.{CommandSteps, DeviceCause, Rose}
 use Rattle.plant.specs.declared.device.DeviceOp.{DeviceOp}
@@ -15,12 +16,6 @@ use Rattle.journal_disk.specs.declared.journal.Journal.{Journal}
 use Rattle.journal_disk.specs.declared.fault.AppendFault.{AppendFault}
 use Rattle.journal_disk.specs.declared.fault.AppendFault.TheVariants as faults
 use Rattle.lab_model.specs.Courses.{Left, Course, next, answered}
-
--- what is seen of a plant
-pub record Seen : Type 0 where
-  pub told : Option Told
-  pub faults : Faults
-  pub stopped : Bool
 
 -- both sides are as the journal's last call left them
 abbrev pub Stands : Option Told → Journal → Type 0

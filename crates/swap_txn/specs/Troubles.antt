@@ -1,5 +1,5 @@
 -- Troubles and stops, as they are told.
-use Rattle.std.specs.Prelude.{◌≡◌, ℕ, Bool, true, false, List, Option, Result, Ok, Err}
+use Rattle.std.specs.Prelude.{ℕ, ◌≡◌, Bool, true, false, List, Option, Result, Ok, Err}
 use Rattle.lab_base.specs.declared.boot.Boot.{Boot}
 use Rattle.node_state.specs.declared.watch.Seen.{Seen}
 use Rattle.node_state.specs.declared.watch.Seen.TheVariants as seen
@@ -12,8 +12,8 @@ use Rattle.journal_disk.specs.declared.fault.AppendFault.{AppendFault}
 use Rattle.journal_disk.specs.declared.fault.AppendFault.TheVariants as appending
 use Rattle.lab_model.specs.Courses.{Left, Watch, device, Course, Going, Cut, Halted}
 use Rattle.lab_model.specs.Courses as courses
-use Rattle.swap_txn.specs.declared.what.What.{What}
-use Rattle.swap_txn.specs.declared.what.What.TheVariants.{Device, Late, Unlawful, Journal}
+use Rattle.lab_base.specs.declared.what.What.{What}
+use Rattle.lab_base.specs.declared.what.What.TheVariants.{Device, Late, Unlawful, Journal}
 use Rattle.swap_txn.specs.declared.halt.Halt.{Halt}
 use Rattle.swap_txn.specs.declared.halt.Halt.TheVariants.{Trouble, Stopped}
 

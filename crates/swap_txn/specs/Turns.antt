@@ -1,150 +1,136 @@
--- What a turn of a swap does, by its state.
-use Rattle.std.specs.Prelude.{◌≡◌, ◌≤◌, ◌+◌, ℕ, Bool, true, false, if◌then◌else◌, List, Option, Some, None, Result, Ok, Err, is_some}
+-- What the turns of a swap's states do.
+use Rattle.std.specs.Prelude.{ℕ, ◌≡◌, ◌≤◌, ◌+◌, Bool, true, false, if◌then◌else◌, List, Option, Some, None, IsSome, Result, Ok, Err}
+use Rattle.lab_base.specs.declared.what.What.{What}
+use Rattle.lab_base.specs.declared.what.What.TheVariants.{Journal as OfJournal}
 use Rattle.journal_rec.specs.declared.record.Record.{Record}
-use Rattle.journal_rec.specs.declared.record.Record.TheVariants.{Commit, Abort}
 use Rattle.journal_model.specs.Journals.{size}
 use Rattle.journal_disk.specs.Standing.{length_of, limit_of}
 use Rattle.journal_disk.specs.declared.journal.Journal.{Journal}
 use Rattle.journal_disk.specs.declared.fault.AppendFault.{AppendFault}
 use Rattle.journal_disk.specs.declared.fault.AppendFault.TheVariants as faults
-use Rattle.lab_model.specs.Courses.{Plan, Left, Watch, Course, Going, Cut, Halted, whole, nothing_left}
+use Rattle.lab_model.specs.Courses.{Plan, Watch, Course, Going, Cut, Halted, nothing_left}
 use Rattle.swap_txn.specs.declared.stage.Stage.{Stage}
 use Rattle.swap_txn.specs.declared.stage.Stage.TheVariants as stages
-use Rattle.swap_txn.specs.declared.what.What.{What}
-use Rattle.swap_txn.specs.declared.what.What.TheVariants.{Journal as OfJournal}
 use Rattle.swap_txn.specs.declared.ended.Ended.{Ended}
 use Rattle.swap_txn.specs.declared.live.Live.{Live}
 use Rattle.swap_txn.specs.declared.live.Live.TheVariants.{Begun, Clearing, Cabling, Loading, Booting, Ready, Undoing, Undone, Ended as IsOver}
 use Rattle.swap_txn.specs.declared.turned.Turned.{Turned}
 use Rattle.swap_txn.specs.declared.turned.Turned.TheVariants.{Same, Next, Trouble as Troubled, Stuck, Stopped}
-use Rattle.swap_txn.specs.States.{Undo, Forth, Back, Plans, stage_of}
-use Rattle.swap_txn.specs.Steps.{Seen, Sends, Writes}
+use Rattle.swap_txn.specs.declared.went.Went.{Went}
+use Rattle.swap_txn.specs.declared.went.Went.TheVariants as wents
+use Rattle.swap_txn.specs.States.{Undo, View, Plans, stage_of, undone, again, last_by}
+use Rattle.plant.specs.Seen.{Seen}
+use Rattle.swap_txn.specs.Steps.{Sends, Writes}
 use Rattle.swap_txn.specs.Troubles.{what_of}
 
--- the state of a swap on its way, and of one on its way back: the first that has work left
-abbrev pub forth_at : Stage → Forth → Live
-forth_at stages.Clear f = Clearing f
-forth_at stages.Cable f = Cabling f
-forth_at stages.Load f = Loading f
-forth_at stages.Boot f = Booting f
-forth_at stages.Done f = Ready f
+-- the work that a state has left, and the state of that name with other work
+abbrev pub view_of : Live → Option View
+view_of (Begun v) = Some v
+view_of (Clearing v) = Some v
+view_of (Cabling v) = Some v
+view_of (Loading v) = Some v
+view_of (Booting v) = Some v
+view_of (Ready v) = Some v
+view_of (Undoing v) = Some v
+view_of (Undone v) = Some v
+view_of (IsOver ended) = None
 
-abbrev pub back_at : Stage → Back → Live
-back_at stages.Done b = Undone b
-back_at stage b = Undoing b
+abbrev pub with_view : Live → View → Live
+with_view (Begun old) v = Begun v
+with_view (Clearing old) v = Clearing v
+with_view (Cabling old) v = Cabling v
+with_view (Loading old) v = Loading v
+with_view (Booting old) v = Booting v
+with_view (Ready old) v = Ready v
+with_view (Undoing old) v = Undoing v
+with_view (Undone old) v = Undone v
+with_view (IsOver ended) v = IsOver ended
 
-abbrev pub forth_state : Forth → Live
-forth_state f = forth_at (stage_of f.plan f.left) f
+-- THE STATE OF A SWAP, by what is left: the first that has work left
+abbrev pub state_at : Bool → Stage → View → Live
+state_at true stages.Clear v = Clearing v
+state_at true stages.Cable v = Cabling v
+state_at true stages.Load v = Loading v
+state_at true stages.Boot v = Booting v
+state_at true stages.Done v = Ready v
+state_at false stages.Done v = Undone v
+state_at false stage v = Undoing v
 
-abbrev pub back_state : Back → Live
-back_state b = back_at (stage_of b.plan b.left) b
+abbrev pub state_of : View → Live
+state_of v = state_at v.commit (stage_of v.plan v.left) v
 
 -- both are states of one name
 abbrev pub same_state : Live → Live → Bool
-same_state (Clearing f) (Clearing g) = true
-same_state (Cabling f) (Cabling g) = true
-same_state (Loading f) (Loading g) = true
-same_state (Booting f) (Booting g) = true
-same_state (Undoing f) (Undoing g) = true
+same_state (Clearing v) (Clearing w) = true
+same_state (Cabling v) (Cabling w) = true
+same_state (Loading v) (Loading w) = true
+same_state (Booting v) (Booting w) = true
+same_state (Undoing v) (Undoing w) = true
 same_state a b = false
 
--- from one state to another, or to the same one
+-- the record that ends it, and how it is then
+abbrev pub last_of : View → Record
+last_of v = last_by v.commit v.exp
+
+abbrev pub ended_of : View → Ended
+ended_of v = record { exp = v.exp; inside = v.inside; committed = v.commit; why = v.why }
+
+-- trouble begins the way back whole; a swap that has none is stuck as it was but for its watch
+abbrev pub CutBy : View → What → Option Undo → Went → Type 0
+CutBy v what (Some u) went = went ≡ wents.Trouble (undone v.exp u what) what
+CutBy v what None went = (watch : Option Watch) × (went ≡ wents.Stuck (record v { left = record v.left { watch = watch } }) what)
+
+-- what the course of a command makes of a swap
+abbrev pub SentBy : View → Course → Went → Type 0
+SentBy v (Going left) went = went ≡ wents.On (record v { left = left })
+SentBy v (Cut trouble) went = CutBy v (what_of trouble) v.undo went
+SentBy v Halted went = went ≡ wents.Stopped
+
+-- and its last record
+abbrev pub EndedBy : View → Result (Unit {0}) AppendFault → Went → Type 0
+EndedBy v (Ok done) went = went ≡ wents.Ended (ended_of v)
+EndedBy v (Err faults.Plant) went = went ≡ wents.Stuck v OfJournal
+EndedBy v (Err faults.Stopped) went = went ≡ wents.Stopped
+EndedBy v (Err (faults.Full length size)) went = ⊥
+
+-- WHAT A TURN DOES, where work is left: it sends exactly the next command, or appends exactly the last record where nothing is left of the course
+pub data TurnOf (v : View) (was now : Seen) (j k : Journal) (went : Went) : Type 0 where
+  sends : (course : Course) → Sends v.left was now course → k ≡ j → SentBy v course went → TurnOf v was now j k went
+  writes : v.left ≡ nothing_left → (answer : Result (Unit {0}) AppendFault) → Writes (last_of v) was now j k answer → EndedBy v answer went → TurnOf v was now j k went
+
+-- as the answer of a state of that name: the same one with work left, or the first later one
 abbrev pub moved : Live → Live → Turned Live
-moved old new = if same_state old new then Same new else Next new
+moved old new = if same_state old new then Same old else Next new
 
--- the undo from its beginning
-abbrev pub undone : List ℕ → Undo → What → Back
-undone exp u what = record { exp = exp; plan = u.plan; left = whole u.plan; inside = u.inside; why = Some what }
+abbrev pub turned_by : (View → Live) → Went → Turned Live
+turned_by hold (wents.On v) = moved (hold v) (state_of v)
+turned_by hold (wents.Ended ended) = Next (IsOver ended)
+turned_by hold (wents.Trouble back what) = Troubled back what
+turned_by hold (wents.Stuck v what) = Stuck (hold v) what
+turned_by hold wents.Stopped = Stopped
 
--- trouble begins the undo whole; a swap-out, which has none, is stuck as it was but for its watch
-abbrev pub TroubledBy : (Forth → Live) → Forth → What → Option Undo → Turned Live → Type 0
-TroubledBy hold f what (Some u) turned = turned ≡ Troubled (undone f.exp u what) what
-TroubledBy hold f what None turned = (watch : Option Watch) × (turned ≡ Stuck (hold (record f { left = record f.left { watch = watch } })) what)
-
--- what the course of a command makes of a swap on its way
-abbrev pub ForthBy : (Forth → Live) → Forth → Course → Turned Live → Type 0
-ForthBy hold f (Going left) turned = turned ≡ moved (hold f) (forth_state (record f { left = left }))
-ForthBy hold f (Cut trouble) turned = TroubledBy hold f (what_of trouble) f.undo turned
-ForthBy hold f Halted turned = turned ≡ Stopped
-
--- and of one on its way back, which trouble makes stuck
-abbrev pub BackBy : Back → Course → Turned Live → Type 0
-BackBy b (Going left) turned = turned ≡ moved (Undoing b) (back_state (record b { left = left }))
-BackBy b (Cut trouble) turned = (watch : Option Watch) × (turned ≡ Stuck (Undoing (record b { left = record b.left { watch = watch } })) (what_of trouble))
-BackBy b Halted turned = turned ≡ Stopped
-
--- what an append makes of a state: it leads to the next one, or a failure of the journal makes it stuck
-abbrev pub WrittenBy : {T : Type 0} → T → Live → Result (Unit {0}) AppendFault → Turned T → Type 0
-WrittenBy state following (Ok done) turned = turned ≡ Next following
-WrittenBy state following (Err faults.Plant) turned = turned ≡ Stuck state OfJournal
-WrittenBy state following (Err faults.Stopped) turned = turned ≡ Stopped
-WrittenBy state following (Err (faults.Full length size)) turned = ⊥
-
--- A TURN THAT SENDS A COMMAND forth, and back; the journal is left alone
-pub record SendsForth (hold : Forth → Live) (f : Forth) (was now : Seen) (j k : Journal) (turned : Turned Live) : Type 0 where
-  pub course : Course
-  pub sends : Sends f.left was now course
-  pub turns : ForthBy hold f course turned
-  pub journal : k ≡ j
-
-pub record SendsBack (b : Back) (was now : Seen) (j k : Journal) (turned : Turned Live) : Type 0 where
-  pub course : Course
-  pub sends : Sends b.left was now course
-  pub turns : BackBy b course turned
-  pub journal : k ≡ j
-
--- A TURN THAT APPENDS A RECORD: nothing is left of the course
-pub record WritesLast (left : Left) (r : Record) (state : Live) (ended : Ended) (was now : Seen) (j k : Journal) (turned : Turned Live) : Type 0 where
-  pub finished : left ≡ nothing_left
-  pub answer : Result (Unit {0}) AppendFault
-  pub writes : Writes r was now j k answer
-  pub turns : WrittenBy state (IsOver ended) answer turned
-
--- the end of a swap that was committed, which left the experiment in unless it was a swap-out; and of one that was undone
-abbrev pub committed : Forth → Ended
-committed f = record { exp = f.exp; inside = is_some f.undo; why = None }
-
-abbrev pub aborted : Back → Ended
-aborted b = record { exp = b.exp; inside = b.inside; why = b.why }
-
--- a turn that appends Commit, and Abort
-abbrev pub Commits : (Forth → Live) → Forth → Seen → Seen → Journal → Journal → Turned Live → Type 0
-Commits hold f was now j k turned = WritesLast f.left (Commit f.exp) (hold f) (committed f) was now j k turned
-
-abbrev pub Aborts : (Back → Live) → Back → Seen → Seen → Journal → Journal → Turned Live → Type 0
-Aborts hold b was now j k turned = WritesLast b.left (Abort b.exp) (hold b) (aborted b) was now j k turned
-
--- a swap that was just begun, or whose undo was: a command, or the record where there is none
-abbrev pub FromBegun : Stage → Forth → Seen → Seen → Journal → Journal → Turned Live → Type 0
-FromBegun stages.Done f was now j k turned = Commits Begun f was now j k turned
-FromBegun stage f was now j k turned = SendsForth Begun f was now j k turned
-
-abbrev pub FromUndoing : Stage → Back → Seen → Seen → Journal → Journal → Turned Live → Type 0
-FromUndoing stages.Done b was now j k turned = Aborts Undoing b was now j k turned
-FromUndoing stage b was now j k turned = SendsBack b was now j k turned
-
--- WHAT A TURN DOES, by the state: it sends exactly the next command, or appends exactly the record
-abbrev pub TurnsBy : Live → Seen → Seen → Journal → Journal → Turned Live → Type 0
-TurnsBy (Begun f) was now j k turned = FromBegun (stage_of f.plan f.left) f was now j k turned
-TurnsBy (Clearing f) was now j k turned = SendsForth Clearing f was now j k turned
-TurnsBy (Cabling f) was now j k turned = SendsForth Cabling f was now j k turned
-TurnsBy (Loading f) was now j k turned = SendsForth Loading f was now j k turned
-TurnsBy (Booting f) was now j k turned = SendsForth Booting f was now j k turned
-TurnsBy (Ready f) was now j k turned = Commits Ready f was now j k turned
-TurnsBy (Undoing b) was now j k turned = FromUndoing (stage_of b.plan b.left) b was now j k turned
-TurnsBy (Undone b) was now j k turned = Aborts Undone b was now j k turned
-TurnsBy (IsOver e) was now j k turned = (turned ≡ Same (IsOver e)) × (now ≡ was) × (k ≡ j)
+-- A TURN OF A STATE; one that ended stays as it is
+abbrev pub TurnsBy : Option View → Live → Seen → Seen → Journal → Journal → Turned Live → Type 0
+TurnsBy None live was now j k turned = (turned ≡ Same live) × (now ≡ was) × (k ≡ j)
+TurnsBy (Some v) live was now j k turned = (went : Went) × TurnOf v was now j k went × (turned ≡ turned_by (with_view live) went)
 
 pub record Turns (live : Live) (was now : Seen) (j k : Journal) (turned : Turned Live) : Type 0 where
-  pub by : TurnsBy live was now j k turned
+  pub by : TurnsBy (view_of live) live was now j k turned
 
 -- the answer of a state's turn, as one of any state
 abbrev pub held : {T : Type 0} → (T → Live) → Turned T → Turned Live
 held hold (Same state) = Same (hold state)
 held hold (Next live) = Next live
-held hold (Troubled b what) = Troubled b what
+held hold (Troubled back what) = Troubled back what
 held hold (Stuck state what) = Stuck (hold state) what
 held hold Stopped = Stopped
+
+-- what an append makes of a swap that isn't begun: it leads to the first state, or a failure of the journal makes it stuck
+abbrev pub WrittenBy : {T : Type 0} → T → Live → Result (Unit {0}) AppendFault → Turned T → Type 0
+WrittenBy state following (Ok done) turned = turned ≡ Next following
+WrittenBy state following (Err faults.Plant) turned = turned ≡ Stuck state OfJournal
+WrittenBy state following (Err faults.Stopped) turned = turned ≡ Stopped
+WrittenBy state following (Err (faults.Full length size)) turned = ⊥
 
 -- A TURN THAT BEGINS A SWAP appends Begin
 pub record Begins (p : Plans) (was now : Seen) (j k : Journal) (turned : Turned Plans) (r : Record) : Type 0 where
@@ -156,21 +142,16 @@ pub record Begins (p : Plans) (was now : Seen) (j k : Journal) (turned : Turned 
 abbrev pub HasRoom : Journal → Record → Type 0
 HasRoom j r = length_of j + size r ≤ limit_of j
 
-abbrev pub HasRoomBy : Stage → Journal → Record → Type 0
-HasRoomBy stages.Done j r = HasRoom j r
-HasRoomBy stage j r = Unit {0}
+abbrev pub FitsBy : Option View → Journal → Type 0
+FitsBy None j = Unit {0}
+FitsBy (Some v) j = v.left ≡ nothing_left → HasRoom j (last_of v)
 
 abbrev pub Fits : Live → Journal → Type 0
-Fits (Begun f) j = HasRoomBy (stage_of f.plan f.left) j (Commit f.exp)
-Fits (Ready f) j = HasRoom j (Commit f.exp)
-Fits (Undoing b) j = HasRoomBy (stage_of b.plan b.left) j (Abort b.exp)
-Fits (Undone b) j = HasRoom j (Abort b.exp)
-Fits live j = Unit {0}
+Fits live j = FitsBy (view_of live) j
 
 -- a swap that ended has no work left
 abbrev pub HasWork : Live → Type 0
-HasWork (IsOver e) = ⊥
-HasWork live = Unit {0}
+HasWork live = IsSome (view_of live)
 
 -- the turn was ended by a stop
 abbrev pub IsStopped : {T : Type 0} → Turned T → Type 0
@@ -183,7 +164,6 @@ IfStanding Stopped P = Unit {0}
 IfStanding (Stuck state OfJournal) P = Unit {0}
 IfStanding turned P = P
 
--- the state of a swap-out, or of an undo, whose Begin is durable already
-abbrev pub begun_again : List ℕ → Plan → Plan → Bool → Live
-begun_again exp commands undo true = forth_state (record { exp = exp; plan = commands; left = whole commands; undo = None })
-begun_again exp commands undo false = back_state (record { exp = exp; plan = undo; left = whole undo; inside = false; why = None })
+-- the state of a swap whose Begin is durable already
+abbrev pub begun_again : List ℕ → Plan → Plan → Bool → Bool → Live
+begun_again exp commands undo inside out = state_of (again exp commands undo inside out)

@@ -1,6 +1,5 @@
-use crate::forward::Forward;
-use crate::stage::Stage;
-use crate::went::Went;
+use crate::state::turned;
+use crate::work::Work;
 use crate::{Live, Turned};
 use journal_disk::Journal;
 use plant::Plant;
@@ -9,64 +8,39 @@ use std::marker::Model;
 /// Rows are left and nodes are wiped.
 #[derive(Drop)]
 pub struct Clearing {
-    pub(crate) forward: Forward,
+    pub(crate) work: Work,
 }
 
 impl Model for Clearing {
-    ghost use Rattle.std.specs.Prelude.{◌≡◌};
+    ghost use Rattle.std.specs.Prelude.{◌≡◌, true};
     ghost use Rattle.swap_txn.specs.declared.stage.Stage.TheVariants.{Clear};
-    ghost use Rattle.swap_txn.specs.States.{Forth, stage_of};
+    ghost use Rattle.swap_txn.specs.States.{View, stage_of};
 
-    ghost Value = { Forth };
+    ghost Value = { View };
 
-    ghost view = { λ s. s.forward };
+    ghost view = { λ s. s.work };
 
-    ghost invariant = { λ s. stage_of s.forward.plan s.forward.left ≡ Clear };
+    ghost invariant = { λ s. (s.work.commit ≡ true) × (stage_of s.work.plan s.work.left ≡ Clear) };
 }
 
 impl Clearing {
-    ghost use Rattle.std.specs.Prelude.{◌≡◌, ◌↔◌, IsTrue};
-    ghost use Rattle.lab_model.specs.Courses.{Course};
+    ghost use Rattle.std.specs.Prelude.{◌≡◌, ◌↔◌, IsTrue, true};
     ghost use Rattle.swap_txn.specs.declared.stage.Stage.TheVariants.{Clear};
-    ghost use Rattle.swap_txn.specs.Facts.{HandsOn};
     ghost use Rattle.swap_txn.specs.States.{stage_of};
-    ghost use Rattle.swap_txn.specs.Steps.{Stands, Sends};
-    ghost use Rattle.swap_txn.specs.Turns.{Turns, ForthBy, held, IsStopped, IfStanding};
+    ghost use Rattle.swap_txn.specs.Facts.{HandsOn};
+    ghost use Rattle.swap_txn.specs.Steps.{Stands};
+    ghost use Rattle.swap_txn.specs.Turns.{Turns, held, IsStopped, IfStanding};
 
     /// Sends one Leave or one Wipe.
     pub fn turn<P: Plant>(self, journal: &mut Journal, plant: &mut P) -> Turned<Self>
-        requires { Stands (P.told plant.old) journal.old }
+        requires stands { Stands (P.seen plant.old).told journal.old }
+        ensures commit { self.commit ≡ true }
         ensures list { stage_of self.plan self.left ≡ Clear }
-        ensures turns { Turns (Live.Clearing self)
-            (record { told = P.told plant.old; faults = P.faults plant.old; stopped = P.is_stopped plant.old })
-            (record { told = P.told plant.new; faults = P.faults plant.new; stopped = P.is_stopped plant.new }) journal.old journal.new (held Live.Clearing result) }
-        ensures stopped { IsStopped result ↔ IsTrue (P.is_stopped plant.new) }
-        ensures stands { IfStanding result (Stands (P.told plant.new) journal.new) }
-        ensures facts { HandsOn (P.told plant.old) (P.told plant.new) (Live.Clearing self) (held Live.Clearing result) }
-        ensures drills { P.takes_drills plant.new ≡ P.takes_drills plant.old }
+        ensures turns { Turns (Live.Clearing self) (P.seen plant.old) (P.seen plant.new) journal.old journal.new (held Live.Clearing result) }
+        ensures stopped { IsStopped result ↔ IsTrue (P.seen plant.new).stopped }
+        ensures stands { IfStanding result (Stands (P.seen plant.new).told journal.new) }
+        ensures facts { HandsOn (P.seen plant.old).told (P.seen plant.new).told (Live.Clearing self) (held Live.Clearing result) }
     {
-        self.send(plant)
-    }
-
-    /// Sends the next command.
-    fn send<P: Plant>(self, plant: &mut P) -> Turned<Self>
-        ensures list { stage_of self.plan self.left ≡ Clear }
-        ensures sends { (course : Course) × Sends self.left
-            (record { told = P.told plant.old; faults = P.faults plant.old; stopped = P.is_stopped plant.old })
-            (record { told = P.told plant.new; faults = P.faults plant.new; stopped = P.is_stopped plant.new }) course × ForthBy Live.Clearing self course (held Live.Clearing result) }
-        ensures drills { P.takes_drills plant.new ≡ P.takes_drills plant.old }
-    {
-        match self.forward.send(plant) {
-            Went::On(forward) => {
-                if forward.stage() == Stage::Clear {
-                    Turned::Same(Clearing { forward })
-                } else {
-                    Turned::Next(forward.live())
-                }
-            }
-            Went::Trouble(undoing, what) => Turned::Trouble(undoing, what),
-            Went::Stuck(forward, what) => Turned::Stuck(Clearing { forward }, what),
-            Went::Stopped => Turned::Stopped,
-        }
+        turned(self.work.turn(journal, plant))
     }
 }

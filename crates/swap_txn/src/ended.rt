@@ -1,5 +1,4 @@
-use crate::What;
-use lab_base::Name;
+use lab_base::{Name, What};
 
 /// A swap that ended.
 #[derive(Clone, Copy, PartialEq, Eq)]
@@ -7,6 +6,8 @@ pub struct Ended {
     pub exp: Name,
     /// Whether the experiment is in the lab now.
     pub inside: bool,
+    /// Whether its last record was Commit, and else Abort.
+    pub committed: bool,
     /// The trouble that began the undo, where there was one.
     pub why: Option<What>,
 }

@@ -1,4 +1,4 @@
-use crate::What;
+use lab_base::What;
 
 /// Why a command or a record was not acknowledged.
 #[derive(Clone, Copy, PartialEq, Eq)]

@@ -1,8 +1,7 @@
 // The records that end a swap.
 ghost use Rattle.std.specs.Prelude.{◌≡◌, IfOk};
 ghost use Rattle.journal_rec.specs.Payloads.{IsBody};
-ghost use Rattle.journal_rec.specs.declared.record.Record.TheVariants as records;
-ghost use Rattle.swap_txn.specs.States.{undo_by};
+ghost use Rattle.swap_txn.specs.States.{undo_by, last_by};
 ghost use Rattle.swap_txn.specs.Ways.{undo_of, HasAbortBy};
 
 use crate::way_back::WayBack;
@@ -11,22 +10,17 @@ use lab_base::{Memory, Name};
 use std::alloc::Global;
 use swap_plan::Commands;
 
-/// The record Commit.
-pub(crate) fn commit_of(alloc: Global, exp: Name) -> Result<Encoded, Memory>
-    ensures { IfOk result (λ encoded. IsBody encoded (records.Commit exp)) }
+/// The record Commit, or else Abort.
+pub(crate) fn last_of(alloc: Global, exp: Name, commit: bool) -> Result<Encoded, Memory>
+    ensures { IfOk result (λ encoded. IsBody encoded (last_by commit exp)) }
 {
     // A name is short, and so is the record.
     let _name = exp.bytes();
-    encode(alloc, &Record::Commit { exp })
-}
-
-/// The record Abort.
-pub(crate) fn abort_of(alloc: Global, exp: Name) -> Result<Encoded, Memory>
-    ensures { IfOk result (λ encoded. IsBody encoded (records.Abort exp)) }
-{
-    // A name is short, and so is the record.
-    let _name = exp.bytes();
-    encode(alloc, &Record::Abort { exp })
+    if commit {
+        encode(alloc, &Record::Commit { exp })
+    } else {
+        encode(alloc, &Record::Abort { exp })
+    }
 }
 
 /// The way back of a move, which a move out has not.
@@ -46,7 +40,7 @@ pub(crate) fn way_back(
     };
     Ok(Some(WayBack {
         commands: undo,
-        abort: abort_of(alloc, exp)?,
+        abort: last_of(alloc, exp, false)?,
         inside,
     }))
 }

@@ -15,7 +15,7 @@ ghost use Rattle.lab_model.specs.Courses.{Plan, whole, IsCommandOf};
 ghost use Rattle.swap_txn.specs.declared.live.Live.{Live as AnyState};
 ghost use Rattle.swap_txn.specs.declared.turned.Turned.{Turned as Answered};
 ghost use Rattle.swap_txn.specs.States.{Plans};
-ghost use Rattle.swap_txn.specs.Steps.{Seen};
+ghost use Rattle.plant.specs.Seen.{Seen};
 ghost use Rattle.swap_txn.specs.Turns.{Turns, Begins};
 ghost use Rattle.swap_txn.specs.Facts.{IsUnderWay, Knows, IsOf};
 

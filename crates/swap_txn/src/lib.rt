@@ -1,13 +1,11 @@
 //! The states of one swap, each consumed by its turn.
 #![tactic(auto)]
 
-mod backward;
 mod begun;
 mod booting;
 mod cabling;
 mod clearing;
 mod ended;
-mod forward;
 mod halt;
 mod last;
 mod laws;
@@ -26,7 +24,7 @@ mod undone;
 mod watched;
 mod way_back;
 mod went;
-mod what;
+mod work;
 mod write;
 
 pub use begun::Begun;
@@ -42,7 +40,6 @@ pub use ready::Ready;
 pub use turned::Turned;
 pub use undoing::Undoing;
 pub use undone::Undone;
-pub use what::What;
 
 #[cfg(test)]
 mod tests;

@@ -1,8 +1,7 @@
-use crate::backward::Backward;
-use crate::forward::Forward;
-use crate::last::{abort_of, commit_of};
+use crate::last::last_of;
 use crate::sending::Sending;
 use crate::state::any;
+use crate::work::Work;
 use crate::{Begun, Booting, Cabling, Clearing, Ended, Loading, Ready, Turned, Undoing, Undone};
 use journal_disk::Journal;
 use lab_base::{Memory, Name};
@@ -48,68 +47,70 @@ impl Live {
         ensures { result ≡ exp_of self.now }
     {
         match self {
-            Live::Begun(state) => state.forward.exp,
-            Live::Clearing(state) => state.forward.exp,
-            Live::Cabling(state) => state.forward.exp,
-            Live::Loading(state) => state.forward.exp,
-            Live::Booting(state) => state.forward.exp,
-            Live::Ready(state) => state.forward.exp,
-            Live::Undoing(state) => state.backward.exp,
-            Live::Undone(state) => state.backward.exp,
+            Live::Begun(state) => state.work.exp,
+            Live::Clearing(state) => state.work.exp,
+            Live::Cabling(state) => state.work.exp,
+            Live::Loading(state) => state.work.exp,
+            Live::Booting(state) => state.work.exp,
+            Live::Ready(state) => state.work.exp,
+            Live::Undoing(state) => state.work.exp,
+            Live::Undone(state) => state.work.exp,
             Live::Ended(ended) => ended.exp,
         }
     }
 
-    /// A swap whose Begin is durable already: a swap-out where `out`, which goes on from its beginning, and else a swap-in,
-    /// whose undo begins.
+    /// A swap whose Begin is durable already: a swap-out where `out`, which goes on from its beginning, and else a swap-in or a
+    /// change, whose undo begins.
     pub fn again(alloc: Global, exp: Name, ops: Ops, out: bool) -> Result<Live, Memory>
-        ensures live { IfOk result (λ live. live ≡ begun_again exp ops.commands ops.undo out) }
+        ensures live { IfOk result (λ live. live ≡ begun_again exp ops.commands ops.undo ops.inside out) }
         ensures facts { IfOk result (λ live. (trace : List Event) → StartsAt trace live) }
     {
-        let Ops { commands, undo } = ops;
-        if out {
-            let forward = Forward {
+        let Ops {
+            commands,
+            undo,
+            inside,
+        } = ops;
+        let work = if out {
+            Work {
                 exp,
                 sending: Sending::new(commands),
-                commit: commit_of(alloc, exp)?,
-                back: None,
-            };
-            Ok(forward.live())
-        } else {
-            let backward = Backward {
-                exp,
-                sending: Sending::new(undo),
-                abort: abort_of(alloc, exp)?,
+                last: last_of(alloc, exp, true)?,
+                commit: true,
                 inside: false,
                 why: None,
-            };
-            Ok(backward.live())
-        }
+                back: None,
+            }
+        } else {
+            Work {
+                exp,
+                sending: Sending::new(undo),
+                last: last_of(alloc, exp, false)?,
+                commit: false,
+                inside,
+                why: None,
+                back: None,
+            }
+        };
+        Ok(work.live())
     }
 
     /// One turn of the state that it is in. A swap that ended stays as it is.
     pub fn turn<P: Plant>(self, journal: &mut Journal, plant: &mut P) -> Turned<Live>
-        requires stands { Stands (P.told plant.old) journal.old }
+        requires stands { Stands (P.seen plant.old).told journal.old }
         requires fits { Fits self journal.old }
-        ensures turns { Turns self
-            (record { told = P.told plant.old; faults = P.faults plant.old; stopped = P.is_stopped plant.old })
-            (record { told = P.told plant.new; faults = P.faults plant.new; stopped = P.is_stopped plant.new }) journal.old journal.new result }
-        ensures stopped { HasWork self → (IsStopped result ↔ IsTrue (P.is_stopped plant.new)) }
-        ensures stands { IfStanding result (Stands (P.told plant.new) journal.new) }
-        ensures facts { HandsOn (P.told plant.old) (P.told plant.new) self result }
+        ensures turns { Turns self (P.seen plant.old) (P.seen plant.new) journal.old journal.new result }
+        ensures stopped { HasWork self → (IsStopped result ↔ IsTrue (P.seen plant.new).stopped) }
+        ensures stands { IfStanding result (Stands (P.seen plant.new).told journal.new) }
+        ensures facts { HandsOn (P.seen plant.old).told (P.seen plant.new).told self result }
         ensures limit { limit_of journal.new ≡ limit_of journal.old }
-        ensures drills { P.takes_drills plant.new ≡ P.takes_drills plant.old }
     {
         self.turn_state(journal, plant)
     }
 
     fn turn_state<P: Plant>(self, journal: &mut Journal, plant: &mut P) -> Turned<Live>
-        requires stands { Stands (P.told plant.old) journal.old }
+        requires stands { Stands (P.seen plant.old).told journal.old }
         requires fits { Fits self journal.old }
-        ensures turns { Turns self
-            (record { told = P.told plant.old; faults = P.faults plant.old; stopped = P.is_stopped plant.old })
-            (record { told = P.told plant.new; faults = P.faults plant.new; stopped = P.is_stopped plant.new }) journal.old journal.new result }
-        ensures drills { P.takes_drills plant.new ≡ P.takes_drills plant.old }
+        ensures { Turns self (P.seen plant.old) (P.seen plant.new) journal.old journal.new result }
     {
         match self {
             Live::Begun(state) => any(state.turn(journal, plant)),

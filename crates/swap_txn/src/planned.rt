@@ -1,8 +1,8 @@
 use crate::begun::Begun;
-use crate::forward::Forward;
 use crate::halt::Halt;
-use crate::last::{commit_of, way_back};
+use crate::last::{last_of, way_back};
 use crate::sending::Sending;
+use crate::work::Work;
 use crate::write::write;
 use crate::{Live, Turned};
 use journal_disk::Journal;
@@ -18,11 +18,11 @@ use swap_plan::Ops;
 pub struct Planned {
     /// The record Begin.
     begin: Encoded,
-    forward: Forward,
+    work: Work,
 }
 
 impl Model for Planned {
-    ghost use Rattle.std.specs.Prelude.{◌≡◌};
+    ghost use Rattle.std.specs.Prelude.{◌≡◌, true};
     ghost use Rattle.journal_rec.specs.Payloads.{IsBody};
     ghost use Rattle.journal_rec.specs.declared.record.Record.{Record};
     ghost use Rattle.lab_model.specs.Courses.{whole};
@@ -30,9 +30,9 @@ impl Model for Planned {
 
     ghost Value = { Plans };
 
-    ghost view = { λ s. record { begin = s.begin; forth = s.forward } };
+    ghost view = { λ s. record { begin = s.begin; forth = s.work } };
 
-    ghost invariant = { λ s. (s.forward.left ≡ whole s.forward.plan) × ((r : Record) × IsBody s.begin r) };
+    ghost invariant = { λ s. (s.work.left ≡ whole s.work.plan) × (s.work.commit ≡ true) × ((r : Record) × IsBody s.begin r) };
 }
 
 impl Planned {
@@ -52,16 +52,19 @@ impl Planned {
         ensures begin { IfOk result (λ p. IsBody p.begin (records.Begin exp way)) }
         ensures forth { IfOk result (λ p. p.forth ≡ unsent exp way ops.commands ops.undo) }
     {
-        let Ops { commands, undo } = ops;
+        let Ops { commands, undo, .. } = ops;
         let back = way_back(alloc, exp, &way, undo)?;
-        let commit = commit_of(alloc, exp)?;
+        let last = last_of(alloc, exp, true)?;
         let begin = encode(alloc, &Record::Begin { exp, way })?;
         Ok(Planned {
             begin,
-            forward: Forward {
+            work: Work {
                 exp,
                 sending: Sending::new(commands),
-                commit,
+                last,
+                commit: true,
+                inside: back.is_some(),
+                why: None,
                 back,
             },
         })
@@ -76,21 +79,18 @@ impl Planned {
 
     /// Appends Begin.
     pub fn turn<P: Plant>(self, journal: &mut Journal, plant: &mut P) -> Turned<Self>
-        requires stands { Stands (P.told plant.old) journal.old }
+        requires stands { Stands (P.seen plant.old).told journal.old }
         requires fits { length_of journal.old + length self.begin ≤ limit_of journal.old }
-        ensures begins { (r : Entry) → IsBody self.begin r → Begins self
-            (record { told = P.told plant.old; faults = P.faults plant.old; stopped = P.is_stopped plant.old })
-            (record { told = P.told plant.new; faults = P.faults plant.new; stopped = P.is_stopped plant.new }) journal.old journal.new result r }
-        ensures stopped { IsStopped result ↔ IsTrue (P.is_stopped plant.new) }
-        ensures stands { IfStanding result (Stands (P.told plant.new) journal.new) }
-        ensures facts { StartsBy (P.told plant.new) result }
+        ensures begins { (r : Entry) → IsBody self.begin r → Begins self (P.seen plant.old) (P.seen plant.new) journal.old journal.new result r }
+        ensures stopped { IsStopped result ↔ IsTrue (P.seen plant.new).stopped }
+        ensures stands { IfStanding result (Stands (P.seen plant.new).told journal.new) }
+        ensures facts { StartsBy (P.seen plant.new).told result }
         ensures limit { limit_of journal.new ≡ limit_of journal.old }
-        ensures drills { P.takes_drills plant.new ≡ P.takes_drills plant.old }
     {
         match write(&self.begin, journal, plant) {
             Ok(()) => {
-                let Planned { begin: _, forward } = self;
-                Turned::Next(Live::Begun(Begun { forward }))
+                let Planned { begin: _, work } = self;
+                Turned::Next(Live::Begun(Begun { work }))
             }
             Err(Halt::Trouble(what)) => Turned::Stuck(self, what),
             Err(Halt::Stopped) => Turned::Stopped,

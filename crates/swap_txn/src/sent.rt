@@ -6,17 +6,13 @@ ghost use Rattle.plant.specs.declared.device.DeviceOp.TheVariants as ops;
 ghost use Rattle.swap_txn.specs.Steps.{Commanded};
 ghost use Rattle.swap_txn.specs.Troubles.{sent_by, IsPolled};
 
-use crate::What;
 use crate::halt::Halt;
-use lab_base::{Boot, Name};
+use lab_base::{Boot, Name, What};
 use plant::{Answer, DeviceOp, Fault, Plant};
 
 /// Sends a command.
 pub(crate) fn send<P: Plant>(plant: &mut P, op: &DeviceOp) -> Result<Answer, Halt>
-    ensures sent { (answer : Result Answered Faulted) × Commanded op.now
-        (record { told = P.told plant.old; faults = P.faults plant.old; stopped = P.is_stopped plant.old })
-        (record { told = P.told plant.new; faults = P.faults plant.new; stopped = P.is_stopped plant.new }) answer × (result ≡ sent_by op.now answer) }
-    ensures drills { P.takes_drills plant.new ≡ P.takes_drills plant.old }
+    ensures { (answer : Result Answered Faulted) × Commanded op.now (P.seen plant.old) (P.seen plant.new) answer × (result ≡ sent_by op.now answer) }
 {
     match plant.command(*op) {
         Ok(answer) => Ok(answer),
@@ -27,10 +23,7 @@ pub(crate) fn send<P: Plant>(plant: &mut P, op: &DeviceOp) -> Result<Answer, Hal
 
 /// Asks a node for its boot state.
 pub(crate) fn poll<P: Plant>(plant: &mut P, node: Name) -> Result<Boot, Halt>
-    ensures sent { (answer : Result Answered Faulted) × Commanded (ops.Poll node)
-        (record { told = P.told plant.old; faults = P.faults plant.old; stopped = P.is_stopped plant.old })
-        (record { told = P.told plant.new; faults = P.faults plant.new; stopped = P.is_stopped plant.new }) answer × IsPolled node answer result }
-    ensures drills { P.takes_drills plant.new ≡ P.takes_drills plant.old }
+    ensures { (answer : Result Answered Faulted) × Commanded (ops.Poll node) (P.seen plant.old) (P.seen plant.new) answer × IsPolled node answer result }
 {
     match send(plant, &DeviceOp::Poll { node })? {
         Answer::State(state) => Ok(state),

@@ -1,5 +1,5 @@
 ghost use Rattle.std.specs.Prelude.{◌≡◌, ◌≤◌, ◌^◌, length, IfOk, OnOk, Some};
-ghost use Rattle.plant.specs.MemLab.{told_of};
+ghost use Rattle.plant_mem.specs.MemLab.{told_of};
 ghost use Rattle.journal_rec.specs.Payloads.{way_bytes, tags_of_way};
 ghost use Rattle.journal_disk.specs.Standing.{limit_of};
 ghost use Rattle.swap_txn.specs.Steps.{Stands};
@@ -7,8 +7,9 @@ ghost use Rattle.swap_txn.specs.Steps.{Stands};
 use super::*;
 use journal_disk::Journal;
 use journal_rec::Way;
-use lab_base::{Boot, Items, Name, Tags, Text, VlanId};
-use plant::{DeviceOp, Drill, How, MemLab, Plant, Step};
+use lab_base::{Boot, Items, Name, Tags, Text, VlanId, What};
+use plant::{DeviceOp, Drill, How, Plant, Step};
+use plant_mem::MemLab;
 use std::alloc::Global;
 use std::test::Fail;
 use swap_plan::{Commands, Ops};
@@ -103,7 +104,11 @@ fn ops_of(alloc: Global, out: bool) -> Result<Ops, Fail> {
     } else {
         (building(alloc)?, clearing(alloc)?)
     };
-    Ok(Ops { commands, undo })
+    Ok(Ops {
+        commands,
+        undo,
+        inside: false,
+    })
 }
 
 /// How a swap ended.
@@ -281,9 +286,10 @@ fn run(alloc: Global, out: bool, fails: &[(&[u8], u32, How)]) -> Result<Ran, Fai
     Ok(Ran { last, steps, plant })
 }
 
-/// A swap-out of `A`, or the undo of its swap-in, whose Begin is durable already.
-fn run_again(alloc: Global, out: bool) -> Result<Ran, Fail> {
-    let ops = ops_of(alloc, out)?;
+/// A swap-out of `A`, or the undo of its swap-in or of its change, whose Begin is durable already.
+fn run_again(alloc: Global, out: bool, inside: bool) -> Result<Ran, Fail> {
+    let mut ops = ops_of(alloc, out)?;
+    ops.inside = inside;
     let live = Live::again(alloc, named(b"A")?, ops, out)
         .ok()
         .ok_or("memory")?;
@@ -295,9 +301,14 @@ fn run_again(alloc: Global, out: bool) -> Result<Ran, Fail> {
     Ok(Ran { last, steps, plant })
 }
 
-fn ended(inside: bool, why: Option<What>) -> Result<Last, Fail> {
+fn ended(inside: bool, committed: bool, why: Option<What>) -> Result<Last, Fail> {
     let exp = named(b"A")?;
-    Ok(Last::Ended(Ended { exp, inside, why }))
+    Ok(Last::Ended(Ended {
+        exp,
+        inside,
+        committed,
+        why,
+    }))
 }
 
 fn has_rows(plant: &MemLab) -> Result<(bool, bool), Fail> {
@@ -310,7 +321,7 @@ fn has_rows(plant: &MemLab) -> Result<(bool, bool), Fail> {
 #[test]
 fn in_from_begin_to_commit(rt: HostRuntime) -> Result<(), Fail> {
     let ran = run(rt.alloc(), false, &[])?;
-    assert!(rt; ran.last == ended(true, None)?);
+    assert!(rt; ran.last == ended(true, true, None)?);
     assert_eq!(rt; ran.steps.as_slice(), b"wsws++llbppbppwsws".as_slice());
     assert_eq!(rt; has_rows(&ran.plant)?, (true, true));
     Ok(())
@@ -319,7 +330,7 @@ fn in_from_begin_to_commit(rt: HostRuntime) -> Result<(), Fail> {
 #[test]
 fn a_failed_command_is_undone(rt: HostRuntime) -> Result<(), Fail> {
     let ran = run(rt.alloc(), false, &[(b"s1", 2, How::Applied)])?;
-    assert!(rt; ran.last == ended(false, Some(What::Device(named(b"s1")?)))?);
+    assert!(rt; ran.last == ended(false, false, Some(What::Device(named(b"s1")?)))?);
     assert_eq!(rt; ran.steps.as_slice(), b"wsws++!--xxwsws".as_slice());
     assert_eq!(rt; has_rows(&ran.plant)?, (false, false));
     Ok(())
@@ -340,7 +351,7 @@ fn an_undo_that_fails_is_stuck(rt: HostRuntime) -> Result<(), Fail> {
 #[test]
 fn out_from_begin_to_commit(rt: HostRuntime) -> Result<(), Fail> {
     let ran = run(rt.alloc(), true, &[])?;
-    assert!(rt; ran.last == ended(false, None)?);
+    assert!(rt; ran.last == ended(false, true, None)?);
     assert_eq!(rt; ran.steps.as_slice(), b"wsws--xxwsws".as_slice());
     Ok(())
 }
@@ -355,9 +366,9 @@ fn a_swap_out_that_fails_is_stuck(rt: HostRuntime) -> Result<(), Fail> {
 
 #[test]
 fn begun_already(rt: HostRuntime) -> Result<(), Fail> {
-    for out in [true, false] {
-        let ran = run_again(rt.alloc(), out)?;
-        assert!(rt; ran.last == ended(false, None)?);
+    for (out, inside) in [(true, false), (false, false), (false, true)] {
+        let ran = run_again(rt.alloc(), out, inside)?;
+        assert!(rt; ran.last == ended(inside, out, None)?);
         assert_eq!(rt; ran.steps.as_slice(), b"--xxwsws".as_slice());
     }
     Ok(())
@@ -366,7 +377,7 @@ fn begun_already(rt: HostRuntime) -> Result<(), Fail> {
 #[test]
 fn a_node_that_hangs_is_late(rt: HostRuntime) -> Result<(), Fail> {
     let ran = run(rt.alloc(), false, &[(b"pc2", 2, How::Hang)])?;
-    assert!(rt; ran.last == ended(false, Some(What::Late(named(b"pc2")?)))?);
+    assert!(rt; ran.last == ended(false, false, Some(What::Late(named(b"pc2")?)))?);
     assert_eq!(rt;
         ran.steps.as_slice(),
         b"wsws++llbppb\
@@ -385,7 +396,7 @@ fn a_node_that_jumps_is_unlawful(rt: HostRuntime) -> Result<(), Fail> {
         from: Boot::Booting,
         to: Boot::IsUp,
     };
-    assert!(rt; ran.last == ended(false, Some(why))?);
+    assert!(rt; ran.last == ended(false, false, Some(why))?);
     assert_eq!(rt; ran.steps.as_slice(), b"wsws++llbppbp--xxwsws".as_slice());
     Ok(())
 }

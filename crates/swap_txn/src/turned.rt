@@ -1,4 +1,5 @@
-use crate::{Live, Undoing, What};
+use crate::{Live, Undoing};
+use lab_base::What;
 
 /// What a turn leads to.
 #[derive(Drop)]

@@ -7,10 +7,9 @@ ghost use Rattle.swap_txn.specs.Steps.{Commanded};
 ghost use Rattle.swap_txn.specs.Troubles.{told_by};
 ghost use Rattle.swap_txn.specs.Views.{IsPolledBy};
 
-use crate::What;
 use crate::halt::Halt;
 use crate::sent::poll;
-use lab_base::{Boot, Name};
+use lab_base::{Boot, Name, What};
 use node_state::{Seen, Watch};
 use plant::Plant;
 
@@ -50,10 +49,7 @@ impl Watched {
     /// Polls the node; `Ok` tells whether it is up. After trouble the watch begins anew.
     pub(crate) fn poll<P: Plant>(&mut self, plant: &mut P) -> Result<bool, Halt>
         requires { self.old.watch.polls < 64 }
-        ensures sent { (answer : Result Answered Faulted) × Commanded (ops.Poll self.old.node)
-            (record { told = P.told plant.old; faults = P.faults plant.old; stopped = P.is_stopped plant.old })
-            (record { told = P.told plant.new; faults = P.faults plant.new; stopped = P.is_stopped plant.new }) answer × IsPolledBy self.old answer result self.new }
-        ensures drills { P.takes_drills plant.new ≡ P.takes_drills plant.old }
+        ensures { (answer : Result Answered Faulted) × Commanded (ops.Poll self.old.node) (P.seen plant.old) (P.seen plant.new) answer × IsPolledBy self.old answer result self.new }
     {
         let state = poll(plant, self.node)?;
         match self.see(state) {

@@ -1,13 +1,13 @@
 ghost use Rattle.std.specs.Prelude.{◌≡◌};
 ghost use Rattle.journal_rec.specs.Payloads.{IsBody};
 ghost use Rattle.journal_rec.specs.declared.record.Record.TheVariants as records;
-ghost use Rattle.swap_txn.specs.Turns.{undone};
+ghost use Rattle.swap_txn.specs.States.{undone};
 
-use crate::backward::Backward;
+use crate::Undoing;
 use crate::sending::Sending;
-use crate::{Undoing, What};
+use crate::work::Work;
 use journal_rec::Encoded;
-use lab_base::Name;
+use lab_base::{Name, What};
 use swap_plan::Commands;
 
 /// The way back of a swap.
@@ -27,12 +27,14 @@ impl WayBack {
         ensures { result ≡ undone exp (record { plan = self.commands; inside = self.inside }) what.now }
     {
         Undoing {
-            backward: Backward {
+            work: Work {
                 exp,
                 sending: Sending::new(self.commands),
-                abort: self.abort,
+                last: self.abort,
+                commit: false,
                 inside: self.inside,
                 why: Some(*what),
+                back: None,
             },
         }
     }

@@ -1,14 +1,17 @@
-use crate::forward::Forward;
-use crate::{Undoing, What};
+use crate::work::Work;
+use crate::{Ended, Undoing};
+use lab_base::What;
 
-/// What a command made of a swap on its way.
+/// What a turn made of a swap with work left.
 #[derive(Drop)]
 pub(crate) enum Went {
-    /// The command was acknowledged.
-    On(Forward),
-    /// The undo begins.
+    /// A command was acknowledged.
+    On(Work),
+    /// The last record is durable.
+    Ended(Ended),
+    /// Trouble begins the way back.
     Trouble(Undoing, What),
-    Stuck(Forward, What),
+    Stuck(Work, What),
     /// The plant is stopped.
     Stopped,
 }

@@ -7,10 +7,10 @@ ghost use Rattle.journal_disk.specs.declared.fault.AppendFault.{AppendFault as U
 ghost use Rattle.swap_txn.specs.Steps.{Stands, Writes};
 ghost use Rattle.swap_txn.specs.Troubles.{IsWritten};
 
-use crate::What;
 use crate::halt::Halt;
 use journal_disk::{AppendFault, Journal};
 use journal_rec::Encoded;
+use lab_base::What;
 use plant::Plant;
 
 /// Appends a record for which there is room.
@@ -19,12 +19,9 @@ pub(crate) fn write<P: Plant>(
     journal: &mut Journal,
     plant: &mut P,
 ) -> Result<(), Halt>
-    requires stands { Stands (P.told plant.old) journal.old }
+    requires stands { Stands (P.seen plant.old).told journal.old }
     requires fits { length_of journal.old + length encoded.now ≤ limit_of journal.old }
-    ensures writes { (r : Record) → IsBody encoded.now r → (answer : Result (Unit {0}) Unwritten) × Writes r
-        (record { told = P.told plant.old; faults = P.faults plant.old; stopped = P.is_stopped plant.old })
-        (record { told = P.told plant.new; faults = P.faults plant.new; stopped = P.is_stopped plant.new }) journal.old journal.new answer × IsWritten tt answer result }
-    ensures drills { P.takes_drills plant.new ≡ P.takes_drills plant.old }
+    ensures { (r : Record) → IsBody encoded.now r → (answer : Result (Unit {0}) Unwritten) × Writes r (P.seen plant.old) (P.seen plant.new) journal.old journal.new answer × IsWritten tt answer result }
 {
     match journal.append(encoded, plant) {
         Ok(()) => Ok(()),

@@ -1,6 +1,5 @@
 use Rattle.records_model.proofs.LabLaws.{folds_or_stops, stops_once, folds_push, folds_split, folds_once, lab_sane, follows_parts}
-use Rattle.records_model.proofs.SwapIn.{stands_once}
-use Rattle.records_model.proofs.Starts.{room_accepted}
+use Rattle.records_model.proofs.Starts.{room_accepted, stands_once}
 use Rattle.records_model.proofs.lab_of_records.Goals as goal
 
 pub returns-clause-pushed : goal.returns-clause-pushed

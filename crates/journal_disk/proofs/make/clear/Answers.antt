@@ -13,15 +13,15 @@ pub returns-in_err-write-clause-makes : goal.returns-in_err-write-clause-makes
 returns-in_err-write-clause-makes g c =
     let p = err_from_is_err_and c.from_residual.result c.from_residual.ensures.1 in
     let t = c.in_err-write.ensures.trace in
-    let told = g.P.Plant.told c.args.plant.now in
-    rw (p.1, p.2) (make_broke true Closed told (g.P.Plant.told c.write.new.self) c.in_err-write.field-0.0 (write_came (made_steps true) (IsMade true) told told (g.P.Plant.told c.write.new.self) A Untouched (λ other. Closing (first_byte other)) 0 (0 ∷ []) (g.P.Plant.is_stopped c.args.plant.now) c.in_err-write.field-0.0 t.0 tt (λ _. refl) (nothing_yet told)
+    let told = (g.P.Plant.seen c.args.plant.now).told in
+    rw (p.1, p.2) (make_broke true Closed told (g.P.Plant.seen c.write.new.self).told c.in_err-write.field-0.0 (write_came (made_steps true) (IsMade true) told told (g.P.Plant.seen c.write.new.self).told A Untouched (λ other. Closing (first_byte other)) 0 (0 ∷ []) (g.P.Plant.seen c.args.plant.now).stopped c.in_err-write.field-0.0 t.0 tt (λ _. refl) (nothing_yet told)
     (λ other len. ap (λ (l : List ℕ). Wrote A 0 l ∷ []) (one_byte other len)) t.1 t.2))
 
 pub returns-in_err-sync-clause-makes : goal.returns-in_err-sync-clause-makes
 returns-in_err-sync-clause-makes g c =
     let p = err_from_is_err_and c.from_residual-in_err-sync.result c.from_residual-in_err-sync.ensures.1 in
-    let told = g.P.Plant.told c.args.plant.now in
+    let told = (g.P.Plant.seen c.args.plant.now).told in
     let w = c.in_ok-write.ensures.trace in
-    let one : g.P.Plant.told c.write.new.self ≡ with_steps told (Wrote A 0 (0 ∷ []) ∷ []) = w.1 ∙ ap (λ l. with_steps told l) (write_ok A 0 (0 ∷ []) _ _ w.0 w.2) in
+    let one : (g.P.Plant.seen c.write.new.self).told ≡ with_steps told (Wrote A 0 (0 ∷ []) ∷ []) = w.1 ∙ ap (λ l. with_steps told l) (write_ok A 0 (0 ∷ []) _ _ w.0 w.2) in
     let t = c.in_err-sync.ensures.trace in
-    rw (p.1, p.2) (make_broke true Closed told (g.P.Plant.told c.sync.new.self) c.in_err-sync.field-0.0 (sync_came (made_steps true) (IsMade true) told (g.P.Plant.told c.write.new.self) (g.P.Plant.told c.sync.new.self) A (Closing 0) Closed (g.P.Plant.is_stopped c.write.new.self) c.in_err-sync.field-0.0 t.0 refl tt one refl t.1 t.2))
+    rw (p.1, p.2) (make_broke true Closed told (g.P.Plant.seen c.sync.new.self).told c.in_err-sync.field-0.0 (sync_came (made_steps true) (IsMade true) told (g.P.Plant.seen c.write.new.self).told (g.P.Plant.seen c.sync.new.self).told A (Closing 0) Closed (g.P.Plant.seen c.write.new.self).stopped c.in_err-sync.field-0.0 t.0 refl tt one refl t.1 t.2))

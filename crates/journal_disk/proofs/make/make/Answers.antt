@@ -5,6 +5,6 @@ use Rattle.journal_disk.proofs.make.make.Goals as goal
 
 pub returns-in_ok-clear-clause-makes : goal.returns-in_ok-clear-clause-makes
 returns-in_ok-clear-clause-makes g c =
-    let told = g.P.Plant.told c.args.plant.now in
-    subst (λ (b : Bool). Makes b InUse told (g.P.Plant.told c.head.new.plant) c.head.result) (sym c.if-is_short.true)
-    (make_joined told (g.P.Plant.told c.clear.new.plant) (g.P.Plant.told c.head.new.plant) c.head.result c.in_ok-clear.ensures.ok c.head.ensures.makes)
+    let told = (g.P.Plant.seen c.args.plant.now).told in
+    subst (λ (b : Bool). Makes b InUse told (g.P.Plant.seen c.head.new.plant).told c.head.result) (sym c.if-is_short.true)
+    (make_joined told (g.P.Plant.seen c.clear.new.plant).told (g.P.Plant.seen c.head.new.plant).told c.head.result c.in_ok-clear.ensures.ok c.head.ensures.makes)

@@ -6,13 +6,12 @@ use Rattle.journal_disk.proofs.sides.read_side.Given as goal
 abbrev pub invariant-loop-side : goal.invariant-loop-side
 invariant-loop-side g l = record {
   within : vec_len l.bytes ≤ l.size;
-  told : g.P.Plant.told l.plant ≡ g.P.Plant.told l.fn.plant;
-  whole : IfSome (g.P.Plant.told l.fn.plant) (λ t. l.size ≡ length (disk l.side t.trace).reads);
-  read : IfSome (g.P.Plant.told l.fn.plant) (λ t. l.bytes.items ≡ take (vec_len l.bytes) (disk l.side t.trace).reads);
-  later : (g.P.Plant.faults l.fn.plant).disk ≤ (g.P.Plant.faults l.plant).disk;
-  devices : (g.P.Plant.faults l.plant).devices ≡ (g.P.Plant.faults l.fn.plant).devices;
-  stopped : g.P.Plant.is_stopped l.plant ≡ g.P.Plant.is_stopped l.initial.plant;
-  drills : g.P.Plant.takes_drills l.plant ≡ g.P.Plant.takes_drills l.fn.plant;
+  told : (g.P.Plant.seen l.plant).told ≡ (g.P.Plant.seen l.fn.plant).told;
+  whole : IfSome (g.P.Plant.seen l.fn.plant).told (λ t. l.size ≡ length (disk l.side t.trace).reads);
+  read : IfSome (g.P.Plant.seen l.fn.plant).told (λ t. l.bytes.items ≡ take (vec_len l.bytes) (disk l.side t.trace).reads);
+  later : (g.P.Plant.seen l.fn.plant).faults.disk ≤ (g.P.Plant.seen l.plant).faults.disk;
+  devices : (g.P.Plant.seen l.plant).faults.devices ≡ (g.P.Plant.seen l.fn.plant).faults.devices;
+  stopped : (g.P.Plant.seen l.plant).stopped ≡ (g.P.Plant.seen l.initial.plant).stopped;
 }
 
 abbrev pub decreases-loop-side : goal.decreases-loop-side

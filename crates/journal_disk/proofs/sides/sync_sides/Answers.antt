@@ -11,29 +11,29 @@ use Rattle.journal_disk.proofs.sides.sync_sides.Goals as goal
 pub returns-in_err-sync-clause-syncs : goal.returns-in_err-sync-clause-syncs
 returns-in_err-sync-clause-syncs g c =
     let p = err_from_is_err_and c.from_residual.result c.from_residual.ensures.1 in
-    let told = g.P.Plant.told c.args.plant.now in
+    let told = (g.P.Plant.seen c.args.plant.now).told in
     let t = c.in_err-sync.ensures.trace in
-    rw (p.1, p.2) (sync_broke told told (g.P.Plant.told c.sync.new.self) A AtStart OneSynced (g.P.Plant.is_stopped c.args.plant.now) c.in_err-sync.field-0.0 t.0 tt tt (nothing_yet told) refl t.1 t.2)
+    rw (p.1, p.2) (sync_broke told told (g.P.Plant.seen c.sync.new.self).told A AtStart OneSynced (g.P.Plant.seen c.args.plant.now).stopped c.in_err-sync.field-0.0 t.0 tt tt (nothing_yet told) refl t.1 t.2)
 
 pub returns-in_err-sync-2-clause-syncs : goal.returns-in_err-sync-2-clause-syncs
 returns-in_err-sync-2-clause-syncs g c =
     let p = err_from_is_err_and c.from_residual-in_err-sync-2.result c.from_residual-in_err-sync-2.ensures.1 in
-    let told = g.P.Plant.told c.args.plant.now in
+    let told = (g.P.Plant.seen c.args.plant.now).told in
     let v = c.in_ok-sync.ensures.trace in
-    let one : g.P.Plant.told c.sync.new.self ≡ with_steps told (Synced A ∷ []) = v.1 ∙ ap (λ l. with_steps told l) (sync_ok A _ _ v.0 v.2) in
+    let one : (g.P.Plant.seen c.sync.new.self).told ≡ with_steps told (Synced A ∷ []) = v.1 ∙ ap (λ l. with_steps told l) (sync_ok A _ _ v.0 v.2) in
     let t = c.in_err-sync-2.ensures.trace in
-    rw (p.1, p.2) (sync_broke told (g.P.Plant.told c.sync.new.self) (g.P.Plant.told c.sync-2.new.self) B OneSynced BothSynced (g.P.Plant.is_stopped c.sync.new.self) c.in_err-sync-2.field-0.0 t.0 tt tt one refl t.1 t.2)
+    rw (p.1, p.2) (sync_broke told (g.P.Plant.seen c.sync.new.self).told (g.P.Plant.seen c.sync-2.new.self).told B OneSynced BothSynced (g.P.Plant.seen c.sync.new.self).stopped c.in_err-sync-2.field-0.0 t.0 tt tt one refl t.1 t.2)
 
 both : goal.returns-clause-ok
 both g c =
-    let told = g.P.Plant.told c.args.plant.now in
+    let told = (g.P.Plant.seen c.args.plant.now).told in
     let v = c.in_ok-sync.ensures.trace in
-    let one : g.P.Plant.told c.sync.new.self ≡ with_steps told (Synced A ∷ []) = v.1 ∙ ap (λ l. with_steps told l) (sync_ok A _ _ v.0 v.2) in
+    let one : (g.P.Plant.seen c.sync.new.self).told ≡ with_steps told (Synced A ∷ []) = v.1 ∙ ap (λ l. with_steps told l) (sync_ok A _ _ v.0 v.2) in
     let t = c.in_ok-sync-2.ensures.trace in
-    chain told (g.P.Plant.told c.sync.new.self) (g.P.Plant.told c.sync-2.new.self) _ t.0 both_synced one t.1 (ap (λ l. Synced A ∷ l) (sync_ok B _ _ t.0 t.2))
+    chain told (g.P.Plant.seen c.sync.new.self).told (g.P.Plant.seen c.sync-2.new.self).told _ t.0 both_synced one t.1 (ap (λ l. Synced A ∷ l) (sync_ok B _ _ t.0 t.2))
 
 pub returns-clause-ok : goal.returns-clause-ok
 returns-clause-ok g c = both g c
 
 pub returns-clause-syncs : goal.returns-clause-syncs
-returns-clause-syncs g c = both_done (g.P.Plant.told c.args.plant.now) (g.P.Plant.told c.sync-2.new.self) _ (both g c)
+returns-clause-syncs g c = both_done (g.P.Plant.seen c.args.plant.now).told (g.P.Plant.seen c.sync-2.new.self).told _ (both g c)

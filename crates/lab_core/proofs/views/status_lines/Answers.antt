@@ -1,7 +1,7 @@
 use Rattle.std.proofs.Common.{◌≡◌, ◌<◌, length, Some, None, ◌∷◌, [], ◌++◌, sym, ◌∙◌, arith, slice_get}
 use Rattle.lab_model.proofs.OneSided.{Has-slice_get}
 use Rattle.records_model.specs.Labs.{lab_in}
-use Rattle.lab_core.specs.Steps.{status_line}
+use Rattle.lab_core.specs.Judge.{status_line}
 use Rattle.lab_core.proofs.Shown.{next_line, none_missing}
 use Rattle.lab_core.proofs.views.status_lines.Goals as goal
 use Rattle.lab_core.proofs.views.status_lines.Goals.{in-Some+in_ok-push, in_default}

@@ -1,6 +1,6 @@
 use Rattle.std.proofs.Common.{◌≡◌, length, map, take}
 use Rattle.records_model.specs.Labs.{lab_in}
-use Rattle.lab_core.specs.Steps.{status_line}
+use Rattle.lab_core.specs.Judge.{status_line}
 use Rattle.lab_core.proofs.views.status_lines.Given as goal
 
 abbrev pub invariant-loop-number : goal.invariant-loop-number

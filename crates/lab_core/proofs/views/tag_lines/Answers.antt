@@ -3,7 +3,7 @@ use Rattle.std.specs.List.{zip}
 use Rattle.std.proofs.lemmas.Bool.{leb-false}
 use Rattle.std.proofs.lemmas.List.{take_all}
 use Rattle.std.proofs.lemmas.Option.{slice_get_read, slice_get-get_or}
-use Rattle.lab_core.specs.Steps.{tag_line}
+use Rattle.lab_core.specs.Judge.{tag_line}
 use Rattle.lab_core.proofs.Shown.{next_line, no_line, zip_at, zip_past, zip_within}
 use Rattle.lab_core.proofs.views.tag_lines.Goals as goal
 use Rattle.lab_core.proofs.views.tag_lines.Goals.{in-Some+in_ok-push, in_default}

@@ -1,6 +1,6 @@
 use Rattle.std.proofs.Common.{◌≡◌, map, take}
 use Rattle.std.specs.List.{zip}
-use Rattle.lab_core.specs.Steps.{tag_line}
+use Rattle.lab_core.specs.Judge.{tag_line}
 use Rattle.lab_core.proofs.views.tag_lines.Given as goal
 
 abbrev pub invariant-loop-number : goal.invariant-loop-number

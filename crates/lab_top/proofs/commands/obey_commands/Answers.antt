@@ -4,7 +4,6 @@ use Rattle.lab_io.specs.Passed.{stand_of}
 use Rattle.lab_io.specs.Taken.{pending_of}
 use Rattle.lab_io.proofs.Known.{prepend_known-nil}
 use Rattle.script_text.specs.declared.command.Command.{Command}
-use Rattle.lab_core.proofs.FromScripts.{has_blocks}
 use Rattle.lab_top.specs.declared.status.Status.TheVariants.{Done, ReadFault, WriteFault, BadScript, Memory, JournalBad}
 use Rattle.lab_top.specs.Pieces.{commands_of}
 use Rattle.lab_top.specs.Readers.{at_start}
@@ -21,10 +20,9 @@ commands-init g c =
     record {
       ready = (n.fault, inl n.ended);
       going = ([], going_none _ _ (g.K.Sink.written c.args.sink.now) refl, λ bytes is. covers_none bytes stand (ap (λ p. prepend_known p left) n.pending ∙ prepend_known-nil left ∙ is) n.ended n.taken n.lines);
-      goes_on = goes_closed _ _ _;
+      goes_on = goes_closed _;
       read = omega arith;
       write = omega arith;
-      drills = refl;
     }
 
 pub returns-in-Ok-End-clause-ran : goal.returns-in-Ok-End-clause-ran
@@ -79,7 +77,7 @@ commands-preserved g c =
     let new = stand_of c.read_command.new.lines (g.S.Source.left c.read_command.new.source) in
     let command = c.in-Ok-Command.command in
     let read = e.next inv.ready in
-    let more = going_more _ _ inv.drills _ _ _ _ _ _ was.0 was.1 command a.answered in
+    let more = going_more _ _ _ _ _ _ _ was.0 was.1 command a.answered in
     record {
       ready = (e.ok, read.1.ends);
       going = (
@@ -90,7 +88,6 @@ commands-preserved g c =
       goes_on = a.answered.1.goes_on;
       read = omega (arith, e.later, inv.read);
       write = omega (arith, a.later, inv.write);
-      drills = a.drills ∙ inv.drills;
     }
 
 pub returns-in-Err-WriteFault-clause-ran : goal.returns-in-Err-WriteFault-clause-ran
@@ -101,7 +98,7 @@ returns-in-Err-WriteFault-clause-ran g c =
     let a = rw c.in-Err-WriteFault.field-0-is at c.in-Err-WriteFault.ensures in
     let now = stand_of c.commands.reader (g.S.Source.left c.commands.source) in
     let new = stand_of c.read_command.new.lines (g.S.Source.left c.read_command.new.source) in
-    let cut = going_cut _ _ inv.drills _ _ _ _ _ _ was.0 was.1 c.in-Ok-Command.command a.answered in
+    let cut = going_cut _ _ _ _ _ _ _ was.0 was.1 c.in-Ok-Command.command a.answered in
     (cut.0, begun_ran _ _ _ _ _ _ _ WriteFault cut.0 cut.2 (λ bytes is. one_begun bytes now new (commands_of was.0) (commands_of cut.0) c.in-Ok-Command.command (was.2 bytes is) (e.next inv.ready) cut.1) (λ is. absurd (cc is)))
 
 pub returns-in-Err-Memory-answer_command-clause-ran : goal.returns-in-Err-Memory-answer_command-clause-ran
@@ -112,7 +109,7 @@ returns-in-Err-Memory-answer_command-clause-ran g c =
     let a = rw c.in-Err-Memory-answer_command.field-0-is at c.in-Err-Memory-answer_command.ensures in
     let now = stand_of c.commands.reader (g.S.Source.left c.commands.source) in
     let new = stand_of c.read_command.new.lines (g.S.Source.left c.read_command.new.source) in
-    let cut = going_memory _ _ inv.drills _ _ _ _ _ _ was.0 was.1 c.in-Ok-Command.command a.answered in (
+    let cut = going_memory _ _ _ _ _ _ _ was.0 was.1 c.in-Ok-Command.command a.answered in (
       cut.0,
       begun_ran _ _ _ _ _ _ _ Memory cut.0 cut.2 (λ bytes is. ⊎_elim (λ same. none_begun bytes now (commands_of was.0) (commands_of cut.0) (was.2 bytes is) same)
           (λ one. one_begun bytes now new (commands_of was.0) (commands_of cut.0) c.in-Ok-Command.command (was.2 bytes is) (e.next inv.ready) one) cut.1) (λ is. absurd (cc is)),
@@ -128,12 +125,5 @@ returns-in-Err-JournalBad-clause-ran g c =
     let new = stand_of c.read_command.new.lines (g.S.Source.left c.read_command.new.source) in
     let side = c.in-Err-JournalBad.side in
     let at = c.in-Err-JournalBad.at in
-    let cut = going_bad _ _ inv.drills _ _ _ _ _ _ was.0 was.1 c.in-Ok-Command.command side at a.answered in
+    let cut = going_bad _ _ _ _ _ _ _ was.0 was.1 c.in-Ok-Command.command side at a.answered in
     rw c.in-Err-JournalBad.field-0-is (cut.0, begun_ran _ _ _ _ _ _ _ (JournalBad side at) cut.0 cut.2 (λ bytes is. one_begun bytes now new (commands_of was.0) (commands_of cut.0) c.in-Ok-Command.command (was.2 bytes is) (e.next inv.ready) cut.1) (λ is. absurd (cc is)))
-
-pub answer_command-requires-clause-blocks : goal.answer_command-requires-clause-blocks
-answer_command-requires-clause-blocks g c =
-    let e = rw c.in-Ok-Command.field-0-is at c.in-Ok-Command.ensures in
-    let now = stand_of c.commands.reader (g.S.Source.left c.commands.source) in
-    let new = stand_of c.read_command.new.lines (g.S.Source.left c.read_command.new.source) in
-    has_blocks now new c.in-Ok-Command.command (e.next c.commands.invariant.ready)

@@ -9,21 +9,21 @@ use Rattle.lab_top.proofs.top.labctl.Goals as goal
 
 pub returns-then-not-is_empty-clause-run : goal.returns-then-not-is_empty-clause-run
 returns-then-not-is_empty-clause-run g c =
-    let start : Moment = record { told = g.P.Plant.told c.args.plant.now; faults = g.P.Plant.faults c.args.plant.now; stopped = g.P.Plant.is_stopped c.args.plant.now; controller = None } in
+    let start : Moment = record { plant = g.P.Plant.seen c.args.plant.now; controller = None } in
     let left = g.S.Source.left c.args.source.now in
-    let none = going_none (g.P.Plant.takes_drills c.args.plant.now) start (g.K.Sink.written c.args.sink.now) refl in (
+    let none = going_none g.P.Plant.takes_drills start (g.K.Sink.written c.args.sink.now) refl in (
       [],
-      ran _ _ start start _ _ left left Usage [] (λ is. some_words c.args.words.now (let a = c.is_empty.ensures in let b = c.if-not-is_empty.true in grind (arith, nat_tests))) (λ is. refl) (none.so, all_some start.told (λ t. tt), refl, none.wrote, λ runs. runs) (λ bytes is. (refl, is)),
+      ran _ _ start start _ _ left left Usage [] (λ is. some_words c.args.words.now (let a = c.is_empty.ensures in let b = c.if-not-is_empty.true in grind (arith, nat_tests))) (λ is. refl) (none.so, all_some start.plant.told (λ t. tt), refl, none.wrote, λ runs. runs) (λ bytes is. (refl, is)),
     )
 
 pub returns-in_default-clause-run : goal.returns-in_default-clause-run
 returns-in_default-clause-run g c =
-    let start : Moment = record { told = g.P.Plant.told c.args.plant.now; faults = g.P.Plant.faults c.args.plant.now; stopped = g.P.Plant.is_stopped c.args.plant.now; controller = None } in
+    let start : Moment = record { plant = g.P.Plant.seen c.args.plant.now; controller = None } in
     let left = g.S.Source.left c.args.source.now in
-    let none = going_none (g.P.Plant.takes_drills c.args.plant.now) start (g.K.Sink.written c.args.sink.now) refl in
+    let none = going_none g.P.Plant.takes_drills start (g.K.Sink.written c.args.sink.now) refl in
     rw (no_words c.args.words.now (let a = c.is_empty.ensures in let b = c.if-not-is_empty.false in grind (arith, nat_tests))) (
       [],
-      ran _ (Some Usual) start start _ _ left left Memory [] (λ is. absurd (cc is)) (λ is. absurd (cc is)) (none.so, all_some start.told (λ t. tt), inl refl, none.wrote, λ runs. tt) (λ bytes is. tt),
+      ran _ (Some Usual) start start _ _ left left Memory [] (λ is. absurd (cc is)) (λ is. absurd (cc is)) (none.so, all_some start.plant.told (λ t. tt), inl refl, none.wrote, λ runs. tt) (λ bytes is. tt),
     )
 
 pub returns-clause-run : goal.returns-clause-run

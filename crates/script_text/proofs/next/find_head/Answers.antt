@@ -28,21 +28,21 @@ returns-in-None-clause-none g c ready =
 pub returns-in-Unknown-clause-bad : goal.returns-in-Unknown-clause-bad
 returns-in-Unknown-clause-bad g c ready line is =
     let some = rw c.in-Some.is at c.in_ok-take_line.ensures.some in
-    let said = sym c.in_ok-said_in-in-Some.ensures ∙ c.in-Unknown.is in
+    let said = sym c.in_ok-said_in-in-Some.ensures.said ∙ c.in-Unknown.is in
     let number : c.lines-in-Unknown.result ≡ line = cc is in
     subst (λ (n : ℕ). IsBad (stand_of c.args.lines.now (g.S.Source.left c.args.source.now)) n) (sym c.lines-in-Unknown.ensures ∙ number) (unknown_bad _ _ _ _ (c.lines.invariant.skipped ready) some said)
 
 pub returns-in-Begins-clause-some : goal.returns-in-Begins-clause-some
 returns-in-Begins-clause-some g c ready =
     let some = rw c.in-Some.is at c.in_ok-take_line.ensures.some in
-    let said = sym c.in_ok-said_in-in-Some.ensures ∙ c.in-Begins.is in
+    let said = sym c.in_ok-said_in-in-Some.ensures.said ∙ c.in-Begins.is in
     begun_on _ _ _ _ (c.lines.invariant.skipped ready) some c.in-Begins.head said
 
 pub lines-preserved : goal.lines-preserved
 lines-preserved g c =
     let some = rw c.in-Some.is at c.in_ok-take_line.ensures.some in
     let more = rw c.in-Some.is at c.in_ok-take_line.ensures.more in
-    let said = sym c.in_ok-said_in-in-Some.ensures ∙ c.in-Skipped.is in record {
+    let said = sym c.in_ok-said_in-in-Some.ensures.said ∙ c.in-Skipped.is in record {
       fault = λ h. c.in_ok-take_line.ensures.ok;
       skipped = λ ready. skipped_on _ _ _ _ (c.lines.invariant.skipped ready) some said;
       later = omega (arith, c.lines.invariant.later, c.take_line.ensures.later);

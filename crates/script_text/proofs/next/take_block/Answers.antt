@@ -1,7 +1,8 @@
 use Rattle.std.proofs.Common.{ℕ, List, ◌++◌, sym, ap, subst, ◌∙◌, arith}
 use Rattle.lab_io.specs.Passed.{stand_of}
 use Rattle.script_text.specs.Taking.{Blocked}
-use Rattle.script_text.proofs.Blocks.{none_blocked, blocked_on}
+use Rattle.script_text.specs.Blocks.{IsBlock}
+use Rattle.script_text.proofs.Blocks.{none_blocked, blocked_on, none_block, block_on}
 use Rattle.script_text.proofs.next.take_block.Goals as goal
 
 pub loop-number-init : goal.loop-number-init
@@ -9,6 +10,7 @@ loop-number-init g c =
     let at = stand_of c.args.lines.now (g.S.Source.left c.args.source.now) in record {
       fault = λ h. h;
       block = λ ready. subst (λ (t : List ℕ). Blocked at at 0 t) (sym c.new-block.ensures) (none_blocked at ready.1);
+      lines = λ few. subst (λ (t : List ℕ). IsBlock 0 t) (sym c.new-block.ensures) none_block;
       later = omega arith;
       taken = omega arith;
     }
@@ -16,10 +18,12 @@ loop-number-init g c =
 pub loop-number-preserved : goal.loop-number-preserved
 loop-number-preserved g c =
     let some = rw c.in-Some.is at c.in_ok-take_line.ensures.some in
+    let short = rw c.in-Some.is at c.in_ok-take_line.ensures.short in
     let more = rw c.in-Some.is at c.in_ok-take_line.ensures.more in
     let with_line = c.in_ok-push_bytes-in-Some.ensures.ok ∙ ap (λ (l : List ℕ). c.loop-number.block ++ l) c.bytes.ensures in record {
       fault = λ h. c.in_ok-take_line.ensures.ok;
       block = λ ready. blocked_on _ _ _ c.loop-number._number c.loop-number.block c.push_bytes.new.self _ c.in-Some.line (c.loop-number.invariant.block ready) some with_line c.in_ok-push-in-Some.ensures.ok;
+      lines = λ few. block_on c.loop-number._number c.loop-number.block c.push_bytes.new.self _ c.in-Some.line (c.loop-number.invariant.lines few) (omega (arith, few)) short with_line c.in_ok-push-in-Some.ensures.ok;
       later = omega (arith, c.loop-number.invariant.later, c.take_line.ensures.later);
       taken = omega (arith, c.loop-number.invariant.taken, more);
     }

@@ -13,6 +13,13 @@ returns-in-Ok-Text-clause-some g c =
     let number = rw c.in-Ok-Text.field-0-is at c.in-Ok-Text.ensures.number in
     passed_one _ _ c.in-Ok-Text.text more took number
 
+pub returns-in-Ok-Text-clause-short : goal.returns-in-Ok-Text-clause-short
+returns-in-Ok-Text-clause-short g c =
+    let no_fault = ok_no_fault _ _ c.in-Ok-Text.field-0 c.in-Ok-Text.is c.next.ensures.again in
+    let more : ended_of c.args.lines.now ≡ false = not_true _ (λ h. let e = c.next.ensures.ended h no_fault in absurd (cc (e.0, c.in-Ok-Text.is, c.in-Ok-Text.field-0-is))) in
+    let took = rw c.in-Ok-Text.field-0-is at c.in-Ok-Text.ensures.took more in
+    took.short
+
 pub returns-in-Ok-End-clause-none : goal.returns-in-Ok-End-clause-none
 returns-in-Ok-End-clause-none g c ready =
     let old = stand_of c.args.lines.now (g.S.Source.left c.args.source.now) in

@@ -5,8 +5,8 @@ use Rattle.swap_txn.specs.Troubles.{IsWritten}
 use Rattle.swap_txn.proofs.Writing.{ok_weaker}
 use Rattle.swap_txn.proofs.write.write.Goals as goal
 
-pub returns-in-Ok-clause-writes : goal.returns-in-Ok-clause-writes
-returns-in-Ok-clause-writes g c = λ r is.
+pub returns-in-Ok : goal.returns-in-Ok
+returns-in-Ok g c = λ r is.
     let e = c.append.ensures in
     let result = c.append.result in (
       result,

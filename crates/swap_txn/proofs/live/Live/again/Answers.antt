@@ -1,17 +1,16 @@
-use Rattle.std.proofs.Common.{◌∙◌, None, false, sym, ap, subst}
+use Rattle.std.proofs.Common.{◌≡◌, ◌∙◌, sym, ap, subst}
 use Rattle.lab_model.specs.Courses.{whole}
-use Rattle.swap_txn.specs.States.{Forth, Back}
 use Rattle.swap_txn.specs.Facts.{StartsAt}
-use Rattle.swap_txn.proofs.Knowing.{forth_starts, back_starts}
+use Rattle.swap_txn.specs.States.{View}
+use Rattle.swap_txn.proofs.Knowing.{state_starts}
 use Rattle.swap_txn.proofs.live.Live.again.Goals as goal
+use Rattle.swap_txn.proofs.live.Live.again.Goals.{then-out+in_ok-last_of, else-out+in_ok-last_of-2}
 
-pub returns-in_ok-commit_of-clause-facts : goal.returns-in_ok-commit_of-clause-facts
-returns-in_ok-commit_of-clause-facts c =
-    let f : Forth = record { exp = c.args.exp; plan = c.new.result.plan; left = c.new.result.left; undo = None } in
-    λ trace. subst (λ live. StartsAt trace live) (sym c.live.ensures) (forth_starts f (c.new.ensures.left ∙ sym (ap whole c.new.ensures.plan)) trace)
-
-pub returns-in_ok-abort_of-clause-facts : goal.returns-in_ok-abort_of-clause-facts
-returns-in_ok-abort_of-clause-facts c =
-    let s = c.new-else-out in
-    let b : Back = record { exp = c.args.exp; plan = s.result.plan; left = s.result.left; inside = false; why = None } in
-    λ trace. subst (λ live. StartsAt trace live) (sym c.live-else-out.ensures) (back_starts b (s.ensures.left ∙ sym (ap whole s.ensures.plan)) trace)
+pub returns-clause-facts : goal.returns-clause-facts
+returns-clause-facts c =
+    let v = c.if-out.work in
+    let all : v.left ≡ whole v.plan = elim c.if-out.branch [
+      | then-out+in_ok-last_of w ↦ ap (λ (x : View). x.left) w.work-is ∙ w.new.ensures.left ∙ sym (ap whole (ap (λ (x : View). x.plan) w.work-is ∙ w.new.ensures.plan))
+      | else-out+in_ok-last_of-2 w ↦ ap (λ (x : View). x.left) w.work-is ∙ w.new-else-out.ensures.left ∙ sym (ap whole (ap (λ (x : View). x.plan) w.work-is ∙ w.new-else-out.ensures.plan))
+    ] in
+    λ trace. subst (λ live. StartsAt trace live) (sym c.live.ensures) (state_starts v all trace)

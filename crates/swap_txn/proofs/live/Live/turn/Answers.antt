@@ -3,13 +3,13 @@ use Rattle.swap_txn.proofs.Knowing.{hands_on}
 use Rattle.swap_txn.proofs.live.Live.turn.Goals as goal
 
 pub returns-clause-stopped : goal.returns-clause-stopped
-returns-clause-stopped g c = λ work. turn_stops c.args.self _ _ _ _ c.turn_state.result c.turn_state.ensures.turns work
+returns-clause-stopped g c = λ work. turn_stops c.args.self _ _ _ _ c.turn_state.result c.turn_state.ensures work
 
 pub returns-clause-stands : goal.returns-clause-stands
-returns-clause-stands g c = turn_stands c.args.self _ _ _ _ c.turn_state.result c.turn_state.ensures.turns c.requires.stands
+returns-clause-stands g c = turn_stands c.args.self _ _ _ _ c.turn_state.result c.turn_state.ensures c.requires.stands
 
 pub returns-clause-facts : goal.returns-clause-facts
-returns-clause-facts g c = hands_on c.args.self _ _ _ _ c.turn_state.result c.turn_state.ensures.turns
+returns-clause-facts g c = hands_on c.args.self _ _ _ _ c.turn_state.result c.turn_state.ensures
 
 pub returns-clause-limit : goal.returns-clause-limit
-returns-clause-limit g c = turn_limit c.args.self _ _ _ _ c.turn_state.result c.turn_state.ensures.turns
+returns-clause-limit g c = turn_limit c.args.self _ _ _ _ c.turn_state.result c.turn_state.ensures

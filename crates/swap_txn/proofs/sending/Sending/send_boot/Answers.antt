@@ -12,7 +12,7 @@ returns-in_err-send-clause-sends g c =
     let i = c.self.inside in
     let old = c.args.self.now.left in
     let p = err_from_is_err_and c.from_residual.result c.from_residual.ensures.1 in
-    let s = c.send.ensures.sent in
+    let s = c.send.ensures in
     let at = boot_left i.commands i.stage i.at i.watched old c.self.invariant (ap (λ (v : Progress). v.left) c.self.view_is) (ap (λ (v : Progress). stage_of v.plan old) c.self.view_is ∙ c.requires.boots) in
     let none : watch_of i.watched ≡ None = sym (ap (λ (l : Left). l.watch) at.1) ∙ c.requires.unwatched in
     let is : old ≡ record { todo = []; boot = c.node_at-node.result.0 ∷ drop c.node_at-node.result.1 i.commands.boot; watch = None } = at.1 ∙ (λ k. record { todo = []; boot = c.node_at-node.ensures k; watch = none k }) in
@@ -22,7 +22,7 @@ pub returns-clause-sends : goal.returns-clause-sends
 returns-clause-sends g c =
     let i = c.self.inside in
     let old = c.args.self.now.left in
-    let s = c.send.ensures.sent in
+    let s = c.send.ensures in
     let at = boot_left i.commands i.stage i.at i.watched old c.self.invariant (ap (λ (v : Progress). v.left) c.self.view_is) (ap (λ (v : Progress). stage_of v.plan old) c.self.view_is ∙ c.requires.boots) in
     let none : watch_of i.watched ≡ None = sym (ap (λ (l : Left). l.watch) at.1) ∙ c.requires.unwatched in
     let is : old ≡ record { todo = []; boot = c.node_at-node.result.0 ∷ drop c.node_at-node.result.1 i.commands.boot; watch = None } = at.1 ∙ (λ k. record { todo = []; boot = c.node_at-node.ensures k; watch = none k }) in

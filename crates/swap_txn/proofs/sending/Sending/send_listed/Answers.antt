@@ -11,14 +11,14 @@ pub returns-in_err-send-clause-sends : goal.returns-in_err-send-clause-sends
 returns-in_err-send-clause-sends g c =
     let i = c.self.inside in
     let p = err_from_is_err_and c.from_residual.result c.from_residual.ensures.1 in
-    let s = c.send.ensures.sent in
+    let s = c.send.ensures in
     rw (p.1, p.2) (listed_err c.args.self.now.left _ _ c.listed-op.result (drop 1 (rest i.commands i.stage i.at)) s.0 _
     (sym (ap (λ (v : Progress). v.left.todo) c.self.view_is) ∙ c.listed-op.ensures) s.1 (sym s.2 ∙ c.in_err-send.was))
 
 pub returns-clause-sends : goal.returns-clause-sends
 returns-clause-sends g c =
     let i = c.self.inside in
-    let s = c.send.ensures.sent in
+    let s = c.send.ensures in
     let old = c.args.self.now.left in
     let is : left_of i.commands i.stage i.at i.watched ≡ old = ap (λ (v : Progress). v.left) c.self.view_is in
     let at = listed_left i.commands i.stage i.at i.watched (is_listed i.commands i.stage i.at i.watched c.self.invariant (rw (ap (λ (l : Left). l.todo) is) c.requires)) c.self.invariant in

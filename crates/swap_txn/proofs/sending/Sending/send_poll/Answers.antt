@@ -8,7 +8,7 @@ pub returns-in-Ok-true-clause-sends : goal.returns-in-Ok-true-clause-sends
 returns-in-Ok-true-clause-sends g c =
     let i = c.self.inside in
     let old = c.args.self.now.left in
-    let s = c.poll.ensures.sent in
+    let s = c.poll.ensures in
     let boots = ap (λ (v : Progress). stage_of v.plan old) c.self.view_is ∙ c.requires.boots in
     let some = sym c.take.ensures.value ∙ c.in-Some.is in
     let up = c.in-Ok-true.is ∙ ap (λ x. Ok x) c.in-Ok-true.field-0-test in
@@ -19,7 +19,7 @@ pub returns-in-Ok-false-clause-sends : goal.returns-in-Ok-false-clause-sends
 returns-in-Ok-false-clause-sends g c =
     let i = c.self.inside in
     let old = c.args.self.now.left in
-    let s = c.poll.ensures.sent in
+    let s = c.poll.ensures in
     let boots = ap (λ (v : Progress). stage_of v.plan old) c.self.view_is ∙ c.requires.boots in
     let some = sym c.take.ensures.value ∙ c.in-Some.is in
     let again = c.in-Ok-false.is ∙ ap (λ x. Ok x) c.in-Ok-false.field-0-test in
@@ -30,7 +30,7 @@ pub returns-in-Err-clause-sends : goal.returns-in-Err-clause-sends
 returns-in-Err-clause-sends g c =
     let i = c.self.inside in
     let old = c.args.self.now.left in
-    let s = c.poll.ensures.sent in
+    let s = c.poll.ensures in
     let boots = ap (λ (v : Progress). stage_of v.plan old) c.self.view_is ∙ c.requires.boots in
     let some = sym c.take.ensures.value ∙ c.in-Some.is in
     send_err i.commands i.stage i.at i.watched old c.in-Some.watched c.poll.new.self _ _ s.0 c.self.invariant (ap (λ (v : Progress). v.left) c.self.view_is) boots some s.1

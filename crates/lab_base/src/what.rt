@@ -1,0 +1,14 @@
+use crate::{Boot, Name};
+
+/// What troubles a swap.
+#[derive(Clone, Copy, PartialEq, Eq)]
+pub enum What {
+    /// A command to that device failed.
+    Device(Name),
+    /// The node was not up at the 64th poll after its boot.
+    Late(Name),
+    /// The second boot state may not follow the first.
+    Unlawful { node: Name, from: Boot, to: Boot },
+    /// A call on the journal failed.
+    Journal,
+}

@@ -1,0 +1,219 @@
+-- What an append of the controller leaves, however it ended.
+use Rattle.std.proofs.Common.{◌≡◌, ◌≤◌, ◌+◌, ◌^◌, ◌⊎◌, inl, inr, ℕ, Bool, true, false, nat_le, List, [], ◌∷◌, ◌++◌, length, Option, Some, None, IfSome, OnOk, Result, Ok, Err, refl, sym, ap, ◌∙◌, subst, append_assoc, arith}
+use Rattle.std.proofs.lemmas.Bool.{leb-true}
+use Rattle.std.proofs.lemmas.List.{append-nil}
+use Rattle.std.proofs.lemmas.List.Sums.{count_by-le-length}
+use Rattle.plant.specs.Events.{Event, Restarted}
+use Rattle.plant.specs.Told.{Told}
+use Rattle.plant.specs.Worlds.{world_of}
+use Rattle.journal_rec.specs.Payloads.{IsRecord, IsShort, IsWay, tags_of_way, tags_of, HasFields}
+use Rattle.journal_rec.specs.declared.record.Record.{Record}
+use Rattle.journal_rec.specs.declared.record.Record.TheVariants.{Lab as LabRecord, Create, Delete, Begin, Commit, Abort}
+use Rattle.journal_rec.specs.declared.record.Way.{Way}
+use Rattle.journal_rec.specs.declared.record.Way.TheVariants.{In as WayIn, Out as WayOut, Change as WayChange}
+use Rattle.journal_model.specs.Appends.{added}
+use Rattle.journal_model.specs.Journals.{size}
+use Rattle.lab_model.specs.Sound.{is_moving}
+use Rattle.records_model.specs.Labs.{LabState, Move, Follows, IsRightFor, Sane, at_first}
+use Rattle.records_model.specs.Works.{IsSound, MayAppend}
+use Rattle.records_model.proofs.LabLaws.{folds_push, follows_sane, says_once}
+use Rattle.records_model.proofs.Starts.{room_accepted}
+use Rattle.journal_disk.specs.Standing.{side_of, gate_of, length_of, limit_of, Ends}
+use Rattle.journal_disk.specs.declared.fault.AppendFault.{AppendFault}
+use Rattle.journal_disk.specs.declared.fault.AppendFault.TheVariants as appending
+use Rattle.journal_runs.specs.Pieces.{has_restart, has_miss}
+use Rattle.journal_runs.specs.Working.{StandForEither}
+use Rattle.journal_runs.proofs.Endings.{ended_quiet, ended_missed}
+use Rattle.lab_state.specs.Texts.{the_texts}
+use Rattle.lab_state.proofs.Canonical.{texts_once}
+use Rattle.script_text.specs.declared.reply.Reply.{Reply}
+use Rattle.script_text.specs.declared.reply.Reply.TheVariants as replies
+use Rattle.plant.specs.Seen.{Seen}
+use Rattle.swap_txn.specs.Steps.{Stands as PlantStands, Writes}
+use Rattle.swap_turns.proofs.Appending.{steps_of, stands_after, left_over}
+use Rattle.swap_turns.specs.Running.{Stands}
+use Rattle.swap_turns.proofs.MovesAreSwaps.{moved_swaps}
+use Rattle.swap_turns.proofs.Telling.{if_some_is, if_told}
+use Rattle.lab_core.specs.declared.fault.CoreFault.{CoreFault}
+use Rattle.lab_core.specs.declared.fault.CoreFault.TheVariants as faults
+use Rattle.lab_core.specs.Breaks.{Breaks, stopped, failed}
+use Rattle.lab_core.specs.Controller.{Control, Works}
+use Rattle.lab_core.specs.Judge.{Task, Append, Is}
+use Rattle.lab_core.specs.LabSteps.{has_space, IfSpace, Performs, Replies, Behind, missed, restarted, AppendEnds, whole, broken, Appends, does}
+use Rattle.lab_core.specs.Obey.{setting_of, ended, IsDone, Leaves, Answers, ObeyEnds, ObeySteps, Obeyed}
+use Rattle.lab_core.specs.Perform.{append_answer}
+use Rattle.lab_core.specs.Sessions.{Closed, After, open_alone}
+use Rattle.lab_core.specs.Tasks.{CanAppend}
+use Rattle.lab_core.proofs.Obey.{not_both, true_false, false_true, replied}
+
+-- a record is short enough to be written
+few_tags : (way : Way) → IsWay way → length (tags_of_way way) ≤ 65535
+few_tags (WayIn map tags) h = omega (arith, h.count)
+few_tags WayOut h = omega arith
+few_tags (WayChange top map tags) h = omega (arith, h.count)
+
+few_in : (r : Record) → HasFields r → length (tags_of r) ≤ 65535
+few_in (LabRecord ptop) h = omega arith
+few_in (Create exp top) h = omega arith
+few_in (Delete exp) h = omega arith
+few_in (Begin exp way) h = few_tags way h.1
+few_in (Commit exp) h = omega arith
+few_in (Abort exp) h = omega arith
+
+pub is_short : (r : Record) → IsRecord r → IsShort r
+is_short r is = record { tags = omega (arith, few_in r is.fields); size = is.size }
+
+-- the journal is as its last call left it
+pub stands_of : (told : Option Told) (c : Control) → Works told c → PlantStands told c.journal
+stands_of None c work = tt
+stands_of (Some t) c work = (work.stands.records, work.stands.at)
+
+-- NO SPACE for the first record of a task
+pub full : (before : Seen) (c : Control) (task : Task) (entry : Record) (bytes : List ℕ) (long : ℕ) → Works before.told c
+    → ((own : List Event) (after : After) → has_space (setting_of c) entry ≡ false → Replies c.lab [] (replies.FullJournal (length_of c.journal)) own after → Performs (setting_of c) c.lab [] task own after)
+    → length bytes ≡ size entry → nat_le (length_of c.journal + length bytes + 10240) (limit_of c.journal) ≡ false → long ≡ length_of c.journal
+    → Obeyed before before (Is (Ok task)) c c (Ok (replies.FullJournal long))
+full before c task entry bytes long works does_so size_is no_space long_is =
+    let full_so : has_space (setting_of c) entry ≡ false = sym (ap (λ (n : ℕ). nat_le (length_of c.journal + n + 10240) (limit_of c.journal)) size_is) ∙ no_space in
+    subst (λ (n : ℕ). Obeyed before before (Is (Ok task)) c c (Ok (replies.FullJournal n))) (sym long_is)
+    (replied before (Is (Ok task)) c (replies.FullJournal (length_of c.journal)) works (refl, refl) (does (Ok task) refl (does_so [] _ full_so (record { nothing = refl; after_is = refl }))))
+
+pub no_space : (c : Control) (entry : Record) (Done : Type 0) (own : List Event) (after : After) → has_space (setting_of c) entry ≡ false → Replies c.lab [] (replies.FullJournal (length_of c.journal)) own after
+    → IfSpace (has_space (setting_of c) entry) (length_of c.journal) c.lab [] Done own after
+no_space c entry Done own after no' replies = subst (λ (b : Bool). IfSpace b (length_of c.journal) c.lab [] Done own after) (sym no') replies
+
+-- A RECORD that can follow, with space, was written so
+module _ (before now : Seen) (c new : Control) (entry : Record) (reply : Reply) (state : LabState) (can : CanAppend c.lab entry reply) (follows : Follows the_texts c.lab entry state) (space : has_space (setting_of c) entry ≡ true)
+    (most : limit_of c.journal ≤ 2 ^ 32) (work : Works before.told c) (answer : Result (Unit {0}) AppendFault) (writes : Writes entry before now c.journal new.journal answer) where
+  abbrev own : List Event
+  own = steps_of entry before now c.journal new.journal answer writes
+
+  abbrev Judges : Result Task Reply → Type 0
+  Judges = Is (Ok (Append entry reply))
+
+  room : length_of c.journal + size entry + 10240 ≤ limit_of c.journal
+  room = leb-true _ _ space
+
+  sane_then : Sane state
+  sane_then = follows_sane the_texts c.lab entry state work.sane follows
+
+  -- what the append is, by its end
+  done_so : (steps : List Event) (after : After) → Appends c.lab [] entry reply steps after → Rattle.lab_core.specs.LabSteps.IsDoneBy Judges (setting_of c) c.lab [] steps after
+  done_so steps after part = does (Ok (Append entry reply)) refl (subst (λ (b : Bool). IfSpace b (length_of c.journal) c.lab [] (Appends c.lab [] entry reply steps after) steps after) (sym space) part)
+
+  append_so : (more steps : List Event) (after : After) → steps ≡ added (side_of c.journal) (gate_of c.journal) entry writes.appends.run ++ more → Behind (side_of c.journal) more → AppendEnds c.lab [] state reply writes.appends.run more steps after
+      → Appends c.lab [] entry reply steps after
+  append_so more steps after is behind ends = record {
+    side = side_of c.journal;
+    gate = gate_of c.journal;
+    run = writes.appends.run;
+    more = more;
+    steps = is;
+    behind = behind;
+    move = follows.move;
+    says = follows.says;
+    state = state;
+    moves = follows.gives;
+    ends = ends;
+  }
+
+  -- over what a plant tells
+  may_append : (w : Told) (x : Stands the_texts w.trace c.journal c.lab) → MayAppend the_texts w.trace x.records c.lab entry state
+  may_append w x = record {
+    is_record = can.is_record;
+    follows = follows;
+    ready = subst (λ (m : Move). IsRightFor c.lab (world_of w.trace) m) (says_once the_texts c.lab entry can.follows.move follows.move texts_once can.follows.says follows.says) (can.follows.ready (world_of w.trace));
+    room = room_accepted x.records entry state sane_then (omega (arith, room, most, x.at.gate));
+  }
+
+  part : (w : Told) → before.told ≡ Some w → Stands the_texts w.trace c.journal c.lab → IsSound the_texts w.trace → IsSound the_texts (w.trace ++ own) × StandForEither the_texts (w.trace ++ own) c.lab state
+  part w is x sound = left_over the_texts c.lab state entry before now c.journal new.journal answer writes w is x (λ _. may_append w x) sound
+
+  steps_by : (result : Result Reply CoreFault) → ((w : Told) → before.told ≡ Some w → Stands the_texts w.trace c.journal c.lab → ObeyEnds w.trace Judges c own new result) → IfSome before.told (λ w. ObeySteps w.trace Judges c own new result)
+  steps_by result ends = if_some_is before.told (λ w. Stands the_texts w.trace c.journal c.lab) (λ w. ObeySteps w.trace Judges c own new result) (λ w is x. record { ends = ends w is x; sound = λ sound. (part w is x sound).0 }) work.stands
+
+  -- THE WHOLE APPEND: the controller works
+  works_then : (ok : Unit {0}) → answer ≡ Ok ok → new.lab ≡ state → Works now.told new
+  works_then ok is lab =
+      let longer : length_of new.journal ≡ length_of c.journal + size entry = subst (λ a. OnOk a (length_of new.journal ≡ length_of c.journal + size entry)) is writes.longer in
+      subst (λ (s : LabState). Works now.told (record new { lab = s })) (sym lab) (record {
+        sane = sane_then;
+        swaps = moved_swaps c.lab.lab c.lab.experiments follows.move state work.swaps follows.gives;
+        room = record {
+          few = omega (arith, room, longer, writes.limit, sane_then.few, count_by-le-length is_moving state.experiments);
+          limit = omega (arith, most, writes.limit);
+        };
+        stands = if_told before.told now.told own (λ l. Stands the_texts l new.journal state) writes.appends.trace
+            (if_some_is before.told (λ w. Stands the_texts w.trace c.journal c.lab) (λ w. Stands the_texts (w.trace ++ own) new.journal state) (λ w is_told x.
+            stands_after the_texts c.lab state entry before now c.journal new.journal answer writes w is_told x (λ _. may_append w x) ok is (folds_push the_texts at_first x.records entry c.lab state x.lab_of follows)) work.stands);
+      })
+
+  ends_as : (a : Result (Unit {0}) AppendFault) → answer ≡ a → Ends (side_of c.journal) a writes.appends.run writes.appends.more
+  ends_as a is = subst (λ a. Ends (side_of c.journal) a writes.appends.run writes.appends.more) is writes.appends.ends
+
+  done : (ok : Unit {0}) → answer ≡ Ok ok → new.lab ≡ state → (trace : List Event) → ObeyEnds trace Judges c own new (Ok reply)
+  done ok is lab trace =
+      let ends = ends_as (Ok ok) is in
+      let parts : IsDone Judges c own reply new.lab open_alone × (limit_of new.journal ≡ limit_of c.journal) = (
+        done_so own (ended reply new.lab open_alone) (append_so writes.appends.more own (ended reply new.lab open_alone) refl (Rattle.lab_core.specs.LabSteps.nothing ends.1) (whole ends.0 ends.1 (ap (λ (s : LabState). let x : After = ended reply s open_alone in x) lab))),
+        writes.limit,
+      ) in
+      subst (λ b. Answers trace Judges c own reply new b) (sym can.mild.0) parts
+
+  -- A PART OF IT, behind which the plant was started again or a call of the disk missed
+  left_so : (told : Reply) (behind : List ℕ → List ℕ → List Event) → ((x y : List ℕ) → Behind (side_of c.journal) (writes.appends.more ++ behind x y)) → ((x y : List ℕ) → Breaks (own ++ behind x y) (Some told))
+      → (w : Told) → before.told ≡ Some w → Stands the_texts w.trace c.journal c.lab → IsSound the_texts w.trace → Leaves w.trace Judges c own told behind
+  left_so told behind last breaks w is x sound = record {
+    images = λ a b possible. elim ((part w is x sound).1 a b possible) [
+      | inl stands ↦ (c.lab, stands, parts a b c.lab (inl refl))
+      | inr stands ↦ (state, stands, parts a b state (inr refl))
+    ];
+  }
+    where
+      parts : (x y : List ℕ) (lab : LabState) → (lab ≡ c.lab) ⊎ (lab ≡ state) → IsDone Judges c (own ++ behind x y) told lab Closed
+      parts x y lab either = done_so (own ++ behind x y) (ended told lab Closed) (append_so (writes.appends.more ++ behind x y) (own ++ behind x y) (ended told lab Closed) (append_assoc (added (side_of c.journal) (gate_of c.journal) entry writes.appends.run) writes.appends.more (behind x y)) (last x y) (broken (breaks x y) either refl))
+
+  down : answer ≡ Err appending.Plant → (w : Told) → before.told ≡ Some w → Stands the_texts w.trace c.journal c.lab → ObeyEnds w.trace Judges c own new (Ok replies.Down)
+  down is w told_is x =
+      let ends = ends_as (Err appending.Plant) is in
+      let all : own ++ [] ≡ own = append-nil own in
+      let quiet = ended_quiet (side_of c.journal) (gate_of c.journal) entry writes.appends.run writes.appends.more (Err appending.Plant) ends in
+      let miss : has_miss own ≡ true = ended_missed (side_of c.journal) (gate_of c.journal) entry writes.appends.run writes.appends.more true (ap has_miss ends) in
+      left_so replies.Down (λ x y. []) (λ x y. missed (append-nil writes.appends.more ∙ ends)) (λ x y. failed (ap has_restart all ∙ quiet.1) (ap has_miss all ∙ miss) refl) w told_is x
+
+  stops : answer ≡ Err appending.Stopped → (w : Told) → before.told ≡ Some w → Stands the_texts w.trace c.journal c.lab → ObeyEnds w.trace Judges c own new (Err faults.Stopped)
+  stops is w told_is x =
+      let ends = ends_as (Err appending.Stopped) is in
+      let quiet = ended_quiet (side_of c.journal) (gate_of c.journal) entry writes.appends.run writes.appends.more (Err appending.Stopped) ends in
+      left_so replies.Stopped (λ x y. Restarted x y ∷ []) (λ x y. restarted x y (ap (λ l. l ++ Restarted x y ∷ []) ends)) (λ x y. stopped (record { front = own; a = x; b = y; is = refl; once = quiet.1 }) refl) w told_is x
+
+  -- WHATEVER IT ANSWERED
+  pub left : (a : Result (Unit {0}) AppendFault) → answer ≡ a → OnOk a (new.lab ≡ state) → Obeyed before now Judges c new (append_answer reply a)
+  left (Ok ok) is lab = record {
+    obeys = (own, writes.appends.trace, steps_by (Ok reply) (λ w told_is x. done ok is lab w.trace));
+    works = λ _. works_then ok is lab;
+    down = λ closing. not_both _ closing can.mild.0;
+    device = λ blaming. not_both _ blaming can.mild.1;
+    later = writes.later;
+    devices = omega (arith, writes.devices);
+    stopped = λ _. (λ h. cc h, λ h. let no' : Ok ok ≡ Err appending.Stopped = sym is ∙ writes.halts.1 h in cc no');
+  }
+  left (Err appending.Plant) is lab = record {
+    obeys = (own, writes.appends.trace, steps_by (Ok replies.Down) (λ w told_is x. down is w told_is x));
+    works = λ going. true_false going;
+    down = λ _. writes.cause is;
+    device = λ blaming. false_true blaming;
+    later = writes.later;
+    devices = omega (arith, writes.devices);
+    stopped = λ _. (λ h. cc h, λ h. let no' : Err appending.Plant ≡ Err appending.Stopped = sym is ∙ writes.halts.1 h in cc no');
+  }
+  left (Err appending.Stopped) is lab = record {
+    obeys = (own, writes.appends.trace, steps_by (Err faults.Stopped) (λ w told_is x. stops is w told_is x));
+    works = tt;
+    down = tt;
+    device = tt;
+    later = writes.later;
+    devices = omega (arith, writes.devices);
+    stopped = λ _. (λ h. writes.halts.0 is, λ h. refl);
+  }
+  left (Err (appending.Full long much)) is lab = absurd (writes.fits long much is)

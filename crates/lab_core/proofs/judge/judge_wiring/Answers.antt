@@ -1,0 +1,6 @@
+use Rattle.lab_core.proofs.JudgeTasks.{can_create}
+use Rattle.lab_core.proofs.judge.judge_wiring.Goals as goal
+
+pub returns-clause-can : goal.returns-clause-can
+returns-clause-can c =
+    can_create c.args.state.now.state c.args.exp c.args.wiring.now c.args.top c.create_record.result c.created_reply-reply.result c.requires.place c.in_ok-need_room.ensures.room c.requires.sound c.requires.printable c.requires.text c.create_record.ensures.entry c.create_record.ensures.is c.created_reply-reply.ensures

@@ -1,0 +1,27 @@
+use Rattle.std.proofs.Common.{ap, ◌∙◌, sym, subst}
+use Rattle.records_model.specs.Labs.{find}
+use Rattle.records_model.proofs.Swaps.{found_in}
+use Rattle.lab_state.proofs.Named.{name_is}
+use Rattle.lab_core.specs.Tasks.{Gives}
+use Rattle.lab_core.proofs.JudgeSwap.{in_reads}
+use Rattle.lab_core.proofs.judge_swap.judge_solution.Goals as goal
+
+pub judge_mapping-requires-clause-out : goal.judge_mapping-requires-clause-out
+judge_mapping-requires-clause-out c =
+    let s = c.args.state.now.state in
+    let e = c.in_ok-experiment.experiment.now in
+    let found = c.in_ok-experiment.ensures.found in
+    record {
+      is_lab = c.in_ok-lab.ensures.lab;
+      found = ap (λ n. find n s.experiments) (name_is c.args.exp s.experiments e found) ∙ found;
+      out = c.in_ok-need_out.ensures.out;
+      sane = c.need_lab.ensures.sane;
+      printable = c.need_lab.ensures.printable e (found_in c.args.exp s.experiments e found);
+    }
+
+pub judge_mapping-requires-clause-shaped : goal.judge_mapping-requires-clause-shaped
+judge_mapping-requires-clause-shaped c = c.in-Ok.ensures.shaped
+
+pub returns-in-Ok-clause-judged : goal.returns-in-Ok-clause-judged
+returns-in-Ok-clause-judged c =
+    subst (λ j. Gives j c.judge_mapping.result) (sym (in_reads c.args.state.now.state c.args.exp c.args.text.now c.in_ok-lab.lab.now c.in_ok-experiment.experiment.now c.in-Ok.mapping c.in_ok-lab.ensures.lab c.in_ok-experiment.ensures.found c.in_ok-need_out.ensures.out c.in-Ok.ensures.reads)) c.judge_mapping.ensures.judged

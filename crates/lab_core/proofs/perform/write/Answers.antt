@@ -1,0 +1,26 @@
+use Rattle.std.proofs.Common.{◌+◌, ◌∙◌, ap, OnOk, Result, Ok, Err}
+use Rattle.journal_disk.specs.Standing.{length_of}
+use Rattle.journal_disk.proofs.Parts.{body_size}
+use Rattle.lab_core.proofs.perform.write.Goals as goal
+
+ok_weaker : {T E P Q : Type 0} → (result : Result T E) → (P → Q) → OnOk result P → OnOk result Q
+ok_weaker (Ok value) f p = f p
+ok_weaker (Err fault) f p = tt
+
+pub returns : goal.returns
+returns g c = λ r is.
+    let e = c.append.ensures in
+    record {
+      fits = λ length size. e.fits c.requires.fits size length;
+      cause = e.plant;
+      later = e.later;
+      devices = e.devices;
+      halts = e.stopped c.requires.fits;
+      appends = e.appends r is;
+      moments = λ rs. e.moments r rs is;
+      stands = ok_weaker c.append.result (λ h rs. h r rs is) e.stands;
+      longer = ok_weaker c.append.result (λ h. h ∙ ap (λ n. length_of c.args.journal.now + n) (body_size c.args.encoded.now r is)) e.length;
+      side = e.side;
+      limit = e.limit;
+      unwritten = e.err;
+    }

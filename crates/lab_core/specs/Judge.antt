@@ -1,0 +1,241 @@
+-- What is judged of a command: the first refusal in order, or its task.
+use Rattle.std.specs.Prelude.{◌≡◌, ℕ, nat_le, List, [], length, map, codes, slice_index_or, Option, Some, None, Result, Ok, Err, if◌then◌else◌}
+use Rattle.std.specs.List.{zip}
+use Rattle.lab_base.specs.declared.fault.TextFault.{TextFault}
+use Rattle.lab_base.specs.declared.ids.VlanId.{VlanId}
+use Rattle.phys_lab.specs.Labs.{Lab}
+use Rattle.virt_topo.specs.declared.wiring.Segment.{Segment}
+use Rattle.virt_topo.specs.declared.mapping.Mapping.{Mapping}
+use Rattle.virt_topo.specs.declared.violation.Broken.{Broken}
+use Rattle.virt_topo.specs.declared.violation.Subject.{Subject}
+use Rattle.virt_topo.specs.declared.violation.Subject.TheVariants.{Virt, Node as OfNode, End, Trunk as OfTrunk, Segment as OfSegment, Vlans}
+use Rattle.virt_topo.specs.Ends.{end_nodes}
+use Rattle.virt_topo.specs.declared.wiring.Wiring.{Wiring}
+use Rattle.virt_topo.specs.declared.experiment.Experiment.{Experiment}
+use Rattle.virt_topo.specs.declared.experiment.Phase.{Phase}
+use Rattle.virt_topo.specs.declared.experiment.Phase.TheVariants.{Out, In, Moving}
+use Rattle.journal_rec.specs.declared.record.Record.{Record}
+use Rattle.journal_rec.specs.declared.record.Record.TheVariants.{Lab as LabRecord, Create, Delete}
+use Rattle.journal_rec.specs.declared.record.Way.{Way}
+use Rattle.journal_rec.specs.declared.record.Way.TheVariants.{In as WayIn, Out as WayOut}
+use Rattle.lab_model.specs.Beside.{violation_beside}
+use Rattle.records_model.specs.Labs.{LabState, find, others}
+use Rattle.ns_text.specs.Wirings.{WiringOf}
+use Rattle.ptop_text.specs.Adding.{lab_of_text}
+use Rattle.ptop_text.specs.Canonical.{canonical}
+use Rattle.top_text.specs.Adding.{wiring_of_text}
+use Rattle.top_text.specs.Canonical.{canonical_top, virt_name}
+use Rattle.top_text.specs.CanonicalSolution.{canonical_solution, end_keys, end_name}
+use Rattle.top_text.specs.Solutions.{mapping_of_text}
+use Rattle.script_text.specs.declared.command.Command.{Command}
+use Rattle.script_text.specs.declared.command.Command.TheVariants as commands
+use Rattle.script_text.specs.declared.reply.PhaseWord.{PhaseWord}
+use Rattle.script_text.specs.declared.reply.PhaseWord.TheVariants as words
+use Rattle.script_text.specs.declared.reply.StatusLine.{StatusLine}
+use Rattle.script_text.specs.declared.reply.TagLine.{TagLine}
+use Rattle.script_text.specs.declared.reply.Placed.{Placed}
+use Rattle.script_text.specs.declared.reply.Reply.{Reply}
+use Rattle.script_text.specs.declared.reply.Reply.TheVariants.{Lab as LabReply, Created, Shown, Deleted, Listed, NoLab, LabIsSet, Exists, Unknown, IsIn, IsOut, IsMoving, Infeasible, Bad, BadPtop, FullExperiments}
+use Rattle.lab_core.specs.Counts.{nodes_claimed, ids_claimed, nodes_free, ids_free, least_tags}
+
+-- THE REFUSALS: each check gives a value, or the reply that refuses the command
+
+-- the first refusal counts
+infixl 10 ◌>>=◌
+abbrev pub ◌>>=◌ : {A B : Type 0} → Result A Reply → (A → Result B Reply) → Result B Reply
+(Ok x) >>= f = f x
+(Err refusal) >>= f = Err refusal
+
+-- `no lab` exactly where there is none, and `lab is set` exactly where there is one
+abbrev pub need_lab : Option Lab → Result Lab Reply
+need_lab None = Err NoLab
+need_lab (Some lab) = Ok lab
+
+abbrev pub need_none : Option Lab → Result (Unit {0}) Reply
+need_none None = Ok tt
+need_none (Some lab) = Err LabIsSet
+
+-- `unknown E` exactly where no experiment has the name, and `exists E` exactly where one has it
+abbrev pub need_found : List ℕ → Option Experiment → Result Experiment Reply
+need_found exp None = Err (Unknown exp)
+need_found exp (Some e) = Ok e
+
+abbrev pub need_new : List ℕ → Option Experiment → Result (Unit {0}) Reply
+need_new exp None = Ok tt
+need_new exp (Some e) = Err (Exists exp)
+
+-- `bad E LINE KIND` and `bad ptop LINE KIND` exactly where the block has no meaning: its first fault
+abbrev pub need_meaning : {X : Type 0} → (TextFault → Reply) → Result X TextFault → Result X Reply
+need_meaning bad (Ok x) = Ok x
+need_meaning bad (Err fault) = Err (bad fault)
+
+-- `full experiments 256` exactly where so many are there
+abbrev pub need_room : List Experiment → Result (Unit {0}) Reply
+need_room es = if nat_le 256 (length es) then Err FullExperiments else Ok tt
+
+-- `is in E` and `is moving E` exactly where its phase is that one
+abbrev pub need_out : List ℕ → Phase → Result (Unit {0}) Reply
+need_out exp Out = Ok tt
+need_out exp (In mapping tags) = Err (IsIn exp)
+need_out exp (Moving old new) = Err (IsMoving exp)
+
+-- `is out E` and `is moving E` exactly where its phase is that one
+abbrev pub need_in : List ℕ → Phase → Result (Unit {0}) Reply
+need_in exp Out = Err (IsOut exp)
+need_in exp (In mapping tags) = Ok tt
+need_in exp (Moving old new) = Err (IsMoving exp)
+
+-- what breaks a rule, as a reply names it
+abbrev pub name_at : List (List ℕ) → ℕ → List ℕ
+name_at names n = slice_index_or names n []
+
+abbrev pub subject_name : Lab → Wiring → Subject → List ℕ
+subject_name lab w (Virt v) = virt_name w v
+subject_name lab w (OfNode n) = name_at (map (λ x. x.name) lab.nodes) n.0
+subject_name lab w (End e) = end_name w (slice_index_or (end_keys [] (end_nodes w.segments)) e (0, 0))
+subject_name lab w (OfTrunk t) = name_at (map (λ x. x.link) lab.trunks) t.0
+subject_name lab w (OfSegment s) = name_at (map (λ x. x.name) w.segments) s
+subject_name lab w Vlans = codes "vlans"
+
+-- `infeasible E RULE SUBJECT` exactly where the mapping breaks a rule beside the other experiments: the first violation
+abbrev pub need_kept : Lab → Experiment → Option (Broken × Subject) → Result (Unit {0}) Reply
+need_kept lab e None = Ok tt
+need_kept lab e (Some (rule, subject)) = Err (Infeasible e.name rule (subject_name lab e.wiring subject))
+
+abbrev pub need_feasible : Lab → List Experiment → Experiment → Mapping → Result (Unit {0}) Reply
+need_feasible lab es e mapping = need_kept lab e (violation_beside lab (others e.name es) e e.wiring mapping)
+
+-- THE TASKS: what a command that nothing refuses does
+
+-- each record says a move of the lab
+pub data Task : Type 0 where
+  -- it tells something
+  Tell : (reply : Reply) → Task
+  -- it appends a record, and tells that it is made
+  Append : (entry : Record) (reply : Reply) → Task
+  -- it begins a swap of the experiment that way by a record, and turns it to its end
+  Swap : (exp : List ℕ) (way : Way) → Task
+
+-- the numbers of switches, nodes and trunks
+abbrev pub lab_reply : Lab → Reply
+lab_reply lab = LabReply (length lab.switches) (length lab.nodes) (length lab.trunks)
+
+-- the numbers of virtual nodes and segments
+abbrev pub created_reply : List ℕ → Wiring → Reply
+created_reply exp wiring = Created exp (length wiring.nodes) (length wiring.segments)
+
+-- the phase of an experiment, as a reply has it
+abbrev pub phase_word : Phase → PhaseWord
+phase_word Out = words.Out
+phase_word (In mapping tags) = words.In
+phase_word (Moving old new) = words.Moving
+
+-- the segments with their VLAN ids
+abbrev pub tag_line : Segment × VlanId → TagLine
+tag_line placed = record { segment = placed.0.name; vlan = placed.1 }
+
+abbrev pub tag_lines : List Segment → List VlanId → List TagLine
+tag_lines segments tags = map tag_line (zip segments tags)
+
+-- where an experiment stands
+abbrev pub placed_at : Lab → Wiring → Phase → Option Placed
+placed_at lab w (In mapping tags) = Some (record { solution = canonical_solution lab w mapping; tags = tag_lines w.segments tags })
+placed_at lab w phase = None
+
+-- an experiment: its wiring, while it moves the one that it had before, and where it stands
+abbrev pub shown_reply : Lab → Experiment → Reply
+shown_reply lab e = Shown e.name (phase_word e.phase) (canonical_top e.wiring) (placed_at lab e.wiring e.phase)
+
+-- a line for each experiment: its phase, and the numbers of nodes and VLAN ids that it claims
+abbrev pub status_line : Lab → Experiment → StatusLine
+status_line lab e = record { exp = e.name; phase = phase_word e.phase; nodes = nodes_claimed lab e; vlans = ids_claimed e }
+
+-- and then the numbers that none claims
+abbrev pub status_reply : Lab → List Experiment → Reply
+status_reply lab es = Listed (map (status_line lab) es) (nodes_free lab es) (ids_free lab es)
+
+-- THE FIRST REFUSAL OF A COMMAND, OR ITS TASK
+
+abbrev pub judged_ptop : LabState → List ℕ → Result Task Reply
+judged_ptop s text = do
+  none ← need_none s.lab
+  lab ← need_meaning BadPtop (lab_of_text text)
+  Ok (Append (LabRecord (canonical lab)) (lab_reply lab))
+
+abbrev pub judged_wiring : LabState → List ℕ → Wiring → Result Task Reply
+judged_wiring s exp wiring = do
+  room ← need_room s.experiments
+  Ok (Append (Create exp (canonical_top wiring)) (created_reply exp wiring))
+
+-- a new experiment needs a lab and a new name
+abbrev pub need_place : LabState → List ℕ → Result (Unit {0}) Reply
+need_place s exp = do
+  lab ← need_lab s.lab
+  need_new exp (find exp s.experiments)
+
+abbrev pub judged_create : LabState → List ℕ → List ℕ → Result Task Reply
+judged_create s exp text = do
+  place ← need_place s exp
+  wiring ← need_meaning (Bad exp) (wiring_of_text text)
+  judged_wiring s exp wiring
+
+abbrev pub judged_show : LabState → List ℕ → Result Task Reply
+judged_show s exp = do
+  lab ← need_lab s.lab
+  e ← need_found exp (find exp s.experiments)
+  Ok (Tell (shown_reply lab e))
+
+abbrev pub judged_delete : LabState → List ℕ → Result Task Reply
+judged_delete s exp = do
+  lab ← need_lab s.lab
+  e ← need_found exp (find exp s.experiments)
+  out ← need_out exp e.phase
+  Ok (Append (Delete exp) (Deleted exp))
+
+-- the segments get the least VLAN ids that no claim has
+abbrev pub judged_mapping : LabState → Lab → Experiment → Mapping → Result Task Reply
+judged_mapping s lab e mapping = do
+  feasible ← need_feasible lab s.experiments e mapping
+  Ok (Swap e.name (WayIn (canonical_solution lab e.wiring mapping) (least_tags lab s.experiments (length e.wiring.segments))))
+
+abbrev pub judged_swapin : LabState → List ℕ → List ℕ → Result Task Reply
+judged_swapin s exp text = do
+  lab ← need_lab s.lab
+  e ← need_found exp (find exp s.experiments)
+  out ← need_out exp e.phase
+  mapping ← need_meaning (Bad exp) (mapping_of_text lab e.wiring text)
+  judged_mapping s lab e mapping
+
+abbrev pub judged_swapout : LabState → List ℕ → Result Task Reply
+judged_swapout s exp = do
+  lab ← need_lab s.lab
+  e ← need_found exp (find exp s.experiments)
+  inside ← need_in exp e.phase
+  Ok (Swap exp WayOut)
+
+abbrev pub judged_status : LabState → Result Task Reply
+judged_status s = do
+  lab ← need_lab s.lab
+  Ok (Tell (status_reply lab s.experiments))
+
+-- the refusal, or the task, is this one
+abbrev pub Is : Result Task Reply → Result Task Reply → Type 0
+Is judgement other = other ≡ judgement
+
+-- `create`: the NS text is asked for its wiring only where nothing refuses before
+pub data JudgedNetwork (s : LabState) (exp text : List ℕ) (judgement : Result Task Reply) : Type 0 where
+  refused : (reply : Reply) → need_place s exp ≡ Err reply → judgement ≡ Err reply → JudgedNetwork s exp text judgement
+  asked : (meaning : Result Wiring TextFault) → need_place s exp ≡ Ok tt → WiringOf text meaning → judgement ≡ (need_meaning (Bad exp) meaning >>= judged_wiring s exp)
+      → JudgedNetwork s exp text judgement
+
+-- WHAT IS JUDGED of a command, whatever the journal's length. No drill comes.
+abbrev pub Judged : LabState → Command → Result Task Reply → Type 0
+Judged s (commands.Ptop lines text) = Is (judged_ptop s text)
+Judged s (commands.Create exp lines text) = JudgedNetwork s exp text
+Judged s (commands.CreateTop exp lines text) = Is (judged_create s exp text)
+Judged s (commands.Show exp) = Is (judged_show s exp)
+Judged s (commands.SwapinWith exp lines text) = Is (judged_swapin s exp text)
+Judged s (commands.Swapout exp) = Is (judged_swapout s exp)
+Judged s (commands.Fail device nth how) = λ judgement. ⊥
+Judged s (commands.Delete exp) = Is (judged_delete s exp)
+Judged s commands.Status = Is (judged_status s)

@@ -1,0 +1,187 @@
+// What is judged of a command.
+ghost use Rattle.std.specs.Prelude.{◌≡◌, ◌<◌, ◌≤◌, None, IfOk, OnErr, length, true};
+ghost use Rattle.lab_base.specs.declared.fault.TextFault.{TextFault as AnyTextFault};
+ghost use Rattle.lab_base.specs.declared.fault.TextRefused.TheVariants as refusals;
+ghost use Rattle.script_text.specs.Drills.{drill_of};
+ghost use Rattle.script_text.specs.declared.reply.Reply.TheVariants as replies;
+ghost use Rattle.top_text.specs.Canonical.{canonical_top};
+ghost use Rattle.top_text.specs.Printable.{is_printable};
+ghost use Rattle.virt_topo.specs.Soundness.{IsSound};
+ghost use Rattle.script_text.specs.Blocks.{HasBlocks};
+ghost use Rattle.lab_core.specs.Judge.{Judged, JudgedNetwork, judged_create, judged_delete, judged_ptop, judged_show, judged_status, judged_swapout, judged_wiring, need_place};
+ghost use Rattle.lab_core.specs.Tasks.{CanDo, Gives, IsJudged, IsMild, Refuses, IsRefusedBy};
+
+use crate::judge_swap::judge_solution;
+use crate::needs::{need_found, need_in, need_lab, need_none, need_out, need_place, need_room};
+use crate::records::{create_record, delete_record, lab_record, way_out};
+use crate::replies::{created_reply, lab_reply};
+use crate::task::{Refusal, Task};
+use crate::views::{shown, status_lines};
+use lab_base::{Name, Text, TextRefused};
+use lab_state::LabState;
+use ns_text::{Printed, read_and_print};
+use ptop_text::{print_ptop, read_ptop};
+use script_text::{Command, Reply};
+use std::alloc::Global;
+use swap_plan::plan_out;
+use top_text::{print_top, read_top};
+use virt_topo::Wiring;
+
+/// A block of that experiment has no meaning.
+pub(crate) fn bad_text(exp: Name, refused: TextRefused) -> Refusal
+    ensures { IsRefusedBy (replies.Bad exp) refused result }
+{
+    match refused {
+        TextRefused::Text(fault) => Refusal::Refused(Reply::Bad { exp, fault }),
+        TextRefused::Memory => Refusal::Memory,
+    }
+}
+
+fn bad_ptop(refused: TextRefused) -> Refusal
+    ensures { IsRefusedBy replies.BadPtop refused result }
+{
+    match refused {
+        TextRefused::Text(fault) => Refusal::Refused(Reply::BadPtop { fault }),
+        TextRefused::Memory => Refusal::Memory,
+    }
+}
+
+fn judge_ptop(alloc: Global, state: &LabState, text: &[u8]) -> Result<Task, Refusal>
+    requires { length text.now < 4294967295 }
+    ensures judged { Gives (judged_ptop state.now.state text.now) result }
+    ensures can { IfOk result (CanDo state.now.state) }
+{
+    need_none(state)?;
+    match read_ptop(alloc, text) {
+        Ok(lab) => {
+            let reply = lab_reply(&lab);
+            let ptop = print_ptop(alloc, &lab)?;
+            Ok(Task::Append {
+                entry: lab_record(ptop),
+                reply,
+            })
+        }
+        Err(refused) => Err(bad_ptop(refused)),
+    }
+}
+
+/// Judges a new experiment of a new name by the canonical text of its wiring.
+fn judge_wiring(state: &LabState, exp: Name, wiring: &Wiring, top: Text) -> Result<Task, Refusal>
+    requires place { need_place state.now.state exp ≡ Ok tt }
+    requires sound { IsSound wiring.now }
+    requires text { top ≡ canonical_top wiring.now }
+    requires size { length top ≤ 16777216 }
+    requires printable { is_printable wiring.now ≡ true }
+    ensures judged { Gives (judged_wiring state.now.state exp wiring.now) result }
+    ensures can { IfOk result (CanDo state.now.state) }
+{
+    need_room(state)?;
+    let reply = created_reply(exp, wiring);
+    Ok(Task::Append {
+        entry: create_record(exp, top),
+        reply,
+    })
+}
+
+fn judge_create(alloc: Global, state: &LabState, exp: Name, text: &[u8]) -> Result<Task, Refusal>
+    requires { length text.now < 4294967295 }
+    ensures judged { Gives (judged_create state.now.state exp text.now) result }
+    ensures can { IfOk result (CanDo state.now.state) }
+{
+    need_place(state, exp)?;
+    match read_top(alloc, text) {
+        Ok(wiring) => {
+            let top = print_top(alloc, &wiring)?;
+            judge_wiring(state, exp, &wiring, top)
+        }
+        Err(refused) => Err(bad_text(exp, refused)),
+    }
+}
+
+/// Judges an experiment by the network of an NS text.
+fn judge_network(alloc: Global, state: &LabState, exp: Name, text: &[u8]) -> Result<Task, Refusal>
+    requires { length text.now < 4294967295 }
+    ensures judged { IsJudged (JudgedNetwork state.now.state exp text.now) result }
+    ensures can { IfOk result (CanDo state.now.state) }
+{
+    need_place(state, exp)?;
+    match read_and_print(alloc, text) {
+        Ok(Printed { wiring, top }) => judge_wiring(state, exp, &wiring, top),
+        Err(refused) => Err(bad_text(exp, refused)),
+    }
+}
+
+fn judge_show(alloc: Global, state: &LabState, exp: Name) -> Result<Task, Refusal>
+    ensures judged { Gives (judged_show state.now.state exp) result }
+    ensures can { IfOk result (CanDo state.now.state) }
+{
+    let lab = need_lab(state)?;
+    let experiment = need_found(state, exp)?;
+    Ok(Task::Tell(shown(alloc, lab, experiment)?))
+}
+
+fn judge_delete(state: &LabState, exp: Name) -> Result<Task, Refusal>
+    ensures judged { Gives (judged_delete state.now.state exp) result }
+    ensures can { IfOk result (CanDo state.now.state) }
+{
+    let _lab = need_lab(state)?;
+    let experiment = need_found(state, exp)?;
+    need_out(exp, &experiment.phase)?;
+    Ok(Task::Append {
+        entry: delete_record(exp),
+        reply: Reply::Deleted { exp },
+    })
+}
+
+fn judge_swapout(alloc: Global, state: &LabState, exp: Name) -> Result<Task, Refusal>
+    ensures judged { Gives (judged_swapout state.now.state exp) result }
+    ensures can { IfOk result (CanDo state.now.state) }
+{
+    let lab = need_lab(state)?;
+    let experiment = need_found(state, exp)?;
+    let place = need_in(exp, &experiment.phase)?;
+    let ops = plan_out(alloc, lab, &experiment.wiring, place.0, place.1)?;
+    Ok(Task::Swap {
+        exp,
+        way: way_out(exp),
+        ops,
+    })
+}
+
+fn judge_status(alloc: Global, state: &LabState) -> Result<Task, Refusal>
+    ensures judged { Gives (judged_status state.now.state) result }
+    ensures can { IfOk result (CanDo state.now.state) }
+{
+    let _lab = need_lab(state)?;
+    // There is a lab.
+    let Some(claims) = state.claims() else {
+        unreachable!()
+    };
+    let experiments = status_lines(alloc, state, claims)?;
+    let (nodes, vlans) = claims.counted();
+    Ok(Task::Tell(Reply::Listed {
+        experiments,
+        nodes,
+        vlans,
+    }))
+}
+
+/// The task of a command whose blocks have the lines that its words say, or why it has none. A drill has none.
+pub(crate) fn judge(alloc: Global, state: &LabState, command: &Command) -> Result<Task, Refusal>
+    requires blocks { HasBlocks command.now }
+    requires no_drill { drill_of command.now ≡ None }
+    ensures judged { IsJudged (Judged state.now.state command.now) result }
+    ensures can { IfOk result (CanDo state.now.state) }
+{
+    match command {
+        Command::Ptop { ptop, .. } => judge_ptop(alloc, state, ptop.bytes()),
+        Command::Create { exp, ns, .. } => judge_network(alloc, state, *exp, ns.bytes()),
+        Command::CreateTop { exp, top, .. } => judge_create(alloc, state, *exp, top.bytes()),
+        Command::Show { exp } => judge_show(alloc, state, *exp),
+        Command::SwapinWith { exp, map, .. } => judge_solution(alloc, state, *exp, map.bytes()),
+        Command::Swapout { exp } => judge_swapout(alloc, state, *exp),
+        Command::Fail { .. } => unreachable!(),
+        Command::Delete { exp } => judge_delete(state, *exp),
+        Command::Status => judge_status(alloc, state),
+    }
+}

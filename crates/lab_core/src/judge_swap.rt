@@ -1,0 +1,150 @@
+// What is judged of a swap into the lab.
+ghost use Rattle.std.specs.Prelude.{◌≡◌, ◌<◌, ◌≤◌, ◌^◌, IfOk, length, Ok, Some};
+ghost use Rattle.lab_base.specs.Lists.{Has};
+ghost use Rattle.lab_base.specs.declared.ids.VlanId.{VlanId as AnyVlanId};
+ghost use Rattle.lab_model.specs.Shapes.{IsShaped};
+ghost use Rattle.claims.specs.Answered.{AreTaken};
+ghost use Rattle.claims.specs.Held.{free_ids};
+ghost use Rattle.virt_topo.specs.Soundness.{IsSound};
+ghost use Rattle.lab_core.specs.Judge.{judged_mapping, judged_swapin, need_feasible, need_kept};
+ghost use Rattle.lab_core.specs.JudgeSwap.{CanTake, IsOutIn, IsPlanIn};
+ghost use Rattle.lab_core.specs.Tasks.{CanDo, Gives, IsRefusal, Refuses};
+
+use crate::judge::bad_text;
+use crate::needs::{need_found, need_lab, need_out};
+use crate::records::way_in;
+use crate::subjects::subject_name;
+use crate::task::{Refusal, Task};
+use claims::{Claims, TakeFault};
+use feas::{CheckFault, check};
+use lab_base::{Memory, Name, Tags};
+use lab_state::LabState;
+use phys_lab::Lab;
+use script_text::Reply;
+use std::alloc::Global;
+use swap_plan::plan_in;
+use top_text::{print_solution, read_solution};
+use virt_topo::{Broken, Experiment, Mapping, Subject};
+
+/// The least free VLAN ids, of which there are enough.
+fn least_tags(alloc: Global, claims: &Claims, n: u16) -> Result<Tags, Memory>
+    requires { n ≤ length (free_ids claims.now) }
+    ensures { IfOk result (λ tags. AreTaken (free_ids claims.now) n (Ok tags)) }
+{
+    match claims.take_vlans(alloc, n) {
+        Ok(tags) => Ok(tags),
+        Err(TakeFault::Memory) => Err(Memory),
+        Err(TakeFault::TooFew(_)) => unreachable!(),
+    }
+}
+
+/// A mapping breaks a rule.
+fn infeasible(
+    alloc: Global,
+    lab: &Lab,
+    experiment: &Experiment,
+    rule: Broken,
+    subject: Subject,
+) -> Refusal
+    ensures { IsRefusal (need_kept lab.now experiment.now (Some (rule, subject))) result }
+{
+    match subject_name(alloc, lab, &experiment.wiring, subject) {
+        Ok(subject) => Refusal::Refused(Reply::Infeasible {
+            exp: experiment.name,
+            rule,
+            subject,
+        }),
+        Err(Memory) => Refusal::Memory,
+    }
+}
+
+/// Checks a mapping beside the other experiments, and takes its VLAN ids.
+fn need_tags(
+    alloc: Global,
+    state: &LabState,
+    lab: &Lab,
+    experiment: &Experiment,
+    mapping: &Mapping,
+) -> Result<Tags, Refusal>
+    requires out { IsOutIn state.now.state lab.now experiment.now }
+    requires shaped { IsShaped lab.now experiment.now.wiring mapping.now }
+    ensures can { IfOk result (CanTake state.now.state lab.now experiment.now mapping.now) }
+    ensures refuses { Refuses (need_feasible lab.now state.now.state.experiments experiment.now mapping.now) result }
+{
+    // There is a lab.
+    let Some(claims) = state.claims() else {
+        unreachable!()
+    };
+    let free = claims.free_without(alloc, experiment.name)?;
+    match check(alloc, lab, &free, &experiment.wiring, mapping) {
+        Ok(()) => {
+            let tags = least_tags(alloc, claims, experiment.wiring.segments.len() as u16)?;
+            Ok(tags)
+        }
+        Err(CheckFault::Violation { rule, subject }) => {
+            Err(infeasible(alloc, lab, experiment, rule, subject))
+        }
+        Err(CheckFault::Memory) => Err(Refusal::Memory),
+    }
+}
+
+/// Plans the swap of an experiment into the lab.
+fn plan_swap_in(
+    alloc: Global,
+    lab: &Lab,
+    experiment: &Experiment,
+    mapping: &Mapping,
+    tags: Tags,
+) -> Result<Task, Memory>
+    requires sound { IsSound experiment.now.wiring }
+    requires shaped { IsShaped lab.now experiment.now.wiring mapping.now }
+    requires tagged { length tags ≡ length experiment.now.wiring.segments }
+    requires ids { (tag : AnyVlanId) → Has tags tag → tag.0 < 2 ^ 16 }
+    ensures { IfOk result (IsPlanIn lab.now experiment.now mapping.now tags) }
+{
+    let ops = plan_in(alloc, lab, &experiment.wiring, mapping, &tags)?;
+    let map = print_solution(alloc, lab, &experiment.wiring, mapping)?;
+    Ok(Task::Swap {
+        exp: experiment.name,
+        way: way_in(experiment.name, map, tags),
+        ops,
+    })
+}
+
+/// Judges a mapping for an experiment that is out.
+fn judge_mapping(
+    alloc: Global,
+    state: &LabState,
+    lab: &Lab,
+    experiment: &Experiment,
+    mapping: &Mapping,
+) -> Result<Task, Refusal>
+    requires out { IsOutIn state.now.state lab.now experiment.now }
+    requires shaped { IsShaped lab.now experiment.now.wiring mapping.now }
+    ensures judged { Gives (judged_mapping state.now.state lab.now experiment.now mapping.now) result }
+    ensures can { IfOk result (CanDo state.now.state) }
+{
+    let tags = need_tags(alloc, state, lab, experiment, mapping)?;
+    let task = plan_swap_in(alloc, lab, experiment, mapping, tags)?;
+    Ok(task)
+}
+
+/// Judges a swap-in by a given solution.
+pub(crate) fn judge_solution(
+    alloc: Global,
+    state: &LabState,
+    exp: Name,
+    text: &[u8],
+) -> Result<Task, Refusal>
+    requires { length text.now < 4294967295 }
+    ensures judged { Gives (judged_swapin state.now.state exp text.now) result }
+    ensures can { IfOk result (CanDo state.now.state) }
+{
+    let lab = need_lab(state)?;
+    let experiment = need_found(state, exp)?;
+    need_out(exp, &experiment.phase)?;
+    match read_solution(alloc, text, lab, &experiment.wiring) {
+        Ok(mapping) => judge_mapping(alloc, state, lab, experiment, &mapping),
+        Err(refused) => Err(bad_text(exp, refused)),
+    }
+}

@@ -1,0 +1,169 @@
+// A task is done: over the plant, where the journal has room for it.
+ghost use Rattle.std.specs.Prelude.{◌≡◌, ◌≤◌, ◌+◌, ◌^◌, ℕ, Err, IfOk, Ok, OnOk, length, nat_le};
+ghost use Rattle.journal_rec.specs.Payloads.{IsBody, IsRecord};
+ghost use Rattle.journal_rec.specs.declared.record.Record.{Record as AnyRecord};
+ghost use Rattle.journal_rec.specs.declared.record.Record.TheVariants as records;
+ghost use Rattle.journal_disk.specs.Standing.{length_of, limit_of};
+ghost use Rattle.records_model.specs.Labs.{Follows};
+ghost use Rattle.swap_txn.specs.Steps.{Stands, Writes};
+ghost use Rattle.swap_turns.specs.Running.{AtWork};
+ghost use Rattle.lab_state.specs.Changes.{after, CanEnter};
+ghost use Rattle.lab_state.specs.Texts.{the_texts};
+ghost use Rattle.lab_core.specs.Judge.{Append, Is, Swap};
+ghost use Rattle.lab_core.specs.Obey.{Obeyed};
+ghost use Rattle.lab_core.specs.Perform.{append_answer};
+ghost use Rattle.lab_core.specs.Tasks.{CanAppend, CanDo, IsSwapBy, MayFollow, task_of};
+
+use crate::CoreFault;
+use crate::swapping::{prepare_swap, reply_of_end, run_swap};
+use crate::task::Task;
+use journal_disk::{AppendFault, Journal};
+use journal_rec::{Encoded, Record, Way, encode};
+use lab_base::{Memory, Name};
+use lab_state::{LabState, PrepareFault, Prepared};
+use plant::Plant;
+use script_text::Reply;
+use std::alloc::Global;
+use swap_plan::Ops;
+
+/// How many bytes a record has to leave, so that the last record of each move finds room.
+const LAST_RECORDS: u64 = 10_240;
+
+/// Whether a record of a size leaves room for the last records of moves.
+fn has_space(journal: &Journal, size: u64) -> bool
+    ensures space { result ≡ nat_le (length_of journal.now + size + 10240) (limit_of journal.now) }
+    ensures most { limit_of journal.now ≤ 2 ^ 32 }
+{
+    let most = journal.limit();
+    let needed = journal
+        .length()
+        .saturating_add(size)
+        .saturating_add(LAST_RECORDS);
+    needed <= most
+}
+
+/// Prepares a record that can follow.
+pub(crate) fn prepare(lab: &mut LabState, entry: &Record) -> Result<Prepared, Memory>
+    requires record { IsRecord entry.now }
+    requires follows { MayFollow lab.old.state entry.now }
+    ensures ok { IfOk result (λ prepared. Follows the_texts lab.old.state entry.now (after lab.old.state prepared)) }
+    ensures enters { IfOk result (λ prepared. CanEnter lab.new prepared) }
+    ensures unchanged { lab.new.state ≡ lab.old.state }
+{
+    match lab.prepare(entry) {
+        Ok(prepared) => Ok(prepared),
+        Err(PrepareFault::Memory) => Err(Memory),
+        // The record can follow.
+        Err(PrepareFault::Bad) => unreachable!(),
+    }
+}
+
+/// Appends a record for which there is room.
+fn write<P: Plant>(
+    encoded: &Encoded,
+    journal: &mut Journal,
+    plant: &mut P,
+) -> Result<(), AppendFault>
+    requires stands { Stands (P.seen plant.old).told journal.old }
+    requires fits { length_of journal.old + length encoded.now ≤ limit_of journal.old }
+    ensures { (r : AnyRecord) → IsBody encoded.now r → Writes r (P.seen plant.old) (P.seen plant.new) journal.old journal.new result }
+{
+    journal.append(encoded, plant)
+}
+
+/// Enters a record that was prepared, where it is durable.
+fn enter_written(lab: &mut LabState, prepared: Prepared, written: &Result<(), AppendFault>)
+    requires { CanEnter lab.old prepared }
+    ensures { OnOk written.now (lab.new.state ≡ after lab.old.state prepared) }
+{
+    if written.is_ok() {
+        lab.enter(prepared);
+    }
+}
+
+/// What is told of an append for which there was room.
+fn reply_of_append(reply: Reply, written: Result<(), AppendFault>) -> Result<Reply, CoreFault>
+    requires { (length size : ℕ) → written ≡ Err (AppendFault.Full length size) → ⊥ }
+    ensures { result ≡ append_answer reply written }
+{
+    match written {
+        Ok(()) => Ok(reply),
+        Err(AppendFault::Stopped) => Err(CoreFault::Stopped),
+        Err(AppendFault::Plant) => Ok(Reply::Down),
+        // There is room for it.
+        Err(AppendFault::Full { .. }) => unreachable!(),
+    }
+}
+
+/// Appends a record, where there is space for it, and tells that it is made.
+fn append<P: Plant>(
+    alloc: Global,
+    lab: &mut LabState,
+    journal: &mut Journal,
+    entry: &Record,
+    reply: Reply,
+    plant: &mut P,
+) -> Result<Reply, CoreFault>
+    requires can { CanAppend lab.old.state entry.now reply }
+    requires works { AtWork the_texts (P.seen plant.old).told journal.old lab.old.state }
+    ensures { Obeyed (P.seen plant.old) (P.seen plant.new) (Is (Ok (Append entry.now reply)))
+        (record { lab = lab.old.state; journal = journal.old }) (record { lab = lab.new.state; journal = journal.new }) result }
+{
+    let encoded = encode(alloc, entry)?;
+    if !has_space(journal, encoded.size()) {
+        return Ok(Reply::FullJournal {
+            length: journal.length(),
+        });
+    }
+    let prepared = prepare(lab, entry)?;
+    let written = write(&encoded, journal, plant);
+    enter_written(lab, prepared, &written);
+    reply_of_append(reply, written)
+}
+
+/// Begins a swap by its record, where there is space for it, and turns it to its end.
+fn swap<P: Plant>(
+    alloc: Global,
+    lab: &mut LabState,
+    journal: &mut Journal,
+    exp: Name,
+    way: Way,
+    ops: Ops,
+    plant: &mut P,
+) -> Result<Reply, CoreFault>
+    requires record { IsRecord (records.Begin exp way) }
+    requires follows { MayFollow lab.old.state (records.Begin exp way) }
+    requires by { IsSwapBy lab.old.state exp way ops.commands ops.undo }
+    requires works { AtWork the_texts (P.seen plant.old).told journal.old lab.old.state }
+    ensures { Obeyed (P.seen plant.old) (P.seen plant.new) (Is (Ok (Swap exp way)))
+        (record { lab = lab.old.state; journal = journal.old }) (record { lab = lab.new.state; journal = journal.new }) result }
+{
+    let ready = prepare_swap(alloc, lab, exp, way, ops)?;
+    if !has_space(journal, ready.planned.size()) {
+        return Ok(Reply::FullJournal {
+            length: journal.length(),
+        });
+    }
+    let finished = run_swap(lab, journal, exp, ready, plant);
+    reply_of_end(exp, finished)
+}
+
+/// Does a task. `full journal` is told here alone, where there is no space for the task's first record.
+pub(crate) fn perform<P: Plant>(
+    alloc: Global,
+    lab: &mut LabState,
+    journal: &mut Journal,
+    task: Task,
+    plant: &mut P,
+) -> Result<Reply, CoreFault>
+    requires can { CanDo lab.old.state task }
+    requires works { AtWork the_texts (P.seen plant.old).told journal.old lab.old.state }
+    ensures { Obeyed (P.seen plant.old) (P.seen plant.new) (Is (Ok (task_of task)))
+        (record { lab = lab.old.state; journal = journal.old }) (record { lab = lab.new.state; journal = journal.new }) result }
+{
+    match task {
+        Task::Tell(reply) => Ok(reply),
+        Task::Append { entry, reply } => append(alloc, lab, journal, &entry, reply, plant),
+        Task::Swap { exp, way, ops } => swap(alloc, lab, journal, exp, way, ops, plant),
+    }
+}

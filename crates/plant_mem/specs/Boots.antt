@@ -1,0 +1,58 @@
+-- The boot states that a plant in memory keeps.
+use Rattle.std.specs.Prelude.{ℕ, Bool, List, Option, Some, None, if◌then◌else◌}
+use Rattle.std.specs.List.{find}
+use Rattle.std.specs.Str.{bytes_eq}
+use Rattle.lab_base.specs.declared.boot.Boot.{Boot}
+use Rattle.lab_base.specs.declared.boot.Boot.TheVariants.{Off, Booting, TbSetup, IsUp}
+use Rattle.plant.specs.declared.device.DeviceOp.{DeviceOp}
+use Rattle.plant.specs.declared.device.DeviceOp.TheVariants.{Load, Boot as BootIt, Poll, Wipe}
+use Rattle.plant.specs.declared.device.Answer.{Answer}
+use Rattle.plant.specs.declared.device.Answer.TheVariants.{Done, State}
+use Rattle.plant_mem.specs.declared.motion.Motion.{Motion}
+use Rattle.plant_mem.specs.declared.motion.Motion.TheVariants.{Moves, Hangs, Jumps}
+use Rattle.plant_mem.specs.declared.nodes.NodeState.{NodeState}
+
+-- the entry is the node's
+abbrev pub is_of : List ℕ → NodeState → Bool
+is_of node entry = bytes_eq entry.node node
+
+abbrev pub state_or_off : Option NodeState → Boot
+state_or_off None = Off
+state_or_off (Some entry) = entry.state
+
+-- the boot state that a table has for a node; a node that it doesn't have is off
+abbrev pub state_in : List ℕ → List NodeState → Boot
+state_in node entries = state_or_off (find (is_of node) entries)
+
+-- the entry with that state, where it is the node's
+abbrev pub with_state : List ℕ → Boot → NodeState → NodeState
+with_state node state entry = if is_of node entry then record entry { state = state } else entry
+
+-- what a poll makes of a state
+abbrev pub moved : Boot → Boot
+moved Booting = TbSetup
+moved TbSetup = IsUp
+moved state = state
+
+-- the same where the node hangs, or jumps
+abbrev pub moved_by : Motion → Boot → Boot
+moved_by Moves state = moved state
+moved_by Hangs state = state
+moved_by Jumps state = IsUp
+
+-- the named node's boot state after a command that was applied; a poll moves as is told
+abbrev pub state_after : DeviceOp → Motion → List ℕ → Boot → Boot
+state_after (Load node os) motion name state = if bytes_eq node name then Off else state
+state_after (BootIt node) motion name state = if bytes_eq node name then Booting else state
+state_after (Poll node) motion name state = if bytes_eq node name then moved_by motion state else state
+state_after (Wipe node) motion name state = if bytes_eq node name then Off else state
+state_after op motion name state = state
+
+-- the same of a command that may not have been applied
+abbrev pub state_sent : DeviceOp → Motion → Bool → List ℕ → Boot → Boot
+state_sent op motion applied name state = if applied then state_after op motion name state else state
+
+-- the answer of a command that is done, by the state that its node had
+abbrev pub answer_of : DeviceOp → Motion → (List ℕ → Boot) → Answer
+answer_of (Poll node) motion state = State (moved_by motion (state node))
+answer_of op motion state = Done

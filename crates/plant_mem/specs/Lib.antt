@@ -1,0 +1,10 @@
+pub mod Boots
+pub mod DiskPlans
+pub mod Faces
+pub mod Knows
+pub mod MemLab
+pub mod Picks
+pub mod Plans
+pub mod Possible
+pub mod Steps
+pub mod Stopping

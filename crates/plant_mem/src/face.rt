@@ -1,0 +1,215 @@
+ghost use Rattle.std.specs.Prelude.{◌≡◌, ◌≤◌, ◌<◌, ◌+◌, List, ℕ, length, min, take, reverse, OnOk, OnErr, vec_len, vec_capacity};
+ghost use Rattle.plant.specs.Disks.{IsImage, Disk, put};
+ghost use Rattle.plant_mem.specs.Picks.{garbled, torn};
+
+use lab_base::Memory;
+use plant::Pick;
+use std::alloc::Global;
+
+/// A side of the disk in memory: its bytes as they are durable and as they read.
+#[derive(Drop)]
+pub struct Face {
+    pub durable: Vec<u8>,
+    pub reads: Vec<u8>,
+    /// The ranges written since the last sync, in order, each with its end.
+    pub written: Vec<(usize, usize)>,
+    /// So many bytes at the front are durable as they read.
+    pub same: usize,
+    ghost within: { same ≤ vec_len reads },
+    ghost alike: { take same durable.items ≡ take same reads.items },
+    ghost readable: { IsImage (record { durable = durable.items; reads = reads.items; written = reverse written.items }) reads.items },
+}
+
+fn least(a: usize, b: usize) -> usize
+    ensures { result ≡ min a b }
+{
+    std::cmp::min(a, b)
+}
+
+/// Writes over what is there, and past the end.
+fn put(bytes: &mut Vec<u8>, at: usize, new: &[u8])
+    requires at { at ≤ vec_len bytes.old }
+    requires room { at + length new.now ≤ vec_capacity bytes.old }
+    ensures put { bytes.new.items ≡ put bytes.old.items at new.now }
+    ensures capacity { vec_capacity bytes.old ≤ vec_capacity bytes.new }
+{
+    let left = bytes.len() - at;
+    if new.len() <= left {
+        bytes[at..at + new.len()].copy_from_slice(new);
+    } else {
+        let (front, back) = new.split_at(left);
+        bytes[at..].copy_from_slice(front);
+        bytes.extend_from_slice(back).unwrap();
+    }
+}
+
+/// Makes the bytes of that range, as far as there are, garbage.
+fn garble(bytes: &mut Vec<u8>, from: usize, end: usize)
+    ensures garbled { bytes.new.items ≡ garbled bytes.old.items from end }
+    ensures len { vec_len bytes.new ≡ vec_len bytes.old }
+    ensures capacity { vec_capacity bytes.new ≡ vec_capacity bytes.old }
+{
+    let end = least(end, bytes.len());
+    if from < end {
+        bytes[from..end].fill(0xa5);
+    }
+}
+
+/// Makes the last half of each range garbage.
+fn tear(bytes: &mut Vec<u8>, written: &[(usize, usize)])
+    ensures torn { bytes.new.items ≡ torn (reverse written.now) bytes.old.items }
+    ensures len { vec_len bytes.new ≡ vec_len bytes.old }
+    ensures capacity { vec_capacity bytes.new ≡ vec_capacity bytes.old }
+{
+    for range in written {
+        let (at, end) = *range;
+        garble(bytes, at + end.saturating_sub(at) / 2, end);
+    }
+}
+
+/// Makes room for so many bytes in all.
+fn make_room(bytes: &mut Vec<u8>, total: usize) -> Result<(), Memory>
+    ensures items { bytes.new.items ≡ bytes.old.items }
+    ensures len { vec_len bytes.new ≡ vec_len bytes.old }
+    ensures capacity { vec_capacity bytes.old ≤ vec_capacity bytes.new }
+    ensures ok { OnOk result (total ≤ vec_capacity bytes.new) }
+{
+    if total > bytes.len() {
+        bytes.try_reserve(total - bytes.len())?;
+    }
+    Ok(())
+}
+
+impl Face {
+    ghost use Rattle.std.specs.Prelude.{◌≡◌, ◌≤◌, ◌<◌, ◌+◌, [], length, drop, take, reverse, IfOk, OnOk, OnErr, vec_len, vec_capacity};
+    ghost use Rattle.plant.specs.Disks.{at_once, wrote, synced, shortened};
+    ghost use Rattle.plant_mem.specs.Picks.{left_by, torn};
+    ghost use Rattle.plant_mem.specs.Faces.{disk_of};
+
+    /// An empty side, with room for so many writes and so many bytes.
+    pub fn new(alloc: Global, writes: usize, bytes: usize) -> Result<Face, Memory>
+        ensures disk { IfOk result (λ face. disk_of face ≡ at_once []) }
+        ensures durable { IfOk result (λ face. bytes ≤ vec_capacity face.durable) }
+        ensures reads { IfOk result (λ face. bytes ≤ vec_capacity face.reads) }
+        ensures written { IfOk result (λ face. writes ≤ vec_capacity face.written) }
+    {
+        Ok(Face {
+            durable: Vec::with_capacity(alloc, bytes)?,
+            reads: Vec::with_capacity(alloc, bytes)?,
+            written: Vec::with_capacity(alloc, writes)?,
+            same: 0,
+        })
+    }
+
+    /// Writes over what is there, and past the end.
+    pub fn put(&mut self, at: usize, bytes: &[u8])
+        requires at { at ≤ vec_len self.old.reads }
+        requires room { at + length bytes.now ≤ vec_capacity self.old.reads }
+        requires table { vec_len self.old.written < vec_capacity self.old.written }
+        ensures wrote { disk_of self.new ≡ wrote (disk_of self.old) at bytes.now }
+        ensures durable { self.new.durable ≡ self.old.durable }
+        ensures reads { vec_capacity self.old.reads ≤ vec_capacity self.new.reads }
+        ensures written { vec_capacity self.old.written ≡ vec_capacity self.new.written }
+        ensures writes { vec_len self.new.written ≡ vec_len self.old.written + 1 }
+    {
+        put(&mut self.reads, at, bytes);
+        self.written.push_reserved((at, at + bytes.len()));
+        self.same = least(self.same, at);
+    }
+
+    /// Makes the side durable as it reads.
+    pub fn sync(&mut self)
+        requires { vec_len self.old.reads ≤ vec_capacity self.old.durable }
+        ensures synced { disk_of self.new ≡ synced (disk_of self.old) }
+        ensures durable { vec_capacity self.old.durable ≤ vec_capacity self.new.durable }
+        ensures reads { self.new.reads ≡ self.old.reads }
+        ensures written { vec_capacity self.new.written ≡ vec_capacity self.old.written }
+        ensures writes { vec_len self.new.written ≡ 0 }
+    {
+        self.durable.truncate(self.same);
+        self.durable
+            .extend_from_slice(&self.reads[self.same..])
+            .unwrap();
+        self.written.clear();
+        self.same = self.reads.len();
+    }
+
+    /// Cuts the side to a length.
+    pub fn shorten(&mut self, size: usize)
+        requires { size ≤ vec_len self.old.reads }
+        ensures shortened { disk_of self.new ≡ shortened (disk_of self.old) size }
+        ensures durable { self.new.durable ≡ self.old.durable }
+        ensures reads { vec_capacity self.new.reads ≡ vec_capacity self.old.reads }
+        ensures written { self.new.written ≡ self.old.written }
+    {
+        self.reads.truncate(size);
+        self.same = least(self.same, size);
+    }
+
+    /// Makes room for so many bytes more than either has, as it is durable and as it reads, and for so many writes more.
+    pub fn make_room(&mut self, writes: usize, bytes: usize) -> Result<(), Memory>
+        ensures disk { disk_of self.new ≡ disk_of self.old }
+        ensures reads { OnOk result (vec_len self.new.durable ≤ vec_capacity self.new.reads) }
+        ensures durable { OnOk result (vec_len self.new.reads ≤ vec_capacity self.new.durable) }
+        ensures more_reads { OnOk result (vec_len self.new.reads + bytes ≤ vec_capacity self.new.reads) }
+        ensures more_durable { OnOk result (vec_len self.new.durable + bytes ≤ vec_capacity self.new.durable) }
+        ensures written { OnOk result (vec_len self.new.written + writes ≤ vec_capacity self.new.written) }
+    {
+        let (durable, reads) = (self.durable.len(), self.reads.len());
+        self.durable.try_reserve(bytes)?;
+        self.reads.try_reserve(bytes)?;
+        make_room(&mut self.durable, reads)?;
+        make_room(&mut self.reads, durable)?;
+        self.written.try_reserve(writes)?;
+        Ok(())
+    }
+
+    /// Leaves of the side what a stop leaves by its pick.
+    pub fn restore(&mut self, pick: Pick)
+        requires reads { vec_len self.old.durable ≤ vec_capacity self.old.reads }
+        requires durable { vec_len self.old.reads ≤ vec_capacity self.old.durable }
+        ensures left { disk_of self.new ≡ at_once (left_by pick (disk_of self.old)) }
+        ensures room { vec_capacity self.old.reads ≤ vec_capacity self.new.reads }
+        ensures durable { vec_capacity self.old.durable ≤ vec_capacity self.new.durable }
+        ensures written { vec_capacity self.new.written ≡ vec_capacity self.old.written }
+        ensures writes { vec_len self.new.written ≡ 0 }
+    {
+        match pick {
+            Pick::Nothing => self.forget(),
+            Pick::All => self.sync(),
+            Pick::Torn => {
+                self.shred();
+                self.sync();
+            }
+        }
+    }
+
+    /// Makes the last half of each write since the last sync garbage.
+    fn shred(&mut self)
+        ensures torn { disk_of self.new ≡ record (disk_of self.old) { reads = torn (reverse self.old.written.items) self.old.reads.items } }
+        ensures reads { vec_capacity self.new.reads ≡ vec_capacity self.old.reads }
+        ensures len { vec_len self.new.reads ≡ vec_len self.old.reads }
+        ensures durable { self.new.durable ≡ self.old.durable }
+        ensures written { self.new.written ≡ self.old.written }
+    {
+        tear(&mut self.reads, &self.written);
+        self.same = 0;
+    }
+
+    /// Makes the side read as it is durable.
+    fn forget(&mut self)
+        requires { vec_len self.old.durable ≤ vec_capacity self.old.reads }
+        ensures left { disk_of self.new ≡ at_once self.old.durable.items }
+        ensures reads { vec_capacity self.old.reads ≤ vec_capacity self.new.reads }
+        ensures durable { self.new.durable ≡ self.old.durable }
+        ensures written { vec_capacity self.new.written ≡ vec_capacity self.old.written }
+        ensures writes { vec_len self.new.written ≡ 0 }
+    {
+        self.reads.truncate(self.same);
+        self.reads
+            .extend_from_slice(&self.durable[self.same..])
+            .unwrap();
+        self.written.clear();
+        self.same = self.durable.len();
+    }
+}

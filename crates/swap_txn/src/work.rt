@@ -1,0 +1,164 @@
+// A swap with work left.
+use crate::halt::Halt;
+use crate::sending::Sending;
+use crate::stage::Stage;
+use crate::way_back::WayBack;
+use crate::went::Went;
+use crate::write::write;
+use crate::{Booting, Cabling, Clearing, Ended, Live, Loading, Ready, Undoing, Undone};
+use journal_disk::Journal;
+use journal_rec::Encoded;
+use lab_base::{Name, What};
+use plant::Plant;
+use std::marker::Model;
+
+/// A swap with work left, on its way or on its way back.
+pub(crate) struct Work {
+    pub(crate) exp: Name,
+    pub(crate) sending: Sending,
+    /// The record that ends it.
+    pub(crate) last: Encoded,
+    /// Whether that is Commit, or else Abort.
+    pub(crate) commit: bool,
+    /// Whether the experiment is in the lab afterwards.
+    pub(crate) inside: bool,
+    /// The trouble that began it.
+    pub(crate) why: Option<What>,
+    /// The way back that trouble begins.
+    pub(crate) back: Option<WayBack>,
+}
+
+impl Model for Work {
+    ghost use Rattle.swap_txn.specs.States.{View};
+    ghost use Rattle.swap_txn.specs.Ways.{view_in, HasRecords};
+
+    ghost Value = { View };
+
+    ghost view = { view_in };
+
+    ghost invariant = { HasRecords };
+}
+
+impl Drop for Work {
+    // Written out, so that a state that is dropped is one call to its callers.
+    fn drop(self) {
+        let Work {
+            exp: _,
+            sending: _,
+            last: _,
+            commit: _,
+            inside: _,
+            why: _,
+            back: _,
+        } = self;
+    }
+}
+
+impl Work {
+    ghost use Rattle.std.specs.Prelude.{◌≡◌, Result, true, false};
+    ghost use Rattle.journal_disk.specs.declared.fault.AppendFault.{AppendFault as Unwritten};
+    ghost use Rattle.lab_model.specs.Courses.{Course, nothing_left};
+    ghost use Rattle.swap_txn.specs.declared.stage.Stage.TheVariants.{Done};
+    ghost use Rattle.swap_txn.specs.States.{stage_of};
+    ghost use Rattle.swap_txn.specs.Steps.{Stands, Sends, Writes};
+    ghost use Rattle.swap_txn.specs.Turns.{TurnOf, SentBy, EndedBy, HasRoom, last_of, state_of};
+    ghost use Rattle.swap_txn.specs.Going.{CutBack, StaysAt};
+
+    /// The list in which the next command stands.
+    pub(crate) fn stage(&self) -> Stage
+        ensures { result ≡ stage_of self.now.plan self.now.left }
+    {
+        self.sending.stage()
+    }
+
+    fn forth(self) -> Live
+        requires { self.commit ≡ true }
+        ensures { result ≡ state_of self }
+    {
+        match self.stage() {
+            Stage::Clear => Live::Clearing(Clearing { work: self }),
+            Stage::Cable => Live::Cabling(Cabling { work: self }),
+            Stage::Load => Live::Loading(Loading { work: self }),
+            Stage::Boot => Live::Booting(Booting { work: self }),
+            Stage::Done => Live::Ready(Ready { work: self }),
+        }
+    }
+
+    fn back(self) -> Live
+        requires { self.commit ≡ false }
+        ensures { result ≡ state_of self }
+    {
+        if self.stage() == Stage::Done {
+            Live::Undone(Undone { work: self })
+        } else {
+            Live::Undoing(Undoing { work: self })
+        }
+    }
+
+    /// The state that it is in, by what is left.
+    pub(crate) fn live(self) -> Live
+        ensures { result ≡ state_of self }
+    {
+        if self.commit {
+            self.forth()
+        } else {
+            self.back()
+        }
+    }
+
+    /// Begins the way back, where there is one.
+    fn turn_back(mut self, what: What) -> Went
+        ensures { CutBack self what self.undo result }
+    {
+        match self.back.take() {
+            Some(back) => Went::Trouble(back.undoing(self.exp, &what), what),
+            None => Went::Stuck(self, what),
+        }
+    }
+
+    /// Sends the next command.
+    fn send<P: Plant>(mut self, plant: &mut P) -> Went
+        requires { stage_of self.plan self.left ≡ Done → ⊥ }
+        ensures sends { (course : Course) × Sends self.left (P.seen plant.old) (P.seen plant.new) course × SentBy self course result }
+        ensures stays { StaysAt self result }
+    {
+        match self.sending.step(plant) {
+            Ok(()) => Went::On(self),
+            Err(Halt::Trouble(what)) => self.turn_back(what),
+            Err(Halt::Stopped) => Went::Stopped,
+        }
+    }
+
+    /// Appends the last record.
+    fn end<P: Plant>(self, journal: &mut Journal, plant: &mut P) -> Went
+        requires stands { Stands (P.seen plant.old).told journal.old }
+        requires fits { HasRoom journal.old (last_of self) }
+        ensures writes { (answer : Result (Unit {0}) Unwritten) × Writes (last_of self) (P.seen plant.old) (P.seen plant.new) journal.old journal.new answer × EndedBy self answer result }
+        ensures stays { StaysAt self result }
+    {
+        match write(&self.last, journal, plant) {
+            Ok(()) => Went::Ended(Ended {
+                exp: self.exp,
+                inside: self.inside,
+                committed: self.commit,
+                why: self.why,
+            }),
+            Err(Halt::Trouble(what)) => Went::Stuck(self, what),
+            Err(Halt::Stopped) => Went::Stopped,
+        }
+    }
+
+    /// Sends the next command; where none is left, appends the last record.
+    pub(crate) fn turn<P: Plant>(self, journal: &mut Journal, plant: &mut P) -> Went
+        requires stands { Stands (P.seen plant.old).told journal.old }
+        requires fits { self.left ≡ nothing_left → HasRoom journal.old (last_of self) }
+        ensures turns { TurnOf self (P.seen plant.old) (P.seen plant.new) journal.old journal.new result }
+        ensures stays { StaysAt self result }
+    {
+        if self.stage() == Stage::Done {
+            self.end(journal, plant)
+        } else {
+            self.send(plant)
+        }
+    }
+}
