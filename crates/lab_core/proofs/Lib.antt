@@ -3,6 +3,7 @@ pub mod JudgeSwap
 pub mod JudgeTasks
 pub mod Judgements
 pub mod Obey
+pub mod OneJournal
 pub mod Opened
 pub mod Openings
 pub mod Others

@@ -1,17 +1,21 @@
 -- What a call of `open` adds, and what it leaves, by what the journal's opening says and what the records made of it.
-use Rattle.std.proofs.Common.{◌≡◌, ◌≤◌, ◌^◌, inl, inr, ℕ, List, ◌++◌, Option, Some, None, Result, Ok, Err, IfSome, IfOk, sym, ap, subst, ◌∙◌, arith}
+use Rattle.std.proofs.Common.{◌≡◌, inl, inr, ℕ, ◌+◌, ◌*◌, ◌<◌, ◌≤◌, ◌^◌, Bool, List, [], ◌∷◌, ◌++◌, count_by, Option, Some, None, Result, Ok, Err, IfSome, IfOk, refl, sym, ap, subst, ◌∙◌, arith}
+use Rattle.std.specs.Prelude.{length, nat_lt}
+use Rattle.std.proofs.lemmas.List.Sums.{fold-append}
 use Rattle.std.specs.Global.{Vec}
-use Rattle.plant.specs.Disks.{disk, ArePossible}
+use Rattle.plant.specs.Disks.{Disk, disk, disk_after, at_once, ArePossible}
 use Rattle.plant.specs.Events.{Event}
 use Rattle.plant.specs.Told.{Told, with_steps}
 use Rattle.plant.specs.declared.step.Side.{Side}
 use Rattle.plant.specs.declared.step.Side.TheVariants.{A, B}
 use Rattle.journal_rec.specs.declared.record.Record.{Record}
 use Rattle.journal_rec.specs.declared.record.Found.{Found}
-use Rattle.journal_model.specs.Journals.{Bad, On}
-use Rattle.records_model.specs.Labs.{LabOf}
+use Rattle.lab_model.specs.Sound.{is_moving}
+use Rattle.journal_model.specs.Journals.{Bad, Records, RecordsOf, Live, New, On, Wrong, live, head, gate_after}
+use Rattle.records_model.specs.Labs.{LabState, LabOf}
 use Rattle.journal_disk.specs.Before.{IsOpening}
-use Rattle.journal_disk.specs.Standing.{side_of, limit_of, Holds, IsAt, HasAll}
+use Rattle.journal_disk.specs.Opening.{both_synced, new_journal, far_steps}
+use Rattle.journal_disk.specs.Standing.{side_of, gate_of, length_of, limit_of, Holds, IsAt, HasAll}
 use Rattle.journal_disk.specs.Walks.{placed}
 use Rattle.journal_disk.specs.declared.journal.Journal.{Journal}
 use Rattle.journal_disk.specs.declared.fault.OpenFault.{OpenFault}
@@ -29,7 +33,7 @@ use Rattle.swap_turns.specs.Running.{Stands}
 use Rattle.swap_turns.proofs.MovesAreSwaps.{lab_swaps}
 use Rattle.lab_core.specs.Controller.{Control, Works}
 use Rattle.lab_core.specs.Moments.{IsLabAt, IsNoJournal, bad, cannot_follow, no_room}
-use Rattle.lab_core.specs.Opening.{IsOfJournal, OpenSteps, OpenEnds}
+use Rattle.lab_core.specs.Opening.{IsOfJournal, OpenSteps, HasFoundNone, OpenEnds}
 use Rattle.lab_core.proofs.Opened.{records_of_placed, are_held}
 
 -- what the journal's opening added
@@ -41,8 +45,8 @@ abbrev pub ReadsPossible : Option Told → Type 0
 ReadsPossible told = IfSome told (λ t. ArePossible t.trace (disk A t.trace).reads (disk B t.trace).reads)
 
 -- the clause of `open` on what it adds
-abbrev pub Opening : Option Told → Option Told → Result Control OpenFault → Type 0
-Opening old new result = (steps : List Event) × (new ≡ with_steps old steps) × IfSome old (λ t. OpenSteps t.trace steps × OpenEnds t.trace steps result)
+abbrev pub Opening : ℕ → Option Told → Option Told → Result Control OpenFault → Type 0
+Opening limit old new result = (steps : List Event) × (new ≡ with_steps old steps) × IfSome old (λ t. OpenSteps t.trace steps × OpenEnds t.trace steps limit result)
 
 -- THE JOURNAL THAT WAS OPENED, with its records, and what they made of it
 pub record Made (new : Option Told) (limit : ℕ) (j : Journal) (result : Result Control OpenFault) : Type 0 where
@@ -79,52 +83,110 @@ steps_of trace steps result is possible =
       sound = λ sound. steps_sound the_texts trace steps quiet.0 is.before sound;
     }
 
--- a journal that was not opened
-failed_ends : (trace steps : List Event) (fault : OpenFault) → IsOpening trace steps (Err fault) → OpenEnds trace steps (Err fault)
-failed_ends trace steps faults.Plant is = (tt, λ e. opening_missed trace steps _ is.opens _ (ap has_miss is.opens.ends.1))
-failed_ends trace steps faults.Stopped is = (tt, λ e. absurd (cc e))
-failed_ends trace steps faults.Memory is = (tt, λ e. absurd (cc e))
-failed_ends trace steps (faults.Bad side at) is = (tt, λ e. absurd (cc e))
+-- SYNCS leave what the sides read as
+synced_reads : (trace steps : List Event) → steps ≡ both_synced → (side : Side) → (disk side (trace ++ steps)).reads ≡ (disk side trace).reads
+synced_reads trace steps is A = ap (λ l. (disk A (trace ++ l)).reads) is ∙ ap (λ (d : Disk). d.reads) (fold-append (disk_after A) (at_once []) trace both_synced)
+synced_reads trace steps is B = ap (λ l. (disk B (trace ++ l)).reads) is ∙ ap (λ (d : Disk). d.reads) (fold-append (disk_after B) (at_once []) trace both_synced)
 
-pub failed_opening : (old new : Option Told) (fault : OpenFault) (result : Result Control OpenFault) → result ≡ Err fault → Moments old new (Err fault) → ReadsPossible new
-    → Opening old new result
-failed_opening old new fault result is moments possible =
-    let reads = subst ReadsPossible moments.1 possible in
-    subst (λ (r : Result Control OpenFault). Opening old new r) (sym is) (moments.0, moments.1, by old moments.0 reads moments.2)
+found_none : (trace steps : List Event) (limit : ℕ) (side : Side) (at : ℕ) → steps ≡ both_synced → IsNoJournal (disk A (trace ++ steps)).reads (disk B (trace ++ steps)).reads limit side at
+    → HasFoundNone trace steps limit side at
+found_none trace steps limit side at is missing =
+    let same = synced_reads trace steps is in
+    record {
+      no_journal = subst (λ a. IsNoJournal a (disk B trace).reads limit side at) (same A) (subst (λ b. IsNoJournal (disk A (trace ++ steps)).reads b limit side at) (same B) missing);
+      synced = is;
+      as_before = same;
+    }
+
+-- A JOURNAL THAT WAS NOT OPENED
+abbrev pub IsBadAs : OpenFault → List Event → Type 0
+IsBadAs fault trace = (side : Side) (at : ℕ) → fault ≡ faults.Bad side at → Bad (disk A trace).reads (disk B trace).reads side at
+
+failed_ends : (trace steps : List Event) (limit : ℕ) (fault : OpenFault) → IsOpening trace steps (Err fault) → IsBadAs fault (trace ++ steps) → OpenEnds trace steps limit (Err fault)
+failed_ends trace steps limit faults.Plant is reads = opening_missed trace steps _ is.opens _ (ap has_miss is.opens.ends.1)
+failed_ends trace steps limit faults.Stopped is reads = tt
+failed_ends trace steps limit faults.Memory is reads = tt
+failed_ends trace steps limit (faults.Bad side at) is reads = found_none trace steps limit side at (is.opens.steps_are ∙ (λ i. far_steps (is.opens.ends.0 i) ++ is.opens.ends.1 i)) (bad (reads side at refl))
+
+pub failed_opening : (limit : ℕ) (old new : Option Told) (fault : OpenFault) (result : Result Control OpenFault) → result ≡ Err fault → Moments old new (Err fault) → ReadsPossible new
+    → ((side : Side) (at : ℕ) → fault ≡ faults.Bad side at → IfSome new (λ t. Bad (disk A t.trace).reads (disk B t.trace).reads side at)) → Opening limit old new result
+failed_opening limit old new fault result is moments possible reads =
+    subst (λ (r : Result Control OpenFault). Opening limit old new r) (sym is)
+    (moments.0, moments.1, by old moments.0 (subst ReadsPossible moments.1 possible) (λ side at e. subst (λ (o : Option Told). IfSome o (λ t. Bad (disk A t.trace).reads (disk B t.trace).reads side at)) moments.1 (reads side at e)) moments.2)
   where
-    by : (t : Option Told) (steps : List Event) → ReadsPossible (with_steps t steps) → IfSome t (λ u. IsOpening u.trace steps (Err fault)) → IfSome t (λ u. OpenSteps u.trace steps × OpenEnds u.trace steps (Err fault))
-    by None steps reads is = tt
-    by (Some t) steps reads is = (steps_of t.trace steps (Err fault) is reads, failed_ends t.trace steps fault is)
+    by : (t : Option Told) (steps : List Event) → ReadsPossible (with_steps t steps) → ((side : Side) (at : ℕ) → fault ≡ faults.Bad side at → IfSome (with_steps t steps) (λ u. Bad (disk A u.trace).reads (disk B u.trace).reads side at))
+        → IfSome t (λ u. IsOpening u.trace steps (Err fault)) → IfSome t (λ u. OpenSteps u.trace steps × OpenEnds u.trace steps limit (Err fault))
+    by None steps possible reads is = tt
+    by (Some t) steps possible reads is = (steps_of t.trace steps (Err fault) is possible, failed_ends t.trace steps limit fault is reads)
 
--- a journal that was opened
+-- A JOURNAL THAT WAS OPENED
 lab_at : (trace : List Event) (j : Journal) (rs : List Record) (c : Control) → IsAt trace j rs → LabOf the_texts rs c.lab → IsLabAt trace c.lab
 lab_at trace j rs c at lab = record { records = rs; read = (reads_on trace (side_of j) rs at.opened).reads; lab_of = lab }
 
-made_ends : (trace steps : List Event) (limit : ℕ) (opened : Journal × Vec Found) (rs : List Record) (result : Result Control OpenFault) → IsOpening trace steps (Ok opened)
-    → IsAt (trace ++ steps) opened.0 rs → IsOfJournal limit opened.0 rs result → OpenEnds trace steps result
-made_ends trace steps limit opened rs (Ok c) is at made = (
-  (
-    opening_missed trace steps (Ok opened) is.opens _ (ap has_miss is.opens.ends.1),
-    lab_at (trace ++ steps) opened.0 rs c at made.1,
-  ),
-  λ e. absurd (cc e),
-)
-made_ends trace steps limit opened rs (Err faults.Plant) is at made = absurd made
-made_ends trace steps limit opened rs (Err faults.Stopped) is at made = absurd made
-made_ends trace steps limit opened rs (Err faults.Memory) is at made = (tt, λ e. absurd (cc e))
-made_ends trace steps limit opened rs (Err (faults.Bad side place)) is at made = (tt, λ e. absurd (cc e))
+-- where it is none, it is not a new one
+not_new : (a b : List ℕ) (limit : ℕ) (j : Journal) (rs : List Record) (side : Side) (place : ℕ) → Records a b rs → gate_of j ≡ gate_after rs → 18 ≤ limit → IsOfJournal limit j rs (Err (faults.Bad side place))
+    → live (head a) (head b) ≡ New → ⊥
+not_new a b limit j rs side place read gate least of new = empty rs (subst (λ l. RecordsOf l a b rs) new read) gate of
+  where
+    empty : (l : List Record) → l ≡ [] → gate_of j ≡ gate_after l → IsOfJournal limit j l (Err (faults.Bad side place)) → ⊥
+    empty [] none gate (sided, inl (n, stops, there)) = stops
+    empty [] none gate (sided, inr (s, lab, full, there)) = omega (arith, gate, subst (λ (u : LabState). limit < length_of j + 39 * count_by is_moving u.experiments) (sym lab) full, least)
+    empty (r ∷ l) none gate of = absurd (cc none)
 
-pub made_opening : (old new : Option Told) (limit : ℕ) (opened : Journal × Vec Found) (result : Result Control OpenFault) → Made new limit opened.0 result
-    → Moments old new (Ok opened) → ReadsPossible new → Opening old new result
-made_opening old new limit opened result made moments possible =
-    let reads = subst ReadsPossible moments.1 possible in
-    let at = subst (λ (n : Option Told). IfSome n (λ u. IsAt u.trace opened.0 made.records)) moments.1 made.at in
-    (moments.0, moments.1, by old moments.0 reads at moments.2)
+only_synced : (l : Live) (is_short : Bool) → (l ≡ New → ⊥) → both_synced ++ new_journal l is_short ≡ both_synced
+only_synced New is_short not = absurd (not refl)
+only_synced (On side) is_short not = refl
+only_synced (Wrong side) is_short not = refl
+
+no_journal : (trace : List Event) (limit : ℕ) (j : Journal) (rs : List Record) (side : Side) (place : ℕ) → IsAt trace j rs → IsOfJournal limit j rs (Err (faults.Bad side place))
+    → IsNoJournal (disk A trace).reads (disk B trace).reads limit side place
+no_journal trace limit j rs side place at (sided, inl (n, stops, there)) =
+    let on = reads_on trace (side_of j) rs at.opened in
+    cannot_follow rs n on.reads (on.live_is ∙ ap On (sym sided)) stops there
+no_journal trace limit j rs side place at (sided, inr (s, lab, full, there)) =
+    let on = reads_on trace (side_of j) rs at.opened in
+    no_room rs s on.reads (on.live_is ∙ ap On (sym sided)) lab (omega (arith, at.gate, full)) (there ∙ at.gate)
+
+module _ (trace steps : List Event) (limit : ℕ) (least : 18 ≤ limit) (opened : Journal × Vec Found) (rs : List Record) (is : IsOpening trace steps (Ok opened)) (at : IsAt (trace ++ steps) opened.0 rs) (o : OpenSteps trace steps) where
+  read_before : Records (disk A trace).reads (disk B trace).reads rs
+  read_before = (o.alike.records rs).0 (reads_on (trace ++ steps) (side_of opened.0) rs at.opened).reads
+
+  made_ends : (result : Result Control OpenFault) → IsOfJournal limit opened.0 rs result → OpenEnds trace steps limit result
+  made_ends (Ok c) made = record {
+    no_miss = opening_missed trace steps (Ok opened) is.opens _ (ap has_miss is.opens.ends.1);
+    journal = record { records = rs; lab = c.lab; read = read_before; lab_of = made.1; room = omega (arith, at.gate, made.2) };
+    lab = lab_at (trace ++ steps) opened.0 rs c at made.1;
+  }
+  made_ends (Err faults.Plant) made = absurd made
+  made_ends (Err faults.Stopped) made = tt
+  made_ends (Err faults.Memory) made = tt
+  made_ends (Err (faults.Bad side place)) made =
+      found_none trace steps limit side place
+      (is.opens.steps_are ∙ (λ i. is.opens.ends.0 i ++ is.opens.ends.1 i) ∙ ap (λ l. l ++ []) (only_synced (live (head (disk A trace).reads) (head (disk B trace).reads)) (nat_lt (length (disk A trace).reads) 18) (not_new (disk A trace).reads (disk B trace).reads limit opened.0 rs side place read_before at.gate least made)))
+      (no_journal (trace ++ steps) limit opened.0 rs side place at made)
+
+pub made_opening : (old new : Option Told) (limit : ℕ) → 18 ≤ limit → (opened : Journal × Vec Found) (result : Result Control OpenFault) → Made new limit opened.0 result → Moments old new (Ok opened) → ReadsPossible new → Opening limit old new result
+made_opening old new limit least opened result made moments possible =
+    (moments.0, moments.1, by old moments.0 (subst ReadsPossible moments.1 possible) (subst (λ (n : Option Told). IfSome n (λ u. IsAt u.trace opened.0 made.records)) moments.1 made.at) moments.2)
   where
     by : (t : Option Told) (steps : List Event) → ReadsPossible (with_steps t steps) → IfSome (with_steps t steps) (λ u. IsAt u.trace opened.0 made.records)
-        → IfSome t (λ u. IsOpening u.trace steps (Ok opened)) → IfSome t (λ u. OpenSteps u.trace steps × OpenEnds u.trace steps result)
+        → IfSome t (λ u. IsOpening u.trace steps (Ok opened)) → IfSome t (λ u. OpenSteps u.trace steps × OpenEnds u.trace steps limit result)
     by None steps reads at is = tt
-    by (Some t) steps reads at is = (steps_of t.trace steps (Ok opened) is reads, made_ends t.trace steps limit opened made.records result is at made.made)
+    by (Some t) steps reads at is =
+        let o = steps_of t.trace steps (Ok opened) is reads in
+        (o, made_ends t.trace steps limit least opened made.records is at o result made.made)
+
+-- THE STATES THAT ARE NO JOURNAL, as the sides read behind the opening
+pub bad_behind : (limit : ℕ) (old new : Option Told) (result : Result Control OpenFault) (side : Side) (place : ℕ) → Opening limit old new result → result ≡ Err (faults.Bad side place)
+    → IfSome new (λ t. IsNoJournal (disk A t.trace).reads (disk B t.trace).reads limit side place)
+bad_behind limit old new result side place opening is =
+    subst (λ (o : Option Told). IfSome o (λ t. IsNoJournal (disk A t.trace).reads (disk B t.trace).reads limit side place)) (sym opening.1) (by old opening.2)
+  where
+    by : (t : Option Told) → IfSome t (λ u. OpenSteps u.trace opening.0 × OpenEnds u.trace opening.0 limit result) → IfSome (with_steps t opening.0) (λ u. IsNoJournal (disk A u.trace).reads (disk B u.trace).reads limit side place)
+    by None ends = tt
+    by (Some t) ends =
+        let found = subst (λ (r : Result Control OpenFault). OpenEnds t.trace opening.0 limit r) is ends.1 in
+        subst (λ a. IsNoJournal a (disk B (t.trace ++ opening.0)).reads limit side place) (sym (found.as_before A)) (subst (λ b. IsNoJournal (disk A t.trace).reads b limit side place) (sym (found.as_before B)) found.no_journal)
 
 -- THE CONTROLLER WORKS
 pub made_works : (new : Option Told) (limit : ℕ) (j : Journal) (result : Result Control OpenFault) → Made new limit j result → limit_of j ≡ limit → limit ≤ 2 ^ 32 → IfOk result (λ c. Works new c)
@@ -139,28 +201,3 @@ made_works new limit j (Ok c) made limit_is most = subst (λ (k : Journal). Work
     by : (o : Option Told) → IfSome o (λ t. IsAt t.trace j made.records) → IfSome o (λ t. Stands the_texts t.trace j c.lab)
     by None at = tt
     by (Some t) at = record { records = made.records; at = at; lab_of = made.made.1; works = λ sound. works_as the_texts t.trace j made.records c.lab at sound texts_once made.made.1 }
-
--- THE STATES THAT ARE NO JOURNAL, of a journal that was opened
-no_journal : (trace : List Event) (limit : ℕ) (j : Journal) (rs : List Record) (side : Side) (place : ℕ) → IsAt trace j rs → IsOfJournal limit j rs (Err (faults.Bad side place))
-    → IsNoJournal (disk A trace).reads (disk B trace).reads limit side place
-no_journal trace limit j rs side place at (sided, inl (n, stops, there)) =
-    let on = reads_on trace (side_of j) rs at.opened in
-    cannot_follow rs n on.reads (on.live_is ∙ ap On (sym sided)) stops there
-no_journal trace limit j rs side place at (sided, inr (s, lab, full, there)) =
-    let on = reads_on trace (side_of j) rs at.opened in
-    no_room rs s on.reads (on.live_is ∙ ap On (sym sided)) lab (omega (arith, at.gate, full)) (there ∙ at.gate)
-
-pub made_bad : (new : Option Told) (limit : ℕ) (j : Journal) (result : Result Control OpenFault) (side : Side) (place : ℕ) → Made new limit j result → result ≡ Err (faults.Bad side place)
-    → IfSome new (λ t. IsNoJournal (disk A t.trace).reads (disk B t.trace).reads limit side place)
-made_bad new limit j result side place made is = by new made.at (subst (λ (r : Result Control OpenFault). IsOfJournal limit j made.records r) is made.made)
-  where
-    by : (told : Option Told) → IfSome told (λ t. IsAt t.trace j made.records) → IsOfJournal limit j made.records (Err (faults.Bad side place))
-        → IfSome told (λ t. IsNoJournal (disk A t.trace).reads (disk B t.trace).reads limit side place)
-    by None at of = tt
-    by (Some t) at of = no_journal t.trace limit j made.records side place at of
-
--- sides that are bad
-pub failed_bad : (new : Option Told) (limit : ℕ) (side : Side) (place : ℕ) → IfSome new (λ t. Bad (disk A t.trace).reads (disk B t.trace).reads side place)
-    → IfSome new (λ t. IsNoJournal (disk A t.trace).reads (disk B t.trace).reads limit side place)
-failed_bad None limit side place is = tt
-failed_bad (Some t) limit side place is = bad is

@@ -133,7 +133,7 @@ impl Controller {
         requires least { 18 ≤ limit }
         requires most { limit ≤ 2 ^ 32 }
         ensures steps { (steps : List Event) × ((P.seen plant.new).told ≡ with_steps (P.seen plant.old).told steps)
-            × IfSome (P.seen plant.old).told (λ t. OpenSteps t.trace steps × OpenEnds t.trace steps result) }
+            × IfSome (P.seen plant.old).told (λ t. OpenSteps t.trace steps × OpenEnds t.trace steps limit result) }
         ensures bad { (side : AnySide) (at : ℕ) → result ≡ Err (OpenFault.Bad side at)
             → IfSome (P.seen plant.new).told (λ t. IsNoJournal (disk A t.trace).reads (disk B t.trace).reads limit side at) }
         ensures works { IfOk result (λ controller. Works (P.seen plant.new).told controller) }

@@ -1,29 +1,26 @@
 -- A command is answered, behind its mark.
 use Rattle.std.proofs.Common.{◌≡◌, inr, ℕ, Bool, true, false, List, Option, Some, None, Result, Ok, Err, refl, subst}
-use Rattle.plant.specs.declared.step.Side.{Side}
-use Rattle.plant.specs.Told.{with_mark}
 use Rattle.script_text.specs.declared.command.Command.{Command}
 use Rattle.script_text.specs.declared.reply.Reply.{Reply}
 use Rattle.plant.specs.declared.drill.Drill.{Drill}
 use Rattle.script_text.specs.declared.reply.Reply.TheVariants as replies
 use Rattle.script_text.specs.Drills.{drill_of}
 use Rattle.script_text.specs.Replies.{text_of}
-use Rattle.lab_core.specs.Sessions.{Session, Closed}
+use Rattle.plant.specs.Events.{Event}
+use Rattle.plant.specs.Seen.{Seen}
+use Rattle.plant.specs.Told.{with_mark}
+use Rattle.lab_core.specs.Controller.{Control}
+use Rattle.lab_core.specs.Breaks.{unanswered}
+use Rattle.lab_core.specs.Sessions.{Session, Closed, Open}
 use Rattle.lab_top.specs.declared.command.CommandFault.{CommandFault}
 use Rattle.lab_top.specs.declared.command.CommandFault.TheVariants as faults
-use Rattle.lab_top.specs.Answering.{Moment, Made, Sent, Answered, marked, session_of}
-use Rattle.lab_top.specs.CommandTurns.{IsPlannedAs, IsPlannedBy}
+use Rattle.lab_top.specs.Answering.{Moment, Made, Ends, Sent, Answered, marked, piece_of, session_of}
+use Rattle.lab_top.specs.Pieces.{Finds, IsPlannedAs, IsPlannedBy, broken_off, opened}
 use Rattle.lab_top.proofs.Obeyed.{map_some}
-use Rattle.lab_top.proofs.Turning.{silent_done}
+use Rattle.lab_top.proofs.Stepping.{silent_done}
 
-pub record IsMarked (old mid : Moment) : Type 0 where
-  pub told : mid.told ≡ with_mark old.told old.faults
-  pub faults : mid.faults ≡ old.faults
-  pub stopped : mid.stopped ≡ old.stopped
-  pub controller : mid.controller ≡ old.controller
-
-is_marked : (old mid : Moment) → IsMarked old mid → mid ≡ marked old
-is_marked old mid m i = record { told = m.told i; faults = m.faults i; stopped = m.stopped i; controller = m.controller i }
+pub marked_so : (old mid : Seen) (controller : Option Control) → mid ≡ record old { told = with_mark old.told old.faults } → ◌≡◌ {A = Moment} (record { plant = mid; controller = controller }) (marked (record { plant = old; controller = controller }))
+marked_so old mid controller is i = record { plant = is i; controller = controller }
 
 -- where no text was written
 silent_planned : (takes planned : Bool) (reply : Option Reply) → IsPlannedAs takes planned reply → planned ≡ true → takes ≡ true
@@ -36,44 +33,53 @@ silent_by : (takes : Bool) (drill : Option Drill) (planned : Bool) (reply : Opti
 silent_by takes None planned reply by = by
 silent_by takes (Some drill) planned reply by = silent_planned takes planned reply by
 
+silent_finds : (drill : Option Drill) (trace : List Event) (command : Command) (from to : Session) (opening own : List Event) (reply : Option Reply) → Finds drill from trace (piece_of command from to opening own reply)
+    → Finds drill from trace (piece_of command from Closed opening own None)
+silent_finds (Some drill) trace command from to opening own reply finds = (finds.0, finds.1, λ some. absurd (cc some))
+silent_finds None trace command Closed to opening own reply (quiet, opened no_miss no_restart journal) = (quiet, opened no_miss no_restart journal)
+silent_finds None trace command Closed to opening own reply (quiet, broken_off breaks nothing closed) = (quiet, broken_off (unanswered refl) nothing refl)
+silent_finds None trace command (Open opens) to opening own reply finds = finds
+
 silent_made : (takes : Bool) (command : Command) (old new : Moment) (to : Session) (reply : Option Reply) → Made takes command old new to reply → Made takes command old new Closed None
-silent_made takes command old new to reply made = record {
-  begun = record {
-    opening = made.begun.opening;
-    own = made.begun.own;
-    planned = made.begun.planned;
-    told = made.begun.told;
-    planned_by = silent_by takes (drill_of command) made.begun.planned reply made.begun.planned_by;
-    done = map_some old.told (λ t done sound. silent_done takes t.trace command (session_of old.controller) to made.begun.opening made.begun.own reply (done sound)) made.begun.done;
-  };
-  later = made.later;
-  disk = λ is. absurd (cc is);
-  device = λ is. absurd (cc is);
-  runs = λ some. absurd (cc some);
-  goes_on = made.goes_on;
-}
+silent_made takes command old new to reply made =
+    let b = made.begun in
+    record {
+      begun = record {
+        opening = b.opening;
+        own = b.own;
+        planned = b.planned;
+        told = b.told;
+        planned_by = silent_by takes (drill_of command) b.planned reply b.planned_by;
+        is_piece = map_some old.plant.told (λ t is. record {
+          readable = is.readable;
+          finds = silent_finds (drill_of command) t.trace command (session_of old.controller) to b.opening b.own reply is.finds;
+          leaves = λ shut. refl;
+          shuts = λ none shut. refl;
+          leads = λ none open_now. absurd (cc open_now);
+          done = λ sound. silent_done takes t.trace command (session_of old.controller) to b.opening b.own reply (is.done sound);
+        }) b.is_piece;
+      };
+      later = made.later;
+      disk = λ is. absurd (cc is);
+      device = λ is. absurd (cc is);
+      runs = λ some. absurd (cc some);
+      goes_on = made.goes_on;
+    }
 
-pub answered_not : (took takes : Bool) (command : Command) (old mid new : Moment) (written : Option (List ℕ)) (fault : CommandFault) → takes ≡ took → IsMarked old mid → Made takes command mid new Closed None
-    → (fault ≡ faults.WriteFault → ⊥) → ((side : Side) (at : ℕ) → fault ≡ faults.JournalBad side at → new.stopped ≡ false) → Answered took command old new written written (Err fault)
-answered_not took takes command old mid new written fault same m made written_is bad = subst (λ (b : Bool). Answered b command old new written written (Err fault)) same (by fault written_is bad)
+pub answered_not : (takes : Bool) (command : Command) (old mid new : Moment) (written : Option (List ℕ)) (fault : CommandFault) → mid ≡ marked old → Ends takes command mid new (Err fault) → Answered takes command old new written written (Err fault)
+answered_not takes command old mid new written fault same ends = by fault (subst (λ was. Ends takes command was new (Err fault)) same ends)
   where
-    closed : Made takes command (marked old) new Closed None
-    closed = subst (λ was. Made takes command was new Closed None) (is_marked old mid m) made
+    by : (fault : CommandFault) → Ends takes command (marked old) new (Err fault) → Answered takes command old new written written (Err fault)
+    by faults.Memory made = (inr made, refl)
+    by faults.WriteFault made = absurd made
+    by (faults.JournalBad side at) found = (found, refl)
 
-    by : (fault : CommandFault) → (fault ≡ faults.WriteFault → ⊥) → ((side : Side) (at : ℕ) → fault ≡ faults.JournalBad side at → new.stopped ≡ false) → Answered takes command old new written written (Err fault)
-    by faults.Memory not bad = (inr closed, refl)
-    by faults.WriteFault not bad = absurd (not refl)
-    by (faults.JournalBad side at) not bad = (closed, bad side at refl, refl)
-
-pub answered_sent : (took takes : Bool) (command : Command) (old mid new : Moment) (reply : Reply) (before now : Option (List ℕ)) (result : Result (Unit {0}) CommandFault) → takes ≡ took → IsMarked old mid
-    → Made takes command mid new (session_of new.controller) (Some reply) → Sent before now (text_of reply) result → Answered took command old new before now result
-answered_sent took takes command old mid new reply before now result same m made sent = subst (λ (b : Bool). Answered b command old new before now result) same (by result sent)
+pub answered_sent : (takes : Bool) (command : Command) (old mid new : Moment) (reply : Reply) (before now : Option (List ℕ)) (result : Result (Unit {0}) CommandFault) → mid ≡ marked old
+    → Made takes command mid new (session_of new.controller) (Some reply) → Sent before now (text_of reply) result → Answered takes command old new before now result
+answered_sent takes command old mid new reply before now result same made sent = by result (subst (λ was. Made takes command was new (session_of new.controller) (Some reply)) same made) sent
   where
-    made_now : Made takes command (marked old) new (session_of new.controller) (Some reply)
-    made_now = subst (λ was. Made takes command was new (session_of new.controller) (Some reply)) (is_marked old mid m) made
-
-    by : (result : Result (Unit {0}) CommandFault) → Sent before now (text_of reply) result → Answered takes command old new before now result
-    by (Ok done) sent = (reply, made_now, sent)
-    by (Err faults.WriteFault) sent = (reply, made_now, sent.0, sent.1, sent.2)
-    by (Err faults.Memory) sent = (inr (silent_made takes command (marked old) new _ _ made_now), sent)
-    by (Err (faults.JournalBad side at)) sent = absurd sent
+    by : (result : Result (Unit {0}) CommandFault) → Made takes command (marked old) new (session_of new.controller) (Some reply) → Sent before now (text_of reply) result → Answered takes command old new before now result
+    by (Ok done) made sent = (reply, made, sent)
+    by (Err faults.WriteFault) made sent = (reply, made, sent.0, sent.1, sent.2)
+    by (Err faults.Memory) made sent = (inr (silent_made takes command (marked old) new _ _ made), sent)
+    by (Err (faults.JournalBad side at)) made sent = absurd sent

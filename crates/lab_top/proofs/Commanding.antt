@@ -113,3 +113,11 @@ module _ (bytes : List ℕ) (now : Stand) (commands : List Command) (cov : Cover
         p.whole u.more,
         ⊎_elim (λ e. inl (all AtEnd e)) (λ e. inr (subst (λ (n : ℕ). IsScript p.raw commands (BadLine (n + 1))) size (all (BadLine (u.mid.lines + 1)) e))) u.unfinished,
       )
+
+-- some of the first
+pub none_begun : (bytes : List ℕ) (now : Stand) (commands made : List Command) → Covers (at_start bytes) now commands → made ≡ commands → AreFirst 0 (script_lines bytes) made
+none_begun bytes now commands made cov same = subst (λ cs. AreFirst 0 (script_lines bytes) cs) (sym same) (first_begun bytes now commands cov)
+
+pub one_begun : (bytes : List ℕ) (now new : Stand) (commands made : List Command) (command : Command) → Covers (at_start bytes) now commands → Reads now (nexts.Command command) new → made ≡ commands ++ command ∷ []
+    → AreFirst 0 (script_lines bytes) made
+one_begun bytes now new commands made command cov read one = none_begun bytes new (commands ++ command ∷ []) made (covers_more (at_start bytes) now new commands command cov read) one

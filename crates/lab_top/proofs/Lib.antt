@@ -1,6 +1,11 @@
-pub mod Commanding
-pub mod Turning
-pub mod Drilling
-pub mod Obeyed
-pub mod Answering
-pub mod CommandTurns
+mod Answering
+mod BadJournals
+mod Commanding
+mod Drilling
+mod Kept
+mod Obeyed
+mod Pieces
+mod Solutions
+mod Stepping
+mod Undrilled
+mod Wording

@@ -1,6 +1,6 @@
 -- What a call of the controller leaves is a command that was done.
 use Rattle.std.proofs.Common.{◌≡◌, ℕ, ◌^◌, Bool, true, false, List, [], ◌∷◌, ◌++◌, Option, Some, None, Result, Ok, Err, refl, sym, ◌∙◌, ap, subst, append_assoc, arith}
-use Rattle.std.specs.Prelude.{IfSome, OnOk, ◌≤◌, is_some}
+use Rattle.std.specs.Prelude.{IfSome, OnOk, OnErr, ◌≤◌, is_some}
 use Rattle.std.proofs.lemmas.List.{append-nil}
 use Rattle.plant.specs.declared.drill.Drill.{Drill}
 use Rattle.plant.specs.declared.moment.Faults.{Faults}
@@ -9,11 +9,13 @@ use Rattle.plant.specs.declared.step.Side.{Side}
 use Rattle.plant.specs.Calls.{Rose}
 use Rattle.plant.specs.Disks.{disk, ArePossible}
 use Rattle.plant.specs.Events.{Event, Restarted}
+use Rattle.plant.specs.Seen.{Seen}
 use Rattle.plant.specs.Told.{Told, with_steps}
 use Rattle.journal_disk.specs.Standing.{limit_of}
 use Rattle.journal_disk.specs.declared.fault.OpenFault.{OpenFault}
 use Rattle.journal_disk.specs.declared.fault.OpenFault.TheVariants as openings
 use Rattle.lab_state.specs.Texts.{the_texts}
+use Rattle.swap_turns.specs.Running.{Stands}
 use Rattle.script_text.specs.declared.command.Command.{Command}
 use Rattle.script_text.specs.declared.reply.Reply.{Reply}
 use Rattle.script_text.specs.declared.reply.Reply.TheVariants as replies
@@ -21,17 +23,17 @@ use Rattle.script_text.specs.Drills.{drill_of}
 use Rattle.script_text.specs.Replies.{blames_device, closes}
 use Rattle.lab_core.specs.declared.fault.CoreFault.{CoreFault}
 use Rattle.lab_core.specs.declared.fault.CoreFault.TheVariants as faults
-use Rattle.lab_core.specs.Moments.{Seen, Stands, Works}
-use Rattle.lab_core.specs.Obeying.{setting_of, Leaves, Answers, ObeyEnds, ObeyTold}
-use Rattle.lab_core.specs.Opening.{OpenSteps, OpenEnds}
-use Rattle.lab_core.specs.Pieces.{Breaks, failed, unanswered}
-use Rattle.lab_core.specs.Sessions.{Session, Closed, Open}
-use Rattle.lab_core.specs.Steps.{Judged}
+use Rattle.lab_core.specs.Breaks.{Breaks, stopped, failed, unanswered}
+use Rattle.lab_core.specs.Controller.{Control, Works}
+use Rattle.lab_core.specs.Judge.{Judged}
+use Rattle.lab_core.specs.Obey.{Answers, ObeySteps, ObeyTold}
+use Rattle.lab_core.specs.Opening.{OpenSteps, HasOpened, OpenEnds}
+use Rattle.lab_core.specs.Sessions.{Session, Closed, open_alone}
 use Rattle.lab_top.specs.declared.command.CommandFault.{CommandFault}
 use Rattle.lab_top.specs.declared.command.CommandFault.TheVariants as command_faults
-use Rattle.lab_top.specs.CommandTurns.{IsPlannedBy, Later, blames_if, closes_if, leaves_one}
-use Rattle.lab_top.specs.Answering.{IsDone, WasOpened, IsOpen, MayGoOn, DoesOwn, OwnTold, Starts, Unopened, Begun, Made, Moment, session_after, session_of, reply_if}
-use Rattle.lab_top.proofs.Turning.{sound_before, own_answered, own_closed, own_stopped, own_stays, own_unmade, cut_done, stopped_done, was_open, is_opened}
+use Rattle.lab_top.specs.Pieces.{Finds, IsDone, IsPlannedBy, Later, blames_if, broken_off, closes_if, is_closed, leaves_one, may_shut, opened, stays_open}
+use Rattle.lab_top.specs.Answering.{Does, DoesOwn, IsOpen, MayGoOn, OwnTold, Starts, Unopened, Begins, Made, Ends, Moment, piece_of, session_after, session_of, reply_if}
+use Rattle.lab_top.proofs.Stepping.{own_answered, own_closed, own_stopped, own_stays, own_unmade, cut_done, stopped_done, again_breaks, again_quiet, was_open, is_opened}
 
 -- WHAT A PLANT TELLS after more steps
 
@@ -91,207 +93,270 @@ not_one (replies.BadPtop fault) is = refl
 not_one replies.FullExperiments is = refl
 not_one (replies.FullJournal size) is = refl
 
+-- a reply that closes, and `stopped`, may leave the session closed
+pub shuts_so : (reply : Reply) → closes reply ≡ true → may_shut (Some reply) ≡ true
+shuts_so replies.Stopped shut = refl
+shuts_so reply shut = shut
+
+pub starts_shut : (old new : Option Told) (result : Result Reply CommandFault) → Starts old new result → may_shut (reply_if result) ≡ true
+starts_shut old new (Ok reply) starts = ap (λ r. may_shut (Some r)) starts.0
+starts_shut old new (Err fault) starts = refl
+
 abbrev pub AsRead : List Event → Type 0
 AsRead trace = ArePossible trace (disk A trace).reads (disk B trace).reads
 
 -- OVER ONE TRACE
-module _ (takes : Bool) (trace : List Event) (command : Command) (no_drill : drill_of command ≡ None) (c : Seen) (own : List Event) where
-  abbrev Ends : Seen → Result Reply CoreFault → Type 0
-  Ends d result = Works trace c → ObeyEnds trace (Judged (setting_of c) c.lab command) c own d result
+module _ (takes : Bool) (trace : List Event) (command : Command) (no_drill : drill_of command ≡ None) (c : Control) (own : List Event) where
+  abbrev Obeys : Control → Result Reply CoreFault → Type 0
+  Obeys d result = ObeySteps trace (Judged c.lab command) c own d result
 
-  module _ (before : List Event) (from : Session) (opening : List Event) (is : trace ≡ before ++ opening) (w : WasOpened before from opening c) where
-    works : Works trace c
-    works = subst (λ l. Works l c) (sym is) w.works
+  module _ (d : Control) (result : Result Reply CoreFault) (obeys : Obeys d result) (before : List Event) (from : Session) (opening : List Event) (is : trace ≡ before ++ opening) where
+    moved : ObeySteps (before ++ opening) (Judged c.lab command) c own d result
+    moved = subst (λ l. ObeySteps l (Judged c.lab command) c own d result) is obeys
 
-  own_on : (d : Seen) (reply : Reply) → Ends d (Ok reply) → closes reply ≡ false → DoesOwn takes trace command c own Open (Some reply)
-  own_on d reply ends goes before from opening is w =
-      let e = subst (λ b. Answers trace (Judged (setting_of c) c.lab command) c own reply d b) goes (ends (works before from opening is w)) in
-      own_answered takes before from opening c w command no_drill own d reply e.0 (subst (λ l. Works (l ++ own) d) is e.1)
+  own_on : (d : Control) (reply : Reply) → Obeys d (Ok reply) → closes reply ≡ false → Stands the_texts (trace ++ own) d.journal d.lab → DoesOwn takes trace command c own open_alone (Some reply)
+  own_on d reply obeys goes stands before from opening is w =
+      let o = moved d (Ok reply) obeys before from opening is in
+      let e = subst (λ b. Answers (before ++ opening) (Judged c.lab command) c own reply d b) goes o.ends in
+      own_answered takes before from opening c w command no_drill own d reply e.0 (subst (λ l. Stands the_texts (l ++ own) d.journal d.lab) is stands) o.sound
 
-  own_off : (d : Seen) (reply : Reply) → Ends d (Ok reply) → closes reply ≡ true → AsRead (trace ++ own) → DoesOwn takes trace command c own Closed (Some reply)
-  own_off d reply ends shut there before from opening is w =
-      let e = subst (λ b. Answers trace (Judged (setting_of c) c.lab command) c own reply d b) shut (ends (works before from opening is w)) in
-      own_closed takes before from opening c w command no_drill own reply (not_one reply shut) (subst (λ l. Leaves l (Judged (setting_of c) c.lab command) c own reply (λ a b. [])) is e) (subst (λ l. AsRead (l ++ own)) is there)
+  own_off : (d : Control) (reply : Reply) → Obeys d (Ok reply) → closes reply ≡ true → AsRead (trace ++ own) → DoesOwn takes trace command c own Closed (Some reply)
+  own_off d reply obeys shut there before from opening is w =
+      let o = moved d (Ok reply) obeys before from opening is in
+      let e = subst (λ b. Answers (before ++ opening) (Judged c.lab command) c own reply d b) shut o.ends in
+      record {
+        leads = λ open_now. absurd (cc open_now);
+        done = own_closed takes before from opening c w command no_drill own reply (not_one reply shut) e o.sound (subst (λ l. AsRead (l ++ own)) is there);
+      }
 
-  own_again : (d : Seen) (a b : List ℕ) → Ends d (Err faults.Stopped) → ArePossible (trace ++ own) a b → DoesOwn takes trace command c (own ++ Restarted a b ∷ []) Closed (Some replies.Stopped)
-  own_again d a b ends there before from opening is w =
-      own_stopped takes before from opening c w command no_drill own a b
-      (subst (λ l. Leaves l (Judged (setting_of c) c.lab command) c own replies.Stopped (λ x y. Restarted x y ∷ [])) is (ends (works before from opening is w)))
-      (subst (λ l. ArePossible (l ++ own) a b) is there)
+  own_again : (d : Control) (a b : List ℕ) → Obeys d (Err faults.Stopped) → ArePossible (trace ++ own) a b → DoesOwn takes trace command c (own ++ Restarted a b ∷ []) Closed (Some replies.Stopped)
+  own_again d a b obeys there before from opening is w =
+      let o = moved d (Err faults.Stopped) obeys before from opening is in
+      record { leads = λ open_now. absurd (cc open_now); done = own_stopped takes before from opening c w command no_drill own a b o.ends o.sound (subst (λ l. ArePossible (l ++ own) a b) is there) }
 
-  own_stuck : (d : Seen) → Ends d (Err faults.Stopped) → AsRead (trace ++ own) → DoesOwn takes trace command c own Closed None
-  own_stuck d ends there before from opening is w =
-      own_stays takes before from opening c w command no_drill own
-      (subst (λ l. Leaves l (Judged (setting_of c) c.lab command) c own replies.Stopped (λ x y. Restarted x y ∷ [])) is (ends (works before from opening is w)))
-      (subst (λ l. AsRead (l ++ own)) is there)
+  own_stuck : (d : Control) → Obeys d (Err faults.Stopped) → AsRead (trace ++ own) → DoesOwn takes trace command c own Closed None
+  own_stuck d obeys there before from opening is w =
+      let o = moved d (Err faults.Stopped) obeys before from opening is in
+      record { leads = λ open_now. absurd (cc open_now); done = own_stays takes before from opening c w command no_drill own o.ends o.sound (subst (λ l. AsRead (l ++ own)) is there) }
 
-  own_none : (d : Seen) → Ends d (Err faults.Memory) → DoesOwn takes trace command c own Closed None
-  own_none d ends before from opening is w =
-      let e = ends (works before from opening is w) in
-      subst (λ l. IsDone takes before command from Closed opening l None) (sym e.0) (own_unmade takes before from opening c w command no_drill)
-
-  still_open : (d : Seen) (reply : Reply) → Ends d (Ok reply) → closes reply ≡ false → IsOpen trace c → Stands (trace ++ own) d → IsOpen (trace ++ own) d
-  still_open d reply ends goes is stands = record {
-    stands = stands;
-    works = λ sound.
-        let was = is.works (sound_before the_texts trace own sound) in
-        let e = subst (λ b. Answers trace (Judged (setting_of c) c.lab command) c own reply d b) goes (ends was.0) in
-        (e.1, e.2 ∙ was.1);
+  own_none : (d : Control) → Obeys d (Err faults.Memory) → DoesOwn takes trace command c own Closed None
+  own_none d obeys before from opening is w = record {
+    leads = λ open_now. absurd (cc open_now);
+    done = λ first. subst (λ l. IsDone takes before (piece_of command from Closed opening l None)) (sym obeys.ends.0) (own_unmade takes before from opening c w command no_drill first);
   }
 
 -- OF WHAT A PLANT TELLS
-module _ (takes : Bool) (old mid : Option Told) (command : Command) (no_drill : drill_of command ≡ None) (c d : Seen) where
+module _ (takes : Bool) (old mid : Seen) (command : Command) (no_drill : drill_of command ≡ None) (c d : Control) where
   abbrev Told_of : Result Reply CoreFault → Type 0
-  Told_of result = ObeyTold old mid (Judged (setting_of c) c.lab command) c d result
+  Told_of result = ObeyTold old mid (Judged c.lab command) c d result
 
-  pub obeyed_on : (reply : Reply) → Told_of (Ok reply) → closes reply ≡ false → OwnTold takes old mid command c Open (Some reply)
-  obeyed_on reply told goes = (told.0, told.1, map_some old (λ t ends. own_on takes t.trace command no_drill c told.0 d reply ends goes) told.2)
+  pub obeyed_on : (reply : Reply) → Told_of (Ok reply) → closes reply ≡ false → Works mid.told d → OwnTold takes old.told mid.told command c open_alone (Some reply)
+  obeyed_on reply told goes works = (
+    told.0,
+    told.1,
+    map_both old.told (λ t obeys stands. own_on takes t.trace command no_drill c told.0 d reply obeys goes stands) told.2 (carried old.told mid.told told.0 told.1 (λ l. Stands the_texts l d.journal d.lab) works.stands),
+  )
 
-  pub obeyed_off : (reply : Reply) → Told_of (Ok reply) → closes reply ≡ true → IfSome mid (λ t. AsRead t.trace) → OwnTold takes old mid command c Closed (Some reply)
+  pub obeyed_off : (reply : Reply) → Told_of (Ok reply) → closes reply ≡ true → IfSome mid.told (λ t. AsRead t.trace) → OwnTold takes old.told mid.told command c Closed (Some reply)
   obeyed_off reply told shut there = (
     told.0,
     told.1,
-    map_both old (λ t ends here. own_off takes t.trace command no_drill c told.0 d reply ends shut here) told.2 (carried old mid told.0 told.1 AsRead there),
+    map_both old.told (λ t obeys here. own_off takes t.trace command no_drill c told.0 d reply obeys shut here) told.2 (carried old.told mid.told told.0 told.1 AsRead there),
   )
 
-  pub obeyed_stopped : (new : Option Told) (result : Result Reply CommandFault) → Told_of (Err faults.Stopped) → Starts mid new result → IfSome mid (λ t. AsRead t.trace) → OwnTold takes old new command c (session_after result None) (reply_if result)
+  pub obeyed_stopped : (new : Option Told) (result : Result Reply CommandFault) → Told_of (Err faults.Stopped) → Starts mid.told new result → IfSome mid.told (λ t. AsRead t.trace) → OwnTold takes old.told new command c (session_after result None) (reply_if result)
   obeyed_stopped new (Ok reply) told starts there =
       let a = starts.1.0 in
       let b = starts.1.1 in (
         told.0 ++ Restarted a b ∷ [],
-        starts.1.2 ∙ ap (λ o. with_steps o (Restarted a b ∷ [])) told.1 ∙ steps_twice old told.0 (Restarted a b ∷ []),
-        map_both old (λ t ends here. subst (λ r. DoesOwn takes t.trace command c (told.0 ++ Restarted a b ∷ []) Closed (Some r)) (sym starts.0) (own_again takes t.trace command no_drill c told.0 d a b ends here)) told.2
-            (carried old mid told.0 told.1 (λ l. ArePossible l a b) starts.1.3),
+        starts.1.2 ∙ ap (λ o. with_steps o (Restarted a b ∷ [])) told.1 ∙ steps_twice old.told told.0 (Restarted a b ∷ []),
+        map_both old.told (λ t obeys here. subst (λ r. DoesOwn takes t.trace command c (told.0 ++ Restarted a b ∷ []) Closed (Some r)) (sym starts.0) (own_again takes t.trace command no_drill c told.0 d a b obeys here)) told.2
+            (carried old.told mid.told told.0 told.1 (λ l. ArePossible l a b) starts.1.3),
       )
   obeyed_stopped new (Err fault) told starts there = (
     told.0,
     starts.1 ∙ told.1,
-    map_both old (λ t ends here. own_stuck takes t.trace command no_drill c told.0 d ends here) told.2 (carried old mid told.0 told.1 AsRead there),
+    map_both old.told (λ t obeys here. own_stuck takes t.trace command no_drill c told.0 d obeys here) told.2 (carried old.told mid.told told.0 told.1 AsRead there),
   )
 
-  pub obeyed_not : Told_of (Err faults.Memory) → OwnTold takes old mid command c Closed None
-  obeyed_not told = (told.0, told.1, map_some old (λ t ends. own_none takes t.trace command no_drill c told.0 d ends) told.2)
+  pub obeyed_not : Told_of (Err faults.Memory) → OwnTold takes old.told mid.told command c Closed None
+  obeyed_not told = (told.0, told.1, map_some old.told (λ t obeys. own_none takes t.trace command no_drill c told.0 d obeys) told.2)
 
-  pub goes_open : (reply : Reply) (faults : Faults) (stopped : Bool) → Told_of (Ok reply) → closes reply ≡ false → IfSome old (λ t. IsOpen t.trace c) → IfSome mid (λ t. Stands t.trace d) → stopped ≡ false
-      → MayGoOn (record { told = mid; faults = faults; stopped = stopped; controller = Some d })
-  goes_open reply faults stopped told goes is stands runs = record {
-    controller = carried_on old mid told.0 told.1 (λ l. IsOpen l d)
-        (map_three old (λ t ends was here. still_open takes t.trace command no_drill c told.0 d reply ends goes was here) told.2 is (carried old mid told.0 told.1 (λ l. Stands l d) stands));
+  pub goes_open : (reply : Reply) → Told_of (Ok reply) → closes reply ≡ false → Works mid.told d → IfSome old.told (λ t. limit_of c.journal ≡ 2 ^ 32) → mid.stopped ≡ false → MayGoOn (record { plant = mid; controller = Some d })
+  goes_open reply told goes works limit runs = record {
+    controller = record {
+      works = works;
+      limit = carried_on old.told mid.told told.0 told.1 (λ l. limit_of d.journal ≡ 2 ^ 32)
+          (map_both old.told (λ t obeys was. (subst (λ b. Answers t.trace (Judged c.lab command) c told.0 reply d b) goes obeys.ends).1 ∙ was) told.2 limit);
+    };
     runs = λ some. runs;
   }
 
-pub goes_closed : (told : Option Told) (faults : Faults) (stopped : Bool) → MayGoOn (record { told = told; faults = faults; stopped = stopped; controller = None })
-goes_closed None faults stopped = record { controller = tt; runs = λ some. absurd (cc some) }
-goes_closed (Some t) faults stopped = record { controller = tt; runs = λ some. absurd (cc some) }
+pub is_open : (told : Option Told) (c : Control) → Works told c → limit_of c.journal ≡ 2 ^ 32 → IsOpen told c
+is_open None c works limit = record { works = works; limit = tt }
+is_open (Some t) c works limit = record { works = works; limit = limit }
 
--- no failure is planned
-none_planned : (takes : Bool) (command : Command) (reply : Option Reply) → drill_of command ≡ None → IsPlannedBy takes (drill_of command) false reply
-none_planned takes command reply no_drill = subst (λ (d : Option Drill). IsPlannedBy takes d false reply) (sym no_drill) refl
+pub goes_closed : (plant : Seen) → MayGoOn (record { plant = plant; controller = None })
+goes_closed plant = record { controller = tt; runs = λ some. absurd (cc some) }
 
--- WHAT A COMMAND BEGAN, by an open controller
-pub begun_open : (takes : Bool) (command : Command) → drill_of command ≡ None → (old new : Option Told) (c : Seen) (to : Session) (reply : Option Reply) → IfSome old (λ t. IsOpen t.trace c) → OwnTold takes old new command c to reply → Begun takes command old new Open to reply
-begun_open takes command no_drill old new c to reply is own = record {
-  opening = [];
-  own = own.0;
-  planned = false;
-  told = own.1;
-  planned_by = none_planned takes command reply no_drill;
-  done = map_both old (λ t open_now does sound. does t.trace Open [] (sym (append-nil t.trace)) (was_open t.trace c open_now sound)) is own.2;
-}
+-- WHAT A COMMAND BEGAN
+module _ (takes : Bool) (command : Command) (no_drill : drill_of command ≡ None) where
+  -- no failure is planned
+  pub none_planned : (reply : Option Reply) → IsPlannedBy takes (drill_of command) false reply
+  none_planned reply = subst (λ (d : Option Drill). IsPlannedBy takes d false reply) (sym no_drill) refl
 
--- by one that was opened first
-pub begun_opened : (took takes : Bool) → took ≡ takes → (command : Command) → drill_of command ≡ None → (old mid new : Option Told) (steps : List Event) (c : Seen) (to : Session) (reply : Option Reply) → mid ≡ with_steps old steps → IfSome old (λ t. OpenSteps t.trace steps × OpenEnds t.trace steps (Ok c)) → IfSome old (λ t. AsRead t.trace)
-    → limit_of c.journal ≡ 2 ^ 32 → OwnTold took mid new command c to reply → Begun takes command old new Closed to reply
-begun_opened took takes same command no_drill old mid new steps c to reply is opens there limit owned =
-    let own = subst (λ (b : Bool). OwnTold b mid new command c to reply) same owned in
-    record {
-      opening = steps;
-      own = own.0;
-      planned = false;
-      planned_by = none_planned takes command reply no_drill;
-      told = own.1 ∙ ap (λ o. with_steps o own.0) is ∙ steps_twice old steps own.0;
-      done = map_three old (λ t o read does sound. does t.trace Closed steps refl (is_opened t.trace steps c o.0 o.1 limit read sound)) opens there (carried old mid steps is (λ l. DoesOwn takes l command c own.0 to reply) own.2);
-    }
+  pub found : (trace : List Event) (from to : Session) (opening own : List Event) (reply : Option Reply) → Finds None from trace (piece_of command from to opening own reply)
+      → Finds (drill_of command) from trace (piece_of command from to opening own reply)
+  found trace from to opening own reply is = subst (λ (d : Option Drill). Finds d from trace (piece_of command from to opening own reply)) (sym no_drill) is
 
--- and where it could not be opened
-module _ (takes : Bool) (command : Command) (no_drill : drill_of command ≡ None) (old mid new : Option Told) (steps : List Event) (is : mid ≡ with_steps old steps) (there : IfSome old (λ t. AsRead t.trace)) (then : IfSome mid (λ t. AsRead t.trace)) where
-  cut_begun_so : (reply : Option Reply) → leaves_one Closed reply ≡ false → new ≡ mid → IfSome old (λ t. OpenSteps t.trace steps × Breaks steps reply) → Begun takes command old new Closed Closed reply
-  cut_begun_so reply other same opens = record {
-    opening = steps;
-    own = [];
+  -- how it leaves the session
+  abbrev Leaves : Session → Option Reply → Type 0
+  Leaves to reply = (stays_open reply ≡ false → to ≡ Closed) × (is_closed to ≡ true → may_shut reply ≡ true)
+
+  pub cut_shuts : (opening : List Event) (reply : Option Reply) → Breaks opening reply → may_shut reply ≡ true
+  cut_shuts opening reply (stopped ends is) = ap may_shut is
+  cut_shuts opening reply (failed once missed is) = ap may_shut is
+  cut_shuts opening reply (unanswered is) = ap may_shut is
+
+  -- by an open controller
+  pub begins_open : (old new : Option Told) (c : Control) (to : Session) (reply : Option Reply) → Leaves to reply → IsOpen old c → OwnTold takes old new command c to reply
+      → Begins takes command old new open_alone to reply
+  begins_open old new c to reply leaves is own = record {
+    opening = [];
+    own = own.0;
     planned = false;
-    planned_by = none_planned takes command reply no_drill;
-    told = same ∙ is ∙ ap (λ l. with_steps old l) (sym (append-nil steps));
-    done = map_three old (λ t o read now sound. cut_done takes t.trace steps o.0 read sound command no_drill now reply other o.1) opens there (carried old mid steps is AsRead then);
+    told = own.1;
+    planned_by = none_planned reply;
+    is_piece = map_three old (λ t stands limit does.
+        let w = was_open t.trace c stands limit in
+        let it = does t.trace open_alone [] (sym (append-nil t.trace)) w in
+        record {
+          readable = w.readable;
+          finds = found t.trace open_alone to [] own.0 reply refl;
+          leaves = leaves.0;
+          shuts = λ none. leaves.1;
+          leads = λ none. it.leads;
+          done = it.done;
+        }) is.works.stands is.limit own.2;
   }
 
-  cut_silent : new ≡ mid → (fault : OpenFault) → IfSome old (λ t. OpenSteps t.trace steps × OpenEnds t.trace steps (Err fault)) → Begun takes command old new Closed Closed None
-  cut_silent same fault opens = cut_begun_so None refl same (map_some old (λ t o. (o.0, unanswered refl)) opens)
-
-  pub begun_unopened : (fault : OpenFault) (result : Result Reply CommandFault) → Unopened fault mid new result → IfSome old (λ t. OpenSteps t.trace steps × OpenEnds t.trace steps (Err fault)) → Begun takes command old new Closed (session_after result None) (reply_if result)
-  begun_unopened openings.Plant result un opens =
-      subst (λ r. Begun takes command old new Closed (session_after r None) (reply_if r)) (sym un.0) (cut_begun_so (Some replies.Down) refl un.1 (map_some old (λ t o. (o.0, failed o.0.no_restart (o.1.1 refl) refl)) opens))
-  begun_unopened openings.Stopped (Ok reply) un opens =
-      let a = un.1.0 in
-      let b = un.1.1 in
-      subst (λ r. Begun takes command old new Closed Closed (Some r)) (sym un.0) (record {
-        opening = steps ++ Restarted a b ∷ [];
-        own = [];
+  -- by one that was opened first
+  pub begins_opened : (old mid new : Option Told) (steps : List Event) (c : Control) (to : Session) (reply : Option Reply) → Leaves to reply → mid ≡ with_steps old steps
+      → IfSome old (λ t. OpenSteps t.trace steps × HasOpened t.trace steps (2 ^ 32) c) → IfSome old (λ t. AsRead t.trace) → Works mid c → limit_of c.journal ≡ 2 ^ 32 → OwnTold takes mid new command c to reply → Begins takes command old new Closed to reply
+  begins_opened old mid new steps c to reply leaves is opens there works limit own =
+      record {
+        opening = steps;
+        own = own.0;
         planned = false;
-        planned_by = none_planned takes command (Some replies.Stopped) no_drill;
-        told = un.1.2 ∙ ap (λ o. with_steps o (Restarted a b ∷ [])) is ∙ steps_twice old steps (Restarted a b ∷ []) ∙ ap (λ l. with_steps old l) (sym (append-nil (steps ++ Restarted a b ∷ [])));
-        done = map_three old (λ t o read now sound. stopped_done takes t.trace steps o.0 read sound command no_drill a b now) opens there (carried old mid steps is (λ l. ArePossible l a b) un.1.3);
+        planned_by = none_planned reply;
+        told = own.1 ∙ ap (λ o. with_steps o own.0) is ∙ steps_twice old steps own.0;
+        is_piece = map_three old (λ t o read both.
+            let it = both.1 t.trace Closed steps refl (is_opened t.trace steps c o.0 o.1 both.0 limit read) in
+            record {
+              readable = read;
+              finds = found t.trace Closed to steps own.0 reply (o.0.no_command, opened o.1.no_miss o.0.no_restart o.1.journal);
+              leaves = leaves.0;
+              shuts = λ none. leaves.1;
+              leads = λ none. it.leads;
+              done = it.done;
+            }) opens there
+            (carried old mid steps is (λ l. Stands the_texts l c.journal c.lab × DoesOwn takes l command c own.0 to reply) (map_both mid (λ t stands does. (stands, does)) works.stands own.2));
+      }
+
+  -- and where it could not be opened
+  module _ (told new : Option Told) (mid : Option Told) (steps : List Event) (is : mid ≡ with_steps told steps) (there : IfSome told (λ t. AsRead t.trace)) where
+    abbrev pub begins_cut : (reply : Option Reply) → leaves_one Closed reply ≡ false → new ≡ mid → IfSome mid (λ t. AsRead t.trace) → IfSome told (λ t. OpenSteps t.trace steps × Breaks steps reply) → Begins takes command told new Closed Closed reply
+    begins_cut reply other same then opens = record {
+      opening = steps;
+      own = [];
+      planned = false;
+      planned_by = none_planned reply;
+      told = same ∙ is ∙ ap (λ l. with_steps told l) (sym (append-nil steps));
+      is_piece = map_three told (λ t o read now. record {
+        readable = read;
+        finds = found t.trace Closed Closed steps [] reply (o.0.no_command, broken_off o.1 refl refl);
+        leaves = λ shut. refl;
+        shuts = λ none shut. cut_shuts steps reply o.1;
+        leads = λ none open_now. absurd (cc open_now);
+        done = λ sound. cut_done takes t.trace steps o.0 read sound command no_drill now reply other o.1;
+      }) opens there (carried told mid steps is AsRead then);
+    }
+
+    pub begins_again : (a b : List ℕ) → new ≡ with_steps mid (Restarted a b ∷ []) → IfSome mid (λ t. ArePossible t.trace a b) → IfSome told (λ t. OpenSteps t.trace steps) → Begins takes command told new Closed Closed (Some replies.Stopped)
+    begins_again a b again possible opens = record {
+      opening = steps ++ Restarted a b ∷ [];
+      own = [];
+      planned = false;
+      planned_by = none_planned (Some replies.Stopped);
+      told = again ∙ ap (λ o. with_steps o (Restarted a b ∷ [])) is ∙ steps_twice told steps (Restarted a b ∷ []) ∙ ap (λ l. with_steps told l) (sym (append-nil (steps ++ Restarted a b ∷ [])));
+      is_piece = map_three told (λ t o read now. record {
+        finds = found t.trace Closed Closed (steps ++ Restarted a b ∷ []) [] (Some replies.Stopped) (again_quiet steps a b o.no_command, broken_off (again_breaks steps a b o.no_restart) refl refl);
+        readable = read;
+        leaves = λ shut. refl;
+        shuts = λ none shut. refl;
+        leads = λ none open_now. absurd (cc open_now);
+        done = λ sound. stopped_done takes t.trace steps o read sound command no_drill a b now;
+      }) opens there (carried told mid steps is (λ l. ArePossible l a b) possible);
+    }
+
+-- WHERE THE CONTROLLER COULD NOT BE OPENED, from a moment at which it is closed
+module _ (takes : Bool) (command : Command) (no_drill : drill_of command ≡ None) (plant : Seen) (new : Moment) (mid : Option Told) (steps : List Event) (is : mid ≡ with_steps plant.told steps)
+    (there : IfSome plant.told (λ t. AsRead t.trace)) (then : IfSome mid (λ t. AsRead t.trace)) (later : Later plant.faults new.plant.faults) (goes_on : MayGoOn new) (closed : new.controller ≡ None) where
+  abbrev old : Moment
+  old = record { plant = plant; controller = None }
+
+  abbrev made : (reply : Option Reply) → Begins takes command plant.told new.plant.told Closed Closed reply → (closes_if reply ≡ true → Rose plant.faults.disk new.plant.faults.disk) → blames_if reply ≡ false → (is_some reply ≡ true → new.plant.stopped ≡ false) → Made takes command old new Closed reply
+  made reply begun disk blameless runs = record { begun = begun; later = later; disk = disk; device = λ blamed. absurd (cc (blameless, blamed)); runs = λ some was. runs some; goes_on = goes_on }
+
+  abbrev silent_end : new.plant.told ≡ mid → IfSome plant.told (λ t. OpenSteps t.trace steps) → Made takes command old new Closed None
+  silent_end same opens = made None (begins_cut takes command no_drill plant.told new.plant.told mid steps is there None refl same then (map_some plant.told (λ t o. (o, unanswered refl)) opens)) (λ shut. absurd (cc shut)) refl (λ some. absurd (cc some))
+
+  in_reply : (reply : Reply) → Made takes command old new Closed (Some reply) → Ends takes command old new (Ok reply)
+  in_reply reply it = subst (λ (k : Option Control). Made takes command old new (session_of k) (Some reply)) (sym closed) it
+
+  pub ends_unopened : (fault : OpenFault) (result : Result Reply CommandFault) → Unopened fault mid new.plant.told result → IfSome plant.told (λ t. OpenSteps t.trace steps × OpenEnds t.trace steps (2 ^ 32) (Err fault))
+      → (fault ≡ openings.Plant → Rose plant.faults.disk new.plant.faults.disk) → (is_some (reply_if result) ≡ true → new.plant.stopped ≡ false) → ((side : Side) (at : ℕ) → result ≡ Err (command_faults.JournalBad side at) → new.plant.stopped ≡ false)
+      → Ends takes command old new result
+  ends_unopened openings.Plant result un opens missed runs bad =
+      subst (λ r. Ends takes command old new r) (sym un.0)
+      (in_reply replies.Down (made (Some replies.Down) (begins_cut takes command no_drill plant.told new.plant.told mid steps is there (Some replies.Down) refl un.1 then (map_some plant.told (λ t o. (o.0, failed o.0.no_restart o.1 refl)) opens))
+      (λ shut. missed refl) refl (λ some. runs (ap (λ r. is_some (reply_if r)) un.0))))
+  ends_unopened openings.Stopped (Ok reply) un opens missed runs bad =
+      subst (λ r. Ends takes command old new (Ok r)) (sym un.0)
+      (in_reply replies.Stopped (made (Some replies.Stopped) (begins_again takes command no_drill plant.told new.plant.told mid steps is there un.1.0 un.1.1 un.1.2 un.1.3 (map_some plant.told (λ t o. o.0) opens))
+      (λ shut. absurd (cc shut)) refl (λ some. runs refl)))
+  ends_unopened openings.Stopped (Err fault) un opens missed runs bad = subst (λ f. Ends takes command old new (Err f)) (sym un.0) (silent_end un.1 (map_some plant.told (λ t o. o.0) opens))
+  ends_unopened (openings.Bad side at) result un opens missed runs bad =
+      subst (λ r. Ends takes command old new r) (sym un.0) (record {
+        made = silent_end un.1 (map_some plant.told (λ t o. o.0) opens);
+        finds = map_some plant.told (λ t o. record {
+          no_drill = no_drill;
+          closed = refl;
+          no_journal = o.1.no_journal;
+          synced = o.1.synced;
+          nothing = refl;
+          no_reply = refl;
+          as_before = λ s. subst (λ l. (disk s (t.trace ++ l)).reads ≡ (disk s t.trace).reads) (sym (append-nil steps)) (o.1.as_before s);
+        }) opens;
+        runs = bad side at un.0;
       })
-  begun_unopened openings.Stopped (Err fault) un opens = cut_silent un.1 openings.Stopped opens
-  begun_unopened (openings.Bad side at) result un opens = subst (λ r. Begun takes command old new Closed (session_after r None) (reply_if r)) (sym un.0) (cut_silent un.1 (openings.Bad side at) opens)
-  begun_unopened openings.Memory result un opens = subst (λ r. Begun takes command old new Closed (session_after r None) (reply_if r)) (sym un.0) (cut_silent un.1 openings.Memory opens)
+  ends_unopened openings.Memory result un opens missed runs bad = subst (λ r. Ends takes command old new r) (sym un.0) (silent_end un.1 (map_some plant.told (λ t o. o.0) opens))
 
--- WHY: a reply that closes, and sides that are no journal
-pub closes_unopened : (fault : OpenFault) (mid new : Option Told) (result : Result Reply CommandFault) → Unopened fault mid new result → closes_if (reply_if result) ≡ true → fault ≡ openings.Plant
-closes_unopened openings.Plant mid new result un is = refl
-closes_unopened openings.Stopped mid new (Ok reply) un is = absurd (cc (ap closes un.0, is))
-closes_unopened openings.Stopped mid new (Err fault) un is = absurd (cc is)
-closes_unopened (openings.Bad side at) mid new result un is = absurd (cc (ap (λ r. closes_if (reply_if r)) un.0, is))
-closes_unopened openings.Memory mid new result un is = absurd (cc (ap (λ r. closes_if (reply_if r)) un.0, is))
-
-pub blames_unopened : (fault : OpenFault) (mid new : Option Told) (result : Result Reply CommandFault) → Unopened fault mid new result → blames_if (reply_if result) ≡ false
-blames_unopened openings.Plant mid new result un = ap (λ r. blames_if (reply_if r)) un.0
-blames_unopened openings.Stopped mid new (Ok reply) un = ap blames_device un.0
-blames_unopened openings.Stopped mid new (Err fault) un = refl
-blames_unopened (openings.Bad side at) mid new result un = ap (λ r. blames_if (reply_if r)) un.0
-blames_unopened openings.Memory mid new result un = ap (λ r. blames_if (reply_if r)) un.0
-
-pub bad_unopened : (fault : OpenFault) (mid new : Option Told) (result : Result Reply CommandFault) (side : Side) (at : ℕ) → Unopened fault mid new result → result ≡ Err (command_faults.JournalBad side at) → (fault ≡ openings.Bad side at) × (new ≡ mid)
-bad_unopened openings.Plant mid new result side at un is = absurd (cc (un.0, is))
-bad_unopened openings.Stopped mid new (Ok reply) side at un is = absurd (cc is)
-bad_unopened openings.Stopped mid new (Err fault) side at un is = absurd (cc (un.0, is))
-bad_unopened (openings.Bad s n) mid new result side at un is = (cc (un.0, is), un.1)
-bad_unopened openings.Memory mid new result side at un is = absurd (cc (un.0, is))
-
-pub written_not : (fault : OpenFault) (mid new : Option Told) (result : Result Reply CommandFault) → Unopened fault mid new result → result ≡ Err command_faults.WriteFault → ⊥
-written_not openings.Plant mid new result un is = absurd (cc (un.0, is))
-written_not openings.Stopped mid new (Ok reply) un is = absurd (cc is)
-written_not openings.Stopped mid new (Err fault) un is = absurd (cc (un.0, is))
-written_not (openings.Bad s n) mid new result un is = absurd (cc (un.0, is))
-written_not openings.Memory mid new result un is = absurd (cc (un.0, is))
+-- WHATEVER WAS BEGUN, with the counts of faults and what is kept
+pub ends_of : (takes : Bool) (command : Command) (old new : Moment) (result : Result Reply CommandFault) → Begins takes command old.plant.told new.plant.told (session_of old.controller) (session_after result new.controller) (reply_if result)
+    → Later old.plant.faults new.plant.faults → (closes_if (reply_if result) ≡ true → Rose old.plant.faults.disk new.plant.faults.disk) → (blames_if (reply_if result) ≡ true → Rose old.plant.faults.devices new.plant.faults.devices)
+    → (is_some (reply_if result) ≡ true → old.plant.stopped ≡ false → new.plant.stopped ≡ false) → OnErr result (result ≡ Err command_faults.Memory) → MayGoOn new → Ends takes command old new result
+ends_of takes command old new (Ok reply) begun later disk device runs memory goes_on = record { begun = begun; later = later; disk = disk; device = device; runs = runs; goes_on = goes_on }
+ends_of takes command old new (Err fault) begun later disk device runs memory goes_on =
+    subst (λ r. Ends takes command old new r) (sym memory) (record { begun = begun; later = later; disk = disk; device = device; runs = runs; goes_on = goes_on })
 
 -- a count that rose since a later moment rose since an earlier one
 pub rose_since : (a b now : ℕ) → a ≤ b → Rose b now → Rose a now
 rose_since a b now within rose = omega (arith, within, rose)
 
-pub runs_if : (result : Result Reply CommandFault) (stopped : Bool) → OnOk result (stopped ≡ false) → is_some (reply_if result) ≡ true → stopped ≡ false
-runs_if (Ok reply) stopped runs some = runs
-runs_if (Err fault) stopped runs some = absurd (cc some)
-
-pub open_opened : (old mid : Option Told) (steps : List Event) (c : Seen) → mid ≡ with_steps old steps → IfSome old (λ t. OpenSteps t.trace steps × OpenEnds t.trace steps (Ok c)) → IfSome mid (λ t. Stands t.trace c) → limit_of c.journal ≡ 2 ^ 32 → IfSome mid (λ t. IsOpen t.trace c)
-open_opened old mid steps c is opens stands limit =
-    carried_on old mid steps is (λ l. IsOpen l c)
-    (map_both old (λ t o here. record { stands = here; works = λ sound. (o.1.0.2 (sound_before the_texts t.trace steps sound), limit) }) opens (carried old mid steps is (λ l. Stands l c) stands))
-
--- whatever was begun, with the counts of faults and what is kept
-pub made_so : (takes : Bool) (command : Command) (old new : Moment) (to : Session) (reply : Option Reply) → Begun takes command old.told new.told (session_of old.controller) to reply → Later old.faults new.faults
-    → (closes_if reply ≡ true → Rose old.faults.disk new.faults.disk) → (blames_if reply ≡ true → Rose old.faults.devices new.faults.devices) → (is_some reply ≡ true → new.stopped ≡ false) → MayGoOn new → Made takes command old new to reply
-made_so takes command old new to reply begun later disk device runs goes_on = record { begun = begun; later = later; disk = disk; device = device; runs = λ some was. runs some; goes_on = goes_on }
+pub runs_if : (result : Result Reply CommandFault) (halts : Bool) → OnOk result (halts ≡ false) → is_some (reply_if result) ≡ true → halts ≡ false
+runs_if (Ok reply) halts runs some = runs
+runs_if (Err fault) halts runs some = absurd (cc some)
 
 pub later_same : (a b now : Faults) → a.disk ≤ b.disk → b.devices ≡ a.devices → now ≡ b → Later a now
 later_same a b now disk devices same = record {

@@ -4,78 +4,77 @@ use Rattle.std.specs.Io.KnownBytes.{append_known}
 use Rattle.plant.specs.Calls.{Rose}
 use Rattle.plant.specs.Disks.{disk, ArePossible}
 use Rattle.plant.specs.Events.{Event, Restarted}
+use Rattle.plant.specs.Seen.{Seen}
 use Rattle.plant.specs.Told.{Told, with_steps, with_mark, with_drill}
 use Rattle.plant.specs.declared.drill.Drill.{Drill}
-use Rattle.plant.specs.declared.moment.Faults.{Faults}
+use Rattle.plant.specs.declared.step.Side.{Side}
 use Rattle.plant.specs.declared.step.Side.TheVariants.{A, B}
+use Rattle.records_model.specs.Labs.{LabState}
 use Rattle.records_model.specs.Works.{IsSound}
 use Rattle.journal_disk.specs.Standing.{limit_of}
 use Rattle.journal_disk.specs.declared.fault.OpenFault.{OpenFault}
 use Rattle.journal_disk.specs.declared.fault.OpenFault.TheVariants as openings
 use Rattle.journal_runs.specs.Pieces.{has_restart}
 use Rattle.lab_state.specs.Texts.{the_texts}
+use Rattle.swap_turns.specs.Running.{Stands}
 use Rattle.script_text.specs.declared.command.Command.{Command}
 use Rattle.script_text.specs.declared.reply.Reply.{Reply}
 use Rattle.script_text.specs.declared.reply.Reply.TheVariants.{Down, NoDrill, Planned, Stopped}
 use Rattle.script_text.specs.Drills.{drill_of}
 use Rattle.script_text.specs.Replies.{text_of}
-use Rattle.lab_core.specs.LabSteps.{LabStep, Obeys}
-use Rattle.lab_core.specs.Moments.{Seen, Stands, Works, IsLabAt}
-use Rattle.lab_core.specs.Sessions.{Session, Closed, Open, Setting, After}
+use Rattle.lab_core.specs.Controller.{Control, Works}
+use Rattle.lab_core.specs.Judge.{Judged}
+use Rattle.lab_core.specs.LabSteps.{LabStep, IsDoneBy}
+use Rattle.lab_core.specs.Moments.{IsLabAt}
+use Rattle.lab_core.specs.Sessions.{Session, Closed, open_alone, Setting, After}
 use Rattle.lab_top.specs.declared.command.CommandFault.{CommandFault}
 use Rattle.lab_top.specs.declared.command.CommandFault.TheVariants.{Memory, WriteFault, JournalBad}
-use Rattle.lab_top.specs.CommandTurns.{IsPlannedBy, IsTurn, Later, blames_if, closes_if, with_drill_if}
+use Rattle.lab_top.specs.Pieces.{Piece, FindsNone, IsDone, IsPiece, IsPlannedBy, Leads, Later, blames_if, closes_if, is_closed, with_drill_if}
 
 -- what is seen of the plant between two commands, and the controller where it is open
 pub record Moment : Type 0 where
-  pub told : Option Told
-  pub faults : Faults
-  pub stopped : Bool
-  pub controller : Option Seen
+  pub plant : Seen
+  pub controller : Option Control
 
-abbrev pub session_of : Option Seen → Session
+abbrev pub session_of : Option Control → Session
 session_of None = Closed
-session_of (Some c) = Open
+session_of (Some c) = open_alone
 
--- a controller that is open over the trace: over a sound one it is at work
-pub record IsOpen (trace : List Event) (c : Seen) : Type 0 where
-  pub stands : Stands trace c
-  pub works : IsSound the_texts trace → Works trace c × (limit_of c.journal ≡ 2 ^ 32)
+-- a controller that is open works, for a journal of this limit
+pub record IsOpen (told : Option Told) (c : Control) : Type 0 where
+  pub works : Works told c
+  pub limit : IfSome told (λ t. limit_of c.journal ≡ 2 ^ 32)
 
--- where the plant tells its past, an open controller stands over it; and the plant is not stopped then
+-- so does the one of a moment, and the plant is not stopped then
 pub record MayGoOn (now : Moment) : Type 0 where
-  pub controller : IfSome now.told (λ t. IfSome now.controller (λ c. IsOpen t.trace c))
-  pub runs : is_some now.controller ≡ true → now.stopped ≡ false
+  pub controller : IfSome now.controller (IsOpen now.plant.told)
+  pub runs : is_some now.controller ≡ true → now.plant.stopped ≡ false
 
--- A COMMAND WAS DONE over the trace, by the steps of its opening and its own: they are a turn, whatever was planned, and the trace stays sound
-pub record IsDone (takes : Bool) (trace : List Event) (command : Command) (from to : Session) (opening own : List Event) (reply : Option Reply) : Type 0 where
-  pub turn : (faults later : Faults) (planned : Bool) → IsTurn takes trace (record {
-    command = command;
-    faults = faults;
-    later = later;
-    from = from;
-    to = to;
-    opening = opening;
-    own = own;
-    planned = planned;
-    reply = reply;
-  })
-  pub sound : IsSound the_texts (trace ++ (opening ++ own))
+-- the piece of a command
+abbrev pub piece_of : Command → Session → Session → List Event → List Event → Option Reply → Piece
+piece_of command from to opening own reply = record { command = command; from = from; to = to; opening = opening; own = own; reply = reply }
 
--- a controller that was opened by these steps over the trace, or was open before, and is at work behind them
-pub record WasOpened (trace : List Event) (from : Session) (opening : List Event) (c : Seen) : Type 0 where
-  pub possible : ArePossible trace (disk A trace).reads (disk B trace).reads
-  pub first : IsLabAt trace c.lab
+-- a controller that was opened by these steps over the trace, or was open before, and stands behind them for the lab to which they led
+pub record WasOpened (trace : List Event) (from : Session) (opening : List Event) (c : Control) : Type 0 where
+  pub start : LabState
+  pub readable : ArePossible trace (disk A trace).reads (disk B trace).reads
+  pub first : IsLabAt trace start
   pub no_restart : has_restart opening ≡ false
-  pub works : Works (trace ++ opening) c
+  pub stands : Stands the_texts (trace ++ opening) c.journal c.lab
+  pub sound : IsSound the_texts trace → IsSound the_texts (trace ++ opening)
   pub limit : limit_of c.journal ≡ 2 ^ 32
-  pub step : (takes : Bool) (set : Setting) (command : Command) (own : List Event) (after : After) → drill_of command ≡ None → Obeys set c.lab command own after → LabStep takes set c.lab from command opening own after
+  pub step : (takes : Bool) (set : Setting) (command : Command) (own : List Event) (after : After) → drill_of command ≡ None → IsDoneBy (Judged c.lab command) set c.lab [] own after
+      → LabStep takes set start from command opening own after
 
--- what an open controller does of a command is done, however it was opened
-abbrev pub DoesOwn : Bool → List Event → Command → Seen → List Event → Session → Option Reply → Type 0
-DoesOwn takes trace command c own to reply = (before : List Event) (from : Session) (opening : List Event) → trace ≡ before ++ opening → WasOpened before from opening c → IsDone takes before command from to opening own reply
+-- what an open controller does of a command, however it was opened
+pub record Does (takes : Bool) (trace : List Event) (piece : Piece) : Type 0 where
+  pub leads : is_closed piece.to ≡ false → Leads takes trace piece
+  pub done : IsSound the_texts trace → IsDone takes trace piece
 
-abbrev pub OwnTold : Bool → Option Told → Option Told → Command → Seen → Session → Option Reply → Type 0
+abbrev pub DoesOwn : Bool → List Event → Command → Control → List Event → Session → Option Reply → Type 0
+DoesOwn takes trace command c own to reply = (before : List Event) (from : Session) (opening : List Event) → trace ≡ before ++ opening → WasOpened before from opening c → Does takes before (piece_of command from to opening own reply)
+
+abbrev pub OwnTold : Bool → Option Told → Option Told → Command → Control → Session → Option Reply → Type 0
 OwnTold takes old new command c to reply = (own : List Event) × (new ≡ with_steps old own) × IfSome old (λ t. DoesOwn takes t.trace command c own to reply)
 
 abbrev pub reply_if : Result Reply CommandFault → Option Reply
@@ -83,7 +82,7 @@ reply_if (Ok reply) = Some reply
 reply_if (Err fault) = None
 
 -- where there is no reply, the session is closed
-abbrev pub session_after : Result Reply CommandFault → Option Seen → Session
+abbrev pub session_after : Result Reply CommandFault → Option Control → Session
 session_after (Ok reply) controller = session_of controller
 session_after (Err fault) controller = Closed
 
@@ -104,22 +103,35 @@ Unopened openings.Stopped old new result = Starts old new result
 Unopened (openings.Bad side at) old new result = (result ≡ Err (JournalBad side at)) × (new ≡ old)
 Unopened openings.Memory old new result = (result ≡ Err Memory) × (new ≡ old)
 
--- A COMMAND WAS BEGUN, with a reply or none, by some steps, and perhaps a drill that was planned: over a sound trace it was done
-pub record Begun (takes : Bool) (command : Command) (old new : Option Told) (from to : Session) (reply : Option Reply) : Type 0 where
+-- A COMMAND WAS BEGUN, by some steps, and perhaps a drill that was planned; it has a reply or none
+pub record Begins (takes : Bool) (command : Command) (old new : Option Told) (from to : Session) (reply : Option Reply) : Type 0 where
   pub opening : List Event
   pub own : List Event
   pub planned : Bool
   pub told : new ≡ with_drill_if (with_steps old (opening ++ own)) (if planned then drill_of command else None)
   pub planned_by : IsPlannedBy takes (drill_of command) planned reply
-  pub done : IfSome old (λ t. IsSound the_texts t.trace → IsDone takes t.trace command from to opening own reply)
+  pub is_piece : IfSome old (λ t. IsPiece takes t.trace (piece_of command from to opening own reply))
 
 pub record Made (takes : Bool) (command : Command) (old new : Moment) (to : Session) (reply : Option Reply) : Type 0 where
-  pub begun : Begun takes command old.told new.told (session_of old.controller) to reply
-  pub later : Later old.faults new.faults
-  pub disk : closes_if reply ≡ true → Rose old.faults.disk new.faults.disk
-  pub device : blames_if reply ≡ true → Rose old.faults.devices new.faults.devices
-  pub runs : is_some reply ≡ true → old.stopped ≡ false → new.stopped ≡ false
+  pub begun : Begins takes command old.plant.told new.plant.told (session_of old.controller) to reply
+  pub later : Later old.plant.faults new.plant.faults
+  pub disk : closes_if reply ≡ true → Rose old.plant.faults.disk new.plant.faults.disk
+  pub device : blames_if reply ≡ true → Rose old.plant.faults.devices new.plant.faults.devices
+  pub runs : is_some reply ≡ true → old.plant.stopped ≡ false → new.plant.stopped ≡ false
   pub goes_on : MayGoOn new
+
+-- the sides are no journal, and the plant is not stopped
+pub record FoundNone (takes : Bool) (command : Command) (old new : Moment) (side : Side) (at : ℕ) : Type 0 where
+  pub made : Made takes command old new Closed None
+  pub finds : IfSome old.plant.told (λ t. FindsNone t.trace (piece_of command (session_of old.controller) Closed made.begun.opening made.begun.own None) side at)
+  pub runs : new.plant.stopped ≡ false
+
+-- A COMMAND WAS OBEYED, or its drill planned: it was begun; and where the sides are no journal it found them so
+abbrev pub Ends : Bool → Command → (old new : Moment) → Result Reply CommandFault → Type 0
+Ends takes command old new (Ok reply) = Made takes command old new (session_of new.controller) (Some reply)
+Ends takes command old new (Err Memory) = Made takes command old new Closed None
+Ends takes command old new (Err WriteFault) = ⊥
+Ends takes command old new (Err (JournalBad side at)) = FoundNone takes command old new side at
 
 -- a reply's text is written, or a proper prefix of it; or memory is wanting, and nothing is
 abbrev pub Sent : Option (List ℕ) → Option (List ℕ) → List ℕ → Result (Unit {0}) CommandFault → Type 0
@@ -128,15 +140,9 @@ Sent before now text (Err WriteFault) = (n : ℕ) × (n < length text) × (now �
 Sent before now text (Err Memory) = now ≡ before
 Sent before now text (Err (JournalBad side at)) = ⊥
 
--- nothing was done to the plant
-pub record Same (old new : Moment) : Type 0 where
-  pub told : new.told ≡ old.told
-  pub faults : new.faults ≡ old.faults
-  pub stopped : new.stopped ≡ old.stopped
-
 -- the moment is marked
 abbrev pub marked : Moment → Moment
-marked old = record old { told = with_mark old.told old.faults }
+marked old = record old { plant = record (old.plant) { told = with_mark old.plant.told old.plant.faults } }
 
 -- A COMMAND WAS ANSWERED: it was begun behind a mark, and what was written grew by its reply, or by a proper prefix of it. At want of memory it has no
 -- reply, or wasn't even begun; where the sides are no journal it has none.
@@ -144,5 +150,5 @@ abbrev pub Answered : Bool → Command → Moment → Moment → Option (List �
 Answered takes command old new before now (Ok done) = (reply : Reply) × Made takes command (marked old) new (session_of new.controller) (Some reply) × (now ≡ append_known before (text_of reply))
 Answered takes command old new before now (Err WriteFault) =
     (reply : Reply) × Made takes command (marked old) new (session_of new.controller) (Some reply) × (n : ℕ) × (n < length (text_of reply)) × (now ≡ append_known before (take n (text_of reply)))
-Answered takes command old new before now (Err Memory) = (Same old new ⊎ Made takes command (marked old) new Closed None) × (now ≡ before)
-Answered takes command old new before now (Err (JournalBad side at)) = Made takes command (marked old) new Closed None × (new.stopped ≡ false) × (now ≡ before)
+Answered takes command old new before now (Err Memory) = ((new.plant ≡ old.plant) ⊎ Made takes command (marked old) new Closed None) × (now ≡ before)
+Answered takes command old new before now (Err (JournalBad side at)) = FoundNone takes command (marked old) new side at × (now ≡ before)

@@ -1,12 +1,13 @@
 -- THE RUN OF THE PROGRAM: what it says of the bytes that it read, the bytes that it wrote and the plant's past.
-use Rattle.std.specs.Prelude.{◌≡◌, ◌⊎◌, ℕ, ◌+◌, ◌<◌, Bool, true, false, is_some, List, [], ◌∷◌, ◌++◌, length, take, Option, Some, None, IfSome}
+use Rattle.std.specs.Prelude.{◌≡◌, ◌⊎◌, ◌↔◌, ℕ, ◌+◌, ◌<◌, Bool, true, false, is_some, List, [], ◌∷◌, ◌++◌, length, take, Option, Some, None, IfSome}
 use Rattle.std.specs.List.{list_all}
 use Rattle.std.specs.Io.KnownBytes.{append_known}
 use Rattle.lab_io.specs.Feeds.{NoFeed}
 use Rattle.lab_io.specs.Lines.{script_lines}
 use Rattle.lab_io.specs.Passed.{IsWhole}
-use Rattle.plant.specs.Told.{Told}
-use Rattle.plant.specs.declared.moment.Faults.{Faults}
+use Rattle.plant.specs.Events.{Event}
+use Rattle.plant.specs.Seen.{Seen}
+use Rattle.plant.specs.declared.step.Side.{Side}
 use Rattle.records_model.specs.Works.{IsSound}
 use Rattle.lab_state.specs.Texts.{the_texts}
 use Rattle.script_text.specs.declared.command.Command.{Command}
@@ -14,14 +15,13 @@ use Rattle.script_text.specs.Commands.{Lines, Got, next_of, AtEnd, BadLine, IsSc
 use Rattle.lab_top.specs.declared.status.Status.{Status}
 use Rattle.lab_top.specs.declared.status.Status.TheVariants.{Done, ReadFault, WriteFault, Usage, BadScript, Memory, JournalBad}
 use Rattle.lab_core.specs.Sessions.{Closed}
-use Rattle.lab_top.specs.CommandTurns.{CommandTurn, AreTurns, Counts, commands_of, with_turns, reply_text, reply_texts}
+use Rattle.lab_top.specs.Pieces.{Begun, ArePieces, Counts, FindsNone, commands_of, trace_after, with_pieces, reply_text, reply_texts}
+use Rattle.lab_top.specs.Words.{Choices}
 
--- what is seen of the outside: what the source has left, what the plant tells, its counts of faults, whether it is stopped, and what was written
+-- the outside: what the source has left, what is seen of the plant, and what was written
 pub record Outside : Type 0 where
   pub left : Option (List ℕ)
-  pub told : Option Told
-  pub faults : Faults
-  pub stopped : Bool
+  pub plant : Seen
   pub written : Option (List ℕ)
 
 -- these are the first commands behind line `number`
@@ -49,41 +49,58 @@ BegunCommands bytes left begun (JournalBad side at) = AreFirst 0 (script_lines b
 BegunCommands bytes left begun Usage = (begun ≡ []) × (left ≡ Some bytes)
 
 -- all that were begun are answered; at want of memory the last one may not be, and where the sides are no journal it is not
-abbrev pub AreAnswered : List CommandTurn → Type 0
-AreAnswered turns = list_all (λ turn. is_some turn.reply) turns ≡ true
+abbrev pub AreAnswered : List Begun → Type 0
+AreAnswered made = list_all (λ b. is_some b.piece.reply) made ≡ true
 
-pub record LastIsNot (turns : List CommandTurn) : Type 0 where
-  pub before : List CommandTurn
-  pub turn : CommandTurn
-  pub turns_are : turns ≡ before ++ turn ∷ []
+pub record LastIsNot (made : List Begun) : Type 0 where
+  pub before : List Begun
+  pub last : Begun
+  pub made_are : made ≡ before ++ last ∷ []
   pub answered : AreAnswered before
-  pub waits : turn.reply ≡ None
+  pub waits : last.piece.reply ≡ None
 
-abbrev pub Answered : Status → List CommandTurn → Type 0
-Answered Memory turns = AreAnswered turns ⊎ LastIsNot turns
-Answered (JournalBad side at) turns = LastIsNot turns
-Answered status turns = AreAnswered turns
+abbrev pub Answered : Status → List Begun → Type 0
+Answered Memory made = AreAnswered made ⊎ LastIsNot made
+Answered (JournalBad side at) made = LastIsNot made
+Answered status made = AreAnswered made
+
+-- where the sides are no journal, the last command found them so
+pub record LastFindsNone (trace : List Event) (made : List Begun) (side : Side) (at : ℕ) : Type 0 where
+  pub before : List Begun
+  pub last : Begun
+  pub made_are : made ≡ before ++ last ∷ []
+  pub answered : AreAnswered before
+  pub finds : FindsNone (trace_after trace before) last.piece side at
+
+abbrev pub EndsSo : List Event → List Begun → Status → Type 0
+EndsSo trace made (JournalBad side at) = LastFindsNone trace made side at
+EndsSo trace made status = Unit {0}
 
 -- all replies, or, after a write that failed, the last one cut to a proper prefix
-abbrev pub WroteReplies : Option (List ℕ) → Option (List ℕ) → List CommandTurn → Status → Type 0
-WroteReplies old new turns WriteFault = (before : List CommandTurn) × (turn : CommandTurn) × (n : ℕ) × (turns ≡ before ++ turn ∷ []) × (n < length (reply_text turn)) × (new ≡ append_known old (reply_texts before ++ take n (reply_text turn)))
-WroteReplies old new turns status = new ≡ append_known old (reply_texts turns)
+abbrev pub WroteReplies : Option (List ℕ) → Option (List ℕ) → List Begun → Status → Type 0
+WroteReplies old new made WriteFault = (before : List Begun) × (last : Begun) × (n : ℕ) × (made ≡ before ++ last ∷ []) × (n < length (reply_text last)) × (new ≡ append_known old (reply_texts before ++ take n (reply_text last)))
+WroteReplies old new made status = new ≡ append_known old (reply_texts made)
 
 -- whether the plant is stopped: only at want of memory
 abbrev pub GoesOn : Status → Bool → Type 0
 GoesOn Memory stopped = Unit {0}
 GoesOn status stopped = stopped ≡ false
 
--- A RUN, by the turns that it made, over a plant that takes drills or not
-pub record Ran (takes : Bool) (old new : Outside) (status : Status) (made : List CommandTurn) : Type 0 where
+-- A RUN of the program by what its words choose, and by the commands that it began, over a plant that takes drills or not
+pub record Ran (takes : Bool) (choices : Option Choices) (old new : Outside) (status : Status) (made : List Begun) : Type 0 where
+  -- words that say nothing are refused, and nothing is done
+  pub usage : (status ≡ Usage) ↔ (choices ≡ None)
   -- the marks are the moments just before the commands that were begun, behind each mark stand the steps of its command, and the drills are those that were planned
-  pub told : new.told ≡ with_turns old.told made
-  pub counts : Counts takes old.faults made new.faults
-  pub goes_on : old.stopped ≡ false → GoesOn status new.stopped
-  -- over a trace that is sound at the entry each command is a lab step, from the lab of the moment before it to that of the moment after it
-  pub turns : old.stopped ≡ false → IfSome old.told (λ t. IsSound the_texts t.trace → AreTurns takes t.trace Closed made)
-  -- and the trace is sound at the exit
-  pub sound : old.stopped ≡ false → IfSome old.told (λ t. IsSound the_texts t.trace → IfSome new.told (λ u. IsSound the_texts u.trace))
+  pub told : new.plant.told ≡ with_pieces old.plant.told made
+  pub counts : Counts takes old.plant.faults made new.plant.faults
+  pub goes_on : old.plant.stopped ≡ false → GoesOn status new.plant.stopped
+  -- over any trace each command finds the journal as its piece says, and is a lab step, from the lab of the moment before it to that of the moment after
+  -- it, where it leaves the session open; over one that is sound at the entry each is
+  pub pieces : IfSome old.plant.told (λ t. ArePieces takes t.trace Closed made)
+  -- JournalBad comes where the last command found the sides to be no journal, and left them so
+  pub ends : IfSome old.plant.told (λ t. EndsSo t.trace made status)
+  -- and a trace that is sound at the entry is sound at the exit
+  pub sound : IfSome old.plant.told (λ t. IsSound the_texts t.trace → IfSome new.plant.told (λ u. IsSound the_texts u.trace))
   pub answered : Answered status made
   -- the commands are those of the script
   pub begun : (bytes : List ℕ) → old.left ≡ Some bytes → BegunCommands bytes new.left (commands_of made) status

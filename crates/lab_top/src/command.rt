@@ -1,14 +1,12 @@
-ghost use Rattle.std.specs.Prelude.{◌≡◌, ◌↔◌, ◌≤◌, ◌^◌, ℕ, None, IfSome, IsErrOf, IsTrue, true, false, Err, OnOk, OnErr};
+ghost use Rattle.std.specs.Prelude.{◌≡◌, ◌↔◌, ◌≤◌, ℕ, None, IfSome, IsErrOf, IsTrue, true, false, Err, OnOk, OnErr};
 ghost use Rattle.lab_io.specs.Causes.{Rose};
-ghost use Rattle.plant.specs.Disks.{disk};
 ghost use Rattle.plant.specs.declared.step.Side.{Side as AnySide};
-ghost use Rattle.plant.specs.declared.step.Side.TheVariants.{A, B};
+ghost use Rattle.script_text.specs.Blocks.{HasBlocks};
 ghost use Rattle.script_text.specs.Drills.{drill_of};
 ghost use Rattle.script_text.specs.Replies.{text_of};
-ghost use Rattle.lab_core.specs.Blocks.{HasBlocks};
-ghost use Rattle.lab_core.specs.Moments.{IsNoJournal};
-ghost use Rattle.lab_top.specs.Answering.{Answered, IsOpen, Made, MayGoOn, OwnTold, Plans, Sent, Starts, Unopened, reply_if, session_after};
-ghost use Rattle.lab_top.specs.CommandTurns.{Later, blames_if, closes_if};
+ghost use Rattle.lab_core.specs.Sessions.{Closed};
+ghost use Rattle.lab_top.specs.Answering.{Answered, Ends, IsOpen, MayGoOn, OwnTold, Plans, Sent, Starts, Unopened, reply_if, session_after};
+ghost use Rattle.lab_top.specs.Pieces.{Later, blames_if, closes_if, is_closed, may_shut, stays_open};
 
 use lab_core::{Controller, CoreFault, OpenFault};
 use lab_io::{Sink, write_all};
@@ -32,11 +30,10 @@ pub(crate) enum CommandFault {
 
 /// Starts a stopped plant again, and tells that it stopped.
 fn start_again<P: Plant>(plant: &mut P) -> Result<Reply, CommandFault>
-    requires { IsTrue (P.is_stopped plant.old) }
-    ensures starts { Starts (P.told plant.old) (P.told plant.new) result }
-    ensures runs { OnOk result (P.is_stopped plant.new ≡ false) }
-    ensures faults { P.faults plant.new ≡ P.faults plant.old }
-    ensures drills { P.takes_drills plant.new ≡ P.takes_drills plant.old }
+    requires { IsTrue (P.seen plant.old).stopped }
+    ensures starts { Starts (P.seen plant.old).told (P.seen plant.new).told result }
+    ensures runs { OnOk result ((P.seen plant.new).stopped ≡ false) }
+    ensures faults { (P.seen plant.new).faults ≡ (P.seen plant.old).faults }
 {
     match plant.restart() {
         Ok(()) => Ok(Reply::Stopped),
@@ -46,12 +43,11 @@ fn start_again<P: Plant>(plant: &mut P) -> Result<Reply, CommandFault>
 
 /// The reply where the controller could not be opened.
 fn unopened<P: Plant>(fault: OpenFault, plant: &mut P) -> Result<Reply, CommandFault>
-    requires { fault ≡ OpenFault.Stopped ↔ IsTrue (P.is_stopped plant.old) }
-    ensures unopened { Unopened fault (P.told plant.old) (P.told plant.new) result }
-    ensures runs { OnOk result (P.is_stopped plant.new ≡ false) }
-    ensures bad { (side : AnySide) (at : ℕ) → result ≡ Err (CommandFault.JournalBad side at) → P.is_stopped plant.new ≡ false }
-    ensures faults { P.faults plant.new ≡ P.faults plant.old }
-    ensures drills { P.takes_drills plant.new ≡ P.takes_drills plant.old }
+    requires { fault ≡ OpenFault.Stopped ↔ IsTrue (P.seen plant.old).stopped }
+    ensures unopened { Unopened fault (P.seen plant.old).told (P.seen plant.new).told result }
+    ensures runs { OnOk result ((P.seen plant.new).stopped ≡ false) }
+    ensures bad { (side : AnySide) (at : ℕ) → result ≡ Err (CommandFault.JournalBad side at) → (P.seen plant.new).stopped ≡ false }
+    ensures faults { (P.seen plant.new).faults ≡ (P.seen plant.old).faults }
 {
     match fault {
         OpenFault::Plant => Ok(Reply::Down),
@@ -71,16 +67,17 @@ fn obey_open<P: Plant>(
     requires blocks { HasBlocks command.now }
     requires no_drill { drill_of command.now ≡ None }
     requires taken { controller.old ≡ None }
-    requires open { IfSome (P.told plant.old) (λ t. IsOpen t.trace opened) }
-    requires runs { P.is_stopped plant.old ≡ false }
-    ensures own { OwnTold (P.takes_drills plant.old) (P.told plant.old) (P.told plant.new) command.now opened (session_after result controller.new) (reply_if result) }
-    ensures goes_on { MayGoOn (record { told = P.told plant.new; faults = P.faults plant.new; stopped = P.is_stopped plant.new; controller = controller.new }) }
+    requires open { IsOpen (P.seen plant.old).told opened }
+    requires runs { (P.seen plant.old).stopped ≡ false }
+    ensures own { OwnTold P.takes_drills (P.seen plant.old).told (P.seen plant.new).told command.now opened (session_after result controller.new) (reply_if result) }
+    ensures shut { is_closed (session_after result controller.new) ≡ true → may_shut (reply_if result) ≡ true }
+    ensures closed { stays_open (reply_if result) ≡ false → session_after result controller.new ≡ Closed }
+    ensures goes_on { MayGoOn (record { plant = P.seen plant.new; controller = controller.new }) }
     ensures memory { OnErr result (result ≡ Err CommandFault.Memory) }
-    ensures runs { OnOk result (P.is_stopped plant.new ≡ false) }
-    ensures disk { closes_if (reply_if result) ≡ true → Rose (P.faults plant.old).disk (P.faults plant.new).disk }
-    ensures device { blames_if (reply_if result) ≡ true → Rose (P.faults plant.old).devices (P.faults plant.new).devices }
-    ensures later { Later (P.faults plant.old) (P.faults plant.new) }
-    ensures drills { P.takes_drills plant.new ≡ P.takes_drills plant.old }
+    ensures runs { OnOk result ((P.seen plant.new).stopped ≡ false) }
+    ensures disk { closes_if (reply_if result) ≡ true → Rose (P.seen plant.old).faults.disk (P.seen plant.new).faults.disk }
+    ensures device { blames_if (reply_if result) ≡ true → Rose (P.seen plant.old).faults.devices (P.seen plant.new).faults.devices }
+    ensures later { Later (P.seen plant.old).faults (P.seen plant.new).faults }
 {
     match opened.obey(command, plant) {
         Ok(reply) => {
@@ -103,15 +100,10 @@ fn obey<P: Plant>(
 ) -> Result<Reply, CommandFault>
     requires blocks { HasBlocks command.now }
     requires no_drill { drill_of command.now ≡ None }
-    requires goes_on { MayGoOn (record { told = P.told plant.old; faults = P.faults plant.old; stopped = P.is_stopped plant.old; controller = controller.old }) }
-    ensures made { Made (P.takes_drills plant.old) command.now
-        (record { told = P.told plant.old; faults = P.faults plant.old; stopped = P.is_stopped plant.old; controller = controller.old })
-        (record { told = P.told plant.new; faults = P.faults plant.new; stopped = P.is_stopped plant.new; controller = controller.new })
-        (session_after result controller.new) (reply_if result) }
-    ensures bad { (side : AnySide) (at : ℕ) → result ≡ Err (CommandFault.JournalBad side at)
-        → IfSome (P.told plant.new) (λ t. IsNoJournal (disk A t.trace).reads (disk B t.trace).reads (2 ^ 32) side at) × (P.is_stopped plant.new ≡ false) }
-    ensures no_write { result ≡ Err CommandFault.WriteFault → ⊥ }
-    ensures drills { P.takes_drills plant.new ≡ P.takes_drills plant.old }
+    requires goes_on { MayGoOn (record { plant = P.seen plant.old; controller = controller.old }) }
+    ensures { Ends P.takes_drills command.now
+        (record { plant = P.seen plant.old; controller = controller.old })
+        (record { plant = P.seen plant.new; controller = controller.new }) result }
 {
     match controller.take() {
         Some(opened) => obey_open(opened, controller, command, plant),
@@ -124,10 +116,9 @@ fn obey<P: Plant>(
 
 /// Plans a failure on the plant itself.
 fn plan<P: Plant>(drill: Drill, plant: &mut P) -> Result<Reply, CommandFault>
-    ensures plans { Plans (P.takes_drills plant.old) drill (P.told plant.old) (P.told plant.new) result }
-    ensures faults { P.faults plant.new ≡ P.faults plant.old }
-    ensures stopped { P.is_stopped plant.new ≡ P.is_stopped plant.old }
-    ensures drills { P.takes_drills plant.new ≡ P.takes_drills plant.old }
+    ensures plans { Plans P.takes_drills drill (P.seen plant.old).told (P.seen plant.new).told result }
+    ensures faults { (P.seen plant.new).faults ≡ (P.seen plant.old).faults }
+    ensures stopped { (P.seen plant.new).stopped ≡ (P.seen plant.old).stopped }
 {
     match plant.drill(drill) {
         Ok(()) => Ok(Reply::Planned),
@@ -144,15 +135,10 @@ fn reply_to<P: Plant>(
     plant: &mut P,
 ) -> Result<Reply, CommandFault>
     requires blocks { HasBlocks command.now }
-    requires goes_on { MayGoOn (record { told = P.told plant.old; faults = P.faults plant.old; stopped = P.is_stopped plant.old; controller = controller.old }) }
-    ensures made { Made (P.takes_drills plant.old) command.now
-        (record { told = P.told plant.old; faults = P.faults plant.old; stopped = P.is_stopped plant.old; controller = controller.old })
-        (record { told = P.told plant.new; faults = P.faults plant.new; stopped = P.is_stopped plant.new; controller = controller.new })
-        (session_after result controller.new) (reply_if result) }
-    ensures bad { (side : AnySide) (at : ℕ) → result ≡ Err (CommandFault.JournalBad side at)
-        → IfSome (P.told plant.new) (λ t. IsNoJournal (disk A t.trace).reads (disk B t.trace).reads (2 ^ 32) side at) × (P.is_stopped plant.new ≡ false) }
-    ensures no_write { result ≡ Err CommandFault.WriteFault → ⊥ }
-    ensures drills { P.takes_drills plant.new ≡ P.takes_drills plant.old }
+    requires goes_on { MayGoOn (record { plant = P.seen plant.old; controller = controller.old }) }
+    ensures { Ends P.takes_drills command.now
+        (record { plant = P.seen plant.old; controller = controller.old })
+        (record { plant = P.seen plant.new; controller = controller.new }) result }
 {
     match command.drill() {
         Some(drill) => plan(drill, plant),
@@ -184,16 +170,13 @@ pub(crate) fn answer_command<K: Sink, P: Plant>(
     plant: &mut P,
 ) -> Result<(), CommandFault>
     requires blocks { HasBlocks command }
-    requires goes_on { MayGoOn (record { told = P.told plant.old; faults = P.faults plant.old; stopped = P.is_stopped plant.old; controller = controller.old }) }
-    ensures answered { Answered (P.takes_drills plant.old) command
-        (record { told = P.told plant.old; faults = P.faults plant.old; stopped = P.is_stopped plant.old; controller = controller.old })
-        (record { told = P.told plant.new; faults = P.faults plant.new; stopped = P.is_stopped plant.new; controller = controller.new })
+    requires goes_on { MayGoOn (record { plant = P.seen plant.old; controller = controller.old }) }
+    ensures answered { Answered P.takes_drills command
+        (record { plant = P.seen plant.old; controller = controller.old })
+        (record { plant = P.seen plant.new; controller = controller.new })
         (K.written sink.old) (K.written sink.new) result }
-    ensures bad { (side : AnySide) (at : ℕ) → result ≡ Err (CommandFault.JournalBad side at)
-        → IfSome (P.told plant.new) (λ t. IsNoJournal (disk A t.trace).reads (disk B t.trace).reads (2 ^ 32) side at) }
     ensures write { IsErrOf result CommandFault.WriteFault → Rose (K.faults sink.old) (K.faults sink.new) }
     ensures later { K.faults sink.old ≤ K.faults sink.new }
-    ensures drills { P.takes_drills plant.new ≡ P.takes_drills plant.old }
 {
     let Ok(()) = plant.mark() else {
         return Err(CommandFault::Memory);

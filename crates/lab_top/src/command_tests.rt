@@ -1,172 +1,196 @@
 use super::*;
-use crate::tests::{LARGE, PAIR, SMALL, run};
+use crate::tests::{LARGE, PAIR, Row, SMALL, other_row, run};
 use lab_io::{MemSink, MemSource};
-use plant::MemLab;
+use plant_mem::MemLab;
 use std::alloc::Global;
-use std::process::Abort;
 use std::test::Fail;
 
-/// Parts of a script, and what comes of it: the output, the status, and how many steps there are. An opening of blank sides has 8, and an append 4.
-type Case = (&'static [&'static [u8]], &'static [u8], Status, usize);
-
-/// Runs each script, and looks at what comes of it.
-fn check(rt: &impl Abort, alloc: Global, cases: &[Case]) -> Result<(), Fail> {
-    for (parts, output, status, steps) in cases {
-        let ran = run(alloc, &parts.concat(alloc)?)?;
-        assert_eq!(rt; ran.output.as_slice(), *output);
-        assert_eq!(rt; ran.status, *status);
-        assert_eq!(rt; ran.plant.trace().len(), *steps);
-    }
-    Ok(())
-}
+/// Labs that are set.
+const LABS: &[Row] = &[
+    (
+        &[b"ptop 6\n", SMALL, b"ptop 6\n", SMALL],
+        b"lab 1 2 0\nlab is set\n",
+        Status::Done,
+        Some(12),
+    ),
+    (
+        &[b"ptop 12\n", LARGE],
+        b"lab 2 4 1\n",
+        Status::Done,
+        Some(12),
+    ),
+    // Three switches in a triangle.
+    (
+        &[
+            b"ptop 6\nnode s1 switch\nnode s2 switch\nnode s3 switch\nlink t1 s1:1 s2:1 1000\nlink t2 s2:2 s3:1 1000\nlink t3 s3:2 s1:2 1000\n",
+        ],
+        b"bad ptop 6 cycle\n",
+        Status::Done,
+        Some(8),
+    ),
+    // A bad lab is none.
+    (
+        &[b"status\nptop 1\nnode s1\nshow A\n"],
+        b"no lab\nbad ptop 1 fields\nno lab\n",
+        Status::Done,
+        Some(8),
+    ),
+];
 
 #[test]
 fn a_lab_is_set_once(rt: HostRuntime) -> Result<(), Fail> {
-    let cases: [Case; 4] = [
-        (
-            &[b"ptop 6\n", SMALL, b"ptop 6\n", SMALL],
-            b"lab 1 2 0\nlab is set\n",
-            Status::Done,
-            12,
-        ),
-        (&[b"ptop 12\n", LARGE], b"lab 2 4 1\n", Status::Done, 12),
-        // Three switches in a triangle.
-        (
-            &[
-                b"ptop 6\nnode s1 switch\nnode s2 switch\nnode s3 switch\nlink t1 s1:1 s2:1 1000\nlink t2 s2:2 s3:1 1000\nlink t3 s3:2 s1:2 1000\n",
-            ],
-            b"bad ptop 6 cycle\n",
-            Status::Done,
-            8,
-        ),
-        // A bad lab is none.
-        (
-            &[b"status\nptop 1\nnode s1\nshow A\n"],
-            b"no lab\nbad ptop 1 fields\nno lab\n",
-            Status::Done,
-            8,
-        ),
-    ];
-    check(&rt, rt.alloc(), &cases)
+    assert_eq!(rt; other_row(rt.alloc(), LABS)?, None);
+    Ok(())
 }
+
+/// Experiments that are made, shown and deleted.
+const EXPERIMENTS: &[Row] = &[
+    (
+        &[
+            b"ptop 6\n",
+            SMALL,
+            b"create-top A 3\n",
+            PAIR,
+            b"status\ndelete A\nstatus\n",
+        ],
+        b"lab 1 2 0\ncreated A 2 1\nexp A out 0 0\nfree 2 2\ndeleted A\nfree 2 2\n",
+        Status::Done,
+        Some(20),
+    ),
+    (
+        &[
+            b"ptop 6\n",
+            SMALL,
+            b"create-top A 4\nnode a pc linux\nnode b pc linux\nlink x x 10000 a b\nlink y y 10000 a b\n",
+        ],
+        b"lab 1 2 0\ncreated A 2 2\n",
+        Status::Done,
+        Some(16),
+    ),
+    (
+        &[
+            b"ptop 6\n",
+            SMALL,
+            b"create-top A 3\n",
+            PAIR,
+            b"create-top A 3\n",
+            PAIR,
+            b"show A\nshow B\ndelete B\ncreate-top B 1\nnode a\n",
+        ],
+        b"lab 1 2 0\ncreated A 2 1\nexists A\nshow A out\nnode a pc linux\nnode b pc linux\nlink ab ab 100000 a b\nend A\nunknown B\nunknown B\nbad B 1 fields\n",
+        Status::Done,
+        Some(16),
+    ),
+];
 
 #[test]
 fn experiments_are_kept(rt: HostRuntime) -> Result<(), Fail> {
-    let cases: [Case; 4] = [
-        // The demo.
-        (
-            &[
-                b"# A lab of one switch with two machines, given by its text, and an experiment that asks for both.\nptop 6\nvlans 100 101\nnode s1 switch\nnode pc1 pc:1\nnode pc2 pc:1\nlink l1 pc1:eth0 s1:1 100000\nlink l2 pc2:eth0 s1:2 100000\nstatus\n\ncreate-top A 3\nnode a pc linux\nnode b pc linux\nlink ab ab 100000 a b\nshow A\nstatus\n\n# What a refused command asks for isn't done, and all else goes on.\ncreate-top A 1\nnode a pc linux\ndelete B\ndelete A\nstatus\n",
-            ],
-            b"lab 1 2 0\nfree 2 2\ncreated A 2 1\nshow A out\nnode a pc linux\nnode b pc linux\nlink ab ab 100000 a b\nend A\nexp A out 0 0\nfree 2 2\nexists A\nunknown B\ndeleted A\nfree 2 2\n",
-            Status::Done,
-            20,
-        ),
-        (
-            &[
-                b"ptop 6\n",
-                SMALL,
-                b"create-top A 3\n",
-                PAIR,
-                b"status\ndelete A\nstatus\n",
-            ],
-            b"lab 1 2 0\ncreated A 2 1\nexp A out 0 0\nfree 2 2\ndeleted A\nfree 2 2\n",
-            Status::Done,
-            20,
-        ),
-        (
-            &[
-                b"ptop 6\n",
-                SMALL,
-                b"create-top A 4\nnode a pc linux\nnode b pc linux\nlink x x 10000 a b\nlink y y 10000 a b\n",
-            ],
-            b"lab 1 2 0\ncreated A 2 2\n",
-            Status::Done,
-            16,
-        ),
-        (
-            &[
-                b"ptop 6\n",
-                SMALL,
-                b"create-top A 3\n",
-                PAIR,
-                b"create-top A 3\n",
-                PAIR,
-                b"show A\nshow B\ndelete B\ncreate-top B 1\nnode a\n",
-            ],
-            b"lab 1 2 0\ncreated A 2 1\nexists A\nshow A out\nnode a pc linux\nnode b pc linux\nlink ab ab 100000 a b\nend A\nunknown B\nunknown B\nbad B 1 fields\n",
-            Status::Done,
-            16,
-        ),
-    ];
-    check(&rt, rt.alloc(), &cases)
+    assert_eq!(rt; other_row(rt.alloc(), EXPERIMENTS)?, None);
+    Ok(())
 }
+
+/// Failures that are planned.
+const DRILLS: &[Row] = &[
+    // A drill opens no controller.
+    (
+        &[b"fail s1 1 not\nfail pc1 2 hang\n"],
+        b"planned\nplanned\n",
+        Status::Done,
+        Some(0),
+    ),
+    // One that is open stays open.
+    (
+        &[b"status\nfail s1 1 applied\nstatus\n"],
+        b"no lab\nplanned\nno lab\n",
+        Status::Done,
+        Some(8),
+    ),
+    (
+        &[b"fail s1 0 not\n"],
+        b"",
+        Status::BadScript { line: 1 },
+        Some(0),
+    ),
+    // It has a number and a word.
+    (
+        &[b"fail s1 1000001 not\n"],
+        b"",
+        Status::BadScript { line: 1 },
+        None,
+    ),
+    (
+        &[b"fail s1 1 never\n"],
+        b"",
+        Status::BadScript { line: 1 },
+        None,
+    ),
+    (&[b"fail s1 1\n"], b"", Status::BadScript { line: 1 }, None),
+    (
+        &[b"fail s/1 1 not\n"],
+        b"",
+        Status::BadScript { line: 1 },
+        None,
+    ),
+    (
+        &[b"fail s1 1 not\nfail pc1 1000000 hang\n"],
+        b"planned\nplanned\n",
+        Status::Done,
+        Some(0),
+    ),
+];
 
 #[test]
 fn drills_are_planned(rt: HostRuntime) -> Result<(), Fail> {
-    let cases: [Case; 3] = [
-        // A drill opens no controller.
-        (
-            &[b"fail s1 1 not\nfail pc1 2 hang\n"],
-            b"planned\nplanned\n",
-            Status::Done,
-            0,
-        ),
-        // One that is open stays open.
-        (
-            &[b"status\nfail s1 1 applied\nstatus\n"],
-            b"no lab\nplanned\nno lab\n",
-            Status::Done,
-            8,
-        ),
-        (&[b"fail s1 0 not\n"], b"", Status::BadScript { line: 1 }, 0),
-    ];
-    check(&rt, rt.alloc(), &cases)
+    assert_eq!(rt; other_row(rt.alloc(), DRILLS)?, None);
+    Ok(())
 }
+
+/// Scripts that are read, or end at a line.
+const SCRIPTS: &[Row] = &[
+    (&[b""], b"", Status::Done, Some(0)),
+    (
+        &[b"# commands\n \t\n\n status"],
+        b"no lab\n",
+        Status::Done,
+        Some(8),
+    ),
+    (
+        &[b"# commands\n \t\n\n status # no word\n"],
+        b"",
+        Status::BadScript { line: 4 },
+        Some(0),
+    ),
+    (
+        &[b"machines 2\npair A pc1 pc2\n"],
+        b"",
+        Status::BadScript { line: 1 },
+        Some(0),
+    ),
+    (
+        &[b"status\nmachines 2\n"],
+        b"no lab\n",
+        Status::BadScript { line: 2 },
+        Some(8),
+    ),
+    // A block that is cut short names its first missing line.
+    (
+        &[b"status\nptop 6\nvlans 100 101\n"],
+        b"no lab\n",
+        Status::BadScript { line: 4 },
+        Some(8),
+    ),
+    (
+        &[b"status\n\0\0\0\0"],
+        b"no lab\n",
+        Status::BadScript { line: 2 },
+        Some(8),
+    ),
+];
 
 #[test]
 fn scripts_are_read(rt: HostRuntime) -> Result<(), Fail> {
-    let cases: [Case; 7] = [
-        (&[b""], b"", Status::Done, 0),
-        (
-            &[b"# commands\n \t\n\n status"],
-            b"no lab\n",
-            Status::Done,
-            8,
-        ),
-        (
-            &[b"# commands\n \t\n\n status # no word\n"],
-            b"",
-            Status::BadScript { line: 4 },
-            0,
-        ),
-        (
-            &[b"machines 2\npair A pc1 pc2\n"],
-            b"",
-            Status::BadScript { line: 1 },
-            0,
-        ),
-        (
-            &[b"status\nmachines 2\n"],
-            b"no lab\n",
-            Status::BadScript { line: 2 },
-            8,
-        ),
-        // A block that is cut short names its first missing line.
-        (
-            &[b"status\nptop 6\nvlans 100 101\n"],
-            b"no lab\n",
-            Status::BadScript { line: 4 },
-            8,
-        ),
-        (
-            &[b"status\n\0\0\0\0"],
-            b"no lab\n",
-            Status::BadScript { line: 2 },
-            8,
-        ),
-    ];
-    check(&rt, rt.alloc(), &cases)
+    assert_eq!(rt; other_row(rt.alloc(), SCRIPTS)?, None);
+    Ok(())
 }
 
 /// A script whose first line is made of so many bytes behind a first part.

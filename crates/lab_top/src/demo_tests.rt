@@ -1,6 +1,5 @@
 use crate::Status;
-use crate::tests::run;
-use std::alloc::Global;
+use crate::tests::{Row, other_row};
 use std::test::Fail;
 
 /// `demo/first.lab`: an experiment is swapped in and out, and a device fails.
@@ -35,22 +34,21 @@ const NETWORK: &[u8] =
 const NETWORK_REPLIES: &[u8] =
     b"lab 1 0 0\ncreated A 3 1\nshow A out\nnode node-1 pc default\nnode node-2 pc default\nnode node-3 pc default\nlink big big 100000 node-1=10.1.1.1 node-2=10.1.1.2 node-3=10.1.1.3\nend A\ncreated B 3 2\nshow B out\nnode a pc default\nnode b pc default\nnode l.d delay delay\nlink l.0 l 100000 a=10.1.1.1 l.d\nlink l.1 l 100000 l.d b=10.1.1.2\npipe l.d 0 1 100000 2000 0 100000 2000 0\nend B\nbad C 4 unsupported\n";
 
-/// Whether the script has these replies, and ends so.
-fn replies_so(alloc: Global, script: &[u8], replies: &[u8], status: Status) -> Result<bool, Fail> {
-    let ran = run(alloc, script)?;
-    Ok(ran.output.as_slice() == replies && ran.status == status)
-}
+/// The demos, as the manual has them.
+const DEMOS: &[Row] = &[
+    (&[FIRST], FIRST_REPLIES, Status::Done, None),
+    (&[LAB], LAB_REPLIES, Status::Done, Some(20)),
+    (
+        &[REFUSED],
+        REFUSED_REPLIES,
+        Status::BadScript { line: 51 },
+        None,
+    ),
+    (&[NETWORK], NETWORK_REPLIES, Status::Done, None),
+];
 
 #[test]
 fn the_demos_are_answered_as_the_manual_says(rt: HostRuntime) -> Result<(), Fail> {
-    let demos: [(&[u8], &[u8], Status); 4] = [
-        (FIRST, FIRST_REPLIES, Status::Done),
-        (LAB, LAB_REPLIES, Status::Done),
-        (REFUSED, REFUSED_REPLIES, Status::BadScript { line: 51 }),
-        (NETWORK, NETWORK_REPLIES, Status::Done),
-    ];
-    for (script, replies, status) in demos {
-        assert!(rt; replies_so(rt.alloc(), script, replies, status)?);
-    }
+    assert_eq!(rt; other_row(rt.alloc(), DEMOS)?, None);
     Ok(())
 }

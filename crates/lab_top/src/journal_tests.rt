@@ -1,10 +1,11 @@
 ghost use Rattle.std.specs.Prelude.{◌≤◌, ◌^◌};
 
 use super::*;
-use crate::tests::{Ran, run_over};
+use crate::tests::run_over;
 use lab_base::Text;
 use lab_core::Controller;
-use plant::{Drill, MemLab, Pick, Plant, Side};
+use plant::{Drill, Pick, Plant, Side};
+use plant_mem::MemLab;
 use script_text::{Command, Reply, reply_text};
 use std::alloc::Global;
 use std::test::Fail;
@@ -137,34 +138,55 @@ fn a_failure_of_the_disk_closes_the_controller(rt: HostRuntime) -> Result<(), Fa
     Ok(())
 }
 
-/// Runs `status` over a side A of these bytes.
-fn run_on_side(alloc: Global, bytes: &[u8]) -> Result<Ran, Fail> {
+/// The bytes of a side A that is no journal, and the place that tells it.
+const BAD_SIDES: &[(&[u8], u64)] = &[
+    // The first record deletes an experiment.
+    (
+        b"\xa5LABJRNL1\x01\0\0\0\0\0\0\0\xa5\x03\0\0\0\x03\x01A\0",
+        17,
+    ),
+    // A record's end is missing.
+    (b"\xa5LABJRNL1\x01\0\0\0\0\0\0\0\xa5\x03\0\0\0\x03", 17),
+    // Its payload is no record.
+    (b"\xa5LABJRNL1\x01\0\0\0\0\0\0\0\xa5\x01\0\0\0\xff\0", 17),
+    // The header is another's.
+    (b"\xa5LABJRNL2\x01\0\0\0\0\0\0\0\0", 0),
+];
+
+/// What a side reads as.
+fn side_of(alloc: Global, plant: &mut MemLab, side: Side) -> Result<Vec<u8>, Fail> {
+    let size = plant.length(side).ok().ok_or("a length")?;
+    let mut bytes = vec![in alloc; 0u8; size as usize]?;
+    plant.read(side, 0, &mut bytes).ok().ok_or("a side")?;
+    Ok(bytes)
+}
+
+/// Whether `status` over a side A of these bytes ends with JournalBad at that place, replies nothing, and leaves both sides as they were.
+fn is_left(alloc: Global, bytes: &[u8], at: u64) -> Result<bool, Fail> {
     let mut plant = MemLab::blank(alloc)?;
     plant.write(Side::A, 0, bytes).ok().ok_or("a write")?;
-    run_over(alloc, b"status\n", plant)
+    let mut ran = run_over(alloc, b"fail s1 1 not\nstatus\nstatus\n", plant)?;
+    let a = side_of(alloc, &mut ran.plant, Side::A)?;
+    let b = side_of(alloc, &mut ran.plant, Side::B)?;
+    let status = Status::JournalBad { side: Side::A, at };
+    Ok(
+        ran.status == status
+            && ran.output.as_slice() == b"planned\n".as_slice()
+            && a.as_slice() == bytes
+            && b.is_empty(),
+    )
 }
 
 #[test]
-fn sides_that_are_no_journal_end_the_run(rt: HostRuntime) -> Result<(), Fail> {
-    let cases: [(&'static [u8], u64); 4] = [
-        // The first record deletes an experiment.
-        (
-            b"\xa5LABJRNL1\x01\0\0\0\0\0\0\0\xa5\x03\0\0\0\x03\x01A\0",
-            17,
-        ),
-        // A record's end is missing.
-        (b"\xa5LABJRNL1\x01\0\0\0\0\0\0\0\xa5\x03\0\0\0\x03", 17),
-        // Its payload is no record.
-        (b"\xa5LABJRNL1\x01\0\0\0\0\0\0\0\xa5\x01\0\0\0\xff\0", 17),
-        // The header is another's.
-        (b"\xa5LABJRNL2\x01\0\0\0\0\0\0\0\0", 0),
-    ];
-    for (bytes, at) in cases {
-        let ran = run_on_side(rt.alloc(), bytes)?;
-        assert_eq!(rt; ran.output.as_slice(), b"".as_slice());
-        assert_eq!(rt; ran.status, Status::JournalBad { side: Side::A, at });
-        assert_eq!(rt; ran.status.code(), 6);
+fn sides_that_are_no_journal_are_left_as_they_are(rt: HostRuntime) -> Result<(), Fail> {
+    for (bytes, at) in BAD_SIDES {
+        assert!(rt; is_left(rt.alloc(), bytes, *at)?);
     }
+    let status = Status::JournalBad {
+        side: Side::A,
+        at: 17,
+    };
+    assert_eq!(rt; status.code(), 6);
     Ok(())
 }
 

@@ -3,9 +3,11 @@
 
 mod command;
 mod commands;
+mod laws;
 mod status;
 mod top;
 
+pub use laws::{bad_journals, runs};
 pub use status::Status;
 pub use top::labctl;
 

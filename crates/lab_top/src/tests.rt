@@ -1,6 +1,6 @@
 use super::*;
 use lab_io::{MemSink, MemSource};
-use plant::MemLab;
+use plant_mem::MemLab;
 use std::alloc::Global;
 use std::test::Fail;
 
@@ -40,4 +40,34 @@ pub(crate) fn run_over(alloc: Global, script: &[u8], mut plant: MemLab) -> Resul
 /// Runs a script over a plant in which nothing has happened.
 pub(crate) fn run(alloc: Global, script: &[u8]) -> Result<Ran, Fail> {
     run_over(alloc, script, MemLab::blank(alloc)?)
+}
+
+/// Parts of a script, what it replies, how it ends, and how many steps there are, where they are counted: an opening of blank sides
+/// has 8, and an append 4.
+pub(crate) type Row = (
+    &'static [&'static [u8]],
+    &'static [u8],
+    Status,
+    Option<usize>,
+);
+
+/// Whether the run came as the row says.
+fn came_so(ran: &Ran, row: &Row) -> bool {
+    let (_parts, output, status, steps) = row;
+    let counted = match steps {
+        Some(count) => ran.plant.trace().len() == *count,
+        None => true,
+    };
+    ran.output.as_slice() == *output && ran.status == *status && counted
+}
+
+/// The first script that comes otherwise, each over a plant in which nothing has happened.
+pub(crate) fn other_row(alloc: Global, rows: &[Row]) -> Result<Option<usize>, Fail> {
+    for at in 0..rows.len() {
+        let ran = run(alloc, &rows[at].0.concat(alloc)?)?;
+        if !came_so(&ran, &rows[at]) {
+            return Ok(Some(at));
+        }
+    }
+    Ok(None)
 }

@@ -6,8 +6,9 @@ ghost use Rattle.plant.specs.declared.step.Side.TheVariants.{A, B};
 ghost use Rattle.records_model.specs.Works.{IsSound};
 ghost use Rattle.lab_state.specs.Texts.{the_texts};
 ghost use Rattle.lab_core.specs.Moments.{IsNoJournal};
-ghost use Rattle.lab_top.specs.CommandTurns.{CommandTurn};
+ghost use Rattle.lab_top.specs.Pieces.{Begun};
 ghost use Rattle.lab_top.specs.Ran.{Ran};
+ghost use Rattle.lab_top.specs.Words.{choices_of};
 
 use crate::commands::obey_commands;
 use crate::status::Status;
@@ -25,12 +26,12 @@ pub fn labctl<S: Source, K: Sink, P: Plant>(
     sink: &mut K,
     plant: &mut P,
 ) -> Status
-    ensures run { (turns : List CommandTurn) × Ran (P.takes_drills plant.old)
-        (record { left = S.left source.old; told = P.told plant.old; faults = P.faults plant.old; stopped = P.is_stopped plant.old; written = K.written sink.old })
-        (record { left = S.left source.new; told = P.told plant.new; faults = P.faults plant.new; stopped = P.is_stopped plant.new; written = K.written sink.new }) result turns }
+    ensures run { (made : List Begun) × Ran P.takes_drills (choices_of words.now)
+        (record { left = S.left source.old; plant = P.seen plant.old; written = K.written sink.old })
+        (record { left = S.left source.new; plant = P.seen plant.new; written = K.written sink.new }) result made }
     ensures bad { (side : AnySide) (at : ℕ) → result ≡ Status.JournalBad side at
-        → IfSome (P.told plant.new) (λ t. IsNoJournal (disk A t.trace).reads (disk B t.trace).reads (2 ^ 32) side at) }
-    ensures never_bad { (side : AnySide) (at : ℕ) → result ≡ Status.JournalBad side at → IfSome (P.told plant.old) (λ t. IsSound the_texts t.trace → ⊥) }
+        → IfSome (P.seen plant.new).told (λ t. IsNoJournal (disk A t.trace).reads (disk B t.trace).reads (2 ^ 32) side at) }
+    ensures never_bad { (side : AnySide) (at : ℕ) → result ≡ Status.JournalBad side at → IfSome (P.seen plant.old).told (λ t. IsSound the_texts t.trace → ⊥) }
     ensures usage { (result ≡ Status.Usage) ↔ (0 < length words.now) }
     ensures unread { result ≡ Status.Usage → source.new ≡ source.old }
     ensures unwritten { result ≡ Status.Usage → sink.new ≡ sink.old }
@@ -39,7 +40,6 @@ pub fn labctl<S: Source, K: Sink, P: Plant>(
     ensures read_later { S.faults source.old ≤ S.faults source.new }
     ensures write { result ≡ Status.WriteFault → Rose (K.faults sink.old) (K.faults sink.new) }
     ensures write_later { K.faults sink.old ≤ K.faults sink.new }
-    ensures drills { P.takes_drills plant.new ≡ P.takes_drills plant.old }
 {
     if !words.is_empty() {
         return Status::Usage;

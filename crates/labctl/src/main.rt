@@ -3,7 +3,8 @@
 
 use lab_io::{StdSink, StdSource};
 use lab_top::{Status, labctl};
-use plant::{MemLab, Side};
+use plant::Side;
+use plant_mem::MemLab;
 use std::process::ExitCode;
 use std::{env, io};
 

@@ -2,24 +2,23 @@ use Rattle.std.proofs.Common.{◌≡◌, ◌≤◌, ◌-◌, ◌^◌, ℕ, List,
 use Rattle.lab_io.specs.Passed.{IsReady, stand_of}
 use Rattle.lab_io.specs.Taken.{taken_of}
 use Rattle.lab_top.specs.Answering.{Moment, MayGoOn}
-use Rattle.lab_top.specs.CommandTurns.{CommandTurn, commands_of}
+use Rattle.lab_top.specs.Pieces.{Begun, commands_of}
 use Rattle.lab_top.specs.Readers.{at_start}
 use Rattle.lab_top.proofs.Commanding.{Covers}
-use Rattle.lab_top.proofs.CommandTurns.{Going}
+use Rattle.lab_top.proofs.Pieces.{Going}
 use Rattle.lab_top.proofs.commands.obey_commands.Given as goal
 
 abbrev pub invariant-commands : goal.invariant-commands
 invariant-commands g l =
-    let start : Moment = record { told = g.P.Plant.told l.fn.plant; faults = g.P.Plant.faults l.fn.plant; stopped = g.P.Plant.is_stopped l.fn.plant; controller = None } in
-    let here : Moment = record { told = g.P.Plant.told l.plant; faults = g.P.Plant.faults l.plant; stopped = g.P.Plant.is_stopped l.plant; controller = l.controller } in
+    let start : Moment = record { plant = g.P.Plant.seen l.fn.plant; controller = None } in
+    let here : Moment = record { plant = g.P.Plant.seen l.plant; controller = l.controller } in
     record {
       ready : IsReady l.reader (g.S.Source.left l.source);
-      going : (turns : List CommandTurn) × Going (g.P.Plant.takes_drills l.fn.plant) start here (g.K.Sink.written l.fn.sink) (g.K.Sink.written l.sink) turns
-          × ((bytes : List ℕ) → g.S.Source.left l.fn.source ≡ Some bytes → Covers (at_start bytes) (stand_of l.reader (g.S.Source.left l.source)) (commands_of turns));
+      going : (begun : List Begun) × Going g.P.Plant.takes_drills start here (g.K.Sink.written l.fn.sink) (g.K.Sink.written l.sink) begun
+          × ((bytes : List ℕ) → g.S.Source.left l.fn.source ≡ Some bytes → Covers (at_start bytes) (stand_of l.reader (g.S.Source.left l.source)) (commands_of begun));
       goes_on : MayGoOn here;
       read : g.S.Source.faults l.fn.source ≤ g.S.Source.faults l.source;
       write : g.K.Sink.faults l.fn.sink ≤ g.K.Sink.faults l.sink;
-      drills : g.P.Plant.takes_drills l.plant ≡ g.P.Plant.takes_drills l.fn.plant;
     }
 
 abbrev pub decreases-commands : goal.decreases-commands

@@ -1,0 +1,326 @@
+-- A run of commands goes on, one piece after another.
+use Rattle.std.proofs.Common.{◌≡◌, ◌⊎◌, inl, inr, ℕ, ◌+◌, ◌^◌, ◌<◌, arith, Bool, true, false, ◌&&◌, List, [], ◌∷◌, ◌++◌, length, take, Option, Some, None, Result, Ok, Err, refl, sym, ◌∙◌, ap, subst}
+use Rattle.std.specs.Prelude.{IfSome, is_some}
+use Rattle.std.specs.Io.KnownBytes.{append_known}
+use Rattle.std.proofs.lemmas.List.{append-nil, map-append}
+use Rattle.std.proofs.lemmas.List.Folds.{list_all-append}
+use Rattle.std.proofs.lemmas.Grind.{flat_map-append}
+use Rattle.lab_io.proofs.Known.{append_known-append, append_known-nil}
+use Rattle.plant.specs.declared.moment.Faults.{Faults}
+use Rattle.plant.specs.declared.step.Side.{Side}
+use Rattle.plant.specs.declared.step.Side.TheVariants.{A, B}
+use Rattle.plant.specs.Disks.{disk, ArePossible}
+use Rattle.plant.specs.Events.{Event}
+use Rattle.plant.specs.declared.drill.Drill.{Drill}
+use Rattle.plant.specs.Seen.{Seen}
+use Rattle.plant.specs.Told.{Told, with_mark, with_drill, with_steps}
+use Rattle.journal_model.specs.Journals.{gate_after, journal_length, size_of}
+use Rattle.records_model.specs.Works.{IsSound}
+use Rattle.journal_runs.proofs.Stood.{sound_not_bad, sound_follows, sound_room}
+use Rattle.lab_state.specs.Texts.{the_texts}
+use Rattle.lab_state.proofs.Canonical.{texts_once}
+use Rattle.script_text.specs.declared.command.Command.{Command}
+use Rattle.script_text.specs.declared.reply.Reply.{Reply}
+use Rattle.script_text.specs.Replies.{text_of}
+use Rattle.lab_core.specs.Moments.{IsNoJournal, bad, cannot_follow, no_room}
+use Rattle.lab_core.specs.Sessions.{Session, Closed, Open, HandsOn, OpenSwap, open_at}
+use Rattle.lab_top.specs.declared.command.CommandFault.{CommandFault}
+use Rattle.lab_top.specs.declared.command.CommandFault.TheVariants as faults
+use Rattle.lab_top.specs.declared.status.Status.TheVariants as statuses
+use Rattle.lab_top.specs.declared.status.Status.{Status}
+use Rattle.lab_top.specs.Answering.{Moment, Made, FoundNone, Answered, marked, piece_of, session_of}
+use Rattle.lab_top.specs.Pieces.{Piece, Begun, steps_of, commands_of, planned_of, trace_after, with_drill_if, with_piece, with_pieces, IsCaused, Counts, FindsNone, IsPiece, ArePieces, reply_text, reply_texts}
+use Rattle.lab_top.specs.Ran.{AreAnswered, BegunCommands, EndsSo, GoesOn, LastFindsNone, LastIsNot, Outside, Ran, WroteReplies, Answered as StatusAnswered}
+use Rattle.lab_top.specs.Words.{Choices, Usual}
+use Rattle.lab_top.proofs.Obeyed.{map_both, map_some, map_three}
+
+-- ONE PIECE MORE
+
+abbrev pub last_session : Session → List Begun → Session
+last_session session [] = session
+last_session session (b ∷ begun) = last_session b.piece.to begun
+
+last-push : (session : Session) (begun : List Begun) (b : Begun) → last_session session (begun ++ b ∷ []) ≡ b.piece.to
+last-push session [] b = refl
+last-push session (x ∷ begun) b = last-push x.piece.to begun b
+
+trace-push : (trace : List Event) (begun : List Begun) (b : Begun) → trace_after trace (begun ++ b ∷ []) ≡ trace_after trace begun ++ steps_of b.piece
+trace-push trace [] b = refl
+trace-push trace (x ∷ begun) b = trace-push (trace ++ steps_of x.piece) begun b
+
+pieces-push : (takes : Bool) (trace : List Event) (session : Session) (begun : List Begun) (b : Begun) → ArePieces takes trace session begun → HandsOn (last_session session begun) b.piece.from → IsPiece takes (trace_after trace begun) b.piece
+    → ArePieces takes trace session (begun ++ b ∷ [])
+pieces-push takes trace session [] b are from is = (from, is, tt)
+pieces-push takes trace session (x ∷ begun) b are from is = (are.0, are.1, pieces-push takes (trace ++ steps_of x.piece) x.piece.to begun b are.2 from is)
+
+told-push : (told : Option Told) (begun : List Begun) (b : Begun) → with_pieces told (begun ++ b ∷ []) ≡ with_piece (with_pieces told begun) b
+told-push told [] b = refl
+told-push told (x ∷ begun) b = told-push (with_piece told x) begun b
+
+counts-push : (takes : Bool) (entry mid : Faults) (begun : List Begun) (b : Begun) → Counts takes entry begun mid → b.faults ≡ mid → IsCaused takes b → Counts takes entry (begun ++ b ∷ []) b.later
+counts-push takes entry mid [] b is first caused = (first ∙ is, caused, refl)
+counts-push takes entry mid (x ∷ begun) b are first caused = (are.0, are.1, counts-push takes x.later mid begun b are.2 first caused)
+
+pub commands-push : (begun : List Begun) (b : Begun) → commands_of (begun ++ b ∷ []) ≡ commands_of begun ++ b.piece.command ∷ []
+commands-push begun b = map-append (λ (x : Begun). x.piece.command) begun (b ∷ [])
+
+texts-push : (begun : List Begun) (b : Begun) → reply_texts (begun ++ b ∷ []) ≡ reply_texts begun ++ reply_text b
+texts-push begun b = flat_map-append reply_text begun (b ∷ []) ∙ ap (λ (l : List ℕ). reply_texts begun ++ l) (append-nil (reply_text b))
+
+answered-push : (begun : List Begun) (b : Begun) → AreAnswered begun → is_some b.piece.reply ≡ true → AreAnswered (begun ++ b ∷ [])
+answered-push begun b are is = list_all-append (λ (x : Begun). is_some x.piece.reply) begun (b ∷ []) ∙ (λ i. are i && (is i && true))
+
+-- THE TRACE STAYS SOUND
+pub sound_after : (takes : Bool) (trace : List Event) (session : Session) (begun : List Begun) → ArePieces takes trace session begun → IsSound the_texts trace → IsSound the_texts (trace_after trace begun)
+sound_after takes trace session [] are sound = sound
+sound_after takes trace session (b ∷ begun) are sound = sound_after takes (trace ++ steps_of b.piece) b.piece.to begun are.2 (are.1.done sound).sound
+
+-- WHAT THE PLANT TELLS after pieces is the trace after them
+abbrev next_told : Told → Begun → Told
+next_told t b = record { trace = t.trace ++ steps_of b.piece; marks = t.marks ++ record { at = length t.trace; faults = b.faults } ∷ []; drills = t.drills }
+
+-- a drill leaves the trace as it is
+undrilled : (t : Told) (drill : Option Drill) (Q : Option Told → Type 0) (R : List Event → Type 0) → ((u : Told) → Q (Some u) → R u.trace) → Q (with_drill_if (Some t) drill) → R t.trace
+undrilled t None Q R to h = to t h
+undrilled t (Some drill) Q R to h = to (record t { drills = t.drills ++ record { at = length t.trace; drill = drill } ∷ [] }) h
+
+drilled : (t : Told) (drill : Option Drill) (Q : Option Told → Type 0) (R : List Event → Type 0) → ((u : Told) → R u.trace → Q (Some u)) → R t.trace → Q (with_drill_if (Some t) drill)
+drilled t None Q R to h = to t h
+drilled t (Some drill) Q R to h = to (record t { drills = t.drills ++ record { at = length t.trace; drill = drill } ∷ [] }) h
+
+untold : (drill : Option Drill) → with_drill_if None drill ≡ None
+untold None = refl
+untold (Some drill) = refl
+
+pub trace_of : (t : Told) (begun : List Begun) (P : List Event → Type 0) → IfSome (with_pieces (Some t) begun) (λ u. P u.trace) → P (trace_after t.trace begun)
+trace_of t [] P h = h
+trace_of t (b ∷ begun) P h = undrilled (next_told t b) (planned_of b) (λ (o : Option Told). IfSome (with_pieces o begun) (λ u. P u.trace)) (λ (l : List Event). P (trace_after l begun)) (λ u g. trace_of u begun P g) h
+
+of_trace : (t : Told) (begun : List Begun) (P : List Event → Type 0) → P (trace_after t.trace begun) → IfSome (with_pieces (Some t) begun) (λ u. P u.trace)
+of_trace t [] P h = h
+of_trace t (b ∷ begun) P h = drilled (next_told t b) (planned_of b) (λ (o : Option Told). IfSome (with_pieces o begun) (λ u. P u.trace)) (λ (l : List Event). P (trace_after l begun)) (λ u g. of_trace u begun P g) h
+
+none_after : (begun : List Begun) → with_pieces None begun ≡ None
+none_after [] = refl
+none_after (b ∷ begun) = ap (λ (o : Option Told). with_pieces o begun) (untold (planned_of b)) ∙ none_after begun
+
+-- over what is told at the start, and at the end
+pub from_told : (old new : Option Told) (begun : List Begun) → new ≡ with_pieces old begun → (P : List Event → Type 0) → IfSome new (λ u. P u.trace) → IfSome old (λ t. P (trace_after t.trace begun))
+from_told None new begun is P h = tt
+from_told (Some t) new begun is P h = trace_of t begun P (subst (λ (o : Option Told). IfSome o (λ u. P u.trace)) is h)
+
+pub to_told : (old new : Option Told) (begun : List Begun) → new ≡ with_pieces old begun → (P : List Event → Type 0) → IfSome old (λ t. P (trace_after t.trace begun)) → IfSome new (λ u. P u.trace)
+to_told None new begun is P h = subst (λ (o : Option Told). IfSome o (λ u. P u.trace)) (sym (is ∙ none_after begun)) tt
+to_told (Some t) new begun is P h = subst (λ (o : Option Told). IfSome o (λ u. P u.trace)) (sym is) (of_trace t begun P h)
+
+unmarked : (told : Option Told) (faults : Faults) (P : List Event → Type 0) → IfSome (with_mark told faults) (λ u. P u.trace) → IfSome told (λ u. P u.trace)
+unmarked None faults P h = tt
+unmarked (Some t) faults P h = h
+
+-- the session is handed on as it is
+pub handed : (old new : Session) → old ≡ new → HandsOn old new
+handed Closed Closed same = tt
+handed Closed (Open opens) same = absurd (cc same)
+handed (Open opens) Closed same = absurd (cc same)
+handed (Open opens) (Open others) same = let is : opens ≡ others = cc same in record { number = ap length (sym is); each = λ name. ap (open_at name) (sym is) }
+
+-- THE PIECES SO FAR, from the first moment to this one
+pub record PiecesSoFar (takes : Bool) (start now : Moment) (begun : List Begun) : Type 0 where
+  pub told : now.plant.told ≡ with_pieces start.plant.told begun
+  pub counts : Counts takes start.plant.faults begun now.plant.faults
+  pub are : IfSome start.plant.told (λ t. ArePieces takes t.trace Closed begun)
+
+module _ (takes : Bool) (start before now : Moment) (begun : List Begun) (so : PiecesSoFar takes start before begun) (session : last_session Closed begun ≡ session_of before.controller)
+    (command : Command) (to : Session) (reply : Option Reply) (made : Made takes command (marked before) now to reply) where
+  abbrev pub next : Begun
+  next = record {
+    faults = before.plant.faults;
+    piece = piece_of command (session_of before.controller) to made.begun.opening made.begun.own reply;
+    planned = made.begun.planned;
+    later = now.plant.faults;
+  }
+
+  -- what holds over the trace at the mark
+  pub at_mark : (P : List Event → Type 0) → IfSome (marked before).plant.told (λ u. P u.trace) → IfSome start.plant.told (λ t. P (trace_after t.trace begun))
+  at_mark P h = from_told start.plant.told before.plant.told begun so.told P (unmarked before.plant.told before.plant.faults P h)
+
+  pub one_more : PiecesSoFar takes start now (begun ++ next ∷ [])
+  one_more = record {
+    told = made.begun.told ∙ ap (λ (o : Option Told). with_piece o next) so.told ∙ sym (told-push start.plant.told begun next);
+    counts = counts-push takes start.plant.faults before.plant.faults begun next so.counts refl (record { later = made.later; disk = made.disk; device = made.device; planned = made.begun.planned_by });
+    are = map_both start.plant.told (λ t are is. pieces-push takes t.trace Closed begun next are (handed (last_session Closed begun) next.piece.from session) is) so.are (at_mark (λ l. IsPiece takes l next.piece) made.begun.is_piece);
+  }
+
+-- THE RUN SO FAR: all commands that were begun are answered
+pub record Going (takes : Bool) (start now : Moment) (first written : Option (List ℕ)) (begun : List Begun) : Type 0 where
+  pub so : PiecesSoFar takes start now begun
+  pub session : last_session Closed begun ≡ session_of now.controller
+  pub answered : AreAnswered begun
+  pub wrote : written ≡ append_known first (reply_texts begun)
+  pub runs : start.plant.stopped ≡ false → now.plant.stopped ≡ false
+
+pub all_some : {X : Type 0} {P : X → Type 0} (o : Option X) → ((x : X) → P x) → IfSome o P
+all_some None f = tt
+all_some (Some x) f = f x
+
+pub going_none : (takes : Bool) (start : Moment) (written : Option (List ℕ)) → session_of start.controller ≡ Closed → Going takes start start written written []
+going_none takes start written closed = record {
+  so = record { told = refl; counts = refl; are = all_some start.plant.told (λ t. tt) };
+  session = sym closed;
+  answered = refl;
+  wrote = sym (append_known-nil written);
+  runs = λ is. is;
+}
+
+-- A RUN THAT ENDED
+abbrev pub outside : Moment → Option (List ℕ) → Option (List ℕ) → Outside
+outside now left written = record { left = left; plant = now.plant; written = written }
+
+abbrev pub Ends : Bool → (start now : Moment) → Option (List ℕ) → Option (List ℕ) → Status → List Begun → Type 0
+Ends takes start now first new status made =
+    PiecesSoFar takes start now made × IfSome start.plant.told (λ t. EndsSo t.trace made status) × StatusAnswered status made × WroteReplies first new made status × (start.plant.stopped ≡ false → GoesOn status now.plant.stopped)
+
+pub ran : (takes : Bool) (choices : Option Choices) (start now : Moment) (first new left rest : Option (List ℕ)) (status : Status) (made : List Begun) → ((status ≡ statuses.Usage) → choices ≡ None) → (choices ≡ None → status ≡ statuses.Usage)
+    → Ends takes start now first new status made → ((bytes : List ℕ) → left ≡ Some bytes → BegunCommands bytes rest (commands_of made) status) → Ran takes choices (outside start left first) (outside now rest new) status made
+ran takes choices start now first new left rest status made refused none ends begun = record {
+  usage = (refused, none);
+  told = ends.0.told;
+  counts = ends.0.counts;
+  goes_on = ends.4;
+  pieces = ends.0.are;
+  ends = ends.1;
+  sound = sound start.plant.told ends.0.told ends.0.are;
+  answered = ends.2;
+  begun = begun;
+  wrote = ends.3;
+}
+  where
+    sound : (told : Option Told) → now.plant.told ≡ with_pieces told made → IfSome told (λ t. ArePieces takes t.trace Closed made) → IfSome told (λ t. IsSound the_texts t.trace → IfSome now.plant.told (λ u. IsSound the_texts u.trace))
+    sound None is are = tt
+    sound (Some t) is are = λ first. to_told (Some t) now.plant.told made is (IsSound the_texts) (sound_after takes t.trace Closed made are first)
+
+-- of words that choose something
+pub begun_ran : (takes : Bool) (start now : Moment) (first new left rest : Option (List ℕ)) (status : Status) (made : List Begun) → Ends takes start now first new status made → ((bytes : List ℕ) → left ≡ Some bytes → BegunCommands bytes rest (commands_of made) status)
+    → (status ≡ statuses.Usage → ⊥) → Ran takes (Some Usual) (outside start left first) (outside now rest new) status made
+begun_ran takes start now first new left rest status made ends begun not = ran takes (Some Usual) start now first new left rest status made (λ is. absurd (not is)) (λ is. absurd (cc is)) ends begun
+
+-- where all are answered
+pub going_ends : (takes : Bool) (start now : Moment) (first new : Option (List ℕ)) (begun : List Begun) → Going takes start now first new begun → (status : Status) → ((t : Told) → EndsSo t.trace begun status)
+    → (now.plant.stopped ≡ false → GoesOn status now.plant.stopped) → (AreAnswered begun → StatusAnswered status begun) → (new ≡ append_known first (reply_texts begun) → WroteReplies first new begun status) → Ends takes start now first new status begun
+going_ends takes start now first new begun going status ends goes_on answered wrote = (going.so, all_some start.plant.told ends, answered going.answered, wrote going.wrote, λ was. goes_on (going.runs was))
+
+-- A COMMAND MORE
+module _ (takes : Bool) (start before now : Moment) (first old new : Option (List ℕ)) (begun : List Begun) (going : Going takes start before first old begun) (command : Command) where
+  wrote_more : (part : List ℕ) → new ≡ append_known old part → new ≡ append_known first (reply_texts begun ++ part)
+  wrote_more part is = is ∙ ap (λ (w : Option (List ℕ)). append_known w part) going.wrote ∙ append_known-append first (reply_texts begun) part
+
+  module _ (to : Session) (reply : Option Reply) (made : Made takes command (marked before) now to reply) where
+    abbrev one : Begun
+    one = next takes start before now begun going.so going.session command to reply made
+
+    so_now : PiecesSoFar takes start now (begun ++ one ∷ [])
+    so_now = one_more takes start before now begun going.so going.session command to reply made
+
+  pub going_more : Answered takes command before now old new (Ok tt) → (b : Begun) × (b.piece.command ≡ command) × Going takes start now first new (begun ++ b ∷ [])
+  going_more (reply, made, wrote) =
+      let b = one (session_of now.controller) (Some reply) made in (
+        b,
+        refl,
+        record {
+          so = so_now (session_of now.controller) (Some reply) made;
+          session = last-push Closed begun b;
+          answered = answered-push begun b going.answered refl;
+          wrote = wrote_more (text_of reply) wrote ∙ ap (append_known first) (sym (texts-push begun b));
+          runs = λ was. made.runs refl (going.runs was);
+        },
+      )
+
+  -- a reply that was cut
+  pub going_cut : Answered takes command before now old new (Err faults.WriteFault) → (made : List Begun) × (commands_of made ≡ commands_of begun ++ command ∷ []) × Ends takes start now first new statuses.WriteFault made
+  going_cut (reply, made, n, less, wrote) =
+      let b = one (session_of now.controller) (Some reply) made in (
+        begun ++ b ∷ [],
+        commands-push begun b,
+        (
+          so_now (session_of now.controller) (Some reply) made,
+          all_some start.plant.told (λ t. tt),
+          answered-push begun b going.answered refl,
+          (begun, b, n, refl, less, wrote_more (take n (text_of reply)) wrote),
+          λ was. made.runs refl (going.runs was),
+        ),
+      )
+
+  -- a command that has no reply
+  module _ (made : Made takes command (marked before) now Closed None) (wrote : new ≡ old) where
+    abbrev silent : List Begun
+    silent = begun ++ one Closed None made ∷ []
+
+    waits : LastIsNot silent
+    waits = record { before = begun; last = one Closed None made; made_are = refl; answered = going.answered; waits = refl }
+
+    wrote_none : new ≡ append_known first (reply_texts silent)
+    wrote_none = wrote ∙ going.wrote ∙ ap (append_known first) (sym (append-nil (reply_texts begun)) ∙ sym (texts-push begun (one Closed None made)))
+
+  pub going_memory : Answered takes command before now old new (Err faults.Memory)
+      → (made : List Begun) × ((commands_of made ≡ commands_of begun) ⊎ (commands_of made ≡ commands_of begun ++ command ∷ [])) × Ends takes start now first new statuses.Memory made
+  going_memory (inl still, wrote) = (
+    begun,
+    inl refl,
+    (
+      record { told = ap (λ (p : Seen). p.told) still ∙ going.so.told; counts = subst (λ (p : Seen). Counts takes start.plant.faults begun p.faults) (sym still) going.so.counts; are = going.so.are },
+      all_some start.plant.told (λ t. tt),
+      inl going.answered,
+      wrote ∙ going.wrote,
+      λ was. tt,
+    ),
+  )
+  going_memory (inr made, wrote) =
+      (silent made wrote, inr (commands-push begun (one Closed None made)), (so_now Closed None made, all_some start.plant.told (λ t. tt), inr (waits made wrote), wrote_none made wrote, λ was. tt))
+
+  -- sides that are no journal
+  pub going_bad : (side : Side) (at : ℕ) → Answered takes command before now old new (Err (faults.JournalBad side at)) → (made : List Begun) × (commands_of made ≡ commands_of begun ++ command ∷ []) × Ends takes start now first new (statuses.JournalBad side at) made
+  going_bad side at (found, wrote) =
+      let made = found.made in
+      let last = one Closed None made in (
+        silent made wrote,
+        commands-push begun last,
+        (
+          so_now Closed None made,
+          map_some start.plant.told (λ t finds. record { before = begun; last = last; made_are = refl; answered = going.answered; finds = finds })
+              (at_mark takes start before now begun going.so going.session command Closed None made (λ l. FindsNone l last.piece side at) found.finds),
+          waits made wrote,
+          wrote_none made wrote,
+          λ was. found.runs,
+        ),
+      )
+
+-- A RUN THAT ENDS WITH JournalBad
+abbrev NoJournal : Side → ℕ → List Event → Type 0
+NoJournal side at trace = IsNoJournal (disk A trace).reads (disk B trace).reads (2 ^ 32) side at
+
+-- the sides read so at the exit
+last_bad : (trace : List Event) (made : List Begun) (side : Side) (at : ℕ) → LastFindsNone trace made side at → NoJournal side at (trace_after trace made)
+last_bad trace made side at l =
+    subst (λ m. NoJournal side at (trace_after trace m)) (sym l.made_are)
+    (subst (λ t. NoJournal side at t) (sym (trace-push trace l.before l.last))
+    (subst (λ a. IsNoJournal a (disk B (trace_after trace l.before ++ steps_of l.last.piece)).reads (2 ^ 32) side at) (sym (l.finds.as_before A))
+    (subst (λ b. IsNoJournal (disk A (trace_after trace l.before)).reads b (2 ^ 32) side at) (sym (l.finds.as_before B)) l.finds.no_journal)))
+
+pub ran_bad : (takes : Bool) (choices : Option Choices) (old new : Outside) (side : Side) (at : ℕ) (made : List Begun) → Ran takes choices old new (statuses.JournalBad side at) made
+    → IfSome new.plant.told (λ t. IsNoJournal (disk A t.trace).reads (disk B t.trace).reads (2 ^ 32) side at)
+ran_bad takes choices old new side at made r = to_told old.plant.told new.plant.told made r.told (NoJournal side at) (map_some old.plant.told (λ t l. last_bad t.trace made side at l) r.ends)
+
+-- over a sound trace the sides are a journal
+sides_read : (trace : List Event) (side : Side) (at : ℕ) → ArePossible trace (disk A trace).reads (disk B trace).reads → IsSound the_texts trace → IsNoJournal (disk A trace).reads (disk B trace).reads (2 ^ 32) side at → ⊥
+sides_read trace side at possible sound (bad is) = sound_not_bad the_texts trace _ _ side at possible sound is
+sides_read trace side at possible sound (cannot_follow rs n read on stops is) = sound_follows the_texts trace _ _ rs n possible sound texts_once read stops
+sides_read trace side at possible sound (no_room rs s read on lab less is) =
+    let size : journal_length (disk A trace).reads (disk B trace).reads rs ≡ gate_after rs + 1 = ap (λ l. size_of l rs) on in
+    let room = sound_room the_texts trace _ _ rs s possible sound texts_once read lab in
+    omega (arith, size, room, less)
+
+pub never_bad : (takes : Bool) (choices : Option Choices) (old new : Outside) (side : Side) (at : ℕ) (made : List Begun) → Ran takes choices old new (statuses.JournalBad side at) made
+    → IfSome new.plant.told (λ t. ArePossible t.trace (disk A t.trace).reads (disk B t.trace).reads) → IfSome old.plant.told (λ t. IsSound the_texts t.trace → ⊥)
+never_bad takes choices old new side at made r there =
+    map_three old.plant.told (λ t l are possible sound. sides_read (trace_after t.trace made) side at possible (sound_after takes t.trace Closed made are sound) (last_bad t.trace made side at l)) r.ends r.pieces
+    (from_told old.plant.told new.plant.told made r.told (λ l. ArePossible l (disk A l).reads (disk B l).reads) there)

@@ -1,0 +1,217 @@
+-- What a reply tells of a command that is no drill: no drill, and `stopped` only where the plant stopped.
+use Rattle.std.proofs.Common.{◌≡◌, ◌^◌, ℕ, Bool, true, false, List, [], ◌∷◌, ◌++◌, Option, Some, None, Result, Ok, Err, refl, sym, ◌∙◌, ap, subst}
+use Rattle.std.specs.Prelude.{IfSome, nat_le, length}
+use Rattle.lab_base.specs.declared.fault.TextFault.{TextFault}
+use Rattle.plant.specs.declared.drill.Drill.{Drill}
+use Rattle.plant.specs.Events.{Event}
+use Rattle.plant.specs.Told.{Told}
+use Rattle.phys_lab.specs.Labs.{Lab}
+use Rattle.virt_topo.specs.declared.experiment.Experiment.{Experiment}
+use Rattle.virt_topo.specs.declared.experiment.Phase.{Phase}
+use Rattle.virt_topo.specs.declared.experiment.Phase.TheVariants as phases
+use Rattle.virt_topo.specs.declared.mapping.Mapped.{Mapped}
+use Rattle.virt_topo.specs.declared.wiring.Wiring.{Wiring}
+use Rattle.virt_topo.specs.declared.violation.Broken.{Broken}
+use Rattle.virt_topo.specs.declared.violation.Subject.{Subject}
+use Rattle.journal_rec.specs.declared.record.Record.TheVariants.{Begin}
+use Rattle.journal_model.specs.Appends.{Run}
+use Rattle.journal_rec.specs.declared.record.Way.TheVariants.{In as WayIn}
+use Rattle.lab_model.specs.Beside.{violation_beside}
+use Rattle.ptop_text.specs.Adding.{lab_of_text}
+use Rattle.top_text.specs.Adding.{wiring_of_text}
+use Rattle.top_text.specs.CanonicalSolution.{canonical_solution}
+use Rattle.top_text.specs.Solutions.{mapping_of_text}
+use Rattle.lab_core.specs.Counts.{least_tags}
+use Rattle.records_model.specs.Labs.{LabState, find, others}
+use Rattle.swap_turns.specs.Legs.{Forth, Undo, Settling}
+use Rattle.swap_turns.specs.Swaps.{Swap as SwapOf}
+use Rattle.swap_turns.specs.Turning.{Outcome, Ended, Stuck, Unwritten, TurnsBack, More, Stopped as Halted}
+use Rattle.script_text.specs.declared.command.Command.{Command}
+use Rattle.script_text.specs.declared.command.Command.TheVariants as commands
+use Rattle.script_text.specs.declared.reply.Reply.{Reply}
+use Rattle.script_text.specs.declared.reply.Reply.TheVariants as replies
+use Rattle.script_text.specs.Drills.{drill_of}
+use Rattle.lab_core.specs.Breaks.{Breaks, stopped, failed, unanswered}
+use Rattle.lab_core.specs.Judge.{Task, Tell, Append, Swap, Judged, JudgedNetwork, refused, asked, ◌>>=◌, need_lab, need_none, need_found, need_new, need_meaning, need_room, need_out, need_in, need_kept, need_feasible, need_place, judged_wiring, judged_mapping}
+use Rattle.lab_core.specs.LabSteps.{LabStep, StepOf, Does, IsDoneBy, does, no_memory, FromClosed, opened, not_opened, AppendEnds, whole, broken, IsAnswered, is_told, unanswered as no_answer, end_reply, done_reply, has_space, IfSpace, Appends, Swaps}
+use Rattle.lab_core.specs.Sessions.{OpenSwap, Session, Closed, Open, Setting, After}
+use Rattle.lab_top.specs.declared.status.Status.{Status}
+use Rattle.lab_top.specs.Pieces.{Piece, Begun, ArePieces, ButForReply, IsPiece, is_closed, is_of_drill, may_shut, trace_after}
+use Rattle.lab_top.specs.Ran.{Outside, Ran}
+use Rattle.lab_top.specs.Words.{Choices}
+use Rattle.lab_top.proofs.BadJournals.{piece_at}
+
+abbrev pub of_drill_if : Option Reply → Bool
+of_drill_if None = false
+of_drill_if (Some reply) = is_of_drill reply
+
+-- the replies that no judgement has
+abbrev pub is_outer : Reply → Bool
+is_outer replies.Planned = true
+is_outer replies.NoDrill = true
+is_outer replies.Stopped = true
+is_outer reply = false
+
+no_drill_of : (reply : Reply) → is_outer reply ≡ false → is_of_drill reply ≡ false
+no_drill_of replies.Planned free = absurd (cc free)
+no_drill_of replies.NoDrill free = absurd (cc free)
+no_drill_of reply free = refl
+
+-- WHAT IS JUDGED
+abbrev pub outer_by : Result Task Reply → Bool
+outer_by (Err refusal) = is_outer refusal
+outer_by (Ok (Tell told)) = is_outer told
+outer_by (Ok (Append entry told)) = is_outer told
+outer_by (Ok (Swap exp way)) = false
+
+abbrev pub outer_of : {X : Type 0} → Result X Reply → Bool
+outer_of (Ok x) = false
+outer_of (Err refusal) = is_outer refusal
+
+and_then : {X : Type 0} (r : Result X Reply) (f : X → Result Task Reply) → outer_of r ≡ false → ((x : X) → outer_by (f x) ≡ false) → outer_by (r >>= f) ≡ false
+and_then (Ok x) f free more = more x
+and_then (Err refusal) f free more = free
+
+with_lab : (o : Option Lab) → outer_of (need_lab o) ≡ false
+with_lab None = refl
+with_lab (Some lab) = refl
+
+without_lab : (o : Option Lab) → outer_of (need_none o) ≡ false
+without_lab None = refl
+without_lab (Some lab) = refl
+
+with_found : (exp : List ℕ) (o : Option Experiment) → outer_of (need_found exp o) ≡ false
+with_found exp None = refl
+with_found exp (Some e) = refl
+
+with_new : (exp : List ℕ) (o : Option Experiment) → outer_of (need_new exp o) ≡ false
+with_new exp None = refl
+with_new exp (Some e) = refl
+
+with_meaning : {X : Type 0} (bad : TextFault → Reply) (m : Result X TextFault) → ((f : TextFault) → is_outer (bad f) ≡ false) → outer_of (need_meaning bad m) ≡ false
+with_meaning bad (Ok x) free = refl
+with_meaning bad (Err fault) free = free fault
+
+with_room : (es : List Experiment) (b : Bool) → nat_le 256 (length es) ≡ b → outer_of (need_room es) ≡ false
+with_room es true is = rw is refl
+with_room es false is = rw is refl
+
+with_out : (exp : List ℕ) (phase : Phase) → outer_of (need_out exp phase) ≡ false
+with_out exp phases.Out = refl
+with_out exp (phases.In mapping tags) = refl
+with_out exp (phases.Moving old new) = refl
+
+with_in : (exp : List ℕ) (phase : Phase) → outer_of (need_in exp phase) ≡ false
+with_in exp phases.Out = refl
+with_in exp (phases.In mapping tags) = refl
+with_in exp (phases.Moving old new) = refl
+
+with_kept : (lab : Lab) (e : Experiment) (o : Option (Broken × Subject)) → outer_of (need_kept lab e o) ≡ false
+with_kept lab e None = refl
+with_kept lab e (Some v) = refl
+
+with_place : (s : LabState) (exp : List ℕ) (o : Option Lab) → s.lab ≡ o → outer_of (need_place s exp) ≡ false
+with_place s exp None is = rw is refl
+with_place s exp (Some lab) is = rw is (with_new exp (find exp s.experiments))
+
+module _ (s : LabState) where
+  of_wiring : (exp : List ℕ) (wiring : Wiring) → outer_by (judged_wiring s exp wiring) ≡ false
+  of_wiring exp wiring = and_then (need_room s.experiments) _ (with_room s.experiments _ refl) (λ room. refl)
+
+  of_network : (exp text : List ℕ) (judgement : Result Task Reply) → JudgedNetwork s exp text judgement → outer_by judgement ≡ false
+  of_network exp text judgement (refused reply place is) =
+      ap outer_by is ∙ ap (λ (r : Result (Unit {0}) Reply). outer_of r) (sym place) ∙ with_place s exp s.lab refl
+  of_network exp text judgement (asked meaning place of is) = ap outer_by is ∙ and_then (need_meaning (replies.Bad exp) meaning) _ (with_meaning (replies.Bad exp) meaning (λ f. refl)) (λ wiring. of_wiring exp wiring)
+
+  pub judged_so : (command : Command) (judgement : Result Task Reply) → Judged s command judgement → outer_by judgement ≡ false
+  judged_so (commands.Ptop lines text) judgement is =
+      ap outer_by is
+      ∙ and_then (need_none s.lab) _ (without_lab s.lab) (λ none. and_then (need_meaning replies.BadPtop (lab_of_text text)) _ (with_meaning replies.BadPtop (lab_of_text text) (λ f. refl)) (λ lab. refl))
+  judged_so (commands.Create exp lines text) judgement is = of_network exp text judgement is
+  judged_so (commands.CreateTop exp lines text) judgement is =
+      ap outer_by is ∙ and_then (need_place s exp) _ (with_place s exp s.lab refl) (λ place. and_then (need_meaning (replies.Bad exp) (wiring_of_text text)) _ (with_meaning (replies.Bad exp) (wiring_of_text text) (λ f. refl)) (λ wiring. of_wiring exp wiring))
+  judged_so (commands.Show exp) judgement is = ap outer_by is ∙ and_then (need_lab s.lab) _ (with_lab s.lab) (λ lab. and_then (need_found exp (find exp s.experiments)) _ (with_found exp _) (λ e. refl))
+  judged_so (commands.SwapinWith exp lines text) judgement is =
+      ap outer_by is
+      ∙ and_then (need_lab s.lab) _ (with_lab s.lab) (λ lab. and_then (need_found exp (find exp s.experiments)) _ (with_found exp (find exp s.experiments))
+      (λ e. and_then (need_out exp e.phase) _ (with_out exp e.phase) (λ out. and_then (need_meaning (replies.Bad exp) (mapping_of_text lab e.wiring text)) _ (with_meaning (replies.Bad exp) (mapping_of_text lab e.wiring text) (λ f. refl))
+      (λ mapping. and_then (need_feasible lab s.experiments e mapping) (λ feasible. Ok (Swap e.name (WayIn (canonical_solution lab e.wiring mapping) (least_tags lab s.experiments (length e.wiring.segments)))))
+      (with_kept lab e (violation_beside lab (others e.name s.experiments) e e.wiring mapping)) (λ feasible. refl)))))
+  judged_so (commands.Swapout exp) judgement is =
+      ap outer_by is ∙ and_then (need_lab s.lab) _ (with_lab s.lab) (λ lab. and_then (need_found exp (find exp s.experiments)) _ (with_found exp _) (λ e. and_then (need_in exp e.phase) _ (with_in exp e.phase) (λ inside. refl)))
+  judged_so (commands.Fail device nth how) judgement is = absurd is
+  judged_so (commands.Delete exp) judgement is =
+      ap outer_by is ∙ and_then (need_lab s.lab) _ (with_lab s.lab) (λ lab. and_then (need_found exp (find exp s.experiments)) _ (with_found exp _) (λ e. and_then (need_out exp e.phase) _ (with_out exp e.phase) (λ out. refl)))
+  judged_so commands.Status judgement is = ap outer_by is ∙ and_then (need_lab s.lab) _ (with_lab s.lab) (λ lab. refl)
+
+-- WHAT IS DONE
+breaks_so : (events : List Event) (reply : Option Reply) → Breaks events reply → of_drill_if reply ≡ false
+breaks_so events reply (stopped ends is) = ap of_drill_if is
+breaks_so events reply (failed once missed is) = ap of_drill_if is
+breaks_so events reply (unanswered is) = ap of_drill_if is
+
+done_so : (exp : List ℕ) (o : Option Mapped) → is_of_drill (done_reply exp o) ≡ false
+done_so exp None = refl
+done_so exp (Some m) = refl
+
+end_so : (p : SwapOf) (outcome : Outcome) → of_drill_if (end_reply p outcome) ≡ false
+end_so p (Ended Forth) = done_so p.name p.new
+end_so p (Ended (Undo why)) = refl
+end_so p (Ended Settling) = refl
+end_so p (Stuck trouble) = refl
+end_so p Unwritten = refl
+end_so p Halted = refl
+end_so p More = refl
+end_so p (TurnsBack why) = refl
+
+module _ (set : Setting) (s : LabState) (opens : List OpenSwap) (own : List Event) (after : After) where
+  if_space : (b : Bool) (Of : Type 0) (n : ℕ) → IfSpace b n s opens Of own after → (Of → of_drill_if after.reply ≡ false) → of_drill_if after.reply ≡ false
+  if_space true Of n d by = by d
+  if_space false Of n d by = ap (λ (x : After). of_drill_if x.reply) d.after_is
+
+  ends_so : (state : LabState) (told : Reply) (run : Run) (more : List Event) → is_outer told ≡ false → AppendEnds s opens state told run more own after → of_drill_if after.reply ≡ false
+  ends_so state told run more free (whole all none is) = ap (λ (x : After). of_drill_if x.reply) is ∙ no_drill_of told free
+  ends_so state told run more free (broken breaks which session) = breaks_so own after.reply breaks
+
+  swap_so : (p : SwapOf) (outcome : Outcome) (behind : List Event) → IsAnswered opens p outcome behind after → of_drill_if after.reply ≡ false
+  swap_so p outcome behind (is_told starts reply session) = ap of_drill_if reply ∙ end_so p outcome
+  swap_so p outcome behind (no_answer starts reply session) = ap of_drill_if reply
+
+  does_so : (judgement : Result Task Reply) → outer_by judgement ≡ false → Does set s opens judgement own after → of_drill_if after.reply ≡ false
+  does_so (Err refusal) free d = ap (λ (x : After). of_drill_if x.reply) d.after_is ∙ no_drill_of refusal free
+  does_so (Ok (Tell told)) free d = ap (λ (x : After). of_drill_if x.reply) d.after_is ∙ no_drill_of told free
+  does_so (Ok (Append entry told)) free d = if_space (has_space set entry) (Appends s opens entry told own after) set.length d (λ a. ends_so a.state told a.run a.more free a.ends)
+  does_so (Ok (Swap exp way)) free d = if_space (has_space set (Begin exp way)) (Swaps s opens exp (Begin exp way) own after) set.length d (λ w. swap_so w.swap w.outcome w.behind w.answered)
+
+  by_so : (command : Command) → IsDoneBy (Judged s command) set s opens own after → of_drill_if after.reply ≡ false
+  by_so command (does judgement judged d) = does_so judgement (judged_so s command judgement judged) d
+  by_so command (no_memory wants) = ap (λ (x : After). of_drill_if x.reply) wants.after_is
+
+step_so : (takes : Bool) (set : Setting) (s : LabState) (session : Session) (command : Command) (opening own : List Event) (after : After) → StepOf None (λ lab. Judged lab command) takes set s session opening own after → of_drill_if after.reply ≡ false
+step_so takes set s Closed command opening own after (opened mid opens d) = by_so set mid [] own after command d
+step_so takes set s Closed command opening own after (not_opened b) = breaks_so opening after.reply b.breaks
+step_so takes set s (Open opens) command opening own after step = by_so set s opens own after command step.1
+
+shut_so : (reply : Reply) → may_shut (Some reply) ≡ true → is_of_drill reply ≡ false
+shut_so replies.Planned shut = absurd (cc shut)
+shut_so replies.NoDrill shut = absurd (cc shut)
+shut_so reply shut = refl
+
+-- OVER A RUN
+pub no_drill_reply : (takes : Bool) (choices : Option Choices) (old new : Outside) (status : Status) (before after : List Begun) (b : Begun) (t : Told) (reply : Reply) → Ran takes choices old new status (before ++ b ∷ after) → old.plant.told ≡ Some t
+    → drill_of b.piece.command ≡ None → b.piece.reply ≡ Some reply → is_of_drill reply ≡ false
+no_drill_reply takes choices old new status before after b t reply r is no_drill replied =
+    let are = subst (λ (o : Option Told). IfSome o (λ u. ArePieces takes u.trace Closed (before ++ b ∷ after))) is r.pieces in
+    let piece = piece_at takes t.trace Closed before after b are in
+    by (is_closed b.piece.to) refl piece
+  where
+    by : (shut : Bool) → is_closed b.piece.to ≡ shut → IsPiece takes (trace_after t.trace before) b.piece → is_of_drill reply ≡ false
+    by true shut piece = shut_so reply (ap may_shut (sym replied) ∙ piece.shuts no_drill shut)
+    by false shut piece =
+        let l = piece.leads no_drill shut in
+        let told : l.steps.told ≡ Some reply = (subst (λ (o : Option Reply). ButForReply o b.piece.to l.steps.told l.steps.session l.steps.behind) replied l.steps.is_told).0 in
+        let set : Setting = record { length = l.steps.length; limit = 2 ^ 32 } in
+        let done : After = record { reply = l.steps.told; lab = l.last; session = l.steps.session } in
+        ap of_drill_if (sym told)
+        ∙ step_so takes set l.first b.piece.from b.piece.command b.piece.opening (b.piece.own ++ l.steps.behind) done
+        (subst (λ (d : Option Drill). StepOf d (λ lab. Judged lab b.piece.command) takes set l.first b.piece.from b.piece.opening (b.piece.own ++ l.steps.behind) done) no_drill l.steps.step)

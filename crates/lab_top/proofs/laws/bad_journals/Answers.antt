@@ -1,0 +1,5 @@
+use Rattle.lab_top.proofs.BadJournals.{ends_bad}
+use Rattle.lab_top.proofs.laws.bad_journals.Goals as goal
+
+pub returns : goal.returns
+returns c = ends_bad

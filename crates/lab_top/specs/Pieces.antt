@@ -1,0 +1,241 @@
+-- Pieces: what a command does, from its mark to its reply.
+use Rattle.std.specs.Prelude.{◌≡◌, ◌≢◌, ◌⊎◌, ◌≤◌, ◌^◌, ℕ, Bool, true, false, ◌&&◌, not, is_some, List, [], ◌∷◌, ◌++◌, map, Option, Some, None, if◌then◌else◌}
+use Rattle.std.specs.List.{flat_map}
+use Rattle.plant.specs.Calls.{Rose}
+use Rattle.plant.specs.Disks.{disk, ArePossible}
+use Rattle.plant.specs.Events.{Event, Restarted}
+use Rattle.plant.specs.Told.{Told, with_steps, with_mark, with_drill}
+use Rattle.plant.specs.declared.drill.Drill.{Drill}
+use Rattle.plant.specs.declared.moment.Faults.{Faults}
+use Rattle.plant.specs.declared.step.Side.{Side}
+use Rattle.plant.specs.declared.step.Side.TheVariants.{A, B}
+use Rattle.virt_topo.specs.declared.experiment.Experiment.{Experiment}
+use Rattle.records_model.specs.Labs.{LabState, find}
+use Rattle.records_model.specs.Works.{IsSound}
+use Rattle.journal_disk.specs.Before.{are_synced}
+use Rattle.journal_disk.specs.Opening.{both_synced}
+use Rattle.journal_runs.specs.Pieces.{has_command, has_miss, has_restart}
+use Rattle.lab_state.specs.Texts.{the_texts}
+use Rattle.script_text.specs.declared.command.Command.{Command}
+use Rattle.script_text.specs.declared.reply.Reply.{Reply}
+use Rattle.script_text.specs.declared.reply.Reply.TheVariants.{Planned, NoDrill, Stopped}
+use Rattle.script_text.specs.Drills.{drill_of}
+use Rattle.script_text.specs.Replies.{text_of, closes, blames_device}
+use Rattle.lab_core.specs.LabSteps.{LabStep}
+use Rattle.lab_core.specs.Moments.{IsNoJournal, IsLabAt, IsLabOfImage, AllStandFor, StandForLab, IsLengthAt}
+use Rattle.lab_core.specs.Breaks.{Breaks}
+use Rattle.lab_core.specs.Tells.{name_of}
+use Rattle.lab_core.specs.Opening.{IsJournal}
+use Rattle.lab_core.specs.Sessions.{Session, Closed, Open, HandsOn}
+
+-- A PIECE: a command, the session before and after it, the steps of its opening and its own, and its reply, if it was answered
+pub record Piece : Type 0 where
+  pub command : Command
+  pub from : Session
+  pub to : Session
+  pub opening : List Event
+  pub own : List Event
+  pub reply : Option Reply
+
+abbrev pub steps_of : Piece → List Event
+steps_of piece = piece.opening ++ piece.own
+
+-- A COMMAND THAT WAS BEGUN: the counts of faults at its mark, its piece, whether the failure that a drill asks for was planned, and the counts after it
+pub record Begun : Type 0 where
+  pub faults : Faults
+  pub piece : Piece
+  pub planned : Bool
+  pub later : Faults
+
+abbrev pub commands_of : List Begun → List Command
+commands_of begun = map (λ b. b.piece.command) begun
+
+-- the trace after them
+abbrev pub trace_after : List Event → List Begun → List Event
+trace_after trace [] = trace
+trace_after trace (b ∷ begun) = trace_after (trace ++ steps_of b.piece) begun
+
+-- the drill that it planned
+abbrev pub planned_of : Begun → Option Drill
+planned_of b = if b.planned then drill_of b.piece.command else None
+
+abbrev pub with_drill_if : Option Told → Option Drill → Option Told
+with_drill_if told None = told
+with_drill_if told (Some drill) = with_drill told drill
+
+-- what the plant tells after them: of each the moment is marked, then its steps are made, and then its drill is taken
+abbrev pub with_piece : Option Told → Begun → Option Told
+with_piece told b = with_drill_if (with_steps (with_mark told b.faults) (steps_of b.piece)) (planned_of b)
+
+abbrev pub with_pieces : Option Told → List Begun → Option Told
+with_pieces told [] = told
+with_pieces told (b ∷ begun) = with_pieces (with_piece told b) begun
+
+-- THE CAUSES OF REPLIES
+
+-- counts that never fall
+pub record Later (before now : Faults) : Type 0 where
+  pub disk : before.disk ≤ now.disk
+  pub devices : before.devices ≤ now.devices
+
+abbrev pub closes_if : Option Reply → Bool
+closes_if None = false
+closes_if (Some reply) = closes reply
+
+abbrev pub blames_if : Option Reply → Bool
+blames_if None = false
+blames_if (Some reply) = blames_device reply
+
+-- A DRILL IS PLANNED exactly where its reply tells it, and that only over a plant that takes drills; without a reply it may be. No other
+-- command plans one.
+abbrev pub IsPlannedAs : Bool → Bool → Option Reply → Type 0
+IsPlannedAs takes planned None = planned ≡ true → takes ≡ true
+IsPlannedAs takes planned (Some Planned) = (planned ≡ true) × (takes ≡ true)
+IsPlannedAs takes planned (Some NoDrill) = (planned ≡ false) × (takes ≡ false)
+IsPlannedAs takes planned (Some reply) = planned ≡ false
+
+abbrev pub IsPlannedBy : Bool → Option Drill → Bool → Option Reply → Type 0
+IsPlannedBy takes None planned reply = planned ≡ false
+IsPlannedBy takes (Some drill) planned reply = IsPlannedAs takes planned reply
+
+-- a reply that closes comes only where the disk's count rose, one that blames a device only where the devices' count rose, and a drill is
+-- planned as its reply tells
+pub record IsCaused (takes : Bool) (b : Begun) : Type 0 where
+  pub later : Later b.faults b.later
+  pub disk : closes_if b.piece.reply ≡ true → Rose b.faults.disk b.later.disk
+  pub device : blames_if b.piece.reply ≡ true → Rose b.faults.devices b.later.devices
+  pub planned : IsPlannedBy takes (drill_of b.piece.command) b.planned b.piece.reply
+
+-- THE COUNTS OF FAULTS begin with those of the entry and end with those of the exit
+abbrev pub Counts : Bool → Faults → List Begun → Faults → Type 0
+Counts takes entry [] exit = exit ≡ entry
+Counts takes entry (b ∷ begun) exit = (b.faults ≡ entry) × IsCaused takes b × Counts takes b.later begun exit
+
+-- HOW A COMMAND FINDS THE JOURNAL, over any trace
+
+-- it opens the journal: no call failed or stopped, and the sides are a journal; or it breaks off, and nothing of the command's own is done
+pub data IsOpening (trace : List Event) (piece : Piece) : Type 0 where
+  opened : has_miss piece.opening ≡ false → has_restart piece.opening ≡ false → IsJournal (disk A trace).reads (disk B trace).reads (2 ^ 32) → IsOpening trace piece
+  broken_off : Breaks piece.opening piece.reply → piece.own ≡ [] → piece.to ≡ Closed → IsOpening trace piece
+
+-- a drill needs no open session: it has no steps, and its reply leaves the session as it was. Every other command opens it where it is closed, without
+-- a device command.
+abbrev pub Finds : Option Drill → Session → List Event → Piece → Type 0
+Finds (Some drill) from trace piece = (piece.opening ≡ []) × (piece.own ≡ []) × (is_some piece.reply ≡ true → piece.to ≡ from)
+Finds None Closed trace piece = (has_command piece.opening ≡ false) × IsOpening trace piece
+Finds None (Open opens) trace piece = piece.opening ≡ []
+
+-- the session stays open only behind a reply that doesn't close it, and is closed only behind one that closes it, behind `stopped`, or where there is none
+abbrev pub stays_open : Option Reply → Bool
+stays_open None = false
+stays_open (Some reply) = not (closes reply)
+
+abbrev pub may_shut : Option Reply → Bool
+may_shut None = true
+may_shut (Some Stopped) = true
+may_shut (Some reply) = closes reply
+
+-- THE SIDES ARE NO JOURNAL, and the program leaves them as they are: a command that is no drill finds the session closed; both sides are synced, and
+-- nothing else is done, so neither reads other than before
+pub record FindsNone (trace : List Event) (piece : Piece) (side : Side) (at : ℕ) : Type 0 where
+  pub no_drill : drill_of piece.command ≡ None
+  pub closed : piece.from ≡ Closed
+  pub no_journal : IsNoJournal (disk A trace).reads (disk B trace).reads (2 ^ 32) side at
+  pub synced : piece.opening ≡ both_synced
+  pub nothing : piece.own ≡ []
+  pub no_reply : piece.reply ≡ None
+  pub as_before : (s : Side) → (disk s (trace ++ steps_of piece)).reads ≡ (disk s trace).reads
+
+-- the replies to drills
+abbrev pub is_of_drill : Reply → Bool
+is_of_drill Planned = true
+is_of_drill NoDrill = true
+is_of_drill reply = false
+
+-- THE LAB STEP of a piece between these labs: the limit is 2^32 bytes, and the length is the journal's as its sides read after the opening.
+-- One that isn't answered is a lab step but for its reply, and perhaps for the start of a plant that stopped.
+abbrev pub ButForReply : Option Reply → Session → Option Reply → Session → List Event → Type 0
+ButForReply (Some reply) to told session behind = (told ≡ Some reply) × (session ≡ to) × (behind ≡ [])
+ButForReply None to told session behind = (behind ≡ []) ⊎ ((a b : List ℕ) × (behind ≡ Restarted a b ∷ []))
+
+pub record StepsFrom (takes : Bool) (trace : List Event) (piece : Piece) (s after : LabState) : Type 0 where
+  pub length : ℕ
+  pub length_is : IsLengthAt (trace ++ piece.opening) length
+  pub told : Option Reply
+  pub session : Session
+  pub behind : List Event
+  pub is_told : ButForReply piece.reply piece.to told session behind
+  pub step : LabStep takes (record { length = length; limit = 2 ^ 32 }) s piece.from piece.command piece.opening (piece.own ++ behind) (record { reply = told; lab = after; session = session })
+
+-- the first lab is that of the moment; where the plant stopped in an opening before both sides were synced, that of an image
+abbrev pub is_closed : Session → Bool
+is_closed Closed = true
+is_closed (Open opens) = false
+
+abbrev pub is_early : Piece → Bool
+is_early piece = is_closed piece.from && (has_restart piece.opening && not (are_synced piece.opening))
+
+abbrev pub FirstLab : Bool → List Event → LabState → Type 0
+FirstLab true trace s = IsLabOfImage trace s
+FirstLab false trace s = IsLabAt trace s
+
+-- after `stopped`, and after a reply that leaves the session open, all images stand for the last lab; after each other reply each image stands for
+-- the lab after a step from an image before it
+abbrev pub leaves_one : Session → Option Reply → Bool
+leaves_one (Open opens) reply = true
+leaves_one Closed (Some Stopped) = true
+leaves_one Closed reply = false
+
+abbrev pub ImagesAfter : Bool → Bool → List Event → Piece → LabState → Type 0
+ImagesAfter takes true trace piece last = AllStandFor (trace ++ steps_of piece) last
+ImagesAfter takes false trace piece last = (a b : List ℕ) → ArePossible (trace ++ steps_of piece) a b
+    → (s : LabState) × (after : LabState) × IsLabOfImage trace s × StandForLab a b after × StepsFrom takes trace piece s after
+
+-- A PIECE IS A LAB STEP over the trace before it: the lab that it goes from, the one that it leaves, and the step between both
+pub record Leads (takes : Bool) (trace : List Event) (piece : Piece) : Type 0 where
+  pub first : LabState
+  pub last : LabState
+  pub before : FirstLab (is_early piece) trace first
+  pub behind : IsLabAt (trace ++ steps_of piece) last
+  pub steps : StepsFrom takes trace piece first last
+
+-- over a sound trace it is one, whatever its reply; each image stands for such a lab, and the trace stays sound
+pub record IsDone (takes : Bool) (trace : List Event) (piece : Piece) : Type 0 where
+  pub leads : Leads takes trace piece
+  pub images : is_some piece.reply ≡ true → ImagesAfter takes (leaves_one piece.to piece.reply) trace piece leads.last
+  pub sound : IsSound the_texts (trace ++ steps_of piece)
+
+-- OVER ANY TRACE a piece finds the journal so; where it leaves the session open, the sides stand for the lab, and it is a lab step
+pub record IsPiece (takes : Bool) (trace : List Event) (piece : Piece) : Type 0 where
+  pub readable : ArePossible trace (disk A trace).reads (disk B trace).reads
+  pub finds : Finds (drill_of piece.command) piece.from trace piece
+  pub leaves : stays_open piece.reply ≡ false → piece.to ≡ Closed
+  pub shuts : drill_of piece.command ≡ None → is_closed piece.to ≡ true → may_shut piece.reply ≡ true
+  pub leads : drill_of piece.command ≡ None → is_closed piece.to ≡ false → Leads takes trace piece
+  pub done : IsSound the_texts trace → IsDone takes trace piece
+
+-- each image that is possible stands for a lab in which the experiment is so
+abbrev pub AllHave : List Event → Experiment → Type 0
+AllHave trace e = (a b : List ℕ) → ArePossible trace a b → (u : LabState) × StandForLab a b u × (find e.name u.experiments ≡ Some e)
+
+-- none of the commands is about the experiment of that name
+abbrev pub AreOthers : List ℕ → List Begun → Type 0
+AreOthers name [] = Unit {0}
+AreOthers name (b ∷ begun) = (name_of b.piece.command ≢ Some name) × AreOthers name begun
+
+-- pieces one after another, the session handed on
+abbrev pub ArePieces : Bool → List Event → Session → List Begun → Type 0
+ArePieces takes trace session [] = Unit {0}
+ArePieces takes trace session (b ∷ begun) = HandsOn session b.piece.from × IsPiece takes trace b.piece × ArePieces takes (trace ++ steps_of b.piece) b.piece.to begun
+
+-- the text of the reply, if there is one
+abbrev pub text_if : Option Reply → List ℕ
+text_if None = []
+text_if (Some reply) = text_of reply
+
+abbrev pub reply_text : Begun → List ℕ
+reply_text b = text_if b.piece.reply
+
+-- the replies, in order
+abbrev pub reply_texts : List Begun → List ℕ
+reply_texts begun = flat_map reply_text begun

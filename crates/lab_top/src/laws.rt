@@ -1,0 +1,48 @@
+// Laws of a run.
+ghost use Rattle.std.specs.Prelude.{◌≡◌, ◌⊎◌, ◌^◌, ℕ, Bool, false, List, [], ◌∷◌, ◌++◌, Option, Some, None};
+ghost use Rattle.plant.specs.Disks.{disk};
+ghost use Rattle.plant.specs.Told.{Told};
+ghost use Rattle.plant.specs.declared.step.Side.{Side};
+ghost use Rattle.plant.specs.declared.step.Side.TheVariants.{A, B};
+ghost use Rattle.virt_topo.specs.declared.experiment.Experiment.{Experiment};
+ghost use Rattle.records_model.specs.Labs.{LabState};
+ghost use Rattle.records_model.specs.Works.{IsSound};
+ghost use Rattle.journal_runs.specs.Pieces.{has_miss, has_restart};
+ghost use Rattle.lab_state.specs.Texts.{the_texts};
+ghost use Rattle.script_text.specs.declared.command.Command.TheVariants.{SwapinWith};
+ghost use Rattle.script_text.specs.declared.reply.Reply.{Reply};
+ghost use Rattle.script_text.specs.declared.reply.Reply.TheVariants.{In};
+ghost use Rattle.script_text.specs.Drills.{drill_of};
+ghost use Rattle.lab_core.specs.Moments.{IsNoJournal};
+ghost use Rattle.lab_core.specs.Sessions.{Closed};
+ghost use Rattle.lab_core.specs.Tells.{IsFeasibleFor, Hinders};
+ghost use Rattle.lab_top.specs.Pieces.{Begun, AllHave, AreOthers, FirstLab, is_early, is_of_drill, trace_after};
+ghost use Rattle.lab_top.specs.Ran.{AreAnswered, Outside, Ran};
+ghost use Rattle.lab_top.specs.Words.{Choices};
+ghost use Rattle.lab_top.specs.declared.status.Status.{Status};
+ghost use Rattle.lab_top.specs.declared.status.Status.TheVariants.{Memory, JournalBad};
+
+/// Where a command that is no drill finds the session closed and the sides to be no journal, and no call of its opening failed or
+/// stopped, the run ends with `JournalBad` at that very place, or memory is wanting. No premise is on what the trace was before.
+pub fn bad_journals()
+    ensures { (takes : Bool) (choices : Option Choices) (old new : Outside) (status : Status) (before after : List Begun) (b : Begun) (t : Told) (side : Side) (at : ℕ)
+        → Ran takes choices old new status (before ++ b ∷ after) → old.plant.told ≡ Some t → drill_of b.piece.command ≡ None → b.piece.from ≡ Closed
+        → has_miss b.piece.opening ≡ false → has_restart b.piece.opening ≡ false
+        → IsNoJournal (disk A (trace_after t.trace before)).reads (disk B (trace_after t.trace before)).reads (2 ^ 32) side at
+        → (status ≡ Memory) ⊎ (status ≡ JournalBad side at) }
+{}
+
+/// A supplied solution is swapped in exactly where it is feasible on what is free, unless the reply tells what hindered it. An
+/// experiment stays as it is, in every image that a later stop may leave, until a later command on it. A command that is no drill
+/// has no reply of a drill, whatever the trace was before. A trace in which nothing has happened is sound.
+pub fn runs()
+    ensures solutions { (takes : Bool) (choices : Option Choices) (old new : Outside) (status : Status) (before after : List Begun) (b : Begun) (t : Told) (exp text : List ℕ) (lines : ℕ) (reply : Reply)
+        → Ran takes choices old new status (before ++ b ∷ after) → old.plant.told ≡ Some t → IsSound the_texts t.trace → b.piece.command ≡ SwapinWith exp lines text → b.piece.reply ≡ Some reply
+        → (s : LabState) × FirstLab (is_early b.piece) (trace_after t.trace before) s × (reply ≡ In exp → IsFeasibleFor s exp text) × (IsFeasibleFor s exp text → (reply ≡ In exp) ⊎ Hinders reply) }
+    ensures kept { (takes : Bool) (choices : Option Choices) (old new : Outside) (status : Status) (before middle after : List Begun) (t : Told) (e : Experiment)
+        → Ran takes choices old new status (before ++ (middle ++ after)) → old.plant.told ≡ Some t → IsSound the_texts t.trace
+        → AllHave (trace_after t.trace before) e → AreAnswered middle → AreOthers e.name middle → AllHave (trace_after t.trace (before ++ middle)) e }
+    ensures undrilled { (takes : Bool) (choices : Option Choices) (old new : Outside) (status : Status) (before after : List Begun) (b : Begun) (t : Told) (reply : Reply)
+        → Ran takes choices old new status (before ++ b ∷ after) → old.plant.told ≡ Some t → drill_of b.piece.command ≡ None → b.piece.reply ≡ Some reply → is_of_drill reply ≡ false }
+    ensures blank { IsSound the_texts [] }
+{}
