@@ -9,7 +9,7 @@ ghost use Rattle.claims.specs.Counts.{is_owned_by, is_free_to, free_from};
 use crate::claim::{Claim, Entry};
 use crate::claims::{Claims, place_of};
 use crate::fault::TakeFault;
-use lab_base::{Items, Memory, Name, Tags, VlanId};
+use lab_base::{Items, Memory, Name, Tags, TrunkId, VlanId};
 use phys_lab::Free;
 use std::alloc::Global;
 
@@ -131,9 +131,19 @@ fn first_free(
     Ok(tags)
 }
 
+/// What is left of the trunk of that number.
+fn left_of(kbps: &[u64], used: &[u64], number: usize) -> u64
+    requires number { number < length kbps.now }
+    requires one_each { length used.now ≡ length kbps.now }
+    requires within { slice_index_or used.now number 0 ≤ slice_index_or kbps.now number 0 }
+    ensures { result + slice_index_or used.now number 0 ≡ slice_index_or kbps.now number 0 }
+{
+    kbps[number] - used[number]
+}
+
 impl Claims {
-    ghost use Rattle.std.specs.Prelude.{◌≡◌, length, IfOk};
-    ghost use Rattle.claims.specs.Held.{free_nodes, free_ids, nodes_of, ids_of, claim_named, IsLeftTo};
+    ghost use Rattle.std.specs.Prelude.{◌≡◌, ◌+◌, ◌<◌, length, slice_index_or, IfOk};
+    ghost use Rattle.claims.specs.Held.{free_nodes, free_ids, nodes_of, ids_of, claim_named, use_by, IsLeftTo};
     ghost use Rattle.claims.specs.Answered.{AreTaken};
 
     /// How many nodes and how many VLAN ids no claim has.
@@ -154,6 +164,14 @@ impl Claims {
         let nodes = owned_in(&self.tables.nodes, exp);
         let ids = owned_in(&self.tables.ids, exp);
         (nodes as u16, ids as u16)
+    }
+
+    /// The kbps that all claims leave of a trunk. It takes no memory.
+    pub fn left(&self, trunk: TrunkId) -> u64
+        requires { trunk.0 < length self.now.kbps }
+        ensures { result + use_by trunk.0 self.now.entries ≡ slice_index_or self.now.kbps trunk.0 0 }
+    {
+        left_of(&self.kbps, &self.tables.used, trunk.0 as usize)
     }
 
     /// What the others leave to an experiment.
