@@ -11,5 +11,4 @@ pub mod Numbering
 pub mod Ready
 pub mod SoundParts
 pub mod SoundOnce
-pub mod SampleLaws
 pub mod LeastLaws
