@@ -19,8 +19,8 @@ use Rattle.journal_rec.specs.declared.record.Way.TheVariants.{In as WayIn}
 use Rattle.lab_model.specs.Beside.{violation_beside}
 use Rattle.ptop_text.specs.Adding.{lab_of_text}
 use Rattle.top_text.specs.Adding.{wiring_of_text}
-use Rattle.top_text.specs.CanonicalSolution.{canonical_solution}
-use Rattle.top_text.specs.Solutions.{mapping_of_text}
+use Rattle.solution_text.specs.CanonicalSolution.{canonical_solution}
+use Rattle.solution_text.specs.Solutions.{mapping_of_text}
 use Rattle.lab_core.specs.Counts.{least_tags}
 use Rattle.records_model.specs.Labs.{LabState, find, others}
 use Rattle.swap_turns.specs.Legs.{Forth, Undo, Settling}
