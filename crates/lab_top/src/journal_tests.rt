@@ -1,4 +1,6 @@
-ghost use Rattle.std.specs.Prelude.{◌≤◌, ◌^◌};
+ghost use Rattle.std.specs.Prelude.{◌≡◌, ◌≤◌, ◌^◌, None};
+ghost use Rattle.script_text.specs.Blocks.{HasBlocks};
+ghost use Rattle.script_text.specs.Drills.{drill_of};
 
 use super::*;
 use crate::tests::run_over;
@@ -223,6 +225,17 @@ fn only_so_many_experiments_are_made(rt: HostRuntime) -> Result<(), Fail> {
     Ok(())
 }
 
+/// The command that sets a lab of nothing.
+fn lab_of_nothing(alloc: Global) -> Command
+    ensures blocks { HasBlocks result }
+    ensures no_drill { drill_of result ≡ None }
+{
+    Command::Ptop {
+        lines: 0,
+        ptop: Text::new(alloc),
+    }
+}
+
 /// What a controller of that limit replies to a lab of nothing, over a blank plant.
 fn reply_within(alloc: Global, limit: u64) -> Result<Reply, Fail>
     requires least { 18 ≤ limit }
@@ -232,10 +245,7 @@ fn reply_within(alloc: Global, limit: u64) -> Result<Reply, Fail>
     let Ok(mut controller) = Controller::open(alloc, limit, &mut plant) else {
         return Err("an open journal".into());
     };
-    let command = Command::Ptop {
-        lines: 0,
-        ptop: Text::new(alloc),
-    };
+    let command = lab_of_nothing(alloc);
     match controller.obey(&command, &mut plant) {
         Ok(reply) => Ok(reply),
         Err(_) => Err("a reply".into()),
