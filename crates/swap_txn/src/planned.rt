@@ -70,6 +70,14 @@ impl Planned {
         })
     }
 
+    /// The experiment.
+    pub fn exp(&self) -> Name
+        ensures exp { result ≡ (self.now.forth).exp }
+        ensures begin { (r : Entry) × IsBody self.now.begin r }
+    {
+        self.work.exp
+    }
+
     /// The size of the record Begin.
     pub fn size(&self) -> u64
         ensures { result ≡ length self.now.begin }
