@@ -1,4 +1,5 @@
 pub mod Changing
+pub mod PlaceLaws
 pub mod EachWord
 pub mod Elements
 pub mod NamesDiffer

@@ -1,4 +1,5 @@
 pub mod Networks
+pub mod Places
 pub mod Words
 pub mod Checks
 pub mod Gives

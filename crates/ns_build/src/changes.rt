@@ -65,7 +65,7 @@ fn address_link(alloc: Global, link: &mut AskedLink, node: u16, address: u32)
 }
 
 /// A link or LAN gets something.
-fn change_link(alloc: Global, link: &mut AskedLink, change: LinkChange)
+pub(crate) fn change_link(alloc: Global, link: &mut AskedLink, change: LinkChange)
     ensures { link.new ≡ link_with change link.old }
 {
     match change {
@@ -115,9 +115,7 @@ impl Network {
     fn change_link_at(&mut self, alloc: Global, place: usize, change: LinkChange)
         ensures { self.new ≡ networks.change_link self.old place change }
     {
-        if place < self.links.len() {
-            change_link(alloc, &mut self.links[place], change);
-        }
+        self.links.change(alloc, place, change);
     }
 
     /// Does what is asked for. Without memory it changes nothing.

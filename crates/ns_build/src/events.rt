@@ -110,7 +110,7 @@ impl Network {
     {
         Event {
             at: event.at,
-            link: self.links[event.place].name,
+            link: self.links.as_slice()[event.place].name,
             what: event.what,
             line: event.line,
         }

@@ -13,6 +13,7 @@ mod host;
 mod judging;
 mod keywords;
 mod laws;
+mod links;
 mod naming;
 mod network;
 mod objects;

@@ -53,7 +53,7 @@ impl Network {
         requires { place < 65535 }
         ensures { result ≡ judges.is_numbered (numbered_name_of numbered.Link (place + 1)) (map (λ x. x.name) self.now.links) place }
     {
-        match self.links.get(place) {
+        match self.links.as_slice().get(place) {
             Some(link) => number_name(Numbered::Link, place) == link.name,
             None => false,
         }
@@ -86,7 +86,7 @@ impl Network {
             return Ok(Task::Nothing);
         }
         let name = object_name_in(variable)?;
-        refuse(Kind::Twice, has_link(name, &self.links))?;
+        refuse(Kind::Twice, has_link(name, self.links.as_slice()))?;
         Ok(Task::ChangeLink {
             place,
             change: LinkChange::Name(name),

@@ -1,11 +1,12 @@
 //! The network that a text has made so far.
 
-ghost use Rattle.std.specs.Prelude.{◌≡◌, ◌≤◌, ◌<◌, false, length, map, slice_index_or, count_by, position, IfSome};
+ghost use Rattle.std.specs.Prelude.{◌≡◌, ◌≤◌, ◌<◌, false, length, map, slice_index_or, position, IfSome};
 ghost use Rattle.virt_topo.specs.Repeats.{same_name};
 ghost use Rattle.virt_topo.specs.Topos.{IsTopo};
 ghost use Rattle.ns_build.specs.Networks as networks;
 ghost use Rattle.ns_build.specs.Words as words;
 
+use crate::links::Links;
 use crate::task::Planned;
 use crate::words::{LINK, NODE, place_in};
 use lab_base::{Items, Name};
@@ -19,7 +20,7 @@ use virt_topo::{AskedLink, AskedNode, Asks, Class, Topo, VirtEnd};
 pub(crate) struct Network {
     pub(crate) simulator: bool,
     pub(crate) nodes: Vec<AskedNode>,
-    pub(crate) links: Vec<AskedLink>,
+    pub(crate) links: Links,
     pub(crate) classes: Vec<Class>,
     pub(crate) events: Vec<Planned>,
 }
@@ -29,7 +30,7 @@ impl Model for Network {
 
     ghost Value = { NetworkSeen };
 
-    ghost view = { λ n. record { simulator = n.simulator; nodes = n.nodes.items; links = n.links.items; classes = n.classes.items; events = n.events.items } };
+    ghost view = { λ n. record { simulator = n.simulator; nodes = n.nodes.items; links = n.links; classes = n.classes.items; events = n.events.items } };
 }
 
 /// Whether a node is an end.
@@ -44,20 +45,6 @@ fn is_on(node: u16, link: &AskedLink) -> bool
     ensures { result ≡ networks.is_on node link.now }
 {
     has_end(node, link.ends.as_slice())
-}
-
-/// How many links and LANs a node is on.
-fn count_on(node: u16, links: &[AskedLink]) -> usize
-    ensures { result ≡ count_by (networks.is_on node) links.now }
-{
-    links.iter().filter(|link| is_on(node, link)).count()
-}
-
-/// The place of the first link or LAN that a node is on.
-fn first_on(node: u16, links: &[AskedLink]) -> Option<usize>
-    ensures { result ≡ position (networks.is_on node) links.now }
-{
-    links.iter().position(|link| is_on(node, link))
 }
 
 /// The place of the class of a name.
@@ -76,7 +63,7 @@ impl Network {
         Network {
             simulator: false,
             nodes: Vec::new(alloc),
-            links: Vec::new(alloc),
+            links: Links::new(alloc),
             classes: Vec::new(alloc),
             events: Vec::new(alloc),
         }
@@ -96,7 +83,7 @@ impl Network {
         } = self;
         Topo::new(
             Items::from_vec(nodes),
-            Items::from_vec(links),
+            Items::from_vec(links.into_vec()),
             Items::from_vec(classes),
         )
     }
@@ -124,7 +111,7 @@ impl Network {
     fn is_lan(&self, place: usize) -> bool
         ensures { result ≡ slice_index_or (map (λ l. l.lan) self.now.links) place false }
     {
-        match self.links.get(place) {
+        match self.links.as_slice().get(place) {
             Some(link) => link.lan,
             None => false,
         }
@@ -150,7 +137,7 @@ impl Network {
     pub fn is_on_at(&self, node: u16, place: usize) -> bool
         ensures { result ≡ networks.is_on_at self.now node place }
     {
-        match self.links.get(place) {
+        match self.links.as_slice().get(place) {
             Some(link) => is_on(node, link),
             None => false,
         }
@@ -160,11 +147,7 @@ impl Network {
     pub fn only_link(&self, node: u16) -> Option<usize>
         ensures { result ≡ networks.only_link self.now node }
     {
-        if count_on(node, &self.links) == 1 {
-            first_on(node, &self.links)
-        } else {
-            None
-        }
+        self.links.only(node)
     }
 
     /// What the name of a type asks for: the class of that name where one is made.

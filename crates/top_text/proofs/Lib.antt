@@ -3,6 +3,8 @@ pub mod OwnPlaces
 pub mod SoundTests
 pub mod AddressAgain
 pub mod PartLaws
+pub mod TableLaws
+pub mod AddedLaws
 pub mod TopLines
 pub mod TopAgain
 pub mod TopPrinted

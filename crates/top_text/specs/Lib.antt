@@ -1,5 +1,6 @@
 pub mod Lines
 pub mod Adding
+pub mod Tables
 pub mod Canonical
 pub mod Printable
 pub mod Once

@@ -1,11 +1,13 @@
 //! Wirings as top text.
 #![tactic(auto)]
 
+mod judge;
 mod laws;
 mod lines;
 mod print;
 mod read;
 mod so_far;
+mod tables;
 
 pub use laws::{texts_are_of_one, texts_are_read_back};
 pub use print::{print_top, virt_name};

@@ -3,18 +3,19 @@ ghost use Rattle.lab_base.specs.Texts.{lines_of};
 ghost use Rattle.line_text.specs.Reading.{line_added, read_from};
 ghost use Rattle.line_text.specs.Refusals.{Reads, ReadsInto, Takes};
 ghost use Rattle.virt_topo.specs.Soundness.{IsSound};
-ghost use Rattle.top_text.specs.Adding.{added, kept, start, wiring_of_text};
+ghost use Rattle.top_text.specs.Adding.{added, finished, wiring_of_text};
+ghost use Rattle.top_text.specs.Tables.{IsReading};
 
-use crate::so_far::add;
-use lab_base::{Items, Kind, TextFault, TextRefused, fields_in, first_line, is_skipped};
+use crate::so_far::{SoFar, add};
+use lab_base::{Kind, TextFault, TextRefused, fields_in, first_line, is_skipped};
 use line_text::{LineFault, refusal};
 use std::alloc::Global;
 use virt_topo::Wiring;
 
-fn add_line(so_far: &mut Wiring, alloc: Global, line: &[u8]) -> Result<(), LineFault>
-    requires { kept so_far.old ≡ Ok so_far.old }
-    ensures takes { Takes result so_far.new (line_added added so_far.old line.now) }
-    ensures keeps { OnOk result (kept so_far.new ≡ Ok so_far.new) }
+fn add_line(so_far: &mut SoFar, alloc: Global, line: &[u8]) -> Result<(), LineFault>
+    requires { IsReading so_far.old }
+    ensures takes { Takes result so_far.new.wiring (line_added added so_far.old.wiring line.now) }
+    ensures keeps { OnOk result (IsReading so_far.new) }
 {
     let fields = fields_in(alloc, line)?;
     if is_skipped(&fields) {
@@ -24,11 +25,11 @@ fn add_line(so_far: &mut Wiring, alloc: Global, line: &[u8]) -> Result<(), LineF
 }
 
 /// Adds the lines of a text; the answer is the number behind its last line.
-fn add_lines(so_far: &mut Wiring, alloc: Global, text: &[u8]) -> Result<u32, TextRefused>
+fn add_lines(so_far: &mut SoFar, alloc: Global, text: &[u8]) -> Result<u32, TextRefused>
     requires short { length text.now < 4294967295 }
-    requires kept { kept so_far.old ≡ Ok so_far.old }
-    ensures reads { ReadsInto result so_far.new (read_from added 1 (Ok so_far.old) (lines_of text.now)) }
-    ensures keeps { OnOk result (kept so_far.new ≡ Ok so_far.new) }
+    requires reading { IsReading so_far.old }
+    ensures reads { ReadsInto result so_far.new.wiring (read_from added 1 (Ok so_far.old.wiring) (lines_of text.now)) }
+    ensures keeps { OnOk result (IsReading so_far.new) }
     ensures lines { IfOk result (λ line. line ≡ length (lines_of text.now) + 1) }
 {
     let mut line = 1u32;
@@ -43,17 +44,6 @@ fn add_lines(so_far: &mut Wiring, alloc: Global, text: &[u8]) -> Result<u32, Tex
     Ok(line)
 }
 
-fn start(alloc: Global) -> Wiring
-    ensures { result ≡ start }
-{
-    Wiring {
-        classes: Items::new(alloc),
-        nodes: Items::new(alloc),
-        segments: Items::new(alloc),
-        pipes: Items::new(alloc),
-    }
-}
-
 fn empty_at(line: u32) -> TextRefused
     ensures { result ≡ TextRefused.Text (record { line = line; kind = Kind.Empty }) }
 {
@@ -63,16 +53,25 @@ fn empty_at(line: u32) -> TextRefused
     })
 }
 
+/// The wiring that was read; `line` is the number behind the text's last line.
+fn finish(so_far: SoFar, line: u32) -> Result<Wiring, TextRefused>
+    requires { IsReading so_far }
+    ensures reads { Reads result (finished line (Ok so_far.wiring)) }
+    ensures sound { IfOk result IsSound }
+{
+    if so_far.wiring.nodes.is_empty() {
+        return Err(empty_at(line));
+    }
+    Ok(so_far.into_wiring())
+}
+
 /// Reads the wiring of a top text.
 pub fn read_top(alloc: Global, text: &[u8]) -> Result<Wiring, TextRefused>
     requires { length text.now < 4294967295 }
     ensures reads { Reads result (wiring_of_text text.now) }
     ensures sound { IfOk result IsSound }
 {
-    let mut so_far = start(alloc);
+    let mut so_far = SoFar::new(alloc);
     let line = add_lines(&mut so_far, alloc, text)?;
-    if so_far.nodes.is_empty() {
-        return Err(empty_at(line));
-    }
-    Ok(so_far)
+    finish(so_far, line)
 }

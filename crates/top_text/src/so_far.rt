@@ -1,172 +1,349 @@
 // The wiring of the lines read so far.
-ghost use Rattle.std.specs.Prelude.{◌≡◌, ◌≤◌, ◌<◌, Ok, OnOk, IfOk, IfSome, map, length, is_some, Some, codes, position};
+ghost use Rattle.std.specs.Prelude.{◌≡◌, ◌≤◌, ◌<◌, ◌++◌, ◌∷◌, ◌||◌, ◌&&◌, ◌+◌, ◌==◌, [], true, not, ℕ, List, Ok, OnOk, IfOk, IfSome, map, length, is_some, nat_lt, nat_le, slice_index_or, codes};
+ghost use Rattle.std.specs.List.{list_all, list_any};
 ghost use Rattle.lab_base.specs.Texts.{views};
 ghost use Rattle.line_text.specs.Reading.{and_then};
 ghost use Rattle.line_text.specs.Refusals.{Takes};
-ghost use Rattle.virt_topo.specs.Repeats.{same_name};
+ghost use Rattle.virt_topo.specs.Repeats.{same_name, stands_again};
 ghost use Rattle.virt_topo.specs.Ends.{end_nodes};
-ghost use Rattle.virt_topo.specs.Soundness.{keeps_limits};
+ghost use Rattle.virt_topo.specs.Soundness.{same_address, all_ends, limits_class, limits_node, limits_segment};
+ghost use Rattle.virt_topo.specs.Topos.{asks_type};
 ghost use Rattle.top_text.specs.Lines.{class_line, node_line, fix_line, link_line, pipe_line};
-ghost use Rattle.top_text.specs.Adding.{kept, with_class, asks_of, with_node, virt_named, virt_number, end_at, segment_of, with_segment, pipe_of, with_pipe, virt_at, with_place, placed, wire_added, node_added, keyed, added};
+ghost use Rattle.top_text.specs.Adding.{kept, start, with_class, asks_of, with_node, virt_named, virt_number, end_at, segment_of, with_segment, pipe_of, with_pipe, virt_at, with_place, placed, wire_added, node_added, keyed, added};
+ghost use Rattle.top_text.specs.Tables.{IsReading, same_end};
 
+use crate::judge::Tests;
 use crate::lines::{
     End, LinkRead, NodeRead, PipeRead, class_in, fix_in, link_in, node_in, pipe_in,
 };
+use crate::tables::{Tables, put, put_node, put_owner, repeats_addresses};
 use lab_base::{Items, Kind, Memory, Name};
 use line_text::LineFault;
 use std::alloc::Global;
 use std::mem::replace;
 use virt_topo::{
-    Asks, Class, Pipe, Segment, VirtEnd, VirtNode, Wiring, has_bad_pipe, has_same, has_twice,
-    keeps_limits, knows_all,
+    Asks, Class, Pipe, Segment, VirtEnd, VirtNode, Wiring, limits_class, limits_node, limits_pipe,
+    limits_segment, repeat_desire, repeat_node_of, repeat_type,
 };
 
 /// A number that names no virtual node.
 const NONE: u16 = 65_535;
 
-/// Whether the wiring with a line more has no fault.
-fn keep(wiring: &Wiring) -> Result<(), LineFault>
-    requires { length (end_nodes wiring.now.segments) ≤ 65536 }
-    ensures { Takes result wiring.now (kept wiring.now) }
-{
-    if has_twice(wiring) {
-        return Err(LineFault::Kind(Kind::Twice));
-    }
-    if !knows_all(wiring) {
-        return Err(LineFault::Kind(Kind::Unknown));
-    }
-    if has_same(wiring) {
-        return Err(LineFault::Kind(Kind::Same));
-    }
-    if has_bad_pipe(wiring) {
-        return Err(LineFault::Kind(Kind::Pipe));
-    }
-    if !keeps_limits(wiring) {
-        return Err(LineFault::Kind(Kind::Limit));
-    }
-    Ok(())
+/// The wiring so far, and what is looked up in it.
+#[derive(Drop)]
+pub(crate) struct SoFar {
+    pub(crate) wiring: Wiring,
+    pub(crate) tables: Tables,
 }
 
-fn class_named(classes: &[Class], name: Name) -> Option<usize>
-    ensures { result ≡ position (λ c. same_name name c.name) classes.now }
+fn asks_type(asks: &Asks, name: Name) -> bool
+    ensures { result ≡ asks_type name asks.now }
 {
-    classes.iter().position(|class| name == class.name)
-}
-
-fn asks_of(wiring: &Wiring, name: Name) -> Asks
-    requires { length wiring.now.classes ≤ 64 }
-    ensures { result ≡ asks_of wiring.now name }
-{
-    match class_named(wiring.classes.as_slice(), name) {
-        Some(class) => Asks::Class(class as u16),
-        None => Asks::Plain(name),
+    match asks {
+        Asks::Plain(kind) => name == *kind,
+        Asks::Class(_) => false,
     }
 }
 
-fn node_named(nodes: &[VirtNode], name: Name) -> Option<usize>
-    ensures { result ≡ position (λ v. same_name name v.name) nodes.now }
+/// Whether a virtual node asks for a type of that name.
+fn ask_type(nodes: &[VirtNode], name: Name) -> bool
+    ensures { result ≡ list_any (λ v. asks_type name v.asks) nodes.now }
 {
-    nodes.iter().position(|node| name == node.name)
+    nodes.iter().any(|node| asks_type(&node.asks, name))
 }
 
-fn virt_named(wiring: &Wiring, name: Name) -> Option<usize>
-    ensures { result ≡ virt_named wiring.now name }
+/// Whether each end is on one of the first so many virtual nodes.
+fn knows_ends(count: usize, ends: &[VirtEnd]) -> bool
+    ensures { result ≡ list_all (λ e. nat_lt e.node count) ends.now }
 {
-    node_named(wiring.nodes.as_slice(), name)
+    ends.iter().all(|end| (end.node as usize) < count)
 }
 
-fn virt_number(wiring: &Wiring, name: Name) -> u16
-    requires { length wiring.now.nodes ≤ 256 }
-    ensures { result ≡ virt_number wiring.now name }
-{
-    match virt_named(wiring, name) {
-        Some(virt) => virt as u16,
-        None => NONE,
+impl SoFar {
+    pub(crate) fn new(alloc: Global) -> Self
+        ensures wiring { result.wiring ≡ start }
+        ensures reading { IsReading result }
+    {
+        SoFar {
+            wiring: Wiring {
+                classes: Items::new(alloc),
+                nodes: Items::new(alloc),
+                segments: Items::new(alloc),
+                pipes: Items::new(alloc),
+            },
+            tables: Tables::new(alloc),
+        }
+    }
+
+    pub(crate) fn into_wiring(self) -> Wiring
+        ensures { result ≡ self.wiring }
+    {
+        self.wiring
+    }
+
+    fn asks_of(&self, name: Name) -> Asks
+        requires { IsReading self.now }
+        ensures { result ≡ asks_of self.now.wiring name }
+    {
+        match self.tables.class_named(name) {
+            Some(class) => Asks::Class(class as u16),
+            None => Asks::Plain(name),
+        }
+    }
+
+    fn virt_named(&self, name: Name) -> Option<usize>
+        requires { IsReading self.now }
+        ensures { result ≡ virt_named self.now.wiring name }
+    {
+        self.tables.node_named(name)
+    }
+
+    fn virt_number(&self, name: Name) -> u16
+        requires { IsReading self.now }
+        ensures { result ≡ virt_number self.now.wiring name }
+    {
+        match self.virt_named(name) {
+            Some(virt) => virt as u16,
+            None => NONE,
+        }
+    }
+
+    fn class_repeats(&self, class: &Class) -> bool
+        ensures { result ≡ (list_any (same_name class.now.name) self.now.tables.classes.keys || (stands_again same_name class.now.types || list_any (λ v. asks_type class.now.name v.asks) self.now.wiring.nodes)) }
+    {
+        self.tables.classes.contains(&class.name)
+            || repeat_type(class.types.as_slice())
+            || ask_type(self.wiring.nodes.as_slice(), class.name)
+    }
+
+    fn class_fits(&self, class: &Class) -> bool
+        ensures { result ≡ (nat_lt (length self.now.wiring.classes) 64 && limits_class class.now) }
+    {
+        self.wiring.classes.len() < 64 && limits_class(class)
+    }
+
+    fn check_class(&self, class: &Class) -> Result<(), LineFault>
+        requires { IsReading self.now }
+        ensures { Takes result (with_class self.now.wiring class.now) (kept (with_class self.now.wiring class.now)) }
+    {
+        let tests = Tests {
+            twice: self.class_repeats(class),
+            known: true,
+            same: false,
+            bad_pipe: false,
+            within: self.class_fits(class),
+        };
+        tests.judge()
+    }
+
+    fn node_repeats(&self, node: &VirtNode) -> bool
+        ensures { result ≡ (list_any (same_name node.now.name) self.now.tables.nodes.keys || stands_again (λ a b. same_name a.0 b.0) node.now.desires) }
+    {
+        self.tables.nodes.contains(&node.name) || repeat_desire(node.desires.as_slice())
+    }
+
+    fn node_fits(&self, node: &VirtNode) -> bool
+        ensures { result ≡ (nat_lt (length self.now.wiring.nodes) 256 && limits_node node.now) }
+    {
+        self.wiring.nodes.len() < 256 && limits_node(node)
+    }
+
+    /// The node asks for what a name stands for.
+    fn check_node(&self, node: &VirtNode) -> Result<(), LineFault>
+        requires reading { IsReading self.now }
+        requires asks { (name : List ℕ) × (node.now.asks ≡ asks_of self.now.wiring name) }
+        ensures { let w = record self.now.wiring { nodes = self.now.wiring.nodes ++ node.now ∷ [] } in Takes result w (kept w) }
+    {
+        let tests = Tests {
+            twice: self.node_repeats(node),
+            known: true,
+            same: false,
+            bad_pipe: false,
+            within: self.node_fits(node),
+        };
+        tests.judge()
+    }
+
+    fn segment_fits(&self, segment: &Segment) -> bool
+        requires ends { self.now.tables.ends ≤ 4096 }
+        requires few { length segment.now.ends ≤ 256 }
+        ensures { result ≡ (nat_lt (length self.now.wiring.segments) 512 && (nat_le (self.now.tables.ends + length segment.now.ends) 4096 && limits_segment segment.now)) }
+    {
+        self.wiring.segments.len() < 512
+            && self.tables.ends + segment.ends.len() <= 4_096
+            && limits_segment(segment)
+    }
+
+    fn segment_repeats(&self, segment: &Segment, again: bool) -> bool
+        ensures { result ≡ (list_any (same_name segment.now.name) self.now.tables.segments.keys || again) }
+    {
+        self.tables.segments.contains(&segment.name) || again
+    }
+
+    /// `again` tells whether an address of the segment was there, or stands twice.
+    fn check_segment(&self, segment: &Segment, again: bool) -> Result<(), LineFault>
+        requires kept { kept self.now.wiring ≡ Ok self.now.wiring }
+        requires names { self.now.tables.segments.keys ≡ map (λ s. s.name) self.now.wiring.segments }
+        requires ends { self.now.tables.ends ≡ length (end_nodes self.now.wiring.segments) }
+        requires again { again ≡ stands_again same_address (all_ends self.now.wiring.segments ++ segment.now.ends) }
+        requires few { length segment.now.ends ≤ 256 }
+        ensures { Takes result (with_segment self.now.wiring segment.now) (kept (with_segment self.now.wiring segment.now)) }
+    {
+        let tests = Tests {
+            twice: self.segment_repeats(segment, again),
+            known: knows_ends(self.wiring.nodes.len(), segment.ends.as_slice()),
+            same: repeat_node_of(segment.ends.as_slice()),
+            bad_pipe: false,
+            within: self.segment_fits(segment),
+        };
+        tests.judge()
+    }
+
+    fn knows_pipe(&self, pipe: &Pipe) -> bool
+        ensures { let owners = slice_index_or self.now.tables.owners.items pipe.now.node [] in let node = nat_lt pipe.now.node (length self.now.tables.owners.items) in
+            result ≡ ((node && nat_lt pipe.now.from (length owners)) && (node && nat_lt pipe.now.to (length owners))) }
+    {
+        self.tables.has_end(pipe.node, pipe.from) && self.tables.has_end(pipe.node, pipe.to)
+    }
+
+    fn joins_apart(&self, pipe: &Pipe) -> bool
+        ensures { let owners = slice_index_or self.now.tables.owners.items pipe.now.node [] in
+            result ≡ ((pipe.now.from == pipe.now.to) || not (same_name (slice_index_or owners pipe.now.from []) (slice_index_or owners pipe.now.to []))) }
+    {
+        pipe.from == pipe.to
+            || self.tables.owner(pipe.node, pipe.from) != self.tables.owner(pipe.node, pipe.to)
+    }
+
+    fn is_bad_pipe(&self, pipe: &Pipe) -> bool
+        ensures { let owners = slice_index_or self.now.tables.owners.items pipe.now.node [] in let piped = self.now.tables.piped.keys in
+            result ≡ (((pipe.now.from == pipe.now.to) || not (same_name (slice_index_or owners pipe.now.from []) (slice_index_or owners pipe.now.to [])))
+            || (list_any (same_end (pipe.now.node, pipe.now.from)) piped || list_any (same_end (pipe.now.node, pipe.now.to)) piped)) }
+    {
+        self.joins_apart(pipe) || self.tables.is_piped(pipe)
+    }
+
+    fn check_pipe(&self, pipe: &Pipe) -> Result<(), LineFault>
+        requires { IsReading self.now }
+        ensures { Takes result (with_pipe self.now.wiring pipe.now) (kept (with_pipe self.now.wiring pipe.now)) }
+    {
+        let tests = Tests {
+            twice: false,
+            known: self.knows_pipe(pipe),
+            same: false,
+            bad_pipe: self.is_bad_pipe(pipe),
+            within: limits_pipe(pipe),
+        };
+        tests.judge()
     }
 }
 
-fn ends_of(alloc: Global, wiring: &Wiring, ends: &[End]) -> Result<Items<VirtEnd>, Memory>
-    requires { length wiring.now.nodes ≤ 256 }
-    ensures { IfOk result (λ listed. listed ≡ map (end_at wiring.now) ends.now) }
+fn ends_of(alloc: Global, so_far: &SoFar, ends: &[End]) -> Result<Items<VirtEnd>, Memory>
+    requires { IsReading so_far.now }
+    ensures { IfOk result (λ listed. listed ≡ map (end_at so_far.now.wiring) ends.now) }
 {
     let mut listed = Items::new(alloc);
     for end in ends {
         listed.push(VirtEnd {
-            node: virt_number(wiring, end.0),
+            node: so_far.virt_number(end.0),
             address: end.1,
         })?;
     }
     Ok(listed)
 }
 
-fn add_class(so_far: &mut Wiring, class: Class) -> Result<(), LineFault>
-    requires { kept so_far.old ≡ Ok so_far.old }
-    ensures takes { Takes result so_far.new (kept (with_class so_far.old class)) }
-    ensures keeps { OnOk result (kept so_far.new ≡ Ok so_far.new) }
+fn add_class(so_far: &mut SoFar, class: Class) -> Result<(), LineFault>
+    requires { IsReading so_far.old }
+    ensures takes { Takes result so_far.new.wiring (kept (with_class so_far.old.wiring class)) }
+    ensures keeps { OnOk result (IsReading so_far.new) }
 {
-    so_far.classes.push(class)?;
-    keep(so_far)
+    so_far.check_class(&class)?;
+    put(&mut so_far.tables.classes, class.name)?;
+    so_far.wiring.classes.push(class)?;
+    Ok(())
 }
 
-fn add_node(so_far: &mut Wiring, read: NodeRead) -> Result<(), LineFault>
-    requires { kept so_far.old ≡ Ok so_far.old }
-    ensures takes { Takes result so_far.new (kept (with_node so_far.old read)) }
-    ensures keeps { OnOk result (kept so_far.new ≡ Ok so_far.new) }
+fn add_node(so_far: &mut SoFar, alloc: Global, read: NodeRead) -> Result<(), LineFault>
+    requires { IsReading so_far.old }
+    ensures takes { Takes result so_far.new.wiring (kept (with_node so_far.old.wiring read)) }
+    ensures keeps { OnOk result (IsReading so_far.new) }
 {
     let (name, (kind, (os, desires))) = read;
-    let asks = asks_of(so_far, kind);
-    so_far.nodes.push(VirtNode {
+    let node = VirtNode {
         name,
-        asks,
+        asks: so_far.asks_of(kind),
         desires,
         os,
         fixed: None,
-    })?;
-    keep(so_far)
+    };
+    so_far.check_node(&node)?;
+    put(&mut so_far.tables.nodes, node.name)?;
+    put_node(&mut so_far.tables.owners, alloc)?;
+    so_far.wiring.nodes.push(node)?;
+    Ok(())
 }
 
-fn add_segment(so_far: &mut Wiring, alloc: Global, read: LinkRead) -> Result<(), LineFault>
-    requires kept { kept so_far.old ≡ Ok so_far.old }
+fn add_segment(so_far: &mut SoFar, segment: Segment) -> Result<(), LineFault>
+    requires reading { IsReading so_far.old }
+    requires few { length segment.ends ≤ 256 }
+    ensures takes { Takes result so_far.new.wiring (kept (with_segment so_far.old.wiring segment)) }
+    ensures keeps { OnOk result (IsReading so_far.new) }
+{
+    let ends = segment.ends.as_slice();
+    let again = repeats_addresses(&mut so_far.tables.addresses, ends)?;
+    so_far.check_segment(&segment, again)?;
+    put(&mut so_far.tables.segments, segment.name)?;
+    put_owner(&mut so_far.tables.owners, segment.owner, ends)?;
+    so_far.tables.ends += ends.len();
+    so_far.wiring.segments.push(segment)?;
+    Ok(())
+}
+
+fn add_link(so_far: &mut SoFar, alloc: Global, read: LinkRead) -> Result<(), LineFault>
+    requires reading { IsReading so_far.old }
     requires few { length read.1.1.1 ≤ 256 }
-    ensures takes { Takes result so_far.new (kept (with_segment so_far.old (segment_of so_far.old read))) }
-    ensures keeps { OnOk result (kept so_far.new ≡ Ok so_far.new) }
+    ensures takes { Takes result so_far.new.wiring (kept (with_segment so_far.old.wiring (segment_of so_far.old.wiring read))) }
+    ensures keeps { OnOk result (IsReading so_far.new) }
 {
     let (name, (owner, (kbps, ends))) = read;
     let ends = ends_of(alloc, so_far, ends.as_slice())?;
-    so_far.segments.push(Segment {
+    let segment = Segment {
         name,
         owner,
         kbps,
         ends,
-    })?;
-    keep(so_far)
+    };
+    add_segment(so_far, segment)
 }
 
-fn add_pipe(so_far: &mut Wiring, read: PipeRead) -> Result<(), LineFault>
-    requires { kept so_far.old ≡ Ok so_far.old }
-    ensures takes { Takes result so_far.new (kept (with_pipe so_far.old (pipe_of so_far.old read))) }
-    ensures keeps { OnOk result (kept so_far.new ≡ Ok so_far.new) }
+fn add_pipe(so_far: &mut SoFar, read: PipeRead) -> Result<(), LineFault>
+    requires { IsReading so_far.old }
+    ensures takes { Takes result so_far.new.wiring (kept (with_pipe so_far.old.wiring (pipe_of so_far.old.wiring read))) }
+    ensures keeps { OnOk result (IsReading so_far.new) }
 {
     let (name, ((from, to), (there, back))) = read;
-    let node = virt_number(so_far, name);
-    so_far.pipes.push(Pipe {
+    let node = so_far.virt_number(name);
+    let pipe = Pipe {
         node,
         from,
         to,
         there,
         back,
-    })?;
-    keep(so_far)
+    };
+    so_far.check_pipe(&pipe)?;
+    put(&mut so_far.tables.piped, (node, from))?;
+    put(&mut so_far.tables.piped, (node, to))?;
+    so_far.wiring.pipes.push(pipe)?;
+    Ok(())
 }
 
 /// Sets the fixed place of a virtual node.
-fn set_place(so_far: &mut Wiring, alloc: Global, virt: usize, place: Name)
-    requires { virt < length so_far.old.nodes }
-    ensures { so_far.new ≡ with_place so_far.old virt place }
+fn set_place(wiring: &mut Wiring, alloc: Global, virt: usize, place: Name)
+    requires { virt < length wiring.old.nodes }
+    ensures { wiring.new ≡ with_place wiring.old virt place }
 {
-    let mut nodes = replace(&mut so_far.nodes, Items::new(alloc)).into_vec();
+    let mut nodes = replace(&mut wiring.nodes, Items::new(alloc)).into_vec();
     nodes[virt].fixed = Some(place);
-    so_far.nodes = Items::from_vec(nodes);
+    wiring.nodes = Items::from_vec(nodes);
 }
 
 fn is_fixed(wiring: &Wiring, virt: usize) -> bool
@@ -177,83 +354,83 @@ fn is_fixed(wiring: &Wiring, virt: usize) -> bool
 }
 
 fn add_place(
-    so_far: &mut Wiring,
+    so_far: &mut SoFar,
     alloc: Global,
     named: Option<usize>,
     place: Name,
 ) -> Result<(), LineFault>
-    requires kept { kept so_far.old ≡ Ok so_far.old }
-    requires named { IfSome named (λ virt. virt < length so_far.old.nodes) }
-    ensures takes { Takes result so_far.new (placed so_far.old place named) }
-    ensures keeps { OnOk result (kept so_far.new ≡ Ok so_far.new) }
+    requires reading { IsReading so_far.old }
+    requires named { IfSome named (λ virt. virt < length so_far.old.wiring.nodes) }
+    ensures takes { Takes result so_far.new.wiring (placed so_far.old.wiring place named) }
+    ensures keeps { OnOk result (IsReading so_far.new) }
 {
     match named {
         Some(virt) => {
-            if is_fixed(so_far, virt) {
+            if is_fixed(&so_far.wiring, virt) {
                 return Err(LineFault::Kind(Kind::Twice));
             }
-            set_place(so_far, alloc, virt, place);
-            keep(so_far)
+            set_place(&mut so_far.wiring, alloc, virt, place);
+            Ok(())
         }
         None => Err(LineFault::Kind(Kind::Unknown)),
     }
 }
 
-fn add_class_line(so_far: &mut Wiring, alloc: Global, fields: &[&[u8]]) -> Result<(), LineFault>
-    requires { kept so_far.old ≡ Ok so_far.old }
-    ensures takes { Takes result so_far.new (and_then (class_line (views fields.now)) (λ class. kept (with_class so_far.old class))) }
-    ensures keeps { OnOk result (kept so_far.new ≡ Ok so_far.new) }
+fn add_class_line(so_far: &mut SoFar, alloc: Global, fields: &[&[u8]]) -> Result<(), LineFault>
+    requires { IsReading so_far.old }
+    ensures takes { Takes result so_far.new.wiring (and_then (class_line (views fields.now)) (λ class. kept (with_class so_far.old.wiring class))) }
+    ensures keeps { OnOk result (IsReading so_far.new) }
 {
     let class = class_in(alloc, fields)??;
     add_class(so_far, class)
 }
 
-fn add_node_line(so_far: &mut Wiring, alloc: Global, fields: &[&[u8]]) -> Result<(), LineFault>
-    requires { kept so_far.old ≡ Ok so_far.old }
-    ensures takes { Takes result so_far.new (and_then (node_line (views fields.now)) (λ node. kept (with_node so_far.old node))) }
-    ensures keeps { OnOk result (kept so_far.new ≡ Ok so_far.new) }
+fn add_node_line(so_far: &mut SoFar, alloc: Global, fields: &[&[u8]]) -> Result<(), LineFault>
+    requires { IsReading so_far.old }
+    ensures takes { Takes result so_far.new.wiring (and_then (node_line (views fields.now)) (λ node. kept (with_node so_far.old.wiring node))) }
+    ensures keeps { OnOk result (IsReading so_far.new) }
 {
     let node = node_in(alloc, fields)??;
-    add_node(so_far, node)
+    add_node(so_far, alloc, node)
 }
 
-fn add_fix_line(so_far: &mut Wiring, alloc: Global, fields: &[&[u8]]) -> Result<(), LineFault>
-    requires { kept so_far.old ≡ Ok so_far.old }
-    ensures takes { Takes result so_far.new (and_then (fix_line (views fields.now)) (λ fix. placed so_far.old fix.1 (virt_named so_far.old fix.0))) }
-    ensures keeps { OnOk result (kept so_far.new ≡ Ok so_far.new) }
+fn add_fix_line(so_far: &mut SoFar, alloc: Global, fields: &[&[u8]]) -> Result<(), LineFault>
+    requires { IsReading so_far.old }
+    ensures takes { Takes result so_far.new.wiring (and_then (fix_line (views fields.now)) (λ fix. placed so_far.old.wiring fix.1 (virt_named so_far.old.wiring fix.0))) }
+    ensures keeps { OnOk result (IsReading so_far.new) }
 {
     let fix = fix_in(fields)?;
-    let named = virt_named(so_far, fix.0);
+    let named = so_far.virt_named(fix.0);
     add_place(so_far, alloc, named, fix.1)
 }
 
-fn add_link_line(so_far: &mut Wiring, alloc: Global, fields: &[&[u8]]) -> Result<(), LineFault>
-    requires { kept so_far.old ≡ Ok so_far.old }
-    ensures takes { Takes result so_far.new (and_then (link_line (views fields.now)) (λ link. kept (with_segment so_far.old (segment_of so_far.old link)))) }
-    ensures keeps { OnOk result (kept so_far.new ≡ Ok so_far.new) }
+fn add_link_line(so_far: &mut SoFar, alloc: Global, fields: &[&[u8]]) -> Result<(), LineFault>
+    requires { IsReading so_far.old }
+    ensures takes { Takes result so_far.new.wiring (and_then (link_line (views fields.now)) (λ link. kept (with_segment so_far.old.wiring (segment_of so_far.old.wiring link)))) }
+    ensures keeps { OnOk result (IsReading so_far.new) }
 {
     let link = link_in(alloc, fields)??;
-    add_segment(so_far, alloc, link)
+    add_link(so_far, alloc, link)
 }
 
-fn add_pipe_line(so_far: &mut Wiring, fields: &[&[u8]]) -> Result<(), LineFault>
-    requires { kept so_far.old ≡ Ok so_far.old }
-    ensures takes { Takes result so_far.new (and_then (pipe_line (views fields.now)) (λ pipe. kept (with_pipe so_far.old (pipe_of so_far.old pipe)))) }
-    ensures keeps { OnOk result (kept so_far.new ≡ Ok so_far.new) }
+fn add_pipe_line(so_far: &mut SoFar, fields: &[&[u8]]) -> Result<(), LineFault>
+    requires { IsReading so_far.old }
+    ensures takes { Takes result so_far.new.wiring (and_then (pipe_line (views fields.now)) (λ pipe. kept (with_pipe so_far.old.wiring (pipe_of so_far.old.wiring pipe)))) }
+    ensures keeps { OnOk result (IsReading so_far.new) }
 {
     let pipe = pipe_in(fields)?;
     add_pipe(so_far, pipe)
 }
 
 fn add_wire(
-    so_far: &mut Wiring,
+    so_far: &mut SoFar,
     alloc: Global,
     keyword: &[u8],
     fields: &[&[u8]],
 ) -> Result<(), LineFault>
-    requires { kept so_far.old ≡ Ok so_far.old }
-    ensures takes { Takes result so_far.new (wire_added so_far.old keyword.now (views fields.now)) }
-    ensures keeps { OnOk result (kept so_far.new ≡ Ok so_far.new) }
+    requires { IsReading so_far.old }
+    ensures takes { Takes result so_far.new.wiring (wire_added so_far.old.wiring keyword.now (views fields.now)) }
+    ensures keeps { OnOk result (IsReading so_far.new) }
 {
     if keyword == b"link".as_slice() {
         add_link_line(so_far, alloc, fields)
@@ -265,14 +442,14 @@ fn add_wire(
 }
 
 fn add_node_or_wire(
-    so_far: &mut Wiring,
+    so_far: &mut SoFar,
     alloc: Global,
     keyword: &[u8],
     fields: &[&[u8]],
 ) -> Result<(), LineFault>
-    requires { kept so_far.old ≡ Ok so_far.old }
-    ensures takes { Takes result so_far.new (node_added so_far.old keyword.now (views fields.now)) }
-    ensures keeps { OnOk result (kept so_far.new ≡ Ok so_far.new) }
+    requires { IsReading so_far.old }
+    ensures takes { Takes result so_far.new.wiring (node_added so_far.old.wiring keyword.now (views fields.now)) }
+    ensures keeps { OnOk result (IsReading so_far.new) }
 {
     if keyword == b"node".as_slice() {
         add_node_line(so_far, alloc, fields)
@@ -290,14 +467,14 @@ fn is_class_word(keyword: &[u8]) -> bool
 }
 
 fn add_keyed(
-    so_far: &mut Wiring,
+    so_far: &mut SoFar,
     alloc: Global,
     keyword: &[u8],
     fields: &[&[u8]],
 ) -> Result<(), LineFault>
-    requires { kept so_far.old ≡ Ok so_far.old }
-    ensures takes { Takes result so_far.new (keyed so_far.old keyword.now (views fields.now)) }
-    ensures keeps { OnOk result (kept so_far.new ≡ Ok so_far.new) }
+    requires { IsReading so_far.old }
+    ensures takes { Takes result so_far.new.wiring (keyed so_far.old.wiring keyword.now (views fields.now)) }
+    ensures keeps { OnOk result (IsReading so_far.new) }
 {
     if is_class_word(keyword) {
         add_class_line(so_far, alloc, fields)
@@ -307,10 +484,10 @@ fn add_keyed(
 }
 
 /// Adds a line that has fields.
-pub(crate) fn add(so_far: &mut Wiring, alloc: Global, fields: &[&[u8]]) -> Result<(), LineFault>
-    requires { kept so_far.old ≡ Ok so_far.old }
-    ensures takes { Takes result so_far.new (added so_far.old (views fields.now)) }
-    ensures keeps { OnOk result (kept so_far.new ≡ Ok so_far.new) }
+pub(crate) fn add(so_far: &mut SoFar, alloc: Global, fields: &[&[u8]]) -> Result<(), LineFault>
+    requires { IsReading so_far.old }
+    ensures takes { Takes result so_far.new.wiring (added so_far.old.wiring (views fields.now)) }
+    ensures keeps { OnOk result (IsReading so_far.new) }
 {
     match fields {
         [] => Err(LineFault::Kind(Kind::Word)),

@@ -1,4 +1,5 @@
 pub mod Ends
+pub mod Owners
 pub mod Cables
 pub mod Repeats
 pub mod Soundness

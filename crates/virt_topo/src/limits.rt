@@ -34,7 +34,8 @@ fn are_rates(rates: Rates) -> bool
     is_speed(rates.kbps) && rates.micros <= 10_000_000 && rates.ppm <= 1_000_000
 }
 
-fn limits_class(class: &Class) -> bool
+/// Whether a class keeps its limits.
+pub fn limits_class(class: &Class) -> bool
     ensures { result ≡ limits_class class.now }
 {
     class.weight <= 1_000_000 && is_between(1, 8, class.types.len() as u64)
@@ -52,7 +53,8 @@ fn limits_desires(desires: &[(Name, u32)]) -> bool
     desires.iter().all(|desire| desire.1 <= 1_000_000)
 }
 
-fn limits_node(node: &VirtNode) -> bool
+/// Whether a virtual node keeps its limits.
+pub fn limits_node(node: &VirtNode) -> bool
     ensures { result ≡ limits_node node.now }
 {
     node.desires.len() <= 8 && limits_desires(node.desires.as_slice())
@@ -70,7 +72,8 @@ fn are_addresses(ends: &[VirtEnd]) -> bool
     ends.iter().all(|end| is_address(end.address))
 }
 
-fn limits_segment(segment: &Segment) -> bool
+/// Whether a segment keeps its limits.
+pub fn limits_segment(segment: &Segment) -> bool
     ensures { result ≡ limits_segment segment.now }
 {
     is_speed(segment.kbps)
@@ -84,12 +87,17 @@ fn limits_segments(segments: &[Segment]) -> bool
     segments.iter().all(|segment| limits_segment(segment))
 }
 
+/// Whether a pipe keeps its limits.
+pub fn limits_pipe(pipe: &Pipe) -> bool
+    ensures { result ≡ limits_pipe pipe.now }
+{
+    are_rates(pipe.there) && are_rates(pipe.back)
+}
+
 fn limits_pipes(pipes: &[Pipe]) -> bool
     ensures { result ≡ list_all limits_pipe pipes.now }
 {
-    pipes
-        .iter()
-        .all(|pipe| are_rates(pipe.there) && are_rates(pipe.back))
+    pipes.iter().all(|pipe| limits_pipe(pipe))
 }
 
 /// Whether segments have at most so many ends.

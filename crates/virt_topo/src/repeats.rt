@@ -70,7 +70,8 @@ fn has_type(types: &[Name], name: Name) -> bool
     types.iter().any(|other| name == *other)
 }
 
-fn repeat_type(types: &[Name]) -> bool
+/// Whether a type stands twice.
+pub fn repeat_type(types: &[Name]) -> bool
     ensures { result ≡ stands_again same_name types.now }
 {
     let mut rest = types;
@@ -97,7 +98,8 @@ fn has_desire(desires: &[(Name, u32)], name: Name) -> bool
     desires.iter().any(|desire| name == desire.0)
 }
 
-fn repeat_desire(desires: &[(Name, u32)]) -> bool
+/// Whether a desire stands twice.
+pub fn repeat_desire(desires: &[(Name, u32)]) -> bool
     ensures { result ≡ stands_again (λ a b. same_name a.0 b.0) desires.now }
 {
     let mut rest = desires;
@@ -218,7 +220,8 @@ fn has_end_on(ends: &[VirtEnd], node: u16) -> bool
     ends.iter().any(|end| node == end.node)
 }
 
-fn repeat_node_of(ends: &[VirtEnd]) -> bool
+/// Whether two ends are on one virtual node.
+pub fn repeat_node_of(ends: &[VirtEnd]) -> bool
     ensures { result ≡ stands_again (λ a b. a.node == b.node) ends.now }
 {
     let mut rest = ends;

@@ -10,16 +10,16 @@ use Rattle.top_text.proofs.read.add_lines.Goals as goal
 
 pub returns-in-Err-clause-reads : goal.returns-in-Err-clause-reads
 returns-in-Err-clause-reads c =
-    let read = line_added added c.loop-first.so_far c.in-Some.first.line.now in
-    let taken : Takes {U = Unit {0}} (Err c.in-Err.fault) c.add_line.new.so_far read =
-    subst (λ (r : Result (Unit {0}) LineFault). Takes r c.add_line.new.so_far read) c.in-Err.is c.add_line.ensures.takes in
-    subst (λ (e : TextRefused). ReadsInto {U = ℕ} (Err e) c.add_line.new.so_far (read_from added 1 (Ok c.args.so_far.now) (lines_of c.args.text.now))) (sym c.refusal.ensures)
-    (refused ℕ c.in-Err.fault c.loop-first.line c.add_line.new.so_far c.add_line.new.so_far read (read_from added 1 (Ok c.args.so_far.now) (lines_of c.args.text.now)) taken
-    (λ kind is. c.loop-first.invariant.reads ∙ ends added c.loop-first.line c.loop-first.so_far kind c.in-Some.first.line.now _ (lines_of c.in-Some.first.rest.now) c.in-Some.ensures.line is))
+    let read = line_added added c.loop-first.so_far.wiring c.in-Some.first.line.now in
+    let taken : Takes {U = Unit {0}} (Err c.in-Err.fault) c.add_line.new.so_far.wiring read =
+    subst (λ (r : Result (Unit {0}) LineFault). Takes r c.add_line.new.so_far.wiring read) c.in-Err.is c.add_line.ensures.takes in
+    subst (λ (e : TextRefused). ReadsInto {U = ℕ} (Err e) c.add_line.new.so_far.wiring (read_from added 1 (Ok c.args.so_far.now.wiring) (lines_of c.args.text.now))) (sym c.refusal.ensures)
+    (refused ℕ c.in-Err.fault c.loop-first.line c.add_line.new.so_far.wiring c.add_line.new.so_far.wiring read (read_from added 1 (Ok c.args.so_far.now.wiring) (lines_of c.args.text.now)) taken
+    (λ kind is. c.loop-first.invariant.reads ∙ ends added c.loop-first.line c.loop-first.so_far.wiring kind c.in-Some.first.line.now _ (lines_of c.in-Some.first.rest.now) c.in-Some.ensures.line is))
 
 pub loop-first-preserved : goal.loop-first-preserved
 loop-first-preserved c = record {
-  reads = c.loop-first.invariant.reads ∙ goes_on added c.loop-first.line c.loop-first.so_far c.add_line.new.so_far c.in-Some.first.line.now _ (lines_of c.in-Some.first.rest.now) c.in-Some.ensures.line c.in_default-add_line.ensures.takes;
+  reads = c.loop-first.invariant.reads ∙ goes_on added c.loop-first.line c.loop-first.so_far.wiring c.add_line.new.so_far.wiring c.in-Some.first.line.now _ (lines_of c.in-Some.first.rest.now) c.in-Some.ensures.line c.in_default-add_line.ensures.takes;
   short = omega (arith, c.loop-first.invariant.short, c.in-Some.ensures.less);
   lines = omega (arith, c.loop-first.invariant.lines, ap length c.in-Some.ensures.line);
   keeps = c.in_default-add_line.ensures.keeps;

@@ -1,17 +1,65 @@
-use Rattle.std.proofs.Common.{◌≡◌, ◌+◌, List, length, ap, arith, ◌∙◌}
-use Rattle.std.proofs.lemmas.List.{length-map}
+use Rattle.std.proofs.Common.{◌≡◌, ◌++◌, [], false, List, map, length, get_or, Ok, sym, ap, subst, arith, ◌∙◌}
+use Rattle.std.specs.Prelude.{nat_lt, nat_eq}
+use Rattle.std.specs.List.{list_all}
 use Rattle.virt_topo.specs.declared.wiring.Segment.{Segment}
 use Rattle.virt_topo.specs.declared.wiring.VirtEnd.{VirtEnd}
 use Rattle.virt_topo.specs.Ends.{end_nodes}
-use Rattle.top_text.specs.Lines.{End}
-use Rattle.top_text.specs.Adding.{end_at}
-use Rattle.top_text.proofs.KeptLaws.{few_ends, more_ends}
+use Rattle.virt_topo.specs.Owners.{at_ends, owners_on}
+use Rattle.virt_topo.specs.Repeats.{stands_again}
+use Rattle.virt_topo.specs.Soundness.{all_ends}
+use Rattle.virt_topo.proofs.EndLaws.{nodes_of}
+use Rattle.virt_topo.proofs.MoreLaws.{known_with_segment, count_more}
+use Rattle.top_text.specs.Adding.{kept, with_segment}
+use Rattle.top_text.specs.Tables.{addresses_of}
+use Rattle.top_text.proofs.KeptLaws.{tests_of}
+use Rattle.top_text.proofs.TableLaws.{of_owner}
+use Rattle.top_text.proofs.AddedLaws.{names_more, new_segment, new_addresses, once_so_far, again_with, addresses_with, owners_with_segment}
 use Rattle.top_text.proofs.so_far.add_segment.Goals as goal
 
-pub keep-requires : goal.keep-requires
-keep-requires c =
-    let w = c.args.so_far.now in
-    let more : length (end_nodes c.push.new.self) ≡ length (end_nodes w.segments) + length c.in_ok-ends.ends = ap (λ (l : List Segment). length (end_nodes l)) c.in_ok-push.ensures.ok ∙ more_ends w.segments _ in
-    let ends : length c.in_ok-ends.ends ≡ length c.as_slice.result.now = ap (λ (l : List VirtEnd). length l) c.in_ok-ends.ensures ∙ length-map c.as_slice.result.now (end_at w) in
-    let given : length c.as_slice.result.now ≡ length c.args.read.1.1.1 = ap (λ (l : List End). length l) c.as_slice.ensures in
-    omega (arith, more, ends, given, few_ends w c.requires.kept, c.requires.few)
+pub repeats_addresses-requires : goal.repeats_addresses-requires
+repeats_addresses-requires c = once_so_far c.args.so_far.now.wiring c.args.so_far.now.tables.addresses.keys c.requires.reading.kept c.requires.reading.tables.addresses
+
+pub check_segment-requires-clause-again : goal.check_segment-requires-clause-again
+check_segment-requires-clause-again c =
+    let keys = c.args.so_far.now.tables.addresses.keys in
+    c.in_ok-again.ensures.again ∙ ap (λ (l : List VirtEnd). stands_again nat_eq (keys ++ addresses_of l)) c.as_slice-ends.ensures ∙ again_with c.args.so_far.now.wiring keys c.args.segment.ends c.requires.reading.tables.addresses
+
+pub put-requires : goal.put-requires
+put-requires c = new_segment c.args.so_far.now.wiring c.args.so_far.now.tables.segments.keys c.args.segment c.requires.reading.kept c.requires.reading.tables.segments c.in_ok-check_segment.ensures
+
+pub put_owner-requires : goal.put_owner-requires
+put_owner-requires c =
+    let w = c.args.so_far.now.wiring in
+    (λ i. list_all (λ e. nat_lt e.node (c.requires.reading.tables.owned i)) (c.as_slice-ends.ensures i))
+    ∙ sym (known_with_segment w c.args.segment (tests_of w c.requires.reading.kept).known) ∙ (tests_of (with_segment w c.args.segment) c.in_ok-check_segment.ensures).known
+
+pub returns-clause-takes : goal.returns-clause-takes
+returns-clause-takes c = c.in_ok-check_segment.ensures ∙ ap (λ (l : List Segment). Ok (record c.args.so_far.now.wiring { segments = l })) (sym c.in_ok-push.ensures.ok)
+
+pub returns-clause-keeps : goal.returns-clause-keeps
+returns-clause-keeps c =
+    let w = c.args.so_far.now.wiring in
+    let t = c.args.so_far.now.tables in
+    let s = c.args.segment in
+    let is = c.requires.reading.tables in
+    let pushed = sym c.in_ok-push.ensures.ok in
+    let none : c.in_ok-again.again ≡ false =
+    c.in_ok-again.ensures.again ∙ ap (λ (l : List VirtEnd). stands_again nat_eq (t.addresses.keys ++ addresses_of l)) c.as_slice-ends.ensures ∙ new_addresses w t s c.requires.reading.kept is c.in_ok-check_segment.ensures in
+    record {
+      kept = subst (λ (l : List Segment). kept (record w { segments = l }) ≡ Ok (record w { segments = l })) pushed c.in_ok-check_segment.ensures;
+      tables = record {
+        classes = is.classes;
+        nodes = is.nodes;
+        segments = names_more (λ (x : Segment). x.name) t.segments.keys _ w.segments s is.segments c.in_ok-put.ensures ∙ ap (λ (l : List Segment). map (λ x. x.name) l) pushed;
+        addresses =
+            addresses_with w s t.addresses.keys _ is.addresses (c.in_ok-again.ensures.keys none ∙ ap (λ (l : List VirtEnd). t.addresses.keys ++ addresses_of l) c.as_slice-ends.ensures)
+            ∙ ap (λ (l : List Segment). addresses_of (all_ends l)) pushed;
+        piped = is.piped;
+        ends = omega (arith, is.ends, ap (λ (l : List VirtEnd). length l) c.as_slice-ends.ensures, count_more w.segments s, ap (λ (l : List Segment). length (end_nodes l)) pushed);
+        owned = c.in_ok-put_owner.ensures.count ∙ is.owned;
+        owners = λ v lt.
+            subst (λ (l : List Segment). get_or c.put_owner.new.owners.items v [] ≡ owners_on l v) pushed
+            (owners_with_segment w s t.owners.items c.put_owner.new.owners.items is.owners is.owned
+            (λ u within. c.in_ok-put_owner.ensures.owners u within ∙ ap (λ (l : List VirtEnd). get_or t.owners.items u [] ++ at_ends u (nodes_of l) (of_owner s.owner l)) c.as_slice-ends.ensures) v lt);
+      };
+    }

@@ -1,0 +1,262 @@
+-- What a line adds to a wiring without a fault, and to its tables.
+use Rattle.std.specs.Prelude.{nat_lt, nat_le, nat_eq}
+use Rattle.std.proofs.Common.{◌≡◌, ℕ, zero, suc, ◌+◌, ◌<◌, ◌≤◌, Bool, true, false, not, eqb, ◌&&◌, ◌||◌, List, [], ◌∷◌, ◌++◌, length, map, get_or, Ok, refl, sym, ap, subst, ◌∙◌, arith, inl, inr, length-append}
+use Rattle.std.specs.List.{list_all, list_any, flat_map}
+use Rattle.std.proofs.Math.ListN.{set}
+use Rattle.std.proofs.lemmas.Bool.{or_parts, cases_lt}
+use Rattle.std.proofs.lemmas.Bool.Decides.{nat_tests}
+use Rattle.std.proofs.lemmas.List.{append-nil, map-append, length-map, get_or_append_left, get_or-append-add}
+use Rattle.std.proofs.lemmas.Grind.{flat_map-append}
+use Rattle.virt_topo.specs.declared.wiring.Class.{Class}
+use Rattle.virt_topo.specs.declared.wiring.VirtNode.{VirtNode}
+use Rattle.virt_topo.specs.declared.wiring.VirtEnd.{VirtEnd}
+use Rattle.virt_topo.specs.declared.wiring.Segment.{Segment}
+use Rattle.virt_topo.specs.declared.wiring.Pipe.{Pipe}
+use Rattle.virt_topo.specs.declared.wiring.Wiring.{Wiring}
+use Rattle.virt_topo.specs.Ends.{end_nodes, end_owners, end_number}
+use Rattle.virt_topo.specs.Owners.{at_ends, owners_on}
+use Rattle.virt_topo.specs.Repeats.{same_name, stands_again}
+use Rattle.virt_topo.specs.Soundness.{limits_class, limits_node, limits_segment, limits_pipe, knows_class, knows_node, knows_all, is_end, is_bad_pipe, shares_end, same_address, all_ends, asks_class_name}
+use Rattle.virt_topo.specs.Topos.{asks_type}
+use Rattle.virt_topo.proofs.EndLaws.{nodes_of, owners_of}
+use Rattle.virt_topo.proofs.MoreEnds.{owners_on_more, is_end_on, owner_on}
+use Rattle.virt_topo.proofs.MoreLaws as more
+use Rattle.top_text.specs.declared.tables.Tables.{Tables}
+use Rattle.top_text.specs.Adding.{kept, with_class, with_segment, with_pipe, with_place, asks_of}
+use Rattle.top_text.specs.Tables.{AreTables, addresses_of, same_end, ends_of_pipe, judged}
+use Rattle.top_text.proofs.KeptLaws.{tests_of, sound_of}
+use Rattle.top_text.proofs.PartLaws.{unfixed, part_kept}
+use Rattle.top_text.proofs.TableLaws.{judged_kept, name_there, asks_known, asks_apart, same_addresses, addresses_more, none_on, none_past, shares_by_ends, of_owner}
+
+-- CLASSES
+
+pub class_judged : (w : Wiring) (t : Tables) (c : Class) (twice within : Bool) → kept w ≡ Ok w → AreTables w t
+    → twice ≡ (list_any (same_name c.name) t.classes.keys || (stands_again same_name c.types || list_any (λ v. asks_type c.name v.asks) w.nodes))
+    → within ≡ (nat_lt (length w.classes) 64 && limits_class c)
+    → judged (record { twice = twice; known = true; same = false; bad_pipe = false; within = within }) (with_class w c) ≡ kept (with_class w c)
+class_judged w t c twice within is tables twice_is within_is =
+    let tests = tests_of w is in
+    judged_kept (with_class w c) (record { twice = twice; known = true; same = false; bad_pipe = false; within = within })
+    (more.twice_with_class w c tests.twice ∙ sym (twice_is ∙ ap (λ (b : Bool). b || (stands_again same_name c.types || list_any (λ v. asks_type c.name v.asks) w.nodes)) (name_there (λ (d : Class). d.name) t.classes.keys w.classes c.name tables.classes)))
+    (more.known_with_class w c tests.known)
+    tests.same
+    tests.pipes
+    (more.limits_with_class w c tests.limits ∙ sym within_is)
+
+-- VIRTUAL NODES
+
+pub node_judged : (w : Wiring) (t : Tables) (n : VirtNode) (name : List ℕ) (twice within : Bool) → kept w ≡ Ok w → AreTables w t → n.asks ≡ asks_of w name
+    → twice ≡ (list_any (same_name n.name) t.nodes.keys || stands_again (λ a b. same_name a.0 b.0) n.desires)
+    → within ≡ (nat_lt (length w.nodes) 256 && limits_node n)
+    → judged (record { twice = twice; known = true; same = false; bad_pipe = false; within = within }) (record w { nodes = w.nodes ++ n ∷ [] }) ≡ kept (record w { nodes = w.nodes ++ n ∷ [] })
+node_judged w t n name twice within is tables asks twice_is within_is =
+    let tests = tests_of w is in
+    let apart : asks_class_name w.classes n.asks ≡ false = ap (λ a. asks_class_name w.classes a) asks ∙ asks_apart w name in
+    let known : knows_class w n.asks ≡ true = ap (λ a. knows_class w a) asks ∙ asks_known w name in
+    let desires = stands_again (λ a b. same_name a.0 b.0) n.desires in
+    judged_kept (record w { nodes = w.nodes ++ n ∷ [] }) (record { twice = twice; known = true; same = false; bad_pipe = false; within = within })
+    (more.twice_with_node w n tests.twice ∙ ap (λ (b : Bool). list_any (λ v. same_name n.name v.name) w.nodes || (desires || b)) apart ∙ ap (λ (b : Bool). list_any (λ v. same_name n.name v.name) w.nodes || b) (more.or_false desires)
+    ∙ sym (twice_is ∙ ap (λ (b : Bool). b || desires) (name_there (λ (v : VirtNode). v.name) t.nodes.keys w.nodes n.name tables.nodes)))
+    (more.known_with_node w n tests.known ∙ known)
+    tests.same
+    tests.pipes
+    (more.limits_with_node w n tests.limits ∙ sym within_is)
+
+-- SEGMENTS
+
+pub segment_judged : (w : Wiring) (s : Segment) (names : List (List ℕ)) (ends : ℕ) (again twice known same within : Bool) → kept w ≡ Ok w
+    → names ≡ map (λ t. t.name) w.segments → ends ≡ length (end_nodes w.segments) → again ≡ stands_again same_address (all_ends w.segments ++ s.ends)
+    → twice ≡ (list_any (same_name s.name) names || again)
+    → known ≡ list_all (λ e. nat_lt e.node (length w.nodes)) s.ends
+    → same ≡ stands_again (λ a b. eqb a.node b.node) s.ends
+    → within ≡ (nat_lt (length w.segments) 512 && (nat_le (ends + length s.ends) 4096 && limits_segment s))
+    → judged (record { twice = twice; known = known; same = same; bad_pipe = false; within = within }) (with_segment w s) ≡ kept (with_segment w s)
+segment_judged w s names ends again twice known same within is names_are ends_are again_is twice_is known_is same_is within_is =
+    let tests = tests_of w is in
+    judged_kept (with_segment w s) (record { twice = twice; known = known; same = same; bad_pipe = false; within = within })
+    (more.twice_with_segment w s tests.twice ∙ sym (twice_is ∙ (λ i. name_there (λ (t : Segment). t.name) names w.segments s.name names_are i || again_is i)))
+    (more.known_with_segment w s tests.known ∙ sym known_is)
+    (more.same_with_segment w s tests.same ∙ sym same_is)
+    (more.bad_with_segment w s tests.known tests.pipes)
+    (more.limits_with_segment w s tests.limits ∙ sym (within_is ∙ ap (λ (n : ℕ). nat_lt (length w.segments) 512 && (nat_le (n + length s.ends) 4096 && limits_segment s)) ends_are))
+
+-- PIPES
+
+-- the owners that are kept of any number
+owners_all : (w : Wiring) (t : Tables) → knows_all w ≡ true → AreTables w t → (v : ℕ) → get_or t.owners.items v [] ≡ owners_on w.segments v
+owners_all w t known tables v = elim (cases_lt v (length w.nodes)) [
+  | inl below ↦ tables.owners v below
+  | inr above ↦ past t.owners.items v (omega (arith, tables.owned, above)) ∙ sym (none_past w.segments (length w.nodes) v (omega (arith, above)) (more.known_of w known).nodes)
+]
+  where
+    past : (xs : List (List (List ℕ))) (i : ℕ) → length xs ≤ i → get_or xs i [] ≡ []
+    past [] i le = refl
+    past (x ∷ xs) zero le = absurd (omega arith)
+    past (x ∷ xs) (suc i) le = past xs i (omega arith)
+
+pub pipe_judged : (w : Wiring) (t : Tables) (p : Pipe) (known bad within : Bool) → kept w ≡ Ok w → AreTables w t
+    → known ≡ ((nat_lt p.node (length t.owners.items) && nat_lt p.from (length (get_or t.owners.items p.node []))) && (nat_lt p.node (length t.owners.items) && nat_lt p.to (length (get_or t.owners.items p.node []))))
+    → bad ≡ ((eqb p.from p.to || not (same_name (get_or (get_or t.owners.items p.node []) p.from []) (get_or (get_or t.owners.items p.node []) p.to [])))
+    || (list_any (same_end (p.node, p.from)) t.piped.keys || list_any (same_end (p.node, p.to)) t.piped.keys))
+    → within ≡ limits_pipe p
+    → judged (record { twice = false; known = known; same = false; bad_pipe = bad; within = within }) (with_pipe w p) ≡ kept (with_pipe w p)
+pipe_judged w t p known bad within is tables known_is bad_is within_is =
+    let tests = tests_of w is in
+    let own = owners_all w t tests.known tables p.node in
+    let from : nat_lt p.from (length (get_or t.owners.items p.node [])) ≡ is_end w p.node p.from = ap (λ (l : List (List ℕ)). nat_lt p.from (length l)) own ∙ sym (is_end_on w.segments p.node p.from) in
+    let to : nat_lt p.to (length (get_or t.owners.items p.node [])) ≡ is_end w p.node p.to = ap (λ (l : List (List ℕ)). nat_lt p.to (length l)) own ∙ sym (is_end_on w.segments p.node p.to) in
+    let node : nat_lt p.node (length t.owners.items) ≡ knows_node w p.node = ap (λ (n : ℕ). nat_lt p.node n) tables.owned in
+    let owner_from : get_or (get_or t.owners.items p.node []) p.from [] ≡ get_or (end_owners w.segments) (end_number (end_nodes w.segments) p.node p.from) [] = ap (λ (l : List (List ℕ)). get_or l p.from []) own ∙ sym (owner_on w.segments p.node p.from) in
+    let owner_to : get_or (get_or t.owners.items p.node []) p.to [] ≡ get_or (end_owners w.segments) (end_number (end_nodes w.segments) p.node p.to) [] = ap (λ (l : List (List ℕ)). get_or l p.to []) own ∙ sym (owner_on w.segments p.node p.to) in
+    judged_kept (with_pipe w p) (record { twice = false; known = known; same = false; bad_pipe = bad; within = within })
+    tests.twice
+    (more.known_with_pipe w p tests.known ∙ sym (known_is ∙ (λ i. (node i && from i) && (node i && to i)) ∙ one_node (knows_node w p.node) (is_end w p.node p.from) (is_end w p.node p.to)))
+    tests.same
+    (more.bad_with_pipe w p tests.pipes
+    ∙ sym (bad_is ∙ (λ i. (eqb p.from p.to || not (same_name (owner_from i) (owner_to i))) || (list_any (same_end (p.node, p.from)) (tables.piped i) || list_any (same_end (p.node, p.to)) (tables.piped i))) ∙ ap (λ (b : Bool). is_bad_pipe w p || b) (sym (shares_by_ends p w.pipes))))
+    (more.limits_with_pipe w p tests.limits ∙ sym within_is)
+  where
+    one_node : (n a b : Bool) → ((n && a) && (n && b)) ≡ (n && (a && b))
+    one_node true a b = refl
+    one_node false a b = refl
+
+-- KEYS
+
+pub names_more : {X : Type 0} (name_of : X → List ℕ) (keys new : List (List ℕ)) (xs : List X) (x : X) → keys ≡ map name_of xs → new ≡ keys ++ name_of x ∷ [] → new ≡ map name_of (xs ++ x ∷ [])
+names_more name_of keys new xs x is now = now ∙ ap (λ (l : List (List ℕ)). l ++ name_of x ∷ []) is ∙ sym (map-append name_of xs (x ∷ []))
+
+-- a line that is taken had a new name
+pub new_class : (w : Wiring) (t : Tables) (c : Class) → kept w ≡ Ok w → AreTables w t → kept (with_class w c) ≡ Ok (with_class w c) → list_any (same_name c.name) t.classes.keys ≡ false
+new_class w t c was tables is =
+    name_there (λ (d : Class). d.name) t.classes.keys w.classes c.name tables.classes
+    ∙ (or_parts (list_any (λ d. same_name c.name d.name) w.classes) _ (sym (more.twice_with_class w c (tests_of w was).twice) ∙ (tests_of (with_class w c) is).twice)).0
+
+pub new_node : (w : Wiring) (t : Tables) (n : VirtNode) → kept w ≡ Ok w → AreTables w t → kept (record w { nodes = w.nodes ++ n ∷ [] }) ≡ Ok (record w { nodes = w.nodes ++ n ∷ [] }) → list_any (same_name n.name) t.nodes.keys ≡ false
+new_node w t n was tables is =
+    name_there (λ (v : VirtNode). v.name) t.nodes.keys w.nodes n.name tables.nodes
+    ∙ (or_parts (list_any (λ v. same_name n.name v.name) w.nodes) _ (sym (more.twice_with_node w n (tests_of w was).twice) ∙ (tests_of (record w { nodes = w.nodes ++ n ∷ [] }) is).twice)).0
+
+pub new_segment : (w : Wiring) (names : List (List ℕ)) (s : Segment) → kept w ≡ Ok w → names ≡ map (λ t. t.name) w.segments → kept (with_segment w s) ≡ Ok (with_segment w s) → list_any (same_name s.name) names ≡ false
+new_segment w names s was are is =
+    name_there (λ (t : Segment). t.name) names w.segments s.name are
+    ∙ (or_parts (list_any (λ t. same_name s.name t.name) w.segments) _ (sym (more.twice_with_segment w s (tests_of w was).twice) ∙ (tests_of (with_segment w s) is).twice)).0
+
+pub new_addresses : (w : Wiring) (t : Tables) (s : Segment) → kept w ≡ Ok w → AreTables w t → kept (with_segment w s) ≡ Ok (with_segment w s) → stands_again nat_eq (t.addresses.keys ++ addresses_of s.ends) ≡ false
+new_addresses w t s was tables is =
+    sym (again_by_table w t s tables)
+    ∙ (or_parts (list_any (λ t. same_name s.name t.name) w.segments) (stands_again same_address (all_ends w.segments ++ s.ends)) (sym (more.twice_with_segment w s (tests_of w was).twice) ∙ (tests_of (with_segment w s) is).twice)).1
+  where
+    again_by_table : (w : Wiring) (t : Tables) (s : Segment) → AreTables w t → stands_again same_address (all_ends w.segments ++ s.ends) ≡ stands_again nat_eq (t.addresses.keys ++ addresses_of s.ends)
+    again_by_table w t s tables = same_addresses (all_ends w.segments ++ s.ends) ∙ ap (λ (l : List ℕ). stands_again nat_eq l) (addresses_more (all_ends w.segments) s.ends ∙ ap (λ (l : List ℕ). l ++ addresses_of s.ends) (sym tables.addresses))
+
+-- addresses stand once so far, and whether they do with a segment more
+pub once_so_far : (w : Wiring) (keys : List ℕ) → kept w ≡ Ok w → keys ≡ addresses_of (all_ends w.segments) → stands_again nat_eq keys ≡ false
+once_so_far w keys is are = ap (λ (l : List ℕ). stands_again nat_eq l) are ∙ sym (same_addresses (all_ends w.segments)) ∙ (more.once_of w (tests_of w is).twice).addresses
+
+pub again_with : (w : Wiring) (keys : List ℕ) (ends : List VirtEnd) → keys ≡ addresses_of (all_ends w.segments) → stands_again nat_eq (keys ++ addresses_of ends) ≡ stands_again same_address (all_ends w.segments ++ ends)
+again_with w keys ends are = sym (same_addresses (all_ends w.segments ++ ends) ∙ ap (λ (l : List ℕ). stands_again nat_eq l) (addresses_more (all_ends w.segments) ends ∙ ap (λ (l : List ℕ). l ++ addresses_of ends) (sym are)))
+
+pub addresses_with : (w : Wiring) (s : Segment) (keys new : List ℕ) → keys ≡ addresses_of (all_ends w.segments) → new ≡ keys ++ addresses_of s.ends → new ≡ addresses_of (all_ends (w.segments ++ s ∷ []))
+addresses_with w s keys new are now =
+    now ∙ ap (λ (l : List ℕ). l ++ addresses_of s.ends) are ∙ sym (addresses_more (all_ends w.segments) s.ends)
+    ∙ ap addresses_of (sym (flat_map-append (λ (x : Segment). x.ends) w.segments (s ∷ []) ∙ ap (λ (l : List VirtEnd). all_ends w.segments ++ l) (append-nil s.ends)))
+
+-- a virtual node more, which has no end
+pub owners_with_node : (w : Wiring) (t : Tables) (n : VirtNode) (new : List (List (List ℕ))) → kept w ≡ Ok w → AreTables w t → new ≡ t.owners.items ++ [] ∷ []
+    → (v : ℕ) → v < length (w.nodes ++ n ∷ []) → get_or new v [] ≡ owners_on w.segments v
+owners_with_node w t n new is tables now v lt =
+    ap (λ (l : List (List (List ℕ))). get_or l v []) now ∙ elim (cases_lt v (length w.nodes)) [
+      | inl below ↦ get_or_append_left t.owners.items ([] ∷ []) [] v (omega (arith, tables.owned, below)) ∙ tables.owners v below
+      | inr above ↦
+          let last : v ≡ length t.owners.items + 0 = omega (arith, tables.owned, above, lt, length-append w.nodes (n ∷ [])) in
+          let whole : length w.nodes ≡ v = omega (arith, above, lt, length-append w.nodes (n ∷ [])) in
+          ap (λ (k : ℕ). get_or (t.owners.items ++ [] ∷ []) k []) last ∙ get_or-append-add t.owners.items ([] ∷ []) 0 [] ∙ sym (ap (λ (k : ℕ). owners_on w.segments k) (sym whole) ∙ none_on w.segments (length w.nodes) (more.known_of w (tests_of w is).known).nodes)
+    ]
+
+-- a segment's owner more
+pub owners_with_segment : (w : Wiring) (s : Segment) (old new : List (List (List ℕ))) → ((v : ℕ) → v < length w.nodes → get_or old v [] ≡ owners_on w.segments v)
+    → length old ≡ length w.nodes
+    → ((v : ℕ) → v < length old → get_or new v [] ≡ get_or old v [] ++ at_ends v (nodes_of s.ends) (of_owner s.owner s.ends))
+    → (v : ℕ) → v < length w.nodes → get_or new v [] ≡ owners_on (w.segments ++ s ∷ []) v
+owners_with_segment w s old new were count now v lt =
+    now v (omega (arith, count, lt)) ∙ (λ i. were v lt i ++ at_ends v (nodes_of s.ends) (repeated s.ends i)) ∙ sym (owners_on_more w.segments s v)
+  where
+    repeated : (ends : List VirtEnd) → of_owner s.owner ends ≡ owners_of (record s { ends = ends })
+    repeated [] = refl
+    repeated (e ∷ ends) = ap (λ (l : List (List ℕ)). s.owner ∷ l) (repeated ends)
+
+-- the ends of a pipe are new, and differ
+pub new_ends : (w : Wiring) (t : Tables) (p : Pipe) → kept w ≡ Ok w → AreTables w t → kept (with_pipe w p) ≡ Ok (with_pipe w p)
+    → (list_any (same_end (p.node, p.from)) t.piped.keys ≡ false) × (list_any (same_end (p.node, p.to)) (t.piped.keys ++ (p.node, p.from) ∷ []) ≡ false)
+new_ends w t p was tables is =
+    let bad = or_parts (is_bad_pipe w p) (list_any (shares_end p) w.pipes) (sym (more.bad_with_pipe w p (tests_of w was).pipes) ∙ (tests_of (with_pipe w p) is).pipes) in
+    let apart = (or_parts (eqb p.from p.to) _ bad.0).0 in
+    let free = or_parts (list_any (same_end (p.node, p.from)) (flat_map ends_of_pipe w.pipes)) (list_any (same_end (p.node, p.to)) (flat_map ends_of_pipe w.pipes)) (sym (shares_by_ends p w.pipes) ∙ bad.1) in
+    let first : list_any (same_end (p.node, p.from)) t.piped.keys ≡ false = ap (λ l. list_any (same_end (p.node, p.from)) l) tables.piped ∙ free.0 in
+    let second : list_any (same_end (p.node, p.to)) t.piped.keys ≡ false = ap (λ l. list_any (same_end (p.node, p.to)) l) tables.piped ∙ free.1 in
+    let other : same_end (p.node, p.to) (p.node, p.from) ≡ false = last (eqb p.node p.node) (eqb p.to p.from) (turned p.from p.to apart) in
+    (first, more.any_more (same_end (p.node, p.to)) t.piped.keys (p.node, p.from) second ∙ other)
+  where
+    turned : (a b : ℕ) → eqb a b ≡ false → eqb b a ≡ false
+    turned a b h = grind (arith, nat_tests)
+
+    last : (a b : Bool) → b ≡ false → (a && b) ≡ false
+    last true b h = h
+    last false b h = refl
+
+pub piped_with : (w : Wiring) (p : Pipe) (keys first second : List (ℕ × ℕ)) → keys ≡ flat_map ends_of_pipe w.pipes → first ≡ keys ++ (p.node, p.from) ∷ [] → second ≡ first ++ (p.node, p.to) ∷ []
+    → second ≡ flat_map ends_of_pipe (w.pipes ++ p ∷ [])
+piped_with w p keys first second are one two =
+    two ∙ ap (λ l. l ++ (p.node, p.to) ∷ []) (one ∙ ap (λ l. l ++ (p.node, p.from) ∷ []) are)
+    ∙ joined (flat_map ends_of_pipe w.pipes) (p.node, p.from) (p.node, p.to)
+    ∙ sym (flat_map-append ends_of_pipe w.pipes (p ∷ []))
+  where
+    joined : (xs : List (ℕ × ℕ)) (a b : ℕ × ℕ) → (xs ++ a ∷ []) ++ b ∷ [] ≡ xs ++ a ∷ b ∷ []
+    joined [] a b = refl
+    joined (x ∷ xs) a b = ap (λ l. x ∷ l) (joined xs a b)
+
+-- FIXED PLACES
+
+map_set : {X Y : Type 0} (f : X → Y) (xs : List X) (i : ℕ) (y d : X) → f y ≡ f (get_or xs i d) → i < length xs → map f (set xs i y) ≡ map f xs
+map_set f [] i y d same lt = absurd (omega arith)
+map_set f (x ∷ xs) zero y d same lt = λ j. same j ∷ map f xs
+map_set f (x ∷ xs) (suc i) y d same lt = ap (λ l. f x ∷ l) (map_set f xs i y d same (omega arith))
+
+pub placed_names : (w : Wiring) (v : ℕ) (place : List ℕ) → v < length w.nodes → map (λ (n : VirtNode). n.name) (with_place w v place).nodes ≡ map (λ (n : VirtNode). n.name) w.nodes
+placed_names w v place lt = map_set (λ (n : VirtNode). n.name) w.nodes v _ _ refl lt
+
+pub placed_count : (w : Wiring) (v : ℕ) (place : List ℕ) → v < length w.nodes → length (with_place w v place).nodes ≡ length w.nodes
+placed_count w v place lt = sym (length-map (with_place w v place).nodes (λ (n : VirtNode). n.name)) ∙ ap length (placed_names w v place lt) ∙ length-map w.nodes (λ (n : VirtNode). n.name)
+
+-- a fixed place has no fault
+pub placed_kept : (w : Wiring) (v : ℕ) (place : List ℕ) → kept w ≡ Ok w → v < length w.nodes → kept (with_place w v place) ≡ Ok (with_place w v place)
+placed_kept w v place is lt =
+    part_kept w (with_place w v place) (sound_of w is (some (length w.nodes) v lt)) (record {
+      more_classes = [];
+      classes = sym (append-nil w.classes);
+      more_nodes = [];
+      nodes = sym (append-nil (map unfixed (with_place w v place).nodes) ∙ map_set unfixed w.nodes v _ _ refl lt);
+      more_segments = [];
+      segments = sym (append-nil w.segments);
+      more_pipes = [];
+      pipes = sym (append-nil w.pipes);
+      asked = inr refl;
+      ended = inr (placed_count w v place lt);
+      piped = inr (placed_count w v place lt, refl);
+    })
+  where
+    some : (n v : ℕ) → v < n → eqb n 0 ≡ false
+    some n v lt = grind (arith, nat_tests)
+
+pub placed_tables : (w new : Wiring) (t : Tables) (v : ℕ) (place : List ℕ) → AreTables w t → v < length w.nodes → new ≡ with_place w v place → AreTables new t
+placed_tables w new t v place is lt now =
+    subst (λ (u : Wiring). AreTables u t) (sym now) (record {
+      classes = is.classes;
+      nodes = is.nodes ∙ sym (placed_names w v place lt);
+      segments = is.segments;
+      addresses = is.addresses;
+      piped = is.piped;
+      ends = is.ends;
+      owned = is.owned ∙ sym (placed_count w v place lt);
+      owners = λ n below. is.owners n (omega (arith, placed_count w v place lt, below));
+    })

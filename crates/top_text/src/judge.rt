@@ -1,0 +1,46 @@
+// What the tests of a line say.
+ghost use Rattle.line_text.specs.Refusals.{Takes};
+ghost use Rattle.virt_topo.specs.declared.wiring.Wiring.{Wiring as AnyWiring};
+ghost use Rattle.top_text.specs.Tables.{judged};
+
+use lab_base::Kind;
+use line_text::LineFault;
+
+/// What the tests of a wiring with a line more say.
+#[derive(Clone, Copy)]
+pub(crate) struct Tests {
+    /// Something is given twice.
+    pub(crate) twice: bool,
+    /// Each number names something.
+    pub(crate) known: bool,
+    /// A segment names a virtual node twice.
+    pub(crate) same: bool,
+    /// A pipe has one end twice, ends of two owners, or an end of an earlier pipe.
+    pub(crate) bad_pipe: bool,
+    /// The limits are kept.
+    pub(crate) within: bool,
+}
+
+impl Tests {
+    /// The first fault, in the order of kinds.
+    pub(crate) fn judge(self) -> Result<(), LineFault>
+        ensures { (w : AnyWiring) → Takes result w (judged self w) }
+    {
+        if self.twice {
+            return Err(LineFault::Kind(Kind::Twice));
+        }
+        if !self.known {
+            return Err(LineFault::Kind(Kind::Unknown));
+        }
+        if self.same {
+            return Err(LineFault::Kind(Kind::Same));
+        }
+        if self.bad_pipe {
+            return Err(LineFault::Kind(Kind::Pipe));
+        }
+        if !self.within {
+            return Err(LineFault::Kind(Kind::Limit));
+        }
+        Ok(())
+    }
+}
