@@ -98,5 +98,8 @@ joined_length (line ∷ lines) short =
     let all = length-append (line ++ 10 ∷ []) (joined lines) in
     omega (arith, own, all, short line (inl refl), joined_length lines (λ x g. short x (inr g)))
 
+pub block_size : (count : ℕ) (text : List ℕ) → IsBlock count text → length text ≤ 67125248
+block_size count text b = omega (arith, b.few, b.all, ap length b.text_is, joined_length b.lines b.short)
+
 pub block_length : (count : ℕ) (text : List ℕ) → IsBlock count text → length text < 4294967295
-block_length count text b = omega (arith, b.few, b.all, ap length b.text_is, joined_length b.lines b.short)
+block_length count text b = omega (arith, block_size count text b)

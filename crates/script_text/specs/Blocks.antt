@@ -3,9 +3,9 @@ use Rattle.std.specs.Prelude.{◌≡◌, ◌≤◌, ℕ, List, length}
 use Rattle.lab_base.specs.Lists.{Has}
 use Rattle.script_text.specs.Taking.{joined}
 use Rattle.script_text.specs.declared.command.Command.{Command}
-use Rattle.script_text.specs.declared.command.Command.TheVariants.{Ptop, Create, CreateTop, SwapinWith}
+use Rattle.script_text.specs.declared.command.Command.TheVariants.{Ptop, Create, CreateTop, SwapinWith, ModifyWith}
 use Rattle.script_text.specs.declared.heads.Head.{Head}
-use Rattle.script_text.specs.declared.heads.Head.TheVariants.{Whole, Block}
+use Rattle.script_text.specs.declared.heads.Head.TheVariants.{Whole, Block, Blocks}
 use Rattle.script_text.specs.declared.heads.Said.{Said}
 use Rattle.script_text.specs.declared.heads.Said.TheVariants.{Begins}
 use Rattle.script_text.specs.declared.next.Next.{Next}
@@ -25,6 +25,7 @@ HasBlocks (Ptop lines ptop) = IsBlock lines ptop
 HasBlocks (Create exp lines ns) = IsBlock lines ns
 HasBlocks (CreateTop exp lines top) = IsBlock lines top
 HasBlocks (SwapinWith exp lines map) = IsBlock lines map
+HasBlocks (ModifyWith exp top_lines top map_lines map) = IsBlock top_lines top × IsBlock map_lines map
 HasBlocks command = Unit {0}
 
 abbrev pub NextHasBlocks : Next → Type 0
@@ -35,6 +36,7 @@ NextHasBlocks nexts.End = Unit {0}
 abbrev pub IsInRange : Head → Type 0
 IsInRange (Whole command) = HasBlocks command
 IsInRange (Block what lines) = lines ≤ 16384
+IsInRange (Blocks what first second) = (first ≤ 16384) × (second ≤ 16384)
 
 abbrev pub SaysInRange : Said → Type 0
 SaysInRange (Begins head) = IsInRange head

@@ -1,7 +1,7 @@
 -- The commands of a script.
 use Rattle.std.specs.Prelude.{◌≡◌, ◌+◌, ℕ, zero, suc, List, [], ◌∷◌, ◌++◌, Option, Some, None}
 use Rattle.lab_io.specs.Lines.{script_lines}
-use Rattle.script_text.specs.Heads.{completed, said_of}
+use Rattle.script_text.specs.Heads.{completed, both_completed, said_of}
 use Rattle.script_text.specs.declared.heads.Head.{Head}
 use Rattle.script_text.specs.declared.heads.Head.TheVariants as heads
 use Rattle.script_text.specs.declared.heads.Said.{Said}
@@ -32,14 +32,16 @@ pub data Found : Type 0 where
   End : Found
   Bad : (line : ℕ) → Found
 
-abbrev pub with_block : Block → (List ℕ → Command) → Found
-with_block (Whole text number rest) as_command = Got (as_command text) number rest
-with_block (Short line) as_command = Bad line
+-- what is found behind a block with its text, unless a line of it is missing or too long
+abbrev pub behind : Block → (List ℕ → ℕ → Lines → Found) → Found
+behind (Whole text number rest) onwards = onwards text number rest
+behind (Short line) onwards = Bad line
 
 -- the command that begins at line `number`
 abbrev pub command_at : Head → ℕ → Lines → Found
 command_at (heads.Whole command) number lines = Got command number lines
-command_at (heads.Block what k) number lines = with_block (block k [] number lines) (completed what k)
+command_at (heads.Block what k) number lines = behind (block k [] number lines) (λ text. Got (completed what k text))
+command_at (heads.Blocks what k m) number lines = behind (block k [] number lines) (λ text after rest. behind (block m [] after rest) (λ other. Got (both_completed what k text m other)))
 
 -- what is found at a line by what it says: a skipped line leaves the matter to what is found behind it
 abbrev pub found_by : Said → ℕ → Lines → Found → Found

@@ -9,10 +9,14 @@ use Rattle.script_text.specs.declared.command.Command.{Command}
 use Rattle.script_text.specs.declared.command.Command.TheVariants as commands
 use Rattle.script_text.specs.declared.heads.OneBlock.{OneBlock}
 use Rattle.script_text.specs.declared.heads.OneBlock.TheVariants.{Ptop, Create, CreateTop, SwapinWith}
+use Rattle.script_text.specs.declared.heads.TwoBlocks.{TwoBlocks}
+use Rattle.script_text.specs.declared.heads.TwoBlocks.TheVariants.{ModifyWith}
 use Rattle.script_text.specs.declared.heads.Head.{Head}
-use Rattle.script_text.specs.declared.heads.Head.TheVariants.{Whole, Block}
+use Rattle.script_text.specs.declared.heads.Head.TheVariants.{Whole, Block, Blocks}
 use Rattle.plant.specs.declared.drill.How.{How}
 use Rattle.plant.specs.declared.drill.How.TheVariants.{Applied, Not, Hang, Jump}
+use Rattle.plant.specs.declared.drill.Pick.{Pick}
+use Rattle.plant.specs.declared.drill.Pick.TheVariants.{Nothing, All, Torn}
 use Rattle.script_text.specs.declared.heads.Said.{Said}
 use Rattle.script_text.specs.declared.heads.Said.TheVariants.{Skipped, Unknown, Begins}
 
@@ -23,6 +27,10 @@ completed (Create exp) k text = commands.Create exp k text
 completed (CreateTop exp) k text = commands.CreateTop exp k text
 completed (SwapinWith exp) k text = commands.SwapinWith exp k text
 
+-- the command that two blocks complete
+abbrev pub both_completed : TwoBlocks → ℕ → List ℕ → ℕ → List ℕ → Command
+both_completed (ModifyWith exp) k text m other = commands.ModifyWith exp k text m other
+
 -- the number of lines of a block
 abbrev pub counted : List ℕ → Option ℕ
 counted field = number_of 16384 field
@@ -31,7 +39,7 @@ counted field = number_of 16384 field
 abbrev pub named : List ℕ → Option (List ℕ)
 named field = if is_name field then Some field else None
 
--- what the fields behind a word are: none, a name, a number of lines, or a name and a number of lines
+-- what the fields behind a word are: none, a name, a number of lines, or a name and one or two numbers of lines
 abbrev pub no_field : List (List ℕ) → Option (Unit {0})
 no_field [] = Some tt
 no_field fields = None
@@ -48,13 +56,24 @@ abbrev pub name_and_count : List (List ℕ) → Option (List ℕ × ℕ)
 name_and_count (exp ∷ lines ∷ []) = option_and_then (λ name. option_map (λ k. (name, k)) (counted lines)) (named exp)
 name_and_count fields = None
 
--- how a device fails, and which command or poll of it, from 1
+abbrev pub name_and_counts : List (List ℕ) → Option (List ℕ × ℕ × ℕ)
+name_and_counts (exp ∷ first ∷ second ∷ []) = option_and_then (λ name. option_and_then (λ k. option_map (λ m. (name, k, m)) (counted second)) (counted first)) (named exp)
+name_and_counts fields = None
+
+-- how a device fails, what a stop leaves, and which call a drill is for, from 1
 abbrev pub how_of : List ℕ → Option How
 how_of field =
     if bytes_eq field (codes "applied") then Some Applied
     else if bytes_eq field (codes "not") then Some Not
     else if bytes_eq field (codes "hang") then Some Hang
     else if bytes_eq field (codes "jump") then Some Jump
+    else None
+
+abbrev pub pick_of : List ℕ → Option Pick
+pick_of field =
+    if bytes_eq field (codes "none") then Some Nothing
+    else if bytes_eq field (codes "all") then Some All
+    else if bytes_eq field (codes "torn") then Some Torn
     else None
 
 abbrev pub from_one : ℕ → Option ℕ
@@ -64,13 +83,19 @@ from_one (suc n) = Some (suc n)
 abbrev pub nth_of : List ℕ → Option ℕ
 nth_of field = option_and_then from_one (number_of 1000000 field)
 
--- a drill
+-- a failure: of the disk by two fields, of a device by three
 abbrev pub with_how : List ℕ → ℕ → Option How → Option Head
 with_how device nth how = option_map (λ h. Whole (commands.Fail device nth h)) how
 
-abbrev pub drill_head : List (List ℕ) → Option Head
-drill_head (device ∷ nth ∷ how ∷ []) = option_and_then (λ name. option_and_then (λ n. with_how name n (how_of how)) (nth_of nth)) (named device)
-drill_head fields = None
+abbrev pub fail_head : List (List ℕ) → Option Head
+fail_head (disk ∷ nth ∷ []) = if bytes_eq disk (codes "disk") then option_map (λ n. Whole (commands.FailDisk n)) (nth_of nth) else None
+fail_head (device ∷ nth ∷ how ∷ []) = option_and_then (λ name. option_and_then (λ n. with_how name n (how_of how)) (nth_of nth)) (named device)
+fail_head fields = None
+
+-- a stop
+abbrev pub stop_head : List (List ℕ) → Option Head
+stop_head (nth ∷ pick ∷ []) = option_and_then (λ n. option_map (λ p. Whole (commands.Stop n p)) (pick_of pick)) (nth_of nth)
+stop_head fields = None
 
 -- A COMMAND BY ITS WORD and the fields behind it
 abbrev pub head_by : List ℕ → List (List ℕ) → Option Head
@@ -80,10 +105,13 @@ head_by word fields =
     else if bytes_eq word (codes "create-top") then option_map (λ given. Block (CreateTop given.0) given.1) (name_and_count fields)
     else if bytes_eq word (codes "show") then option_map (λ exp. Whole (commands.Show exp)) (only_name fields)
     else if bytes_eq word (codes "swapin-with") then option_map (λ given. Block (SwapinWith given.0) given.1) (name_and_count fields)
+    else if bytes_eq word (codes "modify-with") then option_map (λ given. Blocks (ModifyWith given.0) given.1 given.2) (name_and_counts fields)
     else if bytes_eq word (codes "swapout") then option_map (λ exp. Whole (commands.Swapout exp)) (only_name fields)
     else if bytes_eq word (codes "delete") then option_map (λ exp. Whole (commands.Delete exp)) (only_name fields)
+    else if bytes_eq word (codes "recover") then option_map (λ none. Whole commands.Recover) (no_field fields)
     else if bytes_eq word (codes "status") then option_map (λ none. Whole commands.Status) (no_field fields)
-    else if bytes_eq word (codes "fail") then drill_head fields
+    else if bytes_eq word (codes "fail") then fail_head fields
+    else if bytes_eq word (codes "stop") then stop_head fields
     else None
 
 abbrev pub head_of : List (List ℕ) → Option Head

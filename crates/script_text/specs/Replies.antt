@@ -11,8 +11,8 @@ use Rattle.script_text.specs.declared.reply.TagLine.{TagLine}
 use Rattle.script_text.specs.declared.reply.Placed.{Placed}
 use Rattle.script_text.specs.declared.reply.FailedEnd.{FailedEnd}
 use Rattle.script_text.specs.declared.reply.FailedEnd.TheVariants as ends
-use Rattle.script_text.specs.declared.reply.What.{What}
-use Rattle.script_text.specs.declared.reply.What.TheVariants.{Device, Late, Unlawful, Journal}
+use Rattle.lab_base.specs.declared.what.What.{What}
+use Rattle.lab_base.specs.declared.what.What.TheVariants.{Device, Late, Unlawful, Journal}
 use Rattle.lab_base.specs.declared.boot.Boot.{Boot}
 use Rattle.lab_base.specs.declared.boot.Boot.TheVariants as boots
 use Rattle.virt_topo.specs.declared.violation.Broken.{Broken}
@@ -75,6 +75,7 @@ rule_word rules.F8 = codes "F8"
 
 abbrev pub end_word : FailedEnd → List ℕ
 end_word ends.Out = codes "out"
+end_word ends.In = codes "in"
 end_word ends.Stuck = codes "stuck"
 
 -- what troubled a swap
@@ -104,6 +105,7 @@ text_of (replies.Unknown exp) = named_line (codes "unknown ") exp
 text_of (replies.In exp) = named_line (codes "in ") exp
 text_of (replies.Out exp) = named_line (codes "out ") exp
 text_of (replies.Failed exp end what) = failed_line exp end what
+text_of (replies.Recovered done stuck) = two_line (codes "recovered ") done stuck
 text_of replies.Planned = codes "planned\n"
 text_of replies.NoDrill = codes "no drill\n"
 text_of (replies.Infeasible exp rule subject) = infeasible_line exp rule subject

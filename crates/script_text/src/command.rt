@@ -2,27 +2,72 @@ ghost use Rattle.std.specs.Prelude.{◌≡◌};
 ghost use Rattle.script_text.specs.Drills.{drill_of};
 
 use lab_base::{Name, Text};
-use plant::{Drill, How};
+use plant::{Drill, How, Pick};
 
 /// A command of a script. A block is its lines, each followed by a line feed.
 #[derive(Drop)]
 pub enum Command {
     /// `ptop N`: sets the lab, once, by the next N lines.
-    Ptop { lines: u16, ptop: Text },
+    Ptop {
+        lines: u16,
+        ptop: Text,
+    },
     /// `create E N`: makes an experiment, which is out, by the NS file of the next N lines.
-    Create { exp: Name, lines: u16, ns: Text },
+    Create {
+        exp: Name,
+        lines: u16,
+        ns: Text,
+    },
     /// `create-top E N`: makes an experiment, which is out, by the next N lines.
-    CreateTop { exp: Name, lines: u16, top: Text },
+    CreateTop {
+        exp: Name,
+        lines: u16,
+        top: Text,
+    },
     /// `show E`.
-    Show { exp: Name },
+    Show {
+        exp: Name,
+    },
     /// `swapin-with E N`: swaps in an experiment, which is out, by the solution text of the next N lines.
-    SwapinWith { exp: Name, lines: u16, map: Text },
+    SwapinWith {
+        exp: Name,
+        lines: u16,
+        map: Text,
+    },
+    /// `modify-with E N M`: gives an experiment, which is in, the wiring of the top text of the next N lines, by the
+    /// solution text of the M lines behind them.
+    ModifyWith {
+        exp: Name,
+        top_lines: u16,
+        top: Text,
+        map_lines: u16,
+        map: Text,
+    },
     /// `swapout E`: swaps out an experiment, which is in.
-    Swapout { exp: Name },
+    Swapout {
+        exp: Name,
+    },
     /// `fail DEVICE K HOW`: a drill. The K-th next command to the device fails, K from 1 to 1,000,000.
-    Fail { device: Name, nth: u32, how: How },
+    Fail {
+        device: Name,
+        nth: u32,
+        how: How,
+    },
+    /// `fail disk K`: a drill. The K-th next call of the disk fails, K from 1 to 1,000,000.
+    FailDisk {
+        nth: u32,
+    },
+    /// `stop K PICK`: a drill. The plant stops at the K-th next write, sync, cut or command, K from 1 to 1,000,000.
+    Stop {
+        nth: u32,
+        pick: Pick,
+    },
     /// `delete E`: removes an experiment, which is out.
-    Delete { exp: Name },
+    Delete {
+        exp: Name,
+    },
+    /// `recover`: settles every experiment that moves.
+    Recover,
     /// `status`.
     Status,
 }
@@ -37,6 +82,11 @@ impl Command {
                 name: *device,
                 nth: *nth,
                 how: *how,
+            }),
+            Command::FailDisk { nth } => Some(Drill::Disk { nth: *nth }),
+            Command::Stop { nth, pick } => Some(Drill::Stop {
+                nth: *nth,
+                pick: *pick,
             }),
             _ => None,
         }

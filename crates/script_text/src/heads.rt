@@ -3,17 +3,17 @@ ghost use Rattle.std.specs.Prelude.{◌≡◌, ◌≤◌, IfOk, IfSome};
 ghost use Rattle.std.specs.Str.{bytes_eq};
 ghost use Rattle.lab_base.specs.Texts.{views};
 ghost use Rattle.script_text.specs.Blocks.{IsBlock, HasBlocks, IsInRange, SaysInRange};
-ghost use Rattle.script_text.specs.Heads.{completed, counted, named, no_field, only_name, only_count, name_and_count, how_of, nth_of, drill_head, head_by, said_of};
+ghost use Rattle.script_text.specs.Heads.{completed, both_completed, counted, named, no_field, only_name, only_count, name_and_count, name_and_counts, how_of, pick_of, nth_of, fail_head, stop_head, head_by, said_of};
 
 use crate::Command;
 use lab_base::{Memory, Name, Text, fields_in, is_skipped, read_number};
-use plant::How;
+use plant::{How, Pick};
 use std::alloc::Global;
 
 /// The most lines of a block.
 const MAX_LINES: u64 = 16_384;
 
-/// The last command or poll that a drill can make fail.
+/// The last call that a drill can make fail.
 const MAX_NTH: u64 = 1_000_000;
 
 /// A command that one block completes.
@@ -25,11 +25,26 @@ pub(crate) enum OneBlock {
     SwapinWith { exp: Name },
 }
 
-/// The first line of a command: the command, or what it is once the lines of its block are there.
+/// A command that two blocks complete.
+#[derive(Clone, Copy)]
+pub(crate) enum TwoBlocks {
+    ModifyWith { exp: Name },
+}
+
+/// The first line of a command: the command, or what it is once the lines of its blocks are there.
 #[derive(Drop)]
 pub(crate) enum Head {
     Whole(Command),
-    Block { what: OneBlock, lines: u16 },
+    Block {
+        what: OneBlock,
+        lines: u16,
+    },
+    /// So many lines for the first block, and so many behind them for the second.
+    Blocks {
+        what: TwoBlocks,
+        first: u16,
+        second: u16,
+    },
 }
 
 /// What a line says where a command may begin.
@@ -64,6 +79,24 @@ impl OneBlock {
                 exp,
                 lines,
                 map: text,
+            },
+        }
+    }
+}
+
+impl TwoBlocks {
+    /// The command with its blocks.
+    pub(crate) fn completed(self, first: u16, one: Text, second: u16, other: Text) -> Command
+        ensures command { result ≡ both_completed self first one second other }
+        ensures blocks { IsBlock first one → IsBlock second other → HasBlocks result }
+    {
+        match self {
+            TwoBlocks::ModifyWith { exp } => Command::ModifyWith {
+                exp,
+                top_lines: first,
+                top: one,
+                map_lines: second,
+                map: other,
             },
         }
     }
@@ -136,6 +169,23 @@ fn name_and_count(fields: &[&[u8]]) -> Option<(Name, u16)>
     }
 }
 
+/// The name and the two numbers of lines that three fields give.
+fn name_and_counts(fields: &[&[u8]]) -> Option<(Name, u16, u16)>
+    ensures triple { result ≡ name_and_counts (views fields.now) }
+    ensures first { IfSome result (λ given. given.1 ≤ 16384) }
+    ensures second { IfSome result (λ given. given.2 ≤ 16384) }
+{
+    match fields {
+        [exp, first, second] => {
+            let exp = name_in(exp)?;
+            let first = count_in(first)?;
+            let second = count_in(second)?;
+            Some((exp, first, second))
+        }
+        _ => None,
+    }
+}
+
 /// Whether a field is that word.
 fn is_word(field: &[u8], word: &[u8]) -> bool
     ensures { result ≡ bytes_eq field.now word.now }
@@ -160,7 +210,22 @@ fn how_in(field: &[u8]) -> Option<How>
     }
 }
 
-/// The number of a command or a poll that a field gives.
+/// What a stop leaves, by a field.
+fn pick_in(field: &[u8]) -> Option<Pick>
+    ensures { result ≡ pick_of field.now }
+{
+    if is_word(field, b"none") {
+        Some(Pick::Nothing)
+    } else if is_word(field, b"all") {
+        Some(Pick::All)
+    } else if is_word(field, b"torn") {
+        Some(Pick::Torn)
+    } else {
+        None
+    }
+}
+
+/// The number of a call that a field gives.
 fn nth_in(field: &[u8]) -> Option<u32>
     ensures { result ≡ nth_of field.now }
 {
@@ -170,17 +235,36 @@ fn nth_in(field: &[u8]) -> Option<u32>
     }
 }
 
-/// The drill that fields give.
-fn drill_head(fields: &[&[u8]]) -> Option<Head>
-    ensures head { result ≡ drill_head (views fields.now) }
+/// The failure that fields give: of the disk by two, of a device by three.
+fn fail_head(fields: &[&[u8]]) -> Option<Head>
+    ensures head { result ≡ fail_head (views fields.now) }
     ensures range { IfSome result IsInRange }
 {
     match fields {
+        [disk, nth] if is_word(disk, b"disk") => {
+            let nth = nth_in(nth)?;
+            Some(Head::Whole(Command::FailDisk { nth }))
+        }
         [device, nth, how] => {
             let device = name_in(device)?;
             let nth = nth_in(nth)?;
             let how = how_in(how)?;
             Some(Head::Whole(Command::Fail { device, nth, how }))
+        }
+        _ => None,
+    }
+}
+
+/// The stop that two fields give.
+fn stop_head(fields: &[&[u8]]) -> Option<Head>
+    ensures head { result ≡ stop_head (views fields.now) }
+    ensures range { IfSome result IsInRange }
+{
+    match fields {
+        [nth, pick] => {
+            let nth = nth_in(nth)?;
+            let pick = pick_in(pick)?;
+            Some(Head::Whole(Command::Stop { nth, pick }))
         }
         _ => None,
     }
@@ -218,17 +302,29 @@ fn head_by(word: &[u8], fields: &[&[u8]]) -> Option<Head>
             what: OneBlock::SwapinWith { exp },
             lines,
         })
+    } else if is_word(word, b"modify-with") {
+        let (exp, first, second) = name_and_counts(fields)?;
+        Some(Head::Blocks {
+            what: TwoBlocks::ModifyWith { exp },
+            first,
+            second,
+        })
     } else if is_word(word, b"swapout") {
         let exp = only_name(fields)?;
         Some(Head::Whole(Command::Swapout { exp }))
     } else if is_word(word, b"delete") {
         let exp = only_name(fields)?;
         Some(Head::Whole(Command::Delete { exp }))
+    } else if is_word(word, b"recover") {
+        no_field(fields)?;
+        Some(Head::Whole(Command::Recover))
     } else if is_word(word, b"status") {
         no_field(fields)?;
         Some(Head::Whole(Command::Status))
     } else if is_word(word, b"fail") {
-        drill_head(fields)
+        fail_head(fields)
+    } else if is_word(word, b"stop") {
+        stop_head(fields)
     } else {
         None
     }

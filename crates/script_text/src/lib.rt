@@ -1,7 +1,7 @@
 //! Scripts and replies: the commands of a script's lines, and the text of each reply.
 //!
 //! A command joins by a variant of `Command` and a row of the table of words, `head_by`; one with a block also by a
-//! variant of `OneBlock`. A reply joins by a variant of `Reply` and its text.
+//! variant of `OneBlock`, one with two by one of `TwoBlocks`. A reply joins by a variant of `Reply` and its text.
 #![tactic(auto)]
 
 mod command;
@@ -13,4 +13,4 @@ mod reply;
 pub use command::Command;
 pub use next::{Next, ScriptFault, read_command};
 pub use replies::reply_text;
-pub use reply::{FailedEnd, PhaseWord, Placed, Reply, StatusLine, TagLine, What};
+pub use reply::{FailedEnd, PhaseWord, Placed, Reply, StatusLine, TagLine};

@@ -150,6 +150,15 @@ fn with_blocks<S: Source>(
             let text = take_block(alloc, lines, source, count)?;
             Ok(what.completed(count, text))
         }
+        Head::Blocks {
+            what,
+            first,
+            second,
+        } => {
+            let one = take_block(alloc, lines, source, first)?;
+            let other = take_block(alloc, lines, source, second)?;
+            Ok(what.completed(first, one, second, other))
+        }
     }
 }
 

@@ -1,10 +1,10 @@
 ghost use Rattle.std.specs.Prelude.{◌≡◌, ◌++◌, ◌∷◌, [], codes, decimal, IfOk, OnOk};
 ghost use Rattle.std.specs.List.{flat_map};
-ghost use Rattle.script_text.specs.declared.reply.What.TheVariants as whats;
+ghost use Rattle.lab_base.specs.declared.what.What.TheVariants as whats;
 ghost use Rattle.script_text.specs.Replies.{phase_word, named_line, fault_line, two_line, lab_line, exp_line, boot_word, rule_word, end_word, what_words, failed_line, infeasible_line, tag_line, placed_lines, shown_lines, text_of};
 
-use crate::{FailedEnd, PhaseWord, Placed, Reply, StatusLine, TagLine, What};
-use lab_base::{Boot, Memory, Name, Text, TextFault};
+use crate::{FailedEnd, PhaseWord, Placed, Reply, StatusLine, TagLine};
+use lab_base::{Boot, Memory, Name, Text, TextFault, What};
 use std::alloc::Global;
 use virt_topo::Broken;
 
@@ -39,7 +39,7 @@ fn add_fault(text: &mut Text, fault: TextFault) -> Result<(), Memory>
     text.push(b'\n')
 }
 
-fn add_two(text: &mut Text, first: u16, second: u16) -> Result<(), Memory>
+fn add_two(text: &mut Text, first: u32, second: u32) -> Result<(), Memory>
     ensures { OnOk result (text.new ≡ two_line text.old first second) }
 {
     text.push_number(first.into())?;
@@ -54,7 +54,7 @@ fn lab(alloc: Global, switches: u16, nodes: u16, trunks: u16) -> Result<Text, Me
     let mut text = Text::from_slice(alloc, b"lab ")?;
     text.push_number(switches.into())?;
     text.push(b' ')?;
-    add_two(&mut text, nodes, trunks)?;
+    add_two(&mut text, nodes.into(), trunks.into())?;
     Ok(text)
 }
 
@@ -72,7 +72,7 @@ fn created(alloc: Global, exp: &Name, nodes: u16, segments: u16) -> Result<Text,
     ensures { IfOk result (λ text. text ≡ two_line (codes "created " ++ exp.now ++ 32 ∷ []) nodes segments) }
 {
     let mut text = named_head(alloc, b"created ", exp)?;
-    add_two(&mut text, nodes, segments)?;
+    add_two(&mut text, nodes.into(), segments.into())?;
     Ok(text)
 }
 
@@ -157,6 +157,7 @@ fn end_word(end: FailedEnd) -> &'static str
 {
     match end {
         FailedEnd::Out => "out",
+        FailedEnd::In => "in",
         FailedEnd::Stuck => "stuck",
     }
 }
@@ -183,8 +184,8 @@ fn add_what(text: &mut Text, what: &What) -> Result<(), Memory>
     ensures { OnOk result (text.new ≡ text.old ++ what_words what.now) }
 {
     match what {
-        What::Device { name } => add_named(text, b"device ", name),
-        What::Late { node } => add_named(text, b"boot ", node),
+        What::Device(name) => add_named(text, b"device ", name),
+        What::Late(node) => add_named(text, b"boot ", node),
         What::Unlawful { node, from, to } => add_boots(text, node, *from, *to),
         What::Journal => text.push_bytes(b"journal"),
     }
@@ -198,6 +199,14 @@ fn failed(alloc: Global, exp: &Name, end: FailedEnd, what: &What) -> Result<Text
     text.push(b' ')?;
     add_what(&mut text, what)?;
     text.push(b'\n')?;
+    Ok(text)
+}
+
+fn recovered(alloc: Global, done: u32, stuck: u32) -> Result<Text, Memory>
+    ensures { IfOk result (λ text. text ≡ two_line (codes "recovered ") done stuck) }
+{
+    let mut text = Text::from_slice(alloc, b"recovered ")?;
+    add_two(&mut text, done, stuck)?;
     Ok(text)
 }
 
@@ -243,7 +252,7 @@ fn line_of(alloc: Global, line: &StatusLine) -> Result<Text, Memory>
     let mut text = named_head(alloc, b"exp ", &line.exp)?;
     text.push_bytes(line.phase.word().as_bytes())?;
     text.push(b' ')?;
-    add_two(&mut text, line.nodes, line.vlans)?;
+    add_two(&mut text, line.nodes.into(), line.vlans.into())?;
     Ok(text)
 }
 
@@ -256,7 +265,7 @@ fn listed(alloc: Global, experiments: &[StatusLine], nodes: u16, vlans: u16) -> 
         text.push_bytes(line.bytes())?;
     }
     let mut free = Text::from_slice(alloc, b"free ")?;
-    add_two(&mut free, nodes, vlans)?;
+    add_two(&mut free, nodes.into(), vlans.into())?;
     text.push_bytes(free.bytes())?;
     Ok(text)
 }
@@ -295,6 +304,7 @@ pub fn reply_text(alloc: Global, reply: &Reply) -> Result<Text, Memory>
         Reply::In { exp } => named(alloc, b"in ", exp),
         Reply::Out { exp } => named(alloc, b"out ", exp),
         Reply::Failed { exp, end, what } => failed(alloc, exp, *end, what),
+        Reply::Recovered { done, stuck } => recovered(alloc, *done, *stuck),
         Reply::Planned => Text::from_slice(alloc, b"planned\n"),
         Reply::NoDrill => Text::from_slice(alloc, b"no drill\n"),
         Reply::Infeasible { exp, rule, subject } => infeasible(alloc, exp, *rule, subject),

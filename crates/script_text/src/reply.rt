@@ -1,7 +1,7 @@
 ghost use Rattle.std.specs.Prelude.{◌≡◌};
 ghost use Rattle.script_text.specs.Replies.{closes};
 
-use lab_base::{Boot, Items, Name, Text, TextFault, VlanId};
+use lab_base::{Items, Name, Text, TextFault, VlanId, What};
 use virt_topo::Broken;
 
 /// The phase of an experiment, as a reply has it.
@@ -40,21 +40,10 @@ pub struct Placed {
 pub enum FailedEnd {
     /// The experiment is out.
     Out,
+    /// It is in, as it was.
+    In,
     /// It is stuck: it moves, and its swap doesn't go on.
     Stuck,
-}
-
-/// What troubled a swap.
-#[derive(Clone, Copy, PartialEq, Eq)]
-pub enum What {
-    /// `device NAME`: a command to that device failed.
-    Device { name: Name },
-    /// `boot NODE`: the node was not up at the 64th poll.
-    Late { node: Name },
-    /// `boot NODE FROM TO`: the second boot state may not follow the first.
-    Unlawful { node: Name, from: Boot, to: Boot },
-    /// `journal`: a call on the journal failed.
-    Journal,
 }
 
 /// The reply to a command.
@@ -110,11 +99,17 @@ pub enum Reply {
     Out {
         exp: Name,
     },
-    /// `failed E out WHAT`, `failed E stuck WHAT`.
+    /// `failed E out WHAT`, `failed E in WHAT`, `failed E stuck WHAT`. What troubled it is `device NAME`,
+    /// `boot NODE` where the node was late, `boot NODE FROM TO`, or `journal`.
     Failed {
         exp: Name,
         end: FailedEnd,
         what: What,
+    },
+    /// `recovered D S`: to `recover`, how many swaps were settled, and how many are stuck.
+    Recovered {
+        done: u32,
+        stuck: u32,
     },
     /// `planned`: to a drill.
     Planned,

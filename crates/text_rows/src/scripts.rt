@@ -1,7 +1,7 @@
 // Commands of scripts, and replies.
-use lab_base::{Boot, Items, Kind, Memory, Name, Text, TextFault, VlanId};
+use lab_base::{Boot, Items, Kind, Memory, Name, Text, TextFault, VlanId, What};
 use lab_io::{LineReader, MemSource};
-use plant::How;
+use plant::{How, Pick};
 use script_text::*;
 use std::alloc::Global;
 use std::test::Fail;
@@ -16,7 +16,15 @@ fn how_word(how: How) -> &'static [u8] {
     }
 }
 
-/// A command in short: a letter, its name, its number, and its block.
+fn pick_word(pick: Pick) -> &'static [u8] {
+    match pick {
+        Pick::Nothing => b"none",
+        Pick::All => b"all",
+        Pick::Torn => b"torn",
+    }
+}
+
+/// A command in short: a letter, its name, its number, and its first block.
 fn in_short(command: &Command) -> (u8, &[u8], u32, &[u8]) {
     match command {
         Command::Ptop { lines, ptop } => (b'p', b"", u32::from(*lines), ptop.bytes()),
@@ -28,9 +36,18 @@ fn in_short(command: &Command) -> (u8, &[u8], u32, &[u8]) {
         Command::SwapinWith { exp, lines, map } => {
             (b'i', exp.bytes(), u32::from(*lines), map.bytes())
         }
+        Command::ModifyWith {
+            exp,
+            top_lines,
+            top,
+            ..
+        } => (b'm', exp.bytes(), u32::from(*top_lines), top.bytes()),
         Command::Swapout { exp } => (b'o', exp.bytes(), 0, b""),
         Command::Fail { device, nth, how } => (b'f', device.bytes(), *nth, how_word(*how)),
+        Command::FailDisk { nth } => (b'k', b"", *nth, b""),
+        Command::Stop { nth, pick } => (b'x', b"", *nth, pick_word(*pick)),
         Command::Delete { exp } => (b'd', exp.bytes(), 0, b""),
+        Command::Recover => (b'r', b"", 0, b""),
         Command::Status => (b'?', b"", 0, b""),
     }
 }
@@ -40,7 +57,14 @@ fn add_short(seen: &mut Text, command: &Command) -> Result<(), Memory> {
     seen.push(letter)?;
     seen.push_bytes(name)?;
     seen.push_number(u64::from(number))?;
-    seen.push_bytes(block)
+    seen.push_bytes(block)?;
+    match command {
+        Command::ModifyWith { map_lines, map, .. } => {
+            seen.push_number(u64::from(*map_lines))?;
+            seen.push_bytes(map.bytes())
+        }
+        _ => Ok(()),
+    }
 }
 
 /// The commands of a script in short, and the fault that ends them, if any.
@@ -56,6 +80,16 @@ fn read_all(alloc: Global, bytes: &[u8]) -> Result<(Text, Option<ScriptFault>), 
         }
     }
     Err("no end".into())
+}
+
+/// Whether a script has these commands in short, and then that line which is not in the grammar, or 0.
+fn has_commands(alloc: Global, bytes: &[u8], wanted: &[u8], bad: u64) -> Result<bool, Fail> {
+    let (seen, fault) = read_all(alloc, bytes)?;
+    let ends = match fault {
+        None => bad == 0,
+        Some(fault) => fault == ScriptFault::Bad { line: bad },
+    };
+    Ok(ends && seen.bytes() == wanted)
 }
 
 #[test]
@@ -102,12 +136,73 @@ fn commands_of_scripts(rt: HostRuntime) -> Result<(), Fail> {
         (b"show \0\n", b"", 1),
     ];
     for (bytes, wanted, bad) in cases {
-        let (seen, fault) = read_all(rt.alloc(), bytes)?;
-        assert_eq!(rt; seen.bytes(), wanted);
-        match fault {
-            None => assert_eq!(rt; bad, 0),
-            Some(fault) => assert_eq!(rt; fault, ScriptFault::Bad { line: bad }),
-        }
+        assert!(rt; has_commands(rt.alloc(), bytes, wanted, bad)?);
+    }
+    Ok(())
+}
+
+#[test]
+fn recovery_and_drills(rt: HostRuntime) -> Result<(), Fail> {
+    let cases: [(&[u8], &[u8], u64); 21] = [
+        (b"recover\n\trecover", b"r0r0", 0),
+        (b"recover now\n", b"", 1),
+        (b"fail disk 1\nfail disk 1000000\n", b"k1k1000000", 0),
+        (b"fail disk 3 not\n", b"fdisk3not", 0),
+        (b"status\nfail disk\n", b"?0", 2),
+        (b"fail disk 0\n", b"", 1),
+        (b"fail disk 1000001\n", b"", 1),
+        (b"fail disk x\n", b"", 1),
+        (b"fail s1 1\n", b"", 1),
+        (b"fail disk 1 none\n", b"", 1),
+        (b"fail disk 1 not 2\n", b"", 1),
+        (
+            b"stop 1 none\nstop 2 all\nstop 1000000 torn\n",
+            b"x1nonex2allx1000000torn",
+            0,
+        ),
+        (b"stop\n", b"", 1),
+        (b"stop 1\n", b"", 1),
+        (b"stop 0 all\n", b"", 1),
+        (b"stop 1000001 all\n", b"", 1),
+        (b"stop x all\n", b"", 1),
+        (b"stop 1 half\n", b"", 1),
+        (b"stop 1 Torn\n", b"", 1),
+        (b"stop all 1\n", b"", 1),
+        (b"stop 1 all torn\n", b"", 1),
+    ];
+    for (bytes, wanted, bad) in cases {
+        assert!(rt; has_commands(rt.alloc(), bytes, wanted, bad)?);
+    }
+    Ok(())
+}
+
+#[test]
+fn changes(rt: HostRuntime) -> Result<(), Fail> {
+    let cases: [(&[u8], &[u8], u64); 17] = [
+        (
+            b"modify-with A 2 1\nnode a pc linux\n# c\nnode a pc1 pc\nstatus\n",
+            b"mA2node a pc linux\n# c\n1node a pc1 pc\n?0",
+            0,
+        ),
+        (b"modify-with A 0 0\nstatus\n", b"mA00?0", 0),
+        (b"modify-with A 0 1\nstatus\n", b"mA01status\n", 0),
+        (b"modify-with A 1 0\nx\nstatus", b"mA1x\n0?0", 0),
+        (b"modify-with A 1 2\n\n\ty\n\n", b"mA1\n2\ty\n\n", 0),
+        (b"modify-with\n", b"", 1),
+        (b"modify-with A\n", b"", 1),
+        (b"modify-with A 1\nx\n", b"", 1),
+        (b"modify-with A 0 0 0\n", b"", 1),
+        (b"modify-with A:B 0 0\n", b"", 1),
+        (b"modify-with A x 0\n", b"", 1),
+        (b"modify-with A 16385 0\n", b"", 1),
+        (b"modify-with A 0 16385\n", b"", 1),
+        (b"modify-with A 16384 16384\n", b"", 2),
+        (b"modify-with A 2 1\nx\n", b"", 3),
+        (b"status\nmodify-with A 1 2\nx\ny\n", b"?0", 5),
+        (b"modify-with A 1 1\nx", b"", 3),
+    ];
+    for (bytes, wanted, bad) in cases {
+        assert!(rt; has_commands(rt.alloc(), bytes, wanted, bad)?);
     }
     Ok(())
 }
@@ -190,7 +285,8 @@ fn texts_of_replies(rt: HostRuntime) -> Result<(), Fail> {
     let (line, kind) = (6, Kind::Cycle);
     let fault = TextFault { line, kind };
     let (switches, nodes, trunks, segments, length) = (1, 2, 0, 1, 18);
-    let cases: [(Reply, &[u8]); 20] = [
+    let (done, stuck) = (256, 0);
+    let cases: [(Reply, &[u8]); 21] = [
         (
             Reply::Lab {
                 switches,
@@ -220,6 +316,7 @@ fn texts_of_replies(rt: HostRuntime) -> Result<(), Fail> {
         (Reply::In { exp }, b"in A\n"),
         (Reply::Out { exp }, b"out A\n"),
         (Reply::IsOut { exp }, b"is out A\n"),
+        (Reply::Recovered { done, stuck }, b"recovered 256 0\n"),
         (Reply::Planned, b"planned\n"),
         (Reply::NoDrill, b"no drill\n"),
         (Reply::FullJournal { length }, b"full journal 18\n"),
@@ -238,22 +335,33 @@ fn texts_of_failed_swaps(rt: HostRuntime) -> Result<(), Fail> {
     let exp = Name::read(b"A")?;
     let name = Name::read(b"s1")?;
     let node = Name::read(b"pc2")?;
-    let (out, stuck) = (FailedEnd::Out, FailedEnd::Stuck);
+    let (out, back, stuck) = (FailedEnd::Out, FailedEnd::In, FailedEnd::Stuck);
     let (from, to) = (Boot::Booting, Boot::IsUp);
-    let cases: [(FailedEnd, What, &[u8]); 5] = [
-        (out, What::Device { name }, b"failed A out device s1\n"),
-        (out, What::Late { node }, b"failed A out boot pc2\n"),
+    let cases: [(FailedEnd, What, &[u8]); 9] = [
+        (out, What::Device(name), b"failed A out device s1\n"),
+        (out, What::Late(node), b"failed A out boot pc2\n"),
         (
             out,
             What::Unlawful { node, from, to },
             b"failed A out boot pc2 BOOTING ISUP\n",
         ),
-        (stuck, What::Device { name }, b"failed A stuck device s1\n"),
+        (back, What::Device(name), b"failed A in device s1\n"),
+        (back, What::Late(node), b"failed A in boot pc2\n"),
+        (
+            back,
+            What::Unlawful { node, from, to },
+            b"failed A in boot pc2 BOOTING ISUP\n",
+        ),
+        (back, What::Journal, b"failed A in journal\n"),
+        (stuck, What::Device(name), b"failed A stuck device s1\n"),
         (stuck, What::Journal, b"failed A stuck journal\n"),
     ];
     for (end, what, wanted) in cases {
         let reply = Reply::Failed { exp, end, what };
-        assert_eq!(rt; reply.closes(), what == What::Journal);
+        assert_eq!(rt;
+            reply.closes(),
+            wanted == b"failed A stuck journal\n".as_slice()
+        );
         assert!(rt; has_text(rt.alloc(), reply, wanted)?);
     }
     Ok(())
