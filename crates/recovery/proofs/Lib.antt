@@ -1,0 +1,4 @@
+mod Due
+pub mod Resting
+mod Settling
+mod Stepping

@@ -1,0 +1,13 @@
+use Rattle.std.proofs.Common.{◌≡◌, false, length}
+use Rattle.journal_disk.specs.Standing.{limit_of}
+use Rattle.lab_state.specs.Texts.{the_texts}
+use Rattle.recovery.specs.Settle.{SettledTo}
+use Rattle.recovery.proofs.all.settle.Given as goal
+
+abbrev pub invariant-loop-n : goal.invariant-loop-n
+invariant-loop-n g l = record {
+  so_far : SettledTo the_texts l.fn.state.state l.busy (g.P.Plant.seen l.fn.plant) (g.P.Plant.seen l.plant) l.journal l.n l.state.state l.settled;
+  count_is : l.count ≡ length l.fn.state.state.experiments;
+  runs : (g.P.Plant.seen l.fn.plant).stopped ≡ false → (g.P.Plant.seen l.plant).stopped ≡ false;
+  same_limit : limit_of l.journal ≡ limit_of l.fn.journal;
+}

@@ -1,0 +1,127 @@
+// The settling of all experiments that move.
+ghost use Rattle.std.specs.Prelude.{◌≡◌, ◌≤◌, ◌<◌, ◌+◌, ◌^◌, ◌↔◌, length, slice_get, IfSome, IsErrOf, IsTrue, false};
+ghost use Rattle.journal_disk.specs.Standing.{limit_of};
+ghost use Rattle.records_model.specs.Labs.{LabState as AnyLabState};
+ghost use Rattle.plant.specs.Seen.{Seen};
+ghost use Rattle.lab_state.specs.Texts.{the_texts};
+ghost use Rattle.swap_turns.specs.Causes.{IsLater};
+ghost use Rattle.swap_turns.specs.Running.{AtWork};
+ghost use Rattle.recovery.specs.Due.{due, due_in, name_of};
+ghost use Rattle.recovery.specs.Settle.{CountedBy, SettledTo, IsSettlingSome, AfterNext, AfterAll};
+
+use crate::{One, SettleFault, settle_one};
+use journal_disk::Journal;
+use lab_base::Name;
+use lab_state::LabState;
+use plant::Plant;
+use std::alloc::Global;
+use virt_topo::{Experiment, Phase};
+
+/// How many experiments were settled, and how many move still.
+#[derive(Clone, Copy, Debug, PartialEq, Eq)]
+pub struct Settled {
+    pub done: u32,
+    pub stuck: u32,
+}
+
+/// The name of an experiment, which is short.
+fn short_name(experiment: &Experiment) -> Name
+    ensures name { result ≡ (experiment.now).name }
+    ensures short { length result ≤ 32 }
+{
+    let _named = experiment.name.bytes();
+    experiment.name
+}
+
+/// The name of an experiment, if it moves and isn't busy.
+fn due(experiment: &Experiment, busy: &[Name]) -> Option<Name>
+    ensures due { result ≡ name_of (due busy.now experiment.now) }
+    ensures short { IfSome result (λ name. length name ≤ 32) }
+{
+    let name = short_name(experiment);
+    if busy.contains(&name) {
+        return None;
+    }
+    match &experiment.phase {
+        Phase::Moving { .. } => Some(name),
+        Phase::Out | Phase::In { .. } => None,
+    }
+}
+
+/// The name of the experiment of that number, if it moves and isn't busy.
+fn due_at(state: &LabState, busy: &[Name], n: u16) -> Option<Name>
+    ensures due { result ≡ name_of (due_in busy.now (slice_get state.now.state.experiments n)) }
+    ensures short { IfSome result (λ name. length name ≤ 32) }
+{
+    match state.nth(n) {
+        Some(experiment) => due(experiment, busy),
+        None => None,
+    }
+}
+
+/// Counts one more.
+fn counted(settled: Settled, one: &One) -> Settled
+    requires done { settled.done < 2 ^ 31 }
+    requires stuck { settled.stuck < 2 ^ 31 }
+    ensures { CountedBy settled one.now result }
+{
+    match one {
+        One::Out | One::In => Settled {
+            done: settled.done + 1,
+            stuck: settled.stuck,
+        },
+        One::Stuck(_) => Settled {
+            done: settled.done,
+            stuck: settled.stuck + 1,
+        },
+    }
+}
+
+/// Settles the experiment of that number, if it moves and isn't busy.
+fn settle_next<P: Plant>(
+    alloc: Global,
+    state: &mut LabState,
+    busy: &[Name],
+    n: u16,
+    settled: Settled,
+    journal: &mut Journal,
+    plant: &mut P,
+) -> Result<Settled, SettleFault>
+    requires { IsSettlingSome the_texts busy.now (P.seen plant.old) journal.old n state.old.state settled }
+    ensures after { (s : AnyLabState) (before : Seen) → n + 1 ≤ length s.experiments
+        → SettledTo the_texts s busy.now before (P.seen plant.old) journal.old n state.old.state settled
+        → AfterNext the_texts s busy.now before (P.seen plant.new) journal.new n state.new.state result }
+    ensures stopped { (P.seen plant.old).stopped ≡ false → (IsErrOf result SettleFault.Stopped ↔ IsTrue (P.seen plant.new).stopped) }
+    ensures limit { limit_of journal.new ≡ limit_of journal.old }
+{
+    let Some(exp) = due_at(state, busy, n) else {
+        return Ok(settled);
+    };
+    let one = settle_one(alloc, state, exp, journal, plant)?;
+    Ok(counted(settled, &one))
+}
+
+/// Settles all experiments that move, but the busy ones, in order of creation.
+///
+/// One whose course is cut moves still, and the others go on. A failed call of the journal, a stop, or want of memory between two
+/// breaks it off.
+pub fn settle<P: Plant>(
+    alloc: Global,
+    state: &mut LabState,
+    busy: &[Name],
+    journal: &mut Journal,
+    plant: &mut P,
+) -> Result<Settled, SettleFault>
+    requires { AtWork the_texts (P.seen plant.old).told journal.old state.old.state }
+    ensures after { AfterAll the_texts state.old.state busy.now (P.seen plant.old) (P.seen plant.new) journal.new state.new.state result }
+    ensures stopped { (P.seen plant.old).stopped ≡ false → (IsErrOf result SettleFault.Stopped ↔ IsTrue (P.seen plant.new).stopped) }
+    ensures later { IsLater (P.seen plant.old) (P.seen plant.new) }
+    ensures limit { limit_of journal.new ≡ limit_of journal.old }
+{
+    let mut settled = Settled { done: 0, stuck: 0 };
+    let count = state.len() as u16;
+    for n in 0..count {
+        settled = settle_next(alloc, state, busy, n, settled, journal, plant)?;
+    }
+    Ok(settled)
+}
