@@ -1,0 +1,113 @@
+-- The line of an entry is read as the entry.
+use Rattle.std.proofs.Common.{◌≡◌, ℕ, ◌≤◌, ◌-◌, ◌^◌, true, List, ◌++◌, Ok, refl, arith}
+use Rattle.std.specs.Prelude.{codes, decimal, nat_le}
+use Rattle.std.proofs.lemmas.Bool.{and_parts}
+use Rattle.std.proofs.lemmas.Bool.Decides.{nat_tests}
+use Rattle.lab_base.specs.Names.{is_name}
+use Rattle.lab_base.specs.Kinds.{both_of}
+use Rattle.lab_base.specs.declared.boot.Boot.{Boot}
+use Rattle.lab_base.specs.declared.boot.Boot.TheVariants.{Off, Shutdown, Booting, TbSetup, IsUp}
+use Rattle.lab_base.specs.declared.rates.Rates.{Rates}
+use Rattle.line_text.proofs.PartsAgain.{IsPlain, name_again, number_back, plain_name, plain_number}
+use Rattle.line_text.proofs.LinesAgain.{IsPrinted}
+use Rattle.line_text.proofs.Plain.{ArePlain, none, more}
+use Rattle.plant_file.specs.declared.entry.Entry.{Entry}
+use Rattle.plant_file.specs.declared.entry.Entry.TheVariants.{Row, Bare, Node, Pipe}
+use Rattle.plant_file.specs.Lines.{boot_word, boot_of, rates_fields, entry_fields, as_row, as_bare, as_node, as_rates, as_pipe, rates_of, entry_of}
+use Rattle.plant_file.specs.Printable.{are_rates, are_pipe_ends, is_printable}
+
+le_from : (a b : ℕ) → nat_le a b ≡ true → a ≤ b
+le_from a b h = grind (arith, nat_tests)
+
+boot_again : (state : Boot) → boot_of (boot_word state) ≡ Ok state
+boot_again Off = refl
+boot_again Shutdown = refl
+boot_again Booting = refl
+boot_again TbSetup = refl
+boot_again IsUp = refl
+
+record RateLimits (r : Rates) : Type 0 where
+  pub kbps : r.kbps ≤ 2 ^ 64 - 1
+  pub micros : r.micros ≤ 2 ^ 32 - 1
+  pub ppm : r.ppm ≤ 2 ^ 32 - 1
+
+rate_limits : (r : Rates) → are_rates r ≡ true → RateLimits r
+rate_limits r h =
+    let a = and_parts (nat_le r.kbps (2 ^ 64 - 1)) _ h in
+    let b = and_parts (nat_le r.micros (2 ^ 32 - 1)) (nat_le r.ppm (2 ^ 32 - 1)) a.1 in
+    record { kbps = le_from r.kbps (2 ^ 64 - 1) a.0; micros = le_from r.micros (2 ^ 32 - 1) b.0; ppm = le_from r.ppm (2 ^ 32 - 1) b.1 }
+
+rates_again : (r : Rates) → are_rates r ≡ true → rates_of (decimal r.kbps) (decimal r.micros) (decimal r.ppm) ≡ Ok r
+rates_again r h =
+    let l = rate_limits r h in
+    λ j. as_rates (both_of (number_back 0 (2 ^ 64 - 1) r.kbps (omega arith) l.kbps (omega arith) j) (both_of (number_back 0 (2 ^ 32 - 1) r.micros (omega arith) l.micros (omega arith) j) (number_back 0 (2 ^ 32 - 1) r.ppm (omega arith) l.ppm (omega arith) j)))
+
+pub entry_again : (entry : Entry) → is_printable entry ≡ true → entry_of (entry_fields entry) ≡ Ok entry
+entry_again (Row switch port vlan) h =
+    let a = and_parts (is_name switch) _ h in
+    let b = and_parts (nat_le port 65535) (nat_le vlan.0 65535) a.1 in
+    λ j. as_row (both_of (name_again switch a.0 j) (both_of (number_back 0 65535 port (omega arith) (le_from port 65535 b.0) (omega arith) j) (number_back 0 65535 vlan.0 (omega arith) (le_from vlan.0 65535 b.1) (omega arith) j)))
+entry_again (Bare node state) h = λ j. as_bare (both_of (name_again node h j) (boot_again state j))
+entry_again (Node node state os) h =
+    let a = and_parts (is_name node) (is_name os) h in
+    λ j. as_node (both_of (name_again node a.0 j) (both_of (boot_again state j) (name_again os a.1 j)))
+entry_again (Pipe node number from to there back) h =
+    let a = and_parts (are_pipe_ends node number from to) _ h in
+    let b = and_parts (is_name node) _ a.0 in
+    let c = and_parts (nat_le number 65535) _ b.1 in
+    let d = and_parts (is_name from) (is_name to) c.1 in
+    let r = and_parts (are_rates there) (are_rates back) a.1 in
+    λ j. as_pipe (both_of (both_of (name_again node b.0 j) (number_back 0 65535 number (omega arith) (le_from number 65535 c.0) (omega arith) j))
+    (both_of (both_of (name_again from d.0 j) (name_again to d.1 j)) (both_of (rates_again there r.0 j) (rates_again back r.1 j))))
+
+-- THE FIELDS ARE PLAIN
+
+row_plain : IsPlain (codes "row")
+row_plain = record { filled = refl; no_blank = refl; no_feed = refl }
+
+node_plain : IsPlain (codes "node")
+node_plain = record { filled = refl; no_blank = refl; no_feed = refl }
+
+pipe_plain : IsPlain (codes "pipe")
+pipe_plain = record { filled = refl; no_blank = refl; no_feed = refl }
+
+boot_plain : (state : Boot) → IsPlain (boot_word state)
+boot_plain Off = record { filled = refl; no_blank = refl; no_feed = refl }
+boot_plain Shutdown = record { filled = refl; no_blank = refl; no_feed = refl }
+boot_plain Booting = record { filled = refl; no_blank = refl; no_feed = refl }
+boot_plain TbSetup = record { filled = refl; no_blank = refl; no_feed = refl }
+boot_plain IsUp = record { filled = refl; no_blank = refl; no_feed = refl }
+
+rates_plain : (r : Rates) (rest : List (List ℕ)) → are_rates r ≡ true → ArePlain rest → ArePlain (rates_fields r ++ rest)
+rates_plain r rest h others =
+    let l = rate_limits r h in
+    more _ _ (plain_number r.kbps (omega (arith, l.kbps))) (more _ _ (plain_number r.micros (omega (arith, l.micros))) (more _ _ (plain_number r.ppm (omega (arith, l.ppm))) others))
+
+fields_plain : (entry : Entry) → is_printable entry ≡ true → ArePlain (entry_fields entry)
+fields_plain (Row switch port vlan) h =
+    let a = and_parts (is_name switch) _ h in
+    let b = and_parts (nat_le port 65535) (nat_le vlan.0 65535) a.1 in
+    more _ _ row_plain (more _ _ (plain_name switch a.0) (more _ _ (plain_number port (omega (arith, le_from port 65535 b.0))) (more _ _ (plain_number vlan.0 (omega (arith, le_from vlan.0 65535 b.1))) none)))
+fields_plain (Bare node state) h = more _ _ node_plain (more _ _ (plain_name node h) (more _ _ (boot_plain state) none))
+fields_plain (Node node state os) h =
+    let a = and_parts (is_name node) (is_name os) h in
+    more _ _ node_plain (more _ _ (plain_name node a.0) (more _ _ (boot_plain state) (more _ _ (plain_name os a.1) none)))
+fields_plain (Pipe node number from to there back) h =
+    let a = and_parts (are_pipe_ends node number from to) _ h in
+    let b = and_parts (is_name node) _ a.0 in
+    let c = and_parts (nat_le number 65535) _ b.1 in
+    let d = and_parts (is_name from) (is_name to) c.1 in
+    let r = and_parts (are_rates there) (are_rates back) a.1 in
+    more _ _ pipe_plain (more _ _ (plain_name node b.0) (more _ _ (plain_number number (omega (arith, le_from number 65535 c.0))) (more _ _ (plain_name from d.0) (more _ _ (plain_name to d.1)
+    (rates_plain there (rates_fields back) r.0 (rates_last back r.1))))))
+  where
+    rates_last : (r : Rates) → are_rates r ≡ true → ArePlain (rates_fields r)
+    rates_last r h =
+        let l = rate_limits r h in
+        more _ _ (plain_number r.kbps (omega (arith, l.kbps))) (more _ _ (plain_number r.micros (omega (arith, l.micros))) (more _ _ (plain_number r.ppm (omega (arith, l.ppm))) none))
+
+pub entry_printed : (entry : Entry) → is_printable entry ≡ true → IsPrinted (entry_fields entry)
+entry_printed (Row switch port vlan) h = record { kept = refl; plain = (fields_plain (Row switch port vlan) h).each }
+entry_printed (Bare node state) h = record { kept = refl; plain = (fields_plain (Bare node state) h).each }
+entry_printed (Node node state os) h = record { kept = refl; plain = (fields_plain (Node node state os) h).each }
+entry_printed (Pipe node number from to there back) h = record { kept = refl; plain = (fields_plain (Pipe node number from to there back) h).each }

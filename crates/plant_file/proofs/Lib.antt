@@ -1,0 +1,6 @@
+mod EntryAgain
+mod Finds
+mod Fitting
+mod NodesHold
+mod RowsHold
+mod TablesAgain

@@ -1,0 +1,6 @@
+pub mod Again
+pub mod Entries
+pub mod Holding
+pub mod Lab
+pub mod Lines
+pub mod Printable

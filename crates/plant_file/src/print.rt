@@ -1,0 +1,125 @@
+ghost use Rattle.std.specs.Prelude.{◌≡◌, ◌++◌, ◌∷◌, true, decimal, Ok, OnOk, IfOk};
+ghost use Rattle.std.specs.List.{list_all};
+ghost use Rattle.lab_base.specs.Names.{is_name};
+ghost use Rattle.line_text.specs.Printing.{line_text, spaced};
+ghost use Rattle.plant_file.specs.Lines.{rates_fields, entry_fields, tables_text, tables_of_text};
+ghost use Rattle.plant_file.specs.Printable.{are_rates, is_printable};
+
+use crate::boots::boot_word;
+use crate::entry::Entry;
+use lab_base::{Boot, Memory, Name, Rates, Text, VlanId};
+use line_text::push_field;
+use std::alloc::Global;
+
+/// A space and a word.
+fn push_word(text: &mut Text, word: &[u8]) -> Result<(), Memory>
+    ensures { OnOk result (text.new ≡ text.old ++ 32 ∷ word.now) }
+{
+    text.push(b' ')?;
+    text.push_bytes(word)
+}
+
+/// A space and a number.
+fn push_count(text: &mut Text, number: u64) -> Result<(), Memory>
+    ensures { OnOk result (text.new ≡ text.old ++ 32 ∷ decimal number) }
+{
+    text.push(b' ')?;
+    text.push_number(number)
+}
+
+fn push_row(text: &mut Text, switch: &Name, port: u16, vlan: VlanId) -> Result<(), Memory>
+    ensures text { OnOk result (text.new ≡ text.old ++ line_text (entry_fields (Entry.Row switch.now port vlan))) }
+    ensures printable { OnOk result (is_printable (Entry.Row switch.now port vlan) ≡ true) }
+{
+    text.push_bytes(b"row")?;
+    push_field(text, switch)?;
+    push_count(text, u64::from(port))?;
+    push_count(text, u64::from(vlan.0))?;
+    text.push(b'\n')
+}
+
+fn push_bare(text: &mut Text, node: &Name, state: Boot) -> Result<(), Memory>
+    ensures text { OnOk result (text.new ≡ text.old ++ line_text (entry_fields (Entry.Bare node.now state))) }
+    ensures printable { OnOk result (is_printable (Entry.Bare node.now state) ≡ true) }
+{
+    text.push_bytes(b"node")?;
+    push_field(text, node)?;
+    push_word(text, boot_word(state))?;
+    text.push(b'\n')
+}
+
+fn push_node(text: &mut Text, node: &Name, state: Boot, os: &Name) -> Result<(), Memory>
+    ensures text { OnOk result (text.new ≡ text.old ++ line_text (entry_fields (Entry.Node node.now state os.now))) }
+    ensures printable { OnOk result (is_printable (Entry.Node node.now state os.now) ≡ true) }
+{
+    text.push_bytes(b"node")?;
+    push_field(text, node)?;
+    push_word(text, boot_word(state))?;
+    push_field(text, os)?;
+    text.push(b'\n')
+}
+
+fn push_rates(text: &mut Text, rates: Rates) -> Result<(), Memory>
+    ensures text { OnOk result (text.new ≡ text.old ++ spaced (rates_fields rates)) }
+    ensures printable { OnOk result (are_rates rates ≡ true) }
+{
+    push_count(text, rates.kbps)?;
+    push_count(text, u64::from(rates.micros))?;
+    push_count(text, u64::from(rates.ppm))
+}
+
+fn push_both_rates(text: &mut Text, there: Rates, back: Rates) -> Result<(), Memory>
+    ensures text { OnOk result (text.new ≡ text.old ++ spaced (rates_fields there ++ rates_fields back)) }
+    ensures there { OnOk result (are_rates there ≡ true) }
+    ensures back { OnOk result (are_rates back ≡ true) }
+{
+    push_rates(text, there)?;
+    push_rates(text, back)
+}
+
+fn push_entry(text: &mut Text, entry: &Entry) -> Result<(), Memory>
+    ensures text { OnOk result (text.new ≡ text.old ++ line_text (entry_fields entry.now)) }
+    ensures printable { OnOk result (is_printable entry.now ≡ true) }
+{
+    match entry {
+        Entry::Row { switch, port, vlan } => push_row(text, switch, *port, *vlan),
+        Entry::Bare { node, state } => push_bare(text, node, *state),
+        Entry::Node { node, state, os } => push_node(text, node, *state, os),
+        Entry::Pipe {
+            node,
+            number,
+            from,
+            to,
+            there,
+            back,
+        } => {
+            text.push_bytes(b"pipe")?;
+            push_field(text, node)?;
+            push_count(text, u64::from(*number))?;
+            push_field(text, from)?;
+            push_field(text, to)?;
+            push_both_rates(text, *there, *back)?;
+            text.push(b'\n')
+        }
+    }
+}
+
+fn push_entries(text: &mut Text, entries: &[Entry]) -> Result<(), Memory>
+    ensures text { OnOk result (text.new ≡ text.old ++ tables_text entries.now) }
+    ensures printable { OnOk result (list_all is_printable entries.now ≡ true) }
+{
+    for entry in entries {
+        push_entry(text, entry)?;
+    }
+    Ok(())
+}
+
+/// The text of tables.
+pub fn print_tables(alloc: Global, entries: &[Entry]) -> Result<Text, Memory>
+    ensures text { IfOk result (λ text. text ≡ tables_text entries.now) }
+    ensures again { IfOk result (λ text. tables_of_text text ≡ Ok entries.now) }
+{
+    let mut text = Text::new(alloc);
+    push_entries(&mut text, entries)?;
+    Ok(text)
+}
