@@ -1,4 +1,4 @@
--- A swap-in that can begin.
+-- A swap to a mapping that can begin.
 use Rattle.std.proofs.Common.{◌≡◌, ◌≤◌, ◌<◌, ◌^◌, ◌&&◌, ℕ, Bool, true, false, if◌then◌else◌, is_none, is_some, List, ◌++◌, length, map, Option, Some, None, Result, Ok, Err, refl, sym, ap, ◌∙◌, subst, arith}
 use Rattle.std.proofs.lemmas.Bool.{and_parts, eqb-true, leb-true}
 use Rattle.lab_base.specs.Lists.{Has, AllDiffer}
@@ -9,21 +9,22 @@ use Rattle.phys_lab.specs.declared.free.Free.{Free}
 use Rattle.virt_topo.specs.Soundness.{IsSound}
 use Rattle.virt_topo.specs.declared.experiment.Experiment.{Experiment}
 use Rattle.virt_topo.specs.declared.experiment.Phase.{Phase}
-use Rattle.virt_topo.specs.declared.experiment.Phase.TheVariants.{Out, Moving}
+use Rattle.virt_topo.specs.declared.experiment.Phase.TheVariants.{Out, In, Moving}
+use Rattle.virt_topo.specs.declared.mapping.Mapped.{Mapped}
 use Rattle.virt_topo.specs.declared.mapping.Mapping.{Mapping}
+use Rattle.virt_topo.specs.declared.wiring.Wiring.{Wiring}
 use Rattle.virt_topo.specs.declared.violation.Broken.TheVariants.{F8}
-use Rattle.journal_rec.specs.declared.record.Record.TheVariants.{Begin}
 use Rattle.journal_rec.specs.declared.record.Way.{Way}
 use Rattle.journal_rec.specs.declared.record.Way.TheVariants.{In as WayIn}
 use Rattle.lab_model.specs.Beside.{IsLeft, violation_beside}
-use Rattle.lab_model.specs.Courses.{commands, undo}
+use Rattle.lab_model.specs.Courses.{Plan}
 use Rattle.lab_model.specs.Feasible.{violation}
 use Rattle.lab_model.specs.Holding.{Holding}
 use Rattle.lab_model.specs.Rules.{keeps_f1, keeps_f6, keeps_f8}
 use Rattle.lab_model.specs.Shapes.{IsShaped}
 use Rattle.lab_model.proofs.FeasibleLaws.{kept_from}
 use Rattle.lab_model.proofs.FirstViolation.{same_violation}
-use Rattle.records_model.specs.Labs.{LabState, Move, BeginsIn, Says, SaysBegin, becomes, can_take, find, in_phase, in_state, lab_in, mapped, moved, moved_of, moved_one, others, replace, with_replaced}
+use Rattle.records_model.specs.Labs.{LabState, Move, Sane, BeginsIn, BeginsChange, SaysBegin, becomes, can_take, find, in_phase, in_state, lab_in, mapped, moved, moved_in, moved_of, moved_one, others, replace, with_replaced}
 use Rattle.records_model.proofs.Finding.{Found, found_from}
 use Rattle.records_model.proofs.Swaps.{found_in}
 use Rattle.claims.specs.Answered.{AreTaken}
@@ -32,26 +33,33 @@ use Rattle.claims.specs.Held.{Held, IsLeftTo, free_ids}
 use Rattle.claims.proofs.OthersLeave.{is_left}
 use Rattle.solution_text.specs.CanonicalSolution.{canonical_solution}
 use Rattle.swap_txn.specs.States.{unsent}
-use Rattle.swap_plan.specs.declared.commands.Ops.{Ops}
-use Rattle.swap_turns.specs.Swaps.{swap_in}
-use Rattle.swap_turns.proofs.Begins.{moves_in}
+use Rattle.swap_plan.specs.Plans.{IsFit}
+use Rattle.swap_turns.specs.Swaps.{Swap as SwapOf, swap_in}
+use Rattle.swap_turns.proofs.Begins.{moves_in, moves_over}
 use Rattle.lab_state.specs.Texts.{the_texts}
 use Rattle.script_text.specs.declared.reply.Reply.{Reply}
 use Rattle.solution_text.specs.Solutions.{mapping_of_text}
+use Rattle.top_text.specs.Adding.{wiring_of_text}
+use Rattle.top_text.specs.Printable.{is_printable}
 use Rattle.lab_core.specs.declared.task.Task.{Task as TaskInHand}
 use Rattle.lab_core.specs.declared.task.Task.TheVariants as tasks
 use Rattle.lab_core.specs.declared.task.Refusal.{Refusal}
 use Rattle.lab_core.specs.declared.task.Refusal.TheVariants.{Refused, Memory}
 use Rattle.lab_core.specs.Counts.{least_tags}
-use Rattle.lab_core.specs.Judge.{Task, Swap as SwapTask, judged_mapping, judged_swapin, need_kept, ◌>>=◌}
-use Rattle.lab_core.specs.JudgeSwap.{IsOutIn, CanTake, IsPlanIn, IsWayIn}
-use Rattle.lab_core.specs.Tasks.{CanDo, IsRefusal, IsSwapBy, MayFollow, Refuses, task_of}
-use Rattle.lab_core.proofs.JudgeTasks.{lab_stays, name_short}
+use Rattle.lab_core.specs.Judge.{Task, Swap as SwapTask, judged_change, judged_mapping, judged_modify, judged_swapin, need_feasible, need_kept, ◌>>=◌}
+use Rattle.lab_core.specs.JudgeSwap.{CanTake, IsInIn, IsOutIn, IsTaskOf, IsThere, IsWayOf, change_of, way_over}
+use Rattle.lab_state.proofs.Named.{name_is}
+use Rattle.lab_core.specs.Tasks.{CanDo, IsRefusal, Refuses, task_of}
+use Rattle.lab_core.proofs.JudgeTasks.{Leads, can_swap, stands_sound}
 use Rattle.lab_core.proofs.Tags.{least_are}
 use Rattle.lab_core.proofs.Taken.{free_of_all, each_fits}
 
--- THE CHECK of a mapping beside the other experiments
-module _ (s : LabState) (lab : Lab) (e : Experiment) (held : Held) (o : IsOutIn s lab e) (of_es : ClaimsOf (lab_in s.lab) s.experiments held) where
+-- what is found by a name is there
+pub is_there : (s : LabState) (exp : List ℕ) (lab : Lab) (e : Experiment) → s.lab ≡ Some lab → find exp s.experiments ≡ Some e → Sane s → IsThere s lab e
+is_there s exp lab e is found sane = record { is_lab = is; found = ap (λ n. find n s.experiments) (name_is exp s.experiments e found) ∙ found; sane = sane }
+
+-- THE CHECK of a mapping of a wiring beside the other experiments
+module _ (s : LabState) (lab : Lab) (e : Experiment) (held : Held) (o : IsThere s lab e) (of_es : ClaimsOf (lab_in s.lab) s.experiments held) where
   same : lab_in s.lab ≡ lab
   same = ap lab_in o.is_lab
 
@@ -67,98 +75,131 @@ module _ (s : LabState) (lab : Lab) (e : Experiment) (held : Held) (o : IsOutIn 
       (subst (λ (l : List Experiment). Holding lab l) at.whole (subst (λ (l : Lab). Holding l s.experiments) same o.sane.holding))
       (subst (λ (l : List Experiment). AllDiffer (map (λ e. e.name) l)) at.whole o.sane.names) left
 
-  pub checks : (free : Free) (m : Mapping) → IsLeftTo held e.name free → IsShaped lab e.wiring m → violation lab free e.wiring m ≡ violation_beside lab (others e.name s.experiments) e e.wiring m
-  checks free m left shaped =
-      same_violation lab (at.before ++ at.after) e free e.wiring m (left_is free left) shaped ∙ ap (λ (l : List Experiment). violation_beside lab l e e.wiring m) (sym at.others_are)
+  module _ (w : Wiring) (m : Mapping) (free : Free) (left : IsLeftTo held e.name free) where
+    pub checks : IsShaped lab w m → violation lab free w m ≡ violation_beside lab (others e.name s.experiments) e w m
+    checks shaped = same_violation lab (at.before ++ at.after) e free w m (left_is free left) shaped ∙ ap (λ (l : List Experiment). violation_beside lab l e w m) (sym at.others_are)
 
-  -- there are VLAN ids enough
-  pub enough : (free : Free) (m : Mapping) → IsLeftTo held e.name free → violation lab free e.wiring m ≡ None → length e.wiring.segments ≤ length (free_ids held)
-  enough free m left none =
-      let kept : keeps_f8 free e.wiring ≡ true = kept_from lab e.wiring m (keeps_f1 free m) (keeps_f6 lab free e.wiring m) (keeps_f8 free e.wiring) none F8 0 (omega arith) in
-      omega (arith, leb-true (length e.wiring.segments) free.vlans kept, left.ids)
+    -- there are VLAN ids enough
+    pub enough : violation lab free w m ≡ None → length w.segments ≤ length (free_ids held)
+    enough none =
+        let kept : keeps_f8 free w ≡ true = kept_from lab w m (keeps_f1 free m) (keeps_f6 lab free w m) (keeps_f8 free w) none F8 0 (omega arith) in
+        omega (arith, leb-true (length w.segments) free.vlans kept, left.ids)
 
-  pub takes : (free : Free) (m : Mapping) (tags : List VlanId) → IsLeftTo held e.name free → IsShaped lab e.wiring m → violation lab free e.wiring m ≡ None → AreTaken (free_ids held) (length e.wiring.segments) (Ok tags) → CanTake s lab e m tags
-  takes free m tags left shaped none taken = record {
-    keeps = sym (checks free m left shaped) ∙ none;
-    least = least_are lab s.experiments held o.sane.names of_lab (length e.wiring.segments) tags taken;
-    free = free_of_all lab s.experiments held e.wiring tags o.sane.names of_lab taken;
-  }
+    pub takes : (tags : List VlanId) → IsShaped lab w m → violation lab free w m ≡ None → AreTaken (free_ids held) (length w.segments) (Ok tags) → CanTake s lab e w m tags
+    takes tags shaped none taken = record {
+      keeps = sym (checks shaped) ∙ none;
+      least = least_are lab s.experiments held o.sane.names of_lab (length w.segments) tags taken;
+      free = free_of_all lab s.experiments held w tags o.sane.names of_lab taken;
+    }
 
--- A SWAP-IN that can begin
-module _ (s : LabState) (lab : Lab) (e : Experiment) (m : Mapping) (tags : List VlanId) (o : IsOutIn s lab e) (shaped : IsShaped lab e.wiring m) (can : CanTake s lab e m tags) where
+-- WHAT IS TAKEN, where it can be
+module _ (s : LabState) (lab : Lab) (e : Experiment) (w : Wiring) (m : Mapping) (tags : List VlanId) (o : IsThere s lab e) (can : CanTake s lab e w m tags) where
   pub lab_kept : IsLab lab
   lab_kept = subst IsLab (ap lab_in o.is_lab) o.sane.is_lab
 
-  pub sound_of : IsSound e.wiring
-  sound_of = o.sane.wirings e (found_in e.name s.experiments e o.found)
-
-  pub tags_as_many : length tags ≡ length e.wiring.segments
+  pub tags_as_many : length tags ≡ length w.segments
   tags_as_many = eqb-true _ _ (and_parts _ _ (and_parts _ _ can.free).0).0
 
   pub ids_fit : (tag : VlanId) → Has tags tag → tag.0 < 2 ^ 16
-  ids_fit = each_fits lab s.experiments e.wiring tags lab_kept can.free
+  ids_fit = each_fits lab s.experiments w tags lab_kept can.free
 
-  abbrev begun : Experiment
-  begun = in_phase e (Moving None (Some (mapped e.wiring m tags)))
+  -- so it is judged
+  judged_so : (way : List VlanId → Way)
+      → (need_feasible lab s.experiments e w m >>= λ feasible. let r : Result Task Reply = Ok (SwapTask e.name (way (least_tags lab s.experiments (length w.segments)))) in r) ≡ Ok (SwapTask e.name (way tags))
+  judged_so way =
+      let least = least_tags lab s.experiments (length w.segments) in
+      ap (λ v. need_kept lab e.name w v >>= λ feasible. let r : Result Task Reply = Ok (SwapTask e.name (way least)) in r) can.keeps
+      ∙ ap (λ (l : List VlanId). let r : Result Task Reply = Ok (SwapTask e.name (way l)) in r) (sym can.least)
 
-  abbrev after : LabState
-  after = record { lab = Some lab; experiments = replace e.name begun s.experiments }
+  -- and the experiment moves to it
+  abbrev begun : Option Mapped → Experiment
+  begun old = in_phase e (Moving old (Some (mapped w m tags)))
 
-  gives : moved s (BeginsIn e.name m tags) ≡ Some after
-  gives =
-      let move : Move = BeginsIn e.name m tags in
-      let can_so : can_take lab s.experiments e (mapped e.wiring m tags) ≡ true = λ i. is_none (can.keeps i) && can.free i in
+  gives_by : (old : Option Mapped) (phase : Phase) (move : Move) → e.phase ≡ phase → moved_in lab s.experiments move ≡ moved_one lab s.experiments e.name (find e.name s.experiments) move
+      → becomes lab s.experiments e phase move ≡ (if can_take lab s.experiments e (mapped w m tags) then Some (begun old) else None)
+      → moved s move ≡ Some (record { lab = Some lab; experiments = replace e.name (begun old) s.experiments })
+  gives_by old phase move is one turns =
+      let can_so : can_take lab s.experiments e (mapped w m tags) ≡ true = λ i. is_none (can.keeps i) && can.free i in
       ap (λ (l : Option Lab). moved_of l s.experiments move) o.is_lab
+      ∙ ap (in_state lab) one
       ∙ ap (λ (x : Option Experiment). in_state lab (moved_one lab s.experiments e.name x move)) o.found
-      ∙ ap (λ (p : Phase). in_state lab (with_replaced e.name s.experiments (becomes lab s.experiments e p move))) o.out
-      ∙ ap (λ (b : Bool). in_state lab (with_replaced e.name s.experiments (if b then Some begun else None))) can_so
+      ∙ ap (λ (p : Phase). in_state lab (with_replaced e.name s.experiments (becomes lab s.experiments e p move))) is
+      ∙ ap (λ (x : Option Experiment). in_state lab (with_replaced e.name s.experiments x)) turns
+      ∙ ap (λ (b : Bool). in_state lab (with_replaced e.name s.experiments (if b then Some (begun old) else None))) can_so
 
-  module _ (way : Way) (ops : Ops) (is : IsWayIn lab e m tags way ops.commands ops.undo) where
-    says : Says the_texts s (Begin e.name way) (BeginsIn e.name m tags)
-    says =
-        let said : SaysBegin the_texts s e.name (WayIn (canonical_solution lab e.wiring m) tags) (BeginsIn e.name m tags)
-        = (lab, e, m, o.is_lab, o.found, lab_kept, record { sound = sound_of; printable = o.printable }, shaped, refl, refl) in
-        subst (λ (w : Way). SaysBegin the_texts s e.name w (BeginsIn e.name m tags)) (sym is.way_is) said
+  -- a task by its record, which leads there
+  planned : (p : SwapOf) (way : List VlanId → Way) → p.name ≡ e.name
+      → ((said : Way) (course back : Plan) → IsWayOf lab p (way tags) said course back → Leads s lab p said course back)
+      → (task : TaskInHand) → IsTaskOf lab p (way tags) task
+      → ((need_feasible lab s.experiments e w m >>= λ feasible. let r : Result Task Reply = Ok (SwapTask e.name (way (least_tags lab s.experiments (length w.segments)))) in r) ≡ Ok (task_of task)) × CanDo s task
+  planned p way named leads (tasks.Swap exp said ops) h = (
+    judged_so way ∙ (λ i. let r : Result Task Reply = Ok (SwapTask ((sym named ∙ sym h.0) i) (sym h.1.way_is i)) in r),
+    subst (λ (n : List ℕ). CanDo s (tasks.Swap n said ops)) (sym h.0) (can_swap s lab p said ops o.is_lab h.1.is_record (leads said ops.commands ops.undo h.1)),
+  )
+  planned p way named leads (tasks.Tell reply) h = absurd h
+  planned p way named leads (tasks.Append entry reply) h = absurd h
+  planned p way named leads tasks.Recover h = absurd h
 
-    follows : MayFollow s (Begin e.name way)
-    follows = record { move = BeginsIn e.name m tags; says = says; state = after; moves = gives; ready = λ w. tt }
+pub sound_of : (s : LabState) (lab : Lab) (e : Experiment) → IsThere s lab e → IsSound e.wiring
+sound_of s lab e o = o.sane.wirings e (found_in e.name s.experiments e o.found)
 
-    by : IsSwapBy s e.name way ops.commands ops.undo
-    by = record {
-      swap = swap_in e m tags;
-      move = BeginsIn e.name m tags;
-      name = refl;
-      says = says;
-      ready = λ w. tt;
-      begins = refl;
-      moves = λ u moved_so. moves_in s u e m tags (name_short e.name is.is_record.fields.0) o.found o.out moved_so;
-      plan = λ u moved_so.
-          let stays = lab_stays s u lab (BeginsIn e.name m tags) o.is_lab moved_so in
-          let course_so = is.course_is ∙ ap (λ (l : Lab). commands l None (Some (mapped e.wiring m tags))) stays in
-          let back_so = is.back_is ∙ ap (λ (l : Lab). undo l None (Some (mapped e.wiring m tags))) stays in
-          λ i. unsent e.name (is.way_is i) (course_so i) (back_so i);
-    }
+-- A SWAP-IN of an experiment that is out
+module _ (s : LabState) (lab : Lab) (e : Experiment) (m : Mapping) (tags : List VlanId) (o : IsOutIn s lab e) (shaped : IsShaped lab e.wiring m) (can : CanTake s lab e e.wiring m tags) where
+  leads_in : (way : Way) (course back : Plan) → IsWayOf lab (swap_in e m tags) (WayIn (canonical_solution lab e.wiring m) tags) way course back → Leads s lab (swap_in e m tags) way course back
+  leads_in way course back is =
+      let move : Move = BeginsIn e.name m tags in
+      let said : SaysBegin the_texts s e.name (WayIn (canonical_solution lab e.wiring m) tags) move
+      = (lab, e, m, o.there.is_lab, o.there.found, lab_kept s lab e e.wiring m tags o.there can, record { sound = sound_of s lab e o.there; printable = o.printable }, shaped, refl, refl) in
+      record {
+        move = move;
+        says = subst (λ (w : Way). SaysBegin the_texts s e.name w move) (sym is.way_is) said;
+        ready = λ w. tt;
+        begins = refl;
+        state = record { lab = Some lab; experiments = replace e.name (begun s lab e e.wiring m tags o.there can None) s.experiments };
+        gives = gives_by s lab e e.wiring m tags o.there can None Out move o.out refl refl;
+        moves = λ short u gives. moves_in s u e m tags short o.there.found o.out gives;
+        plan = λ i. unsent e.name (is.way_is i) (is.course_is i) (is.back_is i);
+      }
 
-    pub can_enter : CanDo s (tasks.Swap e.name way ops)
-    can_enter = (is.is_record, follows, by)
+  pub planned_in : (task : TaskInHand) → IsTaskOf lab (swap_in e m tags) (WayIn (canonical_solution lab e.wiring m) tags) task → (judged_mapping s lab e m ≡ Ok (task_of task)) × CanDo s task
+  planned_in = planned s lab e e.wiring m tags o.there can (swap_in e m tags) (λ tags. WayIn (canonical_solution lab e.wiring m) tags) refl leads_in
 
-    -- so it is judged
-    pub judged : judged_mapping s lab e m ≡ Ok (SwapTask e.name way)
-    judged =
-        let map_text = canonical_solution lab e.wiring m in
-        let least = least_tags lab s.experiments (length e.wiring.segments) in
-        ap (λ v. need_kept lab e v >>= λ feasible. let r : Result Task Reply = Ok (SwapTask e.name (WayIn map_text least)) in r) can.keeps
-        ∙ ap (λ (l : List VlanId). let r : Result Task Reply = Ok (SwapTask e.name (WayIn map_text l)) in r) (sym can.least)
-        ∙ ap (λ (w : Way). let r : Result Task Reply = Ok (SwapTask e.name w) in r) (sym is.way_is)
+-- A CHANGE of one that is in
+module _ (s : LabState) (lab : Lab) (e : Experiment) (mapping : Mapping) (old : List VlanId) (w : Wiring) (m : Mapping) (tags : List VlanId) (o : IsInIn s lab e mapping old) (sound : IsSound w) (shaped : IsShaped lab w m) where
+  pub old_fit : IsFit lab (mapped e.wiring mapping old)
+  old_fit = let h = stands_sound s e.name lab e mapping old o.there.sane o.there.is_lab o.there.found o.inside in record { sound = h.0; shaped = h.1; tagged = h.2 }
 
-  -- what was planned is judged, and can be done
-  pub planned_in : (task : TaskInHand) → IsPlanIn lab e m tags task → (judged_mapping s lab e m ≡ Ok (task_of task)) × CanDo s task
-  planned_in (tasks.Swap exp way ops) h = (judged way ops h.1 ∙ ap (λ (n : List ℕ). let r : Result Task Reply = Ok (SwapTask n way) in r) (sym h.0), subst (λ (n : List ℕ). CanDo s (tasks.Swap n way ops)) (sym h.0) (can_enter way ops h.1))
-  planned_in (tasks.Tell reply) h = absurd h
-  planned_in (tasks.Append entry reply) h = absurd h
+  module _ (can : CanTake s lab e w m tags) where
+    pub new_fit : IsFit lab (mapped w m tags)
+    new_fit = record { sound = sound; shaped = shaped; tagged = tags_as_many s lab e w m tags o.there can }
+
+    module _ (printable : is_printable w ≡ true) where
+      leads_over : (way : Way) (course back : Plan) → IsWayOf lab (change_of e.name (mapped e.wiring mapping old) (mapped w m tags)) (way_over lab (mapped w m tags)) way course back
+          → Leads s lab (change_of e.name (mapped e.wiring mapping old) (mapped w m tags)) way course back
+      leads_over way course back is =
+          let move : Move = BeginsChange e.name w m tags in
+          let said : SaysBegin the_texts s e.name (way_over lab (mapped w m tags)) move
+          = (lab, w, m, o.there.is_lab, lab_kept s lab e w m tags o.there can, record { sound = sound; printable = printable }, refl, shaped, refl, refl) in
+          record {
+            move = move;
+            says = subst (λ (x : Way). SaysBegin the_texts s e.name x move) (sym is.way_is) said;
+            ready = λ v. tt;
+            begins = refl;
+            state = record { lab = Some lab; experiments = replace e.name (begun s lab e w m tags o.there can (Some (mapped e.wiring mapping old))) s.experiments };
+            gives = gives_by s lab e w m tags o.there can (Some (mapped e.wiring mapping old)) (In mapping old) move o.inside refl refl;
+            moves = λ short u gives. moves_over s u e mapping old w m tags short o.there.found o.inside gives;
+            plan = λ i. unsent e.name (is.way_is i) (is.course_is i) (is.back_is i);
+          }
+
+      pub planned_over : (task : TaskInHand) → IsTaskOf lab (change_of e.name (mapped e.wiring mapping old) (mapped w m tags)) (way_over lab (mapped w m tags)) task → (judged_change s lab e w m ≡ Ok (task_of task)) × CanDo s task
+      planned_over = planned s lab e w m tags o.there can (change_of e.name (mapped e.wiring mapping old) (mapped w m tags)) (λ tags. way_over lab (mapped w m tags)) refl leads_over
 
 pub in_reads : (s : LabState) (exp text : List ℕ) (lab : Lab) (e : Experiment) (m : Mapping) → s.lab ≡ Some lab → find exp s.experiments ≡ Some e → e.phase ≡ Out → mapping_of_text lab e.wiring text ≡ Ok m → judged_swapin s exp text ≡ judged_mapping s lab e m
 in_reads s exp text lab e m is found out read = rw (is, found, out, read) refl
+
+pub over_reads : (s : LabState) (exp : List ℕ) (lines : ℕ) (top map : List ℕ) (lab : Lab) (e : Experiment) (mapping : Mapping) (old : List VlanId) (w : Wiring) (m : Mapping) → s.lab ≡ Some lab → find exp s.experiments ≡ Some e → e.phase ≡ In mapping old
+    → wiring_of_text top ≡ Ok w → mapping_of_text lab w map ≡ Ok m → judged_modify s exp lines top map ≡ judged_change s lab e w m
+over_reads s exp lines top map lab e mapping old w m is found inside reads read = rw (is, found, inside, reads, read) refl
 
 -- a refusal in other words
 pub refuses_as : {Y : Type 0} (X : Type 0) (judgement other : Result Y Reply) (refusal : Refusal) → other ≡ judgement → IsRefusal other refusal → Refuses {X = X} judgement (Err refusal)

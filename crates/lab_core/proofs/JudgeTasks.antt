@@ -19,7 +19,8 @@ use Rattle.journal_rec.specs.declared.record.Way.TheVariants.{Out as WayOut}
 use Rattle.lab_model.specs.Claims.{New, claimed_in}
 use Rattle.lab_model.specs.Courses.{Plan, commands}
 use Rattle.lab_model.specs.Shapes.{IsShaped}
-use Rattle.records_model.specs.Labs.{LabState, Move, SetLab, Creates, Deletes, BeginsOut, moved, moved_in, moved_of, mapped, find, others, replace, in_phase, lab_in, Sane}
+use Rattle.plant.specs.Worlds.{World}
+use Rattle.records_model.specs.Labs.{LabState, Move, IsRightFor, Says, SetLab, Creates, Deletes, BeginsOut, moved, moved_in, moved_of, mapped, find, others, replace, in_phase, lab_in, Sane}
 use Rattle.records_model.proofs.LabLaws.{in_state-some}
 use Rattle.records_model.proofs.Swaps.{found_in}
 use Rattle.lab_state.proofs.Named.{name_is}
@@ -29,11 +30,13 @@ use Rattle.top_text.specs.Printable.{is_printable}
 use Rattle.script_text.specs.declared.reply.Reply.{Reply}
 use Rattle.swap_plan.specs.declared.commands.Ops.{Ops}
 use Rattle.swap_turns.proofs.Begins.{moves_out}
-use Rattle.swap_turns.specs.Swaps.{swap_out}
+use Rattle.swap_turns.specs.Beginning.{BeginsOf, IsPlanOf}
+use Rattle.swap_turns.specs.Swaps.{Swap as SwapOf, Moves, swap_out}
 use Rattle.swap_txn.specs.States.{unsent}
 use Rattle.lab_core.specs.declared.task.Task.TheVariants as tasks
 use Rattle.lab_core.specs.Judge.{lab_reply, created_reply, need_place}
-use Rattle.lab_core.specs.Tasks.{CanDo, IsMild, IsSwapBy, MayFollow}
+use Rattle.lab_state.specs.Texts.{the_texts}
+use Rattle.lab_core.specs.Tasks.{CanDo, IsMild, MayFollow}
 
 -- the lab stays
 pub lab_stays : (s u : LabState) (lab : Lab) (move : Move) → s.lab ≡ Some lab → moved s move ≡ Some u → lab ≡ lab_in u.lab
@@ -44,6 +47,33 @@ lab_stays s u lab move is gives =
 -- a name is short
 pub name_short : (name : List ℕ) → is_name name ≡ true → length name ≤ 32
 name_short name is = leb-true (length name) 32 (and_parts _ _ (and_parts _ _ is).1).0
+
+-- THE SWAP OF A RECORD, which can follow whatever the world: the experiment moves so then, and that is the plan
+pub record Leads (s : LabState) (lab : Lab) (p : SwapOf) (way : Way) (course back : Plan) : Type 0 where
+  pub move : Move
+  pub says : Says the_texts s (Begin p.name way) move
+  pub ready : (w : World) → IsRightFor s w move
+  pub begins : BeginsOf p.name move
+  pub state : LabState
+  pub gives : moved s move ≡ Some state
+  pub moves : length p.name ≤ 32 → (u : LabState) → moved s move ≡ Some u → Moves p u
+  pub plan : IsPlanOf p lab (unsent p.name way course back)
+
+pub can_swap : (s : LabState) (lab : Lab) (p : SwapOf) (way : Way) (ops : Ops) → s.lab ≡ Some lab → IsRecord (Begin p.name way) → Leads s lab p way ops.commands ops.undo → CanDo s (tasks.Swap p.name way ops)
+can_swap s lab p way ops is_lab is_record h = (
+  is_record,
+  record { move = h.move; says = h.says; state = h.state; moves = h.gives; ready = h.ready },
+  record {
+    swap = p;
+    move = h.move;
+    name = refl;
+    says = h.says;
+    ready = h.ready;
+    begins = h.begins;
+    moves = h.moves (name_short p.name is_record.fields.0);
+    plan = λ u gives. subst (λ (l : Lab). IsPlanOf p l (unsent p.name way ops.commands ops.undo)) (lab_stays s u lab h.move is_lab gives) h.plan;
+  },
+)
 
 module _ (s : LabState) where
   -- `ptop`
@@ -100,32 +130,17 @@ module _ (s : LabState) where
 
   -- `swapout`
   module _ (exp : List ℕ) (lab : Lab) (e : Experiment) (mapping : Mapping) (tags : List VlanId) (is : s.lab ≡ Some lab) (found : find exp s.experiments ≡ Some e) (inside : e.phase ≡ In mapping tags) where
-    out_follows : MayFollow s (Begin exp WayOut)
-    out_follows = record {
-      move = BeginsOut exp;
-      says = refl;
-      state = record { lab = Some lab; experiments = replace exp (in_phase e (Moving (Some (mapped e.wiring mapping tags)) None)) s.experiments };
-      moves = rw (is, found, inside) refl;
-      ready = λ w. tt;
-    }
-
-    out_by : (course back : Plan) → length exp ≤ 32 → course ≡ commands lab (Some (mapped e.wiring mapping tags)) None → IsSwapBy s exp WayOut course back
-    out_by course back short course_is =
-        let named : e.name ≡ exp = name_is exp s.experiments e found in
-        record {
-          swap = swap_out e mapping tags;
-          move = BeginsOut exp;
-          name = named;
-          says = refl;
-          ready = λ w. tt;
-          begins = sym named;
-          moves = λ u gives. moves_out s u e mapping tags (subst (λ (n : List ℕ). length n ≤ 32) (sym named) short) (ap (λ (n : List ℕ). find n s.experiments) named ∙ found) inside (ap (λ (n : List ℕ). moved s (BeginsOut n)) named ∙ gives);
-          plan = λ u gives. let course_so = course_is ∙ ap (λ (l : Lab). commands l (Some (mapped e.wiring mapping tags)) None) (lab_stays s u lab (BeginsOut exp) is gives) in λ i. unsent (sym named i) WayOut (course_so i) back;
-        }
-
     pub can_leave : (way : Way) (ops : Ops) → way ≡ WayOut → IsRecord (Begin exp way) → ops.commands ≡ commands lab (Some (mapped e.wiring mapping tags)) None → CanDo s (tasks.Swap exp way ops)
-    can_leave way ops way_is is_record course_is = (
-      is_record,
-      subst (λ (w : Way). MayFollow s (Begin exp w)) (sym way_is) out_follows,
-      subst (λ (w : Way). IsSwapBy s exp w ops.commands ops.undo) (sym way_is) (out_by ops.commands ops.undo (name_short exp is_record.fields.0) course_is),
-    )
+    can_leave way ops way_is is_record course_is =
+        let named : e.name ≡ exp = name_is exp s.experiments e found in
+        let found_so : find e.name s.experiments ≡ Some e = ap (λ (n : List ℕ). find n s.experiments) named ∙ found in
+        subst (λ (n : List ℕ). CanDo s (tasks.Swap n way ops)) named (can_swap s lab (swap_out e mapping tags) way ops is (subst (λ (n : List ℕ). IsRecord (Begin n way)) (sym named) is_record) (record {
+          move = BeginsOut e.name;
+          says = subst (λ (w : Way). Says the_texts s (Begin e.name w) (BeginsOut e.name)) (sym way_is) refl;
+          ready = λ w. tt;
+          begins = refl;
+          state = record { lab = Some lab; experiments = replace e.name (in_phase e (Moving (Some (mapped e.wiring mapping tags)) None)) s.experiments };
+          gives = rw (is, found_so, inside) refl;
+          moves = λ short u gives. moves_out s u e mapping tags short found_so inside gives;
+          plan = λ i. unsent e.name (way_is i) (course_is i) ops.undo;
+        }))

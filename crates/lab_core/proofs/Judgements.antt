@@ -3,6 +3,7 @@ use Rattle.std.proofs.Common.{◌≡◌, ◌≢◌, ℕ, true, is_some, List, le
 use Rattle.lab_base.specs.declared.fault.TextFault.{TextFault}
 use Rattle.phys_lab.specs.Labs.{Lab}
 use Rattle.virt_topo.specs.declared.wiring.Wiring.{Wiring}
+use Rattle.virt_topo.specs.declared.mapping.Mapping.{Mapping}
 use Rattle.virt_topo.specs.declared.experiment.Experiment.{Experiment}
 use Rattle.journal_rec.specs.declared.record.Record.TheVariants.{Create, Delete, Begin}
 use Rattle.journal_rec.specs.declared.record.Way.{Way}
@@ -20,7 +21,7 @@ use Rattle.script_text.specs.declared.command.Command.TheVariants as commands
 use Rattle.script_text.specs.declared.reply.Reply.{Reply}
 use Rattle.script_text.specs.declared.reply.Reply.TheVariants.{Bad, Deleted}
 use Rattle.lab_core.specs.Counts.{least_tags}
-use Rattle.lab_core.specs.Judge.{◌>>=◌, need_lab, need_none, need_found, need_meaning, need_room, need_out, need_in, need_feasible, need_place, created_reply, shown_reply, status_reply, Task, Tell, Append, Swap, judged_ptop, judged_wiring, judged_create, judged_show, judged_delete, judged_swapin, judged_swapout, judged_status, JudgedNetwork, refused, asked, Judged}
+use Rattle.lab_core.specs.Judge.{◌>>=◌, need_lab, need_none, need_found, need_meaning, need_room, need_out, need_in, need_feasible, need_place, created_reply, shown_reply, status_reply, Task, Tell, Append, Swap, Recover, behind_lines, judged_modify, judged_recover, judged_ptop, judged_wiring, judged_create, judged_show, judged_delete, judged_swapin, judged_swapout, judged_status, JudgedNetwork, refused, asked, Judged}
 use Rattle.lab_base.specs.declared.fault.TextRefused.{TextRefused}
 use Rattle.lab_base.specs.declared.fault.TextRefused.TheVariants as texts
 use Rattle.ns_text.specs.Wirings.{WiringOf, HasWiring}
@@ -28,7 +29,7 @@ use Rattle.lab_core.specs.declared.task.Task.{Task as TaskInHand}
 use Rattle.lab_core.specs.declared.task.Refusal.{Refusal}
 use Rattle.lab_core.specs.declared.task.Refusal.TheVariants.{Refused, Memory}
 use Rattle.lab_core.specs.Tasks.{Gives, IsJudged, IsRefusedBy, Refuses}
-use Rattle.lab_core.specs.Tells.{name_of}
+use Rattle.lab_core.specs.Tells.{name_of, IsAtRest}
 use Rattle.lab_core.proofs.Others.{IsApart}
 
 -- ---- ONE JUDGEMENT
@@ -48,8 +49,12 @@ judged_once s (commands.Create exp lines text) a b p q = network_once s exp text
 judged_once s (commands.CreateTop exp lines text) a b p q = p ∙ sym q
 judged_once s (commands.Show exp) a b p q = p ∙ sym q
 judged_once s (commands.SwapinWith exp lines text) a b p q = p ∙ sym q
+judged_once s (commands.ModifyWith exp lines top others map) a b p q = p ∙ sym q
 judged_once s (commands.Swapout exp) a b p q = p ∙ sym q
+judged_once s commands.Recover a b p q = p ∙ sym q
 judged_once s (commands.Fail device nth how) a b p q = absurd p
+judged_once s (commands.FailDisk nth) a b p q = absurd p
+judged_once s (commands.Stop nth pick) a b p q = absurd p
 judged_once s (commands.Delete exp) a b p q = p ∙ sym q
 judged_once s commands.Status a b p q = p ∙ sym q
 
@@ -80,6 +85,7 @@ abbrev pub IsTaskApart : List ℕ → LabState → Task → Type 0
 IsTaskApart name s (Tell reply) = Unit {0}
 IsTaskApart name s (Append entry reply) = (move : Move) → Says the_texts s entry move → IsApart name move
 IsTaskApart name s (Swap exp way) = (exp ≢ name) × ((move : Move) → Says the_texts s (Begin exp way) move → IsApart name move)
+IsTaskApart name s Recover = IsAtRest s name
 
 -- what comes after a check that did not refuse
 bound : {A B : Type 0} (r : Result A Reply) (f : A → Result B Reply) (y : B) → (r >>= f) ≡ Ok y → (x : A) × (r ≡ Ok x) × (f x ≡ Ok y)
@@ -138,17 +144,36 @@ module _ (name : List ℕ) (s : LabState) (task : Task) where
       let out = bound (need_out exp found.0.phase) _ task found.2 in
       task_is (Append (Delete exp) (Deleted exp)) out.2 (λ move says. by_move move (Deletes exp) says own)
 
+  -- a swap to a mapping that can be taken
+  taken_apart : (exp : List ℕ) (lab : Lab) (e : Experiment) (w : Wiring) (mapping : Mapping) (way : Way) → exp ≢ name → need_found exp (find exp s.experiments) ≡ Ok e
+      → (need_feasible lab s.experiments e w mapping >>= λ feasible. let r : Result Task Reply = Ok (Swap e.name way) in r) ≡ Ok task → IsTaskApart name s task
+  taken_apart exp lab e w mapping way own found h =
+      let named : e.name ≡ exp = (found_from exp s.experiments e (found_is exp (find exp s.experiments) e found)).name_is in
+      let apart : e.name ≢ name = λ same. own (sym named ∙ same) in
+      let feasible = bound (need_feasible lab s.experiments e w mapping) _ task h in
+      task_is (Swap e.name way) feasible.2 (apart, begin_apart e.name way apart)
+
   swapin_apart : (exp text : List ℕ) → exp ≢ name → judged_swapin s exp text ≡ Ok task → IsTaskApart name s task
   swapin_apart exp text own h =
       let lab = bound (need_lab s.lab) _ task h in
       let found = bound (need_found exp (find exp s.experiments)) _ task lab.2 in
-      let named : found.0.name ≡ exp = (found_from exp s.experiments found.0 (found_is exp (find exp s.experiments) found.0 found.1)).name_is in
       let out = bound (need_out exp found.0.phase) _ task found.2 in
       let mapping = bound (need_meaning (Bad exp) (mapping_of_text lab.0 found.0.wiring text)) _ task out.2 in
-      let feasible = bound (need_feasible lab.0 s.experiments found.0 mapping.0) _ task mapping.2 in
-      let apart : found.0.name ≢ name = λ same. own (sym named ∙ same) in
       let way = WayIn (canonical_solution lab.0 found.0.wiring mapping.0) (least_tags lab.0 s.experiments (length found.0.wiring.segments)) in
-      task_is (Swap found.0.name way) feasible.2 (apart, begin_apart found.0.name way apart)
+      taken_apart exp lab.0 found.0 found.0.wiring mapping.0 way own found.1 mapping.2
+
+  modify_apart : (exp : List ℕ) (lines : ℕ) (top map : List ℕ) → exp ≢ name → judged_modify s exp lines top map ≡ Ok task → IsTaskApart name s task
+  modify_apart exp lines top map own h =
+      let lab = bound (need_lab s.lab) _ task h in
+      let found = bound (need_found exp (find exp s.experiments)) _ task lab.2 in
+      let inside = bound (need_in exp found.0.phase) _ task found.2 in
+      let wiring = bound (need_meaning (Bad exp) (wiring_of_text top)) _ task inside.2 in
+      let mapping = bound (need_meaning (λ fault. Bad exp (behind_lines lines fault)) (mapping_of_text lab.0 wiring.0 map)) _ task wiring.2 in
+      let way = WayChange (canonical_top wiring.0) (canonical_solution lab.0 wiring.0 mapping.0) (least_tags lab.0 s.experiments (length wiring.0.segments)) in
+      taken_apart exp lab.0 found.0 wiring.0 mapping.0 way own found.1 mapping.2
+
+  recover_apart : IsAtRest s name → judged_recover s ≡ Ok task → IsTaskApart name s task
+  recover_apart rests h = let lab = bound (need_lab s.lab) _ task h in task_is Recover lab.2 rests
 
   swapout_apart : (exp : List ℕ) → exp ≢ name → judged_swapout s exp ≡ Ok task → IsTaskApart name s task
   swapout_apart exp own h =
@@ -163,13 +188,17 @@ module _ (name : List ℕ) (s : LabState) (task : Task) where
   apart_from : (exp : List ℕ) → ◌≢◌ {A = Option (List ℕ)} (Some exp) (Some name) → exp ≢ name
   apart_from exp other same = other (ap (λ (n : List ℕ). Some n) same)
 
-  pub task_apart : (command : Command) → is_some s.lab ≡ true → name_of command ≢ Some name → Judged s command (Ok task) → IsTaskApart name s task
-  task_apart (commands.Ptop lines text) there other is = ptop_apart text there (sym is)
-  task_apart (commands.Create exp lines text) there other is = network_apart exp text (apart_from exp other) is
-  task_apart (commands.CreateTop exp lines text) there other is = create_apart exp text (apart_from exp other) (sym is)
-  task_apart (commands.Show exp) there other is = show_apart exp (sym is)
-  task_apart (commands.SwapinWith exp lines text) there other is = swapin_apart exp text (apart_from exp other) (sym is)
-  task_apart (commands.Swapout exp) there other is = swapout_apart exp (apart_from exp other) (sym is)
-  task_apart (commands.Fail device nth how) there other is = absurd is
-  task_apart (commands.Delete exp) there other is = delete_apart exp (apart_from exp other) (sym is)
-  task_apart commands.Status there other is = status_apart (sym is)
+  pub task_apart : (command : Command) → (command ≡ commands.Recover → IsAtRest s name) → is_some s.lab ≡ true → name_of command ≢ Some name → Judged s command (Ok task) → IsTaskApart name s task
+  task_apart (commands.Ptop lines text) rests there other is = ptop_apart text there (sym is)
+  task_apart (commands.Create exp lines text) rests there other is = network_apart exp text (apart_from exp other) is
+  task_apart (commands.CreateTop exp lines text) rests there other is = create_apart exp text (apart_from exp other) (sym is)
+  task_apart (commands.Show exp) rests there other is = show_apart exp (sym is)
+  task_apart (commands.SwapinWith exp lines text) rests there other is = swapin_apart exp text (apart_from exp other) (sym is)
+  task_apart (commands.ModifyWith exp lines top others map) rests there other is = modify_apart exp lines top map (apart_from exp other) (sym is)
+  task_apart (commands.Swapout exp) rests there other is = swapout_apart exp (apart_from exp other) (sym is)
+  task_apart commands.Recover rests there other is = recover_apart (rests refl) (sym is)
+  task_apart (commands.Fail device nth how) rests there other is = absurd is
+  task_apart (commands.FailDisk nth) rests there other is = absurd is
+  task_apart (commands.Stop nth pick) rests there other is = absurd is
+  task_apart (commands.Delete exp) rests there other is = delete_apart exp (apart_from exp other) (sym is)
+  task_apart commands.Status rests there other is = status_apart (sym is)

@@ -1,3 +1,4 @@
+pub mod Behind
 pub mod Claimed
 pub mod JudgeSwap
 pub mod JudgeTasks
@@ -7,13 +8,18 @@ pub mod OneJournal
 pub mod Opened
 pub mod Openings
 pub mod Others
+pub mod OuterReplies
 pub mod PerformAppend
 pub mod PerformSwap
+pub mod Recovering
+pub mod Rested
 pub mod RunSwap
 pub mod Said
+pub mod SettledOpenings
 pub mod Shown
 pub mod SolutionLaws
 pub mod StepLaws
 pub mod Tags
 pub mod Taken
+pub mod Told
 pub mod WaysIn

@@ -1,14 +1,20 @@
--- What calls leave that add nothing to the journal, and what is said of a call in other words.
-use Rattle.std.proofs.Common.{◌≡◌, ◌↔◌, ℕ, Bool, true, false, List, [], ◌++◌, Option, Some, None, IfSome, IsErrOf, IsTrue, Result, Ok, Err, refl, sym, ap, ◌∙◌, subst, arith}
+-- What a call leaves, by the steps that it added, and what is said of it in other words.
+use Rattle.std.proofs.Common.{◌≡◌, ℕ, Bool, true, false, not, List, [], ◌∷◌, ◌++◌, Option, Some, None, IfSome, Result, Ok, Err, refl, sym, ap, ◌∙◌, subst, arith}
 use Rattle.std.proofs.lemmas.List.{append-nil}
-use Rattle.plant.specs.Events.{Event}
+use Rattle.plant.specs.Calls.{Rose}
+use Rattle.plant.specs.Events.{Event, Restarted}
 use Rattle.plant.specs.Told.{Told, with_steps}
+use Rattle.journal_disk.specs.Standing.{limit_of}
 use Rattle.records_model.specs.Labs.{LabState}
 use Rattle.records_model.specs.Works.{IsSound}
 use Rattle.lab_state.specs.Texts.{the_texts}
-use Rattle.script_text.specs.Replies.{closes}
+use Rattle.script_text.specs.Replies.{blames_device, closes}
 use Rattle.script_text.specs.declared.reply.Reply.{Reply}
-use Rattle.swap_turns.proofs.Telling.{if_some}
+use Rattle.script_text.specs.declared.reply.Reply.TheVariants as replies
+use Rattle.swap_turns.specs.Causes.{IsLater}
+use Rattle.swap_turns.specs.Closing.{Closes}
+use Rattle.swap_turns.proofs.Closing.{Images}
+use Rattle.swap_turns.proofs.Telling.{if_some, if_both}
 use Rattle.plant.specs.Seen.{Seen}
 use Rattle.lab_core.specs.declared.fault.CoreFault.{CoreFault}
 use Rattle.lab_core.specs.declared.fault.CoreFault.TheVariants as faults
@@ -16,8 +22,8 @@ use Rattle.lab_core.specs.Controller.{Control, Works}
 use Rattle.script_text.specs.declared.command.Command.{Command}
 use Rattle.lab_core.specs.Judge.{Task, Is, Judged}
 use Rattle.lab_core.specs.LabSteps.{IsDoneBy, does, no_memory}
-use Rattle.lab_core.specs.Obey.{setting_of, IsDone, Leaves, Answers, ObeyEnds, ObeySteps, Obeyed}
-use Rattle.lab_core.specs.Sessions.{After, OpenSwap, Setting, open_alone}
+use Rattle.lab_core.specs.Obey.{setting_of, IsDone, Leaves, Answers, ObeyEnds, ObeySteps, ObeyTold, Obeyed}
+use Rattle.lab_core.specs.Sessions.{After, Closed, OpenSwap, Setting, open_alone}
 use Rattle.lab_core.specs.Tasks.{IsMild}
 
 -- no steps more
@@ -25,54 +31,112 @@ pub no_steps : (told : Option Told) → told ≡ with_steps told []
 no_steps None = refl
 no_steps (Some t) = ap (λ (l : List Event). Some (record t { trace = l })) (sym (append-nil t.trace))
 
-pub true_false : {X : Type 0} → true ≡ false → X
-true_false h = absurd (cc h)
-
 pub false_true : {X : Type 0} → false ≡ true → X
 false_true h = absurd (cc h)
 
 pub not_both : {X : Type 0} (b : Bool) → b ≡ true → b ≡ false → X
-not_both b is no' = true_false (sym is ∙ no')
-
--- a reply of a plant that did not stop
-pub goes_on : (is_stopped : Bool) (reply : Reply) → is_stopped ≡ false → IsErrOf (Ok reply) faults.Stopped ↔ IsTrue is_stopped
-goes_on is_stopped reply no' = (λ h. cc h, λ h. not_both is_stopped h no')
+not_both b is no' = false_true (sym no' ∙ is)
 
 -- over every trace
-if_all : {X : Type 0} (o : Option X) (P : X → Type 0) → ((x : X) → P x) → IfSome o P
+pub if_all : {X : Type 0} (o : Option X) (P : X → Type 0) → ((x : X) → P x) → IfSome o P
 if_all None P each = tt
 if_all (Some x) P each = each x
 
-sound_still : (t : Told) → IsSound the_texts t.trace → IsSound the_texts (t.trace ++ [])
-sound_still t sound = subst (λ l. IsSound the_texts l) (sym (append-nil t.trace)) sound
+-- the plant runs on, if it ran
+abbrev pub RunsOn : Seen → Seen → Type 0
+RunsOn before now = before.stopped ≡ false → now.stopped ≡ true → ⊥
 
--- A MILD REPLY that changes nothing
-pub replied : (before : Seen) (IsJudged : Result Task Reply → Type 0) (c : Control) (reply : Reply) → Works before.told c → IsMild reply → IsDone IsJudged c [] reply c.lab open_alone → Obeyed before before IsJudged c c (Ok reply)
-replied before IsJudged c reply works mild done = record {
-  obeys = ([], no_steps before.told, if_all before.told (λ t. ObeySteps t.trace IsJudged c [] c (Ok reply)) (λ t. record { ends = subst (λ b. Answers t.trace IsJudged c [] reply c b) (sym mild.0) (done, refl); sound = sound_still t }));
-  works = λ _. works;
-  down = λ closing. not_both (closes reply) closing mild.0;
-  device = λ blaming. not_both _ blaming mild.1;
-  later = omega arith;
-  devices = omega arith;
-  stopped = goes_on before.stopped reply;
-}
+-- WHAT A CALL LEAVES, by the steps that it added
+module _ (before now : Seen) (IsJudged : Result Task Reply → Type 0) (old new : Control) (own : List Event) (told : now.told ≡ with_steps before.told own)
+    (sound : IfSome before.told (λ w. IsSound the_texts w.trace → IsSound the_texts (w.trace ++ own))) (later : IsLater before now) where
+  abbrev Left : Result Reply CoreFault → Type 0
+  Left result = Obeyed before now IsJudged old new result
+
+  steps_by : (result : Result Reply CoreFault) → IfSome before.told (λ w. ObeyEnds w.trace IsJudged old own new result) → ObeyTold before now IsJudged old new result
+  steps_by result ends = (
+    own,
+    told,
+    if_both before.told (λ w. ObeyEnds w.trace IsJudged old own new result) (λ w. IsSound the_texts w.trace → IsSound the_texts (w.trace ++ own)) (λ w. ObeySteps w.trace IsJudged old own new result) (λ w e s. record { ends = e; sound = s }) ends sound,
+  )
+
+  -- IT GOES ON
+  pub goes_on : (reply : Reply) → closes reply ≡ false → IsDone IsJudged old own (Some reply) new.lab open_alone → limit_of new.journal ≡ limit_of old.journal → Works now.told new
+      → (blames_device reply ≡ true → Rose before.faults.devices now.faults.devices) → RunsOn before now → Left (Ok reply)
+  goes_on reply open_still done limit works blames runs = record {
+    obeys = steps_by (Ok reply) (if_all before.told (λ w. ObeyEnds w.trace IsJudged old own new (Ok reply)) (λ w. subst (λ b. Answers w.trace IsJudged old own reply new b) (sym open_still) (done, limit)));
+    works = λ _. works;
+    down = λ closing. not_both (closes reply) closing open_still;
+    device = blames;
+    later = later.disk;
+    devices = later.devices;
+    stopped = λ ran. (λ h. cc h, λ h. absurd (runs ran h));
+  }
+
+  -- MEMORY WAS WANTING
+  pub wants : IsDone IsJudged old own None new.lab Closed → Works now.told new → RunsOn before now → Left (Err faults.Memory)
+  wants done works runs = record {
+    obeys = steps_by (Err faults.Memory) (if_all before.told (λ w. IsDone IsJudged old own None new.lab Closed) (λ w. done));
+    works = λ _. works;
+    down = tt;
+    device = tt;
+    later = later.disk;
+    devices = later.devices;
+    stopped = λ ran. (λ h. cc h, λ h. absurd (runs ran h));
+  }
+
+  -- IT IS CLOSED, by what its steps are
+  module _ (Is : List Event → LabState → Type 0) (closed : Closes the_texts before.told own Is) (reply : Reply) (behind : List ℕ → List ℕ → List Event)
+      (done : (lab : LabState) → Is own lab → (a b : List ℕ) → IsDone IsJudged old (own ++ behind a b) (Some reply) lab Closed) where
+    leaves : IfSome before.told (λ w. Leaves w.trace IsJudged old own reply behind)
+    leaves = if_some before.told (λ w. Images the_texts w.trace own (Is own)) (λ w. Leaves w.trace IsJudged old own reply behind)
+        (λ w images. record { lab = closed.after; done = done closed.after closed.is; images = λ sound a b possible. let i = images sound a b possible in (i.0, i.1, done i.0 i.2 a b) }) closed.images
+
+  -- by a reply that blames no device
+  pub closed_by : (reply : Reply) → closes reply ≡ true → blames_device reply ≡ false → (Is : List Event → LabState → Type 0) → Closes the_texts before.told own Is → ((lab : LabState) → Is own lab → IsDone IsJudged old (own ++ []) (Some reply) lab Closed)
+      → Rose before.faults.disk now.faults.disk → RunsOn before now → Left (Ok reply)
+  closed_by reply closing mild Is closed done rose runs = record {
+    obeys = steps_by (Ok reply) (if_some before.told (λ w. Leaves w.trace IsJudged old own reply (λ a b. [])) (λ w. ObeyEnds w.trace IsJudged old own new (Ok reply)) (λ w l. subst (λ b. Answers w.trace IsJudged old own reply new b) (sym closing) l)
+        (leaves Is closed reply (λ a b. []) (λ lab is a b. done lab is)));
+    works = λ going. false_true (subst (λ b. not b ≡ true) closing going);
+    down = λ _. rose;
+    device = λ blaming. not_both (blames_device reply) blaming mild;
+    later = later.disk;
+    devices = later.devices;
+    stopped = λ ran. (λ h. cc h, λ h. absurd (runs ran h));
+  }
+
+  -- by a stop
+  pub halted : (Is : List Event → LabState → Type 0) → Closes the_texts before.told own Is → ((lab : LabState) → Is own lab → (a b : List ℕ) → IsDone IsJudged old (own ++ Restarted a b ∷ []) (Some replies.Stopped) lab Closed) → (before.stopped ≡ false → now.stopped ≡ true) → Left (Err faults.Stopped)
+  halted Is closed done stop = record {
+    obeys = steps_by (Err faults.Stopped) (leaves Is closed replies.Stopped (λ a b. Restarted a b ∷ []) done);
+    works = λ going. false_true going;
+    down = tt;
+    device = tt;
+    later = later.disk;
+    devices = later.devices;
+    stopped = λ ran. (λ h. stop ran, λ h. refl);
+  }
+
+-- NOTHING WAS DONE
+sound_still : (told : Option Told) → IfSome told (λ w. IsSound the_texts w.trace → IsSound the_texts (w.trace ++ []))
+sound_still told = if_all told (λ w. IsSound the_texts w.trace → IsSound the_texts (w.trace ++ [])) (λ w sound. subst (λ l. IsSound the_texts l) (sym (append-nil w.trace)) sound)
+
+same_later : (before : Seen) → IsLater before before
+same_later before = record { disk = omega arith; devices = omega arith }
+
+-- a mild reply
+pub replied : (before : Seen) (IsJudged : Result Task Reply → Type 0) (c : Control) (reply : Reply) → Works before.told c → IsMild reply → IsDone IsJudged c [] (Some reply) c.lab open_alone → Obeyed before before IsJudged c c (Ok reply)
+replied before IsJudged c reply works mild done =
+    goes_on before before IsJudged c c [] (no_steps before.told) (sound_still before.told) (same_later before) reply mild.0 done refl works (λ blaming. not_both (blames_device reply) blaming mild.1) (λ ran stopped. not_both before.stopped stopped ran)
 
 -- a refusal
 pub refuses : (before : Seen) (IsJudged : Result Task Reply → Type 0) (c : Control) (reply : Reply) → Works before.told c → IsJudged (Err reply) × IsMild reply → Obeyed before before IsJudged c c (Ok reply)
 refuses before IsJudged c reply works is = replied before IsJudged c reply works is.1 (does (Err reply) is.0 (record { nothing = refl; after_is = refl }))
 
--- MEMORY WAS WANTING
-pub wanted : (before : Seen) (IsJudged : Result Task Reply → Type 0) (c : Control) → Obeyed before before IsJudged c c (Err faults.Memory)
-wanted before IsJudged c = record {
-  obeys = ([], no_steps before.told, if_all before.told (λ t. ObeySteps t.trace IsJudged c [] c (Err faults.Memory)) (λ t. record { ends = (refl, refl, refl); sound = sound_still t }));
-  works = tt;
-  down = tt;
-  device = tt;
-  later = omega arith;
-  devices = omega arith;
-  stopped = λ no'. (λ h. cc h, λ h. not_both before.stopped h no');
-}
+-- memory was wanting
+pub wanted : (before : Seen) (IsJudged : Result Task Reply → Type 0) (c : Control) → Works before.told c → Obeyed before before IsJudged c c (Err faults.Memory)
+wanted before IsJudged c works =
+    wants before before IsJudged c c [] (no_steps before.told) (sound_still before.told) (same_later before) (no_memory (record { nothing = refl; after_is = refl })) works (λ ran stopped. not_both before.stopped stopped ran)
 
 -- WHAT IS JUDGED in other words
 module _ (A B : Result Task Reply → Type 0) (each : (j : Result Task Reply) → A j → B j) where
@@ -81,16 +145,20 @@ module _ (A B : Result Task Reply → Type 0) (each : (j : Result Task Reply) �
   done_by set s opens own after (no_memory wants) = no_memory wants
 
   left_by : (trace : List Event) (old : Control) (own : List Event) (reply : Reply) (behind : List ℕ → List ℕ → List Event) → Leaves trace A old own reply behind → Leaves trace B old own reply behind
-  left_by trace old own reply behind l = record { images = λ a b possible. let i = l.images a b possible in (i.0, i.1, done_by (setting_of old) old.lab [] (own ++ behind a b) _ i.2) }
+  left_by trace old own reply behind l = record {
+    lab = l.lab;
+    done = λ a b. done_by (setting_of old) old.lab [] (own ++ behind a b) _ (l.done a b);
+    images = λ sound a b possible. let i = l.images sound a b possible in (i.0, i.1, done_by (setting_of old) old.lab [] (own ++ behind a b) _ i.2);
+  }
 
   answers_by : (trace : List Event) (old : Control) (own : List Event) (reply : Reply) (new : Control) (closing : Bool) → Answers trace A old own reply new closing → Answers trace B old own reply new closing
   answers_by trace old own reply new false h = (done_by (setting_of old) old.lab [] own _ h.0, h.1)
-  answers_by trace old own reply new true h = λ sound. left_by trace old own reply (λ a b. []) (h sound)
+  answers_by trace old own reply new true h = left_by trace old own reply (λ a b. []) h
 
   ends_by : (trace : List Event) (old : Control) (own : List Event) (new : Control) (result : Result Reply CoreFault) → ObeyEnds trace A old own new result → ObeyEnds trace B old own new result
   ends_by trace old own new (Ok reply) h = answers_by trace old own reply new (closes reply) h
-  ends_by trace old own new (Err faults.Stopped) h = λ sound. left_by trace old own _ _ (h sound)
-  ends_by trace old own new (Err faults.Memory) h = h
+  ends_by trace old own new (Err faults.Stopped) h = left_by trace old own _ _ h
+  ends_by trace old own new (Err faults.Memory) h = done_by (setting_of old) old.lab [] own _ h
 
   pub obeyed_by : (before now : Seen) (old new : Control) (result : Result Reply CoreFault) → Obeyed before now A old new result → Obeyed before now B old new result
   obeyed_by before now old new result h = record {

@@ -1,4 +1,4 @@
--- What a call of `open` adds, and what it leaves, by what the journal's opening says and what the records made of it.
+-- What reading the journal adds, and what it leaves, by what the journal's opening says and what the records made of it.
 use Rattle.std.proofs.Common.{◌≡◌, inl, inr, ℕ, ◌+◌, ◌*◌, ◌<◌, ◌≤◌, ◌^◌, Bool, List, [], ◌∷◌, ◌++◌, count_by, Option, Some, None, Result, Ok, Err, IfSome, IfOk, refl, sym, ap, subst, ◌∙◌, arith}
 use Rattle.std.specs.Prelude.{length, nat_lt}
 use Rattle.std.proofs.lemmas.List.Sums.{fold-append}
@@ -13,7 +13,7 @@ use Rattle.journal_rec.specs.declared.record.Found.{Found}
 use Rattle.lab_model.specs.Sound.{is_moving}
 use Rattle.journal_model.specs.Journals.{Bad, Records, RecordsOf, Live, New, On, Wrong, live, head, gate_after}
 use Rattle.records_model.specs.Labs.{LabState, LabOf}
-use Rattle.journal_disk.specs.Before.{IsOpening}
+use Rattle.journal_disk.specs.Before.{IsOpening, are_synced}
 use Rattle.journal_disk.specs.Opening.{both_synced, new_journal, far_steps}
 use Rattle.journal_disk.specs.Standing.{side_of, gate_of, length_of, limit_of, Holds, IsAt, HasAll}
 use Rattle.journal_disk.specs.Walks.{placed}
@@ -33,7 +33,7 @@ use Rattle.swap_turns.specs.Running.{Stands}
 use Rattle.swap_turns.proofs.MovesAreSwaps.{lab_swaps}
 use Rattle.lab_core.specs.Controller.{Control, Works}
 use Rattle.lab_core.specs.Moments.{IsLabAt, IsNoJournal, bad, cannot_follow, no_room}
-use Rattle.lab_core.specs.Opening.{IsOfJournal, OpenSteps, HasFoundNone, OpenEnds}
+use Rattle.lab_core.specs.Opening.{IsOfJournal, ReadSteps, HasFoundNone, ReadEnds, ReadTold}
 use Rattle.lab_core.proofs.Opened.{records_of_placed, are_held}
 
 -- what the journal's opening added
@@ -43,10 +43,6 @@ Moments old new result = (steps : List Event) × (new ≡ with_steps old steps) 
 -- what the sides read as is possible
 abbrev pub ReadsPossible : Option Told → Type 0
 ReadsPossible told = IfSome told (λ t. ArePossible t.trace (disk A t.trace).reads (disk B t.trace).reads)
-
--- the clause of `open` on what it adds
-abbrev pub Opening : ℕ → Option Told → Option Told → Result Control OpenFault → Type 0
-Opening limit old new result = (steps : List Event) × (new ≡ with_steps old steps) × IfSome old (λ t. OpenSteps t.trace steps × OpenEnds t.trace steps limit result)
 
 -- THE JOURNAL THAT WAS OPENED, with its records, and what they made of it
 pub record Made (new : Option Told) (limit : ℕ) (j : Journal) (result : Result Control OpenFault) : Type 0 where
@@ -69,9 +65,9 @@ made_of new limit j items found result is ok holds of =
     at_of None both = tt
     at_of (Some t) both = both.0
 
--- WHAT AN OPENING ADDED, whatever its answer
+-- WHAT READING ADDED, whatever came of it
 steps_of : (trace steps : List Event) (result : Result (Journal × Vec Found) OpenFault) → IsOpening trace steps result
-    → ArePossible (trace ++ steps) (disk A (trace ++ steps)).reads (disk B (trace ++ steps)).reads → OpenSteps trace steps
+    → ArePossible (trace ++ steps) (disk A (trace ++ steps)).reads (disk B (trace ++ steps)).reads → ReadSteps trace steps
 steps_of trace steps result is possible =
     let quiet = opening_quiet trace steps result is.opens in
     record {
@@ -102,26 +98,26 @@ found_none trace steps limit side at is missing =
 abbrev pub IsBadAs : OpenFault → List Event → Type 0
 IsBadAs fault trace = (side : Side) (at : ℕ) → fault ≡ faults.Bad side at → Bad (disk A trace).reads (disk B trace).reads side at
 
-failed_ends : (trace steps : List Event) (limit : ℕ) (fault : OpenFault) → IsOpening trace steps (Err fault) → IsBadAs fault (trace ++ steps) → OpenEnds trace steps limit (Err fault)
+failed_ends : (trace steps : List Event) (limit : ℕ) (fault : OpenFault) → IsOpening trace steps (Err fault) → IsBadAs fault (trace ++ steps) → ReadEnds trace steps limit (Err fault)
 failed_ends trace steps limit faults.Plant is reads = opening_missed trace steps _ is.opens _ (ap has_miss is.opens.ends.1)
 failed_ends trace steps limit faults.Stopped is reads = tt
 failed_ends trace steps limit faults.Memory is reads = tt
 failed_ends trace steps limit (faults.Bad side at) is reads = found_none trace steps limit side at (is.opens.steps_are ∙ (λ i. far_steps (is.opens.ends.0 i) ++ is.opens.ends.1 i)) (bad (reads side at refl))
 
 pub failed_opening : (limit : ℕ) (old new : Option Told) (fault : OpenFault) (result : Result Control OpenFault) → result ≡ Err fault → Moments old new (Err fault) → ReadsPossible new
-    → ((side : Side) (at : ℕ) → fault ≡ faults.Bad side at → IfSome new (λ t. Bad (disk A t.trace).reads (disk B t.trace).reads side at)) → Opening limit old new result
+    → ((side : Side) (at : ℕ) → fault ≡ faults.Bad side at → IfSome new (λ t. Bad (disk A t.trace).reads (disk B t.trace).reads side at)) → ReadTold old new limit result
 failed_opening limit old new fault result is moments possible reads =
-    subst (λ (r : Result Control OpenFault). Opening limit old new r) (sym is)
+    subst (λ (r : Result Control OpenFault). ReadTold old new limit r) (sym is)
     (moments.0, moments.1, by old moments.0 (subst ReadsPossible moments.1 possible) (λ side at e. subst (λ (o : Option Told). IfSome o (λ t. Bad (disk A t.trace).reads (disk B t.trace).reads side at)) moments.1 (reads side at e)) moments.2)
   where
     by : (t : Option Told) (steps : List Event) → ReadsPossible (with_steps t steps) → ((side : Side) (at : ℕ) → fault ≡ faults.Bad side at → IfSome (with_steps t steps) (λ u. Bad (disk A u.trace).reads (disk B u.trace).reads side at))
-        → IfSome t (λ u. IsOpening u.trace steps (Err fault)) → IfSome t (λ u. OpenSteps u.trace steps × OpenEnds u.trace steps limit (Err fault))
+        → IfSome t (λ u. IsOpening u.trace steps (Err fault)) → IfSome t (λ u. ReadSteps u.trace steps × ReadEnds u.trace steps limit (Err fault))
     by None steps possible reads is = tt
     by (Some t) steps possible reads is = (steps_of t.trace steps (Err fault) is possible, failed_ends t.trace steps limit fault is reads)
 
 -- A JOURNAL THAT WAS OPENED
-lab_at : (trace : List Event) (j : Journal) (rs : List Record) (c : Control) → IsAt trace j rs → LabOf the_texts rs c.lab → IsLabAt trace c.lab
-lab_at trace j rs c at lab = record { records = rs; read = (reads_on trace (side_of j) rs at.opened).reads; lab_of = lab }
+pub lab_at : (trace : List Event) (j : Journal) (rs : List Record) (s : LabState) → IsAt trace j rs → LabOf the_texts rs s → IsLabAt trace s
+lab_at trace j rs s at lab = record { records = rs; read = (reads_on trace (side_of j) rs at.opened).reads; lab_of = lab }
 
 -- where it is none, it is not a new one
 not_new : (a b : List ℕ) (limit : ℕ) (j : Journal) (rs : List Record) (side : Side) (place : ℕ) → Records a b rs → gate_of j ≡ gate_after rs → 18 ≤ limit → IsOfJournal limit j rs (Err (faults.Bad side place))
@@ -147,15 +143,16 @@ no_journal trace limit j rs side place at (sided, inr (s, lab, full, there)) =
     let on = reads_on trace (side_of j) rs at.opened in
     no_room rs s on.reads (on.live_is ∙ ap On (sym sided)) lab (omega (arith, at.gate, full)) (there ∙ at.gate)
 
-module _ (trace steps : List Event) (limit : ℕ) (least : 18 ≤ limit) (opened : Journal × Vec Found) (rs : List Record) (is : IsOpening trace steps (Ok opened)) (at : IsAt (trace ++ steps) opened.0 rs) (o : OpenSteps trace steps) where
+module _ (trace steps : List Event) (limit : ℕ) (least : 18 ≤ limit) (opened : Journal × Vec Found) (rs : List Record) (is : IsOpening trace steps (Ok opened)) (at : IsAt (trace ++ steps) opened.0 rs) (o : ReadSteps trace steps) where
   read_before : Records (disk A trace).reads (disk B trace).reads rs
   read_before = (o.alike.records rs).0 (reads_on (trace ++ steps) (side_of opened.0) rs at.opened).reads
 
-  made_ends : (result : Result Control OpenFault) → IsOfJournal limit opened.0 rs result → OpenEnds trace steps limit result
+  made_ends : (result : Result Control OpenFault) → IsOfJournal limit opened.0 rs result → ReadEnds trace steps limit result
   made_ends (Ok c) made = record {
     no_miss = opening_missed trace steps (Ok opened) is.opens _ (ap has_miss is.opens.ends.1);
+    synced = ap are_synced (is.opens.steps_are ∙ (λ i. is.opens.ends.0 i ++ is.opens.ends.1 i));
     journal = record { records = rs; lab = c.lab; read = read_before; lab_of = made.1; room = omega (arith, at.gate, made.2) };
-    lab = lab_at (trace ++ steps) opened.0 rs c at made.1;
+    lab = lab_at (trace ++ steps) opened.0 rs c.lab at made.1;
   }
   made_ends (Err faults.Plant) made = absurd made
   made_ends (Err faults.Stopped) made = tt
@@ -165,27 +162,27 @@ module _ (trace steps : List Event) (limit : ℕ) (least : 18 ≤ limit) (opened
       (is.opens.steps_are ∙ (λ i. is.opens.ends.0 i ++ is.opens.ends.1 i) ∙ ap (λ l. l ++ []) (only_synced (live (head (disk A trace).reads) (head (disk B trace).reads)) (nat_lt (length (disk A trace).reads) 18) (not_new (disk A trace).reads (disk B trace).reads limit opened.0 rs side place read_before at.gate least made)))
       (no_journal (trace ++ steps) limit opened.0 rs side place at made)
 
-pub made_opening : (old new : Option Told) (limit : ℕ) → 18 ≤ limit → (opened : Journal × Vec Found) (result : Result Control OpenFault) → Made new limit opened.0 result → Moments old new (Ok opened) → ReadsPossible new → Opening limit old new result
+pub made_opening : (old new : Option Told) (limit : ℕ) → 18 ≤ limit → (opened : Journal × Vec Found) (result : Result Control OpenFault) → Made new limit opened.0 result → Moments old new (Ok opened) → ReadsPossible new → ReadTold old new limit result
 made_opening old new limit least opened result made moments possible =
     (moments.0, moments.1, by old moments.0 (subst ReadsPossible moments.1 possible) (subst (λ (n : Option Told). IfSome n (λ u. IsAt u.trace opened.0 made.records)) moments.1 made.at) moments.2)
   where
     by : (t : Option Told) (steps : List Event) → ReadsPossible (with_steps t steps) → IfSome (with_steps t steps) (λ u. IsAt u.trace opened.0 made.records)
-        → IfSome t (λ u. IsOpening u.trace steps (Ok opened)) → IfSome t (λ u. OpenSteps u.trace steps × OpenEnds u.trace steps limit result)
+        → IfSome t (λ u. IsOpening u.trace steps (Ok opened)) → IfSome t (λ u. ReadSteps u.trace steps × ReadEnds u.trace steps limit result)
     by None steps reads at is = tt
     by (Some t) steps reads at is =
         let o = steps_of t.trace steps (Ok opened) is reads in
         (o, made_ends t.trace steps limit least opened made.records is at o result made.made)
 
--- THE STATES THAT ARE NO JOURNAL, as the sides read behind the opening
-pub bad_behind : (limit : ℕ) (old new : Option Told) (result : Result Control OpenFault) (side : Side) (place : ℕ) → Opening limit old new result → result ≡ Err (faults.Bad side place)
+-- THE STATES THAT ARE NO JOURNAL, as the sides read behind it
+pub bad_behind : (limit : ℕ) (old new : Option Told) (result : Result Control OpenFault) (side : Side) (place : ℕ) → ReadTold old new limit result → result ≡ Err (faults.Bad side place)
     → IfSome new (λ t. IsNoJournal (disk A t.trace).reads (disk B t.trace).reads limit side place)
 bad_behind limit old new result side place opening is =
     subst (λ (o : Option Told). IfSome o (λ t. IsNoJournal (disk A t.trace).reads (disk B t.trace).reads limit side place)) (sym opening.1) (by old opening.2)
   where
-    by : (t : Option Told) → IfSome t (λ u. OpenSteps u.trace opening.0 × OpenEnds u.trace opening.0 limit result) → IfSome (with_steps t opening.0) (λ u. IsNoJournal (disk A u.trace).reads (disk B u.trace).reads limit side place)
+    by : (t : Option Told) → IfSome t (λ u. ReadSteps u.trace opening.0 × ReadEnds u.trace opening.0 limit result) → IfSome (with_steps t opening.0) (λ u. IsNoJournal (disk A u.trace).reads (disk B u.trace).reads limit side place)
     by None ends = tt
     by (Some t) ends =
-        let found = subst (λ (r : Result Control OpenFault). OpenEnds t.trace opening.0 limit r) is ends.1 in
+        let found = subst (λ (r : Result Control OpenFault). ReadEnds t.trace opening.0 limit r) is ends.1 in
         subst (λ a. IsNoJournal a (disk B (t.trace ++ opening.0)).reads limit side place) (sym (found.as_before A)) (subst (λ b. IsNoJournal (disk A t.trace).reads b limit side place) (sym (found.as_before B)) found.no_journal)
 
 -- THE CONTROLLER WORKS

@@ -1,4 +1,4 @@
--- Moves of one experiment leave those of other names.
+-- Moves of one experiment leave those of other names, and a settling leaves those that don't move.
 use Rattle.std.proofs.Common.{◌≡◌, ◌≢◌, ◌⊎◌, inl, inr, ℕ, Bool, true, false, cond, is_some, Option, Some, None, List, [], ◌∷◌, ◌++◌, refl, sym, ap, ◌∙◌}
 use Rattle.std.specs.Prelude.{if◌then◌else◌}
 use Rattle.std.specs.Str.{bytes_eq}
@@ -15,14 +15,19 @@ use Rattle.records_model.specs.Labs.{LabState, Move, SetLab, Creates, Deletes, B
 use Rattle.records_model.proofs.Finding.{some_is, none_some, found_from}
 use Rattle.records_model.proofs.LabLaws.{in_state-some, with_replaced-some, found_one}
 use Rattle.records_model.proofs.Swaps.{find_others}
+use Rattle.lab_model.specs.Sound.{is_moving}
 use Rattle.swap_turns.specs.Swaps.{Swap}
 use Rattle.swap_turns.specs.Records.{IsBroken}
-use Rattle.swap_turns.specs.Beginning.{opened}
+use Rattle.swap_turns.specs.Beginning.{opened, settling}
+use Rattle.swap_turns.specs.Finishing.{Finishes}
 use Rattle.swap_turns.specs.Legs.{commits, last_move, last_move_by}
 use Rattle.swap_turns.specs.Running.{OpenSwap}
+use Rattle.swap_turns.specs.Settling.{Settles}
 use Rattle.swap_turns.specs.Turning.{Outcome, More, TurnsBack, Ended, Stuck, Unwritten, Stopped, TurnSteps}
 use Rattle.swap_turns.specs.Whole.{SwapSteps, begun, unwritten, stopped}
 use Rattle.swap_turns.proofs.Finishing.{onward_swap}
+use Rattle.lab_core.specs.Recovery.{SettlesSome, some, within}
+use Rattle.lab_core.specs.Tells.{IsAtRest}
 
 differs : (a b : List ℕ) → a ≢ b → bytes_eq a b ≡ false
 differs a b apart = false_from_ne_true (bytes_eq a b) (λ h. apart ((bytes_eq-Decides a b).0 h))
@@ -112,37 +117,88 @@ module _ (name : List ℕ) where
   pub same_stays : (s u : LabState) → is_some s.lab ≡ true → u ≡ s → Stays name s u
   same_stays s u set is = record { set = ap (λ (x : LabState). is_some x.lab) is ∙ set; same = ap (λ (x : LabState). find name x.experiments) is }
 
-  both_stay : (s u v : LabState) → Stays name s u → Stays name u v → Stays name s v
+  pub both_stay : (s u v : LabState) → Stays name s u → Stays name u v → Stays name s v
   both_stay s u v a b = record { set = b.set; same = b.same ∙ a.same }
 
-  pub either_stays : (s u after : LabState) (move : Move) → is_some s.lab ≡ true → IsApart name move → moved s move ≡ Some u → (after ≡ s) ⊎ (after ≡ u) → Stays name s after
-  either_stays s u after move set apart h (inl before) = same_stays s after set before
-  either_stays s u after move set apart h (inr now) = let moves = move_stays s u move set apart h in both_stay s u after moves (same_stays u after moves.set now)
+  pub either_stays : (s u after : LabState) → is_some s.lab ≡ true → Stays name s u → (after ≡ s) ⊎ (after ≡ u) → Stays name s after
+  either_stays s u after set moves (inl before) = same_stays s after set before
+  either_stays s u after set moves (inr now) = both_stay s u after moves (same_stays u after moves.set now)
+
+  broken_stays : (behind : Side → List Event) (s after : LabState) (r : Record) (move : Move) (steps : List Event) → is_some s.lab ≡ true → ((u : LabState) → moved s move ≡ Some u → Stays name s u) → IsBroken behind s r move steps after → Stays name s after
+  broken_stays behind s after r move steps set each b = either_stays s b.state after set (each b.state b.moves) b.either
+
+  -- A TURN of a swap of that name, as its last record leaves the experiment
+  abbrev Lasts : LabState → List ℕ → Type 0
+  Lasts s own = (commit : Bool) (u : LabState) → moved s (last_move_by commit own) ≡ Some u → Stays name s u
+
+  turn_stays : (s after : LabState) (o : OpenSwap) (steps : List Event) (outcome : Outcome) → is_some s.lab ≡ true → Lasts s o.swap.name → TurnSteps s o steps outcome after → Stays name s after
+  turn_stays s after o steps More set last h = same_stays s after set h.2
+  turn_stays s after o steps (TurnsBack why) set last h = same_stays s after set h.4
+  turn_stays s after o steps (Ended leg) set last h = last (commits o.swap leg) after h.0.1.moves
+  turn_stays s after o steps (Stuck trouble) set last h = same_stays s after set h.3
+  turn_stays s after o steps Unwritten set last h = broken_stays _ s after _ (last_move o.swap o.leg) steps set (last (commits o.swap o.leg)) h.1
+  turn_stays s after o steps Stopped set last h = elim h [
+    | inl course ↦ same_stays s after set course.1
+    | inr ended ↦ broken_stays _ s after _ (last_move o.swap o.leg) steps set (last (commits o.swap o.leg)) ended.1
+  ]
 
   -- A SWAP of another experiment
-  broken_stays : (behind : Side → List Event) (s after : LabState) (r : Record) (move : Move) (steps : List Event) → is_some s.lab ≡ true → IsApart name move → IsBroken behind s r move steps after → Stays name s after
-  broken_stays behind s after r move steps set apart b = either_stays s b.state after move set apart b.moves b.either
-
   last_apart : (commit : Bool) (own : List ℕ) → own ≢ name → IsApart name (last_move_by commit own)
   last_apart true own apart = apart
   last_apart false own apart = apart
-
-  turn_stays : (s after : LabState) (o : OpenSwap) (steps : List Event) (outcome : Outcome) → is_some s.lab ≡ true → o.swap.name ≢ name → TurnSteps s o steps outcome after → Stays name s after
-  turn_stays s after o steps More set apart h = same_stays s after set h.2
-  turn_stays s after o steps (TurnsBack why) set apart h = same_stays s after set h.4
-  turn_stays s after o steps (Ended leg) set apart h = move_stays s after (last_move o.swap leg) set (last_apart (commits o.swap leg) o.swap.name apart) h.0.1.moves
-  turn_stays s after o steps (Stuck trouble) set apart h = same_stays s after set h.3
-  turn_stays s after o steps Unwritten set apart h = broken_stays _ s after _ (last_move o.swap o.leg) steps set (last_apart (commits o.swap o.leg) o.swap.name apart) h.1
-  turn_stays s after o steps Stopped set apart h = elim h [
-    | inl course ↦ same_stays s after set course.1
-    | inr last ↦ broken_stays _ s after _ (last_move o.swap o.leg) steps set (last_apart (commits o.swap o.leg) o.swap.name apart) last.1
-  ]
 
   pub swap_stays : (p : Swap) (s after : LabState) (begin : Record) (move : Move) (steps : List Event) (outcome : Outcome) → is_some s.lab ≡ true → IsApart name move → p.name ≢ name → SwapSteps p s begin move steps after outcome → Stays name s after
   swap_stays p s after begin move steps outcome set apart own (begun b) =
       let first = move_stays s b.state move set apart b.begins.moves in
       let f = b.finishes in
       let named : f.at.swap.name ≡ p.name = ap (λ (q : Swap). q.name) (onward_swap b.state (opened p) f.front f.at f.onward) in
-      both_stay s b.state after first (turn_stays b.state after f.at f.behind outcome first.set (λ same. own (sym named ∙ same)) f.turn)
-  swap_stays p s after begin move steps outcome set apart own (unwritten b is) = broken_stays _ s after begin move steps set apart b
-  swap_stays p s after begin move steps outcome set apart own (stopped b is) = broken_stays _ s after begin move steps set apart b
+      let last : Lasts b.state f.at.swap.name = λ commit u h. move_stays b.state u (last_move_by commit f.at.swap.name) first.set (last_apart commit f.at.swap.name (λ same. own (sym named ∙ same))) h in
+      both_stay s b.state after first (turn_stays b.state after f.at f.behind outcome first.set last f.turn)
+  swap_stays p s after begin move steps outcome set apart own (unwritten b is) = broken_stays _ s after begin move steps set (λ u h. move_stays s u move set apart h) b
+  swap_stays p s after begin move steps outcome set apart own (stopped b is) = broken_stays _ s after begin move steps set (λ u h. move_stays s u move set apart h) b
+
+  -- A SETTLING, where the experiment of that name, if there is one, doesn't move
+  no_end : (lab : Lab) (es : List Experiment) (e g : Experiment) (phase : Phase) (commit : Bool) (own : List ℕ) → is_moving (record e { phase = phase }) ≡ false → becomes lab es e phase (last_move_by commit own) ≡ Some g → ⊥
+  no_end lab es e g (Moving old new) commit own rests h = absurd (cc rests)
+  no_end lab es e g Out true own rests h = none_some g h
+  no_end lab es e g Out false own rests h = none_some g h
+  no_end lab es e g (In mapping tags) true own rests h = none_some g h
+  no_end lab es e g (In mapping tags) false own rests h = none_some g h
+
+  last_one : (lab : Lab) (es : List Experiment) (commit : Bool) (own : List ℕ) (xs : List Experiment) → moved_in lab es (last_move_by commit own) ≡ Some xs → moved_one lab es own (find own es) (last_move_by commit own) ≡ Some xs
+  last_one lab es true own xs h = h
+  last_one lab es false own xs h = h
+
+  no_last : (o : Option Lab) (es : List Experiment) (commit : Bool) (own : List ℕ) (u : LabState) → ((e : Experiment) → find own es ≡ Some e → is_moving e ≡ false) → is_some o ≡ true → moved_of o es (last_move_by commit own) ≡ Some u → ⊥
+  no_last None es commit own u rests set h = absurd (cc set)
+  no_last (Some lab) es commit own u rests set h =
+      let xs = in_state-some lab (moved_in lab es (last_move_by commit own)) u h in
+      let e = found_one lab es own (last_move_by commit own) (find own es) xs.0 (last_one lab es commit own xs.0 xs.1) in
+      let g = with_replaced-some own es (becomes lab es e.0 e.0.phase (last_move_by commit own)) xs.0 e.2 in
+      no_end lab es e.0 g.0 e.0.phase commit own (rests e.0 e.1) g.1
+
+  rest_lasts : (s : LabState) (own : List ℕ) → is_some s.lab ≡ true → IsAtRest s name → Lasts s own
+  rest_lasts s own set rests = λ commit u h. elim (cases_Bool (bytes_eq own name)) [
+    | inl yes' ↦ absurd (no_last s.lab s.experiments commit own u (λ e is. rests e (ap (λ n. find n s.experiments) (sym ((bytes_eq-Decides own name).0 yes')) ∙ is)) set h)
+    | inr no' ↦ move_stays s u (last_move_by commit own) set (last_apart commit own (λ same. (let bad : false ≡ true = sym no' ∙ (bytes_eq-Decides own name).1 same in cc bad))) h
+  ]
+
+  pub rests_on : (s u : LabState) → Stays name s u → IsAtRest s name → IsAtRest u name
+  rests_on s u stays rests = λ e is. rests e (sym stays.same ∙ is)
+
+  finish_stays : (s after : LabState) (p : Swap) (steps : List Event) (outcome : Outcome) → is_some s.lab ≡ true → IsAtRest s name → Finishes s (settling p) steps outcome after → Stays name s after
+  finish_stays s after p steps outcome set rests f = turn_stays s after f.at f.behind outcome set (rest_lasts s f.at.swap.name set rests) f.turn
+
+  pub settles_stay : (ps : List Swap) (outcomes : List Outcome) (s after : LabState) (steps : List Event) → is_some s.lab ≡ true → IsAtRest s name → Settles s ps outcomes steps after → Stays name s after
+  settles_stay [] [] s after steps set rests h = same_stays s after set h.1
+  settles_stay [] (outcome ∷ outcomes) s after steps set rests h = absurd h
+  settles_stay (p ∷ ps) [] s after steps set rests h = absurd h
+  settles_stay (p ∷ ps) (outcome ∷ outcomes) s after steps set rests h =
+      let first = finish_stays s h.2 p h.0 outcome set rests h.3.is in
+      both_stay s h.2 after first (settles_stay ps outcomes h.2 after h.1 first.set (rests_on s h.2 first rests) h.4)
+
+  pub some_stay : (s after : LabState) (busy : List (List ℕ)) (steps : List Event) → is_some s.lab ≡ true → IsAtRest s name → SettlesSome s busy steps after → Stays name s after
+  some_stay s after busy steps set rests (some past rest outcomes all settles) = settles_stay past outcomes s after steps set rests settles
+  some_stay s after busy steps set rests (within outcome front behind is b starts) =
+      let first = settles_stay b.past b.outcomes s b.mid b.front set rests b.settled in
+      both_stay s b.mid after first (finish_stays b.mid after b.last b.behind outcome first.set (rests_on s b.mid first rests) b.breaks)

@@ -30,7 +30,10 @@ use Rattle.script_text.specs.declared.reply.Reply.{Reply}
 use Rattle.script_text.specs.declared.reply.Reply.TheVariants as replies
 use Rattle.plant.specs.Seen.{Seen}
 use Rattle.swap_txn.specs.Steps.{Stands as PlantStands, Writes}
+use Rattle.swap_turns.specs.Causes.{IsLater}
+use Rattle.swap_turns.specs.Closing.{Closes}
 use Rattle.swap_turns.proofs.Appending.{steps_of, stands_after, left_over}
+use Rattle.swap_turns.proofs.Closing.{Images}
 use Rattle.swap_turns.specs.Running.{Stands}
 use Rattle.swap_turns.proofs.MovesAreSwaps.{moved_swaps}
 use Rattle.swap_turns.proofs.Telling.{if_some_is, if_told}
@@ -40,11 +43,11 @@ use Rattle.lab_core.specs.Breaks.{Breaks, stopped, failed}
 use Rattle.lab_core.specs.Controller.{Control, Works}
 use Rattle.lab_core.specs.Judge.{Task, Append, Is}
 use Rattle.lab_core.specs.LabSteps.{has_space, IfSpace, Performs, Replies, Behind, missed, restarted, AppendEnds, whole, broken, Appends, does}
-use Rattle.lab_core.specs.Obey.{setting_of, ended, IsDone, Leaves, Answers, ObeyEnds, ObeySteps, Obeyed}
+use Rattle.lab_core.specs.Obey.{setting_of, ended, IsDone, Obeyed}
 use Rattle.lab_core.specs.Perform.{append_answer}
 use Rattle.lab_core.specs.Sessions.{Closed, After, open_alone}
 use Rattle.lab_core.specs.Tasks.{CanAppend}
-use Rattle.lab_core.proofs.Obey.{not_both, true_false, false_true, replied}
+use Rattle.lab_core.proofs.Obey.{RunsOn, closed_by, goes_on, halted, not_both, replied}
 
 -- a record is short enough to be written
 few_tags : (way : Way) → IsWay way → length (tags_of_way way) ≤ 65535
@@ -129,8 +132,8 @@ module _ (before now : Seen) (c new : Control) (entry : Record) (reply : Reply) 
   part : (w : Told) → before.told ≡ Some w → Stands the_texts w.trace c.journal c.lab → IsSound the_texts w.trace → IsSound the_texts (w.trace ++ own) × StandForEither the_texts (w.trace ++ own) c.lab state
   part w is x sound = left_over the_texts c.lab state entry before now c.journal new.journal answer writes w is x (λ _. may_append w x) sound
 
-  steps_by : (result : Result Reply CoreFault) → ((w : Told) → before.told ≡ Some w → Stands the_texts w.trace c.journal c.lab → ObeyEnds w.trace Judges c own new result) → IfSome before.told (λ w. ObeySteps w.trace Judges c own new result)
-  steps_by result ends = if_some_is before.told (λ w. Stands the_texts w.trace c.journal c.lab) (λ w. ObeySteps w.trace Judges c own new result) (λ w is x. record { ends = ends w is x; sound = λ sound. (part w is x sound).0 }) work.stands
+  sound : IfSome before.told (λ w. IsSound the_texts w.trace → IsSound the_texts (w.trace ++ own))
+  sound = if_some_is before.told (λ w. Stands the_texts w.trace c.journal c.lab) (λ w. IsSound the_texts w.trace → IsSound the_texts (w.trace ++ own)) (λ w is x before. (part w is x before).0) work.stands
 
   -- THE WHOLE APPEND: the controller works
   works_then : (ok : Unit {0}) → answer ≡ Ok ok → new.lab ≡ state → Works now.told new
@@ -151,69 +154,51 @@ module _ (before now : Seen) (c new : Control) (entry : Record) (reply : Reply) 
   ends_as : (a : Result (Unit {0}) AppendFault) → answer ≡ a → Ends (side_of c.journal) a writes.appends.run writes.appends.more
   ends_as a is = subst (λ a. Ends (side_of c.journal) a writes.appends.run writes.appends.more) is writes.appends.ends
 
-  done : (ok : Unit {0}) → answer ≡ Ok ok → new.lab ≡ state → (trace : List Event) → ObeyEnds trace Judges c own new (Ok reply)
-  done ok is lab trace =
+  done : (ok : Unit {0}) → answer ≡ Ok ok → new.lab ≡ state → IsDone Judges c own (Some reply) new.lab open_alone
+  done ok is lab =
       let ends = ends_as (Ok ok) is in
-      let parts : IsDone Judges c own reply new.lab open_alone × (limit_of new.journal ≡ limit_of c.journal) = (
-        done_so own (ended reply new.lab open_alone) (append_so writes.appends.more own (ended reply new.lab open_alone) refl (Rattle.lab_core.specs.LabSteps.nothing ends.1) (whole ends.0 ends.1 (ap (λ (s : LabState). let x : After = ended reply s open_alone in x) lab))),
-        writes.limit,
-      ) in
-      subst (λ b. Answers trace Judges c own reply new b) (sym can.mild.0) parts
+      done_so own (ended reply new.lab open_alone) (append_so writes.appends.more own (ended reply new.lab open_alone) refl (Rattle.lab_core.specs.LabSteps.nothing ends.1) (whole ends.0 ends.1 (ap (λ (s : LabState). let x : After = ended reply s open_alone in x) lab)))
 
-  -- A PART OF IT, behind which the plant was started again or a call of the disk missed
-  left_so : (told : Reply) (behind : List ℕ → List ℕ → List Event) → ((x y : List ℕ) → Behind (side_of c.journal) (writes.appends.more ++ behind x y)) → ((x y : List ℕ) → Breaks (own ++ behind x y) (Some told))
-      → (w : Told) → before.told ≡ Some w → Stands the_texts w.trace c.journal c.lab → IsSound the_texts w.trace → Leaves w.trace Judges c own told behind
-  left_so told behind last breaks w is x sound = record {
-    images = λ a b possible. elim ((part w is x sound).1 a b possible) [
-      | inl stands ↦ (c.lab, stands, parts a b c.lab (inl refl))
-      | inr stands ↦ (state, stands, parts a b state (inr refl))
-    ];
+  -- A PART OF IT: the lab is that before the record, or that after it
+  abbrev Either : List Event → LabState → Type 0
+  Either steps lab = (lab ≡ c.lab) ⊎ (lab ≡ state)
+
+  closes_either : Closes the_texts before.told own Either
+  closes_either = record {
+    after = c.lab;
+    is = inl refl;
+    images = if_some_is before.told (λ w. Stands the_texts w.trace c.journal c.lab) (λ w. Images the_texts w.trace own (Either own)) (λ w is x sound a b possible. elim ((part w is x sound).1 a b possible) [
+      | inl stands ↦ (c.lab, stands, inl refl)
+      | inr stands ↦ (state, stands, inr refl)
+    ]) work.stands;
   }
-    where
-      parts : (x y : List ℕ) (lab : LabState) → (lab ≡ c.lab) ⊎ (lab ≡ state) → IsDone Judges c (own ++ behind x y) told lab Closed
-      parts x y lab either = done_so (own ++ behind x y) (ended told lab Closed) (append_so (writes.appends.more ++ behind x y) (own ++ behind x y) (ended told lab Closed) (append_assoc (added (side_of c.journal) (gate_of c.journal) entry writes.appends.run) writes.appends.more (behind x y)) (last x y) (broken (breaks x y) either refl))
 
-  down : answer ≡ Err appending.Plant → (w : Told) → before.told ≡ Some w → Stands the_texts w.trace c.journal c.lab → ObeyEnds w.trace Judges c own new (Ok replies.Down)
-  down is w told_is x =
-      let ends = ends_as (Err appending.Plant) is in
-      let all : own ++ [] ≡ own = append-nil own in
-      let quiet = ended_quiet (side_of c.journal) (gate_of c.journal) entry writes.appends.run writes.appends.more (Err appending.Plant) ends in
-      let miss : has_miss own ≡ true = ended_missed (side_of c.journal) (gate_of c.journal) entry writes.appends.run writes.appends.more true (ap has_miss ends) in
-      left_so replies.Down (λ x y. []) (λ x y. missed (append-nil writes.appends.more ∙ ends)) (λ x y. failed (ap has_restart all ∙ quiet.1) (ap has_miss all ∙ miss) refl) w told_is x
+  -- behind which the plant was started again, or a call of the disk missed
+  part_so : (told : Reply) (behind : List Event) → Behind (side_of c.journal) (writes.appends.more ++ behind) → Breaks (own ++ behind) (Some told) → (lab : LabState) → Either own lab → IsDone Judges c (own ++ behind) (Some told) lab Closed
+  part_so told behind last breaks lab either =
+      done_so (own ++ behind) (ended told lab Closed)
+      (append_so (writes.appends.more ++ behind) (own ++ behind) (ended told lab Closed) (append_assoc (added (side_of c.journal) (gate_of c.journal) entry writes.appends.run) writes.appends.more behind) last (broken breaks either refl))
 
-  stops : answer ≡ Err appending.Stopped → (w : Told) → before.told ≡ Some w → Stands the_texts w.trace c.journal c.lab → ObeyEnds w.trace Judges c own new (Err faults.Stopped)
-  stops is w told_is x =
-      let ends = ends_as (Err appending.Stopped) is in
-      let quiet = ended_quiet (side_of c.journal) (gate_of c.journal) entry writes.appends.run writes.appends.more (Err appending.Stopped) ends in
-      left_so replies.Stopped (λ x y. Restarted x y ∷ []) (λ x y. restarted x y (ap (λ l. l ++ Restarted x y ∷ []) ends)) (λ x y. stopped (record { front = own; a = x; b = y; is = refl; once = quiet.1 }) refl) w told_is x
+  quiet : has_restart own ≡ false
+  quiet = (ended_quiet (side_of c.journal) (gate_of c.journal) entry writes.appends.run writes.appends.more answer writes.appends.ends).1
+
+  later : IsLater before now
+  later = record { disk = writes.later; devices = omega (arith, writes.devices) }
+
+  runs : (a : Result (Unit {0}) AppendFault) → answer ≡ a → (a ≡ Err appending.Stopped → ⊥) → RunsOn before now
+  runs a is not = λ _ stop. not (sym is ∙ writes.halts.1 stop)
 
   -- WHATEVER IT ANSWERED
   pub left : (a : Result (Unit {0}) AppendFault) → answer ≡ a → OnOk a (new.lab ≡ state) → Obeyed before now Judges c new (append_answer reply a)
-  left (Ok ok) is lab = record {
-    obeys = (own, writes.appends.trace, steps_by (Ok reply) (λ w told_is x. done ok is lab w.trace));
-    works = λ _. works_then ok is lab;
-    down = λ closing. not_both _ closing can.mild.0;
-    device = λ blaming. not_both _ blaming can.mild.1;
-    later = writes.later;
-    devices = omega (arith, writes.devices);
-    stopped = λ _. (λ h. cc h, λ h. let no' : Ok ok ≡ Err appending.Stopped = sym is ∙ writes.halts.1 h in cc no');
-  }
-  left (Err appending.Plant) is lab = record {
-    obeys = (own, writes.appends.trace, steps_by (Ok replies.Down) (λ w told_is x. down is w told_is x));
-    works = λ going. true_false going;
-    down = λ _. writes.cause is;
-    device = λ blaming. false_true blaming;
-    later = writes.later;
-    devices = omega (arith, writes.devices);
-    stopped = λ _. (λ h. cc h, λ h. let no' : Err appending.Plant ≡ Err appending.Stopped = sym is ∙ writes.halts.1 h in cc no');
-  }
-  left (Err appending.Stopped) is lab = record {
-    obeys = (own, writes.appends.trace, steps_by (Err faults.Stopped) (λ w told_is x. stops is w told_is x));
-    works = tt;
-    down = tt;
-    device = tt;
-    later = writes.later;
-    devices = omega (arith, writes.devices);
-    stopped = λ _. (λ h. writes.halts.0 is, λ h. refl);
-  }
+  left (Ok ok) is lab =
+      goes_on before now Judges c new own writes.appends.trace sound later reply can.mild.0 (done ok is lab) writes.limit (works_then ok is lab) (λ blaming. not_both _ blaming can.mild.1) (runs (Ok ok) is (λ h. cc h))
+  left (Err appending.Plant) is lab =
+      let ends = ends_as (Err appending.Plant) is in
+      let all : own ++ [] ≡ own = append-nil own in
+      let miss : has_miss own ≡ true = ended_missed (side_of c.journal) (gate_of c.journal) entry writes.appends.run writes.appends.more true (ap has_miss ends) in
+      closed_by before now Judges c new own writes.appends.trace sound later replies.Down refl refl Either closes_either
+      (part_so replies.Down [] (missed (append-nil writes.appends.more ∙ ends)) (failed (ap has_restart all ∙ quiet) (ap has_miss all ∙ miss) refl)) (writes.cause is) (runs (Err appending.Plant) is (λ h. cc h))
+  left (Err appending.Stopped) is lab =
+      halted before now Judges c new own writes.appends.trace sound later Either closes_either
+      (λ lab either a b. part_so replies.Stopped (Restarted a b ∷ []) (restarted a b (ap (λ l. l ++ Restarted a b ∷ []) (ends_as (Err appending.Stopped) is))) (stopped (record { front = own; a = a; b = b; is = refl; once = quiet }) refl) lab either) (λ _. writes.halts.0 is)
   left (Err (appending.Full long much)) is lab = absurd (writes.fits long much is)

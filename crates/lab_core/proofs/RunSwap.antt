@@ -132,7 +132,7 @@ module _ (p : Swap) (exp : List ℕ) (name : p.name ≡ exp) (u : LabState) (mid
   over_by Forth is _ =
       done (f.is_told.outcome_is ∙ ap (λ (l : Leg). Ended l) is) (f.is_told.committed ∙ ap (λ (l : Leg). commits f.at.swap l) is) (f.is_told.why ∙ ap why_of is)
       (f.is_told.inside ∙ ap (λ (l : Leg). inside_by f.at.swap (commits f.at.swap l)) is ∙ ap (λ (q : Swap). is_some q.new) f.swap_is)
-  over_by (Undo why) is _ = undone why (f.is_told.outcome_is ∙ ap (λ (l : Leg). Ended l) is) (f.is_told.committed ∙ ap (λ (l : Leg). commits f.at.swap l) is) (f.is_told.why ∙ ap why_of is)
+  over_by (Undo why) is _ = undone why (f.is_told.outcome_is ∙ ap (λ (l : Leg). Ended l) is) (f.is_told.committed ∙ ap (λ (l : Leg). commits f.at.swap l) is) (f.is_told.why ∙ ap why_of is) (f.is_told.inside ∙ ap (λ (l : Leg). inside_by f.at.swap (commits f.at.swap l)) is ∙ ap (λ (q : Swap). is_some q.old) f.swap_is)
   over_by Settling is none = absurd none
 
   pub told_over : IsOverBy p over f.outcome
@@ -163,7 +163,7 @@ module _ (p : Swap) (s u : LabState) (begin : Record) (move : Move) (gives : mov
 
   after_over : (exp : List ℕ) → p.name ≡ exp → (over : Over) (outcome : Outcome) → IsOverBy p over outcome → (steps : List Event) (v after : LabState) → whole.SwapSteps p s begin move steps v outcome → IsEndedBy u exp (finished.Ended over) after → v ≡ after
   after_over exp name over outcome (done is committed why inside) steps v after all ended = after_by exp name Forth over.committed committed steps v after (subst (λ o. whole.SwapSteps p s begin move steps v o) is all) ended
-  after_over exp name over outcome (undone trouble is committed why) steps v after all ended = after_by exp name (Undo trouble) over.committed committed steps v after (subst (λ o. whole.SwapSteps p s begin move steps v o) is all) ended
+  after_over exp name over outcome (undone trouble is committed why inside) steps v after all ended = after_by exp name (Undo trouble) over.committed committed steps v after (subst (λ o. whole.SwapSteps p s begin move steps v o) is all) ended
 
   after_stuck : (trouble : Trouble) (steps : List Event) (v after : LabState) → whole.SwapSteps p s begin move steps v (Stuck trouble) → after ≡ u → v ≡ after
   after_stuck trouble steps v after all same = let f = (begun_at steps v (Stuck trouble) (λ h. cc h) (λ h. cc h) all).1 in f.turn.3 ∙ sym same

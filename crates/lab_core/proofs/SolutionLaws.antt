@@ -22,7 +22,8 @@ use Rattle.script_text.specs.declared.command.Command.TheVariants as commands
 use Rattle.script_text.specs.declared.reply.Reply.{Reply}
 use Rattle.script_text.specs.declared.reply.Reply.TheVariants as replies
 use Rattle.script_text.specs.declared.reply.FailedEnd.TheVariants as ends
-use Rattle.script_text.specs.declared.reply.What.TheVariants as whats
+use Rattle.lab_base.specs.declared.what.What.TheVariants as whats
+use Rattle.swap_txn.specs.Troubles.{what_of}
 use Rattle.swap_turns.specs.Swaps.{Swap as SwapOf, Moves}
 use Rattle.swap_turns.proofs.Begins.{moves_in}
 use Rattle.swap_turns.specs.Legs.{Forth, Undo, Settling}
@@ -31,9 +32,9 @@ use Rattle.swap_turns.specs.Whole.{SwapSteps, begun, unwritten, stopped as stopp
 use Rattle.lab_core.specs.Breaks.{Breaks, stopped, failed, unanswered}
 use Rattle.lab_core.specs.Counts.{least_tags}
 use Rattle.lab_core.specs.Judge.{◌>>=◌, Task, Swap, Judged, judged_mapping, judged_swapin, need_kept, subject_name}
-use Rattle.lab_core.specs.LabSteps.{Does, IsDoneBy, does, no_memory, FromClosed, opened, not_opened, StepOf, IfSpace, Replies, Swaps, IsAnswered, is_told, unanswered as untold, has_space, done_reply, end_reply, what_of}
+use Rattle.lab_core.specs.LabSteps.{Does, IsDoneBy, does, no_memory, opened, not_opened, StepOf, IfSpace, Replies, Swaps, IsAnswered, is_told, unanswered as untold, has_space, done_reply, end_reply, undone_end}
 use Rattle.lab_core.specs.Sessions.{OpenSwap, Session, Closed, Open, Setting, After}
-use Rattle.lab_core.specs.Tells.{IsFeasibleFor, Hinders}
+use Rattle.lab_core.specs.Tells.{BeginsAt, IsFeasibleFor, Hinders, TellsBroken}
 use Rattle.lab_core.proofs.JudgeSwap.{in_reads}
 
 -- what is judged of it: it can be swapped in, or another reply refuses it
@@ -42,9 +43,9 @@ Refused s exp text = (refusal : Reply) × (judged_swapin s exp text ≡ Err refu
 
 module _ (s : LabState) (exp text : List ℕ) where
   by_violation : (lab : Lab) (e : Experiment) (mapping : Mapping) (o : Option (Broken × Subject)) → violation_beside lab (others e.name s.experiments) e e.wiring mapping ≡ o
-      → judged_mapping s lab e mapping ≡ (need_kept lab e o >>= λ feasible. Ok (Swap e.name (WayIn (canonical_solution lab e.wiring mapping) (least_tags lab s.experiments (length e.wiring.segments)))))
+      → judged_mapping s lab e mapping ≡ (need_kept lab e.name e.wiring o >>= λ feasible. Ok (Swap e.name (WayIn (canonical_solution lab e.wiring mapping) (least_tags lab s.experiments (length e.wiring.segments)))))
   by_violation lab e mapping o is =
-      ap (λ v. need_kept lab e v >>= λ feasible. let r : Result Task Reply = Ok (Swap e.name (WayIn (canonical_solution lab e.wiring mapping) (least_tags lab s.experiments (length e.wiring.segments)))) in r) is
+      ap (λ v. need_kept lab e.name e.wiring v >>= λ feasible. let r : Result Task Reply = Ok (Swap e.name (WayIn (canonical_solution lab e.wiring mapping) (least_tags lab s.experiments (length e.wiring.segments)))) in r) is
 
   by_rule : (lab : Lab) (e : Experiment) (mapping : Mapping) (o : Option (Broken × Subject)) → s.lab ≡ Some lab → find exp s.experiments ≡ Some e → e.phase ≡ Out → mapping_of_text lab e.wiring text ≡ Ok mapping
       → violation_beside lab (others e.name s.experiments) e e.wiring mapping ≡ o → IsFeasibleFor s exp text ⊎ Refused s exp text
@@ -72,44 +73,36 @@ module _ (s : LabState) (exp text : List ℕ) where
       → judged_swapin s exp text ≡ Ok (Swap e.name (WayIn (canonical_solution lab e.wiring mapping) (least_tags lab s.experiments (length e.wiring.segments))))
   feasible_judged lab e mapping is found out reads keeps = in_reads s exp text lab e mapping is found out reads ∙ by_violation lab e mapping None keeps
 
--- WHAT A STEP TOLD: what is judged was done; or nothing; or a stop, or a failure of the disk
-data Told (set : Setting) (s : LabState) (exp text : List ℕ) (own : List Event) (after : After) : Type 0 where
-  did : (opens : List OpenSwap) → Does set s opens (judged_swapin s exp text) own after → Told set s exp text own after
-  silent : after.reply ≡ None → Told set s exp text own after
-  broke : (reply : Reply) → after.reply ≡ Some reply → Hinders reply → (reply ≡ replies.In exp → ⊥) → Told set s exp text own after
+-- WHAT A STEP TOLD: what is judged in the lab at which its own part begins was done; or nothing; or a stop, or a failure of the disk
+data Told (set : Setting) (session : Session) (s : LabState) (exp text : List ℕ) (opening own : List Event) (after : After) : Type 0 where
+  did : (mid : LabState) → BeginsAt session s opening mid → (opens : List OpenSwap) → Does set mid opens (judged_swapin mid exp text) own after → Told set session s exp text opening own after
+  silent : after.reply ≡ None → Told set session s exp text opening own after
+  broke : (reply : Reply) → after.reply ≡ Some reply → TellsBroken reply → Told set session s exp text opening own after
 
-module _ (takes : Bool) (set : Setting) (exp text : List ℕ) (lines : ℕ) (own : List Event) (after : After) where
-  told_done : (s : LabState) (opens : List OpenSwap) → IsDoneBy (Judged s (commands.SwapinWith exp lines text)) set s opens own after → Told set s exp text own after
-  told_done s opens (does judgement is d) = did opens (subst (λ (j : Result Task Reply). Does set s opens j own after) is d)
-  told_done s opens (no_memory wants) = silent (ap (λ (a : After). a.reply) wants.after_is)
+module _ (takes : Bool) (set : Setting) (session : Session) (s : LabState) (exp text : List ℕ) (lines : ℕ) (opening own : List Event) (after : After) where
+  told_done : (mid : LabState) → BeginsAt session s opening mid → (opens : List OpenSwap) → IsDoneBy (Judged mid (commands.SwapinWith exp lines text)) set mid opens own after → Told set session s exp text opening own after
+  told_done mid begins opens (does judgement is d) = did mid begins opens (subst (λ (j : Result Task Reply). Does set mid opens j own after) is d)
+  told_done mid begins opens (no_memory wants) = silent (ap (λ (a : After). a.reply) wants.after_is)
 
-  told_broke : (s : LabState) (events : List Event) → Breaks events after.reply → Told set s exp text own after
-  told_broke s events (stopped ends is) = broke replies.Stopped is tt (λ h. cc h)
-  told_broke s events (failed no' miss is) = broke replies.Down is tt (λ h. cc h)
-  told_broke s events (unanswered none) = silent none
+  told_broke : (events : List Event) → Breaks events after.reply → Told set session s exp text opening own after
+  told_broke events (stopped ends is) = broke replies.Stopped is tt
+  told_broke events (failed no' miss is) = broke replies.Down is tt
+  told_broke events (unanswered none) = silent none
 
-  told_opened : (s : LabState) (opening : List Event) → FromClosed (λ lab. Judged lab (commands.SwapinWith exp lines text)) set s opening own after → Told set s exp text own after
-  told_opened s opening (opened mid opens d) = told_done s [] (subst (λ (m : LabState). IsDoneBy (Judged m (commands.SwapinWith exp lines text)) set m [] own after) opens.settles.same d)
-  told_opened s opening (not_opened breaks) = told_broke s opening breaks.breaks
-
-  told_by : (s : LabState) (session : Session) (opening : List Event) → StepOf None (λ lab. Judged lab (commands.SwapinWith exp lines text)) takes set s session opening own after → Told set s exp text own after
-  told_by s Closed opening step = told_opened s opening step
-  told_by s (Open opens) opening step = told_done s opens step.1
+told_by : (takes : Bool) (set : Setting) (session : Session) (s : LabState) (exp text : List ℕ) (lines : ℕ) (opening own : List Event) (after : After) → StepOf None (λ lab. Judged lab (commands.SwapinWith exp lines text)) takes set s session opening own after
+    → Told set session s exp text opening own after
+told_by takes set Closed s exp text lines opening own after (opened mid opens d) = told_done takes set Closed s exp text lines opening own after mid opens [] d
+told_by takes set Closed s exp text lines opening own after (not_opened breaks) = told_broke takes set Closed s exp text lines opening own after opening breaks.breaks
+told_by takes set (Open opens) s exp text lines opening own after step = told_done takes set (Open opens) s exp text lines opening own after s refl opens step.1
 
 -- IN ONLY where it is feasible
-pub in_only : (takes : Bool) (set : Setting) (s : LabState) (session : Session) (exp text : List ℕ) (lines : ℕ) (opening own : List Event) (after : After) → StepOf None (λ lab. Judged lab (commands.SwapinWith exp lines text)) takes set s session opening own after
-    → after.reply ≡ Some (replies.In exp) → IsFeasibleFor s exp text
-in_only takes set s session exp text lines opening own after step is = elim (by_lab s exp text s.lab refl) [
+only : (set : Setting) (s : LabState) (opens : List OpenSwap) (exp text : List ℕ) (own : List Event) (after : After) → Does set s opens (judged_swapin s exp text) own after → after.reply ≡ Some (replies.In exp) → IsFeasibleFor s exp text
+only set s opens exp text own after d is = elim (by_lab s exp text s.lab refl) [
   | inl feasible ↦ feasible
-  | inr refused ↦ absurd (by refused (told_by takes set exp text lines own after s session opening step))
+  | inr refused ↦
+      let replies_so : Replies s opens refused.0 own after = subst (λ (j : Result Task Reply). Does set s opens j own after) refused.1 d in
+      absurd (refused.2 (some_is refused.0 (replies.In exp) (sym (ap (λ (a : After). a.reply) replies_so.after_is) ∙ is)))
 ]
-  where
-    by : Refused s exp text → Told set s exp text own after → ⊥
-    by refused (did opens d) =
-        let replies_so : Replies s opens refused.0 own after = subst (λ (j : Result Task Reply). Does set s opens j own after) refused.1 d in
-        refused.2 (some_is refused.0 (replies.In exp) (sym (ap (λ (a : After). a.reply) replies_so.after_is) ∙ is))
-    by refused (silent none) = let both : None ≡ Some (replies.In exp) = sym none ∙ is in cc both
-    by refused (broke reply told hinders other) = other (some_is reply (replies.In exp) (sym told ∙ is))
 
 -- IN, unless something hinders it
 module _ (s : LabState) (exp text : List ℕ) (f : IsFeasibleFor s exp text) (own : List Event) (after : After) (reply : Reply) (is : after.reply ≡ Some reply) where
@@ -149,7 +142,7 @@ module _ (s : LabState) (exp text : List ℕ) (f : IsFeasibleFor s exp text) (ow
     by_outcome (Ended Forth) (begun b) told = let n = new_is b.state b.begins.moves in fine_as (done_reply d.swap.name d.swap.new) told (inl (done_in d.swap n.0 d.name n.1))
     by_outcome (Ended Forth) (unwritten b other) told = absurd (cc other)
     by_outcome (Ended Forth) (stopped_so b other) told = absurd (cc other)
-    by_outcome (Ended (Undo why)) steps told = fine_as (replies.Failed d.swap.name ends.Out (what_of why)) told (inr tt)
+    by_outcome (Ended (Undo why)) steps told = fine_as (replies.Failed d.swap.name (undone_end d.swap.old) (what_of why)) told (inr tt)
     by_outcome (Ended Settling) steps told = let both : None ≡ Some reply = sym told ∙ is in absurd (cc both)
     by_outcome (Stuck why) steps told = fine_as (replies.Failed d.swap.name ends.Stuck (what_of why)) told (inr tt)
     by_outcome Unwritten steps told = fine_as (replies.Failed d.swap.name ends.Stuck whats.Journal) told (inr tt)
@@ -165,12 +158,32 @@ module _ (s : LabState) (exp text : List ℕ) (f : IsFeasibleFor s exp text) (ow
   by_space true length opens d = by_answer opens d d.answered
   by_space false length opens d = fine_as (replies.FullJournal length) (ap (λ (a : After). a.reply) d.after_is) (inr tt)
 
-  by_told : (set : Setting) → Told set s exp text own after → Fine reply
-  by_told set (did opens d) = by_space (has_space set (Begin f.experiment.name (WayIn map tags))) set.length opens
+  by_done : (set : Setting) (opens : List OpenSwap) → Does set s opens (judged_swapin s exp text) own after → Fine reply
+  by_done set opens d = by_space (has_space set (Begin f.experiment.name (WayIn map tags))) set.length opens
       (subst (λ (j : Result Task Reply). Does set s opens j own after) (feasible_judged s exp text f.lab f.experiment f.mapping f.is_lab f.found f.out f.reads f.keeps) d)
-  by_told set (silent none) = let both : None ≡ Some reply = sym none ∙ is in absurd (cc both)
-  by_told set (broke told told_is hinders other) = fine_as told told_is (inr hinders)
+
+-- THE ANSWER TO A SUPPLIED SOLUTION, both ways from one lab
+pub in_both : (takes : Bool) (set : Setting) (s : LabState) (session : Session) (exp text : List ℕ) (lines : ℕ) (opening own : List Event) (after : After) (reply : Reply) → StepOf None (λ lab. Judged lab (commands.SwapinWith exp lines text)) takes set s session opening own after
+    → after.reply ≡ Some reply
+    → TellsBroken reply ⊎ ((mid : LabState) × BeginsAt session s opening mid × (reply ≡ replies.In exp → IsFeasibleFor mid exp text) × (IsFeasibleFor mid exp text → (reply ≡ replies.In exp) ⊎ Hinders reply))
+in_both takes set s session exp text lines opening own after reply step is = by (told_by takes set session s exp text lines opening own after step)
+  where
+    by : Told set session s exp text opening own after
+        → TellsBroken reply ⊎ ((mid : LabState) × BeginsAt session s opening mid × (reply ≡ replies.In exp → IsFeasibleFor mid exp text) × (IsFeasibleFor mid exp text → (reply ≡ replies.In exp) ⊎ Hinders reply))
+    by (did mid begins opens d) = inr (mid, begins, λ inside. only set mid opens exp text own after d (is ∙ ap (λ (r : Reply). Some r) inside), λ f. by_done mid exp text f own after reply is set opens d)
+    by (silent none) = let both : None ≡ Some reply = sym none ∙ is in absurd (cc both)
+    by (broke told told_is breaks) = inl (subst TellsBroken (some_is told reply (sym told_is ∙ is)) breaks)
+
+pub in_only : (takes : Bool) (set : Setting) (s : LabState) (session : Session) (exp text : List ℕ) (lines : ℕ) (opening own : List Event) (after : After) → StepOf None (λ lab. Judged lab (commands.SwapinWith exp lines text)) takes set s session opening own after
+    → after.reply ≡ Some (replies.In exp) → (mid : LabState) × BeginsAt session s opening mid × IsFeasibleFor mid exp text
+in_only takes set s session exp text lines opening own after step is = elim (in_both takes set s session exp text lines opening own after (replies.In exp) step is) [
+  | inl breaks ↦ absurd breaks
+  | inr both ↦ (both.0, both.1, both.2 refl)
+]
 
 pub in_unless : (takes : Bool) (set : Setting) (s : LabState) (session : Session) (exp text : List ℕ) (lines : ℕ) (opening own : List Event) (after : After) (reply : Reply) → StepOf None (λ lab. Judged lab (commands.SwapinWith exp lines text)) takes set s session opening own after
-    → after.reply ≡ Some reply → IsFeasibleFor s exp text → (reply ≡ replies.In exp) ⊎ Hinders reply
-in_unless takes set s session exp text lines opening own after reply step is f = by_told s exp text f own after reply is set (told_by takes set exp text lines own after s session opening step)
+    → after.reply ≡ Some reply → TellsBroken reply ⊎ ((mid : LabState) × BeginsAt session s opening mid × (IsFeasibleFor mid exp text → (reply ≡ replies.In exp) ⊎ Hinders reply))
+in_unless takes set s session exp text lines opening own after reply step is = elim (in_both takes set s session exp text lines opening own after reply step is) [
+  | inl breaks ↦ inl breaks
+  | inr both ↦ inr (both.0, both.1, both.3)
+]

@@ -1,24 +1,29 @@
 -- Laws of the lab step.
-use Rattle.std.proofs.Common.{◌≡◌, ◌≢◌, inr, ℕ, ◌||◌, Bool, true, false, is_some, List, [], ◌∷◌, ◌++◌, Option, Some, None, Result, Ok, Err, refl, sym, ap, ◌∙◌, subst}
+use Rattle.std.proofs.Common.{◌≡◌, ◌≢◌, ◌⊎◌, inl, inr, ℕ, ◌||◌, Bool, true, false, is_none, is_some, List, [], ◌∷◌, ◌++◌, Option, Some, None, Result, Ok, Err, refl, sym, ap, ◌∙◌, subst}
+use Rattle.std.proofs.lemmas.List.{append-nil}
 use Rattle.plant.specs.Events.{Event, Restarted}
 use Rattle.plant.specs.declared.drill.Drill.{Drill}
 use Rattle.journal_rec.specs.declared.record.Record.{Record}
 use Rattle.journal_rec.specs.declared.record.Record.TheVariants.{Begin}
 use Rattle.journal_rec.specs.declared.record.Way.{Way}
+use Rattle.lab_base.specs.declared.what.What.TheVariants as whats
 use Rattle.lab_model.specs.Courses.{Trouble, Device, Late, Unlawful}
 use Rattle.virt_topo.specs.declared.mapping.Mapped.{Mapped}
 use Rattle.records_model.specs.Labs.{LabState, Move, Says, Commits, Aborts, moved}
 use Rattle.records_model.proofs.Finding.{some_is}
 use Rattle.records_model.proofs.LabLaws.{says_once}
 use Rattle.journal_runs.specs.Pieces.{has_restart, has_miss, is_restart}
+use Rattle.journal_runs.proofs.Endings.{ended_quiet}
+use Rattle.journal_runs.proofs.Quiet.{shows}
 use Rattle.lab_state.specs.Texts.{the_texts}
 use Rattle.lab_state.proofs.Canonical.{texts_once}
 use Rattle.script_text.specs.Drills.{drill_of}
 use Rattle.script_text.specs.declared.command.Command.{Command}
+use Rattle.script_text.specs.declared.command.Command.TheVariants as commands
 use Rattle.script_text.specs.declared.reply.Reply.{Reply}
 use Rattle.script_text.specs.declared.reply.FailedEnd.TheVariants as ends
 use Rattle.script_text.specs.declared.reply.Reply.TheVariants.{Failed, FullJournal, Down, Planned, NoDrill, Stopped as StoppedReply}
-use Rattle.script_text.specs.declared.reply.What.TheVariants as whats
+use Rattle.swap_txn.specs.Troubles.{what_of}
 use Rattle.swap_turns.specs.Swaps.{Swap as SwapOf}
 use Rattle.swap_turns.specs.Beginning.{opened as opened_swap}
 use Rattle.swap_turns.specs.Finishing.{Onward}
@@ -27,16 +32,19 @@ use Rattle.swap_turns.specs.Running.{OpenSwap as TurnsOpen}
 use Rattle.swap_turns.specs.Turning.{Outcome, More, TurnsBack, Ended, Stuck, Unwritten, Stopped as Halted}
 use Rattle.swap_turns.specs.Whole.{SwapSteps, begun, unwritten, stopped as stopped_so}
 use Rattle.swap_turns.proofs.Finishing.{onward_swap}
-use Rattle.lab_core.specs.Judge.{Task, Tell, Append, Swap, Judged}
-use Rattle.lab_core.specs.LabSteps.{Replies, WantsMemory, AppendEnds, whole, broken, Appends, done_reply, end_reply, what_of, IsAnswered, is_told, unanswered as untold, Swaps, has_space, IfSpace, Does, IsDoneBy, does, no_memory, BreaksOpening, FromClosed, opened, not_opened, Drills, is_planned, is_refused, wants_memory, StepOf, IsThis}
-use Rattle.lab_core.specs.Breaks.{Breaks, stopped, failed, unanswered}
+use Rattle.swap_turns.proofs.Showing.{settles_show, swap_shows}
+use Rattle.lab_core.specs.Judge.{Task, Tell, Append, Swap, Recover, Judged}
+use Rattle.lab_core.specs.LabSteps.{Replies, WantsMemory, AppendEnds, whole, broken, Appends, done_reply, undone_end, end_reply, IsAnswered, is_told, unanswered as untold, Swaps, has_space, IfSpace, Does, IsDoneBy, does, no_memory, FromClosed, opened, not_opened, Drills, is_planned, is_refused, wants_memory, StepOf, IsThis}
+use Rattle.lab_core.specs.Breaks.{Breaks, StartsBehind, stopped, failed, unanswered}
+use Rattle.lab_core.specs.Recovery.{BreaksOpening, OpensInPart, reading, settling, Recovers, settled, broken_off, names_of}
 use Rattle.lab_core.specs.Sessions.{OpenSwap, Session, Closed, Open, Setting, After}
-use Rattle.lab_core.specs.Tells.{name_of, IsNoSwap, GoBy, TellsLab}
-use Rattle.lab_core.proofs.Judgements.{IsTaskApart}
-use Rattle.lab_core.proofs.Others.{Stays, same_stays, either_stays, swap_stays}
+use Rattle.lab_core.specs.Tells.{name_of, BeginsAt, GoBy, IsAtRest, IsNoSwap, TellsBroken, TellsLab, busy_of, is_stopped, settles_all}
+use Rattle.lab_core.proofs.Judgements.{IsTaskApart, task_apart}
+use Rattle.lab_core.proofs.Others.{Stays, both_stay, either_stays, move_stays, rests_on, same_stays, settles_stay, some_stay, swap_stays}
+use Rattle.lab_core.proofs.OuterReplies.{judged_so, no_stop_of, outer_by}
 
 -- where none is told
-none_told : {X : Type 0} (told : Option Reply) (reply : Reply) → told ≡ None → told ≡ Some reply → X
+pub none_told : {X : Type 0} (told : Option Reply) (reply : Reply) → told ≡ None → told ≡ Some reply → X
 none_told told reply none is = let both : None ≡ Some reply = sym none ∙ is in absurd (cc both)
 
 -- WHAT A SWAP'S REPLY TELLS
@@ -52,8 +60,14 @@ end_tells p s after exp entry move steps (Ended Forth) reply name is (begun b) =
     by : (new : Option Mapped) → TellsLab s exp move (done_reply p.name new) after
     by None = (name, go)
     by (Some m) = (name, go)
-end_tells p s after exp entry move steps (Ended (Undo why)) reply name is (begun b) = subst (λ (r : Reply). TellsLab s exp move r after) (some_is (Failed p.name ends.Out (what_of why)) reply is)
-    (name, (b.state, b.begins.moves, ap (λ (n : List ℕ). moved b.state (Aborts n)) (sym (ap (λ (q : SwapOf). q.name) (onward_at p b.state b.finishes.front b.finishes.at b.finishes.onward) ∙ name)) ∙ b.finishes.turn.0.1.moves))
+end_tells p s after exp entry move steps (Ended (Undo why)) reply name is (begun b) = subst (λ (r : Reply). TellsLab s exp move r after) (some_is (Failed p.name (undone_end p.old) (what_of why)) reply is) (by p.old)
+  where
+    go : GoBy s move (Aborts exp) after
+    go = (b.state, b.begins.moves, ap (λ (n : List ℕ). moved b.state (Aborts n)) (sym (ap (λ (q : SwapOf). q.name) (onward_at p b.state b.finishes.front b.finishes.at b.finishes.onward) ∙ name)) ∙ b.finishes.turn.0.1.moves)
+
+    by : (old : Option Mapped) → TellsLab s exp move (Failed p.name (undone_end old) (what_of why)) after
+    by None = (name, go)
+    by (Some m) = (name, go)
 end_tells p s after exp entry move steps (Stuck trouble) reply name is (begun b) = subst (λ (r : Reply). TellsLab s exp move r after) (some_is (Failed p.name ends.Stuck (what_of trouble)) reply is) (by trouble)
   where
     stays : moved s move ≡ Some after
@@ -71,27 +85,30 @@ end_tells p s after exp entry move steps More reply name is (begun b) = let none
 end_tells p s after exp entry move steps (TurnsBack why) reply name is (begun b) = let none : None ≡ Some reply = is in absurd (cc none)
 end_tells p s after exp entry move steps (Ended Settling) reply name is (begun b) = let none : None ≡ Some reply = is in absurd (cc none)
 
--- WHAT A STEP WAS, by its judgement: that was done from a lab that is the first one yet
-pub data Was (judgement : Result Task Reply) (takes : Bool) (set : Setting) (s : LabState) (session : Session) (opening own : List Event) (after : After) : Type 0 where
-  done : (opens : List OpenSwap) → Does set s opens judgement own after → Was judgement takes set s session opening own after
-  wanting : WantsMemory s own after → Was judgement takes set s session opening own after
-  broke : BreaksOpening s opening own after → Was judgement takes set s session opening own after
-  drilled : Drills takes s session own after → Was judgement takes set s session opening own after
+-- WHERE THE COMMAND'S OWN PART BEGINS, with those open swaps
+pub record Begins (drill : Option Drill) (session : Session) (s : LabState) (opening : List Event) (mid : LabState) (opens : List OpenSwap) : Type 0 where
+  pub no_drill : drill ≡ None
+  pub at : BeginsAt session s opening mid
+  pub quiet : has_restart opening ≡ false
+  pub busy : names_of opens ≡ busy_of session
 
-module _ (judgement : Result Task Reply) (takes : Bool) (set : Setting) (s : LabState) (session : Session) (command : Command) (opening own : List Event) (after : After) where
-  was_done : (opens : List OpenSwap) → IsDoneBy (IsThis judgement command s) set s opens own after → Was judgement takes set s session opening own after
-  was_done opens (does other is d) = done opens (subst (λ (j : Result Task Reply). Does set s opens j own after) is.0 d)
-  was_done opens (no_memory wants) = wanting wants
+-- WHAT A STEP WAS, by its judgement: that was done from there, or memory was wanting; or the opening broke off; or it was a drill
+pub data Was (drill : Option Drill) (judgement : Result Task Reply) (takes : Bool) (set : Setting) (s : LabState) (session : Session) (command : Command) (opening own : List Event) (after : After) : Type 0 where
+  done : (mid : LabState) (opens : List OpenSwap) → Begins drill session s opening mid opens → Judged mid command judgement → Does set mid opens judgement own after → Was drill judgement takes set s session command opening own after
+  wanting : (mid : LabState) (opens : List OpenSwap) → Begins drill session s opening mid opens → WantsMemory mid own after → Was drill judgement takes set s session command opening own after
+  broke : drill ≡ None → session ≡ Closed → BreaksOpening s opening own after → Was drill judgement takes set s session command opening own after
+  drilled : is_some drill ≡ true → opening ≡ [] → Drills takes s session own after → Was drill judgement takes set s session command opening own after
 
-  was_opened : FromClosed (IsThis judgement command) set s opening own after → Was judgement takes set s session opening own after
-  was_opened (opened mid opens d) = was_done [] (subst (λ (m : LabState). IsDoneBy (IsThis judgement command m) set m [] own after) opens.settles.same d)
-  was_opened (not_opened breaks) = broke breaks
+module _ (judgement : Result Task Reply) (takes : Bool) (set : Setting) (s : LabState) (command : Command) (opening own : List Event) (after : After) where
+  was_done : (session : Session) (mid : LabState) (opens : List OpenSwap) → Begins None session s opening mid opens → IsDoneBy (IsThis judgement command mid) set mid opens own after → Was None judgement takes set s session command opening own after
+  was_done session mid opens begins (does other is d) = done mid opens begins (subst (λ (j : Result Task Reply). Judged mid command j) is.0 is.1) (subst (λ (j : Result Task Reply). Does set mid opens j own after) is.0 d)
+  was_done session mid opens begins (no_memory wants) = wanting mid opens begins wants
 
-pub was : (o : Option Drill) (judgement : Result Task Reply) (takes : Bool) (set : Setting) (s : LabState) (session : Session) (command : Command) (opening own : List Event) (after : After) → StepOf o (IsThis judgement command) takes set s session opening own after
-    → Was judgement takes set s session opening own after
-was (Some drill) judgement takes set s session command opening own after step = drilled step.1
-was None judgement takes set s Closed command opening own after step = was_opened judgement takes set s Closed command opening own after step
-was None judgement takes set s (Open opens) command opening own after step = was_done judgement takes set s (Open opens) command opening own after opens step.1
+  pub was : (drill : Option Drill) (session : Session) → StepOf drill (IsThis judgement command) takes set s session opening own after → Was drill judgement takes set s session command opening own after
+  was (Some drill) session step = drilled refl step.0 step.1
+  was None Closed (opened mid opens d) = was_done Closed mid [] (record { no_drill = refl; at = opens; quiet = opens.no_restart; busy = refl }) d
+  was None Closed (not_opened breaks) = broke refl refl breaks
+  was None (Open opens) step = was_done (Open opens) s opens (record { no_drill = refl; at = refl; quiet = ap has_restart step.0; busy = refl }) step.1
 
 -- A STEP IS BY ONE JUDGEMENT
 one_done : (set : Setting) (s : LabState) (opens : List OpenSwap) (command : Command) (own : List Event) (after : After) → IsDoneBy (λ j. Judged s command j) set s opens own after → (judgement : Result Task Reply) × IsDoneBy (IsThis judgement command s) set s opens own after
@@ -119,17 +136,18 @@ drills_leave None takes set s session Judges opening own after is step = absurd 
 drills_leave (Some drill) takes set s session Judges opening own after is step = let both = drill_is takes s session own after step.1 in (step.0, both.0, both.1)
 
 -- a refusal, and a telling, have no steps
-pub no_steps_refused : (reply : Reply) (takes : Bool) (set : Setting) (s : LabState) (session : Session) (opening own : List Event) (after : After) → Was (Err reply) takes set s session opening own after → own ≡ []
-no_steps_refused reply takes set s session opening own after (done opens d) = d.nothing
-no_steps_refused reply takes set s session opening own after (wanting wants) = wants.nothing
-no_steps_refused reply takes set s session opening own after (broke breaks) = breaks.nothing
-no_steps_refused reply takes set s session opening own after (drilled drills) = (drill_is takes s session own after drills).0
+module _ (drill : Option Drill) (reply : Reply) (takes : Bool) (set : Setting) (s : LabState) (session : Session) (command : Command) (opening own : List Event) (after : After) where
+  pub no_steps_refused : Was drill (Err reply) takes set s session command opening own after → own ≡ []
+  no_steps_refused (done mid opens begins judged d) = d.nothing
+  no_steps_refused (wanting mid opens begins wants) = wants.nothing
+  no_steps_refused (broke no' closed breaks) = breaks.nothing
+  no_steps_refused (drilled some none drills) = (drill_is takes s session own after drills).0
 
-pub no_steps_told : (reply : Reply) (takes : Bool) (set : Setting) (s : LabState) (session : Session) (opening own : List Event) (after : After) → Was (Ok (Tell reply)) takes set s session opening own after → own ≡ []
-no_steps_told reply takes set s session opening own after (done opens d) = d.nothing
-no_steps_told reply takes set s session opening own after (wanting wants) = wants.nothing
-no_steps_told reply takes set s session opening own after (broke breaks) = breaks.nothing
-no_steps_told reply takes set s session opening own after (drilled drills) = (drill_is takes s session own after drills).0
+  pub no_steps_told : Was drill (Ok (Tell reply)) takes set s session command opening own after → own ≡ []
+  no_steps_told (done mid opens begins judged d) = d.nothing
+  no_steps_told (wanting mid opens begins wants) = wants.nothing
+  no_steps_told (broke no' closed breaks) = breaks.nothing
+  no_steps_told (drilled some none drills) = (drill_is takes s session own after drills).0
 
 -- ONE REPLY AND ONE LAB, where nothing failed and nothing stopped
 abbrev pub Went : List Event → Type 0
@@ -178,6 +196,7 @@ module _ (s : LabState) (opens : List OpenSwap) (own : List Event) (reply other 
       by true one two = appends_once entry told went one two
       by false one two = replies_once (FullJournal set.length) one two
   does_once set (Ok (Swap exp way)) no_swap went one two = absurd no_swap
+  does_once set (Ok Recover) no_swap went one two = absurd no_swap
 
   drills_once : (takes : Bool) → Drills takes s (Open opens) own after → Drills takes s (Open opens) own later → (reply ≡ other) × (after.lab ≡ later.lab)
   drills_once takes one two =
@@ -208,81 +227,157 @@ module _ (s : LabState) (opens : List OpenSwap) (own : List Event) (reply other 
   step_once (Some drill) takes set command judgement no_swap went one two = drills_once takes one.1 two.1
 
 -- THE REPLY TO A SWAP
-module _ (exp : List ℕ) (way : Way) (s : LabState) (own : List Event) (after : After) (move : Move) (reply : Reply) (says : Says the_texts s (Begin exp way) move) (is : after.reply ≡ Some reply) where
-  tells_as : (told : Reply) → after.reply ≡ Some told → TellsLab s exp move told after.lab → TellsLab s exp move reply after.lab
-  tells_as told told_is h = subst (λ (r : Reply). TellsLab s exp move r after.lab) (some_is told reply (sym told_is ∙ is)) h
+module _ (exp : List ℕ) (way : Way) (own : List Event) (after : After) (reply : Reply) (is : after.reply ≡ Some reply) where
+  module _ (s : LabState) (move : Move) (says : Says the_texts s (Begin exp way) move) where
+    swaps_tell : (opens : List OpenSwap) → Swaps s opens exp (Begin exp way) own after → TellsLab s exp move reply after.lab
+    swaps_tell opens d = by d.answered
+      where
+        same : d.move ≡ move
+        same = says_once the_texts s (Begin exp way) d.move move texts_once d.says says
 
-  swaps_tell : (opens : List OpenSwap) → Swaps s opens exp (Begin exp way) own after → TellsLab s exp move reply after.lab
-  swaps_tell opens d = by d.answered
-    where
-      same : d.move ≡ move
-      same = says_once the_texts s (Begin exp way) d.move move texts_once d.says says
+        by : IsAnswered opens d.swap d.outcome d.behind after → TellsLab s exp move reply after.lab
+        by (is_told starts told session) =
+            subst (λ (m : Move). TellsLab s exp m reply after.lab) same (end_tells d.swap s after.lab exp (Begin exp way) d.move d.steps d.outcome reply d.name (sym told ∙ is) d.ends)
+        by (untold starts none session) = none_told after.reply reply none is
 
-      by : IsAnswered opens d.swap d.outcome d.behind after → TellsLab s exp move reply after.lab
-      by (is_told starts told session) =
-          subst (λ (m : Move). TellsLab s exp m reply after.lab) same (end_tells d.swap s after.lab exp (Begin exp way) d.move d.steps d.outcome reply d.name (sym told ∙ is) d.ends)
-      by (untold starts none session) = none_told after.reply reply none is
+    does_tell : (b : Bool) (length : ℕ) (opens : List OpenSwap) → IfSpace b length s opens (Swaps s opens exp (Begin exp way) own after) own after → TellsLab s exp move reply after.lab
+    does_tell true length opens d = swaps_tell opens d
+    does_tell false length opens d =
+        subst (λ (r : Reply). TellsLab s exp move r after.lab) (some_is (FullJournal length) reply (sym (ap (λ (a : After). a.reply) d.after_is) ∙ is)) (ap (λ (a : After). a.lab) d.after_is)
 
-  full_tells : (opens : List OpenSwap) (length : ℕ) → Replies s opens (FullJournal length) own after → TellsLab s exp move reply after.lab
-  full_tells opens length d = tells_as (FullJournal length) (ap (λ (a : After). a.reply) d.after_is) (ap (λ (a : After). a.lab) d.after_is)
-
-  breaks_tell : (events : List Event) → Breaks events after.reply → TellsLab s exp move reply after.lab
-  breaks_tell events (stopped ends replied) = tells_as StoppedReply replied tt
-  breaks_tell events (failed no' miss replied) = tells_as Down replied tt
+  breaks_tell : (events : List Event) → Breaks events after.reply → TellsBroken reply
+  breaks_tell events (stopped ends told) = subst TellsBroken (some_is StoppedReply reply (sym told ∙ is)) tt
+  breaks_tell events (failed no' miss told) = subst TellsBroken (some_is Down reply (sym told ∙ is)) tt
   breaks_tell events (unanswered none) = none_told after.reply reply none is
 
-  drill_tells : (takes : Bool) (session : Session) → Drills takes s session own after → TellsLab s exp move reply after.lab
-  drill_tells takes session (is_planned yes' none a) = tells_as Planned (ap (λ (v : After). v.reply) a) tt
-  drill_tells takes session (is_refused no' none a) = tells_as NoDrill (ap (λ (v : After). v.reply) a) tt
-  drill_tells takes session (wants_memory wants) = none_told after.reply reply (ap (λ (v : After). v.reply) wants.after_is) is
+  pub swap_tells : (drill : Option Drill) (takes : Bool) (set : Setting) (s : LabState) (session : Session) (command : Command) (opening : List Event) → drill ≡ None → Was drill (Ok (Swap exp way)) takes set s session command opening own after
+      → TellsBroken reply ⊎ ((mid : LabState) × BeginsAt session s opening mid × ((move : Move) → Says the_texts mid (Begin exp way) move → TellsLab mid exp move reply after.lab))
+  swap_tells drill takes set s session command opening no' (done mid opens begins judged d) = inr (mid, begins.at, λ move says. does_tell mid move says (has_space set (Begin exp way)) set.length opens d)
+  swap_tells drill takes set s session command opening no' (wanting mid opens begins wants) = none_told after.reply reply (ap (λ (v : After). v.reply) wants.after_is) is
+  swap_tells drill takes set s session command opening no' (broke none closed breaks) = inl (breaks_tell opening breaks.breaks)
+  swap_tells drill takes set s session command opening no' (drilled some none drills) = let both : false ≡ true = ap is_some (sym no') ∙ some in absurd (cc both)
 
-  pub swap_tells : (takes : Bool) (set : Setting) (session : Session) (opening : List Event) → Was (Ok (Swap exp way)) takes set s session opening own after → TellsLab s exp move reply after.lab
-  swap_tells takes set session opening (done opens d) = by (has_space set (Begin exp way)) d
+-- THE PLANT STOPPED exactly where `stopped` is told
+nothing_behind : (steps behind : List Event) → has_restart steps ≡ false → behind ≡ [] → has_restart (steps ++ behind) ≡ false
+nothing_behind steps behind quiet none = ap (λ l. has_restart (steps ++ l)) none ∙ ap has_restart (append-nil steps) ∙ quiet
+
+done_calm : (exp : List ℕ) (o : Option Mapped) → is_stopped (done_reply exp o) ≡ false
+done_calm exp None = refl
+done_calm exp (Some m) = refl
+
+end_stops : (p : SwapOf) (outcome : Outcome) (steps behind : List Event) (reply : Reply) → has_restart steps ≡ false → StartsBehind outcome behind → end_reply p outcome ≡ Some reply → has_restart (steps ++ behind) ≡ is_stopped reply
+end_stops p Halted steps behind reply quiet (a, b, starts) is = ap (λ l. has_restart (steps ++ l)) starts ∙ has_started steps a b ∙ ap is_stopped (some_is StoppedReply reply is)
+end_stops p More steps behind reply quiet starts is = let none : None ≡ Some reply = is in absurd (cc none)
+end_stops p (TurnsBack why) steps behind reply quiet starts is = let none : None ≡ Some reply = is in absurd (cc none)
+end_stops p (Ended Settling) steps behind reply quiet starts is = let none : None ≡ Some reply = is in absurd (cc none)
+end_stops p (Ended Forth) steps behind reply quiet starts is = nothing_behind steps behind quiet starts ∙ sym (done_calm p.name p.new) ∙ ap is_stopped (some_is (done_reply p.name p.new) reply is)
+end_stops p (Ended (Undo why)) steps behind reply quiet starts is = nothing_behind steps behind quiet starts ∙ ap is_stopped (some_is (Failed p.name (undone_end p.old) (what_of why)) reply is)
+end_stops p (Stuck why) steps behind reply quiet starts is = nothing_behind steps behind quiet starts ∙ ap is_stopped (some_is (Failed p.name ends.Stuck (what_of why)) reply is)
+end_stops p Unwritten steps behind reply quiet starts is = nothing_behind steps behind quiet starts ∙ ap is_stopped (some_is (Failed p.name ends.Stuck whats.Journal) reply is)
+
+module _ (own : List Event) (after : After) (reply : Reply) (is : after.reply ≡ Some reply) where
+  breaks_stop : (events : List Event) → Breaks events after.reply → has_restart events ≡ is_stopped reply
+  breaks_stop events (stopped ends told) = ap has_restart ends.is ∙ has_started ends.front ends.a ends.b ∙ ap is_stopped (some_is StoppedReply reply (sym told ∙ is))
+  breaks_stop events (failed no' miss told) = no' ∙ ap is_stopped (some_is Down reply (sym told ∙ is))
+  breaks_stop events (unanswered none) = none_told after.reply reply none is
+
+  calm : (told : Reply) → is_stopped told ≡ false → after.reply ≡ Some told → has_restart own ≡ false → has_restart own ≡ is_stopped reply
+  calm told goes told_is quiet = quiet ∙ sym goes ∙ ap is_stopped (some_is told reply (sym told_is ∙ is))
+
+  replies_stop : (s : LabState) (opens : List OpenSwap) (told : Reply) → is_stopped told ≡ false → Replies s opens told own after → has_restart own ≡ is_stopped reply
+  replies_stop s opens told goes d = calm told goes (ap (λ (a : After). a.reply) d.after_is) (ap has_restart d.nothing)
+
+  space_stop : (s : LabState) (opens : List OpenSwap) (b : Bool) (length : ℕ) (Done : Type 0) → (Done → has_restart own ≡ is_stopped reply) → IfSpace b length s opens Done own after → has_restart own ≡ is_stopped reply
+  space_stop s opens true length Done each d = each d
+  space_stop s opens false length Done each d = replies_stop s opens (FullJournal length) refl d
+
+  append_stops : (s : LabState) (opens : List OpenSwap) (entry : Record) (told : Reply) → is_stopped told ≡ false → Appends s opens entry told own after → has_restart own ≡ is_stopped reply
+  append_stops s opens entry told goes d = by d.ends
     where
-      by : (b : Bool) → IfSpace b set.length s opens (Swaps s opens exp (Begin exp way) own after) own after → TellsLab s exp move reply after.lab
-      by true d = swaps_tell opens d
-      by false d = full_tells opens set.length d
-  swap_tells takes set session opening (wanting wants) = none_told after.reply reply (ap (λ (v : After). v.reply) wants.after_is) is
-  swap_tells takes set session opening (broke breaks) = breaks_tell opening breaks.breaks
-  swap_tells takes set session opening (drilled drills) = drill_tells takes session drills
+      by : AppendEnds s opens d.state told d.run d.more own after → has_restart own ≡ is_stopped reply
+      by (whole all none after_is) = calm told goes (ap (λ (a : After). a.reply) after_is) (ap has_restart d.steps ∙ (ended_quiet d.side d.gate entry d.run d.more (Ok tt) (all, none)).1)
+      by (broken breaks either session) = breaks_stop own breaks
+
+  swap_stops : (s : LabState) (opens : List OpenSwap) (exp : List ℕ) (entry : Record) → Swaps s opens exp entry own after → has_restart own ≡ is_stopped reply
+  swap_stops s opens exp entry d = by d.answered
+    where
+      by : IsAnswered opens d.swap d.outcome d.behind after → has_restart own ≡ is_stopped reply
+      by (is_told starts told session) = ap has_restart d.own_is ∙ end_stops d.swap d.outcome d.steps d.behind reply (swap_shows d.swap s entry d.move d.steps after.lab d.outcome d.ends).restart starts (sym told ∙ is)
+      by (untold starts none session) = none_told after.reply reply none is
+
+  recover_stops : (s : LabState) (opens : List OpenSwap) → Recovers s opens own after → has_restart own ≡ is_stopped reply
+  recover_stops s opens (settled outcomes settles told session) = calm _ refl told (settles_show s _ outcomes own after.lab settles).restart
+  recover_stops s opens (broken_off part breaks session) = breaks_stop own breaks
+
+  does_stop : (set : Setting) (s : LabState) (opens : List OpenSwap) (judgement : Result Task Reply) → outer_by judgement ≡ false → Does set s opens judgement own after → has_restart own ≡ is_stopped reply
+  does_stop set s opens (Err refusal) inner d = replies_stop s opens refusal (no_stop_of refusal inner) d
+  does_stop set s opens (Ok (Tell told)) inner d = replies_stop s opens told (no_stop_of told inner) d
+  does_stop set s opens (Ok (Append entry told)) inner d = space_stop s opens _ set.length (Appends s opens entry told own after) (append_stops s opens entry told (no_stop_of told inner)) d
+  does_stop set s opens (Ok (Swap exp way)) inner d = space_stop s opens _ set.length (Swaps s opens exp (Begin exp way) own after) (swap_stops s opens exp (Begin exp way)) d
+  does_stop set s opens (Ok Recover) inner d = recover_stops s opens d
+
+  drill_stops : (takes : Bool) (s : LabState) (session : Session) → Drills takes s session own after → has_restart own ≡ is_stopped reply
+  drill_stops takes s session (is_planned yes' none a) = calm Planned refl (ap (λ (v : After). v.reply) a) (ap has_restart none)
+  drill_stops takes s session (is_refused no' none a) = calm NoDrill refl (ap (λ (v : After). v.reply) a) (ap has_restart none)
+  drill_stops takes s session (wants_memory wants) = none_told after.reply reply (ap (λ (v : After). v.reply) wants.after_is) is
+
+  pub step_stops : (drill : Option Drill) (judgement : Result Task Reply) (takes : Bool) (set : Setting) (s : LabState) (session : Session) (command : Command) (opening : List Event) → Was drill judgement takes set s session command opening own after → has_restart (opening ++ own) ≡ is_stopped reply
+  step_stops drill judgement takes set s session command opening (done mid opens begins judged d) =
+      shows is_restart (opening ++ own) opening own false (is_stopped reply) refl begins.quiet (does_stop set mid opens judgement (judged_so mid command judgement judged) d)
+  step_stops drill judgement takes set s session command opening (wanting mid opens begins wants) = none_told after.reply reply (ap (λ (v : After). v.reply) wants.after_is) is
+  step_stops drill judgement takes set s session command opening (broke no' closed breaks) = ap (λ l. has_restart (opening ++ l)) breaks.nothing ∙ ap has_restart (append-nil opening) ∙ breaks_stop opening breaks.breaks
+  step_stops drill judgement takes set s session command opening (drilled some none drills) = ap (λ l. has_restart (l ++ own)) none ∙ drill_stops takes s session drills
 
 -- EXPERIMENTS OF OTHER NAMES
-module _ (name : List ℕ) (s : LabState) (own : List Event) (after : After) (there : is_some s.lab ≡ true) where
-  after_stays : after.lab ≡ s → Stays name s after.lab
-  after_stays same = same_stays name s after.lab there same
+module _ (name : List ℕ) (own : List Event) (after : After) where
+  module _ (s : LabState) (there : is_some s.lab ≡ true) where
+    after_stays : after.lab ≡ s → Stays name s after.lab
+    after_stays same = same_stays name s after.lab there same
 
-  append_stays : (opens : List OpenSwap) (entry : Record) (told : Reply) → IsTaskApart name s (Append entry told) → Appends s opens entry told own after → Stays name s after.lab
-  append_stays opens entry told apart d = by d.ends
-    where
-      by : AppendEnds s opens d.state told d.run d.more own after → Stays name s after.lab
-      by (whole all none after_is) = either_stays name s d.state after.lab d.move there (apart d.move d.says) d.moves (inr (ap (λ (a : After). a.lab) after_is))
-      by (broken breaks either session) = either_stays name s d.state after.lab d.move there (apart d.move d.says) d.moves either
+    append_stays : (opens : List OpenSwap) (entry : Record) (told : Reply) → IsTaskApart name s (Append entry told) → Appends s opens entry told own after → Stays name s after.lab
+    append_stays opens entry told apart d = either_stays name s d.state after.lab there (move_stays name s d.state d.move there (apart d.move d.says) d.moves) (by d.ends)
+      where
+        by : AppendEnds s opens d.state told d.run d.more own after → (after.lab ≡ s) ⊎ (after.lab ≡ d.state)
+        by (whole all none after_is) = inr (ap (λ (a : After). a.lab) after_is)
+        by (broken breaks either session) = either
 
-  space_stays : (opens : List OpenSwap) (b : Bool) (length : ℕ) (Done : Type 0) → (Done → Stays name s after.lab) → IfSpace b length s opens Done own after → Stays name s after.lab
-  space_stays opens true length Done each d = each d
-  space_stays opens false length Done each d = after_stays (ap (λ (a : After). a.lab) d.after_is)
+    space_stays : (opens : List OpenSwap) (b : Bool) (length : ℕ) (Done : Type 0) → (Done → Stays name s after.lab) → IfSpace b length s opens Done own after → Stays name s after.lab
+    space_stays opens true length Done each d = each d
+    space_stays opens false length Done each d = after_stays (ap (λ (a : After). a.lab) d.after_is)
 
-  does_stays : (set : Setting) (opens : List OpenSwap) (judgement : Result Task Reply) → ((task : Task) → judgement ≡ Ok task → IsTaskApart name s task) → Does set s opens judgement own after → Stays name s after.lab
-  does_stays set opens (Err refusal) apart d = after_stays (ap (λ (a : After). a.lab) d.after_is)
-  does_stays set opens (Ok (Tell told)) apart d = after_stays (ap (λ (a : After). a.lab) d.after_is)
-  does_stays set opens (Ok (Append entry told)) apart d = space_stays opens _ set.length (Appends s opens entry told own after) (append_stays opens entry told (apart (Append entry told) refl)) d
-  does_stays set opens (Ok (Swap exp way)) apart d =
-      let task = apart (Swap exp way) refl in
-      space_stays opens _ set.length (Swaps s opens exp (Begin exp way) own after) (λ d. swap_stays name d.swap s after.lab (Begin exp way) d.move d.steps d.outcome there (task.1 d.move d.says) (λ same. task.0 (sym d.name ∙ same)) d.ends) d
+    recover_stays : (opens : List OpenSwap) → IsAtRest s name → Recovers s opens own after → Stays name s after.lab
+    recover_stays opens rests (settled outcomes settles told session) = settles_stay name _ outcomes s after.lab own there rests settles
+    recover_stays opens rests (broken_off part breaks session) = some_stay name s after.lab _ own there rests part
 
-  pub step_stays : (judgement : Result Task Reply) (takes : Bool) (set : Setting) (session : Session) (command : Command) (opening : List Event) → name_of command ≢ Some name → (Judged s command judgement → (task : Task) → judgement ≡ Ok task → IsTaskApart name s task)
-      → StepOf (drill_of command) (IsThis judgement command) takes set s session opening own after → Stays name s after.lab
-  step_stays judgement takes set session command opening other apart step = by (drill_of command) session step
-    where
-      done_stays : (opens : List OpenSwap) → IsDoneBy (IsThis judgement command s) set s opens own after → Stays name s after.lab
-      done_stays opens (does j is d) = does_stays set opens judgement (apart (subst (λ (x : Result Task Reply). Judged s command x) is.0 is.1)) (subst (λ (x : Result Task Reply). Does set s opens x own after) is.0 d)
-      done_stays opens (no_memory wants) = after_stays (ap (λ (a : After). a.lab) wants.after_is)
+    does_stays : (set : Setting) (opens : List OpenSwap) (judgement : Result Task Reply) → ((task : Task) → judgement ≡ Ok task → IsTaskApart name s task) → Does set s opens judgement own after → Stays name s after.lab
+    does_stays set opens (Err refusal) apart d = after_stays (ap (λ (a : After). a.lab) d.after_is)
+    does_stays set opens (Ok (Tell told)) apart d = after_stays (ap (λ (a : After). a.lab) d.after_is)
+    does_stays set opens (Ok (Append entry told)) apart d = space_stays opens _ set.length (Appends s opens entry told own after) (append_stays opens entry told (apart (Append entry told) refl)) d
+    does_stays set opens (Ok (Swap exp way)) apart d =
+        let task = apart (Swap exp way) refl in
+        space_stays opens _ set.length (Swaps s opens exp (Begin exp way) own after) (λ d. swap_stays name d.swap s after.lab (Begin exp way) d.move d.steps d.outcome there (task.1 d.move d.says) (λ same. task.0 (sym d.name ∙ same)) d.ends) d
+    does_stays set opens (Ok Recover) apart d = recover_stays opens (apart Recover refl) d
 
-      opened_stays : FromClosed (IsThis judgement command) set s opening own after → Stays name s after.lab
-      opened_stays (opened mid opens d) = done_stays [] (subst (λ (m : LabState). IsDoneBy (IsThis judgement command m) set m [] own after) opens.settles.same d)
-      opened_stays (not_opened breaks) = after_stays breaks.settles.same
+  module _ (s : LabState) (there : is_some s.lab ≡ true) (session : Session) (command : Command) (rests : settles_all session command ≡ true → IsAtRest s name) (opening : List Event) where
+    begins_stay : (session : Session) → (settles_all session command ≡ true → IsAtRest s name) → (mid : LabState) (opens : List OpenSwap) → Begins (drill_of command) session s opening mid opens → Stays name s mid
+    begins_stay Closed rests mid opens begins = settles_stay name _ begins.at.outcomes s mid begins.at.moving there (rests (ap is_none begins.no_drill)) begins.at.settles
+    begins_stay (Open old) rests mid opens begins = same_stays name s mid there begins.at
 
-      by : (o : Option Drill) (session : Session) → StepOf o (IsThis judgement command) takes set s session opening own after → Stays name s after.lab
-      by (Some drill) session step = after_stays (drill_is takes s session own after step.1).1
-      by None Closed step = opened_stays step
-      by None (Open opens) step = done_stays opens step.1
+    -- `recover` settles what moves
+    if_recover : (session : Session) → (settles_all session command ≡ true → IsAtRest s name) → command ≡ commands.Recover → IsAtRest s name
+    if_recover Closed rests is = rests (ap (λ (c : Command). is_none (drill_of c)) is)
+    if_recover (Open old) rests is = rests (ap (λ (c : Command). settles_all (Open old) c) is)
+
+    part_stays : OpensInPart s opening after.lab → IsAtRest s name → Stays name s after.lab
+    part_stays (reading reads same) at_rest = same_stays name s after.lab there same
+    part_stays (settling front moving is reads no_miss no_restart part) at_rest = some_stay name s after.lab [] moving there at_rest part
+
+    pub step_stays : (judgement : Result Task Reply) (takes : Bool) (set : Setting) → name_of command ≢ Some name → Was (drill_of command) judgement takes set s session command opening own after → Stays name s after.lab
+    step_stays judgement takes set other (done mid opens begins judged d) =
+        let first = begins_stay session rests mid opens begins in
+        both_stay name s mid after.lab first
+        (does_stays mid first.set set opens judgement
+        (λ task is. task_apart name mid task command (λ recovers. rests_on name s mid first (if_recover session rests recovers)) first.set other (subst (λ (j : Result Task Reply). Judged mid command j) is judged)) d)
+    step_stays judgement takes set other (wanting mid opens begins wants) = let first = begins_stay session rests mid opens begins in both_stay name s mid after.lab first (same_stays name mid after.lab first.set (ap (λ (a : After). a.lab) wants.after_is))
+    step_stays judgement takes set other (broke no' closed breaks) = part_stays breaks.part (rests (ap (λ (x : Session). settles_all x command) closed ∙ ap is_none no'))
+    step_stays judgement takes set other (drilled some none drills) = same_stays name s after.lab there (drill_is takes s session own after drills).1

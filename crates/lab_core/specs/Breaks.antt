@@ -1,6 +1,7 @@
 -- How a part of a command's steps breaks off.
-use Rattle.std.specs.Prelude.{◌≡◌, true, false, List, Option, Some, None}
-use Rattle.plant.specs.Events.{Event}
+use Rattle.std.specs.Prelude.{◌≡◌, ℕ, true, false, List, [], ◌∷◌, Option, Some, None}
+use Rattle.plant.specs.Events.{Event, Restarted}
+use Rattle.swap_turns.specs.Turning.{Outcome, Stopped as Halted}
 use Rattle.journal_runs.specs.Pieces.{has_restart, has_miss, EndsRestarted}
 use Rattle.script_text.specs.declared.reply.Reply.{Reply}
 use Rattle.script_text.specs.declared.reply.Reply.TheVariants.{Stopped, Down}
@@ -11,3 +12,8 @@ pub data Breaks (events : List Event) (reply : Option Reply) : Type 0 where
   stopped : EndsRestarted events → reply ≡ Some Stopped → Breaks events reply
   failed : has_restart events ≡ false → has_miss events ≡ true → reply ≡ Some Down → Breaks events reply
   unanswered : reply ≡ None → Breaks events reply
+
+-- behind the steps of a swap in which the plant stopped stands its start
+abbrev pub StartsBehind : Outcome → List Event → Type 0
+StartsBehind Halted behind = (a : List ℕ) × (b : List ℕ) × (behind ≡ Restarted a b ∷ [])
+StartsBehind outcome behind = behind ≡ []

@@ -1,5 +1,5 @@
 -- What is judged of a command: the first refusal in order, or its task.
-use Rattle.std.specs.Prelude.{◌≡◌, ℕ, nat_le, List, [], length, map, codes, slice_index_or, Option, Some, None, Result, Ok, Err, if◌then◌else◌}
+use Rattle.std.specs.Prelude.{◌≡◌, ◌+◌, ℕ, nat_le, List, [], length, map, codes, slice_index_or, Option, Some, None, Result, Ok, Err, if◌then◌else◌}
 use Rattle.std.specs.List.{zip}
 use Rattle.lab_base.specs.declared.fault.TextFault.{TextFault}
 use Rattle.lab_base.specs.declared.ids.VlanId.{VlanId}
@@ -17,7 +17,7 @@ use Rattle.virt_topo.specs.declared.experiment.Phase.TheVariants.{Out, In, Movin
 use Rattle.journal_rec.specs.declared.record.Record.{Record}
 use Rattle.journal_rec.specs.declared.record.Record.TheVariants.{Lab as LabRecord, Create, Delete}
 use Rattle.journal_rec.specs.declared.record.Way.{Way}
-use Rattle.journal_rec.specs.declared.record.Way.TheVariants.{In as WayIn, Out as WayOut}
+use Rattle.journal_rec.specs.declared.record.Way.TheVariants.{In as WayIn, Out as WayOut, Change as WayChange}
 use Rattle.lab_model.specs.Beside.{violation_beside}
 use Rattle.records_model.specs.Labs.{LabState, find, others}
 use Rattle.ns_text.specs.Wirings.{WiringOf}
@@ -97,13 +97,13 @@ subject_name lab w (OfTrunk t) = name_at (map (λ x. x.link) lab.trunks) t.0
 subject_name lab w (OfSegment s) = name_at (map (λ x. x.name) w.segments) s
 subject_name lab w Vlans = codes "vlans"
 
--- `infeasible E RULE SUBJECT` exactly where the mapping breaks a rule beside the other experiments: the first violation
-abbrev pub need_kept : Lab → Experiment → Option (Broken × Subject) → Result (Unit {0}) Reply
-need_kept lab e None = Ok tt
-need_kept lab e (Some (rule, subject)) = Err (Infeasible e.name rule (subject_name lab e.wiring subject))
+-- `infeasible E RULE SUBJECT` exactly where the mapping of that wiring breaks a rule beside the other experiments: the first violation
+abbrev pub need_kept : Lab → List ℕ → Wiring → Option (Broken × Subject) → Result (Unit {0}) Reply
+need_kept lab exp w None = Ok tt
+need_kept lab exp w (Some (rule, subject)) = Err (Infeasible exp rule (subject_name lab w subject))
 
-abbrev pub need_feasible : Lab → List Experiment → Experiment → Mapping → Result (Unit {0}) Reply
-need_feasible lab es e mapping = need_kept lab e (violation_beside lab (others e.name es) e e.wiring mapping)
+abbrev pub need_feasible : Lab → List Experiment → Experiment → Wiring → Mapping → Result (Unit {0}) Reply
+need_feasible lab es e w mapping = need_kept lab e.name w (violation_beside lab (others e.name es) e w mapping)
 
 -- THE TASKS: what a command that nothing refuses does
 
@@ -115,6 +115,8 @@ pub data Task : Type 0 where
   Append : (entry : Record) (reply : Reply) → Task
   -- it begins a swap of the experiment that way by a record, and turns it to its end
   Swap : (exp : List ℕ) (way : Way) → Task
+  -- it settles all that move and have no open swap
+  Recover : Task
 
 -- the numbers of switches, nodes and trunks
 abbrev pub lab_reply : Lab → Reply
@@ -195,7 +197,7 @@ judged_delete s exp = do
 -- the segments get the least VLAN ids that no claim has
 abbrev pub judged_mapping : LabState → Lab → Experiment → Mapping → Result Task Reply
 judged_mapping s lab e mapping = do
-  feasible ← need_feasible lab s.experiments e mapping
+  feasible ← need_feasible lab s.experiments e e.wiring mapping
   Ok (Swap e.name (WayIn (canonical_solution lab e.wiring mapping) (least_tags lab s.experiments (length e.wiring.segments))))
 
 abbrev pub judged_swapin : LabState → List ℕ → List ℕ → Result Task Reply
@@ -205,6 +207,24 @@ judged_swapin s exp text = do
   out ← need_out exp e.phase
   mapping ← need_meaning (Bad exp) (mapping_of_text lab e.wiring text)
   judged_mapping s lab e mapping
+
+-- the fault of a second block, whose lines are counted behind those of the first
+abbrev pub behind_lines : ℕ → TextFault → TextFault
+behind_lines lines fault = record { line = lines + fault.line; kind = fault.kind }
+
+abbrev pub judged_change : LabState → Lab → Experiment → Wiring → Mapping → Result Task Reply
+judged_change s lab e w mapping = do
+  feasible ← need_feasible lab s.experiments e w mapping
+  Ok (Swap e.name (WayChange (canonical_top w) (canonical_solution lab w mapping) (least_tags lab s.experiments (length w.segments))))
+
+abbrev pub judged_modify : LabState → List ℕ → ℕ → List ℕ → List ℕ → Result Task Reply
+judged_modify s exp lines top map = do
+  lab ← need_lab s.lab
+  e ← need_found exp (find exp s.experiments)
+  inside ← need_in exp e.phase
+  w ← need_meaning (Bad exp) (wiring_of_text top)
+  mapping ← need_meaning (λ fault. Bad exp (behind_lines lines fault)) (mapping_of_text lab w map)
+  judged_change s lab e w mapping
 
 abbrev pub judged_swapout : LabState → List ℕ → Result Task Reply
 judged_swapout s exp = do
@@ -217,6 +237,11 @@ abbrev pub judged_status : LabState → Result Task Reply
 judged_status s = do
   lab ← need_lab s.lab
   Ok (Tell (status_reply lab s.experiments))
+
+abbrev pub judged_recover : LabState → Result Task Reply
+judged_recover s = do
+  lab ← need_lab s.lab
+  Ok Recover
 
 -- the refusal, or the task, is this one
 abbrev pub Is : Result Task Reply → Result Task Reply → Type 0
@@ -235,7 +260,11 @@ Judged s (commands.Create exp lines text) = JudgedNetwork s exp text
 Judged s (commands.CreateTop exp lines text) = Is (judged_create s exp text)
 Judged s (commands.Show exp) = Is (judged_show s exp)
 Judged s (commands.SwapinWith exp lines text) = Is (judged_swapin s exp text)
+Judged s (commands.ModifyWith exp lines top others map) = Is (judged_modify s exp lines top map)
 Judged s (commands.Swapout exp) = Is (judged_swapout s exp)
+Judged s commands.Recover = Is (judged_recover s)
 Judged s (commands.Fail device nth how) = λ judgement. ⊥
+Judged s (commands.FailDisk nth) = λ judgement. ⊥
+Judged s (commands.Stop nth pick) = λ judgement. ⊥
 Judged s (commands.Delete exp) = Is (judged_delete s exp)
 Judged s commands.Status = Is (judged_status s)

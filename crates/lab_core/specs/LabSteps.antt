@@ -13,19 +13,19 @@ use Rattle.script_text.specs.Drills.{drill_of}
 use Rattle.script_text.specs.declared.command.Command.{Command}
 use Rattle.script_text.specs.declared.reply.Reply.{Reply}
 use Rattle.script_text.specs.declared.reply.Reply.TheVariants.{In, Out, Failed, FullJournal, Planned, NoDrill, Stopped as StoppedReply}
+use Rattle.script_text.specs.declared.reply.FailedEnd.{FailedEnd}
 use Rattle.script_text.specs.declared.reply.FailedEnd.TheVariants as ends
-use Rattle.script_text.specs.declared.reply.What.{What}
-use Rattle.script_text.specs.declared.reply.What.TheVariants as whats
+use Rattle.lab_base.specs.declared.what.What.TheVariants as whats
 use Rattle.virt_topo.specs.declared.mapping.Mapped.{Mapped}
-use Rattle.lab_model.specs.Courses.{Trouble, Device, Late, Unlawful}
+use Rattle.swap_txn.specs.Troubles.{what_of}
 use Rattle.swap_turns.specs.Swaps.{Swap as SwapOf, Moves}
 use Rattle.swap_turns.specs.Legs.{Forth, Undo}
 use Rattle.swap_turns.specs.Turning.{Outcome, Ended, Stuck, Unwritten, Stopped as Halted}
 use Rattle.swap_turns.specs.Whole.{SwapSteps}
 use Rattle.lab_core.specs.Sessions.{OpenSwap, Session, Closed, Open, Setting, After}
-use Rattle.journal_runs.specs.Pieces.{has_restart, has_miss, has_command}
-use Rattle.lab_core.specs.Breaks.{Breaks}
-use Rattle.lab_core.specs.Judge.{Task, Tell, Append, Swap, Judged}
+use Rattle.lab_core.specs.Breaks.{Breaks, StartsBehind}
+use Rattle.lab_core.specs.Judge.{Task, Tell, Append, Swap, Recover, Judged}
+use Rattle.lab_core.specs.Recovery.{Opens, BreaksOpening, Recovers}
 
 -- THE COMMAND'S OWN STEPS, over an open controller with those open swaps
 
@@ -64,21 +64,20 @@ pub record Appends (s : LabState) (opens : List OpenSwap) (entry : Record) (told
   pub moves : moved s move ≡ Some state
   pub ends : AppendEnds s opens state told run more own after
 
--- what is told of a trouble
-abbrev pub what_of : Trouble → What
-what_of (Device name) = whats.Device name
-what_of (Late node) = whats.Late node
-what_of (Unlawful node from to) = whats.Unlawful node from to
-
--- `in E` after a swap-in, and `out E` after a swap-out
+-- `in E` after a swap-in and a change, and `out E` after a swap-out
 abbrev pub done_reply : List ℕ → Option Mapped → Reply
 done_reply exp None = Out exp
 done_reply exp (Some m) = In exp
 
+-- where it is again after the undo: out after that of a swap-in, and in after that of a change
+abbrev pub undone_end : Option Mapped → FailedEnd
+undone_end None = ends.Out
+undone_end (Some m) = ends.In
+
 -- THE REPLY TO A SWAP, by its outcome, and whether the controller stays open. No other outcome ends a whole swap.
 abbrev pub end_reply : SwapOf → Outcome → Option Reply
 end_reply p (Ended Forth) = Some (done_reply p.name p.new)
-end_reply p (Ended (Undo why)) = Some (Failed p.name ends.Out (what_of why))
+end_reply p (Ended (Undo why)) = Some (Failed p.name (undone_end p.old) (what_of why))
 end_reply p (Stuck trouble) = Some (Failed p.name ends.Stuck (what_of trouble))
 end_reply p Unwritten = Some (Failed p.name ends.Stuck whats.Journal)
 end_reply p Halted = Some StoppedReply
@@ -88,11 +87,6 @@ abbrev pub end_session : List OpenSwap → Outcome → Session
 end_session opens Unwritten = Closed
 end_session opens Halted = Closed
 end_session opens outcome = Open opens
-
--- behind the steps of a swap in which the plant stopped stands its start
-abbrev pub StartsBehind : Outcome → List Event → Type 0
-StartsBehind Halted behind = (a : List ℕ) × (b : List ℕ) × (behind ≡ Restarted a b ∷ [])
-StartsBehind outcome behind = behind ≡ []
 
 -- the reply is told; or there is none, since memory was wanting for it, or for the start of a stopped plant
 pub data IsAnswered (opens : List OpenSwap) (p : SwapOf) (outcome : Outcome) (behind : List Event) (after : After) : Type 0 where
@@ -118,7 +112,7 @@ pub record Swaps (s : LabState) (opens : List OpenSwap) (exp : List ℕ) (entry 
 abbrev pub has_space : Setting → Record → Bool
 has_space set entry = nat_le (set.length + size entry + 10240) set.limit
 
--- where there is space for the first record of a task, the task is done; else the journal is full
+-- where there is space for the first record of a task, the task is done; else the journal is full. A task `recover` has none.
 abbrev pub IfSpace : Bool → ℕ → LabState → List OpenSwap → Type 0 → List Event → After → Type 0
 IfSpace true length s opens Done own after = Done
 IfSpace false length s opens Done own after = Replies s opens (FullJournal length) own after
@@ -127,6 +121,7 @@ IfSpace false length s opens Done own after = Replies s opens (FullJournal lengt
 abbrev pub Performs : Setting → LabState → List OpenSwap → Task → List Event → After → Type 0
 Performs set s opens (Tell told) own after = Replies s opens told own after
 Performs set s opens (Append entry told) own after = IfSpace (has_space set entry) set.length s opens (Appends s opens entry told own after) own after
+Performs set s opens Recover own after = Recovers s opens own after
 Performs set s opens (Swap exp way) own after = IfSpace (has_space set (Begin exp way)) set.length s opens (Swaps s opens exp (Begin exp way) own after) own after
 
 -- THE JUDGEMENT IS DONE: the refusal is told, or the task is done
@@ -138,38 +133,6 @@ Does set s opens (Ok task) own after = Performs set s opens task own after
 pub data IsDoneBy (IsJudged : Result Task Reply → Type 0) (set : Setting) (s : LabState) (opens : List OpenSwap) (own : List Event) (after : After) : Type 0 where
   does : (judgement : Result Task Reply) → IsJudged judgement → Does set s opens judgement own after → IsDoneBy IsJudged set s opens own after
   no_memory : WantsMemory s own after → IsDoneBy IsJudged set s opens own after
-
--- THE STEPS OF THE OPENING, from a closed controller: a part that reads, and then moves
-
--- a part that reads sends no device command
-abbrev pub Reads : List Event → Type 0
-Reads reading = has_command reading ≡ false
-
--- the moves of an opening lead from one lab to another. There are none yet.
-pub record Settles (s : LabState) (moving : List Event) (mid : LabState) : Type 0 where
-  pub none : moving ≡ []
-  pub same : mid ≡ s
-
--- it opened, and led to that lab: no call of the disk failed, and the plant did not stop
-pub record Opens (s : LabState) (opening : List Event) (mid : LabState) : Type 0 where
-  pub reading : List Event
-  pub moving : List Event
-  pub is : opening ≡ reading ++ moving
-  pub reads : Reads reading
-  pub settles : Settles s moving mid
-  pub no_miss : has_miss opening ≡ false
-  pub no_restart : has_restart opening ≡ false
-
--- it broke off, in that lab: nothing of the command's own is done
-pub record BreaksOpening (s : LabState) (opening own : List Event) (after : After) : Type 0 where
-  pub reading : List Event
-  pub moving : List Event
-  pub is : opening ≡ reading ++ moving
-  pub reads : Reads reading
-  pub settles : Settles s moving after.lab
-  pub nothing : own ≡ []
-  pub breaks : Breaks opening after.reply
-  pub session : after.session ≡ Closed
 
 -- what is judged from the lab to which the opening led
 pub data FromClosed (Judges : LabState → Result Task Reply → Type 0) (set : Setting) (s : LabState) (opening own : List Event) (after : After) : Type 0 where

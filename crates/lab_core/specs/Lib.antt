@@ -8,6 +8,7 @@ pub mod Moments
 pub mod Obey
 pub mod Opening
 pub mod Perform
+pub mod Recovery
 pub mod Said
 pub mod Sessions
 pub mod Swapping

@@ -1,5 +1,5 @@
 -- What a call of `obey` leaves, over a trace.
-use Rattle.std.specs.Prelude.{◌≡◌, ◌↔◌, ◌≤◌, ℕ, Bool, true, false, List, [], ◌∷◌, ◌++◌, Some, Result, Ok, Err, IfOk, IfSome, IsErrOf, IsTrue}
+use Rattle.std.specs.Prelude.{◌≡◌, ◌↔◌, ◌≤◌, ℕ, Bool, true, false, List, [], ◌∷◌, ◌++◌, not, Option, Some, None, Result, Ok, Err, IfOk, IfSome, IsErrOf, IsTrue}
 use Rattle.plant.specs.Calls.{Rose}
 use Rattle.plant.specs.Disks.{ArePossible}
 use Rattle.plant.specs.Events.{Event, Restarted}
@@ -28,24 +28,26 @@ abbrev pub ended : Reply → LabState → Session → After
 ended reply lab session = record { reply = Some reply; lab = lab; session = session }
 
 -- what was judged is done, with that reply
-abbrev pub IsDone : (Result Task Reply → Type 0) → Control → List Event → Reply → LabState → Session → Type 0
-IsDone IsJudged old own reply lab session = IsDoneBy IsJudged (setting_of old) old.lab [] own (ended reply lab session)
+abbrev pub IsDone : (Result Task Reply → Type 0) → Control → List Event → Option Reply → LabState → Session → Type 0
+IsDone IsJudged old own reply lab session = IsDoneBy IsJudged (setting_of old) old.lab [] own (record { reply = reply; lab = lab; session = session })
 
--- the controller is closed: each possible image stands for a lab that the command leads to by these steps
+-- THE CONTROLLER IS CLOSED: it is so by these steps, whatever image a stopped plant is started again with; and over a sound trace each possible image
+-- stands for a lab that the command leads to by them
 pub record Leaves (trace : List Event) (IsJudged : Result Task Reply → Type 0) (old : Control) (own : List Event) (reply : Reply) (behind : List ℕ → List ℕ → List Event) : Type 0 where
-  pub images : (a b : List ℕ) → ArePossible (trace ++ own) a b → (lab : LabState) × StandForLab a b lab × IsDone IsJudged old (own ++ behind a b) reply lab Closed
+  pub lab : LabState
+  pub done : (a b : List ℕ) → IsDone IsJudged old (own ++ behind a b) (Some reply) lab Closed
+  pub images : IsSound the_texts trace → (a b : List ℕ) → ArePossible (trace ++ own) a b → (lab : LabState) × StandForLab a b lab × IsDone IsJudged old (own ++ behind a b) (Some reply) lab Closed
 
--- IT GOES ON, whatever the trace; or a reply closes it, and over a sound trace each image tells where the lab is
+-- IT GOES ON, or a reply closes it
 abbrev pub Answers : List Event → (Result Task Reply → Type 0) → Control → List Event → Reply → Control → Bool → Type 0
-Answers trace IsJudged old own reply new false = IsDone IsJudged old own reply new.lab open_alone × (limit_of new.journal ≡ limit_of old.journal)
-Answers trace IsJudged old own reply new true = IsSound the_texts trace → Leaves trace IsJudged old own reply (λ a b. [])
+Answers trace IsJudged old own reply new false = IsDone IsJudged old own (Some reply) new.lab open_alone × (limit_of new.journal ≡ limit_of old.journal)
+Answers trace IsJudged old own reply new true = Leaves trace IsJudged old own reply (λ a b. [])
 
--- BY ITS ANSWER: a reply; or the plant stopped, and whatever image it is started again with stands for a lab that the command leads to; or memory was wanting
--- before anything was done
+-- BY ITS ANSWER: a reply; or the plant stopped, and is started again; or memory was wanting
 abbrev pub ObeyEnds : List Event → (Result Task Reply → Type 0) → Control → List Event → Control → Result Reply CoreFault → Type 0
 ObeyEnds trace IsJudged old own new (Ok reply) = Answers trace IsJudged old own reply new (closes reply)
-ObeyEnds trace IsJudged old own new (Err faults.Stopped) = IsSound the_texts trace → Leaves trace IsJudged old own replies.Stopped (λ a b. Restarted a b ∷ [])
-ObeyEnds trace IsJudged old own new (Err faults.Memory) = (own ≡ []) × (new.lab ≡ old.lab) × (new.journal ≡ old.journal)
+ObeyEnds trace IsJudged old own new (Err faults.Stopped) = Leaves trace IsJudged old own replies.Stopped (λ a b. Restarted a b ∷ [])
+ObeyEnds trace IsJudged old own new (Err faults.Memory) = IsDone IsJudged old own None new.lab Closed
 
 -- WHAT A CALL ADDED to what a plant tells; a sound trace stays sound
 pub record ObeySteps (trace : List Event) (IsJudged : Result Task Reply → Type 0) (old : Control) (own : List Event) (new : Control) (result : Result Reply CoreFault) : Type 0 where
@@ -55,10 +57,16 @@ pub record ObeySteps (trace : List Event) (IsJudged : Result Task Reply → Type
 abbrev pub ObeyTold : Seen → Seen → (Result Task Reply → Type 0) → Control → Control → Result Reply CoreFault → Type 0
 ObeyTold before now IsJudged old new result = (own : List Event) × (now.told ≡ with_steps before.told own) × IfSome before.told (λ t. ObeySteps t.trace IsJudged old own new result)
 
+-- it is at work afterwards, also where memory was wanting
+abbrev pub stays_at_work : Result Reply CoreFault → Bool
+stays_at_work (Ok reply) = not (closes reply)
+stays_at_work (Err faults.Stopped) = false
+stays_at_work (Err faults.Memory) = true
+
 -- ALL THAT A CALL LEAVES, of what is seen of a plant before it and after it
 pub record Obeyed (before now : Seen) (IsJudged : Result Task Reply → Type 0) (old new : Control) (result : Result Reply CoreFault) : Type 0 where
   pub obeys : ObeyTold before now IsJudged old new result
-  pub works : IfOk result (λ reply. closes reply ≡ false → Works now.told new)
+  pub works : stays_at_work result ≡ true → Works now.told new
   pub down : IfOk result (λ reply. closes reply ≡ true → Rose before.faults.disk now.faults.disk)
   pub device : IfOk result (λ reply. blames_device reply ≡ true → Rose before.faults.devices now.faults.devices)
   pub later : before.faults.disk ≤ now.faults.disk

@@ -1,7 +1,8 @@
 -- What a call of `open` adds to a trace, and what it leaves.
-use Rattle.std.specs.Prelude.{◌≡◌, ◌⊎◌, ◌<◌, ◌≤◌, ◌+◌, ◌*◌, ℕ, true, false, count_by, List, ◌++◌, take, Result, Ok, Err}
-use Rattle.plant.specs.Disks.{disk}
+use Rattle.std.specs.Prelude.{◌≡◌, ◌⊎◌, ◌<◌, ◌≤◌, ◌+◌, ◌*◌, ℕ, true, false, count_by, List, [], ◌++◌, take, Option, Result, Ok, Err, IfSome}
+use Rattle.plant.specs.Disks.{disk, ArePossible}
 use Rattle.plant.specs.Events.{Event}
+use Rattle.plant.specs.Told.{Told, with_steps}
 use Rattle.plant.specs.declared.step.Side.{Side}
 use Rattle.plant.specs.declared.step.Side.TheVariants.{A, B}
 use Rattle.journal_rec.specs.declared.record.Record.{Record}
@@ -13,15 +14,22 @@ use Rattle.journal_disk.specs.Standing.{gate_of, side_of, length_of}
 use Rattle.journal_disk.specs.declared.journal.Journal.{Journal}
 use Rattle.lab_state.specs.Texts.{the_texts}
 use Rattle.journal_disk.specs.Opening.{both_synced}
-use Rattle.journal_disk.specs.Before.{AreAsBefore, AreSettled, ReadAlike}
+use Rattle.journal_disk.specs.Before.{AreAsBefore, AreSettled, ReadAlike, are_synced}
 use Rattle.journal_disk.specs.declared.fault.OpenFault.{OpenFault}
 use Rattle.journal_disk.specs.declared.fault.OpenFault.TheVariants as faults
 use Rattle.journal_runs.specs.Pieces.{has_command, has_miss, has_restart}
+use Rattle.plant.specs.Seen.{Seen}
+use Rattle.recovery.specs.Due.{swaps_of}
+use Rattle.recovery.specs.Settle.{SettledAll, SettledSome}
+use Rattle.recovery.specs.declared.all.Settled.{Settled}
+use Rattle.swap_turns.specs.Settling.{Settles, BreaksOff, HasBrokenOff}
+use Rattle.swap_turns.specs.Turning.{Outcome, Unwritten, Stopped as Halted}
 use Rattle.lab_core.specs.Controller.{Control}
-use Rattle.lab_core.specs.Moments.{IsLabAt, IsNoJournal}
+use Rattle.lab_core.specs.Moments.{IsLabAt, IsNoJournal, StandForLab}
+use Rattle.lab_core.specs.Recovery.{SettlesSome}
 
--- WHAT AN OPENING ADDED, whatever its answer
-pub record OpenSteps (trace steps : List Event) : Type 0 where
+-- WHAT THE PART THAT READS ADDED, whatever came of it
+pub record ReadSteps (trace steps : List Event) : Type 0 where
   -- no device command, and no start of a stopped plant
   pub no_command : has_command steps ≡ false
   pub no_restart : has_restart steps ≡ false
@@ -41,24 +49,82 @@ pub record IsJournal (a b : List ℕ) (limit : ℕ) : Type 0 where
   pub lab_of : LabOf the_texts records lab
   pub room : gate_after records + 1 + 39 * count_by is_moving lab.experiments ≤ limit
 
--- AFTER Ok: no call failed, the sides are a journal, and the lab is that of the moment
-pub record HasOpened (trace steps : List Event) (limit : ℕ) (c : Control) : Type 0 where
-  pub no_miss : has_miss steps ≡ false
+-- THE SIDES WERE READ: no call failed, both are synced, they are a journal, and the lab is that of the moment
+pub record HasRead (trace reading : List Event) (limit : ℕ) (start : LabState) : Type 0 where
+  pub no_miss : has_miss reading ≡ false
+  pub synced : are_synced reading ≡ true
   pub journal : IsJournal (disk A trace).reads (disk B trace).reads limit
-  pub lab : IsLabAt (trace ++ steps) c.lab
+  pub lab : IsLabAt (trace ++ reading) start
 
--- AFTER Bad: the sides are no journal. They are synced, and nothing else is done, so neither reads other than before.
+-- THE SIDES ARE NO JOURNAL. They are synced, and nothing else is done, so neither reads other than before.
 pub record HasFoundNone (trace steps : List Event) (limit : ℕ) (side : Side) (at : ℕ) : Type 0 where
   pub no_journal : IsNoJournal (disk A trace).reads (disk B trace).reads limit side at
   pub synced : steps ≡ both_synced
   pub as_before : (s : Side) → (disk s (trace ++ steps)).reads ≡ (disk s trace).reads
 
--- BY ITS ANSWER: after Plant a call failed
-abbrev pub OpenEnds : List Event → List Event → ℕ → Result Control OpenFault → Type 0
-OpenEnds trace steps limit (Ok c) = HasOpened trace steps limit c
-OpenEnds trace steps limit (Err (faults.Bad side at)) = HasFoundNone trace steps limit side at
-OpenEnds trace steps limit (Err faults.Plant) = has_miss steps ≡ true
-OpenEnds trace steps limit (Err fault) = Unit {0}
+-- what came of reading: after Plant a call failed
+abbrev pub ReadEnds : List Event → List Event → ℕ → Result Control OpenFault → Type 0
+ReadEnds trace reading limit (Ok c) = HasRead trace reading limit c.lab
+ReadEnds trace reading limit (Err (faults.Bad side at)) = HasFoundNone trace reading limit side at
+ReadEnds trace reading limit (Err faults.Plant) = has_miss reading ≡ true
+ReadEnds trace reading limit (Err fault) = Unit {0}
+
+abbrev pub ReadTold : Option Told → Option Told → ℕ → Result Control OpenFault → Type 0
+ReadTold before now limit result = (reading : List Event) × (now ≡ with_steps before reading) × IfSome before (λ t. ReadSteps t.trace reading × ReadEnds t.trace reading limit result)
+
+-- AFTER Ok: all experiments that moved in the lab that was read are settled
+pub record HasOpened (trace reading moving : List Event) (limit : ℕ) (c : Control) : Type 0 where
+  pub start : LabState
+  pub read : HasRead trace reading limit start
+  pub outcomes : List Outcome
+  pub settles : Settles start (swaps_of [] start.experiments) outcomes moving c.lab
+
+-- THE SETTLING BROKE OFF in one, by a call of the journal that failed or by a stop; and over a sound trace each possible image stands for a lab to which
+-- these steps led
+pub record SettlesInPart (trace reading moving : List Event) (limit : ℕ) (outcome : Outcome) : Type 0 where
+  pub start : LabState
+  pub read : HasRead trace reading limit start
+  pub lab : LabState
+  pub breaks : BreaksOff start (swaps_of [] start.experiments) moving outcome lab
+  pub images : IsSound the_texts trace → (a b : List ℕ) → ArePossible (trace ++ (reading ++ moving)) a b → (after : LabState) × StandForLab a b after × BreaksOff start (swaps_of [] start.experiments) moving outcome after
+
+-- memory was wanting in it: some are settled, and the sides stand for the lab after them
+pub record SettlesToMemory (trace reading moving : List Event) (limit : ℕ) : Type 0 where
+  pub start : LabState
+  pub read : HasRead trace reading limit start
+  pub lab : LabState
+  pub some : SettlesSome start [] moving lab
+  pub at : IsLabAt (trace ++ (reading ++ moving)) lab
+
+-- BY ITS ANSWER: a fault comes of reading, before anything is settled; or a call of the journal failed in the settling, or the plant stopped in it, or
+-- memory was wanting
+abbrev pub InSettling : List Event → List Event → List Event → ℕ → OpenFault → Type 0
+InSettling trace reading moving limit faults.Plant = (has_miss moving ≡ true) × SettlesInPart trace reading moving limit Unwritten
+InSettling trace reading moving limit faults.Stopped = SettlesInPart trace reading moving limit Halted
+InSettling trace reading moving limit faults.Memory = SettlesToMemory trace reading moving limit
+InSettling trace reading moving limit (faults.Bad side at) = ⊥
+
+abbrev pub OpenEnds : List Event → List Event → List Event → ℕ → Result Control OpenFault → Type 0
+OpenEnds trace reading moving limit (Ok c) = HasOpened trace reading moving limit c
+OpenEnds trace reading moving limit (Err fault) = ((moving ≡ []) × ReadEnds trace reading limit (Err fault)) ⊎ InSettling trace reading moving limit fault
+
+-- WHAT AN OPENING ADDED: a part that reads, and the settling of all experiments that move; it starts no plant, and a sound trace stays sound
+pub record OpenSteps (trace reading moving : List Event) (limit : ℕ) (result : Result Control OpenFault) : Type 0 where
+  pub reads : ReadSteps trace reading
+  pub no_restart : has_restart moving ≡ false
+  pub ends : OpenEnds trace reading moving limit result
+  pub sound : IsSound the_texts trace → IsSound the_texts (trace ++ (reading ++ moving))
+
+abbrev pub OpenTold : Option Told → Option Told → ℕ → Result Control OpenFault → Type 0
+OpenTold before now limit result = (reading : List Event) × (moving : List Event) × (now ≡ with_steps before (reading ++ moving)) × IfSome before (λ t. OpenSteps t.trace reading moving limit result)
+
+-- AFTER THE SETTLING of a controller that has read: all are settled; or it broke off, or memory was wanting in it
+abbrev pub AfterOpening : Control → Seen → Seen → Result Control OpenFault → Type 0
+AfterOpening c before now (Ok new) = (settled : Settled) × SettledAll the_texts c.lab [] before now new.journal new.lab settled
+AfterOpening c before now (Err faults.Memory) = (journal : Journal) × (lab : LabState) × SettledSome the_texts c.lab [] before now journal lab
+AfterOpening c before now (Err faults.Plant) = HasBrokenOff the_texts c.lab (swaps_of [] c.lab.experiments) before now Unwritten
+AfterOpening c before now (Err faults.Stopped) = HasBrokenOff the_texts c.lab (swaps_of [] c.lab.experiments) before now Halted
+AfterOpening c before now (Err (faults.Bad side at)) = ⊥
 
 -- what the records and the limit make of it
 abbrev pub IsOfJournal : ℕ → Journal → List Record → Result Control OpenFault → Type 0

@@ -27,8 +27,7 @@ use Rattle.swap_turns.specs.Turning.{Outcome, More, TurnsBack, Ended, Stuck, Unw
 use Rattle.swap_turns.specs.Whole as whole
 use Rattle.lab_state.specs.Changes.{CanEnd, ending}
 use Rattle.lab_state.specs.Texts.{the_texts}
-use Rattle.script_text.specs.declared.reply.What.{What as ToldWhat}
-use Rattle.script_text.specs.declared.reply.What.TheVariants as whats
+use Rattle.script_text.specs.declared.reply.FailedEnd.{FailedEnd}
 use Rattle.script_text.specs.declared.reply.FailedEnd.TheVariants as failures
 use Rattle.script_text.specs.declared.reply.Reply.{Reply}
 use Rattle.script_text.specs.declared.reply.Reply.TheVariants.{In, Out, Failed}
@@ -89,10 +88,10 @@ abbrev pub IsEndedBy : LabState → List ℕ → Finished → LabState → Type 
 IsEndedBy s exp (finished.Ended over) after = moved s (ending exp over.committed) ≡ Some after
 IsEndedBy s exp other after = after ≡ s
 
--- what is told of a swap that is over: it is done, or undone
+-- what is told of a swap that is over: it is done, or undone, and whether the experiment is in
 pub data IsOverBy (p : Swap) (over : Over) (outcome : Outcome) : Type 0 where
   done : outcome ≡ Ended Forth → over.committed ≡ true → over.why ≡ None → over.inside ≡ is_some p.new → IsOverBy p over outcome
-  undone : (why : Trouble) → outcome ≡ Ended (Undo why) → over.committed ≡ false → over.why ≡ Some (troubles.what_of why) → IsOverBy p over outcome
+  undone : (why : Trouble) → outcome ≡ Ended (Undo why) → over.committed ≡ false → over.why ≡ Some (troubles.what_of why) → over.inside ≡ is_some p.old → IsOverBy p over outcome
 
 abbrev pub IsToldBy : Swap → Finished → Outcome → Type 0
 IsToldBy p (finished.Ended over) outcome = IsOverBy p over outcome
@@ -116,19 +115,17 @@ pub record HasRun (p : Swap) (s : LabState) (begin : Record) (move : Move) (befo
   pub goes : GoesTo p s begin move before now k run.steps outcome run.leaves after
 
 -- what is told of it
-abbrev pub told_what : What → ToldWhat
-told_what (swapping.Device name) = whats.Device name
-told_what (swapping.Late node) = whats.Late node
-told_what (swapping.Unlawful node from to) = whats.Unlawful node from to
-told_what swapping.Journal = whats.Journal
-
 abbrev pub reply_of_done : List ℕ → Bool → Reply
 reply_of_done exp true = In exp
 reply_of_done exp false = Out exp
 
+abbrev pub undone_by : Bool → FailedEnd
+undone_by true = failures.In
+undone_by false = failures.Out
+
 abbrev pub reply_of_over : List ℕ → Bool → Option What → Reply
 reply_of_over exp inside None = reply_of_done exp inside
-reply_of_over exp inside (Some what) = Failed exp failures.Out (told_what what)
+reply_of_over exp inside (Some what) = Failed exp (undone_by inside) what
 
 abbrev pub IsAnswer : Swap → Outcome → Result Reply CoreFault → Type 0
 IsAnswer p Stopped result = result ≡ Err faults.Stopped

@@ -21,13 +21,14 @@ use Rattle.lab_core.specs.declared.task.Task.{Task as TaskInHand}
 use Rattle.lab_core.specs.declared.task.Task.TheVariants as tasks
 use Rattle.lab_core.specs.declared.task.Refusal.{Refusal}
 use Rattle.lab_core.specs.declared.task.Refusal.TheVariants.{Refused, Memory}
-use Rattle.lab_core.specs.Judge.{Task, Tell, Append, Swap}
+use Rattle.lab_core.specs.Judge.{Task, Tell, Append, Swap, Recover}
 
 -- the task that is in hand
 abbrev pub task_of : TaskInHand → Task
 task_of (tasks.Tell reply) = Tell reply
 task_of (tasks.Append entry reply) = Append entry reply
 task_of (tasks.Swap exp way ops) = Swap exp way
+task_of tasks.Recover = Recover
 
 -- the reply neither closes the controller nor blames a device
 abbrev pub IsMild : Reply → Type 0
@@ -89,4 +90,5 @@ pub record CanAppend (s : LabState) (entry : Record) (reply : Reply) : Type 0 wh
 abbrev pub CanDo : LabState → TaskInHand → Type 0
 CanDo s (tasks.Tell reply) = IsMild reply
 CanDo s (tasks.Append entry reply) = CanAppend s entry reply
+CanDo s tasks.Recover = Unit {0}
 CanDo s (tasks.Swap exp way ops) = IsRecord (Begin exp way) × MayFollow s (Begin exp way) × IsSwapBy s exp way ops.commands ops.undo

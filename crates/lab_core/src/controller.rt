@@ -15,8 +15,9 @@ ghost use Rattle.script_text.specs.Blocks.{HasBlocks};
 ghost use Rattle.lab_core.specs.Controller.{Works};
 ghost use Rattle.lab_core.specs.Judge.{Judged};
 ghost use Rattle.lab_core.specs.Moments.{IsNoJournal};
-ghost use Rattle.lab_core.specs.Obey.{ObeyTold, Obeyed};
-ghost use Rattle.lab_core.specs.Opening.{IsOfJournal, OpenSteps, OpenEnds};
+ghost use Rattle.lab_core.specs.Obey.{ObeyTold, Obeyed, stays_at_work};
+ghost use Rattle.lab_core.specs.Opening.{AfterOpening, IsOfJournal, OpenTold, ReadTold};
+ghost use Rattle.swap_turns.specs.Causes.{IsLater};
 
 use crate::CoreFault;
 use crate::judge::judge;
@@ -26,6 +27,7 @@ use journal_disk::{Journal, OpenFault};
 use journal_rec::Found;
 use lab_state::{LabState, ReplayFault};
 use plant::Plant;
+use recovery::{SettleFault, settle};
 use script_text::{Command, Reply};
 use std::alloc::Global;
 use std::marker::Model;
@@ -124,27 +126,67 @@ fn of_journal(
     })
 }
 
+/// Reads the journal, whose sides may have any length up to the limit, and finds the lab that its records stand for.
+fn read<P: Plant>(alloc: Global, limit: u64, plant: &mut P) -> Result<Controller, OpenFault>
+    requires least { 18 ≤ limit }
+    requires most { limit ≤ 2 ^ 32 }
+    ensures steps { ReadTold (P.seen plant.old).told (P.seen plant.new).told limit result }
+    ensures works { IfOk result (λ controller. Works (P.seen plant.new).told controller) }
+    ensures limit { IfOk result (λ controller. limit_of controller.journal ≡ limit) }
+    ensures plant { IsErrOf result OpenFault.Plant → Rose (P.seen plant.old).faults.disk (P.seen plant.new).faults.disk }
+    ensures later { (P.seen plant.old).faults.disk ≤ (P.seen plant.new).faults.disk }
+    ensures devices { (P.seen plant.new).faults.devices ≡ (P.seen plant.old).faults.devices }
+    ensures stopped { IsErrOf result OpenFault.Stopped ↔ IsTrue (P.seen plant.new).stopped }
+{
+    let (journal, found) = Journal::open(alloc, plant, limit)?;
+    of_journal(alloc, limit, journal, &found)
+}
+
+/// Settles all experiments that move, in order of creation.
+fn settle_all<P: Plant>(mut controller: Controller, plant: &mut P) -> Result<Controller, OpenFault>
+    requires works { Works (P.seen plant.old).told controller }
+    requires runs { (P.seen plant.old).stopped ≡ false }
+    ensures after { AfterOpening controller (P.seen plant.old) (P.seen plant.new) result }
+    ensures works { IfOk result (λ settled. Works (P.seen plant.new).told settled) }
+    ensures plant { IsErrOf result OpenFault.Plant → Rose (P.seen plant.old).faults.disk (P.seen plant.new).faults.disk }
+    ensures later { IsLater (P.seen plant.old) (P.seen plant.new) }
+    ensures limit { IfOk result (λ settled. limit_of settled.journal ≡ limit_of controller.journal) }
+    ensures stopped { IsErrOf result OpenFault.Stopped ↔ IsTrue (P.seen plant.new).stopped }
+{
+    match settle(
+        controller.alloc,
+        &mut controller.lab,
+        &[],
+        &mut controller.journal,
+        plant,
+    ) {
+        Ok(_) => Ok(controller),
+        Err(SettleFault::Plant) => Err(OpenFault::Plant),
+        Err(SettleFault::Stopped) => Err(OpenFault::Stopped),
+        Err(SettleFault::Memory) => Err(OpenFault::Memory),
+    }
+}
+
 impl Controller {
-    /// Opens the journal, whose sides may have any length up to the limit, and finds the lab that its records stand for.
+    /// Opens the journal, whose sides may have any length up to the limit, finds the lab that its records stand for, and settles
+    /// all experiments that move in it. One that gets stuck moves still, and the others go on.
     ///
     /// `Bad` tells the side and the position of the first record that can't be read or can't follow, or of the last gate
-    /// where there is no room for the last records of the experiments that move.
+    /// where there is no room for the last records of the experiments that move. Then nothing was settled.
     pub fn open<P: Plant>(alloc: Global, limit: u64, plant: &mut P) -> Result<Controller, OpenFault>
         requires least { 18 ≤ limit }
         requires most { limit ≤ 2 ^ 32 }
-        ensures steps { (steps : List Event) × ((P.seen plant.new).told ≡ with_steps (P.seen plant.old).told steps)
-            × IfSome (P.seen plant.old).told (λ t. OpenSteps t.trace steps × OpenEnds t.trace steps limit result) }
+        ensures steps { OpenTold (P.seen plant.old).told (P.seen plant.new).told limit result }
         ensures bad { (side : AnySide) (at : ℕ) → result ≡ Err (OpenFault.Bad side at)
             → IfSome (P.seen plant.new).told (λ t. IsNoJournal (disk A t.trace).reads (disk B t.trace).reads limit side at) }
         ensures works { IfOk result (λ controller. Works (P.seen plant.new).told controller) }
         ensures limit { IfOk result (λ controller. limit_of controller.journal ≡ limit) }
         ensures plant { IsErrOf result OpenFault.Plant → Rose (P.seen plant.old).faults.disk (P.seen plant.new).faults.disk }
-        ensures later { (P.seen plant.old).faults.disk ≤ (P.seen plant.new).faults.disk }
-        ensures devices { (P.seen plant.new).faults.devices ≡ (P.seen plant.old).faults.devices }
+        ensures later { IsLater (P.seen plant.old) (P.seen plant.new) }
         ensures stopped { IsErrOf result OpenFault.Stopped ↔ IsTrue (P.seen plant.new).stopped }
     {
-        let (journal, found) = Journal::open(alloc, plant, limit)?;
-        of_journal(alloc, limit, journal, &found)
+        let controller = read(alloc, limit, plant)?;
+        settle_all(controller, plant)
     }
 
     /// Obeys a command whose blocks have the lines that its words say, and tells the reply. A drill is none of its commands:
@@ -154,7 +196,7 @@ impl Controller {
         requires no_drill { drill_of command.now ≡ None }
         requires works { Works (P.seen plant.old).told self.old }
         ensures obeys { ObeyTold (P.seen plant.old) (P.seen plant.new) (Judged self.old.lab command.now) self.old self.new result }
-        ensures works { IfOk result (λ reply. closes reply ≡ false → Works (P.seen plant.new).told self.new) }
+        ensures works { stays_at_work result ≡ true → Works (P.seen plant.new).told self.new }
         ensures down { IfOk result (λ reply. closes reply ≡ true → Rose (P.seen plant.old).faults.disk (P.seen plant.new).faults.disk) }
         ensures device { IfOk result (λ reply. blames_device reply ≡ true → Rose (P.seen plant.old).faults.devices (P.seen plant.new).faults.devices) }
         ensures later { (P.seen plant.old).faults.disk ≤ (P.seen plant.new).faults.disk }

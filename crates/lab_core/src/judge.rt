@@ -8,9 +8,10 @@ ghost use Rattle.top_text.specs.Canonical.{canonical_top};
 ghost use Rattle.top_text.specs.Printable.{is_printable};
 ghost use Rattle.virt_topo.specs.Soundness.{IsSound};
 ghost use Rattle.script_text.specs.Blocks.{HasBlocks};
-ghost use Rattle.lab_core.specs.Judge.{Judged, JudgedNetwork, judged_create, judged_delete, judged_ptop, judged_show, judged_status, judged_swapout, judged_wiring, need_place};
+ghost use Rattle.lab_core.specs.Judge.{Judged, JudgedNetwork, judged_create, judged_delete, judged_ptop, judged_recover, judged_show, judged_status, judged_swapout, judged_wiring, need_place};
 ghost use Rattle.lab_core.specs.Tasks.{CanDo, Gives, IsJudged, IsMild, Refuses, IsRefusedBy};
 
+use crate::judge_change::judge_modify;
 use crate::judge_swap::judge_solution;
 use crate::needs::{need_found, need_in, need_lab, need_none, need_out, need_place, need_room};
 use crate::records::{create_record, delete_record, lab_record, way_out};
@@ -166,6 +167,14 @@ fn judge_status(alloc: Global, state: &LabState) -> Result<Task, Refusal>
     }))
 }
 
+fn judge_recover(state: &LabState) -> Result<Task, Refusal>
+    ensures judged { Gives (judged_recover state.now.state) result }
+    ensures can { IfOk result (CanDo state.now.state) }
+{
+    let _lab = need_lab(state)?;
+    Ok(Task::Recover)
+}
+
 /// The task of a command whose blocks have the lines that its words say, or why it has none. A drill has none.
 pub(crate) fn judge(alloc: Global, state: &LabState, command: &Command) -> Result<Task, Refusal>
     requires blocks { HasBlocks command.now }
@@ -179,9 +188,17 @@ pub(crate) fn judge(alloc: Global, state: &LabState, command: &Command) -> Resul
         Command::CreateTop { exp, top, .. } => judge_create(alloc, state, *exp, top.bytes()),
         Command::Show { exp } => judge_show(alloc, state, *exp),
         Command::SwapinWith { exp, map, .. } => judge_solution(alloc, state, *exp, map.bytes()),
+        Command::ModifyWith {
+            exp,
+            top_lines,
+            top,
+            map,
+            ..
+        } => judge_modify(alloc, state, *exp, *top_lines, top.bytes(), map.bytes()),
         Command::Swapout { exp } => judge_swapout(alloc, state, *exp),
-        Command::Fail { .. } => unreachable!(),
+        Command::Fail { .. } | Command::FailDisk { .. } | Command::Stop { .. } => unreachable!(),
         Command::Delete { exp } => judge_delete(state, *exp),
+        Command::Recover => judge_recover(state),
         Command::Status => judge_status(alloc, state),
     }
 }

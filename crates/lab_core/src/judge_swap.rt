@@ -2,12 +2,15 @@
 ghost use Rattle.std.specs.Prelude.{◌≡◌, ◌<◌, ◌≤◌, ◌^◌, IfOk, length, Ok, Some};
 ghost use Rattle.lab_base.specs.Lists.{Has};
 ghost use Rattle.lab_base.specs.declared.ids.VlanId.{VlanId as AnyVlanId};
+ghost use Rattle.journal_rec.specs.declared.record.Way.TheVariants as ways;
 ghost use Rattle.lab_model.specs.Shapes.{IsShaped};
 ghost use Rattle.claims.specs.Answered.{AreTaken};
 ghost use Rattle.claims.specs.Held.{free_ids};
+ghost use Rattle.solution_text.specs.CanonicalSolution.{canonical_solution};
+ghost use Rattle.swap_turns.specs.Swaps.{swap_in};
 ghost use Rattle.virt_topo.specs.Soundness.{IsSound};
 ghost use Rattle.lab_core.specs.Judge.{judged_mapping, judged_swapin, need_feasible, need_kept};
-ghost use Rattle.lab_core.specs.JudgeSwap.{CanTake, IsOutIn, IsPlanIn};
+ghost use Rattle.lab_core.specs.JudgeSwap.{CanTake, IsOutIn, IsTaskOf, IsThere};
 ghost use Rattle.lab_core.specs.Tasks.{CanDo, Gives, IsRefusal, Refuses};
 
 use crate::judge::bad_text;
@@ -24,7 +27,7 @@ use script_text::Reply;
 use solution_text::{print_solution, read_solution};
 use std::alloc::Global;
 use swap_plan::plan_in;
-use virt_topo::{Broken, Experiment, Mapping, Subject};
+use virt_topo::{Broken, Experiment, Mapping, Subject, Wiring};
 
 /// The least free VLAN ids, of which there are enough.
 fn least_tags(alloc: Global, claims: &Claims, n: u16) -> Result<Tags, Memory>
@@ -38,51 +41,51 @@ fn least_tags(alloc: Global, claims: &Claims, n: u16) -> Result<Tags, Memory>
     }
 }
 
-/// A mapping breaks a rule.
+/// A mapping of that wiring breaks a rule.
 fn infeasible(
     alloc: Global,
     lab: &Lab,
-    experiment: &Experiment,
+    exp: Name,
+    wiring: &Wiring,
     rule: Broken,
     subject: Subject,
 ) -> Refusal
-    ensures { IsRefusal (need_kept lab.now experiment.now (Some (rule, subject))) result }
+    ensures { IsRefusal (need_kept lab.now exp wiring.now (Some (rule, subject))) result }
 {
-    match subject_name(alloc, lab, &experiment.wiring, subject) {
-        Ok(subject) => Refusal::Refused(Reply::Infeasible {
-            exp: experiment.name,
-            rule,
-            subject,
-        }),
+    match subject_name(alloc, lab, wiring, subject) {
+        Ok(subject) => Refusal::Refused(Reply::Infeasible { exp, rule, subject }),
         Err(Memory) => Refusal::Memory,
     }
 }
 
-/// Checks a mapping beside the other experiments, and takes its VLAN ids.
-fn need_tags(
+/// Checks a mapping of a wiring beside the other experiments, and takes its VLAN ids. The experiment's own old ones are among
+/// the claimed.
+pub(crate) fn need_tags(
     alloc: Global,
     state: &LabState,
     lab: &Lab,
     experiment: &Experiment,
+    wiring: &Wiring,
     mapping: &Mapping,
 ) -> Result<Tags, Refusal>
-    requires out { IsOutIn state.now.state lab.now experiment.now }
-    requires shaped { IsShaped lab.now experiment.now.wiring mapping.now }
-    ensures can { IfOk result (CanTake state.now.state lab.now experiment.now mapping.now) }
-    ensures refuses { Refuses (need_feasible lab.now state.now.state.experiments experiment.now mapping.now) result }
+    requires there { IsThere state.now.state lab.now experiment.now }
+    requires sound { IsSound wiring.now }
+    requires shaped { IsShaped lab.now wiring.now mapping.now }
+    ensures can { IfOk result (CanTake state.now.state lab.now experiment.now wiring.now mapping.now) }
+    ensures refuses { Refuses (need_feasible lab.now state.now.state.experiments experiment.now wiring.now mapping.now) result }
 {
     // There is a lab.
     let Some(claims) = state.claims() else {
         unreachable!()
     };
     let free = claims.free_without(alloc, experiment.name)?;
-    match check(alloc, lab, &free, &experiment.wiring, mapping) {
+    match check(alloc, lab, &free, wiring, mapping) {
         Ok(()) => {
-            let tags = least_tags(alloc, claims, experiment.wiring.segments.len() as u16)?;
+            let tags = least_tags(alloc, claims, wiring.segments.len() as u16)?;
             Ok(tags)
         }
         Err(CheckFault::Violation { rule, subject }) => {
-            Err(infeasible(alloc, lab, experiment, rule, subject))
+            Err(infeasible(alloc, lab, experiment.name, wiring, rule, subject))
         }
         Err(CheckFault::Memory) => Err(Refusal::Memory),
     }
@@ -100,7 +103,7 @@ fn plan_swap_in(
     requires shaped { IsShaped lab.now experiment.now.wiring mapping.now }
     requires tagged { length tags ≡ length experiment.now.wiring.segments }
     requires ids { (tag : AnyVlanId) → Has tags tag → tag.0 < 2 ^ 16 }
-    ensures { IfOk result (IsPlanIn lab.now experiment.now mapping.now tags) }
+    ensures { IfOk result (IsTaskOf lab.now (swap_in experiment.now mapping.now tags) (ways.In (canonical_solution lab.now experiment.now.wiring mapping.now) tags)) }
 {
     let ops = plan_in(alloc, lab, &experiment.wiring, mapping, &tags)?;
     let map = print_solution(alloc, lab, &experiment.wiring, mapping)?;
@@ -124,7 +127,7 @@ fn judge_mapping(
     ensures judged { Gives (judged_mapping state.now.state lab.now experiment.now mapping.now) result }
     ensures can { IfOk result (CanDo state.now.state) }
 {
-    let tags = need_tags(alloc, state, lab, experiment, mapping)?;
+    let tags = need_tags(alloc, state, lab, experiment, &experiment.wiring, mapping)?;
     let task = plan_swap_in(alloc, lab, experiment, mapping, tags)?;
     Ok(task)
 }

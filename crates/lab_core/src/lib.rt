@@ -6,6 +6,7 @@
 mod controller;
 mod fault;
 mod judge;
+mod judge_change;
 mod judge_swap;
 mod laws;
 mod needs;
@@ -21,5 +22,5 @@ mod views;
 pub use controller::Controller;
 pub use fault::CoreFault;
 pub use journal_disk::OpenFault;
-pub use laws::{lab_steps, labs_are_kept, solutions};
+pub use laws::{lab_steps, labs_are_kept, recoveries, solutions};
 pub use sides::journals;

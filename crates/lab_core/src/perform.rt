@@ -9,9 +9,9 @@ ghost use Rattle.swap_txn.specs.Steps.{Stands, Writes};
 ghost use Rattle.swap_turns.specs.Running.{AtWork};
 ghost use Rattle.lab_state.specs.Changes.{after, CanEnter};
 ghost use Rattle.lab_state.specs.Texts.{the_texts};
-ghost use Rattle.lab_core.specs.Judge.{Append, Is, Swap};
+ghost use Rattle.lab_core.specs.Judge.{Append, Is, Recover, Swap};
 ghost use Rattle.lab_core.specs.Obey.{Obeyed};
-ghost use Rattle.lab_core.specs.Perform.{append_answer};
+ghost use Rattle.lab_core.specs.Perform.{append_answer, recover_answer};
 ghost use Rattle.lab_core.specs.Tasks.{CanAppend, CanDo, IsSwapBy, MayFollow, task_of};
 
 use crate::CoreFault;
@@ -22,6 +22,7 @@ use journal_rec::{Encoded, Record, Way, encode};
 use lab_base::{Memory, Name};
 use lab_state::{LabState, PrepareFault, Prepared};
 use plant::Plant;
+use recovery::{SettleFault, Settled, settle};
 use script_text::Reply;
 use std::alloc::Global;
 use swap_plan::Ops;
@@ -148,6 +149,33 @@ fn swap<P: Plant>(
     reply_of_end(exp, finished)
 }
 
+/// What is told of the settling of all experiments that move.
+fn reply_of_settling(settled: Result<Settled, SettleFault>) -> Result<Reply, CoreFault>
+    ensures { result ≡ recover_answer settled }
+{
+    match settled {
+        Ok(Settled { done, stuck }) => Ok(Reply::Recovered { done, stuck }),
+        Err(SettleFault::Plant) => Ok(Reply::Down),
+        Err(SettleFault::Stopped) => Err(CoreFault::Stopped),
+        Err(SettleFault::Memory) => Err(CoreFault::Memory),
+    }
+}
+
+/// Settles all experiments that move, and tells how many were settled and how many are stuck.
+fn recover<P: Plant>(
+    alloc: Global,
+    lab: &mut LabState,
+    journal: &mut Journal,
+    plant: &mut P,
+) -> Result<Reply, CoreFault>
+    requires works { AtWork the_texts (P.seen plant.old).told journal.old lab.old.state }
+    ensures { Obeyed (P.seen plant.old) (P.seen plant.new) (Is (Ok Recover))
+        (record { lab = lab.old.state; journal = journal.old }) (record { lab = lab.new.state; journal = journal.new }) result }
+{
+    let settled = settle(alloc, lab, &[], journal, plant);
+    reply_of_settling(settled)
+}
+
 /// Does a task. `full journal` is told here alone, where there is no space for the task's first record.
 pub(crate) fn perform<P: Plant>(
     alloc: Global,
@@ -165,5 +193,6 @@ pub(crate) fn perform<P: Plant>(
         Task::Tell(reply) => Ok(reply),
         Task::Append { entry, reply } => append(alloc, lab, journal, &entry, reply, plant),
         Task::Swap { exp, way, ops } => swap(alloc, lab, journal, exp, way, ops, plant),
+        Task::Recover => recover(alloc, lab, journal, plant),
     }
 }

@@ -46,6 +46,19 @@ pub(crate) fn way_in(exp: Name, map: Text, tags: Tags) -> Way
     Way::In { map, tags }
 }
 
+/// The way of a change.
+pub(crate) fn way_over(exp: Name, top: Text, map: Text, tags: Tags) -> Way
+    requires top { length top ≤ 16777216 }
+    requires map { length map ≤ 16777216 }
+    requires few { length tags ≤ 65535 }
+    requires ids { (tag : VlanId) → Has tags tag → tag.0 < 2 ^ 16 }
+    ensures way { result ≡ ways.Change top map tags }
+    ensures is { IsRecord (records.Begin exp result) }
+{
+    let _named = exp.bytes();
+    Way::Change { top, map, tags }
+}
+
 /// The way of a swap-out.
 pub(crate) fn way_out(exp: Name) -> Way
     ensures way { result ≡ ways.Out }

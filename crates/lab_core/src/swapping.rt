@@ -14,17 +14,17 @@ ghost use Rattle.swap_turns.specs.Running.{AtWork};
 ghost use Rattle.swap_turns.specs.Turning.{Outcome};
 ghost use Rattle.lab_state.specs.Changes.{after, CanEnter};
 ghost use Rattle.lab_state.specs.Texts.{the_texts};
-ghost use Rattle.lab_core.specs.Swapping.{IsBegin, IsBeginning, IsPlanned, CanRun, IsBegunBy, IsAfterFirst, IsStopped, CanEndBy, IsEndedBy, IsToldBy, HasRun, IsAnswer, told_what, reply_of_done, reply_of_over};
+ghost use Rattle.lab_core.specs.Swapping.{IsBegin, IsBeginning, IsPlanned, CanRun, IsBegunBy, IsAfterFirst, IsStopped, CanEndBy, IsEndedBy, IsToldBy, HasRun, IsAnswer, reply_of_done, reply_of_over, undone_by};
 ghost use Rattle.lab_core.specs.Tasks.{MayFollow};
 
 use crate::CoreFault;
 use crate::perform::prepare;
 use journal_disk::Journal;
 use journal_rec::{Record, Way};
-use lab_base::{Memory, Name, What};
+use lab_base::{Memory, Name};
 use lab_state::{LabState, Prepared};
 use plant::Plant;
-use script_text::{FailedEnd, Reply, What as ToldWhat};
+use script_text::{FailedEnd, Reply};
 use std::alloc::Global;
 use swap_plan::Ops;
 use swap_turns::{Finished, finish};
@@ -160,17 +160,6 @@ pub(crate) fn run_swap<P: Plant>(
     }
 }
 
-fn what_told(what: What) -> ToldWhat
-    ensures { result ≡ told_what what }
-{
-    match what {
-        What::Device(name) => ToldWhat::Device { name },
-        What::Late(node) => ToldWhat::Late { node },
-        What::Unlawful { node, from, to } => ToldWhat::Unlawful { node, from, to },
-        What::Journal => ToldWhat::Journal,
-    }
-}
-
 /// `in E` where the experiment is in, and `out E` where it is out.
 fn reply_of_done(exp: Name, inside: bool) -> Reply
     ensures { result ≡ reply_of_done exp inside }
@@ -182,16 +171,28 @@ fn reply_of_done(exp: Name, inside: bool) -> Reply
     }
 }
 
+/// Where the experiment is whose swap was undone.
+fn undone_by(inside: bool) -> FailedEnd
+    ensures { result ≡ undone_by inside }
+{
+    if inside {
+        FailedEnd::In
+    } else {
+        FailedEnd::Out
+    }
+}
+
 /// What is told of a swap that is over: where the experiment is, or the trouble that began the undo.
 fn reply_of_over(exp: Name, ended: Ended) -> Reply
     ensures { result ≡ reply_of_over exp ended.inside ended.why }
 {
-    match ended.why {
-        None => reply_of_done(exp, ended.inside),
+    let Ended { inside, why, .. } = ended;
+    match why {
+        None => reply_of_done(exp, inside),
         Some(what) => Reply::Failed {
             exp,
-            end: FailedEnd::Out,
-            what: what_told(what),
+            end: undone_by(inside),
+            what,
         },
     }
 }
@@ -205,7 +206,7 @@ pub(crate) fn reply_of_end(exp: Name, finished: Finished) -> Result<Reply, CoreF
         Finished::Stuck(what) => Ok(Reply::Failed {
             exp,
             end: FailedEnd::Stuck,
-            what: what_told(what),
+            what,
         }),
         Finished::Stopped => Err(CoreFault::Stopped),
     }

@@ -12,6 +12,8 @@ pub(crate) enum Task {
     Append { entry: Record, reply: Reply },
     /// It begins a swap of the experiment that way, and turns it to its end by these device commands.
     Swap { exp: Name, way: Way, ops: Ops },
+    /// It settles all experiments that move.
+    Recover,
 }
 
 /// Why a command has no task.

@@ -1,5 +1,5 @@
 -- A command is answered, behind its mark.
-use Rattle.std.proofs.Common.{◌≡◌, inr, ℕ, Bool, true, false, List, Option, Some, None, Result, Ok, Err, refl, subst}
+use Rattle.std.proofs.Common.{◌≡◌, inr, ℕ, Bool, true, List, Option, Some, None, Result, Ok, Err, refl, subst}
 use Rattle.script_text.specs.declared.command.Command.{Command}
 use Rattle.script_text.specs.declared.reply.Reply.{Reply}
 use Rattle.plant.specs.declared.drill.Drill.{Drill}
@@ -27,7 +27,7 @@ silent_planned : (takes planned : Bool) (reply : Option Reply) → IsPlannedAs t
 silent_planned takes planned None by is = by is
 silent_planned takes planned (Some replies.Planned) by is = by.1
 silent_planned takes planned (Some replies.NoDrill) by is = absurd (cc (by.0, is))
-silent_planned takes planned (Some reply) by is = absurd (cc (by, is))
+silent_planned takes planned (Some reply) by is = absurd by
 
 silent_by : (takes : Bool) (drill : Option Drill) (planned : Bool) (reply : Option Reply) → IsPlannedBy takes drill planned reply → IsPlannedBy takes drill planned None
 silent_by takes None planned reply by = by
@@ -55,6 +55,7 @@ silent_made takes command old new to reply made =
           finds = silent_finds (drill_of command) t.trace command (session_of old.controller) to b.opening b.own reply is.finds;
           leaves = λ shut. refl;
           shuts = λ none shut. refl;
+          steps = λ none some. absurd (cc some);
           leads = λ none open_now. absurd (cc open_now);
           done = λ sound. silent_done takes t.trace command (session_of old.controller) to b.opening b.own reply (is.done sound);
         }) b.is_piece;

@@ -1,9 +1,8 @@
 -- A drill is planned, and all else stays as it was.
-use Rattle.std.proofs.Common.{◌≡◌, inl, inr, ◌^◌, arith, Bool, true, false, List, [], ◌++◌, Option, Some, None, Result, Ok, Err, refl, sym, ap, subst, ◌∙◌}
+use Rattle.std.proofs.Common.{◌≡◌, inl, inr, ℕ, ◌^◌, arith, Bool, true, false, List, [], ◌++◌, Option, Some, None, Result, Ok, Err, refl, sym, ap, subst, ◌∙◌}
 use Rattle.std.specs.Prelude.{IfSome, OnErr, is_some, if◌then◌else◌}
 use Rattle.std.proofs.lemmas.List.{append-nil}
 use Rattle.plant.specs.declared.drill.Drill.{Drill}
-use Rattle.plant.specs.Disks.{ArePossible}
 use Rattle.plant.specs.Events.{Event}
 use Rattle.plant.specs.Told.{Told, with_drill, with_steps}
 use Rattle.records_model.specs.Labs.{LabState}
@@ -16,17 +15,17 @@ use Rattle.script_text.specs.Replies.{blames_device, closes}
 use Rattle.script_text.specs.declared.command.Command.{Command}
 use Rattle.script_text.specs.declared.reply.Reply.{Reply}
 use Rattle.script_text.specs.declared.reply.Reply.TheVariants as replies
-use Rattle.lab_core.specs.Controller.{Control, Works}
+use Rattle.lab_core.specs.Controller.{Control}
 use Rattle.lab_core.specs.Judge.{Judged}
 use Rattle.lab_core.specs.LabSteps.{Drills, StepOf, is_planned, is_refused, wants_memory}
-use Rattle.lab_core.specs.Moments.{AllStandFor, IsLabAt}
+use Rattle.lab_core.specs.Moments.{AllStandFor, IsLabAt, IsLengthAt}
 use Rattle.lab_core.specs.Sessions.{Session, Closed, open_alone}
 use Rattle.lab_top.specs.declared.command.CommandFault.{CommandFault}
 use Rattle.lab_top.specs.declared.command.CommandFault.TheVariants as faults
 use Rattle.lab_top.specs.Answering.{Begins, Ends, IsOpen, MayGoOn, Moment, Plans, piece_of, reply_if, session_after, session_of}
-use Rattle.lab_top.specs.Pieces.{Finds, FirstLab, ImagesAfter, IsDone, IsPlannedBy, StepsFrom, blames_if, closes_if, leaves_one, stays_open, with_drill_if}
-use Rattle.lab_top.proofs.Obeyed.{AsRead, ends_of, later_same, map_both, map_some, steps_none}
-use Rattle.lab_top.proofs.Stepping.{after_of, not_early, sound_length, standing_all, standing_lab, told_so}
+use Rattle.lab_top.specs.Pieces.{Finds, FirstLab, IsDone, IsPlannedBy, StepsFrom, blames_if, closes_if, leaves_one, stays_open, with_drill_if}
+use Rattle.lab_top.proofs.Obeyed.{ends_of, later_same, map_both, map_some, steps_none}
+use Rattle.lab_top.proofs.Stepping.{AsRead, ImagesAt, after_of, done_at, lab_length, not_early, standing_all, standing_lab, told_so}
 
 -- THE STEP OF A DRILL over one trace: it has no steps, and its reply, if it has one, leaves the session as it was
 abbrev Stays : Bool → Session → Session → Option Reply → Type 0
@@ -38,7 +37,8 @@ module _ (takes : Bool) (trace : List Event) (command : Command) (drill : Drill)
 
   drill_steps : (s : LabState) → StepsFrom takes trace (piece_of command from to [] [] reply) s s
   drill_steps s =
-      let n = sound_length (trace ++ []) (subst AsRead none possible) (subst (λ l. IsSound the_texts l) none sound) in
+      let lab = sound_stands the_texts trace _ _ possible sound in
+      let n = subst (λ l. (k : ℕ) × IsLengthAt l k) none (lab_length trace lab.0 lab.1) in
       record {
         length = n.0;
         length_is = n.1;
@@ -49,25 +49,14 @@ module _ (takes : Bool) (trace : List Event) (command : Command) (drill : Drill)
         step = subst (λ (d : Option Drill). StepOf d (λ lab. Judged lab command) takes (record { length = n.0; limit = 2 ^ 32 }) s from [] [] (after_of reply s to)) (sym is) (refl, stays s);
       }
 
-  images : (one : Bool) (s : LabState) → (one ≡ true → AllStandFor trace s) → ImagesAfter takes one trace (piece_of command from to [] [] reply) s
-  images true s all = subst (λ l. AllStandFor l s) none (all refl)
-  images false s all = λ a b there.
-      let at = subst (λ l. ArePossible l a b) (append-nil trace) there in
-      let lab = sound_stands the_texts trace a b at sound in
-      (lab.0, lab.0, record { a = a; b = b; possible = at; stand = lab.1 }, lab.1, drill_steps lab.0)
+  images : (one : Bool) (s : LabState) → (one ≡ true → AllStandFor trace s) → ImagesAt takes trace (piece_of command from to [] [] reply) one trace s
+  images true s all = all refl
+  images false s all = λ a b at. let lab = sound_stands the_texts trace a b at sound in (lab.0, lab.0, record { a = a; b = b; possible = at; stand = lab.1 }, lab.1, drill_steps lab.0)
 
   pub drill_done : (s : LabState) → IsLabAt trace s → (is_some reply ≡ true → leaves_one to reply ≡ true → AllStandFor trace s) → IsDone takes trace (piece_of command from to [] [] reply)
-  drill_done s at all = record {
-    leads = record {
-      first = s;
-      last = s;
-      before = subst (λ b. FirstLab b trace s) (sym (not_early from [] refl)) at;
-      behind = subst (λ l. IsLabAt l s) none at;
-      steps = drill_steps s;
-    };
-    images = λ some. images (leaves_one to reply) s (all some);
-    sound = subst (λ l. IsSound the_texts l) none sound;
-  }
+  drill_done s at all =
+      done_at takes trace (piece_of command from to [] [] reply) trace (append-nil trace) s s (subst (λ b. FirstLab b trace s) (sym (not_early from [] refl)) at) (drill_steps s) (λ opens. absurd (cc (is, opens.no_drill))) sound at
+      (λ some. images (leaves_one to reply) s (all some))
 
 -- with a reply, from a session of either kind
 abbrev StandsAt : List Event → Option Control → Type 0
@@ -120,6 +109,7 @@ module _ (takes : Bool) (command : Command) (drill : Drill) (is : drill_of comma
       finds = found from (Some reply) t.trace (λ some. refl);
       leaves = λ shut. absurd (cc (goes, shut));
       shuts = λ none. no_such none;
+      steps = λ none. no_such none;
       leads = λ none. no_such none;
       done = λ sound. replied_over takes command drill is reply other stays t.trace controller stands there sound;
     }) (stands_at old controller open_now) possible;
@@ -137,6 +127,7 @@ module _ (takes : Bool) (command : Command) (drill : Drill) (is : drill_of comma
       finds = found Closed None t.trace (λ some. absurd (cc some));
       leaves = λ shut. refl;
       shuts = λ none. no_such none;
+      steps = λ none. no_such none;
       leads = λ none. no_such none;
       done = λ sound. silent_over takes command drill is t.trace from there sound;
     }) possible;
@@ -157,32 +148,22 @@ module _ (takes : Bool) (command : Command) (drill : Drill) (is : drill_of comma
   goes_on_told (Ok reply) (inr refused) = subst (λ (o : Option Told). IfSome controller (IsOpen o)) (sym refused.2) open_now
   goes_on_told (Err fault) wants = subst (λ (o : Option Told). IfSome controller (IsOpen o)) (sym wants.1) open_now
 
--- NO REPLY TO A DRILL closes the controller, or blames a device
-open_not : (takes : Bool) (drill : Drill) (old new : Option Told) (result : Result Reply CommandFault) → Plans takes drill old new result → closes_if (reply_if result) ≡ false
-open_not takes drill old new (Ok reply) (inl planned) = ap closes planned.0
-open_not takes drill old new (Ok reply) (inr refused) = ap closes refused.0
-open_not takes drill old new (Err fault) wants = refl
-
-blames_not : (takes : Bool) (drill : Drill) (old new : Option Told) (result : Result Reply CommandFault) → Plans takes drill old new result → blames_if (reply_if result) ≡ false
-blames_not takes drill old new (Ok reply) (inl planned) = ap blames_device planned.0
-blames_not takes drill old new (Ok reply) (inr refused) = ap blames_device refused.0
-blames_not takes drill old new (Err fault) wants = refl
-
--- and where there is none, memory is wanting
-only_memory : (takes : Bool) (drill : Drill) (old new : Option Told) (result : Result Reply CommandFault) → Plans takes drill old new result → OnErr result (result ≡ Err faults.Memory)
-only_memory takes drill old new (Ok reply) plans = tt
-only_memory takes drill old new (Err fault) plans = ap (λ f. let r : Result Reply CommandFault = Err f in r) plans.0
+-- NO REPLY TO A DRILL closes the controller, or blames a device; and where there is none, memory is wanting
+mild : (takes : Bool) (drill : Drill) (old new : Option Told) (result : Result Reply CommandFault) → Plans takes drill old new result → (closes_if (reply_if result) ≡ false) × (blames_if (reply_if result) ≡ false) × OnErr result (result ≡ Err faults.Memory)
+mild takes drill old new (Ok reply) (inl planned) = (ap closes planned.0, ap blames_device planned.0, tt)
+mild takes drill old new (Ok reply) (inr refused) = (ap closes refused.0, ap blames_device refused.0, tt)
+mild takes drill old new (Err fault) wants = (refl, refl, ap (λ f. let r : Result Reply CommandFault = Err f in r) wants.0)
 
 pub ends_drill : (takes : Bool) (command : Command) (drill : Drill) → drill_of command ≡ Some drill → (old new : Moment) (result : Result Reply CommandFault) → Plans takes drill old.plant.told new.plant.told result → new.plant.faults ≡ old.plant.faults → new.plant.stopped ≡ old.plant.stopped
     → new.controller ≡ old.controller → MayGoOn old → IfSome old.plant.told (λ t. AsRead t.trace) → Ends takes command old new result
 ends_drill takes command drill is old new result plans count still kept goes_on possible =
     ends_of takes command old new result
     (subst (λ c. Begins takes command old.plant.told new.plant.told (session_of old.controller) (session_after result c) (reply_if result)) (sym kept) (begun_drill takes command drill is old.plant.told new.plant.told old.controller goes_on.controller possible result plans))
-    (later_same old.plant.faults old.plant.faults new.plant.faults (omega arith) refl count)
-    (λ shut. absurd (cc (open_not takes drill old.plant.told new.plant.told result plans, shut)))
-    (λ blamed. absurd (cc (blames_not takes drill old.plant.told new.plant.told result plans, blamed)))
+    (later_same old.plant.faults old.plant.faults new.plant.faults (omega arith) (omega arith) count)
+    (λ shut. absurd (cc ((mild takes drill old.plant.told new.plant.told result plans).0, shut)))
+    (λ blamed. absurd (cc ((mild takes drill old.plant.told new.plant.told result plans).1, blamed)))
     (λ some was. still ∙ was)
-    (only_memory takes drill old.plant.told new.plant.told result plans)
+    (mild takes drill old.plant.told new.plant.told result plans).2
     (record {
       controller = subst (λ (c : Option Control). IfSome c (IsOpen new.plant.told)) (sym kept) (goes_on_told takes command drill is old.plant.told new.plant.told old.controller goes_on.controller possible result plans);
       runs = λ some. still ∙ goes_on.runs (ap is_some (sym kept) ∙ some);

@@ -1,11 +1,9 @@
 mod Answering
-mod BadJournals
+mod BrokenOpenings
 mod Commanding
 mod Drilling
-mod Kept
 mod Obeyed
 mod Pieces
-mod Solutions
+mod RunLaws
 mod Stepping
-mod Undrilled
 mod Wording

@@ -1,10 +1,9 @@
 -- What a call of the controller leaves is a command that was done.
-use Rattle.std.proofs.Common.{◌≡◌, ℕ, ◌^◌, Bool, true, false, List, [], ◌∷◌, ◌++◌, Option, Some, None, Result, Ok, Err, refl, sym, ◌∙◌, ap, subst, append_assoc, arith}
+use Rattle.std.proofs.Common.{◌≡◌, inl, inr, ℕ, ◌^◌, Bool, true, false, List, [], ◌∷◌, ◌++◌, Option, Some, None, Result, Ok, Err, refl, sym, ◌∙◌, ap, subst, append_assoc, arith}
 use Rattle.std.specs.Prelude.{IfSome, OnOk, OnErr, ◌≤◌, is_some}
 use Rattle.std.proofs.lemmas.List.{append-nil}
 use Rattle.plant.specs.declared.drill.Drill.{Drill}
 use Rattle.plant.specs.declared.moment.Faults.{Faults}
-use Rattle.plant.specs.declared.step.Side.TheVariants.{A, B}
 use Rattle.plant.specs.declared.step.Side.{Side}
 use Rattle.plant.specs.Calls.{Rose}
 use Rattle.plant.specs.Disks.{disk, ArePossible}
@@ -20,20 +19,21 @@ use Rattle.script_text.specs.declared.command.Command.{Command}
 use Rattle.script_text.specs.declared.reply.Reply.{Reply}
 use Rattle.script_text.specs.declared.reply.Reply.TheVariants as replies
 use Rattle.script_text.specs.Drills.{drill_of}
-use Rattle.script_text.specs.Replies.{blames_device, closes}
+use Rattle.script_text.specs.Replies.{closes}
 use Rattle.lab_core.specs.declared.fault.CoreFault.{CoreFault}
 use Rattle.lab_core.specs.declared.fault.CoreFault.TheVariants as faults
-use Rattle.lab_core.specs.Breaks.{Breaks, stopped, failed, unanswered}
+use Rattle.lab_core.specs.Breaks.{Breaks, failed, unanswered}
 use Rattle.lab_core.specs.Controller.{Control, Works}
 use Rattle.lab_core.specs.Judge.{Judged}
 use Rattle.lab_core.specs.Obey.{Answers, ObeySteps, ObeyTold}
-use Rattle.lab_core.specs.Opening.{OpenSteps, HasOpened, OpenEnds}
+use Rattle.lab_core.specs.Opening.{OpenEnds, OpenSteps, OpenTold}
 use Rattle.lab_core.specs.Sessions.{Session, Closed, open_alone}
 use Rattle.lab_top.specs.declared.command.CommandFault.{CommandFault}
 use Rattle.lab_top.specs.declared.command.CommandFault.TheVariants as command_faults
-use Rattle.lab_top.specs.Pieces.{Finds, IsDone, IsPlannedBy, Later, blames_if, broken_off, closes_if, is_closed, leaves_one, may_shut, opened, stays_open}
-use Rattle.lab_top.specs.Answering.{Does, DoesOwn, IsOpen, MayGoOn, OwnTold, Starts, Unopened, Begins, Made, Ends, Moment, piece_of, session_after, session_of, reply_if}
-use Rattle.lab_top.proofs.Stepping.{own_answered, own_closed, own_stopped, own_stays, own_unmade, cut_done, stopped_done, again_breaks, again_quiet, was_open, is_opened}
+use Rattle.lab_top.specs.Pieces.{Finds, FindsNone, IsPiece, IsPlannedBy, Later, blames_if, closes_if, is_closed, leaves_one, may_shut, opened, stays_open}
+use Rattle.lab_top.specs.Answering.{Does, DoesOwn, FoundNone, IsOpen, MayGoOn, OwnTold, Starts, Unopened, Begins, Made, Ends, Moment, WasOpened, piece_of, session_after, session_of, reply_if}
+use Rattle.lab_top.proofs.BrokenOpenings.{again_piece, cut_piece, missed_in, started_nowhere}
+use Rattle.lab_top.proofs.Stepping.{AsRead, own_answered, own_closed, own_stopped, own_stays, own_unmade, was_open, is_opened}
 
 -- WHAT A PLANT TELLS after more steps
 
@@ -68,30 +68,8 @@ steps_none (Some t) = ap (λ l. let o : Option Told = Some (record t { trace = l
 
 -- a reply that closes is not `stopped`
 not_one : (reply : Reply) → closes reply ≡ true → leaves_one Closed (Some reply) ≡ false
-not_one replies.Down is = refl
 not_one replies.Stopped is = absurd (cc is)
-not_one (replies.Lab switches nodes trunks) is = refl
-not_one (replies.Created exp nodes segments) is = refl
-not_one (replies.Shown exp phase top placed) is = refl
-not_one (replies.Deleted exp) is = refl
-not_one (replies.Listed experiments nodes vlans) is = refl
-not_one replies.NoLab is = refl
-not_one replies.LabIsSet is = refl
-not_one (replies.Exists exp) is = refl
-not_one (replies.Unknown exp) is = refl
-not_one (replies.In exp) is = refl
-not_one (replies.Out exp) is = refl
-not_one (replies.Failed exp end what) is = refl
-not_one replies.Planned is = refl
-not_one replies.NoDrill is = refl
-not_one (replies.Infeasible exp rule subject) is = refl
-not_one (replies.IsOut exp) is = refl
-not_one (replies.IsIn exp) is = refl
-not_one (replies.IsMoving exp) is = refl
-not_one (replies.Bad exp fault) is = refl
-not_one (replies.BadPtop fault) is = refl
-not_one replies.FullExperiments is = refl
-not_one (replies.FullJournal size) is = refl
+not_one reply is = refl
 
 -- a reply that closes, and `stopped`, may leave the session closed
 pub shuts_so : (reply : Reply) → closes reply ≡ true → may_shut (Some reply) ≡ true
@@ -102,85 +80,58 @@ pub starts_shut : (old new : Option Told) (result : Result Reply CommandFault) �
 starts_shut old new (Ok reply) starts = ap (λ r. may_shut (Some r)) starts.0
 starts_shut old new (Err fault) starts = refl
 
-abbrev pub AsRead : List Event → Type 0
-AsRead trace = ArePossible trace (disk A trace).reads (disk B trace).reads
-
--- OVER ONE TRACE
-module _ (takes : Bool) (trace : List Event) (command : Command) (no_drill : drill_of command ≡ None) (c : Control) (own : List Event) where
-  abbrev Obeys : Control → Result Reply CoreFault → Type 0
-  Obeys d result = ObeySteps trace (Judged c.lab command) c own d result
-
-  module _ (d : Control) (result : Result Reply CoreFault) (obeys : Obeys d result) (before : List Event) (from : Session) (opening : List Event) (is : trace ≡ before ++ opening) where
-    moved : ObeySteps (before ++ opening) (Judged c.lab command) c own d result
-    moved = subst (λ l. ObeySteps l (Judged c.lab command) c own d result) is obeys
-
-  own_on : (d : Control) (reply : Reply) → Obeys d (Ok reply) → closes reply ≡ false → Stands the_texts (trace ++ own) d.journal d.lab → DoesOwn takes trace command c own open_alone (Some reply)
-  own_on d reply obeys goes stands before from opening is w =
-      let o = moved d (Ok reply) obeys before from opening is in
-      let e = subst (λ b. Answers (before ++ opening) (Judged c.lab command) c own reply d b) goes o.ends in
-      own_answered takes before from opening c w command no_drill own d reply e.0 (subst (λ l. Stands the_texts (l ++ own) d.journal d.lab) is stands) o.sound
-
-  own_off : (d : Control) (reply : Reply) → Obeys d (Ok reply) → closes reply ≡ true → AsRead (trace ++ own) → DoesOwn takes trace command c own Closed (Some reply)
-  own_off d reply obeys shut there before from opening is w =
-      let o = moved d (Ok reply) obeys before from opening is in
-      let e = subst (λ b. Answers (before ++ opening) (Judged c.lab command) c own reply d b) shut o.ends in
-      record {
-        leads = λ open_now. absurd (cc open_now);
-        done = own_closed takes before from opening c w command no_drill own reply (not_one reply shut) e o.sound (subst (λ l. AsRead (l ++ own)) is there);
-      }
-
-  own_again : (d : Control) (a b : List ℕ) → Obeys d (Err faults.Stopped) → ArePossible (trace ++ own) a b → DoesOwn takes trace command c (own ++ Restarted a b ∷ []) Closed (Some replies.Stopped)
-  own_again d a b obeys there before from opening is w =
-      let o = moved d (Err faults.Stopped) obeys before from opening is in
-      record { leads = λ open_now. absurd (cc open_now); done = own_stopped takes before from opening c w command no_drill own a b o.ends o.sound (subst (λ l. ArePossible (l ++ own) a b) is there) }
-
-  own_stuck : (d : Control) → Obeys d (Err faults.Stopped) → AsRead (trace ++ own) → DoesOwn takes trace command c own Closed None
-  own_stuck d obeys there before from opening is w =
-      let o = moved d (Err faults.Stopped) obeys before from opening is in
-      record { leads = λ open_now. absurd (cc open_now); done = own_stays takes before from opening c w command no_drill own o.ends o.sound (subst (λ l. AsRead (l ++ own)) is there) }
-
-  own_none : (d : Control) → Obeys d (Err faults.Memory) → DoesOwn takes trace command c own Closed None
-  own_none d obeys before from opening is w = record {
-    leads = λ open_now. absurd (cc open_now);
-    done = λ first. subst (λ l. IsDone takes before (piece_of command from Closed opening l None)) (sym obeys.ends.0) (own_unmade takes before from opening c w command no_drill first);
-  }
-
--- OF WHAT A PLANT TELLS
+-- WHAT A CALL OF THE CONTROLLER LEAVES, over one trace and whatever opening was before it
 module _ (takes : Bool) (old mid : Seen) (command : Command) (no_drill : drill_of command ≡ None) (c d : Control) where
   abbrev Told_of : Result Reply CoreFault → Type 0
   Told_of result = ObeyTold old mid (Judged c.lab command) c d result
 
-  pub obeyed_on : (reply : Reply) → Told_of (Ok reply) → closes reply ≡ false → Works mid.told d → OwnTold takes old.told mid.told command c open_alone (Some reply)
-  obeyed_on reply told goes works = (
-    told.0,
-    told.1,
-    map_both old.told (λ t obeys stands. own_on takes t.trace command no_drill c told.0 d reply obeys goes stands) told.2 (carried old.told mid.told told.0 told.1 (λ l. Stands the_texts l d.journal d.lab) works.stands),
+  abbrev Leaving : Result Reply CoreFault → List Event → List Event → Type 0
+  Leaving result own trace = ObeySteps trace (Judged c.lab command) c own d result
+
+  -- by what holds of each trace that is an opening behind another one
+  own_by : (result : Result Reply CoreFault) (told : Told_of result) (new : Option Told) (more : List Event) (to : Session) (reply : Option Reply) → new ≡ with_steps mid.told more → (Then : List Event → Type 0) → IfSome mid.told (λ t. Then t.trace)
+      → ((before : List Event) (from : Session) (opening : List Event) → WasOpened before from opening c → Leaving result told.0 (before ++ opening) → Then ((before ++ opening) ++ told.0) → Does takes before (piece_of command from to opening (told.0 ++ more) reply))
+      → OwnTold takes old.told new command c to reply
+  own_by result told new more to reply is Then then does = (
+    told.0 ++ more,
+    is ∙ ap (λ o. with_steps o more) told.1 ∙ steps_twice old.told told.0 more,
+    map_both old.told (λ t obeys here before from opening same w. does before from opening w (subst (Leaving result told.0) same obeys) (subst (λ l. Then (l ++ told.0)) same here)) told.2 (carried old.told mid.told told.0 told.1 Then then),
   )
 
+  -- with no step behind
+  own_alone : (result : Result Reply CoreFault) (told : Told_of result) (to : Session) (reply : Option Reply) → (Then : List Event → Type 0) → IfSome mid.told (λ t. Then t.trace)
+      → ((before : List Event) (from : Session) (opening : List Event) → WasOpened before from opening c → Leaving result told.0 (before ++ opening) → Then ((before ++ opening) ++ told.0) → Does takes before (piece_of command from to opening told.0 reply))
+      → OwnTold takes old.told mid.told command c to reply
+  own_alone result told to reply Then then does =
+      own_by result told mid.told [] to reply (steps_none mid.told) Then then
+      (λ before from opening w obeys here. subst (λ l. Does takes before (piece_of command from to opening l reply)) (sym (append-nil told.0)) (does before from opening w obeys here))
+
+  abbrev AtWorkHere : List Event → Type 0
+  AtWorkHere trace = Stands the_texts trace d.journal d.lab
+
+  pub obeyed_on : (reply : Reply) → Told_of (Ok reply) → closes reply ≡ false → Works mid.told d → OwnTold takes old.told mid.told command c open_alone (Some reply)
+  obeyed_on reply told goes works =
+      own_alone (Ok reply) told open_alone (Some reply) AtWorkHere works.stands
+      (λ before from opening w o stands. own_answered takes before from opening c w command no_drill told.0 o.sound d reply (subst (λ b. Answers (before ++ opening) (Judged c.lab command) c told.0 reply d b) goes o.ends).0 stands)
+
   pub obeyed_off : (reply : Reply) → Told_of (Ok reply) → closes reply ≡ true → IfSome mid.told (λ t. AsRead t.trace) → OwnTold takes old.told mid.told command c Closed (Some reply)
-  obeyed_off reply told shut there = (
-    told.0,
-    told.1,
-    map_both old.told (λ t obeys here. own_off takes t.trace command no_drill c told.0 d reply obeys shut here) told.2 (carried old.told mid.told told.0 told.1 AsRead there),
-  )
+  obeyed_off reply told shut there =
+      own_alone (Ok reply) told Closed (Some reply) AsRead there
+      (λ before from opening w o here. own_closed takes before from opening c w command no_drill told.0 o.sound reply (not_one reply shut) (subst (λ b. Answers (before ++ opening) (Judged c.lab command) c told.0 reply d b) shut o.ends) here)
 
   pub obeyed_stopped : (new : Option Told) (result : Result Reply CommandFault) → Told_of (Err faults.Stopped) → Starts mid.told new result → IfSome mid.told (λ t. AsRead t.trace) → OwnTold takes old.told new command c (session_after result None) (reply_if result)
   obeyed_stopped new (Ok reply) told starts there =
       let a = starts.1.0 in
-      let b = starts.1.1 in (
-        told.0 ++ Restarted a b ∷ [],
-        starts.1.2 ∙ ap (λ o. with_steps o (Restarted a b ∷ [])) told.1 ∙ steps_twice old.told told.0 (Restarted a b ∷ []),
-        map_both old.told (λ t obeys here. subst (λ r. DoesOwn takes t.trace command c (told.0 ++ Restarted a b ∷ []) Closed (Some r)) (sym starts.0) (own_again takes t.trace command no_drill c told.0 d a b obeys here)) told.2
-            (carried old.told mid.told told.0 told.1 (λ l. ArePossible l a b) starts.1.3),
-      )
-  obeyed_stopped new (Err fault) told starts there = (
-    told.0,
-    starts.1 ∙ told.1,
-    map_both old.told (λ t obeys here. own_stuck takes t.trace command no_drill c told.0 d obeys here) told.2 (carried old.told mid.told told.0 told.1 AsRead there),
-  )
+      let b = starts.1.1 in
+      subst (λ r. OwnTold takes old.told new command c Closed (Some r)) (sym starts.0)
+      (own_by (Err faults.Stopped) told new (Restarted a b ∷ []) Closed (Some replies.Stopped) starts.1.2 (λ l. ArePossible l a b) starts.1.3
+      (λ before from opening w o here. own_stopped takes before from opening c w command no_drill told.0 o.sound o.ends a b here))
+  obeyed_stopped new (Err fault) told starts there =
+      subst (λ n. OwnTold takes old.told n command c Closed None) (sym starts.1)
+      (own_alone (Err faults.Stopped) told Closed None AsRead there (λ before from opening w o here. own_stays takes before from opening c w command no_drill told.0 o.sound o.ends here))
 
-  pub obeyed_not : Told_of (Err faults.Memory) → OwnTold takes old.told mid.told command c Closed None
-  obeyed_not told = (told.0, told.1, map_some old.told (λ t obeys. own_none takes t.trace command no_drill c told.0 d obeys) told.2)
+  pub obeyed_not : Told_of (Err faults.Memory) → Works mid.told d → OwnTold takes old.told mid.told command c Closed None
+  obeyed_not told works = own_alone (Err faults.Memory) told Closed None AtWorkHere works.stands (λ before from opening w o stands. own_unmade takes before from opening c w command no_drill told.0 o.sound d o.ends stands)
 
   pub goes_open : (reply : Reply) → Told_of (Ok reply) → closes reply ≡ false → Works mid.told d → IfSome old.told (λ t. limit_of c.journal ≡ 2 ^ 32) → mid.stopped ≡ false → MayGoOn (record { plant = mid; controller = Some d })
   goes_open reply told goes works limit runs = record {
@@ -202,145 +153,126 @@ goes_closed plant = record { controller = tt; runs = λ some. absurd (cc some) }
 -- WHAT A COMMAND BEGAN
 module _ (takes : Bool) (command : Command) (no_drill : drill_of command ≡ None) where
   -- no failure is planned
-  pub none_planned : (reply : Option Reply) → IsPlannedBy takes (drill_of command) false reply
+  none_planned : (reply : Option Reply) → IsPlannedBy takes (drill_of command) false reply
   none_planned reply = subst (λ (d : Option Drill). IsPlannedBy takes d false reply) (sym no_drill) refl
 
-  pub found : (trace : List Event) (from to : Session) (opening own : List Event) (reply : Option Reply) → Finds None from trace (piece_of command from to opening own reply)
-      → Finds (drill_of command) from trace (piece_of command from to opening own reply)
-  found trace from to opening own reply is = subst (λ (d : Option Drill). Finds d from trace (piece_of command from to opening own reply)) (sym no_drill) is
+  abbrev begins_so : (old new : Option Told) (from to : Session) (opening own : List Event) (reply : Option Reply) → new ≡ with_steps old (opening ++ own) → IfSome old (λ t. IsPiece takes t.trace (piece_of command from to opening own reply))
+      → Begins takes command old new from to reply
+  begins_so old new from to opening own reply told is_piece = record { opening = opening; own = own; planned = false; told = told; planned_by = none_planned reply; is_piece = is_piece }
 
   -- how it leaves the session
-  abbrev Leaves : Session → Option Reply → Type 0
-  Leaves to reply = (stays_open reply ≡ false → to ≡ Closed) × (is_closed to ≡ true → may_shut reply ≡ true)
+  abbrev LeavesSession : Session → Option Reply → Type 0
+  LeavesSession to reply = (stays_open reply ≡ false → to ≡ Closed) × (is_closed to ≡ true → may_shut reply ≡ true)
 
-  pub cut_shuts : (opening : List Event) (reply : Option Reply) → Breaks opening reply → may_shut reply ≡ true
-  cut_shuts opening reply (stopped ends is) = ap may_shut is
-  cut_shuts opening reply (failed once missed is) = ap may_shut is
-  cut_shuts opening reply (unanswered is) = ap may_shut is
-
-  -- by an open controller
-  pub begins_open : (old new : Option Told) (c : Control) (to : Session) (reply : Option Reply) → Leaves to reply → IsOpen old c → OwnTold takes old new command c to reply
-      → Begins takes command old new open_alone to reply
-  begins_open old new c to reply leaves is own = record {
-    opening = [];
-    own = own.0;
-    planned = false;
-    told = own.1;
-    planned_by = none_planned reply;
-    is_piece = map_three old (λ t stands limit does.
-        let w = was_open t.trace c stands limit in
-        let it = does t.trace open_alone [] (sym (append-nil t.trace)) w in
-        record {
-          readable = w.readable;
-          finds = found t.trace open_alone to [] own.0 reply refl;
-          leaves = leaves.0;
-          shuts = λ none. leaves.1;
-          leads = λ none. it.leads;
-          done = it.done;
-        }) is.works.stands is.limit own.2;
+  -- by an open controller, or one that was opened first
+  open_piece : (trace : List Event) (from to : Session) (opening own : List Event) (reply : Option Reply) → LeavesSession to reply → AsRead trace → Finds None from trace (piece_of command from to opening own reply)
+      → Does takes trace (piece_of command from to opening own reply) → IsPiece takes trace (piece_of command from to opening own reply)
+  open_piece trace from to opening own reply leaves readable finds it = record {
+    readable = readable;
+    finds = subst (λ (d : Option Drill). Finds d from trace (piece_of command from to opening own reply)) (sym no_drill) finds;
+    leaves = leaves.0;
+    shuts = λ none. leaves.1;
+    steps = λ none some miss restart. it.steps;
+    leads = λ none. it.leads;
+    done = it.done;
   }
 
-  -- by one that was opened first
-  pub begins_opened : (old mid new : Option Told) (steps : List Event) (c : Control) (to : Session) (reply : Option Reply) → Leaves to reply → mid ≡ with_steps old steps
-      → IfSome old (λ t. OpenSteps t.trace steps × HasOpened t.trace steps (2 ^ 32) c) → IfSome old (λ t. AsRead t.trace) → Works mid c → limit_of c.journal ≡ 2 ^ 32 → OwnTold takes mid new command c to reply → Begins takes command old new Closed to reply
-  begins_opened old mid new steps c to reply leaves is opens there works limit own =
-      record {
-        opening = steps;
-        own = own.0;
-        planned = false;
-        planned_by = none_planned reply;
-        told = own.1 ∙ ap (λ o. with_steps o own.0) is ∙ steps_twice old steps own.0;
-        is_piece = map_three old (λ t o read both.
-            let it = both.1 t.trace Closed steps refl (is_opened t.trace steps c o.0 o.1 both.0 limit read) in
-            record {
-              readable = read;
-              finds = found t.trace Closed to steps own.0 reply (o.0.no_command, opened o.1.no_miss o.0.no_restart o.1.journal);
-              leaves = leaves.0;
-              shuts = λ none. leaves.1;
-              leads = λ none. it.leads;
-              done = it.done;
-            }) opens there
-            (carried old mid steps is (λ l. Stands the_texts l c.journal c.lab × DoesOwn takes l command c own.0 to reply) (map_both mid (λ t stands does. (stands, does)) works.stands own.2));
-      }
+  pub begins_open : (old new : Option Told) (c : Control) (to : Session) (reply : Option Reply) → LeavesSession to reply → IsOpen old c → OwnTold takes old new command c to reply
+      → Begins takes command old new open_alone to reply
+  begins_open old new c to reply leaves is own =
+      begins_so old new open_alone to [] own.0 reply own.1
+      (map_three old (λ t stands limit does. let w = was_open t.trace c stands limit in open_piece t.trace open_alone to [] own.0 reply leaves w.readable refl (does t.trace open_alone [] (sym (append-nil t.trace)) w)) is.works.stands is.limit own.2)
 
-  -- and where it could not be opened
-  module _ (told new : Option Told) (mid : Option Told) (steps : List Event) (is : mid ≡ with_steps told steps) (there : IfSome told (λ t. AsRead t.trace)) where
-    abbrev pub begins_cut : (reply : Option Reply) → leaves_one Closed reply ≡ false → new ≡ mid → IfSome mid (λ t. AsRead t.trace) → IfSome told (λ t. OpenSteps t.trace steps × Breaks steps reply) → Begins takes command told new Closed Closed reply
-    begins_cut reply other same then opens = record {
-      opening = steps;
-      own = [];
-      planned = false;
-      planned_by = none_planned reply;
-      told = same ∙ is ∙ ap (λ l. with_steps told l) (sym (append-nil steps));
-      is_piece = map_three told (λ t o read now. record {
-        readable = read;
-        finds = found t.trace Closed Closed steps [] reply (o.0.no_command, broken_off o.1 refl refl);
-        leaves = λ shut. refl;
-        shuts = λ none shut. cut_shuts steps reply o.1;
-        leads = λ none open_now. absurd (cc open_now);
-        done = λ sound. cut_done takes t.trace steps o.0 read sound command no_drill now reply other o.1;
-      }) opens there (carried told mid steps is AsRead then);
-    }
-
-    pub begins_again : (a b : List ℕ) → new ≡ with_steps mid (Restarted a b ∷ []) → IfSome mid (λ t. ArePossible t.trace a b) → IfSome told (λ t. OpenSteps t.trace steps) → Begins takes command told new Closed Closed (Some replies.Stopped)
-    begins_again a b again possible opens = record {
-      opening = steps ++ Restarted a b ∷ [];
-      own = [];
-      planned = false;
-      planned_by = none_planned (Some replies.Stopped);
-      told = again ∙ ap (λ o. with_steps o (Restarted a b ∷ [])) is ∙ steps_twice told steps (Restarted a b ∷ []) ∙ ap (λ l. with_steps told l) (sym (append-nil (steps ++ Restarted a b ∷ [])));
-      is_piece = map_three told (λ t o read now. record {
-        finds = found t.trace Closed Closed (steps ++ Restarted a b ∷ []) [] (Some replies.Stopped) (again_quiet steps a b o.no_command, broken_off (again_breaks steps a b o.no_restart) refl refl);
-        readable = read;
-        leaves = λ shut. refl;
-        shuts = λ none shut. refl;
-        leads = λ none open_now. absurd (cc open_now);
-        done = λ sound. stopped_done takes t.trace steps o read sound command no_drill a b now;
-      }) opens there (carried told mid steps is (λ l. ArePossible l a b) possible);
-    }
+  pub begins_opened : (old mid new : Option Told) (c : Control) (to : Session) (reply : Option Reply) → LeavesSession to reply → (told : OpenTold old mid (2 ^ 32) (Ok c)) → IfSome old (λ t. AsRead t.trace) → Works mid c → limit_of c.journal ≡ 2 ^ 32
+      → OwnTold takes mid new command c to reply → Begins takes command old new Closed to reply
+  begins_opened old mid new c to reply leaves (reading, moving, is, opens) there works limit own =
+      let steps = reading ++ moving in
+      begins_so old new Closed to steps own.0 reply (own.1 ∙ ap (λ o. with_steps o own.0) is ∙ steps_twice old steps own.0)
+      (map_three old (λ t o readable both.
+      let w = is_opened t.trace reading moving c o both.0 limit readable in
+      let it = w.opens refl in
+      open_piece t.trace Closed to steps own.0 reply leaves readable ((λ sent. o.ends.read.journal), opened it.no_miss it.no_restart o.ends.read.journal) (both.1 t.trace Closed steps refl w)) opens there
+      (carried old mid steps is (λ l. Stands the_texts l c.journal c.lab × DoesOwn takes l command c own.0 to reply) (map_both mid (λ t stands does. (stands, does)) works.stands own.2)))
 
 -- WHERE THE CONTROLLER COULD NOT BE OPENED, from a moment at which it is closed
-module _ (takes : Bool) (command : Command) (no_drill : drill_of command ≡ None) (plant : Seen) (new : Moment) (mid : Option Told) (steps : List Event) (is : mid ≡ with_steps plant.told steps)
+module _ (takes : Bool) (command : Command) (no_drill : drill_of command ≡ None) (plant : Seen) (new : Moment) (mid : Option Told) (fault : OpenFault) (opens : OpenTold plant.told mid (2 ^ 32) (Err fault))
     (there : IfSome plant.told (λ t. AsRead t.trace)) (then : IfSome mid (λ t. AsRead t.trace)) (later : Later plant.faults new.plant.faults) (goes_on : MayGoOn new) (closed : new.controller ≡ None) where
   abbrev old : Moment
   old = record { plant = plant; controller = None }
 
-  abbrev made : (reply : Option Reply) → Begins takes command plant.told new.plant.told Closed Closed reply → (closes_if reply ≡ true → Rose plant.faults.disk new.plant.faults.disk) → blames_if reply ≡ false → (is_some reply ≡ true → new.plant.stopped ≡ false) → Made takes command old new Closed reply
+  abbrev steps : List Event
+  steps = opens.0 ++ opens.1
+
+  then_here : IfSome plant.told (λ t. AsRead (t.trace ++ steps))
+  then_here = carried plant.told mid steps opens.2 AsRead then
+
+  abbrev begins_cut : (reply : Option Reply) → leaves_one Closed reply ≡ false → new.plant.told ≡ mid → (is_some reply ≡ true → fault ≡ openings.Plant) → IfSome plant.told (λ t. Breaks steps reply) → Begins takes command plant.told new.plant.told Closed Closed reply
+  begins_cut reply other same only breaks =
+      begins_so takes command no_drill plant.told new.plant.told Closed Closed steps [] reply (same ∙ opens.2 ∙ ap (λ l. with_steps plant.told l) (sym (append-nil steps)))
+      (map_three {P = λ t. OpenSteps t.trace opens.0 opens.1 (2 ^ 32) (Err fault) × Breaks steps reply} plant.told (λ t both readable now. cut_piece takes t.trace command no_drill opens.0 opens.1 fault both.0 readable reply other both.1 only now) (map_both plant.told (λ t o b. (o, b)) opens.3 breaks) there then_here)
+
+  abbrev made : (reply : Option Reply) → Begins takes command plant.told new.plant.told Closed Closed reply → (closes_if reply ≡ true → Rose plant.faults.disk new.plant.faults.disk) → blames_if reply ≡ false → (is_some reply ≡ true → new.plant.stopped ≡ false)
+      → Made takes command old new Closed reply
   made reply begun disk blameless runs = record { begun = begun; later = later; disk = disk; device = λ blamed. absurd (cc (blameless, blamed)); runs = λ some was. runs some; goes_on = goes_on }
 
-  abbrev silent_end : new.plant.told ≡ mid → IfSome plant.told (λ t. OpenSteps t.trace steps) → Made takes command old new Closed None
-  silent_end same opens = made None (begins_cut takes command no_drill plant.told new.plant.told mid steps is there None refl same then (map_some plant.told (λ t o. (o, unanswered refl)) opens)) (λ shut. absurd (cc shut)) refl (λ some. absurd (cc some))
+  abbrev silent_end : new.plant.told ≡ mid → Made takes command old new Closed None
+  silent_end same = made None (begins_cut None refl same (λ some. absurd (cc some)) (map_some plant.told (λ t o. unanswered refl) opens.3)) (λ shut. absurd (cc shut)) refl (λ some. absurd (cc some))
 
   in_reply : (reply : Reply) → Made takes command old new Closed (Some reply) → Ends takes command old new (Ok reply)
   in_reply reply it = subst (λ (k : Option Control). Made takes command old new (session_of k) (Some reply)) (sym closed) it
 
-  pub ends_unopened : (fault : OpenFault) (result : Result Reply CommandFault) → Unopened fault mid new.plant.told result → IfSome plant.told (λ t. OpenSteps t.trace steps × OpenEnds t.trace steps (2 ^ 32) (Err fault))
-      → (fault ≡ openings.Plant → Rose plant.faults.disk new.plant.faults.disk) → (is_some (reply_if result) ≡ true → new.plant.stopped ≡ false) → ((side : Side) (at : ℕ) → result ≡ Err (command_faults.JournalBad side at) → new.plant.stopped ≡ false)
-      → Ends takes command old new result
-  ends_unopened openings.Plant result un opens missed runs bad =
-      subst (λ r. Ends takes command old new r) (sym un.0)
-      (in_reply replies.Down (made (Some replies.Down) (begins_cut takes command no_drill plant.told new.plant.told mid steps is there (Some replies.Down) refl un.1 then (map_some plant.told (λ t o. (o.0, failed o.0.no_restart o.1 refl)) opens))
-      (λ shut. missed refl) refl (λ some. runs (ap (λ r. is_some (reply_if r)) un.0))))
-  ends_unopened openings.Stopped (Ok reply) un opens missed runs bad =
-      subst (λ r. Ends takes command old new (Ok r)) (sym un.0)
-      (in_reply replies.Stopped (made (Some replies.Stopped) (begins_again takes command no_drill plant.told new.plant.told mid steps is there un.1.0 un.1.1 un.1.2 un.1.3 (map_some plant.told (λ t o. o.0) opens))
-      (λ shut. absurd (cc shut)) refl (λ some. runs refl)))
-  ends_unopened openings.Stopped (Err fault) un opens missed runs bad = subst (λ f. Ends takes command old new (Err f)) (sym un.0) (silent_end un.1 (map_some plant.told (λ t o. o.0) opens))
-  ends_unopened (openings.Bad side at) result un opens missed runs bad =
-      subst (λ r. Ends takes command old new r) (sym un.0) (record {
-        made = silent_end un.1 (map_some plant.told (λ t o. o.0) opens);
-        finds = map_some plant.told (λ t o. record {
-          no_drill = no_drill;
-          closed = refl;
-          no_journal = o.1.no_journal;
-          synced = o.1.synced;
-          nothing = refl;
-          no_reply = refl;
-          as_before = λ s. subst (λ l. (disk s (t.trace ++ l)).reads ≡ (disk s t.trace).reads) (sym (append-nil steps)) (o.1.as_before s);
-        }) opens;
-        runs = bad side at un.0;
-      })
-  ends_unopened openings.Memory result un opens missed runs bad = subst (λ r. Ends takes command old new r) (sym un.0) (silent_end un.1 (map_some plant.told (λ t o. o.0) opens))
+  down_end : fault ≡ openings.Plant → new.plant.told ≡ mid → Rose plant.faults.disk new.plant.faults.disk → new.plant.stopped ≡ false → Ends takes command old new (Ok replies.Down)
+  down_end is same missed runs =
+      in_reply replies.Down (made (Some replies.Down) (begins_cut (Some replies.Down) refl same (λ some. is)
+      (map_both plant.told (λ t o readable. failed (started_nowhere takes t.trace command no_drill opens.0 opens.1 fault o readable) (missed_in takes t.trace command no_drill opens.0 opens.1 fault o readable is) refl) opens.3 there))
+      (λ shut. missed) refl (λ some. runs))
+
+  again_end : fault ≡ openings.Stopped → (reply : Reply) → Starts mid new.plant.told (Ok reply) → new.plant.stopped ≡ false → Ends takes command old new (Ok reply)
+  again_end is reply (told, (a, b, again, possible)) runs =
+      let opening = steps ++ Restarted a b ∷ [] in
+      subst (λ r. Ends takes command old new (Ok r)) (sym told)
+      (in_reply replies.Stopped (made (Some replies.Stopped) (begins_so takes command no_drill plant.told new.plant.told Closed Closed opening [] (Some replies.Stopped)
+      (again ∙ ap (λ o. with_steps o (Restarted a b ∷ [])) opens.2 ∙ steps_twice plant.told steps (Restarted a b ∷ []) ∙ ap (λ l. with_steps plant.told l) (sym (append-nil opening)))
+      (map_three plant.told (λ t o readable now. again_piece takes t.trace command no_drill opens.0 opens.1 (subst (λ f. OpenSteps t.trace opens.0 opens.1 (2 ^ 32) (Err f)) is o) readable a b now) opens.3 there
+      (carried plant.told mid steps opens.2 (λ l. ArePossible l a b) possible)))
+      (λ shut. absurd (cc shut)) refl (λ some. runs)))
+
+  -- the sides are no journal
+  none_end : (side : Side) (at : ℕ) → fault ≡ openings.Bad side at → new.plant.told ≡ mid → new.plant.stopped ≡ false → FoundNone takes command old new side at
+  none_end side at is same runs = record {
+    made = silent_end same;
+    finds = map_some plant.told (λ t o. by t.trace (subst (λ f. OpenEnds t.trace opens.0 opens.1 (2 ^ 32) (Err f)) is o.ends)) opens.3;
+    runs = runs;
+  }
+    where
+      by : (trace : List Event) → OpenEnds trace opens.0 opens.1 (2 ^ 32) (Err (openings.Bad side at)) → FindsNone trace (piece_of command Closed Closed steps [] None) side at
+      by trace (inr never) = absurd never
+      by trace (inl (none, found)) =
+          let all : opens.0 ≡ steps = sym (append-nil opens.0) ∙ ap (λ l. opens.0 ++ l) (sym none) in
+          record {
+            no_drill = no_drill;
+            closed = refl;
+            no_journal = found.no_journal;
+            synced = sym all ∙ found.synced;
+            nothing = refl;
+            no_reply = refl;
+            as_before = λ s. subst (λ l. (disk s (trace ++ l)).reads ≡ (disk s trace).reads) (all ∙ sym (append-nil steps)) (found.as_before s);
+          }
+
+  -- by its fault
+  stopped_end : fault ≡ openings.Stopped → (result : Result Reply CommandFault) → Starts mid new.plant.told result → (is_some (reply_if result) ≡ true → new.plant.stopped ≡ false) → Ends takes command old new result
+  stopped_end is (Ok reply) starts runs = again_end is reply starts (runs refl)
+  stopped_end is (Err other) starts runs = subst (λ f. Ends takes command old new (Err f)) (sym starts.0) (silent_end starts.1)
+
+  pub ends_unopened : (result : Result Reply CommandFault) → Unopened fault mid new.plant.told result → (fault ≡ openings.Plant → Rose plant.faults.disk new.plant.faults.disk) → (is_some (reply_if result) ≡ true → new.plant.stopped ≡ false)
+      → ((side : Side) (at : ℕ) → result ≡ Err (command_faults.JournalBad side at) → new.plant.stopped ≡ false) → Ends takes command old new result
+  ends_unopened result un missed runs bad = by fault refl un
+    where
+      by : (f : OpenFault) → fault ≡ f → Unopened f mid new.plant.told result → Ends takes command old new result
+      by openings.Plant is so = subst (λ r. Ends takes command old new r) (sym so.0) (down_end is so.1 (missed is) (runs (ap (λ r. is_some (reply_if r)) so.0)))
+      by openings.Stopped is so = stopped_end is result so runs
+      by (openings.Bad side at) is so = subst (λ r. Ends takes command old new r) (sym so.0) (none_end side at is so.1 (bad side at so.0))
+      by openings.Memory is so = subst (λ r. Ends takes command old new r) (sym so.0) (silent_end so.1)
 
 -- WHATEVER WAS BEGUN, with the counts of faults and what is kept
 pub ends_of : (takes : Bool) (command : Command) (old new : Moment) (result : Result Reply CommandFault) → Begins takes command old.plant.told new.plant.told (session_of old.controller) (session_after result new.controller) (reply_if result)
@@ -358,11 +290,8 @@ pub runs_if : (result : Result Reply CommandFault) (halts : Bool) → OnOk resul
 runs_if (Ok reply) halts runs some = runs
 runs_if (Err fault) halts runs some = absurd (cc some)
 
-pub later_same : (a b now : Faults) → a.disk ≤ b.disk → b.devices ≡ a.devices → now ≡ b → Later a now
-later_same a b now disk devices same = record {
-  disk = subst (λ (f : Faults). a.disk ≤ f.disk) (sym same) disk;
-  devices = subst (λ (f : Faults). a.devices ≤ f.devices) (sym same) (omega (arith, devices));
-}
+pub later_same : (a b now : Faults) → a.disk ≤ b.disk → a.devices ≤ b.devices → now ≡ b → Later a now
+later_same a b now disk devices same = record { disk = subst (λ (f : Faults). a.disk ≤ f.disk) (sym same) disk; devices = subst (λ (f : Faults). a.devices ≤ f.devices) (sym same) devices }
 
 pub rose_same : (a : ℕ) (b now : Faults) → Rose a b.disk → now ≡ b → Rose a now.disk
 rose_same a b now rose same = subst (λ (f : Faults). Rose a f.disk) (sym same) rose

@@ -1,5 +1,5 @@
 -- A run of commands goes on, one piece after another.
-use Rattle.std.proofs.Common.{◌≡◌, ◌⊎◌, inl, inr, ℕ, ◌+◌, ◌^◌, ◌<◌, arith, Bool, true, false, ◌&&◌, List, [], ◌∷◌, ◌++◌, length, take, Option, Some, None, Result, Ok, Err, refl, sym, ◌∙◌, ap, subst}
+use Rattle.std.proofs.Common.{◌≡◌, ◌⊎◌, inl, inr, ℕ, ◌+◌, ◌^◌, arith, Bool, true, false, ◌&&◌, List, [], ◌∷◌, ◌++◌, length, take, Option, Some, None, Ok, Err, refl, sym, ◌∙◌, ap, subst}
 use Rattle.std.specs.Prelude.{IfSome, is_some}
 use Rattle.std.specs.Io.KnownBytes.{append_known}
 use Rattle.std.proofs.lemmas.List.{append-nil, map-append}
@@ -13,7 +13,7 @@ use Rattle.plant.specs.Disks.{disk, ArePossible}
 use Rattle.plant.specs.Events.{Event}
 use Rattle.plant.specs.declared.drill.Drill.{Drill}
 use Rattle.plant.specs.Seen.{Seen}
-use Rattle.plant.specs.Told.{Told, with_mark, with_drill, with_steps}
+use Rattle.plant.specs.Told.{Told, with_mark}
 use Rattle.journal_model.specs.Journals.{gate_after, journal_length, size_of}
 use Rattle.records_model.specs.Works.{IsSound}
 use Rattle.journal_runs.proofs.Stood.{sound_not_bad, sound_follows, sound_room}
@@ -23,13 +23,12 @@ use Rattle.script_text.specs.declared.command.Command.{Command}
 use Rattle.script_text.specs.declared.reply.Reply.{Reply}
 use Rattle.script_text.specs.Replies.{text_of}
 use Rattle.lab_core.specs.Moments.{IsNoJournal, bad, cannot_follow, no_room}
-use Rattle.lab_core.specs.Sessions.{Session, Closed, Open, HandsOn, OpenSwap, open_at}
-use Rattle.lab_top.specs.declared.command.CommandFault.{CommandFault}
+use Rattle.lab_core.specs.Sessions.{Session, Closed, Open, HandsOn, open_at}
 use Rattle.lab_top.specs.declared.command.CommandFault.TheVariants as faults
 use Rattle.lab_top.specs.declared.status.Status.TheVariants as statuses
 use Rattle.lab_top.specs.declared.status.Status.{Status}
-use Rattle.lab_top.specs.Answering.{Moment, Made, FoundNone, Answered, marked, piece_of, session_of}
-use Rattle.lab_top.specs.Pieces.{Piece, Begun, steps_of, commands_of, planned_of, trace_after, with_drill_if, with_piece, with_pieces, IsCaused, Counts, FindsNone, IsPiece, ArePieces, reply_text, reply_texts}
+use Rattle.lab_top.specs.Answering.{Moment, Made, Answered, marked, piece_of, session_of}
+use Rattle.lab_top.specs.Pieces.{Begun, steps_of, commands_of, planned_of, trace_after, with_drill_if, with_piece, with_pieces, IsCaused, Counts, FindsNone, IsPiece, ArePieces, reply_text, reply_texts}
 use Rattle.lab_top.specs.Ran.{AreAnswered, BegunCommands, EndsSo, GoesOn, LastFindsNone, LastIsNot, Outside, Ran, WroteReplies, Answered as StatusAnswered}
 use Rattle.lab_top.specs.Words.{Choices, Usual}
 use Rattle.lab_top.proofs.Obeyed.{map_both, map_some, map_three}
@@ -44,7 +43,7 @@ last-push : (session : Session) (begun : List Begun) (b : Begun) → last_sessio
 last-push session [] b = refl
 last-push session (x ∷ begun) b = last-push x.piece.to begun b
 
-trace-push : (trace : List Event) (begun : List Begun) (b : Begun) → trace_after trace (begun ++ b ∷ []) ≡ trace_after trace begun ++ steps_of b.piece
+pub trace-push : (trace : List Event) (begun : List Begun) (b : Begun) → trace_after trace (begun ++ b ∷ []) ≡ trace_after trace begun ++ steps_of b.piece
 trace-push trace [] b = refl
 trace-push trace (x ∷ begun) b = trace-push (trace ++ steps_of x.piece) begun b
 

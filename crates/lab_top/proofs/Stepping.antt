@@ -1,46 +1,45 @@
 -- Lab steps of pieces, from what an opening and an open controller leave.
-use Rattle.std.proofs.Common.{◌≡◌, ◌⊎◌, inl, inr, ℕ, ◌+◌, ◌^◌, Bool, true, false, ◌||◌, ◌&&◌, List, [], ◌∷◌, ◌++◌, length, Option, Some, None, Result, Ok, refl, sym, ◌∙◌, ap, subst, arith, append_assoc, length-append}
-use Rattle.std.specs.Prelude.{not, is_some}
-use Rattle.std.proofs.lemmas.List.{append-nil, take-append-le}
+use Rattle.std.proofs.Common.{◌≡◌, inl, inr, ℕ, ◌+◌, ◌^◌, Bool, true, false, ◌||◌, ◌&&◌, List, [], ◌∷◌, ◌++◌, Option, Some, None, refl, sym, ◌∙◌, ap, subst, append_assoc}
+use Rattle.std.specs.Prelude.{not, is_some, Ok}
+use Rattle.std.specs.List.{list_any}
+use Rattle.std.proofs.lemmas.List.{append-nil}
 use Rattle.std.proofs.lemmas.List.Folds.{list_any-append}
 use Rattle.plant.specs.declared.drill.Drill.{Drill}
 use Rattle.plant.specs.declared.step.Side.TheVariants.{A, B}
 use Rattle.plant.specs.Disks.{disk, ArePossible}
 use Rattle.plant.specs.Events.{Event, Restarted}
-use Rattle.lab_model.specs.Sound.{SoundAt}
 use Rattle.journal_model.specs.Journals.{journal_length}
-use Rattle.records_model.specs.Appends.{StandFor}
-use Rattle.records_model.specs.Labs.{LabState, Texts}
+use Rattle.records_model.specs.Labs.{LabState}
 use Rattle.records_model.specs.Works.{IsSound}
 use Rattle.records_model.proofs.Starts.{restarted}
 use Rattle.journal_disk.specs.Before.{is_sync_of, are_synced}
 use Rattle.journal_disk.specs.Standing.{side_of, length_of, limit_of}
-use Rattle.journal_runs.specs.Pieces.{is_command, is_restart, has_command, has_restart}
-use Rattle.journal_runs.proofs.Blank.{restarted_reads, restarted_possible, restarted_stand}
+use Rattle.journal_runs.specs.Pieces.{is_miss, is_restart, has_restart, EndsRestarted}
+use Rattle.journal_runs.proofs.Blank.{restarted_reads, restarted_stand}
 use Rattle.journal_runs.proofs.Images.{on_image, reads_possible, reads_on}
 use Rattle.journal_runs.proofs.Quiet.{shows}
-use Rattle.journal_runs.proofs.Stood.{sound_stands, stood_alike, stood_before, stood_settled}
+use Rattle.journal_runs.proofs.Stood.{stood_alike, stood_once}
 use Rattle.lab_state.specs.Texts.{the_texts}
+use Rattle.lab_state.proofs.Canonical.{texts_once}
 use Rattle.swap_turns.specs.Running.{Stands}
+use Rattle.swap_turns.proofs.Showing.{settles_show}
 use Rattle.script_text.specs.declared.command.Command.{Command}
 use Rattle.script_text.specs.declared.reply.Reply.{Reply}
 use Rattle.script_text.specs.declared.reply.Reply.TheVariants as replies
 use Rattle.script_text.specs.Drills.{drill_of}
-use Rattle.lab_core.specs.Breaks.{Breaks, stopped, unanswered}
 use Rattle.lab_core.specs.Controller.{Control}
 use Rattle.lab_core.specs.Judge.{Judged}
-use Rattle.lab_core.specs.LabSteps.{LabStep, StepOf, IsDoneBy, no_memory, opened, not_opened, Settles}
+use Rattle.lab_core.specs.LabSteps.{LabStep, StepOf, IsDoneBy, opened}
 use Rattle.lab_core.specs.Moments.{StandForLab, IsLabAt, IsLabOfImage, AllStandFor, IsLengthAt}
-use Rattle.lab_core.specs.Obey.{setting_of, ended, Leaves}
-use Rattle.lab_core.specs.Opening.{OpenSteps, HasOpened}
+use Rattle.lab_core.specs.Obey.{setting_of, Leaves}
+use Rattle.lab_core.specs.Opening.{OpenSteps}
+use Rattle.lab_core.specs.Recovery.{Opens}
 use Rattle.lab_core.specs.Sessions.{Session, Closed, Open, open_alone, Setting, After}
-use Rattle.lab_top.specs.Pieces.{ButForReply, IsDone, Leads, StepsFrom, FirstLab, ImagesAfter, is_closed, leaves_one, stays_open}
+use Rattle.lab_top.specs.Pieces.{Piece, ButForReply, HasOpened, IsDone, OpensTo, StepsFrom, FirstLab, ImagesAfter, is_closed, is_early, leaves_one, steps_of}
 use Rattle.lab_top.specs.Answering.{Does, WasOpened, piece_of}
 
--- PREFIXES of sound traces
-pub sound_before : (t : Texts) (trace more : List Event) → IsSound t (trace ++ more) → IsSound t trace
-sound_before t trace more sound n within =
-    subst (λ l. SoundAt (λ a b s. StandFor t a b s) l) (take-append-le n trace more within) (sound n (omega (arith, within, length-append trace more)))
+abbrev pub AsRead : List Event → Type 0
+AsRead trace = ArePossible trace (disk A trace).reads (disk B trace).reads
 
 -- A CONTROLLER THAT STANDS
 pub standing_all : (trace : List Event) (c : Control) → Stands the_texts trace c.journal c.lab → AllStandFor trace c.lab
@@ -54,26 +53,43 @@ standing_length trace c s =
     let on = reads_on trace (side_of c.journal) s.records s.at.opened in
     record { records = s.records; read = on.reads; is = sym (on.size ∙ ap (λ n. n + 1) (sym s.at.gate)) }
 
-pub sound_length : (trace : List Event) → ArePossible trace (disk A trace).reads (disk B trace).reads → IsSound the_texts trace → (n : ℕ) × IsLengthAt trace n
-sound_length trace possible sound =
-    let x = sound_stands the_texts trace (disk A trace).reads (disk B trace).reads possible sound in
-    (journal_length (disk A trace).reads (disk B trace).reads x.1.records, record { records = x.1.records; read = x.1.read; is = refl })
+-- THE LENGTH where the sides stand for a lab
+pub lab_length : (trace : List Event) (s : LabState) → IsLabAt trace s → (n : ℕ) × IsLengthAt trace n
+lab_length trace s at = (journal_length (disk A trace).reads (disk B trace).reads at.records, record { records = at.records; read = at.read; is = refl })
 
--- a plant that was started again with images
-restarted_lab : (trace : List Event) (a b : List ℕ) (s : LabState) → StandForLab a b s → IsLabAt (trace ++ Restarted a b ∷ []) s
+-- A PLANT THAT WAS STARTED AGAIN with images
+pub restarted_lab : (trace : List Event) (a b : List ℕ) (s : LabState) → StandForLab a b s → IsLabAt (trace ++ Restarted a b ∷ []) s
 restarted_lab trace a b s stand =
     let reads = restarted_reads trace a b in
     subst (λ l. StandForLab l (disk B (trace ++ Restarted a b ∷ [])).reads s) (sym reads.0) (subst (λ l. StandForLab a l s) (sym reads.1) stand)
 
-restarted_reads_possible : (trace : List Event) (a b : List ℕ) → ArePossible (trace ++ Restarted a b ∷ []) (disk A (trace ++ Restarted a b ∷ [])).reads (disk B (trace ++ Restarted a b ∷ [])).reads
-restarted_reads_possible trace a b =
-    let reads = restarted_reads trace a b in
-    let now = trace ++ Restarted a b ∷ [] in
-    subst (λ l. ArePossible now l (disk B now).reads) (sym reads.0) (subst (λ l. ArePossible now a l) (sym reads.1) (restarted_possible trace a b))
+pub has_started : (events : List Event) → EndsRestarted events → has_restart events ≡ true
+has_started events ends = shows is_restart events ends.front (Restarted ends.a ends.b ∷ []) false true ends.is ends.once refl
 
+-- WHETHER IT STOPPED EARLY
 pub not_early : (from : Session) (opening : List Event) → has_restart opening ≡ false → (is_closed from && (has_restart opening && not (are_synced opening))) ≡ false
 not_early Closed opening none = ap (λ b. b && not (are_synced opening)) none
 not_early (Open opens) opening none = refl
+
+pub and_left : (x y : Bool) → x && y ≡ true → x ≡ true
+and_left true y is = refl
+and_left false y is = absurd (cc is)
+
+pub and_right : (x y : Bool) → x && y ≡ true → y ≡ true
+and_right true y is = is
+and_right false y is = absurd (cc is)
+
+and_false : (x : Bool) → x && false ≡ false
+and_false true = refl
+and_false false = refl
+
+pub still_synced : (steps more : List Event) → are_synced steps ≡ true → are_synced (steps ++ more) ≡ true
+still_synced steps more is i =
+    (list_any-append (is_sync_of A) steps more ∙ ap (λ b. b || list_any (is_sync_of A) more) (and_left (list_any (is_sync_of A) steps) (list_any (is_sync_of B) steps) is)) i
+    && (list_any-append (is_sync_of B) steps more ∙ ap (λ b. b || list_any (is_sync_of B) more) (and_right (list_any (is_sync_of A) steps) (list_any (is_sync_of B) steps) is)) i
+
+pub late_enough : (opening : List Event) → are_synced opening ≡ true → (true && (has_restart opening && not (are_synced opening))) ≡ false
+late_enough opening synced = ap (λ b. has_restart opening && not b) synced ∙ and_false (has_restart opening)
 
 abbrev pub after_of : Option Reply → LabState → Session → After
 after_of reply lab session = record { reply = reply; lab = lab; session = session }
@@ -100,12 +116,35 @@ silent_done takes trace command from to opening own reply done =
         behind = l.behind;
         steps = record { length = s.length; length_is = s.length_is; told = s.told; session = s.session; behind = s.behind; is_told = silent_told reply s.told to s.session s.behind s.is_told; step = s.step };
       };
+      opened = λ opens. absurd (cc opens.answered);
       images = λ some. absurd (cc some);
       sound = done.sound;
     }
 
+-- A PIECE IS DONE, over the trace as it is behind it
+module _ (takes : Bool) (trace : List Event) (piece : Piece) where
+  abbrev pub ImagesAt : Bool → List Event → LabState → Type 0
+  ImagesAt true now last = AllStandFor now last
+  ImagesAt false now last = (a b : List ℕ) → ArePossible now a b → (s : LabState) × (after : LabState) × IsLabOfImage trace s × StandForLab a b after × StepsFrom takes trace piece s after
+
+  abbrev Comes : List Event → Type 0
+  Comes now = (first last : LabState) → FirstLab (is_early piece) trace first → StepsFrom takes trace piece first last → (HasOpened piece → (mid : LabState) × OpensTo trace piece first mid) → IsSound the_texts now → IsLabAt now last
+      → (is_some piece.reply ≡ true → ImagesAt (leaves_one piece.to piece.reply) now last) → IsDone takes trace piece
+
+  images_after : (one : Bool) (last : LabState) → ImagesAt one (trace ++ steps_of piece) last → ImagesAfter takes one trace piece last
+  images_after true last images = images
+  images_after false last images = images
+
+  pub done_at : (now : List Event) → trace ++ steps_of piece ≡ now → Comes now
+  done_at now is = subst Comes is (λ first last from steps opens sound at images. record {
+    leads = record { first = first; last = last; before = from; behind = at; steps = steps };
+    opened = opens;
+    images = λ some. images_after (leaves_one piece.to piece.reply) last (images some);
+    sound = sound;
+  })
+
 -- A COMMAND THAT IS NO DRILL
-step_of : (takes : Bool) (set : Setting) (s : LabState) (from : Session) (command : Command) (opening own : List Event) (after : After) → drill_of command ≡ None → StepOf None (λ lab. Judged lab command) takes set s from opening own after
+pub step_of : (takes : Bool) (set : Setting) (s : LabState) (from : Session) (command : Command) (opening own : List Event) (after : After) → drill_of command ≡ None → StepOf None (λ lab. Judged lab command) takes set s from opening own after
     → LabStep takes set s from command opening own after
 step_of takes set s from command opening own after no_drill step = subst (λ (d : Option Drill). StepOf d (λ lab. Judged lab command) takes set s from opening own after) (sym no_drill) step
 
@@ -114,8 +153,14 @@ module _ (takes : Bool) (before : List Event) (from : Session) (opening : List E
   abbrev IsDoneOf : List Event → Option Reply → LabState → Session → Type 0
   IsDoneOf own reply lab session = IsDoneBy (Judged c.lab command) (setting_of c) c.lab [] own (after_of reply lab session)
 
+  abbrev of : List Event → Session → Option Reply → Piece
+  of own to reply = piece_of command from to opening own reply
+
+  abbrev Steps : List Event → Session → Option Reply → LabState → Type 0
+  Steps own to reply lab = StepsFrom takes before (of own to reply) w.start lab
+
   own_steps : (own : List Event) (to : Session) (reply : Option Reply) (lab : LabState) (told : Option Reply) (session : Session) (behind : List Event) → ButForReply reply to told session behind → IsDoneOf (own ++ behind) told lab session
-      → StepsFrom takes before (piece_of command from to opening own reply) w.start lab
+      → Steps own to reply lab
   own_steps own to reply lab told session behind is done = record {
     length = length_of c.journal;
     length_is = standing_length (before ++ opening) c w.stands;
@@ -128,194 +173,80 @@ module _ (takes : Bool) (before : List Event) (from : Session) (opening : List E
   }
 
   -- as its reply says
-  so_steps : (own : List Event) (to : Session) (reply : Option Reply) (lab : LabState) → IsDoneOf own reply lab to → StepsFrom takes before (piece_of command from to opening own reply) w.start lab
+  so_steps : (own : List Event) (to : Session) (reply : Option Reply) (lab : LabState) → IsDoneOf own reply lab to → Steps own to reply lab
   so_steps own to reply lab done = own_steps own to reply lab reply to [] (told_so reply to) (subst (λ l. IsDoneOf l reply lab to) (sym (append-nil own)) done)
 
-  abbrev own_leads : (own : List Event) (to : Session) (reply : Option Reply) (lab : LabState) → StepsFrom takes before (piece_of command from to opening own reply) w.start lab → IsLabAt ((before ++ opening) ++ own) lab
-      → Leads takes before (piece_of command from to opening own reply)
-  own_leads own to reply lab steps at = record {
-    first = w.start;
-    last = lab;
-    before = subst (λ b. FirstLab b before w.start) (sym (not_early from opening w.no_restart)) w.first;
-    behind = subst (λ l. IsLabAt l lab) (append_assoc before opening own) at;
-    steps = steps;
+  left_steps : (own : List Event) (reply : Reply) (lab : LabState) → IsDoneOf (own ++ []) (Some reply) lab Closed → Steps own Closed (Some reply) lab
+  left_steps own reply lab done = own_steps own Closed (Some reply) lab (Some reply) Closed [] (told_so (Some reply) Closed) done
+
+  first_lab : FirstLab (is_early (of [] Closed None)) before w.start
+  first_lab = subst (λ b. FirstLab b before w.start) (sym (not_early from opening w.no_restart)) w.first
+
+  -- behind its steps, over any trace and over a sound one
+  done_behind : (own : List Event) (to : Session) (reply : Option Reply) (now : List Event) → before ++ (opening ++ own) ≡ now → (lab : LabState) → Steps own to reply lab → IsSound the_texts now → IsLabAt now lab
+      → (is_some reply ≡ true → ImagesAt takes before (of own to reply) (leaves_one to reply) now lab) → IsSound the_texts before → IsDone takes before (of own to reply)
+  done_behind own to reply now is lab steps sound at images first =
+      done_at takes before (of own to reply) now is w.start lab first_lab steps (λ opens. (c.lab, record { opens = w.opens opens.closed; images = standing_all (before ++ opening) c w.stands; sound = w.sound first })) sound at images
+
+  does_behind : (own : List Event) (to : Session) (reply : Option Reply) (lab : LabState) → Steps own to reply lab → (is_closed to ≡ false → IsLabAt (before ++ (opening ++ own)) lab) → (IsSound the_texts before → IsDone takes before (of own to reply))
+      → Does takes before (of own to reply)
+  does_behind own to reply lab steps at done = record {
+    steps = λ s there. (lab, subst (λ u. StepsFrom takes before (of own to reply) u lab) (stood_once the_texts _ _ w.start s texts_once w.first there) steps);
+    leads = λ open_now. record { first = w.start; last = lab; before = first_lab; behind = at open_now; steps = steps };
+    done = done;
   }
 
-  own_sound : (own : List Event) → IsSound the_texts ((before ++ opening) ++ own) → IsSound the_texts (before ++ (opening ++ own))
-  own_sound own sound = subst (λ l. IsSound the_texts l) (append_assoc before opening own) sound
+  module _ (own : List Event) (sound : IsSound the_texts (before ++ opening) → IsSound the_texts ((before ++ opening) ++ own)) where
+    abbrev now : List Event
+    now = (before ++ opening) ++ own
 
-  -- it goes on
-  pub own_answered : (own : List Event) (new : Control) (reply : Reply) → IsDoneOf own (Some reply) new.lab open_alone → Stands the_texts ((before ++ opening) ++ own) new.journal new.lab
-      → (IsSound the_texts (before ++ opening) → IsSound the_texts ((before ++ opening) ++ own)) → Does takes before (piece_of command from open_alone opening own (Some reply))
-  own_answered own new reply done stands sound =
-      let leads = own_leads own open_alone (Some reply) new.lab (so_steps own open_alone (Some reply) new.lab done) (standing_lab _ new stands) in
-      record {
-        leads = λ open_now. leads;
-        done = λ first. record {
-          leads = leads;
-          images = λ some. subst (λ l. AllStandFor l new.lab) (append_assoc before opening own) (standing_all _ new stands);
-          sound = own_sound own (sound (w.sound first));
-        };
-      }
+    there : before ++ (opening ++ own) ≡ now
+    there = sym (append_assoc before opening own)
 
-  first_image : IsLabOfImage before w.start
-  first_image = record { a = (disk A before).reads; b = (disk B before).reads; possible = w.readable; stand = w.first }
+    -- it goes on
+    pub own_answered : (new : Control) (reply : Reply) → IsDoneOf own (Some reply) new.lab open_alone → Stands the_texts now new.journal new.lab → Does takes before (of own open_alone (Some reply))
+    own_answered new reply done stands =
+        let steps = so_steps own open_alone (Some reply) new.lab done in
+        does_behind own open_alone (Some reply) new.lab steps (λ open_now. subst (λ l. IsLabAt l new.lab) (sym there) (standing_lab now new stands))
+        (λ first. done_behind own open_alone (Some reply) now there new.lab steps (sound (w.sound first)) (standing_lab now new stands) (λ some. standing_all now new stands) first)
 
-  -- a reply closes it
-  pub own_closed : (own : List Event) (reply : Reply) → leaves_one Closed (Some reply) ≡ false → (IsSound the_texts (before ++ opening) → Leaves (before ++ opening) (Judged c.lab command) c own reply (λ a b. []))
-      → (IsSound the_texts (before ++ opening) → IsSound the_texts ((before ++ opening) ++ own)) → ArePossible ((before ++ opening) ++ own) (disk A ((before ++ opening) ++ own)).reads (disk B ((before ++ opening) ++ own)).reads
-      → IsSound the_texts before → IsDone takes before (piece_of command from Closed opening own (Some reply))
-  own_closed own reply other leaves sound readable first =
-      let x = image _ _ readable in
-      record {
-        leads = own_leads own Closed (Some reply) x.0 (so_steps own Closed (Some reply) x.0 x.2) x.1;
-        images = λ some. subst (λ b. ImagesAfter takes b before (piece_of command from Closed opening own (Some reply)) x.0) (sym other)
-            (λ a b there. let y = image a b (subst (λ l. ArePossible l a b) (sym (append_assoc before opening own)) there) in (w.start, y.0, first_image, y.1, so_steps own Closed (Some reply) y.0 y.2));
-        sound = own_sound own (sound (w.sound first));
-      }
-    where
-      image : (a b : List ℕ) → ArePossible ((before ++ opening) ++ own) a b → (lab : LabState) × StandForLab a b lab × IsDoneOf own (Some reply) lab Closed
-      image a b there =
-          let x = (leaves (w.sound first)).images a b there in
-          (x.0, x.1, subst (λ l. IsDoneOf l (Some reply) x.0 Closed) (append-nil own) x.2)
+    -- memory was wanting
+    pub own_unmade : (new : Control) → IsDoneOf own None new.lab Closed → Stands the_texts now new.journal new.lab → Does takes before (of own Closed None)
+    own_unmade new done stands =
+        let steps = so_steps own Closed None new.lab done in
+        does_behind own Closed None new.lab steps (λ open_now. absurd (cc open_now))
+        (λ first. done_behind own Closed None now there new.lab steps (sound (w.sound first)) (standing_lab now new stands) (λ some. absurd (cc some)) first)
 
-  -- the plant stopped, and is started again with an image
-  pub own_stopped : (own : List Event) (a b : List ℕ) → (IsSound the_texts (before ++ opening) → Leaves (before ++ opening) (Judged c.lab command) c own replies.Stopped (λ x y. Restarted x y ∷ []))
-      → (IsSound the_texts (before ++ opening) → IsSound the_texts ((before ++ opening) ++ own)) → ArePossible ((before ++ opening) ++ own) a b → IsSound the_texts before
-      → IsDone takes before (piece_of command from Closed opening (own ++ Restarted a b ∷ []) (Some replies.Stopped))
-  own_stopped own a b leaves sound possible first =
-      let trace = (before ++ opening) ++ own in
-      let own_now = own ++ Restarted a b ∷ [] in
-      let x = (leaves (w.sound first)).images a b possible in
-      let join : trace ++ Restarted a b ∷ [] ≡ (before ++ opening) ++ own_now = append_assoc (before ++ opening) own (Restarted a b ∷ []) in
-      let all : AllStandFor (trace ++ Restarted a b ∷ []) x.0 = restarted_stand the_texts trace a b x.0 x.1 in
-      record {
-        leads = own_leads own_now Closed (Some replies.Stopped) x.0 (so_steps own_now Closed (Some replies.Stopped) x.0 x.2) (subst (λ l. IsLabAt l x.0) join (restarted_lab trace a b x.0 x.1));
-        images = λ some. subst (λ l. AllStandFor l x.0) (join ∙ append_assoc before opening own_now) all;
-        sound = own_sound own_now (subst (λ l. IsSound the_texts l) join (restarted the_texts trace a b possible (sound (w.sound first))).0);
-      }
+    -- a reply closes it
+    pub own_closed : (reply : Reply) → leaves_one Closed (Some reply) ≡ false → Leaves (before ++ opening) (Judged c.lab command) c own reply (λ a b. []) → AsRead now → Does takes before (of own Closed (Some reply))
+    own_closed reply other leaves readable =
+        does_behind own Closed (Some reply) leaves.lab (left_steps own reply leaves.lab (leaves.done [] [])) (λ open_now. absurd (cc open_now))
+        (λ first.
+        let image = leaves.images (w.sound first) in
+        let x = image _ _ readable in
+        let start : IsLabOfImage before w.start = record { a = (disk A before).reads; b = (disk B before).reads; possible = w.readable; stand = w.first } in
+        done_behind own Closed (Some reply) now there x.0 (left_steps own reply x.0 x.2) (sound (w.sound first)) x.1
+        (λ some. subst (λ b. ImagesAt takes before (of own Closed (Some reply)) b now x.0) (sym other) (λ a b at. let y = image a b at in (w.start, y.0, start, y.1, left_steps own reply y.0 y.2))) first)
 
-  -- memory is wanting before anything is done
-  pub own_unmade : IsSound the_texts before → IsDone takes before (piece_of command from Closed opening [] None)
-  own_unmade first =
-      let none : before ++ opening ≡ (before ++ opening) ++ [] = sym (append-nil (before ++ opening)) in
-      record {
-        leads = own_leads [] Closed None c.lab (so_steps [] Closed None c.lab (no_memory (record { nothing = refl; after_is = refl }))) (subst (λ l. IsLabAt l c.lab) none (standing_lab _ c w.stands));
-        images = λ some. absurd (cc some);
-        sound = own_sound [] (subst (λ l. IsSound the_texts l) none (w.sound first));
-      }
+    module _ (leaves : Leaves (before ++ opening) (Judged c.lab command) c own replies.Stopped (λ a b. Restarted a b ∷ [])) where
+      -- the plant stopped, and is started again with an image
+      pub own_stopped : (a b : List ℕ) → ArePossible now a b → Does takes before (of (own ++ Restarted a b ∷ []) Closed (Some replies.Stopped))
+      own_stopped a b possible =
+          let more = own ++ Restarted a b ∷ [] in
+          does_behind more Closed (Some replies.Stopped) leaves.lab (so_steps more Closed (Some replies.Stopped) leaves.lab (leaves.done a b)) (λ open_now. absurd (cc open_now))
+          (λ first.
+          let x = leaves.images (w.sound first) a b possible in
+          done_behind more Closed (Some replies.Stopped) (now ++ Restarted a b ∷ []) (sym (append_assoc (before ++ opening) own (Restarted a b ∷ []) ∙ append_assoc before opening more)) x.0
+          (so_steps more Closed (Some replies.Stopped) x.0 x.2) (restarted the_texts now a b possible (sound (w.sound first))).0 (restarted_lab now a b x.0 x.1) (λ some. restarted_stand the_texts now a b x.0 x.1) first)
 
-  -- the plant stopped, and isn't started again
-  pub own_stays : (own : List Event) → (IsSound the_texts (before ++ opening) → Leaves (before ++ opening) (Judged c.lab command) c own replies.Stopped (λ x y. Restarted x y ∷ []))
-      → (IsSound the_texts (before ++ opening) → IsSound the_texts ((before ++ opening) ++ own)) → ArePossible ((before ++ opening) ++ own) (disk A ((before ++ opening) ++ own)).reads (disk B ((before ++ opening) ++ own)).reads
-      → IsSound the_texts before → IsDone takes before (piece_of command from Closed opening own None)
-  own_stays own leaves sound readable first =
-      let x = (leaves (w.sound first)).images _ _ readable in
-      record {
-        leads = own_leads own Closed None x.0 (own_steps own Closed None x.0 (Some replies.Stopped) Closed (Restarted _ _ ∷ []) (inr (_, _, refl)) x.2) x.1;
-        images = λ some. absurd (cc some);
-        sound = own_sound own (sound (w.sound first));
-      }
+      -- and isn't
+      stays_steps : (a b : List ℕ) (lab : LabState) → IsDoneOf (own ++ Restarted a b ∷ []) (Some replies.Stopped) lab Closed → Steps own Closed None lab
+      stays_steps a b lab done = own_steps own Closed None lab (Some replies.Stopped) Closed (Restarted a b ∷ []) (inr (a, b, refl)) done
 
--- WHERE THE CONTROLLER ISN'T OPENED
-
-or_none : (x : Bool) → x || (false || false) ≡ x
-or_none true = refl
-or_none false = refl
-
-synced_with : (steps : List Event) (a b : List ℕ) → are_synced (steps ++ Restarted a b ∷ []) ≡ are_synced steps
-synced_with steps a b i =
-    (list_any-append (is_sync_of A) steps (Restarted a b ∷ []) ∙ or_none _) i
-    && (list_any-append (is_sync_of B) steps (Restarted a b ∷ []) ∙ or_none _) i
-
--- a stopped plant that is started again behind these steps
-pub again_quiet : (steps : List Event) (a b : List ℕ) → has_command steps ≡ false → has_command (steps ++ Restarted a b ∷ []) ≡ false
-again_quiet steps a b none = shows is_command (steps ++ Restarted a b ∷ []) steps (Restarted a b ∷ []) false false refl none refl
-
-pub again_breaks : (steps : List Event) (a b : List ℕ) → has_restart steps ≡ false → Breaks (steps ++ Restarted a b ∷ []) (Some replies.Stopped)
-again_breaks steps a b none = stopped (record { front = steps; a = a; b = b; is = refl; once = none }) refl
-
--- an opening that moved nothing
-still : (s : LabState) → Settles s [] s
-still s = record { none = refl; same = refl }
-
-module _ (takes : Bool) (trace steps : List Event) (o : OpenSteps trace steps) (possible : ArePossible trace (disk A trace).reads (disk B trace).reads) (sound : IsSound the_texts trace) (command : Command) (no_drill : drill_of command ≡ None) where
-  -- the step, over steps that end so
-  cut_step : (opening : List Event) (reply : Option Reply) (n : ℕ) → IsLengthAt (trace ++ opening) n → has_command opening ≡ false → Breaks opening reply → (lab : LabState) → StepsFrom takes trace (piece_of command Closed Closed opening [] reply) lab lab
-  cut_step opening reply n length quiet breaks lab = record {
-    length = n;
-    length_is = length;
-    told = reply;
-    session = Closed;
-    behind = [];
-    is_told = told_so reply Closed;
-    step = step_of takes _ lab Closed command opening [] (after_of reply lab Closed) no_drill
-        (not_opened (record { reading = opening; moving = []; is = sym (append-nil opening); reads = quiet; settles = still lab; nothing = refl; breaks = breaks; session = refl }));
-  }
-
-  -- a call of the disk failed, memory was wanting, or the sides are no journal
-  pub cut_done : ArePossible (trace ++ steps) (disk A (trace ++ steps)).reads (disk B (trace ++ steps)).reads → (reply : Option Reply) → leaves_one Closed reply ≡ false → Breaks steps reply → IsDone takes trace (piece_of command Closed Closed steps [] reply)
-  cut_done there reply other breaks =
-      let now = sound_stands the_texts trace _ _ possible sound in
-      let n = sound_length (trace ++ steps) there (o.sound sound) in
-      let none : trace ++ steps ≡ trace ++ (steps ++ []) = ap (λ l. trace ++ l) (sym (append-nil steps)) in
-      record {
-        leads = record {
-          first = now.0;
-          last = now.0;
-          before = subst (λ b. FirstLab b trace now.0) (sym (not_early Closed steps o.no_restart)) now.1;
-          behind = subst (λ l. IsLabAt l now.0) none ((stood_alike the_texts _ _ _ _ now.0 o.alike).1 now.1);
-          steps = cut_step steps reply n.0 n.1 o.no_command breaks now.0;
-        };
-        images = λ some. subst (λ b. ImagesAfter takes b trace (piece_of command Closed Closed steps [] reply) now.0) (sym other)
-            (λ a b at. let x = stood_before the_texts trace steps a b o.before (subst (λ l. ArePossible l a b) (sym none) at) sound in
-            (x.2, x.2, record { a = x.0; b = x.1; possible = x.3; stand = x.4 }, x.5, cut_step steps reply n.0 n.1 o.no_command breaks x.2));
-        sound = subst (λ l. IsSound the_texts l) none (o.sound sound);
-      }
-
-  -- the plant stopped, and is started again with an image
-  module _ (a b : List ℕ) (there : ArePossible (trace ++ steps) a b) where
-    abbrev opening : List Event
-    opening = steps ++ Restarted a b ∷ []
-
-    join : (trace ++ steps) ++ Restarted a b ∷ [] ≡ trace ++ opening
-    join = append_assoc trace steps (Restarted a b ∷ [])
-
-    none : trace ++ opening ≡ trace ++ (opening ++ [])
-    none = ap (λ l. trace ++ l) (sym (append-nil opening))
-
-    sound_now : IsSound the_texts (trace ++ opening)
-    sound_now = subst (λ l. IsSound the_texts l) join (restarted the_texts (trace ++ steps) a b there (o.sound sound)).0
-
-    has_started : has_restart opening ≡ true
-    has_started = shows is_restart opening steps (Restarted a b ∷ []) false true refl o.no_restart refl
-
-    -- the first lab, and that it is the last one
-    which_first : (synced : Bool) → are_synced steps ≡ synced → (s : LabState) × FirstLab (not synced) trace s × StandForLab a b s
-    which_first true both = let now = sound_stands the_texts trace _ _ possible sound in (now.0, now.1, stood_settled the_texts trace steps a b now.0 o.settled both there now.1)
-    which_first false both = let x = stood_before the_texts trace steps a b o.before there sound in (x.2, record { a = x.0; b = x.1; possible = x.3; stand = x.4 }, x.5)
-
-    first : (s : LabState) × FirstLab (not (are_synced steps)) trace s × StandForLab a b s
-    first = which_first (are_synced steps) refl
-
-    early : (true && (has_restart opening && not (are_synced opening))) ≡ not (are_synced steps)
-    early = (λ i. has_started i && not (synced_with steps a b i))
-
-    pub stopped_done : IsDone takes trace (piece_of command Closed Closed opening [] (Some replies.Stopped))
-    stopped_done =
-        let n = sound_length (trace ++ opening) (subst (λ l. ArePossible l (disk A l).reads (disk B l).reads) join (restarted_reads_possible (trace ++ steps) a b)) sound_now in
-        let s = first.0 in
-        record {
-          leads = record {
-            first = s;
-            last = s;
-            before = subst (λ e. FirstLab e trace s) (sym early) first.1;
-            behind = subst (λ l. IsLabAt l s) (join ∙ none) (restarted_lab (trace ++ steps) a b s first.2);
-            steps = cut_step opening (Some replies.Stopped) n.0 n.1 (again_quiet steps a b o.no_command) (again_breaks steps a b o.no_restart) s;
-          };
-          images = λ some. subst (λ l. AllStandFor l s) (join ∙ none) (restarted_stand the_texts (trace ++ steps) a b s first.2);
-          sound = subst (λ l. IsSound the_texts l) none sound_now;
-        }
+      pub own_stays : AsRead now → Does takes before (of own Closed None)
+      own_stays readable =
+          does_behind own Closed None leaves.lab (stays_steps [] [] leaves.lab (leaves.done [] [])) (λ open_now. absurd (cc open_now))
+          (λ first. let x = leaves.images (w.sound first) _ _ readable in done_behind own Closed None now there x.0 (stays_steps _ _ x.0 x.2) (sound (w.sound first)) x.1 (λ some. absurd (cc some)) first)
 
 -- A CONTROLLER THAT WAS OPEN, or is opened
 pub was_open : (trace : List Event) (c : Control) → Stands the_texts trace c.journal c.lab → limit_of c.journal ≡ 2 ^ 32 → WasOpened trace open_alone [] c
@@ -327,19 +258,32 @@ was_open trace c stands limit = record {
   stands = subst (λ l. Stands the_texts l c.journal c.lab) (sym (append-nil trace)) stands;
   sound = λ sound. subst (λ l. IsSound the_texts l) (sym (append-nil trace)) sound;
   limit = limit;
+  opens = λ closed. absurd (cc closed);
   step = λ takes set command own after no_drill done. step_of takes set c.lab open_alone command [] own after no_drill (refl, done);
 }
 
-pub is_opened : (trace steps : List Event) (c : Control) → OpenSteps trace steps → HasOpened trace steps (2 ^ 32) c → Stands the_texts (trace ++ steps) c.journal c.lab → limit_of c.journal ≡ 2 ^ 32
-    → ArePossible trace (disk A trace).reads (disk B trace).reads → WasOpened trace Closed steps c
-is_opened trace steps c o ends stands limit readable = record {
-  start = c.lab;
-  readable = readable;
-  first = (stood_alike the_texts _ _ _ _ c.lab o.alike).0 ends.lab;
-  no_restart = o.no_restart;
-  stands = stands;
-  sound = o.sound;
-  limit = limit;
-  step = λ takes set command own after no_drill done. step_of takes set c.lab Closed command steps own after no_drill
-      (opened c.lab (record { reading = steps; moving = []; is = sym (append-nil steps); reads = o.no_command; settles = still c.lab; no_miss = ends.no_miss; no_restart = o.no_restart }) done);
-}
+pub is_opened : (trace reading moving : List Event) (c : Control) → OpenSteps trace reading moving (2 ^ 32) (Ok c) → Stands the_texts (trace ++ (reading ++ moving)) c.journal c.lab → limit_of c.journal ≡ 2 ^ 32 → AsRead trace
+    → WasOpened trace Closed (reading ++ moving) c
+is_opened trace reading moving c o stands limit readable =
+    let e = o.ends in
+    let opens : Opens e.start (reading ++ moving) c.lab = record {
+      reading = reading;
+      moving = moving;
+      is = refl;
+      reads = o.reads.no_command;
+      outcomes = e.outcomes;
+      settles = e.settles;
+      no_miss = shows is_miss (reading ++ moving) reading moving false false refl e.read.no_miss (settles_show _ _ _ _ _ e.settles).miss_is;
+      no_restart = shows is_restart (reading ++ moving) reading moving false false refl o.reads.no_restart o.no_restart;
+    } in
+    record {
+      start = e.start;
+      readable = readable;
+      first = (stood_alike the_texts _ _ _ _ e.start o.reads.alike).0 e.read.lab;
+      no_restart = opens.no_restart;
+      stands = stands;
+      sound = o.sound;
+      limit = limit;
+      opens = λ closed. opens;
+      step = λ takes set command own after no_drill done. step_of takes set e.start Closed command (reading ++ moving) own after no_drill (opened c.lab opens done);
+    }

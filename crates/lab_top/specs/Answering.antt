@@ -26,10 +26,11 @@ use Rattle.lab_core.specs.Controller.{Control, Works}
 use Rattle.lab_core.specs.Judge.{Judged}
 use Rattle.lab_core.specs.LabSteps.{LabStep, IsDoneBy}
 use Rattle.lab_core.specs.Moments.{IsLabAt}
+use Rattle.lab_core.specs.Recovery.{Opens}
 use Rattle.lab_core.specs.Sessions.{Session, Closed, open_alone, Setting, After}
 use Rattle.lab_top.specs.declared.command.CommandFault.{CommandFault}
 use Rattle.lab_top.specs.declared.command.CommandFault.TheVariants.{Memory, WriteFault, JournalBad}
-use Rattle.lab_top.specs.Pieces.{Piece, FindsNone, IsDone, IsPiece, IsPlannedBy, Leads, Later, blames_if, closes_if, is_closed, with_drill_if}
+use Rattle.lab_top.specs.Pieces.{Piece, FindsNone, IsDone, IsPiece, IsPlannedBy, Leads, Later, StepsFrom, blames_if, closes_if, is_closed, with_drill_if}
 
 -- what is seen of the plant between two commands, and the controller where it is open
 pub record Moment : Type 0 where
@@ -54,7 +55,8 @@ pub record MayGoOn (now : Moment) : Type 0 where
 abbrev pub piece_of : Command → Session → Session → List Event → List Event → Option Reply → Piece
 piece_of command from to opening own reply = record { command = command; from = from; to = to; opening = opening; own = own; reply = reply }
 
--- a controller that was opened by these steps over the trace, or was open before, and stands behind them for the lab to which they led
+-- a controller that was opened by these steps over the trace, or was open before: it stands behind them for the lab to which they led, from that
+-- which the sides stood for
 pub record WasOpened (trace : List Event) (from : Session) (opening : List Event) (c : Control) : Type 0 where
   pub start : LabState
   pub readable : ArePossible trace (disk A trace).reads (disk B trace).reads
@@ -63,11 +65,13 @@ pub record WasOpened (trace : List Event) (from : Session) (opening : List Event
   pub stands : Stands the_texts (trace ++ opening) c.journal c.lab
   pub sound : IsSound the_texts trace → IsSound the_texts (trace ++ opening)
   pub limit : limit_of c.journal ≡ 2 ^ 32
+  pub opens : from ≡ Closed → Opens start opening c.lab
   pub step : (takes : Bool) (set : Setting) (command : Command) (own : List Event) (after : After) → drill_of command ≡ None → IsDoneBy (Judged c.lab command) set c.lab [] own after
       → LabStep takes set start from command opening own after
 
 -- what an open controller does of a command, however it was opened
 pub record Does (takes : Bool) (trace : List Event) (piece : Piece) : Type 0 where
+  pub steps : (s : LabState) → IsLabAt trace s → (after : LabState) × StepsFrom takes trace piece s after
   pub leads : is_closed piece.to ≡ false → Leads takes trace piece
   pub done : IsSound the_texts trace → IsDone takes trace piece
 

@@ -1,6 +1,7 @@
 pub mod Answering
 pub mod Codes
 pub mod Pieces
+pub mod Places
 pub mod Ran
 pub mod Readers
 pub mod Words

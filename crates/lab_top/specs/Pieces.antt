@@ -1,9 +1,13 @@
 -- Pieces: what a command does, from its mark to its reply.
 use Rattle.std.specs.Prelude.{◌≡◌, ◌≢◌, ◌⊎◌, ◌≤◌, ◌^◌, ℕ, Bool, true, false, ◌&&◌, not, is_some, List, [], ◌∷◌, ◌++◌, map, Option, Some, None, if◌then◌else◌}
 use Rattle.std.specs.List.{flat_map}
+use Rattle.lab_base.specs.Lists.{Has}
+use Rattle.lab_model.specs.Sound.{is_moving}
+use Rattle.recovery.specs.Due.{is_busy}
 use Rattle.plant.specs.Calls.{Rose}
 use Rattle.plant.specs.Disks.{disk, ArePossible}
 use Rattle.plant.specs.Events.{Event, Restarted}
+use Rattle.plant.specs.Worlds.{World, world_of}
 use Rattle.plant.specs.Told.{Told, with_steps, with_mark, with_drill}
 use Rattle.plant.specs.declared.drill.Drill.{Drill}
 use Rattle.plant.specs.declared.moment.Faults.{Faults}
@@ -21,11 +25,13 @@ use Rattle.script_text.specs.declared.reply.Reply.{Reply}
 use Rattle.script_text.specs.declared.reply.Reply.TheVariants.{Planned, NoDrill, Stopped}
 use Rattle.script_text.specs.Drills.{drill_of}
 use Rattle.script_text.specs.Replies.{text_of, closes, blames_device}
+use Rattle.lab_core.specs.Recovery.{Opens}
 use Rattle.lab_core.specs.LabSteps.{LabStep}
 use Rattle.lab_core.specs.Moments.{IsNoJournal, IsLabAt, IsLabOfImage, AllStandFor, StandForLab, IsLengthAt}
 use Rattle.lab_core.specs.Breaks.{Breaks}
 use Rattle.lab_core.specs.Tells.{name_of}
 use Rattle.lab_core.specs.Opening.{IsJournal}
+use Rattle.lab_core.specs.Said.{IsAsSaid}
 use Rattle.lab_core.specs.Sessions.{Session, Closed, Open, HandsOn}
 
 -- A PIECE: a command, the session before and after it, the steps of its opening and its own, and its reply, if it was answered
@@ -86,13 +92,13 @@ abbrev pub blames_if : Option Reply → Bool
 blames_if None = false
 blames_if (Some reply) = blames_device reply
 
--- A DRILL IS PLANNED exactly where its reply tells it, and that only over a plant that takes drills; without a reply it may be. No other
--- command plans one.
+-- A DRILL IS PLANNED exactly where its reply tells it, and that only over a plant that takes drills; without a reply it may be. It has no other reply.
+-- No other command plans one.
 abbrev pub IsPlannedAs : Bool → Bool → Option Reply → Type 0
 IsPlannedAs takes planned None = planned ≡ true → takes ≡ true
 IsPlannedAs takes planned (Some Planned) = (planned ≡ true) × (takes ≡ true)
 IsPlannedAs takes planned (Some NoDrill) = (planned ≡ false) × (takes ≡ false)
-IsPlannedAs takes planned (Some reply) = planned ≡ false
+IsPlannedAs takes planned (Some reply) = ⊥
 
 abbrev pub IsPlannedBy : Bool → Option Drill → Bool → Option Reply → Type 0
 IsPlannedBy takes None planned reply = planned ≡ false
@@ -118,11 +124,11 @@ pub data IsOpening (trace : List Event) (piece : Piece) : Type 0 where
   opened : has_miss piece.opening ≡ false → has_restart piece.opening ≡ false → IsJournal (disk A trace).reads (disk B trace).reads (2 ^ 32) → IsOpening trace piece
   broken_off : Breaks piece.opening piece.reply → piece.own ≡ [] → piece.to ≡ Closed → IsOpening trace piece
 
--- a drill needs no open session: it has no steps, and its reply leaves the session as it was. Every other command opens it where it is closed, without
--- a device command.
+-- a drill needs no open session: it has no steps, and its reply leaves the session as it was. Every other command opens it where it is closed, and
+-- sends a device command in that only where the sides are a journal.
 abbrev pub Finds : Option Drill → Session → List Event → Piece → Type 0
 Finds (Some drill) from trace piece = (piece.opening ≡ []) × (piece.own ≡ []) × (is_some piece.reply ≡ true → piece.to ≡ from)
-Finds None Closed trace piece = (has_command piece.opening ≡ false) × IsOpening trace piece
+Finds None Closed trace piece = (has_command piece.opening ≡ true → IsJournal (disk A trace).reads (disk B trace).reads (2 ^ 32)) × IsOpening trace piece
 Finds None (Open opens) trace piece = piece.opening ≡ []
 
 -- the session stays open only behind a reply that doesn't close it, and is closed only behind one that closes it, behind `stopped`, or where there is none
@@ -145,12 +151,6 @@ pub record FindsNone (trace : List Event) (piece : Piece) (side : Side) (at : �
   pub nothing : piece.own ≡ []
   pub no_reply : piece.reply ≡ None
   pub as_before : (s : Side) → (disk s (trace ++ steps_of piece)).reads ≡ (disk s trace).reads
-
--- the replies to drills
-abbrev pub is_of_drill : Reply → Bool
-is_of_drill Planned = true
-is_of_drill NoDrill = true
-is_of_drill reply = false
 
 -- THE LAB STEP of a piece between these labs: the limit is 2^32 bytes, and the length is the journal's as its sides read after the opening.
 -- One that isn't answered is a lab step but for its reply, and perhaps for the start of a plant that stopped.
@@ -199,24 +199,50 @@ pub record Leads (takes : Bool) (trace : List Event) (piece : Piece) : Type 0 wh
   pub behind : IsLabAt (trace ++ steps_of piece) last
   pub steps : StepsFrom takes trace piece first last
 
+-- the command opened the controller, and no call of the disk failed and the plant did not stop in that
+pub record HasOpened (piece : Piece) : Type 0 where
+  pub no_drill : drill_of piece.command ≡ None
+  pub closed : piece.from ≡ Closed
+  pub no_miss : has_miss piece.opening ≡ false
+  pub no_restart : has_restart piece.opening ≡ false
+  pub answered : is_some piece.reply ≡ true
+
+-- behind its opening, which led there, all images stand for that lab
+pub record OpensTo (trace : List Event) (piece : Piece) (s mid : LabState) : Type 0 where
+  pub opens : Opens s piece.opening mid
+  pub images : AllStandFor (trace ++ piece.opening) mid
+  pub sound : IsSound the_texts (trace ++ piece.opening)
+
 -- over a sound trace it is one, whatever its reply; each image stands for such a lab, and the trace stays sound
 pub record IsDone (takes : Bool) (trace : List Event) (piece : Piece) : Type 0 where
   pub leads : Leads takes trace piece
+  pub opened : HasOpened piece → (mid : LabState) × OpensTo trace piece leads.first mid
   pub images : is_some piece.reply ≡ true → ImagesAfter takes (leaves_one piece.to piece.reply) trace piece leads.last
   pub sound : IsSound the_texts (trace ++ steps_of piece)
 
--- OVER ANY TRACE a piece finds the journal so; where it leaves the session open, the sides stand for the lab, and it is a lab step
+-- OVER ANY TRACE a piece finds the journal so; where the sides stand for a lab, and no call of its opening failed or stopped, one that is answered is a
+-- lab step from there; and where it leaves the session open, the sides stand for the lab that it leads to
 pub record IsPiece (takes : Bool) (trace : List Event) (piece : Piece) : Type 0 where
   pub readable : ArePossible trace (disk A trace).reads (disk B trace).reads
   pub finds : Finds (drill_of piece.command) piece.from trace piece
   pub leaves : stays_open piece.reply ≡ false → piece.to ≡ Closed
   pub shuts : drill_of piece.command ≡ None → is_closed piece.to ≡ true → may_shut piece.reply ≡ true
+  pub steps : drill_of piece.command ≡ None → is_some piece.reply ≡ true → has_miss piece.opening ≡ false → has_restart piece.opening ≡ false
+      → (s : LabState) → IsLabAt trace s → (after : LabState) × StepsFrom takes trace piece s after
   pub leads : drill_of piece.command ≡ None → is_closed piece.to ≡ false → Leads takes trace piece
   pub done : IsSound the_texts trace → IsDone takes trace piece
 
 -- each image that is possible stands for a lab in which the experiment is so
 abbrev pub AllHave : List Event → Experiment → Type 0
 AllHave trace e = (a b : List ℕ) → ArePossible trace a b → (u : LabState) × StandForLab a b u × (find e.name u.experiments ≡ Some e)
+
+-- ALL ARE AT REST but the busy ones: each image that is possible stands for a lab in which no other experiment moves, and the world is as it says
+pub record IsAtRestBut (busy : List (List ℕ)) (w : World) (u : LabState) : Type 0 where
+  pub rest : (e : Experiment) → Has u.experiments e → is_moving e ≡ true → is_busy busy e.name ≡ true
+  pub as_said : IsAsSaid w u
+
+abbrev pub AllRestBut : List (List ℕ) → List Event → Type 0
+AllRestBut busy trace = (a b : List ℕ) → ArePossible trace a b → (u : LabState) × StandForLab a b u × IsAtRestBut busy (world_of trace) u
 
 -- none of the commands is about the experiment of that name
 abbrev pub AreOthers : List ℕ → List Begun → Type 0

@@ -1,5 +1,5 @@
 // Laws of a run.
-ghost use Rattle.std.specs.Prelude.{◌≡◌, ◌⊎◌, ◌^◌, ℕ, Bool, false, List, [], ◌∷◌, ◌++◌, Option, Some, None};
+ghost use Rattle.std.specs.Prelude.{◌≡◌, ◌⊎◌, ◌^◌, count_by, ℕ, Bool, false, List, [], ◌∷◌, ◌++◌, Option, Some, None};
 ghost use Rattle.plant.specs.Disks.{disk};
 ghost use Rattle.plant.specs.Told.{Told};
 ghost use Rattle.plant.specs.declared.step.Side.{Side};
@@ -8,15 +8,17 @@ ghost use Rattle.virt_topo.specs.declared.experiment.Experiment.{Experiment};
 ghost use Rattle.records_model.specs.Labs.{LabState};
 ghost use Rattle.records_model.specs.Works.{IsSound};
 ghost use Rattle.journal_runs.specs.Pieces.{has_miss, has_restart};
+ghost use Rattle.lab_model.specs.Sound.{is_moving};
+ghost use Rattle.recovery.specs.Settle.{is_stuck};
 ghost use Rattle.lab_state.specs.Texts.{the_texts};
-ghost use Rattle.script_text.specs.declared.command.Command.TheVariants.{SwapinWith};
+ghost use Rattle.script_text.specs.declared.command.Command.TheVariants.{Recover, SwapinWith};
 ghost use Rattle.script_text.specs.declared.reply.Reply.{Reply};
-ghost use Rattle.script_text.specs.declared.reply.Reply.TheVariants.{In};
+ghost use Rattle.script_text.specs.declared.reply.Reply.TheVariants.{In, Recovered};
 ghost use Rattle.script_text.specs.Drills.{drill_of};
 ghost use Rattle.lab_core.specs.Moments.{IsNoJournal};
 ghost use Rattle.lab_core.specs.Sessions.{Closed};
-ghost use Rattle.lab_core.specs.Tells.{IsFeasibleFor, Hinders};
-ghost use Rattle.lab_top.specs.Pieces.{Begun, AllHave, AreOthers, FirstLab, is_early, is_of_drill, trace_after};
+ghost use Rattle.lab_core.specs.Tells.{BeginsAt, busy_of, IsFeasibleFor, Hinders, is_of_drill, is_stopped, TellsBroken};
+ghost use Rattle.lab_top.specs.Pieces.{Begun, AllHave, AllRestBut, AreOthers, FirstLab, HasOpened, OpensTo, is_early, steps_of, trace_after};
 ghost use Rattle.lab_top.specs.Ran.{AreAnswered, Outside, Ran};
 ghost use Rattle.lab_top.specs.Words.{Choices};
 ghost use Rattle.lab_top.specs.declared.status.Status.{Status};
@@ -32,17 +34,34 @@ pub fn bad_journals()
         → (status ≡ Memory) ⊎ (status ≡ JournalBad side at) }
 {}
 
-/// A supplied solution is swapped in exactly where it is feasible on what is free, unless the reply tells what hindered it. An
-/// experiment stays as it is, in every image that a later stop may leave, until a later command on it. A command that is no drill
-/// has no reply of a drill, whatever the trace was before. A trace in which nothing has happened is sound.
+/// A supplied solution is swapped in exactly where it is feasible on what is free once the controller is open, unless the reply
+/// tells what hindered it. An experiment that doesn't move stays as it is, in every image that a later stop may leave, until a
+/// later command on it. The reply is `stopped` exactly where the plant stopped, and a command that is no drill has no reply of a
+/// drill, both whatever the trace was before. A trace in which nothing has happened is sound.
 pub fn runs()
     ensures solutions { (takes : Bool) (choices : Option Choices) (old new : Outside) (status : Status) (before after : List Begun) (b : Begun) (t : Told) (exp text : List ℕ) (lines : ℕ) (reply : Reply)
         → Ran takes choices old new status (before ++ b ∷ after) → old.plant.told ≡ Some t → IsSound the_texts t.trace → b.piece.command ≡ SwapinWith exp lines text → b.piece.reply ≡ Some reply
-        → (s : LabState) × FirstLab (is_early b.piece) (trace_after t.trace before) s × (reply ≡ In exp → IsFeasibleFor s exp text) × (IsFeasibleFor s exp text → (reply ≡ In exp) ⊎ Hinders reply) }
+        → TellsBroken reply ⊎ ((s : LabState) × FirstLab (is_early b.piece) (trace_after t.trace before) s × (mid : LabState) × BeginsAt b.piece.from s b.piece.opening mid
+        × (reply ≡ In exp → IsFeasibleFor mid exp text) × (IsFeasibleFor mid exp text → (reply ≡ In exp) ⊎ Hinders reply)) }
     ensures kept { (takes : Bool) (choices : Option Choices) (old new : Outside) (status : Status) (before middle after : List Begun) (t : Told) (e : Experiment)
-        → Ran takes choices old new status (before ++ (middle ++ after)) → old.plant.told ≡ Some t → IsSound the_texts t.trace
+        → Ran takes choices old new status (before ++ (middle ++ after)) → old.plant.told ≡ Some t → IsSound the_texts t.trace → is_moving e ≡ false
         → AllHave (trace_after t.trace before) e → AreAnswered middle → AreOthers e.name middle → AllHave (trace_after t.trace (before ++ middle)) e }
+    ensures stops { (takes : Bool) (choices : Option Choices) (old new : Outside) (status : Status) (before after : List Begun) (b : Begun) (t : Told) (reply : Reply)
+        → Ran takes choices old new status (before ++ b ∷ after) → old.plant.told ≡ Some t → b.piece.reply ≡ Some reply → has_restart (steps_of b.piece) ≡ is_stopped reply }
     ensures undrilled { (takes : Bool) (choices : Option Choices) (old new : Outside) (status : Status) (before after : List Begun) (b : Begun) (t : Told) (reply : Reply)
         → Ran takes choices old new status (before ++ b ∷ after) → old.plant.told ≡ Some t → drill_of b.piece.command ≡ None → b.piece.reply ≡ Some reply → is_of_drill reply ≡ false }
     ensures blank { IsSound the_texts [] }
+{}
+
+/// An untroubled recovery, over every sound trace: behind an opening in which none got stuck, and behind a `recover` that tells
+/// that none did, no experiment moves in any image that a stop may leave but those with an open swap, and besides what these
+/// claim the devices have exactly what the experiments that are in want.
+pub fn recoveries()
+    ensures opened { (takes : Bool) (choices : Option Choices) (old new : Outside) (status : Status) (before after : List Begun) (b : Begun) (t : Told)
+        → Ran takes choices old new status (before ++ b ∷ after) → old.plant.told ≡ Some t → IsSound the_texts t.trace → HasOpened b.piece
+        → (s : LabState) × (mid : LabState) × (to : OpensTo (trace_after t.trace before) b.piece s mid)
+        × (count_by is_stuck to.opens.outcomes ≡ 0 → AllRestBut [] (trace_after t.trace before ++ b.piece.opening)) }
+    ensures recovered { (takes : Bool) (choices : Option Choices) (old new : Outside) (status : Status) (before after : List Begun) (b : Begun) (t : Told) (done : ℕ)
+        → Ran takes choices old new status (before ++ b ∷ after) → old.plant.told ≡ Some t → IsSound the_texts t.trace → b.piece.command ≡ Recover → b.piece.reply ≡ Some (Recovered done 0)
+        → AllRestBut (busy_of b.piece.from) (trace_after t.trace (before ++ b ∷ [])) }
 {}

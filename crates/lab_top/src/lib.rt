@@ -4,22 +4,11 @@
 mod command;
 mod commands;
 mod laws;
+mod place;
 mod status;
 mod top;
 
-pub use laws::{bad_journals, runs};
+pub use laws::{bad_journals, recoveries, runs};
+pub use place::{Place, PlaceFault, place_of};
 pub use status::Status;
 pub use top::labctl;
-
-#[cfg(test)]
-mod command_tests;
-#[cfg(test)]
-mod demo_tests;
-#[cfg(test)]
-mod journal_tests;
-#[cfg(test)]
-mod network_tests;
-#[cfg(test)]
-mod swap_tests;
-#[cfg(test)]
-mod tests;

@@ -1,4 +1,4 @@
-ghost use Rattle.std.specs.Prelude.{◌≡◌, ◌↔◌, ◌≤◌, ◌<◌, ◌^◌, ℕ, List, length, IfSome};
+ghost use Rattle.std.specs.Prelude.{◌≡◌, ◌↔◌, ◌≤◌, ◌^◌, ℕ, List, None, IfSome};
 ghost use Rattle.lab_io.specs.Causes.{Rose};
 ghost use Rattle.plant.specs.Disks.{disk};
 ghost use Rattle.plant.specs.declared.step.Side.{Side as AnySide};
@@ -11,6 +11,7 @@ ghost use Rattle.lab_top.specs.Ran.{Ran};
 ghost use Rattle.lab_top.specs.Words.{choices_of};
 
 use crate::commands::obey_commands;
+use crate::place::is_allowed;
 use crate::status::Status;
 use lab_io::{LineReader, Sink, Source};
 use plant::Plant;
@@ -18,7 +19,7 @@ use std::alloc::Global;
 
 /// Obeys the script of the source, and writes a reply to each of its commands before it reads the next.
 ///
-/// `words` are those behind the program's name; there may be none.
+/// `words` are those behind the program's name, and what they choose is the plant's place: see [`crate::place_of`].
 pub fn labctl<S: Source, K: Sink, P: Plant>(
     alloc: Global,
     words: &[String],
@@ -32,7 +33,7 @@ pub fn labctl<S: Source, K: Sink, P: Plant>(
     ensures bad { (side : AnySide) (at : ℕ) → result ≡ Status.JournalBad side at
         → IfSome (P.seen plant.new).told (λ t. IsNoJournal (disk A t.trace).reads (disk B t.trace).reads (2 ^ 32) side at) }
     ensures never_bad { (side : AnySide) (at : ℕ) → result ≡ Status.JournalBad side at → IfSome (P.seen plant.old).told (λ t. IsSound the_texts t.trace → ⊥) }
-    ensures usage { (result ≡ Status.Usage) ↔ (0 < length words.now) }
+    ensures usage { (result ≡ Status.Usage) ↔ (choices_of words.now ≡ None) }
     ensures unread { result ≡ Status.Usage → source.new ≡ source.old }
     ensures unwritten { result ≡ Status.Usage → sink.new ≡ sink.old }
     ensures unsent { result ≡ Status.Usage → plant.new ≡ plant.old }
@@ -41,7 +42,7 @@ pub fn labctl<S: Source, K: Sink, P: Plant>(
     ensures write { result ≡ Status.WriteFault → Rose (K.faults sink.old) (K.faults sink.new) }
     ensures write_later { K.faults sink.old ≤ K.faults sink.new }
 {
-    if !words.is_empty() {
+    if !is_allowed(words) {
         return Status::Usage;
     }
     let Ok(mut reader) = LineReader::new(alloc) else {

@@ -1,9 +1,11 @@
-//! Obeys the script of standard input over a plant in memory, and writes the replies to standard output.
+//! Obeys the script of standard input over a plant in memory, or with `--dir DIR` in the files of a folder, and writes the replies to
+//! standard output.
 #![tactic(auto)]
 
 use lab_io::{StdSink, StdSource};
-use lab_top::{Status, labctl};
-use plant::Side;
+use lab_top::{Place, PlaceFault, Status, labctl, place_of};
+use plant::{Plant, Side};
+use plant_file::FileLab;
 use plant_mem::MemLab;
 use std::process::ExitCode;
 use std::{env, io};
@@ -17,16 +19,37 @@ fn words_of(rt: &HostRuntime) -> io::Result<Vec<String>> {
     Ok(words)
 }
 
+/// Obeys the script of standard input over a plant.
+fn run_over<P: Plant>(rt: &HostRuntime, words: &[String], plant: &mut P) -> Status {
+    let mut source = StdSource::new(rt);
+    let mut sink = StdSink::new(rt);
+    labctl(rt.alloc(), words, &mut source, &mut sink, plant)
+}
+
+fn run_in_memory(rt: &HostRuntime, words: &[String]) -> Status {
+    match MemLab::blank(rt.alloc()) {
+        Ok(mut plant) => run_over(rt, words, &mut plant),
+        Err(_) => Status::Memory,
+    }
+}
+
+fn run_in_folder(rt: &HostRuntime, words: &[String], dir: &str) -> Status {
+    match FileLab::new(rt, dir) {
+        Ok(mut plant) => run_over(rt, words, &mut plant),
+        Err(_) => Status::Memory,
+    }
+}
+
 fn run(rt: &HostRuntime) -> Status {
     let Ok(words) = words_of(rt) else {
         return Status::Memory;
     };
-    let Ok(mut plant) = MemLab::blank(rt.alloc()) else {
-        return Status::Memory;
-    };
-    let mut source = StdSource::new(rt);
-    let mut sink = StdSink::new(rt);
-    labctl(rt.alloc(), &words, &mut source, &mut sink, &mut plant)
+    match place_of(&words) {
+        Ok(Place::Blank) => run_in_memory(rt, &words),
+        Ok(Place::Folder(dir)) => run_in_folder(rt, &words, dir.as_str()),
+        Err(PlaceFault::Usage) => Status::Usage,
+        Err(PlaceFault::Memory) => Status::Memory,
+    }
 }
 
 /// Says on standard error how the run ended, where that is not its end.

@@ -1,4 +1,5 @@
-use Rattle.script_text.proofs.Blocks.{block_length}
+use Rattle.std.proofs.Common.{arith}
+use Rattle.script_text.proofs.Blocks.{block_length, block_size}
 use Rattle.lab_core.proofs.judge.judge.Goals as goal
 
 pub judge_ptop-requires : goal.judge_ptop-requires
@@ -12,3 +13,11 @@ judge_create-requires c = rw c.bytes-in-CreateTop.ensures (block_length c.in-Cre
 
 pub judge_solution-requires : goal.judge_solution-requires
 judge_solution-requires c = rw c.bytes-in-SwapinWith.ensures (block_length c.in-SwapinWith.lines c.in-SwapinWith.map (rw c.in-SwapinWith.is at c.requires.blocks))
+
+pub judge_modify-requires-clause-top : goal.judge_modify-requires-clause-top
+judge_modify-requires-clause-top c = rw c.bytes-in-ModifyWith.ensures (block_length c.in-ModifyWith.top_lines c.in-ModifyWith.top (rw c.in-ModifyWith.is at c.requires.blocks).0)
+
+pub judge_modify-requires-clause-map : goal.judge_modify-requires-clause-map
+judge_modify-requires-clause-map c =
+    let size = block_size c.in-ModifyWith.map_lines c.in-ModifyWith.map (rw c.in-ModifyWith.is at c.requires.blocks).1 in
+    rw c.bytes-in-ModifyWith-2.ensures (omega (arith, size))

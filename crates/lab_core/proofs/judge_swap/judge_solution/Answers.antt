@@ -1,9 +1,7 @@
-use Rattle.std.proofs.Common.{ap, ◌∙◌, sym, subst}
-use Rattle.records_model.specs.Labs.{find}
-use Rattle.records_model.proofs.Swaps.{found_in}
-use Rattle.lab_state.proofs.Named.{name_is}
+use Rattle.std.proofs.Common.{sym, subst}
 use Rattle.lab_core.specs.Tasks.{Gives}
-use Rattle.lab_core.proofs.JudgeSwap.{in_reads}
+use Rattle.records_model.proofs.Swaps.{found_in}
+use Rattle.lab_core.proofs.JudgeSwap.{in_reads, is_there}
 use Rattle.lab_core.proofs.judge_swap.judge_solution.Goals as goal
 
 pub judge_mapping-requires-clause-out : goal.judge_mapping-requires-clause-out
@@ -12,10 +10,8 @@ judge_mapping-requires-clause-out c =
     let e = c.in_ok-experiment.experiment.now in
     let found = c.in_ok-experiment.ensures.found in
     record {
-      is_lab = c.in_ok-lab.ensures.lab;
-      found = ap (λ n. find n s.experiments) (name_is c.args.exp s.experiments e found) ∙ found;
+      there = is_there s c.args.exp c.in_ok-lab.lab.now e c.in_ok-lab.ensures.lab found c.need_lab.ensures.sane;
       out = c.in_ok-need_out.ensures.out;
-      sane = c.need_lab.ensures.sane;
       printable = c.need_lab.ensures.printable e (found_in c.args.exp s.experiments e found);
     }
 

@@ -5,4 +5,4 @@ pub returns-clause-only : goal.returns-clause-only
 returns-clause-only c = λ takes set s session exp text lines opening own after step is. in_only takes set s session exp text lines opening own after step is
 
 pub returns-clause-unless : goal.returns-clause-unless
-returns-clause-unless c = λ takes set s session exp text lines opening own after reply step is f. in_unless takes set s session exp text lines opening own after reply step is f
+returns-clause-unless c = λ takes set s session exp text lines opening own after reply step is. in_unless takes set s session exp text lines opening own after reply step is

@@ -19,7 +19,7 @@ encode-requires g c = is_short c.args.entry.now c.requires.can.is_record
 pub returns-in_err-encoded : goal.returns-in_err-encoded
 returns-in_err-encoded g c =
     let p = err_from_is_err_and c.from_residual.result c.from_residual.ensures.1 in
-    rw (p.1, p.2) (wanted _ _ (record { lab = c.args.lab.now.state; journal = c.args.journal.now }))
+    rw (p.1, p.2) (wanted _ _ (record { lab = c.args.lab.now.state; journal = c.args.journal.now }) c.requires.works)
 
 pub returns-then-not-has_space : goal.returns-then-not-has_space
 returns-then-not-has_space g c =
@@ -36,7 +36,7 @@ prepare-requires-clause-follows g c = c.requires.can.follows
 pub returns-in_err-prepared : goal.returns-in_err-prepared
 returns-in_err-prepared g c =
     let p = err_from_is_err_and c.from_residual-in_err-prepared.result c.from_residual-in_err-prepared.ensures.1 in
-    rw (p.1, p.2, c.prepare.ensures.unchanged) (wanted _ _ (record { lab = c.args.lab.now.state; journal = c.args.journal.now }))
+    rw (p.1, p.2, c.prepare.ensures.unchanged) (wanted _ _ (record { lab = c.args.lab.now.state; journal = c.args.journal.now }) c.requires.works)
 
 pub write-written-requires-clause-stands : goal.write-written-requires-clause-stands
 write-written-requires-clause-stands g c = stands_of _ (record { lab = c.args.lab.now.state; journal = c.args.journal.now }) c.requires.works

@@ -17,7 +17,7 @@ use Rattle.lab_core.proofs.perform.swap.Goals as goal
 pub returns-in_err-ready : goal.returns-in_err-ready
 returns-in_err-ready g c =
     let p = err_from_is_err_and c.from_residual.result c.from_residual.ensures.1 in
-    rw (p.1, p.2, c.prepare_swap.ensures.unchanged) (wanted _ _ (record { lab = c.args.lab.now.state; journal = c.args.journal.now }))
+    rw (p.1, p.2, c.prepare_swap.ensures.unchanged) (wanted _ _ (record { lab = c.args.lab.now.state; journal = c.args.journal.now }) c.requires.works)
 
 pub returns-then-not-has_space : goal.returns-then-not-has_space
 returns-then-not-has_space g c =

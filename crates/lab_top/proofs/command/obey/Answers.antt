@@ -22,14 +22,14 @@ returns-in-Ok g c =
     let e = c.in-Ok.ensures in
     let o = c.obey_open-in-Ok.ensures in
     rw is (ends_of _ c.args.command.now _ _ c.obey_open-in-Ok.result
-    (begins_opened _ c.args.command.now c.requires.no_drill _ _ _ e.steps.0 c.in-Ok.opened _ _ (o.closed, o.shut) e.steps.1 e.steps.2 (g.met.P.Plant.reads_possible c.args.plant.now) e.works e.limit o.own)
-    (record { disk = omega (arith, e.later, o.later.disk); devices = omega (arith, e.devices, o.later.devices) })
-    (λ shut. rose_since _ _ _ e.later (o.disk shut)) (λ blamed. rose_since _ _ _ (omega (arith, e.devices)) (o.device blamed)) (λ some was. runs_if _ _ o.runs some) o.memory o.goes_on)
+    (begins_opened _ c.args.command.now c.requires.no_drill _ _ _ c.in-Ok.opened _ _ (o.closed, o.shut) e.steps (g.met.P.Plant.reads_possible c.args.plant.now) e.works e.limit o.own)
+    (record { disk = omega (arith, e.later.disk, o.later.disk); devices = omega (arith, e.later.devices, o.later.devices) })
+    (λ shut. rose_since _ _ _ e.later.disk (o.disk shut)) (λ blamed. rose_since _ _ _ e.later.devices (o.device blamed)) (λ some was. runs_if _ _ o.runs some) o.memory o.goes_on)
 
 pub returns-in-Err : goal.returns-in-Err
 returns-in-Err g c =
     let is : c.args.controller.now ≡ None = sym c.take.ensures.value ∙ c.in-None.is in
     let e = c.in-Err.ensures in
     let u = c.unopened.ensures in
-    rw (is, c.take.ensures.after) (ends_unopened _ c.args.command.now c.requires.no_drill (g.P.Plant.seen c.args.plant.now) _ (g.P.Plant.seen c.open.new.plant).told e.steps.0 e.steps.1 (g.met.P.Plant.reads_possible c.args.plant.now) (g.met.P.Plant.reads_possible c.open.new.plant)
-    (later_same _ _ _ e.later e.devices u.faults) (goes_closed _) refl c.in-Err.fault c.unopened.result u.unopened e.steps.2 (λ it. rose_same _ _ _ (e.plant (λ i. Err (it i))) u.faults) (runs_if _ _ u.runs) u.bad)
+    rw (is, c.take.ensures.after) (ends_unopened _ c.args.command.now c.requires.no_drill (g.P.Plant.seen c.args.plant.now) _ (g.P.Plant.seen c.open.new.plant).told c.in-Err.fault e.steps (g.met.P.Plant.reads_possible c.args.plant.now) (g.met.P.Plant.reads_possible c.open.new.plant)
+    (later_same _ _ _ e.later.disk e.later.devices u.faults) (goes_closed _) refl c.unopened.result u.unopened (λ it. rose_same _ _ _ (e.plant (λ i. Err (it i))) u.faults) (runs_if _ _ u.runs) u.bad)

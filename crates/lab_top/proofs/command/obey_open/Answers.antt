@@ -1,4 +1,5 @@
-use Rattle.std.proofs.Common.{rules, false, ◌≡◌, refl}
+use Rattle.std.proofs.Common.{rules, false, ap, ◌≡◌, refl}
+use Rattle.std.specs.Prelude.{not}
 use Rattle.script_text.specs.Replies.{closes}
 use Rattle.lab_top.proofs.Obeyed.{obeyed_on, obeyed_off, obeyed_stopped, obeyed_not, goes_open, goes_closed, shuts_so, starts_shut}
 use Rattle.lab_top.proofs.command.obey_open.Goals.{then-not-closes, else-not-closes}
@@ -10,7 +11,7 @@ returns-in-Ok-clause-own g c =
     elim c.if-not-closes.branch [
       | then-not-closes w ↦
           let goes : closes c.in-Ok.reply ≡ false = cc (c.closes.ensures, w.if-not-closes.true) in
-          rw w.controller-is (obeyed_on _ (g.P.Plant.seen c.args.plant.now) (g.P.Plant.seen c.obey.new.plant) c.args.command.now c.requires.no_drill c.args.opened c.obey.new.self c.in-Ok.reply told goes (c.in-Ok.ensures.works goes))
+          rw w.controller-is (obeyed_on _ (g.P.Plant.seen c.args.plant.now) (g.P.Plant.seen c.obey.new.plant) c.args.command.now c.requires.no_drill c.args.opened c.obey.new.self c.in-Ok.reply told goes (c.in-Ok.ensures.works (ap not goes)))
       | else-not-closes w ↦ rw w.controller-is (rw c.requires.taken (obeyed_off _ (g.P.Plant.seen c.args.plant.now) (g.P.Plant.seen c.obey.new.plant) c.args.command.now c.requires.no_drill c.args.opened c.obey.new.self c.in-Ok.reply told (cc (c.closes.ensures, w.if-not-closes.false)) (g.met.P.Plant.reads_possible c.obey.new.plant)))
     ]
 
@@ -20,13 +21,13 @@ returns-in-Ok-clause-goes_on g c =
     elim c.if-not-closes.branch [
       | then-not-closes w ↦
           let goes : closes c.in-Ok.reply ≡ false = cc (c.closes.ensures, w.if-not-closes.true) in
-          rw w.controller-is (goes_open g.P.Plant.takes_drills (g.P.Plant.seen c.args.plant.now) (g.P.Plant.seen c.obey.new.plant) c.args.command.now c.requires.no_drill c.args.opened c.obey.new.self c.in-Ok.reply told goes (c.in-Ok.ensures.works goes) c.requires.open.limit (search rules))
+          rw w.controller-is (goes_open g.P.Plant.takes_drills (g.P.Plant.seen c.args.plant.now) (g.P.Plant.seen c.obey.new.plant) c.args.command.now c.requires.no_drill c.args.opened c.obey.new.self c.in-Ok.reply told goes (c.in-Ok.ensures.works (ap not goes)) c.requires.open.limit (search rules))
       | else-not-closes w ↦ rw w.controller-is (rw c.requires.taken (goes_closed _))
     ]
 
 pub returns-in-Ok-clause-closed : goal.returns-in-Ok-clause-closed
 returns-in-Ok-clause-closed g c shut = elim c.if-not-closes.branch [
-  | then-not-closes w ↦ absurd (cc (c.closes.ensures, w.if-not-closes.true, shut))
+  | then-not-closes w ↦ absurd (cc (c.closes.ensures, shut))
   | else-not-closes w ↦ rw (w.controller-is, c.requires.taken) refl
 ]
 
@@ -47,4 +48,4 @@ returns-in-Err-Stopped-clause-shut g c shut = starts_shut _ _ c.start_again.resu
 pub returns-clause-own : goal.returns-clause-own
 returns-clause-own g c =
     let e = rw c.in-Err-Memory.field-0-is at c.in-Err-Memory.ensures in
-    obeyed_not _ (g.P.Plant.seen c.args.plant.now) (g.P.Plant.seen c.obey.new.plant) c.args.command.now c.requires.no_drill c.args.opened c.obey.new.self e.obeys
+    obeyed_not _ (g.P.Plant.seen c.args.plant.now) (g.P.Plant.seen c.obey.new.plant) c.args.command.now c.requires.no_drill c.args.opened c.obey.new.self e.obeys (e.works refl)

@@ -1,4 +1,4 @@
-use Rattle.lab_top.proofs.BadJournals.{ends_bad}
+use Rattle.lab_top.proofs.RunLaws.{ends_bad}
 use Rattle.lab_top.proofs.laws.bad_journals.Goals as goal
 
 pub returns : goal.returns

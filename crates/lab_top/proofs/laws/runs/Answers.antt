@@ -1,18 +1,19 @@
 use Rattle.journal_runs.proofs.Blank.{nothing_sound}
 use Rattle.lab_state.specs.Texts.{the_texts}
-use Rattle.lab_top.proofs.Kept.{are_kept}
-use Rattle.lab_top.proofs.Solutions.{swapped_in}
-use Rattle.lab_top.proofs.Undrilled.{no_drill_reply}
+use Rattle.lab_top.proofs.RunLaws.{are_kept, stops_told, swapped_in, undrilled_told}
 use Rattle.lab_top.proofs.laws.runs.Goals as goal
 
 pub returns-clause-solutions : goal.returns-clause-solutions
-returns-clause-solutions c = swapped_in
+returns-clause-solutions c = λ takes choices old new status before after b t exp text lines reply r told sound asks replied. swapped_in takes choices old new status before after b t r told sound exp text lines reply asks replied
 
 pub returns-clause-kept : goal.returns-clause-kept
 returns-clause-kept c = are_kept
 
+pub returns-clause-stops : goal.returns-clause-stops
+returns-clause-stops c = λ takes choices old new status before after b t reply r told replied. stops_told takes choices old new status before after b t r told reply replied
+
 pub returns-clause-undrilled : goal.returns-clause-undrilled
-returns-clause-undrilled c = no_drill_reply
+returns-clause-undrilled c = λ takes choices old new status before after b t reply r told no_drill replied. undrilled_told takes choices old new status before after b t r told reply replied no_drill
 
 pub returns-clause-blank : goal.returns-clause-blank
 returns-clause-blank c = nothing_sound the_texts

@@ -18,4 +18,4 @@ returns-in-Err-Refused g c =
     (subst (λ (s : Control). Judged s.lab c.args.command.now (Err c.in-Err-Refused.reply) × IsMild c.in-Err-Refused.reply) c.self.view_is judged)
 
 pub returns-in-Err-Memory : goal.returns-in-Err-Memory
-returns-in-Err-Memory g c = wanted _ (Judged c.args.self.now.lab c.args.command.now) c.args.self.now
+returns-in-Err-Memory g c = wanted _ (Judged c.args.self.now.lab c.args.command.now) c.args.self.now c.requires.works

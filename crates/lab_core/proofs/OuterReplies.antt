@@ -1,10 +1,8 @@
--- What a reply tells of a command that is no drill: no drill, and `stopped` only where the plant stopped.
-use Rattle.std.proofs.Common.{◌≡◌, ◌^◌, ℕ, Bool, true, false, List, [], ◌∷◌, ◌++◌, Option, Some, None, Result, Ok, Err, refl, sym, ◌∙◌, ap, subst}
-use Rattle.std.specs.Prelude.{IfSome, nat_le, length}
+-- The replies that no judgement has: those of drills, and `stopped`.
+use Rattle.std.proofs.Common.{◌≡◌, ℕ, Bool, true, false, List, [], Option, Some, None, Result, Ok, Err, refl, sym, ◌∙◌, ap}
+use Rattle.std.specs.Prelude.{nat_le, length}
 use Rattle.lab_base.specs.declared.fault.TextFault.{TextFault}
-use Rattle.plant.specs.declared.drill.Drill.{Drill}
 use Rattle.plant.specs.Events.{Event}
-use Rattle.plant.specs.Told.{Told}
 use Rattle.phys_lab.specs.Labs.{Lab}
 use Rattle.virt_topo.specs.declared.experiment.Experiment.{Experiment}
 use Rattle.virt_topo.specs.declared.experiment.Phase.{Phase}
@@ -15,10 +13,11 @@ use Rattle.virt_topo.specs.declared.violation.Broken.{Broken}
 use Rattle.virt_topo.specs.declared.violation.Subject.{Subject}
 use Rattle.journal_rec.specs.declared.record.Record.TheVariants.{Begin}
 use Rattle.journal_model.specs.Appends.{Run}
-use Rattle.journal_rec.specs.declared.record.Way.TheVariants.{In as WayIn}
+use Rattle.journal_rec.specs.declared.record.Way.TheVariants.{In as WayIn, Change as WayChange}
 use Rattle.lab_model.specs.Beside.{violation_beside}
 use Rattle.ptop_text.specs.Adding.{lab_of_text}
 use Rattle.top_text.specs.Adding.{wiring_of_text}
+use Rattle.top_text.specs.Canonical.{canonical_top}
 use Rattle.solution_text.specs.CanonicalSolution.{canonical_solution}
 use Rattle.solution_text.specs.Solutions.{mapping_of_text}
 use Rattle.lab_core.specs.Counts.{least_tags}
@@ -30,20 +29,12 @@ use Rattle.script_text.specs.declared.command.Command.{Command}
 use Rattle.script_text.specs.declared.command.Command.TheVariants as commands
 use Rattle.script_text.specs.declared.reply.Reply.{Reply}
 use Rattle.script_text.specs.declared.reply.Reply.TheVariants as replies
-use Rattle.script_text.specs.Drills.{drill_of}
 use Rattle.lab_core.specs.Breaks.{Breaks, stopped, failed, unanswered}
-use Rattle.lab_core.specs.Judge.{Task, Tell, Append, Swap, Judged, JudgedNetwork, refused, asked, ◌>>=◌, need_lab, need_none, need_found, need_new, need_meaning, need_room, need_out, need_in, need_kept, need_feasible, need_place, judged_wiring, judged_mapping}
-use Rattle.lab_core.specs.LabSteps.{LabStep, StepOf, Does, IsDoneBy, does, no_memory, FromClosed, opened, not_opened, AppendEnds, whole, broken, IsAnswered, is_told, unanswered as no_answer, end_reply, done_reply, has_space, IfSpace, Appends, Swaps}
+use Rattle.lab_core.specs.Judge.{Task, Tell, Append, Swap, Recover, Judged, behind_lines, JudgedNetwork, refused, asked, ◌>>=◌, need_lab, need_none, need_found, need_new, need_meaning, need_room, need_out, need_in, need_kept, need_feasible, need_place, judged_wiring}
+use Rattle.lab_core.specs.LabSteps.{StepOf, Does, IsDoneBy, does, no_memory, opened, not_opened, AppendEnds, whole, broken, IsAnswered, is_told, unanswered as no_answer, end_reply, done_reply, has_space, IfSpace, Appends, Swaps}
+use Rattle.lab_core.specs.Recovery.{Recovers, settled, broken_off}
 use Rattle.lab_core.specs.Sessions.{OpenSwap, Session, Closed, Open, Setting, After}
-use Rattle.lab_top.specs.declared.status.Status.{Status}
-use Rattle.lab_top.specs.Pieces.{Piece, Begun, ArePieces, ButForReply, IsPiece, is_closed, is_of_drill, may_shut, trace_after}
-use Rattle.lab_top.specs.Ran.{Outside, Ran}
-use Rattle.lab_top.specs.Words.{Choices}
-use Rattle.lab_top.proofs.BadJournals.{piece_at}
-
-abbrev pub of_drill_if : Option Reply → Bool
-of_drill_if None = false
-of_drill_if (Some reply) = is_of_drill reply
+use Rattle.lab_core.specs.Tells.{is_of_drill, is_stopped, of_drill_if}
 
 -- the replies that no judgement has
 abbrev pub is_outer : Reply → Bool
@@ -51,6 +42,10 @@ is_outer replies.Planned = true
 is_outer replies.NoDrill = true
 is_outer replies.Stopped = true
 is_outer reply = false
+
+pub no_stop_of : (reply : Reply) → is_outer reply ≡ false → is_stopped reply ≡ false
+no_stop_of replies.Stopped inner = absurd (cc inner)
+no_stop_of reply inner = refl
 
 no_drill_of : (reply : Reply) → is_outer reply ≡ false → is_of_drill reply ≡ false
 no_drill_of replies.Planned free = absurd (cc free)
@@ -63,6 +58,7 @@ outer_by (Err refusal) = is_outer refusal
 outer_by (Ok (Tell told)) = is_outer told
 outer_by (Ok (Append entry told)) = is_outer told
 outer_by (Ok (Swap exp way)) = false
+outer_by (Ok Recover) = false
 
 abbrev pub outer_of : {X : Type 0} → Result X Reply → Bool
 outer_of (Ok x) = false
@@ -106,9 +102,9 @@ with_in exp phases.Out = refl
 with_in exp (phases.In mapping tags) = refl
 with_in exp (phases.Moving old new) = refl
 
-with_kept : (lab : Lab) (e : Experiment) (o : Option (Broken × Subject)) → outer_of (need_kept lab e o) ≡ false
-with_kept lab e None = refl
-with_kept lab e (Some v) = refl
+with_kept : (lab : Lab) (exp : List ℕ) (w : Wiring) (o : Option (Broken × Subject)) → outer_of (need_kept lab exp w o) ≡ false
+with_kept lab exp w None = refl
+with_kept lab exp w (Some v) = refl
 
 with_place : (s : LabState) (exp : List ℕ) (o : Option Lab) → s.lab ≡ o → outer_of (need_place s exp) ≡ false
 with_place s exp None is = rw is refl
@@ -135,11 +131,21 @@ module _ (s : LabState) where
       ap outer_by is
       ∙ and_then (need_lab s.lab) _ (with_lab s.lab) (λ lab. and_then (need_found exp (find exp s.experiments)) _ (with_found exp (find exp s.experiments))
       (λ e. and_then (need_out exp e.phase) _ (with_out exp e.phase) (λ out. and_then (need_meaning (replies.Bad exp) (mapping_of_text lab e.wiring text)) _ (with_meaning (replies.Bad exp) (mapping_of_text lab e.wiring text) (λ f. refl))
-      (λ mapping. and_then (need_feasible lab s.experiments e mapping) (λ feasible. Ok (Swap e.name (WayIn (canonical_solution lab e.wiring mapping) (least_tags lab s.experiments (length e.wiring.segments)))))
-      (with_kept lab e (violation_beside lab (others e.name s.experiments) e e.wiring mapping)) (λ feasible. refl)))))
+      (λ mapping. and_then (need_feasible lab s.experiments e e.wiring mapping) (λ feasible. Ok (Swap e.name (WayIn (canonical_solution lab e.wiring mapping) (least_tags lab s.experiments (length e.wiring.segments)))))
+      (with_kept lab e.name e.wiring (violation_beside lab (others e.name s.experiments) e e.wiring mapping)) (λ feasible. refl)))))
+  judged_so (commands.ModifyWith exp lines top behind map) judgement is =
+      ap outer_by is
+      ∙ and_then (need_lab s.lab) _ (with_lab s.lab) (λ lab. and_then (need_found exp (find exp s.experiments)) _ (with_found exp (find exp s.experiments))
+      (λ e. and_then (need_in exp e.phase) _ (with_in exp e.phase) (λ inside. and_then (need_meaning (replies.Bad exp) (wiring_of_text top)) _ (with_meaning (replies.Bad exp) (wiring_of_text top) (λ f. refl))
+      (λ w. and_then (need_meaning (λ fault. replies.Bad exp (behind_lines lines fault)) (mapping_of_text lab w map)) _ (with_meaning (λ fault. replies.Bad exp (behind_lines lines fault)) (mapping_of_text lab w map) (λ f. refl))
+      (λ mapping. and_then (need_feasible lab s.experiments e w mapping) (λ feasible. Ok (Swap e.name (WayChange (canonical_top w) (canonical_solution lab w mapping) (least_tags lab s.experiments (length w.segments)))))
+      (with_kept lab e.name w (violation_beside lab (others e.name s.experiments) e w mapping)) (λ feasible. refl))))))
   judged_so (commands.Swapout exp) judgement is =
       ap outer_by is ∙ and_then (need_lab s.lab) _ (with_lab s.lab) (λ lab. and_then (need_found exp (find exp s.experiments)) _ (with_found exp _) (λ e. and_then (need_in exp e.phase) _ (with_in exp e.phase) (λ inside. refl)))
+  judged_so commands.Recover judgement is = ap outer_by is ∙ and_then (need_lab s.lab) _ (with_lab s.lab) (λ lab. refl)
   judged_so (commands.Fail device nth how) judgement is = absurd is
+  judged_so (commands.FailDisk nth) judgement is = absurd is
+  judged_so (commands.Stop nth pick) judgement is = absurd is
   judged_so (commands.Delete exp) judgement is =
       ap outer_by is ∙ and_then (need_lab s.lab) _ (with_lab s.lab) (λ lab. and_then (need_found exp (find exp s.experiments)) _ (with_found exp _) (λ e. and_then (need_out exp e.phase) _ (with_out exp e.phase) (λ out. refl)))
   judged_so commands.Status judgement is = ap outer_by is ∙ and_then (need_lab s.lab) _ (with_lab s.lab) (λ lab. refl)
@@ -177,41 +183,22 @@ module _ (set : Setting) (s : LabState) (opens : List OpenSwap) (own : List Even
   swap_so p outcome behind (is_told starts reply session) = ap of_drill_if reply ∙ end_so p outcome
   swap_so p outcome behind (no_answer starts reply session) = ap of_drill_if reply
 
+  recover_so : Recovers s opens own after → of_drill_if after.reply ≡ false
+  recover_so (settled outcomes settles told session) = ap of_drill_if told
+  recover_so (broken_off part breaks session) = breaks_so own after.reply breaks
+
   does_so : (judgement : Result Task Reply) → outer_by judgement ≡ false → Does set s opens judgement own after → of_drill_if after.reply ≡ false
   does_so (Err refusal) free d = ap (λ (x : After). of_drill_if x.reply) d.after_is ∙ no_drill_of refusal free
   does_so (Ok (Tell told)) free d = ap (λ (x : After). of_drill_if x.reply) d.after_is ∙ no_drill_of told free
   does_so (Ok (Append entry told)) free d = if_space (has_space set entry) (Appends s opens entry told own after) set.length d (λ a. ends_so a.state told a.run a.more free a.ends)
   does_so (Ok (Swap exp way)) free d = if_space (has_space set (Begin exp way)) (Swaps s opens exp (Begin exp way) own after) set.length d (λ w. swap_so w.swap w.outcome w.behind w.answered)
+  does_so (Ok Recover) free d = recover_so d
 
   by_so : (command : Command) → IsDoneBy (Judged s command) set s opens own after → of_drill_if after.reply ≡ false
   by_so command (does judgement judged d) = does_so judgement (judged_so s command judgement judged) d
   by_so command (no_memory wants) = ap (λ (x : After). of_drill_if x.reply) wants.after_is
 
-step_so : (takes : Bool) (set : Setting) (s : LabState) (session : Session) (command : Command) (opening own : List Event) (after : After) → StepOf None (λ lab. Judged lab command) takes set s session opening own after → of_drill_if after.reply ≡ false
+pub step_so : (takes : Bool) (set : Setting) (s : LabState) (session : Session) (command : Command) (opening own : List Event) (after : After) → StepOf None (λ lab. Judged lab command) takes set s session opening own after → of_drill_if after.reply ≡ false
 step_so takes set s Closed command opening own after (opened mid opens d) = by_so set mid [] own after command d
 step_so takes set s Closed command opening own after (not_opened b) = breaks_so opening after.reply b.breaks
 step_so takes set s (Open opens) command opening own after step = by_so set s opens own after command step.1
-
-shut_so : (reply : Reply) → may_shut (Some reply) ≡ true → is_of_drill reply ≡ false
-shut_so replies.Planned shut = absurd (cc shut)
-shut_so replies.NoDrill shut = absurd (cc shut)
-shut_so reply shut = refl
-
--- OVER A RUN
-pub no_drill_reply : (takes : Bool) (choices : Option Choices) (old new : Outside) (status : Status) (before after : List Begun) (b : Begun) (t : Told) (reply : Reply) → Ran takes choices old new status (before ++ b ∷ after) → old.plant.told ≡ Some t
-    → drill_of b.piece.command ≡ None → b.piece.reply ≡ Some reply → is_of_drill reply ≡ false
-no_drill_reply takes choices old new status before after b t reply r is no_drill replied =
-    let are = subst (λ (o : Option Told). IfSome o (λ u. ArePieces takes u.trace Closed (before ++ b ∷ after))) is r.pieces in
-    let piece = piece_at takes t.trace Closed before after b are in
-    by (is_closed b.piece.to) refl piece
-  where
-    by : (shut : Bool) → is_closed b.piece.to ≡ shut → IsPiece takes (trace_after t.trace before) b.piece → is_of_drill reply ≡ false
-    by true shut piece = shut_so reply (ap may_shut (sym replied) ∙ piece.shuts no_drill shut)
-    by false shut piece =
-        let l = piece.leads no_drill shut in
-        let told : l.steps.told ≡ Some reply = (subst (λ (o : Option Reply). ButForReply o b.piece.to l.steps.told l.steps.session l.steps.behind) replied l.steps.is_told).0 in
-        let set : Setting = record { length = l.steps.length; limit = 2 ^ 32 } in
-        let done : After = record { reply = l.steps.told; lab = l.last; session = l.steps.session } in
-        ap of_drill_if (sym told)
-        ∙ step_so takes set l.first b.piece.from b.piece.command b.piece.opening (b.piece.own ++ l.steps.behind) done
-        (subst (λ (d : Option Drill). StepOf d (λ lab. Judged lab b.piece.command) takes set l.first b.piece.from b.piece.opening (b.piece.own ++ l.steps.behind) done) no_drill l.steps.step)

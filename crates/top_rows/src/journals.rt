@@ -1,12 +1,13 @@
+// The journal where calls fail and the plant stops, sides that are no journal, and its limits.
 ghost use Rattle.std.specs.Prelude.{◌≡◌, ◌≤◌, ◌^◌, None};
 ghost use Rattle.script_text.specs.Blocks.{HasBlocks};
 ghost use Rattle.script_text.specs.Drills.{drill_of};
 
-use super::*;
-use crate::tests::run_over;
+use crate::table::{FAIL_DISK, STOP_ALL, STOP_NONE, STOP_TORN, Span, other_number, run_over};
 use lab_base::Text;
 use lab_core::Controller;
-use plant::{Drill, Pick, Plant, Side};
+use lab_top::Status;
+use plant::{Plant, Side};
 use plant_mem::MemLab;
 use script_text::{Command, Reply, reply_text};
 use std::alloc::Global;
@@ -18,57 +19,24 @@ const SCRIPT: &[u8] =
 
 /// What is replied where nothing fails.
 const WHOLE: &[u8] =
-    b"lab 1 2 0\nfree 2 2\ncreated A 2 1\nexp A out 0 0\nfree 2 2\ndeleted A\nfree 2 2\n";
-
-/// Whether the run with a failure ends so.
-fn ends_so(alloc: Global, drill: Drill, output: &[u8]) -> Result<bool, Fail> {
-    let mut plant = MemLab::blank(alloc)?;
-    plant.drill(drill).ok().ok_or("a drill")?;
-    let ran = run_over(alloc, SCRIPT, plant)?;
-    Ok(ran.output.as_slice() == output && ran.status == Status::Done)
-}
-
-/// The first call at which the output is this one, and the first one behind it at which it is not.
-type Span = (u32, u32, &'static [u8]);
-
-/// The first stop in the span whose output is another one.
-fn other_stop(alloc: Global, pick: Pick, span: &Span) -> Result<Option<u32>, Fail> {
-    let (first, end, output) = *span;
-    for nth in first..end {
-        if !ends_so(alloc, Drill::Stop { nth, pick }, output)? {
-            return Ok(Some(nth));
-        }
-    }
-    Ok(None)
-}
-
-/// The first failure of the disk in the span whose output is another one.
-fn other_failure(alloc: Global, span: &Span) -> Result<Option<u32>, Fail> {
-    let (first, end, output) = *span;
-    for nth in first..end {
-        if !ends_so(alloc, Drill::Disk { nth }, output)? {
-            return Ok(Some(nth));
-        }
-    }
-    Ok(None)
-}
+    b"planned\nlab 1 2 0\nfree 2 2\ncreated A 2 1\nexp A out 0 0\nfree 2 2\ndeleted A\nfree 2 2\n";
 
 /// What is replied where the plant stops in `ptop`, `create-top` and `delete`, and the record is lost; and where it is kept.
-const SET_LOST: &[u8] = b"stopped\nno lab\nno lab\nno lab\nno lab\nno lab\n";
+const SET_LOST: &[u8] = b"planned\nstopped\nno lab\nno lab\nno lab\nno lab\nno lab\n";
 
 const SET_KEPT: &[u8] =
-    b"stopped\nfree 2 2\ncreated A 2 1\nexp A out 0 0\nfree 2 2\ndeleted A\nfree 2 2\n";
+    b"planned\nstopped\nfree 2 2\ncreated A 2 1\nexp A out 0 0\nfree 2 2\ndeleted A\nfree 2 2\n";
 
-const MADE_LOST: &[u8] = b"lab 1 2 0\nfree 2 2\nstopped\nfree 2 2\nunknown A\nfree 2 2\n";
+const MADE_LOST: &[u8] = b"planned\nlab 1 2 0\nfree 2 2\nstopped\nfree 2 2\nunknown A\nfree 2 2\n";
 
 const MADE_KEPT: &[u8] =
-    b"lab 1 2 0\nfree 2 2\nstopped\nexp A out 0 0\nfree 2 2\ndeleted A\nfree 2 2\n";
+    b"planned\nlab 1 2 0\nfree 2 2\nstopped\nexp A out 0 0\nfree 2 2\ndeleted A\nfree 2 2\n";
 
 const DELETED_LOST: &[u8] =
-    b"lab 1 2 0\nfree 2 2\ncreated A 2 1\nexp A out 0 0\nfree 2 2\nstopped\nexp A out 0 0\nfree 2 2\n";
+    b"planned\nlab 1 2 0\nfree 2 2\ncreated A 2 1\nexp A out 0 0\nfree 2 2\nstopped\nexp A out 0 0\nfree 2 2\n";
 
 const DELETED_KEPT: &[u8] =
-    b"lab 1 2 0\nfree 2 2\ncreated A 2 1\nexp A out 0 0\nfree 2 2\nstopped\nfree 2 2\n";
+    b"planned\nlab 1 2 0\nfree 2 2\ncreated A 2 1\nexp A out 0 0\nfree 2 2\nstopped\nfree 2 2\n";
 
 #[test]
 fn a_stop_leaves_a_record_whole_or_not_at_all(rt: HostRuntime) -> Result<(), Fail> {
@@ -90,14 +58,11 @@ fn a_stop_leaves_a_record_whole_or_not_at_all(rt: HostRuntime) -> Result<(), Fai
         (19, 21, DELETED_KEPT),
         (21, 22, WHOLE),
     ];
-    for span in &lost {
-        assert_eq!(rt; other_stop(rt.alloc(), Pick::Nothing, span)?, None);
-    }
-    for span in &kept {
-        assert_eq!(rt; other_stop(rt.alloc(), Pick::All, span)?, None);
-        // The last half of a byte is the byte, and garbage is an open gate.
-        assert_eq!(rt; other_stop(rt.alloc(), Pick::Torn, span)?, None);
-    }
+    let alloc = rt.alloc();
+    assert_eq!(rt; other_number(alloc, b"", STOP_NONE, SCRIPT, &lost)?, None);
+    assert_eq!(rt; other_number(alloc, b"", STOP_ALL, SCRIPT, &kept)?, None);
+    // The last half of a byte is the byte, and garbage is an open gate.
+    assert_eq!(rt; other_number(alloc, b"", STOP_TORN, SCRIPT, &kept)?, None);
     Ok(())
 }
 
@@ -106,37 +71,42 @@ fn a_failure_of_the_disk_closes_the_controller(rt: HostRuntime) -> Result<(), Fa
     // An opening of blank sides has 10 calls, since it asks for both lengths too; an append has 4, and only behind the last one
     // does the record stand.
     let spans: [Span; 7] = [
-        (1, 14, b"down\nno lab\nno lab\nno lab\nno lab\nno lab\n"),
+        (
+            1,
+            14,
+            b"planned\ndown\nno lab\nno lab\nno lab\nno lab\nno lab\n",
+        ),
         (
             14,
             15,
-            b"down\nfree 2 2\ncreated A 2 1\nexp A out 0 0\nfree 2 2\ndeleted A\nfree 2 2\n",
+            b"planned\ndown\nfree 2 2\ncreated A 2 1\nexp A out 0 0\nfree 2 2\ndeleted A\nfree 2 2\n",
         ),
         (
             15,
             18,
-            b"lab 1 2 0\nfree 2 2\ndown\nfree 2 2\nunknown A\nfree 2 2\n",
+            b"planned\nlab 1 2 0\nfree 2 2\ndown\nfree 2 2\nunknown A\nfree 2 2\n",
         ),
         (
             18,
             19,
-            b"lab 1 2 0\nfree 2 2\ndown\nexp A out 0 0\nfree 2 2\ndeleted A\nfree 2 2\n",
+            b"planned\nlab 1 2 0\nfree 2 2\ndown\nexp A out 0 0\nfree 2 2\ndeleted A\nfree 2 2\n",
         ),
         (
             19,
             22,
-            b"lab 1 2 0\nfree 2 2\ncreated A 2 1\nexp A out 0 0\nfree 2 2\ndown\nexp A out 0 0\nfree 2 2\n",
+            b"planned\nlab 1 2 0\nfree 2 2\ncreated A 2 1\nexp A out 0 0\nfree 2 2\ndown\nexp A out 0 0\nfree 2 2\n",
         ),
         (
             22,
             23,
-            b"lab 1 2 0\nfree 2 2\ncreated A 2 1\nexp A out 0 0\nfree 2 2\ndown\nfree 2 2\n",
+            b"planned\nlab 1 2 0\nfree 2 2\ncreated A 2 1\nexp A out 0 0\nfree 2 2\ndown\nfree 2 2\n",
         ),
         (23, 24, WHOLE),
     ];
-    for span in &spans {
-        assert_eq!(rt; other_failure(rt.alloc(), span)?, None);
-    }
+    assert_eq!(rt;
+        other_number(rt.alloc(), b"", FAIL_DISK, SCRIPT, &spans)?,
+        None
+    );
     Ok(())
 }
 

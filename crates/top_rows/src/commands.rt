@@ -1,6 +1,7 @@
-use super::*;
-use crate::tests::{LARGE, PAIR, Row, SMALL, other_row, run};
+// Labs, experiments, drills, and the reading of scripts.
+use crate::table::{LARGE, PAIR, Row, SMALL, other_row, run};
 use lab_io::{MemSink, MemSource};
+use lab_top::{Status, labctl};
 use plant_mem::MemLab;
 use std::alloc::Global;
 use std::test::Fail;

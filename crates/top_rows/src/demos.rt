@@ -1,5 +1,6 @@
-use crate::Status;
-use crate::tests::{Row, other_row};
+// The demos.
+use crate::table::{Row, other_row};
+use lab_top::Status;
 use std::test::Fail;
 
 /// `demo/first.lab`: an experiment is swapped in and out, and a device fails.
@@ -9,6 +10,22 @@ const FIRST: &[u8] =
 /// What it replies.
 const FIRST_REPLIES: &[u8] =
     b"lab 1 2 0\ncreated A 2 1\nin A\nshow A in\nnode a pc linux\nnode b pc linux\nlink ab ab 100000 a b\nnode a pc1 pc\nnode b pc2 pc\nplug a:0 pc1:eth0\nplug b:0 pc2:eth0\ntag ab 100\nend A\nexp A in 2 1\nfree 0 1\nout A\nplanned\nfailed A out device s1\nexp A out 0 0\nfree 2 2\nplanned\nplanned\nfailed A stuck device s1\nexp A moving 2 1\nfree 0 1\nis moving A\n";
+
+/// `demo/recovery.lab`: stuck swaps and stops that are settled.
+const RECOVERY: &[u8] =
+    b"# A lab of one switch with two machines, and an experiment that asks for both.\nptop 6\nvlans 100 101\nnode s1 switch\nnode pc1 pc:1\nnode pc2 pc:1\nlink l1 pc1:eth0 s1:1 100000\nlink l2 pc2:eth0 s1:2 100000\ncreate-top A 3\nnode a pc linux\nnode b pc linux\nlink ab ab 100000 a b\n\n# The second join fails, and so does the first command of the undo: the experiment is stuck. The switch answers again, and it is settled.\nfail s1 2 not\nfail s1 3 not\nswapin-with A 4\nnode a pc1 pc\nnode b pc2 pc\nplug a:0 pc1:eth0\nplug b:0 pc2:eth0\nstatus\nrecover\nstatus\n\n# The controller stops inside a swap-in: the next command opens the journal, and the swap-in is undone first.\nstop 7 all\nswapin-with A 4\nnode a pc1 pc\nnode b pc2 pc\nplug a:0 pc1:eth0\nplug b:0 pc2:eth0\nstatus\n\n# A stop inside a swap-out: the next command goes on with it.\nswapin-with A 4\nnode a pc1 pc\nnode b pc2 pc\nplug a:0 pc1:eth0\nplug b:0 pc2:eth0\nstop 5 none\nswapout A\nstatus\n\n# The disk fails while the next record is written: nothing more is done until the journal is opened anew.\nfail disk 1\ndelete A\nstatus\n";
+
+/// What it replies.
+const RECOVERY_REPLIES: &[u8] =
+    b"lab 1 2 0\ncreated A 2 1\nplanned\nplanned\nfailed A stuck device s1\nexp A moving 2 1\nfree 0 1\nrecovered 1 0\nexp A out 0 0\nfree 2 2\nplanned\nstopped\nexp A out 0 0\nfree 2 2\nin A\nplanned\nstopped\nexp A out 0 0\nfree 2 2\nplanned\ndown\nexp A out 0 0\nfree 2 2\n";
+
+/// `demo/change.lab`: changes of an experiment that is in.
+const CHANGE: &[u8] =
+    b"# One switch with three machines, and an experiment of two virtual nodes that is in.\nptop 8\nvlans 100 103\nnode s1 switch\nnode pc1 pc:1\nnode pc2 pc:1\nnode pc3 pc:1\nlink l1 pc1:eth0 s1:1 100000\nlink l2 pc2:eth0 s1:2 100000\nlink l3 pc3:eth0 s1:3 100000\ncreate-top A 3\nnode a pc linux\nnode b pc linux\nlink ab ab 100000 a b\nswapin-with A 4\nnode a pc1 pc\nnode b pc2 pc\nplug a:0 pc1:eth0\nplug b:0 pc2:eth0\n\n# It gets a third node, without leaving the lab: pc1 and pc2 are not touched, but for the VLAN of their ports.\nmodify-with A 4 6\nnode a pc linux\nnode b pc linux\nnode c pc linux\nlink abc abc 100000 a b c\nnode a pc1 pc\nnode b pc2 pc\nnode c pc3 pc\nplug a:0 pc1:eth0\nplug b:0 pc2:eth0\nplug c:0 pc3:eth0\nshow A\nstatus\n\n# A change that fails is undone: the experiment is where it was.\nfail pc2 1 not\nmodify-with A 3 4\nnode a pc linux\nnode b pc freebsd\nlink ab ab 100000 a b\nnode a pc1 pc\nnode b pc2 pc\nplug a:0 pc1:eth0\nplug b:0 pc2:eth0\nstatus\n\n# The fault of a second block is counted on from the lines of the first.\nmodify-with A 2 2\nnode a pc linux\nnode b pc linux\nnode a pc1 pc\nnode b pc9 pc\n";
+
+/// What it replies.
+const CHANGE_REPLIES: &[u8] =
+    b"lab 1 3 0\ncreated A 2 1\nin A\nin A\nshow A in\nnode a pc linux\nnode b pc linux\nnode c pc linux\nlink abc abc 100000 a b c\nnode a pc1 pc\nnode b pc2 pc\nnode c pc3 pc\nplug a:0 pc1:eth0\nplug b:0 pc2:eth0\nplug c:0 pc3:eth0\ntag abc 101\nend A\nexp A in 3 1\nfree 0 3\nplanned\nfailed A in device pc2\nexp A in 3 1\nfree 0 3\nbad A 4 unknown\n";
 
 /// `demo/lab.lab`: an experiment is made, shown and removed.
 const LAB: &[u8] =
@@ -37,6 +54,8 @@ const NETWORK_REPLIES: &[u8] =
 /// The demos, as the manual has them.
 const DEMOS: &[Row] = &[
     (&[FIRST], FIRST_REPLIES, Status::Done, None),
+    (&[RECOVERY], RECOVERY_REPLIES, Status::Done, None),
+    (&[CHANGE], CHANGE_REPLIES, Status::Done, None),
     (&[LAB], LAB_REPLIES, Status::Done, Some(20)),
     (
         &[REFUSED],

@@ -1,18 +1,13 @@
-use crate::Status;
-use crate::tests::{LARGE, PAIR, Row, SMALL, other_row, run, run_over};
+// Solutions that are swapped in, and experiments that are swapped out.
+use crate::table::{
+    FAIL_DISK, LARGE, ON_1_2, ON_1_3, ON_2_4, PAIR, Row, SMALL, Span, other_number, other_row, run,
+};
 use lab_base::{Boot, Name, VlanId};
-use plant::{Answer, DeviceOp, Drill, Plant, Step};
+use lab_top::Status;
+use plant::{Answer, DeviceOp, Step};
 use plant_mem::MemLab;
 use std::alloc::Global;
 use std::test::Fail;
-
-/// Both virtual nodes of the pair on machines 1 and 2: four lines.
-const ON_1_2: &[u8] = b"node a pc1 pc\nnode b pc2 pc\nplug a:0 pc1:eth0\nplug b:0 pc2:eth0\n";
-
-/// On machines 1 and 3, and on 2 and 4.
-const ON_1_3: &[u8] = b"node a pc1 pc\nnode b pc3 pc\nplug a:0 pc1:eth0\nplug b:0 pc3:eth0\n";
-
-const ON_2_4: &[u8] = b"node a pc2 pc\nnode b pc4 pc\nplug a:0 pc2:eth0\nplug b:0 pc4:eth0\n";
 
 /// Four virtual nodes, and each on a machine of its own: eight lines.
 const FOUR: &[u8] = b"node a pc linux\nnode b pc linux\nnode c pc linux\nnode d pc linux\n";
@@ -364,48 +359,34 @@ fn a_machine_that_is_swapped_in_is_up(rt: HostRuntime) -> Result<(), Fail> {
     Ok(())
 }
 
-/// The first failure of the disk from `first` up to `end` at which the swap-in and the list behind it are answered otherwise.
-fn other_failure(alloc: Global, first: u32, end: u32, replies: &[u8]) -> Result<Option<u32>, Fail> {
-    let mut script = swapped_in(alloc, b"")?;
-    script.extend_from_slice(b"status\n")?;
-    for nth in first..end {
-        let mut plant = MemLab::blank(alloc)?;
-        plant.drill(Drill::Disk { nth }).ok().ok_or("a drill")?;
-        let ran = run_over(alloc, &script, plant)?;
-        if ran.output.as_slice() != replies || ran.status != Status::Done {
-            return Ok(Some(nth));
-        }
-    }
-    Ok(None)
-}
+/// What is told where a call of the disk fails behind the drill. Each record has 4 calls, of which the last one makes it durable: Begin
+/// and Commit. Where the command `status` opens the journal again, it settles what moves.
+const FAILURES: &[Span] = &[
+    (
+        1,
+        8,
+        b"lab 1 2 0\ncreated A 2 1\nplanned\nfailed A stuck journal\nexp A out 0 0\nfree 2 2\n",
+    ),
+    (
+        8,
+        9,
+        b"lab 1 2 0\ncreated A 2 1\nplanned\nfailed A stuck journal\nexp A in 2 1\nfree 0 1\n",
+    ),
+    (
+        9,
+        10,
+        b"lab 1 2 0\ncreated A 2 1\nplanned\nin A\nexp A in 2 1\nfree 0 1\n",
+    ),
+];
 
 #[test]
 fn a_failure_of_the_disk_breaks_a_swap_off(rt: HostRuntime) -> Result<(), Fail> {
-    // An opening has 10 calls, and each record 4, of which the last one makes it durable: the lab, the experiment, Begin, Commit.
-    let spans: [(u32, u32, &[u8]); 4] = [
-        (
-            19,
-            22,
-            b"lab 1 2 0\ncreated A 2 1\nfailed A stuck journal\nexp A out 0 0\nfree 2 2\n",
-        ),
-        (
-            22,
-            26,
-            b"lab 1 2 0\ncreated A 2 1\nfailed A stuck journal\nexp A moving 2 1\nfree 0 1\n",
-        ),
-        (
-            26,
-            27,
-            b"lab 1 2 0\ncreated A 2 1\nfailed A stuck journal\nexp A in 2 1\nfree 0 1\n",
-        ),
-        (
-            27,
-            28,
-            b"lab 1 2 0\ncreated A 2 1\nin A\nexp A in 2 1\nfree 0 1\n",
-        ),
-    ];
-    for (first, end, replies) in spans {
-        assert_eq!(rt; other_failure(rt.alloc(), first, end, replies)?, None);
-    }
+    let alloc = rt.alloc();
+    let made = [b"ptop 6\n".as_slice(), SMALL, b"create-top A 3\n", PAIR].concat(alloc)?;
+    let swapped = [b"swapin-with A 4\n".as_slice(), ON_1_2, b"status\n"].concat(alloc)?;
+    assert_eq!(rt;
+        other_number(alloc, &made, FAIL_DISK, &swapped, FAILURES)?,
+        None
+    );
     Ok(())
 }

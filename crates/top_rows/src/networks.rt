@@ -1,5 +1,6 @@
-use crate::Status;
-use crate::tests::{LARGE, Row, other_row};
+// Experiments of NS files.
+use crate::table::{LARGE, Row, other_row};
+use lab_top::Status;
 use std::test::Fail;
 
 /// A LAN of three nodes that a loop makes: ten lines.

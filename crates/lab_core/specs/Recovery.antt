@@ -1,0 +1,60 @@
+-- Settling in the lab step: what an opening does beside reading, and the command `recover`.
+use Rattle.std.specs.Prelude.{◌≡◌, ◌⊎◌, ℕ, false, count_by, List, [], ◌++◌, map, Some}
+use Rattle.plant.specs.Events.{Event}
+use Rattle.records_model.specs.Labs.{LabState}
+use Rattle.journal_runs.specs.Pieces.{has_restart, has_miss, has_command}
+use Rattle.script_text.specs.declared.reply.Reply.TheVariants.{Recovered}
+use Rattle.swap_turns.specs.Settling.{Settles, BreaksOff}
+use Rattle.swap_turns.specs.Swaps.{Swap}
+use Rattle.swap_turns.specs.Turning.{Outcome}
+use Rattle.recovery.specs.Due.{swaps_of}
+use Rattle.recovery.specs.Settle.{is_ended, is_stuck}
+use Rattle.lab_core.specs.Breaks.{Breaks, StartsBehind}
+use Rattle.lab_core.specs.Sessions.{OpenSwap, Closed, Open, After}
+
+-- HOW FAR A SETTLING CAME that broke off, in order of creation and without the busy ones: some were settled; or so were some, and in the next a
+-- call of the journal failed, or the plant stopped, and was started again if there was memory
+pub data SettlesSome (s : LabState) (busy : List (List ℕ)) (steps : List Event) (after : LabState) : Type 0 where
+  some : (past rest : List Swap) (outcomes : List Outcome) → swaps_of busy s.experiments ≡ past ++ rest → Settles s past outcomes steps after
+      → SettlesSome s busy steps after
+  within : (outcome : Outcome) (front behind : List Event) → steps ≡ front ++ behind → BreaksOff s (swaps_of busy s.experiments) front outcome after
+      → (behind ≡ []) ⊎ StartsBehind outcome behind → SettlesSome s busy steps after
+
+-- THE OPENING of a closed controller: a part that reads, and then the settling of all experiments that move
+
+-- a part that reads sends no device command
+abbrev pub Reads : List Event → Type 0
+Reads reading = has_command reading ≡ false
+
+-- it opened, and led to that lab: no call of the disk failed, and the plant did not stop
+pub record Opens (s : LabState) (opening : List Event) (mid : LabState) : Type 0 where
+  pub reading : List Event
+  pub moving : List Event
+  pub is : opening ≡ reading ++ moving
+  pub reads : Reads reading
+  pub outcomes : List Outcome
+  pub settles : Settles s (swaps_of [] s.experiments) outcomes moving mid
+  pub no_miss : has_miss opening ≡ false
+  pub no_restart : has_restart opening ≡ false
+
+-- how far it came that broke off: it read, or it had read, and settled some
+pub data OpensInPart (s : LabState) (opening : List Event) (after : LabState) : Type 0 where
+  reading : Reads opening → after ≡ s → OpensInPart s opening after
+  settling : (front moving : List Event) → opening ≡ front ++ moving → Reads front → has_miss front ≡ false → has_restart front ≡ false
+      → SettlesSome s [] moving after → OpensInPart s opening after
+
+-- it broke off, in that lab: nothing of the command's own is done
+pub record BreaksOpening (s : LabState) (opening own : List Event) (after : After) : Type 0 where
+  pub part : OpensInPart s opening after.lab
+  pub nothing : own ≡ []
+  pub breaks : Breaks opening after.reply
+  pub session : after.session ≡ Closed
+
+-- THE COMMAND `recover`: all that move and have no open swap are settled, and the numbers of those settled and stuck are told; or that breaks off
+abbrev pub names_of : List OpenSwap → List (List ℕ)
+names_of opens = map (λ o. o.name) opens
+
+pub data Recovers (s : LabState) (opens : List OpenSwap) (own : List Event) (after : After) : Type 0 where
+  settled : (outcomes : List Outcome) → Settles s (swaps_of (names_of opens) s.experiments) outcomes own after.lab
+      → after.reply ≡ Some (Recovered (count_by is_ended outcomes) (count_by is_stuck outcomes)) → after.session ≡ Open opens → Recovers s opens own after
+  broken_off : SettlesSome s (names_of opens) own after.lab → Breaks own after.reply → after.session ≡ Closed → Recovers s opens own after

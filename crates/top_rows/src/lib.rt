@@ -1,0 +1,23 @@
+//! Rows of the program over the plant in memory: scripts, with what they reply.
+//!
+//! They stand apart, since a crate with tests is proved twice.
+#![tactic(auto)]
+
+#[cfg(test)]
+mod changes;
+#[cfg(test)]
+mod commands;
+#[cfg(test)]
+mod cuts;
+#[cfg(test)]
+mod demos;
+#[cfg(test)]
+mod journals;
+#[cfg(test)]
+mod networks;
+#[cfg(test)]
+mod recoveries;
+#[cfg(test)]
+mod swaps;
+#[cfg(test)]
+mod table;
