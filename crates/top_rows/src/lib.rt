@@ -4,6 +4,10 @@
 #![tactic(auto)]
 
 #[cfg(test)]
+mod cases;
+#[cfg(test)]
+mod change_cuts;
+#[cfg(test)]
 mod changes;
 #[cfg(test)]
 mod commands;
@@ -11,6 +15,8 @@ mod commands;
 mod cuts;
 #[cfg(test)]
 mod demos;
+#[cfg(test)]
+mod held;
 #[cfg(test)]
 mod journals;
 #[cfg(test)]
