@@ -24,8 +24,8 @@ abbrev pub HasBlocks : Command → Type 0
 HasBlocks (Ptop lines ptop) = IsBlock lines ptop
 HasBlocks (Create exp lines ns) = IsBlock lines ns
 HasBlocks (CreateTop exp lines top) = IsBlock lines top
-HasBlocks (SwapinWith exp lines map) = IsBlock lines map
-HasBlocks (ModifyWith exp top_lines top map_lines map) = IsBlock top_lines top × IsBlock map_lines map
+HasBlocks (SwapinWith only exp lines map) = IsBlock lines map
+HasBlocks (ModifyWith only exp top_lines top map_lines map) = IsBlock top_lines top × IsBlock map_lines map
 HasBlocks command = Unit {0}
 
 abbrev pub NextHasBlocks : Next → Type 0

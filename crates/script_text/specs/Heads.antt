@@ -1,5 +1,5 @@
 -- The first line of a command.
-use Rattle.std.specs.Prelude.{ℕ, zero, suc, List, [], ◌∷◌, codes, Option, Some, None, if◌then◌else◌}
+use Rattle.std.specs.Prelude.{ℕ, zero, suc, Bool, true, false, List, [], ◌∷◌, codes, Option, Some, None, if◌then◌else◌}
 use Rattle.std.specs.Option.{option_map, option_and_then}
 use Rattle.std.specs.Str.{bytes_eq}
 use Rattle.lab_base.specs.Names.{is_name}
@@ -25,11 +25,11 @@ abbrev pub completed : OneBlock → ℕ → List ℕ → Command
 completed Ptop k text = commands.Ptop k text
 completed (Create exp) k text = commands.Create exp k text
 completed (CreateTop exp) k text = commands.CreateTop exp k text
-completed (SwapinWith exp) k text = commands.SwapinWith exp k text
+completed (SwapinWith only exp) k text = commands.SwapinWith only exp k text
 
 -- the command that two blocks complete
 abbrev pub both_completed : TwoBlocks → ℕ → List ℕ → ℕ → List ℕ → Command
-both_completed (ModifyWith exp) k text m other = commands.ModifyWith exp k text m other
+both_completed (ModifyWith only exp) k text m other = commands.ModifyWith only exp k text m other
 
 -- the number of lines of a block
 abbrev pub counted : List ℕ → Option ℕ
@@ -97,6 +97,18 @@ abbrev pub stop_head : List (List ℕ) → Option Head
 stop_head (nth ∷ pick ∷ []) = option_and_then (λ n. option_map (λ p. Whole (commands.Stop n p)) (pick_of pick)) (nth_of nth)
 stop_head fields = None
 
+-- A SWAP BY ITS WORD and the fields behind it: whether it is opened only, is said before
+abbrev pub swap_by : Bool → List ℕ → List (List ℕ) → Option Head
+swap_by only word fields =
+    if bytes_eq word (codes "swapin-with") then option_map (λ given. Block (SwapinWith only given.0) given.1) (name_and_count fields)
+    else if bytes_eq word (codes "modify-with") then option_map (λ given. Blocks (ModifyWith only given.0) given.1 given.2) (name_and_counts fields)
+    else if bytes_eq word (codes "swapout") then option_map (λ exp. Whole (commands.Swapout only exp)) (only_name fields)
+    else None
+
+abbrev pub opened_by : List (List ℕ) → Option Head
+opened_by [] = None
+opened_by (word ∷ fields) = swap_by true word fields
+
 -- A COMMAND BY ITS WORD and the fields behind it
 abbrev pub head_by : List ℕ → List (List ℕ) → Option Head
 head_by word fields =
@@ -104,15 +116,15 @@ head_by word fields =
     else if bytes_eq word (codes "create") then option_map (λ given. Block (Create given.0) given.1) (name_and_count fields)
     else if bytes_eq word (codes "create-top") then option_map (λ given. Block (CreateTop given.0) given.1) (name_and_count fields)
     else if bytes_eq word (codes "show") then option_map (λ exp. Whole (commands.Show exp)) (only_name fields)
-    else if bytes_eq word (codes "swapin-with") then option_map (λ given. Block (SwapinWith given.0) given.1) (name_and_count fields)
-    else if bytes_eq word (codes "modify-with") then option_map (λ given. Blocks (ModifyWith given.0) given.1 given.2) (name_and_counts fields)
-    else if bytes_eq word (codes "swapout") then option_map (λ exp. Whole (commands.Swapout exp)) (only_name fields)
+    else if bytes_eq word (codes "open") then opened_by fields
+    else if bytes_eq word (codes "turn") then option_map (λ exp. Whole (commands.Turn exp)) (only_name fields)
+    else if bytes_eq word (codes "finish") then option_map (λ exp. Whole (commands.Finish exp)) (only_name fields)
     else if bytes_eq word (codes "delete") then option_map (λ exp. Whole (commands.Delete exp)) (only_name fields)
     else if bytes_eq word (codes "recover") then option_map (λ none. Whole commands.Recover) (no_field fields)
     else if bytes_eq word (codes "status") then option_map (λ none. Whole commands.Status) (no_field fields)
     else if bytes_eq word (codes "fail") then fail_head fields
     else if bytes_eq word (codes "stop") then stop_head fields
-    else None
+    else swap_by false word fields
 
 abbrev pub head_of : List (List ℕ) → Option Head
 head_of [] = None

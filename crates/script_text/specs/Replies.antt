@@ -88,6 +88,9 @@ what_words Journal = codes "journal"
 abbrev pub failed_line : List ℕ → FailedEnd → What → List ℕ
 failed_line exp end what = codes "failed " ++ exp ++ 32 ∷ [] ++ end_word end ++ 32 ∷ [] ++ what_words what ++ 10 ∷ []
 
+abbrev pub trouble_line : List ℕ → What → List ℕ
+trouble_line exp what = codes "trouble " ++ exp ++ 32 ∷ [] ++ what_words what ++ 10 ∷ []
+
 abbrev pub infeasible_line : List ℕ → Broken → List ℕ → List ℕ
 infeasible_line exp rule subject = codes "infeasible " ++ exp ++ 32 ∷ [] ++ rule_word rule ++ 32 ∷ [] ++ subject ++ 10 ∷ []
 
@@ -104,6 +107,8 @@ text_of (replies.Exists exp) = named_line (codes "exists ") exp
 text_of (replies.Unknown exp) = named_line (codes "unknown ") exp
 text_of (replies.In exp) = named_line (codes "in ") exp
 text_of (replies.Out exp) = named_line (codes "out ") exp
+text_of (replies.More exp) = named_line (codes "more ") exp
+text_of (replies.Trouble exp what) = trouble_line exp what
 text_of (replies.Failed exp end what) = failed_line exp end what
 text_of (replies.Recovered done stuck) = two_line (codes "recovered ") done stuck
 text_of replies.Planned = codes "planned\n"
@@ -112,9 +117,12 @@ text_of (replies.Infeasible exp rule subject) = infeasible_line exp rule subject
 text_of (replies.IsOut exp) = named_line (codes "is out ") exp
 text_of (replies.IsIn exp) = named_line (codes "is in ") exp
 text_of (replies.IsMoving exp) = named_line (codes "is moving ") exp
+text_of (replies.Busy exp) = named_line (codes "busy ") exp
+text_of (replies.NotOpen exp) = named_line (codes "not open ") exp
 text_of (replies.Bad exp fault) = fault_line (codes "bad " ++ exp ++ 32 ∷ []) fault
 text_of (replies.BadPtop fault) = fault_line (codes "bad ptop ") fault
 text_of replies.FullExperiments = codes "full experiments 256\n"
+text_of replies.FullSwaps = codes "full swaps 16\n"
 text_of (replies.FullJournal size) = codes "full journal " ++ decimal size ++ 10 ∷ []
 text_of replies.Down = codes "down\n"
 text_of replies.Stopped = codes "stopped\n"
@@ -128,4 +136,5 @@ closes reply = false
 -- THE REPLY BLAMES A DEVICE: a command to it failed in the swap
 abbrev pub blames_device : Reply → Bool
 blames_device (replies.Failed exp end (Device name)) = true
+blames_device (replies.Trouble exp (Device name)) = true
 blames_device reply = false

@@ -4,7 +4,8 @@ ghost use Rattle.script_text.specs.Drills.{drill_of};
 use lab_base::{Name, Text};
 use plant::{Drill, How, Pick};
 
-/// A command of a script. A block is its lines, each followed by a line feed.
+/// A command of a script. A block is its lines, each followed by a line feed. A swap with `only_begin` has the word
+/// `open` before it: it is begun, and turned by later commands.
 #[derive(Drop)]
 pub enum Command {
     /// `ptop N`: sets the lab, once, by the next N lines.
@@ -30,6 +31,7 @@ pub enum Command {
     },
     /// `swapin-with E N`: swaps in an experiment, which is out, by the solution text of the next N lines.
     SwapinWith {
+        only_begin: bool,
         exp: Name,
         lines: u16,
         map: Text,
@@ -37,6 +39,7 @@ pub enum Command {
     /// `modify-with E N M`: gives an experiment, which is in, the wiring of the top text of the next N lines, by the
     /// solution text of the M lines behind them.
     ModifyWith {
+        only_begin: bool,
         exp: Name,
         top_lines: u16,
         top: Text,
@@ -45,6 +48,15 @@ pub enum Command {
     },
     /// `swapout E`: swaps out an experiment, which is in.
     Swapout {
+        only_begin: bool,
+        exp: Name,
+    },
+    /// `turn E`: one turn of the open swap of an experiment.
+    Turn {
+        exp: Name,
+    },
+    /// `finish E`: turns of the open swap of an experiment until it ends, is stuck or stops.
+    Finish {
         exp: Name,
     },
     /// `fail DEVICE K HOW`: a drill. The K-th next command to the device fails, K from 1 to 1,000,000.
@@ -66,7 +78,7 @@ pub enum Command {
     Delete {
         exp: Name,
     },
-    /// `recover`: settles every experiment that moves.
+    /// `recover`: settles every experiment that moves and has no open swap.
     Recover,
     /// `status`.
     Status,

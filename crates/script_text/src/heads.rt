@@ -3,7 +3,7 @@ ghost use Rattle.std.specs.Prelude.{◌≡◌, ◌≤◌, IfOk, IfSome};
 ghost use Rattle.std.specs.Str.{bytes_eq};
 ghost use Rattle.lab_base.specs.Texts.{views};
 ghost use Rattle.script_text.specs.Blocks.{IsBlock, HasBlocks, IsInRange, SaysInRange};
-ghost use Rattle.script_text.specs.Heads.{completed, both_completed, counted, named, no_field, only_name, only_count, name_and_count, name_and_counts, how_of, pick_of, nth_of, fail_head, stop_head, head_by, said_of};
+ghost use Rattle.script_text.specs.Heads.{completed, both_completed, counted, named, no_field, only_name, only_count, name_and_count, name_and_counts, how_of, pick_of, nth_of, fail_head, stop_head, swap_by, opened_by, head_by, said_of};
 
 use crate::Command;
 use lab_base::{Memory, Name, Text, fields_in, is_skipped, read_number};
@@ -22,13 +22,13 @@ pub(crate) enum OneBlock {
     Ptop,
     Create { exp: Name },
     CreateTop { exp: Name },
-    SwapinWith { exp: Name },
+    SwapinWith { only_begin: bool, exp: Name },
 }
 
 /// A command that two blocks complete.
 #[derive(Clone, Copy)]
 pub(crate) enum TwoBlocks {
-    ModifyWith { exp: Name },
+    ModifyWith { only_begin: bool, exp: Name },
 }
 
 /// The first line of a command: the command, or what it is once the lines of its blocks are there.
@@ -75,7 +75,8 @@ impl OneBlock {
                 lines,
                 top: text,
             },
-            OneBlock::SwapinWith { exp } => Command::SwapinWith {
+            OneBlock::SwapinWith { only_begin, exp } => Command::SwapinWith {
+                only_begin,
                 exp,
                 lines,
                 map: text,
@@ -91,7 +92,8 @@ impl TwoBlocks {
         ensures blocks { IsBlock first one → IsBlock second other → HasBlocks result }
     {
         match self {
-            TwoBlocks::ModifyWith { exp } => Command::ModifyWith {
+            TwoBlocks::ModifyWith { only_begin, exp } => Command::ModifyWith {
+                only_begin,
                 exp,
                 top_lines: first,
                 top: one,
@@ -270,6 +272,43 @@ fn stop_head(fields: &[&[u8]]) -> Option<Head>
     }
 }
 
+/// The head that the word of a swap and the fields behind it are.
+fn swap_by(only_begin: bool, word: &[u8], fields: &[&[u8]]) -> Option<Head>
+    ensures head { result ≡ swap_by only_begin word.now (views fields.now) }
+    ensures range { IfSome result IsInRange }
+{
+    if is_word(word, b"swapin-with") {
+        let (exp, lines) = name_and_count(fields)?;
+        Some(Head::Block {
+            what: OneBlock::SwapinWith { only_begin, exp },
+            lines,
+        })
+    } else if is_word(word, b"modify-with") {
+        let (exp, first, second) = name_and_counts(fields)?;
+        Some(Head::Blocks {
+            what: TwoBlocks::ModifyWith { only_begin, exp },
+            first,
+            second,
+        })
+    } else if is_word(word, b"swapout") {
+        let exp = only_name(fields)?;
+        Some(Head::Whole(Command::Swapout { only_begin, exp }))
+    } else {
+        None
+    }
+}
+
+/// The head of a swap that is opened only, by the fields behind `open`.
+fn opened_by(fields: &[&[u8]]) -> Option<Head>
+    ensures head { result ≡ opened_by (views fields.now) }
+    ensures range { IfSome result IsInRange }
+{
+    match fields {
+        [word, rest @ ..] => swap_by(true, word, rest),
+        [] => None,
+    }
+}
+
 /// The head that a word and the fields behind it are: the words of all commands.
 fn head_by(word: &[u8], fields: &[&[u8]]) -> Option<Head>
     ensures head { result ≡ head_by word.now (views fields.now) }
@@ -296,22 +335,14 @@ fn head_by(word: &[u8], fields: &[&[u8]]) -> Option<Head>
     } else if is_word(word, b"show") {
         let exp = only_name(fields)?;
         Some(Head::Whole(Command::Show { exp }))
-    } else if is_word(word, b"swapin-with") {
-        let (exp, lines) = name_and_count(fields)?;
-        Some(Head::Block {
-            what: OneBlock::SwapinWith { exp },
-            lines,
-        })
-    } else if is_word(word, b"modify-with") {
-        let (exp, first, second) = name_and_counts(fields)?;
-        Some(Head::Blocks {
-            what: TwoBlocks::ModifyWith { exp },
-            first,
-            second,
-        })
-    } else if is_word(word, b"swapout") {
+    } else if is_word(word, b"open") {
+        opened_by(fields)
+    } else if is_word(word, b"turn") {
         let exp = only_name(fields)?;
-        Some(Head::Whole(Command::Swapout { exp }))
+        Some(Head::Whole(Command::Turn { exp }))
+    } else if is_word(word, b"finish") {
+        let exp = only_name(fields)?;
+        Some(Head::Whole(Command::Finish { exp }))
     } else if is_word(word, b"delete") {
         let exp = only_name(fields)?;
         Some(Head::Whole(Command::Delete { exp }))
@@ -326,7 +357,7 @@ fn head_by(word: &[u8], fields: &[&[u8]]) -> Option<Head>
     } else if is_word(word, b"stop") {
         stop_head(fields)
     } else {
-        None
+        swap_by(false, word, fields)
     }
 }
 

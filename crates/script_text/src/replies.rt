@@ -1,7 +1,7 @@
 ghost use Rattle.std.specs.Prelude.{◌≡◌, ◌++◌, ◌∷◌, [], codes, decimal, IfOk, OnOk};
 ghost use Rattle.std.specs.List.{flat_map};
 ghost use Rattle.lab_base.specs.declared.what.What.TheVariants as whats;
-ghost use Rattle.script_text.specs.Replies.{phase_word, named_line, fault_line, two_line, lab_line, exp_line, boot_word, rule_word, end_word, what_words, failed_line, infeasible_line, tag_line, placed_lines, shown_lines, text_of};
+ghost use Rattle.script_text.specs.Replies.{phase_word, named_line, fault_line, two_line, lab_line, exp_line, boot_word, rule_word, end_word, what_words, trouble_line, failed_line, infeasible_line, tag_line, placed_lines, shown_lines, text_of};
 
 use crate::{FailedEnd, PhaseWord, Placed, Reply, StatusLine, TagLine};
 use lab_base::{Boot, Memory, Name, Text, TextFault, What};
@@ -202,6 +202,15 @@ fn failed(alloc: Global, exp: &Name, end: FailedEnd, what: &What) -> Result<Text
     Ok(text)
 }
 
+fn trouble(alloc: Global, exp: &Name, what: &What) -> Result<Text, Memory>
+    ensures { IfOk result (λ text. text ≡ trouble_line exp.now what.now) }
+{
+    let mut text = named_head(alloc, b"trouble ", exp)?;
+    add_what(&mut text, what)?;
+    text.push(b'\n')?;
+    Ok(text)
+}
+
 fn recovered(alloc: Global, done: u32, stuck: u32) -> Result<Text, Memory>
     ensures { IfOk result (λ text. text ≡ two_line (codes "recovered ") done stuck) }
 {
@@ -303,6 +312,8 @@ pub fn reply_text(alloc: Global, reply: &Reply) -> Result<Text, Memory>
         Reply::Unknown { exp } => named(alloc, b"unknown ", exp),
         Reply::In { exp } => named(alloc, b"in ", exp),
         Reply::Out { exp } => named(alloc, b"out ", exp),
+        Reply::More { exp } => named(alloc, b"more ", exp),
+        Reply::Trouble { exp, what } => trouble(alloc, exp, what),
         Reply::Failed { exp, end, what } => failed(alloc, exp, *end, what),
         Reply::Recovered { done, stuck } => recovered(alloc, *done, *stuck),
         Reply::Planned => Text::from_slice(alloc, b"planned\n"),
@@ -311,9 +322,12 @@ pub fn reply_text(alloc: Global, reply: &Reply) -> Result<Text, Memory>
         Reply::IsOut { exp } => named(alloc, b"is out ", exp),
         Reply::IsIn { exp } => named(alloc, b"is in ", exp),
         Reply::IsMoving { exp } => named(alloc, b"is moving ", exp),
+        Reply::Busy { exp } => named(alloc, b"busy ", exp),
+        Reply::NotOpen { exp } => named(alloc, b"not open ", exp),
         Reply::Bad { exp, fault } => bad(alloc, exp, *fault),
         Reply::BadPtop { fault } => bad_ptop(alloc, *fault),
         Reply::FullExperiments => Text::from_slice(alloc, b"full experiments 256\n"),
+        Reply::FullSwaps => Text::from_slice(alloc, b"full swaps 16\n"),
         Reply::FullJournal { length } => full_journal(alloc, *length),
         Reply::Down => Text::from_slice(alloc, b"down\n"),
         Reply::Stopped => Text::from_slice(alloc, b"stopped\n"),

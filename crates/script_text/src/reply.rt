@@ -99,6 +99,15 @@ pub enum Reply {
     Out {
         exp: Name,
     },
+    /// `more E`: its swap has not ended.
+    More {
+        exp: Name,
+    },
+    /// `trouble E WHAT`: this turn of its swap met trouble, and the undo begins.
+    Trouble {
+        exp: Name,
+        what: What,
+    },
     /// `failed E out WHAT`, `failed E in WHAT`, `failed E stuck WHAT`. What troubled it is `device NAME`,
     /// `boot NODE` where the node was late, `boot NODE FROM TO`, or `journal`.
     Failed {
@@ -106,7 +115,7 @@ pub enum Reply {
         end: FailedEnd,
         what: What,
     },
-    /// `recovered D S`: to `recover`, how many swaps were settled, and how many are stuck.
+    /// `recovered D S`: to `recover`, how many experiments were settled, and how many are stuck.
     Recovered {
         done: u32,
         stuck: u32,
@@ -133,6 +142,14 @@ pub enum Reply {
     IsMoving {
         exp: Name,
     },
+    /// `busy E`: the experiment has an open swap.
+    Busy {
+        exp: Name,
+    },
+    /// `not open E`: it has none.
+    NotOpen {
+        exp: Name,
+    },
     /// `bad E LINE KIND`: a block has no meaning; the line counts from 1 over all blocks of the command.
     Bad {
         exp: Name,
@@ -144,6 +161,8 @@ pub enum Reply {
     },
     /// `full experiments 256`.
     FullExperiments,
+    /// `full swaps 16`: so many swaps are open.
+    FullSwaps,
     /// `full journal LENGTH`: the journal has that length, and no room for a record more.
     FullJournal {
         length: u64,

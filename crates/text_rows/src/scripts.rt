@@ -33,16 +33,21 @@ fn in_short(command: &Command) -> (u8, &[u8], u32, &[u8]) {
             (b't', exp.bytes(), u32::from(*lines), top.bytes())
         }
         Command::Show { exp } => (b's', exp.bytes(), 0, b""),
-        Command::SwapinWith { exp, lines, map } => {
-            (b'i', exp.bytes(), u32::from(*lines), map.bytes())
-        }
+        Command::SwapinWith {
+            exp,
+            lines,
+            map,
+            ..
+        } => (b'i', exp.bytes(), u32::from(*lines), map.bytes()),
         Command::ModifyWith {
             exp,
             top_lines,
             top,
             ..
         } => (b'm', exp.bytes(), u32::from(*top_lines), top.bytes()),
-        Command::Swapout { exp } => (b'o', exp.bytes(), 0, b""),
+        Command::Swapout { exp, .. } => (b'o', exp.bytes(), 0, b""),
+        Command::Turn { exp } => (b'w', exp.bytes(), 0, b""),
+        Command::Finish { exp } => (b'e', exp.bytes(), 0, b""),
         Command::Fail { device, nth, how } => (b'f', device.bytes(), *nth, how_word(*how)),
         Command::FailDisk { nth } => (b'k', b"", *nth, b""),
         Command::Stop { nth, pick } => (b'x', b"", *nth, pick_word(*pick)),
@@ -52,7 +57,20 @@ fn in_short(command: &Command) -> (u8, &[u8], u32, &[u8]) {
     }
 }
 
+/// Whether it is a swap that is opened only.
+fn is_opened(command: &Command) -> bool {
+    match command {
+        Command::SwapinWith { only_begin, .. }
+        | Command::ModifyWith { only_begin, .. }
+        | Command::Swapout { only_begin, .. } => *only_begin,
+        _ => false,
+    }
+}
+
 fn add_short(seen: &mut Text, command: &Command) -> Result<(), Memory> {
+    if is_opened(command) {
+        seen.push(b'(')?;
+    }
     let (letter, name, number, block) = in_short(command);
     seen.push(letter)?;
     seen.push_bytes(name)?;
@@ -207,6 +225,45 @@ fn changes(rt: HostRuntime) -> Result<(), Fail> {
     Ok(())
 }
 
+#[test]
+fn open_swaps(rt: HostRuntime) -> Result<(), Fail> {
+    let cases: [(&[u8], &[u8], u64); 17] = [
+        (
+            b"open swapin-with A 1\nnode a pc1 pc\nturn A\nfinish A\n",
+            b"(iA1node a pc1 pc\nwA0eA0",
+            0,
+        ),
+        (
+            b" open\tmodify-with A 1 1\nx\ny\nmodify-with A 0 0\n",
+            b"(mA1x\n1y\nmA00",
+            0,
+        ),
+        (
+            b"open swapout A\nswapout A\nopen swapout open\n",
+            b"(oA0oA0(oopen0",
+            0,
+        ),
+        (b"open\n", b"", 1),
+        (b"open A\n", b"", 1),
+        (b"open open swapout A\n", b"", 1),
+        (b"open turn A\n", b"", 1),
+        (b"open status\n", b"", 1),
+        (b"open create-top A 0\n", b"", 1),
+        (b"open swapout\n", b"", 1),
+        (b"open swapin-with A\n", b"", 1),
+        (b"open swapin-with A 1\n", b"", 2),
+        (b"open modify-with A 0 2\nx\n", b"", 3),
+        (b"turn\n", b"", 1),
+        (b"turn A 2\n", b"", 1),
+        (b"finish\n", b"", 1),
+        (b"finish A:B\n", b"", 1),
+    ];
+    for (bytes, wanted, bad) in cases {
+        assert!(rt; has_commands(rt.alloc(), bytes, wanted, bad)?);
+    }
+    Ok(())
+}
+
 /// Whether a reply has that text.
 fn has_text(alloc: Global, reply: Reply, wanted: &[u8]) -> Result<bool, Memory> {
     let text = reply_text(alloc, &reply)?;
@@ -286,7 +343,7 @@ fn texts_of_replies(rt: HostRuntime) -> Result<(), Fail> {
     let fault = TextFault { line, kind };
     let (switches, nodes, trunks, segments, length) = (1, 2, 0, 1, 18);
     let (done, stuck) = (256, 0);
-    let cases: [(Reply, &[u8]); 21] = [
+    let cases: [(Reply, &[u8]); 25] = [
         (
             Reply::Lab {
                 switches,
@@ -316,6 +373,10 @@ fn texts_of_replies(rt: HostRuntime) -> Result<(), Fail> {
         (Reply::In { exp }, b"in A\n"),
         (Reply::Out { exp }, b"out A\n"),
         (Reply::IsOut { exp }, b"is out A\n"),
+        (Reply::More { exp }, b"more A\n"),
+        (Reply::Busy { exp }, b"busy A\n"),
+        (Reply::NotOpen { exp }, b"not open A\n"),
+        (Reply::FullSwaps, b"full swaps 16\n"),
         (Reply::Recovered { done, stuck }, b"recovered 256 0\n"),
         (Reply::Planned, b"planned\n"),
         (Reply::NoDrill, b"no drill\n"),
@@ -362,6 +423,28 @@ fn texts_of_failed_swaps(rt: HostRuntime) -> Result<(), Fail> {
             reply.closes(),
             wanted == b"failed A stuck journal\n".as_slice()
         );
+        assert!(rt; has_text(rt.alloc(), reply, wanted)?);
+    }
+    Ok(())
+}
+
+#[test]
+fn texts_of_troubles(rt: HostRuntime) -> Result<(), Fail> {
+    let exp = Name::read(b"A")?;
+    let name = Name::read(b"s1")?;
+    let node = Name::read(b"pc2")?;
+    let (from, to) = (Boot::Booting, Boot::Off);
+    let cases: [(What, &[u8]); 3] = [
+        (What::Device(name), b"trouble A device s1\n"),
+        (What::Late(node), b"trouble A boot pc2\n"),
+        (
+            What::Unlawful { node, from, to },
+            b"trouble A boot pc2 BOOTING OFF\n",
+        ),
+    ];
+    for (what, wanted) in cases {
+        let reply = Reply::Trouble { exp, what };
+        assert!(rt; !reply.closes());
         assert!(rt; has_text(rt.alloc(), reply, wanted)?);
     }
     Ok(())
