@@ -13,7 +13,7 @@ ghost use Rattle.swap_turns.specs.Swaps.{Swap, Moves};
 ghost use Rattle.swap_turns.specs.Beginning.{BeginsOf, MayBegin, IsPlanOf};
 ghost use Rattle.swap_turns.specs.Running.{OpenSwap as AnyOpen, Working};
 ghost use Rattle.swap_mgr.specs.Managing.{Holds, IsManaging, GoesOnBy, HasTurned, HasTurnedToEnd, IsAnsweredBy, IfNothingSent, IfSent, IsStopOpening, IsAfterOpening};
-ghost use Rattle.swap_mgr.specs.Open.{HasOpen, IsWithout, IsWith, PutBy, AreWithin};
+ghost use Rattle.swap_mgr.specs.Open.{AreNames, AreWithin, HasOpen, IsWith, IsWithout, PutBy, states};
 ghost use Rattle.swap_mgr.specs.Turns.{IsStop};
 
 use crate::turns::{Turn, one_turn, progress_of};
@@ -60,6 +60,20 @@ fn key_of(swaps: &Slab<Live>, exp: Name) -> Option<usize>
     None
 }
 
+/// The names of the swaps in a slab.
+fn names_in(alloc: Global, swaps: &Slab<Live>) -> Result<Vec<Name>, Memory>
+    requires { AreWithin swaps.now }
+    ensures { IfOk result (λ names. AreNames (states swaps.now.slots) names.items) }
+{
+    let mut names = Vec::with_capacity(alloc, swaps.len())?;
+    for key in 0..swaps.capacity() {
+        if let Some(live) = swaps.get(key) {
+            names.push(live.exp())?;
+        }
+    }
+    Ok(names)
+}
+
 impl Manager {
     /// No open swap, and room for 16.
     pub fn new(alloc: Global) -> Result<Manager, Memory>
@@ -83,6 +97,13 @@ impl Manager {
         ensures few { result ≤ 16 }
     {
         self.swaps.len() as u16
+    }
+
+    /// The names of the experiments with an open swap, in no order.
+    pub fn names(&self, alloc: Global) -> Result<Vec<Name>, Memory>
+        ensures { IfOk result (λ names. AreNames self.now names.items) }
+    {
+        names_in(alloc, &self.swaps)
     }
 
     /// Takes a swap out.
