@@ -1,6 +1,6 @@
 -- A swap to a mapping that can begin.
-use Rattle.std.proofs.Common.{◌≡◌, ◌≤◌, ◌<◌, ◌^◌, ◌&&◌, ℕ, Bool, true, false, if◌then◌else◌, is_none, is_some, List, ◌++◌, length, map, Option, Some, None, Result, Ok, Err, refl, sym, ap, ◌∙◌, subst, arith}
-use Rattle.std.proofs.lemmas.Bool.{and_parts, eqb-true, leb-true}
+use Rattle.std.proofs.Common.{◌≡◌, ◌≤◌, ◌<◌, ◌^◌, ◌&&◌, ℕ, Bool, true, false, if◌then◌else◌, nat_le, is_none, is_some, List, ◌++◌, length, map, Option, Some, None, Result, Ok, Err, refl, sym, ap, ◌∙◌, subst, arith}
+use Rattle.std.proofs.lemmas.Bool.{and_parts, eqb-true, leb-true, lt-leb}
 use Rattle.lab_base.specs.Lists.{Has, AllDiffer}
 use Rattle.lab_base.specs.declared.ids.VlanId.{VlanId}
 use Rattle.phys_lab.specs.Kept.{IsLab}
@@ -34,6 +34,7 @@ use Rattle.claims.proofs.OthersLeave.{is_left}
 use Rattle.solution_text.specs.CanonicalSolution.{canonical_solution}
 use Rattle.swap_txn.specs.States.{unsent}
 use Rattle.swap_plan.specs.Plans.{IsFit}
+use Rattle.swap_plan.specs.declared.commands.Ops.{Ops}
 use Rattle.swap_turns.specs.Swaps.{Swap as SwapOf, swap_in}
 use Rattle.swap_turns.proofs.Begins.{moves_in, moves_over}
 use Rattle.lab_state.specs.Texts.{the_texts}
@@ -46,10 +47,10 @@ use Rattle.lab_core.specs.declared.task.Task.TheVariants as tasks
 use Rattle.lab_core.specs.declared.task.Refusal.{Refusal}
 use Rattle.lab_core.specs.declared.task.Refusal.TheVariants.{Refused, Memory}
 use Rattle.lab_core.specs.Counts.{least_tags}
-use Rattle.lab_core.specs.Judge.{Task, Swap as SwapTask, judged_change, judged_mapping, judged_modify, judged_swapin, need_feasible, need_kept, ◌>>=◌}
+use Rattle.lab_core.specs.Judge.{Is, Task, Swap as SwapTask, begun_as, in_slot, judged_change, judged_mapping, judged_modify, judged_swapin, need_feasible, need_kept, need_slot, ◌>>=◌}
 use Rattle.lab_core.specs.JudgeSwap.{CanTake, IsInIn, IsOutIn, IsTaskOf, IsThere, IsWayOf, change_of, way_over}
 use Rattle.lab_state.proofs.Named.{name_is}
-use Rattle.lab_core.specs.Tasks.{CanDo, IsRefusal, Refuses, task_of}
+use Rattle.lab_core.specs.Tasks.{CanDo, Gives, IsJudged, IsRefusal, Refuses, task_of}
 use Rattle.lab_core.proofs.JudgeTasks.{Leads, can_swap, stands_sound}
 use Rattle.lab_core.proofs.Tags.{least_are}
 use Rattle.lab_core.proofs.Taken.{free_of_all, each_fits}
@@ -138,6 +139,9 @@ module _ (s : LabState) (lab : Lab) (e : Experiment) (w : Wiring) (m : Mapping) 
   )
   planned p way named leads (tasks.Tell reply) h = absurd h
   planned p way named leads (tasks.Append entry reply) h = absurd h
+  planned p way named leads (tasks.BeginOnly exp said ops) h = absurd h
+  planned p way named leads (tasks.Turn exp) h = absurd h
+  planned p way named leads (tasks.Finish exp) h = absurd h
   planned p way named leads tasks.Recover h = absurd h
 
 pub sound_of : (s : LabState) (lab : Lab) (e : Experiment) → IsThere s lab e → IsSound e.wiring
@@ -194,12 +198,14 @@ module _ (s : LabState) (lab : Lab) (e : Experiment) (mapping : Mapping) (old : 
       pub planned_over : (task : TaskInHand) → IsTaskOf lab (change_of e.name (mapped e.wiring mapping old) (mapped w m tags)) (way_over lab (mapped w m tags)) task → (judged_change s lab e w m ≡ Ok (task_of task)) × CanDo s task
       planned_over = planned s lab e w m tags o.there can (change_of e.name (mapped e.wiring mapping old) (mapped w m tags)) (λ tags. way_over lab (mapped w m tags)) refl leads_over
 
-pub in_reads : (s : LabState) (exp text : List ℕ) (lab : Lab) (e : Experiment) (m : Mapping) → s.lab ≡ Some lab → find exp s.experiments ≡ Some e → e.phase ≡ Out → mapping_of_text lab e.wiring text ≡ Ok m → judged_swapin s exp text ≡ judged_mapping s lab e m
-in_reads s exp text lab e m is found out read = rw (is, found, out, read) refl
+-- WHAT IS JUDGED of an experiment that is there and has no open swap, once its text is read
+pub in_reads : (s : LabState) (busy : Bool) (exp text : List ℕ) (lab : Lab) (e : Experiment) (m : Mapping) → s.lab ≡ Some lab → find exp s.experiments ≡ Some e → busy ≡ false → e.phase ≡ Out → mapping_of_text lab e.wiring text ≡ Ok m
+    → judged_swapin s busy exp text ≡ judged_mapping s lab e m
+in_reads s busy exp text lab e m is found idle out read = rw (is, found, idle, out, read) refl
 
-pub over_reads : (s : LabState) (exp : List ℕ) (lines : ℕ) (top map : List ℕ) (lab : Lab) (e : Experiment) (mapping : Mapping) (old : List VlanId) (w : Wiring) (m : Mapping) → s.lab ≡ Some lab → find exp s.experiments ≡ Some e → e.phase ≡ In mapping old
-    → wiring_of_text top ≡ Ok w → mapping_of_text lab w map ≡ Ok m → judged_modify s exp lines top map ≡ judged_change s lab e w m
-over_reads s exp lines top map lab e mapping old w m is found inside reads read = rw (is, found, inside, reads, read) refl
+pub over_reads : (s : LabState) (busy : Bool) (exp : List ℕ) (lines : ℕ) (top map : List ℕ) (lab : Lab) (e : Experiment) (mapping : Mapping) (old : List VlanId) (w : Wiring) (m : Mapping) → s.lab ≡ Some lab → find exp s.experiments ≡ Some e → busy ≡ false
+    → e.phase ≡ In mapping old → wiring_of_text top ≡ Ok w → mapping_of_text lab w map ≡ Ok m → judged_modify s busy exp lines top map ≡ judged_change s lab e w m
+over_reads s busy exp lines top map lab e mapping old w m is found idle inside reads read = rw (is, found, idle, inside, reads, read) refl
 
 -- a refusal in other words
 pub refuses_as : {Y : Type 0} (X : Type 0) (judgement other : Result Y Reply) (refusal : Refusal) → other ≡ judgement → IsRefusal other refusal → Refuses {X = X} judgement (Err refusal)
@@ -208,3 +214,45 @@ refuses_as X judgement other Memory is h = tt
 
 pub is_none_not : {X : Type 0} (o : Option X) (x : X) → is_some o ≡ false → o ≡ Some x → ⊥
 is_none_not o x none some = let both : false ≡ true = sym none ∙ ap is_some some in cc both
+
+-- ---- A SWAP THAT NOTHING ELSE REFUSES, and room among the open swaps
+slot_free : (count : ℕ) → count < 16 → need_slot count ≡ Ok tt
+slot_free count few = let free : nat_le 16 count ≡ false = lt-leb 16 count few in rw free refl
+
+module _ (count : ℕ) (only : Bool) (judgement : Result Task Reply) where
+  pub refused_before : (refusal : Refusal) → Gives judgement (Err refusal) → Gives (in_slot count only judgement) (Err refusal)
+  refused_before (Refused reply) h = (ap (λ (j : Result Task Reply). in_slot count only j) h.0, h.1)
+  refused_before Memory h = tt
+
+  abbrev slot_then : Task → Result (Unit {0}) Reply → Result Task Reply
+  slot_then task slot = slot >>= λ free. let r : Result Task Reply = Ok (begun_as only task) in r
+
+  pub no_slot : (task : TaskInHand) (refusal : Refusal) → Gives judgement (Ok task) → Refuses {X = Unit {0}} (need_slot count) (Err refusal) → Gives (in_slot count only judgement) (Err refusal)
+  no_slot task (Refused reply) h refuses = (ap (λ (j : Result Task Reply). in_slot count only j) h ∙ ap (slot_then (task_of task)) refuses.0, refuses.1)
+  no_slot task Memory h refuses = tt
+
+  pub has_slot : (task made : TaskInHand) → Gives judgement (Ok task) → count < 16 → task_of made ≡ begun_as only (task_of task) → Gives (in_slot count only judgement) (Ok made)
+  has_slot task made h few is =
+      ap (λ (j : Result Task Reply). in_slot count only j) h
+      ∙ ap (slot_then (task_of task)) (slot_free count few)
+      ∙ ap (λ (t : Task). let r : Result Task Reply = Ok t in r) (sym is)
+
+-- each other task is as it was
+pub begun_same : (task : TaskInHand) → ((exp : List ℕ) (way : Way) (ops : Ops) → task ≡ tasks.Swap exp way ops → ⊥) → task_of task ≡ begun_as true (task_of task)
+begun_same (tasks.Tell reply) other = refl
+begun_same (tasks.Append entry reply) other = refl
+begun_same (tasks.Swap exp way ops) other = absurd (other exp way ops refl)
+begun_same (tasks.BeginOnly exp way ops) other = refl
+begun_same (tasks.Turn exp) other = refl
+begun_same (tasks.Finish exp) other = refl
+begun_same tasks.Recover other = refl
+
+-- what the code gives is what is judged
+pub is_judged : (judgement : Result Task Reply) (result : Result TaskInHand Refusal) → Gives judgement result → IsJudged (Is judgement) result
+is_judged judgement (Ok task) h = sym h
+is_judged judgement (Err (Refused reply)) h = (sym h.0, h.1)
+is_judged judgement (Err Memory) h = tt
+
+pub slot_judged : (count : ℕ) (only : Bool) (judgement : Result Task Reply) (given result : Result TaskInHand Refusal) → Gives judgement given → ((j : Result Task Reply) → Gives j given → Gives (in_slot count only j) result)
+    → IsJudged (Is (in_slot count only judgement)) result
+slot_judged count only judgement given result h each = is_judged (in_slot count only judgement) result (each judgement h)

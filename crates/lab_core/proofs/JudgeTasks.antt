@@ -36,7 +36,7 @@ use Rattle.swap_txn.specs.States.{unsent}
 use Rattle.lab_core.specs.declared.task.Task.TheVariants as tasks
 use Rattle.lab_core.specs.Judge.{lab_reply, created_reply, need_place}
 use Rattle.lab_state.specs.Texts.{the_texts}
-use Rattle.lab_core.specs.Tasks.{CanDo, IsMild, MayFollow}
+use Rattle.lab_core.specs.Tasks.{CanDo, EndsNoMove, IsMild, MayFollow}
 
 -- the lab stays
 pub lab_stays : (s u : LabState) (lab : Lab) (move : Move) → s.lab ≡ Some lab → moved s move ≡ Some u → lab ≡ lab_in u.lab
@@ -82,6 +82,7 @@ module _ (s : LabState) where
     is_record = is_record;
     follows = subst (λ (r : Record). MayFollow s r) (sym (entry_is ∙ ap (λ (t : List ℕ). LabRecord t) text))
         (record { move = SetLab lab; says = (lab, is, refl, refl); state = record { lab = Some lab; experiments = [] }; moves = rw none refl; ready = λ w. tt });
+    no_end = subst EndsNoMove (sym entry_is) tt;
     mild = subst IsMild (sym reply_is) (refl, refl);
   }
 
@@ -110,6 +111,7 @@ module _ (s : LabState) where
   can_create exp w top entry reply place few sound printable text entry_is is_record reply_is = record {
     is_record = is_record;
     follows = let p = placed exp place in subst (λ (r : Record). MayFollow s r) (sym (entry_is ∙ ap (λ (t : List ℕ). Create exp t) text)) (created exp w p.0 p.1 p.2 few sound printable);
+    no_end = subst EndsNoMove (sym entry_is) tt;
     mild = subst IsMild (sym reply_is) (refl, refl);
   }
 
@@ -118,6 +120,7 @@ module _ (s : LabState) where
   can_delete exp e lab entry reply is found out entry_is is_record mild = record {
     is_record = is_record;
     follows = subst (λ (r : Record). MayFollow s r) (sym entry_is) (record { move = Deletes exp; says = refl; state = record { lab = Some lab; experiments = others exp s.experiments }; moves = rw (is, found, out) refl; ready = λ v. tt });
+    no_end = subst EndsNoMove (sym entry_is) tt;
     mild = mild;
   }
 

@@ -1,27 +1,22 @@
 -- A command has one judgement, and its task is of its own experiment.
-use Rattle.std.proofs.Common.{◌≡◌, ◌≢◌, ℕ, true, is_some, List, length, Option, Some, None, Result, Ok, Err, refl, sym, ap, ◌∙◌, subst}
+use Rattle.std.specs.Prelude.{IfOk}
+use Rattle.std.proofs.Common.{◌≡◌, ◌≢◌, ℕ, Bool, true, false, is_some, List, Option, Some, None, Result, Ok, Err, refl, sym, ap, ◌∙◌, subst}
 use Rattle.lab_base.specs.declared.fault.TextFault.{TextFault}
 use Rattle.phys_lab.specs.Labs.{Lab}
 use Rattle.virt_topo.specs.declared.wiring.Wiring.{Wiring}
-use Rattle.virt_topo.specs.declared.mapping.Mapping.{Mapping}
-use Rattle.virt_topo.specs.declared.experiment.Experiment.{Experiment}
 use Rattle.journal_rec.specs.declared.record.Record.TheVariants.{Create, Delete, Begin}
 use Rattle.journal_rec.specs.declared.record.Way.{Way}
 use Rattle.journal_rec.specs.declared.record.Way.TheVariants.{In as WayIn, Out as WayOut, Change as WayChange}
 use Rattle.records_model.specs.Labs.{LabState, Move, Says, Creates, Deletes, BeginsIn, BeginsOut, BeginsChange, find}
 use Rattle.lab_state.specs.Texts.{the_texts}
-use Rattle.records_model.proofs.Finding.{found_from}
 use Rattle.ns_text.proofs.Reading.{wiring_once}
 use Rattle.top_text.specs.Adding.{wiring_of_text}
 use Rattle.top_text.specs.Canonical.{canonical_top}
-use Rattle.solution_text.specs.CanonicalSolution.{canonical_solution}
-use Rattle.solution_text.specs.Solutions.{mapping_of_text}
 use Rattle.script_text.specs.declared.command.Command.{Command}
 use Rattle.script_text.specs.declared.command.Command.TheVariants as commands
 use Rattle.script_text.specs.declared.reply.Reply.{Reply}
 use Rattle.script_text.specs.declared.reply.Reply.TheVariants.{Bad, Deleted}
-use Rattle.lab_core.specs.Counts.{least_tags}
-use Rattle.lab_core.specs.Judge.{◌>>=◌, need_lab, need_none, need_found, need_meaning, need_room, need_out, need_in, need_feasible, need_place, created_reply, shown_reply, status_reply, Task, Tell, Append, Swap, Recover, behind_lines, judged_modify, judged_recover, judged_ptop, judged_wiring, judged_create, judged_show, judged_delete, judged_swapin, judged_swapout, judged_status, JudgedNetwork, refused, asked, Judged}
+use Rattle.lab_core.specs.Judge.{◌>>=◌, need_lab, need_none, need_found, need_meaning, need_room, need_out, need_idle, need_open, need_place, created_reply, shown_reply, status_reply, Task, Tell, Append, Swap, BeginOnly, Turn, Finish, Recover, begun_as, in_slot, judged_modify, judged_recover, judged_ptop, judged_wiring, judged_create, judged_show, judged_delete, judged_swapin, judged_swapout, judged_status, JudgedNetwork, refused, asked, Judged}
 use Rattle.lab_base.specs.declared.fault.TextRefused.{TextRefused}
 use Rattle.lab_base.specs.declared.fault.TextRefused.TheVariants as texts
 use Rattle.ns_text.specs.Wirings.{WiringOf, HasWiring}
@@ -29,8 +24,9 @@ use Rattle.lab_core.specs.declared.task.Task.{Task as TaskInHand}
 use Rattle.lab_core.specs.declared.task.Refusal.{Refusal}
 use Rattle.lab_core.specs.declared.task.Refusal.TheVariants.{Refused, Memory}
 use Rattle.lab_core.specs.Tasks.{Gives, IsJudged, IsRefusedBy, Refuses}
-use Rattle.lab_core.specs.Tells.{name_of, IsAtRest}
-use Rattle.lab_core.proofs.Others.{IsApart}
+use Rattle.lab_core.specs.Sessions.{name_of}
+use Rattle.lab_core.proofs.Others.{IsApart, IsSpared}
+use Rattle.lab_core.proofs.OwnTasks.{Begins, modify_begins, swap_begins, swapin_begins, swapout_begins}
 
 -- ---- ONE JUDGEMENT
 network_once : (s : LabState) (exp text : List ℕ) (a b : Result Task Reply) → JudgedNetwork s exp text a → JudgedNetwork s exp text b → a ≡ b
@@ -43,20 +39,22 @@ network_once s exp text a b (asked meaning place of is) (refused other place' is
 network_once s exp text a b (asked meaning place of is) (asked meaning' place' of' is') =
     is ∙ ap (λ (m : Result Wiring TextFault). need_meaning (Bad exp) m >>= judged_wiring s exp) (wiring_once text meaning meaning' of of') ∙ sym is'
 
-pub judged_once : (s : LabState) (command : Command) (a b : Result Task Reply) → Judged s command a → Judged s command b → a ≡ b
-judged_once s (commands.Ptop lines text) a b p q = p ∙ sym q
-judged_once s (commands.Create exp lines text) a b p q = network_once s exp text a b p q
-judged_once s (commands.CreateTop exp lines text) a b p q = p ∙ sym q
-judged_once s (commands.Show exp) a b p q = p ∙ sym q
-judged_once s (commands.SwapinWith exp lines text) a b p q = p ∙ sym q
-judged_once s (commands.ModifyWith exp lines top others map) a b p q = p ∙ sym q
-judged_once s (commands.Swapout exp) a b p q = p ∙ sym q
-judged_once s commands.Recover a b p q = p ∙ sym q
-judged_once s (commands.Fail device nth how) a b p q = absurd p
-judged_once s (commands.FailDisk nth) a b p q = absurd p
-judged_once s (commands.Stop nth pick) a b p q = absurd p
-judged_once s (commands.Delete exp) a b p q = p ∙ sym q
-judged_once s commands.Status a b p q = p ∙ sym q
+pub judged_once : (s : LabState) (busy : Bool) (count : ℕ) (command : Command) (a b : Result Task Reply) → Judged s busy count command a → Judged s busy count command b → a ≡ b
+judged_once s busy count (commands.Ptop lines text) a b p q = p ∙ sym q
+judged_once s busy count (commands.Create exp lines text) a b p q = network_once s exp text a b p q
+judged_once s busy count (commands.CreateTop exp lines text) a b p q = p ∙ sym q
+judged_once s busy count (commands.Show exp) a b p q = p ∙ sym q
+judged_once s busy count (commands.SwapinWith only exp lines text) a b p q = p ∙ sym q
+judged_once s busy count (commands.ModifyWith only exp lines top others map) a b p q = p ∙ sym q
+judged_once s busy count (commands.Swapout only exp) a b p q = p ∙ sym q
+judged_once s busy count (commands.Turn exp) a b p q = p ∙ sym q
+judged_once s busy count (commands.Finish exp) a b p q = p ∙ sym q
+judged_once s busy count commands.Recover a b p q = p ∙ sym q
+judged_once s busy count (commands.Fail device nth how) a b p q = absurd p
+judged_once s busy count (commands.FailDisk nth) a b p q = absurd p
+judged_once s busy count (commands.Stop nth pick) a b p q = absurd p
+judged_once s busy count (commands.Delete exp) a b p q = p ∙ sym q
+judged_once s busy count commands.Status a b p q = p ∙ sym q
 
 -- ---- `create`, by what the code gave
 pub no_place : (s : LabState) (exp text : List ℕ) (refusal : Refusal) → Refuses {X = Unit {0}} (need_place s exp) (Err refusal) → IsJudged (JudgedNetwork s exp text) (Err refusal)
@@ -81,11 +79,14 @@ of_fault s exp text (texts.Text fault) refusal place meaning h = subst (λ (r : 
 of_fault s exp text texts.Memory refusal place meaning h = subst (λ (r : Refusal). IsJudged (JudgedNetwork s exp text) (Err r)) (sym h) tt
 
 -- ---- THE TASK of a command is of no other experiment, where the lab was set
-abbrev pub IsTaskApart : List ℕ → LabState → Task → Type 0
-IsTaskApart name s (Tell reply) = Unit {0}
-IsTaskApart name s (Append entry reply) = (move : Move) → Says the_texts s entry move → IsApart name move
-IsTaskApart name s (Swap exp way) = (exp ≢ name) × ((move : Move) → Says the_texts s (Begin exp way) move → IsApart name move)
-IsTaskApart name s Recover = IsAtRest s name
+abbrev pub IsTaskApart : List ℕ → List (List ℕ) → LabState → Task → Type 0
+IsTaskApart name busy s (Tell reply) = Unit {0}
+IsTaskApart name busy s (Append entry reply) = (move : Move) → Says the_texts s entry move → IsApart name move
+IsTaskApart name busy s (Swap exp way) = (exp ≢ name) × ((move : Move) → Says the_texts s (Begin exp way) move → IsApart name move)
+IsTaskApart name busy s (BeginOnly exp way) = (exp ≢ name) × ((move : Move) → Says the_texts s (Begin exp way) move → IsApart name move)
+IsTaskApart name busy s (Turn exp) = exp ≢ name
+IsTaskApart name busy s (Finish exp) = exp ≢ name
+IsTaskApart name busy s Recover = IsSpared busy s name
 
 -- what comes after a check that did not refuse
 bound : {A B : Type 0} (r : Result A Reply) (f : A → Result B Reply) (y : B) → (r >>= f) ≡ Ok y → (x : A) × (r ≡ Ok x) × (f x ≡ Ok y)
@@ -96,11 +97,7 @@ not_set : (o : Option Lab) (x : Unit {0}) → is_some o ≡ true → need_none o
 not_set None x set h = cc set
 not_set (Some lab) x set h = cc h
 
-found_is : (exp : List ℕ) (o : Option Experiment) (e : Experiment) → need_found exp o ≡ Ok e → o ≡ Some e
-found_is exp None e h = absurd (cc h)
-found_is exp (Some x) e h = let same : x ≡ e = cc h in ap (λ (y : Experiment). Some y) same
-
-module _ (name : List ℕ) (s : LabState) (task : Task) where
+module _ (name : List ℕ) (names : List (List ℕ)) (s : LabState) (busy : Bool) (count : ℕ) (task : Task) where
   -- the move is that of a record
   by_move : (move other : Move) → move ≡ other → IsApart name other → IsApart name move
   by_move move other is apart = subst (λ (m : Move). IsApart name m) (sym is) apart
@@ -110,95 +107,81 @@ module _ (name : List ℕ) (s : LabState) (task : Task) where
   begin_apart exp WayOut own move says = by_move move (BeginsOut exp) says own
   begin_apart exp (WayChange top map tags) own move says = by_move move (BeginsChange exp says.1 says.2 tags) says.9 own
 
-  task_is : (other : Task) → ◌≡◌ {A = Result Task Reply} (Ok other) (Ok task) → IsTaskApart name s other → IsTaskApart name s task
-  task_is other h apart = let same : other ≡ task = cc h in subst (λ (t : Task). IsTaskApart name s t) same apart
+  task_is : (other : Task) → ◌≡◌ {A = Result Task Reply} (Ok other) (Ok task) → IsTaskApart name names s other → IsTaskApart name names s task
+  task_is other h apart = let same : other ≡ task = cc h in subst (λ (t : Task). IsTaskApart name names s t) same apart
 
-  wiring_apart : (exp : List ℕ) (wiring : Wiring) → exp ≢ name → judged_wiring s exp wiring ≡ Ok task → IsTaskApart name s task
+  wiring_apart : (exp : List ℕ) (wiring : Wiring) → exp ≢ name → judged_wiring s exp wiring ≡ Ok task → IsTaskApart name names s task
   wiring_apart exp wiring own h =
       let room = bound (need_room s.experiments) _ task h in
       task_is (Append (Create exp (canonical_top wiring)) (created_reply exp wiring)) room.2 (λ move says. by_move move (Creates exp says.0) says.3 own)
 
-  network_apart : (exp text : List ℕ) → exp ≢ name → JudgedNetwork s exp text (Ok task) → IsTaskApart name s task
+  network_apart : (exp text : List ℕ) → exp ≢ name → JudgedNetwork s exp text (Ok task) → IsTaskApart name names s task
   network_apart exp text own (refused reply place is) = absurd (cc is)
   network_apart exp text own (asked meaning place of is) = let wiring = bound (need_meaning (Bad exp) meaning) (judged_wiring s exp) task (sym is) in wiring_apart exp wiring.0 own wiring.2
 
-  ptop_apart : (text : List ℕ) → is_some s.lab ≡ true → judged_ptop s text ≡ Ok task → IsTaskApart name s task
+  ptop_apart : (text : List ℕ) → is_some s.lab ≡ true → judged_ptop s text ≡ Ok task → IsTaskApart name names s task
   ptop_apart text there h = let none = bound (need_none s.lab) _ task h in absurd (not_set s.lab none.0 there none.1)
 
-  create_apart : (exp text : List ℕ) → exp ≢ name → judged_create s exp text ≡ Ok task → IsTaskApart name s task
+  create_apart : (exp text : List ℕ) → exp ≢ name → judged_create s exp text ≡ Ok task → IsTaskApart name names s task
   create_apart exp text own h =
       let place = bound (need_place s exp) _ task h in
       let wiring = bound (need_meaning (Bad exp) (wiring_of_text text)) _ task place.2 in
       wiring_apart exp wiring.0 own wiring.2
 
-  show_apart : (exp : List ℕ) → judged_show s exp ≡ Ok task → IsTaskApart name s task
+  show_apart : (exp : List ℕ) → judged_show s exp ≡ Ok task → IsTaskApart name names s task
   show_apart exp h =
       let lab = bound (need_lab s.lab) _ task h in
       let found = bound (need_found exp (find exp s.experiments)) _ task lab.2 in
       task_is (Tell (shown_reply lab.0 found.0)) found.2 tt
 
-  delete_apart : (exp : List ℕ) → exp ≢ name → judged_delete s exp ≡ Ok task → IsTaskApart name s task
+  delete_apart : (exp : List ℕ) → exp ≢ name → judged_delete s busy exp ≡ Ok task → IsTaskApart name names s task
   delete_apart exp own h =
       let lab = bound (need_lab s.lab) _ task h in
       let found = bound (need_found exp (find exp s.experiments)) _ task lab.2 in
-      let out = bound (need_out exp found.0.phase) _ task found.2 in
+      let idle = bound (need_idle exp busy) _ task found.2 in
+      let out = bound (need_out exp found.0.phase) _ task idle.2 in
       task_is (Append (Delete exp) (Deleted exp)) out.2 (λ move says. by_move move (Deletes exp) says own)
 
-  -- a swap to a mapping that can be taken
-  taken_apart : (exp : List ℕ) (lab : Lab) (e : Experiment) (w : Wiring) (mapping : Mapping) (way : Way) → exp ≢ name → need_found exp (find exp s.experiments) ≡ Ok e
-      → (need_feasible lab s.experiments e w mapping >>= λ feasible. let r : Result Task Reply = Ok (Swap e.name way) in r) ≡ Ok task → IsTaskApart name s task
-  taken_apart exp lab e w mapping way own found h =
-      let named : e.name ≡ exp = (found_from exp s.experiments e (found_is exp (find exp s.experiments) e found)).name_is in
-      let apart : e.name ≢ name = λ same. own (sym named ∙ same) in
-      let feasible = bound (need_feasible lab s.experiments e w mapping) _ task h in
-      task_is (Swap e.name way) feasible.2 (apart, begin_apart e.name way apart)
+  -- a swap, whether it is only begun or not
+  begun_apart : (exp : List ℕ) (only : Bool) (way : Way) → exp ≢ name → IsTaskApart name names s (begun_as only (Swap exp way))
+  begun_apart exp true way own = (own, begin_apart exp way own)
+  begun_apart exp false way own = (own, begin_apart exp way own)
 
-  swapin_apart : (exp text : List ℕ) → exp ≢ name → judged_swapin s exp text ≡ Ok task → IsTaskApart name s task
-  swapin_apart exp text own h =
+  swap_apart : (exp : List ℕ) (only : Bool) (judgement : Result Task Reply) → exp ≢ name → IfOk judgement (Begins exp busy) → Ok task ≡ in_slot count only judgement → IsTaskApart name names s task
+  swap_apart exp only judgement own begins h =
+      let b = swap_begins s busy count exp only judgement task begins h in
+      subst (λ (t : Task). IsTaskApart name names s t) (sym b.1) (begun_apart exp only b.0 own)
+
+  turn_apart : (exp : List ℕ) (other : Task) → IsTaskApart name names s other
+      → (need_lab s.lab >>= λ lab. need_found exp (find exp s.experiments) >>= λ e. need_open exp busy >>= λ opened. let r : Result Task Reply = Ok other in r) ≡ Ok task → IsTaskApart name names s task
+  turn_apart exp other apart h =
       let lab = bound (need_lab s.lab) _ task h in
       let found = bound (need_found exp (find exp s.experiments)) _ task lab.2 in
-      let out = bound (need_out exp found.0.phase) _ task found.2 in
-      let mapping = bound (need_meaning (Bad exp) (mapping_of_text lab.0 found.0.wiring text)) _ task out.2 in
-      let way = WayIn (canonical_solution lab.0 found.0.wiring mapping.0) (least_tags lab.0 s.experiments (length found.0.wiring.segments)) in
-      taken_apart exp lab.0 found.0 found.0.wiring mapping.0 way own found.1 mapping.2
+      let opened = bound (need_open exp busy) _ task found.2 in
+      task_is other opened.2 apart
 
-  modify_apart : (exp : List ℕ) (lines : ℕ) (top map : List ℕ) → exp ≢ name → judged_modify s exp lines top map ≡ Ok task → IsTaskApart name s task
-  modify_apart exp lines top map own h =
-      let lab = bound (need_lab s.lab) _ task h in
-      let found = bound (need_found exp (find exp s.experiments)) _ task lab.2 in
-      let inside = bound (need_in exp found.0.phase) _ task found.2 in
-      let wiring = bound (need_meaning (Bad exp) (wiring_of_text top)) _ task inside.2 in
-      let mapping = bound (need_meaning (λ fault. Bad exp (behind_lines lines fault)) (mapping_of_text lab.0 wiring.0 map)) _ task wiring.2 in
-      let way = WayChange (canonical_top wiring.0) (canonical_solution lab.0 wiring.0 mapping.0) (least_tags lab.0 s.experiments (length wiring.0.segments)) in
-      taken_apart exp lab.0 found.0 wiring.0 mapping.0 way own found.1 mapping.2
-
-  recover_apart : IsAtRest s name → judged_recover s ≡ Ok task → IsTaskApart name s task
+  recover_apart : IsSpared names s name → judged_recover s ≡ Ok task → IsTaskApart name names s task
   recover_apart rests h = let lab = bound (need_lab s.lab) _ task h in task_is Recover lab.2 rests
 
-  swapout_apart : (exp : List ℕ) → exp ≢ name → judged_swapout s exp ≡ Ok task → IsTaskApart name s task
-  swapout_apart exp own h =
-      let lab = bound (need_lab s.lab) _ task h in
-      let found = bound (need_found exp (find exp s.experiments)) _ task lab.2 in
-      let inside = bound (need_in exp found.0.phase) _ task found.2 in
-      task_is (Swap exp WayOut) inside.2 (own, begin_apart exp WayOut own)
-
-  status_apart : judged_status s ≡ Ok task → IsTaskApart name s task
+  status_apart : judged_status s ≡ Ok task → IsTaskApart name names s task
   status_apart h = let lab = bound (need_lab s.lab) _ task h in task_is (Tell (status_reply lab.0 s.experiments)) lab.2 tt
 
   apart_from : (exp : List ℕ) → ◌≢◌ {A = Option (List ℕ)} (Some exp) (Some name) → exp ≢ name
   apart_from exp other same = other (ap (λ (n : List ℕ). Some n) same)
 
-  pub task_apart : (command : Command) → (command ≡ commands.Recover → IsAtRest s name) → is_some s.lab ≡ true → name_of command ≢ Some name → Judged s command (Ok task) → IsTaskApart name s task
-  task_apart (commands.Ptop lines text) rests there other is = ptop_apart text there (sym is)
-  task_apart (commands.Create exp lines text) rests there other is = network_apart exp text (apart_from exp other) is
-  task_apart (commands.CreateTop exp lines text) rests there other is = create_apart exp text (apart_from exp other) (sym is)
-  task_apart (commands.Show exp) rests there other is = show_apart exp (sym is)
-  task_apart (commands.SwapinWith exp lines text) rests there other is = swapin_apart exp text (apart_from exp other) (sym is)
-  task_apart (commands.ModifyWith exp lines top others map) rests there other is = modify_apart exp lines top map (apart_from exp other) (sym is)
-  task_apart (commands.Swapout exp) rests there other is = swapout_apart exp (apart_from exp other) (sym is)
-  task_apart commands.Recover rests there other is = recover_apart (rests refl) (sym is)
-  task_apart (commands.Fail device nth how) rests there other is = absurd is
-  task_apart (commands.FailDisk nth) rests there other is = absurd is
-  task_apart (commands.Stop nth pick) rests there other is = absurd is
-  task_apart (commands.Delete exp) rests there other is = delete_apart exp (apart_from exp other) (sym is)
-  task_apart commands.Status rests there other is = status_apart (sym is)
+  pub task_apart : (command : Command) → (command ≡ commands.Recover → IsSpared names s name) → is_some s.lab ≡ true → name_of command ≢ Some name → Judged s busy count command (Ok task) → IsTaskApart name names s task
+  task_apart (commands.Ptop lines text) spared there other is = ptop_apart text there (sym is)
+  task_apart (commands.Create exp lines text) spared there other is = network_apart exp text (apart_from exp other) is
+  task_apart (commands.CreateTop exp lines text) spared there other is = create_apart exp text (apart_from exp other) (sym is)
+  task_apart (commands.Show exp) spared there other is = show_apart exp (sym is)
+  task_apart (commands.SwapinWith only exp lines text) spared there other is = swap_apart exp only (judged_swapin s busy exp text) (apart_from exp other) (swapin_begins s busy exp text) is
+  task_apart (commands.ModifyWith only exp lines top others map) spared there other is = swap_apart exp only (judged_modify s busy exp lines top map) (apart_from exp other) (modify_begins s busy exp lines top map) is
+  task_apart (commands.Swapout only exp) spared there other is = swap_apart exp only (judged_swapout s busy exp) (apart_from exp other) (swapout_begins s busy exp) is
+  task_apart (commands.Turn exp) spared there other is = turn_apart exp (Turn exp) (apart_from exp other) (sym is)
+  task_apart (commands.Finish exp) spared there other is = turn_apart exp (Finish exp) (apart_from exp other) (sym is)
+  task_apart commands.Recover spared there other is = recover_apart (spared refl) (sym is)
+  task_apart (commands.Fail device nth how) spared there other is = absurd is
+  task_apart (commands.FailDisk nth) spared there other is = absurd is
+  task_apart (commands.Stop nth pick) spared there other is = absurd is
+  task_apart (commands.Delete exp) spared there other is = delete_apart exp (apart_from exp other) (sym is)
+  task_apart commands.Status spared there other is = status_apart (sym is)

@@ -1,5 +1,5 @@
 -- What a call leaves, by the steps that it added, and what is said of it in other words.
-use Rattle.std.proofs.Common.{◌≡◌, ℕ, Bool, true, false, not, List, [], ◌∷◌, ◌++◌, Option, Some, None, IfSome, Result, Ok, Err, refl, sym, ap, ◌∙◌, subst, arith}
+use Rattle.std.proofs.Common.{◌≡◌, inr, ℕ, Bool, true, false, not, List, [], ◌∷◌, ◌++◌, Option, Some, None, IfSome, Result, Ok, Err, refl, sym, ap, ◌∙◌, subst, arith}
 use Rattle.std.proofs.lemmas.List.{append-nil}
 use Rattle.plant.specs.Calls.{Rose}
 use Rattle.plant.specs.Events.{Event, Restarted}
@@ -9,6 +9,7 @@ use Rattle.records_model.specs.Labs.{LabState}
 use Rattle.records_model.specs.Works.{IsSound}
 use Rattle.lab_state.specs.Texts.{the_texts}
 use Rattle.script_text.specs.Replies.{blames_device, closes}
+use Rattle.script_text.specs.declared.command.Command.{Command}
 use Rattle.script_text.specs.declared.reply.Reply.{Reply}
 use Rattle.script_text.specs.declared.reply.Reply.TheVariants as replies
 use Rattle.swap_turns.specs.Causes.{IsLater}
@@ -18,12 +19,11 @@ use Rattle.swap_turns.proofs.Telling.{if_some, if_both}
 use Rattle.plant.specs.Seen.{Seen}
 use Rattle.lab_core.specs.declared.fault.CoreFault.{CoreFault}
 use Rattle.lab_core.specs.declared.fault.CoreFault.TheVariants as faults
-use Rattle.lab_core.specs.Controller.{Control, Works}
-use Rattle.script_text.specs.declared.command.Command.{Command}
-use Rattle.lab_core.specs.Judge.{Task, Is, Judged}
-use Rattle.lab_core.specs.LabSteps.{IsDoneBy, does, no_memory}
-use Rattle.lab_core.specs.Obey.{setting_of, IsDone, Leaves, Answers, ObeyEnds, ObeySteps, ObeyTold, Obeyed}
-use Rattle.lab_core.specs.Sessions.{After, Closed, OpenSwap, Setting, open_alone}
+use Rattle.lab_core.specs.Controller.{Control, WorksWith}
+use Rattle.lab_core.specs.Judge.{Task, Is}
+use Rattle.lab_core.specs.LabSteps.{IsDoneBy, JudgedBeside, does, no_memory}
+use Rattle.lab_core.specs.Obey.{Start, start_of, IsDone, Leaves, Answers, ObeyEnds, ObeySteps, ObeyTold, Obeyed}
+use Rattle.lab_core.specs.Sessions.{After, Closed, Open, OpenSwap, Setting, AreOpenedBy, counted_from}
 use Rattle.lab_core.specs.Tasks.{IsMild}
 
 -- no steps more
@@ -47,24 +47,30 @@ abbrev pub RunsOn : Seen → Seen → Type 0
 RunsOn before now = before.stopped ≡ false → now.stopped ≡ true → ⊥
 
 -- WHAT A CALL LEAVES, by the steps that it added
-module _ (before now : Seen) (IsJudged : Result Task Reply → Type 0) (old new : Control) (own : List Event) (told : now.told ≡ with_steps before.told own)
-    (sound : IfSome before.told (λ w. IsSound the_texts w.trace → IsSound the_texts (w.trace ++ own))) (later : IsLater before now) where
-  abbrev Left : Result Reply CoreFault → Type 0
-  Left result = Obeyed before now IsJudged old new result
+module _ (before now : Seen) (IsJudged : Result Task Reply → Type 0) (old new : Control) (opens to : List OpenSwap) (exp : Option (List ℕ)) (own : List Event) (told : now.told ≡ with_steps before.told own)
+    (sound : IfSome before.told (λ w. IsSound the_texts w.trace → IsSound the_texts (w.trace ++ own))) (later : IsLater before now) (limit : limit_of new.journal ≡ limit_of old.journal) (opened : AreOpenedBy opens to before.faults.devices) where
+  abbrev start : Start
+  start = start_of before old opens
 
-  steps_by : (result : Result Reply CoreFault) → IfSome before.told (λ w. ObeyEnds w.trace IsJudged old own new result) → ObeyTold before now IsJudged old new result
+  abbrev Left : Result Reply CoreFault → Type 0
+  Left result = Obeyed before now IsJudged old new opens exp result
+
+  steps_by : (result : Result Reply CoreFault) → IfSome before.told (λ w. ObeyEnds w.trace IsJudged start own new.lab to result) → ObeyTold before now IsJudged start new.lab to result
   steps_by result ends = (
     own,
     told,
-    if_both before.told (λ w. ObeyEnds w.trace IsJudged old own new result) (λ w. IsSound the_texts w.trace → IsSound the_texts (w.trace ++ own)) (λ w. ObeySteps w.trace IsJudged old own new result) (λ w e s. record { ends = e; sound = s }) ends sound,
+    if_both before.told (λ w. ObeyEnds w.trace IsJudged start own new.lab to result) (λ w. IsSound the_texts w.trace → IsSound the_texts (w.trace ++ own)) (λ w. ObeySteps w.trace IsJudged start own new.lab to result) (λ w e s. record { ends = e; sound = s }) ends sound,
   )
 
   -- IT GOES ON
-  pub goes_on : (reply : Reply) → closes reply ≡ false → IsDone IsJudged old own (Some reply) new.lab open_alone → limit_of new.journal ≡ limit_of old.journal → Works now.told new
-      → (blames_device reply ≡ true → Rose before.faults.devices now.faults.devices) → RunsOn before now → Left (Ok reply)
-  goes_on reply open_still done limit works blames runs = record {
-    obeys = steps_by (Ok reply) (if_all before.told (λ w. ObeyEnds w.trace IsJudged old own new (Ok reply)) (λ w. subst (λ b. Answers w.trace IsJudged old own reply new b) (sym open_still) (done, limit)));
+  pub goes_on : (reply : Reply) → closes reply ≡ false → IsDone IsJudged start own (Some reply) new.lab (Open to) → WorksWith now new to
+      → (blames_device reply ≡ true → Rose (counted_from opens exp before.faults.devices) now.faults.devices) → RunsOn before now → Left (Ok reply)
+  goes_on reply open_still done works blames runs = record {
+    to = to;
+    obeys = steps_by (Ok reply) (if_all before.told (λ w. ObeyEnds w.trace IsJudged start own new.lab to (Ok reply)) (λ w. subst (λ b. Answers w.trace IsJudged start own reply new.lab to b) (sym open_still) done));
     works = λ _. works;
+    limit = limit;
+    opened = opened;
     down = λ closing. not_both (closes reply) closing open_still;
     device = blames;
     later = later.disk;
@@ -73,10 +79,13 @@ module _ (before now : Seen) (IsJudged : Result Task Reply → Type 0) (old new 
   }
 
   -- MEMORY WAS WANTING
-  pub wants : IsDone IsJudged old own None new.lab Closed → Works now.told new → RunsOn before now → Left (Err faults.Memory)
+  pub wants : IsDone IsJudged start own None new.lab Closed → WorksWith now new to → RunsOn before now → Left (Err faults.Memory)
   wants done works runs = record {
-    obeys = steps_by (Err faults.Memory) (if_all before.told (λ w. IsDone IsJudged old own None new.lab Closed) (λ w. done));
+    to = to;
+    obeys = steps_by (Err faults.Memory) (if_all before.told (λ w. IsDone IsJudged start own None new.lab Closed) (λ w. done));
     works = λ _. works;
+    limit = limit;
+    opened = opened;
     down = tt;
     device = tt;
     later = later.disk;
@@ -86,18 +95,21 @@ module _ (before now : Seen) (IsJudged : Result Task Reply → Type 0) (old new 
 
   -- IT IS CLOSED, by what its steps are
   module _ (Is : List Event → LabState → Type 0) (closed : Closes the_texts before.told own Is) (reply : Reply) (behind : List ℕ → List ℕ → List Event)
-      (done : (lab : LabState) → Is own lab → (a b : List ℕ) → IsDone IsJudged old (own ++ behind a b) (Some reply) lab Closed) where
-    leaves : IfSome before.told (λ w. Leaves w.trace IsJudged old own reply behind)
-    leaves = if_some before.told (λ w. Images the_texts w.trace own (Is own)) (λ w. Leaves w.trace IsJudged old own reply behind)
+      (done : (lab : LabState) → Is own lab → (a b : List ℕ) → IsDone IsJudged start (own ++ behind a b) (Some reply) lab Closed) where
+    leaves : IfSome before.told (λ w. Leaves w.trace IsJudged start own reply behind)
+    leaves = if_some before.told (λ w. Images the_texts w.trace own (Is own)) (λ w. Leaves w.trace IsJudged start own reply behind)
         (λ w images. record { lab = closed.after; done = done closed.after closed.is; images = λ sound a b possible. let i = images sound a b possible in (i.0, i.1, done i.0 i.2 a b) }) closed.images
 
   -- by a reply that blames no device
-  pub closed_by : (reply : Reply) → closes reply ≡ true → blames_device reply ≡ false → (Is : List Event → LabState → Type 0) → Closes the_texts before.told own Is → ((lab : LabState) → Is own lab → IsDone IsJudged old (own ++ []) (Some reply) lab Closed)
-      → Rose before.faults.disk now.faults.disk → RunsOn before now → Left (Ok reply)
+  pub closed_by : (reply : Reply) → closes reply ≡ true → blames_device reply ≡ false → (Is : List Event → LabState → Type 0) → Closes the_texts before.told own Is
+      → ((lab : LabState) → Is own lab → IsDone IsJudged start (own ++ []) (Some reply) lab Closed) → Rose before.faults.disk now.faults.disk → RunsOn before now → Left (Ok reply)
   closed_by reply closing mild Is closed done rose runs = record {
-    obeys = steps_by (Ok reply) (if_some before.told (λ w. Leaves w.trace IsJudged old own reply (λ a b. [])) (λ w. ObeyEnds w.trace IsJudged old own new (Ok reply)) (λ w l. subst (λ b. Answers w.trace IsJudged old own reply new b) (sym closing) l)
-        (leaves Is closed reply (λ a b. []) (λ lab is a b. done lab is)));
+    to = to;
+    obeys = steps_by (Ok reply) (if_some before.told (λ w. Leaves w.trace IsJudged start own reply (λ a b. [])) (λ w. ObeyEnds w.trace IsJudged start own new.lab to (Ok reply))
+        (λ w l. subst (λ b. Answers w.trace IsJudged start own reply new.lab to b) (sym closing) l) (leaves Is closed reply (λ a b. []) (λ lab is a b. done lab is)));
     works = λ going. false_true (subst (λ b. not b ≡ true) closing going);
+    limit = limit;
+    opened = opened;
     down = λ _. rose;
     device = λ blaming. not_both (blames_device reply) blaming mild;
     later = later.disk;
@@ -106,10 +118,14 @@ module _ (before now : Seen) (IsJudged : Result Task Reply → Type 0) (old new 
   }
 
   -- by a stop
-  pub halted : (Is : List Event → LabState → Type 0) → Closes the_texts before.told own Is → ((lab : LabState) → Is own lab → (a b : List ℕ) → IsDone IsJudged old (own ++ Restarted a b ∷ []) (Some replies.Stopped) lab Closed) → (before.stopped ≡ false → now.stopped ≡ true) → Left (Err faults.Stopped)
+  pub halted : (Is : List Event → LabState → Type 0) → Closes the_texts before.told own Is → ((lab : LabState) → Is own lab → (a b : List ℕ) → IsDone IsJudged start (own ++ Restarted a b ∷ []) (Some replies.Stopped) lab Closed)
+      → (before.stopped ≡ false → now.stopped ≡ true) → Left (Err faults.Stopped)
   halted Is closed done stop = record {
+    to = to;
     obeys = steps_by (Err faults.Stopped) (leaves Is closed replies.Stopped (λ a b. Restarted a b ∷ []) done);
     works = λ going. false_true going;
+    limit = limit;
+    opened = opened;
     down = tt;
     device = tt;
     later = later.disk;
@@ -124,19 +140,27 @@ sound_still told = if_all told (λ w. IsSound the_texts w.trace → IsSound the_
 same_later : (before : Seen) → IsLater before before
 same_later before = record { disk = omega arith; devices = omega arith }
 
+-- the same are open
+pub same_opened : (opens : List OpenSwap) (count : ℕ) → AreOpenedBy opens opens count
+same_opened opens count = λ o has. inr (o, has, refl, refl)
+
 -- a mild reply
-pub replied : (before : Seen) (IsJudged : Result Task Reply → Type 0) (c : Control) (reply : Reply) → Works before.told c → IsMild reply → IsDone IsJudged c [] (Some reply) c.lab open_alone → Obeyed before before IsJudged c c (Ok reply)
-replied before IsJudged c reply works mild done =
-    goes_on before before IsJudged c c [] (no_steps before.told) (sound_still before.told) (same_later before) reply mild.0 done refl works (λ blaming. not_both (blames_device reply) blaming mild.1) (λ ran stopped. not_both before.stopped stopped ran)
+pub replied : (before : Seen) (IsJudged : Result Task Reply → Type 0) (c : Control) (opens : List OpenSwap) (exp : Option (List ℕ)) (reply : Reply) → WorksWith before c opens → IsMild reply
+    → IsDone IsJudged (start_of before c opens) [] (Some reply) c.lab (Open opens) → Obeyed before before IsJudged c c opens exp (Ok reply)
+replied before IsJudged c opens exp reply works mild done =
+    goes_on before before IsJudged c c opens opens exp [] (no_steps before.told) (sound_still before.told) (same_later before) refl (same_opened opens before.faults.devices) reply mild.0 done works (λ blaming. not_both (blames_device reply) blaming mild.1)
+    (λ ran stopped. not_both before.stopped stopped ran)
 
 -- a refusal
-pub refuses : (before : Seen) (IsJudged : Result Task Reply → Type 0) (c : Control) (reply : Reply) → Works before.told c → IsJudged (Err reply) × IsMild reply → Obeyed before before IsJudged c c (Ok reply)
-refuses before IsJudged c reply works is = replied before IsJudged c reply works is.1 (does (Err reply) is.0 (record { nothing = refl; after_is = refl }))
+pub refuses : (before : Seen) (IsJudged : Result Task Reply → Type 0) (c : Control) (opens : List OpenSwap) (exp : Option (List ℕ)) (reply : Reply) → WorksWith before c opens → IsJudged (Err reply) × IsMild reply
+    → Obeyed before before IsJudged c c opens exp (Ok reply)
+refuses before IsJudged c opens exp reply works is = replied before IsJudged c opens exp reply works is.1 (does (Err reply) is.0 (record { nothing = refl; after_is = refl }))
 
 -- memory was wanting
-pub wanted : (before : Seen) (IsJudged : Result Task Reply → Type 0) (c : Control) → Works before.told c → Obeyed before before IsJudged c c (Err faults.Memory)
-wanted before IsJudged c works =
-    wants before before IsJudged c c [] (no_steps before.told) (sound_still before.told) (same_later before) (no_memory (record { nothing = refl; after_is = refl })) works (λ ran stopped. not_both before.stopped stopped ran)
+pub wanted : (before : Seen) (IsJudged : Result Task Reply → Type 0) (c : Control) (opens : List OpenSwap) (exp : Option (List ℕ)) → WorksWith before c opens → Obeyed before before IsJudged c c opens exp (Err faults.Memory)
+wanted before IsJudged c opens exp works =
+    wants before before IsJudged c c opens opens exp [] (no_steps before.told) (sound_still before.told) (same_later before) refl (same_opened opens before.faults.devices) (no_memory (record { nothing = refl; after_is = refl })) works
+    (λ ran stopped. not_both before.stopped stopped ran)
 
 -- WHAT IS JUDGED in other words
 module _ (A B : Result Task Reply → Type 0) (each : (j : Result Task Reply) → A j → B j) where
@@ -144,36 +168,45 @@ module _ (A B : Result Task Reply → Type 0) (each : (j : Result Task Reply) �
   done_by set s opens own after (does judgement judged done) = does judgement (each judgement judged) done
   done_by set s opens own after (no_memory wants) = no_memory wants
 
-  left_by : (trace : List Event) (old : Control) (own : List Event) (reply : Reply) (behind : List ℕ → List ℕ → List Event) → Leaves trace A old own reply behind → Leaves trace B old own reply behind
-  left_by trace old own reply behind l = record {
+  left_by : (trace : List Event) (start : Start) (own : List Event) (reply : Reply) (behind : List ℕ → List ℕ → List Event) → Leaves trace A start own reply behind → Leaves trace B start own reply behind
+  left_by trace start own reply behind l = record {
     lab = l.lab;
-    done = λ a b. done_by (setting_of old) old.lab [] (own ++ behind a b) _ (l.done a b);
-    images = λ sound a b possible. let i = l.images sound a b possible in (i.0, i.1, done_by (setting_of old) old.lab [] (own ++ behind a b) _ i.2);
+    done = λ a b. done_by start.set start.lab start.opens (own ++ behind a b) _ (l.done a b);
+    images = λ sound a b possible. let i = l.images sound a b possible in (i.0, i.1, done_by start.set start.lab start.opens (own ++ behind a b) _ i.2);
   }
 
-  answers_by : (trace : List Event) (old : Control) (own : List Event) (reply : Reply) (new : Control) (closing : Bool) → Answers trace A old own reply new closing → Answers trace B old own reply new closing
-  answers_by trace old own reply new false h = (done_by (setting_of old) old.lab [] own _ h.0, h.1)
-  answers_by trace old own reply new true h = left_by trace old own reply (λ a b. []) h
+  answers_by : (trace : List Event) (start : Start) (own : List Event) (reply : Reply) (lab : LabState) (to : List OpenSwap) (closing : Bool) → Answers trace A start own reply lab to closing → Answers trace B start own reply lab to closing
+  answers_by trace start own reply lab to false h = done_by start.set start.lab start.opens own _ h
+  answers_by trace start own reply lab to true h = left_by trace start own reply (λ a b. []) h
 
-  ends_by : (trace : List Event) (old : Control) (own : List Event) (new : Control) (result : Result Reply CoreFault) → ObeyEnds trace A old own new result → ObeyEnds trace B old own new result
-  ends_by trace old own new (Ok reply) h = answers_by trace old own reply new (closes reply) h
-  ends_by trace old own new (Err faults.Stopped) h = left_by trace old own _ _ h
-  ends_by trace old own new (Err faults.Memory) h = done_by (setting_of old) old.lab [] own _ h
+  ends_by : (trace : List Event) (start : Start) (own : List Event) (lab : LabState) (to : List OpenSwap) (result : Result Reply CoreFault) → ObeyEnds trace A start own lab to result → ObeyEnds trace B start own lab to result
+  ends_by trace start own lab to (Ok reply) h = answers_by trace start own reply lab to (closes reply) h
+  ends_by trace start own lab to (Err faults.Stopped) h = left_by trace start own _ _ h
+  ends_by trace start own lab to (Err faults.Memory) h = done_by start.set start.lab start.opens own _ h
 
-  pub obeyed_by : (before now : Seen) (old new : Control) (result : Result Reply CoreFault) → Obeyed before now A old new result → Obeyed before now B old new result
-  obeyed_by before now old new result h = record {
-    obeys = (h.obeys.0, h.obeys.1, if_some before.told (λ t. ObeySteps t.trace A old h.obeys.0 new result) (λ t. ObeySteps t.trace B old h.obeys.0 new result) (λ t f. record { ends = ends_by t.trace old h.obeys.0 new result f.ends; sound = f.sound }) h.obeys.2);
-    works = h.works;
-    down = h.down;
-    device = h.device;
-    later = h.later;
-    devices = h.devices;
-    stopped = h.stopped;
-  }
+  pub obeyed_by : (before now : Seen) (old new : Control) (opens : List OpenSwap) (exp : Option (List ℕ)) (result : Result Reply CoreFault) → Obeyed before now A old new opens exp result → Obeyed before now B old new opens exp result
+  obeyed_by before now old new opens exp result h =
+      let start = start_of before old opens in
+      record {
+        to = h.to;
+        obeys = (
+          h.obeys.0,
+          h.obeys.1,
+          if_some before.told (λ t. ObeySteps t.trace A start h.obeys.0 new.lab h.to result) (λ t. ObeySteps t.trace B start h.obeys.0 new.lab h.to result)
+              (λ t f. record { ends = ends_by t.trace start h.obeys.0 new.lab h.to result f.ends; sound = f.sound }) h.obeys.2,
+        );
+        works = h.works;
+        limit = h.limit;
+        opened = h.opened;
+        down = h.down;
+        device = h.device;
+        later = h.later;
+        devices = h.devices;
+        stopped = h.stopped;
+      }
 
--- what was judged in the parts of a controller, and done
-pub obeyed_as : (before now : Seen) (inside old new : Control) → inside ≡ old → (command : Command) (judgement : Result Task Reply) → Judged inside.lab command judgement → (result : Result Reply CoreFault) → Obeyed before now (Is judgement) inside new result
-    → Obeyed before now (Judged old.lab command) old new result
-obeyed_as before now inside old new view command judgement judged result h =
-    subst (λ (c : Control). Obeyed before now (Judged c.lab command) c new result) view
-    (obeyed_by (Is judgement) (Judged inside.lab command) (λ j is. subst (λ (x : Result Task Reply). Judged inside.lab command x) (sym is) judged) before now inside new result h)
+-- WHAT WAS JUDGED of a command beside the open swaps, and done
+pub obeyed_as : (before now : Seen) (old new : Control) (opens : List OpenSwap) (exp : Option (List ℕ)) (command : Command) (judgement : Result Task Reply) → JudgedBeside command opens old.lab judgement → (result : Result Reply CoreFault)
+    → Obeyed before now (Is judgement) old new opens exp result → Obeyed before now (JudgedBeside command opens old.lab) old new opens exp result
+obeyed_as before now old new opens exp command judgement judged result h =
+    obeyed_by (Is judgement) (JudgedBeside command opens old.lab) (λ j is. subst (λ (x : Result Task Reply). JudgedBeside command opens old.lab x) (sym is) judged) before now old new opens exp result h

@@ -1,5 +1,5 @@
 -- Moves of one experiment leave those of other names, and a settling leaves those that don't move.
-use Rattle.std.proofs.Common.{◌≡◌, ◌≢◌, ◌⊎◌, inl, inr, ℕ, Bool, true, false, cond, is_some, Option, Some, None, List, [], ◌∷◌, ◌++◌, refl, sym, ap, ◌∙◌}
+use Rattle.std.proofs.Common.{◌≡◌, ◌≢◌, ◌⊎◌, inl, inr, ℕ, Bool, true, false, cond, is_some, Option, Some, None, List, [], ◌∷◌, ◌++◌, refl, sym, ap, ◌∙◌, subst}
 use Rattle.std.specs.Prelude.{if◌then◌else◌}
 use Rattle.std.specs.Str.{bytes_eq}
 use Rattle.std.proofs.lemmas.Bool.{cases_Bool, cond-true, cond-false, false_from_ne_true}
@@ -15,7 +15,10 @@ use Rattle.records_model.specs.Labs.{LabState, Move, SetLab, Creates, Deletes, B
 use Rattle.records_model.proofs.Finding.{some_is, none_some, found_from}
 use Rattle.records_model.proofs.LabLaws.{in_state-some, with_replaced-some, found_one}
 use Rattle.records_model.proofs.Swaps.{find_others}
+use Rattle.lab_base.specs.Lists.{Has, listed}
+use Rattle.lab_base.proofs.Members.{Has-left, Has-right, Has-flat_map}
 use Rattle.lab_model.specs.Sound.{is_moving}
+use Rattle.recovery.specs.Due.{due, is_busy, swap_if, swaps_of}
 use Rattle.swap_turns.specs.Swaps.{Swap}
 use Rattle.swap_turns.specs.Records.{IsBroken}
 use Rattle.swap_turns.specs.Beginning.{opened, settling}
@@ -26,6 +29,7 @@ use Rattle.swap_turns.specs.Settling.{Settles}
 use Rattle.swap_turns.specs.Turning.{Outcome, More, TurnsBack, Ended, Stuck, Unwritten, Stopped, TurnSteps}
 use Rattle.swap_turns.specs.Whole.{SwapSteps, begun, unwritten, stopped}
 use Rattle.swap_turns.proofs.Finishing.{onward_swap}
+use Rattle.lab_core.specs.LabSteps.{BeginSteps}
 use Rattle.lab_core.specs.Recovery.{SettlesSome, some, within}
 use Rattle.lab_core.specs.Tells.{IsAtRest}
 
@@ -76,6 +80,10 @@ IsApart name (BeginsOut own) = own ≢ name
 IsApart name (BeginsChange own wiring mapping tags) = own ≢ name
 IsApart name (Commits own) = own ≢ name
 IsApart name (Aborts own) = own ≢ name
+
+-- `recover` leaves it: it has an open swap, or doesn't move
+abbrev pub IsSpared : List (List ℕ) → LabState → List ℕ → Type 0
+IsSpared busy s name = (is_busy busy name ≡ true) ⊎ IsAtRest s name
 
 -- the lab is set still, and the experiment of that name is as it was
 pub record Stays (name : List ℕ) (s u : LabState) : Type 0 where
@@ -147,13 +155,29 @@ module _ (name : List ℕ) where
   last_apart true own apart = apart
   last_apart false own apart = apart
 
+  lasts_apart : (s : LabState) (own : List ℕ) → is_some s.lab ≡ true → own ≢ name → Lasts s own
+  lasts_apart s own set apart = λ commit u h. move_stays s u (last_move_by commit own) set (last_apart commit own apart) h
+
+  pub turned_stays : (s after : LabState) (o : OpenSwap) (steps : List Event) (outcome : Outcome) → is_some s.lab ≡ true → o.swap.name ≢ name → TurnSteps s o steps outcome after → Stays name s after
+  turned_stays s after o steps outcome set own turn = turn_stays s after o steps outcome set (lasts_apart s o.swap.name set own) turn
+
+  pub ended_stays : (s after : LabState) (o : OpenSwap) (steps : List Event) (outcome : Outcome) → is_some s.lab ≡ true → o.swap.name ≢ name → Finishes s o steps outcome after → Stays name s after
+  ended_stays s after o steps outcome set own f =
+      let named : f.at.swap.name ≡ o.swap.name = ap (λ (q : Swap). q.name) (onward_swap s o f.front f.at f.onward) in
+      turned_stays s after f.at f.behind outcome set (λ same. own (sym named ∙ same)) f.turn
+
+  pub begun_stays : (s after : LabState) (begin : Record) (move : Move) (steps : List Event) (outcome : Outcome) → is_some s.lab ≡ true → IsApart name move → BeginSteps s begin move steps after outcome → Stays name s after
+  begun_stays s after begin move steps More set apart b = move_stays s after move set apart b.moves
+  begun_stays s after begin move steps Unwritten set apart b = broken_stays _ s after begin move steps set (λ u h. move_stays s u move set apart h) b
+  begun_stays s after begin move steps Stopped set apart b = broken_stays _ s after begin move steps set (λ u h. move_stays s u move set apart h) b
+  begun_stays s after begin move steps (TurnsBack why) set apart b = absurd b
+  begun_stays s after begin move steps (Ended leg) set apart b = absurd b
+  begun_stays s after begin move steps (Stuck trouble) set apart b = absurd b
+
   pub swap_stays : (p : Swap) (s after : LabState) (begin : Record) (move : Move) (steps : List Event) (outcome : Outcome) → is_some s.lab ≡ true → IsApart name move → p.name ≢ name → SwapSteps p s begin move steps after outcome → Stays name s after
   swap_stays p s after begin move steps outcome set apart own (begun b) =
       let first = move_stays s b.state move set apart b.begins.moves in
-      let f = b.finishes in
-      let named : f.at.swap.name ≡ p.name = ap (λ (q : Swap). q.name) (onward_swap b.state (opened p) f.front f.at f.onward) in
-      let last : Lasts b.state f.at.swap.name = λ commit u h. move_stays b.state u (last_move_by commit f.at.swap.name) first.set (last_apart commit f.at.swap.name (λ same. own (sym named ∙ same))) h in
-      both_stay s b.state after first (turn_stays b.state after f.at f.behind outcome first.set last f.turn)
+      both_stay s b.state after first (ended_stays b.state after (opened p) b.behind outcome first.set own b.finishes)
   swap_stays p s after begin move steps outcome set apart own (unwritten b is) = broken_stays _ s after begin move steps set (λ u h. move_stays s u move set apart h) b
   swap_stays p s after begin move steps outcome set apart own (stopped b is) = broken_stays _ s after begin move steps set (λ u h. move_stays s u move set apart h) b
 
@@ -202,3 +226,49 @@ module _ (name : List ℕ) where
   some_stay s after busy steps set rests (within outcome front behind is b starts) =
       let first = settles_stay b.past b.outcomes s b.mid b.front set rests b.settled in
       both_stay s b.mid after first (finish_stays b.mid after b.last b.behind outcome first.set (rests_on s b.mid first rests) b.breaks)
+
+  -- A SETTLING OF OTHERS, among them none of that name
+  abbrev AreApart : List Swap → Type 0
+  AreApart ps = (p : Swap) → Has ps p → p.name ≢ name
+
+  settles_apart : (ps : List Swap) (outcomes : List Outcome) (s after : LabState) (steps : List Event) → is_some s.lab ≡ true → AreApart ps → Settles s ps outcomes steps after → Stays name s after
+  settles_apart [] [] s after steps set apart h = same_stays s after set h.1
+  settles_apart [] (outcome ∷ outcomes) s after steps set apart h = absurd h
+  settles_apart (p ∷ ps) [] s after steps set apart h = absurd h
+  settles_apart (p ∷ ps) (outcome ∷ outcomes) s after steps set apart h =
+      let first = ended_stays s h.2 (settling p) h.0 outcome set (apart p (inl refl)) h.3.is in
+      both_stay s h.2 after first (settles_apart ps outcomes h.2 after h.1 first.set (λ q there. apart q (inr there)) h.4)
+
+  some_apart : (s after : LabState) (busy : List (List ℕ)) (steps : List Event) → is_some s.lab ≡ true → AreApart (swaps_of busy s.experiments) → SettlesSome s busy steps after → Stays name s after
+  some_apart s after busy steps set apart (some past rest outcomes all settles) =
+      settles_apart past outcomes s after steps set (λ p there. apart p (subst (λ l. Has l p) (sym all) (Has-left past rest p there))) settles
+  some_apart s after busy steps set apart (within outcome front behind is b starts) =
+      let within : (p : Swap) → Has (b.past ++ b.last ∷ b.rest) p → p.name ≢ name = (λ p there. apart p (subst (λ l. Has l p) (sym b.all) there)) in
+      let first = settles_apart b.past b.outcomes s b.mid b.front set (λ p there. within p (Has-left b.past (b.last ∷ b.rest) p there)) b.settled in
+      both_stay s b.mid after first (ended_stays b.mid after (settling b.last) b.behind outcome first.set (within b.last (Has-right b.past (b.last ∷ b.rest) b.last (inl refl))) b.breaks)
+
+  -- a swap that is due is of an experiment that isn't busy
+  named_if : (own : List ℕ) (phase : Phase) (p : Swap) → Has (listed (swap_if own phase)) p → p.name ≡ own
+  named_if own Out p there = absurd there
+  named_if own (In mapping tags) p there = absurd there
+  named_if own (Moving old new) p (inl same) = ap (λ (q : Swap). q.name) (sym same)
+  named_if own (Moving old new) p (inr there) = absurd there
+
+  due_if : (b : Bool) (own : List ℕ) (phase : Phase) (p : Swap) → Has (listed (if b then None else swap_if own phase)) p → (b ≡ false) × (p.name ≡ own)
+  due_if true own phase p there = absurd there
+  due_if false own phase p there = (refl, named_if own phase p there)
+
+  busy_apart : (busy : List (List ℕ)) (es : List Experiment) → is_busy busy name ≡ true → AreApart (swaps_of busy es)
+  busy_apart busy es is_busy_now = λ p there.
+      let e = Has-flat_map (λ x. listed (due busy x)) es p there in
+      let d = due_if (is_busy busy e.0.name) e.0.name e.0.phase p e.2 in
+      (λ named. (let both : false ≡ true = sym d.0 ∙ ap (λ n. is_busy busy n) (sym d.1 ∙ named) ∙ is_busy_now in cc both))
+
+  -- `recover`
+  pub settled_stay : (busy : List (List ℕ)) (outcomes : List Outcome) (s after : LabState) (steps : List Event) → is_some s.lab ≡ true → IsSpared busy s name → Settles s (swaps_of busy s.experiments) outcomes steps after → Stays name s after
+  settled_stay busy outcomes s after steps set (inl is_busy_now) settles = settles_apart _ outcomes s after steps set (busy_apart busy s.experiments is_busy_now) settles
+  settled_stay busy outcomes s after steps set (inr rests) settles = settles_stay _ outcomes s after steps set rests settles
+
+  pub in_part_stay : (busy : List (List ℕ)) (s after : LabState) (steps : List Event) → is_some s.lab ≡ true → IsSpared busy s name → SettlesSome s busy steps after → Stays name s after
+  in_part_stay busy s after steps set (inl is_busy_now) part = some_apart s after busy steps set (busy_apart busy s.experiments is_busy_now) part
+  in_part_stay busy s after steps set (inr rests) part = some_stay s after busy steps set rests part

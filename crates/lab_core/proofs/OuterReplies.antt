@@ -30,10 +30,10 @@ use Rattle.script_text.specs.declared.command.Command.TheVariants as commands
 use Rattle.script_text.specs.declared.reply.Reply.{Reply}
 use Rattle.script_text.specs.declared.reply.Reply.TheVariants as replies
 use Rattle.lab_core.specs.Breaks.{Breaks, stopped, failed, unanswered}
-use Rattle.lab_core.specs.Judge.{Task, Tell, Append, Swap, Recover, Judged, behind_lines, JudgedNetwork, refused, asked, ◌>>=◌, need_lab, need_none, need_found, need_new, need_meaning, need_room, need_out, need_in, need_kept, need_feasible, need_place, judged_wiring}
-use Rattle.lab_core.specs.LabSteps.{StepOf, Does, IsDoneBy, does, no_memory, opened, not_opened, AppendEnds, whole, broken, IsAnswered, is_told, unanswered as no_answer, end_reply, done_reply, has_space, IfSpace, Appends, Swaps}
+use Rattle.lab_core.specs.Judge.{Task, Tell, Append, Swap, BeginOnly, Turn, Finish, Recover, Judged, behind_lines, JudgedNetwork, refused, asked, ◌>>=◌, need_lab, need_none, need_found, need_new, need_meaning, need_room, need_out, need_in, need_idle, need_open, need_slot, need_kept, need_feasible, need_place, begun_as, in_slot, judged_wiring, judged_swapin, judged_modify, judged_swapout}
+use Rattle.lab_core.specs.LabSteps.{StepOf, Does, IsDoneBy, does, no_memory, opened, not_opened, AppendEnds, whole, broken, IsAnswered, is_told, unanswered as no_answer, end_reply, turn_reply, done_reply, has_space, IfSpace, Appends, Swaps, Begins, JudgedBeside}
 use Rattle.lab_core.specs.Recovery.{Recovers, settled, broken_off}
-use Rattle.lab_core.specs.Sessions.{OpenSwap, Session, Closed, Open, Setting, After}
+use Rattle.lab_core.specs.Sessions.{OpenSwap, Session, Closed, Open, Setting, After, is_among, name_of, names_of}
 use Rattle.lab_core.specs.Tells.{is_of_drill, is_stopped, of_drill_if}
 
 -- the replies that no judgement has
@@ -57,8 +57,7 @@ abbrev pub outer_by : Result Task Reply → Bool
 outer_by (Err refusal) = is_outer refusal
 outer_by (Ok (Tell told)) = is_outer told
 outer_by (Ok (Append entry told)) = is_outer told
-outer_by (Ok (Swap exp way)) = false
-outer_by (Ok Recover) = false
+outer_by (Ok task) = false
 
 abbrev pub outer_of : {X : Type 0} → Result X Reply → Bool
 outer_of (Ok x) = false
@@ -102,6 +101,18 @@ with_in exp phases.Out = refl
 with_in exp (phases.In mapping tags) = refl
 with_in exp (phases.Moving old new) = refl
 
+with_idle : (exp : List ℕ) (busy : Bool) → outer_of (need_idle exp busy) ≡ false
+with_idle exp true = refl
+with_idle exp false = refl
+
+with_open : (exp : List ℕ) (busy : Bool) → outer_of (need_open exp busy) ≡ false
+with_open exp true = refl
+with_open exp false = refl
+
+with_slot : (count : ℕ) (b : Bool) → nat_le 16 count ≡ b → outer_of (need_slot count) ≡ false
+with_slot count true is = rw is refl
+with_slot count false is = rw is refl
+
 with_kept : (lab : Lab) (exp : List ℕ) (w : Wiring) (o : Option (Broken × Subject)) → outer_of (need_kept lab exp w o) ≡ false
 with_kept lab exp w None = refl
 with_kept lab exp w (Some v) = refl
@@ -119,36 +130,69 @@ module _ (s : LabState) where
       ap outer_by is ∙ ap (λ (r : Result (Unit {0}) Reply). outer_of r) (sym place) ∙ with_place s exp s.lab refl
   of_network exp text judgement (asked meaning place of is) = ap outer_by is ∙ and_then (need_meaning (replies.Bad exp) meaning) _ (with_meaning (replies.Bad exp) meaning (λ f. refl)) (λ wiring. of_wiring exp wiring)
 
-  pub judged_so : (command : Command) (judgement : Result Task Reply) → Judged s command judgement → outer_by judgement ≡ false
-  judged_so (commands.Ptop lines text) judgement is =
-      ap outer_by is
-      ∙ and_then (need_none s.lab) _ (without_lab s.lab) (λ none. and_then (need_meaning replies.BadPtop (lab_of_text text)) _ (with_meaning replies.BadPtop (lab_of_text text) (λ f. refl)) (λ lab. refl))
-  judged_so (commands.Create exp lines text) judgement is = of_network exp text judgement is
-  judged_so (commands.CreateTop exp lines text) judgement is =
-      ap outer_by is ∙ and_then (need_place s exp) _ (with_place s exp s.lab refl) (λ place. and_then (need_meaning (replies.Bad exp) (wiring_of_text text)) _ (with_meaning (replies.Bad exp) (wiring_of_text text) (λ f. refl)) (λ wiring. of_wiring exp wiring))
-  judged_so (commands.Show exp) judgement is = ap outer_by is ∙ and_then (need_lab s.lab) _ (with_lab s.lab) (λ lab. and_then (need_found exp (find exp s.experiments)) _ (with_found exp _) (λ e. refl))
-  judged_so (commands.SwapinWith exp lines text) judgement is =
-      ap outer_by is
-      ∙ and_then (need_lab s.lab) _ (with_lab s.lab) (λ lab. and_then (need_found exp (find exp s.experiments)) _ (with_found exp (find exp s.experiments))
-      (λ e. and_then (need_out exp e.phase) _ (with_out exp e.phase) (λ out. and_then (need_meaning (replies.Bad exp) (mapping_of_text lab e.wiring text)) _ (with_meaning (replies.Bad exp) (mapping_of_text lab e.wiring text) (λ f. refl))
+  of_swapin : (busy : Bool) (exp text : List ℕ) → outer_by (judged_swapin s busy exp text) ≡ false
+  of_swapin busy exp text =
+      and_then (need_lab s.lab) _ (with_lab s.lab) (λ lab. and_then (need_found exp (find exp s.experiments)) _ (with_found exp (find exp s.experiments))
+      (λ e. and_then (need_idle exp busy) _ (with_idle exp busy) (λ idle. and_then (need_out exp e.phase) _ (with_out exp e.phase)
+      (λ out. and_then (need_meaning (replies.Bad exp) (mapping_of_text lab e.wiring text)) _ (with_meaning (replies.Bad exp) (mapping_of_text lab e.wiring text) (λ f. refl))
       (λ mapping. and_then (need_feasible lab s.experiments e e.wiring mapping) (λ feasible. Ok (Swap e.name (WayIn (canonical_solution lab e.wiring mapping) (least_tags lab s.experiments (length e.wiring.segments)))))
-      (with_kept lab e.name e.wiring (violation_beside lab (others e.name s.experiments) e e.wiring mapping)) (λ feasible. refl)))))
-  judged_so (commands.ModifyWith exp lines top behind map) judgement is =
-      ap outer_by is
-      ∙ and_then (need_lab s.lab) _ (with_lab s.lab) (λ lab. and_then (need_found exp (find exp s.experiments)) _ (with_found exp (find exp s.experiments))
-      (λ e. and_then (need_in exp e.phase) _ (with_in exp e.phase) (λ inside. and_then (need_meaning (replies.Bad exp) (wiring_of_text top)) _ (with_meaning (replies.Bad exp) (wiring_of_text top) (λ f. refl))
+      (with_kept lab e.name e.wiring (violation_beside lab (others e.name s.experiments) e e.wiring mapping)) (λ feasible. refl))))))
+
+  of_modify : (busy : Bool) (exp : List ℕ) (lines : ℕ) (top map : List ℕ) → outer_by (judged_modify s busy exp lines top map) ≡ false
+  of_modify busy exp lines top map =
+      and_then (need_lab s.lab) _ (with_lab s.lab) (λ lab. and_then (need_found exp (find exp s.experiments)) _ (with_found exp (find exp s.experiments))
+      (λ e. and_then (need_idle exp busy) _ (with_idle exp busy) (λ idle. and_then (need_in exp e.phase) _ (with_in exp e.phase)
+      (λ inside. and_then (need_meaning (replies.Bad exp) (wiring_of_text top)) _ (with_meaning (replies.Bad exp) (wiring_of_text top) (λ f. refl))
       (λ w. and_then (need_meaning (λ fault. replies.Bad exp (behind_lines lines fault)) (mapping_of_text lab w map)) _ (with_meaning (λ fault. replies.Bad exp (behind_lines lines fault)) (mapping_of_text lab w map) (λ f. refl))
       (λ mapping. and_then (need_feasible lab s.experiments e w mapping) (λ feasible. Ok (Swap e.name (WayChange (canonical_top w) (canonical_solution lab w mapping) (least_tags lab s.experiments (length w.segments)))))
-      (with_kept lab e.name w (violation_beside lab (others e.name s.experiments) e w mapping)) (λ feasible. refl))))))
-  judged_so (commands.Swapout exp) judgement is =
-      ap outer_by is ∙ and_then (need_lab s.lab) _ (with_lab s.lab) (λ lab. and_then (need_found exp (find exp s.experiments)) _ (with_found exp _) (λ e. and_then (need_in exp e.phase) _ (with_in exp e.phase) (λ inside. refl)))
-  judged_so commands.Recover judgement is = ap outer_by is ∙ and_then (need_lab s.lab) _ (with_lab s.lab) (λ lab. refl)
-  judged_so (commands.Fail device nth how) judgement is = absurd is
-  judged_so (commands.FailDisk nth) judgement is = absurd is
-  judged_so (commands.Stop nth pick) judgement is = absurd is
-  judged_so (commands.Delete exp) judgement is =
-      ap outer_by is ∙ and_then (need_lab s.lab) _ (with_lab s.lab) (λ lab. and_then (need_found exp (find exp s.experiments)) _ (with_found exp _) (λ e. and_then (need_out exp e.phase) _ (with_out exp e.phase) (λ out. refl)))
-  judged_so commands.Status judgement is = ap outer_by is ∙ and_then (need_lab s.lab) _ (with_lab s.lab) (λ lab. refl)
+      (with_kept lab e.name w (violation_beside lab (others e.name s.experiments) e w mapping)) (λ feasible. refl)))))))
+
+  of_swapout : (busy : Bool) (exp : List ℕ) → outer_by (judged_swapout s busy exp) ≡ false
+  of_swapout busy exp =
+      and_then (need_lab s.lab) _ (with_lab s.lab) (λ lab. and_then (need_found exp (find exp s.experiments)) _ (with_found exp _)
+      (λ e. and_then (need_idle exp busy) _ (with_idle exp busy) (λ idle. and_then (need_in exp e.phase) _ (with_in exp e.phase) (λ inside. refl))))
+
+  -- of a swap, beside the open ones
+  begun_so : (only : Bool) (task : Task) → outer_by (Ok task) ≡ false → outer_by (Ok (begun_as only task)) ≡ false
+  begun_so false task free = free
+  begun_so true (Swap exp way) free = refl
+  begun_so true (Tell reply) free = free
+  begun_so true (Append entry reply) free = free
+  begun_so true (BeginOnly exp way) free = free
+  begun_so true (Turn exp) free = free
+  begun_so true (Finish exp) free = free
+  begun_so true Recover free = free
+
+  of_slot : (count : ℕ) (only : Bool) (judgement : Result Task Reply) → outer_by judgement ≡ false → outer_by (in_slot count only judgement) ≡ false
+  of_slot count only (Err refusal) free = free
+  of_slot count only (Ok task) free = and_then (need_slot count) _ (with_slot count (nat_le 16 count) refl) (λ slot. begun_so only task free)
+
+  of_open : (busy : Bool) (exp : List ℕ) (task : Task) → outer_by (Ok task) ≡ false
+      → outer_by (need_lab s.lab >>= λ lab. need_found exp (find exp s.experiments) >>= λ e. need_open exp busy >>= λ opened. let r : Result Task Reply = Ok task in r) ≡ false
+  of_open busy exp task free =
+      and_then (need_lab s.lab) _ (with_lab s.lab) (λ lab. and_then (need_found exp (find exp s.experiments)) _ (with_found exp _) (λ e. and_then (need_open exp busy) _ (with_open exp busy) (λ opened. free)))
+
+  pub judged_so : (busy : Bool) (count : ℕ) (command : Command) (judgement : Result Task Reply) → Judged s busy count command judgement → outer_by judgement ≡ false
+  judged_so busy count (commands.Ptop lines text) judgement is =
+      ap outer_by is
+      ∙ and_then (need_none s.lab) _ (without_lab s.lab) (λ none. and_then (need_meaning replies.BadPtop (lab_of_text text)) _ (with_meaning replies.BadPtop (lab_of_text text) (λ f. refl)) (λ lab. refl))
+  judged_so busy count (commands.Create exp lines text) judgement is = of_network exp text judgement is
+  judged_so busy count (commands.CreateTop exp lines text) judgement is =
+      ap outer_by is ∙ and_then (need_place s exp) _ (with_place s exp s.lab refl) (λ place. and_then (need_meaning (replies.Bad exp) (wiring_of_text text)) _ (with_meaning (replies.Bad exp) (wiring_of_text text) (λ f. refl)) (λ wiring. of_wiring exp wiring))
+  judged_so busy count (commands.Show exp) judgement is = ap outer_by is ∙ and_then (need_lab s.lab) _ (with_lab s.lab) (λ lab. and_then (need_found exp (find exp s.experiments)) _ (with_found exp _) (λ e. refl))
+  judged_so busy count (commands.SwapinWith only exp lines text) judgement is = ap outer_by is ∙ of_slot count only (judged_swapin s busy exp text) (of_swapin busy exp text)
+  judged_so busy count (commands.ModifyWith only exp lines top behind map) judgement is = ap outer_by is ∙ of_slot count only (judged_modify s busy exp lines top map) (of_modify busy exp lines top map)
+  judged_so busy count (commands.Swapout only exp) judgement is = ap outer_by is ∙ of_slot count only (judged_swapout s busy exp) (of_swapout busy exp)
+  judged_so busy count (commands.Turn exp) judgement is = ap outer_by is ∙ of_open busy exp (Turn exp) refl
+  judged_so busy count (commands.Finish exp) judgement is = ap outer_by is ∙ of_open busy exp (Finish exp) refl
+  judged_so busy count commands.Recover judgement is = ap outer_by is ∙ and_then (need_lab s.lab) _ (with_lab s.lab) (λ lab. refl)
+  judged_so busy count (commands.Fail device nth how) judgement is = absurd is
+  judged_so busy count (commands.FailDisk nth) judgement is = absurd is
+  judged_so busy count (commands.Stop nth pick) judgement is = absurd is
+  judged_so busy count (commands.Delete exp) judgement is =
+      ap outer_by is ∙ and_then (need_lab s.lab) _ (with_lab s.lab) (λ lab. and_then (need_found exp (find exp s.experiments)) _ (with_found exp _)
+      (λ e. and_then (need_idle exp busy) _ (with_idle exp busy) (λ idle. and_then (need_out exp e.phase) _ (with_out exp e.phase) (λ out. refl))))
+  judged_so busy count commands.Status judgement is = ap outer_by is ∙ and_then (need_lab s.lab) _ (with_lab s.lab) (λ lab. refl)
 
 -- WHAT IS DONE
 breaks_so : (events : List Event) (reply : Option Reply) → Breaks events reply → of_drill_if reply ≡ false
@@ -170,6 +214,14 @@ end_so p Halted = refl
 end_so p More = refl
 end_so p (TurnsBack why) = refl
 
+turn_so : (p : SwapOf) (outcome : Outcome) → of_drill_if (turn_reply p outcome) ≡ false
+turn_so p More = refl
+turn_so p (TurnsBack why) = refl
+turn_so p (Ended leg) = end_so p (Ended leg)
+turn_so p (Stuck trouble) = refl
+turn_so p Unwritten = refl
+turn_so p Halted = refl
+
 module _ (set : Setting) (s : LabState) (opens : List OpenSwap) (own : List Event) (after : After) where
   if_space : (b : Bool) (Of : Type 0) (n : ℕ) → IfSpace b n s opens Of own after → (Of → of_drill_if after.reply ≡ false) → of_drill_if after.reply ≡ false
   if_space true Of n d by = by d
@@ -179,9 +231,9 @@ module _ (set : Setting) (s : LabState) (opens : List OpenSwap) (own : List Even
   ends_so state told run more free (whole all none is) = ap (λ (x : After). of_drill_if x.reply) is ∙ no_drill_of told free
   ends_so state told run more free (broken breaks which session) = breaks_so own after.reply breaks
 
-  swap_so : (p : SwapOf) (outcome : Outcome) (behind : List Event) → IsAnswered opens p outcome behind after → of_drill_if after.reply ≡ false
-  swap_so p outcome behind (is_told starts reply session) = ap of_drill_if reply ∙ end_so p outcome
-  swap_so p outcome behind (no_answer starts reply session) = ap of_drill_if reply
+  answered_so : (told : Option Reply) (to : List OpenSwap) (outcome : Outcome) (behind : List Event) → of_drill_if told ≡ false → IsAnswered told to outcome behind after → of_drill_if after.reply ≡ false
+  answered_so told to outcome behind free (is_told starts reply session) = ap of_drill_if reply ∙ free
+  answered_so told to outcome behind free (no_answer starts reply session) = ap of_drill_if reply
 
   recover_so : Recovers s opens own after → of_drill_if after.reply ≡ false
   recover_so (settled outcomes settles told session) = ap of_drill_if told
@@ -191,14 +243,17 @@ module _ (set : Setting) (s : LabState) (opens : List OpenSwap) (own : List Even
   does_so (Err refusal) free d = ap (λ (x : After). of_drill_if x.reply) d.after_is ∙ no_drill_of refusal free
   does_so (Ok (Tell told)) free d = ap (λ (x : After). of_drill_if x.reply) d.after_is ∙ no_drill_of told free
   does_so (Ok (Append entry told)) free d = if_space (has_space set entry) (Appends s opens entry told own after) set.length d (λ a. ends_so a.state told a.run a.more free a.ends)
-  does_so (Ok (Swap exp way)) free d = if_space (has_space set (Begin exp way)) (Swaps s opens exp (Begin exp way) own after) set.length d (λ w. swap_so w.swap w.outcome w.behind w.answered)
+  does_so (Ok (Swap exp way)) free d = if_space (has_space set (Begin exp way)) (Swaps s opens exp (Begin exp way) own after) set.length d (λ w. answered_so _ opens w.outcome w.behind (end_so w.swap w.outcome) w.answered)
+  does_so (Ok (BeginOnly exp way)) free d = if_space (has_space set (Begin exp way)) (Begins s opens set.devices exp (Begin exp way) own after) set.length d (λ w. answered_so _ _ w.outcome w.behind (turn_so w.swap w.outcome) w.answered)
+  does_so (Ok (Turn exp)) free d = answered_so _ _ d.outcome d.behind (turn_so d.one.swap.running.swap d.outcome) d.answered
+  does_so (Ok (Finish exp)) free d = answered_so _ _ d.outcome d.behind (end_so d.one.swap.running.swap d.outcome) d.answered
   does_so (Ok Recover) free d = recover_so d
 
-  by_so : (command : Command) → IsDoneBy (Judged s command) set s opens own after → of_drill_if after.reply ≡ false
-  by_so command (does judgement judged d) = does_so judgement (judged_so s command judgement judged) d
+  by_so : (command : Command) → IsDoneBy (JudgedBeside command opens s) set s opens own after → of_drill_if after.reply ≡ false
+  by_so command (does judgement judged d) = does_so judgement (judged_so s (is_among (names_of opens) (name_of command)) (length opens) command judgement judged) d
   by_so command (no_memory wants) = ap (λ (x : After). of_drill_if x.reply) wants.after_is
 
-pub step_so : (takes : Bool) (set : Setting) (s : LabState) (session : Session) (command : Command) (opening own : List Event) (after : After) → StepOf None (λ lab. Judged lab command) takes set s session opening own after → of_drill_if after.reply ≡ false
+pub step_so : (takes : Bool) (set : Setting) (s : LabState) (session : Session) (command : Command) (opening own : List Event) (after : After) → StepOf None (JudgedBeside command) takes set s session opening own after → of_drill_if after.reply ≡ false
 step_so takes set s Closed command opening own after (opened mid opens d) = by_so set mid [] own after command d
 step_so takes set s Closed command opening own after (not_opened b) = breaks_so opening after.reply b.breaks
 step_so takes set s (Open opens) command opening own after step = by_so set s opens own after command step.1

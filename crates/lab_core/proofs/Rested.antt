@@ -1,5 +1,5 @@
 -- What an untroubled recovery leaves: none moves but those with an open swap.
-use Rattle.std.proofs.Common.{◌≡◌, inl, inr, ℕ, Bool, true, false, count_by, List, [], ◌∷◌, map, Option, Some, None, Result, Ok, Err, refl, sym, ap, ◌∙◌, subst}
+use Rattle.std.proofs.Common.{◌≡◌, inl, inr, ℕ, Bool, true, false, count_by, List, [], ◌∷◌, map, Option, Some, None, Result, Ok, refl, sym, ap, ◌∙◌, subst}
 use Rattle.std.proofs.lemmas.Bool.{cases_Bool}
 use Rattle.lab_base.specs.Lists.{Has, AllDiffer}
 use Rattle.phys_lab.specs.Labs.{Lab}
@@ -7,7 +7,6 @@ use Rattle.plant.specs.Events.{Event}
 use Rattle.virt_topo.specs.declared.experiment.Experiment.{Experiment}
 use Rattle.lab_model.specs.Sound.{is_moving}
 use Rattle.records_model.specs.Labs.{LabState, Sane}
-use Rattle.records_model.proofs.Finding.{some_is}
 use Rattle.script_text.specs.declared.command.Command.TheVariants as commands
 use Rattle.script_text.specs.declared.reply.Reply.{Reply}
 use Rattle.script_text.specs.declared.reply.Reply.TheVariants as replies
@@ -20,10 +19,10 @@ use Rattle.recovery.proofs.Resting.{differ_now, ended_one, left_after, left_firs
 use Rattle.lab_core.specs.Breaks.{Breaks, stopped, failed, unanswered}
 use Rattle.lab_core.specs.Judge.{◌>>=◌, need_lab, Task, Recover, judged_recover}
 use Rattle.lab_core.specs.LabSteps.{Does, Replies}
-use Rattle.lab_core.specs.Recovery.{Opens, Recovers, settled, broken_off, names_of}
-use Rattle.lab_core.specs.Sessions.{OpenSwap, Session, Closed, Open, Setting, After}
+use Rattle.lab_core.specs.Recovery.{Opens, Recovers, settled, broken_off}
+use Rattle.lab_core.specs.Sessions.{OpenSwap, Session, Closed, Open, Setting, After, names_of}
 use Rattle.lab_core.specs.Tells.{BeginsAt, busy_of}
-use Rattle.lab_core.proofs.StepLaws.{Begins, Was, done, wanting, broke, drilled, none_told}
+use Rattle.lab_core.proofs.StepLaws.{Was, done, wanting, broke, drilled, none_told}
 
 -- WHO MOVES after a settling in which none got stuck is busy
 settled_rest : (s : LabState) (busy : List (List ℕ)) (outcomes : List Outcome) (steps : List Event) (after : LabState) → AllDiffer (map (λ e. e.name) s.experiments) → Settles s (swaps_of busy s.experiments) outcomes steps after → count_by is_stuck outcomes ≡ 0
@@ -84,7 +83,7 @@ module _ (own : List Event) (after : After) (number : ℕ) (is : after.reply ≡
   pub recovered_rest : (judgement : Result Task Reply) (takes : Bool) (set : Setting) (s : LabState) (session : Session) (opening : List Event) → Sane s → Was None judgement takes set s session commands.Recover opening own after
       → (e : Experiment) → Has after.lab.experiments e → is_moving e ≡ true → is_busy (busy_of session) e.name ≡ true
   recovered_rest judgement takes set s session opening sane (done mid opens begins judged d) = λ e there moving.
-      subst (λ l. is_busy l e.name ≡ true) begins.busy (does_rest set mid opens (names_at session s mid opening sane begins.at) mid.lab refl (subst (λ (j : Result Task Reply). Does set mid opens j own after) judged d) e there moving)
+      subst (λ (l : List OpenSwap). is_busy (names_of l) e.name ≡ true) begins.are (does_rest set mid opens (names_at session s mid opening sane begins.at) mid.lab refl (subst (λ (j : Result Task Reply). Does set mid opens j own after) judged d) e there moving)
   recovered_rest judgement takes set s session opening sane (wanting mid opens begins wants) = none_told after.reply (replies.Recovered number 0) (ap (λ (x : After). x.reply) wants.after_is) is
   recovered_rest judgement takes set s session opening sane (broke no' closed breaks) = broken_tells opening breaks.breaks
   recovered_rest judgement takes set s session opening sane (drilled some none drills) = absurd (cc some)

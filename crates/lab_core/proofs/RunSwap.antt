@@ -1,46 +1,66 @@
--- What a whole swap leaves, by its Begin and its end.
-use Rattle.std.proofs.Common.{◌≡◌, ◌≤◌, ◌+◌, ◌^◌, ◌↔◌, ◌⊎◌, inl, inr, ℕ, Bool, true, false, nat_le, List, length, Some, is_some, Result, Ok, Err, refl, sym, ap, ◌∙◌, subst}
+-- What beginning a swap leaves, and what a whole swap leaves: its beginning, and turning it to its end.
+use Rattle.std.proofs.Common.{◌≡◌, ◌≢◌, inl, inr, ◌≤◌, ◌+◌, ◌^◌, ◌↔◌, ℕ, Bool, true, false, nat_le, List, [], ◌∷◌, ◌++◌, length, append_assoc, Option, Some, IfSome, IsTrue, Result, Ok, Err, refl, sym, ap, ◌∙◌, subst, arith}
 use Rattle.std.proofs.lemmas.Bool.{leb-true}
-use Rattle.plant.specs.Events.{Event}
+use Rattle.std.proofs.lemmas.List.{append-nil, map-append}
+use Rattle.lab_base.specs.Lists.{Has}
+use Rattle.lab_base.specs.declared.what.What.{What}
+use Rattle.lab_base.specs.declared.what.What.TheVariants as whats
+use Rattle.lab_base.proofs.Members.{Has-append}
+use Rattle.plant.specs.Events.{Event, Restarted}
+use Rattle.plant.specs.Seen.{Seen}
+use Rattle.plant.specs.Told.{Told, with_steps}
 use Rattle.journal_rec.specs.Payloads.{IsRecord, IsBody}
-use Rattle.journal_rec.specs.declared.record.Record.{Record}
 use Rattle.journal_rec.specs.declared.record.Record.TheVariants.{Begin}
 use Rattle.journal_rec.specs.declared.record.Way.{Way}
 use Rattle.journal_disk.specs.Standing.{length_of, limit_of}
-use Rattle.journal_disk.specs.declared.fault.AppendFault.{AppendFault}
-use Rattle.journal_disk.specs.declared.fault.AppendFault.TheVariants as appending
 use Rattle.journal_disk.specs.declared.journal.Journal.{Journal}
 use Rattle.journal_disk.proofs.Parts.{body_size}
-use Rattle.lab_model.specs.Courses.{Plan, Trouble}
-use Rattle.records_model.specs.Labs.{LabState, Move, Commits, Aborts, Follows, moved}
-use Rattle.records_model.proofs.Finding.{some_is}
+use Rattle.lab_model.specs.Courses.{Plan}
+use Rattle.records_model.specs.Labs.{LabState, Move, Follows, moved}
+use Rattle.records_model.specs.Works.{IsSound}
 use Rattle.records_model.proofs.LabLaws.{says_once}
-use Rattle.swap_txn.specs.States.{Plans, unsent}
-use Rattle.plant.specs.Seen.{Seen}
-use Rattle.swap_txn.specs.Turns.{Begins, IsStopped as TurnStopped, WrittenBy}
-use Rattle.swap_txn.specs.declared.ended.Ended.{Ended as Over}
-use Rattle.swap_txn.specs.declared.live.Live.{Live}
-use Rattle.swap_txn.specs.declared.live.Live.TheVariants.{Begun}
-use Rattle.swap_txn.specs.declared.turned.Turned.{Turned}
-use Rattle.swap_txn.specs.declared.turned.Turned.TheVariants as turned
-use Rattle.lab_base.specs.declared.what.What.TheVariants as swapping
-use Rattle.swap_turns.specs.Swaps.{Swap}
-use Rattle.swap_turns.specs.declared.loops.Finished.{Finished}
-use Rattle.swap_turns.specs.declared.loops.Finished.TheVariants as finished
-use Rattle.swap_turns.specs.Beginning.{opened, HasBegun, IsAfterBegin}
-use Rattle.swap_turns.specs.Finishing.{Onward, along, back as turned_back, FinishGoesOn, FinishLeaves, HasFinished, Tells}
-use Rattle.swap_turns.specs.Legs.{Leg, Forth, Undo, Settling, commits, inside_by, last_move_by, why_of}
-use Rattle.swap_turns.specs.Running.{OpenSwap, AtWork}
-use Rattle.swap_turns.specs.Turning.{Outcome, More, TurnsBack, Ended, Stuck, Unwritten, Stopped}
-use Rattle.swap_turns.specs.Whole as whole
-use Rattle.swap_turns.proofs.Beginning.{begin_after}
-use Rattle.swap_turns.proofs.Finishing.{onward_swap}
-use Rattle.swap_turns.proofs.Runs.{run_begun, run_unwritten, run_stopped}
-use Rattle.lab_state.specs.Changes.{CanEnd, ending}
 use Rattle.lab_state.specs.Texts.{the_texts}
 use Rattle.lab_state.proofs.Canonical.{texts_once}
-use Rattle.lab_core.specs.Swapping.{IsBeginning, IsPlanned, IsBegunBy, IsAfterFirst, IsStopped, CanRun, CanEndBy, IsEndedBy, IsOverBy, done, undone, IsToldBy, GoesTo, HasRun}
+use Rattle.swap_txn.specs.States.{Plans, unsent}
+use Rattle.swap_turns.specs.Beginning.{HasNotBegun, opened}
+use Rattle.swap_turns.specs.Finishing.{Finishes, FinishLeaves, IsOver}
+use Rattle.swap_turns.specs.Records.{IsBroken, missed, nothing}
+use Rattle.swap_turns.specs.Running.{OpenSwap as RunningSwap}
+use Rattle.swap_turns.specs.Swaps.{Swap as SwapOf}
+use Rattle.swap_turns.specs.Turning.{Outcome, More, TurnsBack, Ended, Stuck, Unwritten, Stopped}
+use Rattle.swap_turns.specs.Whole as whole
+use Rattle.swap_turns.specs.Whole.{SwapSteps}
+use Rattle.swap_turns.specs.Causes.{IsLater}
+use Rattle.swap_turns.specs.Closing.{Closes}
+use Rattle.swap_turns.specs.Legs.{Forth, Undo, Settling}
+use Rattle.swap_turns.proofs.Closing.{closes_behind}
+use Rattle.swap_turns.proofs.Pushing.{rose_later}
+use Rattle.swap_turns.proofs.Telling.{if_back, if_both, told_twice}
+use Rattle.swap_mgr.specs.Managing.{HasOpened, IfNothingSent, IfSent, IsAfterOpening, IsStopOpening}
+use Rattle.swap_mgr.specs.declared.progress.OpenSwap.{OpenSwap as Unopened}
+use Rattle.swap_mgr.specs.declared.progress.OpenSwap.TheVariants as unopened
+use Rattle.swap_mgr.proofs.Holding.{named_open}
+use Rattle.swap_mgr.specs.Open.{HasOpen}
+use Rattle.swap_mgr.specs.Turns.{IsStop}
+use Rattle.swap_mgr.specs.declared.progress.Progress.{Progress}
+use Rattle.script_text.specs.declared.reply.FailedEnd.TheVariants as ends
+use Rattle.script_text.specs.declared.reply.Reply.{Reply}
+use Rattle.script_text.specs.declared.reply.Reply.TheVariants as replies
+use Rattle.lab_core.specs.declared.fault.CoreFault.TheVariants as faults
+use Rattle.lab_core.specs.Breaks.{StartsBehind}
+use Rattle.lab_core.specs.Controller.{Control, WorksWith}
+use Rattle.lab_core.specs.Judge.{Swap, BeginOnly, Is, begun_as}
+use Rattle.lab_core.specs.LabSteps.{Begins, BeginSteps, IfSpace, Performs, Replies, Swaps, begun_at, does, end_reply, end_session, has_space, is_told, turn_reply}
+use Rattle.lab_core.specs.Obey.{Start, start_of, IsDone, Obeyed}
+use Rattle.lab_core.specs.Sessions.{OpenSwap, Session, Setting, Closed, After, IsSince, counted_from, devices_if, name_in}
+use Rattle.lab_core.specs.Swapping.{HasEndedIn, HasTried, IsBegunBy, IsOpened, IsPlanned, progress_answer, unopened_answer}
 use Rattle.lab_core.specs.Tasks.{IsSwapBy}
+use Rattle.lab_core.proofs.EndOne.{cause_since, end_answer, end_halts, end_one, ends_from, end_works, over_reply, place}
+use Rattle.lab_core.proofs.Obey.{closed_by, halted, same_opened, wanted}
+use Rattle.lab_core.proofs.OpenSwaps.{IsLast, Pair, Place, none_named, only_last, open_at_none, opened_more, running_has, since_later}
+use Rattle.lab_core.proofs.PerformAppend.{no_space}
+use Rattle.lab_core.proofs.PerformSwap.{IsCausedSince, Leads, by_outcome}
+use Rattle.lab_core.proofs.Told.{IsAnswer}
 
 -- A PLANNED SWAP that was prepared for the lab
 module _ (s u : LabState) (j : Journal) (plans : Plans) (exp : List ℕ) (way : Way) (course back : Plan) (by : IsSwapBy s exp way course back) (is_record : IsRecord (Begin exp way)) (follows : Follows the_texts s (Begin exp way) u)
@@ -64,160 +84,287 @@ module _ (s u : LabState) (j : Journal) (plans : Plans) (exp : List ℕ) (way : 
     body = body;
   }
 
-  pub can_run : CanRun s u j plans exp
-  can_run = record { swap = by.swap; begin = Begin exp way; move = by.move; name = by.name; planned = planned }
+-- NO SPACE for the record
+pub no_space_for : (set : Setting) (s : LabState) (opens : List OpenSwap) (exp : List ℕ) (way : Way) (only : Bool) (own : List Event) (after : After) → has_space set (Begin exp way) ≡ false → Replies s opens (replies.FullJournal set.length) own after
+    → Performs set s opens (begun_as only (Swap exp way)) own after
+no_space_for set s opens exp way true own after full replies = no_space set s opens (Begin exp way) (Begins s opens set.devices exp (Begin exp way) own after) own after full replies
+no_space_for set s opens exp way false own after full replies = no_space set s opens (Begin exp way) (Swaps s opens exp (Begin exp way) own after) own after full replies
 
--- THE TURN THAT BEGINS IT
-module _ (p : Swap) (s u : LabState) (begin : Record) (move : Move) (before now : Seen) (j k : Journal) (plans : Plans) (work : AtWork the_texts before.told j s) (planned : IsPlanned s u j plans p begin move) where
-  by : (result : Turned Plans) (begun : Result Live Finished) → IsAfterBegin the_texts p s u begin move before now j k result → IsBegunBy result begun → IsAfterFirst p s u begin move before now j k begun
-  by (turned.Next live) begun after is = subst (λ x. IsAfterFirst p s u begin move before now j k x) (sym is) after
-  by (turned.Stuck state what) begun after is = subst (λ x. IsAfterFirst p s u begin move before now j k x) (sym is) after
-  by turned.Stopped begun after is = subst (λ x. IsAfterFirst p s u begin move before now j k x) (sym is) after
-  by (turned.Same state) begun after is = absurd after
-  by (turned.Trouble b what) begun after is = absurd after
+-- nothing was sent, in other words
+pub nothing_as : (P Q : Type 0) (result : Result (Unit {0}) Unopened) → (P → Q) → IfNothingSent result P → IfNothingSent result Q
+nothing_as P Q (Ok done) f p = tt
+nothing_as P Q (Err (unopened.Busy name)) f p = f p
+nothing_as P Q (Err (unopened.TooManyOpen most)) f p = f p
+nothing_as P Q (Err unopened.Memory) f p = f p
+nothing_as P Q (Err (unopened.Stuck what)) f p = tt
+nothing_as P Q (Err unopened.Stopped) f p = tt
 
-  pub first_after : (result : Turned Plans) (begun : Result Live Finished) → Begins plans before now j k result begin → IsBegunBy result begun → IsAfterFirst p s u begin move before now j k begun
-  first_after result begun begins is = by result begun (begin_after the_texts p s u begin move before now j k plans result work planned.may planned.begins planned.moves planned.plan begins) is
+-- the manager has the open swap of a name
+pub has_open : (now : Seen) (c : Control) (opens : List OpenSwap) (exp : List ℕ) → WorksWith now c opens → (o : OpenSwap) → Has opens o → name_in o ≡ exp → HasOpen c.swaps exp
+has_open now c opens exp works o has is =
+    let y = running_has works.pairs opens (sym works.are) o has in
+    record { state = y.0.1; stands = works.holds.stands y.0 y.1; named = named_open c.lab y.0.0 y.0.1 (works.working.each y.0 y.1) ∙ ap (λ (r : RunningSwap). r.swap.name) y.2 ∙ is }
 
--- what comes of it
-written : (plans : Plans) (following : Live) (answer : Result (Unit {0}) AppendFault) (result : Turned Plans) → WrittenBy plans following answer result → IsBeginning result
-written plans following (Ok ok) result is = subst IsBeginning (sym is) tt
-written plans following (Err appending.Plant) result is = subst IsBeginning (sym is) refl
-written plans following (Err appending.Stopped) result is = subst IsBeginning (sym is) tt
-written plans following (Err (appending.Full length size)) result is = absurd is
+-- A SWAP OF A RECORD for which there is space, over a controller at work with these open swaps
+module _ (before now : Seen) (old new : Control) (opens : List OpenSwap) (exp : List ℕ) (way : Way) (course back : Plan) (by : IsSwapBy old.lab exp way course back) (works : WorksWith before old opens)
+    (space : has_space (start_of before old opens).set (Begin exp way) ≡ true) where
+  abbrev start : Start
+  start = start_of before old opens
 
-pub beginning : (plans : Plans) (before now : Seen) (j k : Journal) (result : Turned Plans) (entry : Record) → Begins plans before now j k result entry → IsBeginning result
-beginning plans before now j k result entry b = written plans (Begun plans.forth) b.answer result b.turns
+  abbrev begun_one : OpenSwap
+  begun_one = begun_at by.swap before.faults.devices
 
-pub begun_stops : (result : Turned Plans) (begun : Result Live Finished) → IsBegunBy result begun → TurnStopped result ↔ IsStopped begun
-begun_stops (turned.Next live) begun is = (λ h. absurd h, λ h. subst IsStopped is h)
-begun_stops (turned.Stuck state what) begun is = (λ h. absurd h, λ h. subst IsStopped is h)
-begun_stops turned.Stopped begun is = (λ h. subst IsStopped (sym is) tt, λ h. tt)
-begun_stops (turned.Same state) begun is = (λ h. absurd h, λ h. subst IsStopped is h)
-begun_stops (turned.Trouble b what) begun is = (λ h. absurd h, λ h. subst IsStopped is h)
+  -- what is done, by its beginning alone or by the whole swap
+  only_done : (own : List Event) (after : After) → Begins old.lab opens before.faults.devices exp (Begin exp way) own after → Rattle.lab_core.specs.LabSteps.IsDoneBy (Is (Ok (BeginOnly exp way))) start.set old.lab opens own after
+  only_done own after is = does (Ok (BeginOnly exp way)) refl (subst (λ (b : Bool). IfSpace b start.set.length old.lab opens (Begins old.lab opens before.faults.devices exp (Begin exp way) own after) own after) (sym space) is)
 
--- THE LEG THAT ENDS a whole swap: forth, or an undo
-abbrev IsPlain : Leg → Type 0
-IsPlain Forth = Unit {0}
-IsPlain (Undo why) = Unit {0}
-IsPlain Settling = ⊥
+  whole_done : (own : List Event) (after : After) → Swaps old.lab opens exp (Begin exp way) own after → Rattle.lab_core.specs.LabSteps.IsDoneBy (Is (Ok (Swap exp way))) start.set old.lab opens own after
+  whole_done own after is = does (Ok (Swap exp way)) refl (subst (λ (b : Bool). IfSpace b start.set.length old.lab opens (Swaps old.lab opens exp (Begin exp way) own after) own after) (sym space) is)
 
-onward_plain : (p : Swap) (u : LabState) (front : List Event) (at : OpenSwap) → Onward u (opened p) front at → IsPlain at.leg
-onward_plain p u front at (along is) = subst (λ (o : OpenSwap). IsPlain o.leg) (sym is) tt
-onward_plain p u front at (turned_back why before course forth has cut is steps) = subst (λ (o : OpenSwap). IsPlain o.leg) (sym is) tt
+  -- ITS BEGIN BROKE OFF
+  abbrev broken_reply : Reply
+  broken_reply = replies.Failed by.swap.name ends.Stuck whats.Journal
 
--- the last record says the end of the move
-ends_by : (u v : LabState) (name exp : List ℕ) (commit committed : Bool) → moved u (last_move_by commit name) ≡ Some v → name ≡ exp → committed ≡ commit → moved u (ending exp committed) ≡ Some v
-ends_by u v name exp true committed moves same is = ap (λ (b : Bool). moved u (ending exp b)) is ∙ ap (λ (n : List ℕ). moved u (Commits n)) (sym same) ∙ moves
-ends_by u v name exp false committed moves same is = ap (λ (b : Bool). moved u (ending exp b)) is ∙ ap (λ (n : List ℕ). moved u (Aborts n)) (sym same) ∙ moves
+  unwritten_done : (only : Bool) (steps : List Event) (lab : LabState) → IsBroken missed old.lab (Begin exp way) by.move steps lab → IsDone (Is (Ok (begun_as only (Swap exp way)))) start (steps ++ []) (Some broken_reply) lab Closed
+  unwritten_done true steps lab broken =
+      only_done (steps ++ []) _ (record { swap = by.swap; name = by.name; move = by.move; says = by.says; moves = by.moves; outcome = Unwritten; steps = steps; behind = []; own_is = refl; begins = broken; answered = is_told refl refl refl })
+  unwritten_done false steps lab broken =
+      whole_done (steps ++ []) _
+      (record { swap = by.swap; name = by.name; move = by.move; says = by.says; moves = by.moves; outcome = Unwritten; steps = steps; behind = []; own_is = refl; ends = whole.unwritten broken refl; answered = is_told refl refl refl })
 
-module _ (p : Swap) (exp : List ℕ) (name : p.name ≡ exp) (u : LabState) (mid now : Seen) (k : Journal) (over : Over) (f : HasFinished the_texts u (opened p) mid now k (λ at outcome. Tells (finished.Ended over) at outcome)) where
-  goes : FinishGoesOn the_texts u (opened p) mid now k f.steps (Ended f.at.leg)
-  goes = subst (λ o. FinishLeaves the_texts u (opened p) mid now k f.steps o) f.is_told.outcome_is f.leaves
+  stopped_done : (only : Bool) (steps : List Event) (lab : LabState) → IsBroken nothing old.lab (Begin exp way) by.move steps lab → (a b : List ℕ) → IsDone (Is (Ok (begun_as only (Swap exp way)))) start (steps ++ Restarted a b ∷ []) (Some replies.Stopped) lab Closed
+  stopped_done true steps lab broken a b =
+      only_done (steps ++ Restarted a b ∷ []) _
+      (record { swap = by.swap; name = by.name; move = by.move; says = by.says; moves = by.moves; outcome = Stopped; steps = steps; behind = Restarted a b ∷ []; own_is = refl; begins = broken; answered = is_told (a, b, refl) refl refl })
+  stopped_done false steps lab broken a b =
+      whole_done (steps ++ Restarted a b ∷ []) _
+      (record {
+        swap = by.swap;
+        name = by.name;
+        move = by.move;
+        says = by.says;
+        moves = by.moves;
+        outcome = Stopped;
+        steps = steps;
+        behind = Restarted a b ∷ [];
+        own_is = refl;
+        ends = whole.stopped broken refl;
+        answered = is_told (a, b, refl) refl refl;
+      })
 
-  at_is : goes.is.at.swap ≡ p
-  at_is = onward_swap u (opened p) goes.is.front goes.is.at goes.is.onward
+  pub unwritten : HasNotBegun the_texts old.lab (Begin exp way) by.move missed Unwritten before now → limit_of new.journal ≡ limit_of old.journal → (now.stopped ≡ true → ⊥) → (what : What) → what ≡ whats.Journal → (only : Bool)
+      → Obeyed before now (Is (Ok (begun_as only (Swap exp way)))) old new opens (Some exp) (Ok (replies.Failed exp ends.Stuck what))
+  unwritten h limit runs what is only =
+      subst (λ (r : Reply). Obeyed before now (Is (Ok (begun_as only (Swap exp way)))) old new opens (Some exp) (Ok r)) (λ i. replies.Failed (by.name i) ends.Stuck (sym is i))
+      (closed_by before now (Is (Ok (begun_as only (Swap exp way)))) old new opens opens (Some exp) h.steps h.told h.sound h.later limit (same_opened opens before.faults.devices) broken_reply refl refl (IsBroken missed old.lab (Begin exp way) by.move)
+      h.leaves (λ lab broken. unwritten_done only h.steps lab broken) h.cause (λ _. runs))
 
-  plain : IsPlain f.at.leg
-  plain = subst IsPlain goes.is.turn.1 (onward_plain p u goes.is.front goes.is.at goes.is.onward)
+  pub broke_off : HasNotBegun the_texts old.lab (Begin exp way) by.move nothing Stopped before now → limit_of new.journal ≡ limit_of old.journal → now.stopped ≡ true → (only : Bool)
+      → Obeyed before now (Is (Ok (begun_as only (Swap exp way)))) old new opens (Some exp) (Err faults.Stopped)
+  broke_off h limit stop only =
+      halted before now (Is (Ok (begun_as only (Swap exp way)))) old new opens opens (Some exp) h.steps h.told h.sound h.later limit (same_opened opens before.faults.devices) (IsBroken nothing old.lab (Begin exp way) by.move) h.leaves
+      (λ lab broken a b. stopped_done only h.steps lab broken a b) (λ _. stop)
 
-  pub can_end_over : CanEnd u exp over.committed
-  can_end_over = (
-    goes.after,
-    ends_by u goes.after goes.is.at.swap.name exp (commits goes.is.at.swap f.at.leg) over.committed goes.is.turn.0.1.moves (ap (λ (q : Swap). q.name) at_is ∙ name)
-        (f.is_told.committed ∙ ap (λ (q : Swap). commits q f.at.leg) (f.swap_is ∙ sym at_is)),
-  )
+  -- IT WAS NOT OPENED
+  pub not_opened : (u : LabState) (fault : Unopened) → HasTried fault → IsAfterOpening the_texts works.pairs by.swap old.lab u (Begin exp way) by.move before now old.journal new.journal new.swaps (Err fault) → IfNothingSent (Err fault) ((now ≡ before) × (new ≡ old))
+      → IfSent (Err fault) (IsStopOpening (Err fault) ↔ IsTrue now.stopped) → limit_of new.journal ≡ limit_of old.journal → IsBegunBy before now old new opens exp way (unopened_answer exp fault)
+  not_opened u (unopened.Busy name) tried after still stops limit = absurd tried
+  not_opened u (unopened.TooManyOpen most) tried after still stops limit = absurd tried
+  not_opened u (unopened.Stuck what) tried after still stops limit = λ only. unwritten after.1 limit (λ stopped. absurd (stops.1 stopped)) what after.0 only
+  not_opened u unopened.Stopped tried after still stops limit = λ only. broke_off after limit (stops.0 tt) only
+  not_opened u unopened.Memory tried after still stops limit = λ only.
+      subst (λ (x : Control). Obeyed before now (Is (Ok (begun_as only (Swap exp way)))) old x opens (Some exp) (Err faults.Memory)) (sym still.1)
+      (subst (λ (x : Seen). Obeyed before x (Is (Ok (begun_as only (Swap exp way)))) old old opens (Some exp) (Err faults.Memory)) (sym still.0) (wanted before (Is (Ok (begun_as only (Swap exp way)))) old opens (Some exp) works))
 
-  over_by : (leg : Leg) → f.at.leg ≡ leg → IsPlain leg → IsOverBy p over f.outcome
-  over_by Forth is _ =
-      done (f.is_told.outcome_is ∙ ap (λ (l : Leg). Ended l) is) (f.is_told.committed ∙ ap (λ (l : Leg). commits f.at.swap l) is) (f.is_told.why ∙ ap why_of is)
-      (f.is_told.inside ∙ ap (λ (l : Leg). inside_by f.at.swap (commits f.at.swap l)) is ∙ ap (λ (q : Swap). is_some q.new) f.swap_is)
-  over_by (Undo why) is _ = undone why (f.is_told.outcome_is ∙ ap (λ (l : Leg). Ended l) is) (f.is_told.committed ∙ ap (λ (l : Leg). commits f.at.swap l) is) (f.is_told.why ∙ ap why_of is) (f.is_told.inside ∙ ap (λ (l : Leg). inside_by f.at.swap (commits f.at.swap l)) is ∙ ap (λ (q : Swap). is_some q.old) f.swap_is)
-  over_by Settling is none = absurd none
+  -- IT IS OPENED, one more
+  since_more : before.faults.devices ≤ now.faults.devices → (o : OpenSwap) → Has (opens ++ begun_one ∷ []) o → IsSince now.faults.devices o
+  since_more later o has = elim (Has-append opens (begun_one ∷ []) o has) [
+    | inl old_one ↦ since_later o before.faults.devices now.faults.devices later (works.since o old_one)
+    | inr at_end ↦ elim at_end [
+      | inl here ↦ subst (λ (x : OpenSwap). IsSince now.faults.devices x) here (record { later = later; caused = tt })
+      | inr none ↦ absurd none
+    ]
+  ]
 
-  pub told_over : IsOverBy p over f.outcome
-  told_over = over_by f.at.leg refl plain
+  pub is_opened : HasOpened the_texts works.pairs by.swap old.lab new.lab (Begin exp way) by.move before now old.journal new.journal new.swaps → (now.stopped ≡ true → ⊥) → IsOpened before now old new opens exp way
+  is_opened h runs = record {
+    swap = by.swap;
+    name = by.name;
+    move = by.move;
+    says = by.says;
+    moves = by.moves;
+    space = space;
+    state = h.state;
+    begun = h.begun;
+    works = record {
+      pairs = works.pairs ++ (opened by.swap, h.state) ∷ [];
+      are = map-append (λ (q : Pair). q.0) works.pairs ((opened by.swap, h.state) ∷ []) ∙ ap (λ (l : List RunningSwap). l ++ opened by.swap ∷ []) works.are ∙ sym (map-append (λ (o : OpenSwap). o.running) opens (begun_one ∷ []));
+      working = h.all;
+      holds = h.holds;
+      since = since_more h.begun.later.devices;
+    };
+    runs = runs;
+  }
 
-pub can_end : (p : Swap) (exp : List ℕ) → p.name ≡ exp → (u : LabState) (mid now : Seen) (k : Journal) (end : Finished) → HasFinished the_texts u (opened p) mid now k (λ at outcome. Tells end at outcome) → CanEndBy u exp end
-can_end p exp name u mid now k (finished.Ended over) f = can_end_over p exp name u mid now k over f
-can_end p exp name u mid now k (finished.Stuck what) f = tt
-can_end p exp name u mid now k finished.Stopped f = tt
+-- IT WAS ONLY BEGUN
+module _ (before now : Seen) (old new : Control) (opens : List OpenSwap) (exp : List ℕ) (way : Way) (h : IsOpened before now old new opens exp way) where
+  abbrev begun_to : Outcome → List OpenSwap
+  begun_to outcome = opens ++ begun_at h.swap before.faults.devices ∷ []
 
-told_by : (p : Swap) (exp : List ℕ) → p.name ≡ exp → (u : LabState) (mid now : Seen) (k : Journal) (end : Finished) (f : HasFinished the_texts u (opened p) mid now k (λ at outcome. Tells end at outcome)) → IsToldBy p end f.outcome
-told_by p exp name u mid now k (finished.Ended over) f = told_over p exp name u mid now k over f
-told_by p exp name u mid now k (finished.Stuck what) f = f.is_told
-told_by p exp name u mid now k finished.Stopped f = f.is_told
+  abbrev BegunIs : Outcome → List Event → LabState → Type 0
+  BegunIs outcome steps lab = BeginSteps old.lab (Begin exp way) h.move steps lab outcome
 
--- THE LAB AFTER IT is the one that its steps say
-module _ (p : Swap) (s u : LabState) (begin : Record) (move : Move) (gives : moved s move ≡ Some u) where
-  begun_at : (steps : List Event) (after : LabState) (outcome : Outcome) → (outcome ≡ Unwritten → ⊥) → (outcome ≡ Stopped → ⊥) → whole.SwapSteps p s begin move steps after outcome → (behind : List Event) × Rattle.swap_turns.specs.Finishing.Finishes u (opened p) behind outcome after
-  begun_at steps after outcome no' other (whole.begun b) = (b.behind, subst (λ (x : LabState). Rattle.swap_turns.specs.Finishing.Finishes x (opened p) b.behind outcome after) (some_is b.state u (sym b.begins.moves ∙ gives)) b.finishes)
-  begun_at steps after outcome no' other (whole.unwritten broken is) = absurd (no' is)
-  begun_at steps after outcome no' other (whole.stopped broken is) = absurd (other is)
+  begun_done : (outcome : Outcome) (lab : LabState) (behind : List Event) (reply : Reply) (session : Session) → BegunIs outcome h.begun.steps lab → StartsBehind outcome behind → turn_reply h.swap outcome ≡ Some reply → session ≡ end_session (begun_to outcome) outcome
+      → IsDone (Is (Ok (BeginOnly exp way))) (start_of before old opens) (h.begun.steps ++ behind) (Some reply) lab session
+  begun_done outcome lab behind reply session is starts reply_is session_is =
+      let set = (start_of before old opens).set in
+      let after : After = record { reply = Some reply; lab = lab; session = session } in
+      does (Ok (BeginOnly exp way)) refl
+      (subst (λ (b : Bool). IfSpace b set.length old.lab opens (Begins old.lab opens before.faults.devices exp (Begin exp way) (h.begun.steps ++ behind) after) (h.begun.steps ++ behind) after) (sym h.space) (record {
+        swap = h.swap;
+        name = h.name;
+        move = h.move;
+        says = h.says;
+        moves = h.moves;
+        outcome = outcome;
+        steps = h.begun.steps;
+        behind = behind;
+        own_is = refl;
+        begins = is;
+        answered = is_told starts (sym reply_is) session_is;
+      }))
 
-  after_by : (exp : List ℕ) → p.name ≡ exp → (leg : Leg) (committed : Bool) → committed ≡ commits p leg → (steps : List Event) (v after : LabState) → whole.SwapSteps p s begin move steps v (Ended leg) → moved u (ending exp committed) ≡ Some after → v ≡ after
-  after_by exp name leg committed is steps v after all ended =
-      let f = (begun_at steps v (Ended leg) (λ h. cc h) (λ h. cc h) all).1 in
-      let at_is : f.at.swap ≡ p = onward_swap u (opened p) f.front f.at f.onward in
-      some_is v after (sym (ends_by u v f.at.swap.name exp (commits f.at.swap leg) committed f.turn.0.1.moves (ap (λ (q : Swap). q.name) at_is ∙ name) (is ∙ ap (λ (q : Swap). commits q leg) (sym at_is))) ∙ ended)
+  pub only_begun : Obeyed before now (Is (Ok (BeginOnly exp way))) old new opens (Some exp) (Ok (replies.More exp))
+  only_begun =
+      by_outcome before now (Is (Ok (BeginOnly exp way))) old new opens begun_to h.swap exp h.begun.steps h.begun.told h.begun.sound h.begun.later h.begun.limit
+      (λ outcome. opened_more opens (begun_at h.swap before.faults.devices) before.faults.devices refl) BegunIs begun_done More (h.begun.begins, h.works) tt (λ halted. absurd halted) (λ stopped. h.runs stopped) (Ok (replies.More exp))
+      (replies.More h.swap.name, refl, ap (λ (n : List ℕ). Ok (replies.More n)) (sym h.name))
 
-  after_over : (exp : List ℕ) → p.name ≡ exp → (over : Over) (outcome : Outcome) → IsOverBy p over outcome → (steps : List Event) (v after : LabState) → whole.SwapSteps p s begin move steps v outcome → IsEndedBy u exp (finished.Ended over) after → v ≡ after
-  after_over exp name over outcome (done is committed why inside) steps v after all ended = after_by exp name Forth over.committed committed steps v after (subst (λ o. whole.SwapSteps p s begin move steps v o) is all) ended
-  after_over exp name over outcome (undone trouble is committed why inside) steps v after all ended = after_by exp name (Undo trouble) over.committed committed steps v after (subst (λ o. whole.SwapSteps p s begin move steps v o) is all) ended
+steps_over : (p : SwapOf) (s : LabState) (begin : Rattle.journal_rec.specs.declared.record.Record.Record) (move : Move) (steps : List Event) (lab : LabState) (outcome : Outcome) → SwapSteps p s begin move steps lab outcome → IsOver outcome
+steps_over p s begin move steps lab outcome (whole.begun b) = b.finishes.over
+steps_over p s begin move steps lab outcome (whole.unwritten broken is) = subst IsOver (sym is) tt
+steps_over p s begin move steps lab outcome (whole.stopped broken is) = subst IsOver (sym is) tt
 
-  after_stuck : (trouble : Trouble) (steps : List Event) (v after : LabState) → whole.SwapSteps p s begin move steps v (Stuck trouble) → after ≡ u → v ≡ after
-  after_stuck trouble steps v after all same = let f = (begun_at steps v (Stuck trouble) (λ h. cc h) (λ h. cc h) all).1 in f.turn.3 ∙ sym same
+-- BEGUN, AND TURNED TO ITS END
+module _ (before mid now : Seen) (old between new : Control) (opens : List OpenSwap) (exp : List ℕ) (way : Way) (works : WorksWith before old opens) (idle : HasOpen old.swaps exp → ⊥) (h : IsOpened before mid old between opens exp way) (told : Progress)
+    (f : HasEndedIn between.lab h.works.pairs exp mid now new.journal told new.swaps new.lab) (limit : limit_of new.journal ≡ limit_of between.journal) (stops : IsStop told ↔ IsTrue now.stopped) where
+  abbrev last : OpenSwap
+  last = begun_at h.swap before.faults.devices
 
-  module _ (exp : List ℕ) (name : p.name ≡ exp) (before now : Seen) (k : Journal) (after : LabState) where
-    abbrev Goes : (steps : List Event) (outcome : Outcome) → whole.RunLeaves the_texts p s begin move before now k steps outcome → Type 0
-    Goes steps outcome leaves = GoesTo p s begin move before now k steps outcome leaves after
+  abbrev more : List OpenSwap
+  more = opens ++ last ∷ []
 
-    -- an outcome that is not told leaves nothing to say
-    goes_over : (over : Over) (outcome : Outcome) → IsOverBy p over outcome → IsEndedBy u exp (finished.Ended over) after → (steps : List Event) (leaves : whole.RunLeaves the_texts p s begin move before now k steps outcome) → Goes steps outcome leaves
-    goes_over over Unwritten told ended steps leaves = tt
-    goes_over over Stopped told ended steps leaves = tt
-    goes_over over More told ended steps leaves = after_over exp name over More told steps leaves.after after leaves.is ended
-    goes_over over (TurnsBack why) told ended steps leaves = after_over exp name over (TurnsBack why) told steps leaves.after after leaves.is ended
-    goes_over over (Ended leg) told ended steps leaves = after_over exp name over (Ended leg) told steps leaves.after after leaves.is ended
-    goes_over over (Stuck trouble) told ended steps leaves = after_over exp name over (Stuck trouble) told steps leaves.after after leaves.is ended
+  abbrev there : Place f.end.before f.end.swap f.end.behind more
+  there = place mid now between new more exp h.works told f
 
-    stuck_goes : (trouble : Trouble) (outcome : Outcome) → outcome ≡ Stuck trouble → after ≡ u → (steps : List Event) (leaves : whole.RunLeaves the_texts p s begin move before now k steps outcome) → Goes steps outcome leaves
-    stuck_goes trouble Unwritten is same steps leaves = tt
-    stuck_goes trouble Stopped is same steps leaves = tt
-    stuck_goes trouble More is same steps leaves = absurd (cc is)
-    stuck_goes trouble (TurnsBack why) is same steps leaves = absurd (cc is)
-    stuck_goes trouble (Ended leg) is same steps leaves = absurd (cc is)
-    stuck_goes trouble (Stuck other) is same steps leaves = after_stuck other steps leaves.after after leaves.is same
+  apart : (q : OpenSwap) → Has opens q → name_in q ≢ exp
+  apart = none_named before old opens exp works idle
 
-    closed_goes : (outcome : Outcome) → (outcome ≡ Unwritten) ⊎ (outcome ≡ Stopped) → (steps : List Event) (leaves : whole.RunLeaves the_texts p s begin move before now k steps outcome) → Goes steps outcome leaves
-    closed_goes Unwritten is steps leaves = tt
-    closed_goes Stopped is steps leaves = tt
-    closed_goes More is steps leaves = elim is [ inl h ↦ absurd (cc h) | inr h ↦ absurd (cc h) ]
-    closed_goes (TurnsBack why) is steps leaves = elim is [ inl h ↦ absurd (cc h) | inr h ↦ absurd (cc h) ]
-    closed_goes (Ended leg) is steps leaves = elim is [ inl h ↦ absurd (cc h) | inr h ↦ absurd (cc h) ]
-    closed_goes (Stuck trouble) is steps leaves = elim is [ inl h ↦ absurd (cc h) | inr h ↦ absurd (cc h) ]
+  -- the one that was turned is the one that was opened
+  is_last : IsLast opens last there.front there.one there.rest
+  is_last = only_last exp opens last there.front there.one there.rest there.are (end_one mid now between new more exp h.works told f).name apart
 
-    goes_by : (end : Finished) (outcome : Outcome) → IsToldBy p end outcome → IsEndedBy u exp end after → (steps : List Event) (leaves : whole.RunLeaves the_texts p s begin move before now k steps outcome) → Goes steps outcome leaves
-    goes_by (finished.Ended over) outcome told ended steps leaves = goes_over over outcome told ended steps leaves
-    goes_by (finished.Stuck (swapping.Device device)) outcome told ended steps leaves = stuck_goes told.0 outcome told.2 ended steps leaves
-    goes_by (finished.Stuck (swapping.Late node)) outcome told ended steps leaves = stuck_goes told.0 outcome told.2 ended steps leaves
-    goes_by (finished.Stuck (swapping.Unlawful node from to)) outcome told ended steps leaves = stuck_goes told.0 outcome told.2 ended steps leaves
-    goes_by (finished.Stuck swapping.Journal) outcome told ended steps leaves = closed_goes outcome (inl told) steps leaves
-    goes_by finished.Stopped outcome told ended steps leaves = closed_goes outcome (inr told) steps leaves
+  swap_is : f.end.swap ≡ opened h.swap
+  swap_is = sym there.running ∙ ap (λ (o : OpenSwap). o.running) is_last.one_is
 
-    -- A SWAP THAT BEGAN was run
-    pub has_run : (mid : Seen) (i j : Journal) (state : Live) → HasBegun the_texts p s u begin move before mid i j state → (end : Finished) → IsEndedBy u exp end after → HasFinished the_texts u (opened p) mid now k (λ at outcome. Tells end at outcome)
-        → HasRun p s begin move before now k after end
-    has_run mid i j state b end ended f =
-        let run = run_begun the_texts p s u begin move before mid now i j k state b (λ at outcome. Tells end at outcome) f in
-        let told = told_by p exp name u mid now k end f in
-        record { outcome = f.outcome; run = run; told = told; goes = goes_by end f.outcome told ended run.steps run.leaves }
+  left_are : there.front ++ there.rest ≡ opens
+  left_are = (λ i. is_last.front_is i ++ is_last.rest_is i) ∙ append-nil opens
 
--- ONE THAT BROKE OFF was run
-pub broke_off : (p : Swap) (s u : LabState) (begin : Record) (move : Move) (before now : Seen) (j k : Journal) (after : LabState) (end : Finished) → IsAfterFirst p s u begin move before now j k (Err end) → HasRun p s begin move before now k after end
-broke_off p s u begin move before now j k after (finished.Ended over) h = absurd h
-broke_off p s u begin move before now j k after (finished.Stuck (swapping.Device name)) h = absurd h
-broke_off p s u begin move before now j k after (finished.Stuck (swapping.Late node)) h = absurd h
-broke_off p s u begin move before now j k after (finished.Stuck (swapping.Unlawful node from to)) h = absurd h
-broke_off p s u begin move before now j k after (finished.Stuck swapping.Journal) h = record { outcome = Unwritten; run = run_unwritten the_texts p s begin move before now k h; told = refl; goes = tt }
-broke_off p s u begin move before now j k after finished.Stopped h = record { outcome = Stopped; run = run_stopped the_texts p s begin move before now k h; told = refl; goes = tt }
+  abbrev end_outcome : Outcome
+  end_outcome = f.end.finished.outcome
+
+  abbrev end_steps : List Event
+  end_steps = f.end.finished.steps
+
+  abbrev all_steps : List Event
+  all_steps = h.begun.steps ++ end_steps
+
+  all_told : now.told ≡ with_steps before.told all_steps
+  all_told = f.end.finished.told ∙ ap (λ (t : Option Told). with_steps t end_steps) h.begun.told ∙ told_twice before.told h.begun.steps end_steps
+
+  all_sound : IfSome before.told (λ w. IsSound the_texts w.trace → IsSound the_texts (w.trace ++ all_steps))
+  all_sound = if_both before.told (λ w. IsSound the_texts w.trace → IsSound the_texts (w.trace ++ h.begun.steps)) (λ w. IsSound the_texts (w.trace ++ h.begun.steps) → IsSound the_texts ((w.trace ++ h.begun.steps) ++ end_steps))
+      (λ w. IsSound the_texts w.trace → IsSound the_texts (w.trace ++ all_steps)) (λ w first then sound. subst (λ l. IsSound the_texts l) (append_assoc w.trace h.begun.steps end_steps) (then (first sound))) h.begun.sound
+      (if_back before.told mid.told h.begun.steps (λ l. IsSound the_texts l → IsSound the_texts (l ++ end_steps)) h.begun.told f.end.finished.sound)
+
+  all_later : IsLater before now
+  all_later = record { disk = omega (arith, h.begun.later.disk, f.end.finished.later.disk); devices = omega (arith, h.begun.later.devices, f.end.finished.later.devices) }
+
+  abbrev WholeIs : Outcome → List Event → LabState → Type 0
+  WholeIs outcome steps lab = SwapSteps h.swap old.lab (Begin exp way) h.move steps lab outcome
+
+  abbrev whole_to : Outcome → List OpenSwap
+  whole_to outcome = opens
+
+  steps_as : (outcome : Outcome) (lab : LabState) → Finishes between.lab f.end.swap end_steps outcome lab → WholeIs outcome all_steps lab
+  steps_as outcome lab is =
+      whole.begun (record {
+        front = h.begun.steps;
+        behind = end_steps;
+        steps_are = refl;
+        state = between.lab;
+        begins = h.begun.begins;
+        finishes = subst (λ (o : RunningSwap). Finishes between.lab o end_steps outcome lab) swap_is is;
+      })
+
+  closes : (outcome : Outcome) → Closes the_texts mid.told end_steps (λ steps lab. Finishes between.lab f.end.swap steps outcome lab) → Closes the_texts before.told all_steps (λ steps lab. WholeIs outcome steps lab)
+  closes outcome leaves =
+      closes_behind the_texts before.told mid.told h.begun.steps end_steps (λ steps lab. Finishes between.lab f.end.swap steps outcome lab) (λ steps lab. WholeIs outcome steps lab) h.begun.told h.begun.sound (λ lab is. steps_as outcome lab is) leaves
+
+  whole_done' : (outcome : Outcome) (lab : LabState) (behind : List Event) (reply : Reply) (session : Session) → WholeIs outcome all_steps lab → StartsBehind outcome behind → turn_reply h.swap outcome ≡ Some reply → session ≡ end_session (whole_to outcome) outcome
+      → IsDone (Is (Ok (Swap exp way))) (start_of before old opens) (all_steps ++ behind) (Some reply) lab session
+  whole_done' outcome lab behind reply session is starts reply_is session_is =
+      let set = (start_of before old opens).set in
+      let after : After = record { reply = Some reply; lab = lab; session = session } in
+      does (Ok (Swap exp way)) refl
+      (subst (λ (b : Bool). IfSpace b set.length old.lab opens (Swaps old.lab opens exp (Begin exp way) (all_steps ++ behind) after) (all_steps ++ behind) after) (sym h.space) (record {
+        swap = h.swap;
+        name = h.name;
+        move = h.move;
+        says = h.says;
+        moves = h.moves;
+        outcome = outcome;
+        steps = all_steps;
+        behind = behind;
+        own_is = refl;
+        ends = is;
+        answered = is_told starts (sym (over_reply h.swap outcome reply (steps_over h.swap old.lab (Begin exp way) h.move all_steps lab outcome is) reply_is)) session_is;
+      }))
+
+  all_limit : limit_of new.journal ≡ limit_of old.journal
+  all_limit = limit ∙ h.begun.limit
+
+  abbrev WholeLeads : Outcome → Type 0
+  WholeLeads outcome = Leads before now (Is (Ok (Swap exp way))) old new opens whole_to h.swap exp all_steps all_told all_sound all_later all_limit (λ _. same_opened opens before.faults.devices) WholeIs whole_done' outcome
+
+  leads_by : (outcome : Outcome) → IsOver outcome → Rattle.lab_core.proofs.EndOne.Goes mid now between new more exp h.works told f outcome → FinishLeaves the_texts between.lab f.end.swap mid now new.journal end_steps outcome → WholeLeads outcome
+  leads_by More over goes leaves = absurd over
+  leads_by (TurnsBack why) over goes leaves = absurd over
+  leads_by (Ended leg) over goes leaves = (steps_as (Ended leg) new.lab goes.0, subst (λ (l : List OpenSwap). WorksWith now new l) left_are (end_works mid now between new more exp h.works told f goes.1))
+  leads_by (Stuck why) over goes leaves = (steps_as (Stuck why) new.lab goes.0, subst (λ (l : List OpenSwap). WorksWith now new l) left_are (end_works mid now between new more exp h.works told f goes.1))
+  leads_by Unwritten over goes leaves = closes Unwritten leaves
+  leads_by Stopped over goes leaves = closes Stopped leaves
+
+  -- its causes came since it was opened, in this call
+  causes : (outcome : Outcome) → IsCausedSince outcome before.faults.devices mid now → IsCausedSince outcome before.faults.devices before now
+  causes More cause = tt
+  causes (TurnsBack why) cause = cause
+  causes (Ended Forth) cause = tt
+  causes (Ended (Undo why)) cause = cause
+  causes (Ended Settling) cause = tt
+  causes (Stuck why) cause = cause
+  causes Unwritten cause = rose_later before.faults.disk mid.faults.disk now.faults.disk now.faults.disk h.begun.later.disk cause (omega arith)
+  causes Stopped cause = tt
+
+  caused_here : IsCausedSince end_outcome before.faults.devices before now
+  caused_here = causes end_outcome (subst (λ (o : OpenSwap). IsCausedSince end_outcome o.devices mid now) is_last.one_is (cause_since mid now between new more exp h.works told f))
+
+  counted_here : counted_from opens (Some exp) before.faults.devices ≡ before.faults.devices
+  counted_here = ap (λ (o : Option OpenSwap). devices_if o before.faults.devices) (open_at_none exp opens apart)
+
+  pub whole_swap : Obeyed before now (Is (Ok (Swap exp way))) old new opens (Some exp) (progress_answer exp told)
+  whole_swap =
+      let halts = end_halts mid now between new more exp h.works told f in
+      by_outcome before now (Is (Ok (Swap exp way))) old new opens whole_to h.swap exp all_steps all_told all_sound all_later all_limit (λ _. same_opened opens before.faults.devices) WholeIs whole_done' end_outcome
+      (leads_by end_outcome f.end.finished.over f.goes f.end.finished.leaves) (subst (λ (n : ℕ). IsCausedSince end_outcome n before now) (sym counted_here) caused_here) (λ halted. stops.0 (halts.0 halted)) (λ stopped. halts.1 (stops.1 stopped))
+      (progress_answer exp told) (subst (λ (o : RunningSwap). IsAnswer o.swap end_outcome (progress_answer exp told)) swap_is (end_answer mid now between new more exp h.works told f end_outcome refl))

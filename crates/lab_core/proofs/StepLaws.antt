@@ -1,5 +1,6 @@
 -- Laws of the lab step.
-use Rattle.std.proofs.Common.{◌≡◌, ◌≢◌, ◌⊎◌, inl, inr, ℕ, ◌||◌, Bool, true, false, is_none, is_some, List, [], ◌∷◌, ◌++◌, Option, Some, None, Result, Ok, Err, refl, sym, ap, ◌∙◌, subst}
+use Rattle.std.proofs.Common.{◌≡◌, ◌≢◌, ◌⊎◌, inl, inr, ℕ, ◌||◌, Bool, true, false, is_none, is_some, List, [], ◌∷◌, ◌++◌, length, not, Option, Some, None, Result, Ok, Err, refl, sym, ap, ◌∙◌, subst}
+use Rattle.std.proofs.lemmas.Bool.{cases_Bool}
 use Rattle.std.proofs.lemmas.List.{append-nil}
 use Rattle.plant.specs.Events.{Event, Restarted}
 use Rattle.plant.specs.declared.drill.Drill.{Drill}
@@ -7,13 +8,15 @@ use Rattle.journal_rec.specs.declared.record.Record.{Record}
 use Rattle.journal_rec.specs.declared.record.Record.TheVariants.{Begin}
 use Rattle.journal_rec.specs.declared.record.Way.{Way}
 use Rattle.lab_base.specs.declared.what.What.TheVariants as whats
-use Rattle.lab_model.specs.Courses.{Trouble, Device, Late, Unlawful}
+use Rattle.lab_model.specs.Courses.{Trouble as AnyTrouble, Device, Late, Unlawful}
 use Rattle.virt_topo.specs.declared.mapping.Mapped.{Mapped}
 use Rattle.records_model.specs.Labs.{LabState, Move, Says, Commits, Aborts, moved}
 use Rattle.records_model.proofs.Finding.{some_is}
 use Rattle.records_model.proofs.LabLaws.{says_once}
 use Rattle.journal_runs.specs.Pieces.{has_restart, has_miss, is_restart}
-use Rattle.journal_runs.proofs.Endings.{ended_quiet}
+use Rattle.journal_model.specs.Appends.{All}
+use Rattle.journal_runs.proofs.Endings.{append_quiet, ended_quiet}
+use Rattle.recovery.specs.Due.{is_busy}
 use Rattle.journal_runs.proofs.Quiet.{shows}
 use Rattle.lab_state.specs.Texts.{the_texts}
 use Rattle.lab_state.proofs.Canonical.{texts_once}
@@ -22,7 +25,7 @@ use Rattle.script_text.specs.declared.command.Command.{Command}
 use Rattle.script_text.specs.declared.command.Command.TheVariants as commands
 use Rattle.script_text.specs.declared.reply.Reply.{Reply}
 use Rattle.script_text.specs.declared.reply.FailedEnd.TheVariants as ends
-use Rattle.script_text.specs.declared.reply.Reply.TheVariants.{Failed, FullJournal, Down, Planned, NoDrill, Stopped as StoppedReply}
+use Rattle.script_text.specs.declared.reply.Reply.TheVariants.{More as MoreReply, Trouble, Failed, FullJournal, Down, Planned, NoDrill, Stopped as StoppedReply}
 use Rattle.swap_txn.specs.Troubles.{what_of}
 use Rattle.swap_turns.specs.Swaps.{Swap as SwapOf}
 use Rattle.swap_turns.specs.Beginning.{opened as opened_swap}
@@ -32,15 +35,15 @@ use Rattle.swap_turns.specs.Running.{OpenSwap as TurnsOpen}
 use Rattle.swap_turns.specs.Turning.{Outcome, More, TurnsBack, Ended, Stuck, Unwritten, Stopped as Halted}
 use Rattle.swap_turns.specs.Whole.{SwapSteps, begun, unwritten, stopped as stopped_so}
 use Rattle.swap_turns.proofs.Finishing.{onward_swap}
-use Rattle.swap_turns.proofs.Showing.{settles_show, swap_shows}
-use Rattle.lab_core.specs.Judge.{Task, Tell, Append, Swap, Recover, Judged}
-use Rattle.lab_core.specs.LabSteps.{Replies, WantsMemory, AppendEnds, whole, broken, Appends, done_reply, undone_end, end_reply, IsAnswered, is_told, unanswered as untold, Swaps, has_space, IfSpace, Does, IsDoneBy, does, no_memory, FromClosed, opened, not_opened, Drills, is_planned, is_refused, wants_memory, StepOf, IsThis}
+use Rattle.swap_turns.proofs.Showing.{finish_shows, settles_show, swap_shows, turn_shows}
+use Rattle.lab_core.specs.Judge.{Task, Tell, Append, Swap, BeginOnly, Turn, Finish, Recover}
+use Rattle.lab_core.specs.LabSteps.{Replies, WantsMemory, AppendEnds, whole, broken, Appends, done_reply, undone_end, end_reply, turn_reply, IsAnswered, is_told, unanswered as untold, Swaps, BeginSteps, Begins as BeginsSwap, Turns, EndsSwap, has_space, IfSpace, Does, IsDoneBy, does, no_memory, FromClosed, opened, not_opened, Drills, is_planned, is_refused, wants_memory, StepOf, IsThis, JudgedBeside}
 use Rattle.lab_core.specs.Breaks.{Breaks, StartsBehind, stopped, failed, unanswered}
-use Rattle.lab_core.specs.Recovery.{BreaksOpening, OpensInPart, reading, settling, Recovers, settled, broken_off, names_of}
-use Rattle.lab_core.specs.Sessions.{OpenSwap, Session, Closed, Open, Setting, After}
-use Rattle.lab_core.specs.Tells.{name_of, BeginsAt, GoBy, IsAtRest, IsNoSwap, TellsBroken, TellsLab, busy_of, is_stopped, settles_all}
+use Rattle.lab_core.specs.Recovery.{BreaksOpening, OpensInPart, reading, settling, Recovers, settled, broken_off}
+use Rattle.lab_core.specs.Sessions.{OpenSwap, Session, Closed, Open, Setting, After, is_among, name_of, names_of}
+use Rattle.lab_core.specs.Tells.{BeginsAt, GoBy, IsAtRest, IsNoSwap, TellsBroken, TellsLab, is_stopped, opens_of, settles}
 use Rattle.lab_core.proofs.Judgements.{IsTaskApart, task_apart}
-use Rattle.lab_core.proofs.Others.{Stays, both_stay, either_stays, move_stays, rests_on, same_stays, settles_stay, some_stay, swap_stays}
+use Rattle.lab_core.proofs.Others.{IsSpared, Stays, begun_stays, both_stay, either_stays, ended_stays, in_part_stay, move_stays, rests_on, same_stays, settled_stay, settles_stay, some_stay, swap_stays, turned_stays}
 use Rattle.lab_core.proofs.OuterReplies.{judged_so, no_stop_of, outer_by}
 
 -- where none is told
@@ -73,7 +76,7 @@ end_tells p s after exp entry move steps (Stuck trouble) reply name is (begun b)
     stays : moved s move ≡ Some after
     stays = b.begins.moves ∙ ap (λ (u : LabState). Some u) (sym b.finishes.turn.3)
 
-    by : (trouble : Trouble) → TellsLab s exp move (Failed p.name ends.Stuck (what_of trouble)) after
+    by : (trouble : AnyTrouble) → TellsLab s exp move (Failed p.name ends.Stuck (what_of trouble)) after
     by (Device device) = (name, stays)
     by (Late node) = (name, stays)
     by (Unlawful node from to) = (name, stays)
@@ -90,36 +93,36 @@ pub record Begins (drill : Option Drill) (session : Session) (s : LabState) (ope
   pub no_drill : drill ≡ None
   pub at : BeginsAt session s opening mid
   pub quiet : has_restart opening ≡ false
-  pub busy : names_of opens ≡ busy_of session
+  pub are : opens ≡ opens_of session
 
 -- WHAT A STEP WAS, by its judgement: that was done from there, or memory was wanting; or the opening broke off; or it was a drill
 pub data Was (drill : Option Drill) (judgement : Result Task Reply) (takes : Bool) (set : Setting) (s : LabState) (session : Session) (command : Command) (opening own : List Event) (after : After) : Type 0 where
-  done : (mid : LabState) (opens : List OpenSwap) → Begins drill session s opening mid opens → Judged mid command judgement → Does set mid opens judgement own after → Was drill judgement takes set s session command opening own after
+  done : (mid : LabState) (opens : List OpenSwap) → Begins drill session s opening mid opens → JudgedBeside command opens mid judgement → Does set mid opens judgement own after → Was drill judgement takes set s session command opening own after
   wanting : (mid : LabState) (opens : List OpenSwap) → Begins drill session s opening mid opens → WantsMemory mid own after → Was drill judgement takes set s session command opening own after
   broke : drill ≡ None → session ≡ Closed → BreaksOpening s opening own after → Was drill judgement takes set s session command opening own after
   drilled : is_some drill ≡ true → opening ≡ [] → Drills takes s session own after → Was drill judgement takes set s session command opening own after
 
 module _ (judgement : Result Task Reply) (takes : Bool) (set : Setting) (s : LabState) (command : Command) (opening own : List Event) (after : After) where
-  was_done : (session : Session) (mid : LabState) (opens : List OpenSwap) → Begins None session s opening mid opens → IsDoneBy (IsThis judgement command mid) set mid opens own after → Was None judgement takes set s session command opening own after
-  was_done session mid opens begins (does other is d) = done mid opens begins (subst (λ (j : Result Task Reply). Judged mid command j) is.0 is.1) (subst (λ (j : Result Task Reply). Does set mid opens j own after) is.0 d)
+  was_done : (session : Session) (mid : LabState) (opens : List OpenSwap) → Begins None session s opening mid opens → IsDoneBy (IsThis judgement command opens mid) set mid opens own after → Was None judgement takes set s session command opening own after
+  was_done session mid opens begins (does other is d) = done mid opens begins (subst (λ (j : Result Task Reply). JudgedBeside command opens mid j) is.0 is.1) (subst (λ (j : Result Task Reply). Does set mid opens j own after) is.0 d)
   was_done session mid opens begins (no_memory wants) = wanting mid opens begins wants
 
   pub was : (drill : Option Drill) (session : Session) → StepOf drill (IsThis judgement command) takes set s session opening own after → Was drill judgement takes set s session command opening own after
   was (Some drill) session step = drilled refl step.0 step.1
-  was None Closed (opened mid opens d) = was_done Closed mid [] (record { no_drill = refl; at = opens; quiet = opens.no_restart; busy = refl }) d
+  was None Closed (opened mid opens d) = was_done Closed mid [] (record { no_drill = refl; at = opens; quiet = opens.no_restart; are = refl }) d
   was None Closed (not_opened breaks) = broke refl refl breaks
-  was None (Open opens) step = was_done (Open opens) s opens (record { no_drill = refl; at = refl; quiet = ap has_restart step.0; busy = refl }) step.1
+  was None (Open opens) step = was_done (Open opens) s opens (record { no_drill = refl; at = refl; quiet = ap has_restart step.0; are = refl }) step.1
 
 -- A STEP IS BY ONE JUDGEMENT
-one_done : (set : Setting) (s : LabState) (opens : List OpenSwap) (command : Command) (own : List Event) (after : After) → IsDoneBy (λ j. Judged s command j) set s opens own after → (judgement : Result Task Reply) × IsDoneBy (IsThis judgement command s) set s opens own after
+one_done : (set : Setting) (s : LabState) (opens : List OpenSwap) (command : Command) (own : List Event) (after : After) → IsDoneBy (JudgedBeside command opens s) set s opens own after → (judgement : Result Task Reply) × IsDoneBy (IsThis judgement command opens s) set s opens own after
 one_done set s opens command own after (does judgement is d) = (judgement, does judgement (refl, is) d)
 one_done set s opens command own after (no_memory wants) = (Err NoDrill, no_memory wants)
 
-one_opened : (set : Setting) (s : LabState) (command : Command) (opening own : List Event) (after : After) → FromClosed (λ lab. Judged lab command) set s opening own after → (judgement : Result Task Reply) × FromClosed (IsThis judgement command) set s opening own after
+one_opened : (set : Setting) (s : LabState) (command : Command) (opening own : List Event) (after : After) → FromClosed (JudgedBeside command []) set s opening own after → (judgement : Result Task Reply) × FromClosed (IsThis judgement command []) set s opening own after
 one_opened set s command opening own after (opened mid opens d) = let one = one_done set mid [] command own after d in (one.0, opened mid opens one.1)
 one_opened set s command opening own after (not_opened breaks) = (Err NoDrill, not_opened breaks)
 
-pub by_one : (o : Option Drill) (takes : Bool) (set : Setting) (s : LabState) (session : Session) (command : Command) (opening own : List Event) (after : After) → StepOf o (λ lab. Judged lab command) takes set s session opening own after
+pub by_one : (o : Option Drill) (takes : Bool) (set : Setting) (s : LabState) (session : Session) (command : Command) (opening own : List Event) (after : After) → StepOf o (JudgedBeside command) takes set s session opening own after
     → (judgement : Result Task Reply) × StepOf o (IsThis judgement command) takes set s session opening own after
 by_one (Some drill) takes set s session command opening own after step = (Err NoDrill, step)
 by_one None takes set s Closed command opening own after step = one_opened set s command opening own after step
@@ -131,7 +134,7 @@ drill_is takes s session own after (is_planned yes' none after_is) = (none, ap (
 drill_is takes s session own after (is_refused no' none after_is) = (none, ap (λ (a : After). a.lab) after_is)
 drill_is takes s session own after (wants_memory wants) = (wants.nothing, ap (λ (a : After). a.lab) wants.after_is)
 
-pub drills_leave : (o : Option Drill) (takes : Bool) (set : Setting) (s : LabState) (session : Session) (Judges : LabState → Result Task Reply → Type 0) (opening own : List Event) (after : After) → is_some o ≡ true → StepOf o Judges takes set s session opening own after → (opening ≡ []) × (own ≡ []) × (after.lab ≡ s)
+pub drills_leave : (o : Option Drill) (takes : Bool) (set : Setting) (s : LabState) (session : Session) (Judges : List OpenSwap → LabState → Result Task Reply → Type 0) (opening own : List Event) (after : After) → is_some o ≡ true → StepOf o Judges takes set s session opening own after → (opening ≡ []) × (own ≡ []) × (after.lab ≡ s)
 drills_leave None takes set s session Judges opening own after is step = absurd (cc is)
 drills_leave (Some drill) takes set s session Judges opening own after is step = let both = drill_is takes s session own after step.1 in (step.0, both.0, both.1)
 
@@ -196,6 +199,9 @@ module _ (s : LabState) (opens : List OpenSwap) (own : List Event) (reply other 
       by true one two = appends_once entry told went one two
       by false one two = replies_once (FullJournal set.length) one two
   does_once set (Ok (Swap exp way)) no_swap went one two = absurd no_swap
+  does_once set (Ok (BeginOnly exp way)) no_swap went one two = absurd no_swap
+  does_once set (Ok (Turn exp)) no_swap went one two = absurd no_swap
+  does_once set (Ok (Finish exp)) no_swap went one two = absurd no_swap
   does_once set (Ok Recover) no_swap went one two = absurd no_swap
 
   drills_once : (takes : Bool) → Drills takes s (Open opens) own after → Drills takes s (Open opens) own later → (reply ≡ other) × (after.lab ≡ later.lab)
@@ -215,7 +221,7 @@ module _ (s : LabState) (opens : List OpenSwap) (own : List Event) (reply other 
       by (is_planned yes' none a) (wants_memory wants) = none_told later.reply other (ap (λ (v : After). v.reply) wants.after_is) also
       by (is_refused no' none a) (wants_memory wants) = none_told later.reply other (ap (λ (v : After). v.reply) wants.after_is) also
 
-  done_once : (set : Setting) (command : Command) (judgement : Result Task Reply) → IsNoSwap judgement → Went own → IsDoneBy (IsThis judgement command s) set s opens own after → IsDoneBy (IsThis judgement command s) set s opens own later → (reply ≡ other) × (after.lab ≡ later.lab)
+  done_once : (set : Setting) (command : Command) (judgement : Result Task Reply) → IsNoSwap judgement → Went own → IsDoneBy (IsThis judgement command opens s) set s opens own after → IsDoneBy (IsThis judgement command opens s) set s opens own later → (reply ≡ other) × (after.lab ≡ later.lab)
   done_once set command judgement no_swap went (does j p one) (does k q two) =
       does_once set judgement no_swap went (subst (λ (x : Result Task Reply). Does set s opens x own after) p.0 one) (subst (λ (x : Result Task Reply). Does set s opens x own later) q.0 two)
   done_once set command judgement no_swap went (no_memory wants) two = none_told after.reply reply (ap (λ (v : After). v.reply) wants.after_is) is
@@ -235,7 +241,7 @@ module _ (exp : List ℕ) (way : Way) (own : List Event) (after : After) (reply 
         same : d.move ≡ move
         same = says_once the_texts s (Begin exp way) d.move move texts_once d.says says
 
-        by : IsAnswered opens d.swap d.outcome d.behind after → TellsLab s exp move reply after.lab
+        by : IsAnswered (end_reply d.swap d.outcome) opens d.outcome d.behind after → TellsLab s exp move reply after.lab
         by (is_told starts told session) =
             subst (λ (m : Move). TellsLab s exp m reply after.lab) same (end_tells d.swap s after.lab exp (Begin exp way) d.move d.steps d.outcome reply d.name (sym told ∙ is) d.ends)
         by (untold starts none session) = none_told after.reply reply none is
@@ -275,6 +281,23 @@ end_stops p (Ended (Undo why)) steps behind reply quiet starts is = nothing_behi
 end_stops p (Stuck why) steps behind reply quiet starts is = nothing_behind steps behind quiet starts ∙ ap is_stopped (some_is (Failed p.name ends.Stuck (what_of why)) reply is)
 end_stops p Unwritten steps behind reply quiet starts is = nothing_behind steps behind quiet starts ∙ ap is_stopped (some_is (Failed p.name ends.Stuck whats.Journal) reply is)
 
+turn_stops : (p : SwapOf) (outcome : Outcome) (steps behind : List Event) (reply : Reply) → has_restart steps ≡ false → StartsBehind outcome behind → turn_reply p outcome ≡ Some reply → has_restart (steps ++ behind) ≡ is_stopped reply
+turn_stops p More steps behind reply quiet starts is = nothing_behind steps behind quiet starts ∙ ap is_stopped (some_is (MoreReply p.name) reply is)
+turn_stops p (TurnsBack why) steps behind reply quiet starts is = nothing_behind steps behind quiet starts ∙ ap is_stopped (some_is (Trouble p.name (what_of why)) reply is)
+turn_stops p (Ended leg) steps behind reply quiet starts is = end_stops p (Ended leg) steps behind reply quiet starts is
+turn_stops p (Stuck why) steps behind reply quiet starts is = end_stops p (Stuck why) steps behind reply quiet starts is
+turn_stops p Unwritten steps behind reply quiet starts is = end_stops p Unwritten steps behind reply quiet starts is
+turn_stops p Halted steps behind reply quiet starts is = end_stops p Halted steps behind reply quiet starts is
+
+-- the append that begins a swap starts no plant
+begin_quiet : (p : SwapOf) (s after : LabState) (entry : Record) (move : Move) (steps : List Event) (outcome : Outcome) → BeginSteps s entry move steps after outcome → has_restart steps ≡ false
+begin_quiet p s after entry move steps More b = ap has_restart b.steps_are ∙ (append_quiet b.side b.gate entry All).1
+begin_quiet p s after entry move steps Unwritten b = (swap_shows p s entry move steps after Unwritten (unwritten b refl)).restart
+begin_quiet p s after entry move steps Halted b = (swap_shows p s entry move steps after Halted (stopped_so b refl)).restart
+begin_quiet p s after entry move steps (TurnsBack why) b = absurd b
+begin_quiet p s after entry move steps (Ended leg) b = absurd b
+begin_quiet p s after entry move steps (Stuck trouble) b = absurd b
+
 module _ (own : List Event) (after : After) (reply : Reply) (is : after.reply ≡ Some reply) where
   breaks_stop : (events : List Event) → Breaks events after.reply → has_restart events ≡ is_stopped reply
   breaks_stop events (stopped ends told) = ap has_restart ends.is ∙ has_started ends.front ends.a ends.b ∙ ap is_stopped (some_is StoppedReply reply (sym told ∙ is))
@@ -298,12 +321,29 @@ module _ (own : List Event) (after : After) (reply : Reply) (is : after.reply �
       by (whole all none after_is) = calm told goes (ap (λ (a : After). a.reply) after_is) (ap has_restart d.steps ∙ (ended_quiet d.side d.gate entry d.run d.more (Ok tt) (all, none)).1)
       by (broken breaks either session) = breaks_stop own breaks
 
+  -- a swap, or a turn, was answered
+  answered_stops : (told : Option Reply) (to : List OpenSwap) (outcome : Outcome) (steps behind : List Event) → own ≡ steps ++ behind → (StartsBehind outcome behind → told ≡ Some reply → has_restart (steps ++ behind) ≡ is_stopped reply)
+      → IsAnswered told to outcome behind after → has_restart own ≡ is_stopped reply
+  answered_stops told to outcome steps behind own_is each (is_told starts replied session) = ap has_restart own_is ∙ each starts (sym replied ∙ is)
+  answered_stops told to outcome steps behind own_is each (untold starts none session) = none_told after.reply reply none is
+
   swap_stops : (s : LabState) (opens : List OpenSwap) (exp : List ℕ) (entry : Record) → Swaps s opens exp entry own after → has_restart own ≡ is_stopped reply
-  swap_stops s opens exp entry d = by d.answered
-    where
-      by : IsAnswered opens d.swap d.outcome d.behind after → has_restart own ≡ is_stopped reply
-      by (is_told starts told session) = ap has_restart d.own_is ∙ end_stops d.swap d.outcome d.steps d.behind reply (swap_shows d.swap s entry d.move d.steps after.lab d.outcome d.ends).restart starts (sym told ∙ is)
-      by (untold starts none session) = none_told after.reply reply none is
+  swap_stops s opens exp entry d =
+      answered_stops _ opens d.outcome d.steps d.behind d.own_is (end_stops d.swap d.outcome d.steps d.behind reply (swap_shows d.swap s entry d.move d.steps after.lab d.outcome d.ends).restart) d.answered
+
+  begin_stops : (s : LabState) (opens : List OpenSwap) (devices : ℕ) (exp : List ℕ) (entry : Record) → BeginsSwap s opens devices exp entry own after → has_restart own ≡ is_stopped reply
+  begin_stops s opens devices exp entry d =
+      answered_stops _ _ d.outcome d.steps d.behind d.own_is (turn_stops d.swap d.outcome d.steps d.behind reply (begin_quiet d.swap s after.lab entry d.move d.steps d.outcome d.begins)) d.answered
+
+  one_stops : (s : LabState) (opens : List OpenSwap) (exp : List ℕ) → Turns s opens exp own after → has_restart own ≡ is_stopped reply
+  one_stops s opens exp d =
+      answered_stops _ _ d.outcome d.steps d.behind d.own_is
+      (turn_stops d.one.swap.running.swap d.outcome d.steps d.behind reply (turn_shows s d.one.swap.running d.steps d.outcome after.lab d.turn).restart) d.answered
+
+  finish_stops : (s : LabState) (opens : List OpenSwap) (exp : List ℕ) → EndsSwap s opens exp own after → has_restart own ≡ is_stopped reply
+  finish_stops s opens exp d =
+      answered_stops _ _ d.outcome d.steps d.behind d.own_is
+      (end_stops d.one.swap.running.swap d.outcome d.steps d.behind reply (finish_shows s d.one.swap.running d.steps d.outcome after.lab d.finishes).restart) d.answered
 
   recover_stops : (s : LabState) (opens : List OpenSwap) → Recovers s opens own after → has_restart own ≡ is_stopped reply
   recover_stops s opens (settled outcomes settles told session) = calm _ refl told (settles_show s _ outcomes own after.lab settles).restart
@@ -314,6 +354,9 @@ module _ (own : List Event) (after : After) (reply : Reply) (is : after.reply �
   does_stop set s opens (Ok (Tell told)) inner d = replies_stop s opens told (no_stop_of told inner) d
   does_stop set s opens (Ok (Append entry told)) inner d = space_stop s opens _ set.length (Appends s opens entry told own after) (append_stops s opens entry told (no_stop_of told inner)) d
   does_stop set s opens (Ok (Swap exp way)) inner d = space_stop s opens _ set.length (Swaps s opens exp (Begin exp way) own after) (swap_stops s opens exp (Begin exp way)) d
+  does_stop set s opens (Ok (BeginOnly exp way)) inner d = space_stop s opens _ set.length (BeginsSwap s opens set.devices exp (Begin exp way) own after) (begin_stops s opens set.devices exp (Begin exp way)) d
+  does_stop set s opens (Ok (Turn exp)) inner d = one_stops s opens exp d
+  does_stop set s opens (Ok (Finish exp)) inner d = finish_stops s opens exp d
   does_stop set s opens (Ok Recover) inner d = recover_stops s opens d
 
   drill_stops : (takes : Bool) (s : LabState) (session : Session) → Drills takes s session own after → has_restart own ≡ is_stopped reply
@@ -323,50 +366,62 @@ module _ (own : List Event) (after : After) (reply : Reply) (is : after.reply �
 
   pub step_stops : (drill : Option Drill) (judgement : Result Task Reply) (takes : Bool) (set : Setting) (s : LabState) (session : Session) (command : Command) (opening : List Event) → Was drill judgement takes set s session command opening own after → has_restart (opening ++ own) ≡ is_stopped reply
   step_stops drill judgement takes set s session command opening (done mid opens begins judged d) =
-      shows is_restart (opening ++ own) opening own false (is_stopped reply) refl begins.quiet (does_stop set mid opens judgement (judged_so mid command judgement judged) d)
+      shows is_restart (opening ++ own) opening own false (is_stopped reply) refl begins.quiet (does_stop set mid opens judgement (judged_so mid (is_among (names_of opens) (name_of command)) (length opens) command judgement judged) d)
   step_stops drill judgement takes set s session command opening (wanting mid opens begins wants) = none_told after.reply reply (ap (λ (v : After). v.reply) wants.after_is) is
   step_stops drill judgement takes set s session command opening (broke no' closed breaks) = ap (λ l. has_restart (opening ++ l)) breaks.nothing ∙ ap has_restart (append-nil opening) ∙ breaks_stop opening breaks.breaks
   step_stops drill judgement takes set s session command opening (drilled some none drills) = ap (λ l. has_restart (l ++ own)) none ∙ drill_stops takes s session drills
 
 -- EXPERIMENTS OF OTHER NAMES
 module _ (name : List ℕ) (own : List Event) (after : After) where
-  module _ (s : LabState) (there : is_some s.lab ≡ true) where
+  module _ (s : LabState) (there : is_some s.lab ≡ true) (opens : List OpenSwap) where
     after_stays : after.lab ≡ s → Stays name s after.lab
     after_stays same = same_stays name s after.lab there same
 
-    append_stays : (opens : List OpenSwap) (entry : Record) (told : Reply) → IsTaskApart name s (Append entry told) → Appends s opens entry told own after → Stays name s after.lab
-    append_stays opens entry told apart d = either_stays name s d.state after.lab there (move_stays name s d.state d.move there (apart d.move d.says) d.moves) (by d.ends)
+    append_stays : (entry : Record) (told : Reply) → IsTaskApart name (names_of opens) s (Append entry told) → Appends s opens entry told own after → Stays name s after.lab
+    append_stays entry told apart d = either_stays name s d.state after.lab there (move_stays name s d.state d.move there (apart d.move d.says) d.moves) (by d.ends)
       where
         by : AppendEnds s opens d.state told d.run d.more own after → (after.lab ≡ s) ⊎ (after.lab ≡ d.state)
         by (whole all none after_is) = inr (ap (λ (a : After). a.lab) after_is)
         by (broken breaks either session) = either
 
-    space_stays : (opens : List OpenSwap) (b : Bool) (length : ℕ) (Done : Type 0) → (Done → Stays name s after.lab) → IfSpace b length s opens Done own after → Stays name s after.lab
-    space_stays opens true length Done each d = each d
-    space_stays opens false length Done each d = after_stays (ap (λ (a : After). a.lab) d.after_is)
+    space_stays : (b : Bool) (length : ℕ) (Done : Type 0) → (Done → Stays name s after.lab) → IfSpace b length s opens Done own after → Stays name s after.lab
+    space_stays true length Done each d = each d
+    space_stays false length Done each d = after_stays (ap (λ (a : After). a.lab) d.after_is)
 
-    recover_stays : (opens : List OpenSwap) → IsAtRest s name → Recovers s opens own after → Stays name s after.lab
-    recover_stays opens rests (settled outcomes settles told session) = settles_stay name _ outcomes s after.lab own there rests settles
-    recover_stays opens rests (broken_off part breaks session) = some_stay name s after.lab _ own there rests part
+    recover_stays : IsSpared (names_of opens) s name → Recovers s opens own after → Stays name s after.lab
+    recover_stays spared (settled outcomes settles told session) = settled_stay name (names_of opens) outcomes s after.lab own there spared settles
+    recover_stays spared (broken_off part breaks session) = in_part_stay name (names_of opens) s after.lab own there spared part
 
-    does_stays : (set : Setting) (opens : List OpenSwap) (judgement : Result Task Reply) → ((task : Task) → judgement ≡ Ok task → IsTaskApart name s task) → Does set s opens judgement own after → Stays name s after.lab
-    does_stays set opens (Err refusal) apart d = after_stays (ap (λ (a : After). a.lab) d.after_is)
-    does_stays set opens (Ok (Tell told)) apart d = after_stays (ap (λ (a : After). a.lab) d.after_is)
-    does_stays set opens (Ok (Append entry told)) apart d = space_stays opens _ set.length (Appends s opens entry told own after) (append_stays opens entry told (apart (Append entry told) refl)) d
-    does_stays set opens (Ok (Swap exp way)) apart d =
+    does_stays : (set : Setting) (judgement : Result Task Reply) → ((task : Task) → judgement ≡ Ok task → IsTaskApart name (names_of opens) s task) → Does set s opens judgement own after → Stays name s after.lab
+    does_stays set (Err refusal) apart d = after_stays (ap (λ (a : After). a.lab) d.after_is)
+    does_stays set (Ok (Tell told)) apart d = after_stays (ap (λ (a : After). a.lab) d.after_is)
+    does_stays set (Ok (Append entry told)) apart d = space_stays _ set.length (Appends s opens entry told own after) (append_stays entry told (apart (Append entry told) refl)) d
+    does_stays set (Ok (Swap exp way)) apart d =
         let task = apart (Swap exp way) refl in
-        space_stays opens _ set.length (Swaps s opens exp (Begin exp way) own after) (λ d. swap_stays name d.swap s after.lab (Begin exp way) d.move d.steps d.outcome there (task.1 d.move d.says) (λ same. task.0 (sym d.name ∙ same)) d.ends) d
-    does_stays set opens (Ok Recover) apart d = recover_stays opens (apart Recover refl) d
+        space_stays _ set.length (Swaps s opens exp (Begin exp way) own after) (λ d. swap_stays name d.swap s after.lab (Begin exp way) d.move d.steps d.outcome there (task.1 d.move d.says) (λ same. task.0 (sym d.name ∙ same)) d.ends) d
+    does_stays set (Ok (BeginOnly exp way)) apart d =
+        space_stays _ set.length (BeginsSwap s opens set.devices exp (Begin exp way) own after)
+        (λ d. begun_stays name s after.lab (Begin exp way) d.move d.steps d.outcome there ((apart (BeginOnly exp way) refl).1 d.move d.says) d.begins) d
+    does_stays set (Ok (Turn exp)) apart d = turned_stays name s after.lab d.one.swap.running d.steps d.outcome there (λ same. apart (Turn exp) refl (sym d.one.name ∙ same)) d.turn
+    does_stays set (Ok (Finish exp)) apart d = ended_stays name s after.lab d.one.swap.running d.steps d.outcome there (λ same. apart (Finish exp) refl (sym d.one.name ∙ same)) d.finishes
+    does_stays set (Ok Recover) apart d = recover_stays (apart Recover refl) d
 
-  module _ (s : LabState) (there : is_some s.lab ≡ true) (session : Session) (command : Command) (rests : settles_all session command ≡ true → IsAtRest s name) (opening : List Event) where
-    begins_stay : (session : Session) → (settles_all session command ≡ true → IsAtRest s name) → (mid : LabState) (opens : List OpenSwap) → Begins (drill_of command) session s opening mid opens → Stays name s mid
+  module _ (s : LabState) (there : is_some s.lab ≡ true) (session : Session) (command : Command) (rests : settles session command name ≡ true → IsAtRest s name) (opening : List Event) where
+    begins_stay : (session : Session) → (settles session command name ≡ true → IsAtRest s name) → (mid : LabState) (opens : List OpenSwap) → Begins (drill_of command) session s opening mid opens → Stays name s mid
     begins_stay Closed rests mid opens begins = settles_stay name _ begins.at.outcomes s mid begins.at.moving there (rests (ap is_none begins.no_drill)) begins.at.settles
     begins_stay (Open old) rests mid opens begins = same_stays name s mid there begins.at
 
-    -- `recover` settles what moves
-    if_recover : (session : Session) → (settles_all session command ≡ true → IsAtRest s name) → command ≡ commands.Recover → IsAtRest s name
-    if_recover Closed rests is = rests (ap (λ (c : Command). is_none (drill_of c)) is)
-    if_recover (Open old) rests is = rests (ap (λ (c : Command). settles_all (Open old) c) is)
+    -- `recover` settles what moves and has no open swap
+    if_recover : (session : Session) → (settles session command name ≡ true → IsAtRest s name) → command ≡ commands.Recover → IsSpared (names_of (opens_of session)) s name
+    if_recover Closed rests is = inr (rests (ap (λ (c : Command). is_none (drill_of c)) is))
+    if_recover (Open old) rests is = elim (cases_Bool (is_busy (names_of old) name)) [
+      | inl yes' ↦ inl yes'
+      | inr no' ↦ inr (rests (ap (λ (c : Command). settles (Open old) c name) is ∙ ap not no'))
+    ]
+
+    spared_on : (mid : LabState) (opens : List OpenSwap) → Stays name s mid → opens ≡ opens_of session → IsSpared (names_of (opens_of session)) s name → IsSpared (names_of opens) mid name
+    spared_on mid opens first are (inl busy) = inl (ap (λ (l : List OpenSwap). is_busy (names_of l) name) are ∙ busy)
+    spared_on mid opens first are (inr at_rest) = inr (rests_on name s mid first at_rest)
 
     part_stays : OpensInPart s opening after.lab → IsAtRest s name → Stays name s after.lab
     part_stays (reading reads same) at_rest = same_stays name s after.lab there same
@@ -375,9 +430,11 @@ module _ (name : List ℕ) (own : List Event) (after : After) where
     pub step_stays : (judgement : Result Task Reply) (takes : Bool) (set : Setting) → name_of command ≢ Some name → Was (drill_of command) judgement takes set s session command opening own after → Stays name s after.lab
     step_stays judgement takes set other (done mid opens begins judged d) =
         let first = begins_stay session rests mid opens begins in
+        let busy = is_among (names_of opens) (name_of command) in
         both_stay name s mid after.lab first
-        (does_stays mid first.set set opens judgement
-        (λ task is. task_apart name mid task command (λ recovers. rests_on name s mid first (if_recover session rests recovers)) first.set other (subst (λ (j : Result Task Reply). Judged mid command j) is judged)) d)
+        (does_stays mid first.set opens set judgement
+        (λ task is. task_apart name (names_of opens) mid busy (length opens) task command (λ recovers. spared_on mid opens first begins.are (if_recover session rests recovers)) first.set other
+        (subst (λ (j : Result Task Reply). JudgedBeside command opens mid j) is judged)) d)
     step_stays judgement takes set other (wanting mid opens begins wants) = let first = begins_stay session rests mid opens begins in both_stay name s mid after.lab first (same_stays name mid after.lab first.set (ap (λ (a : After). a.lab) wants.after_is))
-    step_stays judgement takes set other (broke no' closed breaks) = part_stays breaks.part (rests (ap (λ (x : Session). settles_all x command) closed ∙ ap is_none no'))
+    step_stays judgement takes set other (broke no' closed breaks) = part_stays breaks.part (rests (ap (λ (x : Session). settles x command name) closed ∙ ap is_none no'))
     step_stays judgement takes set other (drilled some none drills) = same_stays name s after.lab there (drill_is takes s session own after drills).1

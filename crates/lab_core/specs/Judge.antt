@@ -1,5 +1,5 @@
 -- What is judged of a command: the first refusal in order, or its task.
-use Rattle.std.specs.Prelude.{◌≡◌, ◌+◌, ℕ, nat_le, List, [], length, map, codes, slice_index_or, Option, Some, None, Result, Ok, Err, if◌then◌else◌}
+use Rattle.std.specs.Prelude.{◌≡◌, ◌+◌, ℕ, Bool, true, nat_le, List, [], length, map, codes, slice_index_or, Option, Some, None, Result, Ok, Err, if◌then◌else◌}
 use Rattle.std.specs.List.{zip}
 use Rattle.lab_base.specs.declared.fault.TextFault.{TextFault}
 use Rattle.lab_base.specs.declared.ids.VlanId.{VlanId}
@@ -35,7 +35,7 @@ use Rattle.script_text.specs.declared.reply.StatusLine.{StatusLine}
 use Rattle.script_text.specs.declared.reply.TagLine.{TagLine}
 use Rattle.script_text.specs.declared.reply.Placed.{Placed}
 use Rattle.script_text.specs.declared.reply.Reply.{Reply}
-use Rattle.script_text.specs.declared.reply.Reply.TheVariants.{Lab as LabReply, Created, Shown, Deleted, Listed, NoLab, LabIsSet, Exists, Unknown, IsIn, IsOut, IsMoving, Infeasible, Bad, BadPtop, FullExperiments}
+use Rattle.script_text.specs.declared.reply.Reply.TheVariants.{Lab as LabReply, Created, Shown, Deleted, Listed, NoLab, LabIsSet, Exists, Unknown, IsIn, IsOut, IsMoving, Busy, NotOpen, Infeasible, Bad, BadPtop, FullExperiments, FullSwaps}
 use Rattle.lab_core.specs.Counts.{nodes_claimed, ids_claimed, nodes_free, ids_free, least_tags}
 
 -- THE REFUSALS: each check gives a value, or the reply that refuses the command
@@ -85,6 +85,17 @@ need_in exp Out = Err (IsOut exp)
 need_in exp (In mapping tags) = Ok tt
 need_in exp (Moving old new) = Err (IsMoving exp)
 
+-- `busy E` exactly where the experiment has an open swap, and `not open E` exactly where it has none
+abbrev pub need_idle : List ℕ → Bool → Result (Unit {0}) Reply
+need_idle exp busy = if busy then Err (Busy exp) else Ok tt
+
+abbrev pub need_open : List ℕ → Bool → Result (Unit {0}) Reply
+need_open exp busy = if busy then Ok tt else Err (NotOpen exp)
+
+-- `full swaps 16` exactly where so many are open
+abbrev pub need_slot : ℕ → Result (Unit {0}) Reply
+need_slot count = if nat_le 16 count then Err FullSwaps else Ok tt
+
 -- what breaks a rule, as a reply names it
 abbrev pub name_at : List (List ℕ) → ℕ → List ℕ
 name_at names n = slice_index_or names n []
@@ -115,6 +126,12 @@ pub data Task : Type 0 where
   Append : (entry : Record) (reply : Reply) → Task
   -- it begins a swap of the experiment that way by a record, and turns it to its end
   Swap : (exp : List ℕ) (way : Way) → Task
+  -- it begins one, which later commands turn
+  BeginOnly : (exp : List ℕ) (way : Way) → Task
+  -- it makes one turn of the experiment's open swap
+  Turn : (exp : List ℕ) → Task
+  -- it turns the experiment's open swap to its end
+  Finish : (exp : List ℕ) → Task
   -- it settles all that move and have no open swap
   Recover : Task
 
@@ -187,10 +204,11 @@ judged_show s exp = do
   e ← need_found exp (find exp s.experiments)
   Ok (Tell (shown_reply lab e))
 
-abbrev pub judged_delete : LabState → List ℕ → Result Task Reply
-judged_delete s exp = do
+abbrev pub judged_delete : LabState → Bool → List ℕ → Result Task Reply
+judged_delete s busy exp = do
   lab ← need_lab s.lab
   e ← need_found exp (find exp s.experiments)
+  idle ← need_idle exp busy
   out ← need_out exp e.phase
   Ok (Append (Delete exp) (Deleted exp))
 
@@ -200,10 +218,11 @@ judged_mapping s lab e mapping = do
   feasible ← need_feasible lab s.experiments e e.wiring mapping
   Ok (Swap e.name (WayIn (canonical_solution lab e.wiring mapping) (least_tags lab s.experiments (length e.wiring.segments))))
 
-abbrev pub judged_swapin : LabState → List ℕ → List ℕ → Result Task Reply
-judged_swapin s exp text = do
+abbrev pub judged_swapin : LabState → Bool → List ℕ → List ℕ → Result Task Reply
+judged_swapin s busy exp text = do
   lab ← need_lab s.lab
   e ← need_found exp (find exp s.experiments)
+  idle ← need_idle exp busy
   out ← need_out exp e.phase
   mapping ← need_meaning (Bad exp) (mapping_of_text lab e.wiring text)
   judged_mapping s lab e mapping
@@ -217,21 +236,48 @@ judged_change s lab e w mapping = do
   feasible ← need_feasible lab s.experiments e w mapping
   Ok (Swap e.name (WayChange (canonical_top w) (canonical_solution lab w mapping) (least_tags lab s.experiments (length w.segments))))
 
-abbrev pub judged_modify : LabState → List ℕ → ℕ → List ℕ → List ℕ → Result Task Reply
-judged_modify s exp lines top map = do
+abbrev pub judged_modify : LabState → Bool → List ℕ → ℕ → List ℕ → List ℕ → Result Task Reply
+judged_modify s busy exp lines top map = do
   lab ← need_lab s.lab
   e ← need_found exp (find exp s.experiments)
+  idle ← need_idle exp busy
   inside ← need_in exp e.phase
   w ← need_meaning (Bad exp) (wiring_of_text top)
   mapping ← need_meaning (λ fault. Bad exp (behind_lines lines fault)) (mapping_of_text lab w map)
   judged_change s lab e w mapping
 
-abbrev pub judged_swapout : LabState → List ℕ → Result Task Reply
-judged_swapout s exp = do
+abbrev pub judged_swapout : LabState → Bool → List ℕ → Result Task Reply
+judged_swapout s busy exp = do
   lab ← need_lab s.lab
   e ← need_found exp (find exp s.experiments)
+  idle ← need_idle exp busy
   inside ← need_in exp e.phase
   Ok (Swap exp WayOut)
+
+-- a swap that nothing else refuses needs room among the open swaps, and is only begun where `open` stands before it
+abbrev pub begun_as : Bool → Task → Task
+begun_as true (Swap exp way) = BeginOnly exp way
+begun_as only task = task
+
+abbrev pub in_slot : ℕ → Bool → Result Task Reply → Result Task Reply
+in_slot count only judgement = do
+  task ← judgement
+  slot ← need_slot count
+  Ok (begun_as only task)
+
+abbrev pub judged_turn : LabState → Bool → List ℕ → Result Task Reply
+judged_turn s busy exp = do
+  lab ← need_lab s.lab
+  e ← need_found exp (find exp s.experiments)
+  opened ← need_open exp busy
+  Ok (Turn exp)
+
+abbrev pub judged_finish : LabState → Bool → List ℕ → Result Task Reply
+judged_finish s busy exp = do
+  lab ← need_lab s.lab
+  e ← need_found exp (find exp s.experiments)
+  opened ← need_open exp busy
+  Ok (Finish exp)
 
 abbrev pub judged_status : LabState → Result Task Reply
 judged_status s = do
@@ -253,18 +299,20 @@ pub data JudgedNetwork (s : LabState) (exp text : List ℕ) (judgement : Result 
   asked : (meaning : Result Wiring TextFault) → need_place s exp ≡ Ok tt → WiringOf text meaning → judgement ≡ (need_meaning (Bad exp) meaning >>= judged_wiring s exp)
       → JudgedNetwork s exp text judgement
 
--- WHAT IS JUDGED of a command, whatever the journal's length. No drill comes.
-abbrev pub Judged : LabState → Command → Result Task Reply → Type 0
-Judged s (commands.Ptop lines text) = Is (judged_ptop s text)
-Judged s (commands.Create exp lines text) = JudgedNetwork s exp text
-Judged s (commands.CreateTop exp lines text) = Is (judged_create s exp text)
-Judged s (commands.Show exp) = Is (judged_show s exp)
-Judged s (commands.SwapinWith exp lines text) = Is (judged_swapin s exp text)
-Judged s (commands.ModifyWith exp lines top others map) = Is (judged_modify s exp lines top map)
-Judged s (commands.Swapout exp) = Is (judged_swapout s exp)
-Judged s commands.Recover = Is (judged_recover s)
-Judged s (commands.Fail device nth how) = λ judgement. ⊥
-Judged s (commands.FailDisk nth) = λ judgement. ⊥
-Judged s (commands.Stop nth pick) = λ judgement. ⊥
-Judged s (commands.Delete exp) = Is (judged_delete s exp)
-Judged s commands.Status = Is (judged_status s)
+-- WHAT IS JUDGED of a command, whatever the journal's length, by whether its experiment has an open swap and how many are open. No drill comes.
+abbrev pub Judged : LabState → Bool → ℕ → Command → Result Task Reply → Type 0
+Judged s busy count (commands.Ptop lines text) = Is (judged_ptop s text)
+Judged s busy count (commands.Create exp lines text) = JudgedNetwork s exp text
+Judged s busy count (commands.CreateTop exp lines text) = Is (judged_create s exp text)
+Judged s busy count (commands.Show exp) = Is (judged_show s exp)
+Judged s busy count (commands.SwapinWith only exp lines text) = Is (in_slot count only (judged_swapin s busy exp text))
+Judged s busy count (commands.ModifyWith only exp lines top others map) = Is (in_slot count only (judged_modify s busy exp lines top map))
+Judged s busy count (commands.Swapout only exp) = Is (in_slot count only (judged_swapout s busy exp))
+Judged s busy count (commands.Turn exp) = Is (judged_turn s busy exp)
+Judged s busy count (commands.Finish exp) = Is (judged_finish s busy exp)
+Judged s busy count commands.Recover = Is (judged_recover s)
+Judged s busy count (commands.Fail device nth how) = λ judgement. ⊥
+Judged s busy count (commands.FailDisk nth) = λ judgement. ⊥
+Judged s busy count (commands.Stop nth pick) = λ judgement. ⊥
+Judged s busy count (commands.Delete exp) = Is (judged_delete s busy exp)
+Judged s busy count commands.Status = Is (judged_status s)

@@ -1,5 +1,7 @@
 -- THE LAB STEP: what one command may do, by the steps of its opening and its own.
-use Rattle.std.specs.Prelude.{◌≡◌, ◌⊎◌, ◌+◌, nat_le, ℕ, Bool, true, false, List, [], ◌∷◌, ◌++◌, Option, Some, None, Result, Ok, Err}
+use Rattle.std.specs.Prelude.{◌≡◌, ◌⊎◌, ◌+◌, nat_le, ℕ, Bool, true, false, List, [], ◌∷◌, ◌++◌, length, Option, Some, None, Result, Ok, Err}
+use Rattle.std.specs.Option.{option_map}
+use Rattle.lab_base.specs.Lists.{listed}
 use Rattle.plant.specs.Events.{Event, Missed, Restarted}
 use Rattle.plant.specs.declared.drill.Drill.{Drill}
 use Rattle.plant.specs.declared.step.Side.{Side}
@@ -12,7 +14,7 @@ use Rattle.lab_state.specs.Texts.{the_texts}
 use Rattle.script_text.specs.Drills.{drill_of}
 use Rattle.script_text.specs.declared.command.Command.{Command}
 use Rattle.script_text.specs.declared.reply.Reply.{Reply}
-use Rattle.script_text.specs.declared.reply.Reply.TheVariants.{In, Out, Failed, FullJournal, Planned, NoDrill, Stopped as StoppedReply}
+use Rattle.script_text.specs.declared.reply.Reply.TheVariants.{In, Out, More as MoreReply, Trouble, Failed, FullJournal, Planned, NoDrill, Stopped as StoppedReply}
 use Rattle.script_text.specs.declared.reply.FailedEnd.{FailedEnd}
 use Rattle.script_text.specs.declared.reply.FailedEnd.TheVariants as ends
 use Rattle.lab_base.specs.declared.what.What.TheVariants as whats
@@ -20,11 +22,15 @@ use Rattle.virt_topo.specs.declared.mapping.Mapped.{Mapped}
 use Rattle.swap_txn.specs.Troubles.{what_of}
 use Rattle.swap_turns.specs.Swaps.{Swap as SwapOf, Moves}
 use Rattle.swap_turns.specs.Legs.{Forth, Undo}
-use Rattle.swap_turns.specs.Turning.{Outcome, Ended, Stuck, Unwritten, Stopped as Halted}
+use Rattle.swap_turns.specs.Beginning.{opened as opened_swap}
+use Rattle.swap_turns.specs.Finishing.{Finishes}
+use Rattle.swap_turns.specs.Records.{IsWhole, IsBroken}
+use Rattle.swap_turns.specs.Records as records
+use Rattle.swap_turns.specs.Turning.{Outcome, More, TurnsBack, Ended, Stuck, Unwritten, Stopped as Halted, TurnSteps, open_after}
 use Rattle.swap_turns.specs.Whole.{SwapSteps}
-use Rattle.lab_core.specs.Sessions.{OpenSwap, Session, Closed, Open, Setting, After}
+use Rattle.lab_core.specs.Sessions.{OpenSwap, Session, Closed, Open, Setting, After, is_among, name_in, name_of, names_of}
 use Rattle.lab_core.specs.Breaks.{Breaks, StartsBehind}
-use Rattle.lab_core.specs.Judge.{Task, Tell, Append, Swap, Recover, Judged}
+use Rattle.lab_core.specs.Judge.{Task, Tell, Append, Swap, BeginOnly, Turn, Finish, Recover, Judged}
 use Rattle.lab_core.specs.Recovery.{Opens, BreaksOpening, Recovers}
 
 -- THE COMMAND'S OWN STEPS, over an open controller with those open swaps
@@ -74,7 +80,7 @@ abbrev pub undone_end : Option Mapped → FailedEnd
 undone_end None = ends.Out
 undone_end (Some m) = ends.In
 
--- THE REPLY TO A SWAP, by its outcome, and whether the controller stays open. No other outcome ends a whole swap.
+-- THE REPLY TO A SWAP that is over, by its outcome; and to one that isn't
 abbrev pub end_reply : SwapOf → Outcome → Option Reply
 end_reply p (Ended Forth) = Some (done_reply p.name p.new)
 end_reply p (Ended (Undo why)) = Some (Failed p.name (undone_end p.old) (what_of why))
@@ -83,15 +89,21 @@ end_reply p Unwritten = Some (Failed p.name ends.Stuck whats.Journal)
 end_reply p Halted = Some StoppedReply
 end_reply p outcome = None
 
+abbrev pub turn_reply : SwapOf → Outcome → Option Reply
+turn_reply p More = Some (MoreReply p.name)
+turn_reply p (TurnsBack why) = Some (Trouble p.name (what_of why))
+turn_reply p outcome = end_reply p outcome
+
+-- the controller stays open, with those open swaps, but where a call of the journal failed or the plant stopped
 abbrev pub end_session : List OpenSwap → Outcome → Session
 end_session opens Unwritten = Closed
 end_session opens Halted = Closed
 end_session opens outcome = Open opens
 
 -- the reply is told; or there is none, since memory was wanting for it, or for the start of a stopped plant
-pub data IsAnswered (opens : List OpenSwap) (p : SwapOf) (outcome : Outcome) (behind : List Event) (after : After) : Type 0 where
-  is_told : StartsBehind outcome behind → after.reply ≡ end_reply p outcome → after.session ≡ end_session opens outcome → IsAnswered opens p outcome behind after
-  unanswered : (behind ≡ []) ⊎ StartsBehind outcome behind → after.reply ≡ None → after.session ≡ Closed → IsAnswered opens p outcome behind after
+pub data IsAnswered (reply : Option Reply) (opens : List OpenSwap) (outcome : Outcome) (behind : List Event) (after : After) : Type 0 where
+  is_told : StartsBehind outcome behind → after.reply ≡ reply → after.session ≡ end_session opens outcome → IsAnswered reply opens outcome behind after
+  unanswered : (behind ≡ []) ⊎ StartsBehind outcome behind → after.reply ≡ None → after.session ≡ Closed → IsAnswered reply opens outcome behind after
 
 -- A SWAP: a record that says a move, by which the experiment moves so; the commands of that course and of its undo; and the record that ends
 -- it, as far as it came
@@ -106,7 +118,64 @@ pub record Swaps (s : LabState) (opens : List OpenSwap) (exp : List ℕ) (entry 
   pub behind : List Event
   pub own_is : own ≡ steps ++ behind
   pub ends : SwapSteps swap s entry move steps after.lab outcome
-  pub answered : IsAnswered opens swap outcome behind after
+  pub answered : IsAnswered (end_reply swap outcome) opens outcome behind after
+
+-- the append of that record alone
+abbrev pub BeginSteps : LabState → Record → Move → List Event → LabState → Outcome → Type 0
+BeginSteps s entry move steps after More = IsWhole s entry move steps after
+BeginSteps s entry move steps after Unwritten = IsBroken records.missed s entry move steps after
+BeginSteps s entry move steps after Halted = IsBroken records.nothing s entry move steps after
+BeginSteps s entry move steps after outcome = ⊥
+
+-- A SWAP IS ONLY BEGUN: it is open afterwards, behind the others, and nothing of it was sent
+abbrev pub begun_at : SwapOf → ℕ → OpenSwap
+begun_at p devices = record { running = opened_swap p; devices = devices }
+
+pub record Begins (s : LabState) (opens : List OpenSwap) (devices : ℕ) (exp : List ℕ) (entry : Record) (own : List Event) (after : After) : Type 0 where
+  pub swap : SwapOf
+  pub name : swap.name ≡ exp
+  pub move : Move
+  pub says : Says the_texts s entry move
+  pub moves : (state : LabState) → moved s move ≡ Some state → Moves swap state
+  pub outcome : Outcome
+  pub steps : List Event
+  pub behind : List Event
+  pub own_is : own ≡ steps ++ behind
+  pub begins : BeginSteps s entry move steps after.lab outcome
+  pub answered : IsAnswered (turn_reply swap outcome) (opens ++ begun_at swap devices ∷ []) outcome behind after
+
+-- one of the open swaps, of that experiment, among the others
+pub record IsOneOf (opens : List OpenSwap) (exp : List ℕ) : Type 0 where
+  pub front : List OpenSwap
+  pub swap : OpenSwap
+  pub rest : List OpenSwap
+  pub are : opens ≡ front ++ swap ∷ rest
+  pub name : name_in swap ≡ exp
+
+-- as it is open after a turn, if it is
+abbrev pub turned_on : OpenSwap → List Event → Outcome → List OpenSwap
+turned_on o steps outcome = listed (option_map (λ running. record o { running = running }) (open_after o.running steps outcome))
+
+-- A TURN of one of the open swaps: one device command and no byte of the journal, or its last record and no device command. It stands in its place
+-- while it is open, and each other is as it was.
+pub record Turns (s : LabState) (opens : List OpenSwap) (exp : List ℕ) (own : List Event) (after : After) : Type 0 where
+  pub one : IsOneOf opens exp
+  pub outcome : Outcome
+  pub steps : List Event
+  pub behind : List Event
+  pub own_is : own ≡ steps ++ behind
+  pub turn : TurnSteps s one.swap.running steps outcome after.lab
+  pub answered : IsAnswered (turn_reply one.swap.running.swap outcome) (one.front ++ (turned_on one.swap steps outcome ++ one.rest)) outcome behind after
+
+-- ONE OF THEM IS TURNED TO ITS END, with no other between
+pub record EndsSwap (s : LabState) (opens : List OpenSwap) (exp : List ℕ) (own : List Event) (after : After) : Type 0 where
+  pub one : IsOneOf opens exp
+  pub outcome : Outcome
+  pub steps : List Event
+  pub behind : List Event
+  pub own_is : own ≡ steps ++ behind
+  pub finishes : Finishes s one.swap.running steps outcome after.lab
+  pub answered : IsAnswered (end_reply one.swap.running.swap outcome) (one.front ++ one.rest) outcome behind after
 
 -- `full journal LENGTH` exactly where the length, the record's size and 10,240 bytes for the last records of moves are above the limit
 abbrev pub has_space : Setting → Record → Bool
@@ -123,6 +192,9 @@ Performs set s opens (Tell told) own after = Replies s opens told own after
 Performs set s opens (Append entry told) own after = IfSpace (has_space set entry) set.length s opens (Appends s opens entry told own after) own after
 Performs set s opens Recover own after = Recovers s opens own after
 Performs set s opens (Swap exp way) own after = IfSpace (has_space set (Begin exp way)) set.length s opens (Swaps s opens exp (Begin exp way) own after) own after
+Performs set s opens (BeginOnly exp way) own after = IfSpace (has_space set (Begin exp way)) set.length s opens (Begins s opens set.devices exp (Begin exp way) own after) own after
+Performs set s opens (Turn exp) own after = Turns s opens exp own after
+Performs set s opens (Finish exp) own after = EndsSwap s opens exp own after
 
 -- THE JUDGEMENT IS DONE: the refusal is told, or the task is done
 abbrev pub Does : Setting → LabState → List OpenSwap → Result Task Reply → List Event → After → Type 0
@@ -145,19 +217,23 @@ pub data Drills (takes : Bool) (s : LabState) (session : Session) (own : List Ev
   is_refused : takes ≡ false → own ≡ [] → after ≡ record { reply = Some NoDrill; lab = s; session = session } → Drills takes s session own after
   wants_memory : WantsMemory s own after → Drills takes s session own after
 
--- a drill needs no open controller; every other command opens it where it is closed
-abbrev pub StepOf : Option Drill → (LabState → Result Task Reply → Type 0) → Bool → Setting → LabState → Session → List Event → List Event → After → Type 0
+-- a drill needs no open controller; every other command opens it where it is closed, and finds no open swap then
+abbrev pub StepOf : Option Drill → (List OpenSwap → LabState → Result Task Reply → Type 0) → Bool → Setting → LabState → Session → List Event → List Event → After → Type 0
 StepOf (Some drill) Judges takes set s session opening own after = (opening ≡ []) × Drills takes s session own after
-StepOf None Judges takes set s Closed opening own after = FromClosed Judges set s opening own after
-StepOf None Judges takes set s (Open opens) opening own after = (opening ≡ []) × IsDoneBy (Judges s) set s opens own after
+StepOf None Judges takes set s Closed opening own after = FromClosed (Judges []) set s opening own after
+StepOf None Judges takes set s (Open opens) opening own after = (opening ≡ []) × IsDoneBy (Judges opens s) set s opens own after
+
+-- what is judged of a command beside these open swaps
+abbrev pub JudgedBeside : Command → List OpenSwap → LabState → Result Task Reply → Type 0
+JudgedBeside command opens s = Judged s (is_among (names_of opens) (name_of command)) (length opens) command
 
 -- THE LAB STEP, over a plant that takes drills or not
 abbrev pub LabStep : Bool → Setting → LabState → Session → Command → List Event → List Event → After → Type 0
-LabStep takes set s session command opening own after = StepOf (drill_of command) (λ lab. Judged lab command) takes set s session opening own after
+LabStep takes set s session command opening own after = StepOf (drill_of command) (JudgedBeside command) takes set s session opening own after
 
 -- the lab step by one judgement of the command
-abbrev pub IsThis : Result Task Reply → Command → LabState → Result Task Reply → Type 0
-IsThis judgement command s other = (other ≡ judgement) × Judged s command other
+abbrev pub IsThis : Result Task Reply → Command → List OpenSwap → LabState → Result Task Reply → Type 0
+IsThis judgement command opens s other = (other ≡ judgement) × JudgedBeside command opens s other
 
 abbrev pub LabStepBy : Result Task Reply → Bool → Setting → LabState → Session → Command → List Event → List Event → After → Type 0
 LabStepBy judgement takes set s session command opening own after = StepOf (drill_of command) (IsThis judgement command) takes set s session opening own after

@@ -1,5 +1,5 @@
 -- Settling in the lab step: what an opening does beside reading, and the command `recover`.
-use Rattle.std.specs.Prelude.{◌≡◌, ◌⊎◌, ℕ, false, count_by, List, [], ◌++◌, map, Some}
+use Rattle.std.specs.Prelude.{◌≡◌, ◌⊎◌, ℕ, false, count_by, List, [], ◌++◌, Some}
 use Rattle.plant.specs.Events.{Event}
 use Rattle.records_model.specs.Labs.{LabState}
 use Rattle.journal_runs.specs.Pieces.{has_restart, has_miss, has_command}
@@ -10,7 +10,7 @@ use Rattle.swap_turns.specs.Turning.{Outcome}
 use Rattle.recovery.specs.Due.{swaps_of}
 use Rattle.recovery.specs.Settle.{is_ended, is_stuck}
 use Rattle.lab_core.specs.Breaks.{Breaks, StartsBehind}
-use Rattle.lab_core.specs.Sessions.{OpenSwap, Closed, Open, After}
+use Rattle.lab_core.specs.Sessions.{OpenSwap, Closed, Open, After, names_of}
 
 -- HOW FAR A SETTLING CAME that broke off, in order of creation and without the busy ones: some were settled; or so were some, and in the next a
 -- call of the journal failed, or the plant stopped, and was started again if there was memory
@@ -51,9 +51,6 @@ pub record BreaksOpening (s : LabState) (opening own : List Event) (after : Afte
   pub session : after.session ≡ Closed
 
 -- THE COMMAND `recover`: all that move and have no open swap are settled, and the numbers of those settled and stuck are told; or that breaks off
-abbrev pub names_of : List OpenSwap → List (List ℕ)
-names_of opens = map (λ o. o.name) opens
-
 pub data Recovers (s : LabState) (opens : List OpenSwap) (own : List Event) (after : After) : Type 0 where
   settled : (outcomes : List Outcome) → Settles s (swaps_of (names_of opens) s.experiments) outcomes own after.lab
       → after.reply ≡ Some (Recovered (count_by is_ended outcomes) (count_by is_stuck outcomes)) → after.session ≡ Open opens → Recovers s opens own after

@@ -1,17 +1,24 @@
 -- Whether a controller is open, and how a command leaves it.
-use Rattle.std.specs.Prelude.{◌≡◌, ℕ, List, [], ◌∷◌, length, Option, Some, None, if◌then◌else◌}
+use Rattle.std.specs.Prelude.{◌≡◌, ◌⊎◌, ◌≤◌, ℕ, Bool, false, List, [], ◌∷◌, length, map, Option, Some, None, if◌then◌else◌}
 use Rattle.std.specs.Str.{bytes_eq}
-use Rattle.plant.specs.Events.{Event}
+use Rattle.lab_base.specs.Lists.{Has}
+use Rattle.plant.specs.Calls.{Rose}
 use Rattle.records_model.specs.Labs.{LabState}
+use Rattle.lab_model.specs.Courses.{Device}
+use Rattle.recovery.specs.Due.{is_busy}
+use Rattle.script_text.specs.declared.command.Command.{Command}
+use Rattle.script_text.specs.declared.command.Command.TheVariants as commands
 use Rattle.script_text.specs.declared.reply.Reply.{Reply}
-use Rattle.swap_turns.specs.Legs.{Leg}
+use Rattle.swap_turns.specs.Legs.{Leg, Undo}
+use Rattle.swap_turns.specs.Running.{OpenSwap as RunningSwap}
 
--- an open swap: its experiment, its leg, its own commands on that leg, and the count of device faults when it was opened
+-- AN OPEN SWAP: which swap it is, its leg and its own commands on that leg, and the count of device faults when it was opened
 pub record OpenSwap : Type 0 where
-  pub name : List ℕ
-  pub leg : Leg
-  pub course : List Event
+  pub running : RunningSwap
   pub devices : ℕ
+
+abbrev pub name_in : OpenSwap → List ℕ
+name_in o = o.running.swap.name
 
 -- the controller is closed, or open with its open swaps
 pub data Session : Type 0 where
@@ -25,7 +32,55 @@ open_alone = Open []
 -- the open swap of a name
 abbrev pub open_at : List ℕ → List OpenSwap → Option OpenSwap
 open_at name [] = None
-open_at name (o ∷ opens) = if bytes_eq o.name name then Some o else open_at name opens
+open_at name (o ∷ opens) = if bytes_eq (name_in o) name then Some o else open_at name opens
+
+abbrev pub names_of : List OpenSwap → List (List ℕ)
+names_of opens = map name_in opens
+
+-- the experiment that a command is about
+abbrev pub name_of : Command → Option (List ℕ)
+name_of (commands.Ptop lines text) = None
+name_of (commands.Create exp lines text) = Some exp
+name_of (commands.CreateTop exp lines text) = Some exp
+name_of (commands.Show exp) = Some exp
+name_of (commands.SwapinWith only exp lines text) = Some exp
+name_of (commands.ModifyWith only exp lines top others map) = Some exp
+name_of (commands.Swapout only exp) = Some exp
+name_of (commands.Turn exp) = Some exp
+name_of (commands.Finish exp) = Some exp
+name_of commands.Recover = None
+name_of (commands.Fail device nth how) = None
+name_of (commands.FailDisk nth) = None
+name_of (commands.Stop nth pick) = None
+name_of (commands.Delete exp) = Some exp
+name_of commands.Status = None
+
+-- the experiment, if there is one, has one of these open swaps
+abbrev pub is_among : List (List ℕ) → Option (List ℕ) → Bool
+is_among names None = false
+is_among names (Some exp) = is_busy names exp
+
+-- WHAT IS COUNTED FROM: the count of device faults when the experiment's swap was opened, or this count where it has none
+abbrev pub devices_if : Option OpenSwap → ℕ → ℕ
+devices_if None count = count
+devices_if (Some o) count = o.devices
+
+abbrev pub counted_from : List OpenSwap → Option (List ℕ) → ℕ → ℕ
+counted_from opens None count = count
+counted_from opens (Some exp) count = devices_if (open_at exp opens) count
+
+-- each of these open swaps was opened before, or at this count
+abbrev pub AreOpenedBy : List OpenSwap → List OpenSwap → ℕ → Type 0
+AreOpenedBy old new count = (o : OpenSwap) → Has new o → (o.devices ≡ count) ⊎ ((q : OpenSwap) × Has old q × (name_in q ≡ name_in o) × (q.devices ≡ o.devices))
+
+-- A FAILURE that began the undo of an open swap came since it was opened
+abbrev pub HasRisenBy : Leg → ℕ → ℕ → Type 0
+HasRisenBy (Undo (Device name)) devices count = Rose devices count
+HasRisenBy leg devices count = Unit {0}
+
+pub record IsSince (count : ℕ) (o : OpenSwap) : Type 0 where
+  pub later : o.devices ≤ count
+  pub caused : HasRisenBy o.running.leg o.devices count
 
 -- SESSIONS ARE HANDED ON: as many open swaps, and the same by each name
 pub record AreSame (old new : List OpenSwap) : Type 0 where
@@ -37,10 +92,12 @@ HandsOn Closed Closed = Unit {0}
 HandsOn (Open old) (Open new) = AreSame old new
 HandsOn old new = ⊥
 
--- what the limit of the journal is judged by: its length before the command's own steps, and its limit
+-- what the limit of the journal is judged by, its length before the command's own steps and its limit; and the count of device faults at which a swap
+-- of the command is opened
 pub record Setting : Type 0 where
   pub length : ℕ
   pub limit : ℕ
+  pub devices : ℕ
 
 -- after a command: its reply, if it has one, the lab, and the session
 pub record After : Type 0 where

@@ -1,132 +1,118 @@
--- A whole swap, from its Begin to its end.
-use Rattle.std.specs.Prelude.{◌≡◌, ℕ, Bool, true, false, List, Option, Some, None, is_some, Result, Ok, Err}
-use Rattle.plant.specs.Events.{Event}
+-- A swap: how it begins, is turned, and is told.
+use Rattle.std.specs.Prelude.{◌≡◌, ℕ, Bool, true, false, List, [], ◌∷◌, ◌++◌, Option, Some, None, Result, Ok, Err, IsTrue}
+use Rattle.plant.specs.Seen.{Seen}
 use Rattle.journal_rec.specs.Payloads.{IsBody}
 use Rattle.journal_rec.specs.declared.record.Record.{Record}
 use Rattle.journal_rec.specs.declared.record.Record.TheVariants.{Begin}
+use Rattle.journal_rec.specs.declared.record.Way.{Way}
 use Rattle.journal_disk.specs.declared.journal.Journal.{Journal}
-use Rattle.lab_model.specs.Courses.{Trouble}
-use Rattle.records_model.specs.Labs.{LabState, Move, moved, lab_in}
-use Rattle.swap_txn.specs.declared.ended.Ended.{Ended as Over}
-use Rattle.swap_txn.specs.declared.live.Live.{Live}
-use Rattle.swap_txn.specs.declared.turned.Turned.{Turned}
-use Rattle.swap_txn.specs.declared.turned.Turned.TheVariants as turned
 use Rattle.lab_base.specs.declared.what.What.{What}
-use Rattle.lab_base.specs.declared.what.What.TheVariants as swapping
-use Rattle.swap_txn.specs.States.{Plans}
-use Rattle.plant.specs.Seen.{Seen}
-use Rattle.swap_txn.specs.Troubles as troubles
-use Rattle.swap_turns.specs.Swaps.{Swap, Moves}
-use Rattle.swap_turns.specs.Records.{missed, nothing}
-use Rattle.swap_turns.specs.Beginning.{IsPlanOf, MayBegin, HasNotBegun}
-use Rattle.swap_turns.specs.declared.loops.Finished.{Finished}
-use Rattle.swap_turns.specs.declared.loops.Finished.TheVariants as finished
-use Rattle.swap_turns.specs.Beginning.{BeginsOf, HasBegun}
-use Rattle.swap_turns.specs.Legs.{Forth, Undo}
-use Rattle.swap_turns.specs.Turning.{Outcome, More, TurnsBack, Ended, Stuck, Unwritten, Stopped, IsStuckAs}
-use Rattle.swap_turns.specs.Whole as whole
+use Rattle.records_model.specs.Labs.{LabState, Move, Says, moved, lab_in}
 use Rattle.lab_state.specs.Changes.{CanEnd, ending}
 use Rattle.lab_state.specs.Texts.{the_texts}
+use Rattle.swap_txn.specs.States.{Plans}
+use Rattle.swap_txn.specs.declared.live.Live.{Live}
+use Rattle.swap_turns.specs.Beginning.{BeginsOf, HasBegun, IsPlanOf, MayBegin}
+use Rattle.swap_turns.specs.Finishing.{Finishes}
+use Rattle.swap_turns.specs.Running.{OpenSwap as RunningSwap, Working}
+use Rattle.swap_turns.specs.Swaps.{Swap as SwapOf, Moves}
+use Rattle.swap_turns.specs.Turning.{TurnSteps}
+use Rattle.swap_mgr.specs.Managing.{HasTurned, HasTurnedToEnd, IfGoesOn}
+use Rattle.swap_mgr.specs.declared.progress.OpenSwap.{OpenSwap as Unopened}
+use Rattle.swap_mgr.specs.declared.progress.OpenSwap.TheVariants as unopened
+use Rattle.swap_mgr.specs.declared.progress.Progress.{Progress}
+use Rattle.swap_mgr.specs.declared.progress.Progress.TheVariants as progress
 use Rattle.script_text.specs.declared.reply.FailedEnd.{FailedEnd}
-use Rattle.script_text.specs.declared.reply.FailedEnd.TheVariants as failures
+use Rattle.script_text.specs.declared.reply.FailedEnd.TheVariants as ends
 use Rattle.script_text.specs.declared.reply.Reply.{Reply}
-use Rattle.script_text.specs.declared.reply.Reply.TheVariants.{In, Out, Failed}
+use Rattle.script_text.specs.declared.reply.Reply.TheVariants.{In, Out, More, Trouble, Failed}
 use Rattle.lab_core.specs.declared.fault.CoreFault.{CoreFault}
 use Rattle.lab_core.specs.declared.fault.CoreFault.TheVariants as faults
-use Rattle.lab_core.specs.LabSteps.{end_reply}
+use Rattle.lab_core.specs.Controller.{Control, WorksWith}
+use Rattle.lab_core.specs.Judge.{Swap, Is, begun_as}
+use Rattle.lab_core.specs.LabSteps.{begun_at, has_space}
+use Rattle.lab_core.specs.Obey.{Obeyed, start_of}
+use Rattle.lab_core.specs.Sessions.{OpenSwap}
 
 -- A SWAP THAT CAN BEGIN, planned: its Begin can follow and has space, and leads to the lab in which the experiment moves
-pub record IsPlanned (s u : LabState) (j : Journal) (plans : Plans) (p : Swap) (begin : Record) (move : Move) : Type 0 where
+pub record IsPlanned (s u : LabState) (j : Journal) (plans : Plans) (p : SwapOf) (begin : Record) (move : Move) : Type 0 where
   pub may : MayBegin the_texts s u begin move j
   pub begins : BeginsOf p.name move
   pub moves : Moves p u
   pub plan : IsPlanOf p (lab_in u.lab) plans.forth
   pub body : IsBody plans.begin begin
 
-pub record CanRun (s u : LabState) (j : Journal) (plans : Plans) (exp : List ℕ) : Type 0 where
-  pub swap : Swap
-  pub begin : Record
-  pub move : Move
-  pub name : swap.name ≡ exp
-  pub planned : IsPlanned s u j plans swap begin move
-
 -- the record begins a swap
 abbrev pub IsBegin : Record → Type 0
 IsBegin (Begin exp way) = Unit {0}
 IsBegin entry = ⊥
 
--- a turn that begins a swap leads to its first state, or the journal fails, or the plant stops
-abbrev pub IsBeginning : Turned Plans → Type 0
-IsBeginning (turned.Same plans) = ⊥
-IsBeginning (turned.Trouble back what) = ⊥
-IsBeginning (turned.Stuck plans what) = what ≡ swapping.Journal
-IsBeginning turned = Unit {0}
+-- WHY A SWAP IS NOT OPENED that has none open and room: its Begin was not written, the plant stopped, or memory was wanting
+abbrev pub HasTried : Unopened → Type 0
+HasTried (unopened.Busy exp) = ⊥
+HasTried (unopened.TooManyOpen most) = ⊥
+HasTried fault = Unit {0}
 
-abbrev pub IsBegunBy : Turned Plans → Result Live Finished → Type 0
-IsBegunBy (turned.Next live) begun = begun ≡ Ok live
-IsBegunBy turned.Stopped begun = begun ≡ Err finished.Stopped
-IsBegunBy turned begun = begun ≡ Err (finished.Stuck swapping.Journal)
+-- the end of the experiment's move can follow, and follows, where its swap came to its last record
+abbrev pub CanEndBy : LabState → List ℕ → Progress → Type 0
+CanEndBy s exp (progress.Ended over) = CanEnd s exp over.committed
+CanEndBy s exp told = Unit {0}
 
--- it began, or it broke off
-abbrev pub IsAfterFirst : Swap → LabState → LabState → Record → Move → Seen → Seen → Journal → Journal → Result Live Finished → Type 0
-IsAfterFirst p s u begin move before now j k (Ok live) = HasBegun the_texts p s u begin move before now j k live
-IsAfterFirst p s u begin move before now j k (Err (finished.Stuck swapping.Journal)) = HasNotBegun the_texts s begin move missed Unwritten before now
-IsAfterFirst p s u begin move before now j k (Err finished.Stopped) = HasNotBegun the_texts s begin move nothing Stopped before now
-IsAfterFirst p s u begin move before now j k (Err other) = ⊥
+abbrev pub IsEndedBy : LabState → List ℕ → Progress → LabState → Type 0
+IsEndedBy s exp (progress.Ended over) after = moved s (ending exp over.committed) ≡ Some after
+IsEndedBy s exp told after = after ≡ s
 
-abbrev pub IsStopped : Result Live Finished → Type 0
-IsStopped (Ok live) = ⊥
-IsStopped (Err finished.Stopped) = Unit {0}
-IsStopped (Err other) = ⊥
+-- A TURN WAS MADE, or an open swap turned to its end: and where the controller goes on, its lab is that of the steps
+pub record HasTurnedIn (s : LabState) (pairs : List (RunningSwap × Live)) (exp : List ℕ) (was now : Seen) (k : Journal) (told : Progress) (new : List Live) (after : LabState) : Type 0 where
+  pub turn : HasTurned the_texts s pairs exp was now k told new
+  pub goes : IfGoesOn turn.outcome (TurnSteps s turn.swap turn.steps turn.outcome after × Working the_texts now.told k after (turn.before ++ (turn.next ++ turn.behind)))
 
--- the end of the experiment's move can follow, and follows, as the last record says
-abbrev pub CanEndBy : LabState → List ℕ → Finished → Type 0
-CanEndBy s exp (finished.Ended over) = CanEnd s exp over.committed
-CanEndBy s exp other = Unit {0}
+pub record HasEndedIn (s : LabState) (pairs : List (RunningSwap × Live)) (exp : List ℕ) (was now : Seen) (k : Journal) (told : Progress) (new : List Live) (after : LabState) : Type 0 where
+  pub end : HasTurnedToEnd the_texts s pairs exp was now k told new
+  pub goes : IfGoesOn end.finished.outcome (Finishes s end.swap end.finished.steps end.finished.outcome after × Working the_texts now.told k after (end.before ++ end.behind))
 
-abbrev pub IsEndedBy : LabState → List ℕ → Finished → LabState → Type 0
-IsEndedBy s exp (finished.Ended over) after = moved s (ending exp over.committed) ≡ Some after
-IsEndedBy s exp other after = after ≡ s
+-- A SWAP WAS BEGUN, which is open then
+pub record IsOpened (before now : Seen) (old new : Control) (opens : List OpenSwap) (exp : List ℕ) (way : Way) : Type 0 where
+  pub swap : SwapOf
+  pub name : swap.name ≡ exp
+  pub move : Move
+  pub says : Says the_texts old.lab (Begin exp way) move
+  pub moves : (state : LabState) → moved old.lab move ≡ Some state → Moves swap state
+  pub space : has_space (start_of before old opens).set (Begin exp way) ≡ true
+  pub state : Live
+  pub begun : HasBegun the_texts swap old.lab new.lab (Begin exp way) move before now old.journal new.journal state
+  pub works : WorksWith now new (opens ++ begun_at swap before.faults.devices ∷ [])
+  pub runs : IsTrue now.stopped → ⊥
 
--- what is told of a swap that is over: it is done, or undone, and whether the experiment is in
-pub data IsOverBy (p : Swap) (over : Over) (outcome : Outcome) : Type 0 where
-  done : outcome ≡ Ended Forth → over.committed ≡ true → over.why ≡ None → over.inside ≡ is_some p.new → IsOverBy p over outcome
-  undone : (why : Trouble) → outcome ≡ Ended (Undo why) → over.committed ≡ false → over.why ≡ Some (troubles.what_of why) → over.inside ≡ is_some p.old → IsOverBy p over outcome
+-- it was begun, or what is told is all that the command does, whether it only begins the swap or not
+abbrev pub IsBegunBy : Seen → Seen → Control → Control → List OpenSwap → List ℕ → Way → Result (Option Reply) CoreFault → Type 0
+IsBegunBy before now old new opens exp way (Ok None) = IsOpened before now old new opens exp way
+IsBegunBy before now old new opens exp way (Ok (Some reply)) = (only : Bool) → Obeyed before now (Is (Ok (begun_as only (Swap exp way)))) old new opens (Some exp) (Ok reply)
+IsBegunBy before now old new opens exp way (Err fault) = (only : Bool) → Obeyed before now (Is (Ok (begun_as only (Swap exp way)))) old new opens (Some exp) (Err fault)
 
-abbrev pub IsToldBy : Swap → Finished → Outcome → Type 0
-IsToldBy p (finished.Ended over) outcome = IsOverBy p over outcome
-IsToldBy p (finished.Stuck what) outcome = IsStuckAs what outcome
-IsToldBy p finished.Stopped outcome = outcome ≡ Stopped
-
--- where the controller goes on, the lab is that one
-abbrev pub GoesTo : (p : Swap) (s : LabState) (begin : Record) (move : Move) (before now : Seen) (k : Journal) (steps : List Event) (outcome : Outcome) → whole.RunLeaves the_texts p s begin move before now k steps outcome → LabState → Type 0
-GoesTo p s begin move before now k steps Unwritten leaves after = Unit {0}
-GoesTo p s begin move before now k steps Stopped leaves after = Unit {0}
-GoesTo p s begin move before now k steps More leaves after = leaves.after ≡ after
-GoesTo p s begin move before now k steps (TurnsBack why) leaves after = leaves.after ≡ after
-GoesTo p s begin move before now k steps (Ended leg) leaves after = leaves.after ≡ after
-GoesTo p s begin move before now k steps (Stuck trouble) leaves after = leaves.after ≡ after
-
--- A WHOLE SWAP WAS RUN, and ended so
-pub record HasRun (p : Swap) (s : LabState) (begin : Record) (move : Move) (before now : Seen) (k : Journal) (after : LabState) (end : Finished) : Type 0 where
-  pub outcome : Outcome
-  pub run : whole.HasRun the_texts p s begin move before now k outcome
-  pub told : IsToldBy p end outcome
-  pub goes : GoesTo p s begin move before now k run.steps outcome run.leaves after
-
--- what is told of it
+-- WHAT IS TOLD of a swap that is over: where the experiment is, or the trouble that began the undo
 abbrev pub reply_of_done : List ℕ → Bool → Reply
 reply_of_done exp true = In exp
 reply_of_done exp false = Out exp
 
 abbrev pub undone_by : Bool → FailedEnd
-undone_by true = failures.In
-undone_by false = failures.Out
+undone_by true = ends.In
+undone_by false = ends.Out
 
 abbrev pub reply_of_over : List ℕ → Bool → Option What → Reply
 reply_of_over exp inside None = reply_of_done exp inside
 reply_of_over exp inside (Some what) = Failed exp (undone_by inside) what
 
-abbrev pub IsAnswer : Swap → Outcome → Result Reply CoreFault → Type 0
-IsAnswer p Stopped result = result ≡ Err faults.Stopped
-IsAnswer p outcome result = (reply : Reply) × (end_reply p outcome ≡ Some reply) × (result ≡ Ok reply)
+-- of a turn
+abbrev pub progress_answer : List ℕ → Progress → Result Reply CoreFault
+progress_answer exp progress.More = Ok (More exp)
+progress_answer exp (progress.Trouble what) = Ok (Trouble exp what)
+progress_answer exp (progress.Ended over) = Ok (reply_of_over exp over.inside over.why)
+progress_answer exp (progress.Stuck what) = Ok (Failed exp ends.Stuck what)
+progress_answer exp progress.Stopped = Err faults.Stopped
+
+-- and of one that was not opened
+abbrev pub unopened_answer : List ℕ → Unopened → Result (Option Reply) CoreFault
+unopened_answer exp (unopened.Stuck what) = Ok (Some (Failed exp ends.Stuck what))
+unopened_answer exp unopened.Stopped = Err faults.Stopped
+unopened_answer exp fault = Err faults.Memory

@@ -1,9 +1,9 @@
 -- What a judgement of the code gives: a task, or a refusal.
-use Rattle.std.specs.Prelude.{◌≡◌, false, ℕ, List, Some, Result, Ok, Err}
+use Rattle.std.specs.Prelude.{◌≡◌, ◌<◌, false, ℕ, List, length, Option, Some, None, Result, Ok, Err}
 use Rattle.plant.specs.Worlds.{World}
 use Rattle.journal_rec.specs.Payloads.{IsRecord}
 use Rattle.journal_rec.specs.declared.record.Record.{Record}
-use Rattle.journal_rec.specs.declared.record.Record.TheVariants.{Begin}
+use Rattle.journal_rec.specs.declared.record.Record.TheVariants.{Begin, Commit, Abort}
 use Rattle.journal_rec.specs.declared.record.Way.{Way}
 use Rattle.lab_base.specs.declared.fault.TextFault.{TextFault}
 use Rattle.lab_base.specs.declared.fault.TextRefused.{TextRefused}
@@ -12,6 +12,9 @@ use Rattle.lab_state.specs.Texts.{the_texts}
 use Rattle.lab_model.specs.Courses.{Plan}
 use Rattle.records_model.specs.Labs.{LabState, Move, Says, moved, lab_in, IsRightFor}
 use Rattle.swap_txn.specs.States.{unsent}
+use Rattle.swap_mgr.specs.Open.{HasOpen}
+use Rattle.swap_plan.specs.declared.commands.Ops.{Ops}
+use Rattle.swap_txn.specs.declared.live.Live.{Live}
 use Rattle.swap_turns.specs.Swaps.{Swap as SwapOf, Moves}
 use Rattle.swap_turns.specs.Beginning.{IsPlanOf}
 use Rattle.swap_turns.specs.Beginning.{BeginsOf}
@@ -21,13 +24,16 @@ use Rattle.lab_core.specs.declared.task.Task.{Task as TaskInHand}
 use Rattle.lab_core.specs.declared.task.Task.TheVariants as tasks
 use Rattle.lab_core.specs.declared.task.Refusal.{Refusal}
 use Rattle.lab_core.specs.declared.task.Refusal.TheVariants.{Refused, Memory}
-use Rattle.lab_core.specs.Judge.{Task, Tell, Append, Swap, Recover}
+use Rattle.lab_core.specs.Judge.{Task, Tell, Append, Swap, BeginOnly, Turn, Finish, Recover}
 
 -- the task that is in hand
 abbrev pub task_of : TaskInHand → Task
 task_of (tasks.Tell reply) = Tell reply
 task_of (tasks.Append entry reply) = Append entry reply
 task_of (tasks.Swap exp way ops) = Swap exp way
+task_of (tasks.BeginOnly exp way ops) = BeginOnly exp way
+task_of (tasks.Turn exp) = Turn exp
+task_of (tasks.Finish exp) = Finish exp
 task_of tasks.Recover = Recover
 
 -- the reply neither closes the controller nor blames a device
@@ -81,14 +87,41 @@ pub record IsSwapBy (s : LabState) (exp : List ℕ) (way : Way) (course back : P
   pub moves : (u : LabState) → moved s move ≡ Some u → Moves swap u
   pub plan : (u : LabState) → moved s move ≡ Some u → IsPlanOf swap (lab_in u.lab) (unsent exp way course back)
 
+-- the record ends no move
+abbrev pub EndsNoMove : Record → Type 0
+EndsNoMove (Commit exp) = ⊥
+EndsNoMove (Abort exp) = ⊥
+EndsNoMove entry = Unit {0}
+
 -- THE TASK CAN BE DONE in that lab: what it tells is mild; its record can be written, and can follow; or it is the swap of its record
 pub record CanAppend (s : LabState) (entry : Record) (reply : Reply) : Type 0 where
   pub is_record : IsRecord entry
   pub follows : MayFollow s entry
+  pub no_end : EndsNoMove entry
   pub mild : IsMild reply
+
+abbrev pub CanSwap : LabState → List ℕ → Way → Ops → Type 0
+CanSwap s exp way ops = IsRecord (Begin exp way) × MayFollow s (Begin exp way) × IsSwapBy s exp way ops.commands ops.undo
 
 abbrev pub CanDo : LabState → TaskInHand → Type 0
 CanDo s (tasks.Tell reply) = IsMild reply
 CanDo s (tasks.Append entry reply) = CanAppend s entry reply
-CanDo s tasks.Recover = Unit {0}
-CanDo s (tasks.Swap exp way ops) = IsRecord (Begin exp way) × MayFollow s (Begin exp way) × IsSwapBy s exp way ops.commands ops.undo
+CanDo s (tasks.Swap exp way ops) = CanSwap s exp way ops
+CanDo s (tasks.BeginOnly exp way ops) = CanSwap s exp way ops
+CanDo s task = Unit {0}
+
+-- THE OPEN SWAPS ALLOW IT: a swap that begins has none open, and room for one more; one that is turned is open
+abbrev pub IsReady : List Live → Task → Type 0
+IsReady swaps (Swap exp way) = (HasOpen swaps exp → ⊥) × (length swaps < 16)
+IsReady swaps (BeginOnly exp way) = (HasOpen swaps exp → ⊥) × (length swaps < 16)
+IsReady swaps (Turn exp) = HasOpen swaps exp
+IsReady swaps (Finish exp) = HasOpen swaps exp
+IsReady swaps task = Unit {0}
+
+-- the experiment whose swap it begins or turns
+abbrev pub swapped_by : Task → Option (List ℕ)
+swapped_by (Swap exp way) = Some exp
+swapped_by (BeginOnly exp way) = Some exp
+swapped_by (Turn exp) = Some exp
+swapped_by (Finish exp) = Some exp
+swapped_by task = None

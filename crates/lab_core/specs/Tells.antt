@@ -1,44 +1,39 @@
--- The name that a command has, and what the reply to a swap tells of the lab.
-use Rattle.std.specs.Prelude.{◌≡◌, ℕ, Bool, true, false, is_none, List, [], Option, Some, None, Result, Ok}
+-- What the reply to a swap tells of the lab, what a turn does, and whom a command settles.
+use Rattle.std.specs.Prelude.{◌≡◌, ℕ, Bool, true, false, not, is_none, List, [], ◌∷◌, ◌++◌, Option, Some, None, Result, Ok}
+use Rattle.std.specs.List.{list_any}
 use Rattle.phys_lab.specs.Labs.{Lab}
 use Rattle.virt_topo.specs.declared.experiment.Experiment.{Experiment}
 use Rattle.virt_topo.specs.declared.experiment.Phase.TheVariants.{Out}
 use Rattle.virt_topo.specs.declared.mapping.Mapping.{Mapping}
 use Rattle.lab_model.specs.Beside.{violation_beside}
 use Rattle.lab_model.specs.Sound.{is_moving}
-use Rattle.plant.specs.Events.{Event}
+use Rattle.journal_model.specs.Appends.{All, added}
+use Rattle.journal_rec.specs.declared.record.Record.{Record}
+use Rattle.plant.specs.Events.{Event, Wrote, Synced, Cut, Missed}
+use Rattle.plant.specs.declared.step.Side.{Side}
 use Rattle.records_model.specs.Labs.{LabState, Move, Commits, Aborts, find, moved, others}
+use Rattle.recovery.specs.Due.{is_busy}
 use Rattle.solution_text.specs.Solutions.{mapping_of_text}
+use Rattle.swap_turns.specs.Swaps.{Swap as SwapOf, Moves}
+use Rattle.swap_turns.specs.Turning.{IsOneCommand}
 use Rattle.script_text.specs.Drills.{drill_of}
 use Rattle.script_text.specs.declared.command.Command.{Command}
 use Rattle.script_text.specs.declared.command.Command.TheVariants as commands
 use Rattle.script_text.specs.declared.reply.FailedEnd.TheVariants as ends
 use Rattle.script_text.specs.declared.reply.Reply.{Reply}
-use Rattle.script_text.specs.declared.reply.Reply.TheVariants.{In, Out as IsOutside, Failed, FullJournal, Down, Stopped, Planned, NoDrill}
+use Rattle.script_text.specs.declared.reply.Reply.TheVariants.{In, Out as IsOutside, More, Trouble, Failed, Busy, FullSwaps, FullJournal, Down, Stopped, Planned, NoDrill}
 use Rattle.lab_base.specs.declared.what.What.TheVariants as whats
-use Rattle.lab_core.specs.Judge.{Task, Swap, Recover}
-use Rattle.lab_core.specs.Recovery.{Opens, names_of}
-use Rattle.lab_core.specs.Sessions.{Session, Closed, Open}
+use Rattle.lab_core.specs.Judge.{Task, Swap, BeginOnly, Turn, Finish, Recover}
+use Rattle.lab_core.specs.LabSteps.{begun_at}
+use Rattle.lab_core.specs.Recovery.{Opens}
+use Rattle.lab_core.specs.Sessions.{OpenSwap, Session, Closed, Open, names_of}
 
--- the experiment that a command is about
-abbrev pub name_of : Command → Option (List ℕ)
-name_of (commands.Ptop lines text) = None
-name_of (commands.Create exp lines text) = Some exp
-name_of (commands.CreateTop exp lines text) = Some exp
-name_of (commands.Show exp) = Some exp
-name_of (commands.SwapinWith exp lines text) = Some exp
-name_of (commands.ModifyWith exp lines top others map) = Some exp
-name_of (commands.Swapout exp) = Some exp
-name_of commands.Recover = None
-name_of (commands.Fail device nth how) = None
-name_of (commands.FailDisk nth) = None
-name_of (commands.Stop nth pick) = None
-name_of (commands.Delete exp) = Some exp
-name_of commands.Status = None
-
--- it begins no swap, and settles none
+-- it begins and turns no swap, and settles none
 abbrev pub IsNoSwap : Result Task Reply → Type 0
 IsNoSwap (Ok (Swap exp way)) = ⊥
+IsNoSwap (Ok (BeginOnly exp way)) = ⊥
+IsNoSwap (Ok (Turn exp)) = ⊥
+IsNoSwap (Ok (Finish exp)) = ⊥
 IsNoSwap (Ok Recover) = ⊥
 IsNoSwap judgement = Unit {0}
 
@@ -63,20 +58,59 @@ abbrev pub BeginsAt : Session → LabState → List Event → LabState → Type 
 BeginsAt Closed s opening mid = Opens s opening mid
 BeginsAt (Open opens) s opening mid = mid ≡ s
 
--- THE COMMAND SETTLES WHAT MOVES: `recover`, and each that opens the controller
-abbrev pub settles_all : Session → Command → Bool
-settles_all Closed command = is_none (drill_of command)
-settles_all (Open opens) commands.Recover = true
-settles_all (Open opens) command = false
+-- the open swaps with which it begins, and their names: an opening finds none
+abbrev pub opens_of : Session → List OpenSwap
+opens_of Closed = []
+opens_of (Open opens) = opens
 
--- the names of the open swaps
 abbrev pub busy_of : Session → List (List ℕ)
-busy_of Closed = []
-busy_of (Open opens) = names_of opens
+busy_of session = names_of (opens_of session)
+
+-- THE COMMAND SETTLES THE EXPERIMENT of that name, if it moves: each that opens the controller does, and `recover` where it has no open swap
+abbrev pub settles : Session → Command → List ℕ → Bool
+settles Closed command name = is_none (drill_of command)
+settles (Open opens) commands.Recover name = not (is_busy (names_of opens) name)
+settles (Open opens) command name = false
 
 -- A NAME IS AT REST: the experiment of that name, if there is one, doesn't move
 abbrev pub IsAtRest : LabState → List ℕ → Type 0
 IsAtRest s name = (e : Experiment) → find name s.experiments ≡ Some e → is_moving e ≡ false
+
+-- WHAT A REPLY TO A TURN TELLS OF THE LAB, of one or of all up to the end: where the swap ended, the lab is that of its last record; where it goes
+-- on, or is stuck since trouble of a device or a boot, it is as before
+abbrev pub TellsEnd : LabState → List ℕ → Reply → LabState → Type 0
+TellsEnd s exp (In name) after = (name ≡ exp) × (moved s (Commits exp) ≡ Some after)
+TellsEnd s exp (IsOutside name) after = (name ≡ exp) × (moved s (Commits exp) ≡ Some after)
+TellsEnd s exp (Failed name ends.Out what) after = (name ≡ exp) × (moved s (Aborts exp) ≡ Some after)
+TellsEnd s exp (Failed name ends.In what) after = (name ≡ exp) × (moved s (Aborts exp) ≡ Some after)
+TellsEnd s exp (Failed name ends.Stuck whats.Journal) after = name ≡ exp
+TellsEnd s exp (Failed name ends.Stuck what) after = (name ≡ exp) × (after ≡ s)
+TellsEnd s exp (More name) after = (name ≡ exp) × (after ≡ s)
+TellsEnd s exp (Trouble name what) after = (name ≡ exp) × (after ≡ s)
+TellsEnd s exp reply after = Unit {0}
+
+-- ONE OPEN SWAP MORE, behind the others, of an experiment that moves so in that lab: nothing of it was sent
+pub record IsOpened (exp : List ℕ) (devices : ℕ) (lab : LabState) (old new : List OpenSwap) : Type 0 where
+  pub swap : SwapOf
+  pub name : swap.name ≡ exp
+  pub moves : Moves swap lab
+  pub is : new ≡ old ++ begun_at swap devices ∷ []
+
+-- WHAT A TURN DOES: one device command and no step of the journal, or one append and no device command
+pub data IsTurn (own : List Event) : Type 0 where
+  sends : IsOneCommand own → IsTurn own
+  appends : (side : Side) (gate : ℕ) (entry : Record) → own ≡ added side gate entry All → IsTurn own
+
+-- a step of the journal
+abbrev pub is_of_journal : Event → Bool
+is_of_journal (Wrote side at bytes) = true
+is_of_journal (Synced side) = true
+is_of_journal (Cut side size) = true
+is_of_journal (Missed side) = true
+is_of_journal event = false
+
+abbrev pub has_journal_step : List Event → Bool
+has_journal_step events = list_any is_of_journal events
 
 -- the reply tells that the opening broke off
 abbrev pub TellsBroken : Reply → Type 0
@@ -110,8 +144,16 @@ pub record IsFeasibleFor (s : LabState) (exp text : List ℕ) : Type 0 where
   pub reads : mapping_of_text lab experiment.wiring text ≡ Ok mapping
   pub keeps : violation_beside lab (others experiment.name s.experiments) experiment experiment.wiring mapping ≡ None
 
--- the reply tells what hindered it: the journal is full, trouble of a device, a boot or the journal, a failure of the disk in the opening, or a stop
+-- the reply to a swap-in that is done, and where `open` stands before it to one that has begun
+abbrev pub taken_reply : Bool → List ℕ → Reply
+taken_reply true exp = More exp
+taken_reply false exp = In exp
+
+-- the reply tells what hindered it: it has an open swap, so many are open, the journal is full, trouble of a device, a boot or the journal, a failure
+-- of the disk in the opening, or a stop
 abbrev pub Hinders : Reply → Type 0
+Hinders (Busy exp) = Unit {0}
+Hinders FullSwaps = Unit {0}
 Hinders (FullJournal length) = Unit {0}
 Hinders (Failed exp end what) = Unit {0}
 Hinders Down = Unit {0}

@@ -1,4 +1,4 @@
-ghost use Rattle.std.specs.Prelude.{◌≡◌, ◌↔◌, ◌<◌, ◌≤◌, ◌+◌, ◌*◌, ◌^◌, ℕ, List, count_by, take, length, if◌then◌else◌, false, true, None, IfOk, IfSome, IsErrOf, IsTrue, slice_get, Err, Some};
+ghost use Rattle.std.specs.Prelude.{◌≡◌, ◌↔◌, ◌<◌, ◌≤◌, ◌+◌, ◌*◌, ◌^◌, ℕ, List, [], count_by, take, length, if◌then◌else◌, false, true, None, IfOk, IfSome, IsErrOf, IsTrue, slice_get, Err, Some};
 ghost use Rattle.plant.specs.Calls.{Rose};
 ghost use Rattle.plant.specs.Disks.{disk};
 ghost use Rattle.plant.specs.Events.{Event};
@@ -9,14 +9,14 @@ ghost use Rattle.journal_rec.specs.declared.record.Found.{Found as AnyFound};
 ghost use Rattle.journal_rec.specs.declared.record.Record.{Record as AnyRecord};
 ghost use Rattle.journal_disk.specs.Standing.{limit_of, length_of, Holds};
 ghost use Rattle.lab_model.specs.Sound.{is_moving};
-ghost use Rattle.script_text.specs.Replies.{blames_device, closes};
 ghost use Rattle.script_text.specs.Drills.{drill_of};
 ghost use Rattle.script_text.specs.Blocks.{HasBlocks};
-ghost use Rattle.lab_core.specs.Controller.{Works};
-ghost use Rattle.lab_core.specs.Judge.{Judged};
+ghost use Rattle.lab_core.specs.Controller.{CanWork, Works, WorksWith};
+ghost use Rattle.lab_core.specs.LabSteps.{JudgedBeside};
 ghost use Rattle.lab_core.specs.Moments.{IsNoJournal};
-ghost use Rattle.lab_core.specs.Obey.{ObeyTold, Obeyed, stays_at_work};
+ghost use Rattle.lab_core.specs.Obey.{Obeyed};
 ghost use Rattle.lab_core.specs.Opening.{AfterOpening, IsOfJournal, OpenTold, ReadTold};
+ghost use Rattle.lab_core.specs.Sessions.{OpenSwap, name_of};
 ghost use Rattle.swap_turns.specs.Causes.{IsLater};
 
 use crate::CoreFault;
@@ -31,25 +31,28 @@ use recovery::{SettleFault, settle};
 use script_text::{Command, Reply};
 use std::alloc::Global;
 use std::marker::Model;
+use swap_mgr::Manager;
 use virt_topo::{Experiment, Phase};
 
 /// How many bytes the last record of one move has at most.
 const LAST_RECORD: u64 = 39;
 
-/// A lab over its journal. Contracts see the lab with its experiments, and the journal.
+/// A lab over its journal, with the open swaps. Contracts see the lab with its experiments, the journal, and the states of the
+/// open swaps.
 #[derive(Drop)]
 pub struct Controller {
     pub(crate) alloc: Global,
     pub(crate) lab: LabState,
     pub(crate) journal: Journal,
+    pub(crate) swaps: Manager,
 }
 
 impl Model for Controller {
-    ghost use Rattle.lab_core.specs.Controller.{Control};
+    ghost use Rattle.lab_core.specs.Controller.{Control, control};
 
     ghost Value = { Control };
 
-    ghost view = { λ controller. record { lab = controller.lab.state; journal = controller.journal } };
+    ghost view = { λ controller. control controller.lab.state controller.journal controller.swaps };
 }
 
 fn is_moving(experiment: &Experiment) -> bool
@@ -100,7 +103,8 @@ fn of_journal(
 ) -> Result<Controller, OpenFault>
     requires most { limit ≤ 2 ^ 32 }
     requires holds { (rs : List AnyRecord) × Holds rs journal found.now }
-    ensures { (rs : List AnyRecord) → Holds rs journal found.now → IsOfJournal limit journal rs result }
+    ensures is { (rs : List AnyRecord) → Holds rs journal found.now → IsOfJournal limit journal rs result }
+    ensures alone { IfOk result (λ controller. controller.swaps ≡ []) }
 {
     let lab = match LabState::replay(alloc, found) {
         Ok(lab) => lab,
@@ -119,10 +123,14 @@ fn of_journal(
             at: journal.length() - 1,
         });
     }
+    let Ok(swaps) = Manager::new(alloc) else {
+        return Err(OpenFault::Memory);
+    };
     Ok(Controller {
         alloc,
         lab,
         journal,
+        swaps,
     })
 }
 
@@ -132,6 +140,7 @@ fn read<P: Plant>(alloc: Global, limit: u64, plant: &mut P) -> Result<Controller
     requires most { limit ≤ 2 ^ 32 }
     ensures steps { ReadTold (P.seen plant.old).told (P.seen plant.new).told limit result }
     ensures works { IfOk result (λ controller. Works (P.seen plant.new).told controller) }
+    ensures alone { IfOk result (λ controller. controller.swaps ≡ []) }
     ensures limit { IfOk result (λ controller. limit_of controller.journal ≡ limit) }
     ensures plant { IsErrOf result OpenFault.Plant → Rose (P.seen plant.old).faults.disk (P.seen plant.new).faults.disk }
     ensures later { (P.seen plant.old).faults.disk ≤ (P.seen plant.new).faults.disk }
@@ -148,6 +157,7 @@ fn settle_all<P: Plant>(mut controller: Controller, plant: &mut P) -> Result<Con
     requires runs { (P.seen plant.old).stopped ≡ false }
     ensures after { AfterOpening controller (P.seen plant.old) (P.seen plant.new) result }
     ensures works { IfOk result (λ settled. Works (P.seen plant.new).told settled) }
+    ensures alone { IfOk result (λ settled. settled.swaps ≡ controller.swaps) }
     ensures plant { IsErrOf result OpenFault.Plant → Rose (P.seen plant.old).faults.disk (P.seen plant.new).faults.disk }
     ensures later { IsLater (P.seen plant.old) (P.seen plant.new) }
     ensures limit { IfOk result (λ settled. limit_of settled.journal ≡ limit_of controller.journal) }
@@ -172,7 +182,7 @@ impl Controller {
     /// all experiments that move in it. One that gets stuck moves still, and the others go on.
     ///
     /// `Bad` tells the side and the position of the first record that can't be read or can't follow, or of the last gate
-    /// where there is no room for the last records of the experiments that move. Then nothing was settled.
+    /// where there is no room for the last records of the experiments that move. Then nothing was settled. No swap is open yet.
     pub fn open<P: Plant>(alloc: Global, limit: u64, plant: &mut P) -> Result<Controller, OpenFault>
         requires least { 18 ≤ limit }
         requires most { limit ≤ 2 ^ 32 }
@@ -180,6 +190,7 @@ impl Controller {
         ensures bad { (side : AnySide) (at : ℕ) → result ≡ Err (OpenFault.Bad side at)
             → IfSome (P.seen plant.new).told (λ t. IsNoJournal (disk A t.trace).reads (disk B t.trace).reads limit side at) }
         ensures works { IfOk result (λ controller. Works (P.seen plant.new).told controller) }
+        ensures alone { IfOk result (λ controller. controller.swaps ≡ []) }
         ensures limit { IfOk result (λ controller. limit_of controller.journal ≡ limit) }
         ensures plant { IsErrOf result OpenFault.Plant → Rose (P.seen plant.old).faults.disk (P.seen plant.new).faults.disk }
         ensures later { IsLater (P.seen plant.old) (P.seen plant.new) }
@@ -194,14 +205,9 @@ impl Controller {
     pub fn obey<P: Plant>(&mut self, command: &Command, plant: &mut P) -> Result<Reply, CoreFault>
         requires blocks { HasBlocks command.now }
         requires no_drill { drill_of command.now ≡ None }
-        requires works { Works (P.seen plant.old).told self.old }
-        ensures obeys { ObeyTold (P.seen plant.old) (P.seen plant.new) (Judged self.old.lab command.now) self.old self.new result }
-        ensures works { stays_at_work result ≡ true → Works (P.seen plant.new).told self.new }
-        ensures down { IfOk result (λ reply. closes reply ≡ true → Rose (P.seen plant.old).faults.disk (P.seen plant.new).faults.disk) }
-        ensures device { IfOk result (λ reply. blames_device reply ≡ true → Rose (P.seen plant.old).faults.devices (P.seen plant.new).faults.devices) }
-        ensures later { (P.seen plant.old).faults.disk ≤ (P.seen plant.new).faults.disk }
-        ensures devices { (P.seen plant.old).faults.devices ≤ (P.seen plant.new).faults.devices }
-        ensures stopped { (P.seen plant.old).stopped ≡ false → IsErrOf result CoreFault.Stopped ↔ IsTrue (P.seen plant.new).stopped }
+        requires works { CanWork (P.seen plant.old) self.old }
+        ensures obeys { (opens : List OpenSwap) → WorksWith (P.seen plant.old) self.old opens
+            → Obeyed (P.seen plant.old) (P.seen plant.new) (JudgedBeside command.now opens self.old.lab) self.old self.new opens (name_of command.now) result }
     {
         self.answer(command, plant)
     }
@@ -210,11 +216,19 @@ impl Controller {
     fn answer<P: Plant>(&mut self, command: &Command, plant: &mut P) -> Result<Reply, CoreFault>
         requires blocks { HasBlocks command.now }
         requires no_drill { drill_of command.now ≡ None }
-        requires works { Works (P.seen plant.old).told self.old }
-        ensures { Obeyed (P.seen plant.old) (P.seen plant.new) (Judged self.old.lab command.now) self.old self.new result }
+        requires works { CanWork (P.seen plant.old) self.old }
+        ensures { (opens : List OpenSwap) → WorksWith (P.seen plant.old) self.old opens
+            → Obeyed (P.seen plant.old) (P.seen plant.new) (JudgedBeside command.now opens self.old.lab) self.old self.new opens (name_of command.now) result }
     {
-        match judge(self.alloc, &self.lab, command) {
-            Ok(task) => perform(self.alloc, &mut self.lab, &mut self.journal, task, plant),
+        match judge(self.alloc, &self.lab, &self.swaps, command) {
+            Ok(task) => perform(
+                self.alloc,
+                &mut self.lab,
+                &mut self.journal,
+                &mut self.swaps,
+                task,
+                plant,
+            ),
             Err(Refusal::Refused(reply)) => Ok(reply),
             Err(Refusal::Memory) => Err(CoreFault::Memory),
         }

@@ -1,5 +1,5 @@
 // What is judged of a command.
-ghost use Rattle.std.specs.Prelude.{◌≡◌, ◌<◌, ◌≤◌, None, IfOk, OnErr, length, true};
+ghost use Rattle.std.specs.Prelude.{◌≡◌, ◌<◌, ◌≤◌, None, IfOk, OnErr, Result, length, true};
 ghost use Rattle.lab_base.specs.declared.fault.TextFault.{TextFault as AnyTextFault};
 ghost use Rattle.lab_base.specs.declared.fault.TextRefused.TheVariants as refusals;
 ghost use Rattle.script_text.specs.Drills.{drill_of};
@@ -8,12 +8,18 @@ ghost use Rattle.top_text.specs.Canonical.{canonical_top};
 ghost use Rattle.top_text.specs.Printable.{is_printable};
 ghost use Rattle.virt_topo.specs.Soundness.{IsSound};
 ghost use Rattle.script_text.specs.Blocks.{HasBlocks};
-ghost use Rattle.lab_core.specs.Judge.{Judged, JudgedNetwork, judged_create, judged_delete, judged_ptop, judged_recover, judged_show, judged_status, judged_swapout, judged_wiring, need_place};
+ghost use Rattle.records_model.specs.Labs.{LabState as AnyLabState};
+ghost use Rattle.script_text.specs.declared.reply.Reply.{Reply as AnyReply};
+ghost use Rattle.lab_core.specs.Controller.{has_open, has_open_for};
+ghost use Rattle.lab_core.specs.Judge.{Task as AnyTask, Judged, JudgedNetwork, in_slot, judged_create, judged_delete, judged_finish, judged_ptop, judged_recover, judged_show, judged_status, judged_swapout, judged_turn, judged_wiring, need_place};
 ghost use Rattle.lab_core.specs.Tasks.{CanDo, Gives, IsJudged, IsMild, Refuses, IsRefusedBy};
 
 use crate::judge_change::judge_modify;
 use crate::judge_swap::judge_solution;
-use crate::needs::{need_found, need_in, need_lab, need_none, need_out, need_place, need_room};
+use crate::needs::{
+    need_found, need_idle, need_in, need_lab, need_none, need_open, need_out, need_place,
+    need_room, need_slot,
+};
 use crate::records::{create_record, delete_record, lab_record, way_out};
 use crate::replies::{created_reply, lab_reply};
 use crate::task::{Refusal, Task};
@@ -24,6 +30,7 @@ use ns_text::{Printed, read_and_print};
 use ptop_text::{print_ptop, read_ptop};
 use script_text::{Command, Reply};
 use std::alloc::Global;
+use swap_mgr::Manager;
 use swap_plan::plan_out;
 use top_text::{print_top, read_top};
 use virt_topo::Wiring;
@@ -121,12 +128,13 @@ fn judge_show(alloc: Global, state: &LabState, exp: Name) -> Result<Task, Refusa
     Ok(Task::Tell(shown(alloc, lab, experiment)?))
 }
 
-fn judge_delete(state: &LabState, exp: Name) -> Result<Task, Refusal>
-    ensures judged { Gives (judged_delete state.now.state exp) result }
+fn judge_delete(state: &LabState, swaps: &Manager, exp: Name) -> Result<Task, Refusal>
+    ensures judged { Gives (judged_delete state.now.state (has_open swaps.now exp) exp) result }
     ensures can { IfOk result (CanDo state.now.state) }
 {
     let _lab = need_lab(state)?;
     let experiment = need_found(state, exp)?;
+    need_idle(swaps, exp)?;
     need_out(exp, &experiment.phase)?;
     Ok(Task::Append {
         entry: delete_record(exp),
@@ -134,12 +142,18 @@ fn judge_delete(state: &LabState, exp: Name) -> Result<Task, Refusal>
     })
 }
 
-fn judge_swapout(alloc: Global, state: &LabState, exp: Name) -> Result<Task, Refusal>
-    ensures judged { Gives (judged_swapout state.now.state exp) result }
+fn judge_swapout(
+    alloc: Global,
+    state: &LabState,
+    swaps: &Manager,
+    exp: Name,
+) -> Result<Task, Refusal>
+    ensures judged { Gives (judged_swapout state.now.state (has_open swaps.now exp) exp) result }
     ensures can { IfOk result (CanDo state.now.state) }
 {
     let lab = need_lab(state)?;
     let experiment = need_found(state, exp)?;
+    need_idle(swaps, exp)?;
     let place = need_in(exp, &experiment.phase)?;
     let ops = plan_out(alloc, lab, &experiment.wiring, place.0, place.1)?;
     Ok(Task::Swap {
@@ -147,6 +161,40 @@ fn judge_swapout(alloc: Global, state: &LabState, exp: Name) -> Result<Task, Ref
         way: way_out(exp),
         ops,
     })
+}
+
+/// A swap that nothing refuses needs room among the open swaps, and is only begun where its command says so.
+fn in_slot(
+    swaps: &Manager,
+    only_begin: bool,
+    judged: Result<Task, Refusal>,
+) -> Result<Task, Refusal>
+    ensures judged { (judgement : Result AnyTask AnyReply) → Gives judgement judged → Gives (in_slot (length swaps.now) only_begin judgement) result }
+    ensures can { (s : AnyLabState) → IfOk judged (CanDo s) → IfOk result (CanDo s) }
+{
+    let task = judged?;
+    need_slot(swaps)?;
+    Ok(task.begun_as(only_begin))
+}
+
+fn judge_turn(state: &LabState, swaps: &Manager, exp: Name) -> Result<Task, Refusal>
+    ensures judged { Gives (judged_turn state.now.state (has_open swaps.now exp) exp) result }
+    ensures can { IfOk result (CanDo state.now.state) }
+{
+    let _lab = need_lab(state)?;
+    let _experiment = need_found(state, exp)?;
+    need_open(swaps, exp)?;
+    Ok(Task::Turn { exp })
+}
+
+fn judge_finish(state: &LabState, swaps: &Manager, exp: Name) -> Result<Task, Refusal>
+    ensures judged { Gives (judged_finish state.now.state (has_open swaps.now exp) exp) result }
+    ensures can { IfOk result (CanDo state.now.state) }
+{
+    let _lab = need_lab(state)?;
+    let _experiment = need_found(state, exp)?;
+    need_open(swaps, exp)?;
+    Ok(Task::Finish { exp })
 }
 
 fn judge_status(alloc: Global, state: &LabState) -> Result<Task, Refusal>
@@ -176,10 +224,15 @@ fn judge_recover(state: &LabState) -> Result<Task, Refusal>
 }
 
 /// The task of a command whose blocks have the lines that its words say, or why it has none. A drill has none.
-pub(crate) fn judge(alloc: Global, state: &LabState, command: &Command) -> Result<Task, Refusal>
+pub(crate) fn judge(
+    alloc: Global,
+    state: &LabState,
+    swaps: &Manager,
+    command: &Command,
+) -> Result<Task, Refusal>
     requires blocks { HasBlocks command.now }
     requires no_drill { drill_of command.now ≡ None }
-    ensures judged { IsJudged (Judged state.now.state command.now) result }
+    ensures judged { IsJudged (Judged state.now.state (has_open_for swaps.now command.now) (length swaps.now) command.now) result }
     ensures can { IfOk result (CanDo state.now.state) }
 {
     match command {
@@ -187,17 +240,34 @@ pub(crate) fn judge(alloc: Global, state: &LabState, command: &Command) -> Resul
         Command::Create { exp, ns, .. } => judge_network(alloc, state, *exp, ns.bytes()),
         Command::CreateTop { exp, top, .. } => judge_create(alloc, state, *exp, top.bytes()),
         Command::Show { exp } => judge_show(alloc, state, *exp),
-        Command::SwapinWith { exp, map, .. } => judge_solution(alloc, state, *exp, map.bytes()),
+        Command::SwapinWith {
+            only_begin,
+            exp,
+            map,
+            ..
+        } => {
+            let judged = judge_solution(alloc, state, swaps, *exp, map.bytes());
+            in_slot(swaps, *only_begin, judged)
+        }
         Command::ModifyWith {
+            only_begin,
             exp,
             top_lines,
             top,
             map,
             ..
-        } => judge_modify(alloc, state, *exp, *top_lines, top.bytes(), map.bytes()),
-        Command::Swapout { exp } => judge_swapout(alloc, state, *exp),
+        } => {
+            let (top, map) = (top.bytes(), map.bytes());
+            let judged = judge_modify(alloc, state, swaps, *exp, *top_lines, top, map);
+            in_slot(swaps, *only_begin, judged)
+        }
+        Command::Swapout { only_begin, exp } => {
+            in_slot(swaps, *only_begin, judge_swapout(alloc, state, swaps, *exp))
+        }
+        Command::Turn { exp } => judge_turn(state, swaps, *exp),
+        Command::Finish { exp } => judge_finish(state, swaps, *exp),
         Command::Fail { .. } | Command::FailDisk { .. } | Command::Stop { .. } => unreachable!(),
-        Command::Delete { exp } => judge_delete(state, *exp),
+        Command::Delete { exp } => judge_delete(state, swaps, *exp),
         Command::Recover => judge_recover(state),
         Command::Status => judge_status(alloc, state),
     }

@@ -10,13 +10,14 @@ ghost use Rattle.script_text.specs.declared.reply.Reply.TheVariants as replies;
 ghost use Rattle.swap_plan.specs.Plans.{IsFit};
 ghost use Rattle.top_text.specs.Printable.{is_printable};
 ghost use Rattle.virt_topo.specs.Soundness.{IsSound};
+ghost use Rattle.lab_core.specs.Controller.{has_open};
 ghost use Rattle.lab_core.specs.Judge.{behind_lines, judged_change, judged_modify};
 ghost use Rattle.lab_core.specs.JudgeSwap.{IsInIn, IsTaskOf, change_of, way_over};
 ghost use Rattle.lab_core.specs.Tasks.{CanDo, Gives, IsRefusedBy};
 
 use crate::judge::bad_text;
 use crate::judge_swap::need_tags;
-use crate::needs::{need_found, need_in, need_lab};
+use crate::needs::{need_found, need_idle, need_in, need_lab};
 use crate::records::way_over;
 use crate::task::{Refusal, Task};
 use lab_base::{Memory, Name, Tags, TextFault, TextRefused};
@@ -25,6 +26,7 @@ use phys_lab::Lab;
 use script_text::Reply;
 use solution_text::{print_solution, read_solution};
 use std::alloc::Global;
+use swap_mgr::Manager;
 use swap_plan::plan_change;
 use top_text::{print_top, read_top};
 use virt_topo::{Experiment, Mapped, Mapping, Wiring};
@@ -120,6 +122,7 @@ fn judge_change(
 pub(crate) fn judge_modify(
     alloc: Global,
     state: &LabState,
+    swaps: &Manager,
     exp: Name,
     lines: u16,
     top: &[u8],
@@ -127,11 +130,12 @@ pub(crate) fn judge_modify(
 ) -> Result<Task, Refusal>
     requires top { length top.now < 4294967295 }
     requires map { length map.now < 2147483648 }
-    ensures judged { Gives (judged_modify state.now.state exp lines top.now map.now) result }
+    ensures judged { Gives (judged_modify state.now.state (has_open swaps.now exp) exp lines top.now map.now) result }
     ensures can { IfOk result (CanDo state.now.state) }
 {
     let lab = need_lab(state)?;
     let experiment = need_found(state, exp)?;
+    need_idle(swaps, exp)?;
     let place = need_in(exp, &experiment.phase)?;
     let wiring = match read_top(alloc, top) {
         Ok(wiring) => wiring,

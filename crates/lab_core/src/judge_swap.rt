@@ -9,12 +9,13 @@ ghost use Rattle.claims.specs.Held.{free_ids};
 ghost use Rattle.solution_text.specs.CanonicalSolution.{canonical_solution};
 ghost use Rattle.swap_turns.specs.Swaps.{swap_in};
 ghost use Rattle.virt_topo.specs.Soundness.{IsSound};
+ghost use Rattle.lab_core.specs.Controller.{has_open};
 ghost use Rattle.lab_core.specs.Judge.{judged_mapping, judged_swapin, need_feasible, need_kept};
 ghost use Rattle.lab_core.specs.JudgeSwap.{CanTake, IsOutIn, IsTaskOf, IsThere};
 ghost use Rattle.lab_core.specs.Tasks.{CanDo, Gives, IsRefusal, Refuses};
 
 use crate::judge::bad_text;
-use crate::needs::{need_found, need_lab, need_out};
+use crate::needs::{need_found, need_idle, need_lab, need_out};
 use crate::records::way_in;
 use crate::subjects::subject_name;
 use crate::task::{Refusal, Task};
@@ -26,6 +27,7 @@ use phys_lab::Lab;
 use script_text::Reply;
 use solution_text::{print_solution, read_solution};
 use std::alloc::Global;
+use swap_mgr::Manager;
 use swap_plan::plan_in;
 use virt_topo::{Broken, Experiment, Mapping, Subject, Wiring};
 
@@ -136,15 +138,17 @@ fn judge_mapping(
 pub(crate) fn judge_solution(
     alloc: Global,
     state: &LabState,
+    swaps: &Manager,
     exp: Name,
     text: &[u8],
 ) -> Result<Task, Refusal>
     requires { length text.now < 4294967295 }
-    ensures judged { Gives (judged_swapin state.now.state exp text.now) result }
+    ensures judged { Gives (judged_swapin state.now.state (has_open swaps.now exp) exp text.now) result }
     ensures can { IfOk result (CanDo state.now.state) }
 {
     let lab = need_lab(state)?;
     let experiment = need_found(state, exp)?;
+    need_idle(swaps, exp)?;
     need_out(exp, &experiment.phase)?;
     match read_solution(alloc, text, lab, &experiment.wiring) {
         Ok(mapping) => judge_mapping(alloc, state, lab, experiment, &mapping),

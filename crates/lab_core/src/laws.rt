@@ -1,5 +1,5 @@
 // Laws of the definitions.
-ghost use Rattle.std.specs.Prelude.{◌≡◌, ◌≢◌, ◌⊎◌, ℕ, Bool, false, true, is_some, count_by, List, [], ◌++◌, Some, None, Ok, Err, Result};
+ghost use Rattle.std.specs.Prelude.{◌≡◌, ◌≢◌, ◌⊎◌, ◌≤◌, ℕ, Bool, false, true, is_some, count_by, List, [], ◌++◌, length, Some, None, Ok, Err, Result};
 ghost use Rattle.plant.specs.Disks.{ArePossible};
 ghost use Rattle.plant.specs.Events.{Event};
 ghost use Rattle.plant.specs.Worlds.{world_of};
@@ -8,32 +8,33 @@ ghost use Rattle.journal_rec.specs.declared.record.Way.{Way};
 ghost use Rattle.records_model.specs.Labs.{LabState, Move, Sane, Says, find};
 ghost use Rattle.records_model.specs.Works.{IsSound};
 ghost use Rattle.lab_state.specs.Texts.{the_texts};
-ghost use Rattle.journal_runs.specs.Pieces.{has_miss, has_restart};
+ghost use Rattle.journal_runs.specs.Pieces.{has_command, has_miss, has_restart};
 ghost use Rattle.script_text.specs.Drills.{drill_of};
+ghost use Rattle.script_text.specs.Replies.{closes};
 ghost use Rattle.script_text.specs.declared.command.Command.{Command};
 ghost use Rattle.script_text.specs.declared.command.Command.TheVariants.{Recover, SwapinWith};
 ghost use Rattle.script_text.specs.declared.reply.Reply.{Reply};
-ghost use Rattle.script_text.specs.declared.reply.Reply.TheVariants.{In, Recovered};
+ghost use Rattle.script_text.specs.declared.reply.Reply.TheVariants.{More, Recovered};
 ghost use Rattle.lab_core.specs.Recovery.{Opens};
 ghost use Rattle.recovery.specs.Due.{is_busy};
 ghost use Rattle.recovery.specs.Settle.{is_stuck};
-ghost use Rattle.lab_base.specs.Lists.{Has};
+ghost use Rattle.lab_base.specs.Lists.{AllDiffer, Has};
 ghost use Rattle.lab_model.specs.Sound.{is_moving};
 ghost use Rattle.virt_topo.specs.declared.experiment.Experiment.{Experiment};
 ghost use Rattle.lab_core.specs.LabSteps.{LabStep, LabStepBy};
 ghost use Rattle.lab_core.specs.Moments.{StandForLab};
 ghost use Rattle.lab_core.specs.Said.{IsAsSaid};
-ghost use Rattle.lab_core.specs.Sessions.{OpenSwap, Session, Open, Setting, After};
-ghost use Rattle.lab_core.specs.Judge.{Task, Tell, Swap, Judged};
-ghost use Rattle.lab_core.specs.Tells.{BeginsAt, Hinders, IsAtRest, IsFeasibleFor, IsNoSwap, TellsBroken, TellsLab, busy_of, is_stopped, name_of, settles_all};
+ghost use Rattle.lab_core.specs.Sessions.{OpenSwap, Session, Open, Setting, After, name_of, names_of, open_at};
+ghost use Rattle.lab_core.specs.Judge.{Task, Tell, Swap, BeginOnly, Turn, Finish, Judged};
+ghost use Rattle.lab_core.specs.Tells.{BeginsAt, Hinders, IsAtRest, IsFeasibleFor, IsNoSwap, IsOpened, IsTurn, TellsBroken, TellsEnd, TellsLab, busy_of, has_journal_step, is_stopped, opens_of, settles, taken_reply};
 
 /// A command has one judgement, and a lab step is by one of the command's judgements. One that refuses it, or only tells
 /// something, has no steps of its own. Where nothing failed or stopped, a judgement that begins no swap and settles none leads,
 /// where a reply is told, to one reply and one lab. The reply to a swap tells where the lab is. Experiments of other names stay,
-/// whatever the reply, but where the command settles what moves those alone that don't move. A drill leaves all as it was. The
-/// plant stopped exactly where the reply is `stopped`.
+/// whatever the reply; where the command settles what moves, those that don't move and those with an open swap. A drill leaves
+/// all as it was. The plant stopped exactly where the reply is `stopped`.
 pub fn lab_steps()
-    ensures judged_once { (s : LabState) (command : Command) (a b : Result Task Reply) → Judged s command a → Judged s command b → a ≡ b }
+    ensures judged_once { (s : LabState) (busy : Bool) (count : ℕ) (command : Command) (a b : Result Task Reply) → Judged s busy count command a → Judged s busy count command b → a ≡ b }
     ensures by_one { (takes : Bool) (set : Setting) (s : LabState) (session : Session) (command : Command) (opening own : List Event) (after : After)
         → LabStep takes set s session command opening own after → (judgement : Result Task Reply) × LabStepBy judgement takes set s session command opening own after }
     ensures refused { (takes : Bool) (set : Setting) (s : LabState) (session : Session) (command : Command) (opening own : List Event) (after : After) (reply : Reply)
@@ -48,12 +49,37 @@ pub fn lab_steps()
         (reply : Reply) → drill_of command ≡ None → after.reply ≡ Some reply → LabStepBy (Ok (Swap exp way)) takes set s session command opening own after
         → TellsBroken reply ⊎ ((mid : LabState) × BeginsAt session s opening mid × ((move : Move) → Says the_texts mid (Begin exp way) move → TellsLab mid exp move reply after.lab)) }
     ensures others { (takes : Bool) (set : Setting) (s : LabState) (session : Session) (command : Command) (opening own : List Event) (after : After) (name : List ℕ)
-        → is_some s.lab ≡ true → name_of command ≢ Some name → (settles_all session command ≡ true → IsAtRest s name) → LabStep takes set s session command opening own after
+        → is_some s.lab ≡ true → name_of command ≢ Some name → (settles session command name ≡ true → IsAtRest s name) → LabStep takes set s session command opening own after
         → find name after.lab.experiments ≡ find name s.experiments }
     ensures drills { (takes : Bool) (set : Setting) (s : LabState) (session : Session) (command : Command) (opening own : List Event) (after : After)
         → is_some (drill_of command) ≡ true → LabStep takes set s session command opening own after → (opening ≡ []) × (own ≡ []) × (after.lab ≡ s) }
     ensures stops { (takes : Bool) (set : Setting) (s : LabState) (session : Session) (command : Command) (opening own : List Event) (after : After) (reply : Reply)
         → LabStep takes set s session command opening own after → after.reply ≡ Some reply → has_restart (opening ++ own) ≡ is_stopped reply }
+{}
+
+/// Open swaps, over lab steps that leave the controller open: each of another name than the command's is open as it was, so
+/// `recover` leaves all; their names differ where they did, and no more than sixteen are open. One that is begun by `open` is one
+/// more, of which nothing was sent. A turn sends one device command, or appends one record; one that breaks off does not both.
+/// The reply to a turn, or to all up to the end, tells where the lab is.
+pub fn open_swaps()
+    ensures others { (takes : Bool) (set : Setting) (s : LabState) (opens to : List OpenSwap) (command : Command) (opening own : List Event) (after : After) (name : List ℕ)
+        → name_of command ≢ Some name → LabStep takes set s (Open opens) command opening own after → after.session ≡ Open to → open_at name to ≡ open_at name opens }
+    ensures differ { (takes : Bool) (set : Setting) (s : LabState) (session : Session) (to : List OpenSwap) (command : Command) (opening own : List Event) (after : After)
+        → AllDiffer (busy_of session) → LabStep takes set s session command opening own after → after.session ≡ Open to → AllDiffer (names_of to) }
+    ensures few { (takes : Bool) (set : Setting) (s : LabState) (session : Session) (to : List OpenSwap) (command : Command) (opening own : List Event) (after : After)
+        → length (opens_of session) ≤ 16 → LabStep takes set s session command opening own after → after.session ≡ Open to → length to ≤ 16 }
+    ensures begun { (takes : Bool) (set : Setting) (s : LabState) (session : Session) (command : Command) (opening own : List Event) (after : After) (exp name : List ℕ) (way : Way)
+        → LabStepBy (Ok (BeginOnly exp way)) takes set s session command opening own after → after.reply ≡ Some (More name)
+        → (name ≡ exp) × ((to : List OpenSwap) × (after.session ≡ Open to) × IsOpened exp set.devices after.lab (opens_of session) to) }
+    ensures turned { (takes : Bool) (set : Setting) (s : LabState) (opens : List OpenSwap) (command : Command) (opening own : List Event) (after : After) (exp : List ℕ) (reply : Reply)
+        → drill_of command ≡ None → LabStepBy (Ok (Turn exp)) takes set s (Open opens) command opening own after → after.reply ≡ Some reply → closes reply ≡ false → is_stopped reply ≡ false
+        → IsTurn own }
+    ensures not_both { (takes : Bool) (set : Setting) (s : LabState) (opens : List OpenSwap) (command : Command) (opening own : List Event) (after : After) (exp : List ℕ)
+        → LabStepBy (Ok (Turn exp)) takes set s (Open opens) command opening own after → (has_command own ≡ false) ⊎ (has_journal_step own ≡ false) }
+    ensures turn_tells { (takes : Bool) (set : Setting) (s : LabState) (opens : List OpenSwap) (command : Command) (opening own : List Event) (after : After) (exp : List ℕ) (reply : Reply)
+        → LabStepBy (Ok (Turn exp)) takes set s (Open opens) command opening own after → after.reply ≡ Some reply → TellsEnd s exp reply after.lab }
+    ensures finish_tells { (takes : Bool) (set : Setting) (s : LabState) (opens : List OpenSwap) (command : Command) (opening own : List Event) (after : After) (exp : List ℕ) (reply : Reply)
+        → LabStepBy (Ok (Finish exp)) takes set s (Open opens) command opening own after → after.reply ≡ Some reply → TellsEnd s exp reply after.lab }
 {}
 
 /// An untroubled recovery leaves no experiment moving but those with an open swap: an opening in which none got stuck, and a
@@ -66,15 +92,15 @@ pub fn recoveries()
         → (e : Experiment) → Has after.lab.experiments e → is_moving e ≡ true → is_busy (busy_of session) e.name ≡ true }
 {}
 
-/// An experiment is swapped in by a supplied solution only where that is feasible on what the other experiments leave free, and
-/// there it is, unless the reply tells what hindered it.
+/// An experiment is swapped in by a supplied solution, or its swap begins where `open` stands before the command, only where that
+/// is feasible on what the other experiments leave free, and there it is, unless the reply tells what hindered it.
 pub fn solutions()
-    ensures only { (takes : Bool) (set : Setting) (s : LabState) (session : Session) (exp text : List ℕ) (lines : ℕ) (opening own : List Event) (after : After)
-        → LabStep takes set s session (SwapinWith exp lines text) opening own after → after.reply ≡ Some (In exp)
+    ensures only { (takes : Bool) (set : Setting) (s : LabState) (session : Session) (only_begin : Bool) (exp text : List ℕ) (lines : ℕ) (opening own : List Event) (after : After)
+        → LabStep takes set s session (SwapinWith only_begin exp lines text) opening own after → after.reply ≡ Some (taken_reply only_begin exp)
         → (mid : LabState) × BeginsAt session s opening mid × IsFeasibleFor mid exp text }
-    ensures unless { (takes : Bool) (set : Setting) (s : LabState) (session : Session) (exp text : List ℕ) (lines : ℕ) (opening own : List Event) (after : After) (reply : Reply)
-        → LabStep takes set s session (SwapinWith exp lines text) opening own after → after.reply ≡ Some reply
-        → TellsBroken reply ⊎ ((mid : LabState) × BeginsAt session s opening mid × (IsFeasibleFor mid exp text → (reply ≡ In exp) ⊎ Hinders reply)) }
+    ensures unless { (takes : Bool) (set : Setting) (s : LabState) (session : Session) (only_begin : Bool) (exp text : List ℕ) (lines : ℕ) (opening own : List Event) (after : After) (reply : Reply)
+        → LabStep takes set s session (SwapinWith only_begin exp lines text) opening own after → after.reply ≡ Some reply
+        → TellsBroken reply ⊎ ((mid : LabState) × BeginsAt session s opening mid × (IsFeasibleFor mid exp text → (reply ≡ taken_reply only_begin exp) ⊎ Hinders reply)) }
 {}
 
 /// Over a sound trace the devices are as the lab of each image says, so of an experiment that is in each wanted row stands, and

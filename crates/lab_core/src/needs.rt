@@ -1,11 +1,12 @@
 // What a command needs: each check gives a value, or the reply that refuses the command.
-ghost use Rattle.std.specs.Prelude.{◌≡◌, ◌<◌, Ok, IfOk, OnOk, length, true, None, Some};
+ghost use Rattle.std.specs.Prelude.{◌≡◌, ◌<◌, Ok, IfOk, OnOk, length, true, false, None, Some};
 ghost use Rattle.lab_base.specs.Lists.{Has};
 ghost use Rattle.virt_topo.specs.declared.experiment.Experiment.{Experiment as AnyExperiment};
 ghost use Rattle.virt_topo.specs.declared.experiment.Phase.TheVariants as phases;
 ghost use Rattle.records_model.specs.Labs.{Sane, find};
 ghost use Rattle.top_text.specs.Printable.{is_printable};
-ghost use Rattle.lab_core.specs.Judge.{need_found, need_in, need_lab, need_new, need_none, need_out, need_place, need_room};
+ghost use Rattle.lab_core.specs.Controller.{has_open};
+ghost use Rattle.lab_core.specs.Judge.{need_found, need_idle, need_in, need_lab, need_new, need_none, need_open, need_out, need_place, need_room, need_slot};
 ghost use Rattle.lab_core.specs.Tasks.{Refuses};
 
 use crate::task::Refusal;
@@ -13,10 +14,14 @@ use lab_base::{Name, Tags};
 use lab_state::LabState;
 use phys_lab::Lab;
 use script_text::Reply;
+use swap_mgr::Manager;
 use virt_topo::{Experiment, Mapping, Phase};
 
 /// How many experiments there may be.
 const MAX_EXPERIMENTS: usize = 256;
+
+/// How many swaps may be open.
+const MAX_SWAPS: u16 = 16;
 
 /// The lab.
 pub(crate) fn need_lab(state: &LabState) -> Result<&Lab, Refusal>
@@ -80,6 +85,39 @@ pub(crate) fn need_room(state: &LabState) -> Result<(), Refusal>
 {
     if MAX_EXPERIMENTS <= state.len() {
         return Err(Refusal::Refused(Reply::FullExperiments));
+    }
+    Ok(())
+}
+
+/// No open swap of the experiment.
+pub(crate) fn need_idle(swaps: &Manager, exp: Name) -> Result<(), Refusal>
+    ensures idle { OnOk result (has_open swaps.now exp ≡ false) }
+    ensures refuses { Refuses (need_idle exp (has_open swaps.now exp)) result }
+{
+    if swaps.is_open(exp) {
+        return Err(Refusal::Refused(Reply::Busy { exp }));
+    }
+    Ok(())
+}
+
+/// An open swap of the experiment.
+pub(crate) fn need_open(swaps: &Manager, exp: Name) -> Result<(), Refusal>
+    ensures open { OnOk result (has_open swaps.now exp ≡ true) }
+    ensures refuses { Refuses (need_open exp (has_open swaps.now exp)) result }
+{
+    if swaps.is_open(exp) {
+        return Ok(());
+    }
+    Err(Refusal::Refused(Reply::NotOpen { exp }))
+}
+
+/// Room for one more open swap.
+pub(crate) fn need_slot(swaps: &Manager) -> Result<(), Refusal>
+    ensures slot { OnOk result (length swaps.now < 16) }
+    ensures refuses { Refuses (need_slot (length swaps.now)) result }
+{
+    if MAX_SWAPS <= swaps.count() {
+        return Err(Refusal::Refused(Reply::FullSwaps));
     }
     Ok(())
 }

@@ -1,21 +1,25 @@
 // A task is done: over the plant, where the journal has room for it.
-ghost use Rattle.std.specs.Prelude.{◌≡◌, ◌≤◌, ◌+◌, ◌^◌, ℕ, Err, IfOk, Ok, OnOk, length, nat_le};
+ghost use Rattle.std.specs.Prelude.{◌≡◌, ◌≤◌, ◌+◌, ◌^◌, ℕ, Err, IfOk, List, None, Ok, OnOk, Some, length, nat_le};
 ghost use Rattle.journal_rec.specs.Payloads.{IsBody, IsRecord};
 ghost use Rattle.journal_rec.specs.declared.record.Record.{Record as AnyRecord};
 ghost use Rattle.journal_rec.specs.declared.record.Record.TheVariants as records;
 ghost use Rattle.journal_disk.specs.Standing.{length_of, limit_of};
 ghost use Rattle.records_model.specs.Labs.{Follows};
 ghost use Rattle.swap_txn.specs.Steps.{Stands, Writes};
-ghost use Rattle.swap_turns.specs.Running.{AtWork};
 ghost use Rattle.lab_state.specs.Changes.{after, CanEnter};
 ghost use Rattle.lab_state.specs.Texts.{the_texts};
-ghost use Rattle.lab_core.specs.Judge.{Append, Is, Recover, Swap};
+ghost use Rattle.lab_core.specs.Controller.{CanWork, WorksWith, control};
+ghost use Rattle.lab_core.specs.Judge.{Append, BeginOnly, Finish, Is, Recover, Swap, Turn};
 ghost use Rattle.lab_core.specs.Obey.{Obeyed};
 ghost use Rattle.lab_core.specs.Perform.{append_answer, recover_answer};
-ghost use Rattle.lab_core.specs.Tasks.{CanAppend, CanDo, IsSwapBy, MayFollow, task_of};
+ghost use Rattle.lab_core.specs.Sessions.{OpenSwap};
+ghost use Rattle.lab_core.specs.Swapping.{IsBegunBy};
+ghost use Rattle.lab_core.specs.Tasks.{CanAppend, CanDo, IsReady, IsSwapBy, MayFollow, swapped_by, task_of};
 
 use crate::CoreFault;
-use crate::swapping::{prepare_swap, reply_of_end, run_swap};
+use crate::swapping::{
+    finish_swap, open_swap, prepare_swap, reply_of_progress, reply_of_unopened, turn_swap,
+};
 use crate::task::Task;
 use journal_disk::{AppendFault, Journal};
 use journal_rec::{Encoded, Record, Way, encode};
@@ -25,6 +29,7 @@ use plant::Plant;
 use recovery::{SettleFault, Settled, settle};
 use script_text::Reply;
 use std::alloc::Global;
+use swap_mgr::Manager;
 use swap_plan::Ops;
 
 /// How many bytes a record has to leave, so that the last record of each move finds room.
@@ -101,14 +106,15 @@ fn append<P: Plant>(
     alloc: Global,
     lab: &mut LabState,
     journal: &mut Journal,
+    swaps: &Manager,
     entry: &Record,
     reply: Reply,
     plant: &mut P,
 ) -> Result<Reply, CoreFault>
     requires can { CanAppend lab.old.state entry.now reply }
-    requires works { AtWork the_texts (P.seen plant.old).told journal.old lab.old.state }
-    ensures { Obeyed (P.seen plant.old) (P.seen plant.new) (Is (Ok (Append entry.now reply)))
-        (record { lab = lab.old.state; journal = journal.old }) (record { lab = lab.new.state; journal = journal.new }) result }
+    requires works { CanWork (P.seen plant.old) (control lab.old.state journal.old swaps.now) }
+    ensures { (opens : List OpenSwap) → WorksWith (P.seen plant.old) (control lab.old.state journal.old swaps.now) opens
+        → Obeyed (P.seen plant.old) (P.seen plant.new) (Is (Ok (Append entry.now reply))) (control lab.old.state journal.old swaps.now) (control lab.new.state journal.new swaps.now) opens None result }
 {
     let encoded = encode(alloc, entry)?;
     if !has_space(journal, encoded.size()) {
@@ -122,11 +128,43 @@ fn append<P: Plant>(
     reply_of_append(reply, written)
 }
 
-/// Begins a swap by its record, where there is space for it, and turns it to its end.
-fn swap<P: Plant>(
+/// Begins a swap by its record, where there is space for it. It is open then, where nothing else is told.
+fn begin<P: Plant>(
     alloc: Global,
     lab: &mut LabState,
     journal: &mut Journal,
+    swaps: &mut Manager,
+    exp: Name,
+    way: Way,
+    ops: Ops,
+    plant: &mut P,
+) -> Result<Option<Reply>, CoreFault>
+    requires record { IsRecord (records.Begin exp way) }
+    requires follows { MayFollow lab.old.state (records.Begin exp way) }
+    requires by { IsSwapBy lab.old.state exp way ops.commands ops.undo }
+    requires ready { IsReady swaps.old (Swap exp way) }
+    requires works { CanWork (P.seen plant.old) (control lab.old.state journal.old swaps.old) }
+    ensures { (opens : List OpenSwap) → WorksWith (P.seen plant.old) (control lab.old.state journal.old swaps.old) opens
+        → IsBegunBy (P.seen plant.old) (P.seen plant.new) (control lab.old.state journal.old swaps.old) (control lab.new.state journal.new swaps.new) opens exp way result }
+{
+    let ready = prepare_swap(alloc, lab, exp, way, ops)?;
+    if !has_space(journal, ready.planned.size()) {
+        return Ok(Some(Reply::FullJournal {
+            length: journal.length(),
+        }));
+    }
+    match open_swap(lab, journal, swaps, ready, plant) {
+        Ok(()) => Ok(None),
+        Err(fault) => reply_of_unopened(exp, fault),
+    }
+}
+
+/// Begins a swap. Later commands turn it.
+fn begin_only<P: Plant>(
+    alloc: Global,
+    lab: &mut LabState,
+    journal: &mut Journal,
+    swaps: &mut Manager,
     exp: Name,
     way: Way,
     ops: Ops,
@@ -135,18 +173,77 @@ fn swap<P: Plant>(
     requires record { IsRecord (records.Begin exp way) }
     requires follows { MayFollow lab.old.state (records.Begin exp way) }
     requires by { IsSwapBy lab.old.state exp way ops.commands ops.undo }
-    requires works { AtWork the_texts (P.seen plant.old).told journal.old lab.old.state }
-    ensures { Obeyed (P.seen plant.old) (P.seen plant.new) (Is (Ok (Swap exp way)))
-        (record { lab = lab.old.state; journal = journal.old }) (record { lab = lab.new.state; journal = journal.new }) result }
+    requires ready { IsReady swaps.old (BeginOnly exp way) }
+    requires works { CanWork (P.seen plant.old) (control lab.old.state journal.old swaps.old) }
+    ensures { (opens : List OpenSwap) → WorksWith (P.seen plant.old) (control lab.old.state journal.old swaps.old) opens
+        → Obeyed (P.seen plant.old) (P.seen plant.new) (Is (Ok (BeginOnly exp way))) (control lab.old.state journal.old swaps.old) (control lab.new.state journal.new swaps.new) opens (Some exp) result }
 {
-    let ready = prepare_swap(alloc, lab, exp, way, ops)?;
-    if !has_space(journal, ready.planned.size()) {
-        return Ok(Reply::FullJournal {
-            length: journal.length(),
-        });
+    match begin(alloc, lab, journal, swaps, exp, way, ops, plant)? {
+        None => Ok(Reply::More { exp }),
+        Some(reply) => Ok(reply),
     }
-    let finished = run_swap(lab, journal, exp, ready, plant);
-    reply_of_end(exp, finished)
+}
+
+/// Makes one turn of the experiment's open swap.
+fn turn<P: Plant>(
+    lab: &mut LabState,
+    journal: &mut Journal,
+    swaps: &mut Manager,
+    exp: Name,
+    plant: &mut P,
+) -> Result<Reply, CoreFault>
+    requires ready { IsReady swaps.old (Turn exp) }
+    requires works { CanWork (P.seen plant.old) (control lab.old.state journal.old swaps.old) }
+    ensures { (opens : List OpenSwap) → WorksWith (P.seen plant.old) (control lab.old.state journal.old swaps.old) opens
+        → Obeyed (P.seen plant.old) (P.seen plant.new) (Is (Ok (Turn exp))) (control lab.old.state journal.old swaps.old) (control lab.new.state journal.new swaps.new) opens (Some exp) result }
+{
+    let progress = turn_swap(lab, journal, swaps, exp, plant);
+    reply_of_progress(exp, progress)
+}
+
+/// Turns the experiment's open swap to its end.
+fn finish<P: Plant>(
+    lab: &mut LabState,
+    journal: &mut Journal,
+    swaps: &mut Manager,
+    exp: Name,
+    plant: &mut P,
+) -> Result<Reply, CoreFault>
+    requires ready { IsReady swaps.old (Finish exp) }
+    requires works { CanWork (P.seen plant.old) (control lab.old.state journal.old swaps.old) }
+    ensures { (opens : List OpenSwap) → WorksWith (P.seen plant.old) (control lab.old.state journal.old swaps.old) opens
+        → Obeyed (P.seen plant.old) (P.seen plant.new) (Is (Ok (Finish exp))) (control lab.old.state journal.old swaps.old) (control lab.new.state journal.new swaps.new) opens (Some exp) result }
+{
+    let progress = finish_swap(lab, journal, swaps, exp, plant);
+    reply_of_progress(exp, progress)
+}
+
+/// Begins a swap, and where that is open turns it to its end.
+fn swap<P: Plant>(
+    alloc: Global,
+    lab: &mut LabState,
+    journal: &mut Journal,
+    swaps: &mut Manager,
+    exp: Name,
+    way: Way,
+    ops: Ops,
+    plant: &mut P,
+) -> Result<Reply, CoreFault>
+    requires record { IsRecord (records.Begin exp way) }
+    requires follows { MayFollow lab.old.state (records.Begin exp way) }
+    requires by { IsSwapBy lab.old.state exp way ops.commands ops.undo }
+    requires ready { IsReady swaps.old (Swap exp way) }
+    requires works { CanWork (P.seen plant.old) (control lab.old.state journal.old swaps.old) }
+    ensures { (opens : List OpenSwap) → WorksWith (P.seen plant.old) (control lab.old.state journal.old swaps.old) opens
+        → Obeyed (P.seen plant.old) (P.seen plant.new) (Is (Ok (Swap exp way))) (control lab.old.state journal.old swaps.old) (control lab.new.state journal.new swaps.new) opens (Some exp) result }
+{
+    match begin(alloc, lab, journal, swaps, exp, way, ops, plant)? {
+        None => {
+            let progress = finish_swap(lab, journal, swaps, exp, plant);
+            reply_of_progress(exp, progress)
+        }
+        Some(reply) => Ok(reply),
+    }
 }
 
 /// What is told of the settling of all experiments that move.
@@ -161,18 +258,20 @@ fn reply_of_settling(settled: Result<Settled, SettleFault>) -> Result<Reply, Cor
     }
 }
 
-/// Settles all experiments that move, and tells how many were settled and how many are stuck.
+/// Settles all experiments that move and have no open swap, and tells how many were settled and how many are stuck.
 fn recover<P: Plant>(
     alloc: Global,
     lab: &mut LabState,
     journal: &mut Journal,
+    swaps: &Manager,
     plant: &mut P,
 ) -> Result<Reply, CoreFault>
-    requires works { AtWork the_texts (P.seen plant.old).told journal.old lab.old.state }
-    ensures { Obeyed (P.seen plant.old) (P.seen plant.new) (Is (Ok Recover))
-        (record { lab = lab.old.state; journal = journal.old }) (record { lab = lab.new.state; journal = journal.new }) result }
+    requires works { CanWork (P.seen plant.old) (control lab.old.state journal.old swaps.now) }
+    ensures { (opens : List OpenSwap) → WorksWith (P.seen plant.old) (control lab.old.state journal.old swaps.now) opens
+        → Obeyed (P.seen plant.old) (P.seen plant.new) (Is (Ok Recover)) (control lab.old.state journal.old swaps.now) (control lab.new.state journal.new swaps.now) opens None result }
 {
-    let settled = settle(alloc, lab, &[], journal, plant);
+    let busy = swaps.names(alloc)?;
+    let settled = settle(alloc, lab, &busy, journal, plant);
     reply_of_settling(settled)
 }
 
@@ -181,18 +280,25 @@ pub(crate) fn perform<P: Plant>(
     alloc: Global,
     lab: &mut LabState,
     journal: &mut Journal,
+    swaps: &mut Manager,
     task: Task,
     plant: &mut P,
 ) -> Result<Reply, CoreFault>
     requires can { CanDo lab.old.state task }
-    requires works { AtWork the_texts (P.seen plant.old).told journal.old lab.old.state }
-    ensures { Obeyed (P.seen plant.old) (P.seen plant.new) (Is (Ok (task_of task)))
-        (record { lab = lab.old.state; journal = journal.old }) (record { lab = lab.new.state; journal = journal.new }) result }
+    requires ready { IsReady swaps.old (task_of task) }
+    requires works { CanWork (P.seen plant.old) (control lab.old.state journal.old swaps.old) }
+    ensures { (opens : List OpenSwap) → WorksWith (P.seen plant.old) (control lab.old.state journal.old swaps.old) opens
+        → Obeyed (P.seen plant.old) (P.seen plant.new) (Is (Ok (task_of task))) (control lab.old.state journal.old swaps.old) (control lab.new.state journal.new swaps.new) opens (swapped_by (task_of task)) result }
 {
     match task {
         Task::Tell(reply) => Ok(reply),
-        Task::Append { entry, reply } => append(alloc, lab, journal, &entry, reply, plant),
-        Task::Swap { exp, way, ops } => swap(alloc, lab, journal, exp, way, ops, plant),
-        Task::Recover => recover(alloc, lab, journal, plant),
+        Task::Append { entry, reply } => append(alloc, lab, journal, swaps, &entry, reply, plant),
+        Task::Swap { exp, way, ops } => swap(alloc, lab, journal, swaps, exp, way, ops, plant),
+        Task::BeginOnly { exp, way, ops } => {
+            begin_only(alloc, lab, journal, swaps, exp, way, ops, plant)
+        }
+        Task::Turn { exp } => turn(lab, journal, swaps, exp, plant),
+        Task::Finish { exp } => finish(lab, journal, swaps, exp, plant),
+        Task::Recover => recover(alloc, lab, journal, swaps, plant),
     }
 }

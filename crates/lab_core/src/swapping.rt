@@ -1,20 +1,23 @@
-// A whole swap, from its Begin to its end.
-ghost use Rattle.std.specs.Prelude.{◌≡◌, ◌↔◌, ◌≤◌, ◌+◌, IsTrue, IfOk, length, List, ℕ};
+// A swap: it begins, is turned, and ends.
+ghost use Rattle.std.specs.Result.{IfErr};
+ghost use Rattle.std.specs.Prelude.{◌≡◌, ◌↔◌, ◌≤◌, ◌+◌, ◌<◌, IsTrue, IfOk, OnErr, OnOk, length, List, ℕ};
 ghost use Rattle.journal_rec.specs.Payloads.{IsBody, IsRecord, IsShort};
 ghost use Rattle.journal_rec.specs.declared.record.Record.{Record as AnyRecord};
 ghost use Rattle.journal_rec.specs.declared.record.Record.TheVariants as records;
 ghost use Rattle.journal_rec.specs.declared.record.Way.{Way as AnyWay};
 ghost use Rattle.journal_disk.specs.Standing.{limit_of, length_of};
-ghost use Rattle.records_model.specs.Labs.{Follows, LabState as AnyLabState, Move};
+ghost use Rattle.records_model.specs.Labs.{Follows, Move};
 ghost use Rattle.swap_txn.specs.States.{unsent};
 ghost use Rattle.swap_txn.specs.Steps.{Stands};
-ghost use Rattle.swap_turns.specs.Swaps.{Swap};
-ghost use Rattle.swap_turns.specs.Finishing.{IsStop};
-ghost use Rattle.swap_turns.specs.Running.{AtWork};
-ghost use Rattle.swap_turns.specs.Turning.{Outcome};
+ghost use Rattle.swap_txn.specs.declared.live.Live.{Live};
+ghost use Rattle.swap_turns.specs.Running.{OpenSwap as RunningSwap, Working};
+ghost use Rattle.swap_turns.specs.Swaps.{Swap as SwapOf};
+ghost use Rattle.swap_mgr.specs.Managing.{Holds, IfNothingSent, IfSent, IsAfterOpening, IsManagingFor, IsStopOpening};
+ghost use Rattle.swap_mgr.specs.Open.{HasOpen};
+ghost use Rattle.swap_mgr.specs.Turns.{IsStop};
 ghost use Rattle.lab_state.specs.Changes.{after, CanEnter};
 ghost use Rattle.lab_state.specs.Texts.{the_texts};
-ghost use Rattle.lab_core.specs.Swapping.{IsBegin, IsBeginning, IsPlanned, CanRun, IsBegunBy, IsAfterFirst, IsStopped, CanEndBy, IsEndedBy, IsToldBy, HasRun, IsAnswer, reply_of_done, reply_of_over, undone_by};
+ghost use Rattle.lab_core.specs.Swapping.{CanEndBy, HasEndedIn, HasTried, HasTurnedIn, IsBegin, IsEndedBy, IsPlanned, progress_answer, reply_of_done, reply_of_over, undone_by, unopened_answer};
 ghost use Rattle.lab_core.specs.Tasks.{MayFollow};
 
 use crate::CoreFault;
@@ -26,9 +29,9 @@ use lab_state::{LabState, Prepared};
 use plant::Plant;
 use script_text::{FailedEnd, Reply};
 use std::alloc::Global;
+use swap_mgr::{Manager, OpenSwap, Progress};
 use swap_plan::Ops;
-use swap_turns::{Finished, finish};
-use swap_txn::{Ended, Live, Planned, Turned};
+use swap_txn::{Ended, Planned};
 
 /// Plans the swap of a record Begin.
 fn plan_swap(alloc: Global, begin: Record, ops: Ops) -> Result<Planned, Memory>
@@ -90,74 +93,91 @@ pub(crate) fn prepare_swap(
     ready_swap(alloc, lab, Record::Begin { exp, way }, ops)
 }
 
-fn first_state(turned: Turned<Planned>) -> Result<Live, Finished>
-    requires { IsBeginning turned }
-    ensures { IsBegunBy turned result }
-{
-    match turned {
-        Turned::Next(live) => Ok(live),
-        Turned::Stopped => Err(Finished::Stopped),
-        Turned::Stuck(_planned, what) => Err(Finished::Stuck(what)),
-        // No command was sent.
-        Turned::Same(_planned) => unreachable!(),
-        Turned::Trouble(_undoing, _what) => unreachable!(),
-    }
-}
-
-/// Appends Begin, and gives the swap's first state; or tells how it broke off.
-fn begin_swap<P: Plant>(
-    planned: Planned,
-    journal: &mut Journal,
-    plant: &mut P,
-) -> Result<Live, Finished>
-    requires stands { Stands (P.seen plant.old).told journal.old }
-    requires fits { length_of journal.old + length planned.begin ≤ limit_of journal.old }
-    requires body { (entry : AnyRecord) × IsBody planned.begin entry }
-    ensures after { (p : Swap) (s u : AnyLabState) (entry : AnyRecord) (move : Move) → AtWork the_texts (P.seen plant.old).told journal.old s → IsPlanned s u journal.old planned p entry move
-        → IsAfterFirst p s u entry move (P.seen plant.old) (P.seen plant.new) journal.old journal.new result }
-    ensures stopped { IsStopped result ↔ IsTrue (P.seen plant.new).stopped }
-    ensures limit { limit_of journal.new ≡ limit_of journal.old }
-{
-    first_state(planned.turn(journal, plant))
-}
-
-/// Ends the experiment's move, where the swap came to its last record.
-fn end_move(lab: &mut LabState, exp: Name, finished: &Finished)
-    requires { CanEndBy lab.old.state exp finished.now }
-    ensures { IsEndedBy lab.old.state exp finished.now lab.new.state }
-{
-    match finished {
-        Finished::Ended(ended) => lab.end_move(exp, ended.committed),
-        Finished::Stuck(_) | Finished::Stopped => {}
-    }
-}
-
-/// Begins a swap whose Begin was prepared for the lab, and turns it to its end.
-pub(crate) fn run_swap<P: Plant>(
+/// Opens a swap whose Begin was prepared for the lab.
+pub(crate) fn open_swap<P: Plant>(
     lab: &mut LabState,
     journal: &mut Journal,
-    exp: Name,
+    swaps: &mut Manager,
     ready: ReadySwap,
     plant: &mut P,
-) -> Finished
-    requires works { AtWork the_texts (P.seen plant.old).told journal.old lab.old.state }
+) -> Result<(), OpenSwap>
+    requires stands { Stands (P.seen plant.old).told journal.old }
+    requires fits { length_of journal.old + length ready.planned.begin ≤ limit_of journal.old }
     requires enters { CanEnter lab.old ready.prepared }
-    requires can { CanRun lab.old.state (after lab.old.state ready.prepared) journal.old ready.planned exp }
-    ensures ran { (p : Swap) (entry : AnyRecord) (move : Move) → p.name ≡ exp → IsPlanned lab.old.state (after lab.old.state ready.prepared) journal.old ready.planned p entry move
-        → HasRun p lab.old.state entry move (P.seen plant.old) (P.seen plant.new) journal.new lab.new.state result }
-    ensures stopped { IsStop result ↔ IsTrue (P.seen plant.new).stopped }
+    requires idle { HasOpen swaps.old ready.planned.forth.exp → ⊥ }
+    requires room { length swaps.old < 16 }
+    ensures tried { IfErr result HasTried }
+    ensures begun { (pairs : List (RunningSwap × Live)) (p : SwapOf) (entry : AnyRecord) (move : Move)
+        → Working the_texts (P.seen plant.old).told journal.old lab.old.state pairs → Holds swaps.old pairs
+        → IsPlanned lab.old.state (after lab.old.state ready.prepared) journal.old ready.planned p entry move
+        → IsAfterOpening the_texts pairs p lab.old.state (after lab.old.state ready.prepared) entry move
+        (P.seen plant.old) (P.seen plant.new) journal.old journal.new swaps.new result }
+    ensures lab { OnOk result (lab.new.state ≡ after lab.old.state ready.prepared) }
+    ensures unchanged { OnErr result ((lab.new.state ≡ lab.old.state) × (swaps.new ≡ swaps.old)) }
+    ensures nothing { IfNothingSent result ((plant.new ≡ plant.old) × (journal.new ≡ journal.old)) }
+    ensures stopped { IfSent result (IsStopOpening result ↔ IsTrue (P.seen plant.new).stopped) }
     ensures limit { limit_of journal.new ≡ limit_of journal.old }
 {
     let ReadySwap { prepared, planned } = ready;
-    match begin_swap(planned, journal, plant) {
-        Ok(live) => {
-            lab.enter(prepared);
-            let finished = finish(live, journal, plant);
-            end_move(lab, exp, &finished);
-            finished
-        }
-        Err(finished) => finished,
+    swaps.open(planned, journal, plant)?;
+    lab.enter(prepared);
+    Ok(())
+}
+
+/// Ends the experiment's move, where its swap came to its last record.
+fn end_move(lab: &mut LabState, exp: Name, progress: &Progress)
+    requires { CanEndBy lab.old.state exp progress.now }
+    ensures { IsEndedBy lab.old.state exp progress.now lab.new.state }
+{
+    if let Progress::Ended(ended) = progress {
+        lab.end_move(exp, ended.committed);
     }
+}
+
+/// Makes one turn of an open swap.
+pub(crate) fn turn_swap<P: Plant>(
+    lab: &mut LabState,
+    journal: &mut Journal,
+    swaps: &mut Manager,
+    exp: Name,
+    plant: &mut P,
+) -> Progress
+    requires managed { IsManagingFor the_texts (P.seen plant.old).told journal.old lab.old.state swaps.old }
+    requires is_open { HasOpen swaps.old exp }
+    ensures turned { (pairs : List (RunningSwap × Live)) → Working the_texts (P.seen plant.old).told journal.old lab.old.state pairs → Holds swaps.old pairs
+        → HasTurnedIn lab.old.state pairs exp (P.seen plant.old) (P.seen plant.new) journal.new result swaps.new lab.new.state }
+    ensures stopped { IsStop result ↔ IsTrue (P.seen plant.new).stopped }
+    ensures limit { limit_of journal.new ≡ limit_of journal.old }
+{
+    // It is open.
+    let Ok(progress) = swaps.turn(exp, journal, plant) else {
+        unreachable!()
+    };
+    end_move(lab, exp, &progress);
+    progress
+}
+
+/// Turns an open swap to its end.
+pub(crate) fn finish_swap<P: Plant>(
+    lab: &mut LabState,
+    journal: &mut Journal,
+    swaps: &mut Manager,
+    exp: Name,
+    plant: &mut P,
+) -> Progress
+    requires managed { IsManagingFor the_texts (P.seen plant.old).told journal.old lab.old.state swaps.old }
+    requires is_open { HasOpen swaps.old exp }
+    ensures ended { (pairs : List (RunningSwap × Live)) → Working the_texts (P.seen plant.old).told journal.old lab.old.state pairs → Holds swaps.old pairs
+        → HasEndedIn lab.old.state pairs exp (P.seen plant.old) (P.seen plant.new) journal.new result swaps.new lab.new.state }
+    ensures stopped { IsStop result ↔ IsTrue (P.seen plant.new).stopped }
+    ensures limit { limit_of journal.new ≡ limit_of journal.old }
+{
+    // It is open.
+    let Ok(progress) = swaps.finish(exp, journal, plant) else {
+        unreachable!()
+    };
+    end_move(lab, exp, &progress);
+    progress
 }
 
 /// `in E` where the experiment is in, and `out E` where it is out.
@@ -197,17 +217,37 @@ fn reply_of_over(exp: Name, ended: Ended) -> Reply
     }
 }
 
-/// What is told of a swap's end.
-pub(crate) fn reply_of_end(exp: Name, finished: Finished) -> Result<Reply, CoreFault>
-    ensures { (p : Swap) (outcome : Outcome) → p.name ≡ exp → IsToldBy p finished outcome → IsAnswer p outcome result }
+/// What is told of a turn.
+pub(crate) fn reply_of_progress(exp: Name, progress: Progress) -> Result<Reply, CoreFault>
+    ensures { result ≡ progress_answer exp progress }
 {
-    match finished {
-        Finished::Ended(ended) => Ok(reply_of_over(exp, ended)),
-        Finished::Stuck(what) => Ok(Reply::Failed {
+    match progress {
+        Progress::More => Ok(Reply::More { exp }),
+        Progress::Trouble(what) => Ok(Reply::Trouble { exp, what }),
+        Progress::Ended(ended) => Ok(reply_of_over(exp, ended)),
+        Progress::Stuck(what) => Ok(Reply::Failed {
             exp,
             end: FailedEnd::Stuck,
             what,
         }),
-        Finished::Stopped => Err(CoreFault::Stopped),
+        Progress::Stopped => Err(CoreFault::Stopped),
+    }
+}
+
+/// What is told of a swap that was not opened.
+pub(crate) fn reply_of_unopened(exp: Name, fault: OpenSwap) -> Result<Option<Reply>, CoreFault>
+    requires { HasTried fault }
+    ensures { result ≡ unopened_answer exp fault }
+{
+    match fault {
+        OpenSwap::Stuck(what) => Ok(Some(Reply::Failed {
+            exp,
+            end: FailedEnd::Stuck,
+            what,
+        })),
+        OpenSwap::Stopped => Err(CoreFault::Stopped),
+        OpenSwap::Memory => Err(CoreFault::Memory),
+        // It has none, and there is room for one more.
+        OpenSwap::Busy(_) | OpenSwap::TooManyOpen(_) => unreachable!(),
     }
 }

@@ -12,16 +12,16 @@ place_of-requires c =
     let stops = rw c.in-Err-Bad.field-0-is at c.in-Err-Bad.ensures.bad in
     subst (λ (n : ℕ). n < length c.args.found.now) (sym c.in-Err-Bad.index-is) (bad_within c.args.found.now c.in-Err-Bad.index stops)
 
-pub returns-in-Err-Bad : goal.returns-in-Err-Bad
-returns-in-Err-Bad c rs holds =
+pub returns-in-Err-Bad-clause-is : goal.returns-in-Err-Bad-clause-is
+returns-in-Err-Bad-clause-is c rs holds =
     let stops = rw c.in-Err-Bad.field-0-is at c.in-Err-Bad.ensures.bad in
     let e = c.place_of.ensures in
     at_bad c.args.limit rs c.args.journal c.args.found.now c.in-Err-Bad.index e.0 c.side.result c.place_of.result holds stops c.side.ensures (subst (λ (n : ℕ). slice_get c.args.found.now n ≡ Some e.0) c.in-Err-Bad.index-is e.1) e.2
 
-pub returns-then-limit-needed : goal.returns-then-limit-needed
-returns-then-limit-needed c rs holds =
+pub returns-then-limit-needed-clause-is : goal.returns-then-limit-needed-clause-is
+returns-then-limit-needed-clause-is c rs holds =
     let e = c.saturating_add-needed.ensures in
     (c.side-then-limit-needed.ensures, inr (c.in-Ok.lab.state, lab_held rs c.args.journal c.args.found.now c.in-Ok.lab.state holds c.in-Ok.ensures.ok, omega arith, omega arith))
 
-pub returns : goal.returns
-returns c rs holds = let e = c.saturating_add-needed.ensures in (refl, lab_held rs c.args.journal c.args.found.now c.in-Ok.lab.state holds c.in-Ok.ensures.ok, omega arith)
+pub returns-clause-is : goal.returns-clause-is
+returns-clause-is c rs holds = let e = c.saturating_add-needed.ensures in (refl, lab_held rs c.args.journal c.args.found.now c.in-Ok.lab.state holds c.in-Ok.ensures.ok, omega arith)

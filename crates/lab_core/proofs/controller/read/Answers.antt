@@ -13,12 +13,12 @@ pub returns-clause-steps : goal.returns-clause-steps
 returns-clause-steps g c =
     let opened = c.in_ok-journal in
     let told = (g.P.Plant.seen c.open.new.plant).told in
-    let made = made_of told c.args.limit opened.journal opened.found.items c.deref.result.now c.of_journal.result c.deref.ensures.value opened.ensures.ok opened.ensures.holds c.of_journal.ensures in
+    let made = made_of told c.args.limit opened.journal opened.found.items c.deref.result.now c.of_journal.result c.deref.ensures.value opened.ensures.ok opened.ensures.holds c.of_journal.ensures.is in
     made_opening (g.P.Plant.seen c.args.plant.now).told told c.args.limit c.requires.least (opened.journal, opened.found) c.of_journal.result made opened.ensures.moments (g.met.P.Plant.reads_possible c.open.new.plant)
 
 pub returns-clause-works : goal.returns-clause-works
 returns-clause-works g c =
     let opened = c.in_ok-journal in
     let told = (g.P.Plant.seen c.open.new.plant).told in
-    let made = made_of told c.args.limit opened.journal opened.found.items c.deref.result.now c.of_journal.result c.deref.ensures.value opened.ensures.ok opened.ensures.holds c.of_journal.ensures in
+    let made = made_of told c.args.limit opened.journal opened.found.items c.deref.result.now c.of_journal.result c.deref.ensures.value opened.ensures.ok opened.ensures.holds c.of_journal.ensures.is in
     made_works told c.args.limit opened.journal c.of_journal.result made opened.ensures.limit c.requires.most

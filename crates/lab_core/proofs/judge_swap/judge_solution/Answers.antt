@@ -1,4 +1,5 @@
 use Rattle.std.proofs.Common.{sym, subst}
+use Rattle.lab_core.specs.Controller.{has_open}
 use Rattle.lab_core.specs.Tasks.{Gives}
 use Rattle.records_model.proofs.Swaps.{found_in}
 use Rattle.lab_core.proofs.JudgeSwap.{in_reads, is_there}
@@ -20,4 +21,4 @@ judge_mapping-requires-clause-shaped c = c.in-Ok.ensures.shaped
 
 pub returns-in-Ok-clause-judged : goal.returns-in-Ok-clause-judged
 returns-in-Ok-clause-judged c =
-    subst (λ j. Gives j c.judge_mapping.result) (sym (in_reads c.args.state.now.state c.args.exp c.args.text.now c.in_ok-lab.lab.now c.in_ok-experiment.experiment.now c.in-Ok.mapping c.in_ok-lab.ensures.lab c.in_ok-experiment.ensures.found c.in_ok-need_out.ensures.out c.in-Ok.ensures.reads)) c.judge_mapping.ensures.judged
+    subst (λ j. Gives j c.judge_mapping.result) (sym (in_reads c.args.state.now.state (has_open c.args.swaps.now c.args.exp) c.args.exp c.args.text.now c.in_ok-lab.lab.now c.in_ok-experiment.experiment.now c.in-Ok.mapping c.in_ok-lab.ensures.lab c.in_ok-experiment.ensures.found c.in_ok-need_idle.ensures.idle c.in_ok-need_out.ensures.out c.in-Ok.ensures.reads)) c.judge_mapping.ensures.judged

@@ -1,12 +1,13 @@
 use Rattle.std.proofs.Common.{Err, Ok}
 use Rattle.script_text.specs.Drills.{drill_of}
-use Rattle.lab_core.specs.Judge.{Judged, Tell, Swap}
+use Rattle.lab_core.specs.Judge.{Tell, Swap}
+use Rattle.lab_core.specs.LabSteps.{JudgedBeside}
 use Rattle.lab_core.proofs.Judgements.{judged_once}
 use Rattle.lab_core.proofs.StepLaws.{was, by_one, drills_leave, no_steps_refused, no_steps_told, step_once, swap_tells, step_stays, step_stops}
 use Rattle.lab_core.proofs.laws.lab_steps.Goals as goal
 
 pub returns-clause-judged_once : goal.returns-clause-judged_once
-returns-clause-judged_once c = λ s command a b is also. judged_once s command a b is also
+returns-clause-judged_once c = λ s busy count command a b is also. judged_once s busy count command a b is also
 
 pub returns-clause-by_one : goal.returns-clause-by_one
 returns-clause-by_one c = λ takes set s session command opening own after step. by_one (drill_of command) takes set s session command opening own after step
@@ -33,7 +34,7 @@ returns-clause-others c = λ takes set s session command opening own after name 
     (step_stays name own after s there session command rests opening one.0 takes set other (was one.0 takes set s command opening own after (drill_of command) session one.1)).same
 
 pub returns-clause-drills : goal.returns-clause-drills
-returns-clause-drills c = λ takes set s session command opening own after is step. drills_leave (drill_of command) takes set s session (λ lab. Judged lab command) opening own after is step
+returns-clause-drills c = λ takes set s session command opening own after is step. drills_leave (drill_of command) takes set s session (JudgedBeside command) opening own after is step
 
 pub returns-clause-stops : goal.returns-clause-stops
 returns-clause-stops c = λ takes set s session command opening own after reply step is.

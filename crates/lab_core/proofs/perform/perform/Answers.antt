@@ -1,4 +1,5 @@
-use Rattle.std.proofs.Common.{Ok, refl}
+use Rattle.std.proofs.Common.{None, Ok, refl}
+use Rattle.lab_core.specs.Controller.{control}
 use Rattle.lab_core.specs.Judge.{Is, Tell}
 use Rattle.lab_core.specs.LabSteps.{does}
 use Rattle.lab_core.proofs.Obey.{replied}
@@ -7,7 +8,8 @@ use Rattle.lab_core.proofs.perform.perform.Goals as goal
 pub returns-in-Tell : goal.returns-in-Tell
 returns-in-Tell g c =
     let mild = rw c.in-Tell.is at c.requires.can in
-    rw c.in-Tell.is (replied _ (Is (Ok (Tell c.in-Tell.reply))) (record { lab = c.args.lab.now.state; journal = c.args.journal.now }) c.in-Tell.reply c.requires.works mild (does (Ok (Tell c.in-Tell.reply)) refl (record { nothing = refl; after_is = refl })))
+    rw c.in-Tell.is
+    (λ opens works. replied _ (Is (Ok (Tell c.in-Tell.reply))) (control c.args.lab.now.state c.args.journal.now c.args.swaps.now) opens None c.in-Tell.reply works mild (does (Ok (Tell c.in-Tell.reply)) refl (record { nothing = refl; after_is = refl })))
 
 pub append-requires-clause-can : goal.append-requires-clause-can
 append-requires-clause-can g c = rw c.in-Append.is at c.requires.can
@@ -24,5 +26,38 @@ swap-requires-clause-follows g c = (rw c.in-Swap.is at c.requires.can).1
 pub swap-requires-clause-by : goal.swap-requires-clause-by
 swap-requires-clause-by g c = (rw c.in-Swap.is at c.requires.can).2
 
+pub swap-requires-clause-ready : goal.swap-requires-clause-ready
+swap-requires-clause-ready g c = rw c.in-Swap.is at c.requires.ready
+
 pub returns-in-Swap : goal.returns-in-Swap
 returns-in-Swap g c = rw c.in-Swap.is c.swap.ensures
+
+pub begin_only-requires-clause-record : goal.begin_only-requires-clause-record
+begin_only-requires-clause-record g c = (rw c.in-BeginOnly.is at c.requires.can).0
+
+pub begin_only-requires-clause-follows : goal.begin_only-requires-clause-follows
+begin_only-requires-clause-follows g c = (rw c.in-BeginOnly.is at c.requires.can).1
+
+pub begin_only-requires-clause-by : goal.begin_only-requires-clause-by
+begin_only-requires-clause-by g c = (rw c.in-BeginOnly.is at c.requires.can).2
+
+pub begin_only-requires-clause-ready : goal.begin_only-requires-clause-ready
+begin_only-requires-clause-ready g c = rw c.in-BeginOnly.is at c.requires.ready
+
+pub returns-in-BeginOnly : goal.returns-in-BeginOnly
+returns-in-BeginOnly g c = rw c.in-BeginOnly.is c.begin_only.ensures
+
+pub turn-requires-clause-ready : goal.turn-requires-clause-ready
+turn-requires-clause-ready g c = rw c.in-Turn.is at c.requires.ready
+
+pub returns-in-Turn : goal.returns-in-Turn
+returns-in-Turn g c = rw c.in-Turn.is c.turn.ensures
+
+pub finish-requires-clause-ready : goal.finish-requires-clause-ready
+finish-requires-clause-ready g c = rw c.in-Finish.is at c.requires.ready
+
+pub returns-in-Finish : goal.returns-in-Finish
+returns-in-Finish g c = rw c.in-Finish.is c.finish.ensures
+
+pub returns-in-Recover : goal.returns-in-Recover
+returns-in-Recover g c = rw c.in-Recover.is c.recover.ensures

@@ -1,0 +1,99 @@
+use Rattle.std.proofs.Common.{◌≡◌, ◌+◌, ℕ, true, nat_le, length, Some, Err, sym, ap, ◌∙◌, subst, arith}
+use Rattle.std.proofs.lemmas.Bool.{leb-true}
+use Rattle.std.proofs.lemmas.Result.{err_from_is_err_and}
+use Rattle.journal_rec.specs.declared.record.Record.TheVariants.{Begin}
+use Rattle.journal_disk.specs.Standing.{length_of, limit_of}
+use Rattle.journal_disk.proofs.Parts.{body_size}
+use Rattle.records_model.specs.Labs.{LabState}
+use Rattle.lab_state.specs.Changes.{after}
+use Rattle.lab_state.specs.Texts.{the_texts}
+use Rattle.swap_txn.specs.States.{View}
+use Rattle.swap_turns.specs.Running.{Working}
+use Rattle.swap_mgr.specs.Managing.{HasOpened, IsAfterOpening}
+use Rattle.lab_core.specs.Controller.{Control, control}
+use Rattle.lab_core.specs.Judge.{Swap, begun_as}
+use Rattle.lab_core.specs.Obey.{start_of}
+use Rattle.lab_core.specs.Swapping.{IsPlanned}
+use Rattle.lab_core.proofs.Obey.{wanted}
+use Rattle.lab_core.proofs.PerformAppend.{full, stands_of}
+use Rattle.lab_core.proofs.RunSwap.{is_opened, no_space_for, not_opened, nothing_as, planned}
+use Rattle.lab_core.proofs.perform.begin.Goals as goal
+
+pub returns-in_err-ready : goal.returns-in_err-ready
+returns-in_err-ready g c =
+    let p = err_from_is_err_and c.from_residual.result c.from_residual.ensures.1 in
+    rw (p.1, p.2, c.prepare_swap.ensures.unchanged) (λ opens works only. wanted _ _ (control c.args.lab.now.state c.args.journal.now c.args.swaps.now) opens (Some c.args.exp) works)
+
+pub returns-then-not-has_space : goal.returns-then-not-has_space
+returns-then-not-has_space g c =
+    let old : Control = control c.args.lab.now.state c.args.journal.now c.args.swaps.now in
+    rw c.prepare_swap.ensures.unchanged
+    (λ opens works only. full _ old opens (Some c.args.exp) (begun_as only (Swap c.args.exp c.args.way)) (Begin c.args.exp c.args.way) c.in_ok-ready.ready.planned.begin c.length.result works
+    (λ own after no' replies. no_space_for (start_of (g.P.Plant.seen c.args.plant.now) old opens).set old.lab opens c.args.exp c.args.way only own after no' replies)
+    (body_size c.in_ok-ready.ready.planned.begin (Begin c.args.exp c.args.way) c.in_ok-ready.ensures.body)
+    (sym (ap (λ (n : ℕ). nat_le (length_of c.args.journal.now + n + 10240) (limit_of c.args.journal.now)) c.size.ensures) ∙ (sym c.has_space.ensures.space ∙ c.if-not-has_space.true)) c.length.ensures)
+
+pub open_swap-requires-clause-stands : goal.open_swap-requires-clause-stands
+open_swap-requires-clause-stands g c = stands_of _ (control c.args.lab.now.state c.args.journal.now c.args.swaps.now) c.requires.works.0 c.requires.works.1
+
+pub open_swap-requires-clause-fits : goal.open_swap-requires-clause-fits
+open_swap-requires-clause-fits g c =
+    let fits = leb-true _ _ (sym c.has_space.ensures.space ∙ c.if-not-has_space.false) in
+    omega (arith, fits, c.size.ensures)
+
+pub open_swap-requires-clause-enters : goal.open_swap-requires-clause-enters
+open_swap-requires-clause-enters g c = c.in_ok-ready.ensures.enters
+
+pub open_swap-requires-clause-idle : goal.open_swap-requires-clause-idle
+open_swap-requires-clause-idle g c = λ h. c.requires.ready.0 (subst (λ (n : Rattle.std.specs.Prelude.List ℕ). Rattle.swap_mgr.specs.Open.HasOpen c.args.swaps.now n) (ap (λ (v : View). v.exp) c.in_ok-ready.ensures.forth) h)
+
+pub open_swap-requires-clause-room : goal.open_swap-requires-clause-room
+open_swap-requires-clause-room g c = c.requires.ready.1
+
+pub reply_of_unopened-requires : goal.reply_of_unopened-requires
+reply_of_unopened-requires g c = c.in-Err.ensures.tried
+
+-- the swap is planned, with space
+pub returns-in-Ok : goal.returns-in-Ok
+returns-in-Ok g c = λ opens works.
+    let s = c.args.lab.now.state in
+    let j = c.args.journal.now in
+    let old : Control = control s j c.args.swaps.now in
+    let new : Control = control c.open_swap.new.lab.state c.open_swap.new.journal c.open_swap.new.swaps in
+    let ready = c.in_ok-ready.ready in
+    let e = c.in_ok-ready.ensures in
+    let by = c.requires.by in
+    let begin = Begin c.args.exp c.args.way in
+    let same = c.prepare_swap.ensures.unchanged in
+    let space : nat_le (length_of j + length ready.planned.begin + 10240) (limit_of j) ≡ true = sym (ap (λ (n : ℕ). nat_le (length_of j + n + 10240) (limit_of j)) c.size.ensures) ∙ (sym c.has_space.ensures.space ∙ c.if-not-has_space.false) in
+    let plans : IsPlanned s (after s ready.prepared) j ready.planned by.swap begin by.move = planned s (after s ready.prepared) j ready.planned c.args.exp c.args.way c.args.ops.commands c.args.ops.undo by c.requires.record e.follows e.body e.forth space c.has_space.ensures.most in
+    let here = c.in-Ok.ensures.begun works.pairs by.swap begin by.move (subst (λ (x : LabState). Working the_texts (g.P.Plant.seen c.args.plant.now).told j x works.pairs) (sym same) works.working) works.holds
+    (subst (λ (x : LabState). IsPlanned x (after x ready.prepared) j ready.planned by.swap begin by.move) (sym same) plans) in
+    let opened = subst (λ (x : LabState). HasOpened the_texts works.pairs by.swap x (after x ready.prepared) begin by.move (g.P.Plant.seen c.args.plant.now) (g.P.Plant.seen c.open_swap.new.plant) j new.journal new.swaps) same here in
+    let lab : new.lab ≡ after s ready.prepared = c.in-Ok.ensures.lab ∙ ap (λ (x : LabState). after x ready.prepared) same in
+    is_opened _ _ old new opens c.args.exp c.args.way c.args.ops.commands c.args.ops.undo by works
+    (sym (ap (λ (n : ℕ). nat_le (length_of j + n + 10240) (limit_of j)) (body_size ready.planned.begin begin e.body)) ∙ space)
+    (subst (λ (x : LabState). HasOpened the_texts works.pairs by.swap s x begin by.move (g.P.Plant.seen c.args.plant.now) (g.P.Plant.seen c.open_swap.new.plant) j new.journal new.swaps) (sym lab) opened) (λ stopped. c.in-Ok.ensures.stopped.1 stopped)
+
+pub returns-in-Err : goal.returns-in-Err
+returns-in-Err g c = λ opens works.
+    let s = c.args.lab.now.state in
+    let j = c.args.journal.now in
+    let old : Control = control s j c.args.swaps.now in
+    let new : Control = control c.open_swap.new.lab.state c.open_swap.new.journal c.open_swap.new.swaps in
+    let ready = c.in_ok-ready.ready in
+    let e = c.in_ok-ready.ensures in
+    let by = c.requires.by in
+    let begin = Begin c.args.exp c.args.way in
+    let same = c.prepare_swap.ensures.unchanged in
+    let fault = c.in-Err.fault in
+    let space : nat_le (length_of j + length ready.planned.begin + 10240) (limit_of j) ≡ true = sym (ap (λ (n : ℕ). nat_le (length_of j + n + 10240) (limit_of j)) c.size.ensures) ∙ (sym c.has_space.ensures.space ∙ c.if-not-has_space.false) in
+    let plans : IsPlanned s (after s ready.prepared) j ready.planned by.swap begin by.move = planned s (after s ready.prepared) j ready.planned c.args.exp c.args.way c.args.ops.commands c.args.ops.undo by c.requires.record e.follows e.body e.forth space c.has_space.ensures.most in
+    let here = c.in-Err.ensures.begun works.pairs by.swap begin by.move (subst (λ (x : LabState). Working the_texts (g.P.Plant.seen c.args.plant.now).told j x works.pairs) (sym same) works.working) works.holds
+    (subst (λ (x : LabState). IsPlanned x (after x ready.prepared) j ready.planned by.swap begin by.move) (sym same) plans) in
+    let unopened = subst (λ (x : LabState). IsAfterOpening the_texts works.pairs by.swap x (after x ready.prepared) begin by.move (g.P.Plant.seen c.args.plant.now) (g.P.Plant.seen c.open_swap.new.plant) j new.journal new.swaps (Err fault)) same here in
+    let lab : new.lab ≡ s = c.in-Err.ensures.unchanged.0 ∙ same in
+    let still = nothing_as _ _ (Err fault) (λ kept. (ap g.P.Plant.seen kept.0, λ i. control (lab i) (kept.1 i) (c.in-Err.ensures.unchanged.1 i))) c.in-Err.ensures.nothing in
+    rw c.reply_of_unopened.ensures
+    (not_opened _ _ old new opens c.args.exp c.args.way c.args.ops.commands c.args.ops.undo by works (sym (ap (λ (n : ℕ). nat_le (length_of j + n + 10240) (limit_of j)) (body_size ready.planned.begin begin e.body)) ∙ space)
+    (after s ready.prepared) fault c.in-Err.ensures.tried unopened still c.in-Err.ensures.stopped c.in-Err.ensures.limit)
