@@ -3,6 +3,7 @@ use Rattle.std.proofs.Common.{◌≡◌, inr, ℕ, Bool, true, List, Option, Som
 use Rattle.script_text.specs.declared.command.Command.{Command}
 use Rattle.script_text.specs.declared.reply.Reply.{Reply}
 use Rattle.plant.specs.declared.drill.Drill.{Drill}
+use Rattle.plant.specs.declared.moment.Faults.{Faults}
 use Rattle.script_text.specs.declared.reply.Reply.TheVariants as replies
 use Rattle.script_text.specs.Drills.{drill_of}
 use Rattle.script_text.specs.Replies.{text_of}
@@ -12,12 +13,13 @@ use Rattle.plant.specs.Told.{with_mark}
 use Rattle.lab_core.specs.Controller.{Control}
 use Rattle.lab_core.specs.Breaks.{unanswered}
 use Rattle.lab_core.specs.Sessions.{Session, Closed, Open}
+use Rattle.lab_core.specs.Tells.{opens_of}
 use Rattle.lab_top.specs.declared.command.CommandFault.{CommandFault}
 use Rattle.lab_top.specs.declared.command.CommandFault.TheVariants as faults
-use Rattle.lab_top.specs.Answering.{Moment, Made, Ends, Sent, Answered, marked, piece_of, session_of}
+use Rattle.lab_top.specs.Answering.{Moment, Made, Ends, Sent, Answered, marked, piece_of}
 use Rattle.lab_top.specs.Pieces.{Finds, IsPlannedAs, IsPlannedBy, broken_off, opened}
-use Rattle.lab_top.proofs.Obeyed.{map_some}
-use Rattle.lab_top.proofs.Stepping.{silent_done}
+use Rattle.lab_top.proofs.Obeyed.{opened_none}
+use Rattle.lab_top.proofs.Stepping.{map_some, silent_done}
 
 pub marked_so : (old mid : Seen) (controller : Option Control) → mid ≡ record old { told = with_mark old.told old.faults } → ◌≡◌ {A = Moment} (record { plant = mid; controller = controller }) (marked (record { plant = old; controller = controller }))
 marked_so old mid controller is i = record { plant = is i; controller = controller }
@@ -33,16 +35,17 @@ silent_by : (takes : Bool) (drill : Option Drill) (planned : Bool) (reply : Opti
 silent_by takes None planned reply by = by
 silent_by takes (Some drill) planned reply by = silent_planned takes planned reply by
 
-silent_finds : (drill : Option Drill) (trace : List Event) (command : Command) (from to : Session) (opening own : List Event) (reply : Option Reply) → Finds drill from trace (piece_of command from to opening own reply)
-    → Finds drill from trace (piece_of command from Closed opening own None)
-silent_finds (Some drill) trace command from to opening own reply finds = (finds.0, finds.1, λ some. absurd (cc some))
-silent_finds None trace command Closed to opening own reply (quiet, opened no_miss no_restart journal) = (quiet, opened no_miss no_restart journal)
-silent_finds None trace command Closed to opening own reply (quiet, broken_off breaks nothing closed) = (quiet, broken_off (unanswered refl) nothing refl)
-silent_finds None trace command (Open opens) to opening own reply finds = finds
+silent_finds : (drill : Option Drill) (trace : List Event) (command : Command) (mark : Faults) (from to : Session) (opening own : List Event) (reply : Option Reply) → Finds drill from trace (piece_of command mark from to opening own reply)
+    → Finds drill from trace (piece_of command mark from Closed opening own None)
+silent_finds (Some drill) trace command mark from to opening own reply finds = (finds.0, finds.1, λ some. absurd (cc some))
+silent_finds None trace command mark Closed to opening own reply (quiet, opened no_miss no_restart journal) = (quiet, opened no_miss no_restart journal)
+silent_finds None trace command mark Closed to opening own reply (quiet, broken_off breaks nothing closed) = (quiet, broken_off (unanswered refl) nothing refl)
+silent_finds None trace command mark (Open opens) to opening own reply finds = finds
 
-silent_made : (takes : Bool) (command : Command) (old new : Moment) (to : Session) (reply : Option Reply) → Made takes command old new to reply → Made takes command old new Closed None
-silent_made takes command old new to reply made =
+silent_made : (takes : Bool) (command : Command) (old new : Moment) (from to : Session) (reply : Option Reply) → Made takes command old new from to reply → Made takes command old new from Closed None
+silent_made takes command old new from to reply made =
     let b = made.begun in
+    let mark = old.plant.faults in
     record {
       begun = record {
         opening = b.opening;
@@ -52,35 +55,43 @@ silent_made takes command old new to reply made =
         planned_by = silent_by takes (drill_of command) b.planned reply b.planned_by;
         is_piece = map_some old.plant.told (λ t is. record {
           readable = is.readable;
-          finds = silent_finds (drill_of command) t.trace command (session_of old.controller) to b.opening b.own reply is.finds;
+          finds = silent_finds (drill_of command) t.trace command mark from to b.opening b.own reply is.finds;
           leaves = λ shut. refl;
           shuts = λ none shut. refl;
           steps = λ none some. absurd (cc some);
           leads = λ none open_now. absurd (cc open_now);
-          done = λ sound. silent_done takes t.trace command (session_of old.controller) to b.opening b.own reply (is.done sound);
+          done = λ sound. silent_done takes t.trace command mark from to b.opening b.own reply (is.done sound);
         }) b.is_piece;
       };
       later = made.later;
       disk = λ is. absurd (cc is);
       device = λ is. absurd (cc is);
+      opened = opened_none (opens_of from) mark.devices;
       runs = λ some. absurd (cc some);
-      goes_on = made.goes_on;
+      goes_on = λ some. absurd (cc some);
     }
 
-pub answered_not : (takes : Bool) (command : Command) (old mid new : Moment) (written : Option (List ℕ)) (fault : CommandFault) → mid ≡ marked old → Ends takes command mid new (Err fault) → Answered takes command old new written written (Err fault)
-answered_not takes command old mid new written fault same ends = by fault (subst (λ was. Ends takes command was new (Err fault)) same ends)
+pub answered_not : (takes : Bool) (command : Command) (old mid new : Moment) (from : Session) (written : Option (List ℕ)) (fault : CommandFault) → mid ≡ marked old → Ends takes command mid new from (Err fault)
+    → Answered takes command old new from written written (Err fault)
+answered_not takes command old mid new from written fault same ends = by fault (subst (λ was. Ends takes command was new from (Err fault)) same ends)
   where
-    by : (fault : CommandFault) → Ends takes command (marked old) new (Err fault) → Answered takes command old new written written (Err fault)
+    by : (fault : CommandFault) → Ends takes command (marked old) new from (Err fault) → Answered takes command old new from written written (Err fault)
     by faults.Memory made = (inr made, refl)
     by faults.WriteFault made = absurd made
     by (faults.JournalBad side at) found = (found, refl)
 
-pub answered_sent : (takes : Bool) (command : Command) (old mid new : Moment) (reply : Reply) (before now : Option (List ℕ)) (result : Result (Unit {0}) CommandFault) → mid ≡ marked old
-    → Made takes command mid new (session_of new.controller) (Some reply) → Sent before now (text_of reply) result → Answered takes command old new before now result
-answered_sent takes command old mid new reply before now result same made sent = by result (subst (λ was. Made takes command was new (session_of new.controller) (Some reply)) same made) sent
+-- no write fails before there is a reply
+pub not_written : (takes : Bool) (command : Command) (old new : Moment) (from : Session) (fault : CommandFault) → Ends takes command old new from (Err fault) → (let result : Result (Unit {0}) CommandFault = Err fault in result ≡ Err faults.WriteFault) → ⊥
+not_written takes command old new from faults.Memory ends is = cc is
+not_written takes command old new from faults.WriteFault ends is = ends
+not_written takes command old new from (faults.JournalBad side at) ends is = cc is
+
+pub answered_sent : (takes : Bool) (command : Command) (old mid new : Moment) (from : Session) (reply : Reply) (before now : Option (List ℕ)) (result : Result (Unit {0}) CommandFault) → mid ≡ marked old
+    → Ends takes command mid new from (Ok reply) → Sent before now (text_of reply) result → Answered takes command old new from before now result
+answered_sent takes command old mid new from reply before now result same ends sent = by result (subst (λ was. Ends takes command was new from (Ok reply)) same ends) sent
   where
-    by : (result : Result (Unit {0}) CommandFault) → Made takes command (marked old) new (session_of new.controller) (Some reply) → Sent before now (text_of reply) result → Answered takes command old new before now result
-    by (Ok done) made sent = (reply, made, sent)
-    by (Err faults.WriteFault) made sent = (reply, made, sent.0, sent.1, sent.2)
-    by (Err faults.Memory) made sent = (inr (silent_made takes command (marked old) new _ _ made), sent)
+    by : (result : Result (Unit {0}) CommandFault) → Ends takes command (marked old) new from (Ok reply) → Sent before now (text_of reply) result → Answered takes command old new from before now result
+    by (Ok done) made sent = (reply, made.0, made.1, sent)
+    by (Err faults.Memory) made sent = (inr (silent_made takes command (marked old) new from _ _ made.1), sent)
+    by (Err faults.WriteFault) made sent = (reply, made.0, made.1, sent.0, sent.1, sent.2)
     by (Err (faults.JournalBad side at)) made sent = absurd sent

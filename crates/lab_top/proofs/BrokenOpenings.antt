@@ -4,6 +4,7 @@ use Rattle.std.specs.Prelude.{not, is_some}
 use Rattle.std.proofs.lemmas.List.{append-nil}
 use Rattle.std.proofs.lemmas.List.Folds.{list_any-append}
 use Rattle.plant.specs.declared.drill.Drill.{Drill}
+use Rattle.plant.specs.declared.moment.Faults.{Faults}
 use Rattle.plant.specs.declared.step.Side.TheVariants.{A, B}
 use Rattle.plant.specs.Disks.{disk, ArePossible}
 use Rattle.plant.specs.Events.{Event, Restarted}
@@ -63,9 +64,9 @@ synced_with steps a b i =
     (list_any-append (is_sync_of A) steps (Restarted a b ∷ []) ∙ or_none _) i
     && (list_any-append (is_sync_of B) steps (Restarted a b ∷ []) ∙ or_none _) i
 
-module _ (takes : Bool) (trace : List Event) (command : Command) (no_drill : drill_of command ≡ None) where
+module _ (takes : Bool) (trace : List Event) (command : Command) (mark : Faults) (no_drill : drill_of command ≡ None) where
   abbrev of : List Event → Option Reply → Piece
-  of opening reply = piece_of command Closed Closed opening [] reply
+  of opening reply = piece_of command mark Closed Closed opening [] reply
 
   abbrev Done : List Event → Option Reply → Type 0
   Done opening reply = IsSound the_texts trace → IsDone takes trace (of opening reply)

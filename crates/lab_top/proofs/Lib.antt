@@ -2,8 +2,10 @@ mod Answering
 mod BrokenOpenings
 mod Commanding
 mod Drilling
+mod Marks
 mod Obeyed
 mod Pieces
 mod RunLaws
 mod Stepping
+mod TurnLaws
 mod Wording

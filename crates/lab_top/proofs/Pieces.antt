@@ -23,40 +23,41 @@ use Rattle.script_text.specs.declared.command.Command.{Command}
 use Rattle.script_text.specs.declared.reply.Reply.{Reply}
 use Rattle.script_text.specs.Replies.{text_of}
 use Rattle.lab_core.specs.Moments.{IsNoJournal, bad, cannot_follow, no_room}
-use Rattle.lab_core.specs.Sessions.{Session, Closed, Open, HandsOn, open_at}
+use Rattle.lab_core.specs.Controller.{Control}
+use Rattle.lab_core.specs.Sessions.{Session, Closed}
 use Rattle.lab_top.specs.declared.command.CommandFault.TheVariants as faults
 use Rattle.lab_top.specs.declared.status.Status.TheVariants as statuses
 use Rattle.lab_top.specs.declared.status.Status.{Status}
-use Rattle.lab_top.specs.Answering.{Moment, Made, Answered, marked, piece_of, session_of}
-use Rattle.lab_top.specs.Pieces.{Begun, steps_of, commands_of, planned_of, trace_after, with_drill_if, with_piece, with_pieces, IsCaused, Counts, FindsNone, IsPiece, ArePieces, reply_text, reply_texts}
+use Rattle.lab_top.specs.Answering.{Moment, HasSession, Made, Answered, marked, piece_of}
+use Rattle.lab_top.specs.Pieces.{Begun, steps_of, commands_of, planned_of, trace_after, with_drill_if, with_piece, with_pieces, IsCaused, Counts, FindsNone, IsPiece, AreHandedOn, ArePieces, reply_text, reply_texts, session_after}
 use Rattle.lab_top.specs.Ran.{AreAnswered, BegunCommands, EndsSo, GoesOn, LastFindsNone, LastIsNot, Outside, Ran, WroteReplies, Answered as StatusAnswered}
 use Rattle.lab_top.specs.Words.{Choices, Usual}
-use Rattle.lab_top.proofs.Obeyed.{map_both, map_some, map_three}
+use Rattle.lab_top.proofs.Obeyed.{goes_closed, map_both, map_three}
+use Rattle.lab_top.proofs.Stepping.{all_some, map_some}
 
 -- ONE PIECE MORE
 
-abbrev pub last_session : Session → List Begun → Session
-last_session session [] = session
-last_session session (b ∷ begun) = last_session b.piece.to begun
-
-last-push : (session : Session) (begun : List Begun) (b : Begun) → last_session session (begun ++ b ∷ []) ≡ b.piece.to
-last-push session [] b = refl
-last-push session (x ∷ begun) b = last-push x.piece.to begun b
+session-push : (session : Session) (begun : List Begun) (b : Begun) → session_after session (begun ++ b ∷ []) ≡ b.piece.to
+session-push session [] b = refl
+session-push session (x ∷ begun) b = session-push x.piece.to begun b
 
 pub trace-push : (trace : List Event) (begun : List Begun) (b : Begun) → trace_after trace (begun ++ b ∷ []) ≡ trace_after trace begun ++ steps_of b.piece
 trace-push trace [] b = refl
 trace-push trace (x ∷ begun) b = trace-push (trace ++ steps_of x.piece) begun b
 
-pieces-push : (takes : Bool) (trace : List Event) (session : Session) (begun : List Begun) (b : Begun) → ArePieces takes trace session begun → HandsOn (last_session session begun) b.piece.from → IsPiece takes (trace_after trace begun) b.piece
-    → ArePieces takes trace session (begun ++ b ∷ [])
-pieces-push takes trace session [] b are from is = (from, is, tt)
-pieces-push takes trace session (x ∷ begun) b are from is = (are.0, are.1, pieces-push takes (trace ++ steps_of x.piece) x.piece.to begun b are.2 from is)
+pieces-push : (takes : Bool) (trace : List Event) (begun : List Begun) (b : Begun) → ArePieces takes trace begun → IsPiece takes (trace_after trace begun) b.piece → ArePieces takes trace (begun ++ b ∷ [])
+pieces-push takes trace [] b are is = (is, tt)
+pieces-push takes trace (x ∷ begun) b are is = (are.0, pieces-push takes (trace ++ steps_of x.piece) begun b are.1 is)
+
+sessions-push : (session : Session) (begun : List Begun) (b : Begun) → AreHandedOn session begun → b.piece.from ≡ session_after session begun → AreHandedOn session (begun ++ b ∷ [])
+sessions-push session [] b are from = (from, tt)
+sessions-push session (x ∷ begun) b are from = (are.0, sessions-push x.piece.to begun b are.1 from)
 
 told-push : (told : Option Told) (begun : List Begun) (b : Begun) → with_pieces told (begun ++ b ∷ []) ≡ with_piece (with_pieces told begun) b
 told-push told [] b = refl
 told-push told (x ∷ begun) b = told-push (with_piece told x) begun b
 
-counts-push : (takes : Bool) (entry mid : Faults) (begun : List Begun) (b : Begun) → Counts takes entry begun mid → b.faults ≡ mid → IsCaused takes b → Counts takes entry (begun ++ b ∷ []) b.later
+counts-push : (takes : Bool) (entry mid : Faults) (begun : List Begun) (b : Begun) → Counts takes entry begun mid → b.piece.faults ≡ mid → IsCaused takes b → Counts takes entry (begun ++ b ∷ []) b.later
 counts-push takes entry mid [] b is first caused = (first ∙ is, caused, refl)
 counts-push takes entry mid (x ∷ begun) b are first caused = (are.0, are.1, counts-push takes x.later mid begun b are.2 first caused)
 
@@ -70,13 +71,13 @@ answered-push : (begun : List Begun) (b : Begun) → AreAnswered begun → is_so
 answered-push begun b are is = list_all-append (λ (x : Begun). is_some x.piece.reply) begun (b ∷ []) ∙ (λ i. are i && (is i && true))
 
 -- THE TRACE STAYS SOUND
-pub sound_after : (takes : Bool) (trace : List Event) (session : Session) (begun : List Begun) → ArePieces takes trace session begun → IsSound the_texts trace → IsSound the_texts (trace_after trace begun)
-sound_after takes trace session [] are sound = sound
-sound_after takes trace session (b ∷ begun) are sound = sound_after takes (trace ++ steps_of b.piece) b.piece.to begun are.2 (are.1.done sound).sound
+pub sound_after : (takes : Bool) (trace : List Event) (begun : List Begun) → ArePieces takes trace begun → IsSound the_texts trace → IsSound the_texts (trace_after trace begun)
+sound_after takes trace [] are sound = sound
+sound_after takes trace (b ∷ begun) are sound = sound_after takes (trace ++ steps_of b.piece) begun are.1 (are.0.done sound).sound
 
 -- WHAT THE PLANT TELLS after pieces is the trace after them
 abbrev next_told : Told → Begun → Told
-next_told t b = record { trace = t.trace ++ steps_of b.piece; marks = t.marks ++ record { at = length t.trace; faults = b.faults } ∷ []; drills = t.drills }
+next_told t b = record { trace = t.trace ++ steps_of b.piece; marks = t.marks ++ record { at = length t.trace; faults = b.piece.faults } ∷ []; drills = t.drills }
 
 -- a drill leaves the trace as it is
 undrilled : (t : Told) (drill : Option Drill) (Q : Option Told → Type 0) (R : List Event → Type 0) → ((u : Told) → Q (Some u) → R u.trace) → Q (with_drill_if (Some t) drill) → R t.trace
@@ -116,25 +117,18 @@ unmarked : (told : Option Told) (faults : Faults) (P : List Event → Type 0) �
 unmarked None faults P h = tt
 unmarked (Some t) faults P h = h
 
--- the session is handed on as it is
-pub handed : (old new : Session) → old ≡ new → HandsOn old new
-handed Closed Closed same = tt
-handed Closed (Open opens) same = absurd (cc same)
-handed (Open opens) Closed same = absurd (cc same)
-handed (Open opens) (Open others) same = let is : opens ≡ others = cc same in record { number = ap length (sym is); each = λ name. ap (open_at name) (sym is) }
-
 -- THE PIECES SO FAR, from the first moment to this one
 pub record PiecesSoFar (takes : Bool) (start now : Moment) (begun : List Begun) : Type 0 where
   pub told : now.plant.told ≡ with_pieces start.plant.told begun
   pub counts : Counts takes start.plant.faults begun now.plant.faults
-  pub are : IfSome start.plant.told (λ t. ArePieces takes t.trace Closed begun)
+  pub sessions : AreHandedOn Closed begun
+  pub are : IfSome start.plant.told (λ t. ArePieces takes t.trace begun)
 
-module _ (takes : Bool) (start before now : Moment) (begun : List Begun) (so : PiecesSoFar takes start before begun) (session : last_session Closed begun ≡ session_of before.controller)
-    (command : Command) (to : Session) (reply : Option Reply) (made : Made takes command (marked before) now to reply) where
+module _ (takes : Bool) (start before now : Moment) (begun : List Begun) (so : PiecesSoFar takes start before begun) (command : Command) (to : Session) (reply : Option Reply)
+    (made : Made takes command (marked before) now (session_after Closed begun) to reply) where
   abbrev pub next : Begun
   next = record {
-    faults = before.plant.faults;
-    piece = piece_of command (session_of before.controller) to made.begun.opening made.begun.own reply;
+    piece = piece_of command before.plant.faults (session_after Closed begun) to made.begun.opening made.begun.own reply;
     planned = made.begun.planned;
     later = now.plant.faults;
   }
@@ -146,26 +140,24 @@ module _ (takes : Bool) (start before now : Moment) (begun : List Begun) (so : P
   pub one_more : PiecesSoFar takes start now (begun ++ next ∷ [])
   one_more = record {
     told = made.begun.told ∙ ap (λ (o : Option Told). with_piece o next) so.told ∙ sym (told-push start.plant.told begun next);
-    counts = counts-push takes start.plant.faults before.plant.faults begun next so.counts refl (record { later = made.later; disk = made.disk; device = made.device; planned = made.begun.planned_by });
-    are = map_both start.plant.told (λ t are is. pieces-push takes t.trace Closed begun next are (handed (last_session Closed begun) next.piece.from session) is) so.are (at_mark (λ l. IsPiece takes l next.piece) made.begun.is_piece);
+    counts = counts-push takes start.plant.faults before.plant.faults begun next so.counts refl
+        (record { later = made.later; disk = made.disk; device = made.device; opened = made.opened; planned = made.begun.planned_by });
+    sessions = sessions-push Closed begun next so.sessions refl;
+    are = map_both start.plant.told (λ t are is. pieces-push takes t.trace begun next are is) so.are (at_mark (λ l. IsPiece takes l next.piece) made.begun.is_piece);
   }
 
--- THE RUN SO FAR: all commands that were begun are answered
+-- THE RUN SO FAR: all commands that were begun are answered, and the session behind them stands
 pub record Going (takes : Bool) (start now : Moment) (first written : Option (List ℕ)) (begun : List Begun) : Type 0 where
   pub so : PiecesSoFar takes start now begun
-  pub session : last_session Closed begun ≡ session_of now.controller
+  pub goes_on : HasSession now (session_after Closed begun)
   pub answered : AreAnswered begun
   pub wrote : written ≡ append_known first (reply_texts begun)
   pub runs : start.plant.stopped ≡ false → now.plant.stopped ≡ false
 
-pub all_some : {X : Type 0} {P : X → Type 0} (o : Option X) → ((x : X) → P x) → IfSome o P
-all_some None f = tt
-all_some (Some x) f = f x
-
-pub going_none : (takes : Bool) (start : Moment) (written : Option (List ℕ)) → session_of start.controller ≡ Closed → Going takes start start written written []
-going_none takes start written closed = record {
-  so = record { told = refl; counts = refl; are = all_some start.plant.told (λ t. tt) };
-  session = sym closed;
+pub going_none : (takes : Bool) (start : Moment) (written : Option (List ℕ)) → start.controller ≡ None → Going takes start start written written []
+going_none takes start written none = record {
+  so = record { told = refl; counts = refl; sessions = tt; are = all_some start.plant.told (λ t. tt) };
+  goes_on = subst (λ (k : Option Control). HasSession (record { plant = start.plant; controller = k }) Closed) (sym none) (goes_closed start.plant);
   answered = refl;
   wrote = sym (append_known-nil written);
   runs = λ is. is;
@@ -185,6 +177,7 @@ ran takes choices start now first new left rest status made refused none ends be
   usage = (refused, none);
   told = ends.0.told;
   counts = ends.0.counts;
+  sessions = ends.0.sessions;
   goes_on = ends.4;
   pieces = ends.0.are;
   ends = ends.1;
@@ -194,9 +187,9 @@ ran takes choices start now first new left rest status made refused none ends be
   wrote = ends.3;
 }
   where
-    sound : (told : Option Told) → now.plant.told ≡ with_pieces told made → IfSome told (λ t. ArePieces takes t.trace Closed made) → IfSome told (λ t. IsSound the_texts t.trace → IfSome now.plant.told (λ u. IsSound the_texts u.trace))
+    sound : (told : Option Told) → now.plant.told ≡ with_pieces told made → IfSome told (λ t. ArePieces takes t.trace made) → IfSome told (λ t. IsSound the_texts t.trace → IfSome now.plant.told (λ u. IsSound the_texts u.trace))
     sound None is are = tt
-    sound (Some t) is are = λ first. to_told (Some t) now.plant.told made is (IsSound the_texts) (sound_after takes t.trace Closed made are first)
+    sound (Some t) is are = λ first. to_told (Some t) now.plant.told made is (IsSound the_texts) (sound_after takes t.trace made are first)
 
 -- of words that choose something
 pub begun_ran : (takes : Bool) (start now : Moment) (first new left rest : Option (List ℕ)) (status : Status) (made : List Begun) → Ends takes start now first new status made → ((bytes : List ℕ) → left ≡ Some bytes → BegunCommands bytes rest (commands_of made) status)
@@ -213,21 +206,24 @@ module _ (takes : Bool) (start before now : Moment) (first old new : Option (Lis
   wrote_more : (part : List ℕ) → new ≡ append_known old part → new ≡ append_known first (reply_texts begun ++ part)
   wrote_more part is = is ∙ ap (λ (w : Option (List ℕ)). append_known w part) going.wrote ∙ append_known-append first (reply_texts begun) part
 
-  module _ (to : Session) (reply : Option Reply) (made : Made takes command (marked before) now to reply) where
+  abbrev from : Session
+  from = session_after Closed begun
+
+  module _ (to : Session) (reply : Option Reply) (made : Made takes command (marked before) now from to reply) where
     abbrev one : Begun
-    one = next takes start before now begun going.so going.session command to reply made
+    one = next takes start before now begun going.so command to reply made
 
     so_now : PiecesSoFar takes start now (begun ++ one ∷ [])
-    so_now = one_more takes start before now begun going.so going.session command to reply made
+    so_now = one_more takes start before now begun going.so command to reply made
 
-  pub going_more : Answered takes command before now old new (Ok tt) → (b : Begun) × (b.piece.command ≡ command) × Going takes start now first new (begun ++ b ∷ [])
-  going_more (reply, made, wrote) =
-      let b = one (session_of now.controller) (Some reply) made in (
+  pub going_more : Answered takes command before now from old new (Ok tt) → (b : Begun) × (b.piece.command ≡ command) × Going takes start now first new (begun ++ b ∷ [])
+  going_more (reply, to, made, wrote) =
+      let b = one to (Some reply) made in (
         b,
         refl,
         record {
-          so = so_now (session_of now.controller) (Some reply) made;
-          session = last-push Closed begun b;
+          so = so_now to (Some reply) made;
+          goes_on = subst (HasSession now) (sym (session-push Closed begun b)) (made.goes_on refl);
           answered = answered-push begun b going.answered refl;
           wrote = wrote_more (text_of reply) wrote ∙ ap (append_known first) (sym (texts-push begun b));
           runs = λ was. made.runs refl (going.runs was);
@@ -235,13 +231,13 @@ module _ (takes : Bool) (start before now : Moment) (first old new : Option (Lis
       )
 
   -- a reply that was cut
-  pub going_cut : Answered takes command before now old new (Err faults.WriteFault) → (made : List Begun) × (commands_of made ≡ commands_of begun ++ command ∷ []) × Ends takes start now first new statuses.WriteFault made
-  going_cut (reply, made, n, less, wrote) =
-      let b = one (session_of now.controller) (Some reply) made in (
+  pub going_cut : Answered takes command before now from old new (Err faults.WriteFault) → (made : List Begun) × (commands_of made ≡ commands_of begun ++ command ∷ []) × Ends takes start now first new statuses.WriteFault made
+  going_cut (reply, to, made, n, less, wrote) =
+      let b = one to (Some reply) made in (
         begun ++ b ∷ [],
         commands-push begun b,
         (
-          so_now (session_of now.controller) (Some reply) made,
+          so_now to (Some reply) made,
           all_some start.plant.told (λ t. tt),
           answered-push begun b going.answered refl,
           (begun, b, n, refl, less, wrote_more (take n (text_of reply)) wrote),
@@ -250,7 +246,7 @@ module _ (takes : Bool) (start before now : Moment) (first old new : Option (Lis
       )
 
   -- a command that has no reply
-  module _ (made : Made takes command (marked before) now Closed None) (wrote : new ≡ old) where
+  module _ (made : Made takes command (marked before) now from Closed None) (wrote : new ≡ old) where
     abbrev silent : List Begun
     silent = begun ++ one Closed None made ∷ []
 
@@ -260,13 +256,13 @@ module _ (takes : Bool) (start before now : Moment) (first old new : Option (Lis
     wrote_none : new ≡ append_known first (reply_texts silent)
     wrote_none = wrote ∙ going.wrote ∙ ap (append_known first) (sym (append-nil (reply_texts begun)) ∙ sym (texts-push begun (one Closed None made)))
 
-  pub going_memory : Answered takes command before now old new (Err faults.Memory)
+  pub going_memory : Answered takes command before now from old new (Err faults.Memory)
       → (made : List Begun) × ((commands_of made ≡ commands_of begun) ⊎ (commands_of made ≡ commands_of begun ++ command ∷ [])) × Ends takes start now first new statuses.Memory made
   going_memory (inl still, wrote) = (
     begun,
     inl refl,
     (
-      record { told = ap (λ (p : Seen). p.told) still ∙ going.so.told; counts = subst (λ (p : Seen). Counts takes start.plant.faults begun p.faults) (sym still) going.so.counts; are = going.so.are },
+      record { told = ap (λ (p : Seen). p.told) still ∙ going.so.told; counts = subst (λ (p : Seen). Counts takes start.plant.faults begun p.faults) (sym still) going.so.counts; sessions = going.so.sessions; are = going.so.are },
       all_some start.plant.told (λ t. tt),
       inl going.answered,
       wrote ∙ going.wrote,
@@ -277,7 +273,7 @@ module _ (takes : Bool) (start before now : Moment) (first old new : Option (Lis
       (silent made wrote, inr (commands-push begun (one Closed None made)), (so_now Closed None made, all_some start.plant.told (λ t. tt), inr (waits made wrote), wrote_none made wrote, λ was. tt))
 
   -- sides that are no journal
-  pub going_bad : (side : Side) (at : ℕ) → Answered takes command before now old new (Err (faults.JournalBad side at)) → (made : List Begun) × (commands_of made ≡ commands_of begun ++ command ∷ []) × Ends takes start now first new (statuses.JournalBad side at) made
+  pub going_bad : (side : Side) (at : ℕ) → Answered takes command before now from old new (Err (faults.JournalBad side at)) → (made : List Begun) × (commands_of made ≡ commands_of begun ++ command ∷ []) × Ends takes start now first new (statuses.JournalBad side at) made
   going_bad side at (found, wrote) =
       let made = found.made in
       let last = one Closed None made in (
@@ -286,7 +282,7 @@ module _ (takes : Bool) (start before now : Moment) (first old new : Option (Lis
         (
           so_now Closed None made,
           map_some start.plant.told (λ t finds. record { before = begun; last = last; made_are = refl; answered = going.answered; finds = finds })
-              (at_mark takes start before now begun going.so going.session command Closed None made (λ l. FindsNone l last.piece side at) found.finds),
+              (at_mark takes start before now begun going.so command Closed None made (λ l. FindsNone l last.piece side at) found.finds),
           waits made wrote,
           wrote_none made wrote,
           λ was. found.runs,
@@ -321,5 +317,5 @@ sides_read trace side at possible sound (no_room rs s read on lab less is) =
 pub never_bad : (takes : Bool) (choices : Option Choices) (old new : Outside) (side : Side) (at : ℕ) (made : List Begun) → Ran takes choices old new (statuses.JournalBad side at) made
     → IfSome new.plant.told (λ t. ArePossible t.trace (disk A t.trace).reads (disk B t.trace).reads) → IfSome old.plant.told (λ t. IsSound the_texts t.trace → ⊥)
 never_bad takes choices old new side at made r there =
-    map_three old.plant.told (λ t l are possible sound. sides_read (trace_after t.trace made) side at possible (sound_after takes t.trace Closed made are sound) (last_bad t.trace made side at l)) r.ends r.pieces
+    map_three old.plant.told (λ t l are possible sound. sides_read (trace_after t.trace made) side at possible (sound_after takes t.trace made are sound) (last_bad t.trace made side at l)) r.ends r.pieces
     (from_told old.plant.told new.plant.told made r.told (λ l. ArePossible l (disk A l).reads (disk B l).reads) there)

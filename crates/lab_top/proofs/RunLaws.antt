@@ -28,20 +28,19 @@ use Rattle.script_text.specs.declared.command.Command.{Command}
 use Rattle.script_text.specs.declared.command.Command.TheVariants.{SwapinWith, Recover}
 use Rattle.script_text.specs.declared.reply.Reply.{Reply}
 use Rattle.script_text.specs.declared.reply.Reply.TheVariants as replies
-use Rattle.script_text.specs.declared.reply.Reply.TheVariants.{In, Recovered}
+use Rattle.script_text.specs.declared.reply.Reply.TheVariants.{Recovered}
 use Rattle.lab_core.specs.Breaks.{Breaks, stopped, failed, unanswered}
-use Rattle.lab_core.specs.Judge.{Judged}
-use Rattle.lab_core.specs.LabSteps.{LabStep, StepOf}
+use Rattle.lab_core.specs.LabSteps.{JudgedBeside, LabStep, StepOf}
 use Rattle.lab_core.specs.Moments.{IsLabAt, IsNoJournal, StandForLab, IsLabOfImage, AllStandFor}
-use Rattle.lab_core.specs.Sessions.{Session, Closed, Open, HandsOn, Setting, After}
-use Rattle.lab_core.specs.Tells.{name_of, BeginsAt, IsFeasibleFor, Hinders, TellsBroken, busy_of, is_of_drill, is_stopped, of_drill_if}
+use Rattle.lab_core.specs.Sessions.{Session, Closed, Open, Setting, After, name_of}
+use Rattle.lab_core.specs.Tells.{BeginsAt, IsFeasibleFor, Hinders, TellsBroken, busy_of, is_of_drill, is_stopped, of_drill_if, settles, taken_reply}
 use Rattle.lab_core.proofs.OneJournal.{not_both, one_place}
 use Rattle.lab_core.proofs.OuterReplies.{step_so}
 use Rattle.lab_core.proofs.Rested.{opened_rest, recovered_rest}
 use Rattle.lab_core.proofs.Said.{as_said}
 use Rattle.lab_core.proofs.SolutionLaws.{in_both}
 use Rattle.lab_core.proofs.StepLaws.{by_one, step_stays, was, step_stops}
-use Rattle.lab_top.specs.Pieces.{Piece, Begun, ArePieces, ButForReply, Counts, Finds, FirstLab, IsCaused, IsPiece, StepsFrom, is_closed, stays_open, steps_of, trace_after, IsOpening, broken_off, opened, AllHave, AreOthers, ImagesAfter, IsDone, is_early, leaves_one, AllRestBut, HasOpened, Leads, OpensTo, may_shut, IsPlannedAs, IsPlannedBy}
+use Rattle.lab_top.specs.Pieces.{Piece, Begun, AreHandedOn, ArePieces, ButForReply, Counts, Finds, FirstLab, IsCaused, IsPiece, StepsFrom, is_closed, stays_open, steps_of, trace_after, IsOpening, broken_off, opened, AllHave, AreOthers, ImagesAfter, IsDone, is_early, leaves_one, AllRestBut, HasOpened, Leads, OpensTo, may_shut, IsPlannedAs, IsPlannedBy}
 use Rattle.lab_top.specs.Ran.{Outside, Ran, AreAnswered, Answered, EndsSo, LastFindsNone}
 use Rattle.lab_top.specs.Words.{Choices}
 use Rattle.lab_top.specs.declared.status.Status.{Status}
@@ -51,29 +50,23 @@ use Rattle.lab_top.proofs.Pieces.{trace-push}
 use Rattle.lab_top.proofs.Stepping.{and_left, and_right, has_started}
 
 -- ONE OF THE PIECES
-pub piece_at : (takes : Bool) (trace : List Event) (session : Session) (before after : List Begun) (b : Begun) → ArePieces takes trace session (before ++ b ∷ after) → IsPiece takes (trace_after trace before) b.piece
-piece_at takes trace session [] after b are = are.1
-piece_at takes trace session (x ∷ before) after b are = piece_at takes (trace ++ steps_of x.piece) x.piece.to before after b are.2
+pub piece_at : (takes : Bool) (trace : List Event) (before after : List Begun) (b : Begun) → ArePieces takes trace (before ++ b ∷ after) → IsPiece takes (trace_after trace before) b.piece
+piece_at takes trace [] after b are = are.0
+piece_at takes trace (x ∷ before) after b are = piece_at takes (trace ++ steps_of x.piece) before after b are.1
 
 pub caused_at : (takes : Bool) (entry exit : Faults) (before after : List Begun) (b : Begun) → Counts takes entry (before ++ b ∷ after) exit → IsCaused takes b
 caused_at takes entry exit [] after b counts = counts.1
 caused_at takes entry exit (x ∷ before) after b counts = caused_at takes x.later exit before after b counts.2
 
 -- the pieces behind the first of them
-pub behind : (takes : Bool) (trace : List Event) (session : Session) (before rest : List Begun) → ArePieces takes trace session (before ++ rest) → IsSound the_texts trace → (from : Session) × ArePieces takes (trace_after trace before) from rest × IsSound the_texts (trace_after trace before)
-behind takes trace session [] rest are sound = (session, are, sound)
-behind takes trace session (b ∷ before) rest are sound = behind takes (trace ++ steps_of b.piece) b.piece.to before rest are.2 (are.1.done sound).sound
+pub behind : (takes : Bool) (trace : List Event) (before rest : List Begun) → ArePieces takes trace (before ++ rest) → IsSound the_texts trace → ArePieces takes (trace_after trace before) rest × IsSound the_texts (trace_after trace before)
+behind takes trace [] rest are sound = (are, sound)
+behind takes trace (b ∷ before) rest are sound = behind takes (trace ++ steps_of b.piece) before rest are.1 (are.0.done sound).sound
 
-pub pieces_of : (takes : Bool) (choices : Option Choices) (old new : Outside) (status : Status) (made : List Begun) (t : Told) → Ran takes choices old new status made → old.plant.told ≡ Some t → ArePieces takes t.trace Closed made
-pieces_of takes choices old new status made t r is = subst (λ (o : Option Told). IfSome o (λ u. ArePieces takes u.trace Closed made)) is r.pieces
+pub pieces_of : (takes : Bool) (choices : Option Choices) (old new : Outside) (status : Status) (made : List Begun) (t : Told) → Ran takes choices old new status made → old.plant.told ≡ Some t → ArePieces takes t.trace made
+pieces_of takes choices old new status made t r is = subst (λ (o : Option Told). IfSome o (λ u. ArePieces takes u.trace made)) is r.pieces
 
 -- THE LAB BEFORE A PIECE from an open session, over any trace
-handed_as : (old new : Session) → HandsOn old new → is_closed old ≡ is_closed new
-handed_as Closed Closed hands = refl
-handed_as Closed (Open opens) hands = absurd hands
-handed_as (Open opens) Closed hands = absurd hands
-handed_as (Open opens) (Open others) hands = refl
-
 lab_behind : (takes : Bool) (trace : List Event) (piece : Piece) → IsPiece takes trace piece → (is_closed piece.from ≡ false → (s : LabState) × IsLabAt trace s) → is_closed piece.to ≡ false → (s : LabState) × IsLabAt (trace ++ steps_of piece) s
 lab_behind takes trace piece is here open_now = by (drill_of piece.command) refl is.finds
   where
@@ -87,11 +80,11 @@ lab_behind takes trace piece is here open_now = by (drill_of piece.command) refl
     by None none finds = let l = is.leads none open_now in (l.last, l.behind)
     by (Some drill) some finds = by_drill piece.reply refl finds.0 finds.1 finds.2
 
-pub lab_before : (takes : Bool) (trace : List Event) (session : Session) (before after : List Begun) (b : Begun) → ArePieces takes trace session (before ++ b ∷ after) → (is_closed session ≡ false → (s : LabState) × IsLabAt trace s)
-    → is_closed b.piece.from ≡ false → (s : LabState) × IsLabAt (trace_after trace before) s
-lab_before takes trace session [] after b are here open_now = here (handed_as session b.piece.from are.0 ∙ open_now)
-lab_before takes trace session (x ∷ before) after b are here open_now =
-    lab_before takes (trace ++ steps_of x.piece) x.piece.to before after b are.2 (λ goes. lab_behind takes trace x.piece are.1 (λ from. here (handed_as session x.piece.from are.0 ∙ from)) goes) open_now
+pub lab_before : (takes : Bool) (trace : List Event) (session : Session) (before after : List Begun) (b : Begun) → ArePieces takes trace (before ++ b ∷ after) → AreHandedOn session (before ++ b ∷ after)
+    → (is_closed session ≡ false → (s : LabState) × IsLabAt trace s) → is_closed b.piece.from ≡ false → (s : LabState) × IsLabAt (trace_after trace before) s
+lab_before takes trace session [] after b are handed here open_now = here (ap is_closed (sym handed.0) ∙ open_now)
+lab_before takes trace session (x ∷ before) after b are handed here open_now =
+    lab_before takes (trace ++ steps_of x.piece) x.piece.to before after b are.1 handed.1 (λ goes. lab_behind takes trace x.piece are.0 (λ from. here (ap is_closed (sym handed.0) ∙ from)) goes) open_now
 
 -- A FIRST LAB is sane
 pub first_sane : (early : Bool) (trace : List Event) (s : LabState) → FirstLab early trace s → Sane s
@@ -161,7 +154,7 @@ pub ends_bad : (takes : Bool) (choices : Option Choices) (old new : Outside) (st
     → IsNoJournal (disk A (trace_after t.trace before)).reads (disk B (trace_after t.trace before)).reads (2 ^ 32) side at → (status ≡ Memory) ⊎ (status ≡ JournalBad side at)
 ends_bad takes choices old new status before after b t side at r is no_drill closed miss restart missing =
     let ends = subst (λ (o : Option Told). IfSome o (λ u. EndsSo u.trace (before ++ b ∷ after) status)) is r.ends in
-    let piece = piece_at takes t.trace Closed before after b (pieces_of takes choices old new status (before ++ b ∷ after) t r is) in
+    let piece = piece_at takes t.trace before after b (pieces_of takes choices old new status (before ++ b ∷ after) t r is) in
     let none = no_reply (trace_after t.trace before) b.piece side at (opening_of _ _ _ b.piece no_drill closed piece.finds) miss restart missing in
     by t.trace before after b side at missing none status r.answered ends
 
@@ -178,16 +171,16 @@ is_set a b s name e stand found = none_in name s e (lab_sane the_texts stand.rec
 some_same : {x y : Experiment} → Some x ≡ Some y → x ≡ y
 some_same same = cc same
 
-stays : (takes : Bool) (set : Setting) (s : LabState) (session : Session) (command : Command) (opening own : List Event) (after : After) (e : Experiment) → is_some s.lab ≡ true → find e.name s.experiments ≡ Some e → is_moving e ≡ false
-    → name_of command ≢ Some e.name → LabStep takes set s session command opening own after → find e.name after.lab.experiments ≡ Some e
+stays : (takes : Bool) (set : Setting) (s : LabState) (session : Session) (command : Command) (opening own : List Event) (after : After) (e : Experiment) → is_some s.lab ≡ true → find e.name s.experiments ≡ Some e
+    → (settles session command e.name ≡ true → is_moving e ≡ false) → name_of command ≢ Some e.name → LabStep takes set s session command opening own after → find e.name after.lab.experiments ≡ Some e
 stays takes set s session command opening own after e there found rests other step =
     let one = by_one (drill_of command) takes set s session command opening own after step in
-    (step_stays e.name own after s there session command (λ settles x is. subst (λ (y : Experiment). is_moving y ≡ false) (some_same (sym found ∙ is)) rests) opening one.0 takes set other
+    (step_stays e.name own after s there session command (λ settled x is. subst (λ (y : Experiment). is_moving y ≡ false) (some_same (sym found ∙ is)) (rests settled)) opening one.0 takes set other
     (was one.0 takes set s command opening own after (drill_of command) session one.1)).same
     ∙ found
 
 -- ONE PIECE
-module _ (takes : Bool) (trace : List Event) (piece : Piece) (e : Experiment) (rests : is_moving e ≡ false) (have : AllHave trace e) (other : name_of piece.command ≢ Some e.name) where
+module _ (takes : Bool) (trace : List Event) (piece : Piece) (e : Experiment) (rests : settles piece.from piece.command e.name ≡ true → is_moving e ≡ false) (have : AllHave trace e) (other : name_of piece.command ≢ Some e.name) where
   from_image : (s after : LabState) → IsLabOfImage trace s → StepsFrom takes trace piece s after → find e.name after.experiments ≡ Some e
   from_image s after image steps =
       let had = have image.a image.b image.possible in
@@ -208,29 +201,40 @@ module _ (takes : Bool) (trace : List Event) (piece : Piece) (e : Experiment) (r
       let l = done.leads in
       after_images (leaves_one piece.to piece.reply) l.last (from_image l.first l.last (first_image readable (is_early piece) l.first l.before) l.steps) (done.images some)
 
--- AND ALL
-pub pieces_keep : (takes : Bool) (trace : List Event) (session : Session) (middle after : List Begun) (e : Experiment) → ArePieces takes trace session (middle ++ after) → IsSound the_texts trace → is_moving e ≡ false → AllHave trace e → AreAnswered middle → AreOthers e.name middle
+-- AND ALL, where none of them settles it while it moves
+abbrev pub AreSparing : Experiment → List Begun → Type 0
+AreSparing e [] = Unit {0}
+AreSparing e (b ∷ begun) = (settles b.piece.from b.piece.command e.name ≡ true → is_moving e ≡ false) × AreSparing e begun
+
+at_rest : (e : Experiment) (begun : List Begun) → is_moving e ≡ false → AreSparing e begun
+at_rest e [] rests = tt
+at_rest e (b ∷ begun) rests = ((λ settled. rests), at_rest e begun rests)
+
+pub pieces_keep : (takes : Bool) (trace : List Event) (middle after : List Begun) (e : Experiment) → ArePieces takes trace (middle ++ after) → IsSound the_texts trace → AreSparing e middle → AllHave trace e → AreAnswered middle → AreOthers e.name middle
     → AllHave (trace_after trace middle) e
-pieces_keep takes trace session [] after e are sound rests have all others = have
-pieces_keep takes trace session (b ∷ middle) after e are sound rests have all others =
-    let done = are.1.done sound in
-    pieces_keep takes (trace ++ steps_of b.piece) b.piece.to middle after e are.2 done.sound rests
-    (piece_keeps takes trace b.piece e rests have others.0 are.1.readable done (and_left (is_some b.piece.reply) _ all)) (and_right (is_some b.piece.reply) _ all) others.1
+pieces_keep takes trace [] after e are sound rests have all others = have
+pieces_keep takes trace (b ∷ middle) after e are sound rests have all others =
+    let done = are.0.done sound in
+    pieces_keep takes (trace ++ steps_of b.piece) middle after e are.1 done.sound rests.1
+    (piece_keeps takes trace b.piece e rests.0 have others.0 are.0.readable done (and_left (is_some b.piece.reply) _ all)) (and_right (is_some b.piece.reply) _ all) others.1
 
 pub traces_join : (trace : List Event) (before middle : List Begun) → trace_after trace (before ++ middle) ≡ trace_after (trace_after trace before) middle
 traces_join trace [] middle = refl
 traces_join trace (b ∷ before) middle = traces_join (trace ++ steps_of b.piece) before middle
 
-pub are_kept : (takes : Bool) (choices : Option Choices) (old new : Outside) (status : Status) (before middle after : List Begun) (t : Told) (e : Experiment) → Ran takes choices old new status (before ++ (middle ++ after)) → old.plant.told ≡ Some t
-    → IsSound the_texts t.trace → is_moving e ≡ false → AllHave (trace_after t.trace before) e → AreAnswered middle → AreOthers e.name middle → AllHave (trace_after t.trace (before ++ middle)) e
-are_kept takes choices old new status before middle after t e r is sound rests have all others =
-    let are = pieces_of takes choices old new status (before ++ (middle ++ after)) t r is in
-    let here = behind takes t.trace Closed before (middle ++ after) are sound in
-    subst (λ l. AllHave l e) (sym (traces_join t.trace before middle)) (pieces_keep takes (trace_after t.trace before) here.0 middle after e here.1 here.2 rests have all others)
+-- in one run
+module _ (takes : Bool) (choices : Option Choices) (old new : Outside) (status : Status) (before middle after : List Begun) (t : Told) (e : Experiment) (r : Ran takes choices old new status (before ++ (middle ++ after))) (is : old.plant.told ≡ Some t) where
+  pub kept_along : IsSound the_texts t.trace → AreSparing e middle → AllHave (trace_after t.trace before) e → AreAnswered middle → AreOthers e.name middle → AllHave (trace_after t.trace (before ++ middle)) e
+  kept_along sound rests have all others =
+      let here = behind takes t.trace before (middle ++ after) (pieces_of takes choices old new status (before ++ (middle ++ after)) t r is) sound in
+      subst (λ l. AllHave l e) (sym (traces_join t.trace before middle)) (pieces_keep takes (trace_after t.trace before) middle after e here.0 here.1 rests have all others)
+
+  pub are_kept : IsSound the_texts t.trace → is_moving e ≡ false → AllHave (trace_after t.trace before) e → AreAnswered middle → AreOthers e.name middle → AllHave (trace_after t.trace (before ++ middle)) e
+  are_kept sound rests = kept_along sound (at_rest e middle rests)
 
 -- A PIECE OF NO DRILL THAT IS ANSWERED: its opening broke off, and nothing else was done; or it is a lab step
 module _ (takes : Bool) (trace : List Event) (piece : Piece) (is : IsPiece takes trace piece) (no_drill : drill_of piece.command ≡ None) (reply : Reply) (replied : piece.reply ≡ Some reply) where
-  abbrev Was : Type 0
+  abbrev pub Was : Type 0
   Was = (Breaks piece.opening (Some reply) × (piece.own ≡ [])) ⊎ ((s : LabState) × (after : LabState) × StepsFrom takes trace piece s after)
 
   from_lab : has_miss piece.opening ≡ false → has_restart piece.opening ≡ false → (s : LabState) → IsLabAt trace s → Was
@@ -275,22 +279,22 @@ module _ (takes : Bool) (choices : Option Choices) (old new : Outside) (status :
   abbrev trace : List Event
   trace = trace_after t.trace before
 
-  are : ArePieces takes t.trace Closed (before ++ b ∷ after)
+  are : ArePieces takes t.trace (before ++ b ∷ after)
   are = pieces_of takes choices old new status (before ++ b ∷ after) t r told
 
-  piece : IsPiece takes trace b.piece
-  piece = piece_at takes t.trace Closed before after b are
+  pub piece : IsPiece takes trace b.piece
+  piece = piece_at takes t.trace before after b are
 
   -- OVER A SOUND TRACE
   module _ (sound : IsSound the_texts t.trace) where
     done : IsDone takes trace b.piece
-    done = piece.done (behind takes t.trace Closed before (b ∷ after) are sound).2
+    done = piece.done (behind takes t.trace before (b ∷ after) are sound).1
 
     abbrev l : Leads takes trace b.piece
     l = done.leads
 
     abbrev set : Setting
-    set = record { length = l.steps.length; limit = 2 ^ 32 }
+    set = record { length = l.steps.length; limit = 2 ^ 32; devices = b.piece.faults.devices }
 
     abbrev own : List Event
     own = b.piece.own ++ l.steps.behind
@@ -302,12 +306,12 @@ module _ (takes : Bool) (choices : Option Choices) (old new : Outside) (status :
     step_by command asks = subst (λ (c : Command). LabStep takes set l.first b.piece.from c b.piece.opening own ends) asks l.steps.step
 
     -- a supplied solution
-    pub swapped_in : (exp text : List ℕ) (lines : ℕ) (reply : Reply) → b.piece.command ≡ SwapinWith exp lines text → b.piece.reply ≡ Some reply
+    pub swapped_in : (only : Bool) (exp text : List ℕ) (lines : ℕ) (reply : Reply) → b.piece.command ≡ SwapinWith only exp lines text → b.piece.reply ≡ Some reply
         → TellsBroken reply ⊎ ((s : LabState) × FirstLab (is_early b.piece) trace s × (mid : LabState) × BeginsAt b.piece.from s b.piece.opening mid
-        × (reply ≡ In exp → IsFeasibleFor mid exp text) × (IsFeasibleFor mid exp text → (reply ≡ In exp) ⊎ Hinders reply))
-    swapped_in exp text lines reply asks replied =
+        × (reply ≡ taken_reply only exp → IsFeasibleFor mid exp text) × (IsFeasibleFor mid exp text → (reply ≡ taken_reply only exp) ⊎ Hinders reply))
+    swapped_in only exp text lines reply asks replied =
         ⊎_elim (λ broken. inl broken) (λ both. inr (l.first, l.before, both.0, both.1, both.2, both.3))
-        (in_both takes set l.first b.piece.from exp text lines b.piece.opening own ends reply (step_by (SwapinWith exp lines text) asks) (told_of takes trace b.piece l.first l.last l.steps reply replied).0)
+        (in_both takes set l.first b.piece.from only exp text lines b.piece.opening own ends reply (step_by (SwapinWith only exp lines text) asks) (told_of takes trace b.piece l.first l.last l.steps reply replied).0)
 
     -- an untroubled recovery
     sane : Sane l.first
@@ -349,8 +353,8 @@ module _ (takes : Bool) (choices : Option Choices) (old new : Outside) (status :
 
   -- OVER ANY TRACE: `stopped` exactly where the plant stopped, and no drill of a command that is none
   module _ (reply : Reply) (replied : b.piece.reply ≡ Some reply) where
-    was_of : (no_drill : drill_of b.piece.command ≡ None) → Was takes trace b.piece piece no_drill reply replied
-    was_of no_drill = was_so takes trace b.piece piece no_drill reply replied (lab_before takes t.trace Closed before after b are (λ open_now. absurd (cc open_now)))
+    pub was_of : (no_drill : drill_of b.piece.command ≡ None) → Was takes trace b.piece piece no_drill reply replied
+    was_of no_drill = was_so takes trace b.piece piece no_drill reply replied (lab_before takes t.trace Closed before after b are r.sessions (λ open_now. absurd (cc open_now)))
 
     pub stops_told : has_restart (steps_of b.piece) ≡ is_stopped reply
     stops_told = by (drill_of b.piece.command) refl
@@ -372,9 +376,9 @@ module _ (takes : Bool) (choices : Option Choices) (old new : Outside) (status :
     undrilled_told is = ⊎_elim (λ broke. breaks_as of_drill_if false refl refl refl b.piece.opening (Some reply) broke.0)
         (λ x.
         let steps = x.2 in
-        let now : Setting = record { length = steps.length; limit = 2 ^ 32 } in
+        let now : Setting = record { length = steps.length; limit = 2 ^ 32; devices = b.piece.faults.devices } in
         let last : After = record { reply = steps.told; lab = x.1; session = steps.session } in
         ap of_drill_if (sym (told_of takes trace b.piece x.0 x.1 steps reply replied).0)
         ∙ step_so takes now x.0 b.piece.from b.piece.command b.piece.opening (b.piece.own ++ steps.behind) last
-        (subst (λ (d : Option Drill). StepOf d (λ lab. Judged lab b.piece.command) takes now x.0 b.piece.from b.piece.opening (b.piece.own ++ steps.behind) last) is steps.step))
+        (subst (λ (d : Option Drill). StepOf d (JudgedBeside b.piece.command) takes now x.0 b.piece.from b.piece.opening (b.piece.own ++ steps.behind) last) is steps.step))
         (was_of is)

@@ -1,10 +1,11 @@
 -- Lab steps of pieces, from what an opening and an open controller leave.
 use Rattle.std.proofs.Common.{◌≡◌, inl, inr, ℕ, ◌+◌, ◌^◌, Bool, true, false, ◌||◌, ◌&&◌, List, [], ◌∷◌, ◌++◌, Option, Some, None, refl, sym, ◌∙◌, ap, subst, append_assoc}
-use Rattle.std.specs.Prelude.{not, is_some, Ok}
+use Rattle.std.specs.Prelude.{not, is_some, IfSome, Ok, Result}
 use Rattle.std.specs.List.{list_any}
 use Rattle.std.proofs.lemmas.List.{append-nil}
 use Rattle.std.proofs.lemmas.List.Folds.{list_any-append}
 use Rattle.plant.specs.declared.drill.Drill.{Drill}
+use Rattle.plant.specs.declared.moment.Faults.{Faults}
 use Rattle.plant.specs.declared.step.Side.TheVariants.{A, B}
 use Rattle.plant.specs.Disks.{disk, ArePossible}
 use Rattle.plant.specs.Events.{Event, Restarted}
@@ -28,18 +29,27 @@ use Rattle.script_text.specs.declared.reply.Reply.{Reply}
 use Rattle.script_text.specs.declared.reply.Reply.TheVariants as replies
 use Rattle.script_text.specs.Drills.{drill_of}
 use Rattle.lab_core.specs.Controller.{Control}
-use Rattle.lab_core.specs.Judge.{Judged}
-use Rattle.lab_core.specs.LabSteps.{LabStep, StepOf, IsDoneBy, opened}
+use Rattle.lab_core.specs.Judge.{Task}
+use Rattle.lab_core.specs.LabSteps.{LabStep, StepOf, IsDoneBy, JudgedBeside, opened}
 use Rattle.lab_core.specs.Moments.{StandForLab, IsLabAt, IsLabOfImage, AllStandFor, IsLengthAt}
-use Rattle.lab_core.specs.Obey.{setting_of, Leaves}
+use Rattle.lab_core.specs.Obey.{Leaves, Start}
 use Rattle.lab_core.specs.Opening.{OpenSteps}
 use Rattle.lab_core.specs.Recovery.{Opens}
-use Rattle.lab_core.specs.Sessions.{Session, Closed, Open, open_alone, Setting, After}
+use Rattle.lab_core.specs.Sessions.{OpenSwap, Session, Closed, Open, Setting, After}
 use Rattle.lab_top.specs.Pieces.{Piece, ButForReply, HasOpened, IsDone, OpensTo, StepsFrom, FirstLab, ImagesAfter, is_closed, is_early, leaves_one, steps_of}
 use Rattle.lab_top.specs.Answering.{Does, WasOpened, piece_of}
 
 abbrev pub AsRead : List Event → Type 0
 AsRead trace = ArePossible trace (disk A trace).reads (disk B trace).reads
+
+-- what holds of what is told
+pub all_some : {X : Type 0} {P : X → Type 0} (o : Option X) → ((x : X) → P x) → IfSome o P
+all_some None f = tt
+all_some (Some x) f = f x
+
+pub map_some : {X : Type 0} {P Q : X → Type 0} (o : Option X) → ((x : X) → P x → Q x) → IfSome o P → IfSome o Q
+map_some None f h = tt
+map_some (Some x) f h = f x h
 
 -- A CONTROLLER THAT STANDS
 pub standing_all : (trace : List Event) (c : Control) → Stands the_texts trace c.journal c.lab → AllStandFor trace c.lab
@@ -103,9 +113,9 @@ silent_told : (reply told : Option Reply) (to session : Session) (behind : List 
 silent_told None told to session behind is = is
 silent_told (Some reply) told to session behind is = inl is.2
 
-pub silent_done : (takes : Bool) (trace : List Event) (command : Command) (from to : Session) (opening own : List Event) (reply : Option Reply) → IsDone takes trace (piece_of command from to opening own reply)
-    → IsDone takes trace (piece_of command from Closed opening own None)
-silent_done takes trace command from to opening own reply done =
+pub silent_done : (takes : Bool) (trace : List Event) (command : Command) (mark : Faults) (from to : Session) (opening own : List Event) (reply : Option Reply) → IsDone takes trace (piece_of command mark from to opening own reply)
+    → IsDone takes trace (piece_of command mark from Closed opening own None)
+silent_done takes trace command mark from to opening own reply done =
     let l = done.leads in
     let s = l.steps in
     record {
@@ -144,17 +154,27 @@ module _ (takes : Bool) (trace : List Event) (piece : Piece) where
   })
 
 -- A COMMAND THAT IS NO DRILL
-pub step_of : (takes : Bool) (set : Setting) (s : LabState) (from : Session) (command : Command) (opening own : List Event) (after : After) → drill_of command ≡ None → StepOf None (λ lab. Judged lab command) takes set s from opening own after
+pub step_of : (takes : Bool) (set : Setting) (s : LabState) (from : Session) (command : Command) (opening own : List Event) (after : After) → drill_of command ≡ None → StepOf None (JudgedBeside command) takes set s from opening own after
     → LabStep takes set s from command opening own after
-step_of takes set s from command opening own after no_drill step = subst (λ (d : Option Drill). StepOf d (λ lab. Judged lab command) takes set s from opening own after) (sym no_drill) step
+step_of takes set s from command opening own after no_drill step = subst (λ (d : Option Drill). StepOf d (JudgedBeside command) takes set s from opening own after) (sym no_drill) step
+
+-- where a command begins, by the count of device faults at its mark
+abbrev pub start_at : Faults → Control → List OpenSwap → Start
+start_at mark c swaps = record { set = record { length = length_of c.journal; limit = limit_of c.journal; devices = mark.devices }; lab = c.lab; opens = swaps }
 
 -- WHAT AN OPEN CONTROLLER DOES OF ITS OWN
-module _ (takes : Bool) (before : List Event) (from : Session) (opening : List Event) (c : Control) (w : WasOpened before from opening c) (command : Command) (no_drill : drill_of command ≡ None) where
+module _ (takes : Bool) (mark : Faults) (before : List Event) (from : Session) (opening : List Event) (c : Control) (swaps : List OpenSwap) (w : WasOpened before from opening c swaps) (command : Command) (no_drill : drill_of command ≡ None) where
+  abbrev Judges : Result Task Reply → Type 0
+  Judges = JudgedBeside command swaps c.lab
+
+  abbrev start : Start
+  start = start_at mark c swaps
+
   abbrev IsDoneOf : List Event → Option Reply → LabState → Session → Type 0
-  IsDoneOf own reply lab session = IsDoneBy (Judged c.lab command) (setting_of c) c.lab [] own (after_of reply lab session)
+  IsDoneOf own reply lab session = IsDoneBy Judges start.set c.lab swaps own (after_of reply lab session)
 
   abbrev of : List Event → Session → Option Reply → Piece
-  of own to reply = piece_of command from to opening own reply
+  of own to reply = piece_of command mark from to opening own reply
 
   abbrev Steps : List Event → Session → Option Reply → LabState → Type 0
   Steps own to reply lab = StepsFrom takes before (of own to reply) w.start lab
@@ -168,8 +188,8 @@ module _ (takes : Bool) (before : List Event) (from : Session) (opening : List E
     session = session;
     behind = behind;
     is_told = is;
-    step = w.step takes (record { length = length_of c.journal; limit = 2 ^ 32 }) command (own ++ behind) (after_of told lab session) no_drill
-        (subst (λ n. IsDoneBy (Judged c.lab command) (record { length = length_of c.journal; limit = n }) c.lab [] (own ++ behind) (after_of told lab session)) w.limit done);
+    step = w.step takes (record { length = length_of c.journal; limit = 2 ^ 32; devices = mark.devices }) command (own ++ behind) (after_of told lab session) no_drill
+        (subst (λ n. IsDoneBy Judges (record { length = length_of c.journal; limit = n; devices = mark.devices }) c.lab swaps (own ++ behind) (after_of told lab session)) w.limit done);
   }
 
   -- as its reply says
@@ -204,11 +224,11 @@ module _ (takes : Bool) (before : List Event) (from : Session) (opening : List E
     there = sym (append_assoc before opening own)
 
     -- it goes on
-    pub own_answered : (new : Control) (reply : Reply) → IsDoneOf own (Some reply) new.lab open_alone → Stands the_texts now new.journal new.lab → Does takes before (of own open_alone (Some reply))
-    own_answered new reply done stands =
-        let steps = so_steps own open_alone (Some reply) new.lab done in
-        does_behind own open_alone (Some reply) new.lab steps (λ open_now. subst (λ l. IsLabAt l new.lab) (sym there) (standing_lab now new stands))
-        (λ first. done_behind own open_alone (Some reply) now there new.lab steps (sound (w.sound first)) (standing_lab now new stands) (λ some. standing_all now new stands) first)
+    pub own_answered : (new : Control) (to : List OpenSwap) (reply : Reply) → IsDoneOf own (Some reply) new.lab (Open to) → Stands the_texts now new.journal new.lab → Does takes before (of own (Open to) (Some reply))
+    own_answered new to reply done stands =
+        let steps = so_steps own (Open to) (Some reply) new.lab done in
+        does_behind own (Open to) (Some reply) new.lab steps (λ open_now. subst (λ l. IsLabAt l new.lab) (sym there) (standing_lab now new stands))
+        (λ first. done_behind own (Open to) (Some reply) now there new.lab steps (sound (w.sound first)) (standing_lab now new stands) (λ some. standing_all now new stands) first)
 
     -- memory was wanting
     pub own_unmade : (new : Control) → IsDoneOf own None new.lab Closed → Stands the_texts now new.journal new.lab → Does takes before (of own Closed None)
@@ -218,17 +238,17 @@ module _ (takes : Bool) (before : List Event) (from : Session) (opening : List E
         (λ first. done_behind own Closed None now there new.lab steps (sound (w.sound first)) (standing_lab now new stands) (λ some. absurd (cc some)) first)
 
     -- a reply closes it
-    pub own_closed : (reply : Reply) → leaves_one Closed (Some reply) ≡ false → Leaves (before ++ opening) (Judged c.lab command) c own reply (λ a b. []) → AsRead now → Does takes before (of own Closed (Some reply))
+    pub own_closed : (reply : Reply) → leaves_one Closed (Some reply) ≡ false → Leaves (before ++ opening) Judges start own reply (λ a b. []) → AsRead now → Does takes before (of own Closed (Some reply))
     own_closed reply other leaves readable =
         does_behind own Closed (Some reply) leaves.lab (left_steps own reply leaves.lab (leaves.done [] [])) (λ open_now. absurd (cc open_now))
         (λ first.
         let image = leaves.images (w.sound first) in
         let x = image _ _ readable in
-        let start : IsLabOfImage before w.start = record { a = (disk A before).reads; b = (disk B before).reads; possible = w.readable; stand = w.first } in
+        let from_there : IsLabOfImage before w.start = record { a = (disk A before).reads; b = (disk B before).reads; possible = w.readable; stand = w.first } in
         done_behind own Closed (Some reply) now there x.0 (left_steps own reply x.0 x.2) (sound (w.sound first)) x.1
-        (λ some. subst (λ b. ImagesAt takes before (of own Closed (Some reply)) b now x.0) (sym other) (λ a b at. let y = image a b at in (w.start, y.0, start, y.1, left_steps own reply y.0 y.2))) first)
+        (λ some. subst (λ b. ImagesAt takes before (of own Closed (Some reply)) b now x.0) (sym other) (λ a b at. let y = image a b at in (w.start, y.0, from_there, y.1, left_steps own reply y.0 y.2))) first)
 
-    module _ (leaves : Leaves (before ++ opening) (Judged c.lab command) c own replies.Stopped (λ a b. Restarted a b ∷ [])) where
+    module _ (leaves : Leaves (before ++ opening) Judges start own replies.Stopped (λ a b. Restarted a b ∷ [])) where
       -- the plant stopped, and is started again with an image
       pub own_stopped : (a b : List ℕ) → ArePossible now a b → Does takes before (of (own ++ Restarted a b ∷ []) Closed (Some replies.Stopped))
       own_stopped a b possible =
@@ -249,8 +269,8 @@ module _ (takes : Bool) (before : List Event) (from : Session) (opening : List E
           (λ first. let x = leaves.images (w.sound first) _ _ readable in done_behind own Closed None now there x.0 (stays_steps _ _ x.0 x.2) (sound (w.sound first)) x.1 (λ some. absurd (cc some)) first)
 
 -- A CONTROLLER THAT WAS OPEN, or is opened
-pub was_open : (trace : List Event) (c : Control) → Stands the_texts trace c.journal c.lab → limit_of c.journal ≡ 2 ^ 32 → WasOpened trace open_alone [] c
-was_open trace c stands limit = record {
+pub was_open : (trace : List Event) (c : Control) (swaps : List OpenSwap) → Stands the_texts trace c.journal c.lab → limit_of c.journal ≡ 2 ^ 32 → WasOpened trace (Open swaps) [] c swaps
+was_open trace c swaps stands limit = record {
   start = c.lab;
   readable = reads_possible trace (side_of c.journal) stands.records stands.at.opened;
   first = standing_lab trace c stands;
@@ -259,11 +279,11 @@ was_open trace c stands limit = record {
   sound = λ sound. subst (λ l. IsSound the_texts l) (sym (append-nil trace)) sound;
   limit = limit;
   opens = λ closed. absurd (cc closed);
-  step = λ takes set command own after no_drill done. step_of takes set c.lab open_alone command [] own after no_drill (refl, done);
+  step = λ takes set command own after no_drill done. step_of takes set c.lab (Open swaps) command [] own after no_drill (refl, done);
 }
 
 pub is_opened : (trace reading moving : List Event) (c : Control) → OpenSteps trace reading moving (2 ^ 32) (Ok c) → Stands the_texts (trace ++ (reading ++ moving)) c.journal c.lab → limit_of c.journal ≡ 2 ^ 32 → AsRead trace
-    → WasOpened trace Closed (reading ++ moving) c
+    → WasOpened trace Closed (reading ++ moving) c []
 is_opened trace reading moving c o stands limit readable =
     let e = o.ends in
     let opens : Opens e.start (reading ++ moving) c.lab = record {

@@ -29,6 +29,7 @@ as_chosen takes choices old new status made is r = record {
   usage = no_usage choices status is (runs_on takes old new status made r);
   told = r.told;
   counts = r.counts;
+  sessions = r.sessions;
   goes_on = r.goes_on;
   pieces = r.pieces;
   ends = r.ends;

@@ -1,5 +1,5 @@
 -- What one command makes of the plant and of the controller.
-use Rattle.std.specs.Prelude.{◌≡◌, ◌⊎◌, ℕ, ◌<◌, ◌^◌, Bool, true, false, is_some, List, [], ◌∷◌, ◌++◌, length, take, Option, Some, None, IfSome, Result, Ok, Err, if◌then◌else◌}
+use Rattle.std.specs.Prelude.{◌≡◌, ◌⊎◌, ℕ, ◌<◌, ◌≤◌, ◌^◌, Bool, true, false, is_some, List, [], ◌∷◌, ◌++◌, length, take, Option, Some, None, IfSome, Result, Ok, Err, if◌then◌else◌}
 use Rattle.std.specs.Io.KnownBytes.{append_known}
 use Rattle.plant.specs.Calls.{Rose}
 use Rattle.plant.specs.Disks.{disk, ArePossible}
@@ -7,6 +7,7 @@ use Rattle.plant.specs.Events.{Event, Restarted}
 use Rattle.plant.specs.Seen.{Seen}
 use Rattle.plant.specs.Told.{Told, with_steps, with_mark, with_drill}
 use Rattle.plant.specs.declared.drill.Drill.{Drill}
+use Rattle.plant.specs.declared.moment.Faults.{Faults}
 use Rattle.plant.specs.declared.step.Side.{Side}
 use Rattle.plant.specs.declared.step.Side.TheVariants.{A, B}
 use Rattle.records_model.specs.Labs.{LabState}
@@ -22,42 +23,50 @@ use Rattle.script_text.specs.declared.reply.Reply.{Reply}
 use Rattle.script_text.specs.declared.reply.Reply.TheVariants.{Down, NoDrill, Planned, Stopped}
 use Rattle.script_text.specs.Drills.{drill_of}
 use Rattle.script_text.specs.Replies.{text_of}
-use Rattle.lab_core.specs.Controller.{Control, Works}
-use Rattle.lab_core.specs.Judge.{Judged}
-use Rattle.lab_core.specs.LabSteps.{LabStep, IsDoneBy}
+use Rattle.lab_core.specs.Controller.{Control, WorksWith}
+use Rattle.lab_core.specs.LabSteps.{LabStep, IsDoneBy, JudgedBeside}
 use Rattle.lab_core.specs.Moments.{IsLabAt}
 use Rattle.lab_core.specs.Recovery.{Opens}
-use Rattle.lab_core.specs.Sessions.{Session, Closed, open_alone, Setting, After}
+use Rattle.lab_core.specs.Sessions.{OpenSwap, Session, Closed, Open, Setting, After, AreOpenedBy, counted_from, name_of}
+use Rattle.lab_core.specs.Tells.{opens_of}
 use Rattle.lab_top.specs.declared.command.CommandFault.{CommandFault}
 use Rattle.lab_top.specs.declared.command.CommandFault.TheVariants.{Memory, WriteFault, JournalBad}
-use Rattle.lab_top.specs.Pieces.{Piece, FindsNone, IsDone, IsPiece, IsPlannedBy, Leads, Later, StepsFrom, blames_if, closes_if, is_closed, with_drill_if}
+use Rattle.lab_top.specs.Pieces.{Piece, FindsNone, IsDone, IsPiece, IsPlannedBy, Leads, Later, StepsFrom, blames_if, closes_if, is_closed, may_shut, stays_open, with_drill_if}
 
 -- what is seen of the plant between two commands, and the controller where it is open
 pub record Moment : Type 0 where
   pub plant : Seen
   pub controller : Option Control
 
-abbrev pub session_of : Option Control → Session
-session_of None = Closed
-session_of (Some c) = open_alone
+-- AN OPEN CONTROLLER works with these open swaps, for a journal of this limit
+pub record IsOpen (now : Seen) (c : Control) (swaps : List OpenSwap) : Type 0 where
+  pub works : WorksWith now c swaps
+  pub limit : limit_of c.journal ≡ 2 ^ 32
 
--- a controller that is open works, for a journal of this limit
-pub record IsOpen (told : Option Told) (c : Control) : Type 0 where
-  pub works : Works told c
-  pub limit : IfSome told (λ t. limit_of c.journal ≡ 2 ^ 32)
+abbrev pub MayOpen : Seen → Control → Type 0
+MayOpen now c = (swaps : List OpenSwap) × IsOpen now c swaps
 
--- so does the one of a moment, and the plant is not stopped then
-pub record MayGoOn (now : Moment) : Type 0 where
-  pub controller : IfSome now.controller (IsOpen now.plant.told)
+-- A SESSION STANDS at a moment: it is closed where there is no controller, and else open with the swaps that the controller works with
+abbrev pub StandsAt : Seen → Option Control → Session → Type 0
+StandsAt plant None Closed = Unit {0}
+StandsAt plant (Some c) (Open swaps) = IsOpen plant c swaps
+StandsAt plant controller session = ⊥
+
+-- and the plant is not stopped where there is one
+pub record HasSession (now : Moment) (session : Session) : Type 0 where
+  pub stands : StandsAt now.plant now.controller session
   pub runs : is_some now.controller ≡ true → now.plant.stopped ≡ false
 
+abbrev pub MayGoOn : Moment → Type 0
+MayGoOn now = (session : Session) × HasSession now session
+
 -- the piece of a command
-abbrev pub piece_of : Command → Session → Session → List Event → List Event → Option Reply → Piece
-piece_of command from to opening own reply = record { command = command; from = from; to = to; opening = opening; own = own; reply = reply }
+abbrev pub piece_of : Command → Faults → Session → Session → List Event → List Event → Option Reply → Piece
+piece_of command mark from to opening own reply = record { command = command; faults = mark; from = from; to = to; opening = opening; own = own; reply = reply }
 
 -- a controller that was opened by these steps over the trace, or was open before: it stands behind them for the lab to which they led, from that
 -- which the sides stood for
-pub record WasOpened (trace : List Event) (from : Session) (opening : List Event) (c : Control) : Type 0 where
+pub record WasOpened (trace : List Event) (from : Session) (opening : List Event) (c : Control) (swaps : List OpenSwap) : Type 0 where
   pub start : LabState
   pub readable : ArePossible trace (disk A trace).reads (disk B trace).reads
   pub first : IsLabAt trace start
@@ -66,7 +75,7 @@ pub record WasOpened (trace : List Event) (from : Session) (opening : List Event
   pub sound : IsSound the_texts trace → IsSound the_texts (trace ++ opening)
   pub limit : limit_of c.journal ≡ 2 ^ 32
   pub opens : from ≡ Closed → Opens start opening c.lab
-  pub step : (takes : Bool) (set : Setting) (command : Command) (own : List Event) (after : After) → drill_of command ≡ None → IsDoneBy (Judged c.lab command) set c.lab [] own after
+  pub step : (takes : Bool) (set : Setting) (command : Command) (own : List Event) (after : After) → drill_of command ≡ None → IsDoneBy (JudgedBeside command swaps c.lab) set c.lab swaps own after
       → LabStep takes set start from command opening own after
 
 -- what an open controller does of a command, however it was opened
@@ -75,20 +84,30 @@ pub record Does (takes : Bool) (trace : List Event) (piece : Piece) : Type 0 whe
   pub leads : is_closed piece.to ≡ false → Leads takes trace piece
   pub done : IsSound the_texts trace → IsDone takes trace piece
 
-abbrev pub DoesOwn : Bool → List Event → Command → Control → List Event → Session → Option Reply → Type 0
-DoesOwn takes trace command c own to reply = (before : List Event) (from : Session) (opening : List Event) → trace ≡ before ++ opening → WasOpened before from opening c → Does takes before (piece_of command from to opening own reply)
+abbrev pub DoesOwn : Bool → List Event → Command → Faults → Control → List OpenSwap → List Event → Session → Option Reply → Type 0
+DoesOwn takes trace command mark c swaps own to reply = (before : List Event) (from : Session) (opening : List Event) → trace ≡ before ++ opening → WasOpened before from opening c swaps
+    → Does takes before (piece_of command mark from to opening own reply)
 
-abbrev pub OwnTold : Bool → Option Told → Option Told → Command → Control → Session → Option Reply → Type 0
-OwnTold takes old new command c to reply = (own : List Event) × (new ≡ with_steps old own) × IfSome old (λ t. DoesOwn takes t.trace command c own to reply)
+abbrev pub OwnTold : Bool → Option Told → Option Told → Command → Faults → Control → List OpenSwap → Session → Option Reply → Type 0
+OwnTold takes old new command mark c swaps to reply = (own : List Event) × (new ≡ with_steps old own) × IfSome old (λ t. DoesOwn takes t.trace command mark c swaps own to reply)
+
+-- the count of device faults at the mark is that of the moment, or where no swap is open yet an earlier one
+abbrev pub IsMarkAt : Faults → Seen → List OpenSwap → Type 0
+IsMarkAt mark now swaps = (mark.devices ≡ now.faults.devices) ⊎ ((swaps ≡ []) × (mark.devices ≤ now.faults.devices))
 
 abbrev pub reply_if : Result Reply CommandFault → Option Reply
 reply_if (Ok reply) = Some reply
 reply_if (Err fault) = None
 
--- where there is no reply, the session is closed
-abbrev pub session_after : Result Reply CommandFault → Option Control → Session
-session_after (Ok reply) controller = session_of controller
-session_after (Err fault) controller = Closed
+-- WHAT AN OPEN CONTROLLER MAKES of a command behind that mark, with these open swaps: the session behind it, which is closed where there is no reply
+pub record Makes (takes : Bool) (mark : Faults) (command : Command) (old : Seen) (c : Control) (swaps : List OpenSwap) (new : Moment) (reply : Option Reply) : Type 0 where
+  pub to : Session
+  pub own : OwnTold takes old.told new.plant.told command mark c swaps to reply
+  pub shut : is_closed to ≡ true → may_shut reply ≡ true
+  pub closed : stays_open reply ≡ false → to ≡ Closed
+  pub device : blames_if reply ≡ true → Rose (counted_from swaps (name_of command) mark.devices) new.plant.faults.devices
+  pub opened : AreOpenedBy swaps (opens_of to) mark.devices
+  pub goes_on : HasSession new to
 
 -- A DRILL IS PLANNED on a plant that takes drills, and else refused; or memory is wanting, and nothing is done
 abbrev pub Plans : Bool → Drill → Option Told → Option Told → Result Reply CommandFault → Type 0
@@ -108,34 +127,35 @@ Unopened (openings.Bad side at) old new result = (result ≡ Err (JournalBad sid
 Unopened openings.Memory old new result = (result ≡ Err Memory) × (new ≡ old)
 
 -- A COMMAND WAS BEGUN, by some steps, and perhaps a drill that was planned; it has a reply or none
-pub record Begins (takes : Bool) (command : Command) (old new : Option Told) (from to : Session) (reply : Option Reply) : Type 0 where
+pub record Begins (takes : Bool) (command : Command) (mark : Faults) (old new : Option Told) (from to : Session) (reply : Option Reply) : Type 0 where
   pub opening : List Event
   pub own : List Event
   pub planned : Bool
   pub told : new ≡ with_drill_if (with_steps old (opening ++ own)) (if planned then drill_of command else None)
   pub planned_by : IsPlannedBy takes (drill_of command) planned reply
-  pub is_piece : IfSome old (λ t. IsPiece takes t.trace (piece_of command from to opening own reply))
+  pub is_piece : IfSome old (λ t. IsPiece takes t.trace (piece_of command mark from to opening own reply))
 
-pub record Made (takes : Bool) (command : Command) (old new : Moment) (to : Session) (reply : Option Reply) : Type 0 where
-  pub begun : Begins takes command old.plant.told new.plant.told (session_of old.controller) to reply
+pub record Made (takes : Bool) (command : Command) (old new : Moment) (from to : Session) (reply : Option Reply) : Type 0 where
+  pub begun : Begins takes command old.plant.faults old.plant.told new.plant.told from to reply
   pub later : Later old.plant.faults new.plant.faults
   pub disk : closes_if reply ≡ true → Rose old.plant.faults.disk new.plant.faults.disk
-  pub device : blames_if reply ≡ true → Rose old.plant.faults.devices new.plant.faults.devices
+  pub device : blames_if reply ≡ true → Rose (counted_from (opens_of from) (name_of command) old.plant.faults.devices) new.plant.faults.devices
+  pub opened : AreOpenedBy (opens_of from) (opens_of to) old.plant.faults.devices
   pub runs : is_some reply ≡ true → old.plant.stopped ≡ false → new.plant.stopped ≡ false
-  pub goes_on : MayGoOn new
+  pub goes_on : is_some reply ≡ true → HasSession new to
 
 -- the sides are no journal, and the plant is not stopped
-pub record FoundNone (takes : Bool) (command : Command) (old new : Moment) (side : Side) (at : ℕ) : Type 0 where
-  pub made : Made takes command old new Closed None
-  pub finds : IfSome old.plant.told (λ t. FindsNone t.trace (piece_of command (session_of old.controller) Closed made.begun.opening made.begun.own None) side at)
+pub record FoundNone (takes : Bool) (command : Command) (old new : Moment) (from : Session) (side : Side) (at : ℕ) : Type 0 where
+  pub made : Made takes command old new from Closed None
+  pub finds : IfSome old.plant.told (λ t. FindsNone t.trace (piece_of command old.plant.faults from Closed made.begun.opening made.begun.own None) side at)
   pub runs : new.plant.stopped ≡ false
 
--- A COMMAND WAS OBEYED, or its drill planned: it was begun; and where the sides are no journal it found them so
-abbrev pub Ends : Bool → Command → (old new : Moment) → Result Reply CommandFault → Type 0
-Ends takes command old new (Ok reply) = Made takes command old new (session_of new.controller) (Some reply)
-Ends takes command old new (Err Memory) = Made takes command old new Closed None
-Ends takes command old new (Err WriteFault) = ⊥
-Ends takes command old new (Err (JournalBad side at)) = FoundNone takes command old new side at
+-- A COMMAND WAS OBEYED from that session, or its drill planned: it was begun; and where the sides are no journal it found them so
+abbrev pub Ends : Bool → Command → (old new : Moment) → Session → Result Reply CommandFault → Type 0
+Ends takes command old new from (Ok reply) = (to : Session) × Made takes command old new from to (Some reply)
+Ends takes command old new from (Err Memory) = Made takes command old new from Closed None
+Ends takes command old new from (Err WriteFault) = ⊥
+Ends takes command old new from (Err (JournalBad side at)) = FoundNone takes command old new from side at
 
 -- a reply's text is written, or a proper prefix of it; or memory is wanting, and nothing is
 abbrev pub Sent : Option (List ℕ) → Option (List ℕ) → List ℕ → Result (Unit {0}) CommandFault → Type 0
@@ -150,9 +170,9 @@ marked old = record old { plant = record (old.plant) { told = with_mark old.plan
 
 -- A COMMAND WAS ANSWERED: it was begun behind a mark, and what was written grew by its reply, or by a proper prefix of it. At want of memory it has no
 -- reply, or wasn't even begun; where the sides are no journal it has none.
-abbrev pub Answered : Bool → Command → Moment → Moment → Option (List ℕ) → Option (List ℕ) → Result (Unit {0}) CommandFault → Type 0
-Answered takes command old new before now (Ok done) = (reply : Reply) × Made takes command (marked old) new (session_of new.controller) (Some reply) × (now ≡ append_known before (text_of reply))
-Answered takes command old new before now (Err WriteFault) =
-    (reply : Reply) × Made takes command (marked old) new (session_of new.controller) (Some reply) × (n : ℕ) × (n < length (text_of reply)) × (now ≡ append_known before (take n (text_of reply)))
-Answered takes command old new before now (Err Memory) = ((new.plant ≡ old.plant) ⊎ Made takes command (marked old) new Closed None) × (now ≡ before)
-Answered takes command old new before now (Err (JournalBad side at)) = FoundNone takes command (marked old) new side at × (now ≡ before)
+abbrev pub Answered : Bool → Command → Moment → Moment → Session → Option (List ℕ) → Option (List ℕ) → Result (Unit {0}) CommandFault → Type 0
+Answered takes command old new from before now (Ok done) = (reply : Reply) × (to : Session) × Made takes command (marked old) new from to (Some reply) × (now ≡ append_known before (text_of reply))
+Answered takes command old new from before now (Err WriteFault) =
+    (reply : Reply) × (to : Session) × Made takes command (marked old) new from to (Some reply) × (n : ℕ) × (n < length (text_of reply)) × (now ≡ append_known before (take n (text_of reply)))
+Answered takes command old new from before now (Err Memory) = ((new.plant ≡ old.plant) ⊎ Made takes command (marked old) new from Closed None) × (now ≡ before)
+Answered takes command old new from before now (Err (JournalBad side at)) = FoundNone takes command (marked old) new from side at × (now ≡ before)

@@ -29,14 +29,16 @@ use Rattle.lab_core.specs.Recovery.{Opens}
 use Rattle.lab_core.specs.LabSteps.{LabStep}
 use Rattle.lab_core.specs.Moments.{IsNoJournal, IsLabAt, IsLabOfImage, AllStandFor, StandForLab, IsLengthAt}
 use Rattle.lab_core.specs.Breaks.{Breaks}
-use Rattle.lab_core.specs.Tells.{name_of}
 use Rattle.lab_core.specs.Opening.{IsJournal}
 use Rattle.lab_core.specs.Said.{IsAsSaid}
-use Rattle.lab_core.specs.Sessions.{Session, Closed, Open, HandsOn}
+use Rattle.lab_core.specs.Tells.{opens_of}
+use Rattle.lab_core.specs.Sessions.{Session, Closed, Open, AreOpenedBy, counted_from, name_of}
 
--- A PIECE: a command, the session before and after it, the steps of its opening and its own, and its reply, if it was answered
+-- A PIECE: a command, the counts of faults at its mark, the session before and after it, the steps of its opening and its own, and its reply, if it was
+-- answered
 pub record Piece : Type 0 where
   pub command : Command
+  pub faults : Faults
   pub from : Session
   pub to : Session
   pub opening : List Event
@@ -46,9 +48,8 @@ pub record Piece : Type 0 where
 abbrev pub steps_of : Piece → List Event
 steps_of piece = piece.opening ++ piece.own
 
--- A COMMAND THAT WAS BEGUN: the counts of faults at its mark, its piece, whether the failure that a drill asks for was planned, and the counts after it
+-- A COMMAND THAT WAS BEGUN: its piece, whether the failure that a drill asks for was planned, and the counts of faults after it
 pub record Begun : Type 0 where
-  pub faults : Faults
   pub piece : Piece
   pub planned : Bool
   pub later : Faults
@@ -71,7 +72,7 @@ with_drill_if told (Some drill) = with_drill told drill
 
 -- what the plant tells after them: of each the moment is marked, then its steps are made, and then its drill is taken
 abbrev pub with_piece : Option Told → Begun → Option Told
-with_piece told b = with_drill_if (with_steps (with_mark told b.faults) (steps_of b.piece)) (planned_of b)
+with_piece told b = with_drill_if (with_steps (with_mark told b.piece.faults) (steps_of b.piece)) (planned_of b)
 
 abbrev pub with_pieces : Option Told → List Begun → Option Told
 with_pieces told [] = told
@@ -104,18 +105,30 @@ abbrev pub IsPlannedBy : Bool → Option Drill → Bool → Option Reply → Typ
 IsPlannedBy takes None planned reply = planned ≡ false
 IsPlannedBy takes (Some drill) planned reply = IsPlannedAs takes planned reply
 
--- a reply that closes comes only where the disk's count rose, one that blames a device only where the devices' count rose, and a drill is
--- planned as its reply tells
+-- a reply that closes comes only where the disk's count rose; one that blames a device only where the devices' count rose since the mark of the command
+-- that opened the experiment's swap, or where none is open since that of this one; each swap that is open behind the command was opened before it, or
+-- at its mark; and a drill is planned as its reply tells
 pub record IsCaused (takes : Bool) (b : Begun) : Type 0 where
-  pub later : Later b.faults b.later
-  pub disk : closes_if b.piece.reply ≡ true → Rose b.faults.disk b.later.disk
-  pub device : blames_if b.piece.reply ≡ true → Rose b.faults.devices b.later.devices
+  pub later : Later b.piece.faults b.later
+  pub disk : closes_if b.piece.reply ≡ true → Rose b.piece.faults.disk b.later.disk
+  pub device : blames_if b.piece.reply ≡ true → Rose (counted_from (opens_of b.piece.from) (name_of b.piece.command) b.piece.faults.devices) b.later.devices
+  pub opened : AreOpenedBy (opens_of b.piece.from) (opens_of b.piece.to) b.piece.faults.devices
   pub planned : IsPlannedBy takes (drill_of b.piece.command) b.planned b.piece.reply
 
 -- THE COUNTS OF FAULTS begin with those of the entry and end with those of the exit
 abbrev pub Counts : Bool → Faults → List Begun → Faults → Type 0
 Counts takes entry [] exit = exit ≡ entry
-Counts takes entry (b ∷ begun) exit = (b.faults ≡ entry) × IsCaused takes b × Counts takes b.later begun exit
+Counts takes entry (b ∷ begun) exit = (b.piece.faults ≡ entry) × IsCaused takes b × Counts takes b.later begun exit
+
+-- THE SESSION IS HANDED ON from each command to the next
+abbrev pub AreHandedOn : Session → List Begun → Type 0
+AreHandedOn session [] = Unit {0}
+AreHandedOn session (b ∷ begun) = (b.piece.from ≡ session) × AreHandedOn b.piece.to begun
+
+-- the session behind them
+abbrev pub session_after : Session → List Begun → Session
+session_after session [] = session
+session_after session (b ∷ begun) = session_after b.piece.to begun
 
 -- HOW A COMMAND FINDS THE JOURNAL, over any trace
 
@@ -152,7 +165,8 @@ pub record FindsNone (trace : List Event) (piece : Piece) (side : Side) (at : �
   pub no_reply : piece.reply ≡ None
   pub as_before : (s : Side) → (disk s (trace ++ steps_of piece)).reads ≡ (disk s trace).reads
 
--- THE LAB STEP of a piece between these labs: the limit is 2^32 bytes, and the length is the journal's as its sides read after the opening.
+-- THE LAB STEP of a piece between these labs: the limit is 2^32 bytes, the length is the journal's as its sides read after the opening, and the count of
+-- device faults is that at the mark.
 -- One that isn't answered is a lab step but for its reply, and perhaps for the start of a plant that stopped.
 abbrev pub ButForReply : Option Reply → Session → Option Reply → Session → List Event → Type 0
 ButForReply (Some reply) to told session behind = (told ≡ Some reply) × (session ≡ to) × (behind ≡ [])
@@ -165,7 +179,7 @@ pub record StepsFrom (takes : Bool) (trace : List Event) (piece : Piece) (s afte
   pub session : Session
   pub behind : List Event
   pub is_told : ButForReply piece.reply piece.to told session behind
-  pub step : LabStep takes (record { length = length; limit = 2 ^ 32 }) s piece.from piece.command piece.opening (piece.own ++ behind) (record { reply = told; lab = after; session = session })
+  pub step : LabStep takes (record { length = length; limit = 2 ^ 32; devices = piece.faults.devices }) s piece.from piece.command piece.opening (piece.own ++ behind) (record { reply = told; lab = after; session = session })
 
 -- the first lab is that of the moment; where the plant stopped in an opening before both sides were synced, that of an image
 abbrev pub is_closed : Session → Bool
@@ -249,10 +263,15 @@ abbrev pub AreOthers : List ℕ → List Begun → Type 0
 AreOthers name [] = Unit {0}
 AreOthers name (b ∷ begun) = (name_of b.piece.command ≢ Some name) × AreOthers name begun
 
--- pieces one after another, the session handed on
-abbrev pub ArePieces : Bool → List Event → Session → List Begun → Type 0
-ArePieces takes trace session [] = Unit {0}
-ArePieces takes trace session (b ∷ begun) = HandsOn session b.piece.from × IsPiece takes trace b.piece × ArePieces takes (trace ++ steps_of b.piece) b.piece.to begun
+-- each leaves the session open
+abbrev pub StayOpen : List Begun → Type 0
+StayOpen [] = Unit {0}
+StayOpen (b ∷ begun) = (is_closed b.piece.to ≡ false) × StayOpen begun
+
+-- pieces one after another
+abbrev pub ArePieces : Bool → List Event → List Begun → Type 0
+ArePieces takes trace [] = Unit {0}
+ArePieces takes trace (b ∷ begun) = IsPiece takes trace b.piece × ArePieces takes (trace ++ steps_of b.piece) begun
 
 -- the text of the reply, if there is one
 abbrev pub text_if : Option Reply → List ℕ

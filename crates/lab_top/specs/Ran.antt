@@ -15,7 +15,7 @@ use Rattle.script_text.specs.Commands.{Lines, Got, next_of, AtEnd, BadLine, IsSc
 use Rattle.lab_top.specs.declared.status.Status.{Status}
 use Rattle.lab_top.specs.declared.status.Status.TheVariants.{Done, ReadFault, WriteFault, Usage, BadScript, Memory, JournalBad}
 use Rattle.lab_core.specs.Sessions.{Closed}
-use Rattle.lab_top.specs.Pieces.{Begun, ArePieces, Counts, FindsNone, commands_of, trace_after, with_pieces, reply_text, reply_texts}
+use Rattle.lab_top.specs.Pieces.{Begun, AreHandedOn, ArePieces, Counts, FindsNone, commands_of, trace_after, with_pieces, reply_text, reply_texts}
 use Rattle.lab_top.specs.Words.{Choices}
 
 -- the outside: what the source has left, what is seen of the plant, and what was written
@@ -93,10 +93,12 @@ pub record Ran (takes : Bool) (choices : Option Choices) (old new : Outside) (st
   -- the marks are the moments just before the commands that were begun, behind each mark stand the steps of its command, and the drills are those that were planned
   pub told : new.plant.told ≡ with_pieces old.plant.told made
   pub counts : Counts takes old.plant.faults made new.plant.faults
+  -- the session is closed at first, and handed on
+  pub sessions : AreHandedOn Closed made
   pub goes_on : old.plant.stopped ≡ false → GoesOn status new.plant.stopped
   -- over any trace each command finds the journal as its piece says, and is a lab step, from the lab of the moment before it to that of the moment after
   -- it, where it leaves the session open; over one that is sound at the entry each is
-  pub pieces : IfSome old.plant.told (λ t. ArePieces takes t.trace Closed made)
+  pub pieces : IfSome old.plant.told (λ t. ArePieces takes t.trace made)
   -- JournalBad comes where the last command found the sides to be no journal, and left them so
   pub ends : IfSome old.plant.told (λ t. EndsSo t.trace made status)
   -- and a trace that is sound at the entry is sound at the exit

@@ -1,12 +1,13 @@
-ghost use Rattle.std.specs.Prelude.{◌≡◌, ◌↔◌, ◌≤◌, ℕ, None, IfSome, IsErrOf, IsTrue, true, false, Err, OnOk, OnErr};
+ghost use Rattle.std.specs.Prelude.{◌≡◌, ◌↔◌, ◌≤◌, ℕ, List, None, IfSome, IsErrOf, IsTrue, true, false, Err, OnOk, OnErr};
 ghost use Rattle.lab_io.specs.Causes.{Rose};
+ghost use Rattle.plant.specs.declared.moment.Faults.{Faults as AnyFaults};
 ghost use Rattle.plant.specs.declared.step.Side.{Side as AnySide};
 ghost use Rattle.script_text.specs.Blocks.{HasBlocks};
 ghost use Rattle.script_text.specs.Drills.{drill_of};
 ghost use Rattle.script_text.specs.Replies.{text_of};
-ghost use Rattle.lab_core.specs.Sessions.{Closed};
-ghost use Rattle.lab_top.specs.Answering.{Answered, Ends, IsOpen, MayGoOn, OwnTold, Plans, Sent, Starts, Unopened, reply_if, session_after};
-ghost use Rattle.lab_top.specs.Pieces.{Later, blames_if, closes_if, is_closed, may_shut, stays_open};
+ghost use Rattle.lab_core.specs.Sessions.{OpenSwap, Session};
+ghost use Rattle.lab_top.specs.Answering.{Answered, Ends, HasSession, IsMarkAt, IsOpen, Makes, MayGoOn, MayOpen, Plans, Sent, Starts, Unopened, reply_if};
+ghost use Rattle.lab_top.specs.Pieces.{Later, closes_if};
 
 use lab_core::{Controller, CoreFault, OpenFault};
 use lab_io::{Sink, write_all};
@@ -67,16 +68,13 @@ fn obey_open<P: Plant>(
     requires blocks { HasBlocks command.now }
     requires no_drill { drill_of command.now ≡ None }
     requires taken { controller.old ≡ None }
-    requires open { IsOpen (P.seen plant.old).told opened }
+    requires open { MayOpen (P.seen plant.old) opened }
     requires runs { (P.seen plant.old).stopped ≡ false }
-    ensures own { OwnTold P.takes_drills (P.seen plant.old).told (P.seen plant.new).told command.now opened (session_after result controller.new) (reply_if result) }
-    ensures shut { is_closed (session_after result controller.new) ≡ true → may_shut (reply_if result) ≡ true }
-    ensures closed { stays_open (reply_if result) ≡ false → session_after result controller.new ≡ Closed }
-    ensures goes_on { MayGoOn (record { plant = P.seen plant.new; controller = controller.new }) }
+    ensures makes { (mark : AnyFaults) (swaps : List OpenSwap) → IsMarkAt mark (P.seen plant.old) swaps → IsOpen (P.seen plant.old) opened swaps
+        → Makes P.takes_drills mark command.now (P.seen plant.old) opened swaps (record { plant = P.seen plant.new; controller = controller.new }) (reply_if result) }
     ensures memory { OnErr result (result ≡ Err CommandFault.Memory) }
     ensures runs { OnOk result ((P.seen plant.new).stopped ≡ false) }
     ensures disk { closes_if (reply_if result) ≡ true → Rose (P.seen plant.old).faults.disk (P.seen plant.new).faults.disk }
-    ensures device { blames_if (reply_if result) ≡ true → Rose (P.seen plant.old).faults.devices (P.seen plant.new).faults.devices }
     ensures later { Later (P.seen plant.old).faults (P.seen plant.new).faults }
 {
     match opened.obey(command, plant) {
@@ -101,9 +99,10 @@ fn obey<P: Plant>(
     requires blocks { HasBlocks command.now }
     requires no_drill { drill_of command.now ≡ None }
     requires goes_on { MayGoOn (record { plant = P.seen plant.old; controller = controller.old }) }
-    ensures { Ends P.takes_drills command.now
+    ensures { (from : Session) → HasSession (record { plant = P.seen plant.old; controller = controller.old }) from
+        → Ends P.takes_drills command.now
         (record { plant = P.seen plant.old; controller = controller.old })
-        (record { plant = P.seen plant.new; controller = controller.new }) result }
+        (record { plant = P.seen plant.new; controller = controller.new }) from result }
 {
     match controller.take() {
         Some(opened) => obey_open(opened, controller, command, plant),
@@ -136,9 +135,10 @@ fn reply_to<P: Plant>(
 ) -> Result<Reply, CommandFault>
     requires blocks { HasBlocks command.now }
     requires goes_on { MayGoOn (record { plant = P.seen plant.old; controller = controller.old }) }
-    ensures { Ends P.takes_drills command.now
+    ensures { (from : Session) → HasSession (record { plant = P.seen plant.old; controller = controller.old }) from
+        → Ends P.takes_drills command.now
         (record { plant = P.seen plant.old; controller = controller.old })
-        (record { plant = P.seen plant.new; controller = controller.new }) result }
+        (record { plant = P.seen plant.new; controller = controller.new }) from result }
 {
     match command.drill() {
         Some(drill) => plan(drill, plant),
@@ -171,9 +171,10 @@ pub(crate) fn answer_command<K: Sink, P: Plant>(
 ) -> Result<(), CommandFault>
     requires blocks { HasBlocks command }
     requires goes_on { MayGoOn (record { plant = P.seen plant.old; controller = controller.old }) }
-    ensures answered { Answered P.takes_drills command
+    ensures answered { (from : Session) → HasSession (record { plant = P.seen plant.old; controller = controller.old }) from
+        → Answered P.takes_drills command
         (record { plant = P.seen plant.old; controller = controller.old })
-        (record { plant = P.seen plant.new; controller = controller.new })
+        (record { plant = P.seen plant.new; controller = controller.new }) from
         (K.written sink.old) (K.written sink.new) result }
     ensures write { IsErrOf result CommandFault.WriteFault → Rose (K.faults sink.old) (K.faults sink.new) }
     ensures later { K.faults sink.old ≤ K.faults sink.new }

@@ -1,5 +1,6 @@
 // Laws of a run.
-ghost use Rattle.std.specs.Prelude.{◌≡◌, ◌⊎◌, ◌^◌, count_by, ℕ, Bool, false, List, [], ◌∷◌, ◌++◌, Option, Some, None};
+ghost use Rattle.std.specs.Prelude.{◌≡◌, ◌⊎◌, ◌≤◌, ◌^◌, count_by, ℕ, Bool, false, List, [], ◌∷◌, ◌++◌, length, Option, Some, None};
+ghost use Rattle.lab_base.specs.Lists.{AllDiffer, Has};
 ghost use Rattle.plant.specs.Disks.{disk};
 ghost use Rattle.plant.specs.Told.{Told};
 ghost use Rattle.plant.specs.declared.step.Side.{Side};
@@ -7,18 +8,19 @@ ghost use Rattle.plant.specs.declared.step.Side.TheVariants.{A, B};
 ghost use Rattle.virt_topo.specs.declared.experiment.Experiment.{Experiment};
 ghost use Rattle.records_model.specs.Labs.{LabState};
 ghost use Rattle.records_model.specs.Works.{IsSound};
-ghost use Rattle.journal_runs.specs.Pieces.{has_miss, has_restart};
+ghost use Rattle.journal_runs.specs.Pieces.{has_command, has_miss, has_restart};
 ghost use Rattle.lab_model.specs.Sound.{is_moving};
 ghost use Rattle.recovery.specs.Settle.{is_stuck};
 ghost use Rattle.lab_state.specs.Texts.{the_texts};
-ghost use Rattle.script_text.specs.declared.command.Command.TheVariants.{Recover, SwapinWith};
+ghost use Rattle.script_text.specs.declared.command.Command.TheVariants.{Recover, SwapinWith, Turn};
 ghost use Rattle.script_text.specs.declared.reply.Reply.{Reply};
-ghost use Rattle.script_text.specs.declared.reply.Reply.TheVariants.{In, Recovered};
+ghost use Rattle.script_text.specs.declared.reply.Reply.TheVariants.{Recovered};
 ghost use Rattle.script_text.specs.Drills.{drill_of};
+ghost use Rattle.script_text.specs.Replies.{closes};
 ghost use Rattle.lab_core.specs.Moments.{IsNoJournal};
-ghost use Rattle.lab_core.specs.Sessions.{Closed};
-ghost use Rattle.lab_core.specs.Tells.{BeginsAt, busy_of, IsFeasibleFor, Hinders, is_of_drill, is_stopped, TellsBroken};
-ghost use Rattle.lab_top.specs.Pieces.{Begun, AllHave, AllRestBut, AreOthers, FirstLab, HasOpened, OpensTo, is_early, steps_of, trace_after};
+ghost use Rattle.lab_core.specs.Sessions.{OpenSwap, Closed, open_at};
+ghost use Rattle.lab_core.specs.Tells.{BeginsAt, busy_of, has_journal_step, IsFeasibleFor, Hinders, is_of_drill, is_stopped, IsTurn, opens_of, taken_reply, TellsBroken};
+ghost use Rattle.lab_top.specs.Pieces.{Begun, AllHave, AllRestBut, AreOthers, FirstLab, HasOpened, OpensTo, StayOpen, is_closed, is_early, session_after, steps_of, trace_after};
 ghost use Rattle.lab_top.specs.Ran.{AreAnswered, Outside, Ran};
 ghost use Rattle.lab_top.specs.Words.{Choices};
 ghost use Rattle.lab_top.specs.declared.status.Status.{Status};
@@ -34,15 +36,15 @@ pub fn bad_journals()
         → (status ≡ Memory) ⊎ (status ≡ JournalBad side at) }
 {}
 
-/// A supplied solution is swapped in exactly where it is feasible on what is free once the controller is open, unless the reply
-/// tells what hindered it. An experiment that doesn't move stays as it is, in every image that a later stop may leave, until a
+/// A supplied solution is swapped in, or its swap begins where `open` stands before the command, exactly where it is feasible on
+/// what is free once the controller is open, unless the reply tells what hindered it. An experiment that doesn't move stays as it is, in every image that a later stop may leave, until a
 /// later command on it. The reply is `stopped` exactly where the plant stopped, and a command that is no drill has no reply of a
 /// drill, both whatever the trace was before. A trace in which nothing has happened is sound.
 pub fn runs()
-    ensures solutions { (takes : Bool) (choices : Option Choices) (old new : Outside) (status : Status) (before after : List Begun) (b : Begun) (t : Told) (exp text : List ℕ) (lines : ℕ) (reply : Reply)
-        → Ran takes choices old new status (before ++ b ∷ after) → old.plant.told ≡ Some t → IsSound the_texts t.trace → b.piece.command ≡ SwapinWith exp lines text → b.piece.reply ≡ Some reply
+    ensures solutions { (takes : Bool) (choices : Option Choices) (old new : Outside) (status : Status) (before after : List Begun) (b : Begun) (t : Told) (only_begin : Bool) (exp text : List ℕ) (lines : ℕ) (reply : Reply)
+        → Ran takes choices old new status (before ++ b ∷ after) → old.plant.told ≡ Some t → IsSound the_texts t.trace → b.piece.command ≡ SwapinWith only_begin exp lines text → b.piece.reply ≡ Some reply
         → TellsBroken reply ⊎ ((s : LabState) × FirstLab (is_early b.piece) (trace_after t.trace before) s × (mid : LabState) × BeginsAt b.piece.from s b.piece.opening mid
-        × (reply ≡ In exp → IsFeasibleFor mid exp text) × (IsFeasibleFor mid exp text → (reply ≡ In exp) ⊎ Hinders reply)) }
+        × (reply ≡ taken_reply only_begin exp → IsFeasibleFor mid exp text) × (IsFeasibleFor mid exp text → (reply ≡ taken_reply only_begin exp) ⊎ Hinders reply)) }
     ensures kept { (takes : Bool) (choices : Option Choices) (old new : Outside) (status : Status) (before middle after : List Begun) (t : Told) (e : Experiment)
         → Ran takes choices old new status (before ++ (middle ++ after)) → old.plant.told ≡ Some t → IsSound the_texts t.trace → is_moving e ≡ false
         → AllHave (trace_after t.trace before) e → AreAnswered middle → AreOthers e.name middle → AllHave (trace_after t.trace (before ++ middle)) e }
@@ -64,4 +66,29 @@ pub fn recoveries()
     ensures recovered { (takes : Bool) (choices : Option Choices) (old new : Outside) (status : Status) (before after : List Begun) (b : Begun) (t : Told) (done : ℕ)
         → Ran takes choices old new status (before ++ b ∷ after) → old.plant.told ≡ Some t → IsSound the_texts t.trace → b.piece.command ≡ Recover → b.piece.reply ≡ Some (Recovered done 0)
         → AllRestBut (busy_of b.piece.from) (trace_after t.trace (before ++ b ∷ [])) }
+{}
+
+/// Many swaps at once, over commands that are about other experiments, each of which leaves the session open: an experiment's open
+/// swap stays as it is, over any trace; and where it has one, over every sound trace the experiment stays as it is, in every image
+/// that a later stop may leave. A turn sends one device command, or appends one record, over any trace; one that is refused does
+/// neither, and one that breaks off does not both. No more than sixteen swaps are open, and no two of one name; and each has the
+/// count of device faults at the mark of a command before, over every plant.
+pub fn turns()
+    ensures swaps { (takes : Bool) (choices : Option Choices) (old new : Outside) (status : Status) (before middle after : List Begun) (t : Told) (name : List ℕ)
+        → Ran takes choices old new status (before ++ (middle ++ after)) → old.plant.told ≡ Some t → StayOpen middle → AreOthers name middle
+        → open_at name (opens_of (session_after Closed (before ++ middle))) ≡ open_at name (opens_of (session_after Closed before)) }
+    ensures kept { (takes : Bool) (choices : Option Choices) (old new : Outside) (status : Status) (before middle after : List Begun) (t : Told) (e : Experiment) (swap : OpenSwap)
+        → Ran takes choices old new status (before ++ (middle ++ after)) → old.plant.told ≡ Some t → IsSound the_texts t.trace → open_at e.name (opens_of (session_after Closed before)) ≡ Some swap
+        → AllHave (trace_after t.trace before) e → StayOpen middle → AreOthers e.name middle → AllHave (trace_after t.trace (before ++ middle)) e }
+    ensures turned { (takes : Bool) (choices : Option Choices) (old new : Outside) (status : Status) (before after : List Begun) (b : Begun) (t : Told) (exp : List ℕ) (reply : Reply)
+        → Ran takes choices old new status (before ++ b ∷ after) → old.plant.told ≡ Some t → b.piece.command ≡ Turn exp → b.piece.reply ≡ Some reply → closes reply ≡ false → is_stopped reply ≡ false
+        → is_closed b.piece.from ≡ false → (b.piece.own ≡ []) ⊎ IsTurn b.piece.own }
+    ensures not_both { (takes : Bool) (choices : Option Choices) (old new : Outside) (status : Status) (before after : List Begun) (b : Begun) (t : Told) (exp : List ℕ) (reply : Reply)
+        → Ran takes choices old new status (before ++ b ∷ after) → old.plant.told ≡ Some t → b.piece.command ≡ Turn exp → b.piece.reply ≡ Some reply
+        → (has_command b.piece.own ≡ false) ⊎ (has_journal_step b.piece.own ≡ false) }
+    ensures few { (takes : Bool) (choices : Option Choices) (old new : Outside) (status : Status) (before after : List Begun) (t : Told)
+        → Ran takes choices old new status (before ++ after) → old.plant.told ≡ Some t → (length (opens_of (session_after Closed before)) ≤ 16) × AllDiffer (busy_of (session_after Closed before)) }
+    ensures marked { (takes : Bool) (choices : Option Choices) (old new : Outside) (status : Status) (before after : List Begun) (swap : OpenSwap)
+        → Ran takes choices old new status (before ++ after) → Has (opens_of (session_after Closed before)) swap
+        → (front : List Begun) × (b : Begun) × (rest : List Begun) × (before ≡ front ++ b ∷ rest) × (b.piece.faults.devices ≡ swap.devices) }
 {}

@@ -8,7 +8,7 @@ mod place;
 mod status;
 mod top;
 
-pub use laws::{bad_journals, recoveries, runs};
+pub use laws::{bad_journals, recoveries, runs, turns};
 pub use place::{Place, PlaceFault, place_of};
 pub use status::Status;
 pub use top::labctl;

@@ -5,4 +5,4 @@ use Rattle.lab_top.proofs.command.reply_to.Goals as goal
 pub returns-in-Some : goal.returns-in-Some
 returns-in-Some g c =
     let p = c.plan.ensures in
-    ends_drill _ c.args.command.now c.in-Some.drill (sym c.in-Some.ensures) _ _ c.plan.result p.plans p.faults p.stopped refl c.requires.goes_on (g.met.P.Plant.reads_possible c.args.plant.now)
+    λ from goes. ends_drill _ c.args.command.now c.in-Some.drill (sym c.in-Some.ensures) _ _ c.plan.result p.plans p.faults p.stopped refl from goes (g.met.P.Plant.reads_possible c.args.plant.now)

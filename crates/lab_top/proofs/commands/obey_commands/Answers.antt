@@ -8,7 +8,6 @@ use Rattle.lab_top.specs.declared.status.Status.TheVariants.{Done, ReadFault, Wr
 use Rattle.lab_top.specs.Pieces.{commands_of}
 use Rattle.lab_top.specs.Readers.{at_start}
 use Rattle.lab_top.proofs.Commanding.{Covers, covers_none, covers_more, first_begun, bad_begun, all_begun, cut_begun, none_begun, one_begun}
-use Rattle.lab_top.proofs.Obeyed.{goes_closed}
 use Rattle.lab_top.proofs.Pieces.{begun_ran, commands-push, going_none, going_ends, going_more, going_cut, going_memory, going_bad}
 use Rattle.lab_top.proofs.commands.obey_commands.Goals as goal
 
@@ -20,10 +19,12 @@ commands-init g c =
     record {
       ready = (n.fault, inl n.ended);
       going = ([], going_none _ _ (g.K.Sink.written c.args.sink.now) refl, λ bytes is. covers_none bytes stand (ap (λ p. prepend_known p left) n.pending ∙ prepend_known-nil left ∙ is) n.ended n.taken n.lines);
-      goes_on = goes_closed _;
       read = omega arith;
       write = omega arith;
     }
+
+pub answer_command-requires-clause-goes_on : goal.answer_command-requires-clause-goes_on
+answer_command-requires-clause-goes_on g c = let was = c.commands.invariant.going in (_, was.1.goes_on)
 
 pub returns-in-Ok-End-clause-ran : goal.returns-in-Ok-End-clause-ran
 returns-in-Ok-End-clause-ran g c =
@@ -77,7 +78,7 @@ commands-preserved g c =
     let new = stand_of c.read_command.new.lines (g.S.Source.left c.read_command.new.source) in
     let command = c.in-Ok-Command.command in
     let read = e.next inv.ready in
-    let more = going_more _ _ _ _ _ _ _ was.0 was.1 command a.answered in
+    let more = going_more _ _ _ _ _ _ _ was.0 was.1 command (a.answered _ was.1.goes_on) in
     record {
       ready = (e.ok, read.1.ends);
       going = (
@@ -85,7 +86,6 @@ commands-preserved g c =
         more.2,
         λ bytes is. subst (λ (cs : List Command). Covers (at_start bytes) new cs) (sym (commands-push was.0 more.0 ∙ ap (λ x. commands_of was.0 ++ x ∷ []) more.1)) (covers_more (at_start bytes) now new (commands_of was.0) command (was.2 bytes is) read),
       );
-      goes_on = a.answered.1.goes_on;
       read = omega (arith, e.later, inv.read);
       write = omega (arith, a.later, inv.write);
     }
@@ -98,7 +98,7 @@ returns-in-Err-WriteFault-clause-ran g c =
     let a = rw c.in-Err-WriteFault.field-0-is at c.in-Err-WriteFault.ensures in
     let now = stand_of c.commands.reader (g.S.Source.left c.commands.source) in
     let new = stand_of c.read_command.new.lines (g.S.Source.left c.read_command.new.source) in
-    let cut = going_cut _ _ _ _ _ _ _ was.0 was.1 c.in-Ok-Command.command a.answered in
+    let cut = going_cut _ _ _ _ _ _ _ was.0 was.1 c.in-Ok-Command.command (a.answered _ was.1.goes_on) in
     (cut.0, begun_ran _ _ _ _ _ _ _ WriteFault cut.0 cut.2 (λ bytes is. one_begun bytes now new (commands_of was.0) (commands_of cut.0) c.in-Ok-Command.command (was.2 bytes is) (e.next inv.ready) cut.1) (λ is. absurd (cc is)))
 
 pub returns-in-Err-Memory-answer_command-clause-ran : goal.returns-in-Err-Memory-answer_command-clause-ran
@@ -109,7 +109,7 @@ returns-in-Err-Memory-answer_command-clause-ran g c =
     let a = rw c.in-Err-Memory-answer_command.field-0-is at c.in-Err-Memory-answer_command.ensures in
     let now = stand_of c.commands.reader (g.S.Source.left c.commands.source) in
     let new = stand_of c.read_command.new.lines (g.S.Source.left c.read_command.new.source) in
-    let cut = going_memory _ _ _ _ _ _ _ was.0 was.1 c.in-Ok-Command.command a.answered in (
+    let cut = going_memory _ _ _ _ _ _ _ was.0 was.1 c.in-Ok-Command.command (a.answered _ was.1.goes_on) in (
       cut.0,
       begun_ran _ _ _ _ _ _ _ Memory cut.0 cut.2 (λ bytes is. ⊎_elim (λ same. none_begun bytes now (commands_of was.0) (commands_of cut.0) (was.2 bytes is) same)
           (λ one. one_begun bytes now new (commands_of was.0) (commands_of cut.0) c.in-Ok-Command.command (was.2 bytes is) (e.next inv.ready) one) cut.1) (λ is. absurd (cc is)),
@@ -125,5 +125,5 @@ returns-in-Err-JournalBad-clause-ran g c =
     let new = stand_of c.read_command.new.lines (g.S.Source.left c.read_command.new.source) in
     let side = c.in-Err-JournalBad.side in
     let at = c.in-Err-JournalBad.at in
-    let cut = going_bad _ _ _ _ _ _ _ was.0 was.1 c.in-Ok-Command.command side at a.answered in
+    let cut = going_bad _ _ _ _ _ _ _ was.0 was.1 c.in-Ok-Command.command side at (a.answered _ was.1.goes_on) in
     rw c.in-Err-JournalBad.field-0-is (cut.0, begun_ran _ _ _ _ _ _ _ (JournalBad side at) cut.0 cut.2 (λ bytes is. one_begun bytes now new (commands_of was.0) (commands_of cut.0) c.in-Ok-Command.command (was.2 bytes is) (e.next inv.ready) cut.1) (λ is. absurd (cc is)))

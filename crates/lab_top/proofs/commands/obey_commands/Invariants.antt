@@ -1,7 +1,7 @@
 use Rattle.std.proofs.Common.{◌≡◌, ◌≤◌, ◌-◌, ◌^◌, ℕ, List, Some, None}
 use Rattle.lab_io.specs.Passed.{IsReady, stand_of}
 use Rattle.lab_io.specs.Taken.{taken_of}
-use Rattle.lab_top.specs.Answering.{Moment, MayGoOn}
+use Rattle.lab_top.specs.Answering.{Moment}
 use Rattle.lab_top.specs.Pieces.{Begun, commands_of}
 use Rattle.lab_top.specs.Readers.{at_start}
 use Rattle.lab_top.proofs.Commanding.{Covers}
@@ -16,7 +16,6 @@ invariant-commands g l =
       ready : IsReady l.reader (g.S.Source.left l.source);
       going : (begun : List Begun) × Going g.P.Plant.takes_drills start here (g.K.Sink.written l.fn.sink) (g.K.Sink.written l.sink) begun
           × ((bytes : List ℕ) → g.S.Source.left l.fn.source ≡ Some bytes → Covers (at_start bytes) (stand_of l.reader (g.S.Source.left l.source)) (commands_of begun));
-      goes_on : MayGoOn here;
       read : g.S.Source.faults l.fn.source ≤ g.S.Source.faults l.source;
       write : g.K.Sink.faults l.fn.sink ≤ g.K.Sink.faults l.sink;
     }

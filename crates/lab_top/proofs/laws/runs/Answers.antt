@@ -4,10 +4,10 @@ use Rattle.lab_top.proofs.RunLaws.{are_kept, stops_told, swapped_in, undrilled_t
 use Rattle.lab_top.proofs.laws.runs.Goals as goal
 
 pub returns-clause-solutions : goal.returns-clause-solutions
-returns-clause-solutions c = λ takes choices old new status before after b t exp text lines reply r told sound asks replied. swapped_in takes choices old new status before after b t r told sound exp text lines reply asks replied
+returns-clause-solutions c = λ takes choices old new status before after b t only_begin exp text lines reply r told sound asks replied. swapped_in takes choices old new status before after b t r told sound only_begin exp text lines reply asks replied
 
 pub returns-clause-kept : goal.returns-clause-kept
-returns-clause-kept c = are_kept
+returns-clause-kept c = λ takes choices old new status before middle after t e r told sound rests have all others. are_kept takes choices old new status before middle after t e r told sound rests have all others
 
 pub returns-clause-stops : goal.returns-clause-stops
 returns-clause-stops c = λ takes choices old new status before after b t reply r told replied. stops_told takes choices old new status before after b t r told reply replied

@@ -3,7 +3,8 @@ use Rattle.std.specs.Prelude.{is_some}
 use Rattle.lab_top.specs.declared.status.Status.TheVariants.{Usage, Memory}
 use Rattle.lab_top.specs.Answering.{Moment}
 use Rattle.lab_top.specs.Words.{Usual, choices_of}
-use Rattle.lab_top.proofs.Pieces.{all_some, going_none, ran, ran_bad, never_bad}
+use Rattle.lab_top.proofs.Pieces.{going_none, ran, ran_bad, never_bad}
+use Rattle.lab_top.proofs.Stepping.{all_some}
 use Rattle.lab_top.proofs.Wording.{refused, as_chosen, runs_on, is_usage, no_usage}
 use Rattle.lab_top.proofs.top.labctl.Goals as goal
 
