@@ -5,7 +5,7 @@ BEGIN {
     if (!IFACES) IFACES = 14
     switches = int((N + 3) / 4); if (switches > 64) switches = 64
     if (SCRIPT) print "ptop " 1 + switches + N + IFACES * N + switches - 1
-    print "vlans 100 1099"
+    print "vlans 100 1199"
     for (s = 1; s <= switches; s++) print "node s" s " switch"
     for (n = 1; n <= N; n++) print "node p" n " pc:1"
     for (n = 1; n <= N; n++) {

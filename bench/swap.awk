@@ -1,5 +1,6 @@
 # Commands for a lab of 1,024 nodes that lab.awk makes: OTHERS experiments of two virtual nodes each are swapped in on machines from
-# p513 on, and then E, a chain of V virtual nodes on machines p1 to pV, is made, and ROUNDS times swapped in and out.
+# p513 on, and then E, a chain of V virtual nodes on machines p1 to pV, is made, and ROUNDS times swapped in and out. With TURNS, its
+# swap-in is opened and turned so often, beside OPEN open ones of such chains on the machines behind.
 function chain(nodes, last,   v) {
     for (v = 1; v <= nodes; v++) print "node v" v " pc " (v == nodes ? last : "linux")
     for (v = 1; v < nodes; v++) print "link s" v " s" v " 1000 v" v " v" v + 1
@@ -16,8 +17,8 @@ function placed(nodes, first,   v) {
         print "plug v" v + 1 ":0 p" first + v ":eth0"
     }
 }
-function swapped_in(name, nodes, first) {
-    print "swapin-with " name " " 3 * nodes - 2
+function swapped_in(name, nodes, first, word) {
+    print word "swapin-with " name " " 3 * nodes - 2
     placed(nodes, first)
 }
 function changed(name, nodes, first, last) {
@@ -41,6 +42,15 @@ BEGIN {
         exit
     }
     made("E", V)
+    if (TURNS != "") {
+        for (o = 1; o <= OPEN; o++) {
+            made("O" o, V)
+            swapped_in("O" o, V, V * o + 1, "open ")
+        }
+        swapped_in("E", V, 1, "open ")
+        for (r = 0; r < TURNS; r++) print "turn E"
+        exit
+    }
     if (CHANGE) swapped_in("E", V, 1)
     for (r = 0; r < ROUNDS; r++) {
         if (CHANGE) {

@@ -78,6 +78,42 @@ fn a_lab_is_there_again_in_its_folder(rt: HostRuntime) -> Result<(), Fail> {
     Ok(())
 }
 
+/// A swap is opened, and the script ends behind its third turn.
+const OPENED: &[u8] =
+    b"ptop 6\nvlans 100 101\nnode s1 switch\nnode pc1 pc:1\nnode pc2 pc:1\nlink l1 pc1:eth0 s1:1 100000\nlink l2 pc2:eth0 s1:2 100000\ncreate-top A 3\nnode a pc linux\nnode b pc linux\nlink ab ab 100000 a b\nopen swapin-with A 4\nnode a pc1 pc\nnode b pc2 pc\nplug a:0 pc1:eth0\nplug b:0 pc2:eth0\nturn A\nturn A\nturn A\n";
+
+const OPENED_REPLIES: &[u8] = b"lab 1 2 0\ncreated A 2 1\nmore A\nmore A\nmore A\nmore A\n";
+
+/// The tables then: both ports are joined, and the first machine is loaded.
+const OPENED_TABLES: &[u8] = b"row s1 1 100\nrow s1 2 100\nnode pc1 OFF linux\n";
+
+const SETTLED_REPLIES: &[u8] = b"not open A\nexp A out 0 0\nfree 2 2\n";
+
+#[test]
+fn the_next_run_settles_an_open_swap(rt: HostRuntime) -> Result<(), Fail> {
+    let words = ["--dir", "opened.lab"];
+    let (status, replies) = run(&rt, &words, OPENED)?;
+    assert_eq!(rt;
+        (status, replies.as_slice()),
+        (Status::Done, OPENED_REPLIES)
+    );
+    assert_eq!(rt;
+        fs::read(&rt, "opened.lab/tables")?.as_slice(),
+        OPENED_TABLES
+    );
+    let (status, replies) = run(&rt, &words, b"turn A\nstatus\n")?;
+    assert_eq!(rt;
+        (status, replies.as_slice()),
+        (Status::Done, SETTLED_REPLIES)
+    );
+    assert_eq!(rt;
+        fs::read(&rt, "opened.lab/tables")?.as_slice(),
+        b"".as_slice()
+    );
+    fs::remove_dir_all(&rt, "opened.lab")?;
+    Ok(())
+}
+
 /// Words, and whether they choose a place.
 const WORDS: &[(&[&str], bool)] = &[
     (&[], true),

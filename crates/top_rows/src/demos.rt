@@ -27,6 +27,14 @@ const CHANGE: &[u8] =
 const CHANGE_REPLIES: &[u8] =
     b"lab 1 3 0\ncreated A 2 1\nin A\nin A\nshow A in\nnode a pc linux\nnode b pc linux\nnode c pc linux\nlink abc abc 100000 a b c\nnode a pc1 pc\nnode b pc2 pc\nnode c pc3 pc\nplug a:0 pc1:eth0\nplug b:0 pc2:eth0\nplug c:0 pc3:eth0\ntag abc 101\nend A\nexp A in 3 1\nfree 0 3\nplanned\nfailed A in device pc2\nexp A in 3 1\nfree 0 3\nbad A 4 unknown\n";
 
+/// `demo/turns.lab`: swaps that are opened, and go on by turns.
+const TURNS: &[u8] =
+    b"# Two switches with two machines each, and two experiments of two virtual nodes.\nptop 12\nvlans 100 103\nnode s1 switch\nnode s2 switch\nnode pc1 pc:1\nnode pc2 pc:1\nnode pc3 pc:1\nnode pc4 pc:1\nlink i1 pc1:eth0 s1:1 1000000\nlink i2 pc2:eth0 s1:2 1000000\nlink i3 pc3:eth0 s2:1 1000000\nlink i4 pc4:eth0 s2:2 1000000\nlink t1 s1:24 s2:24 100000\ncreate-top A 3\nnode a pc linux\nnode b pc linux\nlink ab ab 100000 a b\ncreate-top B 3\nnode a pc linux\nnode b pc linux\nlink ab ab 100000 a b\n\n# Both swaps are opened: each has written that it begins, and claims what it will hold. Each turn sends one command to a device.\nopen swapin-with A 4\nnode a pc1 pc\nnode b pc2 pc\nplug a:0 pc1:eth0\nplug b:0 pc2:eth0\nopen swapin-with B 4\nnode a pc3 pc\nnode b pc4 pc\nplug a:0 pc3:eth0\nplug b:0 pc4:eth0\nstatus\nturn A\nturn B\n\n# The second join of B fails, and B is undone by its further turns. A goes on.\nfail s2 1 not\nturn B\nturn A\nfinish B\nfinish A\nstatus\n\n# An open swap keeps other commands on its experiment off, and recovery too; an experiment without one has no turns.\nopen swapout A\ndelete A\nrecover\nturn B\nfinish A\n\n# A stop drops what is open, and the next command settles it: the swap-in is undone.\nopen swapin-with A 4\nnode a pc1 pc\nnode b pc2 pc\nplug a:0 pc1:eth0\nplug b:0 pc2:eth0\nturn A\nstop 1 all\nturn A\nturn A\nstatus\n";
+
+/// What it replies.
+const TURNS_REPLIES: &[u8] =
+    b"lab 2 4 1\ncreated A 2 1\ncreated B 2 1\nmore A\nmore B\nexp A moving 2 1\nexp B moving 2 1\nfree 0 2\nmore A\nmore B\nplanned\ntrouble B device s2\nmore A\nfailed B out device s2\nin A\nexp A in 2 1\nexp B out 0 0\nfree 2 3\nmore A\nbusy A\nrecovered 0 0\nnot open B\nout A\nmore A\nmore A\nplanned\nstopped\nnot open A\nexp A out 0 0\nexp B out 0 0\nfree 4 4\n";
+
 /// `demo/lab.lab`: an experiment is made, shown and removed.
 const LAB: &[u8] =
     b"# A lab of one switch with two machines, given by its text, and an experiment that asks for both.\nptop 6\nvlans 100 101\nnode s1 switch\nnode pc1 pc:1\nnode pc2 pc:1\nlink l1 pc1:eth0 s1:1 100000\nlink l2 pc2:eth0 s1:2 100000\nstatus\n\ncreate-top A 3\nnode a pc linux\nnode b pc linux\nlink ab ab 100000 a b\nshow A\nstatus\n\n# What a refused command asks for isn't done, and all else goes on.\ncreate-top A 1\nnode a pc linux\ndelete B\ndelete A\nstatus\n";
@@ -56,6 +64,7 @@ const DEMOS: &[Row] = &[
     (&[FIRST], FIRST_REPLIES, Status::Done, None),
     (&[RECOVERY], RECOVERY_REPLIES, Status::Done, None),
     (&[CHANGE], CHANGE_REPLIES, Status::Done, None),
+    (&[TURNS], TURNS_REPLIES, Status::Done, None),
     (&[LAB], LAB_REPLIES, Status::Done, Some(20)),
     (
         &[REFUSED],

@@ -22,8 +22,14 @@ mod journals;
 #[cfg(test)]
 mod networks;
 #[cfg(test)]
+mod open_swaps;
+#[cfg(test)]
+mod orders;
+#[cfg(test)]
 mod recoveries;
 #[cfg(test)]
 mod swaps;
 #[cfg(test)]
 mod table;
+#[cfg(test)]
+mod turns;

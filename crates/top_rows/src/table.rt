@@ -20,10 +20,12 @@ pub const PAIR: &[u8] = b"node a pc linux\nnode b pc linux\nlink ab ab 100000 a 
 /// Both virtual nodes of the pair on machines 1 and 2: four lines.
 pub const ON_1_2: &[u8] = b"node a pc1 pc\nnode b pc2 pc\nplug a:0 pc1:eth0\nplug b:0 pc2:eth0\n";
 
-/// On machines 1 and 3, and on 2 and 4.
+/// On machines 1 and 3, on 2 and 4, and on 3 and 4.
 pub const ON_1_3: &[u8] = b"node a pc1 pc\nnode b pc3 pc\nplug a:0 pc1:eth0\nplug b:0 pc3:eth0\n";
 
 pub const ON_2_4: &[u8] = b"node a pc2 pc\nnode b pc4 pc\nplug a:0 pc2:eth0\nplug b:0 pc4:eth0\n";
+
+pub const ON_3_4: &[u8] = b"node a pc3 pc\nnode b pc4 pc\nplug a:0 pc3:eth0\nplug b:0 pc4:eth0\n";
 
 /// What is left behind a run.
 #[derive(Drop)]
