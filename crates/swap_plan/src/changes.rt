@@ -1,16 +1,20 @@
 // The plan of a change.
-ghost use Rattle.std.specs.Prelude.{◌≡◌, ◌++◌, length, map, IfOk, OnOk, Some, None, true};
+ghost use Rattle.std.specs.Prelude.{◌≡◌, ◌<◌, ◌++◌, ◌∷◌, [], length, map, slice_index_or, if◌then◌else◌, IfOk, OnOk, Some, None, true};
 ghost use Rattle.std.specs.Cmp.Lexicographic.{pointwise};
+ghost use Rattle.std.specs.Option.{option_or};
 ghost use Rattle.lab_base.specs.Lists.{Has};
 ghost use Rattle.lab_model.specs.Courses.{node_names, commands, undo};
 ghost use Rattle.lab_model.specs.Kept.{is_kept};
-ghost use Rattle.swap_plan.specs.Plans.{IsFit, own_pipes, are_same, both_os, fresh_os, wiped_os, host_if, hosts_by, changed};
+ghost use Rattle.virt_topo.specs.declared.wiring.Pipe.{Pipe as PipeSeen};
+ghost use Rattle.swap_plan.specs.Plans.{IsFit, are_same, both_os, fresh_os, wiped_os, hosts_at, changed};
+ghost use Rattle.swap_plan.specs.Tables.{IsTable};
+ghost use Rattle.swap_plan.specs.Changes.{IsChange};
 
-use crate::hosts::{Host, os_on};
-use crate::loads::{pipes_on, plug_name};
+use crate::loads::plug_name;
 use crate::plans::{building, leaves, push_wipes};
 use crate::port::Port;
 use crate::rows::rows_of;
+use crate::tables::NodeTable;
 use crate::{Commands, Ops};
 use lab_base::{Memory, Name};
 use phys_lab::Lab;
@@ -33,19 +37,12 @@ fn same_pipe(lab: &Lab, old: &Mapped, new: &Mapped, one: &Pipe, other: &Pipe) ->
         && one.back == other.back
 }
 
-/// Whether these pipes of a node are the same, one by one.
-fn same_pipes(
-    lab: &Lab,
-    old: &Mapped,
-    new: &Mapped,
-    node: Name,
-    ones: &[Pipe],
-    others: &[Pipe],
-) -> bool
+/// Whether these pipes are the same, one by one.
+fn same_pipes(lab: &Lab, old: &Mapped, new: &Mapped, ones: &[Pipe], others: &[Pipe]) -> bool
     requires old_fit { IsFit lab.now old.now }
     requires new_fit { IsFit lab.now new.now }
-    requires ones_there { ones.now ≡ own_pipes lab.now old.now node }
-    requires others_there { others.now ≡ own_pipes lab.now new.now node }
+    requires ones_there { (p : PipeSeen) → Has ones.now p → Has (old.now).wiring.pipes p }
+    requires others_there { (p : PipeSeen) → Has others.now p → Has (new.now).wiring.pipes p }
     ensures { result ≡ pointwise (are_same lab.now old.now new.now) ones.now others.now }
 {
     if ones.len() != others.len() {
@@ -68,105 +65,110 @@ fn same_os(one: Option<Name>, other: Option<Name>) -> bool
     }
 }
 
+/// Two mappings, with the table of each.
+#[derive(Clone, Copy)]
+struct Change<'a> {
+    lab: &'a Lab,
+    old: &'a Mapped,
+    new: &'a Mapped,
+    before: &'a NodeTable,
+    after: &'a NodeTable,
+}
+
+/// By node of the lab the OS that is wanted of one that isn't kept.
+#[derive(Drop)]
+struct Fresh {
+    /// By the old mapping.
+    leaving: Vec<Option<Name>>,
+    /// By the new one.
+    coming: Vec<Option<Name>>,
+    /// By either, first the old one.
+    wiped: Vec<Option<Name>>,
+}
+
 /// Whether both mappings claim a node, and want the same of it.
-fn is_kept(alloc: Global, lab: &Lab, old: &Mapped, new: &Mapped, node: Name) -> Result<bool, Memory>
-    requires old_fit { IsFit lab.now old.now }
-    requires new_fit { IsFit lab.now new.now }
-    ensures { IfOk result (λ kept. kept ≡ is_kept lab.now (Some old.now) (Some new.now) node) }
+fn is_kept(change: &Change, node: usize) -> bool
+    requires change { IsChange change.now }
+    requires node { node < length (change.now).lab.now.nodes }
+    ensures { result ≡ is_kept (change.now).lab.now (Some (change.now).old.now) (Some (change.now).new.now) (slice_index_or (node_names (change.now).lab.now) node []) }
 {
-    let one = os_on(lab, &old.wiring, &old.mapping, node);
-    let other = os_on(lab, &new.wiring, &new.mapping, node);
-    if !same_os(one, other) {
-        return Ok(false);
+    if !same_os(change.before.oses[node], change.after.oses[node]) {
+        return false;
     }
-    let ones = pipes_on(alloc, lab, &old.wiring, &old.mapping, node)?;
-    let others = pipes_on(alloc, lab, &new.wiring, &new.mapping, node)?;
-    Ok(same_pipes(lab, old, new, node, &ones, &others))
+    let ones = change.before.pipes[node].as_slice();
+    let others = change.after.pipes[node].as_slice();
+    same_pipes(change.lab, change.old, change.new, ones, others)
 }
 
-/// The OS that one side wants of a node that isn't kept.
-fn fresh_os(
-    alloc: Global,
-    lab: &Lab,
-    old: &Mapped,
-    new: &Mapped,
-    side: &Mapped,
-    node: Name,
-) -> Result<Option<Name>, Memory>
-    requires old_fit { IsFit lab.now old.now }
-    requires new_fit { IsFit lab.now new.now }
-    requires side_fit { IsFit lab.now side.now }
-    ensures { IfOk result (λ os. os ≡ fresh_os lab.now old.now new.now side.now node) }
+/// The OS of a node that isn't kept.
+fn fresh_os(kept: bool, os: Option<Name>) -> Option<Name>
+    ensures { result ≡ (if kept then None else os) }
 {
-    if is_kept(alloc, lab, old, new, node)? {
-        return Ok(None);
-    }
-    Ok(os_on(lab, &side.wiring, &side.mapping, node))
+    if kept { None } else { os }
 }
 
-/// The OS that either side wants of a node that isn't kept.
-fn wiped_os(
-    alloc: Global,
-    lab: &Lab,
-    old: &Mapped,
-    new: &Mapped,
-    node: Name,
-) -> Result<Option<Name>, Memory>
-    requires old_fit { IsFit lab.now old.now }
-    requires new_fit { IsFit lab.now new.now }
-    ensures { IfOk result (λ os. os ≡ wiped_os lab.now old.now new.now node) }
+/// The first OS that there is, of a node that isn't kept.
+fn wiped_os(kept: bool, one: Option<Name>, other: Option<Name>) -> Option<Name>
+    ensures { result ≡ (if kept then None else option_or one other) }
 {
-    if is_kept(alloc, lab, old, new, node)? {
-        return Ok(None);
-    }
-    match os_on(lab, &old.wiring, &old.mapping, node) {
-        Some(os) => Ok(Some(os)),
-        None => Ok(os_on(lab, &new.wiring, &new.mapping, node)),
+    fresh_os(kept, if one.is_some() { one } else { other })
+}
+
+/// What is wanted of a node that isn't kept.
+#[derive(Clone, Copy)]
+struct FreshNode {
+    leaving: Option<Name>,
+    coming: Option<Name>,
+    wiped: Option<Name>,
+}
+
+fn fresh_node(change: &Change, node: usize) -> FreshNode
+    requires change { IsChange change.now }
+    requires node { node < length (change.now).lab.now.nodes }
+    ensures leaving { result.leaving ≡ fresh_os (change.now).lab.now (change.now).old.now (change.now).new.now (change.now).old.now (slice_index_or (node_names (change.now).lab.now) node []) }
+    ensures coming { result.coming ≡ fresh_os (change.now).lab.now (change.now).old.now (change.now).new.now (change.now).new.now (slice_index_or (node_names (change.now).lab.now) node []) }
+    ensures wiped { result.wiped ≡ wiped_os (change.now).lab.now (change.now).old.now (change.now).new.now (slice_index_or (node_names (change.now).lab.now) node []) }
+{
+    let kept = is_kept(change, node);
+    let one = &change.before.oses[node];
+    let other = &change.after.oses[node];
+    let leaving = fresh_os(kept, *one);
+    let coming = fresh_os(kept, *other);
+    let wiped = wiped_os(kept, *one, *other);
+    FreshNode {
+        leaving,
+        coming,
+        wiped,
     }
 }
 
-fn push_if(hosts: &mut Vec<Host>, node: Name, os: Option<Name>) -> Result<(), Memory>
-    ensures { OnOk result (hosts.new.items ≡ hosts.old.items ++ host_if node os) }
+fn push_node(fresh: &mut Fresh, node: FreshNode) -> Result<(), Memory>
+    ensures leaving { OnOk result (fresh.new.leaving.items ≡ fresh.old.leaving.items ++ node.leaving ∷ []) }
+    ensures coming { OnOk result (fresh.new.coming.items ≡ fresh.old.coming.items ++ node.coming ∷ []) }
+    ensures wiped { OnOk result (fresh.new.wiped.items ≡ fresh.old.wiped.items ++ node.wiped ∷ []) }
 {
-    if let Some(os) = os {
-        hosts.push(Host { node, os })?;
-    }
+    fresh.leaving.push(node.leaving)?;
+    fresh.coming.push(node.coming)?;
+    fresh.wiped.push(node.wiped)?;
     Ok(())
 }
 
-/// The nodes of one side that aren't kept, in the lab's order.
-fn fresh_hosts(
-    alloc: Global,
-    lab: &Lab,
-    old: &Mapped,
-    new: &Mapped,
-    side: &Mapped,
-) -> Result<Vec<Host>, Memory>
-    requires old_fit { IsFit lab.now old.now }
-    requires new_fit { IsFit lab.now new.now }
-    requires side_fit { IsFit lab.now side.now }
-    ensures { IfOk result (λ hosts. hosts.items ≡ hosts_by (fresh_os lab.now old.now new.now side.now) (node_names lab.now)) }
+fn fresh_nodes(alloc: Global, change: &Change) -> Result<Fresh, Memory>
+    requires { IsChange change.now }
+    ensures leaving { IfOk result (λ fresh. fresh.leaving.items ≡ map (fresh_os (change.now).lab.now (change.now).old.now (change.now).new.now (change.now).old.now) (node_names (change.now).lab.now)) }
+    ensures coming { IfOk result (λ fresh. fresh.coming.items ≡ map (fresh_os (change.now).lab.now (change.now).old.now (change.now).new.now (change.now).new.now) (node_names (change.now).lab.now)) }
+    ensures wiped { IfOk result (λ fresh. fresh.wiped.items ≡ map (wiped_os (change.now).lab.now (change.now).old.now (change.now).new.now) (node_names (change.now).lab.now)) }
 {
-    let mut hosts = Vec::new(alloc);
-    for node in lab.nodes() {
-        let os = fresh_os(alloc, lab, old, new, side, node.name)?;
-        push_if(&mut hosts, node.name, os)?;
+    let mut fresh = Fresh {
+        leaving: Vec::new(alloc),
+        coming: Vec::new(alloc),
+        wiped: Vec::new(alloc),
+    };
+    let nodes = change.lab.nodes();
+    for node in 0..nodes.len() {
+        push_node(&mut fresh, fresh_node(change, node))?;
     }
-    Ok(hosts)
-}
-
-/// The nodes of either side that aren't kept, in the lab's order.
-fn wiped_hosts(alloc: Global, lab: &Lab, old: &Mapped, new: &Mapped) -> Result<Vec<Host>, Memory>
-    requires old_fit { IsFit lab.now old.now }
-    requires new_fit { IsFit lab.now new.now }
-    ensures { IfOk result (λ hosts. hosts.items ≡ hosts_by (wiped_os lab.now old.now new.now) (node_names lab.now)) }
-{
-    let mut hosts = Vec::new(alloc);
-    for node in lab.nodes() {
-        let os = wiped_os(alloc, lab, old, new, node.name)?;
-        push_if(&mut hosts, node.name, os)?;
-    }
-    Ok(hosts)
+    Ok(fresh)
 }
 
 /// The commands that clear these rows and nodes away, and then build a mapping on those.
@@ -174,17 +176,29 @@ fn changing(
     alloc: Global,
     lab: &Lab,
     mapped: &Mapped,
+    table: &NodeTable,
     left: &[Port],
-    wiped: &[Host],
+    wiped: &[Option<Name>],
     rows: &[Port],
-    hosts: &[Host],
+    oses: &[Option<Name>],
 ) -> Result<Commands, Memory>
     requires fit { IsFit lab.now mapped.now }
-    ensures { IfOk result (λ commands. commands ≡ changed lab.now mapped.now left.now wiped.now rows.now hosts.now) }
+    requires table { IsTable lab.now (mapped.now).wiring (mapped.now).mapping table.now }
+    requires wiped { length wiped.now ≡ length lab.now.nodes }
+    requires oses { length oses.now ≡ length lab.now.nodes }
+    ensures { IfOk result (λ commands. commands ≡ changed lab.now mapped.now left.now (hosts_at (node_names lab.now) wiped.now) rows.now (hosts_at (node_names lab.now) oses.now)) }
 {
     let mut clear = leaves(alloc, left)?;
-    push_wipes(&mut clear, wiped)?;
-    let built = building(alloc, lab, &mapped.wiring, &mapped.mapping, rows, hosts)?;
+    push_wipes(&mut clear, lab, wiped)?;
+    let built = building(
+        alloc,
+        lab,
+        &mapped.wiring,
+        &mapped.mapping,
+        table,
+        rows,
+        oses,
+    )?;
     Ok(Commands { clear, ..built })
 }
 
@@ -196,13 +210,38 @@ pub fn plan_change(alloc: Global, lab: &Lab, old: &Mapped, new: &Mapped) -> Resu
     ensures undo { IfOk result (λ ops. ops.undo ≡ undo lab.now (Some old.now) (Some new.now)) }
     ensures inside { IfOk result (λ ops. ops.inside ≡ true) }
 {
-    let old_rows = rows_of(alloc, lab, &old.wiring, &old.mapping, old.tags.as_slice())?;
-    let new_rows = rows_of(alloc, lab, &new.wiring, &new.mapping, new.tags.as_slice())?;
-    let leaving = fresh_hosts(alloc, lab, old, new, old)?;
-    let coming = fresh_hosts(alloc, lab, old, new, new)?;
-    let wiped = wiped_hosts(alloc, lab, old, new)?;
-    let commands = changing(alloc, lab, new, &old_rows, &leaving, &new_rows, &coming)?;
-    let undo = changing(alloc, lab, old, &new_rows, &wiped, &old_rows, &leaving)?;
+    let left = rows_of(alloc, lab, &old.wiring, &old.mapping, old.tags.as_slice())?;
+    let rows = rows_of(alloc, lab, &new.wiring, &new.mapping, new.tags.as_slice())?;
+    let before = NodeTable::of(alloc, lab, &old.wiring, &old.mapping)?;
+    let after = NodeTable::of(alloc, lab, &new.wiring, &new.mapping)?;
+    let change = Change {
+        lab,
+        old,
+        new,
+        before: &before,
+        after: &after,
+    };
+    let fresh = fresh_nodes(alloc, &change)?;
+    let commands = changing(
+        alloc,
+        lab,
+        new,
+        &after,
+        &left,
+        &fresh.leaving,
+        &rows,
+        &fresh.coming,
+    )?;
+    let undo = changing(
+        alloc,
+        lab,
+        old,
+        &before,
+        &rows,
+        &fresh.wiped,
+        &left,
+        &fresh.leaving,
+    )?;
     Ok(Ops {
         commands,
         undo,

@@ -1,0 +1,14 @@
+use Rattle.std.proofs.Common.{[], arith, map}
+use Rattle.std.proofs.lemmas.List.{map-append}
+use Rattle.swap_plan.specs.Plans.{Host}
+use Rattle.swap_plan.proofs.TableLaws.{listed_more, listed_all}
+use Rattle.swap_plan.proofs.plans.boots.Goals as goal
+
+pub loop-node-preserved : goal.loop-node-preserved
+loop-node-preserved c =
+    listed_more (map (λ (h : Host). h.node)) (map-append (λ (h : Host). h.node)) c.args.lab.now c.args.oses.now c.requires.one_each c.loop-node.node c.index-oses-node.result c.node_name.result _ [] c.loop-node.listed _
+    (omega (arith, c.loop-node-test.true)) c.node_name.ensures c.index-oses-node.is c.loop-node.invariant c.in_ok-push_boot.ensures
+
+pub returns : goal.returns
+returns c =
+    listed_all (map (λ (h : Host). h.node)) (map-append (λ (h : Host). h.node)) c.args.lab.now c.args.oses.now c.requires.one_each c.loop-node.node [] c.loop-node.listed (omega (arith, c.loop-node-test.false)) c.loop-node.invariant
