@@ -1,11 +1,11 @@
 -- Choices, one candidate more, and the best of their maps.
-use Rattle.std.proofs.Common.{◌≡◌, ◌≤◌, ◌<◌, ◌∙◌, ◌+◌, ◌++◌, ◌∷◌, [], inl, inr, ℕ, List, length, take, drop, map, get_or, Contains, Option, Some, None, nat_lt, refl, sym, ap, subst, suc, zero, length-append, arith}
+use Rattle.std.proofs.Common.{◌≡◌, ◌≤◌, ◌<◌, ◌∙◌, ◌+◌, ◌++◌, ◌∷◌, [], inl, inr, ℕ, List, length, take, drop, map, get_or, Contains, Option, Some, None, true, false, refl, sym, ap, subst, suc, zero, length-append, arith}
 use Rattle.std.specs.List.{filter_map, cons_option}
 use Rattle.std.proofs.lemmas.Grind.{flat_map-append}
 use Rattle.std.proofs.lemmas.List.{take_more, map-append, get_or_append_left}
 use Rattle.std.proofs.lemmas.List.Elements.{filter_map-append}
 use Rattle.std.proofs.Math.Seq.{get_or-append_seam}
-use Rattle.std.proofs.lemmas.Bool.{cases_lt, cond_both, ltb-true, ltb-false}
+use Rattle.std.proofs.lemmas.Bool.{cases_lt, ltb-true, ltb-false}
 use Rattle.virt_topo.specs.declared.mapping.Mapping.{Mapping}
 use Rattle.lab_model.specs.Shapes.{Place}
 use Rattle.virt_topo.proofs.EndLaws.{item_at as drop_item}
@@ -15,16 +15,13 @@ use Rattle.node_maps.proofs.Leasts.{least_alone, least_kept, least_taken}
 use Rattle.map_anneal.specs.declared.search.Priced.{Priced}
 use Rattle.map_anneal.specs.Sought.{Sought, mapped, price}
 use Rattle.map_anneal.specs.Searches.{IsPriced}
-use Rattle.assign_core.specs.Bests.{IsBest, IsPartial, cheaper_of}
+use Rattle.assign_core.specs.Bests.{IsBest, IsPartial, is_below}
 use Rattle.assign_core.specs.Exact.{extended, all_choices}
 
 get_or-within : {X : Type 0} (xs : List X) (k : ℕ) (d e : X) → k < length xs → get_or xs k d ≡ get_or xs k e
 get_or-within [] k d e lt = absurd (omega arith)
 get_or-within (x ∷ xs) zero d e lt = refl
 get_or-within (x ∷ xs) (suc k) d e lt = get_or-within xs k d e (omega arith)
-
-pub partial_none : (cs : List (List Place)) → IsPartial cs []
-partial_none cs = record { within = omega arith; among = λ v d lt. absurd (omega arith) }
 
 pub partial_more : (cs : List (List Place)) (places : List Place) (p : Place) → IsPartial cs places → length places < length cs
     → Contains (get_or cs (length places) []) p → IsPartial cs (places ++ p ∷ [])
@@ -59,7 +56,7 @@ append_nil (x ∷ xs) = ap (λ ys. x ∷ ys) (append_nil xs)
 pub get_or_here : (cs : List (List Place)) (d : ℕ) → d < length cs → get_or cs d [] ≡ get_or cs d (get_or cs d [])
 get_or_here cs d lt = get_or-within cs d [] (get_or cs d []) lt
 
-all_choices-none : (cs : List (List Place)) → all_choices [] cs ≡ []
+pub all_choices-none : (cs : List (List Place)) → all_choices [] cs ≡ []
 all_choices-none [] = refl
 all_choices-none (c ∷ cs) = all_choices-none cs
 
@@ -87,33 +84,35 @@ found_one_more s places c k x cs lt is =
     ∙ ap (λ y. map ext (take k c) ++ ext y ∷ []) (sym is) in
     ap (λ xs. found s xs cs) more ∙ found-append s (with_each places (take k c)) ((places ++ x ∷ []) ∷ []) cs
 
-pub found_here : (s : Sought) (places : List Place) (cs : List (List Place)) → length places < length cs
-    → found s (places ∷ []) (drop (length places) cs) ≡ found s (with_each places (get_or cs (length places) [])) (drop (length places + 1) cs)
-found_here s places cs lt =
-    let d = length places in
+pub found_here : (s : Sought) (places : List Place) (cs : List (List Place)) (d : ℕ) → d < length cs
+    → found s (places ∷ []) (drop d cs) ≡ found s (with_each places (get_or cs d [])) (drop (d + 1) cs)
+found_here s places cs d lt =
     ap (λ xs. found s (places ∷ []) xs) (drop_item cs d (get_or cs d []) lt (get_or_here cs d lt))
     ∙ ap (λ xs. found s xs (drop (d + 1) cs)) (append_nil (with_each places (get_or cs d [])))
 
-pub best_more : (s : Sought) (maps : List Mapping) (o : Option Priced) (p : Priced) → IsBest s maps o → IsPriced s p → IsBest s (maps ++ p.mapping ∷ []) (cheaper_of o p)
-best_more s maps None p h is =
+-- the next map is cheaper, or it isn't
+pub best_taken : (s : Sought) (maps : List Mapping) (o : Option Priced) (p : Priced) → IsBest s maps o → IsPriced s p → is_below p.cost o ≡ true → IsBest s (maps ++ p.mapping ∷ []) (Some p)
+best_taken s maps None p h is below =
     let P : List Mapping → Type 0 = λ xs. IsFirstLeast (price s) (xs ++ p.mapping ∷ []) p.mapping in
     record { priced = is; least = subst P (sym h) (least_alone (price s) p.mapping) }
-best_more s maps (Some q) p h is =
-    cond_both (nat_lt p.cost q.cost) (Some p) (Some q) (λ o. IsBest s (maps ++ p.mapping ∷ []) o)
-    (λ below. record { priced = is; least = least_taken (price s) maps q.mapping p.mapping h.least (let lt : p.cost < q.cost = ltb-true p.cost q.cost below in omega (arith, is.cost, h.priced.cost)) })
-    (λ above. record { priced = h.priced; least = least_kept (price s) maps q.mapping p.mapping h.least (let le : q.cost ≤ p.cost = ltb-false p.cost q.cost above in omega (arith, is.cost, h.priced.cost)) })
+best_taken s maps (Some q) p h is below =
+    record { priced = is; least = least_taken (price s) maps q.mapping p.mapping h.least (let lt : p.cost < q.cost = ltb-true p.cost q.cost below in omega (arith, is.cost, h.priced.cost)) }
+
+pub best_kept : (s : Sought) (maps : List Mapping) (o : Option Priced) (p : Priced) → IsBest s maps o → IsPriced s p → is_below p.cost o ≡ false → IsBest s (maps ++ p.mapping ∷ []) o
+best_kept s maps None p h is above = absurd (cc above)
+best_kept s maps (Some q) p h is above =
+    record { priced = h.priced; least = least_kept (price s) maps q.mapping p.mapping h.least (let le : q.cost ≤ p.cost = ltb-false p.cost q.cost above in omega (arith, is.cost, h.priced.cost)) }
 
 -- where all virtual nodes are placed there is one map to ask, or none
-pub best_leaf_none : (s : Sought) (maps : List Mapping) (places : List Place) (o : Option Priced) (rest : List (List Place)) → rest ≡ [] → mapped s places ≡ None
-    → IsBest s maps o → IsBest s (maps ++ found s (places ∷ []) rest) o
-best_leaf_none s maps places o rest empty none h =
-    let e : maps ++ found s (places ∷ []) rest ≡ maps =
-    ap (λ xs. maps ++ found s (places ∷ []) xs) empty ∙ ap (λ m. maps ++ cons_option m []) none ∙ append_nil maps in
-    subst (λ xs. IsBest s xs o) (sym e) h
+pub found_whole : (s : Sought) (places : List Place) (rest : List (List Place)) → rest ≡ [] → found s (places ∷ []) rest ≡ cons_option (mapped s places) []
+found_whole s places rest empty = ap (λ xs. found s (places ∷ []) xs) empty
 
-pub best_leaf_some : (s : Sought) (maps : List Mapping) (places : List Place) (o : Option Priced) (p : Priced) (rest : List (List Place)) → rest ≡ [] → mapped s places ≡ Some p.mapping
-    → IsPriced s p → IsBest s maps o → IsBest s (maps ++ found s (places ∷ []) rest) (cheaper_of o p)
-best_leaf_some s maps places o p rest empty some is h =
-    let e : maps ++ found s (places ∷ []) rest ≡ maps ++ p.mapping ∷ [] =
-    ap (λ xs. maps ++ found s (places ∷ []) xs) empty ∙ ap (λ m. maps ++ cons_option m []) some in
-    subst (λ xs. IsBest s xs (cheaper_of o p)) (sym e) (best_more s maps o p h is)
+-- what begins alike in more places does so in fewer
+take_once : {X : Type 0} (n m : ℕ) (xs : List X) → n ≤ m → take n (take m xs) ≡ take n xs
+take_once zero m xs le = refl
+take_once (suc n) zero xs le = absurd (omega (arith, le))
+take_once (suc n) (suc m) [] le = refl
+take_once (suc n) (suc m) (x ∷ xs) le = ap (λ l. x ∷ l) (take_once n m xs (omega (arith, le)))
+
+pub begun_alike : (n : ℕ) (xs ys : List Place) → take (n + 1) xs ≡ take (n + 1) ys → take n xs ≡ take n ys
+begun_alike n xs ys same = sym (take_once n (n + 1) xs (omega arith)) ∙ ap (take n) same ∙ take_once n (n + 1) ys (omega arith)

@@ -1,5 +1,5 @@
 -- The cheapest map that the code keeps.
-use Rattle.std.specs.Prelude.{◌≡◌, ◌≤◌, ◌<◌, ℕ, List, [], length, Option, Some, None, Contains, slice_index_or, nat_lt, if◌then◌else◌}
+use Rattle.std.specs.Prelude.{◌≡◌, ◌≤◌, ◌<◌, ℕ, List, [], length, Option, Some, None, Contains, slice_index_or, Bool, true, nat_lt}
 use Rattle.virt_topo.specs.declared.mapping.Mapping.{Mapping}
 use Rattle.lab_model.specs.Shapes.{Place}
 use Rattle.node_maps.specs.Least.{IsFirstLeast}
@@ -22,7 +22,7 @@ pub record IsPartial (cs : List (List Place)) (places : List Place) : Type 0 whe
   pub within : length places ≤ length cs
   pub among : (v : ℕ) (d : Place) → v < length places → Contains (slice_index_or cs v []) (slice_index_or places v d)
 
--- the best map after one more
-abbrev pub cheaper_of : Option Priced → Priced → Option Priced
-cheaper_of None next = Some next
-cheaper_of (Some kept) next = if nat_lt next.cost kept.cost then Some next else Some kept
+-- the cost is below that of the best map, if there is one
+abbrev pub is_below : ℕ → Option Priced → Bool
+is_below cost None = true
+is_below cost (Some kept) = nat_lt cost kept.cost

@@ -56,6 +56,13 @@ first_fit_from lab w places (c ∷ cs) =
 unfoldable pub first_fit : Lab → Free → Wiring → Option Mapping
 first_fit lab free w = option_and_then (λ places. node_map lab free w places) (first_fit_from lab w [] (candidates lab free w))
 
+-- what holds of the mapping that was found, if there is one
+abbrev pub IfFound : Solved → (Mapping → Type 0) → Type 0
+IfFound (Least m c) Holds = Holds m
+IfFound (Local m c) Holds = Holds m
+IfFound NoMap Holds = Unit {0}
+IfFound GaveUp Holds = Unit {0}
+
 -- the answers that are allowed: with at most 65,536 candidates the cheapest map, or none where there is none;
 -- with more a locally best map that costs at most every map of the walk from FirstFit, or giving up where FirstFit isn't feasible
 abbrev pub IsAllowed : Sought → ℕ → Solved → Type 0

@@ -1,75 +1,110 @@
 // Exact search over all node maps.
-ghost use Rattle.std.specs.Prelude.{◌≡◌, ◌≤◌, ◌++◌, ◌∷◌, [], List, length, drop, IfOk, OnOk};
-ghost use Rattle.std.specs.List.{filter_map};
+ghost use Rattle.std.specs.Prelude.{◌≡◌, ◌≤◌, ◌++◌, ◌∷◌, [], List, length, take, drop, IfOk, IfSome, OnOk};
+ghost use Rattle.std.specs.List.{filter_map, cons_option};
 ghost use Rattle.virt_topo.specs.declared.mapping.Mapping.{Mapping as MappingValue};
 ghost use Rattle.virt_topo.specs.Soundness.{IsSound};
 ghost use Rattle.lab_model.specs.Shapes.{IsFreeOf};
-ghost use Rattle.map_anneal.specs.Sought.{sought, choices, mapped};
-ghost use Rattle.map_anneal.specs.Searches.{sought_by, IsSearch, IsPriced};
-ghost use Rattle.assign_core.specs.Bests.{IsBest, IsPartial, cheaper_of};
+ghost use Rattle.map_board.specs.Chosen.{IsChosen};
+ghost use Rattle.map_anneal.specs.Sought.{sought, choices, mapped, IsNodeMap};
+ghost use Rattle.map_anneal.specs.Searches.{sought_of, IsMoves};
+ghost use Rattle.assign_core.specs.Bests.{IsBest, is_below};
 ghost use Rattle.assign_core.specs.Exact.{all_choices, count, node_maps, IsCheapestOf};
 
+use crate::begin::first_choice;
 use cost_rule::StepRule;
 use lab_base::Memory;
-use map_anneal::{Priced, Search};
-use node_maps::{Place, candidates, copy_places, ends_of};
+use map_anneal::{Moves, Prepared, Priced};
+use map_board::Chosen;
 use phys_lab::{Free, Lab};
 use std::alloc::Global;
 use virt_topo::{Mapping, Wiring};
 
-/// The best map after one more.
-fn better(best: Option<Priced>, next: Priced) -> Option<Priced>
-    ensures { result ≡ cheaper_of best next }
+/// Whether a cost is below that of the best map, if there is one.
+fn is_below(cost: u64, best: &Option<Priced>) -> bool
+    ensures { result ≡ is_below cost best.now }
 {
     match best {
-        Some(kept) => {
-            if next.cost < kept.cost {
-                Some(next)
-            } else {
-                Some(kept)
-            }
-        }
-        None => Some(next),
+        Some(kept) => cost < kept.cost,
+        None => true,
     }
 }
 
-/// The places and one more.
-pub(crate) fn with_more(alloc: Global, places: &[Place], place: Place) -> Result<Vec<Place>, Memory>
-    ensures { IfOk result (λ more. more.items ≡ places.now ++ place ∷ []) }
-{
-    let mut more = copy_places(alloc, places)?.into_vec();
-    more.push(place)?;
-    Ok(more)
-}
-
-/// The best map after all those that begin with these places.
-fn explore(
+/// The best map after the one that is chosen, if it is one.
+fn weigh(
     alloc: Global,
-    search: &Search,
+    moves: &Moves,
     rule: &StepRule,
-    places: &[Place],
+    chosen: &mut Chosen,
     best: Option<Priced>,
 ) -> Result<Option<Priced>, Memory>
-    requires search { IsSearch search.now }
-    requires partial { IsPartial (choices (sought_by search.now rule.now.number)) places.now }
-    ensures { IfOk result (λ after. (maps : List MappingValue) → IsBest (sought_by search.now rule.now.number) maps best → IsBest (sought_by search.now rule.now.number) (maps ++ filter_map (λ p. mapped (sought_by search.now rule.now.number) p) (all_choices (places.now ∷ []) (drop (length places.now) (choices (sought_by search.now rule.now.number))))) after) }
+    requires moves { IsMoves moves.now }
+    requires chosen { IsChosen moves.now.setting chosen.old }
+    ensures chosen { OnOk result (IsChosen moves.now.setting chosen.new) }
+    ensures places { OnOk result (chosen.new.board.mapping.places ≡ chosen.old.board.mapping.places) }
+    ensures best { IfOk result (λ after. (maps : List MappingValue) → IsBest (sought_of moves.now rule.now.number) maps best → IsBest (sought_of moves.now rule.now.number) (maps ++ cons_option (mapped (sought_of moves.now rule.now.number) chosen.old.board.mapping.places) []) after) }
 {
-    if places.len() == search.candidates.len() {
-        return match search.priced(alloc, rule, places)? {
-            Some(next) => Ok(better(best, next)),
-            None => Ok(best),
-        };
+    if !chosen.is_map(alloc, &moves.setting)? {
+        return Ok(best);
+    }
+    let cost = moves.cost(rule, &chosen.board);
+    if !is_below(cost, &best) {
+        return Ok(best);
+    }
+    let mapping = chosen.board.mapping.copy(alloc)?;
+    Ok(Some(Priced { mapping, cost }))
+}
+
+/// The best map after all those that begin with the first places of the one that is chosen.
+fn explore(
+    alloc: Global,
+    moves: &Moves,
+    rule: &StepRule,
+    begun: usize,
+    chosen: &mut Chosen,
+    best: Option<Priced>,
+) -> Result<Option<Priced>, Memory>
+    requires moves { IsMoves moves.now }
+    requires chosen { IsChosen moves.now.setting chosen.old }
+    requires begun { begun ≤ length (choices (sought_of moves.now rule.now.number)) }
+    ensures chosen { OnOk result (IsChosen moves.now.setting chosen.new) }
+    ensures places { OnOk result (take begun chosen.new.board.mapping.places ≡ take begun chosen.old.board.mapping.places) }
+    ensures best { IfOk result (λ after. (maps : List MappingValue) → IsBest (sought_of moves.now rule.now.number) maps best → IsBest (sought_of moves.now rule.now.number) (maps ++ filter_map (λ p. mapped (sought_of moves.now rule.now.number) p) (all_choices (take begun chosen.old.board.mapping.places ∷ []) (drop begun (choices (sought_of moves.now rule.now.number))))) after) }
+{
+    if begun == moves.candidates.len() {
+        let after = weigh(alloc, moves, rule, chosen, best)?;
+        return Ok(after);
     }
     let mut kept = best;
-    for place in search.candidates.of(places.len()) {
-        let more = with_more(alloc, places, *place)?;
-        kept = explore(alloc, search, rule, &more, kept)?;
+    for place in moves.candidates.of(begun) {
+        chosen.put(alloc, &moves.setting, begun, *place);
+        kept = explore(alloc, moves, rule, begun + 1, chosen, kept)?;
     }
     Ok(kept)
 }
 
-/// The cheapest feasible node map and its cost, the first in candidate order among equals; None where there is none.
+/// The cheapest feasible node map and its cost, by what is prepared.
 #[tactic(auto, unfolding(crate::specs::Exact::node_maps))]
+pub(crate) fn best_by(
+    alloc: Global,
+    moves: &Moves,
+    rule: &StepRule,
+) -> Result<Option<(Mapping, u64)>, Memory>
+    requires moves { IsMoves moves.now }
+    ensures cheapest { IfOk result (λ best. IsCheapestOf (sought_of moves.now rule.now.number) (node_maps (sought_of moves.now rule.now.number)) best) }
+    ensures node_map { IfOk result (λ best. IfSome best (λ found. IsNodeMap (sought_of moves.now rule.now.number) found.0)) }
+{
+    let Some(start) = first_choice(alloc, moves)? else {
+        return Ok(None);
+    };
+    let mut chosen = Chosen::of(alloc, &moves.setting, &start)?;
+    let found = explore(alloc, moves, rule, 0, &mut chosen, None)?;
+    match found {
+        Some(best) => Ok(Some((best.mapping, best.cost))),
+        None => Ok(None),
+    }
+}
+
+/// The cheapest feasible node map and its cost, the first in candidate order among equals; None where there is none.
 pub fn best_of_all(
     alloc: Global,
     lab: &Lab,
@@ -82,18 +117,8 @@ pub fn best_of_all(
     requires few { count (choices (sought lab.now free.now wiring.now rule.now.number)) ≤ 65536 }
     ensures { IfOk result (λ best. IsCheapestOf (sought lab.now free.now wiring.now rule.now.number) (node_maps (sought lab.now free.now wiring.now rule.now.number)) best) }
 {
-    let listed = candidates(alloc, lab, free, wiring)?;
-    let ends = ends_of(alloc, wiring.segments.as_slice())?;
-    let search = Search {
-        lab,
-        free,
-        wiring,
-        ends: &ends,
-        candidates: &listed,
-    };
-    let found = explore(alloc, &search, rule, &[], None)?;
-    match found {
-        Some(best) => Ok(Some((best.mapping, best.cost))),
-        None => Ok(None),
-    }
+    let prepared = Prepared::of(alloc, lab, free, wiring)?;
+    let moves = prepared.moves(lab, free, wiring);
+    let best = best_by(alloc, &moves, rule)?;
+    Ok(best)
 }

@@ -1,6 +1,7 @@
 //! The search: FirstFit, the exact search, and what is answered where candidates are few or many.
 #![tactic(auto)]
 
+mod begin;
 mod exact;
 mod first;
 mod whole;
@@ -9,6 +10,3 @@ pub use exact::best_of_all;
 pub use first::first_fit;
 pub use node_maps::{Candidates, candidates};
 pub use whole::{Solved, are_few, solve};
-
-#[cfg(test)]
-mod tests;

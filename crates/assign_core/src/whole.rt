@@ -1,16 +1,17 @@
 // The whole search.
 ghost use Rattle.std.specs.Prelude.{◌≡◌, ◌≤◌, ◌*◌, ◌↔◌, min, IsTrue, IfOk};
 ghost use Rattle.virt_topo.specs.Soundness.{IsSound};
-ghost use Rattle.lab_model.specs.Shapes.{IsFreeOf};
+ghost use Rattle.lab_model.specs.Feasible.{IsFeasible};
+ghost use Rattle.lab_model.specs.Shapes.{IsFreeOf, IsShaped};
 ghost use Rattle.map_anneal.specs.Sought.{sought};
-ghost use Rattle.assign_core.specs.Exact.{count, IsAllowed};
+ghost use Rattle.assign_core.specs.Exact.{count, IfFound, IsAllowed};
 
-use crate::exact::best_of_all;
-use crate::first::first_fit;
+use crate::exact::best_by;
+use crate::first::{Placing, fit_by};
 use cost_rule::StepRule;
 use lab_base::Memory;
-use map_anneal::{anneal, descend};
-use node_maps::{Candidates, candidates};
+use map_anneal::{Prepared, anneal_by, descend_by};
+use node_maps::Candidates;
 use phys_lab::{Free, Lab};
 use std::alloc::Global;
 use virt_topo::{Mapping, Wiring};
@@ -58,20 +59,30 @@ pub fn solve(
 ) -> Result<Solved, Memory>
     requires free { IsFreeOf lab.now free.now }
     requires sound { IsSound wiring.now }
-    ensures { IfOk result (λ solved. IsAllowed (sought lab.now free.now wiring.now rule.now.number) seed solved) }
+    ensures allowed { IfOk result (λ solved. IsAllowed (sought lab.now free.now wiring.now rule.now.number) seed solved) }
+    ensures shaped { IfOk result (λ solved. IfFound solved (IsShaped lab.now wiring.now)) }
+    ensures feasible { IfOk result (λ solved. IfFound solved (IsFeasible lab.now free.now wiring.now)) }
 {
-    let listed = candidates(alloc, lab, free, wiring)?;
-    if are_few(&listed) {
-        let Some((mapping, cost)) = best_of_all(alloc, lab, free, wiring, rule)? else {
+    let prepared = Prepared::of(alloc, lab, free, wiring)?;
+    let moves = prepared.moves(lab, free, wiring);
+    if are_few(moves.candidates) {
+        let Some((mapping, cost)) = best_by(alloc, &moves, rule)? else {
             return Ok(Solved::None);
         };
         return Ok(Solved::Least(mapping, cost));
     }
-    let Some(start) = first_fit(alloc, lab, free, wiring)? else {
+    let placing = Placing {
+        lab,
+        free,
+        wiring,
+        ends: &prepared.ends,
+        candidates: &prepared.candidates,
+    };
+    let Some(start) = fit_by(alloc, &placing)? else {
         return Ok(Solved::GaveUp);
     };
-    let annealed = anneal(alloc, lab, free, wiring, &start, rule, seed)?;
-    let lowest = descend(alloc, lab, free, wiring, &annealed, rule)?;
+    let annealed = anneal_by(alloc, &moves, &start, rule, seed)?;
+    let lowest = descend_by(alloc, &moves, &annealed, rule)?;
     let cost = rule.ask(lab, wiring, &lowest);
     Ok(Solved::Local(lowest, cost))
 }

@@ -1,13 +1,11 @@
-// The costs of the rules.
+// The uses of trunks, and the nodes in use.
 ghost use Rattle.std.specs.Prelude.{◌≡◌, ◌<◌, ◌≤◌, ◌*◌, ◌==◌, length};
 ghost use Rattle.std.specs.List.{list_any};
 ghost use Rattle.virt_topo.specs.Soundness.{IsSound};
 ghost use Rattle.lab_model.specs.Shapes.{IsShaped};
 ghost use Rattle.lab_model.specs.Uses.{use_of};
-ghost use Rattle.cost_rule.specs.Cost.{trunk_uses, nodes_in_use, cost};
+ghost use Rattle.cost_rule.specs.Cost.{trunk_uses, nodes_in_use};
 
-use crate::rule::RuleNumber;
-use crate::soft::soft;
 use lab_base::{Name, NodeId, TrunkId};
 use phys_lab::Lab;
 use virt_topo::{Mapping, Wiring};
@@ -55,19 +53,4 @@ pub(crate) fn nodes_in_use(mapping: &Mapping) -> usize
         rest = others;
     }
     nodes
-}
-
-/// What a mapping costs by the number of a rule.
-#[tactic(auto, unfolding(crate::specs::Cost::cost))]
-pub fn cost_of(number: RuleNumber, lab: &Lab, wiring: &Wiring, mapping: &Mapping) -> u64
-    requires sound { IsSound wiring.now }
-    requires shaped { IsShaped lab.now wiring.now mapping.now }
-    ensures { result ≡ cost number lab.now wiring.now mapping.now }
-{
-    match number {
-        RuleNumber::Trunk => trunk_uses(lab, wiring, mapping) + soft(lab, wiring, mapping),
-        RuleNumber::Pack => {
-            1_000_000 * nodes_in_use(mapping) as u64 + soft(lab, wiring, mapping)
-        }
-    }
 }

@@ -8,8 +8,7 @@ mod rule;
 mod soft;
 mod step;
 
-pub use costs::cost_of;
-pub use parts::{Parts, law_of_parts, parts_cost, parts_of};
+pub use parts::{Parts, law_of_parts, parts_of};
 pub use rule::{CostFn, Rule, RuleNumber};
 pub use soft::{class_soft, node_soft};
 pub use step::{PartsFn, StepFn, StepRule};

@@ -7,10 +7,9 @@ ghost use Rattle.virt_topo.specs.Soundness.{IsSound};
 ghost use Rattle.lab_model.specs.Shapes.{IsShaped};
 ghost use Rattle.cost_rule.specs.declared.rule.RuleNumber.{RuleNumber as NumberSeen};
 ghost use Rattle.cost_rule.specs.Cost.{cost};
-ghost use Rattle.cost_rule.specs.Parts.{parts_of, cost_of_parts, AreParts};
+ghost use Rattle.cost_rule.specs.Parts.{parts_of, cost_of_parts};
 
 use crate::costs::{nodes_in_use, trunk_uses};
-use crate::rule::RuleNumber;
 use crate::soft::soft;
 use phys_lab::Lab;
 use virt_topo::{Mapping, Wiring};
@@ -36,18 +35,6 @@ pub fn parts_of(lab: &Lab, wiring: &Wiring, mapping: &Mapping) -> Parts
         uses: trunk_uses(lab, wiring, mapping),
         nodes: nodes_in_use(mapping) as u64,
         soft: soft(lab, wiring, mapping),
-    }
-}
-
-/// What a mapping of these parts costs by the number of a rule.
-#[tactic(auto, unfolding(crate::specs::Parts::cost_of_parts))]
-pub fn parts_cost(number: RuleNumber, parts: Parts) -> u64
-    requires { AreParts parts }
-    ensures { result ≡ cost_of_parts number parts }
-{
-    match number {
-        RuleNumber::Trunk => parts.uses + parts.soft,
-        RuleNumber::Pack => 1_000_000 * parts.nodes + parts.soft,
     }
 }
 

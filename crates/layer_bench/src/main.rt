@@ -39,7 +39,8 @@ fn main(rt: HostRuntime) -> anyhow::Result<()> {
         ("top", [top]) => labs::top_again(&rt, top),
         ("ahead", [ptop, batch]) => ahead::fitted(&rt, ptop, batch),
         ("fit", [ptop, top]) => walk::fit(&rt, ptop, top),
-        ("walk", [ptop, top]) => walk::walk(&rt, ptop, top),
+        ("walk", [ptop, top]) => walk::search(&rt, false, ptop, top),
+        ("solve", [ptop, top]) => walk::search(&rt, true, ptop, top),
         ("check", [ptop, top, solution]) => labs::check(&rt, ptop, top, solution),
         _ => bail!("no layer of that name over so many files"),
     }

@@ -6,10 +6,11 @@ ghost use Rattle.cost_rule.specs.Parts.{cost_of_parts, AreParts};
 
 use crate::labs::{all_free, lab_of, wiring_of};
 use anyhow::bail;
-use assign_core::first_fit;
-use cost_rule::{CostFn, Parts, PartsFn, Rule, RuleNumber, StepFn, StepRule, cost_of, parts_cost};
+use assign_core::{Solved, first_fit, solve};
+use cost_rule::{CostFn, Parts, PartsFn, Rule, RuleNumber, StepFn, StepRule};
 use map_anneal::anneal;
 use phys_lab::{Free, Lab};
+use rule_costs::{cost_of, parts_cost};
 use virt_topo::{Mapping, Wiring};
 
 /// The seed of the walk.
@@ -60,8 +61,29 @@ fn walked(
     Ok(())
 }
 
-/// Walks from FirstFit on a lab of which nothing is claimed, under the cost rule of the trunks.
-pub fn walk(rt: &HostRuntime, ptop: &[u8], top: &[u8]) -> anyhow::Result<()> {
+/// The whole search: prints its answer with its cost.
+fn solved(
+    rt: &HostRuntime,
+    lab: &Lab,
+    free: &Free,
+    wiring: &Wiring,
+    rule: &StepRule,
+) -> anyhow::Result<()>
+    requires free { IsFreeOf lab.now free.now }
+    requires sound { IsSound wiring.now }
+{
+    match solve(rt.alloc(), lab, free, wiring, rule, SEED) {
+        Ok(Solved::Least(_, cost)) => println!(rt; "least {cost}")?,
+        Ok(Solved::Local(_, cost)) => println!(rt; "local {cost}")?,
+        Ok(Solved::None) => println!(rt; "none")?,
+        Ok(Solved::GaveUp) => println!(rt; "gave up")?,
+        Err(_) => bail!("out of memory"),
+    }
+    Ok(())
+}
+
+/// The whole search, or the walk from FirstFit alone, on a lab of which nothing is claimed, under the cost rule of the trunks.
+pub fn search(rt: &HostRuntime, whole: bool, ptop: &[u8], top: &[u8]) -> anyhow::Result<()> {
     let lab = lab_of(rt.alloc(), ptop)?;
     let wiring = wiring_of(rt.alloc(), top)?;
     let Ok(free) = all_free(rt.alloc(), &lab) else {
@@ -84,7 +106,11 @@ pub fn walk(rt: &HostRuntime, ptop: &[u8], top: &[u8]) -> anyhow::Result<()> {
     let step: StepFn = Box::new(rt.alloc(), by_step)?;
     let parted: PartsFn = Box::new(rt.alloc(), by_parts)?;
     let rule = StepRule::new(Rule::new(number, boxed), step, parted);
-    walked(rt, &lab, &free, &wiring, &rule)
+    if whole {
+        solved(rt, &lab, &free, &wiring, &rule)
+    } else {
+        walked(rt, &lab, &free, &wiring, &rule)
+    }
 }
 
 /// Places a wiring by FirstFit, as before a walk.

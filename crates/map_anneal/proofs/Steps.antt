@@ -7,7 +7,6 @@ use Rattle.virt_topo.specs.declared.mapping.Mapping.{Mapping}
 use Rattle.node_maps.specs.Least.{IsFirstLeast}
 use Rattle.node_maps.proofs.Leasts.{least_kept, least_taken}
 use Rattle.map_anneal.specs.declared.search.Priced.{Priced}
-use Rattle.map_anneal.specs.declared.tried.Tried.{Tried}
 use Rattle.map_anneal.specs.declared.walk.Walk.{Walk}
 use Rattle.map_anneal.specs.Sought.{Sought, price}
 use Rattle.map_anneal.specs.Searches.{IsPriced}

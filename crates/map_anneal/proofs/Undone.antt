@@ -10,7 +10,7 @@ use Rattle.map_board.specs.declared.table.Setting.{Setting}
 use Rattle.map_board.specs.Seated.{placed_at}
 use Rattle.map_board.specs.Boards.{IsBoard, Was}
 use Rattle.map_anneal.specs.Sought.{Sought, price, IsNoCheaper}
-use Rattle.map_anneal.proofs.Alikes.{alike_moved, alike_exchanged}
+use Rattle.map_board.proofs.Alikes.{alike_moved, alike_exchanged}
 
 set_twice : (places : List Place) (k : ℕ) (a b : Place) → set (set places k a) k b ≡ set places k b
 set_twice [] k a b = refl

@@ -6,12 +6,12 @@ ghost use Rattle.map_anneal.specs.Sought.{sought, choices, price, IsNodeMap, NoM
 ghost use Rattle.map_anneal.specs.Searches.{sought_of, IsMoves, IsTried};
 
 use crate::moves::Moves;
+use crate::prepared::Prepared;
 use crate::search::place_of;
 use crate::tried::Tried;
 use cost_rule::StepRule;
 use lab_base::Memory;
-use map_board::{Setting, Table};
-use node_maps::{Mapper, NodeIfaces, Place, candidates, ends_of};
+use node_maps::Place;
 use phys_lab::{Free, Lab};
 use std::alloc::Global;
 use virt_topo::{Mapping, Wiring};
@@ -173,6 +173,26 @@ fn cheaper_neighbour(
     Ok(yes)
 }
 
+/// A locally best map that costs at most the start, by what is prepared.
+pub fn descend_by(
+    alloc: Global,
+    moves: &Moves,
+    start: &Mapping,
+    rule: &StepRule,
+) -> Result<Mapping, Memory>
+    requires moves { IsMoves moves.now }
+    requires start { IsNodeMap (sought_of moves.now rule.now.number) start.now }
+    ensures best { IfOk result (λ m. LocallyBest (sought_of moves.now rule.now.number) m) }
+    ensures cheaper { IfOk result (λ m. price (sought_of moves.now rule.now.number) m ≤ price (sought_of moves.now rule.now.number) start.now) }
+{
+    let mut at = moves.started(alloc, rule, start)?;
+    let mut better = true;
+    while better {
+        better = cheaper_neighbour(alloc, moves, rule, &mut at)?;
+    }
+    Ok(at.board.mapping)
+}
+
 /// A locally best map that costs at most the start.
 pub fn descend(
     alloc: Global,
@@ -188,28 +208,8 @@ pub fn descend(
     ensures best { IfOk result (λ m. LocallyBest (sought lab.now free.now wiring.now rule.now.number) m) }
     ensures cheaper { IfOk result (λ m. price (sought lab.now free.now wiring.now rule.now.number) m ≤ price (sought lab.now free.now wiring.now rule.now.number) start.now) }
 {
-    let listed = candidates(alloc, lab, free, wiring)?;
-    let ends = ends_of(alloc, wiring.segments.as_slice())?;
-    let ifaces = NodeIfaces::of_lab(alloc, lab)?;
-    let table = Table::of(alloc, lab, wiring, &ends)?;
-    let mapper = Mapper {
-        lab,
-        free,
-        wiring,
-        ends: &ends,
-        ifaces: &ifaces,
-    };
-    let moves = Moves {
-        setting: Setting {
-            mapper,
-            table: &table,
-        },
-        candidates: &listed,
-    };
-    let mut at = moves.started(alloc, rule, start)?;
-    let mut better = true;
-    while better {
-        better = cheaper_neighbour(alloc, &moves, rule, &mut at)?;
-    }
-    Ok(at.board.mapping)
+    let prepared = Prepared::of(alloc, lab, free, wiring)?;
+    let moves = prepared.moves(lab, free, wiring);
+    let lowest = descend_by(alloc, &moves, start, rule)?;
+    Ok(lowest)
 }

@@ -3,10 +3,13 @@
 
 mod descent;
 mod moves;
+mod prepared;
 mod search;
 mod tried;
 mod walk;
 
-pub use descent::descend;
-pub use search::{Priced, Search};
-pub use walk::anneal;
+pub use descent::{descend, descend_by};
+pub use moves::{Moves, candidate};
+pub use prepared::Prepared;
+pub use search::Priced;
+pub use walk::{anneal, anneal_by};

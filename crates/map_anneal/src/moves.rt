@@ -1,10 +1,10 @@
 // Moves and exchanges of virtual nodes in the map at hand.
-ghost use Rattle.std.specs.Prelude.{◌≡◌, ◌<◌, ◌≤◌, ◌%◌, IfOk, OnOk, true, false, List, [], Some, Contains, length, slice_index_or};
+ghost use Rattle.std.specs.Prelude.{◌≡◌, ◌<◌, ◌≤◌, ◌%◌, IfOk, OnOk, IsTrue, true, false, List, [], Some, Contains, length, slice_index_or};
 ghost use Rattle.virt_topo.specs.declared.mapping.Mapping.{Mapping as MappingSeen};
 ghost use Rattle.lab_model.specs.Shapes.{Place as PlaceSeen};
 ghost use Rattle.lab_model.specs.Rules.{no_place, place_at};
 ghost use Rattle.node_maps.specs.NodeMaps.{candidates, node_map};
-ghost use Rattle.map_board.specs.Boards.{IsLaid, Was};
+ghost use Rattle.map_board.specs.Boards.{IsLaid, IsPlanned, Was};
 ghost use Rattle.map_board.specs.Seated.{placed_at};
 ghost use Rattle.map_anneal.specs.Sought.{choices, candidates_at, moved, exchanged, price, IsNodeMap};
 ghost use Rattle.map_anneal.specs.Walk.{named};
@@ -27,7 +27,7 @@ pub struct Moves<'a> {
 }
 
 /// The candidate of a virtual node that a word names.
-fn candidate(listed: &Candidates, node: usize, word: u32) -> Place
+pub fn candidate(listed: &Candidates, node: usize, word: u32) -> Place
     requires within { node < length listed.now }
     requires some { 0 < length (slice_index_or listed.now node []) }
     ensures named { result ≡ slice_index_or (slice_index_or listed.now node []) (word % length (slice_index_or listed.now node [])) no_place }
@@ -58,17 +58,38 @@ impl Moves<'_> {
         let cost = rule.ask(mapper.lab, mapper.wiring, start);
         Ok(Tried { board, cost })
     }
+
+    /// The cost of what is laid.
+    pub fn cost(&self, rule: &StepRule, board: &Board) -> u64
+        requires moves { IsMoves self.now }
+        requires laid { IsLaid self.now.setting board.now }
+        ensures { result ≡ price (sought_of self.now rule.now.number) board.now.mapping }
+    {
+        let _kept = self.setting.mapper.lab.range();
+        rule.ask_parts(board.parts(&self.setting))
+    }
 }
 
 impl Tried {
-    /// The cost of what is laid.
-    fn asked(&self, moves: &Moves, rule: &StepRule) -> u64
+    /// Whether a node map of these places, whose plugs are planned, is known to cost at least that.
+    fn is_dear(
+        &self,
+        moves: &Moves,
+        rule: &StepRule,
+        _first: NodeId,
+        _second: NodeId,
+        below: u128,
+    ) -> bool
         requires moves { IsMoves moves.now }
         requires laid { IsLaid moves.now.setting self.now.board }
-        ensures { result ≡ price (sought_of moves.now rule.now.number) self.now.board.mapping }
+        requires planned { IsPlanned moves.now.setting self.now.board.mapping.places _first.0 _second.0 self.now.board.changes.items }
+        ensures { IsTrue result → (last : List PlaceSeen) → Was moves.now.setting self.now.board.mapping.places self.now.board.mapping.plugs _first.0 _second.0 last → (m : MappingSeen) → node_map moves.now.setting.mapper.lab.now moves.now.setting.mapper.free.now moves.now.setting.mapper.wiring.now self.now.board.mapping.places ≡ Some m → below ≤ price (sought_of moves.now rule.now.number) m }
     {
         let _kept = moves.setting.mapper.lab.range();
-        rule.ask_parts(self.board.parts(&moves.setting))
+        match self.board.foreseen(&moves.setting) {
+            Some(parts) => u128::from(rule.ask_parts(parts)) >= below,
+            None => false,
+        }
     }
 
     /// Settles places that differ from those of a node map on two nodes alone, where the map is feasible and costs less
@@ -100,11 +121,20 @@ impl Tried {
         ensures dear { IfOk result (λ yes. yes ≡ false → (last : List PlaceSeen) → Was moves.now.setting self.old.board.mapping.places self.old.board.mapping.plugs first.0.0 second.0.0 last → (m : MappingSeen) → node_map moves.now.setting.mapper.lab.now moves.now.setting.mapper.free.now moves.now.setting.mapper.wiring.now self.old.board.mapping.places ≡ Some m → below ≤ price (sought_of moves.now rule.now.number) m) }
     {
         let setting = moves.setting;
-        if !self.board.settle(alloc, &setting, first, second)? {
+        if self.board.is_crowded(&setting, first.1) {
+            return Ok(false);
+        }
+        if !self.board.plan(alloc, &setting, first, second)? {
+            return Ok(false);
+        }
+        if self.is_dear(moves, rule, first.0, second.0, below) {
+            return Ok(false);
+        }
+        if !self.board.settle(alloc, &setting, first.0, second.0)? {
             self.board.take_back(alloc, &setting);
             return Ok(false);
         }
-        let cost = self.asked(moves, rule);
+        let cost = moves.cost(rule, &self.board);
         if u128::from(cost) >= below {
             self.board.take_back(alloc, &setting);
             return Ok(false);

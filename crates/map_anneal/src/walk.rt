@@ -8,12 +8,11 @@ ghost use Rattle.map_anneal.specs.Searches.{sought_of, priced_by, IsMoves};
 ghost use Rattle.map_anneal.specs.Walk.{drawn, one_try, round, cooled, walk as walk_of, Walker};
 
 use crate::moves::Moves;
+use crate::prepared::Prepared;
 use crate::search::Priced;
 use crate::tried::Tried;
 use cost_rule::StepRule;
 use lab_base::Memory;
-use map_board::{Setting, Table};
-use node_maps::{Mapper, NodeIfaces, candidates, ends_of};
 use phys_lab::{Free, Lab};
 use rand_core::SeedableRng;
 use rand_core::utils::NextWord;
@@ -150,8 +149,32 @@ impl Walk {
     }
 }
 
-/// The cheapest map of the walk of a start and a seed, the earliest among equals.
+/// The cheapest map of the walk of a start and a seed, the earliest among equals, by what is prepared.
 #[tactic(auto, unfolding(crate::specs::Walk::walk))]
+pub fn anneal_by(
+    alloc: Global,
+    moves: &Moves,
+    start: &Mapping,
+    rule: &StepRule,
+    seed: u64,
+) -> Result<Mapping, Memory>
+    requires moves { IsMoves moves.now }
+    requires start { IsNodeMap (sought_of moves.now rule.now.number) start.now }
+    ensures node_map { IfOk result (λ m. IsNodeMap (sought_of moves.now rule.now.number) m) }
+    ensures least { IfOk result (λ m. IsFirstLeast (price (sought_of moves.now rule.now.number)) (walk_of (sought_of moves.now rule.now.number) start.now seed) m) }
+{
+    let last = moves.started(alloc, rule, start)?;
+    let cost = last.cost;
+    let mut walk = Walk {
+        best: last.priced(alloc)?,
+        last,
+        generator: Pcg32::seed_from_u64(seed),
+    };
+    walk.cool(alloc, moves, rule, cost)?;
+    Ok(walk.best.mapping)
+}
+
+/// The cheapest map of the walk of a start and a seed, the earliest among equals.
 pub fn anneal(
     alloc: Global,
     lab: &Lab,
@@ -167,31 +190,8 @@ pub fn anneal(
     ensures node_map { IfOk result (λ m. IsNodeMap (sought lab.now free.now wiring.now rule.now.number) m) }
     ensures least { IfOk result (λ m. IsFirstLeast (price (sought lab.now free.now wiring.now rule.now.number)) (walk_of (sought lab.now free.now wiring.now rule.now.number) start.now seed) m) }
 {
-    let listed = candidates(alloc, lab, free, wiring)?;
-    let ends = ends_of(alloc, wiring.segments.as_slice())?;
-    let ifaces = NodeIfaces::of_lab(alloc, lab)?;
-    let table = Table::of(alloc, lab, wiring, &ends)?;
-    let mapper = Mapper {
-        lab,
-        free,
-        wiring,
-        ends: &ends,
-        ifaces: &ifaces,
-    };
-    let moves = Moves {
-        setting: Setting {
-            mapper,
-            table: &table,
-        },
-        candidates: &listed,
-    };
-    let last = moves.started(alloc, rule, start)?;
-    let cost = last.cost;
-    let mut walk = Walk {
-        best: last.priced(alloc)?,
-        last,
-        generator: Pcg32::seed_from_u64(seed),
-    };
-    walk.cool(alloc, &moves, rule, cost)?;
-    Ok(walk.best.mapping)
+    let prepared = Prepared::of(alloc, lab, free, wiring)?;
+    let moves = prepared.moves(lab, free, wiring);
+    let best = anneal_by(alloc, &moves, start, rule, seed)?;
+    Ok(best)
 }

@@ -1,6 +1,6 @@
 -- Node maps from what is kept of them.
-use Rattle.std.proofs.Common.{◌≡◌, ◌≢◌, ◌⊎◌, ◌<◌, ◌≤◌, ◌+◌, ◌∙◌, ◌∷◌, ◌++◌, [], inl, inr, ℕ, zero, suc, List, length, take, drop, map, filter, get_or, Bool, true, false, cond, eqb, not, nat_le, ◌==◌, ◌&&◌, ◌||◌, Option, Some, None, All, Contains, refl, ap, sym, subst, arith}
-use Rattle.std.specs.Prelude.{nat_lt, codes, IsTrue, ◌↔◌, is_none}
+use Rattle.std.proofs.Common.{◌≡◌, ◌≢◌, ◌<◌, ◌≤◌, ◌+◌, ◌∙◌, ◌∷◌, [], inl, inr, ℕ, zero, suc, List, length, drop, map, filter, get_or, Bool, true, false, cond, eqb, not, nat_le, ◌==◌, ◌&&◌, ◌||◌, Option, Some, None, All, refl, ap, sym, subst, arith}
+use Rattle.std.specs.Prelude.{codes, IsTrue, ◌↔◌, is_none}
 use Rattle.std.specs.Option.{option_and_then}
 use Rattle.std.specs.List.{list_all, remove, count_by}
 use Rattle.std.proofs.Math.ListN.{set}
@@ -19,7 +19,6 @@ use Rattle.phys_lab.specs.Keys.{same_name as lab_name}
 use Rattle.phys_lab.specs.Sides.{joined}
 use Rattle.virt_topo.specs.Repeats.{same_name}
 use Rattle.virt_topo.specs.Soundness.{IsSound}
-use Rattle.virt_topo.specs.Ends.{end_nodes}
 use Rattle.virt_topo.specs.Cables.{cables}
 use Rattle.virt_topo.specs.declared.wiring.Asks.{Asks}
 use Rattle.virt_topo.specs.declared.wiring.Asks.TheVariants.{Plain, Class as InClass}
@@ -29,7 +28,7 @@ use Rattle.virt_topo.specs.declared.wiring.Wiring.{Wiring}
 use Rattle.virt_topo.specs.declared.mapping.Mapping.{Mapping}
 use Rattle.lab_model.specs.Shapes.{Place, IsShaped, node_at, no_node, has_name}
 use Rattle.lab_model.specs.Uses.{switch_of, no_iface}
-use Rattle.lab_model.specs.Rules.{agree, guests, Guest, number_of, no_place, no_cable, cable_at, are_joined, class_at, virt_at, is_of_one_type, first_type, keeps_f6, keeps_f7}
+use Rattle.lab_model.specs.Rules.{agree, guests, Guest, number_of, no_place, no_cable, cable_at, virt_at, is_of_one_type, first_type, keeps_f6, keeps_f7, keeps_f8}
 use Rattle.lab_model.specs.Feasible.{AllPass, violation}
 use Rattle.lab_model.proofs.CutLaws.{cut_is_use}
 use Rattle.lab_model.proofs.WiringLaws.{has_at}
@@ -40,21 +39,21 @@ use Rattle.trunk_sums.specs.Remade.{remade, AreChanges}
 use Rattle.trunk_sums.specs.Summed.{IsSummed, IsRow}
 use Rattle.node_maps.specs.declared.ends.End.{End}
 use Rattle.node_maps.specs.NodeMaps.{candidates, IsChoice, ends_of, plugs_from, plugs_of, node_map, if_feasible}
-use Rattle.node_maps.specs.Moved.{may_share, has_class_type, AlikeBut, KeepsAll}
+use Rattle.node_maps.specs.Moved.{may_share, has_class_type, AlikeBut}
 use Rattle.node_maps.proofs.Assembled.{map_of_parts, parts_of_map, no_map}
 use Rattle.node_maps.proofs.EndLists.{on_nodes, same_length}
-use Rattle.node_maps.proofs.MapLaws.{choice_within, mapped_is}
+use Rattle.node_maps.proofs.MapLaws.{mapped_is}
 use Rattle.node_maps.proofs.MovedLaws.{shared_all}
-use Rattle.node_maps.proofs.Shaped.{Plugs, plugs_within}
+use Rattle.node_maps.proofs.Shaped.{plugs_within}
 use Rattle.cost_rule.proofs.LimitLaws.{sound_limits}
 use Rattle.map_board.specs.declared.table.Setting.{Setting}
-use Rattle.map_board.specs.Nodes.{is_on, numbers_of, plugs_where, with_plugs, changes_of, no_row, no_end}
-use Rattle.map_board.specs.Tables.{IsPlain, IsSetting, AreRows}
+use Rattle.map_board.specs.Nodes.{is_on, numbers_of, with_plugs, changes_of, no_row, no_end}
+use Rattle.map_board.specs.Tables.{IsPlain, IsSetting}
 use Rattle.map_board.specs.Seated.{guests_at, placed_at}
 use Rattle.map_board.specs.Boards.{IsPlanned, Was}
 use Rattle.map_board.proofs.SeatLaws.{guest_left}
 use Rattle.map_board.proofs.WhereLaws.{numbers_alike, numbered_ends, with_length, remade_both, remade_where}
-use Rattle.map_board.proofs.GivenAnew.{Anew, count_given, given_anew, filter_placed}
+use Rattle.map_board.proofs.GivenAnew.{count_given, given_anew, filter_placed}
 
 -- F2 where at most one virtual node is on a node
 abbrev has_codes : List ℕ → Bool
@@ -165,34 +164,58 @@ pub record Fresh (lab : Lab) (free : Free) (w : Wiring) (m : Mapping) (a b : ℕ
   pub alike : AlikeBut a b m.places last
   pub given : plugs_of lab w m.places ≡ Some m.plugs
 
-some_is : (x y : List IfaceId) → ◌≡◌ {A = Option (List IfaceId)} (Some x) (Some y) → x ≡ y
+pub some_is : (x y : List IfaceId) → ◌≡◌ {A = Option (List IfaceId)} (Some x) (Some y) → x ≡ y
 some_is x y e = cc e
 
+-- what is known of a mapping whose plugs the rule gave, whose nodes are all shared as they may be, and for whose segments there are VLAN ids
+pub record Shared (lab : Lab) (free : Free) (w : Wiring) (m : Mapping) : Type 0 where
+  pub kept : IsLab lab
+  pub sound : IsSound w
+  pub choice : IsChoice (candidates lab free w) m.places
+  pub shaped : IsShaped lab w m
+  pub given : plugs_of lab w m.places ≡ Some m.plugs
+  pub shared : AllPass (length lab.nodes) (may_share lab w m.places)
+  pub ids : keeps_f8 free w ≡ true
+
 -- WHERE ALL IS PLAIN, ROOM ON THE TRUNKS DECIDES
+pub plainly_whole : (lab : Lab) (free : Free) (w : Wiring) (m : Mapping) (x : Sums) (b : Bool) → Shared lab free w m → IsPlain lab w → IsSummed lab w m.plugs x
+    → (IsTrue b ↔ AllPass (length x.uses.items) (λ t. nat_le (get_or x.uses.items t 0) (get_or free.left t 0)))
+    → node_map lab free w m.places ≡ cond b (Some m) None
+plainly_whole lab free w m x true f plain summed room =
+    map_of_parts lab free w m.places m.plugs f.sound f.choice (record {
+      given = f.given;
+      shared = f.shared;
+      typed = λ v lt. typed_plain lab w m.places v plain;
+      room = λ t lt. sym (room_at lab free w m x t summed f.shaped lt) ∙ room.0 refl t (let count = summed.one_each in omega (arith, lt, count));
+      joined = λ s lt. joined_plain lab w m s f.kept plain f.shaped;
+      ids = f.ids;
+    })
+plainly_whole lab free w m x false f plain summed room =
+    no_map lab free w m.places (λ plugs all.
+    let same : plugs ≡ m.plugs = some_is plugs m.plugs (sym all.given ∙ f.given) in
+    let fits : AllPass (length lab.trunks) (keeps_f6 lab free w m) = subst (λ (l : List IfaceId). AllPass (length lab.trunks) (keeps_f6 lab free w (record { places = m.places; plugs = l }))) same all.room in
+    let both : false ≡ true = room.1 (λ t lt. let within : t < length lab.trunks = (let count = summed.one_each in omega (arith, lt, count)) in room_at lab free w m x t summed f.shaped within ∙ fits t within) in
+    absurd (cc both))
+
 pub plainly_kept : (lab : Lab) (free : Free) (w : Wiring) (m : Mapping) (a b : ℕ) (last : List Place) (old : List IfaceId) (x : Sums) (b1 : Bool) → Fresh lab free w m a b last old → IsPlain lab w
     → guests_at m.places a ≤ 1 → guests_at m.places b ≤ 1 → IsSummed lab w m.plugs x
     → (IsTrue b1 ↔ AllPass (length x.uses.items) (λ t. nat_le (get_or x.uses.items t 0) (get_or free.left t 0)))
     → node_map lab free w m.places ≡ cond b1 (Some m) None
-plainly_kept lab free w m a b last old x true f plain few_a few_b summed room =
+plainly_kept lab free w m a b last old x b1 f plain few_a few_b summed room =
     let before = parts_of_map lab free w last (record { places = last; plugs = old }) f.mapped in
-    map_of_parts lab free w m.places m.plugs f.sound f.choice (record {
+    plainly_whole lab free w m x b1 (record {
+      kept = f.kept;
+      sound = f.sound;
+      choice = f.choice;
+      shaped = f.shaped;
       given = f.given;
       shared = shared_all lab w m.places last a b f.alike before.shared (record {
         first = alone_shares lab w m a f.kept f.shaped f.first few_a;
         second = alone_shares lab w m b f.kept f.shaped f.second few_b;
         typed = λ v lt. typed_plain lab w m.places v plain;
       });
-      typed = λ v lt. typed_plain lab w m.places v plain;
-      room = λ t lt. sym (room_at lab free w m x t summed f.shaped lt) ∙ room.0 refl t (let count = summed.one_each in omega (arith, lt, count));
-      joined = λ s lt. joined_plain lab w m s f.kept plain f.shaped;
       ids = before.ids;
-    })
-plainly_kept lab free w m a b last old x false f plain few_a few_b summed room =
-    no_map lab free w m.places (λ plugs all.
-    let same : plugs ≡ m.plugs = some_is plugs m.plugs (sym all.given ∙ f.given) in
-    let fits : AllPass (length lab.trunks) (keeps_f6 lab free w m) = subst (λ (l : List IfaceId). AllPass (length lab.trunks) (keeps_f6 lab free w (record { places = m.places; plugs = l }))) same all.room in
-    let both : false ≡ true = room.1 (λ t lt. let within : t < length lab.trunks = (let count = summed.one_each in omega (arith, lt, count)) in room_at lab free w m x t summed f.shaped within ∙ fits t within) in
-    absurd (cc both))
+    }) plain summed room
 
 -- the eight rules decide
 pub wholly_kept : (lab : Lab) (free : Free) (w : Wiring) (m : Mapping) (kept : Bool) → plugs_of lab w m.places ≡ Some m.plugs → kept ≡ is_none (violation lab free w m) → node_map lab free w m.places ≡ cond kept (Some m) None
@@ -236,7 +259,7 @@ changes_each On rows (n ∷ numbers) (i ∷ plugs) each =
     All-cons On (record { end = n; row = get_or rows n no_row; to = i }) (changes_of rows numbers plugs) (each 0 0 n i (omega arith) (omega arith))
     (changes_each On rows numbers plugs (λ j l e h j_lt l_lt. each (suc j) (suc l) e h (omega (arith, j_lt)) (omega (arith, l_lt))))
 
-own_changes : (x : Setting) (places : List Place) (n : ℕ) (plugs : List IfaceId) → IsSetting x → length places ≡ length x.mapper.wiring.now.nodes
+pub own_changes : (x : Setting) (places : List Place) (n : ℕ) (plugs : List IfaceId) → IsSetting x → length places ≡ length x.mapper.wiring.now.nodes
     → plugs_from x.mapper.lab.now places (filter (is_on places n) x.mapper.ends.now) [] ≡ Some plugs
     → AreChanges x.mapper.lab.now x.mapper.wiring.now (changes_of x.table.now.rows.items (numbers_of 0 (is_on places n) x.mapper.ends.now) plugs)
 own_changes x places n plugs is count given =

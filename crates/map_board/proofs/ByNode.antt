@@ -1,13 +1,11 @@
 -- The interface rule, node by node.
-use Rattle.std.proofs.Common.{◌≡◌, ◌≢◌, ◌⊎◌, ◌<◌, ◌+◌, ◌∙◌, ◌∷◌, ◌++◌, [], inl, inr, ℕ, suc, zero, List, length, take, get_or, filter, Bool, true, false, cond, eqb, not, nat_le, ◌==◌, ◌||◌, Option, Some, None, All, refl, ap, sym, subst, arith, append_assoc}
-use Rattle.std.specs.List.{list_any, slice_get}
+use Rattle.std.proofs.Common.{◌≡◌, ◌≢◌, ◌<◌, ◌∙◌, ◌∷◌, ◌++◌, [], ℕ, suc, List, length, get_or, filter, Bool, true, false, cond, eqb, ◌==◌, ◌||◌, Option, Some, All, refl, ap, sym, subst, arith, append_assoc}
 use Rattle.std.specs.Option.{option_map, option_map_or, option_and_then}
-use Rattle.std.proofs.lemmas.Bool.{cases_eq, eq-eqb, eqb-true, ne_eqb, cond-true, cond-false}
+use Rattle.std.proofs.lemmas.Bool.{eq-eqb, eqb-true, ne_eqb}
 use Rattle.std.proofs.lemmas.List.Elements.{All-filter}
 use Rattle.std.proofs.lemmas.Option.{option_and_then_some, slice_get-get_or}
 use Rattle.lab_base.specs.declared.ids.IfaceId.{IfaceId}
 use Rattle.lab_base.specs.declared.ids.NodeId.{NodeId}
-use Rattle.phys_lab.specs.declared.parts.Iface.{Iface}
 use Rattle.phys_lab.specs.Labs.{Lab}
 use Rattle.lab_model.specs.Shapes.{Place}
 use Rattle.lab_model.specs.Uses.{no_iface, iface_at}
@@ -15,7 +13,7 @@ use Rattle.lab_model.specs.Rules.{no_place}
 use Rattle.node_maps.specs.declared.ends.End.{End}
 use Rattle.node_maps.specs.NodeMaps.{may_take, first_iface, with_plug, plugs_from}
 use Rattle.node_maps.proofs.IndexLaws.{any_push}
-use Rattle.node_maps.proofs.PlugLaws.{Adds, adds}
+use Rattle.node_maps.proofs.PlugLaws.{adds}
 use Rattle.node_maps.proofs.KeptPlugs.{has, first_same, may_node}
 use Rattle.map_board.specs.Nodes.{is_on, plugs_where}
 

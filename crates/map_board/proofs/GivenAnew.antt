@@ -1,22 +1,20 @@
 -- The interface rule for places that differ from those of a map at hand on two nodes alone.
-use Rattle.std.proofs.Common.{◌≡◌, ◌≢◌, ◌⊎◌, ◌<◌, ◌+◌, ◌∙◌, ◌∷◌, ◌++◌, [], inl, inr, ℕ, suc, zero, List, length, get_or, filter, Bool, true, false, cond, eqb, ◌==◌, Option, Some, None, All, refl, ap, sym, subst, arith}
+use Rattle.std.proofs.Common.{◌≡◌, ◌≢◌, ◌<◌, ◌∙◌, ◌∷◌, ◌++◌, [], inl, inr, ℕ, suc, zero, List, length, get_or, filter, Bool, true, false, cond, eqb, ◌==◌, Option, Some, None, All, refl, ap, sym, subst, arith}
 use Rattle.std.specs.Option.{option_map, option_map_or, option_and_then}
-use Rattle.std.specs.List.{slice_get}
-use Rattle.std.proofs.lemmas.Bool.{cases_eq, eq-eqb, eqb-true, ne_eqb}
+use Rattle.std.proofs.lemmas.Bool.{cases_eq, eqb-true, ne_eqb}
 use Rattle.std.proofs.lemmas.Option.{slice_get-get_or}
 use Rattle.lab_base.specs.declared.ids.IfaceId.{IfaceId}
 use Rattle.phys_lab.specs.Labs.{Lab}
-use Rattle.virt_topo.specs.declared.wiring.Wiring.{Wiring}
 use Rattle.lab_model.specs.Shapes.{Place}
 use Rattle.lab_model.specs.Rules.{no_place}
 use Rattle.node_maps.specs.declared.ends.End.{End}
-use Rattle.node_maps.specs.NodeMaps.{ends_of, first_iface, with_plug, plugs_from, plugs_of}
+use Rattle.node_maps.specs.NodeMaps.{first_iface, with_plug, plugs_from}
 use Rattle.node_maps.specs.Moved.{AlikeBut, IsOn}
 use Rattle.map_board.specs.Nodes.{is_on, plugs_where, with_plugs}
-use Rattle.map_board.proofs.ByNode.{AgreeOn, Parted, parted, together}
+use Rattle.map_board.proofs.ByNode.{AgreeOn, parted, together}
 use Rattle.map_board.proofs.WhereLaws.{filter_alike, where_alike, where_new, where_others, with_length}
 
-agree_self : (lab : Lab) (n : ℕ) (had : List IfaceId) → AgreeOn lab n had had
+pub agree_self : (lab : Lab) (n : ℕ) (had : List IfaceId) → AgreeOn lab n had had
 agree_self lab n had = record { each = λ k lt on. refl }
 
 -- the rule for one node alone, where it serves all
@@ -98,6 +96,25 @@ filter_placed p n es all = all_passed (λ (e : End). e.node < n) p es (λ k d lt
 pub count_given : (lab : Lab) (places : List Place) (es : List End) (plugs : List IfaceId) → All (λ (e : End). e.node < length places) es → plugs_from lab places es [] ≡ Some plugs → length plugs ≡ length es
 count_given lab places es plugs placed eq = let p = parted lab places es [] plugs placed eq in ap length p.is ∙ p.count
 
+-- on a node that isn't one of the two the rule gives the ends what it gave them
+pub given_alike : (lab : Lab) (es : List End) (places last : List Place) (plugs : List IfaceId) (a b n : ℕ) → AlikeBut a b places last → All (λ (e : End). e.node < length places) es → n ≢ a → n ≢ b
+    → plugs_from lab last (filter (is_on last n) es) [] ≡ Some (plugs_where (is_on last n) es plugs)
+    → plugs_from lab places (filter (is_on places n) es) [] ≡ Some (plugs_where (is_on places n) es plugs)
+given_alike lab es places last plugs a b n alike placed not_a not_b given =
+    let on_n = is_on places n in
+    let there = placed_last es places last alike.count placed in
+    let same = λ (k : ℕ) (d : End) (lt : k < length es). on_alike places last a b n (get_or es k d) alike (placed k d lt) not_a not_b in
+    same_from lab places last (filter on_n es) [] (filter_placed on_n (length places) es placed) (filter_placed on_n (length last) es there)
+    (all_passed (λ (e : End). get_or places e.node no_place ≡ get_or last e.node no_place) on_n es
+    (λ k d lt on. same_place places last a b n (get_or es k d) alike (placed k d lt) not_a not_b on))
+    ∙ ap (λ l. plugs_from lab last l []) (filter_alike on_n (is_on last n) es same)
+    ∙ given
+    ∙ ap Some (sym (where_alike on_n (is_on last n) es plugs same))
+
+-- an end is on one node
+pub apart_on : (places : List Place) (m n : ℕ) → m ≢ n → (e : End) → is_on places m e ≡ true → is_on places n e ≡ false
+apart_on places m n ne e on = ne_eqb (get_or places e.node no_place).0.0 n (λ is. ne (sym (eqb-true (get_or places e.node no_place).0.0 m on) ∙ is))
+
 -- THE PLUGS OF ALL ENDS
 pub given_anew : (lab : Lab) (es : List End) (places last : List Place) (plugs : List IfaceId) (a b : ℕ) (one other : List IfaceId) → Anew lab es places last plugs a b one other
     → plugs_from lab places es [] ≡ Some (with_plugs (is_on places b) es (with_plugs (is_on places a) es plugs one) other)
@@ -111,8 +128,7 @@ given_anew lab es places last plugs a b one other x =
     let count_first : length first ≡ length es = with_length on_a es plugs one count in
     let count_one = count_given lab places (filter on_a es) one (filter_placed on_a (length places) es x.placed) x.first in
     let count_other = count_given lab places (filter on_b es) other (filter_placed on_b (length places) es x.placed) x.second in
-    let apart : (m n : ℕ) → m ≢ n → (e : End) → is_on places m e ≡ true → is_on places n e ≡ false = λ m n ne e on.
-    ne_eqb (get_or places e.node no_place).0.0 n (λ is. ne (sym (eqb-true (get_or places e.node no_place).0.0 m on) ∙ is)) in
+    let apart = apart_on places in
     together lab places es [] both (λ n. []) x.placed (with_length on_b es first other count_first) (λ n. agree_self lab n [])
     (λ n. elim (cases_eq n b) [
       | inl is ↦ subst (λ (k : ℕ). plugs_from lab places (filter (is_on places k) es) [] ≡ Some (plugs_where (is_on places k) es both)) (sym is)
@@ -120,15 +136,7 @@ given_anew lab es places last plugs a b one other x =
       | inr not_b ↦ elim (cases_eq n a) [
         | inl is ↦ subst (λ (k : ℕ). plugs_from lab places (filter (is_on places k) es) [] ≡ Some (plugs_where (is_on places k) es both)) (sym is)
             (x.first ∙ ap Some (sym (where_others on_b on_a es first other (apart b a (λ e. not_b (is ∙ sym e))) ∙ where_new on_a es plugs one count count_one)))
-        | inr not_a ↦ (
-            let same = λ (k : ℕ) (d : End) (lt : k < length es). on_alike places last a b n (get_or es k d) x.alike (x.placed k d lt) not_a not_b in
-            let on_n = is_on places n in
-            same_from lab places last (filter on_n es) [] (filter_placed on_n (length places) es x.placed) (filter_placed on_n (length last) es there)
-            (all_passed (λ (e : End). get_or places e.node no_place ≡ get_or last e.node no_place) on_n es
-            (λ k d lt on. same_place places last a b n (get_or es k d) x.alike (x.placed k d lt) not_a not_b on))
-            ∙ ap (λ l. plugs_from lab last l []) (filter_alike on_n (is_on last n) es same)
-            ∙ own_plugs lab last es plugs n there x.old
-            ∙ ap Some (sym (where_alike on_n (is_on last n) es plugs same))
-            ∙ ap Some (sym (where_others on_b on_n es first other (apart b n (λ e. not_b (sym e))) ∙ where_others on_a on_n es plugs one (apart a n (λ e. not_a (sym e))))))
+        | inr not_a ↦ given_alike lab es places last plugs a b n x.alike x.placed not_a not_b (own_plugs lab last es plugs n there x.old)
+            ∙ ap Some (sym (where_others on_b (is_on places n) es first other (apart b n (λ e. not_b (sym e))) ∙ where_others on_a (is_on places n) es plugs one (apart a n (λ e. not_a (sym e)))))
       ]
     ])

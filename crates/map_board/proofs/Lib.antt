@@ -7,3 +7,7 @@ pub mod Choices
 pub mod BoardLaws
 pub mod RowLaws
 pub mod PartSums
+pub mod CrowdLaws
+pub mod PlannedLaws
+pub mod Alikes
+pub mod SettledLaws

@@ -1,12 +1,12 @@
 -- The plugs of the ends that pass a test, and new ones for them.
-use Rattle.std.proofs.Common.{◌≡◌, ◌≢◌, ◌⊎◌, ◌<◌, ◌+◌, ◌∙◌, ◌∷◌, ◌++◌, [], inl, inr, ℕ, suc, zero, List, length, map, drop, get_or, filter, Bool, true, false, cond, Option, Some, All, refl, ap, sym, subst, arith, append_assoc, length-append}
+use Rattle.std.proofs.Common.{◌≡◌, ◌<◌, ◌+◌, ◌∙◌, ◌∷◌, ◌++◌, [], ℕ, suc, zero, List, length, map, drop, get_or, filter, Bool, true, false, cond, refl, ap, sym, arith, append_assoc, length-append}
 use Rattle.std.proofs.Math.ListN.{set}
 use Rattle.lab_base.specs.declared.ids.IfaceId.{IfaceId}
 use Rattle.trunk_sums.specs.declared.made.Change.{Change}
 use Rattle.trunk_sums.specs.declared.sums.EndRow.{EndRow}
 use Rattle.trunk_sums.specs.Remade.{remade}
 use Rattle.node_maps.specs.declared.ends.End.{End}
-use Rattle.map_board.specs.Nodes.{numbers_of, plugs_where, with_plugs, changes_of, no_row}
+use Rattle.map_board.specs.Nodes.{numbers_of, plugs_where, with_plugs, changes_of}
 
 -- one entry more or not
 more_in : {X : Type 0} (b : Bool) (x : X) (xs ys : List X) → xs ≡ ys → cond b (x ∷ xs) xs ≡ cond b (x ∷ ys) ys

@@ -1,16 +1,14 @@
 -- THE BOARD: a node map, and what is kept of it.
-use Rattle.std.specs.Prelude.{◌≡◌, ◌++◌, ◌<◌, ℕ, List, [], length, filter, Some, None}
+use Rattle.std.specs.Prelude.{◌≡◌, ◌++◌, ℕ, List, [], filter, Some}
 use Rattle.lab_base.specs.declared.ids.IfaceId.{IfaceId}
 use Rattle.phys_lab.specs.Labs.{Lab}
-use Rattle.virt_topo.specs.declared.wiring.Wiring.{Wiring}
-use Rattle.virt_topo.specs.declared.mapping.Mapping.{Mapping}
 use Rattle.lab_model.specs.Shapes.{Place, IsShaped}
 use Rattle.trunk_sums.specs.declared.made.Change.{Change}
 use Rattle.trunk_sums.specs.declared.sums.EndRow.{EndRow}
 use Rattle.trunk_sums.specs.Summed.{IsSummed}
 use Rattle.node_maps.specs.declared.ends.End.{End}
 use Rattle.node_maps.specs.declared.ifaces.Given.{Given}
-use Rattle.node_maps.specs.NodeMaps.{candidates, IsChoice, ends_of, node_map, plugs_from}
+use Rattle.node_maps.specs.NodeMaps.{candidates, IsChoice, node_map, plugs_from}
 use Rattle.node_maps.specs.Indexed.{Marks}
 use Rattle.node_maps.specs.Moved.{AlikeBut}
 use Rattle.map_board.specs.declared.table.Setting.{Setting}

@@ -3,3 +3,5 @@ pub mod Tables
 pub mod Seated
 pub mod Unmade
 pub mod Boards
+pub mod Planned
+pub mod Chosen

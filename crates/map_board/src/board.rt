@@ -1,11 +1,12 @@
 // The board.
-ghost use Rattle.std.specs.Prelude.{◌≡◌, true, false, ◌<◌, [], List, Some, None, length, slice_index_or, if◌then◌else◌, Contains, IfOk, OnOk};
+ghost use Rattle.std.specs.Prelude.{◌≡◌, true, false, ◌<◌, [], List, Some, None, length, slice_index_or, if◌then◌else◌, Contains, IfOk, OnOk, IfSome, IsTrue};
 ghost use Rattle.lab_base.specs.declared.ids.IfaceId.{IfaceId as IfaceSeen};
-ghost use Rattle.lab_model.specs.Shapes.{Place as PlaceSeen};
+ghost use Rattle.lab_model.specs.Shapes.{Place as PlaceSeen, IsShaped};
 ghost use Rattle.node_maps.specs.NodeMaps.{candidates, IsChoice, node_map, plugs_of};
 ghost use Rattle.map_board.specs.Tables.{IsSetting};
 ghost use Rattle.map_board.specs.Boards.{IsLaid, IsBoard, IsPlanned, Was};
 
+use crate::crowd::{number_of, types_at};
 use crate::give::give;
 use crate::remake::{remake, unmake};
 use crate::seats::Seats;
@@ -15,7 +16,7 @@ use lab_base::{Items, Memory, NodeId};
 use node_maps::{Given, Place, has_room, is_feasible};
 use std::alloc::Global;
 use std::mem;
-use trunk_sums::{Change, Sums};
+use trunk_sums::{Change, Sums, are_rising};
 use virt_topo::Mapping;
 
 /// A node map, and what is kept of it.
@@ -36,13 +37,14 @@ impl Board {
     ghost use Rattle.trunk_sums.specs.Remade.{remade, AreChanges};
     ghost use Rattle.map_board.specs.Seated.{placed_at};
     ghost use Rattle.map_board.specs.Unmade.{unmade};
+    ghost use Rattle.map_board.specs.Planned.{planned};
 
-    /// The board of a feasible node map.
-    pub fn of(alloc: Global, setting: &Setting, start: &Mapping) -> Result<Board, Memory>
+    /// The board of a choice of candidates with any plugs.
+    pub(crate) fn laid(alloc: Global, setting: &Setting, start: &Mapping) -> Result<Board, Memory>
         requires setting { IsSetting setting.now }
         requires choice { IsChoice (candidates setting.now.mapper.lab.now setting.now.mapper.free.now setting.now.mapper.wiring.now) start.now.places }
-        requires mapped { node_map setting.now.mapper.lab.now setting.now.mapper.free.now setting.now.mapper.wiring.now start.now.places ≡ Some start.now }
-        ensures board { IfOk result (IsBoard setting.now) }
+        requires shaped { IsShaped setting.now.mapper.lab.now setting.now.mapper.wiring.now start.now }
+        ensures laid { IfOk result (IsLaid setting.now) }
         ensures start { IfOk result (λ board. board.mapping ≡ start.now) }
         ensures none { IfOk result (λ board. board.back.items ≡ []) }
     {
@@ -62,6 +64,18 @@ impl Board {
         })
     }
 
+    /// The board of a feasible node map.
+    pub fn of(alloc: Global, setting: &Setting, start: &Mapping) -> Result<Board, Memory>
+        requires setting { IsSetting setting.now }
+        requires choice { IsChoice (candidates setting.now.mapper.lab.now setting.now.mapper.free.now setting.now.mapper.wiring.now) start.now.places }
+        requires mapped { node_map setting.now.mapper.lab.now setting.now.mapper.free.now setting.now.mapper.wiring.now start.now.places ≡ Some start.now }
+        ensures board { IfOk result (IsBoard setting.now) }
+        ensures start { IfOk result (λ board. board.mapping ≡ start.now) }
+        ensures none { IfOk result (λ board. board.back.items ≡ []) }
+    {
+        Board::laid(alloc, setting, start)
+    }
+
     /// The parts of the cost.
     pub fn parts(&self, setting: &Setting) -> Parts
         requires setting { IsSetting setting.now }
@@ -75,6 +89,42 @@ impl Board {
             nodes: self.seats.nodes,
             soft: self.seats.soft,
         }
+    }
+
+    /// The parts of the cost once what is planned is made, where its changes are of segments that rise.
+    pub fn foreseen(&self, setting: &Setting) -> Option<Parts>
+        requires setting { IsSetting setting.now }
+        requires laid { IsLaid setting.now self.now }
+        requires changes { AreChanges setting.now.mapper.lab.now setting.now.mapper.wiring.now self.now.changes.items }
+        ensures parts { IfSome result (λ parts. parts ≡ parts_of setting.now.mapper.lab.now setting.now.mapper.wiring.now (planned self.now)) }
+        ensures shaped { IsShaped setting.now.mapper.lab.now setting.now.mapper.wiring.now (planned self.now) }
+    {
+        if !are_rising(&self.changes) {
+            return None;
+        }
+        let mapper = setting.mapper;
+        let crossings = &setting.table.crossings;
+        let plugs = self.mapping.plugs.as_slice();
+        let uses = self
+            .sums
+            .total_after(mapper.lab, mapper.wiring, crossings, plugs, &self.changes);
+        Some(Parts {
+            uses,
+            nodes: self.seats.nodes,
+            soft: self.seats.soft,
+        })
+    }
+
+    /// Whether more virtual nodes are on the node of one than may have its type there.
+    pub fn is_crowded(&self, setting: &Setting, virt: usize) -> bool
+        requires setting { IsSetting setting.now }
+        requires laid { IsLaid setting.now self.now }
+        requires virt { virt < length setting.now.mapper.wiring.now.nodes }
+        ensures { IsTrue result → node_map setting.now.mapper.lab.now setting.now.mapper.free.now setting.now.mapper.wiring.now self.now.mapping.places ≡ None }
+    {
+        let place = self.mapping.places.as_slice()[virt];
+        let types = types_at(setting.mapper.lab, place.0);
+        self.seats.guests[place.0.0 as usize] > number_of(types, place.1)
     }
 
     /// A virtual node goes to another of its candidates; the plugs stay.
@@ -98,8 +148,8 @@ impl Board {
         );
     }
 
-    /// Plans the plugs of the ends on two nodes; false where some end gets none.
-    fn plan(
+    /// Plans the plugs of the ends on two nodes; false where some end gets none. The virtual nodes may be the only ones there.
+    pub fn plan(
         &mut self,
         alloc: Global,
         setting: &Setting,
@@ -232,33 +282,29 @@ impl Board {
         Ok(yes)
     }
 
-    /// Gives the ends on two nodes their plugs anew, where virtual nodes of a node map went from one of them to the other;
-    /// false where that is no node map. The virtual nodes may be the only ones there.
+    /// Makes what is planned of the ends on two nodes, where virtual nodes of a node map went from one of them to the other;
+    /// false where that is no node map.
     pub fn settle(
         &mut self,
         alloc: Global,
         setting: &Setting,
-        first: (NodeId, usize),
-        second: (NodeId, usize),
+        first: NodeId,
+        second: NodeId,
     ) -> Result<bool, Memory>
         requires setting { IsSetting setting.now }
         requires laid { IsLaid setting.now self.old }
-        requires first { first.0.0 < length setting.now.mapper.lab.now.nodes }
-        requires first_virt { first.1 < length setting.now.mapper.wiring.now.nodes }
-        requires second { second.0.0 < length setting.now.mapper.lab.now.nodes }
-        requires second_virt { second.1 < length setting.now.mapper.wiring.now.nodes }
+        requires first { first.0 < length setting.now.mapper.lab.now.nodes }
+        requires second { second.0 < length setting.now.mapper.lab.now.nodes }
+        requires planned { IsPlanned setting.now self.old.mapping.places first.0 second.0 self.old.changes.items }
         requires none { self.old.back.items ≡ [] }
         ensures laid { OnOk result (IsLaid setting.now self.new) }
         ensures places { OnOk result (self.new.mapping.places ≡ self.old.mapping.places) }
         ensures back { OnOk result (unmade self.new.mapping.plugs self.new.back.items ≡ self.old.mapping.plugs) }
         ensures backward { OnOk result (AreChanges setting.now.mapper.lab.now setting.now.mapper.wiring.now self.new.back.items) }
-        ensures map { IfOk result (λ yes. (last : List PlaceSeen) → Was setting.now self.old.mapping.places self.old.mapping.plugs first.0.0 second.0.0 last → node_map setting.now.mapper.lab.now setting.now.mapper.free.now setting.now.mapper.wiring.now self.old.mapping.places ≡ (if yes then Some self.new.mapping else None)) }
+        ensures map { IfOk result (λ yes. (last : List PlaceSeen) → Was setting.now self.old.mapping.places self.old.mapping.plugs first.0 second.0 last → node_map setting.now.mapper.lab.now setting.now.mapper.free.now setting.now.mapper.wiring.now self.old.mapping.places ≡ (if yes then Some self.new.mapping else None)) }
     {
-        if !self.plan(alloc, setting, first, second)? {
-            return Ok(false);
-        }
         self.make(alloc, setting)?;
-        let yes = self.is_kept(alloc, setting, first.0, second.0)?;
+        let yes = self.is_kept(alloc, setting, first, second)?;
         Ok(yes)
     }
 }

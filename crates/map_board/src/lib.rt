@@ -3,11 +3,15 @@
 #![tactic(auto)]
 
 mod board;
+mod chosen;
+mod crowd;
 mod give;
 mod remake;
 mod seats;
+mod settle;
 mod table;
 
 pub use board::Board;
+pub use chosen::Chosen;
 pub use seats::Seats;
 pub use table::{Setting, Table};

@@ -8,7 +8,5 @@ pub mod IndexLaws
 pub mod CandidateLaws
 pub mod PlugLaws
 pub mod Assembled
-pub mod CountLaws
-pub mod SoundLimits
 pub mod MovedLaws
 pub mod KeptPlugs

@@ -4,7 +4,7 @@ use Rattle.virt_topo.specs.Soundness.{IsSound}
 use Rattle.lab_model.specs.Shapes.{IsFreeOf}
 use Rattle.node_maps.specs.NodeMaps.{ends_of}
 use Rattle.node_maps.specs.Indexed.{IsIndex}
-use Rattle.node_maps.specs.declared.moved.Mapper.{Mapper}
+use Rattle.node_maps.specs.declared.mapper.Mapper.{Mapper}
 
 -- the wiring is sound, what is free is of the lab, and the ends and the interfaces by node are theirs
 pub record IsMapper (x : Mapper) : Type 0 where

@@ -33,11 +33,6 @@ pub record KeepsPlaces (lab : Lab) (w : Wiring) (places : List Place) (a b : ℕ
   pub second : may_share lab w places b ≡ true
   pub typed : AllPass (length w.nodes) (has_class_type w places)
 
--- F6 and F7
-pub record KeepsTrunks (lab : Lab) (free : Free) (w : Wiring) (m : Mapping) : Type 0 where
-  pub room : AllPass (length lab.trunks) (keeps_f6 lab free w m)
-  pub joined : AllPass (length w.segments) (keeps_f7 lab w m)
-
 -- the place is on one of the two nodes
 abbrev pub IsOn : (a b : ℕ) → Place → Type 0
 IsOn a b p = (p.0.0 ≡ a) ⊎ (p.0.0 ≡ b)

@@ -1,23 +1,17 @@
 // The interface rule.
-ghost use Rattle.std.specs.Prelude.{◌≡◌, ◌≢◌, ◌<◌, ◌&&◌, ◌==◌, ℕ, true, not, nat_le, [], length, All, Some, None, false, if◌then◌else◌, slice_index_or, IfOk, OnOk, IfSome};
+ghost use Rattle.std.specs.Prelude.{◌≡◌, ◌<◌, ◌&&◌, ◌==◌, ℕ, true, not, nat_le, [], length, All, Some, None, false, if◌then◌else◌, slice_index_or, IfOk, OnOk, IfSome};
 ghost use Rattle.std.specs.List.{find, list_any};
 ghost use Rattle.std.specs.Option.{option_map};
-ghost use Rattle.lab_model.specs.Shapes.{IsShaped};
-ghost use Rattle.lab_model.specs.Rules.{no_place};
-ghost use Rattle.node_maps.specs.NodeMaps.{first_iface, with_plug, plugs_from, plugs_of};
-ghost use Rattle.node_maps.specs.Indexed.{IsIndex, HasPlaces, Marks};
-ghost use Rattle.node_maps.specs.Mappers.{IsMapper};
-ghost use Rattle.node_maps.specs.Moved.{AlikeBut};
+ghost use Rattle.node_maps.specs.NodeMaps.{with_plug, plugs_from};
+ghost use Rattle.node_maps.specs.Indexed.{HasPlaces, Marks};
 
 use crate::ends::End;
 use crate::index::{NodeIface, NodeIfaces};
 use crate::lists::Place;
-use crate::moved::Mapper;
-use lab_base::{IfaceId, Items, Memory, NodeId};
+use lab_base::{IfaceId, Items, Memory};
 use phys_lab::Lab;
 use std::alloc::Global;
 use std::mem;
-use virt_topo::Mapping;
 
 /// Whether an interface is fast enough and not taken.
 fn may_serve(iface: &NodeIface, taken: &[bool], kbps: u64) -> bool
@@ -115,34 +109,6 @@ impl Given {
         self.taken[iface.0 as usize] = true;
         Ok(true)
     }
-
-    /// The same where the interface is known of an end whose virtual node isn't on one of two nodes.
-    fn add_moved(
-        &mut self,
-        lab: &Lab,
-        index: &NodeIfaces,
-        places: &[Place],
-        end: End,
-        kept: IfaceId,
-        nodes: (NodeId, NodeId),
-    ) -> Result<bool, Memory>
-        requires index { IsIndex lab.now index.now }
-        requires marks { Marks lab.now self.old.taken.items self.old.plugs }
-        requires placed { end.node < length places.now }
-        requires within { kept.0 < length lab.now.ifaces }
-        requires kept { (slice_index_or places.now end.node no_place).0.0 ≢ nodes.0.0 → (slice_index_or places.now end.node no_place).0.0 ≢ nodes.1.0 → first_iface 0 lab.now.ifaces self.old.plugs (slice_index_or places.now end.node no_place).0 end.kbps ≡ Some kept }
-        ensures marks { OnOk result (Marks lab.now self.new.taken.items self.new.plugs) }
-        ensures plugs { IfOk result (λ yes. with_plug lab.now places.now end self.old.plugs ≡ (if yes then Some self.new.plugs else None)) }
-    {
-        let node = places[end.node as usize].0;
-        if node.0 == nodes.0.0 || node.0 == nodes.1.0 {
-            let yes = self.add(lab, index, places, end)?;
-            return Ok(yes);
-        }
-        self.plugs.push(kept)?;
-        self.taken[kept.0 as usize] = true;
-        Ok(true)
-    }
 }
 
 /// The interface rule for the ends whose virtual nodes are placed: each takes the first interface of its node that is
@@ -159,35 +125,6 @@ pub fn serve(
     let mut given = Given::nothing(alloc, lab)?;
     for end in ends {
         if !given.add(lab, &index, places, *end)? {
-            return Ok(None);
-        }
-    }
-    Ok(Some(given.plugs))
-}
-
-/// The interface rule for places that differ from those of a map at hand on two nodes alone: the ends on other nodes keep
-/// their plugs.
-pub(crate) fn serve_moved(
-    alloc: Global,
-    mapper: &Mapper,
-    last: &Mapping,
-    places: &[Place],
-    nodes: (NodeId, NodeId),
-) -> Result<Option<Items<IfaceId>>, Memory>
-    requires mapper { IsMapper mapper.now }
-    requires shaped { IsShaped mapper.now.lab.now mapper.now.wiring.now last.now }
-    requires last { plugs_of mapper.now.lab.now mapper.now.wiring.now last.now.places ≡ Some last.now.plugs }
-    requires placed { length places.now ≡ length mapper.now.wiring.now.nodes }
-    requires alike { AlikeBut nodes.0.0 nodes.1.0 places.now last.now.places }
-    ensures { IfOk result (λ plugs. plugs ≡ plugs_of mapper.now.lab.now mapper.now.wiring.now places.now) }
-{
-    let lab = mapper.lab;
-    let ends = mapper.ends;
-    let plugs = last.plugs.as_slice();
-    let mut given = Given::nothing(alloc, lab)?;
-    for number in 0..ends.len() {
-        let kept = plugs[number];
-        if !given.add_moved(lab, mapper.ifaces, places, ends[number], kept, nodes)? {
             return Ok(None);
         }
     }

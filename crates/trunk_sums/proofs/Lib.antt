@@ -5,3 +5,4 @@ pub mod BetweenLaws
 pub mod TotalLaws
 pub mod RemadeLaws
 pub mod StartLaws
+pub mod ShareLaws

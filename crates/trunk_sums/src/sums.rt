@@ -27,7 +27,7 @@ pub struct Sums {
 
 /// What a segment uses of a trunk with so many plugs on one side.
 #[inline(always)]
-fn share_of(ends: u16, on: u16, kbps: u64) -> u64
+pub(crate) fn share_of(ends: u16, on: u16, kbps: u64) -> u64
     requires within { on ≤ ends }
     requires few { ends ≤ 256 }
     requires slow { kbps ≤ 1000000000 }

@@ -1,17 +1,21 @@
-use Rattle.std.proofs.Common.{◌-◌, ◌+◌, ◌++◌, length, take, drop, List}
+use Rattle.std.proofs.Common.{◌≡◌, ◌-◌, ◌+◌, ◌++◌, length, take, drop, List}
 use Rattle.virt_topo.specs.declared.mapping.Mapping.{Mapping}
+use Rattle.map_board.specs.Chosen.{IsChosen}
 use Rattle.map_anneal.specs.Sought.{choices}
-use Rattle.map_anneal.specs.Searches.{sought_by}
+use Rattle.map_anneal.specs.Searches.{sought_of}
 use Rattle.assign_core.specs.Bests.{IsBest}
 use Rattle.assign_core.proofs.Choosing.{found, with_each}
 use Rattle.assign_core.proofs.exact.+explore.Given as goal
 
 abbrev pub decreases-explore : goal.decreases-explore
-decreases-explore g l = length l.search.now.candidates.now - length l.places.now
+decreases-explore g l = length l.moves.now.candidates.now - l.begun
 
 abbrev pub invariant-loop-place : goal.invariant-loop-place
-invariant-loop-place g l =
-    (maps : List Mapping) → IsBest (sought_by l.search l.rule.number) maps l.initial.kept
-    → IsBest (sought_by l.search l.rule.number)
-    (maps ++ found (sought_by l.search l.rule.number) (with_each l.places (take l.place-index l.place-items)) (drop (length l.places + 1) (choices (sought_by l.search l.rule.number))))
-    l.kept
+invariant-loop-place g l = record {
+  chosen : IsChosen l.moves.setting l.chosen;
+  begun : take l.begun l.chosen.board.mapping.places ≡ take l.begun l.initial.chosen.board.mapping.places;
+  best : (maps : List Mapping) → IsBest (sought_of l.moves l.rule.number) maps l.initial.kept
+      → IsBest (sought_of l.moves l.rule.number)
+      (maps ++ found (sought_of l.moves l.rule.number) (with_each (take l.begun l.initial.chosen.board.mapping.places) (take l.place-index l.place-items)) (drop (l.begun + 1) (choices (sought_of l.moves l.rule.number))))
+      l.kept;
+}

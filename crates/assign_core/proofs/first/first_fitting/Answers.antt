@@ -10,26 +10,26 @@ use Rattle.assign_core.proofs.first.first_fitting.Goals as goal
 
 pub fits-requires-clause-few : goal.fits-requires-clause-few
 fits-requires-clause-few c =
-    let x = c.args.search.now in
+    let x = c.args.placing.now in
     let more = c.deref.ensures.value ∙ c.in_ok-more.ensures in
     let longer : length c.deref.result.now ≡ length c.args.places.now + 1 = ap length more ∙ length-append c.args.places.now (c.place-item.result ∷ []) in
-    omega (arith, longer, c.requires.more, ap length c.requires.search.listed, candidates_count x.lab.now x.free.now x.wiring.now)
+    omega (arith, longer, c.requires.more, ap length c.requires.placing.listed, candidates_count x.lab.now x.free.now x.wiring.now)
 
 pub fits-requires-clause-node : goal.fits-requires-clause-node
 fits-requires-clause-node c =
-    let x = c.args.search.now in
+    let x = c.args.placing.now in
     let n = length c.args.places.now in
     let On : Place → Type 0 = λ p. p.0.0 < length x.lab.now.nodes in
-    let lt : n < length (candidates x.lab.now x.free.now x.wiring.now) = omega (arith, c.requires.more, ap length c.requires.search.listed) in
+    let lt : n < length (candidates x.lab.now x.free.now x.wiring.now) = omega (arith, c.requires.more, ap length c.requires.placing.listed) in
     let all = candidates_within x.lab.now x.free.now x.wiring.now n lt in
-    let listed = c.of-place-items.ensures ∙ ap (λ xs. get_or xs n []) c.requires.search.listed in
+    let listed = c.of-place-items.ensures ∙ ap (λ xs. get_or xs n []) c.requires.placing.listed in
     let here : All On c.of-place-items.result.now = subst (λ xs. All On xs) (sym listed) all in
     subst On (sym c.place-item.is) (here c.loop-place.place-index c.place-item.result c.loop-place-test.true)
 
 pub returns-then-branch : goal.returns-then-branch
 returns-then-branch c =
-    let lab = c.args.search.now.lab.now in
-    let w = c.args.search.now.wiring.now in
+    let lab = c.args.placing.now.lab.now in
+    let w = c.args.placing.now.wiring.now in
     let places = c.args.places.now in
     let p = c.place-item.result in
     let all : List Place → Bool = λ ms. may_share lab w ms p.0.0 && is_some (plugs_of lab w ms) in
@@ -40,8 +40,8 @@ returns-then-branch c =
 
 pub loop-place-preserved : goal.loop-place-preserved
 loop-place-preserved c =
-    let lab = c.args.search.now.lab.now in
-    let w = c.args.search.now.wiring.now in
+    let lab = c.args.placing.now.lab.now in
+    let w = c.args.placing.now.wiring.now in
     let places = c.args.places.now in
     let p = c.place-item.result in
     let all : List Place → Bool = λ ms. may_share lab w ms p.0.0 && is_some (plugs_of lab w ms) in

@@ -1,23 +1,21 @@
-use Rattle.std.proofs.Common.{rules, ◌∙◌, ◌∷◌, [], ℕ, ap, sym, subst}
-use Rattle.virt_topo.specs.declared.mapping.Mapping.{Mapping}
+use Rattle.std.proofs.Common.{sym, subst}
 use Rattle.node_maps.specs.Least.{IsFirstLeast}
-use Rattle.node_maps.proofs.Leasts.{least_alone}
-use Rattle.map_anneal.specs.declared.search.Priced.{Priced}
-use Rattle.map_anneal.specs.Sought.{sought, price}
-use Rattle.map_anneal.specs.Walk.{started, cooled, walk}
+use Rattle.map_anneal.specs.Sought.{Sought, price, IsNodeMap}
+use Rattle.map_anneal.specs.Walk.{walk}
+use Rattle.map_anneal.proofs.PreparedLaws.{same_sought}
 use Rattle.map_anneal.proofs.walk.anneal.Goals as goal
 
+pub anneal_by-requires-clause-start : goal.anneal_by-requires-clause-start
+anneal_by-requires-clause-start g c =
+    let same = same_sought c.moves-moves.result c.args.lab.now c.args.free.now c.args.wiring.now c.args.rule.now.number c.moves-moves.ensures.lab c.moves-moves.ensures.left c.moves-moves.ensures.wiring in
+    subst (λ (s : Sought). IsNodeMap s c.args.start.now) (sym same) c.requires.start
+
+pub returns-clause-node_map : goal.returns-clause-node_map
+returns-clause-node_map g c =
+    let same = same_sought c.moves-moves.result c.args.lab.now c.args.free.now c.args.wiring.now c.args.rule.now.number c.moves-moves.ensures.lab c.moves-moves.ensures.left c.moves-moves.ensures.wiring in
+    subst (λ (s : Sought). IsNodeMap s c.in_ok-best.best) same c.in_ok-best.ensures.node_map
+
 pub returns-clause-least : goal.returns-clause-least
-unfolding walk
 returns-clause-least g c =
-    let s = sought c.args.lab.now c.args.free.now c.args.wiring.now c.args.rule.now.number in
-    let start = c.args.start.now in
-    let best = c.cool.new.self.best.mapping in
-    let Alone : Mapping → Type 0 = λ m. IsFirstLeast (price s) (start ∷ []) m in
-    let Whole : ℕ → Type 0 = λ n. IsFirstLeast (price s) (cooled s n n (started start c.args.seed)).maps best in
-    let kept = c.in_ok-cool.ensures.cooled (started start c.args.seed) (record {
-      words = search rules;
-      last = c.in_ok-last.ensures.start;
-      best = subst Alone (sym (ap (λ (p : Priced). p.mapping) c.in_ok-priced.ensures ∙ c.in_ok-last.ensures.start)) (least_alone (price s) start);
-    }) in
-    subst Whole (c.in_ok-last.ensures.tried.cost ∙ ap (price s) c.in_ok-last.ensures.start) kept.best
+    let same = same_sought c.moves-moves.result c.args.lab.now c.args.free.now c.args.wiring.now c.args.rule.now.number c.moves-moves.ensures.lab c.moves-moves.ensures.left c.moves-moves.ensures.wiring in
+    subst (λ (s : Sought). IsFirstLeast (price s) (walk s c.args.start.now c.args.seed) c.in_ok-best.best) same c.in_ok-best.ensures.least

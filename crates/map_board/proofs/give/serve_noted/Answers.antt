@@ -1,9 +1,7 @@
-use Rattle.std.proofs.Common.{◌≡◌, ◌<◌, ◌∙◌, ◌++◌, [], ℕ, List, length, map, get_or, filter, Bool, true, false, cond, Option, Some, None, All, ap, sym, subst, arith}
+use Rattle.std.proofs.Common.{◌<◌, ◌∙◌, ◌++◌, ℕ, List, length, Bool, cond, Some, None, All, ap, sym, subst, arith}
 use Rattle.lab_base.specs.declared.ids.IfaceId.{IfaceId}
-use Rattle.trunk_sums.specs.declared.made.Change.{Change}
 use Rattle.trunk_sums.specs.declared.sums.EndRow.{EndRow}
-use Rattle.node_maps.specs.NodeMaps.{plugs_from}
-use Rattle.map_board.specs.Nodes.{is_on, numbers_of, changes_of, no_end}
+use Rattle.map_board.specs.Nodes.{is_on, changes_of}
 use Rattle.map_board.proofs.BoardLaws.{numbers_in, listed_given, listed_count}
 use Rattle.map_board.proofs.give.serve_noted.Goals as goal
 

@@ -1,10 +1,9 @@
-use Rattle.std.proofs.Common.{◌≡◌, ◌<◌, ◌≤◌, ◌+◌, ◌∙◌, inl, inr, ℕ, List, length, take, get_or, Bool, cond, eqb, ap, sym, subst, arith, get_or-set_same, get_or-set_other}
+use Rattle.std.proofs.Common.{◌≡◌, ◌<◌, ◌+◌, ◌∙◌, inl, inr, ℕ, List, length, take, get_or, Bool, cond, eqb, ap, sym, subst, arith, get_or-set_same, get_or-set_other}
 use Rattle.std.proofs.Math.ListN.{set}
 use Rattle.std.proofs.lemmas.Bool.{cases_eq, eq-eqb, ne_eqb}
 use Rattle.std.proofs.lemmas.List.{length-set, length-take-le, get_or_read}
 use Rattle.std.proofs.lemmas.List.Sums.{sum_by_more, count_by-le-length}
 use Rattle.lab_model.specs.Shapes.{Place}
-use Rattle.map_board.specs.Seated.{guests_at}
 use Rattle.map_board.proofs.seats.count_guests.Goals as goal
 
 pub overflow_add-index_mut : goal.overflow_add-index_mut

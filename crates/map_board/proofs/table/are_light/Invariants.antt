@@ -1,4 +1,4 @@
-use Rattle.std.proofs.Common.{◌<◌, ℕ, get_or}
+use Rattle.std.proofs.Common.{◌<◌, ℕ}
 use Rattle.lab_model.specs.Rules.{class_at}
 use Rattle.map_board.proofs.table.are_light.Given as goal
 

@@ -1,5 +1,4 @@
 use Rattle.std.proofs.Common.{sym, ap, ◌∙◌}
-use Rattle.virt_topo.specs.declared.mapping.Mapping.{Mapping}
 use Rattle.node_maps.proofs.MapLaws.{choice_within, mapped_shaped}
 use Rattle.map_anneal.specs.Sought.{price}
 use Rattle.map_anneal.specs.Searches.{sought_of}

@@ -1,4 +1,4 @@
-use Rattle.std.proofs.Common.{◌≡◌, ◌≢◌, ◌<◌, ◌∙◌, ℕ, List, [], length, get_or, true, Some, Contains, sym, ap, subst, arith}
+use Rattle.std.proofs.Common.{◌≡◌, ◌≢◌, ◌<◌, ◌∙◌, List, [], length, get_or, Some, Contains, sym, ap, subst, arith}
 use Rattle.virt_topo.specs.declared.mapping.Mapping.{Mapping}
 use Rattle.lab_model.specs.Shapes.{Place}
 use Rattle.lab_model.specs.Rules.{no_place, place_at}

@@ -1,4 +1,4 @@
-use Rattle.std.proofs.Common.{◌≡◌, ◌<◌, ◌∙◌, ℕ, List, [], length, get_or, true, Some, Contains, sym, ap, subst, arith, get_or-set_same}
+use Rattle.std.proofs.Common.{◌≡◌, ◌<◌, ◌∙◌, List, [], length, get_or, Some, Contains, sym, ap, subst, arith, get_or-set_same}
 use Rattle.std.proofs.Math.ListN.{set}
 use Rattle.virt_topo.specs.declared.mapping.Mapping.{Mapping}
 use Rattle.lab_model.specs.Shapes.{Place}
@@ -8,7 +8,7 @@ use Rattle.map_board.proofs.Choices.{choice_moved}
 use Rattle.map_board.specs.Seated.{placed_at}
 use Rattle.map_anneal.specs.Sought.{choices, price}
 use Rattle.map_anneal.specs.Searches.{sought_of}
-use Rattle.map_anneal.proofs.Alikes.{place_within}
+use Rattle.map_board.proofs.Alikes.{place_within}
 use Rattle.map_anneal.proofs.Undone.{mapping_is, moved_back, was_moved}
 use Rattle.map_anneal.proofs.tried.Tried.move_if.Goals as goal
 

@@ -1,10 +1,9 @@
-use Rattle.std.proofs.Common.{◌≡◌, ◌<◌, ◌≤◌, ◌∙◌, ℕ, List, length, get_or, Bool, true, false, Some, None, cond, nat_le, ap, sym, subst, arith}
+use Rattle.std.proofs.Common.{◌≡◌, ◌≤◌, ◌∙◌, ℕ, List, length, get_or, true, nat_le, sym, subst, arith}
 use Rattle.std.specs.Prelude.{IsTrue, ◌↔◌}
 use Rattle.std.proofs.lemmas.Bool.{and_parts}
 use Rattle.std.proofs.lemmas.Bool.Decides.{nat_tests}
 use Rattle.lab_model.specs.Feasible.{AllPass}
-use Rattle.map_board.specs.Seated.{guests_at}
-use Rattle.map_board.proofs.BoardLaws.{Fresh, plainly_kept, wholly_kept}
+use Rattle.map_board.proofs.BoardLaws.{plainly_kept, wholly_kept}
 use Rattle.map_board.proofs.board.Board.is_kept.Goals as goal
 
 pub returns : goal.returns

@@ -1,4 +1,4 @@
-use Rattle.std.proofs.Common.{◌≡◌, ◌∙◌, List, ap}
+use Rattle.std.proofs.Common.{◌∙◌, List, ap}
 use Rattle.lab_base.specs.declared.ids.IfaceId.{IfaceId}
 use Rattle.trunk_sums.specs.Totals.{used_of_all}
 use Rattle.map_board.proofs.PartSums.{uses_are}

@@ -1,8 +1,8 @@
-use Rattle.std.proofs.Common.{◌≡◌, ◌<◌, ◌∙◌, ℕ, List, length, get_or, true, ap, sym, subst, arith, get_or-set_same}
+use Rattle.std.proofs.Common.{◌≡◌, ◌<◌, length, true, sym, subst, arith, get_or-set_same}
 use Rattle.std.proofs.Math.ListN.{set}
 use Rattle.std.proofs.lemmas.List.{length-set}
 use Rattle.virt_topo.specs.declared.mapping.Mapping.{Mapping}
-use Rattle.lab_model.specs.Shapes.{Place, IsShaped, node_at, has_name}
+use Rattle.lab_model.specs.Shapes.{Place, node_at, has_name}
 use Rattle.lab_model.specs.Rules.{no_place}
 use Rattle.trunk_sums.specs.Summed.{IsSummed}
 use Rattle.node_maps.specs.NodeMaps.{candidates, IsChoice}

@@ -1,4 +1,4 @@
-use Rattle.std.proofs.Common.{◌≡◌, ◌<◌, ◌≤◌, ◌+◌, ◌-◌, ◌∙◌, ℕ, List, length, get_or, Bool, cond, eqb, map, refl, ap, sym, subst, arith, ◌==◌}
+use Rattle.std.proofs.Common.{◌≡◌, ◌<◌, ◌+◌, ◌-◌, ◌∙◌, ℕ, length, get_or, Bool, cond, eqb, map, refl, ap, sym, subst, arith, ◌==◌}
 use Rattle.std.specs.List.{remove, count_by}
 use Rattle.std.proofs.Math.ListN.{set}
 use Rattle.std.proofs.lemmas.Bool.{eq-eqb}
@@ -7,8 +7,7 @@ use Rattle.virt_topo.specs.declared.mapping.Mapping.{Mapping}
 use Rattle.lab_model.specs.Shapes.{Place}
 use Rattle.lab_model.specs.Rules.{no_place}
 use Rattle.cost_rule.proofs.PartLaws.{soft_small, nodes_small}
-use Rattle.map_board.specs.declared.seats.Seats.{Seats}
-use Rattle.map_board.specs.Seated.{IsSeated, guests_at, seat_soft, placed_at}
+use Rattle.map_board.specs.Seated.{IsSeated, seat_soft, placed_at}
 use Rattle.map_board.proofs.BoardLaws.{shaped_at}
 use Rattle.map_board.proofs.SeatLaws.{Went, guest_left, used_left, guests_went, used_went, soft_after, seat_le}
 use Rattle.map_board.proofs.seats.Seats.seat.Goals as goal

@@ -1,0 +1,69 @@
+// What is made of a lab and a wiring before their maps are searched.
+ghost use Rattle.std.specs.Prelude.{◌≡◌, IfOk};
+ghost use Rattle.virt_topo.specs.Soundness.{IsSound};
+ghost use Rattle.lab_model.specs.Shapes.{IsFreeOf};
+ghost use Rattle.map_anneal.specs.Searches.{IsPrepared, IsMoves};
+
+use crate::moves::Moves;
+use lab_base::Memory;
+use map_board::{Setting, Table};
+use node_maps::{Candidates, End, Mapper, NodeIfaces, candidates, ends_of};
+use phys_lab::{Free, Lab};
+use std::alloc::Global;
+use virt_topo::Wiring;
+
+/// What searches look up of a wiring on what is free of a lab.
+#[derive(Drop)]
+pub struct Prepared {
+    pub candidates: Candidates,
+    /// The ends of the wiring, in order.
+    pub ends: Vec<End>,
+    pub(crate) ifaces: NodeIfaces,
+    pub(crate) table: Table,
+}
+
+impl Prepared {
+    /// That of a wiring on what is free of a lab.
+    pub fn of(alloc: Global, lab: &Lab, free: &Free, wiring: &Wiring) -> Result<Prepared, Memory>
+        requires free { IsFreeOf lab.now free.now }
+        requires sound { IsSound wiring.now }
+        ensures { IfOk result (IsPrepared lab.now free.now wiring.now) }
+    {
+        let candidates = candidates(alloc, lab, free, wiring)?;
+        let ends = ends_of(alloc, wiring.segments.as_slice())?;
+        let ifaces = NodeIfaces::of_lab(alloc, lab)?;
+        let table = Table::of(alloc, lab, wiring, &ends)?;
+        Ok(Prepared {
+            candidates,
+            ends,
+            ifaces,
+            table,
+        })
+    }
+
+    /// What moves are tried in.
+    pub fn moves<'a>(&'a self, lab: &'a Lab, free: &'a Free, wiring: &'a Wiring) -> Moves<'a>
+        requires free { IsFreeOf lab.now free.now }
+        requires sound { IsSound wiring.now }
+        requires prepared { IsPrepared lab.now free.now wiring.now self.now }
+        ensures moves { IsMoves result }
+        ensures lab { result.setting.mapper.lab.now ≡ lab.now }
+        ensures left { result.setting.mapper.free.now ≡ free.now }
+        ensures wiring { result.setting.mapper.wiring.now ≡ wiring.now }
+    {
+        let mapper = Mapper {
+            lab,
+            free,
+            wiring,
+            ends: &self.ends,
+            ifaces: &self.ifaces,
+        };
+        Moves {
+            setting: Setting {
+                mapper,
+                table: &self.table,
+            },
+            candidates: &self.candidates,
+        }
+    }
+}

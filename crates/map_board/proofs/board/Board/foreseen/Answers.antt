@@ -1,0 +1,26 @@
+use Rattle.std.proofs.Common.{◌∙◌}
+use Rattle.trunk_sums.specs.Totals.{used_of_all}
+use Rattle.trunk_sums.specs.Remade.{remade}
+use Rattle.map_board.specs.Planned.{planned}
+use Rattle.map_board.proofs.PartSums.{uses_are}
+use Rattle.map_board.proofs.PlannedLaws.{planned_shaped}
+use Rattle.map_board.proofs.board.Board.foreseen.Goals as goal
+
+pub returns-clause-parts : goal.returns-clause-parts
+returns-clause-parts c =
+    let x = c.args.setting.now.mapper in
+    let b = c.args.self.now in
+    let laid = c.requires.laid in
+    let shaped = planned_shaped c.args.setting.now b laid c.requires.changes in
+    let uses = c.total_after-uses.ensures
+    ∙ (λ j. used_of_all x.lab.now x.wiring.now (remade (c.as_slice-plugs.ensures j) (c.deref-2.ensures.value j)))
+    ∙ uses_are x.lab.now x.wiring.now (planned b) shaped in
+    let nodes = laid.seated.nodes in
+    let soft = laid.seated.soft in
+    (λ j. record { uses = uses j; nodes = nodes j; soft = soft j })
+
+pub returns-clause-shaped : goal.returns-clause-shaped
+returns-clause-shaped c = planned_shaped c.args.setting.now c.args.self.now c.requires.laid c.requires.changes
+
+pub returns-then-not-are_rising-clause-shaped : goal.returns-then-not-are_rising-clause-shaped
+returns-then-not-are_rising-clause-shaped c = planned_shaped c.args.setting.now c.args.self.now c.requires.laid c.requires.changes

@@ -1,0 +1,32 @@
+use Rattle.std.proofs.Common.{sym, subst}
+use Rattle.virt_topo.specs.declared.mapping.Mapping.{Mapping}
+use Rattle.lab_model.specs.Shapes.{IsShaped}
+use Rattle.node_maps.specs.NodeMaps.{candidates, IsChoice}
+use Rattle.map_board.proofs.board.Board.laid.Goals as goal
+
+pub of-requires-clause-shaped : goal.of-requires-clause-shaped
+of-requires-clause-shaped c =
+    let x = c.args.setting.now.mapper in
+    subst (λ (y : Mapping). IsShaped x.lab.now x.wiring.now y) (sym c.in_ok-mapping.ensures) c.requires.shaped
+
+pub of-requires-2-clause-plugged : goal.of-requires-2-clause-plugged
+of-requires-2-clause-plugged c =
+    let x = c.args.setting.now.mapper in
+    (subst (λ (y : Mapping). IsShaped x.lab.now x.wiring.now y) (sym c.in_ok-mapping.ensures) c.requires.shaped).plugs
+
+pub of-requires-2-clause-in_lab : goal.of-requires-2-clause-in_lab
+of-requires-2-clause-in_lab c =
+    let x = c.args.setting.now.mapper in
+    (subst (λ (y : Mapping). IsShaped x.lab.now x.wiring.now y) (sym c.in_ok-mapping.ensures) c.requires.shaped).in_lab
+
+pub returns-clause-laid : goal.returns-clause-laid
+returns-clause-laid c =
+    let x = c.args.setting.now.mapper in
+    let same = sym c.in_ok-mapping.ensures in
+    record {
+      choice = subst (λ (y : Mapping). IsChoice (candidates x.lab.now x.free.now x.wiring.now) y.places) same c.requires.choice;
+      shaped = subst (λ (y : Mapping). IsShaped x.lab.now x.wiring.now y) same c.requires.shaped;
+      seated = c.in_ok-seats.ensures;
+      summed = c.in_ok-sums.ensures;
+      idle = record { marks = c.in_ok-given.ensures.marks; none = c.in_ok-given.ensures.none };
+    }

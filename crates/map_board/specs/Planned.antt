@@ -1,0 +1,7 @@
+-- What the mapping is once what is planned is made.
+use Rattle.virt_topo.specs.declared.mapping.Mapping.{Mapping}
+use Rattle.trunk_sums.specs.Remade.{remade}
+use Rattle.map_board.specs.declared.board.Board.{Board}
+
+abbrev pub planned : Board → Mapping
+planned b = record { places = b.mapping.places; plugs = remade b.mapping.plugs b.changes.items }

@@ -1,0 +1,264 @@
+// Searches whose rule notes how often it is asked.
+ghost use Rattle.std.specs.Prelude.{◌≡◌};
+ghost use Rattle.virt_topo.specs.Soundness.{IsSound};
+ghost use Rattle.lab_model.specs.Shapes.{IsFreeOf, IsShaped};
+ghost use Rattle.cost_rule.specs.Cost.{cost};
+ghost use Rattle.cost_rule.specs.Parts.{cost_of_parts, AreParts};
+
+use crate::labs::{FOUR, OLD_AND_NEW, PAIR, free_of, is_free_of, lab_of, wiring_of};
+use assign_core::{Solved, first_fit, solve};
+use cost_rule::{CostFn, Parts, PartsFn, Rule, RuleNumber, StepFn, StepRule};
+use lab_base::Memory;
+use map_anneal::{anneal, descend};
+use phys_lab::{Free, Lab};
+use rule_costs::{cost_of, parts_cost};
+use std::alloc::Global;
+use std::cell::Cell;
+use std::rc::Rc;
+use std::test::Fail;
+use virt_topo::{Mapping, Wiring};
+
+/// The descent from FirstFit, without the walk.
+fn descended(
+    alloc: Global,
+    lab: &Lab,
+    free: &Free,
+    wiring: &Wiring,
+    rule: &StepRule,
+) -> Result<Option<Mapping>, Memory>
+    requires free { IsFreeOf lab.now free.now }
+    requires sound { IsSound wiring.now }
+{
+    let found = first_fit(alloc, lab, free, wiring)?;
+    match found {
+        Some(start) => Ok(Some(descend(alloc, lab, free, wiring, &start, rule)?)),
+        None => Ok(None),
+    }
+}
+
+/// The cheapest map of the walk of FirstFit.
+fn walked(
+    alloc: Global,
+    lab: &Lab,
+    free: &Free,
+    wiring: &Wiring,
+    rule: &StepRule,
+    seed: u64,
+) -> Result<Option<Mapping>, Memory>
+    requires free { IsFreeOf lab.now free.now }
+    requires sound { IsSound wiring.now }
+{
+    let found = first_fit(alloc, lab, free, wiring)?;
+    match found {
+        Some(start) => Ok(Some(anneal(alloc, lab, free, wiring, &start, rule, seed)?)),
+        None => Ok(None),
+    }
+}
+
+#[derive(Clone, Copy)]
+enum Call {
+    Solve(u64),
+    Descend,
+    Walk(u64),
+}
+
+/// What a call found: the word of its answer, its cost where it tells it, the node of each virtual node, and how often
+/// the rule was asked.
+#[derive(Drop)]
+struct Found {
+    word: &'static str,
+    cost: u64,
+    nodes: Vec<u16>,
+    asked: u32,
+}
+
+fn nodes_of(alloc: Global, mapping: &Mapping) -> Result<Vec<u16>, Fail> {
+    let mut nodes = Vec::new(alloc);
+    for place in mapping.places.as_slice() {
+        nodes.push(place.0.0)?;
+    }
+    Ok(nodes)
+}
+
+fn told(
+    alloc: Global,
+    word: &'static str,
+    cost: u64,
+    mapping: Option<Mapping>,
+) -> Result<Found, Fail> {
+    let nodes = match mapping {
+        Some(mapping) => nodes_of(alloc, &mapping)?,
+        None => Vec::new(alloc),
+    };
+    Ok(Found {
+        word,
+        cost,
+        nodes,
+        asked: 0,
+    })
+}
+
+fn told_solved(alloc: Global, solved: Solved) -> Result<Found, Fail> {
+    match solved {
+        Solved::Least(mapping, cost) => told(alloc, "least", cost, Some(mapping)),
+        Solved::Local(mapping, cost) => told(alloc, "local", cost, Some(mapping)),
+        Solved::None => told(alloc, "none", 0, None),
+        Solved::GaveUp => told(alloc, "gave up", 0, None),
+    }
+}
+
+fn called(
+    alloc: Global,
+    lab: &Lab,
+    free: &Free,
+    wiring: &Wiring,
+    rule: &StepRule,
+    call: Call,
+) -> Result<Found, Fail>
+    requires free { IsFreeOf lab.now free.now }
+    requires sound { IsSound wiring.now }
+{
+    match call {
+        Call::Solve(seed) => told_solved(alloc, solve(alloc, lab, free, wiring, rule, seed)?),
+        Call::Descend => told(
+            alloc,
+            "descent",
+            0,
+            descended(alloc, lab, free, wiring, rule)?,
+        ),
+        Call::Walk(seed) => told(
+            alloc,
+            "walk",
+            0,
+            walked(alloc, lab, free, wiring, rule, seed)?,
+        ),
+    }
+}
+
+/// A call under cost rule `trunk`, by a closure that notes how often it is asked.
+fn asked(alloc: Global, lab: &Lab, wiring: &Wiring, call: Call) -> Result<Found, Fail> {
+    let free = free_of(alloc, lab)?;
+    if wiring.check().is_err() || !is_free_of(lab, &free) {
+        return Err(Fail::from("a sound wiring"));
+    }
+    let calls = Rc::new(alloc, Cell::new(0u32))?;
+    let noted = Rc::clone(&calls)?;
+    let number = RuleNumber::Trunk;
+    let by_number = move |lab: &Lab, wiring: &Wiring, mapping: &Mapping| -> u64
+        requires { IsSound wiring.now × IsShaped lab.now wiring.now mapping.now }
+        ensures { result ≡ cost number lab.now wiring.now mapping.now }
+    {
+        noted.set(noted.get().saturating_add(1));
+        cost_of(number, lab, wiring, mapping)
+    };
+    let stepped = Rc::clone(&calls)?;
+    let by_step = move |lab: &Lab, wiring: &Wiring, _from: &Mapping, to: &Mapping, _cost: u64| -> u64
+        requires { IsSound wiring.now × IsShaped lab.now wiring.now to.now }
+        ensures { result ≡ cost number lab.now wiring.now to.now }
+    {
+        stepped.set(stepped.get().saturating_add(1));
+        cost_of(number, lab, wiring, to)
+    };
+    let parted = Rc::clone(&calls)?;
+    let by_parts = move |parts: Parts| -> u64
+        requires { AreParts parts }
+        ensures { result ≡ cost_of_parts number parts }
+    {
+        parted.set(parted.get().saturating_add(1));
+        parts_cost(number, parts)
+    };
+    let boxed: CostFn = Box::new(alloc, by_number)?;
+    let step: StepFn = Box::new(alloc, by_step)?;
+    let by_parts: PartsFn = Box::new(alloc, by_parts)?;
+    let rule = StepRule::new(Rule::new(number, boxed), step, by_parts);
+    let mut found = called(alloc, lab, &free, wiring, &rule, call)?;
+    found.asked = calls.get();
+    Ok(found)
+}
+
+const TWO: [(&[u8], &[u8]); 2] = [(b"a", b""), (b"b", b"")];
+
+const SIX: [(&[u8], &[u8]); 6] = [
+    (b"a", b""),
+    (b"b", b""),
+    (b"c", b""),
+    (b"d", b""),
+    (b"e", b""),
+    (b"f", b""),
+];
+
+#[test]
+fn few_candidates_are_all_asked_for(rt: HostRuntime) -> Result<(), Fail> {
+    let alloc = rt.alloc();
+    let lab = lab_of(alloc, &PAIR, 100_000, 100_000)?;
+    let fast = asked(
+        alloc,
+        &lab,
+        &wiring_of(alloc, &TWO, 200_000, 2)?,
+        Call::Solve(0),
+    )?;
+    assert_eq!(rt; fast.word, "none");
+    assert_eq!(rt; fast.asked, 0);
+    let slow = asked(
+        alloc,
+        &lab,
+        &wiring_of(alloc, &TWO, 100_000, 2)?,
+        Call::Solve(0),
+    )?;
+    assert_eq!(rt; (slow.word, slow.cost, slow.asked), ("least", 0, 2));
+    assert_eq!(rt; slow.nodes.as_slice(), [0u16, 1].as_slice());
+    Ok(())
+}
+
+#[test]
+fn a_lan_of_three_on_two_switches(rt: HostRuntime) -> Result<(), Fail> {
+    let alloc = rt.alloc();
+    let lab = lab_of(alloc, &FOUR, 1_000_000, 100_000)?;
+    let wiring = wiring_of(alloc, &SIX[..3], 100_000, 3)?;
+    let lan = asked(alloc, &lab, &wiring, Call::Solve(7))?;
+    assert_eq!(rt; (lan.word, lan.cost), ("least", 100_000));
+    assert_eq!(rt; lan.nodes.as_slice(), [0u16, 1, 2].as_slice());
+    Ok(())
+}
+
+#[test]
+fn the_walk_leaves_what_the_descent_keeps(rt: HostRuntime) -> Result<(), Fail> {
+    let alloc = rt.alloc();
+    let lab = lab_of(alloc, &OLD_AND_NEW, 1_000, 1_000)?;
+    let wiring = wiring_of(alloc, &SIX, 150, 2)?;
+    let stays = asked(alloc, &lab, &wiring, Call::Descend)?;
+    assert_eq!(rt; stays.nodes.as_slice(), [0u16, 1, 2, 3, 4, 5].as_slice());
+    // its start, seven feasible moves of each of six virtual nodes, and fifteen exchanges
+    assert_eq!(rt; stays.asked, 58);
+    assert!(rt; asked(alloc, &lab, &wiring, Call::Walk(0))?.asked > 1);
+    let mut free_ones = 0u32;
+    for seed in 0..16u64 {
+        let local = asked(alloc, &lab, &wiring, Call::Solve(seed))?;
+        assert_eq!(rt; local.word, "local");
+        assert!(rt; local.cost == 0 || local.cost == 200);
+        if local.cost == 0 {
+            free_ones = free_ones.saturating_add(1);
+        }
+    }
+    assert!(rt; free_ones > 0);
+    Ok(())
+}
+
+#[test]
+fn two_fixed_places(rt: HostRuntime) -> Result<(), Fail> {
+    let alloc = rt.alloc();
+    let lab = lab_of(alloc, &OLD_AND_NEW, 1_000, 1_000)?;
+    let mut nodes = SIX;
+    nodes[0].1 = b"q1";
+    nodes[1].1 = b"p1";
+    let least = asked(
+        alloc,
+        &lab,
+        &wiring_of(alloc, &nodes, 150, 2)?,
+        Call::Solve(0),
+    )?;
+    assert_eq!(rt; (least.word, least.cost), ("least", 250));
+    // p2 would cost its feature, so the others are on q2 to q5
+    assert_eq!(rt; least.nodes.as_slice(), [2u16, 0, 3, 4, 5, 6].as_slice());
+    Ok(())
+}
