@@ -1,13 +1,11 @@
 // The sides and the tables, as files of a folder.
-ghost use Rattle.std.specs.Prelude.{IfOk};
+ghost use Rattle.std.specs.Prelude.{◌≡◌, IfOk};
 ghost use Rattle.plant.specs.Calls.{Fits};
+ghost use Rattle.plant_file.specs.Names.{names_in};
 
-use crate::entry::Entry;
+use crate::changed::change_tables;
 use crate::files::{cut_to, length_of, make, read_at, sync_folder, write_at};
-use crate::obey::obey;
 use crate::paths::Paths;
-use crate::print::print_tables;
-use crate::read::read_tables;
 use lab_base::{Memory, TextRefused};
 use plant::{Answer, DeviceOp, Side};
 use std::alloc::AllocGlobal;
@@ -36,7 +34,9 @@ pub(crate) struct Folder<R: Files + AllocGlobal + Drop> {
 }
 
 impl<R: Files + AllocGlobal + Drop> Folder<R> {
-    pub(crate) fn new(rt: R, dir: &str) -> Result<Folder<R>, Memory> {
+    pub(crate) fn new(rt: R, dir: &str) -> Result<Folder<R>, Memory>
+        ensures { IfOk result (λ folder. folder.paths ≡ names_in dir.now) }
+    {
         let paths = Paths::new(rt.alloc(), dir)?;
         Ok(Folder { rt, paths })
     }
@@ -91,18 +91,6 @@ impl<R: Files + AllocGlobal + Drop> Folder<R> {
         }
     }
 
-    fn tables(&self) -> io::Result<Vec<Entry>> {
-        let bytes = self.tables_bytes()?;
-        if bytes.len() > MAX_TABLES {
-            return Err(bad_form());
-        }
-        match read_tables(self.rt.alloc(), &bytes) {
-            Ok(entries) => Ok(entries.into_vec()),
-            Err(TextRefused::Memory) => Err(no_memory()),
-            Err(TextRefused::Text(_)) => Err(bad_form()),
-        }
-    }
-
     /// Opens an empty file beside the tables. A folder that is missing is made.
     fn open_beside(&self) -> io::Result<R::File> {
         let path = self.paths.beside.as_str();
@@ -130,22 +118,21 @@ impl<R: Files + AllocGlobal + Drop> Folder<R> {
         sync_folder(&self.rt, self.paths.folder.as_str())
     }
 
-    fn set_tables(&self, entries: &[Entry]) -> io::Result<()> {
-        match print_tables(self.rt.alloc(), entries) {
-            Ok(text) => self.replace_tables(text.bytes()),
-            Err(Memory) => Err(no_memory()),
-        }
-    }
-
     /// Sends a command to its device: the tables are read, changed and written.
     pub(crate) fn command(&self, op: &DeviceOp) -> io::Result<Answer>
         ensures { IfOk result (Fits op.now) }
     {
-        let mut entries = self.tables()?;
-        let Ok(answer) = obey(&mut entries, op) else {
-            return Err(no_memory());
-        };
-        self.set_tables(&entries)?;
-        Ok(answer)
+        let bytes = self.tables_bytes()?;
+        if bytes.len() > MAX_TABLES {
+            return Err(bad_form());
+        }
+        match change_tables(self.rt.alloc(), &bytes, op) {
+            Ok(changed) => {
+                self.replace_tables(changed.text.bytes())?;
+                Ok(changed.answer)
+            }
+            Err(TextRefused::Memory) => Err(no_memory()),
+            Err(TextRefused::Text(_)) => Err(bad_form()),
+        }
     }
 }

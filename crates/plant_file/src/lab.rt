@@ -1,5 +1,6 @@
 ghost use Rattle.std.specs.Prelude.{◌≡◌, IfOk};
-ghost use Rattle.plant_file.specs.Lab.{seen_of, untouched};
+ghost use Rattle.plant_file.specs.Lab.{names_of, seen_of, untouched};
+ghost use Rattle.plant_file.specs.Names.{names_in};
 
 use crate::folder::Folder;
 use lab_base::Memory;
@@ -26,7 +27,8 @@ pub struct FileLab<R: Files + AllocGlobal + Drop> {
 impl<R: Files + AllocGlobal + Clone + Drop> FileLab<R> {
     /// The plant of a folder. It opens nothing.
     pub fn new(rt: &R, dir: &str) -> Result<FileLab<R>, Memory>
-        ensures { IfOk result (λ lab. seen_of lab ≡ untouched) }
+        ensures seen { IfOk result (λ lab. seen_of lab ≡ untouched) }
+        ensures names { IfOk result (λ lab. names_of lab ≡ names_in dir.now) }
     {
         let rt = rt.clone()?;
         Ok(FileLab {

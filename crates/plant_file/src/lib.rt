@@ -3,6 +3,7 @@
 
 mod answers;
 mod boots;
+mod changed;
 mod entry;
 mod files;
 mod folder;
@@ -16,6 +17,7 @@ mod paths;
 mod print;
 mod read;
 
+pub use changed::{Changed, change_tables};
 pub use entry::Entry;
 pub use lab::FileLab;
 pub use laws::{tables_are_read_back, tables_hold_a_world};

@@ -1,6 +1,10 @@
+ghost use Rattle.std.specs.Prelude.{◌≡◌, IfOk, string_bytes};
+ghost use Rattle.plant_file.specs.Names.{inside, name_of_side, names_in};
+
 use lab_base::Memory;
 use plant::Side;
 use std::alloc::Global;
+use std::marker::Model;
 
 /// The names of a lab's folder and its files.
 #[derive(Drop)]
@@ -15,7 +19,26 @@ pub(crate) struct Paths {
     pub(crate) beside: String,
 }
 
-fn joined(alloc: Global, folder: &str, name: &str) -> Result<String, Memory> {
+impl Model for Paths {
+    ghost use Rattle.std.specs.Prelude.{string_bytes};
+    ghost use Rattle.plant_file.specs.Names.{Names};
+
+    ghost Value = { Names };
+
+    ghost view = { λ paths. record {
+      folder = string_bytes paths.folder;
+      parent = string_bytes paths.parent;
+      a = string_bytes paths.a;
+      b = string_bytes paths.b;
+      tables = string_bytes paths.tables;
+      beside = string_bytes paths.beside;
+    } };
+}
+
+/// A name behind the folder's.
+fn joined(alloc: Global, folder: &str, name: &str) -> Result<String, Memory>
+    ensures { IfOk result (λ path. string_bytes path ≡ inside folder.now name.now) }
+{
     let mut path = String::from_str(alloc, folder)?;
     path.push('/')?;
     path.push_str(name)?;
@@ -23,7 +46,9 @@ fn joined(alloc: Global, folder: &str, name: &str) -> Result<String, Memory> {
 }
 
 impl Paths {
-    pub(crate) fn new(alloc: Global, folder: &str) -> Result<Paths, Memory> {
+    pub(crate) fn new(alloc: Global, folder: &str) -> Result<Paths, Memory>
+        ensures { IfOk result (λ paths. paths ≡ names_in folder.now) }
+    {
         Ok(Paths {
             folder: String::from_str(alloc, folder)?,
             parent: joined(alloc, folder, "..")?,
@@ -35,7 +60,9 @@ impl Paths {
     }
 
     /// The file of a side.
-    pub(crate) fn side(&self, side: Side) -> &str {
+    pub(crate) fn side(&self, side: Side) -> &str
+        ensures { result.now ≡ name_of_side side self.now }
+    {
         match side {
             Side::A => self.a.as_str(),
             Side::B => self.b.as_str(),
