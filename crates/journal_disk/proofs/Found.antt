@@ -191,7 +191,7 @@ blank_closed (x ∷ y) h long = (x, y, (λ is_open. by (ap (λ t. t || not (x ==
         pick false false e h = cc h
 
 -- the state of side A after what makes a journal
-rests_made : (trace : List Event) (bytes : List ℕ) (is_short : Bool) → disk A trace ≡ at_once bytes → head bytes ≡ Blank → is_short ≡ nat_lt (length bytes) 18 → Rests (disk A (trace ++ making is_short)) (le 8 1) []
+pub rests_made : (trace : List Event) (bytes : List ℕ) (is_short : Bool) → disk A trace ≡ at_once bytes → head bytes ≡ Blank → is_short ≡ nat_lt (length bytes) 18 → Rests (disk A (trace ++ making is_short)) (le 8 1) []
 rests_made trace bytes true is blank short =
     let s : IsShort (disk A trace) = record { bytes = bytes; is = is; short = ltb-true (length bytes) 18 (sym short) } in
     subst (λ (d : Disk). Rests d (le 8 1) []) (sym (disk_more A trace (making true))) (header_rests _ (closed_header _ (short_closed (disk A trace) s)))

@@ -1,3 +1,4 @@
+pub mod Bytes
 pub mod Chains
 pub mod Prefixes
 pub mod Walking
@@ -6,3 +7,11 @@ pub mod Found
 pub mod Made
 pub mod Opening
 pub mod Holding
+pub mod Shutting
+pub mod CompactSteps
+pub mod CompactImages
+pub mod CompactMoments
+pub mod Leaving
+pub mod EpochLaws
+pub mod PourLaws
+pub mod CompactExits

@@ -1,4 +1,7 @@
 pub mod Before
+pub mod Compacting
+pub mod Compactions
+pub mod Epochs
 pub mod Faults
 pub mod Fronts
 pub mod Opening

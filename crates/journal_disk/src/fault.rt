@@ -1,5 +1,5 @@
 ghost use Rattle.std.specs.Prelude.{◌≡◌};
-ghost use Rattle.journal_disk.specs.Faults.{open_fault, append_fault};
+ghost use Rattle.journal_disk.specs.Faults.{open_fault, append_fault, compact_fault};
 ghost use Rattle.journal_disk.specs.declared.fault.OpenFault.TheVariants as faults;
 
 use plant::{Fault, Side};
@@ -28,6 +28,15 @@ pub enum AppendFault {
     Stopped,
 }
 
+/// Why a journal was not moved onto the other side. After any of these it has to be opened anew.
+#[derive(Clone, Copy, Debug, PartialEq, Eq)]
+pub enum CompactFault {
+    /// The disk failed.
+    Plant,
+    /// The plant is stopped.
+    Stopped,
+}
+
 impl From<Fault> for OpenFault {
     ghost from_gives = { λ fault made. made ≡ open_fault fault };
 
@@ -46,6 +55,17 @@ impl From<Fault> for AppendFault {
         match fault {
             Fault::Failed => AppendFault::Plant,
             Fault::Stopped => AppendFault::Stopped,
+        }
+    }
+}
+
+impl From<Fault> for CompactFault {
+    ghost from_gives = { λ fault made. made ≡ compact_fault fault };
+
+    fn from(fault: Fault) -> CompactFault {
+        match fault {
+            Fault::Failed => CompactFault::Plant,
+            Fault::Stopped => CompactFault::Stopped,
         }
     }
 }

@@ -35,7 +35,8 @@ pub enum Place {
     Wrong(Side),
 }
 
-fn epoch_in(bytes: &[u8]) -> u64
+/// The epoch at the front of these bytes.
+pub fn epoch_in(bytes: &[u8]) -> u64
     requires { 8 ≤ length bytes.now }
     ensures { result ≡ number (take 8 bytes.now) }
 {

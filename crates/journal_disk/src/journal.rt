@@ -13,6 +13,8 @@ pub struct Journal {
     pub(crate) gate: u64,
     /// The most bytes of a side.
     pub(crate) limit: u64,
+    /// How often it was moved onto the other side, and 1.
+    pub(crate) epoch: u64,
     ghost gate_fits: { gate + 1 < 2 ^ 64 },
     ghost limit_fits: { limit ≤ 2 ^ 32 },
 }
@@ -25,6 +27,7 @@ impl Journal {
     ghost use Rattle.journal_rec.specs.Payloads.{IsBody};
     ghost use Rattle.journal_rec.specs.declared.record.Record.{Record};
     ghost use Rattle.journal_disk.specs.Standing.{side_of, gate_of, length_of, limit_of, IsAt, Appends, Moments};
+    ghost use Rattle.journal_disk.specs.Epochs.{epoch_of, HasEpoch};
 
     /// The side that records are appended to.
     pub fn side(&self) -> Side
@@ -48,6 +51,13 @@ impl Journal {
         self.gate + 1
     }
 
+    /// Its epoch: the side with the greater one is live.
+    pub fn epoch(&self) -> u64
+        ensures { result ≡ epoch_of self.now }
+    {
+        self.epoch
+    }
+
     /// Appends a record. After `Ok` it is durable; after `Plant` or `Stopped` the journal has to be opened anew.
     pub fn append<P: Plant>(&mut self, encoded: &Encoded, plant: &mut P) -> Result<(), AppendFault>
         // Both sides are as this journal's last call left them.
@@ -67,6 +77,9 @@ impl Journal {
         ensures length { OnOk result (length_of self.new ≡ length_of self.old + length encoded.now) }
         ensures side { side_of self.new ≡ side_of self.old }
         ensures limit { limit_of self.new ≡ limit_of self.old }
+        ensures epoch { epoch_of self.new ≡ epoch_of self.old }
+        ensures of_epoch { OnOk result ((r : Record) (rs : List Record) → IsBody encoded.now r → IfSome (P.seen plant.old).told (λ t. IsAt t.trace self.old rs → HasEpoch t.trace self.old
+            → IfSome (P.seen plant.new).told (λ u. HasEpoch u.trace self.new))) }
         ensures err { OnErr result (self.new ≡ self.old) }
     {
         self.append_steps(encoded, plant)
@@ -91,6 +104,7 @@ impl Journal {
         ensures length { OnOk result (length_of self.new ≡ length_of self.old + length encoded.now) }
         ensures side { side_of self.new ≡ side_of self.old }
         ensures limit { limit_of self.new ≡ limit_of self.old }
+        ensures epoch { epoch_of self.new ≡ epoch_of self.old }
         ensures err { OnErr result (self.new ≡ self.old) }
     {
         let length = self.length();

@@ -1,14 +1,17 @@
-//! The journal on both sides of the disk: its opening, its gates, and appending.
+//! The journal on both sides of the disk: its opening, its gates, appending, and its move onto the other side.
 #![tactic(auto)]
 
+mod compact;
+mod emptying;
 mod fault;
 mod front;
 mod journal;
 mod make;
 mod open;
+mod pouring;
 mod sides;
 mod walk;
 
-pub use fault::{AppendFault, OpenFault};
+pub use fault::{AppendFault, CompactFault, OpenFault};
 pub use journal::Journal;
 pub use open::Opened;

@@ -1,20 +1,22 @@
-ghost use Rattle.std.specs.Prelude.{◌≡◌, ◌↔◌, ◌≤◌, ◌^◌, ℕ, List, Err, length, IfOk, IfSome, IsErrOf, IsTrue};
+ghost use Rattle.std.specs.Prelude.{◌≡◌, ◌↔◌, ◌≤◌, ◌^◌, ℕ, List, Err, length, take, drop, IfOk, IfSome, IsErrOf, IsTrue};
 ghost use Rattle.plant.specs.Calls.{Rose};
 ghost use Rattle.plant.specs.Disks.{disk};
 ghost use Rattle.plant.specs.declared.step.Side.{Side as AnySide};
 ghost use Rattle.plant.specs.declared.step.Side.TheVariants.{A, B};
 ghost use Rattle.journal_rec.specs.declared.record.Record.{Record};
+ghost use Rattle.journal_rec.specs.Payloads.{number};
 ghost use Rattle.journal_model.specs.Journals.{Bad, head};
 ghost use Rattle.journal_disk.specs.Fronts.{seen, place_of};
 ghost use Rattle.journal_disk.specs.Walks.{placed};
 ghost use Rattle.journal_disk.specs.Standing.{IsAt, HasAll, Holds, limit_of};
+ghost use Rattle.journal_disk.specs.Epochs.{epoch_of, HasEpoch};
 ghost use Rattle.journal_disk.specs.Openings.{IsOpened};
 ghost use Rattle.journal_disk.specs.Opening.{Opens};
 ghost use Rattle.journal_disk.specs.Before.{IsOpening};
 ghost use Rattle.plant.specs.Events.{Event};
 ghost use Rattle.plant.specs.Told.{with_steps};
 
-use crate::front::{HEADER, Place, front_of, place_of};
+use crate::front::{HEADER, Place, epoch_in, front_of, place_of};
 use crate::make::make;
 use crate::sides::{read_side, sync_sides};
 use crate::walk::{FIRST, WalkFault, walk};
@@ -36,12 +38,19 @@ fn place_in(a: &[u8], b: &[u8]) -> Place
 fn opened(alloc: Global, side: Side, bytes: &[u8], limit: u64) -> Result<Opened, OpenFault>
     requires header { 18 ≤ length bytes.now }
     requires limit { limit ≤ 2 ^ 32 }
-    ensures { IsOpened side limit bytes.now result }
+    ensures opened { IsOpened side limit bytes.now result }
+    ensures epoch { IfOk result (λ opened. epoch_of opened.0 ≡ number (take 8 (drop 9 bytes.now))) }
 {
     match walk(alloc, bytes) {
         Ok(walked) => {
             let gate = walked.gate;
-            let journal = Journal { side, gate, limit };
+            let epoch = epoch_in(&bytes[9..]);
+            let journal = Journal {
+                side,
+                gate,
+                limit,
+                epoch,
+            };
             Ok((journal, walked.found))
         }
         Err(WalkFault::Bad(at)) => Err(OpenFault::Bad { side, at }),
@@ -63,6 +72,7 @@ impl Journal {
         ensures devices { (P.seen plant.new).faults.devices ≡ (P.seen plant.old).faults.devices }
         ensures stopped { IsErrOf result OpenFault.Stopped ↔ IsTrue (P.seen plant.new).stopped }
         ensures limit { IfOk result (λ opened. limit_of opened.0 ≡ limit) }
+        ensures epoch { IfOk result (λ opened. IfSome (P.seen plant.new).told (λ t. HasEpoch t.trace opened.0)) }
         ensures opens { (steps : List Event) × ((P.seen plant.new).told ≡ with_steps (P.seen plant.old).told steps) × IfSome (P.seen plant.old).told (λ t. Opens t.trace steps result) }
         ensures moments { (steps : List Event) × ((P.seen plant.new).told ≡ with_steps (P.seen plant.old).told steps) × IfSome (P.seen plant.old).told (λ t. IsOpening t.trace steps result) }
     {
@@ -73,8 +83,13 @@ impl Journal {
             Place::New => {
                 make(plant, a.len() < HEADER)?;
                 let gate = FIRST as u64;
-                let side = Side::A;
-                Ok((Journal { side, gate, limit }, Vec::new(alloc)))
+                let journal = Journal {
+                    side: Side::A,
+                    gate,
+                    limit,
+                    epoch: 1,
+                };
+                Ok((journal, Vec::new(alloc)))
             }
             Place::On(Side::A) => opened(alloc, Side::A, &a, limit),
             Place::On(Side::B) => opened(alloc, Side::B, &b, limit),

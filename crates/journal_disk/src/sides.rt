@@ -11,8 +11,8 @@ use crate::OpenFault;
 use plant::{Plant, Side};
 use std::alloc::Global;
 
-/// How many bytes are read at a time.
-const PIECE: usize = 65_536;
+/// How many bytes are read or written at a time.
+pub const PIECE: usize = 65_536;
 
 /// Makes both sides durable as they read.
 pub fn sync_sides<P: Plant>(plant: &mut P) -> Result<(), OpenFault>
@@ -54,8 +54,8 @@ fn read_piece<P: Plant>(
     Ok(())
 }
 
-/// How much is read at once of so many bytes.
-fn piece_of(left: usize) -> usize
+/// How much is read or written at once of so many bytes.
+pub fn piece_of(left: usize) -> usize
     requires { 0 < left }
     ensures some { 0 < result }
     ensures piece { result ≤ PIECE }

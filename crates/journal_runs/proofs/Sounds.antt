@@ -26,7 +26,7 @@ use Rattle.journal_runs.specs.Working.{Works}
 use Rattle.journal_runs.proofs.Images.{reads_possible, reads_on}
 
 -- without a device command the world stays
-world_stays : (steps : List Event) (w : World) → has_command steps ≡ false → fold world_after w steps ≡ w
+pub world_stays : (steps : List Event) (w : World) → has_command steps ≡ false → fold world_after w steps ≡ w
 world_stays [] w quiet = refl
 world_stays (Wrote side at bytes ∷ steps) w quiet = world_stays steps w quiet
 world_stays (Synced side ∷ steps) w quiet = world_stays steps w quiet
@@ -35,7 +35,7 @@ world_stays (Missed side ∷ steps) w quiet = world_stays steps w quiet
 world_stays (Did op applied answer ∷ steps) w quiet = absurd (cc quiet)
 world_stays (Restarted a b ∷ steps) w quiet = world_stays steps w quiet
 
-take_quiet : (n : ℕ) (steps : List Event) → has_command steps ≡ false → has_command (take n steps) ≡ false
+pub take_quiet : (n : ℕ) (steps : List Event) → has_command steps ≡ false → has_command (take n steps) ≡ false
 take_quiet n steps quiet = (or_parts _ _ (sym (list_any-append is_command (take n steps) (drop n steps)) ∙ ap has_command (take-append-drop n steps) ∙ quiet)).0
 
 -- the same records have one length, but for a new journal, which is 0 or 18 bytes long
@@ -86,7 +86,7 @@ moment_sound t trace front quiet before now a b possible =
       subst (λ w. Keeps w st) (sym (world_more trace front ∙ world_stays front (world_of trace) quiet)) kept,
     )
 
-back_to : (m n : ℕ) → m < n → n ≡ m + (n - m)
+pub back_to : (m n : ℕ) → m < n → n ≡ m + (n - m)
 back_to m n above = omega arith
 
 -- EACH MOMENT

@@ -1,10 +1,13 @@
-//! What the calls of a journal leave over a whole trace: openings and appends, and starts of a stopped plant.
+//! What the calls of a journal leave over a whole trace: openings, appends and moves onto the other side, and starts of a stopped plant.
 #![tactic(auto)]
 
-ghost use Rattle.std.specs.Prelude.{◌≡◌, ◌↔◌, ◌≤◌, ◌+◌, ◌*◌, ◌^◌, ℕ, true, false, List, [], ◌∷◌, ◌++◌, count_by, Result, Ok, Err};
+ghost use Rattle.std.specs.Prelude.{◌≡◌, ◌↔◌, ◌≤◌, ◌+◌, ◌*◌, ◌^◌, ℕ, Bool, true, false, List, [], ◌∷◌, ◌++◌, count_by, Result, Ok, Err};
 ghost use Rattle.std.specs.Global.{Vec};
 ghost use Rattle.plant.specs.Disks.{disk, ArePossible};
-ghost use Rattle.plant.specs.Events.{Event, Restarted};
+ghost use Rattle.plant.specs.Events.{Event, Did, Restarted};
+ghost use Rattle.plant.specs.declared.device.Answer.{Answer};
+ghost use Rattle.plant.specs.declared.device.DeviceOp.{DeviceOp};
+ghost use Rattle.plant.specs.declared.device.Fault.{Fault};
 ghost use Rattle.plant.specs.declared.step.Side.{Side};
 ghost use Rattle.plant.specs.declared.step.Side.TheVariants.{A, B};
 ghost use Rattle.journal_rec.specs.declared.record.Record.{Record};
@@ -13,9 +16,14 @@ ghost use Rattle.lab_model.specs.Sound.{is_moving};
 ghost use Rattle.journal_model.specs.Journals.{Records, Bad, On, live, head, journal_length};
 ghost use Rattle.journal_model.specs.Appends.{All, Run, added};
 ghost use Rattle.records_model.specs.Labs.{LabState, Texts, AreCanonical, LabOf, StopsAt, at_first};
-ghost use Rattle.records_model.specs.Works.{AtWork, IsSound, MayAppend};
+ghost use Rattle.records_model.specs.Works.{AtWork, IsSound, HasRoom, MayAppend};
+ghost use Rattle.journal_packed.specs.Packing.{ArePacked, side_length};
 ghost use Rattle.journal_disk.specs.Before.{IsOpening, AreAsBefore, AreSettled, ReadAlike, are_synced};
+ghost use Rattle.journal_disk.specs.Compactions.{Compacts, Shifts};
+ghost use Rattle.journal_disk.specs.Epochs.{HasEpoch};
 ghost use Rattle.journal_disk.specs.Standing.{IsAt, side_of, gate_of, length_of, Ends};
+ghost use Rattle.journal_disk.specs.declared.fault.CompactFault.{CompactFault};
+ghost use Rattle.journal_disk.specs.declared.fault.CompactFault.TheVariants as compacting;
 ghost use Rattle.journal_disk.specs.declared.fault.OpenFault.{OpenFault};
 ghost use Rattle.journal_disk.specs.declared.fault.OpenFault.TheVariants as opening;
 ghost use Rattle.journal_disk.specs.declared.fault.AppendFault.{AppendFault};
@@ -64,6 +72,34 @@ pub fn appends()
         → has_miss (added (side_of j) (gate_of j) r run ++ more) ≡ false }
     ensures failed { (j : Journal) (r : Record) (run : Run) (more : List Event) → Ends (side_of j) (Err appending.Plant) run more
         → has_miss (added (side_of j) (gate_of j) r run ++ more) ≡ true }
+{}
+
+/// A journal's move onto the other side, with records of the same lab for which there is room: a sound trace stays sound through each of its
+/// steps, and each image stands for that lab; after `Ok` the journal is at work with these records. It sends no device command and starts no
+/// plant; no call failed after `Ok`, and one did after `Plant`. There is room for records that are no longer than the journal.
+pub fn compactions()
+    ensures sound { (t : Texts) (trace steps : List Event) (j : Journal) (rs ps : List Record) (s : LabState) (packed : List ℕ)
+        (result : Result (Unit {0}) CompactFault) → Works t trace j rs s → LabOf t ps s → HasRoom ps s → Compacts trace steps j packed result
+        → Shifts trace steps (side_of j) rs ps result → IsSound t (trace ++ steps) }
+    ensures stand { (t : Texts) (trace steps : List Event) (j : Journal) (rs ps : List Record) (s : LabState) (result : Result (Unit {0}) CompactFault)
+        → Works t trace j rs s → LabOf t ps s → Shifts trace steps (side_of j) rs ps result → AllStandFor t (trace ++ steps) s }
+    ensures works { (t : Texts) (trace steps : List Event) (j k : Journal) (rs ps : List Record) (s : LabState) (packed : List ℕ)
+        (result : Result (Unit {0}) CompactFault) → Works t trace j rs s → LabOf t ps s → HasRoom ps s → Compacts trace steps j packed result
+        → Shifts trace steps (side_of j) rs ps result → AreCanonical t → IsAt (trace ++ steps) k ps → Works t (trace ++ steps) k ps s }
+    ensures quiet { (trace steps : List Event) (j : Journal) (packed : List ℕ) (result : Result (Unit {0}) CompactFault)
+        → Compacts trace steps j packed result → (has_command steps ≡ false) × (has_restart steps ≡ false) }
+    ensures done { (trace steps : List Event) (j : Journal) (packed : List ℕ) (done : Unit {0}) → Compacts trace steps j packed (Ok done)
+        → has_miss steps ≡ false }
+    ensures failed { (trace steps : List Event) (j : Journal) (packed : List ℕ) → Compacts trace steps j packed (Err compacting.Plant)
+        → has_miss steps ≡ true }
+    ensures room { (t : Texts) (trace : List Event) (j : Journal) (rs ps : List Record) (s : LabState) (packed : List ℕ) → Works t trace j rs s
+        → ArePacked packed ps → side_length packed ≤ length_of j → HasRoom ps s }
+{}
+
+/// A device command leaves the epoch of a journal.
+pub fn epochs()
+    ensures { (trace : List Event) (j : Journal) (op : DeviceOp) (applied : Bool) (answer : Result Answer Fault) → HasEpoch trace j
+        → HasEpoch (trace ++ Did op applied answer ∷ []) j }
 {}
 
 /// Both sides as a journal's last call left them: what they read as is one of the possible images, and has its records on its side.

@@ -17,28 +17,29 @@ const TOP: &[u8] = b"node a pc linux\nnode b pc linux\nlink ab ab 100000 a b\n";
 
 const FIRST: &[u8] = b"node a pc1 pc\nnode b pc2 pc\nplug a:0 pc1:eth0\nplug b:0 pc2:eth0\n";
 
-const SECOND: &[u8] = b"node a pc3 pc\nnode b pc4 pc\nplug a:0 pc3:eth0\nplug b:0 pc4:eth0\n";
+pub(crate) const SECOND: &[u8] =
+    b"node a pc3 pc\nnode b pc4 pc\nplug a:0 pc3:eth0\nplug b:0 pc4:eth0\n";
 
 /// The parts of a payload, one behind another; before each text stand the four bytes of its length.
-type Payload = &'static [&'static [u8]];
+pub(crate) type Payload = &'static [&'static [u8]];
 
-const LAB_RECORD: Payload = &[b"\x01", b"\xc9\0\0\0", LAB];
+pub(crate) const LAB_RECORD: Payload = &[b"\x01", b"\xc9\0\0\0", LAB];
 
-const CREATE: Payload = &[b"\x02\x01A", b"\x36\0\0\0", TOP];
+pub(crate) const CREATE: Payload = &[b"\x02\x01A", b"\x36\0\0\0", TOP];
 
-const DELETE: Payload = &[b"\x03\x01A"];
+pub(crate) const DELETE: Payload = &[b"\x03\x01A"];
 
 /// A swap-in with the VLAN id 100, and what ends a move.
-const IN: Payload = &[b"\x04\x01A\x01", b"\x40\0\0\0", FIRST, b"\x01\0\x64\0"];
+pub(crate) const IN: Payload = &[b"\x04\x01A\x01", b"\x40\0\0\0", FIRST, b"\x01\0\x64\0"];
 
-const OUT: Payload = &[b"\x04\x01A\x02"];
+pub(crate) const OUT: Payload = &[b"\x04\x01A\x02"];
 
-const COMMIT: Payload = &[b"\x05\x01A"];
+pub(crate) const COMMIT: Payload = &[b"\x05\x01A"];
 
-const ABORT: Payload = &[b"\x06\x01A"];
+pub(crate) const ABORT: Payload = &[b"\x06\x01A"];
 
 /// Changes with the VLAN id 101: to other nodes, and on the same ones.
-const CHANGE: Payload = &[
+pub(crate) const CHANGE: Payload = &[
     b"\x04\x01A\x03",
     b"\x36\0\0\0",
     TOP,
@@ -84,7 +85,11 @@ fn follows(state: &mut LabState, entry: &Record) -> Result<bool, Fail>
     }
 }
 
-fn says_follows(rt: &HostRuntime, state: &mut LabState, says: Payload) -> Result<bool, Fail> {
+pub(crate) fn says_follows(
+    rt: &HostRuntime,
+    state: &mut LabState,
+    says: Payload,
+) -> Result<bool, Fail> {
     let entry = record(rt, says)?;
     follows(state, &entry)
 }

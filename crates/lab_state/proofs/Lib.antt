@@ -3,8 +3,12 @@ pub mod Canonical
 pub mod EnterLaws
 pub mod JudgeLaws
 pub mod MoveLaws
+pub mod Formed
 pub mod Named
+pub mod PackLaws
+pub mod PackSteps
 pub mod ReplayLaws
 pub mod SizeLaws
 pub mod SwapLaws
+pub mod Taken
 pub mod TextLaws

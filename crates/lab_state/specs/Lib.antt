@@ -6,6 +6,7 @@ pub mod Experiments
 pub mod Judged
 pub mod Kept
 pub mod Moves
+pub mod Packing
 pub mod Replays
 pub mod Seen
 pub mod Texts

@@ -8,6 +8,7 @@ mod experiments;
 mod fault;
 mod judging;
 mod laws;
+mod packing;
 mod prepared;
 mod replaying;
 mod state;

@@ -2,6 +2,8 @@
 #![tactic(auto)]
 
 #[cfg(test)]
+mod compact_tests;
+#[cfg(test)]
 mod drill_tests;
 #[cfg(test)]
 mod journal_tests;

@@ -9,13 +9,14 @@ use Rattle.journal_disk.specs.Openings.{IsOpened}
 use Rattle.journal_disk.proofs.Opening.{saw, syncs_exit, reads_exit, made_exit, new_exit, on_exit, wrong_exit, moments_of}
 use Rattle.journal_disk.proofs.Found.{read_in, opened_ok, opened_bad, wrong_bad, made_ok}
 use Rattle.journal_disk.proofs.Holding.{holds_read}
+use Rattle.journal_disk.proofs.EpochLaws.{IsOfEpoch, opened_epoch, made_epoch}
 use Rattle.journal_disk.proofs.journal.Journal.open.Goals as goal
 
 pub returns-in-On-A-clause-holds : goal.returns-in-On-A-clause-holds
-returns-in-On-A-clause-holds g c = holds_read A c.args.limit _ c.opened.result c.opened.ensures
+returns-in-On-A-clause-holds g c = holds_read A c.args.limit _ c.opened.result c.opened.ensures.opened
 
 pub returns-in-On-B-clause-holds : goal.returns-in-On-B-clause-holds
-returns-in-On-B-clause-holds g c = holds_read B c.args.limit _ c.opened-in-On-B.result c.opened-in-On-B.ensures
+returns-in-On-B-clause-holds g c = holds_read B c.args.limit _ c.opened-in-On-B.result c.opened-in-On-B.ensures.opened
 
 pub returns-in-On-A-clause-ok : goal.returns-in-On-A-clause-ok
 returns-in-On-A-clause-ok g c =
@@ -25,7 +26,7 @@ returns-in-On-A-clause-ok g c =
     let read = read_in (g.P.Plant.seen c.args.plant.now).told (g.P.Plant.seen c.sync_sides.new.plant).told (g.P.Plant.seen c.read_side.new.plant).told (g.P.Plant.seen c.read_side-2.new.plant).told a b s c.in_ok-a.ensures.trace c.in_ok-b.ensures.trace c.in_ok-a.ensures.bytes c.in_ok-b.ensures.bytes in
     let here : place_of (seen (head a)) (seen (head b)) ≡ c.place_in.result = (λ i. place_of (seen (head (sym c.deref.ensures.value i))) (seen (head (sym c.deref-2.ensures.value i)))) ∙ sym c.place_in.ensures in
     let place = here ∙ c.in-On-A.is ∙ ap places.On c.in-On-A.field-0-is in
-    let opened = subst (λ (l : List ℕ). IsOpened A c.args.limit l c.opened.result) c.deref-in-On-A.ensures.value c.opened.ensures in
+    let opened = subst (λ (l : List ℕ). IsOpened A c.args.limit l c.opened.result) c.deref-in-On-A.ensures.value c.opened.ensures.opened in
     opened_ok (g.P.Plant.seen c.read_side-2.new.plant).told a b A c.args.limit c.opened.result read place opened
 
 pub returns-in-On-A-clause-bad : goal.returns-in-On-A-clause-bad
@@ -36,7 +37,7 @@ returns-in-On-A-clause-bad g c side at is =
     let read = read_in (g.P.Plant.seen c.args.plant.now).told (g.P.Plant.seen c.sync_sides.new.plant).told (g.P.Plant.seen c.read_side.new.plant).told (g.P.Plant.seen c.read_side-2.new.plant).told a b s c.in_ok-a.ensures.trace c.in_ok-b.ensures.trace c.in_ok-a.ensures.bytes c.in_ok-b.ensures.bytes in
     let here : place_of (seen (head a)) (seen (head b)) ≡ c.place_in.result = (λ i. place_of (seen (head (sym c.deref.ensures.value i))) (seen (head (sym c.deref-2.ensures.value i)))) ∙ sym c.place_in.ensures in
     let place = here ∙ c.in-On-A.is ∙ ap places.On c.in-On-A.field-0-is in
-    let opened = subst (λ (l : List ℕ). IsOpened A c.args.limit l c.opened.result) c.deref-in-On-A.ensures.value c.opened.ensures in
+    let opened = subst (λ (l : List ℕ). IsOpened A c.args.limit l c.opened.result) c.deref-in-On-A.ensures.value c.opened.ensures.opened in
     opened_bad (g.P.Plant.seen c.read_side-2.new.plant).told a b A c.args.limit c.opened.result side at read place opened is
 
 pub returns-in-On-B-clause-ok : goal.returns-in-On-B-clause-ok
@@ -47,7 +48,7 @@ returns-in-On-B-clause-ok g c =
     let read = read_in (g.P.Plant.seen c.args.plant.now).told (g.P.Plant.seen c.sync_sides.new.plant).told (g.P.Plant.seen c.read_side.new.plant).told (g.P.Plant.seen c.read_side-2.new.plant).told a b s c.in_ok-a.ensures.trace c.in_ok-b.ensures.trace c.in_ok-a.ensures.bytes c.in_ok-b.ensures.bytes in
     let here : place_of (seen (head a)) (seen (head b)) ≡ c.place_in.result = (λ i. place_of (seen (head (sym c.deref.ensures.value i))) (seen (head (sym c.deref-2.ensures.value i)))) ∙ sym c.place_in.ensures in
     let place = here ∙ c.in-On-B.is ∙ ap places.On c.in-On-B.field-0-is in
-    let opened = subst (λ (l : List ℕ). IsOpened B c.args.limit l c.opened-in-On-B.result) c.deref-in-On-B.ensures.value c.opened-in-On-B.ensures in
+    let opened = subst (λ (l : List ℕ). IsOpened B c.args.limit l c.opened-in-On-B.result) c.deref-in-On-B.ensures.value c.opened-in-On-B.ensures.opened in
     opened_ok (g.P.Plant.seen c.read_side-2.new.plant).told a b B c.args.limit c.opened-in-On-B.result read place opened
 
 pub returns-in-On-B-clause-bad : goal.returns-in-On-B-clause-bad
@@ -58,7 +59,7 @@ returns-in-On-B-clause-bad g c side at is =
     let read = read_in (g.P.Plant.seen c.args.plant.now).told (g.P.Plant.seen c.sync_sides.new.plant).told (g.P.Plant.seen c.read_side.new.plant).told (g.P.Plant.seen c.read_side-2.new.plant).told a b s c.in_ok-a.ensures.trace c.in_ok-b.ensures.trace c.in_ok-a.ensures.bytes c.in_ok-b.ensures.bytes in
     let here : place_of (seen (head a)) (seen (head b)) ≡ c.place_in.result = (λ i. place_of (seen (head (sym c.deref.ensures.value i))) (seen (head (sym c.deref-2.ensures.value i)))) ∙ sym c.place_in.ensures in
     let place = here ∙ c.in-On-B.is ∙ ap places.On c.in-On-B.field-0-is in
-    let opened = subst (λ (l : List ℕ). IsOpened B c.args.limit l c.opened-in-On-B.result) c.deref-in-On-B.ensures.value c.opened-in-On-B.ensures in
+    let opened = subst (λ (l : List ℕ). IsOpened B c.args.limit l c.opened-in-On-B.result) c.deref-in-On-B.ensures.value c.opened-in-On-B.ensures.opened in
     opened_bad (g.P.Plant.seen c.read_side-2.new.plant).told a b B c.args.limit c.opened-in-On-B.result side at read place opened is
 
 pub returns-clause-bad : goal.returns-clause-bad
@@ -149,7 +150,7 @@ returns-in-On-A-clause-opens g c =
     let synced = c.in_ok-b.ensures.trace ∙ c.in_ok-a.ensures.trace ∙ first in
     let here : place_of (seen (head a)) (seen (head b)) ≡ c.place_in.result = (λ i. place_of (seen (head (sym c.deref.ensures.value i))) (seen (head (sym c.deref-2.ensures.value i)))) ∙ sym c.place_in.ensures in
     let place = here ∙ c.in-On-A.is ∙ ap places.On c.in-On-A.field-0-is in
-    let opened = subst (λ (l : List ℕ). IsOpened A c.args.limit l c.opened.result) c.deref-in-On-A.ensures.value c.opened.ensures in
+    let opened = subst (λ (l : List ℕ). IsOpened A c.args.limit l c.opened.result) c.deref-in-On-A.ensures.value c.opened.ensures.opened in
     on_exit told (g.P.Plant.seen c.read_side-2.new.plant).told (g.P.Plant.seen c.read_side-2.new.plant).told a b saw_so synced A c.args.limit c.opened.result place opened
 
 pub returns-in-On-A-clause-moments : goal.returns-in-On-A-clause-moments
@@ -165,7 +166,7 @@ returns-in-On-B-clause-opens g c =
     let synced = c.in_ok-b.ensures.trace ∙ c.in_ok-a.ensures.trace ∙ first in
     let here : place_of (seen (head a)) (seen (head b)) ≡ c.place_in.result = (λ i. place_of (seen (head (sym c.deref.ensures.value i))) (seen (head (sym c.deref-2.ensures.value i)))) ∙ sym c.place_in.ensures in
     let place = here ∙ c.in-On-B.is ∙ ap places.On c.in-On-B.field-0-is in
-    let opened = subst (λ (l : List ℕ). IsOpened B c.args.limit l c.opened-in-On-B.result) c.deref-in-On-B.ensures.value c.opened-in-On-B.ensures in
+    let opened = subst (λ (l : List ℕ). IsOpened B c.args.limit l c.opened-in-On-B.result) c.deref-in-On-B.ensures.value c.opened-in-On-B.ensures.opened in
     on_exit told (g.P.Plant.seen c.read_side-2.new.plant).told (g.P.Plant.seen c.read_side-2.new.plant).told a b saw_so synced B c.args.limit c.opened-in-On-B.result place opened
 
 pub returns-in-On-B-clause-moments : goal.returns-in-On-B-clause-moments
@@ -179,3 +180,37 @@ returns-clause-opens g c =
 
 pub returns-clause-moments : goal.returns-clause-moments
 returns-clause-moments g c = moments_of (g.P.Plant.seen c.args.plant.now).told (g.P.Plant.seen c.read_side-2.new.plant).told _ (g.met.P.Plant.reads_possible c.args.plant.now) (returns-clause-opens g c)
+
+pub returns-in-New-clause-epoch : goal.returns-in-New-clause-epoch
+returns-in-New-clause-epoch g c =
+    let s = c.in_ok-sync_sides.ensures.ok in
+    let a = c.in_ok-a.a.items in
+    let b = c.in_ok-b.b.items in
+    let read = read_in (g.P.Plant.seen c.args.plant.now).told (g.P.Plant.seen c.sync_sides.new.plant).told (g.P.Plant.seen c.read_side.new.plant).told (g.P.Plant.seen c.read_side-2.new.plant).told a b s c.in_ok-a.ensures.trace c.in_ok-b.ensures.trace c.in_ok-a.ensures.bytes c.in_ok-b.ensures.bytes in
+    let here : place_of (seen (head a)) (seen (head b)) ≡ c.place_in.result = (λ i. place_of (seen (head (sym c.deref.ensures.value i))) (seen (head (sym c.deref-2.ensures.value i)))) ∙ sym c.place_in.ensures in
+    let short = ap (λ n. nat_lt n 18) (c.len.ensures ∙ c.in_ok-a.a.ok.0) in
+    made_epoch (g.P.Plant.seen c.read_side-2.new.plant).told (g.P.Plant.seen c.make.new.plant).told a b (nat_lt c.len.result 18) _ read (here ∙ c.in-New.is) short c.in_ok-make-in-New.ensures.ok refl refl
+
+pub returns-in-On-A-clause-epoch : goal.returns-in-On-A-clause-epoch
+returns-in-On-A-clause-epoch g c =
+    let s = c.in_ok-sync_sides.ensures.ok in
+    let a = c.in_ok-a.a.items in
+    let b = c.in_ok-b.b.items in
+    let read = read_in (g.P.Plant.seen c.args.plant.now).told (g.P.Plant.seen c.sync_sides.new.plant).told (g.P.Plant.seen c.read_side.new.plant).told (g.P.Plant.seen c.read_side-2.new.plant).told a b s c.in_ok-a.ensures.trace c.in_ok-b.ensures.trace c.in_ok-a.ensures.bytes c.in_ok-b.ensures.bytes in
+    let here : place_of (seen (head a)) (seen (head b)) ≡ c.place_in.result = (λ i. place_of (seen (head (sym c.deref.ensures.value i))) (seen (head (sym c.deref-2.ensures.value i)))) ∙ sym c.place_in.ensures in
+    let place = here ∙ c.in-On-A.is ∙ ap places.On c.in-On-A.field-0-is in
+    let opened = subst (λ (l : List ℕ). IsOpened A c.args.limit l c.opened.result) c.deref-in-On-A.ensures.value c.opened.ensures.opened in
+    let epoch = subst (λ (l : List ℕ). IsOfEpoch l c.opened.result) c.deref-in-On-A.ensures.value c.opened.ensures.epoch in
+    opened_epoch (g.P.Plant.seen c.read_side-2.new.plant).told a b A c.args.limit c.opened.result read place opened epoch
+
+pub returns-in-On-B-clause-epoch : goal.returns-in-On-B-clause-epoch
+returns-in-On-B-clause-epoch g c =
+    let s = c.in_ok-sync_sides.ensures.ok in
+    let a = c.in_ok-a.a.items in
+    let b = c.in_ok-b.b.items in
+    let read = read_in (g.P.Plant.seen c.args.plant.now).told (g.P.Plant.seen c.sync_sides.new.plant).told (g.P.Plant.seen c.read_side.new.plant).told (g.P.Plant.seen c.read_side-2.new.plant).told a b s c.in_ok-a.ensures.trace c.in_ok-b.ensures.trace c.in_ok-a.ensures.bytes c.in_ok-b.ensures.bytes in
+    let here : place_of (seen (head a)) (seen (head b)) ≡ c.place_in.result = (λ i. place_of (seen (head (sym c.deref.ensures.value i))) (seen (head (sym c.deref-2.ensures.value i)))) ∙ sym c.place_in.ensures in
+    let place = here ∙ c.in-On-B.is ∙ ap places.On c.in-On-B.field-0-is in
+    let opened = subst (λ (l : List ℕ). IsOpened B c.args.limit l c.opened-in-On-B.result) c.deref-in-On-B.ensures.value c.opened-in-On-B.ensures.opened in
+    let epoch = subst (λ (l : List ℕ). IsOfEpoch l c.opened-in-On-B.result) c.deref-in-On-B.ensures.value c.opened-in-On-B.ensures.epoch in
+    opened_epoch (g.P.Plant.seen c.read_side-2.new.plant).told a b B c.args.limit c.opened-in-On-B.result read place opened epoch

@@ -1,0 +1,128 @@
+-- A text that is written in pieces.
+use Rattle.std.proofs.Common.{◌≡◌, inl, inr, ℕ, ◌+◌, ◌-◌, ◌<◌, ◌≤◌, Bool, List, [], ◌∷◌, ◌++◌, length, take, drop, Option, Some, None, Result, Ok, Err, refl, sym, ap, ◌∙◌, subst, arith, append_assoc, length-append, take-append-drop}
+use Rattle.std.specs.List.{flat_map}
+use Rattle.std.specs.Prelude.{IfSome}
+use Rattle.std.proofs.lemmas.List.{append-nil, take_all, length-take}
+use Rattle.std.proofs.Math.Seq.{take-add}
+use Rattle.std.proofs.lemmas.Grind.{flat_map-append}
+use Rattle.lab_base.specs.Lists.{Has}
+use Rattle.lab_base.proofs.Members.{Has-append}
+use Rattle.plant.specs.Disks.{Disk, disk, put}
+use Rattle.plant.specs.DiskCalls.{WriteSteps}
+use Rattle.plant.specs.Events.{Event, Wrote}
+use Rattle.plant.specs.Told.{Told, with_steps}
+use Rattle.plant.specs.declared.device.Fault.{Fault}
+use Rattle.plant.specs.declared.device.Fault.TheVariants.{Failed, Stopped}
+use Rattle.plant.specs.declared.step.Side.{Side}
+use Rattle.plant.specs.declared.step.Side.TheVariants.{A, B}
+use Rattle.journal_rec.specs.Payloads.{le}
+use Rattle.journal_model.specs.Journals.{magic}
+use Rattle.journal_model.proofs.Traces.{disk_push, disk_more}
+use Rattle.journal_disk.specs.Compacting.{side_text, ArePieces, poured, IsLastOf, PourEnds, Pours}
+use Rattle.journal_disk.proofs.Chains.{chain, nothing_yet, write_ok, Came, IsLast, write_came}
+
+abbrev pub joined : List (List ℕ) → List ℕ
+joined pieces = flat_map (λ piece. piece) pieces
+
+-- a piece more
+poured_push : (side : Side) (at : ℕ) (pieces : List (List ℕ)) (piece : List ℕ) → poured side at (pieces ++ piece ∷ []) ≡ poured side at pieces ++ Wrote side (at + length (joined pieces)) piece ∷ []
+poured_push side at [] piece = ap (λ n. Wrote side n piece ∷ []) (same at)
+  where
+    same : (at : ℕ) → at ≡ at + 0
+    same at = omega arith
+poured_push side at (first ∷ pieces) piece =
+    ap (λ l. Wrote side at first ∷ l) (poured_push side (at + length first) pieces piece ∙ ap (λ n. poured side (at + length first) pieces ++ Wrote side n piece ∷ []) moved)
+  where
+    moved : (at + length first) + length (joined pieces) ≡ at + length (first ++ joined pieces)
+    moved = omega (arith, length-append first (joined pieces))
+
+pub pushed : (side : Side) (at n : ℕ) (pieces : List (List ℕ)) (piece : List ℕ) → n ≡ at + length (joined pieces) → poured side at pieces ++ Wrote side n piece ∷ [] ≡ poured side at (pieces ++ piece ∷ [])
+pushed side at n pieces piece is = ap (λ m. poured side at pieces ++ Wrote side m piece ∷ []) is ∙ sym (poured_push side at pieces piece)
+
+pub no_pieces : (bytes : List ℕ) → ArePieces (take 0 bytes) []
+no_pieces bytes = record { whole = refl; short = λ piece none. absurd none }
+
+pub pieces_push : (bytes : List ℕ) (done size : ℕ) (pieces : List (List ℕ)) → ArePieces (take done bytes) pieces → done + size ≤ length bytes → size ≤ 65536 → ArePieces (take (done + size) bytes) (pieces ++ take size (drop done bytes) ∷ [])
+pieces_push bytes done size pieces are within small = record {
+  whole = flat_map-append (λ p. p) pieces (piece ∷ []) ∙ (λ i. are.whole i ++ append-nil piece i) ∙ sym (take-add done size bytes);
+  short = λ p has. elim (Has-append pieces (piece ∷ []) p has) [
+    | inl before ↦ are.short p before
+    | inr here ↦ elim here [ inl e ↦ subst (λ (l : List ℕ). length l ≤ 65536) e (omega (arith, length-take size (drop done bytes), small)) | inr none ↦ absurd none ]
+  ];
+}
+  where
+    piece : List ℕ
+    piece = take size (drop done bytes)
+
+pub all_pieces : (bytes : List ℕ) (done : ℕ) (pieces : List (List ℕ)) → length bytes ≤ done → ArePieces (take done bytes) pieces → ArePieces bytes pieces
+all_pieces bytes done pieces all are = subst (λ l. ArePieces l pieces) (take_all done bytes all) are
+
+-- how long what was written of bytes is
+pub joined_length : (bytes : List ℕ) (done : ℕ) (pieces : List (List ℕ)) → done ≤ length bytes → ArePieces (take done bytes) pieces → length (joined pieces) ≡ done
+joined_length bytes done pieces within are = omega (arith, ap length are.whole, length-take done bytes)
+
+-- a side is longer after a write
+put_long : (old bytes : List ℕ) (at : ℕ) → at ≤ length old → at + length bytes ≤ length (put old at bytes)
+put_long old bytes at within = omega (arith, length-append (take at old ++ bytes) (drop (at + length bytes) old), length-append (take at old) bytes, length-take at old)
+
+pub wrote_long : (side : Side) (one two : Option Told) (at : ℕ) (bytes : List ℕ) → IfSome one (λ t. at ≤ length (disk side t.trace).reads) → two ≡ with_steps one (Wrote side at bytes ∷ []) → IfSome two (λ t. at + length bytes ≤ length (disk side t.trace).reads)
+wrote_long side None two at bytes within is = subst (λ (o : Option Told). IfSome o (λ t. at + length bytes ≤ length (disk side t.trace).reads)) (sym is) tt
+wrote_long side (Some t) two at bytes within is = subst (λ (o : Option Told). IfSome o (λ t. at + length bytes ≤ length (disk side t.trace).reads)) (sym is) (by side within)
+  where
+    by : (side : Side) → at ≤ length (disk side t.trace).reads → at + length bytes ≤ length (disk side (t.trace ++ Wrote side at bytes ∷ [])).reads
+    by A h = subst (λ (d : Disk). at + length bytes ≤ length d.reads) (sym (disk_push A t.trace (Wrote A at bytes))) (put_long (disk A t.trace).reads bytes at h)
+    by B h = subst (λ (d : Disk). at + length bytes ≤ length d.reads) (sym (disk_push B t.trace (Wrote B at bytes))) (put_long (disk B t.trace).reads bytes at h)
+
+last_of : (side : Side) (fault : Fault) (more : List Event) → IsLast side fault more → IsLastOf side fault more
+last_of side Failed more h = h
+last_of side Stopped more h = h
+
+-- a write that was not acknowledged
+pub pours_left : (side : Side) (at n : ℕ) (bytes : List ℕ) (old one two : Option Told) (pieces : List (List ℕ)) (piece : List ℕ) (stopped : Bool) (fault : Fault) (steps : List Event) → one ≡ with_steps old (poured side at pieces) → n ≡ at + length (joined pieces)
+    → two ≡ with_steps one steps → WriteSteps side n piece stopped (Err fault) steps → Pours side at bytes old two (Err fault)
+pours_left side at n bytes old one two pieces piece stopped fault steps first is second h =
+    let c = write_came (poured side at) (λ _. Unit {0}) old one two side pieces (λ other. pieces ++ other ∷ []) n piece stopped fault steps tt (λ _. tt) first (λ other len. pushed side at n pieces other is) second h in
+    record { pieces = c.far; more = c.more; trace = c.trace; ends = last_of side fault c.more c.last }
+
+pub pours_done : (side : Side) (at : ℕ) (bytes : List ℕ) (old new : Option Told) (pieces : List (List ℕ)) (u : Unit {0}) → ArePieces bytes pieces → new ≡ with_steps old (poured side at pieces) → Pours side at bytes old new (Ok u)
+pours_done side at bytes old new pieces u are is = record { pieces = pieces; more = []; trace = is ∙ ap (with_steps old) (sym (append-nil (poured side at pieces))); ends = (are, refl) }
+
+-- the first piece, with the header, and then the rest
+module _ (side : Side) (epoch first : ℕ) (records : List ℕ) (old one : Option Told) (written : one ≡ with_steps old (Wrote side 1 (side_text epoch (take first records)) ∷ [])) (within : first ≤ length records) (small : 16 + first ≤ 65536) where
+  head_length : length (side_text epoch (take first records)) ≡ 16 + first
+  head_length = omega (arith, length-append (magic ++ le 8 epoch) (take first records), length-take first records, within)
+
+  whole_text : side_text epoch (take first records) ++ drop first records ≡ side_text epoch records
+  whole_text = append_assoc (magic ++ le 8 epoch) (take first records) (drop first records) ∙ ap (λ l. side_text epoch l) (take-append-drop first records)
+
+  pieces_joined : (pieces : List (List ℕ)) → ArePieces (drop first records) pieces → ArePieces (side_text epoch records) (side_text epoch (take first records) ∷ pieces)
+  pieces_joined pieces are = record {
+    whole = ap (λ l. side_text epoch (take first records) ++ l) are.whole ∙ whole_text;
+    short = λ p has. elim has [ inl e ↦ subst (λ (l : List ℕ). length l ≤ 65536) e (omega (arith, head_length, small)) | inr more ↦ are.short p more ];
+  }
+
+  pub pours_joined : (new : Option Told) (n : ℕ) (result : Result (Unit {0}) Fault) → n ≡ 17 + first → Pours side n (drop first records) one new result → Pours side 1 (side_text epoch records) old new result
+  pours_joined new n result is p = record {
+    pieces = side_text epoch (take first records) ∷ p.pieces;
+    more = p.more;
+    trace = chain old one new (Wrote side 1 (side_text epoch (take first records)) ∷ []) (poured side n p.pieces ++ p.more) _ written p.trace
+        (ap (λ m. Wrote side 1 (side_text epoch (take first records)) ∷ (poured side m p.pieces ++ p.more)) (omega (arith, is, head_length)));
+    ends = by result p.ends;
+  }
+    where
+      by : (result : Result (Unit {0}) Fault) → PourEnds side (drop first records) result p.pieces p.more → PourEnds side (side_text epoch records) result (side_text epoch (take first records) ∷ p.pieces) p.more
+      by (Ok u) ends = (pieces_joined p.pieces ends.0, ends.1)
+      by (Err fault) ends = ends
+
+-- where the rest is to be written
+pub rest_within : (side : Side) (epoch first : ℕ) (records : List ℕ) (old one : Option Told) → IfSome old (λ t. 1 ≤ length (disk side t.trace).reads) → one ≡ with_steps old (Wrote side 1 (side_text epoch (take first records)) ∷ []) → first ≤ length records
+    → IfSome one (λ t. 17 + first ≤ length (disk side t.trace).reads)
+rest_within side epoch first records old one within is short =
+    let long = wrote_long side old one 1 (side_text epoch (take first records)) within is in
+    subst (λ n. IfSome one (λ t. n ≤ length (disk side t.trace).reads)) (size (length (side_text epoch (take first records))) first sized) long
+  where
+    size : (m n : ℕ) → m ≡ 16 + n → 1 + m ≡ 17 + n
+    size m n h = omega (arith, h)
+
+    sized : length (side_text epoch (take first records)) ≡ 16 + first
+    sized = omega (arith, length-append (magic ++ le 8 epoch) (take first records), length-take first records, short)

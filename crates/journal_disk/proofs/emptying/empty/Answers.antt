@@ -1,0 +1,15 @@
+use Rattle.std.proofs.Common.{Bool, sym, subst, ap, ◌∙◌}
+use Rattle.plant.specs.Told.{with_steps}
+use Rattle.journal_disk.specs.Compacting.{shutting}
+use Rattle.journal_disk.proofs.Chains.{nothing_yet}
+use Rattle.journal_disk.proofs.emptying.empty.Goals as goal
+
+pub returns-in_ok-shut-clause-leaves : goal.returns-in_ok-shut-clause-leaves
+returns-in_ok-shut-clause-leaves g c text =
+    let told = (g.P.Plant.seen c.args.plant.now).told in
+    c.shorten.ensures.leaves told c.args.unshut text (c.in_ok-shut.ensures.ok ∙ ap (λ (b : Bool). with_steps told (shutting c.args.side b)) (sym c.if-unshut.true))
+
+pub returns-else-unshut-clause-leaves : goal.returns-else-unshut-clause-leaves
+returns-else-unshut-clause-leaves g c text =
+    let told = (g.P.Plant.seen c.args.plant.now).told in
+    c.shorten-else-unshut.ensures.leaves told c.args.unshut text (nothing_yet told ∙ ap (λ (b : Bool). with_steps told (shutting c.args.side b)) (sym c.if-unshut.false))

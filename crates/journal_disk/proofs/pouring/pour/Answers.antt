@@ -1,0 +1,36 @@
+use Rattle.std.proofs.Common.{◌≡◌, ◌+◌, ◌∷◌, [], ◌≤◌, List, ℕ, take, drop, length, refl, sym, ap, subst, ◌∙◌, arith}
+use Rattle.std.specs.Prelude.{IfSome}
+use Rattle.std.proofs.lemmas.Result.{err_from_is_err_and}
+use Rattle.plant.specs.Disks.{disk}
+use Rattle.plant.specs.Events.{Wrote}
+use Rattle.plant.specs.Told.{with_steps}
+use Rattle.journal_disk.specs.Compacting.{side_text, Pours}
+use Rattle.journal_disk.proofs.Chains.{nothing_yet, write_ok}
+use Rattle.journal_disk.proofs.PourLaws.{pours_left, pours_joined, rest_within}
+use Rattle.journal_disk.proofs.pouring.pour.Goals as goal
+
+pub returns-in_err-pour_head-clause-pours : goal.returns-in_err-pour_head-clause-pours
+returns-in_err-pour_head-clause-pours g c =
+    let p = err_from_is_err_and c.from_residual.result c.from_residual.ensures.1 in
+    let t = c.in_err-pour_head.ensures.trace in
+    let told = (g.P.Plant.seen c.args.plant.now).told in
+    rw (p.1, p.2) (pours_left c.args.side 1 1 (side_text c.args.epoch c.args.records.now) told told (g.P.Plant.seen c.pour_head.new.plant).told [] (side_text c.args.epoch c.split_at.result.0.now) (g.P.Plant.seen c.args.plant.now).stopped c.in_err-pour_head.field-0.0 t.0 (nothing_yet told) refl t.1 t.2)
+
+pub pour_rest-requires-clause-within : goal.pour_rest-requires-clause-within
+pour_rest-requires-clause-within g c =
+    let told = (g.P.Plant.seen c.args.plant.now).told in
+    let n = c.first_of-size.result in
+    let w = c.in_ok-pour_head.ensures.trace in
+    let one : (g.P.Plant.seen c.pour_head.new.plant).told ≡ with_steps told (Wrote c.args.side 1 (side_text c.args.epoch (take n c.args.records.now)) ∷ []) =
+    w.1 ∙ ap (λ l. with_steps told l) (write_ok c.args.side 1 (side_text c.args.epoch c.split_at.result.0.now) _ _ w.0 w.2 ∙ ap (λ (l : List ℕ). Wrote c.args.side 1 (side_text c.args.epoch l) ∷ []) c.split_at.ensures.front) in
+    rest_within c.args.side c.args.epoch n c.args.records.now told (g.P.Plant.seen c.pour_head.new.plant).told c.requires.within one c.first_of-size.ensures.within
+
+pub returns-clause-pours : goal.returns-clause-pours
+returns-clause-pours g c =
+    let told = (g.P.Plant.seen c.args.plant.now).told in
+    let n = c.first_of-size.result in
+    let w = c.in_ok-pour_head.ensures.trace in
+    let one : (g.P.Plant.seen c.pour_head.new.plant).told ≡ with_steps told (Wrote c.args.side 1 (side_text c.args.epoch (take n c.args.records.now)) ∷ []) =
+    w.1 ∙ ap (λ l. with_steps told l) (write_ok c.args.side 1 (side_text c.args.epoch c.split_at.result.0.now) _ _ w.0 w.2 ∙ ap (λ (l : List ℕ). Wrote c.args.side 1 (side_text c.args.epoch l) ∷ []) c.split_at.ensures.front) in
+    pours_joined c.args.side c.args.epoch n c.args.records.now told (g.P.Plant.seen c.pour_head.new.plant).told one c.first_of-size.ensures.within c.first_of-size.ensures.short (g.P.Plant.seen c.pour_rest.new.plant).told (17 + n) c.pour_rest.result refl
+    (subst (λ (l : List ℕ). Pours c.args.side (17 + n) l (g.P.Plant.seen c.pour_head.new.plant).told (g.P.Plant.seen c.pour_rest.new.plant).told c.pour_rest.result) c.split_at.ensures.back c.pour_rest.ensures.pours)

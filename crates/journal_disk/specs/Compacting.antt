@@ -1,0 +1,108 @@
+-- What a journal's move onto the other side adds to a trace.
+use Rattle.std.specs.Prelude.{◌≡◌, ◌≤◌, ◌+◌, ◌==◌, ℕ, Bool, true, false, List, [], ◌∷◌, ◌++◌, length, Option, Result, Ok, Err}
+use Rattle.std.specs.List.{flat_map}
+use Rattle.lab_base.specs.Lists.{Has}
+use Rattle.plant.specs.Disks.{disk}
+use Rattle.plant.specs.Events.{Event, Wrote, Synced, Cut, Missed}
+use Rattle.plant.specs.Told.{Told, with_steps}
+use Rattle.plant.specs.declared.device.Fault.{Fault}
+use Rattle.plant.specs.declared.device.Fault.TheVariants.{Failed, Stopped}
+use Rattle.plant.specs.declared.step.Side.{Side}
+use Rattle.journal_rec.specs.Payloads.{le}
+use Rattle.journal_model.specs.Journals.{magic}
+
+-- what stands behind the header gate of a side of that epoch: the rest of the header, and the records with their gates
+abbrev pub side_text : ℕ → List ℕ → List ℕ
+side_text epoch packed = magic ++ le 8 epoch ++ packed
+
+-- a side has no closed gate at its front: it has no byte, or its first one is an open gate
+abbrev pub is_unshut : List ℕ → Bool
+is_unshut [] = true
+is_unshut (gate ∷ bytes) = gate == 165
+
+-- the text in pieces that were written one behind the other, each of at most 65,536 bytes
+pub record ArePieces (text : List ℕ) (pieces : List (List ℕ)) : Type 0 where
+  pub whole : flat_map (λ piece. piece) pieces ≡ text
+  pub short : (piece : List ℕ) → Has pieces piece → length piece ≤ 65536
+
+abbrev pub poured : Side → ℕ → List (List ℕ) → List Event
+poured side at [] = []
+poured side at (piece ∷ pieces) = Wrote side at piece ∷ poured side (at + length piece) pieces
+
+-- How far a journal came on the other side: not yet; any byte as the gate of a side without a closed one; its closed gate, synced; cut behind
+-- it; that synced; pieces behind the gate; the whole text, synced; any byte as the gate; the open gate, synced.
+pub data Come : Type 0 where
+  Untouched : Come
+  Closing : (byte : ℕ) → Come
+  Closed : Come
+  Cutting : Come
+  Emptied : Come
+  Filling : (pieces : List (List ℕ)) → Come
+  Filled : (pieces : List (List ℕ)) → Come
+  Raising : (pieces : List (List ℕ)) (byte : ℕ) → Come
+  InUse : (pieces : List (List ℕ)) → Come
+
+-- the gate of a side that has no closed one is closed
+abbrev pub shutting : Side → Bool → List Event
+shutting side true = Wrote side 0 (0 ∷ []) ∷ Synced side ∷ []
+shutting side false = []
+
+-- the side is cut behind its gate
+abbrev pub emptying : Side → Bool → List Event
+emptying side unshut = shutting side unshut ++ Cut side 1 ∷ Synced side ∷ []
+
+-- the text is written behind the closed gate
+abbrev pub filling : Side → Bool → List (List ℕ) → List Event
+filling side unshut pieces = emptying side unshut ++ poured side 1 pieces
+
+abbrev pub come_steps : Side → Bool → Come → List Event
+come_steps side unshut Untouched = []
+come_steps side unshut (Closing byte) = Wrote side 0 (byte ∷ []) ∷ []
+come_steps side unshut Closed = shutting side unshut
+come_steps side unshut Cutting = shutting side unshut ++ Cut side 1 ∷ []
+come_steps side unshut Emptied = emptying side unshut
+come_steps side unshut (Filling pieces) = filling side unshut pieces
+come_steps side unshut (Filled pieces) = filling side unshut pieces ++ Synced side ∷ []
+come_steps side unshut (Raising pieces byte) = filling side unshut pieces ++ Synced side ∷ Wrote side 0 (byte ∷ []) ∷ []
+come_steps side unshut (InUse pieces) = filling side unshut pieces ++ Synced side ∷ Wrote side 0 (165 ∷ []) ∷ Synced side ∷ []
+
+-- a gate is closed only where none is, and what is synced is the text
+abbrev pub MayCome : Bool → List ℕ → Come → Type 0
+MayCome unshut text (Closing byte) = unshut ≡ true
+MayCome unshut text (Filled pieces) = ArePieces text pieces
+MayCome unshut text (Raising pieces byte) = ArePieces text pieces
+MayCome unshut text (InUse pieces) = ArePieces text pieces
+MayCome unshut text far = Unit {0}
+
+-- so far after Ok
+abbrev pub IsInUse : Come → Type 0
+IsInUse (InUse pieces) = Unit {0}
+IsInUse far = ⊥
+
+-- what stands last after a call that was not acknowledged
+abbrev pub IsLastOf : Side → Fault → List Event → Type 0
+IsLastOf side Failed more = more ≡ Missed side ∷ []
+IsLastOf side Stopped more = more ≡ []
+
+-- so far it came with that text since then, until a call failed or the plant stopped
+pub record Leaves (side : Side) (unshut : Bool) (text : List ℕ) (base new : Option Told) (fault : Fault) : Type 0 where
+  pub far : Come
+  pub may : MayCome unshut text far
+  pub more : List Event
+  pub trace : new ≡ with_steps base (come_steps side unshut far ++ more)
+  pub last : IsLastOf side fault more
+
+abbrev pub BreaksOff : Side → Bool → List ℕ → Option Told → Option Told → Result (Unit {0}) Fault → Type 0
+BreaksOff side unshut text base new (Ok done) = Unit {0}
+BreaksOff side unshut text base new (Err fault) = Leaves side unshut text base new fault
+
+-- bytes were written from there on, in pieces: all of them after Ok
+abbrev pub PourEnds : Side → List ℕ → Result (Unit {0}) Fault → List (List ℕ) → List Event → Type 0
+PourEnds side bytes (Ok done) pieces more = ArePieces bytes pieces × (more ≡ [])
+PourEnds side bytes (Err fault) pieces more = IsLastOf side fault more
+
+pub record Pours (side : Side) (at : ℕ) (bytes : List ℕ) (old new : Option Told) (result : Result (Unit {0}) Fault) : Type 0 where
+  pub pieces : List (List ℕ)
+  pub more : List Event
+  pub trace : new ≡ with_steps old (poured side at pieces ++ more)
+  pub ends : PourEnds side bytes result pieces more

@@ -1,0 +1,47 @@
+-- What each image has while a journal moves onto the other side.
+use Rattle.std.specs.Prelude.{◌≡◌, ◌⊎◌, ◌+◌, ℕ, Bool, List, [], ◌∷◌, ◌++◌, Option, Some, None, Result, Ok, Err, OnOk, IfSome}
+use Rattle.plant.specs.Disks.{disk, ArePossible}
+use Rattle.plant.specs.Events.{Event, Missed}
+use Rattle.plant.specs.Told.{Told, with_steps}
+use Rattle.plant.specs.declared.device.Fault.{Fault}
+use Rattle.plant.specs.declared.step.Side.{Side}
+use Rattle.journal_rec.specs.declared.record.Record.{Record}
+use Rattle.journal_model.specs.Appends.{other_side, IsOn}
+use Rattle.journal_disk.specs.Compacting.{Come, is_unshut, side_text, come_steps, MayCome, IsInUse, IsLastOf}
+use Rattle.journal_disk.specs.Epochs.{epoch_of}
+use Rattle.journal_disk.specs.Standing.{side_of}
+use Rattle.journal_disk.specs.declared.fault.CompactFault.{CompactFault}
+use Rattle.journal_disk.specs.declared.fault.CompactFault.TheVariants as faults
+use Rattle.journal_disk.specs.declared.journal.Journal.{Journal}
+
+-- how far the steps of a move onto a side came, by their answer
+abbrev pub MoveEnds : Side → Result (Unit {0}) Fault → Come → List Event → Type 0
+MoveEnds side (Ok done) far more = IsInUse far × (more ≡ [])
+MoveEnds side (Err fault) far more = IsLastOf side fault more
+
+pub record MovesOver (side : Side) (text : List ℕ) (old new : Option Told) (result : Result (Unit {0}) Fault) : Type 0 where
+  pub unshut : Bool
+  pub was : IfSome old (λ t. unshut ≡ is_unshut (disk side t.trace).reads)
+  pub far : Come
+  pub may : MayCome unshut text far
+  pub more : List Event
+  pub trace : new ≡ with_steps old (come_steps side unshut far ++ more)
+  pub ends : MoveEnds side result far more
+
+-- WHAT A CALL OF compact ADDS, by its answer: the steps on the other side, with the text of the next epoch
+abbrev pub Ends : Side → Result (Unit {0}) CompactFault → Come → List Event → Type 0
+Ends side (Ok done) far more = IsInUse far × (more ≡ [])
+Ends side (Err faults.Plant) far more = more ≡ Missed side ∷ []
+Ends side (Err faults.Stopped) far more = more ≡ []
+
+pub record Compacts (trace steps : List Event) (j : Journal) (packed : List ℕ) (result : Result (Unit {0}) CompactFault) : Type 0 where
+  pub far : Come
+  pub may : MayCome (is_unshut (disk (other_side (side_of j)) trace).reads) (side_text (epoch_of j + 1) packed) far
+  pub more : List Event
+  pub steps_are : steps ≡ come_steps (other_side (side_of j)) (is_unshut (disk (other_side (side_of j)) trace).reads) far ++ more
+  pub ends : Ends (other_side (side_of j)) result far more
+
+-- At each moment each image has the old records on their side, or the packed ones on the other; and after Ok each has the packed ones.
+pub record Shifts (trace steps : List Event) (side : Side) (rs ps : List Record) (result : Result (Unit {0}) CompactFault) : Type 0 where
+  pub each : (front back : List Event) → steps ≡ front ++ back → (a b : List ℕ) → ArePossible (trace ++ front) a b → IsOn side a b rs ⊎ IsOn (other_side side) a b ps
+  pub ok : OnOk result ((a b : List ℕ) → ArePossible (trace ++ steps) a b → IsOn (other_side side) a b ps)
