@@ -4,6 +4,7 @@ ghost use Rattle.journal_disk.specs.Standing.{limit_of};
 ghost use Rattle.records_model.specs.Labs.{LabState as AnyLabState};
 ghost use Rattle.plant.specs.Seen.{Seen};
 ghost use Rattle.lab_state.specs.Texts.{the_texts};
+ghost use Rattle.swap_txn.specs.Steps.{live_of};
 ghost use Rattle.swap_turns.specs.Causes.{IsLater};
 ghost use Rattle.swap_turns.specs.Running.{AtWork};
 ghost use Rattle.recovery.specs.Due.{due, due_in, name_of};
@@ -93,6 +94,7 @@ fn settle_next<P: Plant>(
         → AfterNext the_texts s busy.now before (P.seen plant.new) journal.new n state.new.state result }
     ensures stopped { (P.seen plant.old).stopped ≡ false → (IsErrOf result SettleFault.Stopped ↔ IsTrue (P.seen plant.new).stopped) }
     ensures limit { limit_of journal.new ≡ limit_of journal.old }
+    ensures live { live_of journal.new ≡ live_of journal.old }
 {
     let Some(exp) = due_at(state, busy, n) else {
         return Ok(settled);
@@ -117,6 +119,7 @@ pub fn settle<P: Plant>(
     ensures stopped { (P.seen plant.old).stopped ≡ false → (IsErrOf result SettleFault.Stopped ↔ IsTrue (P.seen plant.new).stopped) }
     ensures later { IsLater (P.seen plant.old) (P.seen plant.new) }
     ensures limit { limit_of journal.new ≡ limit_of journal.old }
+    ensures live { live_of journal.new ≡ live_of journal.old }
 {
     let mut settled = Settled { done: 0, stuck: 0 };
     let count = state.len() as u16;

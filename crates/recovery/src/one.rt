@@ -4,6 +4,7 @@ ghost use Rattle.journal_disk.specs.Standing.{limit_of};
 ghost use Rattle.lab_model.specs.Courses.{commands, undo};
 ghost use Rattle.records_model.specs.Labs.{lab_in};
 ghost use Rattle.lab_state.specs.Texts.{the_texts};
+ghost use Rattle.swap_txn.specs.Steps.{live_of};
 ghost use Rattle.swap_txn.specs.Turns.{begun_again};
 ghost use Rattle.swap_turns.specs.Causes.{IsLater};
 ghost use Rattle.swap_turns.specs.Finishing.{IsStop};
@@ -98,6 +99,7 @@ fn turned_to_end<P: Plant>(
     ensures err { OnErr result ((state.new.state ≡ state.old.state) × (journal.new ≡ journal.old) × (plant.new ≡ plant.old)) }
     ensures stopped { IfOk result (λ end. IsStop end ↔ IsTrue (P.seen plant.new).stopped) }
     ensures limit { limit_of journal.new ≡ limit_of journal.old }
+    ensures live { live_of journal.new ≡ live_of journal.old }
 {
     let live = again(alloc, state, exp)?;
     let finished = finish(live, journal, plant);
@@ -134,6 +136,7 @@ pub fn settle_one<P: Plant>(
     ensures stopped { (P.seen plant.old).stopped ≡ false → (IsErrOf result SettleFault.Stopped ↔ IsTrue (P.seen plant.new).stopped) }
     ensures later { IsLater (P.seen plant.old) (P.seen plant.new) }
     ensures limit { limit_of journal.new ≡ limit_of journal.old }
+    ensures live { live_of journal.new ≡ live_of journal.old }
 {
     let finished = turned_to_end(alloc, state, exp, journal, plant)?;
     answer(finished)

@@ -5,6 +5,7 @@ use Rattle.plant.specs.Events.{Event}
 use Rattle.plant.specs.Told.{Told, with_steps}
 use Rattle.journal_rec.specs.declared.record.Record.{Record}
 use Rattle.journal_model.specs.Appends.{All, added}
+use Rattle.journal_disk.specs.Epochs.{HasEpoch}
 use Rattle.journal_disk.specs.Standing.{IsAt, side_of, gate_of, Ends}
 use Rattle.journal_disk.specs.declared.fault.AppendFault.{AppendFault}
 use Rattle.journal_disk.specs.declared.journal.Journal.{Journal}
@@ -39,9 +40,12 @@ module _ (t : Texts) (s after : LabState) (r : Record) (was now : Seen) (j k : J
       let first = subst (λ o. IfSome o (λ x. IsAt x.trace j stands.records → IfSome now.told (λ y. IsAt y.trace k rs))) was_is (each stands.records) in
       let at : IsAt (w.trace ++ steps_of r was now j k answer writes) k rs = subst (λ o. IfSome o (λ y. IsAt y.trace k rs)) now_is (first stands.at) in
       let ends : Ends (side_of j) (Ok done) writes.appends.run writes.appends.more = subst (λ a. Ends (side_of j) a writes.appends.run writes.appends.more) ok writes.appends.ends in
+      let later = subst (λ a. OnOk a ((rs : List Record) → IfSome was.told (λ x. IsAt x.trace j rs → HasEpoch x.trace j → IfSome now.told (λ y. HasEpoch y.trace k)))) ok writes.epoch in
+      let epochs = subst (λ o. IfSome o (λ x. IsAt x.trace j stands.records → HasEpoch x.trace j → IfSome now.told (λ y. HasEpoch y.trace k))) was_is (later stands.records) in
       record {
         records = rs;
         at = at;
+        epoch = subst (λ o. IfSome o (λ y. HasEpoch y.trace k)) now_is (epochs stands.at stands.epoch);
         lab_of = lab;
         works = λ sound.
             let before = sound_front t w.trace (steps_of r was now j k answer writes) sound in

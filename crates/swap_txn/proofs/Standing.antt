@@ -30,7 +30,7 @@ use Rattle.swap_txn.specs.declared.turned.Turned.{Turned}
 use Rattle.swap_txn.specs.declared.turned.Turned.TheVariants.{Same, Next, Trouble, Stuck, Stopped}
 use Rattle.swap_txn.specs.States.{View}
 use Rattle.plant.specs.Seen.{Seen}
-use Rattle.swap_txn.specs.Steps.{Stands, Sends, Writes}
+use Rattle.swap_txn.specs.Steps.{Stands, Sends, Writes, live_of}
 use Rattle.swap_txn.specs.Troubles.{what_of}
 use Rattle.swap_txn.specs.Turns.{view_of, last_of, held, WrittenBy, Turns, TurnsBy, HasWork, IsStopped, IfStanding}
 use Rattle.swap_txn.proofs.Turning.{Each, by_each}
@@ -215,21 +215,29 @@ pub written_stops : {T : Type 0} → (state : T) (following : Live) (r : Record)
     → IsStopped turned ↔ IsTrue now.stopped
 written_stops state following r was now j k answer turned writes turns = both (written_halted state following answer turned turns) writes.halts
 
--- the limit of the journal stays
-each_limit : (v : View) (was now : Seen) (j k : Journal) → Each (λ turned. limit_of k ≡ limit_of j) v was now j k
-each_limit v was now j k = record {
-  on = λ left state s same is. (ap limit_of same, ap limit_of same);
-  back = λ trouble u s same some. ap limit_of same;
-  cut = λ trouble watch state s same none is. ap limit_of same;
-  halted = λ s same. ap limit_of same;
-  ended = λ done none w. w.limit;
-  missed = λ state none w is. w.limit;
-  stopped = λ none w. w.limit;
-}
+-- what an append leaves of a journal, a turn leaves
+module _ {X : Type 0} (f : Journal → X) (was now : Seen) (j k : Journal) (writes : (r : Record) (answer : Result (Unit {0}) AppendFault) → Writes r was now j k answer → f k ≡ f j) where
+  each_same : (v : View) → Each (λ turned. f k ≡ f j) v was now j k
+  each_same v = record {
+    on = λ left state s same is. (ap f same, ap f same);
+    back = λ trouble u s same some. ap f same;
+    cut = λ trouble watch state s same none is. ap f same;
+    halted = λ s same. ap f same;
+    ended = λ done none w. writes (last_of v) (Ok done) w;
+    missed = λ state none w is. writes (last_of v) (Err faults.Plant) w;
+    stopped = λ none w. writes (last_of v) (Err faults.Stopped) w;
+  }
 
-limit_by : (o : Option View) (live : Live) (was now : Seen) (j k : Journal) (turned : Turned Live) → view_of live ≡ o → TurnsBy o live was now j k turned → limit_of k ≡ limit_of j
-limit_by None live was now j k turned is h = ap limit_of h.2
-limit_by (Some v) live was now j k turned is h = by_each (λ turned. limit_of k ≡ limit_of j) live v was now j k is (each_limit v was now j k) turned h
+  same_by : (o : Option View) (live : Live) (turned : Turned Live) → view_of live ≡ o → TurnsBy o live was now j k turned → f k ≡ f j
+  same_by None live turned is h = ap f h.2
+  same_by (Some v) live turned is h = by_each (λ turned. f k ≡ f j) live v was now j k is (each_same v) turned h
 
+  turn_same : (live : Live) (turned : Turned Live) → Turns live was now j k turned → f k ≡ f j
+  turn_same live turned h = same_by (view_of live) live turned refl h.by
+
+-- the limit of the journal stays, and so does its live side with its epoch
 pub turn_limit : (live : Live) (was now : Seen) (j k : Journal) (turned : Turned Live) → Turns live was now j k turned → limit_of k ≡ limit_of j
-turn_limit live was now j k turned h = limit_by (view_of live) live was now j k turned refl h.by
+turn_limit live was now j k turned h = turn_same limit_of was now j k (λ r answer w. w.limit) live turned h
+
+pub turn_live : (live : Live) (was now : Seen) (j k : Journal) (turned : Turned Live) → Turns live was now j k turned → live_of k ≡ live_of j
+turn_live live was now j k turned h = turn_same live_of was now j k (λ r answer w. w.live) live turned h

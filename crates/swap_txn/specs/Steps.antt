@@ -8,8 +8,10 @@ use Rattle.plant.specs.declared.device.DeviceOp.{DeviceOp}
 use Rattle.plant.specs.declared.device.Answer.{Answer}
 use Rattle.plant.specs.declared.device.Fault.{Fault}
 use Rattle.plant.specs.declared.device.Fault.TheVariants.{Stopped}
+use Rattle.plant.specs.declared.step.Side.{Side}
 use Rattle.journal_rec.specs.declared.record.Record.{Record}
 use Rattle.journal_model.specs.Journals.{size}
+use Rattle.journal_disk.specs.Epochs.{epoch_of, HasEpoch}
 use Rattle.journal_disk.specs.Standing.{side_of, length_of, limit_of, IsAt, Appends, Moments}
 use Rattle.journal_disk.specs.declared.journal.Journal.{Journal}
 use Rattle.journal_disk.specs.declared.fault.AppendFault.{AppendFault}
@@ -23,6 +25,10 @@ Stands told j = IfSome told (λ t. (rs : List Record) × IsAt t.trace j rs)
 -- the journal stands for the same records as before
 abbrev pub SameRecords : Option Told → Option Told → Journal → Type 0
 SameRecords was now j = (rs : List Record) → IfSome was (λ t. IsAt t.trace j rs → IfSome now (λ u. IsAt u.trace j rs))
+
+-- the side that is live, and its epoch
+abbrev pub live_of : Journal → Side × ℕ
+live_of j = (side_of j, epoch_of j)
 
 -- a command is sent and answered so: it adds its step
 pub record Commanded (op : DeviceOp) (was now : Seen) (answer : Result Answer Fault) : Type 0 where
@@ -51,7 +57,9 @@ pub record Writes (r : Record) (was now : Seen) (j k : Journal) (answer : Result
   pub moments : (rs : List Record) → IfSome was.told (λ t. IsAt t.trace j rs
       → (steps : List Event) × (now.told ≡ with_steps was.told steps) × Moments t.trace steps (side_of j) rs r answer)
   pub stands : OnOk answer ((rs : List Record) → IfSome was.told (λ t. IsAt t.trace j rs → IfSome now.told (λ u. IsAt u.trace k (rs ++ r ∷ []))))
+  pub epoch : OnOk answer ((rs : List Record) → IfSome was.told (λ t. IsAt t.trace j rs → HasEpoch t.trace j → IfSome now.told (λ u. HasEpoch u.trace k)))
   pub longer : OnOk answer (length_of k ≡ length_of j + size r)
   pub side : side_of k ≡ side_of j
   pub limit : limit_of k ≡ limit_of j
+  pub live : live_of k ≡ live_of j
   pub unwritten : OnErr answer (k ≡ j)

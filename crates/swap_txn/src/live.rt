@@ -29,7 +29,7 @@ impl Live {
     ghost use Rattle.journal_disk.specs.Standing.{length_of, limit_of};
     ghost use Rattle.journal_disk.specs.declared.journal.Journal.{Journal as AnyJournal};
     ghost use Rattle.swap_txn.specs.Facts.{HandsOn, StartsAt, exp_of};
-    ghost use Rattle.swap_txn.specs.Steps.{Stands};
+    ghost use Rattle.swap_txn.specs.Steps.{Stands, live_of};
     ghost use Rattle.swap_txn.specs.Turns.{Turns, Fits, HasWork, IsStopped, IfStanding, begun_again};
 
     /// The experiment. The record that ends its swap makes the journal at most 39 bytes longer.
@@ -103,6 +103,7 @@ impl Live {
         ensures stands { IfStanding result (Stands (P.seen plant.new).told journal.new) }
         ensures facts { HandsOn (P.seen plant.old).told (P.seen plant.new).told self result }
         ensures limit { limit_of journal.new ≡ limit_of journal.old }
+        ensures live { live_of journal.new ≡ live_of journal.old }
     {
         self.turn_state(journal, plant)
     }

@@ -11,6 +11,7 @@ loop-n-init g c = record {
   count_is = c.len-count.ensures;
   runs = λ running. running;
   same_limit = refl;
+  same_live = refl;
 }
 
 pub loop-n-preserved : goal.loop-n-preserved
@@ -19,6 +20,7 @@ loop-n-preserved g c = record {
   count_is = c.loop-n.invariant.count_is;
   runs = λ running. runs_on c.in_ok-settled.settled (g.P.Plant.seen c.settle_next.new.plant).stopped (c.in_ok-settled.ensures.stopped (c.loop-n.invariant.runs running));
   same_limit = c.in_ok-settled.ensures.limit ∙ c.loop-n.invariant.same_limit;
+  same_live = c.in_ok-settled.ensures.live ∙ c.loop-n.invariant.same_live;
 }
 
 pub returns-in_err-settled-clause-after : goal.returns-in_err-settled-clause-after

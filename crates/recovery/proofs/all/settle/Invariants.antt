@@ -1,6 +1,7 @@
 use Rattle.std.proofs.Common.{◌≡◌, false, length}
 use Rattle.journal_disk.specs.Standing.{limit_of}
 use Rattle.lab_state.specs.Texts.{the_texts}
+use Rattle.swap_txn.specs.Steps.{live_of}
 use Rattle.recovery.specs.Settle.{SettledTo}
 use Rattle.recovery.proofs.all.settle.Given as goal
 
@@ -10,4 +11,5 @@ invariant-loop-n g l = record {
   count_is : l.count ≡ length l.fn.state.state.experiments;
   runs : (g.P.Plant.seen l.fn.plant).stopped ≡ false → (g.P.Plant.seen l.plant).stopped ≡ false;
   same_limit : limit_of l.journal ≡ limit_of l.fn.journal;
+  same_live : live_of l.journal ≡ live_of l.fn.journal;
 }

@@ -1,4 +1,4 @@
-use Rattle.swap_txn.proofs.Standing.{turn_stops, turn_stands, turn_limit}
+use Rattle.swap_txn.proofs.Standing.{turn_stops, turn_stands, turn_limit, turn_live}
 use Rattle.swap_txn.proofs.Knowing.{hands_on}
 use Rattle.swap_txn.proofs.live.Live.turn.Goals as goal
 
@@ -13,3 +13,6 @@ returns-clause-facts g c = hands_on c.args.self _ _ _ _ c.turn_state.result c.tu
 
 pub returns-clause-limit : goal.returns-clause-limit
 returns-clause-limit g c = turn_limit c.args.self _ _ _ _ c.turn_state.result c.turn_state.ensures
+
+pub returns-clause-live : goal.returns-clause-live
+returns-clause-live g c = turn_live c.args.self _ _ _ _ c.turn_state.result c.turn_state.ensures
