@@ -3,7 +3,7 @@ use Rattle.std.specs.Prelude.{◌≡◌, ◌≤◌, ℕ, List, length}
 use Rattle.lab_base.specs.Lists.{Has}
 use Rattle.script_text.specs.Taking.{joined}
 use Rattle.script_text.specs.declared.command.Command.{Command}
-use Rattle.script_text.specs.declared.command.Command.TheVariants.{Ptop, Create, CreateTop, SwapinWith, ModifyWith}
+use Rattle.script_text.specs.declared.command.Command.TheVariants.{Ptop, Create, CreateTop, SwapinWith, Modify, ModifyWith}
 use Rattle.script_text.specs.declared.heads.Head.{Head}
 use Rattle.script_text.specs.declared.heads.Head.TheVariants.{Whole, Block, Blocks}
 use Rattle.script_text.specs.declared.heads.Said.{Said}
@@ -25,6 +25,7 @@ HasBlocks (Ptop lines ptop) = IsBlock lines ptop
 HasBlocks (Create exp lines ns) = IsBlock lines ns
 HasBlocks (CreateTop exp lines top) = IsBlock lines top
 HasBlocks (SwapinWith only exp lines map) = IsBlock lines map
+HasBlocks (Modify only exp seed lines ns) = IsBlock lines ns
 HasBlocks (ModifyWith only exp top_lines top map_lines map) = IsBlock top_lines top × IsBlock map_lines map
 HasBlocks command = Unit {0}
 

@@ -8,7 +8,7 @@ use Rattle.lab_base.specs.Texts.{fields_of, is_skipped}
 use Rattle.script_text.specs.declared.command.Command.{Command}
 use Rattle.script_text.specs.declared.command.Command.TheVariants as commands
 use Rattle.script_text.specs.declared.heads.OneBlock.{OneBlock}
-use Rattle.script_text.specs.declared.heads.OneBlock.TheVariants.{Ptop, Create, CreateTop, SwapinWith}
+use Rattle.script_text.specs.declared.heads.OneBlock.TheVariants.{Ptop, Create, CreateTop, SwapinWith, Modify}
 use Rattle.script_text.specs.declared.heads.TwoBlocks.{TwoBlocks}
 use Rattle.script_text.specs.declared.heads.TwoBlocks.TheVariants.{ModifyWith}
 use Rattle.script_text.specs.declared.heads.Head.{Head}
@@ -26,6 +26,7 @@ completed Ptop k text = commands.Ptop k text
 completed (Create exp) k text = commands.Create exp k text
 completed (CreateTop exp) k text = commands.CreateTop exp k text
 completed (SwapinWith only exp) k text = commands.SwapinWith only exp k text
+completed (Modify only exp seed) k text = commands.Modify only exp seed k text
 
 -- the command that two blocks complete
 abbrev pub both_completed : TwoBlocks → ℕ → List ℕ → ℕ → List ℕ → Command
@@ -39,7 +40,12 @@ counted field = number_of 16384 field
 abbrev pub named : List ℕ → Option (List ℕ)
 named field = if is_name field then Some field else None
 
--- what the fields behind a word are: none, a name, a number of lines, or a name and one or two numbers of lines
+-- a seed of a search
+abbrev pub seed_of : List ℕ → Option ℕ
+seed_of field = number_of 18446744073709551615 field
+
+-- what the fields behind a word are: none, a name, a number of lines, a name and one or two numbers of lines, or a name
+-- and a seed, alone or with a number of lines
 abbrev pub no_field : List (List ℕ) → Option (Unit {0})
 no_field [] = Some tt
 no_field fields = None
@@ -59,6 +65,14 @@ name_and_count fields = None
 abbrev pub name_and_counts : List (List ℕ) → Option (List ℕ × ℕ × ℕ)
 name_and_counts (exp ∷ first ∷ second ∷ []) = option_and_then (λ name. option_and_then (λ k. option_map (λ m. (name, k, m)) (counted second)) (counted first)) (named exp)
 name_and_counts fields = None
+
+abbrev pub name_and_seed : List (List ℕ) → Option (List ℕ × ℕ)
+name_and_seed (exp ∷ seed ∷ []) = option_and_then (λ name. option_map (λ s. (name, s)) (seed_of seed)) (named exp)
+name_and_seed fields = None
+
+abbrev pub name_seed_and_count : List (List ℕ) → Option (List ℕ × ℕ × ℕ)
+name_seed_and_count (exp ∷ seed ∷ lines ∷ []) = option_and_then (λ name. option_and_then (λ s. option_map (λ k. (name, s, k)) (counted lines)) (seed_of seed)) (named exp)
+name_seed_and_count fields = None
 
 -- how a device fails, what a stop leaves, and which call a drill is for, from 1
 abbrev pub how_of : List ℕ → Option How
@@ -100,7 +114,9 @@ stop_head fields = None
 -- A SWAP BY ITS WORD and the fields behind it: whether it is opened only, is said before
 abbrev pub swap_by : Bool → List ℕ → List (List ℕ) → Option Head
 swap_by only word fields =
-    if bytes_eq word (codes "swapin-with") then option_map (λ given. Block (SwapinWith only given.0) given.1) (name_and_count fields)
+    if bytes_eq word (codes "swapin") then option_map (λ given. Whole (commands.Swapin only given.0 given.1)) (name_and_seed fields)
+    else if bytes_eq word (codes "swapin-with") then option_map (λ given. Block (SwapinWith only given.0) given.1) (name_and_count fields)
+    else if bytes_eq word (codes "modify") then option_map (λ given. Block (Modify only given.0 given.1) given.2) (name_seed_and_count fields)
     else if bytes_eq word (codes "modify-with") then option_map (λ given. Blocks (ModifyWith only given.0) given.1 given.2) (name_and_counts fields)
     else if bytes_eq word (codes "swapout") then option_map (λ exp. Whole (commands.Swapout only exp)) (only_name fields)
     else None
@@ -116,6 +132,7 @@ head_by word fields =
     else if bytes_eq word (codes "create") then option_map (λ given. Block (Create given.0) given.1) (name_and_count fields)
     else if bytes_eq word (codes "create-top") then option_map (λ given. Block (CreateTop given.0) given.1) (name_and_count fields)
     else if bytes_eq word (codes "show") then option_map (λ exp. Whole (commands.Show exp)) (only_name fields)
+    else if bytes_eq word (codes "solve") then option_map (λ given. Whole (commands.Solve given.0 given.1)) (name_and_seed fields)
     else if bytes_eq word (codes "open") then opened_by fields
     else if bytes_eq word (codes "turn") then option_map (λ exp. Whole (commands.Turn exp)) (only_name fields)
     else if bytes_eq word (codes "finish") then option_map (λ exp. Whole (commands.Finish exp)) (only_name fields)

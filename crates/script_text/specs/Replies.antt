@@ -55,6 +55,10 @@ placed_lines (Some p) = p.solution ++ flat_map tag_line p.tags
 abbrev pub shown_lines : List ℕ → PhaseWord → List ℕ → Option Placed → List ℕ
 shown_lines exp phase top placed = codes "show " ++ exp ++ 32 ∷ [] ++ phase_word phase ++ 10 ∷ [] ++ top ++ placed_lines placed ++ codes "end " ++ exp ++ 10 ∷ []
 
+-- what a search found: the cost, and the canonical solution text
+abbrev pub solved_lines : List ℕ → List ℕ → ℕ → List ℕ → List ℕ
+solved_lines words exp cost solution = words ++ exp ++ 32 ∷ [] ++ decimal cost ++ 10 ∷ [] ++ solution ++ codes "end " ++ exp ++ 10 ∷ []
+
 -- the words of boot states, of rules and of ends
 abbrev pub boot_word : Boot → List ℕ
 boot_word boots.Off = codes "OFF"
@@ -99,6 +103,10 @@ abbrev pub text_of : Reply → List ℕ
 text_of (replies.Lab switches nodes trunks) = lab_line switches nodes trunks
 text_of (replies.Created exp nodes segments) = two_line (codes "created " ++ exp ++ 32 ∷ []) nodes segments
 text_of (replies.Shown exp phase top placed) = shown_lines exp phase top placed
+text_of (replies.Least exp cost solution) = solved_lines (codes "least ") exp cost solution
+text_of (replies.Local exp cost solution) = solved_lines (codes "local ") exp cost solution
+text_of (replies.NoneFits exp) = named_line (codes "none ") exp
+text_of (replies.GaveUp exp) = named_line (codes "gave up ") exp
 text_of (replies.Deleted exp) = named_line (codes "deleted ") exp
 text_of (replies.Listed experiments nodes vlans) = flat_map exp_line experiments ++ two_line (codes "free ") nodes vlans
 text_of replies.NoLab = codes "no lab\n"

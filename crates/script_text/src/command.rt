@@ -29,12 +29,32 @@ pub enum Command {
     Show {
         exp: Name,
     },
+    /// `solve E SEED`: searches a solution on what is free for an experiment, which is out.
+    Solve {
+        exp: Name,
+        seed: u64,
+    },
+    /// `swapin E SEED`: swaps in an experiment, which is out, by the solution that `solve` finds.
+    Swapin {
+        only_begin: bool,
+        exp: Name,
+        seed: u64,
+    },
     /// `swapin-with E N`: swaps in an experiment, which is out, by the solution text of the next N lines.
     SwapinWith {
         only_begin: bool,
         exp: Name,
         lines: u16,
         map: Text,
+    },
+    /// `modify E SEED N`: gives an experiment, which is in, the wiring of the NS file of the next N lines, by a solution
+    /// that is searched on what the other experiments leave.
+    Modify {
+        only_begin: bool,
+        exp: Name,
+        seed: u64,
+        lines: u16,
+        ns: Text,
     },
     /// `modify-with E N M`: gives an experiment, which is in, the wiring of the top text of the next N lines, by the
     /// solution text of the M lines behind them.

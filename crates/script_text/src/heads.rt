@@ -3,7 +3,7 @@ ghost use Rattle.std.specs.Prelude.{◌≡◌, ◌≤◌, IfOk, IfSome};
 ghost use Rattle.std.specs.Str.{bytes_eq};
 ghost use Rattle.lab_base.specs.Texts.{views};
 ghost use Rattle.script_text.specs.Blocks.{IsBlock, HasBlocks, IsInRange, SaysInRange};
-ghost use Rattle.script_text.specs.Heads.{completed, both_completed, counted, named, no_field, only_name, only_count, name_and_count, name_and_counts, how_of, pick_of, nth_of, fail_head, stop_head, swap_by, opened_by, head_by, said_of};
+ghost use Rattle.script_text.specs.Heads.{completed, both_completed, counted, named, no_field, only_name, only_count, name_and_count, name_and_counts, seed_of, name_and_seed, name_seed_and_count, how_of, pick_of, nth_of, fail_head, stop_head, swap_by, opened_by, head_by, said_of};
 
 use crate::Command;
 use lab_base::{Memory, Name, Text, fields_in, is_skipped, read_number};
@@ -20,9 +20,21 @@ const MAX_NTH: u64 = 1_000_000;
 #[derive(Clone, Copy)]
 pub(crate) enum OneBlock {
     Ptop,
-    Create { exp: Name },
-    CreateTop { exp: Name },
-    SwapinWith { only_begin: bool, exp: Name },
+    Create {
+        exp: Name,
+    },
+    CreateTop {
+        exp: Name,
+    },
+    SwapinWith {
+        only_begin: bool,
+        exp: Name,
+    },
+    Modify {
+        only_begin: bool,
+        exp: Name,
+        seed: u64,
+    },
 }
 
 /// A command that two blocks complete.
@@ -80,6 +92,17 @@ impl OneBlock {
                 exp,
                 lines,
                 map: text,
+            },
+            OneBlock::Modify {
+                only_begin,
+                exp,
+                seed,
+            } => Command::Modify {
+                only_begin,
+                exp,
+                seed,
+                lines,
+                ns: text,
             },
         }
     }
@@ -188,6 +211,46 @@ fn name_and_counts(fields: &[&[u8]]) -> Option<(Name, u16, u16)>
     }
 }
 
+/// The seed that a field gives.
+fn seed_in(field: &[u8]) -> Option<u64>
+    ensures { result ≡ seed_of field.now }
+{
+    match read_number(field, u64::MAX) {
+        Ok(seed) => Some(seed),
+        Err(_) => None,
+    }
+}
+
+/// The name and the seed that two fields give.
+fn name_and_seed(fields: &[&[u8]]) -> Option<(Name, u64)>
+    ensures { result ≡ name_and_seed (views fields.now) }
+{
+    match fields {
+        [exp, seed] => {
+            let exp = name_in(exp)?;
+            let seed = seed_in(seed)?;
+            Some((exp, seed))
+        }
+        _ => None,
+    }
+}
+
+/// The name, the seed and the number of lines that three fields give.
+fn name_seed_and_count(fields: &[&[u8]]) -> Option<(Name, u64, u16)>
+    ensures triple { result ≡ name_seed_and_count (views fields.now) }
+    ensures few { IfSome result (λ given. given.2 ≤ 16384) }
+{
+    match fields {
+        [exp, seed, lines] => {
+            let exp = name_in(exp)?;
+            let seed = seed_in(seed)?;
+            let lines = count_in(lines)?;
+            Some((exp, seed, lines))
+        }
+        _ => None,
+    }
+}
+
 /// Whether a field is that word.
 fn is_word(field: &[u8], word: &[u8]) -> bool
     ensures { result ≡ bytes_eq field.now word.now }
@@ -277,10 +340,27 @@ fn swap_by(only_begin: bool, word: &[u8], fields: &[&[u8]]) -> Option<Head>
     ensures head { result ≡ swap_by only_begin word.now (views fields.now) }
     ensures range { IfSome result IsInRange }
 {
-    if is_word(word, b"swapin-with") {
+    if is_word(word, b"swapin") {
+        let (exp, seed) = name_and_seed(fields)?;
+        Some(Head::Whole(Command::Swapin {
+            only_begin,
+            exp,
+            seed,
+        }))
+    } else if is_word(word, b"swapin-with") {
         let (exp, lines) = name_and_count(fields)?;
         Some(Head::Block {
             what: OneBlock::SwapinWith { only_begin, exp },
+            lines,
+        })
+    } else if is_word(word, b"modify") {
+        let (exp, seed, lines) = name_seed_and_count(fields)?;
+        Some(Head::Block {
+            what: OneBlock::Modify {
+                only_begin,
+                exp,
+                seed,
+            },
             lines,
         })
     } else if is_word(word, b"modify-with") {
@@ -335,6 +415,9 @@ fn head_by(word: &[u8], fields: &[&[u8]]) -> Option<Head>
     } else if is_word(word, b"show") {
         let exp = only_name(fields)?;
         Some(Head::Whole(Command::Show { exp }))
+    } else if is_word(word, b"solve") {
+        let (exp, seed) = name_and_seed(fields)?;
+        Some(Head::Whole(Command::Solve { exp, seed }))
     } else if is_word(word, b"open") {
         opened_by(fields)
     } else if is_word(word, b"turn") {

@@ -1,7 +1,7 @@
 ghost use Rattle.std.specs.Prelude.{◌≡◌, ◌++◌, ◌∷◌, [], codes, decimal, IfOk, OnOk};
 ghost use Rattle.std.specs.List.{flat_map};
 ghost use Rattle.lab_base.specs.declared.what.What.TheVariants as whats;
-ghost use Rattle.script_text.specs.Replies.{phase_word, named_line, fault_line, two_line, lab_line, exp_line, boot_word, rule_word, end_word, what_words, trouble_line, failed_line, infeasible_line, tag_line, placed_lines, shown_lines, text_of};
+ghost use Rattle.script_text.specs.Replies.{phase_word, named_line, fault_line, two_line, lab_line, exp_line, boot_word, rule_word, end_word, what_words, trouble_line, failed_line, infeasible_line, tag_line, placed_lines, shown_lines, solved_lines, text_of};
 
 use crate::{FailedEnd, PhaseWord, Placed, Reply, StatusLine, TagLine};
 use lab_base::{Boot, Memory, Name, Text, TextFault, What};
@@ -119,6 +119,26 @@ fn shown(
     text.push(b'\n')?;
     text.push_bytes(top.bytes())?;
     add_placed(&mut text, placed)?;
+    text.push_bytes(b"end ")?;
+    text.push_bytes(exp.bytes())?;
+    text.push(b'\n')?;
+    Ok(text)
+}
+
+/// What a search found, behind `least` or `local`.
+fn solved(
+    alloc: Global,
+    words: &[u8],
+    exp: &Name,
+    cost: u64,
+    solution: &Text,
+) -> Result<Text, Memory>
+    ensures { IfOk result (λ text. text ≡ solved_lines words.now exp.now cost solution.now) }
+{
+    let mut text = named_head(alloc, words, exp)?;
+    text.push_number(cost)?;
+    text.push(b'\n')?;
+    text.push_bytes(solution.bytes())?;
     text.push_bytes(b"end ")?;
     text.push_bytes(exp.bytes())?;
     text.push(b'\n')?;
@@ -300,6 +320,18 @@ pub fn reply_text(alloc: Global, reply: &Reply) -> Result<Text, Memory>
             top,
             placed,
         } => shown(alloc, exp, *phase, top, placed),
+        Reply::Least {
+            exp,
+            cost,
+            solution,
+        } => solved(alloc, b"least ", exp, *cost, solution),
+        Reply::Local {
+            exp,
+            cost,
+            solution,
+        } => solved(alloc, b"local ", exp, *cost, solution),
+        Reply::NoneFits { exp } => named(alloc, b"none ", exp),
+        Reply::GaveUp { exp } => named(alloc, b"gave up ", exp),
         Reply::Deleted { exp } => named(alloc, b"deleted ", exp),
         Reply::Listed {
             experiments,

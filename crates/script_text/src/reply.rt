@@ -69,6 +69,28 @@ pub enum Reply {
         top: Text,
         placed: Option<Placed>,
     },
+    /// `least E COST`, the canonical solution text, and `end E`: to `solve`. All candidates were tried, and none that fits
+    /// costs less.
+    Least {
+        exp: Name,
+        cost: u64,
+        solution: Text,
+    },
+    /// `local E COST`, the canonical solution text, and `end E`: to `solve`. There are too many candidates to try all, and
+    /// no single change of this one fits and costs less.
+    Local {
+        exp: Name,
+        cost: u64,
+        solution: Text,
+    },
+    /// `none E`: all candidates were tried, and none fits what is free.
+    NoneFits {
+        exp: Name,
+    },
+    /// `gave up E`: there are too many candidates to try all, and the first to start from doesn't fit.
+    GaveUp {
+        exp: Name,
+    },
     /// `deleted E`.
     Deleted {
         exp: Name,

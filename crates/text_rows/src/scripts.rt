@@ -24,7 +24,7 @@ fn pick_word(pick: Pick) -> &'static [u8] {
     }
 }
 
-/// A command in short: a letter, its name, its number, and its first block.
+/// A command in short: a letter, its name, its number of lines or of a drill, and its first block.
 fn in_short(command: &Command) -> (u8, &[u8], u32, &[u8]) {
     match command {
         Command::Ptop { lines, ptop } => (b'p', b"", u32::from(*lines), ptop.bytes()),
@@ -33,12 +33,17 @@ fn in_short(command: &Command) -> (u8, &[u8], u32, &[u8]) {
             (b't', exp.bytes(), u32::from(*lines), top.bytes())
         }
         Command::Show { exp } => (b's', exp.bytes(), 0, b""),
+        Command::Solve { exp, .. } => (b'l', exp.bytes(), 0, b""),
+        Command::Swapin { exp, .. } => (b'j', exp.bytes(), 0, b""),
         Command::SwapinWith {
             exp,
             lines,
             map,
             ..
         } => (b'i', exp.bytes(), u32::from(*lines), map.bytes()),
+        Command::Modify { exp, lines, ns, .. } => {
+            (b'c', exp.bytes(), u32::from(*lines), ns.bytes())
+        }
         Command::ModifyWith {
             exp,
             top_lines,
@@ -60,7 +65,9 @@ fn in_short(command: &Command) -> (u8, &[u8], u32, &[u8]) {
 /// Whether it is a swap that is opened only.
 fn is_opened(command: &Command) -> bool {
     match command {
-        Command::SwapinWith { only_begin, .. }
+        Command::Swapin { only_begin, .. }
+        | Command::SwapinWith { only_begin, .. }
+        | Command::Modify { only_begin, .. }
         | Command::ModifyWith { only_begin, .. }
         | Command::Swapout { only_begin, .. } => *only_begin,
         _ => false,
@@ -77,6 +84,11 @@ fn add_short(seen: &mut Text, command: &Command) -> Result<(), Memory> {
     seen.push_number(u64::from(number))?;
     seen.push_bytes(block)?;
     match command {
+        Command::Solve { seed, .. } | Command::Swapin { seed, .. } | Command::Modify { seed, .. } =>
+            {
+                seen.push(b'.')?;
+                seen.push_number(*seed)
+            }
         Command::ModifyWith { map_lines, map, .. } => {
             seen.push_number(u64::from(*map_lines))?;
             seen.push_bytes(map.bytes())
@@ -143,7 +155,7 @@ fn commands_of_scripts(rt: HostRuntime) -> Result<(), Fail> {
         (b"fail s1 1000001 not\n", b"", 1),
         (b"fail s1 1 never\n", b"", 1),
         (b"show A\ndelete A", b"sA0dA0", 0),
-        (b"\n\nswapin A\n", b"", 3),
+        (b"\n\nswap-in A\n", b"", 3),
         (b"status now\n", b"", 1),
         (b"ptop\n", b"", 1),
         (b"ptop 16385\n", b"", 1),
@@ -264,6 +276,59 @@ fn open_swaps(rt: HostRuntime) -> Result<(), Fail> {
     Ok(())
 }
 
+#[test]
+fn searches(rt: HostRuntime) -> Result<(), Fail> {
+    let cases: [(&[u8], &[u8], u64); 31] = [
+        (b"solve A 0\n\tsolve  B 7 \n", b"lA0.0lB0.7", 0),
+        (
+            b"solve A 18446744073709551615\nsolve A 18446744073709551616\n",
+            b"lA0.18446744073709551615",
+            2,
+        ),
+        (b"solve A 00000000000000000007\n", b"lA0.7", 0),
+        (b"solve A 000000000000000000007\n", b"", 1),
+        (b"solve\n", b"", 1),
+        (b"solve A\n", b"", 1),
+        (b"solve A x\n", b"", 1),
+        (b"solve A -1\n", b"", 1),
+        (b"solve A:B 1\n", b"", 1),
+        (b"solve A 1 1\n", b"", 1),
+        (b"open solve A 1\n", b"", 1),
+        (b"swapin A 7\nopen swapin A 8", b"jA0.7(jA0.8", 0),
+        (
+            b"swapin A 18446744073709551615\nswapin A 18446744073709551616\n",
+            b"jA0.18446744073709551615",
+            2,
+        ),
+        (b"swapin A\n", b"", 1),
+        (b"swapin A:B 1\n", b"", 1),
+        (b"swapin A 1 0\n", b"", 1),
+        (b"open swapin A\n", b"", 1),
+        (b"modify A 7 2\n# a\n\nstatus\n", b"cA2# a\n\n.7?0", 0),
+        (
+            b"modify A 18446744073709551615 0\nopen modify A 0 1\nx",
+            b"cA0.18446744073709551615(cA1x\n.0",
+            0,
+        ),
+        (b"modify A 18446744073709551616 0\n", b"", 1),
+        (b"modify A 1 16385\n", b"", 1),
+        (b"modify A 1 16384\n", b"", 2),
+        (b"modify\n", b"", 1),
+        (b"modify A\n", b"", 1),
+        (b"modify A 7\nstatus\n", b"", 1),
+        (b"modify A 7 1 1\nx\ny\n", b"", 1),
+        (b"modify A:B 7 0\n", b"", 1),
+        (b"modify A x 0\n", b"", 1),
+        (b"modify A 7 x\n", b"", 1),
+        (b"status\nmodify A 7 2\nx\n", b"?0", 4),
+        (b"open modify A 7 1", b"", 2),
+    ];
+    for (bytes, wanted, bad) in cases {
+        assert!(rt; has_commands(rt.alloc(), bytes, wanted, bad)?);
+    }
+    Ok(())
+}
+
 /// Whether a reply has that text.
 fn has_text(alloc: Global, reply: Reply, wanted: &[u8]) -> Result<bool, Memory> {
     let text = reply_text(alloc, &reply)?;
@@ -329,6 +394,26 @@ fn texts_of_longer_replies(rt: HostRuntime) -> Result<(), Fail> {
         listed(alloc, exp)?.bytes(),
         b"exp A out 0 0\nfree 2 2\n".as_slice()
     );
+    let (cost, solution) = (u64::MAX, Text::from_slice(alloc, b"node a pc1 pc\n")?);
+    let reply = Reply::Least {
+        exp,
+        cost,
+        solution,
+    };
+    assert!(rt;
+        has_text(
+            alloc,
+            reply,
+            b"least A 18446744073709551615\nnode a pc1 pc\nend A\n"
+        )?
+    );
+    let (cost, solution) = (0, Text::new(alloc));
+    let reply = Reply::Local {
+        exp,
+        cost,
+        solution,
+    };
+    assert!(rt; has_text(alloc, reply, b"local A 0\nend A\n")?);
     let rule = Broken::F5;
     let subject = Text::from_slice(alloc, b"a:1")?;
     let reply = Reply::Infeasible { exp, rule, subject };
@@ -343,7 +428,7 @@ fn texts_of_replies(rt: HostRuntime) -> Result<(), Fail> {
     let fault = TextFault { line, kind };
     let (switches, nodes, trunks, segments, length) = (1, 2, 0, 1, 18);
     let (done, stuck) = (256, 0);
-    let cases: [(Reply, &[u8]); 25] = [
+    let cases: [(Reply, &[u8]); 27] = [
         (
             Reply::Lab {
                 switches,
@@ -361,6 +446,8 @@ fn texts_of_replies(rt: HostRuntime) -> Result<(), Fail> {
             b"created A 2 1\n",
         ),
         (Reply::Deleted { exp }, b"deleted A\n"),
+        (Reply::NoneFits { exp }, b"none A\n"),
+        (Reply::GaveUp { exp }, b"gave up A\n"),
         (Reply::NoLab, b"no lab\n"),
         (Reply::LabIsSet, b"lab is set\n"),
         (Reply::Exists { exp }, b"exists A\n"),
