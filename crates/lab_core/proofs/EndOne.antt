@@ -7,7 +7,7 @@ use Rattle.records_model.specs.Labs.{LabState}
 use Rattle.lab_state.specs.Texts.{the_texts}
 use Rattle.swap_turns.specs.Finishing.{Finishes, FinishLeaves, IsFinishCaused, IsOver}
 use Rattle.swap_turns.specs.Running.{OpenSwap as RunningSwap, Working}
-use Rattle.swap_turns.specs.Swaps.{Swap as SwapOf}
+use Rattle.swap_turns.specs.Swaps.{Swap as SwapOf, Moves}
 use Rattle.swap_turns.specs.Turning.{Outcome, More, TurnsBack, Ended, Stuck, Unwritten, Stopped}
 use Rattle.swap_turns.proofs.Closing.{closes_as}
 use Rattle.swap_mgr.specs.Managing.{IfGoesOn, IsPlain}
@@ -24,7 +24,7 @@ use Rattle.lab_core.specs.Swapping.{HasEndedIn, progress_answer}
 use Rattle.lab_core.proofs.OpenSwaps.{Pair, Place, opened_without, risen_by}
 use Rattle.lab_core.proofs.PerformSwap.{IsCausedSince, Leads, by_outcome}
 use Rattle.lab_core.proofs.Told.{Halts, IsAnswer, answered, halts_as, onward_plain}
-use Rattle.lab_core.proofs.TurnOne.{at, counted, end_caused, one, plain, since, works_with}
+use Rattle.lab_core.proofs.TurnOne.{at, counted, end_caused, moves, one, plain, since, works_with}
 
 -- what is told of a swap that is over
 pub over_reply : (p : SwapOf) (outcome : Outcome) (reply : Reply) → IsOver outcome → turn_reply p outcome ≡ Some reply → end_reply p outcome ≡ Some reply
@@ -45,6 +45,9 @@ module _ (before now : Seen) (old new : Control) (opens : List OpenSwap) (exp : 
 
   abbrev pub end_one : IsOneOf opens exp
   end_one = one before now old new opens exp works h.end.before h.end.behind x h.end.opens_are h.end.named
+
+  end_moves : Moves place.one.running.swap old.lab
+  end_moves = moves before now old new opens exp works h.end.before h.end.behind x h.end.opens_are h.end.named
 
   pub end_since : IsSince before.faults.devices place.one
   end_since = since before now old new opens exp works h.end.before h.end.behind x h.end.opens_are h.end.named
@@ -96,7 +99,7 @@ module _ (before now : Seen) (old new : Control) (opens : List OpenSwap) (exp : 
         → IsDone (Is (Ok (Finish exp))) (start_of before old opens) (h.end.finished.steps ++ behind) (Some reply) lab session
     end_done outcome lab behind reply session is starts reply_is session_is =
         does (Ok (Finish exp)) refl
-        (record { one = end_one; outcome = outcome; steps = h.end.finished.steps; behind = behind; own_is = refl; finishes = is; answered = is_told starts (sym (over_reply place.one.running.swap outcome reply is.over reply_is)) session_is })
+        (record { one = end_one; moves = end_moves; outcome = outcome; steps = h.end.finished.steps; behind = behind; own_is = refl; finishes = is; answered = is_told starts (sym (over_reply place.one.running.swap outcome reply is.over reply_is)) session_is })
 
     abbrev EndLeads : Outcome → Type 0
     EndLeads outcome = Leads before now (Is (Ok (Finish exp))) old new opens end_to place.one.running.swap exp h.end.finished.steps h.end.finished.told h.end.finished.sound h.end.finished.later limit

@@ -7,6 +7,9 @@ use Rattle.virt_topo.specs.declared.wiring.Wiring.{Wiring}
 use Rattle.journal_rec.specs.declared.record.Record.TheVariants.{Create, Delete, Begin}
 use Rattle.journal_rec.specs.declared.record.Way.{Way}
 use Rattle.journal_rec.specs.declared.record.Way.TheVariants.{In as WayIn, Out as WayOut, Change as WayChange}
+use Rattle.assign_core.specs.declared.whole.Solved.{Solved}
+use Rattle.assign_core.specs.declared.whole.Solved.TheVariants as solved
+use Rattle.virt_topo.specs.declared.experiment.Experiment.{Experiment}
 use Rattle.records_model.specs.Labs.{LabState, Move, Says, Creates, Deletes, BeginsIn, BeginsOut, BeginsChange, find}
 use Rattle.lab_state.specs.Texts.{the_texts}
 use Rattle.ns_text.proofs.Reading.{wiring_once}
@@ -15,52 +18,62 @@ use Rattle.top_text.specs.Canonical.{canonical_top}
 use Rattle.script_text.specs.declared.command.Command.{Command}
 use Rattle.script_text.specs.declared.command.Command.TheVariants as commands
 use Rattle.script_text.specs.declared.reply.Reply.{Reply}
-use Rattle.script_text.specs.declared.reply.Reply.TheVariants.{Bad, Deleted}
-use Rattle.lab_core.specs.Judge.{◌>>=◌, need_lab, need_none, need_found, need_meaning, need_room, need_out, need_idle, need_open, need_place, created_reply, shown_reply, status_reply, Task, Tell, Append, Swap, BeginOnly, Turn, Finish, Recover, begun_as, in_slot, judged_modify, judged_recover, judged_ptop, judged_wiring, judged_create, judged_show, judged_delete, judged_swapin, judged_swapout, judged_status, JudgedNetwork, refused, asked, Judged}
+use Rattle.script_text.specs.declared.reply.Reply.TheVariants.{Bad, Deleted, NoLab, LabIsSet}
+use Rattle.cost_rule.specs.declared.rule.RuleNumber.{RuleNumber}
+use Rattle.lab_core.specs.Judge.{◌>>=◌, need_lab, need_none, need_found, need_meaning, need_room, need_out, need_idle, need_open, need_place, created_reply, shown_reply, status_reply, Task, Tell, Append, Swap, BeginOnly, Turn, Finish, Recover, begun_as, in_slot, judged_modify, judged_recover, judged_ptop, judged_wiring, judged_create, judged_show, judged_delete, judged_swapin, judged_swapout, judged_status, JudgedNetwork, refused, asked, Judged, need_idle_out, judged_solved, JudgedSolve, JudgedText, JudgedFound, OrRefused, InSlot, Is, IsFound, is_searched}
 use Rattle.lab_base.specs.declared.fault.TextRefused.{TextRefused}
 use Rattle.lab_base.specs.declared.fault.TextRefused.TheVariants as texts
 use Rattle.ns_text.specs.Wirings.{WiringOf, HasWiring}
 use Rattle.lab_core.specs.declared.task.Task.{Task as TaskInHand}
 use Rattle.lab_core.specs.declared.task.Refusal.{Refusal}
 use Rattle.lab_core.specs.declared.task.Refusal.TheVariants.{Refused, Memory}
-use Rattle.lab_core.specs.Tasks.{Gives, IsJudged, IsRefusedBy, Refuses}
+use Rattle.lab_core.specs.Tasks.{Gives, IsJudged, IsRefusedBy, Refuses, task_of}
 use Rattle.lab_core.specs.Sessions.{name_of}
 use Rattle.lab_core.proofs.Others.{IsApart, IsSpared}
-use Rattle.lab_core.proofs.OwnTasks.{Begins, modify_begins, swap_begins, swapin_begins, swapout_begins}
+use Rattle.lab_core.proofs.OwnTasks.{Begins, bound, entry_begins, modify_begins, remap_begins, swap_begins, swapin_begins, swapout_begins}
+use Rattle.lab_core.proofs.Several.{of_found, of_refused, of_text}
 
 -- ---- ONE JUDGEMENT
-network_once : (s : LabState) (exp text : List ℕ) (a b : Result Task Reply) → JudgedNetwork s exp text a → JudgedNetwork s exp text b → a ≡ b
-network_once s exp text a b (refused reply place is) (refused other place' is') =
-    let both : ◌≡◌ {A = Result (Unit {0}) Reply} (Err reply) (Err other) = sym place ∙ place' in
+refused_once : {A : Type 0} (needed : Result A Reply) (Judges : A → Result Task Reply → Type 0) (a b : Result Task Reply) → ((x : A) → Judges x a → Judges x b → a ≡ b)
+    → OrRefused needed Judges a → OrRefused needed Judges b → a ≡ b
+refused_once needed Judges a b each (refused reply none is) (refused other none' is') =
+    let both : ◌≡◌ {A = Result _ Reply} (Err reply) (Err other) = sym none ∙ none' in
     let same : reply ≡ other = cc both in
     is ∙ ap (λ (r : Reply). let x : Result Task Reply = Err r in x) same ∙ sym is'
-network_once s exp text a b (refused reply place is) (asked meaning place' of is') = let both : Err reply ≡ Ok tt = sym place ∙ place' in absurd (cc both)
-network_once s exp text a b (asked meaning place of is) (refused other place' is') = let both : Ok tt ≡ Err other = sym place ∙ place' in absurd (cc both)
-network_once s exp text a b (asked meaning place of is) (asked meaning' place' of' is') =
-    is ∙ ap (λ (m : Result Wiring TextFault). need_meaning (Bad exp) m >>= judged_wiring s exp) (wiring_once text meaning meaning' of of') ∙ sym is'
+refused_once needed Judges a b each (refused reply none is) (asked x some judged) = let both : Err reply ≡ Ok x = sym none ∙ some in absurd (cc both)
+refused_once needed Judges a b each (asked x some judged) (refused reply none is) = let both : Ok x ≡ Err reply = sym some ∙ none in absurd (cc both)
+refused_once {A} needed Judges a b each (asked x some judged) (asked y some' judged') =
+    let both : ◌≡◌ {A = Result A Reply} (Ok x) (Ok y) = sym some ∙ some' in
+    let same : x ≡ y = cc both in
+    each x judged (subst (λ (z : A). Judges z b) (sym same) judged')
 
-pub judged_once : (s : LabState) (busy : Bool) (count : ℕ) (command : Command) (a b : Result Task Reply) → Judged s busy count command a → Judged s busy count command b → a ≡ b
-judged_once s busy count (commands.Ptop lines text) a b p q = p ∙ sym q
-judged_once s busy count (commands.Create exp lines text) a b p q = network_once s exp text a b p q
-judged_once s busy count (commands.CreateTop exp lines text) a b p q = p ∙ sym q
-judged_once s busy count (commands.Show exp) a b p q = p ∙ sym q
-judged_once s busy count (commands.SwapinWith only exp lines text) a b p q = p ∙ sym q
-judged_once s busy count (commands.ModifyWith only exp lines top others map) a b p q = p ∙ sym q
-judged_once s busy count (commands.Swapout only exp) a b p q = p ∙ sym q
-judged_once s busy count (commands.Turn exp) a b p q = p ∙ sym q
-judged_once s busy count (commands.Finish exp) a b p q = p ∙ sym q
-judged_once s busy count commands.Recover a b p q = p ∙ sym q
-judged_once s busy count (commands.Fail device nth how) a b p q = absurd p
-judged_once s busy count (commands.FailDisk nth) a b p q = absurd p
-judged_once s busy count (commands.Stop nth pick) a b p q = absurd p
-judged_once s busy count (commands.Delete exp) a b p q = p ∙ sym q
-judged_once s busy count commands.Status a b p q = p ∙ sym q
+network_once : (s : LabState) (exp text : List ℕ) (a b : Result Task Reply) → JudgedNetwork s exp text a → JudgedNetwork s exp text b → a ≡ b
+network_once s exp text a b p q =
+    refused_once (need_place s exp) (λ x. JudgedText exp text (λ w. Is (judged_wiring s exp w))) a b (λ x t u.
+    refused_once (need_meaning (Bad exp) t.meaning) (λ w. Is (judged_wiring s exp w)) a b (λ w one other. one ∙ sym other) t.judged
+    (subst (λ (m : Result Wiring TextFault). OrRefused (need_meaning (Bad exp) m) (λ w. Is (judged_wiring s exp w)) b) (wiring_once text u.meaning t.meaning u.is t.is) u.judged)) p q
+
+pub judged_once : (rule : RuleNumber) (s : LabState) (busy : Bool) (count : ℕ) (command : Command) (a b : Result Task Reply) → is_searched command ≡ false → Judged rule s busy count command a → Judged rule s busy count command b → a ≡ b
+judged_once rule s busy count (commands.Ptop lines text) a b alone p q = p ∙ sym q
+judged_once rule s busy count (commands.Create exp lines text) a b alone p q = network_once s exp text a b p q
+judged_once rule s busy count (commands.CreateTop exp lines text) a b alone p q = p ∙ sym q
+judged_once rule s busy count (commands.Show exp) a b alone p q = p ∙ sym q
+judged_once rule s busy count (commands.Solve exp seed) a b alone p q = absurd (cc alone)
+judged_once rule s busy count (commands.Swapin only exp seed) a b alone p q = absurd (cc alone)
+judged_once rule s busy count (commands.Modify only exp seed lines text) a b alone p q = absurd (cc alone)
+judged_once rule s busy count (commands.SwapinWith only exp lines text) a b alone p q = p ∙ sym q
+judged_once rule s busy count (commands.ModifyWith only exp lines top others map) a b alone p q = p ∙ sym q
+judged_once rule s busy count (commands.Swapout only exp) a b alone p q = p ∙ sym q
+judged_once rule s busy count (commands.Turn exp) a b alone p q = p ∙ sym q
+judged_once rule s busy count (commands.Finish exp) a b alone p q = p ∙ sym q
+judged_once rule s busy count commands.Recover a b alone p q = p ∙ sym q
+judged_once rule s busy count (commands.Fail device nth how) a b alone p q = absurd p
+judged_once rule s busy count (commands.FailDisk nth) a b alone p q = absurd p
+judged_once rule s busy count (commands.Stop nth pick) a b alone p q = absurd p
+judged_once rule s busy count (commands.Delete exp) a b alone p q = p ∙ sym q
+judged_once rule s busy count commands.Status a b alone p q = p ∙ sym q
 
 -- ---- `create`, by what the code gave
-pub no_place : (s : LabState) (exp text : List ℕ) (refusal : Refusal) → Refuses {X = Unit {0}} (need_place s exp) (Err refusal) → IsJudged (JudgedNetwork s exp text) (Err refusal)
-no_place s exp text (Refused reply) h = (refused reply h.0 refl, h.1)
-no_place s exp text Memory h = tt
-
 read_so : (t : List ℕ) (w : Wiring) → HasWiring t (Ok w) → WiringOf t (Ok w)
 unfolding HasWiring
 read_so t w h = h
@@ -69,14 +82,67 @@ fault_so : (t : List ℕ) (fault : TextFault) → HasWiring t (Err (texts.Text f
 unfolding HasWiring
 fault_so t fault h = h
 
-pub of_wiring : (s : LabState) (exp text : List ℕ) (w : Wiring) (result : Result TaskInHand Refusal) → need_place s exp ≡ Ok tt → HasWiring text (Ok w) → Gives (judged_wiring s exp w) result → IsJudged (JudgedNetwork s exp text) result
-of_wiring s exp text w (Ok task) place meaning h = asked (Ok w) place (read_so text w meaning) (sym h)
-of_wiring s exp text w (Err (Refused reply)) place meaning h = (asked (Ok w) place (read_so text w meaning) (sym h.0), h.1)
-of_wiring s exp text w (Err Memory) place meaning h = tt
+-- a check refused, or gave a value
+pub refuses_so : {A : Type 0} (needed : Result A Reply) (Judges : A → Result Task Reply → Type 0) (refusal : Refusal) → Refuses {X = Unit {0}} needed (Err refusal) → IsJudged (OrRefused needed Judges) (Err refusal)
+refuses_so needed Judges (Refused reply) h = (refused reply h.0 refl, h.1)
+refuses_so needed Judges Memory h = tt
 
-pub of_fault : (s : LabState) (exp text : List ℕ) (why : TextRefused) (refusal : Refusal) → need_place s exp ≡ Ok tt → HasWiring text (Err why) → IsRefusedBy (Bad exp) why refusal → IsJudged (JudgedNetwork s exp text) (Err refusal)
-of_fault s exp text (texts.Text fault) refusal place meaning h = subst (λ (r : Refusal). IsJudged (JudgedNetwork s exp text) (Err r)) (sym h.0) (asked (Err fault) place (fault_so text fault meaning) refl, h.1)
-of_fault s exp text texts.Memory refusal place meaning h = subst (λ (r : Refusal). IsJudged (JudgedNetwork s exp text) (Err r)) (sym h) tt
+pub asked_so : {A : Type 0} (needed : Result A Reply) (Judges : A → Result Task Reply → Type 0) (x : A) (result : Result TaskInHand Refusal) → needed ≡ Ok x → IsJudged (Judges x) result → IsJudged (OrRefused needed Judges) result
+asked_so needed Judges x (Ok task) is h = asked x is h
+asked_so needed Judges x (Err (Refused reply)) is h = (asked x is h.0, h.1)
+asked_so needed Judges x (Err Memory) is h = tt
+
+-- a text was read
+with_meaning : (exp text : List ℕ) (Judges : Wiring → Result Task Reply → Type 0) (meaning : Result Wiring TextFault) → WiringOf text meaning → (result : Result TaskInHand Refusal)
+    → IsJudged (OrRefused (need_meaning (Bad exp) meaning) Judges) result → IsJudged (JudgedText exp text Judges) result
+with_meaning exp text Judges meaning is (Ok task) h = record { meaning = meaning; is = is; judged = h }
+with_meaning exp text Judges meaning is (Err (Refused reply)) h = (record { meaning = meaning; is = is; judged = h.0 }, h.1)
+with_meaning exp text Judges meaning is (Err Memory) h = tt
+
+pub text_so : (exp text : List ℕ) (Judges : Wiring → Result Task Reply → Type 0) (w : Wiring) (result : Result TaskInHand Refusal) → HasWiring text (Ok w) → IsJudged (Judges w) result → IsJudged (JudgedText exp text Judges) result
+text_so exp text Judges w result meaning h = with_meaning exp text Judges (Ok w) (read_so text w meaning) result (asked_so (need_meaning (Bad exp) (Ok w)) Judges w result refl h)
+
+pub fault_refuses : (exp text : List ℕ) (Judges : Wiring → Result Task Reply → Type 0) (why : TextRefused) (refusal : Refusal) → HasWiring text (Err why) → IsRefusedBy (Bad exp) why refusal → IsJudged (JudgedText exp text Judges) (Err refusal)
+fault_refuses exp text Judges (texts.Text fault) refusal meaning h =
+    subst (λ (r : Refusal). IsJudged (JudgedText exp text Judges) (Err r)) (sym h.0)
+    (with_meaning exp text Judges (Err fault) (fault_so text fault meaning) (Err (Refused (Bad exp fault))) (refused (Bad exp fault) refl refl, h.1))
+fault_refuses exp text Judges texts.Memory refusal meaning h = subst (λ (r : Refusal). IsJudged (JudgedText exp text Judges) (Err r)) (sym h) tt
+
+-- a search found
+pub found_so : (rule : RuleNumber) (s : LabState) (lab : Lab) (e : Experiment) (w : Wiring) (seed : ℕ) (judged : Solved → Result Task Reply) (found : Solved) (result : Result TaskInHand Refusal)
+    → IsFound rule lab s.experiments e w seed found → Gives (judged found) result → IsJudged (JudgedFound rule s lab e w seed judged) result
+found_so rule s lab e w seed judged found (Ok task) is h = record { found = found; is_found = is; is = sym h }
+found_so rule s lab e w seed judged found (Err (Refused reply)) is h = (record { found = found; is_found = is; is = sym h.0 }, h.1)
+found_so rule s lab e w seed judged found (Err Memory) is h = tt
+
+-- what is one judgement is one of these
+pub is_so : (judgement : Result Task Reply) (result : Result TaskInHand Refusal) → Gives judgement result → IsJudged (Is judgement) result
+is_so judgement (Ok task) h = sym h
+is_so judgement (Err (Refused reply)) h = (sym h.0, h.1)
+is_so judgement (Err Memory) h = tt
+
+-- beside the open swaps
+pub slot_so : (count : ℕ) (only : Bool) (Judges : Result Task Reply → Type 0) (given result : Result TaskInHand Refusal) → IsJudged Judges given
+    → ((j : Result Task Reply) → Gives j given → Gives (in_slot count only j) result) → IsJudged (InSlot count only Judges) result
+slot_so count only Judges (Ok task) result judged each = slotted result (each (Ok (task_of task)) refl)
+  where
+    slotted : (result : Result TaskInHand Refusal) → Gives (in_slot count only (Ok (task_of task))) result → IsJudged (InSlot count only Judges) result
+    slotted (Ok begun) h = record { before = Ok (task_of task); judged = judged; is = sym h }
+    slotted (Err (Refused reply)) h = (record { before = Ok (task_of task); judged = judged; is = sym h.0 }, h.1)
+    slotted (Err Memory) h = tt
+slot_so count only Judges (Err (Refused refusal)) result judged each = slotted result (each (Err refusal) (refl, judged.1))
+  where
+    slotted : (result : Result TaskInHand Refusal) → Gives (in_slot count only (Err refusal)) result → IsJudged (InSlot count only Judges) result
+    slotted (Ok begun) h = record { before = Err refusal; judged = judged.0; is = sym h }
+    slotted (Err (Refused reply)) h = (record { before = Err refusal; judged = judged.0; is = sym h.0 }, h.1)
+    slotted (Err Memory) h = tt
+slot_so count only Judges (Err Memory) result judged each = wanting result (each (Err NoLab) tt) (each (Err LabIsSet) tt)
+  where
+    -- no reply refuses by two replies
+    wanting : (result : Result TaskInHand Refusal) → Gives (in_slot count only (Err NoLab)) result → Gives (in_slot count only (Err LabIsSet)) result → IsJudged (InSlot count only Judges) result
+    wanting (Ok begun) h k = absurd (cc h)
+    wanting (Err (Refused reply)) h k = let both : NoLab ≡ LabIsSet = cc (h.0 ∙ sym k.0) in absurd (cc both)
+    wanting (Err Memory) h k = tt
 
 -- ---- THE TASK of a command is of no other experiment, where the lab was set
 abbrev pub IsTaskApart : List ℕ → List (List ℕ) → LabState → Task → Type 0
@@ -87,11 +153,6 @@ IsTaskApart name busy s (BeginOnly exp way) = (exp ≢ name) × ((move : Move) �
 IsTaskApart name busy s (Turn exp) = exp ≢ name
 IsTaskApart name busy s (Finish exp) = exp ≢ name
 IsTaskApart name busy s Recover = IsSpared busy s name
-
--- what comes after a check that did not refuse
-bound : {A B : Type 0} (r : Result A Reply) (f : A → Result B Reply) (y : B) → (r >>= f) ≡ Ok y → (x : A) × (r ≡ Ok x) × (f x ≡ Ok y)
-bound (Ok x) f y h = (x, refl, h)
-bound (Err refusal) f y h = absurd (cc h)
 
 not_set : (o : Option Lab) (x : Unit {0}) → is_some o ≡ true → need_none o ≡ Ok x → ⊥
 not_set None x set h = cc set
@@ -115,9 +176,28 @@ module _ (name : List ℕ) (names : List (List ℕ)) (s : LabState) (busy : Bool
       let room = bound (need_room s.experiments) _ task h in
       task_is (Append (Create exp (canonical_top wiring)) (created_reply exp wiring)) room.2 (λ move says. by_move move (Creates exp says.0) says.3 own)
 
+  -- of whatever is judged
+  abbrev IsApartIf : Result Task Reply → Type 0
+  IsApartIf judgement = judgement ≡ Ok task → IsTaskApart name names s task
+
+  refusal_apart : (reply : Reply) → IsApartIf (Err reply)
+  refusal_apart reply = λ is. absurd (cc is)
+
   network_apart : (exp text : List ℕ) → exp ≢ name → JudgedNetwork s exp text (Ok task) → IsTaskApart name names s task
-  network_apart exp text own (refused reply place is) = absurd (cc is)
-  network_apart exp text own (asked meaning place of is) = let wiring = bound (need_meaning (Bad exp) meaning) (judged_wiring s exp) task (sym is) in wiring_apart exp wiring.0 own wiring.2
+  network_apart exp text own n =
+      of_refused IsApartIf (need_place s exp) _ (Ok task) (λ reply is. refusal_apart reply)
+      (λ x place j t. of_text IsApartIf exp text _ j (λ fault. refusal_apart (Bad exp fault)) (λ w j is. λ ok. wiring_apart exp w own (sym is ∙ ok)) t) n refl
+
+  solve_apart : (rule : RuleNumber) (exp : List ℕ) (seed : ℕ) → JudgedSolve rule s busy exp seed (Ok task) → IsTaskApart name names s task
+  solve_apart rule exp seed n =
+      of_refused IsApartIf (need_idle_out s busy exp) _ (Ok task) (λ reply is. refusal_apart reply)
+      (λ p place j f. of_found IsApartIf rule s p.0 p.1 p.1.wiring seed (judged_solved p.0 p.1) j (λ found is. by p.0 p.1 found) f) n refl
+    where
+      by : (lab : Lab) (e : Experiment) (found : Solved) → IsApartIf (judged_solved lab e found)
+      by lab e (solved.Least m c) = λ is. task_is (Tell _) is tt
+      by lab e (solved.Local m c) = λ is. task_is (Tell _) is tt
+      by lab e solved.None = refusal_apart _
+      by lab e solved.GaveUp = refusal_apart _
 
   ptop_apart : (text : List ℕ) → is_some s.lab ≡ true → judged_ptop s text ≡ Ok task → IsTaskApart name names s task
   ptop_apart text there h = let none = bound (need_none s.lab) _ task h in absurd (not_set s.lab none.0 there none.1)
@@ -169,19 +249,24 @@ module _ (name : List ℕ) (names : List (List ℕ)) (s : LabState) (busy : Bool
   apart_from : (exp : List ℕ) → ◌≢◌ {A = Option (List ℕ)} (Some exp) (Some name) → exp ≢ name
   apart_from exp other same = other (ap (λ (n : List ℕ). Some n) same)
 
-  pub task_apart : (command : Command) → (command ≡ commands.Recover → IsSpared names s name) → is_some s.lab ≡ true → name_of command ≢ Some name → Judged s busy count command (Ok task) → IsTaskApart name names s task
-  task_apart (commands.Ptop lines text) spared there other is = ptop_apart text there (sym is)
-  task_apart (commands.Create exp lines text) spared there other is = network_apart exp text (apart_from exp other) is
-  task_apart (commands.CreateTop exp lines text) spared there other is = create_apart exp text (apart_from exp other) (sym is)
-  task_apart (commands.Show exp) spared there other is = show_apart exp (sym is)
-  task_apart (commands.SwapinWith only exp lines text) spared there other is = swap_apart exp only (judged_swapin s busy exp text) (apart_from exp other) (swapin_begins s busy exp text) is
-  task_apart (commands.ModifyWith only exp lines top others map) spared there other is = swap_apart exp only (judged_modify s busy exp lines top map) (apart_from exp other) (modify_begins s busy exp lines top map) is
-  task_apart (commands.Swapout only exp) spared there other is = swap_apart exp only (judged_swapout s busy exp) (apart_from exp other) (swapout_begins s busy exp) is
-  task_apart (commands.Turn exp) spared there other is = turn_apart exp (Turn exp) (apart_from exp other) (sym is)
-  task_apart (commands.Finish exp) spared there other is = turn_apart exp (Finish exp) (apart_from exp other) (sym is)
-  task_apart commands.Recover spared there other is = recover_apart (spared refl) (sym is)
-  task_apart (commands.Fail device nth how) spared there other is = absurd is
-  task_apart (commands.FailDisk nth) spared there other is = absurd is
-  task_apart (commands.Stop nth pick) spared there other is = absurd is
-  task_apart (commands.Delete exp) spared there other is = delete_apart exp (apart_from exp other) (sym is)
-  task_apart commands.Status spared there other is = status_apart (sym is)
+  pub task_apart : (rule : RuleNumber) (command : Command) → (command ≡ commands.Recover → IsSpared names s name) → is_some s.lab ≡ true → name_of command ≢ Some name → Judged rule s busy count command (Ok task) → IsTaskApart name names s task
+  task_apart rule (commands.Ptop lines text) spared there other is = ptop_apart text there (sym is)
+  task_apart rule (commands.Create exp lines text) spared there other is = network_apart exp text (apart_from exp other) is
+  task_apart rule (commands.CreateTop exp lines text) spared there other is = create_apart exp text (apart_from exp other) (sym is)
+  task_apart rule (commands.Show exp) spared there other is = show_apart exp (sym is)
+  task_apart rule (commands.Solve exp seed) spared there other is = solve_apart rule exp seed is
+  task_apart rule (commands.Swapin only exp seed) spared there other is =
+      swap_apart exp only is.before (apart_from exp other) (entry_begins s busy exp rule seed is.before is.judged) is.is
+  task_apart rule (commands.Modify only exp seed lines text) spared there other is =
+      swap_apart exp only is.before (apart_from exp other) (remap_begins s busy exp rule seed text is.before is.judged) is.is
+  task_apart rule (commands.SwapinWith only exp lines text) spared there other is = swap_apart exp only (judged_swapin s busy exp text) (apart_from exp other) (swapin_begins s busy exp text) is
+  task_apart rule (commands.ModifyWith only exp lines top others map) spared there other is = swap_apart exp only (judged_modify s busy exp lines top map) (apart_from exp other) (modify_begins s busy exp lines top map) is
+  task_apart rule (commands.Swapout only exp) spared there other is = swap_apart exp only (judged_swapout s busy exp) (apart_from exp other) (swapout_begins s busy exp) is
+  task_apart rule (commands.Turn exp) spared there other is = turn_apart exp (Turn exp) (apart_from exp other) (sym is)
+  task_apart rule (commands.Finish exp) spared there other is = turn_apart exp (Finish exp) (apart_from exp other) (sym is)
+  task_apart rule commands.Recover spared there other is = recover_apart (spared refl) (sym is)
+  task_apart rule (commands.Fail device nth how) spared there other is = absurd is
+  task_apart rule (commands.FailDisk nth) spared there other is = absurd is
+  task_apart rule (commands.Stop nth pick) spared there other is = absurd is
+  task_apart rule (commands.Delete exp) spared there other is = delete_apart exp (apart_from exp other) (sym is)
+  task_apart rule commands.Status spared there other is = status_apart (sym is)

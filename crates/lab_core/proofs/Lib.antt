@@ -1,5 +1,6 @@
 pub mod Behind
 pub mod Claimed
+pub mod Compacting
 pub mod EndOne
 pub mod JudgeSwap
 pub mod JudgeTasks
@@ -13,6 +14,7 @@ pub mod Opened
 pub mod OpenLaws
 pub mod Openings
 pub mod OtherSwaps
+pub mod OtherWorlds
 pub mod Others
 pub mod OuterReplies
 pub mod OwnTasks
@@ -24,6 +26,9 @@ pub mod Rested
 pub mod RunSwap
 pub mod Said
 pub mod SettledOpenings
+pub mod SearchLaws
+pub mod Searched
+pub mod Several
 pub mod Shown
 pub mod SolutionLaws
 pub mod StepLaws

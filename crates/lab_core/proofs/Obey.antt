@@ -17,6 +17,7 @@ use Rattle.swap_turns.specs.Closing.{Closes}
 use Rattle.swap_turns.proofs.Closing.{Images}
 use Rattle.swap_turns.proofs.Telling.{if_some, if_both}
 use Rattle.plant.specs.Seen.{Seen}
+use Rattle.cost_rule.specs.declared.rule.RuleNumber.{RuleNumber}
 use Rattle.lab_core.specs.declared.fault.CoreFault.{CoreFault}
 use Rattle.lab_core.specs.declared.fault.CoreFault.TheVariants as faults
 use Rattle.lab_core.specs.Controller.{Control, WorksWith}
@@ -206,7 +207,7 @@ module _ (A B : Result Task Reply → Type 0) (each : (j : Result Task Reply) �
       }
 
 -- WHAT WAS JUDGED of a command beside the open swaps, and done
-pub obeyed_as : (before now : Seen) (old new : Control) (opens : List OpenSwap) (exp : Option (List ℕ)) (command : Command) (judgement : Result Task Reply) → JudgedBeside command opens old.lab judgement → (result : Result Reply CoreFault)
-    → Obeyed before now (Is judgement) old new opens exp result → Obeyed before now (JudgedBeside command opens old.lab) old new opens exp result
-obeyed_as before now old new opens exp command judgement judged result h =
-    obeyed_by (Is judgement) (JudgedBeside command opens old.lab) (λ j is. subst (λ (x : Result Task Reply). JudgedBeside command opens old.lab x) (sym is) judged) before now old new opens exp result h
+pub obeyed_as : (rule : RuleNumber) (before now : Seen) (old new : Control) (opens : List OpenSwap) (exp : Option (List ℕ)) (command : Command) (judgement : Result Task Reply) → JudgedBeside rule command opens old.lab judgement → (result : Result Reply CoreFault)
+    → Obeyed before now (Is judgement) old new opens exp result → Obeyed before now (JudgedBeside rule command opens old.lab) old new opens exp result
+obeyed_as rule before now old new opens exp command judgement judged result h =
+    obeyed_by (Is judgement) (JudgedBeside rule command opens old.lab) (λ j is. subst (λ (x : Result Task Reply). JudgedBeside rule command opens old.lab x) (sym is) judged) before now old new opens exp result h

@@ -9,6 +9,7 @@ use Rattle.script_text.specs.Replies.{blames_device}
 use Rattle.script_text.specs.declared.command.Command.{Command}
 use Rattle.script_text.specs.declared.reply.Reply.{Reply}
 use Rattle.swap_turns.proofs.Pushing.{rose_later}
+use Rattle.cost_rule.specs.declared.rule.RuleNumber.{RuleNumber}
 use Rattle.lab_core.specs.declared.fault.CoreFault.{CoreFault}
 use Rattle.lab_core.specs.Controller.{Control, WorksWith, has_open_for}
 use Rattle.lab_core.specs.Judge.{Task, Is, Judged}
@@ -62,16 +63,16 @@ module _ (before now : Seen) (IsJudged : Result Task Reply → Type 0) (old new 
   of_own swapped (inr none) h = counted_own (subst (λ (e : Option (List ℕ)). Obeyed before now IsJudged old new opens e result) none h)
 
 -- WHAT THE CODE JUDGED in the parts of a controller
-module _ (before : Seen) (inside old : Control) (view : inside ≡ old) (opens : List OpenSwap) (works : WorksWith before inside opens) (command : Command) where
+module _ (before : Seen) (inside old : Control) (view : inside ≡ old) (opens : List OpenSwap) (works : WorksWith before inside opens) (rule : RuleNumber) (command : Command) where
   abbrev JudgedInside : Result Task Reply → Type 0
-  JudgedInside judgement = Judged inside.lab (has_open_for inside.swaps command) (length inside.swaps) command judgement
+  JudgedInside judgement = Judged rule inside.lab (has_open_for inside.swaps command) (length inside.swaps) command judgement
 
   pub done_beside : (now : Seen) (new : Control) (task : Task) (result : Result Reply CoreFault) → JudgedInside (Ok task) → Obeyed before now (Is (Ok task)) inside new opens (swapped_by task) result
-      → Obeyed before now (JudgedBeside command opens old.lab) old new opens (name_of command) result
+      → Obeyed before now (JudgedBeside rule command opens old.lab) old new opens (name_of command) result
   done_beside now new task result judged h =
-      let own = of_own before now (Is (Ok task)) inside new opens works (name_of command) result (swapped_by task) (swaps_own inside.lab (has_open_for inside.swaps command) (length inside.swaps) command task judged) h in
-      subst (λ (c : Control). Obeyed before now (JudgedBeside command opens c.lab) c new opens (name_of command) result) view
-      (obeyed_as before now inside new opens (name_of command) command (Ok task) (judged_beside before inside opens works command (Ok task) judged) result own)
+      let own = of_own before now (Is (Ok task)) inside new opens works (name_of command) result (swapped_by task) (swaps_own rule inside.lab (has_open_for inside.swaps command) (length inside.swaps) command task judged) h in
+      subst (λ (c : Control). Obeyed before now (JudgedBeside rule command opens c.lab) c new opens (name_of command) result) view
+      (obeyed_as rule before now inside new opens (name_of command) command (Ok task) (judged_beside before inside opens works rule command (Ok task) judged) result own)
 
-  pub refused_beside : (reply : Reply) → JudgedInside (Err reply) × IsMild reply → JudgedBeside command opens old.lab (Err reply) × IsMild reply
-  refused_beside reply h = (subst (λ (c : Control). JudgedBeside command opens c.lab (Err reply)) view (judged_beside before inside opens works command (Err reply) h.0), h.1)
+  pub refused_beside : (reply : Reply) → JudgedInside (Err reply) × IsMild reply → JudgedBeside rule command opens old.lab (Err reply) × IsMild reply
+  refused_beside reply h = (subst (λ (c : Control). JudgedBeside rule command opens c.lab (Err reply)) view (judged_beside before inside opens works rule command (Err reply) h.0), h.1)

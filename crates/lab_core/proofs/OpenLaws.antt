@@ -27,7 +27,8 @@ use Rattle.lab_core.specs.Breaks.{Breaks, stopped, failed, unanswered}
 use Rattle.lab_core.specs.Judge.{Task, Tell, Append, Swap, BeginOnly, Turn, Finish, Recover}
 use Rattle.lab_core.specs.LabSteps.{AppendEnds, whole, broken, Appends, IsAnswered, is_told, unanswered as untold, end_session, turn_reply, Swaps, BeginSteps, Begins as BeginsSwap, begun_at, IsOneOf, turned_on, has_space, IfSpace, Does, Drills, is_planned, is_refused, wants_memory, JudgedBeside}
 use Rattle.lab_core.specs.Recovery.{Recovers, settled, broken_off}
-use Rattle.lab_core.specs.Sessions.{OpenSwap, Session, Closed, Open, Setting, After, is_among, name_in, name_of, names_of, open_at}
+use Rattle.cost_rule.specs.declared.rule.RuleNumber.{RuleNumber}
+use Rattle.lab_core.specs.Sessions.{OpenSwap, Session, Closed, Open, Setting, After, is_among, name_in, name_of, names_of, open_at, Terms}
 use Rattle.lab_core.specs.Tells.{IsOpened, busy_of, opens_of}
 use Rattle.lab_core.proofs.OwnTasks.{IsAllowed, own_task}
 use Rattle.lab_core.proofs.StepLaws.{Was, done, wanting, broke, drilled, none_told}
@@ -103,27 +104,31 @@ module _ (after : After) (to : List OpenSwap) (is : after.session ≡ Open to) w
     does_next set (Ok (Finish exp)) d = (d.one, answered_next _ (d.one.front ++ d.one.rest) d.outcome d.behind d.answered)
     does_next set (Ok Recover) d = recover_next d
 
+-- the open swaps allow the task, if it is one
+abbrev IsMaybe : Command → List OpenSwap → Result Task Reply → Type 0
+IsMaybe command opens judgement = (task : Task) → judgement ≡ Ok task → IsAllowed (name_of command) (is_among (names_of opens) (name_of command)) (length opens) task
+
+maybe : (rule : RuleNumber) (command : Command) (opens : List OpenSwap) (mid : LabState) (judgement : Result Task Reply) → JudgedBeside rule command opens mid judgement → IsMaybe command opens judgement
+maybe rule command opens mid judgement judged =
+    λ task is. own_task mid (is_among (names_of opens) (name_of command)) (length opens) rule command task (subst (λ (j : Result Task Reply). JudgedBeside rule command opens mid j) is judged)
+
 -- WHAT THE STEP LEFT OPEN: what its judgement did with the open swaps that it began with, or just these
 pub data Leaves (set : Setting) (session : Session) (command : Command) (judgement : Result Task Reply) (to : List OpenSwap) : Type 0 where
-  goes : (mid : LabState) → JudgedBeside command (opens_of session) mid judgement → IsNext set.devices (opens_of session) judgement to → Leaves set session command judgement to
+  goes : IsMaybe command (opens_of session) judgement → IsNext set.devices (opens_of session) judgement to → Leaves set session command judgement to
   stands : to ≡ opens_of session → Leaves set session command judgement to
 
-drill_stands : (takes : Bool) (s : LabState) (session : Session) (own : List Event) (after : After) (to : List OpenSwap) → after.session ≡ Open to → Drills takes s session own after → to ≡ opens_of session
-drill_stands takes s session own after to is (is_planned yes' none after_is) = sym (ap opens_of (sym (ap (λ (a : After). a.session) after_is) ∙ is))
-drill_stands takes s session own after to is (is_refused no' none after_is) = sym (ap opens_of (sym (ap (λ (a : After). a.session) after_is) ∙ is))
-drill_stands takes s session own after to is (wants_memory wants) = not_closed after to is (ap (λ (a : After). a.session) wants.after_is)
+drill_stands : (terms : Terms) (s : LabState) (session : Session) (own : List Event) (after : After) (to : List OpenSwap) → after.session ≡ Open to → Drills terms.takes s session own after → to ≡ opens_of session
+drill_stands terms s session own after to is (is_planned yes' none after_is) = sym (ap opens_of (sym (ap (λ (a : After). a.session) after_is) ∙ is))
+drill_stands terms s session own after to is (is_refused no' none after_is) = sym (ap opens_of (sym (ap (λ (a : After). a.session) after_is) ∙ is))
+drill_stands terms s session own after to is (wants_memory wants) = not_closed after to is (ap (λ (a : After). a.session) wants.after_is)
 
-pub leaves : (drill : Option Drill) (judgement : Result Task Reply) (takes : Bool) (set : Setting) (s : LabState) (session : Session) (command : Command) (opening own : List Event) (after : After) (to : List OpenSwap)
-    → after.session ≡ Open to → Was drill judgement takes set s session command opening own after → Leaves set session command judgement to
-leaves drill judgement takes set s session command opening own after to is (done mid opens begins judged d) =
-    goes mid (subst (λ (l : List OpenSwap). JudgedBeside command l mid judgement) begins.are judged) (subst (λ (l : List OpenSwap). IsNext set.devices l judgement to) begins.are (does_next after to is mid opens own set judgement d))
-leaves drill judgement takes set s session command opening own after to is (wanting mid opens begins wants) = not_closed after to is (ap (λ (a : After). a.session) wants.after_is)
-leaves drill judgement takes set s session command opening own after to is (broke none closed breaks) = not_closed after to is breaks.session
-leaves drill judgement takes set s session command opening own after to is (drilled some none drills) = stands (drill_stands takes s session own after to is drills)
-
--- what the judgement asked of them
-allowed : (command : Command) (opens : List OpenSwap) (mid : LabState) (task : Task) → JudgedBeside command opens mid (Ok task) → IsAllowed (name_of command) (is_among (names_of opens) (name_of command)) (length opens) task
-allowed command opens mid task judged = own_task mid (is_among (names_of opens) (name_of command)) (length opens) command task judged
+pub leaves : (drill : Option Drill) (judgement : Result Task Reply) (terms : Terms) (set : Setting) (s : LabState) (session : Session) (command : Command) (opening own : List Event) (after : After) (to : List OpenSwap)
+    → after.session ≡ Open to → Was drill judgement terms set s session command opening own after → Leaves set session command judgement to
+leaves drill judgement terms set s session command opening own after to is (done mid opens begins judged d) =
+    goes (maybe terms.rule command (opens_of session) mid judgement (subst (λ (l : List OpenSwap). JudgedBeside terms.rule command l mid judgement) begins.are judged)) (subst (λ (l : List OpenSwap). IsNext set.devices l judgement to) begins.are (does_next after to is mid opens own set judgement d))
+leaves drill judgement terms set s session command opening own after to is (wanting mid opens begins wants) = not_closed after to is (ap (λ (a : After). a.session) wants.after_is)
+leaves drill judgement terms set s session command opening own after to is (broke none closed breaks) = not_closed after to is breaks.session
+leaves drill judgement terms set s session command opening own after to is (drilled some none drills) = stands (drill_stands terms s session own after to is drills)
 
 -- EACH OF ANOTHER NAME than the command's is open as it was
 module _ (command : Command) (name : List ℕ) (other : name_of command ≢ Some name) (opens to : List OpenSwap) where
@@ -133,25 +138,25 @@ module _ (command : Command) (name : List ℕ) (other : name_of command ≢ Some
   as_it_was : to ≡ opens → open_at name to ≡ open_at name opens
   as_it_was same = ap (λ (l : List OpenSwap). open_at name l) same
 
-  next_others : (devices : ℕ) (mid : LabState) (judgement : Result Task Reply) → JudgedBeside command opens mid judgement → IsNext devices opens judgement to → open_at name to ≡ open_at name opens
-  next_others devices mid (Err refusal) judged next = as_it_was next
-  next_others devices mid (Ok (Tell told)) judged next = as_it_was next
-  next_others devices mid (Ok (Append entry told)) judged next = as_it_was next
-  next_others devices mid (Ok (Swap exp way)) judged next = as_it_was next
-  next_others devices mid (Ok Recover) judged next = as_it_was next
-  next_others devices mid (Ok (BeginOnly exp way)) judged (inl same) = as_it_was same
-  next_others devices mid (Ok (BeginOnly exp way)) judged (inr (p, named, is)) =
-      ap (λ (l : List OpenSwap). open_at name l) is ∙ at_without name opens [] (begun_at p devices) (apart_from p.name exp named (allowed command opens mid (BeginOnly exp way) judged).0)
+  next_others : (devices : ℕ) (judgement : Result Task Reply) → IsMaybe command opens judgement → IsNext devices opens judgement to → open_at name to ≡ open_at name opens
+  next_others devices (Err refusal) may next = as_it_was next
+  next_others devices (Ok (Tell told)) may next = as_it_was next
+  next_others devices (Ok (Append entry told)) may next = as_it_was next
+  next_others devices (Ok (Swap exp way)) may next = as_it_was next
+  next_others devices (Ok Recover) may next = as_it_was next
+  next_others devices (Ok (BeginOnly exp way)) may (inl same) = as_it_was same
+  next_others devices (Ok (BeginOnly exp way)) may (inr (p, named, is)) =
+      ap (λ (l : List OpenSwap). open_at name l) is ∙ at_without name opens [] (begun_at p devices) (apart_from p.name exp named (may (BeginOnly exp way) refl).0)
       ∙ ap (λ (l : List OpenSwap). open_at name l) (append-nil opens)
-  next_others devices mid (Ok (Turn exp)) judged (one, steps, outcome, is) =
-      ap (λ (l : List OpenSwap). open_at name l) is ∙ at_turned name one.front one.rest one.swap steps outcome (apart_from (name_in one.swap) exp one.name (allowed command opens mid (Turn exp) judged).0)
+  next_others devices (Ok (Turn exp)) may (one, steps, outcome, is) =
+      ap (λ (l : List OpenSwap). open_at name l) is ∙ at_turned name one.front one.rest one.swap steps outcome (apart_from (name_in one.swap) exp one.name (may (Turn exp) refl).0)
       ∙ ap (λ (l : List OpenSwap). open_at name l) (sym one.are)
-  next_others devices mid (Ok (Finish exp)) judged (one, is) =
-      ap (λ (l : List OpenSwap). open_at name l) is ∙ sym (at_without name one.front one.rest one.swap (apart_from (name_in one.swap) exp one.name (allowed command opens mid (Finish exp) judged).0))
+  next_others devices (Ok (Finish exp)) may (one, is) =
+      ap (λ (l : List OpenSwap). open_at name l) is ∙ sym (at_without name one.front one.rest one.swap (apart_from (name_in one.swap) exp one.name (may (Finish exp) refl).0))
       ∙ ap (λ (l : List OpenSwap). open_at name l) (sym one.are)
 
 pub others_as_they_were : (set : Setting) (session : Session) (command : Command) (judgement : Result Task Reply) (to : List OpenSwap) (name : List ℕ) → name_of command ≢ Some name → Leaves set session command judgement to → open_at name to ≡ open_at name (opens_of session)
-others_as_they_were set session command judgement to name other (goes mid judged next) = next_others command name other (opens_of session) to set.devices mid judgement judged next
+others_as_they_were set session command judgement to name other (goes may next) = next_others command name other (opens_of session) to set.devices judgement may next
 others_as_they_were set session command judgement to name other (stands same) = as_it_was command name other (opens_of session) to same
 
 -- THEIR NAMES DIFFER
@@ -212,27 +217,27 @@ module _ (P : List OpenSwap → Type 0) (opens to : List OpenSwap) (holds : P op
   stays : to ≡ opens → P to
   stays same = subst P (sym same) holds
 
-  next_holds : (devices : ℕ) (mid : LabState) (judgement : Result Task Reply) → JudgedBeside command opens mid judgement → IsNext devices opens judgement to → P to
-  next_holds devices mid (Err refusal) judged next = stays next
-  next_holds devices mid (Ok (Tell told)) judged next = stays next
-  next_holds devices mid (Ok (Append entry told)) judged next = stays next
-  next_holds devices mid (Ok (Swap exp way)) judged next = stays next
-  next_holds devices mid (Ok Recover) judged next = stays next
-  next_holds devices mid (Ok (BeginOnly exp way)) judged (inl same) = stays same
-  next_holds devices mid (Ok (BeginOnly exp way)) judged (inr (p, named, is)) =
-      let may = allowed command opens mid (BeginOnly exp way) judged in
-      subst P (sym is) (one_more (begun_at p devices) (may.0 ∙ ap (λ (n : List ℕ). Some n) (sym named)) may.1 may.2)
-  next_holds devices mid (Ok (Turn exp)) judged (one, steps, outcome, is) = subst P (sym is) (turned one.front one.rest one.swap steps outcome (subst P one.are holds))
-  next_holds devices mid (Ok (Finish exp)) judged (one, is) = subst P (sym is) (ended one.front one.rest one.swap (subst P one.are holds))
+  next_holds : (devices : ℕ) (judgement : Result Task Reply) → IsMaybe command opens judgement → IsNext devices opens judgement to → P to
+  next_holds devices (Err refusal) may next = stays next
+  next_holds devices (Ok (Tell told)) may next = stays next
+  next_holds devices (Ok (Append entry told)) may next = stays next
+  next_holds devices (Ok (Swap exp way)) may next = stays next
+  next_holds devices (Ok Recover) may next = stays next
+  next_holds devices (Ok (BeginOnly exp way)) may (inl same) = stays same
+  next_holds devices (Ok (BeginOnly exp way)) may (inr (p, named, is)) =
+      let asked = may (BeginOnly exp way) refl in
+      subst P (sym is) (one_more (begun_at p devices) (asked.0 ∙ ap (λ (n : List ℕ). Some n) (sym named)) asked.1 asked.2)
+  next_holds devices (Ok (Turn exp)) may (one, steps, outcome, is) = subst P (sym is) (turned one.front one.rest one.swap steps outcome (subst P one.are holds))
+  next_holds devices (Ok (Finish exp)) may (one, is) = subst P (sym is) (ended one.front one.rest one.swap (subst P one.are holds))
 
 pub names_differ : (set : Setting) (session : Session) (command : Command) (judgement : Result Task Reply) (to : List OpenSwap) → AllDiffer (busy_of session) → Leaves set session command judgement to → AllDiffer (names_of to)
-names_differ set session command judgement to differ (goes mid judged next) =
+names_differ set session command judgement to differ (goes may next) =
     next_holds (λ l. AllDiffer (names_of l)) (opens_of session) to differ command
-    (λ o is idle free. with_one (opens_of session) o (sym (ap (λ n. is_among (busy_of session) n) is) ∙ idle) differ) turned_differ without_one set.devices mid judgement judged next
+    (λ o is idle free. with_one (opens_of session) o (sym (ap (λ n. is_among (busy_of session) n) is) ∙ idle) differ) turned_differ without_one set.devices judgement may next
 names_differ set session command judgement to differ (stands same) = subst (λ l. AllDiffer (names_of l)) (sym same) differ
 
 pub they_are_few : (set : Setting) (session : Session) (command : Command) (judgement : Result Task Reply) (to : List OpenSwap) → length (opens_of session) ≤ 16 → Leaves set session command judgement to → length to ≤ 16
-they_are_few set session command judgement to few (goes mid judged next) =
+they_are_few set session command judgement to few (goes may next) =
     next_holds (λ l. length l ≤ 16) (opens_of session) to few command (λ o is idle free. with_one_few (opens_of session) o free)
     (λ front rest o steps outcome h. omega (
       arith,
@@ -242,7 +247,7 @@ they_are_few set session command judgement to few (goes mid judged next) =
       length-append (turned_on o steps outcome) rest,
       turned_few o steps outcome,
     ))
-    (λ front rest o h. omega (arith, h, length-append front (o ∷ rest), length-append front rest)) set.devices mid judgement judged next
+    (λ front rest o h. omega (arith, h, length-append front (o ∷ rest), length-append front rest)) set.devices judgement may next
 they_are_few set session command judgement to few (stands same) = subst (λ l. length l ≤ 16) (sym same) few
 
 -- ONE THAT `open` BEGAN
@@ -282,13 +287,13 @@ module _ (own : List Event) (after : After) (exp name : List ℕ) (way : Way) (i
   breaks_not events (failed no' miss told) = tells_other replies.Down told (λ h. cc h)
   breaks_not events (unanswered none) = none_told after.reply (replies.More name) none is
 
-  drill_not : {X : Type 0} (takes : Bool) (s : LabState) (session : Session) → Drills takes s session own after → X
-  drill_not takes s session (is_planned yes' none a) = tells_other replies.Planned (ap (λ (v : After). v.reply) a) (λ h. cc h)
-  drill_not takes s session (is_refused no' none a) = tells_other replies.NoDrill (ap (λ (v : After). v.reply) a) (λ h. cc h)
-  drill_not takes s session (wants_memory wants) = none_told after.reply (replies.More name) (ap (λ (v : After). v.reply) wants.after_is) is
+  drill_not : {X : Type 0} (terms : Terms) (s : LabState) (session : Session) → Drills terms.takes s session own after → X
+  drill_not terms s session (is_planned yes' none a) = tells_other replies.Planned (ap (λ (v : After). v.reply) a) (λ h. cc h)
+  drill_not terms s session (is_refused no' none a) = tells_other replies.NoDrill (ap (λ (v : After). v.reply) a) (λ h. cc h)
+  drill_not terms s session (wants_memory wants) = none_told after.reply (replies.More name) (ap (λ (v : After). v.reply) wants.after_is) is
 
-  pub one_begun : (drill : Option Drill) (takes : Bool) (set : Setting) (s : LabState) (session : Session) (command : Command) (opening : List Event) → Was drill (Ok (BeginOnly exp way)) takes set s session command opening own after → HasBegun set.devices (opens_of session)
-  one_begun drill takes set s session command opening (done mid opens begins judged d) = subst (λ l. HasBegun set.devices l) begins.are (if_space mid opens set.devices (has_space set (Begin exp way)) set.length d)
-  one_begun drill takes set s session command opening (wanting mid opens begins wants) = none_told after.reply (replies.More name) (ap (λ (a : After). a.reply) wants.after_is) is
-  one_begun drill takes set s session command opening (broke no' closed breaks) = breaks_not opening breaks.breaks
-  one_begun drill takes set s session command opening (drilled some none drills) = drill_not takes s session drills
+  pub one_begun : (drill : Option Drill) (terms : Terms) (set : Setting) (s : LabState) (session : Session) (command : Command) (opening : List Event) → Was drill (Ok (BeginOnly exp way)) terms set s session command opening own after → HasBegun set.devices (opens_of session)
+  one_begun drill terms set s session command opening (done mid opens begins judged d) = subst (λ l. HasBegun set.devices l) begins.are (if_space mid opens set.devices (has_space set (Begin exp way)) set.length d)
+  one_begun drill terms set s session command opening (wanting mid opens begins wants) = none_told after.reply (replies.More name) (ap (λ (a : After). a.reply) wants.after_is) is
+  one_begun drill terms set s session command opening (broke no' closed breaks) = breaks_not opening breaks.breaks
+  one_begun drill terms set s session command opening (drilled some none drills) = drill_not terms s session drills

@@ -15,6 +15,7 @@ use Rattle.swap_mgr.proofs.Holding.{named_open}
 use Rattle.swap_txn.specs.Facts.{exp_of}
 use Rattle.swap_txn.specs.declared.live.Live.{Live}
 use Rattle.swap_turns.specs.Running.{OpenSwap as RunningSwap}
+use Rattle.cost_rule.specs.declared.rule.RuleNumber.{RuleNumber}
 use Rattle.lab_core.specs.Controller.{Control, WorksWith, has_open, has_open_for, open_names}
 use Rattle.lab_core.specs.Judge.{Task, Judged}
 use Rattle.lab_core.specs.LabSteps.{JudgedBeside}
@@ -85,7 +86,7 @@ module _ (now : Seen) (c : Control) (opens : List OpenSwap) (works : WorksWith n
       ∙ works.holds.count
 
   -- so what the code judges of a command is what is judged beside the session's open swaps
-  pub judged_beside : (command : Command) (judgement : Result Task Reply) → Judged c.lab (has_open_for c.swaps command) (length c.swaps) command judgement → JudgedBeside command opens c.lab judgement
-  judged_beside command judgement h =
-      subst (λ (n : ℕ). Judged c.lab (is_among (names_of opens) (name_of command)) n command judgement) (sym same_count)
-      (subst (λ (b : Bool). Judged c.lab b (length c.swaps) command judgement) (sym (same_among (name_of command))) h)
+  pub judged_beside : (rule : RuleNumber) (command : Command) (judgement : Result Task Reply) → Judged rule c.lab (has_open_for c.swaps command) (length c.swaps) command judgement → JudgedBeside rule command opens c.lab judgement
+  judged_beside rule command judgement h =
+      subst (λ (n : ℕ). Judged rule c.lab (is_among (names_of opens) (name_of command)) n command judgement) (sym same_count)
+      (subst (λ (b : Bool). Judged rule c.lab b (length c.swaps) command judgement) (sym (same_among (name_of command))) h)

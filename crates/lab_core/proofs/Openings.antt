@@ -14,7 +14,8 @@ use Rattle.lab_model.specs.Sound.{is_moving}
 use Rattle.journal_model.specs.Journals.{Bad, Records, RecordsOf, Live, New, On, Wrong, live, head, gate_after}
 use Rattle.records_model.specs.Labs.{LabState, LabOf}
 use Rattle.journal_disk.specs.Before.{IsOpening, are_synced}
-use Rattle.journal_disk.specs.Opening.{both_synced, new_journal, far_steps}
+use Rattle.journal_disk.specs.Opening.{both_synced, new_journal, far_steps, opening}
+use Rattle.journal_disk.specs.Epochs.{HasEpoch}
 use Rattle.journal_disk.specs.Standing.{side_of, gate_of, length_of, limit_of, Holds, IsAt, HasAll}
 use Rattle.journal_disk.specs.Walks.{placed}
 use Rattle.journal_disk.specs.declared.journal.Journal.{Journal}
@@ -32,7 +33,7 @@ use Rattle.records_model.proofs.LabLaws.{lab_sane}
 use Rattle.swap_turns.specs.Running.{Stands}
 use Rattle.swap_turns.proofs.MovesAreSwaps.{lab_swaps}
 use Rattle.lab_core.specs.Controller.{Control, Works}
-use Rattle.lab_core.specs.Moments.{IsLabAt, IsNoJournal, bad, cannot_follow, no_room}
+use Rattle.lab_core.specs.Moments.{IsLabAt, IsLiveAt, IsNoJournal, bad, cannot_follow, no_room}
 use Rattle.lab_core.specs.Opening.{IsOfJournal, ReadSteps, HasFoundNone, ReadEnds, ReadTold}
 use Rattle.lab_core.proofs.Opened.{records_of_placed, are_held}
 
@@ -143,6 +144,21 @@ no_journal trace limit j rs side place at (sided, inr (s, lab, full, there)) =
     let on = reads_on trace (side_of j) rs at.opened in
     no_room rs s on.reads (on.live_is ∙ ap On (sym sided)) lab (omega (arith, at.gate, full)) (there ∙ at.gate)
 
+-- a side that is live stays so where both are only synced
+on_not_new : (l : Live) (side : Side) → l ≡ On side → l ≡ New → ⊥
+on_not_new l side on new = let no : On side ≡ New = sym on ∙ new in cc no
+
+still_live : (trace steps : List Event) (side : Side) (epoch : ℕ) → steps ≡ opening (disk A trace).reads (disk B trace).reads ++ [] → IsLiveAt trace side epoch → IsLiveAt (trace ++ steps) side epoch
+still_live trace steps side epoch is was =
+    let l = live (head (disk A trace).reads) (head (disk B trace).reads) in
+    let same = synced_reads trace steps (is ∙ ap (λ x. x ++ []) (only_synced l (nat_lt (length (disk A trace).reads) 18) (on_not_new l side was.live_is))) in
+    record {
+      live_is = (λ i. live (head (same A i)) (head (same B i))) ∙ was.live_is;
+      bytes = was.bytes;
+      headed = ap head (same side) ∙ was.headed;
+      is = was.is;
+    }
+
 module _ (trace steps : List Event) (limit : ℕ) (least : 18 ≤ limit) (opened : Journal × Vec Found) (rs : List Record) (is : IsOpening trace steps (Ok opened)) (at : IsAt (trace ++ steps) opened.0 rs) (o : ReadSteps trace steps) where
   read_before : Records (disk A trace).reads (disk B trace).reads rs
   read_before = (o.alike.records rs).0 (reads_on (trace ++ steps) (side_of opened.0) rs at.opened).reads
@@ -153,6 +169,7 @@ module _ (trace steps : List Event) (limit : ℕ) (least : 18 ≤ limit) (opened
     synced = ap are_synced (is.opens.steps_are ∙ (λ i. is.opens.ends.0 i ++ is.opens.ends.1 i));
     journal = record { records = rs; lab = c.lab; read = read_before; lab_of = made.1; room = omega (arith, at.gate, made.2) };
     lab = lab_at (trace ++ steps) opened.0 rs c.lab at made.1;
+    kept = λ side epoch was. still_live trace steps side epoch (is.opens.steps_are ∙ (λ i. is.opens.ends.0 i ++ is.opens.ends.1 i)) was;
   }
   made_ends (Err faults.Plant) made = absurd made
   made_ends (Err faults.Stopped) made = tt
@@ -186,15 +203,15 @@ bad_behind limit old new result side place opening is =
         subst (λ a. IsNoJournal a (disk B (t.trace ++ opening.0)).reads limit side place) (sym (found.as_before A)) (subst (λ b. IsNoJournal (disk A t.trace).reads b limit side place) (sym (found.as_before B)) found.no_journal)
 
 -- THE CONTROLLER WORKS
-pub made_works : (new : Option Told) (limit : ℕ) (j : Journal) (result : Result Control OpenFault) → Made new limit j result → limit_of j ≡ limit → limit ≤ 2 ^ 32 → IfOk result (λ c. Works new c)
-made_works new limit j (Err fault) made limit_is most = tt
-made_works new limit j (Ok c) made limit_is most = subst (λ (k : Journal). Works new (record c { journal = k })) (sym made.made.0) (record {
+pub made_works : (new : Option Told) (limit : ℕ) (j : Journal) (result : Result Control OpenFault) → Made new limit j result → IfSome new (λ t. HasEpoch t.trace j) → limit_of j ≡ limit → limit ≤ 2 ^ 32 → IfOk result (λ c. Works new c)
+made_works new limit j (Err fault) made epoch limit_is most = tt
+made_works new limit j (Ok c) made epoch limit_is most = subst (λ (k : Journal). Works new (record c { journal = k })) (sym made.made.0) (record {
   sane = lab_sane the_texts made.records c.lab made.made.1;
   swaps = lab_swaps the_texts made.records c.lab made.made.1;
   room = record { few = omega (arith, made.made.2, limit_is); limit = omega (arith, limit_is, most) };
-  stands = by new made.at;
+  stands = by new made.at epoch;
 })
   where
-    by : (o : Option Told) → IfSome o (λ t. IsAt t.trace j made.records) → IfSome o (λ t. Stands the_texts t.trace j c.lab)
-    by None at = tt
-    by (Some t) at = record { records = made.records; at = at; lab_of = made.made.1; works = λ sound. works_as the_texts t.trace j made.records c.lab at sound texts_once made.made.1 }
+    by : (o : Option Told) → IfSome o (λ t. IsAt t.trace j made.records) → IfSome o (λ t. HasEpoch t.trace j) → IfSome o (λ t. Stands the_texts t.trace j c.lab)
+    by None at epoch = tt
+    by (Some t) at epoch = record { records = made.records; at = at; epoch = epoch; lab_of = made.made.1; works = λ sound. works_as the_texts t.trace j made.records c.lab at sound texts_once made.made.1 }

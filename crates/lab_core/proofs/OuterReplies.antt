@@ -20,7 +20,10 @@ use Rattle.top_text.specs.Adding.{wiring_of_text}
 use Rattle.top_text.specs.Canonical.{canonical_top}
 use Rattle.solution_text.specs.CanonicalSolution.{canonical_solution}
 use Rattle.solution_text.specs.Solutions.{mapping_of_text}
+use Rattle.cost_rule.specs.declared.rule.RuleNumber.{RuleNumber}
 use Rattle.lab_core.specs.Counts.{least_tags}
+use Rattle.assign_core.specs.declared.whole.Solved.{Solved}
+use Rattle.assign_core.specs.declared.whole.Solved.TheVariants as solved
 use Rattle.records_model.specs.Labs.{LabState, find, others}
 use Rattle.swap_turns.specs.Legs.{Forth, Undo, Settling}
 use Rattle.swap_turns.specs.Swaps.{Swap as SwapOf}
@@ -30,10 +33,11 @@ use Rattle.script_text.specs.declared.command.Command.TheVariants as commands
 use Rattle.script_text.specs.declared.reply.Reply.{Reply}
 use Rattle.script_text.specs.declared.reply.Reply.TheVariants as replies
 use Rattle.lab_core.specs.Breaks.{Breaks, stopped, failed, unanswered}
-use Rattle.lab_core.specs.Judge.{Task, Tell, Append, Swap, BeginOnly, Turn, Finish, Recover, Judged, behind_lines, JudgedNetwork, refused, asked, ◌>>=◌, need_lab, need_none, need_found, need_new, need_meaning, need_room, need_out, need_in, need_idle, need_open, need_slot, need_kept, need_feasible, need_place, begun_as, in_slot, judged_wiring, judged_swapin, judged_modify, judged_swapout}
+use Rattle.lab_core.specs.Judge.{Task, Tell, Append, Swap, BeginOnly, Turn, Finish, Recover, Judged, behind_lines, JudgedNetwork, ◌>>=◌, need_lab, need_none, need_found, need_new, need_meaning, need_room, need_out, need_in, need_idle, need_open, need_slot, need_kept, need_feasible, need_place, begun_as, in_slot, judged_wiring, judged_swapin, judged_modify, judged_swapout, need_idle_in, need_idle_out, judged_entry, judged_move, judged_solved, JudgedFound, JudgedModify, OrRefused}
 use Rattle.lab_core.specs.LabSteps.{StepOf, Does, IsDoneBy, does, no_memory, opened, not_opened, AppendEnds, whole, broken, IsAnswered, is_told, unanswered as no_answer, end_reply, turn_reply, done_reply, has_space, IfSpace, Appends, Swaps, Begins, JudgedBeside}
 use Rattle.lab_core.specs.Recovery.{Recovers, settled, broken_off}
-use Rattle.lab_core.specs.Sessions.{OpenSwap, Session, Closed, Open, Setting, After, is_among, name_of, names_of}
+use Rattle.lab_core.proofs.Several.{of_found, of_refused, of_slot as of_slot_of, of_text}
+use Rattle.lab_core.specs.Sessions.{OpenSwap, Session, Closed, Open, Setting, After, is_among, name_of, names_of, Terms}
 use Rattle.lab_core.specs.Tells.{is_of_drill, is_stopped, of_drill_if}
 
 -- the replies that no judgement has
@@ -66,6 +70,15 @@ outer_of (Err refusal) = is_outer refusal
 and_then : {X : Type 0} (r : Result X Reply) (f : X → Result Task Reply) → outer_of r ≡ false → ((x : X) → outer_by (f x) ≡ false) → outer_by (r >>= f) ≡ false
 and_then (Ok x) f free more = more x
 and_then (Err refusal) f free more = free
+
+-- a check that is followed by another
+then_of : {X Y : Type 0} (r : Result X Reply) (f : X → Result Y Reply) → outer_of r ≡ false → ((x : X) → outer_of (f x) ≡ false) → outer_of (r >>= f) ≡ false
+then_of (Ok x) f free more = more x
+then_of (Err refusal) f free more = free
+
+none_outer : {X : Type 0} (r : Result X Reply) → outer_of r ≡ false → (reply : Reply) → r ≡ Err reply → is_outer reply ≡ false
+none_outer (Ok x) free reply is = absurd (cc is)
+none_outer (Err refusal) free reply is = let same : refusal ≡ reply = cc is in ap is_outer (sym same) ∙ free
 
 with_lab : (o : Option Lab) → outer_of (need_lab o) ≡ false
 with_lab None = refl
@@ -126,9 +139,51 @@ module _ (s : LabState) where
   of_wiring exp wiring = and_then (need_room s.experiments) _ (with_room s.experiments _ refl) (λ room. refl)
 
   of_network : (exp text : List ℕ) (judgement : Result Task Reply) → JudgedNetwork s exp text judgement → outer_by judgement ≡ false
-  of_network exp text judgement (refused reply place is) =
-      ap outer_by is ∙ ap (λ (r : Result (Unit {0}) Reply). outer_of r) (sym place) ∙ with_place s exp s.lab refl
-  of_network exp text judgement (asked meaning place of is) = ap outer_by is ∙ and_then (need_meaning (replies.Bad exp) meaning) _ (with_meaning (replies.Bad exp) meaning (λ f. refl)) (λ wiring. of_wiring exp wiring)
+  of_network exp text judgement n =
+      of_refused (λ j. outer_by j ≡ false) (need_place s exp) _ judgement (λ reply is. none_outer (need_place s exp) (with_place s exp s.lab refl) reply is)
+      (λ x place j t. of_text (λ j. outer_by j ≡ false) exp text _ j (λ fault. refl) (λ w j is. ap outer_by is ∙ of_wiring exp w) t) n
+
+  -- of a search
+  of_idle_out : (busy : Bool) (exp : List ℕ) → outer_of (need_idle_out s busy exp) ≡ false
+  of_idle_out busy exp =
+      then_of (need_lab s.lab) _ (with_lab s.lab) (λ lab. then_of (need_found exp (find exp s.experiments)) _ (with_found exp _)
+      (λ e. then_of (need_idle exp busy) _ (with_idle exp busy) (λ idle. then_of (need_out exp e.phase) _ (with_out exp e.phase) (λ out. refl))))
+
+  of_idle_in : (busy : Bool) (exp : List ℕ) → outer_of (need_idle_in s busy exp) ≡ false
+  of_idle_in busy exp =
+      then_of (need_lab s.lab) _ (with_lab s.lab) (λ lab. then_of (need_found exp (find exp s.experiments)) _ (with_found exp _)
+      (λ e. then_of (need_idle exp busy) _ (with_idle exp busy) (λ idle. then_of (need_in exp e.phase) _ (with_in exp e.phase) (λ inside. refl))))
+
+  of_solved : (lab : Lab) (e : Experiment) (found : Solved) → outer_by (judged_solved lab e found) ≡ false
+  of_solved lab e (solved.Least m c) = refl
+  of_solved lab e (solved.Local m c) = refl
+  of_solved lab e solved.None = refl
+  of_solved lab e solved.GaveUp = refl
+
+  of_entry : (lab : Lab) (e : Experiment) (found : Solved) → outer_by (judged_entry s lab e found) ≡ false
+  of_entry lab e (solved.Least m c) = refl
+  of_entry lab e (solved.Local m c) = refl
+  of_entry lab e solved.None = refl
+  of_entry lab e solved.GaveUp = refl
+
+  of_move : (lab : Lab) (e : Experiment) (w : Wiring) (found : Solved) → outer_by (judged_move s lab e w found) ≡ false
+  of_move lab e w (solved.Least m c) = refl
+  of_move lab e w (solved.Local m c) = refl
+  of_move lab e w solved.None = refl
+  of_move lab e w solved.GaveUp = refl
+
+  of_found_out : (rule : RuleNumber) (busy : Bool) (exp : List ℕ) (seed : ℕ) (judged : Lab → Experiment → Solved → Result Task Reply) (judgement : Result Task Reply)
+      → ((lab : Lab) (e : Experiment) (found : Solved) → outer_by (judged lab e found) ≡ false)
+      → OrRefused (need_idle_out s busy exp) (λ p. JudgedFound rule s p.0 p.1 p.1.wiring seed (judged p.0 p.1)) judgement → outer_by judgement ≡ false
+  of_found_out rule busy exp seed judged judgement inner n =
+      of_refused (λ j. outer_by j ≡ false) (need_idle_out s busy exp) _ judgement (λ reply is. none_outer (need_idle_out s busy exp) (of_idle_out busy exp) reply is)
+      (λ p place j f. of_found (λ j. outer_by j ≡ false) rule s p.0 p.1 p.1.wiring seed (judged p.0 p.1) j (λ found is. inner p.0 p.1 found) f) n
+
+  of_remap : (rule : RuleNumber) (busy : Bool) (exp : List ℕ) (seed : ℕ) (text : List ℕ) (judgement : Result Task Reply) → JudgedModify rule s busy exp seed text judgement → outer_by judgement ≡ false
+  of_remap rule busy exp seed text judgement n =
+      of_refused (λ j. outer_by j ≡ false) (need_idle_in s busy exp) _ judgement (λ reply is. none_outer (need_idle_in s busy exp) (of_idle_in busy exp) reply is)
+      (λ p place j t. of_text (λ j. outer_by j ≡ false) exp text _ j (λ fault. refl)
+      (λ w j f. of_found (λ j. outer_by j ≡ false) rule s p.0 p.1 w seed (judged_move s p.0 p.1 w) j (λ found is. of_move p.0 p.1 w found) f) t) n
 
   of_swapin : (busy : Bool) (exp text : List ℕ) → outer_by (judged_swapin s busy exp text) ≡ false
   of_swapin busy exp text =
@@ -172,27 +227,32 @@ module _ (s : LabState) where
   of_open busy exp task free =
       and_then (need_lab s.lab) _ (with_lab s.lab) (λ lab. and_then (need_found exp (find exp s.experiments)) _ (with_found exp _) (λ e. and_then (need_open exp busy) _ (with_open exp busy) (λ opened. free)))
 
-  pub judged_so : (busy : Bool) (count : ℕ) (command : Command) (judgement : Result Task Reply) → Judged s busy count command judgement → outer_by judgement ≡ false
-  judged_so busy count (commands.Ptop lines text) judgement is =
+  pub judged_so : (rule : RuleNumber) (busy : Bool) (count : ℕ) (command : Command) (judgement : Result Task Reply) → Judged rule s busy count command judgement → outer_by judgement ≡ false
+  judged_so rule busy count (commands.Ptop lines text) judgement is =
       ap outer_by is
       ∙ and_then (need_none s.lab) _ (without_lab s.lab) (λ none. and_then (need_meaning replies.BadPtop (lab_of_text text)) _ (with_meaning replies.BadPtop (lab_of_text text) (λ f. refl)) (λ lab. refl))
-  judged_so busy count (commands.Create exp lines text) judgement is = of_network exp text judgement is
-  judged_so busy count (commands.CreateTop exp lines text) judgement is =
+  judged_so rule busy count (commands.Create exp lines text) judgement is = of_network exp text judgement is
+  judged_so rule busy count (commands.CreateTop exp lines text) judgement is =
       ap outer_by is ∙ and_then (need_place s exp) _ (with_place s exp s.lab refl) (λ place. and_then (need_meaning (replies.Bad exp) (wiring_of_text text)) _ (with_meaning (replies.Bad exp) (wiring_of_text text) (λ f. refl)) (λ wiring. of_wiring exp wiring))
-  judged_so busy count (commands.Show exp) judgement is = ap outer_by is ∙ and_then (need_lab s.lab) _ (with_lab s.lab) (λ lab. and_then (need_found exp (find exp s.experiments)) _ (with_found exp _) (λ e. refl))
-  judged_so busy count (commands.SwapinWith only exp lines text) judgement is = ap outer_by is ∙ of_slot count only (judged_swapin s busy exp text) (of_swapin busy exp text)
-  judged_so busy count (commands.ModifyWith only exp lines top behind map) judgement is = ap outer_by is ∙ of_slot count only (judged_modify s busy exp lines top map) (of_modify busy exp lines top map)
-  judged_so busy count (commands.Swapout only exp) judgement is = ap outer_by is ∙ of_slot count only (judged_swapout s busy exp) (of_swapout busy exp)
-  judged_so busy count (commands.Turn exp) judgement is = ap outer_by is ∙ of_open busy exp (Turn exp) refl
-  judged_so busy count (commands.Finish exp) judgement is = ap outer_by is ∙ of_open busy exp (Finish exp) refl
-  judged_so busy count commands.Recover judgement is = ap outer_by is ∙ and_then (need_lab s.lab) _ (with_lab s.lab) (λ lab. refl)
-  judged_so busy count (commands.Fail device nth how) judgement is = absurd is
-  judged_so busy count (commands.FailDisk nth) judgement is = absurd is
-  judged_so busy count (commands.Stop nth pick) judgement is = absurd is
-  judged_so busy count (commands.Delete exp) judgement is =
+  judged_so rule busy count (commands.Show exp) judgement is = ap outer_by is ∙ and_then (need_lab s.lab) _ (with_lab s.lab) (λ lab. and_then (need_found exp (find exp s.experiments)) _ (with_found exp _) (λ e. refl))
+  judged_so rule busy count (commands.Solve exp seed) judgement is = of_found_out rule busy exp seed judged_solved judgement of_solved is
+  judged_so rule busy count (commands.Swapin only exp seed) judgement is =
+      of_slot_of (λ j. outer_by j ≡ false) count only _ judgement (λ j n. of_slot count only j (of_found_out rule busy exp seed (judged_entry s) j of_entry n)) is
+  judged_so rule busy count (commands.Modify only exp seed lines text) judgement is =
+      of_slot_of (λ j. outer_by j ≡ false) count only _ judgement (λ j n. of_slot count only j (of_remap rule busy exp seed text j n)) is
+  judged_so rule busy count (commands.SwapinWith only exp lines text) judgement is = ap outer_by is ∙ of_slot count only (judged_swapin s busy exp text) (of_swapin busy exp text)
+  judged_so rule busy count (commands.ModifyWith only exp lines top behind map) judgement is = ap outer_by is ∙ of_slot count only (judged_modify s busy exp lines top map) (of_modify busy exp lines top map)
+  judged_so rule busy count (commands.Swapout only exp) judgement is = ap outer_by is ∙ of_slot count only (judged_swapout s busy exp) (of_swapout busy exp)
+  judged_so rule busy count (commands.Turn exp) judgement is = ap outer_by is ∙ of_open busy exp (Turn exp) refl
+  judged_so rule busy count (commands.Finish exp) judgement is = ap outer_by is ∙ of_open busy exp (Finish exp) refl
+  judged_so rule busy count commands.Recover judgement is = ap outer_by is ∙ and_then (need_lab s.lab) _ (with_lab s.lab) (λ lab. refl)
+  judged_so rule busy count (commands.Fail device nth how) judgement is = absurd is
+  judged_so rule busy count (commands.FailDisk nth) judgement is = absurd is
+  judged_so rule busy count (commands.Stop nth pick) judgement is = absurd is
+  judged_so rule busy count (commands.Delete exp) judgement is =
       ap outer_by is ∙ and_then (need_lab s.lab) _ (with_lab s.lab) (λ lab. and_then (need_found exp (find exp s.experiments)) _ (with_found exp _)
       (λ e. and_then (need_idle exp busy) _ (with_idle exp busy) (λ idle. and_then (need_out exp e.phase) _ (with_out exp e.phase) (λ out. refl))))
-  judged_so busy count commands.Status judgement is = ap outer_by is ∙ and_then (need_lab s.lab) _ (with_lab s.lab) (λ lab. refl)
+  judged_so rule busy count commands.Status judgement is = ap outer_by is ∙ and_then (need_lab s.lab) _ (with_lab s.lab) (λ lab. refl)
 
 -- WHAT IS DONE
 breaks_so : (events : List Event) (reply : Option Reply) → Breaks events reply → of_drill_if reply ≡ false
@@ -249,11 +309,11 @@ module _ (set : Setting) (s : LabState) (opens : List OpenSwap) (own : List Even
   does_so (Ok (Finish exp)) free d = answered_so _ _ d.outcome d.behind (end_so d.one.swap.running.swap d.outcome) d.answered
   does_so (Ok Recover) free d = recover_so d
 
-  by_so : (command : Command) → IsDoneBy (JudgedBeside command opens s) set s opens own after → of_drill_if after.reply ≡ false
-  by_so command (does judgement judged d) = does_so judgement (judged_so s (is_among (names_of opens) (name_of command)) (length opens) command judgement judged) d
-  by_so command (no_memory wants) = ap (λ (x : After). of_drill_if x.reply) wants.after_is
+  by_so : (rule : RuleNumber) (command : Command) → IsDoneBy (JudgedBeside rule command opens s) set s opens own after → of_drill_if after.reply ≡ false
+  by_so rule command (does judgement judged d) = does_so judgement (judged_so s rule (is_among (names_of opens) (name_of command)) (length opens) command judgement judged) d
+  by_so rule command (no_memory wants) = ap (λ (x : After). of_drill_if x.reply) wants.after_is
 
-pub step_so : (takes : Bool) (set : Setting) (s : LabState) (session : Session) (command : Command) (opening own : List Event) (after : After) → StepOf None (JudgedBeside command) takes set s session opening own after → of_drill_if after.reply ≡ false
-step_so takes set s Closed command opening own after (opened mid opens d) = by_so set mid [] own after command d
-step_so takes set s Closed command opening own after (not_opened b) = breaks_so opening after.reply b.breaks
-step_so takes set s (Open opens) command opening own after step = by_so set s opens own after command step.1
+pub step_so : (terms : Terms) (set : Setting) (s : LabState) (session : Session) (command : Command) (opening own : List Event) (after : After) → StepOf None (JudgedBeside terms.rule command) terms set s session opening own after → of_drill_if after.reply ≡ false
+step_so terms set s Closed command opening own after (opened mid opens d) = by_so set mid [] own after terms.rule command d
+step_so terms set s Closed command opening own after (not_opened b) = breaks_so opening after.reply b.breaks
+step_so terms set s (Open opens) command opening own after step = by_so set s opens own after terms.rule command step.1

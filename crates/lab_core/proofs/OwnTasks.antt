@@ -1,12 +1,14 @@
 -- The swap that a task begins or turns is that of the command's own experiment, and the open swaps allow it.
 use Rattle.std.specs.Prelude.{nat_le, IfOk, if◌then◌else◌}
-use Rattle.std.proofs.Common.{◌≡◌, ℕ, Bool, true, false, List, length, Option, Some, None, Result, Ok, Err, refl, sym, ap, subst}
+use Rattle.std.proofs.Common.{◌≡◌, ℕ, Bool, true, false, List, length, Option, Some, None, Result, Ok, Err, refl, sym, ap, ◌∙◌, subst}
 use Rattle.virt_topo.specs.declared.experiment.Experiment.{Experiment}
 use Rattle.virt_topo.specs.declared.mapping.Mapping.{Mapping}
 use Rattle.virt_topo.specs.declared.wiring.Wiring.{Wiring}
 use Rattle.journal_rec.specs.declared.record.Way.{Way}
 use Rattle.journal_rec.specs.declared.record.Way.TheVariants.{In as WayIn, Out as WayOut, Change as WayChange}
 use Rattle.phys_lab.specs.Labs.{Lab}
+use Rattle.assign_core.specs.declared.whole.Solved.{Solved}
+use Rattle.assign_core.specs.declared.whole.Solved.TheVariants as solved
 use Rattle.records_model.specs.Labs.{LabState, find}
 use Rattle.records_model.proofs.Finding.{found_from}
 use Rattle.solution_text.specs.CanonicalSolution.{canonical_solution}
@@ -17,10 +19,12 @@ use Rattle.script_text.specs.declared.command.Command.{Command}
 use Rattle.script_text.specs.declared.command.Command.TheVariants as commands
 use Rattle.script_text.specs.declared.reply.Reply.{Reply}
 use Rattle.script_text.specs.declared.reply.Reply.TheVariants.{Bad, BadPtop, FullSwaps}
+use Rattle.cost_rule.specs.declared.rule.RuleNumber.{RuleNumber}
 use Rattle.lab_core.specs.Counts.{least_tags}
-use Rattle.lab_core.specs.Judge.{◌>>=◌, need_lab, need_none, need_found, need_meaning, need_room, need_out, need_in, need_idle, need_open, need_slot, need_feasible, need_place, Task, Swap, BeginOnly, Turn, Finish, begun_as, in_slot, behind_lines, judged_wiring, judged_swapin, judged_modify, judged_swapout, JudgedNetwork, refused, asked, Judged}
+use Rattle.lab_core.specs.Judge.{◌>>=◌, need_lab, need_none, need_found, need_meaning, need_room, need_out, need_in, need_idle, need_open, need_slot, need_feasible, need_place, Task, Swap, BeginOnly, Turn, Finish, begun_as, in_slot, behind_lines, judged_wiring, judged_swapin, judged_modify, judged_swapout, JudgedNetwork, Judged, need_idle_in, need_idle_out, need_mapping, judged_entry, judged_move, judged_solved, JudgedSolve, JudgedSwapin, JudgedModify}
 use Rattle.ptop_text.specs.Adding.{lab_of_text}
 use Rattle.lab_core.specs.Sessions.{name_of}
+use Rattle.lab_core.proofs.Several.{of_found, of_refused, of_slot, of_text}
 
 -- a task that begins a swap needs the experiment idle and room among the open swaps, and one that turns a swap needs it open
 abbrev pub IsAllowed : Option (List ℕ) → Bool → ℕ → Task → Type 0
@@ -57,6 +61,11 @@ found_is : (exp : List ℕ) (o : Option Experiment) (e : Experiment) → need_fo
 found_is exp None e h = absurd (cc h)
 found_is exp (Some x) e h = let same : x ≡ e = cc h in ap (λ (y : Experiment). Some y) same
 
+-- what comes after a check that did not refuse
+pub bound : {A B : Type 0} (r : Result A Reply) (f : A → Result B Reply) (y : B) → (r >>= f) ≡ Ok y → (x : A) × (r ≡ Ok x) × (f x ≡ Ok y)
+bound (Ok x) f y h = (x, refl, h)
+bound (Err refusal) f y h = absurd (cc h)
+
 -- A SWAP COMMAND begins a swap of its experiment, which is idle
 abbrev pub Begins : List ℕ → Bool → Task → Type 0
 Begins exp busy task = (way : Way) × (task ≡ Swap exp way) × (busy ≡ false)
@@ -82,6 +91,45 @@ module _ (s : LabState) (busy : Bool) (exp : List ℕ) where
       (λ x idle. if_all (Begins exp busy) (need_in exp e.phase) _ (λ inside. if_all (Begins exp busy) (need_meaning (Bad exp) (wiring_of_text top)) _
       (λ w. if_all (Begins exp busy) (need_meaning (λ fault. Bad exp (behind_lines lines fault)) (mapping_of_text lab w map)) _
       (λ mapping. feasible_begins lab e w mapping (WayChange (canonical_top w) (canonical_solution lab w mapping) (least_tags lab s.experiments (length w.segments))) found (idle_is exp busy x idle)))))))
+
+  -- by a search
+  idle_out : (p : Lab × Experiment) → need_idle_out s busy exp ≡ Ok p → (p.1.name ≡ exp) × (busy ≡ false)
+  idle_out p h =
+      let lab = bound (need_lab s.lab) _ p h in
+      let found = bound (need_found exp (find exp s.experiments)) _ p lab.2 in
+      let idle = bound (need_idle exp busy) _ p found.2 in
+      let out = bound (need_out exp found.0.phase) _ p idle.2 in
+      let same : (lab.0, found.0) ≡ p = cc out.2 in
+      (ap (λ (q : Lab × Experiment). q.1.name) (sym same) ∙ named found.0 found.1, idle_is exp busy idle.0 idle.1)
+
+  idle_in : (p : Lab × Experiment) → need_idle_in s busy exp ≡ Ok p → (p.1.name ≡ exp) × (busy ≡ false)
+  idle_in p h =
+      let lab = bound (need_lab s.lab) _ p h in
+      let found = bound (need_found exp (find exp s.experiments)) _ p lab.2 in
+      let idle = bound (need_idle exp busy) _ p found.2 in
+      let inside = bound (need_in exp found.0.phase) _ p idle.2 in
+      let same : (lab.0, found.0) ≡ p = cc inside.2 in
+      (ap (λ (q : Lab × Experiment). q.1.name) (sym same) ∙ named found.0 found.1, idle_is exp busy idle.0 idle.1)
+
+  mapping_begins : (e : Experiment) (found : Solved) (way : Mapping → Way) → e.name ≡ exp → busy ≡ false
+      → IfOk (need_mapping e.name found >>= λ mapping. let r : Result Task Reply = Ok (Swap e.name (way mapping)) in r) (Begins exp busy)
+  mapping_begins e (solved.Least m c) way name idle = (way m, ap (λ (n : List ℕ). Swap n (way m)) name, idle)
+  mapping_begins e (solved.Local m c) way name idle = (way m, ap (λ (n : List ℕ). Swap n (way m)) name, idle)
+  mapping_begins e solved.None way name idle = tt
+  mapping_begins e solved.GaveUp way name idle = tt
+
+  pub entry_begins : (rule : RuleNumber) (seed : ℕ) (judgement : Result Task Reply) → JudgedSwapin rule s busy exp seed judgement → IfOk judgement (Begins exp busy)
+  entry_begins rule seed judgement n =
+      of_refused (λ j. IfOk j (Begins exp busy)) (need_idle_out s busy exp) _ judgement (λ reply is. tt)
+      (λ p place j f. of_found (λ j. IfOk j (Begins exp busy)) rule s p.0 p.1 p.1.wiring seed (judged_entry s p.0 p.1) j
+      (λ found is. mapping_begins p.1 found (λ m. WayIn (canonical_solution p.0 p.1.wiring m) (least_tags p.0 s.experiments (length p.1.wiring.segments))) (idle_out p place).0 (idle_out p place).1) f) n
+
+  pub remap_begins : (rule : RuleNumber) (seed : ℕ) (text : List ℕ) (judgement : Result Task Reply) → JudgedModify rule s busy exp seed text judgement → IfOk judgement (Begins exp busy)
+  remap_begins rule seed text judgement n =
+      of_refused (λ j. IfOk j (Begins exp busy)) (need_idle_in s busy exp) _ judgement (λ reply is. tt)
+      (λ p place j t. of_text (λ j. IfOk j (Begins exp busy)) exp text _ j (λ fault. tt)
+      (λ w j f. of_found (λ j. IfOk j (Begins exp busy)) rule s p.0 p.1 w seed (judged_move s p.0 p.1 w) j
+      (λ found is. mapping_begins p.1 found (λ m. WayChange (canonical_top w) (canonical_solution p.0 w m) (least_tags p.0 s.experiments (length w.segments))) (idle_in p place).0 (idle_in p place).1) f) t) n
 
   pub swapout_begins : IfOk (judged_swapout s busy exp) (Begins exp busy)
   swapout_begins =
@@ -121,35 +169,52 @@ module _ (s : LabState) (busy : Bool) (count : ℕ) where
   wiring_own exp wiring = if_all (IsAllowed (Some exp) busy count) (need_room s.experiments) _ (λ room. tt)
 
   network_own : (exp text : List ℕ) (judgement : Result Task Reply) → JudgedNetwork s exp text judgement → OwnOf (Some exp) judgement
-  network_own exp text judgement (refused reply place is) = subst (λ (r : Result Task Reply). OwnOf (Some exp) r) (sym is) tt
-  network_own exp text judgement (asked meaning place of is) = subst (λ (r : Result Task Reply). OwnOf (Some exp) r) (sym is) (if_all (IsAllowed (Some exp) busy count) (need_meaning (Bad exp) meaning) _ (λ wiring. wiring_own exp wiring))
+  network_own exp text judgement n =
+      of_refused (OwnOf (Some exp)) (need_place s exp) _ judgement (λ reply is. tt)
+      (λ x place j t. of_text (OwnOf (Some exp)) exp text _ j (λ fault. tt) (λ w j is. subst (λ (r : Result Task Reply). OwnOf (Some exp) r) (sym is) (wiring_own exp w)) t) n
 
-  judged_own : (command : Command) (judgement : Result Task Reply) → Judged s busy count command judgement → OwnOf (name_of command) judgement
-  judged_own (commands.Create exp lines text) judgement is = network_own exp text judgement is
-  judged_own (commands.Ptop lines text) judgement is = subst (λ (r : Result Task Reply). OwnOf None r) (sym is)
+  solve_own : (rule : RuleNumber) (exp : List ℕ) (seed : ℕ) (judgement : Result Task Reply) → JudgedSolve rule s busy exp seed judgement → OwnOf (Some exp) judgement
+  solve_own rule exp seed judgement n =
+      of_refused (OwnOf (Some exp)) (need_idle_out s busy exp) _ judgement (λ reply is. tt)
+      (λ p place j f. of_found (OwnOf (Some exp)) rule s p.0 p.1 p.1.wiring seed (judged_solved p.0 p.1) j (λ found is. by p.0 p.1 found) f) n
+    where
+      by : (lab : Lab) (e : Experiment) (found : Solved) → OwnOf (Some exp) (judged_solved lab e found)
+      by lab e (solved.Least m c) = tt
+      by lab e (solved.Local m c) = tt
+      by lab e solved.None = tt
+      by lab e solved.GaveUp = tt
+
+  judged_own : (rule : RuleNumber) (command : Command) (judgement : Result Task Reply) → Judged rule s busy count command judgement → OwnOf (name_of command) judgement
+  judged_own rule (commands.Create exp lines text) judgement is = network_own exp text judgement is
+  judged_own rule (commands.Ptop lines text) judgement is = subst (λ (r : Result Task Reply). OwnOf None r) (sym is)
       (if_all (IsAllowed None busy count) (need_none s.lab) _ (λ none. if_all (IsAllowed None busy count) (need_meaning BadPtop (lab_of_text text)) _ (λ lab. tt)))
-  judged_own (commands.CreateTop exp lines text) judgement is = subst (λ (r : Result Task Reply). OwnOf (Some exp) r) (sym is)
+  judged_own rule (commands.CreateTop exp lines text) judgement is = subst (λ (r : Result Task Reply). OwnOf (Some exp) r) (sym is)
       (if_all (IsAllowed (Some exp) busy count) (need_place s exp) _ (λ place. if_all (IsAllowed (Some exp) busy count) (need_meaning (Bad exp) (wiring_of_text text)) _ (λ wiring. wiring_own exp wiring)))
-  judged_own (commands.Show exp) judgement is = subst (λ (r : Result Task Reply). OwnOf (Some exp) r) (sym is)
+  judged_own rule (commands.Show exp) judgement is = subst (λ (r : Result Task Reply). OwnOf (Some exp) r) (sym is)
       (if_all (IsAllowed (Some exp) busy count) (need_lab s.lab) _ (λ lab. if_all (IsAllowed (Some exp) busy count) (need_found exp (find exp s.experiments)) _ (λ e. tt)))
-  judged_own (commands.SwapinWith only exp lines text) judgement is = subst (λ (r : Result Task Reply). OwnOf (Some exp) r) (sym is) (swap_own exp only (judged_swapin s busy exp text) (swapin_begins s busy exp text))
-  judged_own (commands.ModifyWith only exp lines top others map) judgement is = subst (λ (r : Result Task Reply). OwnOf (Some exp) r) (sym is) (swap_own exp only (judged_modify s busy exp lines top map) (modify_begins s busy exp lines top map))
-  judged_own (commands.Swapout only exp) judgement is = subst (λ (r : Result Task Reply). OwnOf (Some exp) r) (sym is) (swap_own exp only (judged_swapout s busy exp) (swapout_begins s busy exp))
-  judged_own (commands.Turn exp) judgement is = subst (λ (r : Result Task Reply). OwnOf (Some exp) r) (sym is)
+  judged_own rule (commands.Solve exp seed) judgement is = solve_own rule exp seed judgement is
+  judged_own rule (commands.Swapin only exp seed) judgement is =
+      of_slot (OwnOf (Some exp)) count only _ judgement (λ j n. swap_own exp only j (entry_begins s busy exp rule seed j n)) is
+  judged_own rule (commands.Modify only exp seed lines text) judgement is =
+      of_slot (OwnOf (Some exp)) count only _ judgement (λ j n. swap_own exp only j (remap_begins s busy exp rule seed text j n)) is
+  judged_own rule (commands.SwapinWith only exp lines text) judgement is = subst (λ (r : Result Task Reply). OwnOf (Some exp) r) (sym is) (swap_own exp only (judged_swapin s busy exp text) (swapin_begins s busy exp text))
+  judged_own rule (commands.ModifyWith only exp lines top others map) judgement is = subst (λ (r : Result Task Reply). OwnOf (Some exp) r) (sym is) (swap_own exp only (judged_modify s busy exp lines top map) (modify_begins s busy exp lines top map))
+  judged_own rule (commands.Swapout only exp) judgement is = subst (λ (r : Result Task Reply). OwnOf (Some exp) r) (sym is) (swap_own exp only (judged_swapout s busy exp) (swapout_begins s busy exp))
+  judged_own rule (commands.Turn exp) judgement is = subst (λ (r : Result Task Reply). OwnOf (Some exp) r) (sym is)
       (if_all (IsAllowed (Some exp) busy count) (need_lab s.lab) _ (λ lab. if_all (IsAllowed (Some exp) busy count) (need_found exp (find exp s.experiments)) _
       (λ e. if_ok (IsAllowed (Some exp) busy count) (need_open exp busy) _ (λ x opened. (refl, open_is exp busy x opened)))))
-  judged_own (commands.Finish exp) judgement is = subst (λ (r : Result Task Reply). OwnOf (Some exp) r) (sym is)
+  judged_own rule (commands.Finish exp) judgement is = subst (λ (r : Result Task Reply). OwnOf (Some exp) r) (sym is)
       (if_all (IsAllowed (Some exp) busy count) (need_lab s.lab) _ (λ lab. if_all (IsAllowed (Some exp) busy count) (need_found exp (find exp s.experiments)) _
       (λ e. if_ok (IsAllowed (Some exp) busy count) (need_open exp busy) _ (λ x opened. (refl, open_is exp busy x opened)))))
-  judged_own commands.Recover judgement is = subst (λ (r : Result Task Reply). OwnOf None r) (sym is) (if_all (IsAllowed None busy count) (need_lab s.lab) _ (λ lab. tt))
-  judged_own (commands.Fail device nth how) judgement is = absurd is
-  judged_own (commands.FailDisk nth) judgement is = absurd is
-  judged_own (commands.Stop nth pick) judgement is = absurd is
-  judged_own (commands.Delete exp) judgement is = subst (λ (r : Result Task Reply). OwnOf (Some exp) r) (sym is)
+  judged_own rule commands.Recover judgement is = subst (λ (r : Result Task Reply). OwnOf None r) (sym is) (if_all (IsAllowed None busy count) (need_lab s.lab) _ (λ lab. tt))
+  judged_own rule (commands.Fail device nth how) judgement is = absurd is
+  judged_own rule (commands.FailDisk nth) judgement is = absurd is
+  judged_own rule (commands.Stop nth pick) judgement is = absurd is
+  judged_own rule (commands.Delete exp) judgement is = subst (λ (r : Result Task Reply). OwnOf (Some exp) r) (sym is)
       (if_all (IsAllowed (Some exp) busy count) (need_lab s.lab) _ (λ lab. if_all (IsAllowed (Some exp) busy count) (need_found exp (find exp s.experiments)) _
       (λ e. if_all (IsAllowed (Some exp) busy count) (need_idle exp busy) _ (λ idle. if_all (IsAllowed (Some exp) busy count) (need_out exp e.phase) _ (λ out. tt)))))
-  judged_own commands.Status judgement is = subst (λ (r : Result Task Reply). OwnOf None r) (sym is) (if_all (IsAllowed None busy count) (need_lab s.lab) _ (λ lab. tt))
+  judged_own rule commands.Status judgement is = subst (λ (r : Result Task Reply). OwnOf None r) (sym is) (if_all (IsAllowed None busy count) (need_lab s.lab) _ (λ lab. tt))
 
   -- THE TASK OF A COMMAND
-  pub own_task : (command : Command) (task : Task) → Judged s busy count command (Ok task) → IsAllowed (name_of command) busy count task
-  own_task command task is = judged_own command (Ok task) is
+  pub own_task : (rule : RuleNumber) (command : Command) (task : Task) → Judged rule s busy count command (Ok task) → IsAllowed (name_of command) busy count task
+  own_task rule command task is = judged_own rule command (Ok task) is

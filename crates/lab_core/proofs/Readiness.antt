@@ -5,6 +5,7 @@ use Rattle.records_model.specs.Labs.{LabState}
 use Rattle.script_text.specs.declared.command.Command.{Command}
 use Rattle.swap_mgr.specs.Open.{HasOpen}
 use Rattle.swap_txn.specs.declared.live.Live.{Live}
+use Rattle.cost_rule.specs.declared.rule.RuleNumber.{RuleNumber}
 use Rattle.lab_core.specs.Controller.{has_open, has_open_for, open_names}
 use Rattle.lab_core.specs.Judge.{Task, Tell, Append, Swap, BeginOnly, Turn, Finish, Recover, Judged}
 use Rattle.lab_core.specs.Sessions.{is_among, name_of}
@@ -31,8 +32,8 @@ module _ (swaps : List Live) (exp : Option (List ℕ)) where
   allowed_ready (Finish name) h = open_ready name h
   allowed_ready Recover h = tt
 
-pub ready_of_judged : (s : LabState) (swaps : List Live) (command : Command) (task : Task) → Judged s (has_open_for swaps command) (length swaps) command (Ok task) → IsReady swaps task
-ready_of_judged s swaps command task is = allowed_ready swaps (name_of command) task (own_task s (has_open_for swaps command) (length swaps) command task is)
+pub ready_of_judged : (rule : RuleNumber) (s : LabState) (swaps : List Live) (command : Command) (task : Task) → Judged rule s (has_open_for swaps command) (length swaps) command (Ok task) → IsReady swaps task
+ready_of_judged rule s swaps command task is = allowed_ready swaps (name_of command) task (own_task s (has_open_for swaps command) (length swaps) rule command task is)
 
 -- IT SWAPS NO OTHER
 allowed_own : (exp : Option (List ℕ)) (busy : Bool) (count : ℕ) (task : Task) → IsAllowed exp busy count task → (swapped_by task ≡ exp) ⊎ (swapped_by task ≡ None)
@@ -44,5 +45,5 @@ allowed_own exp busy count (Turn name) h = inl (sym h.0)
 allowed_own exp busy count (Finish name) h = inl (sym h.0)
 allowed_own exp busy count Recover h = inr refl
 
-pub swaps_own : (s : LabState) (busy : Bool) (count : ℕ) (command : Command) (task : Task) → Judged s busy count command (Ok task) → (swapped_by task ≡ name_of command) ⊎ (swapped_by task ≡ None)
-swaps_own s busy count command task is = allowed_own (name_of command) busy count task (own_task s busy count command task is)
+pub swaps_own : (rule : RuleNumber) (s : LabState) (busy : Bool) (count : ℕ) (command : Command) (task : Task) → Judged rule s busy count command (Ok task) → (swapped_by task ≡ name_of command) ⊎ (swapped_by task ≡ None)
+swaps_own rule s busy count command task is = allowed_own (name_of command) busy count task (own_task s busy count rule command task is)

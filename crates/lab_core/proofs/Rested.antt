@@ -20,7 +20,7 @@ use Rattle.lab_core.specs.Breaks.{Breaks, stopped, failed, unanswered}
 use Rattle.lab_core.specs.Judge.{◌>>=◌, need_lab, Task, Recover, judged_recover}
 use Rattle.lab_core.specs.LabSteps.{Does, Replies}
 use Rattle.lab_core.specs.Recovery.{Opens, Recovers, settled, broken_off}
-use Rattle.lab_core.specs.Sessions.{OpenSwap, Session, Closed, Open, Setting, After, names_of}
+use Rattle.lab_core.specs.Sessions.{OpenSwap, Session, Closed, Open, Setting, After, names_of, Terms}
 use Rattle.lab_core.specs.Tells.{BeginsAt, busy_of}
 use Rattle.lab_core.proofs.StepLaws.{Was, done, wanting, broke, drilled, none_told}
 
@@ -80,10 +80,10 @@ module _ (own : List Event) (after : After) (number : ℕ) (is : after.reply ≡
       absurd (cc both)
   does_rest set mid opens differ (Some lab) has_lab d = recovers_rest mid opens differ (subst (λ (j : Result Task Reply). Does set mid opens j own after) (judged_is mid (Some lab) has_lab) d)
 
-  pub recovered_rest : (judgement : Result Task Reply) (takes : Bool) (set : Setting) (s : LabState) (session : Session) (opening : List Event) → Sane s → Was None judgement takes set s session commands.Recover opening own after
+  pub recovered_rest : (judgement : Result Task Reply) (terms : Terms) (set : Setting) (s : LabState) (session : Session) (opening : List Event) → Sane s → Was None judgement terms set s session commands.Recover opening own after
       → (e : Experiment) → Has after.lab.experiments e → is_moving e ≡ true → is_busy (busy_of session) e.name ≡ true
-  recovered_rest judgement takes set s session opening sane (done mid opens begins judged d) = λ e there moving.
+  recovered_rest judgement terms set s session opening sane (done mid opens begins judged d) = λ e there moving.
       subst (λ (l : List OpenSwap). is_busy (names_of l) e.name ≡ true) begins.are (does_rest set mid opens (names_at session s mid opening sane begins.at) mid.lab refl (subst (λ (j : Result Task Reply). Does set mid opens j own after) judged d) e there moving)
-  recovered_rest judgement takes set s session opening sane (wanting mid opens begins wants) = none_told after.reply (replies.Recovered number 0) (ap (λ (x : After). x.reply) wants.after_is) is
-  recovered_rest judgement takes set s session opening sane (broke no' closed breaks) = broken_tells opening breaks.breaks
-  recovered_rest judgement takes set s session opening sane (drilled some none drills) = absurd (cc some)
+  recovered_rest judgement terms set s session opening sane (wanting mid opens begins wants) = none_told after.reply (replies.Recovered number 0) (ap (λ (x : After). x.reply) wants.after_is) is
+  recovered_rest judgement terms set s session opening sane (broke no' closed breaks) = broken_tells opening breaks.breaks
+  recovered_rest judgement terms set s session opening sane (drilled some none drills) = absurd (cc some)

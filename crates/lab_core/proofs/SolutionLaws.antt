@@ -35,7 +35,7 @@ use Rattle.lab_core.specs.Breaks.{Breaks, stopped, failed, unanswered}
 use Rattle.lab_core.specs.Counts.{least_tags}
 use Rattle.lab_core.specs.Judge.{◌>>=◌, Task, Swap, begun_as, in_slot, judged_mapping, judged_swapin, need_kept, subject_name}
 use Rattle.lab_core.specs.LabSteps.{Does, IsDoneBy, does, no_memory, opened, not_opened, StepOf, IfSpace, Replies, Swaps, BeginSteps, Begins, begun_at, JudgedBeside, IsAnswered, is_told, unanswered as untold, has_space, done_reply, end_reply, turn_reply, undone_end}
-use Rattle.lab_core.specs.Sessions.{OpenSwap, Session, Closed, Open, Setting, After, is_among, names_of}
+use Rattle.lab_core.specs.Sessions.{OpenSwap, Session, Closed, Open, Setting, After, is_among, names_of, Terms}
 use Rattle.lab_core.specs.Tells.{BeginsAt, IsFeasibleFor, Hinders, TellsBroken, taken_reply}
 
 -- the reply tells that it was taken
@@ -111,8 +111,8 @@ data Told (set : Setting) (session : Session) (s : LabState) (only : Bool) (exp 
   silent : after.reply ≡ None → Told set session s only exp text opening own after
   broke : (reply : Reply) → after.reply ≡ Some reply → TellsBroken reply → Told set session s only exp text opening own after
 
-module _ (takes : Bool) (set : Setting) (session : Session) (s : LabState) (only : Bool) (exp text : List ℕ) (lines : ℕ) (opening own : List Event) (after : After) where
-  told_done : (mid : LabState) → BeginsAt session s opening mid → (opens : List OpenSwap) → IsDoneBy (JudgedBeside (commands.SwapinWith only exp lines text) opens mid) set mid opens own after → Told set session s only exp text opening own after
+module _ (terms : Terms) (set : Setting) (session : Session) (s : LabState) (only : Bool) (exp text : List ℕ) (lines : ℕ) (opening own : List Event) (after : After) where
+  told_done : (mid : LabState) → BeginsAt session s opening mid → (opens : List OpenSwap) → IsDoneBy (JudgedBeside terms.rule (commands.SwapinWith only exp lines text) opens mid) set mid opens own after → Told set session s only exp text opening own after
   told_done mid begins opens (does judgement is d) = did mid begins opens (subst (λ (j : Result Task Reply). Does set mid opens j own after) is d)
   told_done mid begins opens (no_memory wants) = silent (ap (λ (a : After). a.reply) wants.after_is)
 
@@ -121,11 +121,11 @@ module _ (takes : Bool) (set : Setting) (session : Session) (s : LabState) (only
   told_broke events (failed no' miss is) = broke replies.Down is tt
   told_broke events (unanswered none) = silent none
 
-told_by : (takes : Bool) (set : Setting) (session : Session) (s : LabState) (only : Bool) (exp text : List ℕ) (lines : ℕ) (opening own : List Event) (after : After) → StepOf None (JudgedBeside (commands.SwapinWith only exp lines text)) takes set s session opening own after
+told_by : (terms : Terms) (set : Setting) (session : Session) (s : LabState) (only : Bool) (exp text : List ℕ) (lines : ℕ) (opening own : List Event) (after : After) → StepOf None (JudgedBeside terms.rule (commands.SwapinWith only exp lines text)) terms set s session opening own after
     → Told set session s only exp text opening own after
-told_by takes set Closed s only exp text lines opening own after (opened mid opens d) = told_done takes set Closed s only exp text lines opening own after mid opens [] d
-told_by takes set Closed s only exp text lines opening own after (not_opened breaks) = told_broke takes set Closed s only exp text lines opening own after opening breaks.breaks
-told_by takes set (Open opens) s only exp text lines opening own after step = told_done takes set (Open opens) s only exp text lines opening own after s refl opens step.1
+told_by terms set Closed s only exp text lines opening own after (opened mid opens d) = told_done terms set Closed s only exp text lines opening own after mid opens [] d
+told_by terms set Closed s only exp text lines opening own after (not_opened breaks) = told_broke terms set Closed s only exp text lines opening own after opening breaks.breaks
+told_by terms set (Open opens) s only exp text lines opening own after step = told_done terms set (Open opens) s only exp text lines opening own after s refl opens step.1
 
 -- TAKEN ONLY where it is feasible
 only_if : (set : Setting) (s : LabState) (opens : List OpenSwap) (only : Bool) (exp text : List ℕ) (own : List Event) (after : After) → Does set s opens (judged_there s opens only exp text) own after → after.reply ≡ Some (taken_reply only exp) → IsFeasibleFor s exp text
@@ -240,10 +240,10 @@ module _ (s : LabState) (only : Bool) (exp text : List ℕ) (f : IsFeasibleFor s
   by_done false count set opens d = by_room count (nat_le 16 count) refl set opens d
 
 -- THE ANSWER TO A SUPPLIED SOLUTION, both ways from one lab
-pub in_both : (takes : Bool) (set : Setting) (s : LabState) (session : Session) (only : Bool) (exp text : List ℕ) (lines : ℕ) (opening own : List Event) (after : After) (reply : Reply)
-    → StepOf None (JudgedBeside (commands.SwapinWith only exp lines text)) takes set s session opening own after → after.reply ≡ Some reply
+pub in_both : (terms : Terms) (set : Setting) (s : LabState) (session : Session) (only : Bool) (exp text : List ℕ) (lines : ℕ) (opening own : List Event) (after : After) (reply : Reply)
+    → StepOf None (JudgedBeside terms.rule (commands.SwapinWith only exp lines text)) terms set s session opening own after → after.reply ≡ Some reply
     → TellsBroken reply ⊎ ((mid : LabState) × BeginsAt session s opening mid × (reply ≡ taken_reply only exp → IsFeasibleFor mid exp text) × (IsFeasibleFor mid exp text → (reply ≡ taken_reply only exp) ⊎ Hinders reply))
-in_both takes set s session only exp text lines opening own after reply step is = by (told_by takes set session s only exp text lines opening own after step)
+in_both terms set s session only exp text lines opening own after reply step is = by (told_by terms set session s only exp text lines opening own after step)
   where
     by : Told set session s only exp text opening own after
         → TellsBroken reply ⊎ ((mid : LabState) × BeginsAt session s opening mid × (reply ≡ taken_reply only exp → IsFeasibleFor mid exp text) × (IsFeasibleFor mid exp text → (reply ≡ taken_reply only exp) ⊎ Hinders reply))
@@ -260,17 +260,17 @@ broken_not : (only : Bool) (exp : List ℕ) → TellsBroken (taken_reply only ex
 broken_not true exp breaks = breaks
 broken_not false exp breaks = breaks
 
-pub in_only : (takes : Bool) (set : Setting) (s : LabState) (session : Session) (only : Bool) (exp text : List ℕ) (lines : ℕ) (opening own : List Event) (after : After)
-    → StepOf None (JudgedBeside (commands.SwapinWith only exp lines text)) takes set s session opening own after → after.reply ≡ Some (taken_reply only exp) → (mid : LabState) × BeginsAt session s opening mid × IsFeasibleFor mid exp text
-in_only takes set s session only exp text lines opening own after step is = elim (in_both takes set s session only exp text lines opening own after (taken_reply only exp) step is) [
+pub in_only : (terms : Terms) (set : Setting) (s : LabState) (session : Session) (only : Bool) (exp text : List ℕ) (lines : ℕ) (opening own : List Event) (after : After)
+    → StepOf None (JudgedBeside terms.rule (commands.SwapinWith only exp lines text)) terms set s session opening own after → after.reply ≡ Some (taken_reply only exp) → (mid : LabState) × BeginsAt session s opening mid × IsFeasibleFor mid exp text
+in_only terms set s session only exp text lines opening own after step is = elim (in_both terms set s session only exp text lines opening own after (taken_reply only exp) step is) [
   | inl breaks ↦ absurd (broken_not only exp breaks)
   | inr both ↦ (both.0, both.1, both.2 refl)
 ]
 
-pub in_unless : (takes : Bool) (set : Setting) (s : LabState) (session : Session) (only : Bool) (exp text : List ℕ) (lines : ℕ) (opening own : List Event) (after : After) (reply : Reply)
-    → StepOf None (JudgedBeside (commands.SwapinWith only exp lines text)) takes set s session opening own after → after.reply ≡ Some reply
+pub in_unless : (terms : Terms) (set : Setting) (s : LabState) (session : Session) (only : Bool) (exp text : List ℕ) (lines : ℕ) (opening own : List Event) (after : After) (reply : Reply)
+    → StepOf None (JudgedBeside terms.rule (commands.SwapinWith only exp lines text)) terms set s session opening own after → after.reply ≡ Some reply
     → TellsBroken reply ⊎ ((mid : LabState) × BeginsAt session s opening mid × (IsFeasibleFor mid exp text → (reply ≡ taken_reply only exp) ⊎ Hinders reply))
-in_unless takes set s session only exp text lines opening own after reply step is = elim (in_both takes set s session only exp text lines opening own after reply step is) [
+in_unless terms set s session only exp text lines opening own after reply step is = elim (in_both terms set s session only exp text lines opening own after reply step is) [
   | inl breaks ↦ inl breaks
   | inr both ↦ inr (both.0, both.1, both.3)
 ]

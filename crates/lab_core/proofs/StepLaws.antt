@@ -36,11 +36,12 @@ use Rattle.swap_turns.specs.Turning.{Outcome, More, TurnsBack, Ended, Stuck, Unw
 use Rattle.swap_turns.specs.Whole.{SwapSteps, begun, unwritten, stopped as stopped_so}
 use Rattle.swap_turns.proofs.Finishing.{onward_swap}
 use Rattle.swap_turns.proofs.Showing.{finish_shows, settles_show, swap_shows, turn_shows}
+use Rattle.cost_rule.specs.declared.rule.RuleNumber.{RuleNumber}
 use Rattle.lab_core.specs.Judge.{Task, Tell, Append, Swap, BeginOnly, Turn, Finish, Recover}
 use Rattle.lab_core.specs.LabSteps.{Replies, WantsMemory, AppendEnds, whole, broken, Appends, done_reply, undone_end, end_reply, turn_reply, IsAnswered, is_told, unanswered as untold, Swaps, BeginSteps, Begins as BeginsSwap, Turns, EndsSwap, has_space, IfSpace, Does, IsDoneBy, does, no_memory, FromClosed, opened, not_opened, Drills, is_planned, is_refused, wants_memory, StepOf, IsThis, JudgedBeside}
 use Rattle.lab_core.specs.Breaks.{Breaks, StartsBehind, stopped, failed, unanswered}
-use Rattle.lab_core.specs.Recovery.{BreaksOpening, OpensInPart, reading, settling, Recovers, settled, broken_off}
-use Rattle.lab_core.specs.Sessions.{OpenSwap, Session, Closed, Open, Setting, After, is_among, name_of, names_of}
+use Rattle.lab_core.specs.Recovery.{BreaksOpening, OpensInPart, reading, settling, shifting, Recovers, settled, broken_off}
+use Rattle.lab_core.specs.Sessions.{OpenSwap, Session, Closed, Open, Setting, After, is_among, name_of, names_of, Terms}
 use Rattle.lab_core.specs.Tells.{BeginsAt, GoBy, IsAtRest, IsNoSwap, TellsBroken, TellsLab, is_stopped, opens_of, settles}
 use Rattle.lab_core.proofs.Judgements.{IsTaskApart, task_apart}
 use Rattle.lab_core.proofs.Others.{IsSpared, Stays, begun_stays, both_stay, either_stays, ended_stays, in_part_stay, move_stays, rests_on, same_stays, settled_stay, settles_stay, some_stay, swap_stays, turned_stays}
@@ -96,61 +97,61 @@ pub record Begins (drill : Option Drill) (session : Session) (s : LabState) (ope
   pub are : opens ≡ opens_of session
 
 -- WHAT A STEP WAS, by its judgement: that was done from there, or memory was wanting; or the opening broke off; or it was a drill
-pub data Was (drill : Option Drill) (judgement : Result Task Reply) (takes : Bool) (set : Setting) (s : LabState) (session : Session) (command : Command) (opening own : List Event) (after : After) : Type 0 where
-  done : (mid : LabState) (opens : List OpenSwap) → Begins drill session s opening mid opens → JudgedBeside command opens mid judgement → Does set mid opens judgement own after → Was drill judgement takes set s session command opening own after
-  wanting : (mid : LabState) (opens : List OpenSwap) → Begins drill session s opening mid opens → WantsMemory mid own after → Was drill judgement takes set s session command opening own after
-  broke : drill ≡ None → session ≡ Closed → BreaksOpening s opening own after → Was drill judgement takes set s session command opening own after
-  drilled : is_some drill ≡ true → opening ≡ [] → Drills takes s session own after → Was drill judgement takes set s session command opening own after
+pub data Was (drill : Option Drill) (judgement : Result Task Reply) (terms : Terms) (set : Setting) (s : LabState) (session : Session) (command : Command) (opening own : List Event) (after : After) : Type 0 where
+  done : (mid : LabState) (opens : List OpenSwap) → Begins drill session s opening mid opens → JudgedBeside terms.rule command opens mid judgement → Does set mid opens judgement own after → Was drill judgement terms set s session command opening own after
+  wanting : (mid : LabState) (opens : List OpenSwap) → Begins drill session s opening mid opens → WantsMemory mid own after → Was drill judgement terms set s session command opening own after
+  broke : drill ≡ None → session ≡ Closed → BreaksOpening s opening own after → Was drill judgement terms set s session command opening own after
+  drilled : is_some drill ≡ true → opening ≡ [] → Drills terms.takes s session own after → Was drill judgement terms set s session command opening own after
 
-module _ (judgement : Result Task Reply) (takes : Bool) (set : Setting) (s : LabState) (command : Command) (opening own : List Event) (after : After) where
-  was_done : (session : Session) (mid : LabState) (opens : List OpenSwap) → Begins None session s opening mid opens → IsDoneBy (IsThis judgement command opens mid) set mid opens own after → Was None judgement takes set s session command opening own after
-  was_done session mid opens begins (does other is d) = done mid opens begins (subst (λ (j : Result Task Reply). JudgedBeside command opens mid j) is.0 is.1) (subst (λ (j : Result Task Reply). Does set mid opens j own after) is.0 d)
+module _ (judgement : Result Task Reply) (terms : Terms) (set : Setting) (s : LabState) (command : Command) (opening own : List Event) (after : After) where
+  was_done : (session : Session) (mid : LabState) (opens : List OpenSwap) → Begins None session s opening mid opens → IsDoneBy (IsThis judgement terms.rule command opens mid) set mid opens own after → Was None judgement terms set s session command opening own after
+  was_done session mid opens begins (does other is d) = done mid opens begins (subst (λ (j : Result Task Reply). JudgedBeside terms.rule command opens mid j) is.0 is.1) (subst (λ (j : Result Task Reply). Does set mid opens j own after) is.0 d)
   was_done session mid opens begins (no_memory wants) = wanting mid opens begins wants
 
-  pub was : (drill : Option Drill) (session : Session) → StepOf drill (IsThis judgement command) takes set s session opening own after → Was drill judgement takes set s session command opening own after
+  pub was : (drill : Option Drill) (session : Session) → StepOf drill (IsThis judgement terms.rule command) terms set s session opening own after → Was drill judgement terms set s session command opening own after
   was (Some drill) session step = drilled refl step.0 step.1
   was None Closed (opened mid opens d) = was_done Closed mid [] (record { no_drill = refl; at = opens; quiet = opens.no_restart; are = refl }) d
   was None Closed (not_opened breaks) = broke refl refl breaks
   was None (Open opens) step = was_done (Open opens) s opens (record { no_drill = refl; at = refl; quiet = ap has_restart step.0; are = refl }) step.1
 
 -- A STEP IS BY ONE JUDGEMENT
-one_done : (set : Setting) (s : LabState) (opens : List OpenSwap) (command : Command) (own : List Event) (after : After) → IsDoneBy (JudgedBeside command opens s) set s opens own after → (judgement : Result Task Reply) × IsDoneBy (IsThis judgement command opens s) set s opens own after
-one_done set s opens command own after (does judgement is d) = (judgement, does judgement (refl, is) d)
-one_done set s opens command own after (no_memory wants) = (Err NoDrill, no_memory wants)
+one_done : (rule : RuleNumber) (set : Setting) (s : LabState) (opens : List OpenSwap) (command : Command) (own : List Event) (after : After) → IsDoneBy (JudgedBeside rule command opens s) set s opens own after → (judgement : Result Task Reply) × IsDoneBy (IsThis judgement rule command opens s) set s opens own after
+one_done rule set s opens command own after (does judgement is d) = (judgement, does judgement (refl, is) d)
+one_done rule set s opens command own after (no_memory wants) = (Err NoDrill, no_memory wants)
 
-one_opened : (set : Setting) (s : LabState) (command : Command) (opening own : List Event) (after : After) → FromClosed (JudgedBeside command []) set s opening own after → (judgement : Result Task Reply) × FromClosed (IsThis judgement command []) set s opening own after
-one_opened set s command opening own after (opened mid opens d) = let one = one_done set mid [] command own after d in (one.0, opened mid opens one.1)
-one_opened set s command opening own after (not_opened breaks) = (Err NoDrill, not_opened breaks)
+one_opened : (rule : RuleNumber) (set : Setting) (s : LabState) (command : Command) (opening own : List Event) (after : After) → FromClosed (JudgedBeside rule command []) set s opening own after → (judgement : Result Task Reply) × FromClosed (IsThis judgement rule command []) set s opening own after
+one_opened rule set s command opening own after (opened mid opens d) = let one = one_done rule set mid [] command own after d in (one.0, opened mid opens one.1)
+one_opened rule set s command opening own after (not_opened breaks) = (Err NoDrill, not_opened breaks)
 
-pub by_one : (o : Option Drill) (takes : Bool) (set : Setting) (s : LabState) (session : Session) (command : Command) (opening own : List Event) (after : After) → StepOf o (JudgedBeside command) takes set s session opening own after
-    → (judgement : Result Task Reply) × StepOf o (IsThis judgement command) takes set s session opening own after
-by_one (Some drill) takes set s session command opening own after step = (Err NoDrill, step)
-by_one None takes set s Closed command opening own after step = one_opened set s command opening own after step
-by_one None takes set s (Open opens) command opening own after step = let one = one_done set s opens command own after step.1 in (one.0, (step.0, one.1))
+pub by_one : (o : Option Drill) (terms : Terms) (set : Setting) (s : LabState) (session : Session) (command : Command) (opening own : List Event) (after : After) → StepOf o (JudgedBeside terms.rule command) terms set s session opening own after
+    → (judgement : Result Task Reply) × StepOf o (IsThis judgement terms.rule command) terms set s session opening own after
+by_one (Some drill) terms set s session command opening own after step = (Err NoDrill, step)
+by_one None terms set s Closed command opening own after step = one_opened terms.rule set s command opening own after step
+by_one None terms set s (Open opens) command opening own after step = let one = one_done terms.rule set s opens command own after step.1 in (one.0, (step.0, one.1))
 
 -- A DRILL leaves all as it was
-drill_is : (takes : Bool) (s : LabState) (session : Session) (own : List Event) (after : After) → Drills takes s session own after → (own ≡ []) × (after.lab ≡ s)
-drill_is takes s session own after (is_planned yes' none after_is) = (none, ap (λ (a : After). a.lab) after_is)
-drill_is takes s session own after (is_refused no' none after_is) = (none, ap (λ (a : After). a.lab) after_is)
-drill_is takes s session own after (wants_memory wants) = (wants.nothing, ap (λ (a : After). a.lab) wants.after_is)
+drill_is : (terms : Terms) (s : LabState) (session : Session) (own : List Event) (after : After) → Drills terms.takes s session own after → (own ≡ []) × (after.lab ≡ s)
+drill_is terms s session own after (is_planned yes' none after_is) = (none, ap (λ (a : After). a.lab) after_is)
+drill_is terms s session own after (is_refused no' none after_is) = (none, ap (λ (a : After). a.lab) after_is)
+drill_is terms s session own after (wants_memory wants) = (wants.nothing, ap (λ (a : After). a.lab) wants.after_is)
 
-pub drills_leave : (o : Option Drill) (takes : Bool) (set : Setting) (s : LabState) (session : Session) (Judges : List OpenSwap → LabState → Result Task Reply → Type 0) (opening own : List Event) (after : After) → is_some o ≡ true → StepOf o Judges takes set s session opening own after → (opening ≡ []) × (own ≡ []) × (after.lab ≡ s)
-drills_leave None takes set s session Judges opening own after is step = absurd (cc is)
-drills_leave (Some drill) takes set s session Judges opening own after is step = let both = drill_is takes s session own after step.1 in (step.0, both.0, both.1)
+pub drills_leave : (o : Option Drill) (terms : Terms) (set : Setting) (s : LabState) (session : Session) (Judges : List OpenSwap → LabState → Result Task Reply → Type 0) (opening own : List Event) (after : After) → is_some o ≡ true → StepOf o Judges terms set s session opening own after → (opening ≡ []) × (own ≡ []) × (after.lab ≡ s)
+drills_leave None terms set s session Judges opening own after is step = absurd (cc is)
+drills_leave (Some drill) terms set s session Judges opening own after is step = let both = drill_is terms s session own after step.1 in (step.0, both.0, both.1)
 
 -- a refusal, and a telling, have no steps
-module _ (drill : Option Drill) (reply : Reply) (takes : Bool) (set : Setting) (s : LabState) (session : Session) (command : Command) (opening own : List Event) (after : After) where
-  pub no_steps_refused : Was drill (Err reply) takes set s session command opening own after → own ≡ []
+module _ (drill : Option Drill) (reply : Reply) (terms : Terms) (set : Setting) (s : LabState) (session : Session) (command : Command) (opening own : List Event) (after : After) where
+  pub no_steps_refused : Was drill (Err reply) terms set s session command opening own after → own ≡ []
   no_steps_refused (done mid opens begins judged d) = d.nothing
   no_steps_refused (wanting mid opens begins wants) = wants.nothing
   no_steps_refused (broke no' closed breaks) = breaks.nothing
-  no_steps_refused (drilled some none drills) = (drill_is takes s session own after drills).0
+  no_steps_refused (drilled some none drills) = (drill_is terms s session own after drills).0
 
-  pub no_steps_told : Was drill (Ok (Tell reply)) takes set s session command opening own after → own ≡ []
+  pub no_steps_told : Was drill (Ok (Tell reply)) terms set s session command opening own after → own ≡ []
   no_steps_told (done mid opens begins judged d) = d.nothing
   no_steps_told (wanting mid opens begins wants) = wants.nothing
   no_steps_told (broke no' closed breaks) = breaks.nothing
-  no_steps_told (drilled some none drills) = (drill_is takes s session own after drills).0
+  no_steps_told (drilled some none drills) = (drill_is terms s session own after drills).0
 
 -- ONE REPLY AND ONE LAB, where nothing failed and nothing stopped
 abbrev pub Went : List Event → Type 0
@@ -204,15 +205,15 @@ module _ (s : LabState) (opens : List OpenSwap) (own : List Event) (reply other 
   does_once set (Ok (Finish exp)) no_swap went one two = absurd no_swap
   does_once set (Ok Recover) no_swap went one two = absurd no_swap
 
-  drills_once : (takes : Bool) → Drills takes s (Open opens) own after → Drills takes s (Open opens) own later → (reply ≡ other) × (after.lab ≡ later.lab)
-  drills_once takes one two =
-      let labs = (drill_is takes s (Open opens) own after one).1 ∙ sym (drill_is takes s (Open opens) own later two).1 in
+  drills_once : (terms : Terms) → Drills terms.takes s (Open opens) own after → Drills terms.takes s (Open opens) own later → (reply ≡ other) × (after.lab ≡ later.lab)
+  drills_once terms one two =
+      let labs = (drill_is terms s (Open opens) own after one).1 ∙ sym (drill_is terms s (Open opens) own later two).1 in
       (by one two, labs)
     where
       told_by : (x : After) (y told : Reply) (session : Session) → x.reply ≡ Some y → x ≡ record { reply = Some told; lab = s; session = session } → y ≡ told
       told_by x y told session y_is x_is = sym (some_is told y (sym (ap (λ (v : After). v.reply) x_is) ∙ y_is))
 
-      by : Drills takes s (Open opens) own after → Drills takes s (Open opens) own later → reply ≡ other
+      by : Drills terms.takes s (Open opens) own after → Drills terms.takes s (Open opens) own later → reply ≡ other
       by (is_planned yes' none a) (is_planned yes'' none' b) = told_by after reply Planned (Open opens) is a ∙ sym (told_by later other Planned (Open opens) also b)
       by (is_planned yes' none a) (is_refused no' none' b) = let both : true ≡ false = sym yes' ∙ no' in absurd (cc both)
       by (is_refused no' none a) (is_planned yes' none' b) = let both : true ≡ false = sym yes' ∙ no' in absurd (cc both)
@@ -221,16 +222,16 @@ module _ (s : LabState) (opens : List OpenSwap) (own : List Event) (reply other 
       by (is_planned yes' none a) (wants_memory wants) = none_told later.reply other (ap (λ (v : After). v.reply) wants.after_is) also
       by (is_refused no' none a) (wants_memory wants) = none_told later.reply other (ap (λ (v : After). v.reply) wants.after_is) also
 
-  done_once : (set : Setting) (command : Command) (judgement : Result Task Reply) → IsNoSwap judgement → Went own → IsDoneBy (IsThis judgement command opens s) set s opens own after → IsDoneBy (IsThis judgement command opens s) set s opens own later → (reply ≡ other) × (after.lab ≡ later.lab)
-  done_once set command judgement no_swap went (does j p one) (does k q two) =
+  done_once : (rule : RuleNumber) (set : Setting) (command : Command) (judgement : Result Task Reply) → IsNoSwap judgement → Went own → IsDoneBy (IsThis judgement rule command opens s) set s opens own after → IsDoneBy (IsThis judgement rule command opens s) set s opens own later → (reply ≡ other) × (after.lab ≡ later.lab)
+  done_once rule set command judgement no_swap went (does j p one) (does k q two) =
       does_once set judgement no_swap went (subst (λ (x : Result Task Reply). Does set s opens x own after) p.0 one) (subst (λ (x : Result Task Reply). Does set s opens x own later) q.0 two)
-  done_once set command judgement no_swap went (no_memory wants) two = none_told after.reply reply (ap (λ (v : After). v.reply) wants.after_is) is
-  done_once set command judgement no_swap went (does j p one) (no_memory wants) = none_told later.reply other (ap (λ (v : After). v.reply) wants.after_is) also
+  done_once rule set command judgement no_swap went (no_memory wants) two = none_told after.reply reply (ap (λ (v : After). v.reply) wants.after_is) is
+  done_once rule set command judgement no_swap went (does j p one) (no_memory wants) = none_told later.reply other (ap (λ (v : After). v.reply) wants.after_is) also
 
-  pub step_once : (o : Option Drill) (takes : Bool) (set : Setting) (command : Command) (judgement : Result Task Reply) → IsNoSwap judgement → Went own → StepOf o (IsThis judgement command) takes set s (Open opens) [] own after → StepOf o (IsThis judgement command) takes set s (Open opens) [] own later
+  pub step_once : (o : Option Drill) (terms : Terms) (set : Setting) (command : Command) (judgement : Result Task Reply) → IsNoSwap judgement → Went own → StepOf o (IsThis judgement terms.rule command) terms set s (Open opens) [] own after → StepOf o (IsThis judgement terms.rule command) terms set s (Open opens) [] own later
       → (reply ≡ other) × (after.lab ≡ later.lab)
-  step_once None takes set command judgement no_swap went one two = done_once set command judgement no_swap went one.1 two.1
-  step_once (Some drill) takes set command judgement no_swap went one two = drills_once takes one.1 two.1
+  step_once None terms set command judgement no_swap went one two = done_once terms.rule set command judgement no_swap went one.1 two.1
+  step_once (Some drill) terms set command judgement no_swap went one two = drills_once terms one.1 two.1
 
 -- THE REPLY TO A SWAP
 module _ (exp : List ℕ) (way : Way) (own : List Event) (after : After) (reply : Reply) (is : after.reply ≡ Some reply) where
@@ -256,12 +257,12 @@ module _ (exp : List ℕ) (way : Way) (own : List Event) (after : After) (reply 
   breaks_tell events (failed no' miss told) = subst TellsBroken (some_is Down reply (sym told ∙ is)) tt
   breaks_tell events (unanswered none) = none_told after.reply reply none is
 
-  pub swap_tells : (drill : Option Drill) (takes : Bool) (set : Setting) (s : LabState) (session : Session) (command : Command) (opening : List Event) → drill ≡ None → Was drill (Ok (Swap exp way)) takes set s session command opening own after
+  pub swap_tells : (drill : Option Drill) (terms : Terms) (set : Setting) (s : LabState) (session : Session) (command : Command) (opening : List Event) → drill ≡ None → Was drill (Ok (Swap exp way)) terms set s session command opening own after
       → TellsBroken reply ⊎ ((mid : LabState) × BeginsAt session s opening mid × ((move : Move) → Says the_texts mid (Begin exp way) move → TellsLab mid exp move reply after.lab))
-  swap_tells drill takes set s session command opening no' (done mid opens begins judged d) = inr (mid, begins.at, λ move says. does_tell mid move says (has_space set (Begin exp way)) set.length opens d)
-  swap_tells drill takes set s session command opening no' (wanting mid opens begins wants) = none_told after.reply reply (ap (λ (v : After). v.reply) wants.after_is) is
-  swap_tells drill takes set s session command opening no' (broke none closed breaks) = inl (breaks_tell opening breaks.breaks)
-  swap_tells drill takes set s session command opening no' (drilled some none drills) = let both : false ≡ true = ap is_some (sym no') ∙ some in absurd (cc both)
+  swap_tells drill terms set s session command opening no' (done mid opens begins judged d) = inr (mid, begins.at, λ move says. does_tell mid move says (has_space set (Begin exp way)) set.length opens d)
+  swap_tells drill terms set s session command opening no' (wanting mid opens begins wants) = none_told after.reply reply (ap (λ (v : After). v.reply) wants.after_is) is
+  swap_tells drill terms set s session command opening no' (broke none closed breaks) = inl (breaks_tell opening breaks.breaks)
+  swap_tells drill terms set s session command opening no' (drilled some none drills) = let both : false ≡ true = ap is_some (sym no') ∙ some in absurd (cc both)
 
 -- THE PLANT STOPPED exactly where `stopped` is told
 nothing_behind : (steps behind : List Event) → has_restart steps ≡ false → behind ≡ [] → has_restart (steps ++ behind) ≡ false
@@ -359,17 +360,17 @@ module _ (own : List Event) (after : After) (reply : Reply) (is : after.reply �
   does_stop set s opens (Ok (Finish exp)) inner d = finish_stops s opens exp d
   does_stop set s opens (Ok Recover) inner d = recover_stops s opens d
 
-  drill_stops : (takes : Bool) (s : LabState) (session : Session) → Drills takes s session own after → has_restart own ≡ is_stopped reply
-  drill_stops takes s session (is_planned yes' none a) = calm Planned refl (ap (λ (v : After). v.reply) a) (ap has_restart none)
-  drill_stops takes s session (is_refused no' none a) = calm NoDrill refl (ap (λ (v : After). v.reply) a) (ap has_restart none)
-  drill_stops takes s session (wants_memory wants) = none_told after.reply reply (ap (λ (v : After). v.reply) wants.after_is) is
+  drill_stops : (terms : Terms) (s : LabState) (session : Session) → Drills terms.takes s session own after → has_restart own ≡ is_stopped reply
+  drill_stops terms s session (is_planned yes' none a) = calm Planned refl (ap (λ (v : After). v.reply) a) (ap has_restart none)
+  drill_stops terms s session (is_refused no' none a) = calm NoDrill refl (ap (λ (v : After). v.reply) a) (ap has_restart none)
+  drill_stops terms s session (wants_memory wants) = none_told after.reply reply (ap (λ (v : After). v.reply) wants.after_is) is
 
-  pub step_stops : (drill : Option Drill) (judgement : Result Task Reply) (takes : Bool) (set : Setting) (s : LabState) (session : Session) (command : Command) (opening : List Event) → Was drill judgement takes set s session command opening own after → has_restart (opening ++ own) ≡ is_stopped reply
-  step_stops drill judgement takes set s session command opening (done mid opens begins judged d) =
-      shows is_restart (opening ++ own) opening own false (is_stopped reply) refl begins.quiet (does_stop set mid opens judgement (judged_so mid (is_among (names_of opens) (name_of command)) (length opens) command judgement judged) d)
-  step_stops drill judgement takes set s session command opening (wanting mid opens begins wants) = none_told after.reply reply (ap (λ (v : After). v.reply) wants.after_is) is
-  step_stops drill judgement takes set s session command opening (broke no' closed breaks) = ap (λ l. has_restart (opening ++ l)) breaks.nothing ∙ ap has_restart (append-nil opening) ∙ breaks_stop opening breaks.breaks
-  step_stops drill judgement takes set s session command opening (drilled some none drills) = ap (λ l. has_restart (l ++ own)) none ∙ drill_stops takes s session drills
+  pub step_stops : (drill : Option Drill) (judgement : Result Task Reply) (terms : Terms) (set : Setting) (s : LabState) (session : Session) (command : Command) (opening : List Event) → Was drill judgement terms set s session command opening own after → has_restart (opening ++ own) ≡ is_stopped reply
+  step_stops drill judgement terms set s session command opening (done mid opens begins judged d) =
+      shows is_restart (opening ++ own) opening own false (is_stopped reply) refl begins.quiet (does_stop set mid opens judgement (judged_so mid terms.rule (is_among (names_of opens) (name_of command)) (length opens) command judgement judged) d)
+  step_stops drill judgement terms set s session command opening (wanting mid opens begins wants) = none_told after.reply reply (ap (λ (v : After). v.reply) wants.after_is) is
+  step_stops drill judgement terms set s session command opening (broke no' closed breaks) = ap (λ l. has_restart (opening ++ l)) breaks.nothing ∙ ap has_restart (append-nil opening) ∙ breaks_stop opening breaks.breaks
+  step_stops drill judgement terms set s session command opening (drilled some none drills) = ap (λ l. has_restart (l ++ own)) none ∙ drill_stops terms s session drills
 
 -- EXPERIMENTS OF OTHER NAMES
 module _ (name : List ℕ) (own : List Event) (after : After) where
@@ -426,15 +427,16 @@ module _ (name : List ℕ) (own : List Event) (after : After) where
     part_stays : OpensInPart s opening after.lab → IsAtRest s name → Stays name s after.lab
     part_stays (reading reads same) at_rest = same_stays name s after.lab there same
     part_stays (settling front moving is reads no_miss no_restart part) at_rest = some_stay name s after.lab [] moving there at_rest part
+    part_stays (shifting front moving behind is reads no_miss no_restart outcomes all shifts) at_rest = settles_stay name _ outcomes s after.lab moving there at_rest all
 
-    pub step_stays : (judgement : Result Task Reply) (takes : Bool) (set : Setting) → name_of command ≢ Some name → Was (drill_of command) judgement takes set s session command opening own after → Stays name s after.lab
-    step_stays judgement takes set other (done mid opens begins judged d) =
+    pub step_stays : (judgement : Result Task Reply) (terms : Terms) (set : Setting) → name_of command ≢ Some name → Was (drill_of command) judgement terms set s session command opening own after → Stays name s after.lab
+    step_stays judgement terms set other (done mid opens begins judged d) =
         let first = begins_stay session rests mid opens begins in
         let busy = is_among (names_of opens) (name_of command) in
         both_stay name s mid after.lab first
         (does_stays mid first.set opens set judgement
-        (λ task is. task_apart name (names_of opens) mid busy (length opens) task command (λ recovers. spared_on mid opens first begins.are (if_recover session rests recovers)) first.set other
-        (subst (λ (j : Result Task Reply). JudgedBeside command opens mid j) is judged)) d)
-    step_stays judgement takes set other (wanting mid opens begins wants) = let first = begins_stay session rests mid opens begins in both_stay name s mid after.lab first (same_stays name mid after.lab first.set (ap (λ (a : After). a.lab) wants.after_is))
-    step_stays judgement takes set other (broke no' closed breaks) = part_stays breaks.part (rests (ap (λ (x : Session). settles x command name) closed ∙ ap is_none no'))
-    step_stays judgement takes set other (drilled some none drills) = same_stays name s after.lab there (drill_is takes s session own after drills).1
+        (λ task is. task_apart name (names_of opens) mid busy (length opens) task terms.rule command (λ recovers. spared_on mid opens first begins.are (if_recover session rests recovers)) first.set other
+        (subst (λ (j : Result Task Reply). JudgedBeside terms.rule command opens mid j) is judged)) d)
+    step_stays judgement terms set other (wanting mid opens begins wants) = let first = begins_stay session rests mid opens begins in both_stay name s mid after.lab first (same_stays name mid after.lab first.set (ap (λ (a : After). a.lab) wants.after_is))
+    step_stays judgement terms set other (broke no' closed breaks) = part_stays breaks.part (rests (ap (λ (x : Session). settles x command name) closed ∙ ap is_none no'))
+    step_stays judgement terms set other (drilled some none drills) = same_stays name s after.lab there (drill_is terms s session own after drills).1

@@ -1,17 +1,14 @@
 -- Laws of turns: what a turn does, and what its reply tells of the lab.
-use Rattle.std.proofs.Common.{◌≡◌, ◌⊎◌, inl, inr, ℕ, ◌||◌, Bool, true, false, is_some, List, [], ◌∷◌, ◌++◌, Option, Some, None, Ok, Err, refl, sym, ap, ◌∙◌, subst}
+use Rattle.std.proofs.Common.{◌≡◌, ◌⊎◌, inl, inr, ℕ, Bool, true, false, is_some, List, [], ◌++◌, Option, Some, None, Ok, refl, sym, ap, ◌∙◌, subst}
 use Rattle.std.proofs.lemmas.List.{append-nil}
-use Rattle.plant.specs.Events.{Event, Did}
-use Rattle.plant.specs.declared.device.Fault.TheVariants.{Stopped}
+use Rattle.plant.specs.Events.{Event}
 use Rattle.plant.specs.declared.drill.Drill.{Drill}
 use Rattle.journal_model.specs.Appends.{All, added}
 use Rattle.journal_runs.specs.Pieces.{has_command, is_command}
 use Rattle.journal_runs.proofs.Endings.{append_quiet}
 use Rattle.journal_runs.proofs.Quiet.{shows}
 use Rattle.lab_base.specs.declared.what.What.TheVariants as whats
-use Rattle.lab_model.specs.Courses.{Plan, Left, Trouble as AnyTrouble, Device, Late, Unlawful}
-use Rattle.lab_model.specs.Leavings.{Sent}
-use Rattle.lab_model.specs.OnCourse.{acknowledged}
+use Rattle.lab_model.specs.Courses.{Trouble as AnyTrouble, Device, Late, Unlawful}
 use Rattle.virt_topo.specs.declared.mapping.Mapped.{Mapped}
 use Rattle.records_model.specs.Labs.{LabState, Commits, Aborts, moved}
 use Rattle.records_model.proofs.Finding.{some_is}
@@ -21,19 +18,18 @@ use Rattle.script_text.specs.declared.reply.Reply.{Reply}
 use Rattle.script_text.specs.declared.reply.Reply.TheVariants as replies
 use Rattle.script_text.specs.declared.reply.FailedEnd.TheVariants as ends
 use Rattle.swap_txn.specs.Troubles.{what_of}
-use Rattle.swap_turns.specs.Courses.{IsSent, IsHalted, before, within}
 use Rattle.swap_turns.specs.Finishing.{Finishes}
 use Rattle.swap_turns.specs.Legs.{Forth, Undo, Settling, last}
 use Rattle.swap_turns.specs.Records.{missed, nothing}
 use Rattle.swap_turns.specs.Running.{OpenSwap as RunningSwap}
 use Rattle.swap_turns.specs.Swaps.{Swap as SwapOf}
-use Rattle.swap_turns.specs.Turning.{Outcome, More, TurnsBack, Ended, Stuck, Unwritten, Stopped as Halted, IsOneCommand, TurnSteps, plan_in}
+use Rattle.swap_turns.specs.Turning.{Outcome, More, TurnsBack, Ended, Stuck, Unwritten, Stopped as Halted, IsOneAtMost, IsOneCommand, TurnSteps}
 use Rattle.swap_turns.proofs.Finishing.{onward_swap}
 use Rattle.lab_core.specs.Breaks.{StartsBehind}
 use Rattle.lab_core.specs.Judge.{Turn, Finish}
 use Rattle.lab_core.specs.LabSteps.{IsAnswered, is_told, unanswered as untold, done_reply, undone_end, end_reply, turn_reply, Turns, Drills, is_planned, is_refused, wants_memory}
-use Rattle.lab_core.specs.Sessions.{OpenSwap, Session, Closed, Open, Setting, After}
-use Rattle.lab_core.specs.Tells.{IsTurn, sends, appends, TellsEnd, has_journal_step, is_of_journal, is_stopped}
+use Rattle.lab_core.specs.Sessions.{OpenSwap, Session, Closed, Open, Setting, After, Terms}
+use Rattle.lab_core.specs.Tells.{IsTurn, sends, appends, SendsOne, TellsEnd, has_journal_step, is_stopped}
 use Rattle.lab_core.proofs.StepLaws.{Was, done, wanting, broke, drilled, none_told}
 
 no_opening : {X : Type 0} (opens : List OpenSwap) → Open opens ≡ Closed → X
@@ -64,55 +60,49 @@ module _ (own : List Event) (after : After) (reply : Reply) (is : after.reply �
       by (is_told starts told session) = by_outcome s d.one.swap.running d.steps d.behind d.outcome d.own_is starts told d.turn
       by (untold starts none session) = none_told after.reply reply none is
 
-  pub one_turn : (drill : Option Drill) (takes : Bool) (set : Setting) (s : LabState) (opens : List OpenSwap) (command : Command) (opening : List Event) (exp : List ℕ) → drill ≡ None → Was drill (Ok (Turn exp)) takes set s (Open opens) command opening own after → IsTurn own
-  one_turn drill takes set s opens command opening exp no_drill (done mid others begins judged d) = did_turn mid others exp d
-  one_turn drill takes set s opens command opening exp no_drill (wanting mid others begins wants) = none_told after.reply reply (ap (λ (a : After). a.reply) wants.after_is) is
-  one_turn drill takes set s opens command opening exp no_drill (broke none closed breaks) = no_opening opens closed
-  one_turn drill takes set s opens command opening exp no_drill (drilled some none drills) = not_drilled drill no_drill some
+  pub one_turn : (drill : Option Drill) (terms : Terms) (set : Setting) (s : LabState) (opens : List OpenSwap) (command : Command) (opening : List Event) (exp : List ℕ) → drill ≡ None → Was drill (Ok (Turn exp)) terms set s (Open opens) command opening own after → IsTurn own
+  one_turn drill terms set s opens command opening exp no_drill (done mid others begins judged d) = did_turn mid others exp d
+  one_turn drill terms set s opens command opening exp no_drill (wanting mid others begins wants) = none_told after.reply reply (ap (λ (a : After). a.reply) wants.after_is) is
+  one_turn drill terms set s opens command opening exp no_drill (broke none closed breaks) = no_opening opens closed
+  one_turn drill terms set s opens command opening exp no_drill (drilled some none drills) = not_drilled drill no_drill some
 
--- NOT BOTH: device commands alone, or steps of the journal alone
-acknowledged_calm : (sent : Sent) → has_journal_step (acknowledged sent) ≡ false
-acknowledged_calm [] = refl
-acknowledged_calm (c ∷ sent) = acknowledged_calm sent
+-- AT MOST ONE DEVICE COMMAND, and then no step of the journal
+abbrev AtMostOne : List Event → Type 0
+AtMostOne own = (has_command own ≡ false) ⊎ SendsOne own
 
-sent_calm : (plan : Plan) (left : Left) (steps : List Event) → IsSent plan left steps → has_journal_step steps ≡ false
-sent_calm plan left steps sent = ap has_journal_step sent.steps_are ∙ acknowledged_calm sent.sent
-
-halted_calm : (plan : Plan) (steps : List Event) → IsHalted plan steps → has_journal_step steps ≡ false
-halted_calm plan steps (before left sent) = sent_calm plan left steps sent
-halted_calm plan steps (within front left op applied sent comes is) = shows is_of_journal steps front (Did op applied (Err Stopped) ∷ []) false false is (sent_calm plan left front sent) refl
-
-second_of : (a b : Bool) → (a || b) ≡ false → b ≡ false
-second_of true b h = absurd (cc h)
-second_of false b h = h
-
-calm_behind : (front steps : List Event) → has_journal_step (front ++ steps) ≡ false → has_journal_step steps ≡ false
-calm_behind front steps h = second_of (has_journal_step front) (has_journal_step steps) (sym (shows is_of_journal (front ++ steps) front steps (has_journal_step front) (has_journal_step steps) refl refl refl) ∙ h)
-
-abbrev NotBoth : List Event → Type 0
-NotBoth own = (has_command own ≡ false) ⊎ (has_journal_step own ≡ false)
-
-not_both : (steps : List Event) → steps ≡ [] → NotBoth steps
-not_both steps none = inl (ap has_command none)
-
-with_behind : (own steps behind : List Event) → own ≡ steps ++ behind → has_command behind ≡ false → has_journal_step behind ≡ false → NotBoth steps → NotBoth own
-with_behind own steps behind own_is no_command no_step (inl h) = inl (shows is_command own steps behind false false own_is h no_command)
-with_behind own steps behind own_is no_command no_step (inr h) = inr (shows is_of_journal own steps behind false false own_is h no_step)
+nothing_sent : (steps : List Event) → steps ≡ [] → AtMostOne steps
+nothing_sent steps none = inl (ap has_command none)
 
 part_calm : (front steps behind : List Event) → steps ≡ front ++ behind → has_command front ≡ false → has_command behind ≡ false → has_command steps ≡ false
 part_calm front steps behind is p q = shows is_command steps front behind false false is p q
 
-one_calm : (steps : List Event) → IsOneCommand steps → NotBoth steps
-one_calm steps one = inr (ap has_journal_step one.is)
+abbrev OneOrNone : List Event → Type 0
+OneOrNone steps = (has_command steps ≡ false) ⊎ IsOneCommand steps
 
-turn_calm : (s after : LabState) (o : RunningSwap) (steps : List Event) (outcome : Outcome) → TurnSteps s o steps outcome after → NotBoth steps
-turn_calm s after o steps More turn = one_calm steps turn.0
-turn_calm s after o steps (TurnsBack why) turn = one_calm steps turn.0
-turn_calm s after o steps (Stuck trouble) turn = one_calm steps turn.0
-turn_calm s after o steps (Ended leg) turn = let whole = turn.0.1 in inl (ap has_command whole.steps_are ∙ (append_quiet whole.side whole.gate (last o.swap leg) All).0)
-turn_calm s after o steps Unwritten turn = let b = turn.1 in inl (part_calm (added b.side b.gate (last o.swap o.leg) b.run) steps (missed b.side) b.steps_are (append_quiet b.side b.gate (last o.swap o.leg) b.run).0 refl)
-turn_calm s after o steps Halted (inl x) = inr (calm_behind o.course steps (halted_calm (plan_in s o) (o.course ++ steps) x.0))
-turn_calm s after o steps Halted (inr x) = let b = x.1 in inl (part_calm (added b.side b.gate (last o.swap o.leg) b.run) steps (nothing b.side) b.steps_are (append_quiet b.side b.gate (last o.swap o.leg) b.run).0 refl)
+turn_sends : (s after : LabState) (o : RunningSwap) (steps : List Event) (outcome : Outcome) → TurnSteps s o steps outcome after → OneOrNone steps
+turn_sends s after o steps More turn = inr turn.0
+turn_sends s after o steps (TurnsBack why) turn = inr turn.0
+turn_sends s after o steps (Stuck trouble) turn = inr turn.0
+turn_sends s after o steps (Ended leg) turn = let whole = turn.0.1 in inl (ap has_command whole.steps_are ∙ (append_quiet whole.side whole.gate (last o.swap leg) All).0)
+turn_sends s after o steps Unwritten turn = let b = turn.1 in inl (part_calm (added b.side b.gate (last o.swap o.leg) b.run) steps (missed b.side) b.steps_are (append_quiet b.side b.gate (last o.swap o.leg) b.run).0 refl)
+turn_sends s after o steps Halted (inl x) = by x.2
+  where
+    by : IsOneAtMost steps → OneOrNone steps
+    by (inl none) = inl (ap has_command none)
+    by (inr one) = inr one
+turn_sends s after o steps Halted (inr x) = let b = x.1 in inl (part_calm (added b.side b.gate (last o.swap o.leg) b.run) steps (nothing b.side) b.steps_are (append_quiet b.side b.gate (last o.swap o.leg) b.run).0 refl)
+
+with_behind : (own steps behind : List Event) → own ≡ steps ++ behind → has_command behind ≡ false → has_journal_step behind ≡ false → OneOrNone steps → AtMostOne own
+with_behind own steps behind own_is no_command no_step (inl h) = inl (shows is_command own steps behind false false own_is h no_command)
+with_behind own steps behind own_is no_command no_step (inr one) = inr (record {
+  op = one.op;
+  applied = one.applied;
+  answer = one.answer;
+  behind = behind;
+  is = own_is ∙ ap (λ l. l ++ behind) one.is;
+  no_command = no_command;
+  no_step = no_step;
+})
 
 none_calm : (behind : List Event) → behind ≡ [] → (has_command behind ≡ false) × (has_journal_step behind ≡ false)
 none_calm behind none = (ap has_command none, ap has_journal_step none)
@@ -125,23 +115,23 @@ starts_calm (Ended leg) behind none = none_calm behind none
 starts_calm (Stuck trouble) behind none = none_calm behind none
 starts_calm Unwritten behind none = none_calm behind none
 
-answer_calm : (told : Option Reply) (to : List OpenSwap) (outcome : Outcome) (behind : List Event) (after : After) → IsAnswered told to outcome behind after → (has_command behind ≡ false) × (has_journal_step behind ≡ false)
+pub answer_calm : (told : Option Reply) (to : List OpenSwap) (outcome : Outcome) (behind : List Event) (after : After) → IsAnswered told to outcome behind after → (has_command behind ≡ false) × (has_journal_step behind ≡ false)
 answer_calm told to outcome behind after (is_told starts replied session) = starts_calm outcome behind starts
 answer_calm told to outcome behind after (untold (inl none) silent session) = none_calm behind none
 answer_calm told to outcome behind after (untold (inr starts) silent session) = starts_calm outcome behind starts
 
-drills_nothing : (takes : Bool) (s : LabState) (session : Session) (own : List Event) (after : After) → Drills takes s session own after → own ≡ []
-drills_nothing takes s session own after (is_planned yes' none after_is) = none
-drills_nothing takes s session own after (is_refused no' none after_is) = none
-drills_nothing takes s session own after (wants_memory wants) = wants.nothing
+drills_nothing : (terms : Terms) (s : LabState) (session : Session) (own : List Event) (after : After) → Drills terms.takes s session own after → own ≡ []
+drills_nothing terms s session own after (is_planned yes' none after_is) = none
+drills_nothing terms s session own after (is_refused no' none after_is) = none
+drills_nothing terms s session own after (wants_memory wants) = wants.nothing
 
-pub turn_not_both : (drill : Option Drill) (takes : Bool) (set : Setting) (s : LabState) (session : Session) (command : Command) (opening own : List Event) (after : After) (exp : List ℕ) → Was drill (Ok (Turn exp)) takes set s session command opening own after
-    → (has_command own ≡ false) ⊎ (has_journal_step own ≡ false)
-turn_not_both drill takes set s session command opening own after exp (done mid opens begins judged d) =
-    let calm = answer_calm _ _ d.outcome d.behind after d.answered in with_behind own d.steps d.behind d.own_is calm.0 calm.1 (turn_calm mid after.lab d.one.swap.running d.steps d.outcome d.turn)
-turn_not_both drill takes set s session command opening own after exp (wanting mid opens begins wants) = not_both own wants.nothing
-turn_not_both drill takes set s session command opening own after exp (broke none closed breaks) = not_both own breaks.nothing
-turn_not_both drill takes set s session command opening own after exp (drilled some none drills) = not_both own (drills_nothing takes s session own after drills)
+pub turn_at_most_one : (drill : Option Drill) (terms : Terms) (set : Setting) (s : LabState) (session : Session) (command : Command) (opening own : List Event) (after : After) (exp : List ℕ) → Was drill (Ok (Turn exp)) terms set s session command opening own after
+    → (has_command own ≡ false) ⊎ SendsOne own
+turn_at_most_one drill terms set s session command opening own after exp (done mid opens begins judged d) =
+    let calm = answer_calm _ _ d.outcome d.behind after d.answered in with_behind own d.steps d.behind d.own_is calm.0 calm.1 (turn_sends mid after.lab d.one.swap.running d.steps d.outcome d.turn)
+turn_at_most_one drill terms set s session command opening own after exp (wanting mid opens begins wants) = nothing_sent own wants.nothing
+turn_at_most_one drill terms set s session command opening own after exp (broke none closed breaks) = nothing_sent own breaks.nothing
+turn_at_most_one drill terms set s session command opening own after exp (drilled some none drills) = nothing_sent own (drills_nothing terms s session own after drills)
 
 -- WHAT ITS REPLY TELLS OF THE LAB
 module _ (s after : LabState) (exp : List ℕ) (reply : Reply) where
@@ -194,27 +184,27 @@ module _ (s after : LabState) (exp : List ℕ) (reply : Reply) where
       end_tells f.at f.behind outcome (ap (λ (q : SwapOf). q.name) same ∙ named) (ap (λ (q : SwapOf). end_reply q outcome) same ∙ is) f.turn
 
 module _ (own : List Event) (after : After) (reply : Reply) (is : after.reply ≡ Some reply) (s : LabState) (exp : List ℕ) where
-  drill_tells : (takes : Bool) (session : Session) → Drills takes s session own after → TellsEnd s exp reply after.lab
-  drill_tells takes session (is_planned yes' none a) = tells_as s after.lab exp reply replies.Planned (sym (ap (λ (v : After). v.reply) a) ∙ is) tt
-  drill_tells takes session (is_refused no' none a) = tells_as s after.lab exp reply replies.NoDrill (sym (ap (λ (v : After). v.reply) a) ∙ is) tt
-  drill_tells takes session (wants_memory wants) = none_told after.reply reply (ap (λ (v : After). v.reply) wants.after_is) is
+  drill_tells : (terms : Terms) (session : Session) → Drills terms.takes s session own after → TellsEnd s exp reply after.lab
+  drill_tells terms session (is_planned yes' none a) = tells_as s after.lab exp reply replies.Planned (sym (ap (λ (v : After). v.reply) a) ∙ is) tt
+  drill_tells terms session (is_refused no' none a) = tells_as s after.lab exp reply replies.NoDrill (sym (ap (λ (v : After). v.reply) a) ∙ is) tt
+  drill_tells terms session (wants_memory wants) = none_told after.reply reply (ap (λ (v : After). v.reply) wants.after_is) is
 
   answer_tells : (told : Option Reply) (to : List OpenSwap) (outcome : Outcome) (behind : List Event) → IsAnswered told to outcome behind after → told ≡ Some reply
   answer_tells told to outcome behind (is_told starts replied session) = sym replied ∙ is
   answer_tells told to outcome behind (untold starts none session) = none_told after.reply reply none is
 
-  pub turn_tells : (drill : Option Drill) (takes : Bool) (set : Setting) (opens : List OpenSwap) (command : Command) (opening : List Event) → Was drill (Ok (Turn exp)) takes set s (Open opens) command opening own after → TellsEnd s exp reply after.lab
-  turn_tells drill takes set opens command opening (done mid others begins judged d) =
+  pub turn_tells : (drill : Option Drill) (terms : Terms) (set : Setting) (opens : List OpenSwap) (command : Command) (opening : List Event) → Was drill (Ok (Turn exp)) terms set s (Open opens) command opening own after → TellsEnd s exp reply after.lab
+  turn_tells drill terms set opens command opening (done mid others begins judged d) =
       subst (λ (u : LabState). TellsEnd u exp reply after.lab) begins.at
       (turned_tells mid after.lab exp reply d.one.swap.running d.steps d.outcome d.one.name (answer_tells _ _ d.outcome d.behind d.answered) d.turn)
-  turn_tells drill takes set opens command opening (wanting mid others begins wants) = none_told after.reply reply (ap (λ (a : After). a.reply) wants.after_is) is
-  turn_tells drill takes set opens command opening (broke none closed breaks) = no_opening opens closed
-  turn_tells drill takes set opens command opening (drilled some none drills) = drill_tells takes (Open opens) drills
+  turn_tells drill terms set opens command opening (wanting mid others begins wants) = none_told after.reply reply (ap (λ (a : After). a.reply) wants.after_is) is
+  turn_tells drill terms set opens command opening (broke none closed breaks) = no_opening opens closed
+  turn_tells drill terms set opens command opening (drilled some none drills) = drill_tells terms (Open opens) drills
 
-  pub finish_tells : (drill : Option Drill) (takes : Bool) (set : Setting) (opens : List OpenSwap) (command : Command) (opening : List Event) → Was drill (Ok (Finish exp)) takes set s (Open opens) command opening own after → TellsEnd s exp reply after.lab
-  finish_tells drill takes set opens command opening (done mid others begins judged d) =
+  pub finish_tells : (drill : Option Drill) (terms : Terms) (set : Setting) (opens : List OpenSwap) (command : Command) (opening : List Event) → Was drill (Ok (Finish exp)) terms set s (Open opens) command opening own after → TellsEnd s exp reply after.lab
+  finish_tells drill terms set opens command opening (done mid others begins judged d) =
       subst (λ (u : LabState). TellsEnd u exp reply after.lab) begins.at
       (finished_tells mid after.lab exp reply d.one.swap.running d.steps d.outcome d.one.name (answer_tells _ _ d.outcome d.behind d.answered) d.finishes)
-  finish_tells drill takes set opens command opening (wanting mid others begins wants) = none_told after.reply reply (ap (λ (a : After). a.reply) wants.after_is) is
-  finish_tells drill takes set opens command opening (broke none closed breaks) = no_opening opens closed
-  finish_tells drill takes set opens command opening (drilled some none drills) = drill_tells takes (Open opens) drills
+  finish_tells drill terms set opens command opening (wanting mid others begins wants) = none_told after.reply reply (ap (λ (a : After). a.reply) wants.after_is) is
+  finish_tells drill terms set opens command opening (broke none closed breaks) = no_opening opens closed
+  finish_tells drill terms set opens command opening (drilled some none drills) = drill_tells terms (Open opens) drills

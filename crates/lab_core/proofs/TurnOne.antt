@@ -12,6 +12,7 @@ use Rattle.swap_turns.specs.Causes.{IsLater}
 use Rattle.swap_turns.specs.Finishing.{WasCaused}
 use Rattle.swap_turns.specs.Legs.{Leg, Forth, Undo, Settling}
 use Rattle.swap_turns.specs.Running.{OpenSwap as RunningSwap, Working}
+use Rattle.swap_turns.specs.Swaps.{Moves}
 use Rattle.swap_turns.specs.Turning.{Outcome, More, TurnsBack, Ended, Stuck, Unwritten, Stopped, TurnSteps, Leaves, IsOutcomeCaused, open_after}
 use Rattle.swap_mgr.specs.Managing.{Holds, IfGoesOn, IsPlain}
 use Rattle.swap_mgr.specs.Turns.{IsStop}
@@ -47,6 +48,10 @@ module _ (before now : Seen) (old new : Control) (opens : List OpenSwap) (exp : 
 
   abbrev pub one : IsOneOf opens exp
   one = record { front = at.front; swap = at.one; rest = at.rest; are = at.are; name = ap (λ (r : RunningSwap). r.swap.name) at.running ∙ named }
+
+  -- its experiment moves so
+  pub moves : Moves at.one.running.swap old.lab
+  moves = subst (λ (r : RunningSwap). Moves r.swap old.lab) (sym at.running) (works.working.each x (subst (λ (l : List Pair). Has l x) (sym pairs_are) (Has-right a (x ∷ b) x (inl refl)))).moves
 
   pub since : IsSince before.faults.devices at.one
   since = works.since at.one (has_one opens at.front at.one at.rest at.are before.faults.devices)
@@ -92,6 +97,9 @@ module _ (before now : Seen) (old new : Control) (opens : List OpenSwap) (exp : 
   abbrev turn_one : IsOneOf opens exp
   turn_one = one before now old new opens exp works h.turn.before h.turn.behind x h.turn.opens_are h.turn.named
 
+  turn_moves : Moves place.one.running.swap old.lab
+  turn_moves = moves before now old new opens exp works h.turn.before h.turn.behind x h.turn.opens_are h.turn.named
+
   turn_since : IsSince before.faults.devices place.one
   turn_since = since before now old new opens exp works h.turn.before h.turn.behind x h.turn.opens_are h.turn.named
 
@@ -104,7 +112,7 @@ module _ (before now : Seen) (old new : Control) (opens : List OpenSwap) (exp : 
   turn_done : (outcome : Outcome) (lab : LabState) (behind : List Event) (reply : Reply) (session : Session) → TurnIs outcome h.turn.steps lab → StartsBehind outcome behind → turn_reply place.one.running.swap outcome ≡ Some reply → session ≡ end_session (turn_to outcome) outcome
       → IsDone (Is (Ok (Turn exp))) (start_of before old opens) (h.turn.steps ++ behind) (Some reply) lab session
   turn_done outcome lab behind reply session is starts reply_is session_is =
-      does (Ok (Turn exp)) refl (record { one = turn_one; outcome = outcome; steps = h.turn.steps; behind = behind; own_is = refl; turn = is; answered = is_told starts (sym reply_is) session_is })
+      does (Ok (Turn exp)) refl (record { one = turn_one; moves = turn_moves; outcome = outcome; steps = h.turn.steps; behind = behind; own_is = refl; turn = is; answered = is_told starts (sym reply_is) session_is })
 
   steps_as : (outcome : Outcome) (steps : List Event) (lab : LabState) → TurnSteps old.lab h.turn.swap steps outcome lab → TurnIs outcome steps lab
   steps_as outcome steps lab is = subst (λ (o : RunningSwap). TurnSteps old.lab o steps outcome lab) (sym place.running) is

@@ -1,9 +1,10 @@
 -- What is judged of a command: the first refusal in order, or its task.
-use Rattle.std.specs.Prelude.{◌≡◌, ◌+◌, ℕ, Bool, true, nat_le, List, [], length, map, codes, slice_index_or, Option, Some, None, Result, Ok, Err, if◌then◌else◌}
+use Rattle.std.specs.Prelude.{◌≡◌, ◌+◌, ℕ, Bool, true, false, nat_le, List, [], length, map, codes, slice_index_or, Option, Some, None, Result, Ok, Err, if◌then◌else◌}
 use Rattle.std.specs.List.{zip}
 use Rattle.lab_base.specs.declared.fault.TextFault.{TextFault}
 use Rattle.lab_base.specs.declared.ids.VlanId.{VlanId}
 use Rattle.phys_lab.specs.Labs.{Lab}
+use Rattle.phys_lab.specs.declared.free.Free.{Free}
 use Rattle.virt_topo.specs.declared.wiring.Segment.{Segment}
 use Rattle.virt_topo.specs.declared.mapping.Mapping.{Mapping}
 use Rattle.virt_topo.specs.declared.violation.Broken.{Broken}
@@ -18,13 +19,18 @@ use Rattle.journal_rec.specs.declared.record.Record.{Record}
 use Rattle.journal_rec.specs.declared.record.Record.TheVariants.{Lab as LabRecord, Create, Delete}
 use Rattle.journal_rec.specs.declared.record.Way.{Way}
 use Rattle.journal_rec.specs.declared.record.Way.TheVariants.{In as WayIn, Out as WayOut, Change as WayChange}
-use Rattle.lab_model.specs.Beside.{violation_beside}
+use Rattle.lab_model.specs.Beside.{IsLeft, violation_beside}
 use Rattle.records_model.specs.Labs.{LabState, find, others}
 use Rattle.ns_text.specs.Wirings.{WiringOf}
 use Rattle.ptop_text.specs.Adding.{lab_of_text}
 use Rattle.ptop_text.specs.Canonical.{canonical}
 use Rattle.top_text.specs.Adding.{wiring_of_text}
 use Rattle.top_text.specs.Canonical.{canonical_top, virt_name}
+use Rattle.cost_rule.specs.declared.rule.RuleNumber.{RuleNumber}
+use Rattle.map_anneal.specs.Sought.{sought}
+use Rattle.assign_core.specs.Exact.{IsAllowed}
+use Rattle.assign_core.specs.declared.whole.Solved.{Solved}
+use Rattle.assign_core.specs.declared.whole.Solved.TheVariants as solved
 use Rattle.solution_text.specs.CanonicalSolution.{canonical_solution, end_keys, end_name}
 use Rattle.solution_text.specs.Solutions.{mapping_of_text}
 use Rattle.script_text.specs.declared.command.Command.{Command}
@@ -35,7 +41,7 @@ use Rattle.script_text.specs.declared.reply.StatusLine.{StatusLine}
 use Rattle.script_text.specs.declared.reply.TagLine.{TagLine}
 use Rattle.script_text.specs.declared.reply.Placed.{Placed}
 use Rattle.script_text.specs.declared.reply.Reply.{Reply}
-use Rattle.script_text.specs.declared.reply.Reply.TheVariants.{Lab as LabReply, Created, Shown, Deleted, Listed, NoLab, LabIsSet, Exists, Unknown, IsIn, IsOut, IsMoving, Busy, NotOpen, Infeasible, Bad, BadPtop, FullExperiments, FullSwaps}
+use Rattle.script_text.specs.declared.reply.Reply.TheVariants.{Lab as LabReply, Created, Shown, Deleted, Listed, NoLab, LabIsSet, Exists, Unknown, IsIn, IsOut, IsMoving, Busy, NotOpen, Infeasible, NoneFits, GaveUp, Least, Local, Bad, BadPtop, FullExperiments, FullSwaps}
 use Rattle.lab_core.specs.Counts.{nodes_claimed, ids_claimed, nodes_free, ids_free, least_tags}
 
 -- THE REFUSALS: each check gives a value, or the reply that refuses the command
@@ -115,6 +121,19 @@ need_kept lab exp w (Some (rule, subject)) = Err (Infeasible exp rule (subject_n
 
 abbrev pub need_feasible : Lab → List Experiment → Experiment → Wiring → Mapping → Result (Unit {0}) Reply
 need_feasible lab es e w mapping = need_kept lab e.name w (violation_beside lab (others e.name es) e w mapping)
+
+-- THE SEARCH: an answer that is allowed for the seed by the cost rule, on what the other experiments leave free
+pub record IsFound (rule : RuleNumber) (lab : Lab) (es : List Experiment) (e : Experiment) (w : Wiring) (seed : ℕ) (found : Solved) : Type 0 where
+  pub free : Free
+  pub left : IsLeft lab (others e.name es) e free
+  pub allowed : IsAllowed (sought lab free w rule) seed found
+
+-- `none E` and `gave up E` exactly where it found no mapping
+abbrev pub need_mapping : List ℕ → Solved → Result Mapping Reply
+need_mapping exp (solved.Least mapping cost) = Ok mapping
+need_mapping exp (solved.Local mapping cost) = Ok mapping
+need_mapping exp solved.None = Err (NoneFits exp)
+need_mapping exp solved.GaveUp = Err (GaveUp exp)
 
 -- THE TASKS: what a command that nothing refuses does
 
@@ -212,11 +231,14 @@ judged_delete s busy exp = do
   out ← need_out exp e.phase
   Ok (Append (Delete exp) (Deleted exp))
 
--- the segments get the least VLAN ids that no claim has
+-- an experiment goes in there; the segments get the least VLAN ids that no claim has
+abbrev pub task_in : LabState → Lab → Experiment → Mapping → Task
+task_in s lab e mapping = Swap e.name (WayIn (canonical_solution lab e.wiring mapping) (least_tags lab s.experiments (length e.wiring.segments)))
+
 abbrev pub judged_mapping : LabState → Lab → Experiment → Mapping → Result Task Reply
 judged_mapping s lab e mapping = do
   feasible ← need_feasible lab s.experiments e e.wiring mapping
-  Ok (Swap e.name (WayIn (canonical_solution lab e.wiring mapping) (least_tags lab s.experiments (length e.wiring.segments))))
+  Ok (task_in s lab e mapping)
 
 abbrev pub judged_swapin : LabState → Bool → List ℕ → List ℕ → Result Task Reply
 judged_swapin s busy exp text = do
@@ -231,10 +253,14 @@ judged_swapin s busy exp text = do
 abbrev pub behind_lines : ℕ → TextFault → TextFault
 behind_lines lines fault = record { line = lines + fault.line; kind = fault.kind }
 
+-- an experiment changes to that wiring, and goes there
+abbrev pub task_over : LabState → Lab → Experiment → Wiring → Mapping → Task
+task_over s lab e w mapping = Swap e.name (WayChange (canonical_top w) (canonical_solution lab w mapping) (least_tags lab s.experiments (length w.segments)))
+
 abbrev pub judged_change : LabState → Lab → Experiment → Wiring → Mapping → Result Task Reply
 judged_change s lab e w mapping = do
   feasible ← need_feasible lab s.experiments e w mapping
-  Ok (Swap e.name (WayChange (canonical_top w) (canonical_solution lab w mapping) (least_tags lab s.experiments (length w.segments))))
+  Ok (task_over s lab e w mapping)
 
 abbrev pub judged_modify : LabState → Bool → List ℕ → ℕ → List ℕ → List ℕ → Result Task Reply
 judged_modify s busy exp lines top map = do
@@ -293,26 +319,106 @@ judged_recover s = do
 abbrev pub Is : Result Task Reply → Result Task Reply → Type 0
 Is judgement other = other ≡ judgement
 
--- `create`: the NS text is asked for its wiring only where nothing refuses before
-pub data JudgedNetwork (s : LabState) (exp text : List ℕ) (judgement : Result Task Reply) : Type 0 where
-  refused : (reply : Reply) → need_place s exp ≡ Err reply → judgement ≡ Err reply → JudgedNetwork s exp text judgement
-  asked : (meaning : Result Wiring TextFault) → need_place s exp ≡ Ok tt → WiringOf text meaning → judgement ≡ (need_meaning (Bad exp) meaning >>= judged_wiring s exp)
-      → JudgedNetwork s exp text judgement
+-- WHERE SEVERAL ANSWERS ARE ALLOWED, a judgement is one of these
 
--- WHAT IS JUDGED of a command, whatever the journal's length, by whether its experiment has an open swap and how many are open. No drill comes.
-abbrev pub Judged : LabState → Bool → ℕ → Command → Result Task Reply → Type 0
-Judged s busy count (commands.Ptop lines text) = Is (judged_ptop s text)
-Judged s busy count (commands.Create exp lines text) = JudgedNetwork s exp text
-Judged s busy count (commands.CreateTop exp lines text) = Is (judged_create s exp text)
-Judged s busy count (commands.Show exp) = Is (judged_show s exp)
-Judged s busy count (commands.SwapinWith only exp lines text) = Is (in_slot count only (judged_swapin s busy exp text))
-Judged s busy count (commands.ModifyWith only exp lines top others map) = Is (in_slot count only (judged_modify s busy exp lines top map))
-Judged s busy count (commands.Swapout only exp) = Is (in_slot count only (judged_swapout s busy exp))
-Judged s busy count (commands.Turn exp) = Is (judged_turn s busy exp)
-Judged s busy count (commands.Finish exp) = Is (judged_finish s busy exp)
-Judged s busy count commands.Recover = Is (judged_recover s)
-Judged s busy count (commands.Fail device nth how) = λ judgement. ⊥
-Judged s busy count (commands.FailDisk nth) = λ judgement. ⊥
-Judged s busy count (commands.Stop nth pick) = λ judgement. ⊥
-Judged s busy count (commands.Delete exp) = Is (judged_delete s busy exp)
-Judged s busy count commands.Status = Is (judged_status s)
+-- a check refuses; or it gives a value, of which this is judged
+pub data OrRefused {A : Type 0} (needed : Result A Reply) (Judges : A → Result Task Reply → Type 0) (judgement : Result Task Reply) : Type 0 where
+  refused : (reply : Reply) → needed ≡ Err reply → judgement ≡ Err reply → OrRefused needed Judges judgement
+  asked : (x : A) → needed ≡ Ok x → Judges x judgement → OrRefused needed Judges judgement
+
+-- an NS text has no wiring, or this is judged of its wiring
+pub record JudgedText (exp text : List ℕ) (Judges : Wiring → Result Task Reply → Type 0) (judgement : Result Task Reply) : Type 0 where
+  pub meaning : Result Wiring TextFault
+  pub is : WiringOf text meaning
+  pub judged : OrRefused (need_meaning (Bad exp) meaning) Judges judgement
+
+-- this is judged of what a search finds
+pub record JudgedFound (rule : RuleNumber) (s : LabState) (lab : Lab) (e : Experiment) (w : Wiring) (seed : ℕ) (judged : Solved → Result Task Reply) (judgement : Result Task Reply) : Type 0 where
+  pub found : Solved
+  pub is_found : IsFound rule lab s.experiments e w seed found
+  pub is : judgement ≡ judged found
+
+-- and a swap of it needs room among the open swaps
+pub record InSlot (count : ℕ) (only : Bool) (Judges : Result Task Reply → Type 0) (judgement : Result Task Reply) : Type 0 where
+  pub before : Result Task Reply
+  pub judged : Judges before
+  pub is : judgement ≡ in_slot count only before
+
+-- an experiment of the lab that has no open swap, and is out; and one that is in
+abbrev pub need_idle_out : LabState → Bool → List ℕ → Result (Lab × Experiment) Reply
+need_idle_out s busy exp = do
+  lab ← need_lab s.lab
+  e ← need_found exp (find exp s.experiments)
+  idle ← need_idle exp busy
+  out ← need_out exp e.phase
+  Ok (lab, e)
+
+abbrev pub need_idle_in : LabState → Bool → List ℕ → Result (Lab × Experiment) Reply
+need_idle_in s busy exp = do
+  lab ← need_lab s.lab
+  e ← need_found exp (find exp s.experiments)
+  idle ← need_idle exp busy
+  inside ← need_in exp e.phase
+  Ok (lab, e)
+
+-- `create`: the NS text is asked for its wiring only where nothing refuses before
+abbrev pub JudgedNetwork : LabState → List ℕ → List ℕ → Result Task Reply → Type 0
+JudgedNetwork s exp text = OrRefused (need_place s exp) (λ place. JudgedText exp text (λ w. Is (judged_wiring s exp w)))
+
+-- `solve`: the mapping that was found and its cost are told
+abbrev pub judged_solved : Lab → Experiment → Solved → Result Task Reply
+judged_solved lab e (solved.Least mapping cost) = Ok (Tell (Least e.name cost (canonical_solution lab e.wiring mapping)))
+judged_solved lab e (solved.Local mapping cost) = Ok (Tell (Local e.name cost (canonical_solution lab e.wiring mapping)))
+judged_solved lab e solved.None = Err (NoneFits e.name)
+judged_solved lab e solved.GaveUp = Err (GaveUp e.name)
+
+abbrev pub JudgedSolve : RuleNumber → LabState → Bool → List ℕ → ℕ → Result Task Reply → Type 0
+JudgedSolve rule s busy exp seed = OrRefused (need_idle_out s busy exp) (λ p. JudgedFound rule s p.0 p.1 p.1.wiring seed (judged_solved p.0 p.1))
+
+-- `swapin`: it goes in where a mapping was found
+abbrev pub judged_entry : LabState → Lab → Experiment → Solved → Result Task Reply
+judged_entry s lab e found = do
+  mapping ← need_mapping e.name found
+  Ok (task_in s lab e mapping)
+
+abbrev pub JudgedSwapin : RuleNumber → LabState → Bool → List ℕ → ℕ → Result Task Reply → Type 0
+JudgedSwapin rule s busy exp seed = OrRefused (need_idle_out s busy exp) (λ p. JudgedFound rule s p.0 p.1 p.1.wiring seed (judged_entry s p.0 p.1))
+
+-- `modify`: it changes to the wiring of an NS text where a mapping was found
+abbrev pub judged_move : LabState → Lab → Experiment → Wiring → Solved → Result Task Reply
+judged_move s lab e w found = do
+  mapping ← need_mapping e.name found
+  Ok (task_over s lab e w mapping)
+
+abbrev pub JudgedModify : RuleNumber → LabState → Bool → List ℕ → ℕ → List ℕ → Result Task Reply → Type 0
+JudgedModify rule s busy exp seed text =
+    OrRefused (need_idle_in s busy exp) (λ p. JudgedText exp text (λ w. JudgedFound rule s p.0 p.1 w seed (judged_move s p.0 p.1 w)))
+
+-- a command for which a search is made
+abbrev pub is_searched : Command → Bool
+is_searched (commands.Solve exp seed) = true
+is_searched (commands.Swapin only exp seed) = true
+is_searched (commands.Modify only exp seed lines text) = true
+is_searched command = false
+
+-- WHAT IS JUDGED of a command by that cost rule, whatever the journal's length, by whether its experiment has an open swap and how many are open. No
+-- drill comes.
+abbrev pub Judged : RuleNumber → LabState → Bool → ℕ → Command → Result Task Reply → Type 0
+Judged rule s busy count (commands.Ptop lines text) = Is (judged_ptop s text)
+Judged rule s busy count (commands.Create exp lines text) = JudgedNetwork s exp text
+Judged rule s busy count (commands.CreateTop exp lines text) = Is (judged_create s exp text)
+Judged rule s busy count (commands.Show exp) = Is (judged_show s exp)
+Judged rule s busy count (commands.Solve exp seed) = JudgedSolve rule s busy exp seed
+Judged rule s busy count (commands.Swapin only exp seed) = InSlot count only (JudgedSwapin rule s busy exp seed)
+Judged rule s busy count (commands.SwapinWith only exp lines text) = Is (in_slot count only (judged_swapin s busy exp text))
+Judged rule s busy count (commands.Modify only exp seed lines text) = InSlot count only (JudgedModify rule s busy exp seed text)
+Judged rule s busy count (commands.ModifyWith only exp lines top others map) = Is (in_slot count only (judged_modify s busy exp lines top map))
+Judged rule s busy count (commands.Swapout only exp) = Is (in_slot count only (judged_swapout s busy exp))
+Judged rule s busy count (commands.Turn exp) = Is (judged_turn s busy exp)
+Judged rule s busy count (commands.Finish exp) = Is (judged_finish s busy exp)
+Judged rule s busy count commands.Recover = Is (judged_recover s)
+Judged rule s busy count (commands.Fail device nth how) = λ judgement. ⊥
+Judged rule s busy count (commands.FailDisk nth) = λ judgement. ⊥
+Judged rule s busy count (commands.Stop nth pick) = λ judgement. ⊥
+Judged rule s busy count (commands.Delete exp) = Is (judged_delete s busy exp)
+Judged rule s busy count commands.Status = Is (judged_status s)

@@ -13,6 +13,7 @@ use Rattle.journal_rec.specs.declared.record.Way.{Way}
 use Rattle.journal_rec.specs.declared.record.Way.TheVariants.{Change as WayChange}
 use Rattle.lab_model.specs.Beside.{violation_beside, are_free_tags}
 use Rattle.lab_model.specs.Courses.{Plan, commands, undo}
+use Rattle.lab_model.specs.Shapes.{IsShaped}
 use Rattle.records_model.specs.Labs.{LabState, Sane, find, others}
 use Rattle.solution_text.specs.CanonicalSolution.{canonical_solution}
 use Rattle.swap_turns.specs.Swaps.{Swap as SwapOf}
@@ -37,6 +38,11 @@ pub record IsOutIn (s : LabState) (lab : Lab) (e : Experiment) : Type 0 where
 pub record IsInIn (s : LabState) (lab : Lab) (e : Experiment) (mapping : Mapping) (tags : List VlanId) : Type 0 where
   pub there : IsThere s lab e
   pub inside : e.phase ≡ In mapping tags
+
+-- the mapping of that wiring is shaped, and keeps all rules beside the other experiments
+pub record Keeps (s : LabState) (lab : Lab) (e : Experiment) (w : Wiring) (mapping : Mapping) : Type 0 where
+  pub shaped : IsShaped lab w mapping
+  pub keeps : violation_beside lab (others e.name s.experiments) e w mapping ≡ None
 
 -- the mapping of that wiring keeps all rules beside the other experiments, and the VLAN ids are the least of the free ones
 pub record CanTake (s : LabState) (lab : Lab) (e : Experiment) (w : Wiring) (mapping : Mapping) (tags : List VlanId) : Type 0 where

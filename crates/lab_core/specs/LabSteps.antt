@@ -28,7 +28,8 @@ use Rattle.swap_turns.specs.Records.{IsWhole, IsBroken}
 use Rattle.swap_turns.specs.Records as records
 use Rattle.swap_turns.specs.Turning.{Outcome, More, TurnsBack, Ended, Stuck, Unwritten, Stopped as Halted, TurnSteps, open_after}
 use Rattle.swap_turns.specs.Whole.{SwapSteps}
-use Rattle.lab_core.specs.Sessions.{OpenSwap, Session, Closed, Open, Setting, After, is_among, name_in, name_of, names_of}
+use Rattle.cost_rule.specs.declared.rule.RuleNumber.{RuleNumber}
+use Rattle.lab_core.specs.Sessions.{OpenSwap, Session, Closed, Open, Terms, Setting, After, is_among, name_in, name_of, names_of}
 use Rattle.lab_core.specs.Breaks.{Breaks, StartsBehind}
 use Rattle.lab_core.specs.Judge.{Task, Tell, Append, Swap, BeginOnly, Turn, Finish, Recover, Judged}
 use Rattle.lab_core.specs.Recovery.{Opens, BreaksOpening, Recovers}
@@ -156,10 +157,11 @@ pub record IsOneOf (opens : List OpenSwap) (exp : List ℕ) : Type 0 where
 abbrev pub turned_on : OpenSwap → List Event → Outcome → List OpenSwap
 turned_on o steps outcome = listed (option_map (λ running. record o { running = running }) (open_after o.running steps outcome))
 
--- A TURN of one of the open swaps: one device command and no byte of the journal, or its last record and no device command. It stands in its place
--- while it is open, and each other is as it was.
+-- A TURN of one of the open swaps, whose experiment moves so: one device command and no byte of the journal, or its last record and no device
+-- command. It stands in its place while it is open, and each other is as it was.
 pub record Turns (s : LabState) (opens : List OpenSwap) (exp : List ℕ) (own : List Event) (after : After) : Type 0 where
   pub one : IsOneOf opens exp
+  pub moves : Moves one.swap.running.swap s
   pub outcome : Outcome
   pub steps : List Event
   pub behind : List Event
@@ -170,6 +172,7 @@ pub record Turns (s : LabState) (opens : List OpenSwap) (exp : List ℕ) (own : 
 -- ONE OF THEM IS TURNED TO ITS END, with no other between
 pub record EndsSwap (s : LabState) (opens : List OpenSwap) (exp : List ℕ) (own : List Event) (after : After) : Type 0 where
   pub one : IsOneOf opens exp
+  pub moves : Moves one.swap.running.swap s
   pub outcome : Outcome
   pub steps : List Event
   pub behind : List Event
@@ -218,22 +221,22 @@ pub data Drills (takes : Bool) (s : LabState) (session : Session) (own : List Ev
   wants_memory : WantsMemory s own after → Drills takes s session own after
 
 -- a drill needs no open controller; every other command opens it where it is closed, and finds no open swap then
-abbrev pub StepOf : Option Drill → (List OpenSwap → LabState → Result Task Reply → Type 0) → Bool → Setting → LabState → Session → List Event → List Event → After → Type 0
-StepOf (Some drill) Judges takes set s session opening own after = (opening ≡ []) × Drills takes s session own after
-StepOf None Judges takes set s Closed opening own after = FromClosed (Judges []) set s opening own after
-StepOf None Judges takes set s (Open opens) opening own after = (opening ≡ []) × IsDoneBy (Judges opens s) set s opens own after
+abbrev pub StepOf : Option Drill → (List OpenSwap → LabState → Result Task Reply → Type 0) → Terms → Setting → LabState → Session → List Event → List Event → After → Type 0
+StepOf (Some drill) Judges terms set s session opening own after = (opening ≡ []) × Drills terms.takes s session own after
+StepOf None Judges terms set s Closed opening own after = FromClosed (Judges []) set s opening own after
+StepOf None Judges terms set s (Open opens) opening own after = (opening ≡ []) × IsDoneBy (Judges opens s) set s opens own after
 
--- what is judged of a command beside these open swaps
-abbrev pub JudgedBeside : Command → List OpenSwap → LabState → Result Task Reply → Type 0
-JudgedBeside command opens s = Judged s (is_among (names_of opens) (name_of command)) (length opens) command
+-- what is judged of a command by that cost rule, beside these open swaps
+abbrev pub JudgedBeside : RuleNumber → Command → List OpenSwap → LabState → Result Task Reply → Type 0
+JudgedBeside rule command opens s = Judged rule s (is_among (names_of opens) (name_of command)) (length opens) command
 
--- THE LAB STEP, over a plant that takes drills or not
-abbrev pub LabStep : Bool → Setting → LabState → Session → Command → List Event → List Event → After → Type 0
-LabStep takes set s session command opening own after = StepOf (drill_of command) (JudgedBeside command) takes set s session opening own after
+-- THE LAB STEP, over a plant that takes drills or not, and with a cost rule
+abbrev pub LabStep : Terms → Setting → LabState → Session → Command → List Event → List Event → After → Type 0
+LabStep terms set s session command opening own after = StepOf (drill_of command) (JudgedBeside terms.rule command) terms set s session opening own after
 
 -- the lab step by one judgement of the command
-abbrev pub IsThis : Result Task Reply → Command → List OpenSwap → LabState → Result Task Reply → Type 0
-IsThis judgement command opens s other = (other ≡ judgement) × JudgedBeside command opens s other
+abbrev pub IsThis : Result Task Reply → RuleNumber → Command → List OpenSwap → LabState → Result Task Reply → Type 0
+IsThis judgement rule command opens s other = (other ≡ judgement) × JudgedBeside rule command opens s other
 
-abbrev pub LabStepBy : Result Task Reply → Bool → Setting → LabState → Session → Command → List Event → List Event → After → Type 0
-LabStepBy judgement takes set s session command opening own after = StepOf (drill_of command) (IsThis judgement command) takes set s session opening own after
+abbrev pub LabStepBy : Result Task Reply → Terms → Setting → LabState → Session → Command → List Event → List Event → After → Type 0
+LabStepBy judgement terms set s session command opening own after = StepOf (drill_of command) (IsThis judgement terms.rule command) terms set s session opening own after

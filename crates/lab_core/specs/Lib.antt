@@ -1,4 +1,5 @@
 pub mod Breaks
+pub mod Compaction
 pub mod Controller
 pub mod Counts
 pub mod Judge

@@ -5,7 +5,8 @@ use Rattle.plant.specs.Events.{Event}
 use Rattle.plant.specs.declared.step.Side.{Side}
 use Rattle.plant.specs.declared.step.Side.TheVariants.{A, B}
 use Rattle.journal_rec.specs.declared.record.Record.{Record}
-use Rattle.journal_model.specs.Journals.{Records, Bad, On, live, head, gate_after, journal_length}
+use Rattle.journal_rec.specs.Payloads.{number}
+use Rattle.journal_model.specs.Journals.{Records, Bad, On, Headed, live, head, gate_after, journal_length}
 use Rattle.records_model.specs.Labs.{LabState, LabOf, StopsAt, at_first}
 use Rattle.journal_runs.specs.Working as runs
 use Rattle.lab_model.specs.Sound.{is_moving}
@@ -34,6 +35,13 @@ pub record IsLengthAt (trace : List Event) (n : ℕ) : Type 0 where
   pub records : List Record
   pub read : Records (disk A trace).reads (disk B trace).reads records
   pub is : n ≡ journal_length (disk A trace).reads (disk B trace).reads records
+
+-- the live side, as the sides read, and the epoch in its header
+pub record IsLiveAt (trace : List Event) (side : Side) (epoch : ℕ) : Type 0 where
+  pub live_is : live (head (disk A trace).reads) (head (disk B trace).reads) ≡ On side
+  pub bytes : List ℕ
+  pub headed : head (disk side trace).reads ≡ Headed bytes
+  pub is : epoch ≡ number bytes
 
 -- THE THREE STATES THAT ARE NO JOURNAL, with the side and the position that tell them
 pub data IsNoJournal (a b : List ℕ) (limit : ℕ) (side : Side) (at : ℕ) : Type 0 where

@@ -24,9 +24,10 @@ use Rattle.recovery.specs.Settle.{SettledAll, SettledSome}
 use Rattle.recovery.specs.declared.all.Settled.{Settled}
 use Rattle.swap_turns.specs.Settling.{Settles, BreaksOff, HasBrokenOff}
 use Rattle.swap_turns.specs.Turning.{Outcome, Unwritten, Stopped as Halted}
+use Rattle.lab_core.specs.Compaction.{IsCompacted, IsPlaced, IsToMove}
 use Rattle.lab_core.specs.Controller.{Control}
-use Rattle.lab_core.specs.Moments.{IsLabAt, IsNoJournal, StandForLab}
-use Rattle.lab_core.specs.Recovery.{SettlesSome}
+use Rattle.lab_core.specs.Moments.{AllStandFor, IsLabAt, IsLiveAt, IsNoJournal, StandForLab}
+use Rattle.lab_core.specs.Recovery.{SettlesSome, Shifts}
 
 -- WHAT THE PART THAT READS ADDED, whatever came of it
 pub record ReadSteps (trace steps : List Event) : Type 0 where
@@ -49,12 +50,13 @@ pub record IsJournal (a b : List ℕ) (limit : ℕ) : Type 0 where
   pub lab_of : LabOf the_texts records lab
   pub room : gate_after records + 1 + 39 * count_by is_moving lab.experiments ≤ limit
 
--- THE SIDES WERE READ: no call failed, both are synced, they are a journal, and the lab is that of the moment
+-- THE SIDES WERE READ: no call failed, both are synced, they are a journal, the lab is that of the moment, and a side that was live is so
 pub record HasRead (trace reading : List Event) (limit : ℕ) (start : LabState) : Type 0 where
   pub no_miss : has_miss reading ≡ false
   pub synced : are_synced reading ≡ true
   pub journal : IsJournal (disk A trace).reads (disk B trace).reads limit
   pub lab : IsLabAt (trace ++ reading) start
+  pub kept : (side : Side) (epoch : ℕ) → IsLiveAt trace side epoch → IsLiveAt (trace ++ reading) side epoch
 
 -- THE SIDES ARE NO JOURNAL. They are synced, and nothing else is done, so neither reads other than before.
 pub record HasFoundNone (trace steps : List Event) (limit : ℕ) (side : Side) (at : ℕ) : Type 0 where
@@ -72,12 +74,39 @@ ReadEnds trace reading limit (Err fault) = Unit {0}
 abbrev pub ReadTold : Option Told → Option Told → ℕ → Result Control OpenFault → Type 0
 ReadTold before now limit result = (reading : List Event) × (now ≡ with_steps before reading) × IfSome before (λ t. ReadSteps t.trace reading × ReadEnds t.trace reading limit result)
 
--- AFTER Ok: all experiments that moved in the lab that was read are settled
-pub record HasOpened (trace reading moving : List Event) (limit : ℕ) (c : Control) : Type 0 where
+-- ALL WERE SETTLED that moved in the lab that was read, and that led to this lab, with the journal in this place
+pub record HasSettledAll (trace reading moving : List Event) (limit length : ℕ) (side : Side) (epoch : ℕ) (lab : LabState) : Type 0 where
   pub start : LabState
   pub read : HasRead trace reading limit start
   pub outcomes : List Outcome
-  pub settles : Settles start (swaps_of [] start.experiments) outcomes moving c.lab
+  pub settles : Settles start (swaps_of [] start.experiments) outcomes moving lab
+  pub placed : IsPlaced trace (trace ++ (reading ++ moving)) length side epoch
+
+-- AFTER Ok: all are settled, and then the journal was moved exactly where it is to move
+pub record HasOpened (trace reading behind : List Event) (limit : ℕ) (c : Control) : Type 0 where
+  pub moving : List Event
+  pub shifting : List Event
+  pub parts : behind ≡ moving ++ shifting
+  pub length : ℕ
+  pub side : Side
+  pub epoch : ℕ
+  pub settled : HasSettledAll trace reading moving limit length side epoch c.lab
+  pub compacts : IsCompacted (trace ++ (reading ++ moving)) shifting length side epoch c.lab
+  pub shifts : Shifts shifting
+
+-- THE MOVE OF THE JOURNAL BROKE OFF, where it is to move: over a sound trace each possible image stands for the lab that all settlings led to
+pub record ShiftsInPart (trace reading behind : List Event) (limit : ℕ) : Type 0 where
+  pub moving : List Event
+  pub shifting : List Event
+  pub parts : behind ≡ moving ++ shifting
+  pub length : ℕ
+  pub side : Side
+  pub epoch : ℕ
+  pub lab : LabState
+  pub settled : HasSettledAll trace reading moving limit length side epoch lab
+  pub to_move : IsToMove length epoch lab
+  pub shifts : Shifts shifting
+  pub images : IsSound the_texts trace → AllStandFor (trace ++ (reading ++ behind)) lab
 
 -- THE SETTLING BROKE OFF in one, by a call of the journal that failed or by a stop; and over a sound trace each possible image stands for a lab to which
 -- these steps led
@@ -104,19 +133,26 @@ InSettling trace reading moving limit faults.Stopped = SettlesInPart trace readi
 InSettling trace reading moving limit faults.Memory = SettlesToMemory trace reading moving limit
 InSettling trace reading moving limit (faults.Bad side at) = ⊥
 
-abbrev pub OpenEnds : List Event → List Event → List Event → ℕ → Result Control OpenFault → Type 0
-OpenEnds trace reading moving limit (Ok c) = HasOpened trace reading moving limit c
-OpenEnds trace reading moving limit (Err fault) = ((moving ≡ []) × ReadEnds trace reading limit (Err fault)) ⊎ InSettling trace reading moving limit fault
+-- or a call failed in the move of the journal behind it, or the plant stopped in that
+abbrev pub InShifting : List Event → List Event → List Event → ℕ → OpenFault → Type 0
+InShifting trace reading behind limit faults.Plant = (has_miss behind ≡ true) × ShiftsInPart trace reading behind limit
+InShifting trace reading behind limit faults.Stopped = ShiftsInPart trace reading behind limit
+InShifting trace reading behind limit fault = ⊥
 
--- WHAT AN OPENING ADDED: a part that reads, and the settling of all experiments that move; it starts no plant, and a sound trace stays sound
-pub record OpenSteps (trace reading moving : List Event) (limit : ℕ) (result : Result Control OpenFault) : Type 0 where
+abbrev pub OpenEnds : List Event → List Event → List Event → ℕ → Result Control OpenFault → Type 0
+OpenEnds trace reading behind limit (Ok c) = HasOpened trace reading behind limit c
+OpenEnds trace reading behind limit (Err fault) = ((behind ≡ []) × ReadEnds trace reading limit (Err fault)) ⊎ (InSettling trace reading behind limit fault ⊎ InShifting trace reading behind limit fault)
+
+-- WHAT AN OPENING ADDED: a part that reads, and behind it the settling of all experiments that move and the journal's move; it starts no plant, and a
+-- sound trace stays sound
+pub record OpenSteps (trace reading behind : List Event) (limit : ℕ) (result : Result Control OpenFault) : Type 0 where
   pub reads : ReadSteps trace reading
-  pub no_restart : has_restart moving ≡ false
-  pub ends : OpenEnds trace reading moving limit result
-  pub sound : IsSound the_texts trace → IsSound the_texts (trace ++ (reading ++ moving))
+  pub no_restart : has_restart behind ≡ false
+  pub ends : OpenEnds trace reading behind limit result
+  pub sound : IsSound the_texts trace → IsSound the_texts (trace ++ (reading ++ behind))
 
 abbrev pub OpenTold : Option Told → Option Told → ℕ → Result Control OpenFault → Type 0
-OpenTold before now limit result = (reading : List Event) × (moving : List Event) × (now ≡ with_steps before (reading ++ moving)) × IfSome before (λ t. OpenSteps t.trace reading moving limit result)
+OpenTold before now limit result = (reading : List Event) × (behind : List Event) × (now ≡ with_steps before (reading ++ behind)) × IfSome before (λ t. OpenSteps t.trace reading behind limit result)
 
 -- AFTER THE SETTLING of a controller that has read: all are settled; or it broke off, or memory was wanting in it
 abbrev pub AfterOpening : Control → Seen → Seen → Result Control OpenFault → Type 0

@@ -20,28 +20,36 @@ pub data SettlesSome (s : LabState) (busy : List (List ℕ)) (steps : List Event
   within : (outcome : Outcome) (front behind : List Event) → steps ≡ front ++ behind → BreaksOff s (swaps_of busy s.experiments) front outcome after
       → (behind ≡ []) ⊎ StartsBehind outcome behind → SettlesSome s busy steps after
 
--- THE OPENING of a closed controller: a part that reads, and then the settling of all experiments that move
+-- THE OPENING of a closed controller: a part that reads, then the settling of all experiments that move, and then perhaps the journal's move onto its
+-- other side
 
--- a part that reads sends no device command
+-- a part that reads sends no device command, nor does one that moves the journal
 abbrev pub Reads : List Event → Type 0
 Reads reading = has_command reading ≡ false
+
+abbrev pub Shifts : List Event → Type 0
+Shifts shifting = has_command shifting ≡ false
 
 -- it opened, and led to that lab: no call of the disk failed, and the plant did not stop
 pub record Opens (s : LabState) (opening : List Event) (mid : LabState) : Type 0 where
   pub reading : List Event
   pub moving : List Event
-  pub is : opening ≡ reading ++ moving
+  pub shifting : List Event
+  pub is : opening ≡ reading ++ (moving ++ shifting)
   pub reads : Reads reading
   pub outcomes : List Outcome
   pub settles : Settles s (swaps_of [] s.experiments) outcomes moving mid
+  pub shifts : Shifts shifting
   pub no_miss : has_miss opening ≡ false
   pub no_restart : has_restart opening ≡ false
 
--- how far it came that broke off: it read, or it had read, and settled some
+-- how far it came that broke off: it read; or it had read, and settled some; or it had settled all, and moved the journal
 pub data OpensInPart (s : LabState) (opening : List Event) (after : LabState) : Type 0 where
   reading : Reads opening → after ≡ s → OpensInPart s opening after
   settling : (front moving : List Event) → opening ≡ front ++ moving → Reads front → has_miss front ≡ false → has_restart front ≡ false
       → SettlesSome s [] moving after → OpensInPart s opening after
+  shifting : (front moving behind : List Event) → opening ≡ front ++ (moving ++ behind) → Reads front → has_miss front ≡ false → has_restart front ≡ false
+      → (outcomes : List Outcome) → Settles s (swaps_of [] s.experiments) outcomes moving after → Shifts behind → OpensInPart s opening after
 
 -- it broke off, in that lab: nothing of the command's own is done
 pub record BreaksOpening (s : LabState) (opening own : List Event) (after : After) : Type 0 where

@@ -9,6 +9,7 @@ use Rattle.recovery.specs.Due.{is_busy}
 use Rattle.script_text.specs.declared.command.Command.{Command}
 use Rattle.script_text.specs.declared.command.Command.TheVariants as commands
 use Rattle.script_text.specs.declared.reply.Reply.{Reply}
+use Rattle.cost_rule.specs.declared.rule.RuleNumber.{RuleNumber}
 use Rattle.swap_turns.specs.Legs.{Leg, Undo}
 use Rattle.swap_turns.specs.Running.{OpenSwap as RunningSwap}
 
@@ -43,7 +44,10 @@ name_of (commands.Ptop lines text) = None
 name_of (commands.Create exp lines text) = Some exp
 name_of (commands.CreateTop exp lines text) = Some exp
 name_of (commands.Show exp) = Some exp
+name_of (commands.Solve exp seed) = Some exp
+name_of (commands.Swapin only exp seed) = Some exp
 name_of (commands.SwapinWith only exp lines text) = Some exp
+name_of (commands.Modify only exp seed lines text) = Some exp
 name_of (commands.ModifyWith only exp lines top others map) = Some exp
 name_of (commands.Swapout only exp) = Some exp
 name_of (commands.Turn exp) = Some exp
@@ -91,6 +95,14 @@ abbrev pub HandsOn : Session → Session → Type 0
 HandsOn Closed Closed = Unit {0}
 HandsOn (Open old) (Open new) = AreSame old new
 HandsOn old new = ⊥
+
+-- WHAT HOLDS OVER A WHOLE RUN: whether the plant takes drills, and the cost rule of the searches
+pub record Terms : Type 0 where
+  pub takes : Bool
+  pub rule : RuleNumber
+
+abbrev pub terms_of : Bool → RuleNumber → Terms
+terms_of takes rule = record { takes = takes; rule = rule }
 
 -- what the limit of the journal is judged by, its length before the command's own steps and its limit; and the count of device faults at which a swap
 -- of the command is opened

@@ -1,5 +1,5 @@
 -- What the reply to a swap tells of the lab, what a turn does, and whom a command settles.
-use Rattle.std.specs.Prelude.{◌≡◌, ℕ, Bool, true, false, not, is_none, List, [], ◌∷◌, ◌++◌, Option, Some, None, Result, Ok}
+use Rattle.std.specs.Prelude.{◌≡◌, ℕ, Bool, true, false, not, is_none, List, [], ◌∷◌, ◌++◌, ◌⊎◌, Option, Some, None, Result, Ok}
 use Rattle.std.specs.List.{list_any}
 use Rattle.phys_lab.specs.Labs.{Lab}
 use Rattle.virt_topo.specs.declared.experiment.Experiment.{Experiment}
@@ -9,7 +9,11 @@ use Rattle.lab_model.specs.Beside.{violation_beside}
 use Rattle.lab_model.specs.Sound.{is_moving}
 use Rattle.journal_model.specs.Appends.{All, added}
 use Rattle.journal_rec.specs.declared.record.Record.{Record}
-use Rattle.plant.specs.Events.{Event, Wrote, Synced, Cut, Missed}
+use Rattle.journal_runs.specs.Pieces.{has_command}
+use Rattle.plant.specs.Events.{Event, Wrote, Synced, Cut, Missed, Did}
+use Rattle.plant.specs.declared.device.Answer.{Answer}
+use Rattle.plant.specs.declared.device.DeviceOp.{DeviceOp}
+use Rattle.plant.specs.declared.device.Fault.{Fault}
 use Rattle.plant.specs.declared.step.Side.{Side}
 use Rattle.records_model.specs.Labs.{LabState, Move, Commits, Aborts, find, moved, others}
 use Rattle.recovery.specs.Due.{is_busy}
@@ -23,6 +27,8 @@ use Rattle.script_text.specs.declared.reply.FailedEnd.TheVariants as ends
 use Rattle.script_text.specs.declared.reply.Reply.{Reply}
 use Rattle.script_text.specs.declared.reply.Reply.TheVariants.{In, Out as IsOutside, More, Trouble, Failed, Busy, FullSwaps, FullJournal, Down, Stopped, Planned, NoDrill}
 use Rattle.lab_base.specs.declared.what.What.TheVariants as whats
+use Rattle.assign_core.specs.declared.whole.Solved.{Solved}
+use Rattle.assign_core.specs.declared.whole.Solved.TheVariants as solved
 use Rattle.lab_core.specs.Judge.{Task, Swap, BeginOnly, Turn, Finish, Recover}
 use Rattle.lab_core.specs.LabSteps.{begun_at}
 use Rattle.lab_core.specs.Recovery.{Opens}
@@ -101,6 +107,10 @@ pub data IsTurn (own : List Event) : Type 0 where
   sends : IsOneCommand own → IsTurn own
   appends : (side : Side) (gate : ℕ) (entry : Record) → own ≡ added side gate entry All → IsTurn own
 
+-- the command turns the open swap of that experiment, once or to its end
+abbrev pub IsTurnOf : List ℕ → Command → Type 0
+IsTurnOf exp command = (command ≡ commands.Turn exp) ⊎ (command ≡ commands.Finish exp)
+
 -- a step of the journal
 abbrev pub is_of_journal : Event → Bool
 is_of_journal (Wrote side at bytes) = true
@@ -111,6 +121,16 @@ is_of_journal event = false
 
 abbrev pub has_journal_step : List Event → Bool
 has_journal_step events = list_any is_of_journal events
+
+-- one device command, and behind it no other, and no step of the journal
+pub record SendsOne (own : List Event) : Type 0 where
+  pub op : DeviceOp
+  pub applied : Bool
+  pub answer : Result Answer Fault
+  pub behind : List Event
+  pub is : own ≡ Did op applied answer ∷ behind
+  pub no_command : has_command behind ≡ false
+  pub no_step : has_journal_step behind ≡ false
 
 -- the reply tells that the opening broke off
 abbrev pub TellsBroken : Reply → Type 0
@@ -143,6 +163,11 @@ pub record IsFeasibleFor (s : LabState) (exp text : List ℕ) : Type 0 where
   pub mapping : Mapping
   pub reads : mapping_of_text lab experiment.wiring text ≡ Ok mapping
   pub keeps : violation_beside lab (others experiment.name s.experiments) experiment experiment.wiring mapping ≡ None
+
+-- TWO ANSWERS OF A SEARCH that may differ: locally best mappings, where the candidates are many
+abbrev pub AreLocal : Solved → Solved → Type 0
+AreLocal (solved.Local m c) (solved.Local n d) = Unit {0}
+AreLocal a b = ⊥
 
 -- the reply to a swap-in that is done, and where `open` stands before it to one that has begun
 abbrev pub taken_reply : Bool → List ℕ → Reply

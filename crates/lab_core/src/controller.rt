@@ -17,12 +17,15 @@ ghost use Rattle.lab_core.specs.Moments.{IsNoJournal};
 ghost use Rattle.lab_core.specs.Obey.{Obeyed};
 ghost use Rattle.lab_core.specs.Opening.{AfterOpening, IsOfJournal, OpenTold, ReadTold};
 ghost use Rattle.lab_core.specs.Sessions.{OpenSwap, name_of};
+ghost use Rattle.swap_txn.specs.Steps.{live_of};
 ghost use Rattle.swap_turns.specs.Causes.{IsLater};
 
 use crate::CoreFault;
+use crate::compaction::compact;
 use crate::judge::judge;
 use crate::perform::perform;
 use crate::task::Refusal;
+use cost_rule::StepRule;
 use journal_disk::{Journal, OpenFault};
 use journal_rec::Found;
 use lab_state::{LabState, ReplayFault};
@@ -161,6 +164,7 @@ fn settle_all<P: Plant>(mut controller: Controller, plant: &mut P) -> Result<Con
     ensures plant { IsErrOf result OpenFault.Plant → Rose (P.seen plant.old).faults.disk (P.seen plant.new).faults.disk }
     ensures later { IsLater (P.seen plant.old) (P.seen plant.new) }
     ensures limit { IfOk result (λ settled. limit_of settled.journal ≡ limit_of controller.journal) }
+    ensures live { IfOk result (λ settled. live_of settled.journal ≡ live_of controller.journal) }
     ensures stopped { IsErrOf result OpenFault.Stopped ↔ IsTrue (P.seen plant.new).stopped }
 {
     match settle(
@@ -179,7 +183,9 @@ fn settle_all<P: Plant>(mut controller: Controller, plant: &mut P) -> Result<Con
 
 impl Controller {
     /// Opens the journal, whose sides may have any length up to the limit, finds the lab that its records stand for, and settles
-    /// all experiments that move in it. One that gets stuck moves still, and the others go on.
+    /// all experiments that move in it. One that gets stuck moves still, and the others go on. Then the journal moves onto its
+    /// other side without the lab's past, where it is longer than a mebibyte, at most half of that is needed, and it has a next
+    /// epoch.
     ///
     /// `Bad` tells the side and the position of the first record that can't be read or can't follow, or of the last gate
     /// where there is no room for the last records of the experiments that move. Then nothing was settled. No swap is open yet.
@@ -197,30 +203,42 @@ impl Controller {
         ensures stopped { IsErrOf result OpenFault.Stopped ↔ IsTrue (P.seen plant.new).stopped }
     {
         let controller = read(alloc, limit, plant)?;
-        settle_all(controller, plant)
+        let controller = settle_all(controller, plant)?;
+        compact(controller, plant)
     }
 
     /// Obeys a command whose blocks have the lines that its words say, and tells the reply. A drill is none of its commands:
-    /// those are planned on the plant. After a reply that closes, and after `Stopped`, the controller is of no use any more.
-    pub fn obey<P: Plant>(&mut self, command: &Command, plant: &mut P) -> Result<Reply, CoreFault>
+    /// those are planned on the plant. Searches count costs by the rule. After a reply that closes, and after `Stopped`, the
+    /// controller is of no use any more.
+    pub fn obey<P: Plant>(
+        &mut self,
+        command: &Command,
+        rule: &StepRule,
+        plant: &mut P,
+    ) -> Result<Reply, CoreFault>
         requires blocks { HasBlocks command.now }
         requires no_drill { drill_of command.now ≡ None }
         requires works { CanWork (P.seen plant.old) self.old }
         ensures obeys { (opens : List OpenSwap) → WorksWith (P.seen plant.old) self.old opens
-            → Obeyed (P.seen plant.old) (P.seen plant.new) (JudgedBeside command.now opens self.old.lab) self.old self.new opens (name_of command.now) result }
+            → Obeyed (P.seen plant.old) (P.seen plant.new) (JudgedBeside rule.now.number command.now opens self.old.lab) self.old self.new opens (name_of command.now) result }
     {
-        self.answer(command, plant)
+        self.answer(command, rule, plant)
     }
 
     /// Judges a command, and does its task.
-    fn answer<P: Plant>(&mut self, command: &Command, plant: &mut P) -> Result<Reply, CoreFault>
+    fn answer<P: Plant>(
+        &mut self,
+        command: &Command,
+        rule: &StepRule,
+        plant: &mut P,
+    ) -> Result<Reply, CoreFault>
         requires blocks { HasBlocks command.now }
         requires no_drill { drill_of command.now ≡ None }
         requires works { CanWork (P.seen plant.old) self.old }
         ensures { (opens : List OpenSwap) → WorksWith (P.seen plant.old) self.old opens
-            → Obeyed (P.seen plant.old) (P.seen plant.new) (JudgedBeside command.now opens self.old.lab) self.old self.new opens (name_of command.now) result }
+            → Obeyed (P.seen plant.old) (P.seen plant.new) (JudgedBeside rule.now.number command.now opens self.old.lab) self.old self.new opens (name_of command.now) result }
     {
-        match judge(self.alloc, &self.lab, &self.swaps, command) {
+        match judge(self.alloc, &self.lab, &self.swaps, command, rule) {
             Ok(task) => perform(
                 self.alloc,
                 &mut self.lab,

@@ -15,6 +15,7 @@ ghost use Rattle.lab_core.specs.Judge.{Task as AnyTask, Judged, JudgedNetwork, i
 ghost use Rattle.lab_core.specs.Tasks.{CanDo, Gives, IsJudged, IsMild, Refuses, IsRefusedBy};
 
 use crate::judge_change::judge_modify;
+use crate::judge_search::{judge_remap, judge_solve, judge_swapin};
 use crate::judge_swap::judge_solution;
 use crate::needs::{
     need_found, need_idle, need_in, need_lab, need_none, need_open, need_out, need_place,
@@ -24,6 +25,7 @@ use crate::records::{create_record, delete_record, lab_record, way_out};
 use crate::replies::{created_reply, lab_reply};
 use crate::task::{Refusal, Task};
 use crate::views::{shown, status_lines};
+use cost_rule::StepRule;
 use lab_base::{Name, Text, TextRefused};
 use lab_state::LabState;
 use ns_text::{Printed, read_and_print};
@@ -223,16 +225,18 @@ fn judge_recover(state: &LabState) -> Result<Task, Refusal>
     Ok(Task::Recover)
 }
 
-/// The task of a command whose blocks have the lines that its words say, or why it has none. A drill has none.
+/// The task of a command whose blocks have the lines that its words say, or why it has none. A drill has none. The rule is that
+/// by which searches count costs.
 pub(crate) fn judge(
     alloc: Global,
     state: &LabState,
     swaps: &Manager,
     command: &Command,
+    rule: &StepRule,
 ) -> Result<Task, Refusal>
     requires blocks { HasBlocks command.now }
     requires no_drill { drill_of command.now ≡ None }
-    ensures judged { IsJudged (Judged state.now.state (has_open_for swaps.now command.now) (length swaps.now) command.now) result }
+    ensures judged { IsJudged (Judged rule.now.number state.now.state (has_open_for swaps.now command.now) (length swaps.now) command.now) result }
     ensures can { IfOk result (CanDo state.now.state) }
 {
     match command {
@@ -240,6 +244,25 @@ pub(crate) fn judge(
         Command::Create { exp, ns, .. } => judge_network(alloc, state, *exp, ns.bytes()),
         Command::CreateTop { exp, top, .. } => judge_create(alloc, state, *exp, top.bytes()),
         Command::Show { exp } => judge_show(alloc, state, *exp),
+        Command::Solve { exp, seed } => judge_solve(alloc, state, swaps, *exp, rule, *seed),
+        Command::Swapin {
+            only_begin,
+            exp,
+            seed,
+        } => {
+            let judged = judge_swapin(alloc, state, swaps, *exp, rule, *seed);
+            in_slot(swaps, *only_begin, judged)
+        }
+        Command::Modify {
+            only_begin,
+            exp,
+            seed,
+            ns,
+            ..
+        } => {
+            let judged = judge_remap(alloc, state, swaps, *exp, ns.bytes(), rule, *seed);
+            in_slot(swaps, *only_begin, judged)
+        }
         Command::SwapinWith {
             only_begin,
             exp,

@@ -92,7 +92,7 @@ fn plan_swap_over(
 }
 
 /// Judges a mapping of another wiring for an experiment that is in there.
-fn judge_change(
+pub(crate) fn judge_change(
     alloc: Global,
     state: &LabState,
     lab: &Lab,

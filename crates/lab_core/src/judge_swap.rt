@@ -117,7 +117,7 @@ fn plan_swap_in(
 }
 
 /// Judges a mapping for an experiment that is out.
-fn judge_mapping(
+pub(crate) fn judge_mapping(
     alloc: Global,
     state: &LabState,
     lab: &Lab,

@@ -5,7 +5,11 @@ ghost use Rattle.plant.specs.Events.{Event};
 ghost use Rattle.plant.specs.Worlds.{world_of};
 ghost use Rattle.journal_rec.specs.declared.record.Record.TheVariants.{Begin};
 ghost use Rattle.journal_rec.specs.declared.record.Way.{Way};
-ghost use Rattle.records_model.specs.Labs.{LabState, Move, Sane, Says, find};
+ghost use Rattle.phys_lab.specs.Labs.{Lab};
+ghost use Rattle.virt_topo.specs.declared.wiring.Wiring.{Wiring};
+ghost use Rattle.cost_rule.specs.declared.rule.RuleNumber.{RuleNumber};
+ghost use Rattle.assign_core.specs.declared.whole.Solved.{Solved};
+ghost use Rattle.records_model.specs.Labs.{LabState, Move, Sane, Says, find, lab_in};
 ghost use Rattle.records_model.specs.Works.{IsSound};
 ghost use Rattle.lab_state.specs.Texts.{the_texts};
 ghost use Rattle.journal_runs.specs.Pieces.{has_command, has_miss, has_restart};
@@ -19,67 +23,73 @@ ghost use Rattle.lab_core.specs.Recovery.{Opens};
 ghost use Rattle.recovery.specs.Due.{is_busy};
 ghost use Rattle.recovery.specs.Settle.{is_stuck};
 ghost use Rattle.lab_base.specs.Lists.{AllDiffer, Has};
+ghost use Rattle.lab_model.specs.Leavings.{SameFor};
 ghost use Rattle.lab_model.specs.Sound.{is_moving};
 ghost use Rattle.virt_topo.specs.declared.experiment.Experiment.{Experiment};
 ghost use Rattle.lab_core.specs.LabSteps.{LabStep, LabStepBy};
 ghost use Rattle.lab_core.specs.Moments.{StandForLab};
 ghost use Rattle.lab_core.specs.Said.{IsAsSaid};
-ghost use Rattle.lab_core.specs.Sessions.{OpenSwap, Session, Open, Setting, After, name_of, names_of, open_at};
-ghost use Rattle.lab_core.specs.Judge.{Task, Tell, Swap, BeginOnly, Turn, Finish, Judged};
-ghost use Rattle.lab_core.specs.Tells.{BeginsAt, Hinders, IsAtRest, IsFeasibleFor, IsNoSwap, IsOpened, IsTurn, TellsBroken, TellsEnd, TellsLab, busy_of, has_journal_step, is_stopped, opens_of, settles, taken_reply};
+ghost use Rattle.lab_core.specs.Sessions.{OpenSwap, Session, Open, Terms, Setting, After, name_of, names_of, open_at};
+ghost use Rattle.lab_core.specs.Judge.{IsFound, Task, Tell, Swap, BeginOnly, Turn, Finish, Judged, is_searched};
+ghost use Rattle.lab_core.specs.Tells.{AreLocal, BeginsAt, Hinders, IsAtRest, IsFeasibleFor, IsNoSwap, IsOpened, IsTurn, IsTurnOf, TellsBroken, TellsEnd, TellsLab, SendsOne, busy_of, is_stopped, opens_of, settles, taken_reply};
 
-/// A command has one judgement, and a lab step is by one of the command's judgements. One that refuses it, or only tells
+/// A command for which no search is made has one judgement, and a lab step is by one of the command's judgements. One that refuses it, or only tells
 /// something, has no steps of its own. Where nothing failed or stopped, a judgement that begins no swap and settles none leads,
 /// where a reply is told, to one reply and one lab. The reply to a swap tells where the lab is. Experiments of other names stay,
 /// whatever the reply; where the command settles what moves, those that don't move and those with an open swap. A drill leaves
 /// all as it was. The plant stopped exactly where the reply is `stopped`.
 pub fn lab_steps()
-    ensures judged_once { (s : LabState) (busy : Bool) (count : ℕ) (command : Command) (a b : Result Task Reply) → Judged s busy count command a → Judged s busy count command b → a ≡ b }
-    ensures by_one { (takes : Bool) (set : Setting) (s : LabState) (session : Session) (command : Command) (opening own : List Event) (after : After)
-        → LabStep takes set s session command opening own after → (judgement : Result Task Reply) × LabStepBy judgement takes set s session command opening own after }
-    ensures refused { (takes : Bool) (set : Setting) (s : LabState) (session : Session) (command : Command) (opening own : List Event) (after : After) (reply : Reply)
-        → LabStepBy (Err reply) takes set s session command opening own after → own ≡ [] }
-    ensures told { (takes : Bool) (set : Setting) (s : LabState) (session : Session) (command : Command) (opening own : List Event) (after : After) (reply : Reply)
-        → LabStepBy (Ok (Tell reply)) takes set s session command opening own after → own ≡ [] }
-    ensures once { (takes : Bool) (set : Setting) (s : LabState) (opens : List OpenSwap) (command : Command) (judgement : Result Task Reply) (own : List Event) (after later : After)
+    ensures judged_once { (rule : RuleNumber) (s : LabState) (busy : Bool) (count : ℕ) (command : Command) (a b : Result Task Reply) → is_searched command ≡ false → Judged rule s busy count command a → Judged rule s busy count command b → a ≡ b }
+    ensures by_one { (terms : Terms) (set : Setting) (s : LabState) (session : Session) (command : Command) (opening own : List Event) (after : After)
+        → LabStep terms set s session command opening own after → (judgement : Result Task Reply) × LabStepBy judgement terms set s session command opening own after }
+    ensures refused { (terms : Terms) (set : Setting) (s : LabState) (session : Session) (command : Command) (opening own : List Event) (after : After) (reply : Reply)
+        → LabStepBy (Err reply) terms set s session command opening own after → own ≡ [] }
+    ensures told { (terms : Terms) (set : Setting) (s : LabState) (session : Session) (command : Command) (opening own : List Event) (after : After) (reply : Reply)
+        → LabStepBy (Ok (Tell reply)) terms set s session command opening own after → own ≡ [] }
+    ensures once { (terms : Terms) (set : Setting) (s : LabState) (opens : List OpenSwap) (command : Command) (judgement : Result Task Reply) (own : List Event) (after later : After)
         (reply other : Reply)
         → IsNoSwap judgement → has_restart own ≡ false → has_miss own ≡ false → after.reply ≡ Some reply → later.reply ≡ Some other
-        → LabStepBy judgement takes set s (Open opens) command [] own after → LabStepBy judgement takes set s (Open opens) command [] own later → (reply ≡ other) × (after.lab ≡ later.lab) }
-    ensures swapped { (takes : Bool) (set : Setting) (s : LabState) (session : Session) (command : Command) (opening own : List Event) (after : After) (exp : List ℕ) (way : Way)
-        (reply : Reply) → drill_of command ≡ None → after.reply ≡ Some reply → LabStepBy (Ok (Swap exp way)) takes set s session command opening own after
+        → LabStepBy judgement terms set s (Open opens) command [] own after → LabStepBy judgement terms set s (Open opens) command [] own later → (reply ≡ other) × (after.lab ≡ later.lab) }
+    ensures swapped { (terms : Terms) (set : Setting) (s : LabState) (session : Session) (command : Command) (opening own : List Event) (after : After) (exp : List ℕ) (way : Way)
+        (reply : Reply) → drill_of command ≡ None → after.reply ≡ Some reply → LabStepBy (Ok (Swap exp way)) terms set s session command opening own after
         → TellsBroken reply ⊎ ((mid : LabState) × BeginsAt session s opening mid × ((move : Move) → Says the_texts mid (Begin exp way) move → TellsLab mid exp move reply after.lab)) }
-    ensures others { (takes : Bool) (set : Setting) (s : LabState) (session : Session) (command : Command) (opening own : List Event) (after : After) (name : List ℕ)
-        → is_some s.lab ≡ true → name_of command ≢ Some name → (settles session command name ≡ true → IsAtRest s name) → LabStep takes set s session command opening own after
+    ensures others { (terms : Terms) (set : Setting) (s : LabState) (session : Session) (command : Command) (opening own : List Event) (after : After) (name : List ℕ)
+        → is_some s.lab ≡ true → name_of command ≢ Some name → (settles session command name ≡ true → IsAtRest s name) → LabStep terms set s session command opening own after
         → find name after.lab.experiments ≡ find name s.experiments }
-    ensures drills { (takes : Bool) (set : Setting) (s : LabState) (session : Session) (command : Command) (opening own : List Event) (after : After)
-        → is_some (drill_of command) ≡ true → LabStep takes set s session command opening own after → (opening ≡ []) × (own ≡ []) × (after.lab ≡ s) }
-    ensures stops { (takes : Bool) (set : Setting) (s : LabState) (session : Session) (command : Command) (opening own : List Event) (after : After) (reply : Reply)
-        → LabStep takes set s session command opening own after → after.reply ≡ Some reply → has_restart (opening ++ own) ≡ is_stopped reply }
+    ensures drills { (terms : Terms) (set : Setting) (s : LabState) (session : Session) (command : Command) (opening own : List Event) (after : After)
+        → is_some (drill_of command) ≡ true → LabStep terms set s session command opening own after → (opening ≡ []) × (own ≡ []) × (after.lab ≡ s) }
+    ensures stops { (terms : Terms) (set : Setting) (s : LabState) (session : Session) (command : Command) (opening own : List Event) (after : After) (reply : Reply)
+        → LabStep terms set s session command opening own after → after.reply ≡ Some reply → has_restart (opening ++ own) ≡ is_stopped reply }
 {}
 
 /// Open swaps, over lab steps that leave the controller open: each of another name than the command's is open as it was, so
 /// `recover` leaves all; their names differ where they did, and no more than sixteen are open. One that is begun by `open` is one
-/// more, of which nothing was sent. A turn sends one device command, or appends one record; one that breaks off does not both.
-/// The reply to a turn, or to all up to the end, tells where the lab is.
+/// more, of which nothing was sent. A turn sends one device command, or appends one record; one that breaks off sends no more
+/// than one, and nothing of the journal behind it.
+/// The reply to a turn, or to all up to the end, tells where the lab is. Both leave the world of each other experiment as it was, over
+/// any trace and however they end: each row that it wants, and each node that it claims.
 pub fn open_swaps()
-    ensures others { (takes : Bool) (set : Setting) (s : LabState) (opens to : List OpenSwap) (command : Command) (opening own : List Event) (after : After) (name : List ℕ)
-        → name_of command ≢ Some name → LabStep takes set s (Open opens) command opening own after → after.session ≡ Open to → open_at name to ≡ open_at name opens }
-    ensures differ { (takes : Bool) (set : Setting) (s : LabState) (session : Session) (to : List OpenSwap) (command : Command) (opening own : List Event) (after : After)
-        → AllDiffer (busy_of session) → LabStep takes set s session command opening own after → after.session ≡ Open to → AllDiffer (names_of to) }
-    ensures few { (takes : Bool) (set : Setting) (s : LabState) (session : Session) (to : List OpenSwap) (command : Command) (opening own : List Event) (after : After)
-        → length (opens_of session) ≤ 16 → LabStep takes set s session command opening own after → after.session ≡ Open to → length to ≤ 16 }
-    ensures begun { (takes : Bool) (set : Setting) (s : LabState) (session : Session) (command : Command) (opening own : List Event) (after : After) (exp name : List ℕ) (way : Way)
-        → LabStepBy (Ok (BeginOnly exp way)) takes set s session command opening own after → after.reply ≡ Some (More name)
+    ensures others { (terms : Terms) (set : Setting) (s : LabState) (opens to : List OpenSwap) (command : Command) (opening own : List Event) (after : After) (name : List ℕ)
+        → name_of command ≢ Some name → LabStep terms set s (Open opens) command opening own after → after.session ≡ Open to → open_at name to ≡ open_at name opens }
+    ensures differ { (terms : Terms) (set : Setting) (s : LabState) (session : Session) (to : List OpenSwap) (command : Command) (opening own : List Event) (after : After)
+        → AllDiffer (busy_of session) → LabStep terms set s session command opening own after → after.session ≡ Open to → AllDiffer (names_of to) }
+    ensures few { (terms : Terms) (set : Setting) (s : LabState) (session : Session) (to : List OpenSwap) (command : Command) (opening own : List Event) (after : After)
+        → length (opens_of session) ≤ 16 → LabStep terms set s session command opening own after → after.session ≡ Open to → length to ≤ 16 }
+    ensures begun { (terms : Terms) (set : Setting) (s : LabState) (session : Session) (command : Command) (opening own : List Event) (after : After) (exp name : List ℕ) (way : Way)
+        → LabStepBy (Ok (BeginOnly exp way)) terms set s session command opening own after → after.reply ≡ Some (More name)
         → (name ≡ exp) × ((to : List OpenSwap) × (after.session ≡ Open to) × IsOpened exp set.devices after.lab (opens_of session) to) }
-    ensures turned { (takes : Bool) (set : Setting) (s : LabState) (opens : List OpenSwap) (command : Command) (opening own : List Event) (after : After) (exp : List ℕ) (reply : Reply)
-        → drill_of command ≡ None → LabStepBy (Ok (Turn exp)) takes set s (Open opens) command opening own after → after.reply ≡ Some reply → closes reply ≡ false → is_stopped reply ≡ false
+    ensures turned { (terms : Terms) (set : Setting) (s : LabState) (opens : List OpenSwap) (command : Command) (opening own : List Event) (after : After) (exp : List ℕ) (reply : Reply)
+        → drill_of command ≡ None → LabStepBy (Ok (Turn exp)) terms set s (Open opens) command opening own after → after.reply ≡ Some reply → closes reply ≡ false → is_stopped reply ≡ false
         → IsTurn own }
-    ensures not_both { (takes : Bool) (set : Setting) (s : LabState) (opens : List OpenSwap) (command : Command) (opening own : List Event) (after : After) (exp : List ℕ)
-        → LabStepBy (Ok (Turn exp)) takes set s (Open opens) command opening own after → (has_command own ≡ false) ⊎ (has_journal_step own ≡ false) }
-    ensures turn_tells { (takes : Bool) (set : Setting) (s : LabState) (opens : List OpenSwap) (command : Command) (opening own : List Event) (after : After) (exp : List ℕ) (reply : Reply)
-        → LabStepBy (Ok (Turn exp)) takes set s (Open opens) command opening own after → after.reply ≡ Some reply → TellsEnd s exp reply after.lab }
-    ensures finish_tells { (takes : Bool) (set : Setting) (s : LabState) (opens : List OpenSwap) (command : Command) (opening own : List Event) (after : After) (exp : List ℕ) (reply : Reply)
-        → LabStepBy (Ok (Finish exp)) takes set s (Open opens) command opening own after → after.reply ≡ Some reply → TellsEnd s exp reply after.lab }
+    ensures at_most_one { (terms : Terms) (set : Setting) (s : LabState) (opens : List OpenSwap) (command : Command) (opening own : List Event) (after : After) (exp : List ℕ)
+        → LabStepBy (Ok (Turn exp)) terms set s (Open opens) command opening own after → (has_command own ≡ false) ⊎ SendsOne own }
+    ensures turn_tells { (terms : Terms) (set : Setting) (s : LabState) (opens : List OpenSwap) (command : Command) (opening own : List Event) (after : After) (exp : List ℕ) (reply : Reply)
+        → LabStepBy (Ok (Turn exp)) terms set s (Open opens) command opening own after → after.reply ≡ Some reply → TellsEnd s exp reply after.lab }
+    ensures world { (terms : Terms) (set : Setting) (s : LabState) (opens : List OpenSwap) (command : Command) (opening own : List Event) (after : After) (trace : List Event) (exp : List ℕ) (e : Experiment)
+        → Sane s → IsTurnOf exp command → Has s.experiments e → e.name ≢ exp → LabStep terms set s (Open opens) command opening own after
+        → SameFor (lab_in s.lab) e (world_of trace) (world_of (trace ++ own)) }
+    ensures finish_tells { (terms : Terms) (set : Setting) (s : LabState) (opens : List OpenSwap) (command : Command) (opening own : List Event) (after : After) (exp : List ℕ) (reply : Reply)
+        → LabStepBy (Ok (Finish exp)) terms set s (Open opens) command opening own after → after.reply ≡ Some reply → TellsEnd s exp reply after.lab }
 {}
 
 /// An untroubled recovery leaves no experiment moving but those with an open swap: an opening in which none got stuck, and a
@@ -87,20 +97,27 @@ pub fn open_swaps()
 pub fn recoveries()
     ensures opened { (s mid : LabState) (opening : List Event) → Sane s → (is : Opens s opening mid) → count_by is_stuck is.outcomes ≡ 0
         → (e : Experiment) → Has mid.experiments e → is_moving e ≡ false }
-    ensures recovered { (takes : Bool) (set : Setting) (s : LabState) (session : Session) (opening own : List Event) (after : After) (done : ℕ)
-        → Sane s → LabStep takes set s session Recover opening own after → after.reply ≡ Some (Recovered done 0)
+    ensures recovered { (terms : Terms) (set : Setting) (s : LabState) (session : Session) (opening own : List Event) (after : After) (done : ℕ)
+        → Sane s → LabStep terms set s session Recover opening own after → after.reply ≡ Some (Recovered done 0)
         → (e : Experiment) → Has after.lab.experiments e → is_moving e ≡ true → is_busy (busy_of session) e.name ≡ true }
 {}
 
 /// An experiment is swapped in by a supplied solution, or its swap begins where `open` stands before the command, only where that
 /// is feasible on what the other experiments leave free, and there it is, unless the reply tells what hindered it.
 pub fn solutions()
-    ensures only { (takes : Bool) (set : Setting) (s : LabState) (session : Session) (only_begin : Bool) (exp text : List ℕ) (lines : ℕ) (opening own : List Event) (after : After)
-        → LabStep takes set s session (SwapinWith only_begin exp lines text) opening own after → after.reply ≡ Some (taken_reply only_begin exp)
+    ensures only { (terms : Terms) (set : Setting) (s : LabState) (session : Session) (only_begin : Bool) (exp text : List ℕ) (lines : ℕ) (opening own : List Event) (after : After)
+        → LabStep terms set s session (SwapinWith only_begin exp lines text) opening own after → after.reply ≡ Some (taken_reply only_begin exp)
         → (mid : LabState) × BeginsAt session s opening mid × IsFeasibleFor mid exp text }
-    ensures unless { (takes : Bool) (set : Setting) (s : LabState) (session : Session) (only_begin : Bool) (exp text : List ℕ) (lines : ℕ) (opening own : List Event) (after : After) (reply : Reply)
-        → LabStep takes set s session (SwapinWith only_begin exp lines text) opening own after → after.reply ≡ Some reply
+    ensures unless { (terms : Terms) (set : Setting) (s : LabState) (session : Session) (only_begin : Bool) (exp text : List ℕ) (lines : ℕ) (opening own : List Event) (after : After) (reply : Reply)
+        → LabStep terms set s session (SwapinWith only_begin exp lines text) opening own after → after.reply ≡ Some reply
         → TellsBroken reply ⊎ ((mid : LabState) × BeginsAt session s opening mid × (IsFeasibleFor mid exp text → (reply ≡ taken_reply only_begin exp) ⊎ Hinders reply)) }
+{}
+
+/// A search has one answer, but where there are more than 65,536 candidates and FirstFit is feasible: there each answer is locally
+/// best, and costs at most every map of the walk of the seed.
+pub fn searches()
+    ensures { (rule : RuleNumber) (lab : Lab) (es : List Experiment) (e : Experiment) (w : Wiring) (seed : ℕ) (a b : Solved) → IsFound rule lab es e w seed a → IsFound rule lab es e w seed b
+        → (a ≡ b) ⊎ AreLocal a b }
 {}
 
 /// Over a sound trace the devices are as the lab of each image says, so of an experiment that is in each wanted row stands, and

@@ -3,10 +3,12 @@
 //! A command is judged, and then done. It joins by a case of `Judged` in `specs/Judge.antt`, and one of `judge`.
 #![tactic(auto)]
 
+mod compaction;
 mod controller;
 mod fault;
 mod judge;
 mod judge_change;
+mod judge_search;
 mod judge_swap;
 mod laws;
 mod needs;
@@ -22,5 +24,5 @@ mod views;
 pub use controller::Controller;
 pub use fault::CoreFault;
 pub use journal_disk::OpenFault;
-pub use laws::{lab_steps, labs_are_kept, open_swaps, recoveries, solutions};
+pub use laws::{lab_steps, labs_are_kept, open_swaps, recoveries, searches, solutions};
 pub use sides::journals;

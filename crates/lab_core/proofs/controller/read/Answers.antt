@@ -21,4 +21,4 @@ returns-clause-works g c =
     let opened = c.in_ok-journal in
     let told = (g.P.Plant.seen c.open.new.plant).told in
     let made = made_of told c.args.limit opened.journal opened.found.items c.deref.result.now c.of_journal.result c.deref.ensures.value opened.ensures.ok opened.ensures.holds c.of_journal.ensures.is in
-    made_works told c.args.limit opened.journal c.of_journal.result made opened.ensures.limit c.requires.most
+    made_works told c.args.limit opened.journal c.of_journal.result made opened.ensures.epoch opened.ensures.limit c.requires.most

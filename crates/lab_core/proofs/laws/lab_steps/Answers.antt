@@ -7,36 +7,36 @@ use Rattle.lab_core.proofs.StepLaws.{was, by_one, drills_leave, no_steps_refused
 use Rattle.lab_core.proofs.laws.lab_steps.Goals as goal
 
 pub returns-clause-judged_once : goal.returns-clause-judged_once
-returns-clause-judged_once c = λ s busy count command a b is also. judged_once s busy count command a b is also
+returns-clause-judged_once c = λ rule s busy count command a b alone is also. judged_once rule s busy count command a b alone is also
 
 pub returns-clause-by_one : goal.returns-clause-by_one
-returns-clause-by_one c = λ takes set s session command opening own after step. by_one (drill_of command) takes set s session command opening own after step
+returns-clause-by_one c = λ terms set s session command opening own after step. by_one (drill_of command) terms set s session command opening own after step
 
 pub returns-clause-refused : goal.returns-clause-refused
-returns-clause-refused c = λ takes set s session command opening own after reply step.
-    no_steps_refused (drill_of command) reply takes set s session command opening own after (was (Err reply) takes set s command opening own after (drill_of command) session step)
+returns-clause-refused c = λ terms set s session command opening own after reply step.
+    no_steps_refused (drill_of command) reply terms set s session command opening own after (was (Err reply) terms set s command opening own after (drill_of command) session step)
 
 pub returns-clause-told : goal.returns-clause-told
-returns-clause-told c = λ takes set s session command opening own after reply step.
-    no_steps_told (drill_of command) reply takes set s session command opening own after (was (Ok (Tell reply)) takes set s command opening own after (drill_of command) session step)
+returns-clause-told c = λ terms set s session command opening own after reply step.
+    no_steps_told (drill_of command) reply terms set s session command opening own after (was (Ok (Tell reply)) terms set s command opening own after (drill_of command) session step)
 
 pub returns-clause-once : goal.returns-clause-once
-returns-clause-once c = λ takes set s opens command judgement own after later reply other no_swap no_restart no_miss is also one two.
-    step_once s opens own reply other after later is also (drill_of command) takes set command judgement no_swap (no_restart, no_miss) one two
+returns-clause-once c = λ terms set s opens command judgement own after later reply other no_swap no_restart no_miss is also one two.
+    step_once s opens own reply other after later is also (drill_of command) terms set command judgement no_swap (no_restart, no_miss) one two
 
 pub returns-clause-swapped : goal.returns-clause-swapped
-returns-clause-swapped c = λ takes set s session command opening own after exp way reply no_drill is step.
-    swap_tells exp way own after reply is (drill_of command) takes set s session command opening no_drill (was (Ok (Swap exp way)) takes set s command opening own after (drill_of command) session step)
+returns-clause-swapped c = λ terms set s session command opening own after exp way reply no_drill is step.
+    swap_tells exp way own after reply is (drill_of command) terms set s session command opening no_drill (was (Ok (Swap exp way)) terms set s command opening own after (drill_of command) session step)
 
 pub returns-clause-others : goal.returns-clause-others
-returns-clause-others c = λ takes set s session command opening own after name there other rests step.
-    let one = by_one (drill_of command) takes set s session command opening own after step in
-    (step_stays name own after s there session command rests opening one.0 takes set other (was one.0 takes set s command opening own after (drill_of command) session one.1)).same
+returns-clause-others c = λ terms set s session command opening own after name there other rests step.
+    let one = by_one (drill_of command) terms set s session command opening own after step in
+    (step_stays name own after s there session command rests opening one.0 terms set other (was one.0 terms set s command opening own after (drill_of command) session one.1)).same
 
 pub returns-clause-drills : goal.returns-clause-drills
-returns-clause-drills c = λ takes set s session command opening own after is step. drills_leave (drill_of command) takes set s session (JudgedBeside command) opening own after is step
+returns-clause-drills c = λ terms set s session command opening own after is step. drills_leave (drill_of command) terms set s session (JudgedBeside terms.rule command) opening own after is step
 
 pub returns-clause-stops : goal.returns-clause-stops
-returns-clause-stops c = λ takes set s session command opening own after reply step is.
-    let one = by_one (drill_of command) takes set s session command opening own after step in
-    step_stops own after reply is (drill_of command) one.0 takes set s session command opening (was one.0 takes set s command opening own after (drill_of command) session one.1)
+returns-clause-stops c = λ terms set s session command opening own after reply step is.
+    let one = by_one (drill_of command) terms set s session command opening own after step in
+    step_stops own after reply is (drill_of command) one.0 terms set s session command opening (was one.0 terms set s command opening own after (drill_of command) session one.1)

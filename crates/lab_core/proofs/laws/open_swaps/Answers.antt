@@ -2,43 +2,47 @@ use Rattle.std.proofs.Common.{Ok}
 use Rattle.script_text.specs.Drills.{drill_of}
 use Rattle.lab_core.specs.Judge.{BeginOnly, Turn, Finish}
 use Rattle.lab_core.specs.Sessions.{Open}
+use Rattle.lab_core.proofs.OtherWorlds.{others_spared}
 use Rattle.lab_core.proofs.OpenLaws.{leaves, names_differ, one_begun, others_as_they_were, they_are_few}
 use Rattle.lab_core.proofs.StepLaws.{by_one, was}
-use Rattle.lab_core.proofs.TurnLaws.{finish_tells, one_turn, turn_not_both, turn_tells}
+use Rattle.lab_core.proofs.TurnLaws.{finish_tells, one_turn, turn_at_most_one, turn_tells}
 use Rattle.lab_core.proofs.laws.open_swaps.Goals as goal
 
 pub returns-clause-others : goal.returns-clause-others
-returns-clause-others c = λ takes set s opens to command opening own after name other step is.
-    let one = by_one (drill_of command) takes set s (Open opens) command opening own after step in
+returns-clause-others c = λ terms set s opens to command opening own after name other step is.
+    let one = by_one (drill_of command) terms set s (Open opens) command opening own after step in
     others_as_they_were set (Open opens) command one.0 to name other
-    (leaves (drill_of command) one.0 takes set s (Open opens) command opening own after to is (was one.0 takes set s command opening own after (drill_of command) (Open opens) one.1))
+    (leaves (drill_of command) one.0 terms set s (Open opens) command opening own after to is (was one.0 terms set s command opening own after (drill_of command) (Open opens) one.1))
 
 pub returns-clause-differ : goal.returns-clause-differ
-returns-clause-differ c = λ takes set s session to command opening own after differ step is.
-    let one = by_one (drill_of command) takes set s session command opening own after step in
-    names_differ set session command one.0 to differ (leaves (drill_of command) one.0 takes set s session command opening own after to is (was one.0 takes set s command opening own after (drill_of command) session one.1))
+returns-clause-differ c = λ terms set s session to command opening own after differ step is.
+    let one = by_one (drill_of command) terms set s session command opening own after step in
+    names_differ set session command one.0 to differ (leaves (drill_of command) one.0 terms set s session command opening own after to is (was one.0 terms set s command opening own after (drill_of command) session one.1))
 
 pub returns-clause-few : goal.returns-clause-few
-returns-clause-few c = λ takes set s session to command opening own after few step is.
-    let one = by_one (drill_of command) takes set s session command opening own after step in
-    they_are_few set session command one.0 to few (leaves (drill_of command) one.0 takes set s session command opening own after to is (was one.0 takes set s command opening own after (drill_of command) session one.1))
+returns-clause-few c = λ terms set s session to command opening own after few step is.
+    let one = by_one (drill_of command) terms set s session command opening own after step in
+    they_are_few set session command one.0 to few (leaves (drill_of command) one.0 terms set s session command opening own after to is (was one.0 terms set s command opening own after (drill_of command) session one.1))
 
 pub returns-clause-begun : goal.returns-clause-begun
-returns-clause-begun c = λ takes set s session command opening own after exp name way step is.
-    one_begun own after exp name way is (drill_of command) takes set s session command opening (was (Ok (BeginOnly exp way)) takes set s command opening own after (drill_of command) session step)
+returns-clause-begun c = λ terms set s session command opening own after exp name way step is.
+    one_begun own after exp name way is (drill_of command) terms set s session command opening (was (Ok (BeginOnly exp way)) terms set s command opening own after (drill_of command) session step)
 
 pub returns-clause-turned : goal.returns-clause-turned
-returns-clause-turned c = λ takes set s opens command opening own after exp reply no_drill step is open_still goes_on.
-    one_turn own after reply is open_still goes_on (drill_of command) takes set s opens command opening exp no_drill (was (Ok (Turn exp)) takes set s command opening own after (drill_of command) (Open opens) step)
+returns-clause-turned c = λ terms set s opens command opening own after exp reply no_drill step is open_still goes_on.
+    one_turn own after reply is open_still goes_on (drill_of command) terms set s opens command opening exp no_drill (was (Ok (Turn exp)) terms set s command opening own after (drill_of command) (Open opens) step)
 
-pub returns-clause-not_both : goal.returns-clause-not_both
-returns-clause-not_both c = λ takes set s opens command opening own after exp step.
-    turn_not_both (drill_of command) takes set s (Open opens) command opening own after exp (was (Ok (Turn exp)) takes set s command opening own after (drill_of command) (Open opens) step)
+pub returns-clause-at_most_one : goal.returns-clause-at_most_one
+returns-clause-at_most_one c = λ terms set s opens command opening own after exp step.
+    turn_at_most_one (drill_of command) terms set s (Open opens) command opening own after exp (was (Ok (Turn exp)) terms set s command opening own after (drill_of command) (Open opens) step)
 
 pub returns-clause-turn_tells : goal.returns-clause-turn_tells
-returns-clause-turn_tells c = λ takes set s opens command opening own after exp reply step is.
-    turn_tells own after reply is s exp (drill_of command) takes set opens command opening (was (Ok (Turn exp)) takes set s command opening own after (drill_of command) (Open opens) step)
+returns-clause-turn_tells c = λ terms set s opens command opening own after exp reply step is.
+    turn_tells own after reply is s exp (drill_of command) terms set opens command opening (was (Ok (Turn exp)) terms set s command opening own after (drill_of command) (Open opens) step)
 
 pub returns-clause-finish_tells : goal.returns-clause-finish_tells
-returns-clause-finish_tells c = λ takes set s opens command opening own after exp reply step is.
-    finish_tells own after reply is s exp (drill_of command) takes set opens command opening (was (Ok (Finish exp)) takes set s command opening own after (drill_of command) (Open opens) step)
+returns-clause-finish_tells c = λ terms set s opens command opening own after exp reply step is.
+    finish_tells own after reply is s exp (drill_of command) terms set opens command opening (was (Ok (Finish exp)) terms set s command opening own after (drill_of command) (Open opens) step)
+
+pub returns-clause-world : goal.returns-clause-world
+returns-clause-world c = λ terms set s opens command opening own after trace exp e sane turns listed other step. others_spared terms set s opens command opening own after trace exp e sane turns listed other step

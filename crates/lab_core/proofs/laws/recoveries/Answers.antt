@@ -8,6 +8,6 @@ pub returns-clause-opened : goal.returns-clause-opened
 returns-clause-opened c = λ s mid opening sane is none e there. opened_rest s mid opening sane is none e there
 
 pub returns-clause-recovered : goal.returns-clause-recovered
-returns-clause-recovered c = λ takes set s session opening own after number sane step is e there moving.
-    let one = by_one None takes set s session Recover opening own after step in
-    recovered_rest own after number is one.0 takes set s session opening sane (was one.0 takes set s Recover opening own after None session one.1) e there moving
+returns-clause-recovered c = λ terms set s session opening own after number sane step is e there moving.
+    let one = by_one None terms set s session Recover opening own after step in
+    recovered_rest own after number is one.0 terms set s session opening sane (was one.0 terms set s Recover opening own after None session one.1) e there moving

@@ -19,8 +19,10 @@ returns g c = λ r is.
       appends = e.appends r is;
       moments = λ rs. e.moments r rs is;
       stands = ok_weaker c.append.result (λ h rs. h r rs is) e.stands;
+      epoch = ok_weaker c.append.result (λ h rs. h r rs is) e.of_epoch;
       longer = ok_weaker c.append.result (λ h. h ∙ ap (λ n. length_of c.args.journal.now + n) (body_size c.args.encoded.now r is)) e.length;
       side = e.side;
       limit = e.limit;
+      live = λ i. (e.side i, e.epoch i);
       unwritten = e.err;
     }

@@ -9,7 +9,7 @@ use Rattle.lab_core.proofs.Readiness.{ready_of_judged}
 use Rattle.lab_core.proofs.controller.Controller.answer.Goals as goal
 
 pub perform-requires-clause-ready : goal.perform-requires-clause-ready
-perform-requires-clause-ready g c = ready_of_judged c.self.inside.lab.state c.self.inside.swaps c.args.command.now (task_of c.in-Ok.task) c.in-Ok.ensures.judged
+perform-requires-clause-ready g c = ready_of_judged c.args.rule.now.number c.self.inside.lab.state c.self.inside.swaps c.args.command.now (task_of c.in-Ok.task) c.in-Ok.ensures.judged
 
 pub perform-requires-clause-works : goal.perform-requires-clause-works
 perform-requires-clause-works g c = subst (λ (k : Control). CanWork (g.P.Plant.seen c.args.plant.now) k) (sym c.self.view_is) c.requires.works
@@ -21,16 +21,16 @@ returns-in-Ok g c = λ opens works.
     let inside = control c.self.inside.lab.state c.self.inside.journal c.self.inside.swaps in
     let new = control c.perform.new.lab.state c.perform.new.journal c.perform.new.swaps in
     let works_inside = subst (λ (k : Control). WorksWith before k opens) (sym c.self.view_is) works in
-    done_beside before inside c.args.self.now c.self.view_is opens works_inside c.args.command.now now new (task_of c.in-Ok.task) c.perform.result c.in-Ok.ensures.judged (c.perform.ensures opens works_inside)
+    done_beside before inside c.args.self.now c.self.view_is opens works_inside c.args.rule.now.number c.args.command.now now new (task_of c.in-Ok.task) c.perform.result c.in-Ok.ensures.judged (c.perform.ensures opens works_inside)
 
 pub returns-in-Err-Refused : goal.returns-in-Err-Refused
 returns-in-Err-Refused g c = λ opens works.
     let before = g.P.Plant.seen c.args.plant.now in
     let inside = control c.self.inside.lab.state c.self.inside.journal c.self.inside.swaps in
     let judged = rw c.in-Err-Refused.field-0-is at c.in-Err-Refused.ensures.judged in
-    refuses before (JudgedBeside c.args.command.now opens c.args.self.now.lab) c.args.self.now opens (name_of c.args.command.now) c.in-Err-Refused.reply works
-    (refused_beside before inside c.args.self.now c.self.view_is opens (subst (λ (k : Control). WorksWith before k opens) (sym c.self.view_is) works) c.args.command.now c.in-Err-Refused.reply judged)
+    refuses before (JudgedBeside c.args.rule.now.number c.args.command.now opens c.args.self.now.lab) c.args.self.now opens (name_of c.args.command.now) c.in-Err-Refused.reply works
+    (refused_beside before inside c.args.self.now c.self.view_is opens (subst (λ (k : Control). WorksWith before k opens) (sym c.self.view_is) works) c.args.rule.now.number c.args.command.now c.in-Err-Refused.reply judged)
 
 pub returns-in-Err-Memory : goal.returns-in-Err-Memory
 returns-in-Err-Memory g c = λ opens works.
-    wanted (g.P.Plant.seen c.args.plant.now) (JudgedBeside c.args.command.now opens c.args.self.now.lab) c.args.self.now opens (name_of c.args.command.now) works
+    wanted (g.P.Plant.seen c.args.plant.now) (JudgedBeside c.args.rule.now.number c.args.command.now opens c.args.self.now.lab) c.args.self.now opens (name_of c.args.command.now) works

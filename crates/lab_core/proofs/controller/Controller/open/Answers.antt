@@ -3,7 +3,7 @@ use Rattle.std.proofs.lemmas.Result.{err_from_is_err_and}
 use Rattle.journal_disk.specs.declared.fault.OpenFault.TheVariants as faults
 use Rattle.lab_core.specs.Opening.{AfterOpening}
 use Rattle.lab_core.proofs.Openings.{bad_behind}
-use Rattle.lab_core.proofs.SettledOpenings.{not_read, then_settled}
+use Rattle.lab_core.proofs.SettledOpenings.{not_read, then_broken, then_moved}
 use Rattle.lab_core.proofs.controller.Controller.open.Goals as goal
 
 runs_on : {X : Type 0} (x : X) (b : Bool) → IsErrOf (Ok x) faults.Stopped ↔ IsTrue b → b ≡ false
@@ -23,9 +23,19 @@ returns-in_err-controller-clause-bad g c =
 pub settle_all-requires-clause-runs : goal.settle_all-requires-clause-runs
 settle_all-requires-clause-runs g c = runs_on c.in_ok-controller.controller (g.P.Plant.seen c.read.new.plant).stopped c.in_ok-controller.ensures.stopped
 
+pub compact-requires-clause-runs : goal.compact-requires-clause-runs
+compact-requires-clause-runs g c = runs_on c.in_ok-controller-2.controller (g.P.Plant.seen c.settle_all.new.plant).stopped c.in_ok-controller-2.ensures.stopped
+
 pub returns-clause-steps : goal.returns-clause-steps
 returns-clause-steps g c =
-    then_settled c.args.limit (g.P.Plant.seen c.args.plant.now) (g.P.Plant.seen c.read.new.plant) (g.P.Plant.seen c.settle_all.new.plant) c.in_ok-controller.controller c.in_ok-controller.ensures.steps c.settle_all.result c.settle_all.ensures.after
+    let first = c.in_ok-controller in
+    let second = c.in_ok-controller-2 in
+    then_moved c.args.limit (g.P.Plant.seen c.args.plant.now) (g.P.Plant.seen c.read.new.plant) (g.P.Plant.seen c.settle_all.new.plant) first.controller first.ensures.steps second.controller second.ensures.after first.ensures.works second.ensures.works
+    second.ensures.live (g.P.Plant.seen c.compact.new.plant).told c.compact.result c.compact.ensures.after c.compact.ensures.same
 
-pub returns-clause-bad : goal.returns-clause-bad
-returns-clause-bad g c side at is = absurd (subst (λ r. AfterOpening c.in_ok-controller.controller (g.P.Plant.seen c.read.new.plant) (g.P.Plant.seen c.settle_all.new.plant) r) is c.settle_all.ensures.after)
+pub returns-in_err-controller-2-clause-steps : goal.returns-in_err-controller-2-clause-steps
+returns-in_err-controller-2-clause-steps g c =
+    let p = err_from_is_err_and c.from_residual-in_err-controller-2.result c.from_residual-in_err-controller-2.ensures.1 in
+    let first = c.in_ok-controller in
+    rw (p.1, p.2)
+    (then_broken c.args.limit (g.P.Plant.seen c.args.plant.now) (g.P.Plant.seen c.read.new.plant) (g.P.Plant.seen c.settle_all.new.plant) first.controller first.ensures.steps c.in_err-controller-2.field-0.0 c.in_err-controller-2.ensures.after)
