@@ -1,5 +1,6 @@
 -- A command is answered, behind its mark.
 use Rattle.std.proofs.Common.{◌≡◌, inr, ℕ, Bool, true, List, Option, Some, None, Result, Ok, Err, refl, subst}
+use Rattle.std.specs.Prelude.{OnOk}
 use Rattle.script_text.specs.declared.command.Command.{Command}
 use Rattle.script_text.specs.declared.reply.Reply.{Reply}
 use Rattle.plant.specs.declared.drill.Drill.{Drill}
@@ -12,7 +13,7 @@ use Rattle.plant.specs.Seen.{Seen}
 use Rattle.plant.specs.Told.{with_mark}
 use Rattle.lab_core.specs.Controller.{Control}
 use Rattle.lab_core.specs.Breaks.{unanswered}
-use Rattle.lab_core.specs.Sessions.{Session, Closed, Open}
+use Rattle.lab_core.specs.Sessions.{Session, Closed, Open, Terms}
 use Rattle.lab_core.specs.Tells.{opens_of}
 use Rattle.lab_top.specs.declared.command.CommandFault.{CommandFault}
 use Rattle.lab_top.specs.declared.command.CommandFault.TheVariants as faults
@@ -31,9 +32,9 @@ silent_planned takes planned (Some replies.Planned) by is = by.1
 silent_planned takes planned (Some replies.NoDrill) by is = absurd (cc (by.0, is))
 silent_planned takes planned (Some reply) by is = absurd by
 
-silent_by : (takes : Bool) (drill : Option Drill) (planned : Bool) (reply : Option Reply) → IsPlannedBy takes drill planned reply → IsPlannedBy takes drill planned None
-silent_by takes None planned reply by = by
-silent_by takes (Some drill) planned reply by = silent_planned takes planned reply by
+silent_by : (terms : Terms) (drill : Option Drill) (planned : Bool) (reply : Option Reply) → IsPlannedBy terms drill planned reply → IsPlannedBy terms drill planned None
+silent_by terms None planned reply by = by
+silent_by terms (Some drill) planned reply by = silent_planned terms.takes planned reply by
 
 silent_finds : (drill : Option Drill) (trace : List Event) (command : Command) (mark : Faults) (from to : Session) (opening own : List Event) (reply : Option Reply) → Finds drill from trace (piece_of command mark from to opening own reply)
     → Finds drill from trace (piece_of command mark from Closed opening own None)
@@ -42,8 +43,8 @@ silent_finds None trace command mark Closed to opening own reply (quiet, opened 
 silent_finds None trace command mark Closed to opening own reply (quiet, broken_off breaks nothing closed) = (quiet, broken_off (unanswered refl) nothing refl)
 silent_finds None trace command mark (Open opens) to opening own reply finds = finds
 
-silent_made : (takes : Bool) (command : Command) (old new : Moment) (from to : Session) (reply : Option Reply) → Made takes command old new from to reply → Made takes command old new from Closed None
-silent_made takes command old new from to reply made =
+silent_made : (terms : Terms) (command : Command) (old new : Moment) (from to : Session) (reply : Option Reply) → Made terms command old new from to reply → Made terms command old new from Closed None
+silent_made terms command old new from to reply made =
     let b = made.begun in
     let mark = old.plant.faults in
     record {
@@ -52,7 +53,7 @@ silent_made takes command old new from to reply made =
         own = b.own;
         planned = b.planned;
         told = b.told;
-        planned_by = silent_by takes (drill_of command) b.planned reply b.planned_by;
+        planned_by = silent_by terms (drill_of command) b.planned reply b.planned_by;
         is_piece = map_some old.plant.told (λ t is. record {
           readable = is.readable;
           finds = silent_finds (drill_of command) t.trace command mark from to b.opening b.own reply is.finds;
@@ -60,7 +61,8 @@ silent_made takes command old new from to reply made =
           shuts = λ none shut. refl;
           steps = λ none some. absurd (cc some);
           leads = λ none open_now. absurd (cc open_now);
-          done = λ sound. silent_done takes t.trace command mark from to b.opening b.own reply (is.done sound);
+          compact = λ opens. absurd (cc opens.answered);
+          done = λ sound. silent_done terms t.trace command mark from to b.opening b.own reply (is.done sound);
         }) b.is_piece;
       };
       later = made.later;
@@ -71,27 +73,27 @@ silent_made takes command old new from to reply made =
       goes_on = λ some. absurd (cc some);
     }
 
-pub answered_not : (takes : Bool) (command : Command) (old mid new : Moment) (from : Session) (written : Option (List ℕ)) (fault : CommandFault) → mid ≡ marked old → Ends takes command mid new from (Err fault)
-    → Answered takes command old new from written written (Err fault)
-answered_not takes command old mid new from written fault same ends = by fault (subst (λ was. Ends takes command was new from (Err fault)) same ends)
+pub answered_not : (terms : Terms) (command : Command) (old mid new : Moment) (from : Session) (written : Option (List ℕ)) (taken : Reply → Type 0) (fault : CommandFault) → mid ≡ marked old
+    → Ends terms command mid new from (Err fault) → Answered terms command old new from written written taken (Err fault)
+answered_not terms command old mid new from written taken fault same ends = by fault (subst (λ was. Ends terms command was new from (Err fault)) same ends)
   where
-    by : (fault : CommandFault) → Ends takes command (marked old) new from (Err fault) → Answered takes command old new from written written (Err fault)
+    by : (fault : CommandFault) → Ends terms command (marked old) new from (Err fault) → Answered terms command old new from written written taken (Err fault)
     by faults.Memory made = (inr made, refl)
     by faults.WriteFault made = absurd made
     by (faults.JournalBad side at) found = (found, refl)
 
 -- no write fails before there is a reply
-pub not_written : (takes : Bool) (command : Command) (old new : Moment) (from : Session) (fault : CommandFault) → Ends takes command old new from (Err fault) → (let result : Result (Unit {0}) CommandFault = Err fault in result ≡ Err faults.WriteFault) → ⊥
-not_written takes command old new from faults.Memory ends is = cc is
-not_written takes command old new from faults.WriteFault ends is = ends
-not_written takes command old new from (faults.JournalBad side at) ends is = cc is
+pub not_written : (terms : Terms) (command : Command) (old new : Moment) (from : Session) (fault : CommandFault) → Ends terms command old new from (Err fault) → (let result : Result (Unit {0}) CommandFault = Err fault in result ≡ Err faults.WriteFault) → ⊥
+not_written terms command old new from faults.Memory ends is = cc is
+not_written terms command old new from faults.WriteFault ends is = ends
+not_written terms command old new from (faults.JournalBad side at) ends is = cc is
 
-pub answered_sent : (takes : Bool) (command : Command) (old mid new : Moment) (from : Session) (reply : Reply) (before now : Option (List ℕ)) (result : Result (Unit {0}) CommandFault) → mid ≡ marked old
-    → Ends takes command mid new from (Ok reply) → Sent before now (text_of reply) result → Answered takes command old new from before now result
-answered_sent takes command old mid new from reply before now result same ends sent = by result (subst (λ was. Ends takes command was new from (Ok reply)) same ends) sent
+pub answered_sent : (terms : Terms) (command : Command) (old mid new : Moment) (from : Session) (reply : Reply) (before now : Option (List ℕ)) (taken : Reply → Type 0) (result : Result (Unit {0}) CommandFault)
+    → mid ≡ marked old → Ends terms command mid new from (Ok reply) → Sent before now (text_of reply) result → OnOk result (taken reply) → Answered terms command old new from before now taken result
+answered_sent terms command old mid new from reply before now taken result same ends sent took = by result (subst (λ was. Ends terms command was new from (Ok reply)) same ends) sent took
   where
-    by : (result : Result (Unit {0}) CommandFault) → Ends takes command (marked old) new from (Ok reply) → Sent before now (text_of reply) result → Answered takes command old new from before now result
-    by (Ok done) made sent = (reply, made.0, made.1, sent)
-    by (Err faults.Memory) made sent = (inr (silent_made takes command (marked old) new from _ _ made.1), sent)
-    by (Err faults.WriteFault) made sent = (reply, made.0, made.1, sent.0, sent.1, sent.2)
-    by (Err (faults.JournalBad side at)) made sent = absurd sent
+    by : (result : Result (Unit {0}) CommandFault) → Ends terms command (marked old) new from (Ok reply) → Sent before now (text_of reply) result → OnOk result (taken reply) → Answered terms command old new from before now taken result
+    by (Ok done) made sent took = (reply, made.0, made.1, sent, took)
+    by (Err faults.Memory) made sent took = (inr (silent_made terms command (marked old) new from _ _ made.1), sent)
+    by (Err faults.WriteFault) made sent took = (reply, made.0, made.1, sent.0, sent.1, sent.2)
+    by (Err (faults.JournalBad side at)) made sent took = absurd sent

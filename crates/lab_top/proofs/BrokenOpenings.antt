@@ -20,7 +20,7 @@ use Rattle.journal_runs.proofs.Quiet.{shows}
 use Rattle.journal_runs.proofs.Stood.{sound_stands, stood_alike, stood_before, stood_settled}
 use Rattle.lab_state.specs.Texts.{the_texts}
 use Rattle.recovery.specs.Due.{swaps_of}
-use Rattle.swap_turns.specs.Settling.{BreaksOff}
+use Rattle.swap_turns.specs.Settling.{Settles}
 use Rattle.swap_turns.specs.Turning.{Outcome, Unwritten, Stopped as Halted}
 use Rattle.script_text.specs.declared.command.Command.{Command}
 use Rattle.script_text.specs.declared.reply.Reply.TheVariants as replies
@@ -29,9 +29,9 @@ use Rattle.script_text.specs.Drills.{drill_of}
 use Rattle.lab_core.specs.Breaks.{Breaks, stopped, failed, unanswered}
 use Rattle.lab_core.specs.LabSteps.{not_opened}
 use Rattle.lab_core.specs.Moments.{StandForLab, IsLabAt, IsLabOfImage, IsLengthAt}
-use Rattle.lab_core.specs.Opening.{HasRead, IsJournal, OpenEnds, OpenSteps, ReadSteps}
-use Rattle.lab_core.specs.Recovery.{OpensInPart, SettlesSome, reading as in_reading, settling as in_settling, within}
-use Rattle.lab_core.specs.Sessions.{Closed}
+use Rattle.lab_core.specs.Opening.{HasRead, IsJournal, OpenEnds, OpenSteps, ReadSteps, SettlesInPart, ShiftsInPart}
+use Rattle.lab_core.specs.Recovery.{OpensInPart, SettlesSome, Shifts, reading as in_reading, settling as in_settling, shifting as in_shifting, within}
+use Rattle.lab_core.specs.Sessions.{Closed, Terms}
 use Rattle.lab_top.specs.Pieces.{Finds, FirstLab, IsDone, IsPiece, Piece, StepsFrom, broken_off, is_early, leaves_one, may_shut}
 use Rattle.lab_top.specs.Answering.{piece_of}
 use Rattle.lab_top.proofs.Stepping.{AsRead, ImagesAt, after_of, done_at, has_started, lab_length, late_enough, not_early, restarted_lab, step_of, still_synced, told_so}
@@ -64,15 +64,15 @@ synced_with steps a b i =
     (list_any-append (is_sync_of A) steps (Restarted a b ∷ []) ∙ or_none _) i
     && (list_any-append (is_sync_of B) steps (Restarted a b ∷ []) ∙ or_none _) i
 
-module _ (takes : Bool) (trace : List Event) (command : Command) (mark : Faults) (no_drill : drill_of command ≡ None) where
+module _ (terms : Terms) (trace : List Event) (command : Command) (mark : Faults) (no_drill : drill_of command ≡ None) where
   abbrev of : List Event → Option Reply → Piece
   of opening reply = piece_of command mark Closed Closed opening [] reply
 
   abbrev Done : List Event → Option Reply → Type 0
-  Done opening reply = IsSound the_texts trace → IsDone takes trace (of opening reply)
+  Done opening reply = IsSound the_texts trace → IsDone terms trace (of opening reply)
 
   -- THE STEP of such a piece, as far as the opening came
-  broken_steps : (opening : List Event) (reply : Option Reply) (s after : LabState) (n : (k : ℕ) × IsLengthAt (trace ++ opening) k) → OpensInPart s opening after → Breaks opening reply → StepsFrom takes trace (of opening reply) s after
+  broken_steps : (opening : List Event) (reply : Option Reply) (s after : LabState) (n : (k : ℕ) × IsLengthAt (trace ++ opening) k) → OpensInPart s opening after → Breaks opening reply → StepsFrom terms trace (of opening reply) s after
   broken_steps opening reply s after n part breaks = record {
     length = n.0;
     length_is = n.1;
@@ -80,7 +80,7 @@ module _ (takes : Bool) (trace : List Event) (command : Command) (mark : Faults)
     session = Closed;
     behind = [];
     is_told = told_so reply Closed;
-    step = step_of takes _ s Closed command opening [] (after_of reply after Closed) no_drill (not_opened (record { part = part; nothing = refl; breaks = breaks; session = refl }));
+    step = step_of terms _ s Closed command opening [] (after_of reply after Closed) no_drill (not_opened (record { part = part; nothing = refl; breaks = breaks; session = refl }));
   }
 
   -- an image after such an opening
@@ -89,20 +89,20 @@ module _ (takes : Bool) (trace : List Event) (command : Command) (mark : Faults)
 
   module _ (opening : List Event) (reply : Option Reply) (breaks : Breaks opening reply) (first last : LabState) (from : FirstLab (is_early (of opening reply)) trace first) (at : IsLabAt (trace ++ opening) last) (part : OpensInPart first opening last)
       (sound : IsSound the_texts (trace ++ opening)) where
-    broken_done : (is_some reply ≡ true → ImagesAt takes trace (of opening reply) (leaves_one Closed reply) (trace ++ opening) last) → IsDone takes trace (of opening reply)
+    broken_done : (is_some reply ≡ true → ImagesAt terms trace (of opening reply) (leaves_one Closed reply) (trace ++ opening) last) → IsDone terms trace (of opening reply)
     broken_done images =
-        done_at takes trace (of opening reply) (trace ++ opening) (ap (λ l. trace ++ l) (append-nil opening)) first last from (broken_steps opening reply first last (lab_length (trace ++ opening) last at) part breaks)
+        done_at terms trace (of opening reply) (trace ++ opening) (ap (λ l. trace ++ l) (append-nil opening)) first last from (broken_steps opening reply first last (lab_length (trace ++ opening) last at) part breaks)
         (λ opens. breaks_not opening reply breaks opens.no_miss opens.no_restart opens.answered) sound at images
 
     -- the controller is closed, and the plant isn't started again
-    closed_done : leaves_one Closed reply ≡ false → (is_some reply ≡ true → Each opening) → IsDone takes trace (of opening reply)
+    closed_done : leaves_one Closed reply ≡ false → (is_some reply ≡ true → Each opening) → IsDone terms trace (of opening reply)
     closed_done other each =
-        broken_done (λ some. subst (λ b. ImagesAt takes trace (of opening reply) b (trace ++ opening) last) (sym other)
+        broken_done (λ some. subst (λ b. ImagesAt terms trace (of opening reply) b (trace ++ opening) last) (sym other)
         (λ a b there. let x = each some a b there in (x.0, x.1, x.2, x.3, broken_steps opening reply x.0 x.1 (lab_length (trace ++ opening) last at) x.4 breaks)))
 
   -- a stopped plant is started again with an image
   again_done : (steps : List Event) (a b : List ℕ) → has_restart steps ≡ false → ArePossible (trace ++ steps) a b → IsSound the_texts (trace ++ steps) → (first last : LabState)
-      → FirstLab (is_early (of (steps ++ Restarted a b ∷ []) (Some replies.Stopped))) trace first → StandForLab a b last → OpensInPart first (steps ++ Restarted a b ∷ []) last → IsDone takes trace (of (steps ++ Restarted a b ∷ []) (Some replies.Stopped))
+      → FirstLab (is_early (of (steps ++ Restarted a b ∷ []) (Some replies.Stopped))) trace first → StandForLab a b last → OpensInPart first (steps ++ Restarted a b ∷ []) last → IsDone terms trace (of (steps ++ Restarted a b ∷ []) (Some replies.Stopped))
   again_done steps a b none there sound first last from stand part =
       let opening = steps ++ Restarted a b ∷ [] in
       let join : (trace ++ steps) ++ Restarted a b ∷ [] ≡ trace ++ opening = append_assoc trace steps (Restarted a b ∷ []) in
@@ -113,7 +113,7 @@ module _ (takes : Bool) (trace : List Event) (command : Command) (mark : Faults)
   abbrev OnlyOfJournal : List Event → Type 0
   OnlyOfJournal opening = has_command opening ≡ true → IsJournal (disk A trace).reads (disk B trace).reads (2 ^ 32)
 
-  broken_piece : (opening : List Event) (reply : Option Reply) → AsRead trace → Breaks opening reply → OnlyOfJournal opening → Done opening reply → IsPiece takes trace (of opening reply)
+  broken_piece : (opening : List Event) (reply : Option Reply) → AsRead trace → Breaks opening reply → OnlyOfJournal opening → Done opening reply → IsPiece terms trace (of opening reply)
   broken_piece opening reply readable breaks journal done = record {
     readable = readable;
     finds = subst (λ (d : Option Drill). Finds d Closed trace (of opening reply)) (sym no_drill) (journal, broken_off breaks refl refl);
@@ -121,6 +121,7 @@ module _ (takes : Bool) (trace : List Event) (command : Command) (mark : Faults)
     shuts = λ none shut. breaks_as may_shut true refl refl refl opening reply breaks;
     steps = λ none some miss restart. breaks_not opening reply breaks miss restart some;
     leads = λ none open_now. absurd (cc open_now);
+    compact = λ opens. breaks_not opening reply breaks opens.no_miss opens.no_restart opens.answered;
     done = done;
   }
 
@@ -130,7 +131,7 @@ module _ (takes : Bool) (trace : List Event) (command : Command) (mark : Faults)
     read_quiet sent = absurd (cc (o.no_command, sent))
 
     -- a call of the disk failed, memory was wanting, or the sides are no journal
-    read_cut : (reply : Option Reply) → leaves_one Closed reply ≡ false → Breaks steps reply → IsPiece takes trace (of steps reply)
+    read_cut : (reply : Option Reply) → leaves_one Closed reply ≡ false → Breaks steps reply → IsPiece terms trace (of steps reply)
     read_cut reply other breaks = broken_piece steps reply readable breaks read_quiet (λ sound.
         let now = sound_stands the_texts trace _ _ readable sound in
         closed_done steps reply breaks now.0 now.0 (subst (λ b. FirstLab b trace now.0) (sym (not_early Closed steps o.no_restart)) now.1) ((stood_alike the_texts _ _ _ _ now.0 o.alike).1 now.1) (in_reading o.no_command refl) (o.sound sound) other
@@ -149,16 +150,16 @@ module _ (takes : Bool) (trace : List Event) (command : Command) (mark : Faults)
       which_first sound true both = let now = sound_stands the_texts trace _ _ readable sound in (now.0, now.1, stood_settled the_texts trace steps a b now.0 o.settled both there now.1)
       which_first sound false both = let x = stood_before the_texts trace steps a b o.before there sound in (x.2, record { a = x.0; b = x.1; possible = x.3; stand = x.4 }, x.5)
 
-      read_again : IsPiece takes trace (of (steps ++ Restarted a b ∷ []) (Some replies.Stopped))
+      read_again : IsPiece terms trace (of (steps ++ Restarted a b ∷ []) (Some replies.Stopped))
       read_again = broken_piece (steps ++ Restarted a b ∷ []) (Some replies.Stopped) readable (again_breaks steps a b o.no_restart) (λ sent. absurd (cc (again_quiet, sent))) (λ sound.
           let s = which_first sound (are_synced steps) refl in
           again_done steps a b o.no_restart there (o.sound sound) s.0 s.0 (subst (λ e. FirstLab e trace s.0) (sym early) s.1) s.2 (in_reading again_quiet refl))
 
-  -- IT BROKE OFF IN SETTLING
-  module _ (readable : AsRead trace) (reading moving : List Event) (o : ReadSteps trace reading) (no_restart : has_restart moving ≡ false) (sound : IsSound the_texts trace → IsSound the_texts (trace ++ (reading ++ moving)))
-      (start : LabState) (read : HasRead trace reading (2 ^ 32) start) where
+  -- IT BROKE OFF BEHIND READING, in a part that led to a lab
+  module _ (readable : AsRead trace) (reading behind : List Event) (o : ReadSteps trace reading) (no_restart : has_restart behind ≡ false) (sound : IsSound the_texts trace → IsSound the_texts (trace ++ (reading ++ behind)))
+      (start : LabState) (read : HasRead trace reading (2 ^ 32) start) (Part : List Event → LabState → Type 0) (part_of : (opening more : List Event) (after : LabState) → opening ≡ reading ++ more → Part more after → OpensInPart start opening after) where
     abbrev steps : List Event
-    steps = reading ++ moving
+    steps = reading ++ behind
 
     first_at : IsLabAt trace start
     first_at = (stood_alike the_texts _ _ _ _ start o.alike).0 read.lab
@@ -167,74 +168,130 @@ module _ (takes : Bool) (trace : List Event) (command : Command) (mark : Faults)
     from_first : (opening more : List Event) (reply : Option Reply) → opening ≡ reading ++ more → FirstLab (is_early (of opening reply)) trace start
     from_first opening more reply is = subst (λ b. FirstLab b trace start) (sym (late_enough opening (ap are_synced is ∙ still_synced reading more read.synced))) first_at
 
-    part_of : (opening more : List Event) (after : LabState) → opening ≡ reading ++ more → SettlesSome start [] more after → OpensInPart start opening after
-    part_of opening more after is some = in_settling reading more is o.no_command read.no_miss o.no_restart some
-
-    settling_cut : (reply : Option Reply) → leaves_one Closed reply ≡ false → Breaks steps reply → (last : IsSound the_texts trace → (lab : LabState) × IsLabAt (trace ++ steps) lab × SettlesSome start [] moving lab)
-        → (is_some reply ≡ true → IsSound the_texts trace → (a b : List ℕ) → ArePossible (trace ++ steps) a b → (lab : LabState) × StandForLab a b lab × SettlesSome start [] moving lab) → IsPiece takes trace (of steps reply)
-    settling_cut reply other breaks last each = broken_piece steps reply readable breaks (λ sent. read.journal) (λ first.
+    part_cut : (reply : Option Reply) → leaves_one Closed reply ≡ false → Breaks steps reply → (last : IsSound the_texts trace → (lab : LabState) × IsLabAt (trace ++ steps) lab × Part behind lab)
+        → (is_some reply ≡ true → IsSound the_texts trace → (a b : List ℕ) → ArePossible (trace ++ steps) a b → (lab : LabState) × StandForLab a b lab × Part behind lab) → IsPiece terms trace (of steps reply)
+    part_cut reply other breaks last each = broken_piece steps reply readable breaks (λ sent. read.journal) (λ first.
         let x = last first in
-        closed_done steps reply breaks start x.0 (from_first steps moving reply refl) x.1 (part_of steps moving x.0 refl x.2) (sound first) other
-        (λ some a b at. let y = each some first a b at in (start, y.0, record { a = (disk A trace).reads; b = (disk B trace).reads; possible = readable; stand = first_at }, y.1, part_of steps moving y.0 refl y.2)))
-
-    -- by what is left where a call of the journal failed, or the plant stopped
-    module _ (outcome : Outcome) (images : IsSound the_texts trace → (a b : List ℕ) → ArePossible (trace ++ steps) a b → (after : LabState) × StandForLab a b after × BreaksOff start (swaps_of [] start.experiments) moving outcome after) where
-      each_some : IsSound the_texts trace → (a b : List ℕ) → ArePossible (trace ++ steps) a b → (lab : LabState) × StandForLab a b lab × SettlesSome start [] moving lab
-      each_some first a b at = let x = images first a b at in (x.0, x.1, within outcome moving [] (sym (append-nil moving)) x.2 (inl refl))
-
-      broken_cut : AsRead (trace ++ steps) → (reply : Option Reply) → leaves_one Closed reply ≡ false → Breaks steps reply → IsPiece takes trace (of steps reply)
-      broken_cut then reply other breaks = settling_cut reply other breaks (λ first. each_some first _ _ then) (λ some. each_some)
+        closed_done steps reply breaks start x.0 (from_first steps behind reply refl) x.1 (part_of steps behind x.0 refl x.2) (sound first) other
+        (λ some a b at. let y = each some first a b at in (start, y.0, record { a = (disk A trace).reads; b = (disk B trace).reads; possible = readable; stand = first_at }, y.1, part_of steps behind y.0 refl y.2)))
 
     no_start : has_restart steps ≡ false
-    no_start = shows is_restart steps reading moving false false refl o.no_restart no_restart
+    no_start = shows is_restart steps reading behind false false refl o.no_restart no_restart
 
-    broken_again : (IsSound the_texts trace → (a b : List ℕ) → ArePossible (trace ++ steps) a b → (after : LabState) × StandForLab a b after × BreaksOff start (swaps_of [] start.experiments) moving Halted after)
-        → (a b : List ℕ) → ArePossible (trace ++ steps) a b → IsPiece takes trace (of (steps ++ Restarted a b ∷ []) (Some replies.Stopped))
-    broken_again images a b there = broken_piece (steps ++ Restarted a b ∷ []) (Some replies.Stopped) readable (again_breaks steps a b no_start) (λ sent. read.journal) (λ first.
-        let more = moving ++ Restarted a b ∷ [] in
-        let join : steps ++ Restarted a b ∷ [] ≡ reading ++ more = append_assoc reading moving (Restarted a b ∷ []) in
-        let x = images first a b there in
-        again_done steps a b no_start there (sound first) start x.0 (from_first (steps ++ Restarted a b ∷ []) more (Some replies.Stopped) join) x.1
-        (part_of (steps ++ Restarted a b ∷ []) more x.0 join (within Halted moving (Restarted a b ∷ []) refl x.2 (inr (a, b, refl)))))
+    part_again : (a b : List ℕ) → ArePossible (trace ++ steps) a b → (IsSound the_texts trace → (lab : LabState) × StandForLab a b lab × Part (behind ++ Restarted a b ∷ []) lab) → IsPiece terms trace (of (steps ++ Restarted a b ∷ []) (Some replies.Stopped))
+    part_again a b there image = broken_piece (steps ++ Restarted a b ∷ []) (Some replies.Stopped) readable (again_breaks steps a b no_start) (λ sent. read.journal) (λ first.
+        let more = behind ++ Restarted a b ∷ [] in
+        let join : steps ++ Restarted a b ∷ [] ≡ reading ++ more = append_assoc reading behind (Restarted a b ∷ []) in
+        let x = image first in
+        again_done steps a b no_start there (sound first) start x.0 (from_first (steps ++ Restarted a b ∷ []) more (Some replies.Stopped) join) x.1 (part_of (steps ++ Restarted a b ∷ []) more x.0 join x.2))
+
+  -- IT BROKE OFF IN SETTLING
+  abbrev Settling : LabState → List Event → LabState → Type 0
+  Settling start more lab = SettlesSome start [] more lab
+
+  settling_part : (reading : List Event) (limit : ℕ) (start : LabState) → ReadSteps trace reading → HasRead trace reading limit start → (opening more : List Event) (after : LabState) → opening ≡ reading ++ more → Settling start more after → OpensInPart start opening after
+  settling_part reading limit start o read opening more after is settled = in_settling reading more is o.no_command read.no_miss o.no_restart settled
+
+  -- IT BROKE OFF IN THE MOVE OF THE JOURNAL
+  record Shifting (start : LabState) (more : List Event) (lab : LabState) : Type 0 where
+    moving : List Event
+    shifting : List Event
+    parts : more ≡ moving ++ shifting
+    outcomes : List Outcome
+    settles : Settles start (swaps_of [] start.experiments) outcomes moving lab
+    shifts : Shifts shifting
+
+  shifting_part : (reading : List Event) (limit : ℕ) (start : LabState) → ReadSteps trace reading → HasRead trace reading limit start → (opening more : List Event) (after : LabState) → opening ≡ reading ++ more → Shifting start more after → OpensInPart start opening after
+  shifting_part reading limit start o read opening more after is x = in_shifting reading x.moving x.shifting (is ∙ ap (λ l. reading ++ l) x.parts) o.no_command read.no_miss o.no_restart x.outcomes x.settles x.shifts
 
   -- BY ITS FAULT, without a start of the plant
-  module _ (reading moving : List Event) (fault : OpenFault) (o : OpenSteps trace reading moving (2 ^ 32) (Err fault)) (readable : AsRead trace) where
+  module _ (reading behind : List Event) (fault : OpenFault) (o : OpenSteps trace reading behind (2 ^ 32) (Err fault)) (readable : AsRead trace) where
     abbrev all : List Event
-    all = reading ++ moving
+    all = reading ++ behind
 
-    nothing_moved : moving ≡ [] → reading ≡ all
-    nothing_moved none = sym (append-nil reading) ∙ ap (λ l. reading ++ l) (sym none)
+    nothing_behind : behind ≡ [] → reading ≡ all
+    nothing_behind none = sym (append-nil reading) ∙ ap (λ l. reading ++ l) (sym none)
 
     pub started_nowhere : has_restart all ≡ false
-    started_nowhere = shows is_restart all reading moving false false refl o.reads.no_restart o.no_restart
+    started_nowhere = shows is_restart all reading behind false false refl o.reads.no_restart o.no_restart
+
+    missed_behind : has_miss behind ≡ true → has_miss all ≡ true
+    missed_behind missed = shows is_miss all reading behind (has_miss reading) true refl refl missed ∙ or_true (has_miss reading)
 
     pub missed_in : fault ≡ openings.Plant → has_miss all ≡ true
-    missed_in is = by (subst (λ f. OpenEnds trace reading moving (2 ^ 32) (Err f)) is o.ends)
+    missed_in is = by (subst (λ f. OpenEnds trace reading behind (2 ^ 32) (Err f)) is o.ends)
       where
-        by : OpenEnds trace reading moving (2 ^ 32) (Err openings.Plant) → has_miss all ≡ true
-        by (inl read) = ap has_miss (sym (nothing_moved read.0)) ∙ read.1
-        by (inr settling) = shows is_miss all reading moving (has_miss reading) true refl refl settling.0 ∙ or_true (has_miss reading)
+        by : OpenEnds trace reading behind (2 ^ 32) (Err openings.Plant) → has_miss all ≡ true
+        by (inl read) = ap has_miss (sym (nothing_behind read.0)) ∙ read.1
+        by (inr (inl settling)) = missed_behind settling.0
+        by (inr (inr shifting)) = missed_behind shifting.0
 
-    pub cut_piece : (reply : Option Reply) → leaves_one Closed reply ≡ false → Breaks all reply → (is_some reply ≡ true → fault ≡ openings.Plant) → AsRead (trace ++ all) → IsPiece takes trace (of all reply)
+    -- the move of the journal
+    module _ (p : ShiftsInPart trace reading behind (2 ^ 32)) where
+      shifting_so : Shifting p.settled.start behind p.lab
+      shifting_so = record { moving = p.moving; shifting = p.shifting; parts = p.parts; outcomes = p.settled.outcomes; settles = p.settled.settles; shifts = p.shifts }
+
+      shifting_cut : (reply : Option Reply) → leaves_one Closed reply ≡ false → Breaks all reply → AsRead (trace ++ all) → IsPiece terms trace (of all reply)
+      shifting_cut reply other breaks then =
+          let s = p.settled in
+          part_cut readable reading behind o.reads o.no_restart o.sound s.start s.read (Shifting s.start) (shifting_part reading (2 ^ 32) s.start o.reads s.read) reply other breaks
+          (λ first. (p.lab, p.images first _ _ then, shifting_so)) (λ some first a b at. (p.lab, p.images first a b at, shifting_so))
+
+      shifting_again : (a b : List ℕ) → ArePossible (trace ++ all) a b → IsPiece terms trace (of (all ++ Restarted a b ∷ []) (Some replies.Stopped))
+      shifting_again a b there =
+          let s = p.settled in
+          let again : Shifting s.start (behind ++ Restarted a b ∷ []) p.lab = record {
+            moving = p.moving;
+            shifting = p.shifting ++ Restarted a b ∷ [];
+            parts = ap (λ l. l ++ Restarted a b ∷ []) p.parts ∙ append_assoc p.moving p.shifting (Restarted a b ∷ []);
+            outcomes = s.outcomes;
+            settles = s.settles;
+            shifts = shows is_command (p.shifting ++ Restarted a b ∷ []) p.shifting (Restarted a b ∷ []) false false refl p.shifts refl;
+          } in
+          part_again readable reading behind o.reads o.no_restart o.sound s.start s.read (Shifting s.start) (shifting_part reading (2 ^ 32) s.start o.reads s.read) a b there (λ first. (p.lab, p.images first a b there, again))
+
+    -- the settling, by what is left where a call of the journal failed, or the plant stopped
+    module _ (outcome : Outcome) (p : SettlesInPart trace reading behind (2 ^ 32) outcome) where
+      settling_cut : (reply : Option Reply) → leaves_one Closed reply ≡ false → Breaks all reply → AsRead (trace ++ all) → IsPiece terms trace (of all reply)
+      settling_cut reply other breaks then =
+          part_cut readable reading behind o.reads o.no_restart o.sound p.start p.read (Settling p.start) (settling_part reading (2 ^ 32) p.start o.reads p.read) reply other breaks
+          (λ first. each_some first _ _ then) (λ some. each_some)
+        where
+          each_some : IsSound the_texts trace → (a b : List ℕ) → ArePossible (trace ++ all) a b → (lab : LabState) × StandForLab a b lab × Settling p.start behind lab
+          each_some first a b at = let x = p.images first a b at in (x.0, x.1, within outcome behind [] (sym (append-nil behind)) x.2 (inl refl))
+
+    settling_again : SettlesInPart trace reading behind (2 ^ 32) Halted → (a b : List ℕ) → ArePossible (trace ++ all) a b → IsPiece terms trace (of (all ++ Restarted a b ∷ []) (Some replies.Stopped))
+    settling_again p a b there =
+        part_again readable reading behind o.reads o.no_restart o.sound p.start p.read (Settling p.start) (settling_part reading (2 ^ 32) p.start o.reads p.read) a b there
+        (λ first. let x = p.images first a b there in (x.0, x.1, within Halted behind (Restarted a b ∷ []) refl x.2 (inr (a, b, refl))))
+
+    pub cut_piece : (reply : Option Reply) → leaves_one Closed reply ≡ false → Breaks all reply → (is_some reply ≡ true → fault ≡ openings.Plant) → AsRead (trace ++ all) → IsPiece terms trace (of all reply)
     cut_piece reply other breaks only then = by fault o.ends only
       where
-        read_only : moving ≡ [] → IsPiece takes trace (of all reply)
-        read_only none = subst (λ l. IsPiece takes trace (of l reply)) (nothing_moved none) (read_cut readable reading o.reads reply other (subst (λ l. Breaks l reply) (sym (nothing_moved none)) breaks))
+        read_only : behind ≡ [] → IsPiece terms trace (of all reply)
+        read_only none = subst (λ l. IsPiece terms trace (of l reply)) (nothing_behind none) (read_cut readable reading o.reads reply other (subst (λ l. Breaks l reply) (sym (nothing_behind none)) breaks))
 
-        by : (f : OpenFault) → OpenEnds trace reading moving (2 ^ 32) (Err f) → (is_some reply ≡ true → f ≡ openings.Plant) → IsPiece takes trace (of all reply)
+        by : (f : OpenFault) → OpenEnds trace reading behind (2 ^ 32) (Err f) → (is_some reply ≡ true → f ≡ openings.Plant) → IsPiece terms trace (of all reply)
         by f (inl read) only = read_only read.0
-        by openings.Plant (inr (missed, p)) only = broken_cut readable reading moving o.reads o.no_restart o.sound p.start p.read Unwritten p.images then reply other breaks
-        by openings.Stopped (inr p) only = broken_cut readable reading moving o.reads o.no_restart o.sound p.start p.read Halted p.images then reply other breaks
-        by openings.Memory (inr m) only = settling_cut readable reading moving o.reads o.no_restart o.sound m.start m.read reply other breaks (λ first. (m.lab, m.at, m.some)) (λ some. let never : openings.Memory ≡ openings.Plant = only some in absurd (cc never))
-        by (openings.Bad side at) (inr never) only = absurd never
+        by openings.Plant (inr (inl (missed, p))) only = settling_cut Unwritten p reply other breaks then
+        by openings.Plant (inr (inr (missed, p))) only = shifting_cut p reply other breaks then
+        by openings.Stopped (inr (inl p)) only = settling_cut Halted p reply other breaks then
+        by openings.Stopped (inr (inr p)) only = shifting_cut p reply other breaks then
+        by openings.Memory (inr (inl m)) only =
+            part_cut readable reading behind o.reads o.no_restart o.sound m.start m.read (Settling m.start) (settling_part reading (2 ^ 32) m.start o.reads m.read) reply other breaks (λ first. (m.lab, m.at, m.some))
+            (λ some. let never : openings.Memory ≡ openings.Plant = only some in absurd (cc never))
+        by openings.Memory (inr (inr never)) only = absurd never
+        by (openings.Bad side at) (inr (inl never)) only = absurd never
+        by (openings.Bad side at) (inr (inr never)) only = absurd never
 
   -- where the plant stopped, and is started again
-  pub again_piece : (reading moving : List Event) → OpenSteps trace reading moving (2 ^ 32) (Err openings.Stopped) → AsRead trace → (a b : List ℕ) → ArePossible (trace ++ (reading ++ moving)) a b
-      → IsPiece takes trace (of ((reading ++ moving) ++ Restarted a b ∷ []) (Some replies.Stopped))
-  again_piece reading moving o readable a b there = by o.ends
+  pub again_piece : (reading behind : List Event) → OpenSteps trace reading behind (2 ^ 32) (Err openings.Stopped) → AsRead trace → (a b : List ℕ) → ArePossible (trace ++ (reading ++ behind)) a b
+      → IsPiece terms trace (of ((reading ++ behind) ++ Restarted a b ∷ []) (Some replies.Stopped))
+  again_piece reading behind o readable a b there = by o.ends
     where
-      by : OpenEnds trace reading moving (2 ^ 32) (Err openings.Stopped) → IsPiece takes trace (of ((reading ++ moving) ++ Restarted a b ∷ []) (Some replies.Stopped))
+      by : OpenEnds trace reading behind (2 ^ 32) (Err openings.Stopped) → IsPiece terms trace (of ((reading ++ behind) ++ Restarted a b ∷ []) (Some replies.Stopped))
       by (inl (none, read)) =
-          let same = nothing_moved reading moving openings.Stopped o readable none in
-          subst (λ l. IsPiece takes trace (of (l ++ Restarted a b ∷ []) (Some replies.Stopped))) same (read_again readable reading o.reads a b (subst (λ l. ArePossible (trace ++ l) a b) (sym same) there))
-      by (inr p) = broken_again readable reading moving o.reads o.no_restart o.sound p.start p.read p.images a b there
+          let same = nothing_behind reading behind openings.Stopped o readable none in
+          subst (λ l. IsPiece terms trace (of (l ++ Restarted a b ∷ []) (Some replies.Stopped))) same (read_again readable reading o.reads a b (subst (λ l. ArePossible (trace ++ l) a b) (sym same) there))
+      by (inr (inl p)) = settling_again reading behind openings.Stopped o readable p a b there
+      by (inr (inr p)) = shifting_again reading behind openings.Stopped o readable p a b there

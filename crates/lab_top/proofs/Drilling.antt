@@ -20,7 +20,7 @@ use Rattle.script_text.specs.declared.reply.Reply.TheVariants as replies
 use Rattle.lab_core.specs.Controller.{Control, WorksWith}
 use Rattle.lab_core.specs.LabSteps.{Drills, JudgedBeside, StepOf, is_planned, is_refused, wants_memory}
 use Rattle.lab_core.specs.Moments.{AllStandFor, IsLabAt, IsLengthAt}
-use Rattle.lab_core.specs.Sessions.{OpenSwap, Session, Closed, Open, AreOpenedBy, IsSince}
+use Rattle.lab_core.specs.Sessions.{OpenSwap, Session, Closed, Open, AreOpenedBy, IsSince, Terms}
 use Rattle.lab_core.specs.Tells.{opens_of}
 use Rattle.lab_top.specs.declared.command.CommandFault.{CommandFault}
 use Rattle.lab_top.specs.declared.command.CommandFault.TheVariants as faults
@@ -30,14 +30,14 @@ use Rattle.lab_top.proofs.Obeyed.{ends_of, later_same, map_both, steps_none}
 use Rattle.lab_top.proofs.Stepping.{AsRead, ImagesAt, after_of, all_some, done_at, lab_length, map_some, not_early, standing_all, standing_lab, told_so}
 
 -- THE STEP OF A DRILL over one trace: it has no steps, and its reply, if it has one, leaves the session as it was
-abbrev Stays : Bool → Session → Session → Option Reply → Type 0
-Stays takes from to reply = (s : LabState) → Drills takes s from [] (after_of reply s to)
+abbrev Stays : Terms → Session → Session → Option Reply → Type 0
+Stays terms from to reply = (s : LabState) → Drills terms.takes s from [] (after_of reply s to)
 
-module _ (takes : Bool) (trace : List Event) (command : Command) (mark : Faults) (drill : Drill) (is : drill_of command ≡ Some drill) (possible : AsRead trace) (sound : IsSound the_texts trace) (from to : Session) (reply : Option Reply) (stays : Stays takes from to reply) where
+module _ (terms : Terms) (trace : List Event) (command : Command) (mark : Faults) (drill : Drill) (is : drill_of command ≡ Some drill) (possible : AsRead trace) (sound : IsSound the_texts trace) (from to : Session) (reply : Option Reply) (stays : Stays terms from to reply) where
   none : trace ≡ trace ++ []
   none = sym (append-nil trace)
 
-  drill_steps : (s : LabState) → StepsFrom takes trace (piece_of command mark from to [] [] reply) s s
+  drill_steps : (s : LabState) → StepsFrom terms trace (piece_of command mark from to [] [] reply) s s
   drill_steps s =
       let lab = sound_stands the_texts trace _ _ possible sound in
       let n = subst (λ l. (k : ℕ) × IsLengthAt l k) none (lab_length trace lab.0 lab.1) in
@@ -48,36 +48,36 @@ module _ (takes : Bool) (trace : List Event) (command : Command) (mark : Faults)
         session = to;
         behind = [];
         is_told = told_so reply to;
-        step = subst (λ (d : Option Drill). StepOf d (JudgedBeside command) takes (record { length = n.0; limit = 2 ^ 32; devices = mark.devices }) s from [] [] (after_of reply s to)) (sym is) (refl, stays s);
+        step = subst (λ (d : Option Drill). StepOf d (JudgedBeside terms.rule command) terms (record { length = n.0; limit = 2 ^ 32; devices = mark.devices }) s from [] [] (after_of reply s to)) (sym is) (refl, stays s);
       }
 
-  images : (one : Bool) (s : LabState) → (one ≡ true → AllStandFor trace s) → ImagesAt takes trace (piece_of command mark from to [] [] reply) one trace s
+  images : (one : Bool) (s : LabState) → (one ≡ true → AllStandFor trace s) → ImagesAt terms trace (piece_of command mark from to [] [] reply) one trace s
   images true s all = all refl
   images false s all = λ a b at. let lab = sound_stands the_texts trace a b at sound in (lab.0, lab.0, record { a = a; b = b; possible = at; stand = lab.1 }, lab.1, drill_steps lab.0)
 
-  pub drill_done : (s : LabState) → IsLabAt trace s → (is_some reply ≡ true → leaves_one to reply ≡ true → AllStandFor trace s) → IsDone takes trace (piece_of command mark from to [] [] reply)
+  pub drill_done : (s : LabState) → IsLabAt trace s → (is_some reply ≡ true → leaves_one to reply ≡ true → AllStandFor trace s) → IsDone terms trace (piece_of command mark from to [] [] reply)
   drill_done s at all =
-      done_at takes trace (piece_of command mark from to [] [] reply) trace (append-nil trace) s s (subst (λ b. FirstLab b trace s) (sym (not_early from [] refl)) at) (drill_steps s) (λ opens. absurd (cc (is, opens.no_drill))) sound at
+      done_at terms trace (piece_of command mark from to [] [] reply) trace (append-nil trace) s s (subst (λ b. FirstLab b trace s) (sym (not_early from [] refl)) at) (drill_steps s) (λ opens. absurd (cc (is, opens.no_drill))) sound at
       (λ some. images (leaves_one to reply) s (all some))
 
 -- with a reply, from a session of either kind
 abbrev StandsOver : List Event → Option Control → Type 0
 StandsOver trace controller = IfSome controller (λ c. Stands the_texts trace c.journal c.lab)
 
-module _ (takes : Bool) (command : Command) (mark : Faults) (drill : Drill) (is : drill_of command ≡ Some drill) (reply : Reply) (other : leaves_one Closed (Some reply) ≡ false) (stays : (from : Session) → Stays takes from from (Some reply)) where
-  replied_over : (trace : List Event) (plant : Seen) (controller : Option Control) (from : Session) → StandsAt plant controller from → StandsOver trace controller → AsRead trace → IsSound the_texts trace → IsDone takes trace (piece_of command mark from from [] [] (Some reply))
+module _ (terms : Terms) (command : Command) (mark : Faults) (drill : Drill) (is : drill_of command ≡ Some drill) (reply : Reply) (other : leaves_one Closed (Some reply) ≡ false) (stays : (from : Session) → Stays terms from from (Some reply)) where
+  replied_over : (trace : List Event) (plant : Seen) (controller : Option Control) (from : Session) → StandsAt plant controller from → StandsOver trace controller → AsRead trace → IsSound the_texts trace → IsDone terms trace (piece_of command mark from from [] [] (Some reply))
   replied_over trace plant None Closed at stands possible sound =
       let lab = sound_stands the_texts trace _ _ possible sound in
-      drill_done takes trace command mark drill is possible sound Closed Closed (Some reply) (stays Closed) lab.0 lab.1 (λ some one. absurd (cc (other, one)))
+      drill_done terms trace command mark drill is possible sound Closed Closed (Some reply) (stays Closed) lab.0 lab.1 (λ some one. absurd (cc (other, one)))
   replied_over trace plant (Some c) (Open swaps) at stands possible sound =
-      drill_done takes trace command mark drill is possible sound (Open swaps) (Open swaps) (Some reply) (stays (Open swaps)) c.lab (standing_lab trace c stands) (λ some one. standing_all trace c stands)
+      drill_done terms trace command mark drill is possible sound (Open swaps) (Open swaps) (Some reply) (stays (Open swaps)) c.lab (standing_lab trace c stands) (λ some one. standing_all trace c stands)
   replied_over trace plant None (Open swaps) at stands possible sound = absurd at
   replied_over trace plant (Some c) Closed at stands possible sound = absurd at
 
-silent_over : (takes : Bool) (command : Command) (mark : Faults) (drill : Drill) → drill_of command ≡ Some drill → (trace : List Event) (from : Session) → AsRead trace → IsSound the_texts trace → IsDone takes trace (piece_of command mark from Closed [] [] None)
-silent_over takes command mark drill is trace from possible sound =
+silent_over : (terms : Terms) (command : Command) (mark : Faults) (drill : Drill) → drill_of command ≡ Some drill → (trace : List Event) (from : Session) → AsRead trace → IsSound the_texts trace → IsDone terms trace (piece_of command mark from Closed [] [] None)
+silent_over terms command mark drill is trace from possible sound =
     let lab = sound_stands the_texts trace _ _ possible sound in
-    drill_done takes trace command mark drill is possible sound from Closed None (λ s. wants_memory (record { nothing = refl; after_is = refl })) lab.0 lab.1 (λ some one. absurd (cc some))
+    drill_done terms trace command mark drill is possible sound from Closed None (λ s. wants_memory (record { nothing = refl; after_is = refl })) lab.0 lab.1 (λ some one. absurd (cc some))
 
 -- AN OPEN CONTROLLER STAYS OPEN
 stands_over : (plant : Seen) (controller : Option Control) (from : Session) → StandsAt plant controller from → IfSome plant.told (λ t. StandsOver t.trace controller)
@@ -130,7 +130,7 @@ kept_by None from = Closed
 kept_by (Some reply) from = from
 
 -- WHAT A DRILL BEGAN
-module _ (takes : Bool) (command : Command) (mark : Faults) (drill : Drill) (is : drill_of command ≡ Some drill) (old : Seen) (new : Option Told) (controller : Option Control) (from : Session) (at : StandsAt old controller from)
+module _ (terms : Terms) (command : Command) (mark : Faults) (drill : Drill) (is : drill_of command ≡ Some drill) (old : Seen) (new : Option Told) (controller : Option Control) (from : Session) (at : StandsAt old controller from)
     (possible : IfSome old.told (λ t. AsRead t.trace)) where
   no_such : {X : Type 0} → drill_of command ≡ None → X
   no_such none = absurd (cc (is, none))
@@ -138,14 +138,14 @@ module _ (takes : Bool) (command : Command) (mark : Faults) (drill : Drill) (is 
   found : (to : Session) (reply : Option Reply) (trace : List Event) → (is_some reply ≡ true → to ≡ from) → Finds (drill_of command) from trace (piece_of command mark from to [] [] reply)
   found to reply trace same = subst (λ (d : Option Drill). Finds d from trace (piece_of command mark from to [] [] reply)) (sym is) (refl, refl, same)
 
-  begun_with : (reply : Reply) (planned : Bool) → leaves_one Closed (Some reply) ≡ false → stays_open (Some reply) ≡ true → ((s : Session) → Stays takes s s (Some reply)) → IsPlannedBy takes (Some drill) planned (Some reply)
-      → new ≡ with_drill_if (with_steps old.told []) (if planned then drill_of command else None) → Begins takes command mark old.told new from from (Some reply)
+  begun_with : (reply : Reply) (planned : Bool) → leaves_one Closed (Some reply) ≡ false → stays_open (Some reply) ≡ true → ((s : Session) → Stays terms s s (Some reply)) → IsPlannedBy terms (Some drill) planned (Some reply)
+      → new ≡ with_drill_if (with_steps old.told []) (if planned then drill_of command else None) → Begins terms command mark old.told new from from (Some reply)
   begun_with reply planned other goes stays by told = record {
     opening = [];
     own = [];
     planned = planned;
     told = told;
-    planned_by = subst (λ (d : Option Drill). IsPlannedBy takes d planned (Some reply)) (sym is) by;
+    planned_by = subst (λ (d : Option Drill). IsPlannedBy terms d planned (Some reply)) (sym is) by;
     is_piece = map_both old.told (λ t stands there. record {
       readable = there;
       finds = found from (Some reply) t.trace (λ some. refl);
@@ -153,17 +153,18 @@ module _ (takes : Bool) (command : Command) (mark : Faults) (drill : Drill) (is 
       shuts = λ none. no_such none;
       steps = λ none. no_such none;
       leads = λ none. no_such none;
-      done = λ sound. replied_over takes command mark drill is reply other stays t.trace old controller from at stands there sound;
+      compact = λ opens. no_such opens.no_drill;
+      done = λ sound. replied_over terms command mark drill is reply other stays t.trace old controller from at stands there sound;
     }) (stands_over old controller from at) possible;
   }
 
-  begun_silent : new ≡ old.told → Begins takes command mark old.told new from Closed None
+  begun_silent : new ≡ old.told → Begins terms command mark old.told new from Closed None
   begun_silent told = record {
     opening = [];
     own = [];
     planned = false;
     told = told ∙ steps_none old.told;
-    planned_by = subst (λ (d : Option Drill). IsPlannedBy takes d false None) (sym is) (λ none. absurd (cc none));
+    planned_by = subst (λ (d : Option Drill). IsPlannedBy terms d false None) (sym is) (λ none. absurd (cc none));
     is_piece = map_some old.told (λ t there. record {
       readable = there;
       finds = found Closed None t.trace (λ some. absurd (cc some));
@@ -171,32 +172,33 @@ module _ (takes : Bool) (command : Command) (mark : Faults) (drill : Drill) (is 
       shuts = λ none. no_such none;
       steps = λ none. no_such none;
       leads = λ none. no_such none;
-      done = λ sound. silent_over takes command mark drill is t.trace from there sound;
+      compact = λ opens. no_such opens.no_drill;
+      done = λ sound. silent_over terms command mark drill is t.trace from there sound;
     }) possible;
   }
 
   -- the session behind it is that before it, where it has a reply
-  pub begun_drill : (result : Result Reply CommandFault) → Plans takes drill old.told new result → Begins takes command mark old.told new from (kept_by (reply_if result) from) (reply_if result)
+  pub begun_drill : (result : Result Reply CommandFault) → Plans terms.takes drill old.told new result → Begins terms command mark old.told new from (kept_by (reply_if result) from) (reply_if result)
   begun_drill (Ok reply) (inl planned) =
-      subst (λ r. Begins takes command mark old.told new from from (Some r)) (sym planned.0)
+      subst (λ r. Begins terms command mark old.told new from from (Some r)) (sym planned.0)
       (begun_with replies.Planned true refl refl (λ s lab. is_planned planned.1 refl refl) (refl, planned.1)
       (planned.2 ∙ ap (λ (o : Option Told). with_drill o drill) (steps_none old.told) ∙ ap (λ (d : Option Drill). with_drill_if (with_steps old.told []) d) (sym is)))
   begun_drill (Ok reply) (inr refused) =
-      subst (λ r. Begins takes command mark old.told new from from (Some r)) (sym refused.0)
+      subst (λ r. Begins terms command mark old.told new from from (Some r)) (sym refused.0)
       (begun_with replies.NoDrill false refl refl (λ s lab. is_refused refused.1 refl refl) (refl, refused.1) (refused.2 ∙ steps_none old.told))
   begun_drill (Err fault) wants = begun_silent wants.1
 
 -- what the plant tells is of the same trace
-plans_alike : (takes : Bool) (drill : Drill) (old new : Option Told) (result : Result Reply CommandFault) → Plans takes drill old new result → TellAlike old new
-plans_alike takes drill old new (Ok reply) (inl planned) P h = subst (λ (o : Option Told). IfSome o (λ t. P t.trace)) (sym planned.2) (drill_alike old drill P h)
-plans_alike takes drill old new (Ok reply) (inr refused) P h = subst (λ (o : Option Told). IfSome o (λ t. P t.trace)) (sym refused.2) h
-plans_alike takes drill old new (Err fault) wants P h = subst (λ (o : Option Told). IfSome o (λ t. P t.trace)) (sym wants.1) h
+plans_alike : (terms : Terms) (drill : Drill) (old new : Option Told) (result : Result Reply CommandFault) → Plans terms.takes drill old new result → TellAlike old new
+plans_alike terms drill old new (Ok reply) (inl planned) P h = subst (λ (o : Option Told). IfSome o (λ t. P t.trace)) (sym planned.2) (drill_alike old drill P h)
+plans_alike terms drill old new (Ok reply) (inr refused) P h = subst (λ (o : Option Told). IfSome o (λ t. P t.trace)) (sym refused.2) h
+plans_alike terms drill old new (Err fault) wants P h = subst (λ (o : Option Told). IfSome o (λ t. P t.trace)) (sym wants.1) h
 
 -- NO REPLY TO A DRILL closes the controller, or blames a device; and where there is none, memory is wanting
-mild : (takes : Bool) (drill : Drill) (old new : Option Told) (result : Result Reply CommandFault) → Plans takes drill old new result → (closes_if (reply_if result) ≡ false) × (blames_if (reply_if result) ≡ false) × OnErr result (result ≡ Err faults.Memory)
-mild takes drill old new (Ok reply) (inl planned) = (ap closes planned.0, ap blames_device planned.0, tt)
-mild takes drill old new (Ok reply) (inr refused) = (ap closes refused.0, ap blames_device refused.0, tt)
-mild takes drill old new (Err fault) wants = (refl, refl, ap (λ f. let r : Result Reply CommandFault = Err f in r) wants.0)
+mild : (terms : Terms) (drill : Drill) (old new : Option Told) (result : Result Reply CommandFault) → Plans terms.takes drill old new result → (closes_if (reply_if result) ≡ false) × (blames_if (reply_if result) ≡ false) × OnErr result (result ≡ Err faults.Memory)
+mild terms drill old new (Ok reply) (inl planned) = (ap closes planned.0, ap blames_device planned.0, tt)
+mild terms drill old new (Ok reply) (inr refused) = (ap closes refused.0, ap blames_device refused.0, tt)
+mild terms drill old new (Err fault) wants = (refl, refl, ap (λ f. let r : Result Reply CommandFault = Err f in r) wants.0)
 
 kept_shut : (reply : Option Reply) (from : Session) → closes_if reply ≡ false → stays_open reply ≡ false → kept_by reply from ≡ Closed
 kept_shut None from mild shut = refl
@@ -210,12 +212,12 @@ opened_kept : (reply : Option Reply) (from : Session) (count : ℕ) → AreOpene
 opened_kept None from count o there = absurd there
 opened_kept (Some reply) from count o there = inr (o, there, refl, refl)
 
-pub ends_drill : (takes : Bool) (command : Command) (drill : Drill) → drill_of command ≡ Some drill → (old new : Moment) (result : Result Reply CommandFault) → Plans takes drill old.plant.told new.plant.told result → new.plant.faults ≡ old.plant.faults → new.plant.stopped ≡ old.plant.stopped
-    → new.controller ≡ old.controller → (from : Session) → HasSession old from → IfSome old.plant.told (λ t. AsRead t.trace) → Ends takes command old new from result
-ends_drill takes command drill is old new result plans count still kept from goes_on possible =
-    let mild_so = mild takes drill old.plant.told new.plant.told result plans in
-    ends_of takes command old new from (kept_by (reply_if result) from) result
-    (begun_drill takes command old.plant.faults drill is old.plant new.plant.told old.controller from goes_on.stands possible result plans)
+pub ends_drill : (terms : Terms) (command : Command) (drill : Drill) → drill_of command ≡ Some drill → (old new : Moment) (result : Result Reply CommandFault) → Plans terms.takes drill old.plant.told new.plant.told result → new.plant.faults ≡ old.plant.faults → new.plant.stopped ≡ old.plant.stopped
+    → new.controller ≡ old.controller → (from : Session) → HasSession old from → IfSome old.plant.told (λ t. AsRead t.trace) → Ends terms command old new from result
+ends_drill terms command drill is old new result plans count still kept from goes_on possible =
+    let mild_so = mild terms drill old.plant.told new.plant.told result plans in
+    ends_of terms command old new from (kept_by (reply_if result) from) result
+    (begun_drill terms command old.plant.faults drill is old.plant new.plant.told old.controller from goes_on.stands possible result plans)
     (kept_shut (reply_if result) from mild_so.0)
     (later_same old.plant.faults old.plant.faults new.plant.faults (omega arith) (omega arith) count)
     (λ shut. absurd (cc (mild_so.0, shut)))
@@ -224,6 +226,6 @@ ends_drill takes command drill is old new result plans count still kept from goe
     (λ some was. still ∙ was)
     mild_so.2
     (λ some. subst (HasSession new) (kept_so (reply_if result) from some) (record {
-      stands = subst (λ (k : Option Control). StandsAt new.plant k from) (sym kept) (stands_alike old.plant new.plant old.controller from (plans_alike takes drill old.plant.told new.plant.told result plans) count goes_on.stands);
+      stands = subst (λ (k : Option Control). StandsAt new.plant k from) (sym kept) (stands_alike old.plant new.plant old.controller from (plans_alike terms drill old.plant.told new.plant.told result plans) count goes_on.stands);
       runs = λ open_now. still ∙ goes_on.runs (ap is_some (sym kept) ∙ open_now);
     }))

@@ -1,11 +1,13 @@
 mod Answering
 mod BrokenOpenings
 mod Commanding
+mod Compact
 mod Drilling
 mod Marks
 mod Obeyed
 mod Pieces
 mod RunLaws
 mod Stepping
+mod Tellings
 mod TurnLaws
 mod Wording

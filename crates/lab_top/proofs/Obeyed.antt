@@ -30,7 +30,7 @@ use Rattle.lab_core.specs.Judge.{Task}
 use Rattle.lab_core.specs.LabSteps.{JudgedBeside}
 use Rattle.lab_core.specs.Obey.{Answers, ObeySteps}
 use Rattle.lab_core.specs.Opening.{OpenEnds, OpenSteps, OpenTold}
-use Rattle.lab_core.specs.Sessions.{OpenSwap, Session, Closed, Open, AreOpenedBy, counted_from, name_of}
+use Rattle.lab_core.specs.Sessions.{OpenSwap, Session, Closed, Open, AreOpenedBy, counted_from, name_of, Terms}
 use Rattle.lab_core.specs.Tells.{opens_of}
 use Rattle.lab_top.specs.declared.command.CommandFault.{CommandFault}
 use Rattle.lab_top.specs.declared.command.CommandFault.TheVariants as command_faults
@@ -92,9 +92,9 @@ pub goes_closed : (plant : Seen) → HasSession (record { plant = plant; control
 goes_closed plant = record { stands = tt; runs = λ some. absurd (cc some) }
 
 -- WHAT A CALL OF THE CONTROLLER LEAVES, over one trace and whatever opening was before it
-module _ (takes : Bool) (mark : Faults) (old mid : Seen) (command : Command) (no_drill : drill_of command ≡ None) (c d : Control) (swaps : List OpenSwap) where
+module _ (terms : Terms) (mark : Faults) (old mid : Seen) (command : Command) (no_drill : drill_of command ≡ None) (c d : Control) (swaps : List OpenSwap) where
   abbrev Judges : Result Task Reply → Type 0
-  Judges = JudgedBeside command swaps c.lab
+  Judges = JudgedBeside terms.rule command swaps c.lab
 
   abbrev At : Result Reply CoreFault → Type 0
   At result = ObeyedAt mark old mid Judges c d swaps (name_of command) result
@@ -104,11 +104,11 @@ module _ (takes : Bool) (mark : Faults) (old mid : Seen) (command : Command) (no
 
   abbrev Does_so : (List Event → Type 0) → List OpenSwap → Result Reply CoreFault → List Event → List Event → Session → Option Reply → Type 0
   Does_so Then to result own all session reply = (before : List Event) (from : Session) (opening : List Event) → WasOpened before from opening c swaps → Leaving to result own (before ++ opening) → Then ((before ++ opening) ++ own)
-      → Does takes before (piece_of command mark from session opening all reply)
+      → Does terms before (piece_of command mark from session opening all reply)
 
   -- by what holds of each trace that is an opening behind another one
   own_by : (result : Result Reply CoreFault) (at : At result) (new : Option Told) (more : List Event) (session : Session) (reply : Option Reply) → new ≡ with_steps mid.told more → (Then : List Event → Type 0) → IfSome mid.told (λ t. Then t.trace)
-      → Does_so Then at.to result at.obeys.0 (at.obeys.0 ++ more) session reply → OwnTold takes old.told new command mark c swaps session reply
+      → Does_so Then at.to result at.obeys.0 (at.obeys.0 ++ more) session reply → OwnTold terms old.told new command mark c swaps session reply
   own_by result at new more session reply is Then then does =
       let told = at.obeys in (
         told.0 ++ more,
@@ -118,23 +118,23 @@ module _ (takes : Bool) (mark : Faults) (old mid : Seen) (command : Command) (no
 
   -- with no step behind
   own_alone : (result : Result Reply CoreFault) (at : At result) (session : Session) (reply : Option Reply) → (Then : List Event → Type 0) → IfSome mid.told (λ t. Then t.trace) → Does_so Then at.to result at.obeys.0 at.obeys.0 session reply
-      → OwnTold takes old.told mid.told command mark c swaps session reply
+      → OwnTold terms old.told mid.told command mark c swaps session reply
   own_alone result at session reply Then then does =
       own_by result at mid.told [] session reply (steps_none mid.told) Then then
-      (λ before from opening w obeys here. subst (λ l. Does takes before (piece_of command mark from session opening l reply)) (sym (append-nil at.obeys.0)) (does before from opening w obeys here))
+      (λ before from opening w obeys here. subst (λ l. Does terms before (piece_of command mark from session opening l reply)) (sym (append-nil at.obeys.0)) (does before from opening w obeys here))
 
   abbrev AtWorkHere : List Event → Type 0
   AtWorkHere trace = Stands the_texts trace d.journal d.lab
 
   -- it goes on
-  pub makes_on : (reply : Reply) → At (Ok reply) → closes reply ≡ false → limit_of d.journal ≡ 2 ^ 32 → mid.stopped ≡ false → Makes takes mark command old c swaps (record { plant = mid; controller = Some d }) (Some reply)
+  pub makes_on : (reply : Reply) → At (Ok reply) → closes reply ≡ false → limit_of d.journal ≡ 2 ^ 32 → mid.stopped ≡ false → Makes terms mark command old c swaps (record { plant = mid; controller = Some d }) (Some reply)
   makes_on reply at goes limit runs =
       let works = at.works (ap not goes) in
       record {
         to = Open at.to;
         own = own_alone (Ok reply) at (Open at.to) (Some reply) AtWorkHere works.working.work.stands
             (λ before from opening w o stands.
-            own_answered takes mark before from opening c swaps w command no_drill at.obeys.0 o.sound d at.to reply (subst (λ b. Answers (before ++ opening) Judges (start_at mark c swaps) at.obeys.0 reply d.lab at.to b) goes o.ends) stands);
+            own_answered terms mark before from opening c swaps w command no_drill at.obeys.0 o.sound d at.to reply (subst (λ b. Answers (before ++ opening) Judges (start_at mark c swaps) at.obeys.0 reply d.lab at.to b) goes o.ends) stands);
         shut = λ shut. absurd (cc shut);
         closed = λ shut. let open_now : stays_open (Some reply) ≡ true = ap not goes in absurd (cc (open_now, shut));
         device = at.device;
@@ -143,12 +143,12 @@ module _ (takes : Bool) (mark : Faults) (old mid : Seen) (command : Command) (no
       }
 
   -- a reply closes it
-  pub makes_off : (reply : Reply) → At (Ok reply) → closes reply ≡ true → IfSome mid.told (λ t. AsRead t.trace) → Makes takes mark command old c swaps (record { plant = mid; controller = None }) (Some reply)
+  pub makes_off : (reply : Reply) → At (Ok reply) → closes reply ≡ true → IfSome mid.told (λ t. AsRead t.trace) → Makes terms mark command old c swaps (record { plant = mid; controller = None }) (Some reply)
   makes_off reply at shut there = record {
     to = Closed;
     own = own_alone (Ok reply) at Closed (Some reply) AsRead there
         (λ before from opening w o here.
-        own_closed takes mark before from opening c swaps w command no_drill at.obeys.0 o.sound reply (not_one reply shut) (subst (λ b. Answers (before ++ opening) Judges (start_at mark c swaps) at.obeys.0 reply d.lab at.to b) shut o.ends) here);
+        own_closed terms mark before from opening c swaps w command no_drill at.obeys.0 o.sound reply (not_one reply shut) (subst (λ b. Answers (before ++ opening) Judges (start_at mark c swaps) at.obeys.0 reply d.lab at.to b) shut o.ends) here);
     shut = λ closed. shuts_so reply shut;
     closed = λ closed. refl;
     device = at.device;
@@ -157,19 +157,19 @@ module _ (takes : Bool) (mark : Faults) (old mid : Seen) (command : Command) (no
   }
 
   -- the plant stopped
-  own_stopped_told : (new : Option Told) (result : Result Reply CommandFault) → At (Err faults.Stopped) → Starts mid.told new result → IfSome mid.told (λ t. AsRead t.trace) → OwnTold takes old.told new command mark c swaps Closed (reply_if result)
+  own_stopped_told : (new : Option Told) (result : Result Reply CommandFault) → At (Err faults.Stopped) → Starts mid.told new result → IfSome mid.told (λ t. AsRead t.trace) → OwnTold terms old.told new command mark c swaps Closed (reply_if result)
   own_stopped_told new (Ok reply) at starts there =
       let a = starts.1.0 in
       let b = starts.1.1 in
-      subst (λ r. OwnTold takes old.told new command mark c swaps Closed (Some r)) (sym starts.0)
+      subst (λ r. OwnTold terms old.told new command mark c swaps Closed (Some r)) (sym starts.0)
       (own_by (Err faults.Stopped) at new (Restarted a b ∷ []) Closed (Some replies.Stopped) starts.1.2 (λ l. ArePossible l a b) starts.1.3
-      (λ before from opening w o here. own_stopped takes mark before from opening c swaps w command no_drill at.obeys.0 o.sound o.ends a b here))
+      (λ before from opening w o here. own_stopped terms mark before from opening c swaps w command no_drill at.obeys.0 o.sound o.ends a b here))
   own_stopped_told new (Err fault) at starts there =
-      subst (λ n. OwnTold takes old.told n command mark c swaps Closed None) (sym starts.1)
-      (own_alone (Err faults.Stopped) at Closed None AsRead there (λ before from opening w o here. own_stays takes mark before from opening c swaps w command no_drill at.obeys.0 o.sound o.ends here))
+      subst (λ n. OwnTold terms old.told n command mark c swaps Closed None) (sym starts.1)
+      (own_alone (Err faults.Stopped) at Closed None AsRead there (λ before from opening w o here. own_stays terms mark before from opening c swaps w command no_drill at.obeys.0 o.sound o.ends here))
 
   pub makes_stopped : (new : Seen) (result : Result Reply CommandFault) → At (Err faults.Stopped) → Starts mid.told new.told result → IfSome mid.told (λ t. AsRead t.trace)
-      → Makes takes mark command old c swaps (record { plant = new; controller = None }) (reply_if result)
+      → Makes terms mark command old c swaps (record { plant = new; controller = None }) (reply_if result)
   makes_stopped new result at starts there = record {
     to = Closed;
     own = own_stopped_told new.told result at starts there;
@@ -181,10 +181,10 @@ module _ (takes : Bool) (mark : Faults) (old mid : Seen) (command : Command) (no
   }
 
   -- memory was wanting
-  pub makes_not : At (Err faults.Memory) → Makes takes mark command old c swaps (record { plant = mid; controller = None }) None
+  pub makes_not : At (Err faults.Memory) → Makes terms mark command old c swaps (record { plant = mid; controller = None }) None
   makes_not at = record {
     to = Closed;
-    own = own_alone (Err faults.Memory) at Closed None AtWorkHere (at.works refl).working.work.stands (λ before from opening w o stands. own_unmade takes mark before from opening c swaps w command no_drill at.obeys.0 o.sound d o.ends stands);
+    own = own_alone (Err faults.Memory) at Closed None AtWorkHere (at.works refl).working.work.stands (λ before from opening w o stands. own_unmade terms mark before from opening c swaps w command no_drill at.obeys.0 o.sound d o.ends stands);
     shut = λ closed. refl;
     closed = λ closed. refl;
     device = λ blamed. absurd (cc blamed);
@@ -193,13 +193,13 @@ module _ (takes : Bool) (mark : Faults) (old mid : Seen) (command : Command) (no
   }
 
 -- WHAT A COMMAND BEGAN
-module _ (takes : Bool) (command : Command) (mark : Faults) (no_drill : drill_of command ≡ None) where
+module _ (terms : Terms) (command : Command) (mark : Faults) (no_drill : drill_of command ≡ None) where
   -- no failure is planned
-  none_planned : (reply : Option Reply) → IsPlannedBy takes (drill_of command) false reply
-  none_planned reply = subst (λ (d : Option Drill). IsPlannedBy takes d false reply) (sym no_drill) refl
+  none_planned : (reply : Option Reply) → IsPlannedBy terms (drill_of command) false reply
+  none_planned reply = subst (λ (d : Option Drill). IsPlannedBy terms d false reply) (sym no_drill) refl
 
-  abbrev begins_so : (old new : Option Told) (from to : Session) (opening own : List Event) (reply : Option Reply) → new ≡ with_steps old (opening ++ own) → IfSome old (λ t. IsPiece takes t.trace (piece_of command mark from to opening own reply))
-      → Begins takes command mark old new from to reply
+  abbrev begins_so : (old new : Option Told) (from to : Session) (opening own : List Event) (reply : Option Reply) → new ≡ with_steps old (opening ++ own) → IfSome old (λ t. IsPiece terms t.trace (piece_of command mark from to opening own reply))
+      → Begins terms command mark old new from to reply
   begins_so old new from to opening own reply told is_piece = record { opening = opening; own = own; planned = false; told = told; planned_by = none_planned reply; is_piece = is_piece }
 
   -- how it leaves the session
@@ -208,7 +208,7 @@ module _ (takes : Bool) (command : Command) (mark : Faults) (no_drill : drill_of
 
   -- by an open controller, or one that was opened first
   open_piece : (trace : List Event) (from to : Session) (opening own : List Event) (reply : Option Reply) → LeavesSession to reply → AsRead trace → Finds None from trace (piece_of command mark from to opening own reply)
-      → Does takes trace (piece_of command mark from to opening own reply) → IsPiece takes trace (piece_of command mark from to opening own reply)
+      → Does terms trace (piece_of command mark from to opening own reply) → IsPiece terms trace (piece_of command mark from to opening own reply)
   open_piece trace from to opening own reply leaves readable finds it = record {
     readable = readable;
     finds = subst (λ (d : Option Drill). Finds d from trace (piece_of command mark from to opening own reply)) (sym no_drill) finds;
@@ -216,10 +216,11 @@ module _ (takes : Bool) (command : Command) (mark : Faults) (no_drill : drill_of
     shuts = λ none. leaves.1;
     steps = λ none some miss restart. it.steps;
     leads = λ none. it.leads;
+    compact = it.compact;
     done = it.done;
   }
 
-  pub begins_open : (old : Seen) (new : Moment) (c : Control) (swaps : List OpenSwap) (reply : Option Reply) → IsOpen old c swaps → (m : Makes takes mark command old c swaps new reply) → Begins takes command mark old.told new.plant.told (Open swaps) m.to reply
+  pub begins_open : (old : Seen) (new : Moment) (c : Control) (swaps : List OpenSwap) (reply : Option Reply) → IsOpen old c swaps → (m : Makes terms mark command old c swaps new reply) → Begins terms command mark old.told new.plant.told (Open swaps) m.to reply
   begins_open old new c swaps reply is m =
       begins_so old.told new.plant.told (Open swaps) m.to [] m.own.0 reply m.own.1
       (map_both old.told (λ t stands does.
@@ -227,18 +228,18 @@ module _ (takes : Bool) (command : Command) (mark : Faults) (no_drill : drill_of
       open_piece t.trace (Open swaps) m.to [] m.own.0 reply (m.closed, m.shut) w.readable refl (does t.trace (Open swaps) [] (sym (append-nil t.trace)) w)) is.works.working.work.stands m.own.2)
 
   pub begins_opened : (old : Option Told) (mid : Seen) (new : Moment) (c : Control) (reply : Option Reply) → (told : OpenTold old mid.told (2 ^ 32) (Ok c)) → IfSome old (λ t. AsRead t.trace) → Works mid.told c → limit_of c.journal ≡ 2 ^ 32
-      → (m : Makes takes mark command mid c [] new reply) → Begins takes command mark old new.plant.told Closed m.to reply
+      → (m : Makes terms mark command mid c [] new reply) → Begins terms command mark old new.plant.told Closed m.to reply
   begins_opened old mid new c reply (reading, moving, is, opens) there works limit m =
       let steps = reading ++ moving in
       begins_so old new.plant.told Closed m.to steps m.own.0 reply (m.own.1 ∙ ap (λ o. with_steps o m.own.0) is ∙ steps_twice old steps m.own.0)
       (map_three old (λ t o readable both.
       let w = is_opened t.trace reading moving c o both.0 limit readable in
       let it = w.opens refl in
-      open_piece t.trace Closed m.to steps m.own.0 reply (m.closed, m.shut) readable ((λ sent. o.ends.read.journal), opened it.no_miss it.no_restart o.ends.read.journal) (both.1 t.trace Closed steps refl w)) opens there
-      (carried old mid.told steps is (λ l. Stands the_texts l c.journal c.lab × DoesOwn takes l command mark c [] m.own.0 m.to reply) (map_both mid.told (λ t stands does. (stands, does)) works.stands m.own.2)))
+      open_piece t.trace Closed m.to steps m.own.0 reply (m.closed, m.shut) readable ((λ sent. o.ends.settled.read.journal), opened it.no_miss it.no_restart o.ends.settled.read.journal) (both.1 t.trace Closed steps refl w)) opens there
+      (carried old mid.told steps is (λ l. Stands the_texts l c.journal c.lab × DoesOwn terms l command mark c [] m.own.0 m.to reply) (map_both mid.told (λ t stands does. (stands, does)) works.stands m.own.2)))
 
 -- WHERE THE CONTROLLER COULD NOT BE OPENED, from a moment at which it is closed
-module _ (takes : Bool) (command : Command) (no_drill : drill_of command ≡ None) (plant : Seen) (new : Moment) (mid : Option Told) (fault : OpenFault) (opens : OpenTold plant.told mid (2 ^ 32) (Err fault))
+module _ (terms : Terms) (command : Command) (no_drill : drill_of command ≡ None) (plant : Seen) (new : Moment) (mid : Option Told) (fault : OpenFault) (opens : OpenTold plant.told mid (2 ^ 32) (Err fault))
     (there : IfSome plant.told (λ t. AsRead t.trace)) (then : IfSome mid (λ t. AsRead t.trace)) (later : Later plant.faults new.plant.faults) (goes_on : HasSession new Closed) where
   abbrev old : Moment
   old = record { plant = plant; controller = None }
@@ -249,39 +250,39 @@ module _ (takes : Bool) (command : Command) (no_drill : drill_of command ≡ Non
   then_here : IfSome plant.told (λ t. AsRead (t.trace ++ steps))
   then_here = carried plant.told mid steps opens.2 AsRead then
 
-  abbrev begins_cut : (reply : Option Reply) → leaves_one Closed reply ≡ false → new.plant.told ≡ mid → (is_some reply ≡ true → fault ≡ openings.Plant) → IfSome plant.told (λ t. Breaks steps reply) → Begins takes command plant.faults plant.told new.plant.told Closed Closed reply
+  abbrev begins_cut : (reply : Option Reply) → leaves_one Closed reply ≡ false → new.plant.told ≡ mid → (is_some reply ≡ true → fault ≡ openings.Plant) → IfSome plant.told (λ t. Breaks steps reply) → Begins terms command plant.faults plant.told new.plant.told Closed Closed reply
   begins_cut reply other same only breaks =
-      begins_so takes command plant.faults no_drill plant.told new.plant.told Closed Closed steps [] reply (same ∙ opens.2 ∙ ap (λ l. with_steps plant.told l) (sym (append-nil steps)))
-      (map_three {P = λ t. OpenSteps t.trace opens.0 opens.1 (2 ^ 32) (Err fault) × Breaks steps reply} plant.told (λ t both readable now. cut_piece takes t.trace command plant.faults no_drill opens.0 opens.1 fault both.0 readable reply other both.1 only now) (map_both plant.told (λ t o b. (o, b)) opens.3 breaks) there then_here)
+      begins_so terms command plant.faults no_drill plant.told new.plant.told Closed Closed steps [] reply (same ∙ opens.2 ∙ ap (λ l. with_steps plant.told l) (sym (append-nil steps)))
+      (map_three {P = λ t. OpenSteps t.trace opens.0 opens.1 (2 ^ 32) (Err fault) × Breaks steps reply} plant.told (λ t both readable now. cut_piece terms t.trace command plant.faults no_drill opens.0 opens.1 fault both.0 readable reply other both.1 only now) (map_both plant.told (λ t o b. (o, b)) opens.3 breaks) there then_here)
 
-  abbrev made : (reply : Option Reply) → Begins takes command plant.faults plant.told new.plant.told Closed Closed reply → (closes_if reply ≡ true → Rose plant.faults.disk new.plant.faults.disk) → blames_if reply ≡ false → (is_some reply ≡ true → new.plant.stopped ≡ false)
-      → Made takes command old new Closed Closed reply
+  abbrev made : (reply : Option Reply) → Begins terms command plant.faults plant.told new.plant.told Closed Closed reply → (closes_if reply ≡ true → Rose plant.faults.disk new.plant.faults.disk) → blames_if reply ≡ false → (is_some reply ≡ true → new.plant.stopped ≡ false)
+      → Made terms command old new Closed Closed reply
   made reply begun disk blameless runs = record { begun = begun; later = later; disk = disk; device = λ blamed. absurd (cc (blameless, blamed)); opened = opened_none [] plant.faults.devices; runs = λ some was. runs some; goes_on = λ some. goes_on }
 
-  abbrev silent_end : new.plant.told ≡ mid → Made takes command old new Closed Closed None
+  abbrev silent_end : new.plant.told ≡ mid → Made terms command old new Closed Closed None
   silent_end same = made None (begins_cut None refl same (λ some. absurd (cc some)) (map_some plant.told (λ t o. unanswered refl) opens.3)) (λ shut. absurd (cc shut)) refl (λ some. absurd (cc some))
 
-  in_reply : (reply : Reply) → Made takes command old new Closed Closed (Some reply) → Ends takes command old new Closed (Ok reply)
+  in_reply : (reply : Reply) → Made terms command old new Closed Closed (Some reply) → Ends terms command old new Closed (Ok reply)
   in_reply reply it = (Closed, it)
 
-  down_end : fault ≡ openings.Plant → new.plant.told ≡ mid → Rose plant.faults.disk new.plant.faults.disk → new.plant.stopped ≡ false → Ends takes command old new Closed (Ok replies.Down)
+  down_end : fault ≡ openings.Plant → new.plant.told ≡ mid → Rose plant.faults.disk new.plant.faults.disk → new.plant.stopped ≡ false → Ends terms command old new Closed (Ok replies.Down)
   down_end is same missed runs =
       in_reply replies.Down (made (Some replies.Down) (begins_cut (Some replies.Down) refl same (λ some. is)
-      (map_both plant.told (λ t o readable. failed (started_nowhere takes t.trace command plant.faults no_drill opens.0 opens.1 fault o readable) (missed_in takes t.trace command plant.faults no_drill opens.0 opens.1 fault o readable is) refl) opens.3 there))
+      (map_both plant.told (λ t o readable. failed (started_nowhere terms t.trace command plant.faults no_drill opens.0 opens.1 fault o readable) (missed_in terms t.trace command plant.faults no_drill opens.0 opens.1 fault o readable is) refl) opens.3 there))
       (λ shut. missed) refl (λ some. runs))
 
-  again_end : fault ≡ openings.Stopped → (reply : Reply) → Starts mid new.plant.told (Ok reply) → new.plant.stopped ≡ false → Ends takes command old new Closed (Ok reply)
+  again_end : fault ≡ openings.Stopped → (reply : Reply) → Starts mid new.plant.told (Ok reply) → new.plant.stopped ≡ false → Ends terms command old new Closed (Ok reply)
   again_end is reply (told, (a, b, again, possible)) runs =
       let opening = steps ++ Restarted a b ∷ [] in
-      subst (λ r. Ends takes command old new Closed (Ok r)) (sym told)
-      (in_reply replies.Stopped (made (Some replies.Stopped) (begins_so takes command plant.faults no_drill plant.told new.plant.told Closed Closed opening [] (Some replies.Stopped)
+      subst (λ r. Ends terms command old new Closed (Ok r)) (sym told)
+      (in_reply replies.Stopped (made (Some replies.Stopped) (begins_so terms command plant.faults no_drill plant.told new.plant.told Closed Closed opening [] (Some replies.Stopped)
       (again ∙ ap (λ o. with_steps o (Restarted a b ∷ [])) opens.2 ∙ steps_twice plant.told steps (Restarted a b ∷ []) ∙ ap (λ l. with_steps plant.told l) (sym (append-nil opening)))
-      (map_three plant.told (λ t o readable now. again_piece takes t.trace command plant.faults no_drill opens.0 opens.1 (subst (λ f. OpenSteps t.trace opens.0 opens.1 (2 ^ 32) (Err f)) is o) readable a b now) opens.3 there
+      (map_three plant.told (λ t o readable now. again_piece terms t.trace command plant.faults no_drill opens.0 opens.1 (subst (λ f. OpenSteps t.trace opens.0 opens.1 (2 ^ 32) (Err f)) is o) readable a b now) opens.3 there
       (carried plant.told mid steps opens.2 (λ l. ArePossible l a b) possible)))
       (λ shut. absurd (cc shut)) refl (λ some. runs)))
 
   -- the sides are no journal
-  none_end : (side : Side) (at : ℕ) → fault ≡ openings.Bad side at → new.plant.told ≡ mid → new.plant.stopped ≡ false → FoundNone takes command old new Closed side at
+  none_end : (side : Side) (at : ℕ) → fault ≡ openings.Bad side at → new.plant.told ≡ mid → new.plant.stopped ≡ false → FoundNone terms command old new Closed side at
   none_end side at is same runs = record {
     made = silent_end same;
     finds = map_some plant.told (λ t o. by t.trace (subst (λ f. OpenEnds t.trace opens.0 opens.1 (2 ^ 32) (Err f)) is o.ends)) opens.3;
@@ -289,7 +290,8 @@ module _ (takes : Bool) (command : Command) (no_drill : drill_of command ≡ Non
   }
     where
       by : (trace : List Event) → OpenEnds trace opens.0 opens.1 (2 ^ 32) (Err (openings.Bad side at)) → FindsNone trace (piece_of command plant.faults Closed Closed steps [] None) side at
-      by trace (inr never) = absurd never
+      by trace (inr (inl never)) = absurd never
+      by trace (inr (inr never)) = absurd never
       by trace (inl (none, found)) =
           let all : opens.0 ≡ steps = sym (append-nil opens.0) ∙ ap (λ l. opens.0 ++ l) (sym none) in
           record {
@@ -303,29 +305,29 @@ module _ (takes : Bool) (command : Command) (no_drill : drill_of command ≡ Non
           }
 
   -- by its fault
-  stopped_end : fault ≡ openings.Stopped → (result : Result Reply CommandFault) → Starts mid new.plant.told result → (is_some (reply_if result) ≡ true → new.plant.stopped ≡ false) → Ends takes command old new Closed result
+  stopped_end : fault ≡ openings.Stopped → (result : Result Reply CommandFault) → Starts mid new.plant.told result → (is_some (reply_if result) ≡ true → new.plant.stopped ≡ false) → Ends terms command old new Closed result
   stopped_end is (Ok reply) starts runs = again_end is reply starts (runs refl)
-  stopped_end is (Err other) starts runs = subst (λ f. Ends takes command old new Closed (Err f)) (sym starts.0) (silent_end starts.1)
+  stopped_end is (Err other) starts runs = subst (λ f. Ends terms command old new Closed (Err f)) (sym starts.0) (silent_end starts.1)
 
   pub ends_unopened : (result : Result Reply CommandFault) → Unopened fault mid new.plant.told result → (fault ≡ openings.Plant → Rose plant.faults.disk new.plant.faults.disk) → (is_some (reply_if result) ≡ true → new.plant.stopped ≡ false)
-      → ((side : Side) (at : ℕ) → result ≡ Err (command_faults.JournalBad side at) → new.plant.stopped ≡ false) → Ends takes command old new Closed result
+      → ((side : Side) (at : ℕ) → result ≡ Err (command_faults.JournalBad side at) → new.plant.stopped ≡ false) → Ends terms command old new Closed result
   ends_unopened result un missed runs bad = by fault refl un
     where
-      by : (f : OpenFault) → fault ≡ f → Unopened f mid new.plant.told result → Ends takes command old new Closed result
-      by openings.Plant is so = subst (λ r. Ends takes command old new Closed r) (sym so.0) (down_end is so.1 (missed is) (runs (ap (λ r. is_some (reply_if r)) so.0)))
+      by : (f : OpenFault) → fault ≡ f → Unopened f mid new.plant.told result → Ends terms command old new Closed result
+      by openings.Plant is so = subst (λ r. Ends terms command old new Closed r) (sym so.0) (down_end is so.1 (missed is) (runs (ap (λ r. is_some (reply_if r)) so.0)))
       by openings.Stopped is so = stopped_end is result so runs
-      by (openings.Bad side at) is so = subst (λ r. Ends takes command old new Closed r) (sym so.0) (none_end side at is so.1 (bad side at so.0))
-      by openings.Memory is so = subst (λ r. Ends takes command old new Closed r) (sym so.0) (silent_end so.1)
+      by (openings.Bad side at) is so = subst (λ r. Ends terms command old new Closed r) (sym so.0) (none_end side at is so.1 (bad side at so.0))
+      by openings.Memory is so = subst (λ r. Ends terms command old new Closed r) (sym so.0) (silent_end so.1)
 
 -- WHATEVER AN OPEN CONTROLLER MADE, with the counts of faults and what is kept
-pub ends_of : (takes : Bool) (command : Command) (old new : Moment) (from to : Session) (result : Result Reply CommandFault) → Begins takes command old.plant.faults old.plant.told new.plant.told from to (reply_if result) → (stays_open (reply_if result) ≡ false → to ≡ Closed)
+pub ends_of : (terms : Terms) (command : Command) (old new : Moment) (from to : Session) (result : Result Reply CommandFault) → Begins terms command old.plant.faults old.plant.told new.plant.told from to (reply_if result) → (stays_open (reply_if result) ≡ false → to ≡ Closed)
     → Later old.plant.faults new.plant.faults → (closes_if (reply_if result) ≡ true → Rose old.plant.faults.disk new.plant.faults.disk)
     → (blames_if (reply_if result) ≡ true → Rose (counted_from (opens_of from) (name_of command) old.plant.faults.devices) new.plant.faults.devices) → AreOpenedBy (opens_of from) (opens_of to) old.plant.faults.devices
-    → (is_some (reply_if result) ≡ true → old.plant.stopped ≡ false → new.plant.stopped ≡ false) → OnErr result (result ≡ Err command_faults.Memory) → (is_some (reply_if result) ≡ true → HasSession new to) → Ends takes command old new from result
-ends_of takes command old new from to (Ok reply) begun closed later down device since runs memory goes_on = (to, record { begun = begun; later = later; disk = down; device = device; opened = since; runs = runs; goes_on = goes_on })
-ends_of takes command old new from to (Err fault) begun closed later down device since runs memory goes_on =
-    subst (λ r. Ends takes command old new from r) (sym memory)
-    (subst (λ s. Made takes command old new from s None) (closed refl) (record { begun = begun; later = later; disk = down; device = device; opened = since; runs = runs; goes_on = goes_on }))
+    → (is_some (reply_if result) ≡ true → old.plant.stopped ≡ false → new.plant.stopped ≡ false) → OnErr result (result ≡ Err command_faults.Memory) → (is_some (reply_if result) ≡ true → HasSession new to) → Ends terms command old new from result
+ends_of terms command old new from to (Ok reply) begun closed later down device since runs memory goes_on = (to, record { begun = begun; later = later; disk = down; device = device; opened = since; runs = runs; goes_on = goes_on })
+ends_of terms command old new from to (Err fault) begun closed later down device since runs memory goes_on =
+    subst (λ r. Ends terms command old new from r) (sym memory)
+    (subst (λ s. Made terms command old new from s None) (closed refl) (record { begun = begun; later = later; disk = down; device = device; opened = since; runs = runs; goes_on = goes_on }))
 
 -- A CONTROLLER THAT WORKS with no open swap
 alone_works : (now : Seen) (c : Control) → Works now.told c → c.swaps ≡ [] → WorksWith now c []
@@ -363,30 +365,30 @@ closed_session plant k from is at = by from (subst (λ k. StandsAt plant k from)
 pub may_open : (plant : Seen) (k : Option Control) (c : Control) → k ≡ Some c → MayGoOn (record { plant = plant; controller = k }) → MayOpen plant c
 may_open plant k c is goes = let s = open_session plant k c goes.0 is goes.1.stands in (s.0, s.2)
 
-pub closed_from : (takes : Bool) (command : Command) (old new : Moment) (from : Session) (result : Result Reply CommandFault) → old.controller ≡ None → HasSession old from → Ends takes command old new Closed result → Ends takes command old new from result
-closed_from takes command old new from result is goes ends = subst (λ s. Ends takes command old new s result) (sym (closed_session old.plant old.controller from is goes.stands)) ends
+pub closed_from : (terms : Terms) (command : Command) (old new : Moment) (from : Session) (result : Result Reply CommandFault) → old.controller ≡ None → HasSession old from → Ends terms command old new Closed result → Ends terms command old new from result
+closed_from terms command old new from result is goes ends = subst (λ s. Ends terms command old new s result) (sym (closed_session old.plant old.controller from is goes.stands)) ends
 
 -- A COMMAND OF AN OPEN CONTROLLER, that was open before
-pub ends_open : (takes : Bool) (command : Command) → drill_of command ≡ None → (old new : Moment) (c : Control) (result : Result Reply CommandFault) (from : Session) → old.controller ≡ Some c → HasSession old from
-    → ((mark : Faults) (swaps : List OpenSwap) → IsMarkAt mark old.plant swaps → IsOpen old.plant c swaps → Makes takes mark command old.plant c swaps new (reply_if result)) → Later old.plant.faults new.plant.faults
+pub ends_open : (terms : Terms) (command : Command) → drill_of command ≡ None → (old new : Moment) (c : Control) (result : Result Reply CommandFault) (from : Session) → old.controller ≡ Some c → HasSession old from
+    → ((mark : Faults) (swaps : List OpenSwap) → IsMarkAt mark old.plant swaps → IsOpen old.plant c swaps → Makes terms mark command old.plant c swaps new (reply_if result)) → Later old.plant.faults new.plant.faults
     → (closes_if (reply_if result) ≡ true → Rose old.plant.faults.disk new.plant.faults.disk) → (is_some (reply_if result) ≡ true → old.plant.stopped ≡ false → new.plant.stopped ≡ false) → OnErr result (result ≡ Err command_faults.Memory)
-    → Ends takes command old new from result
-ends_open takes command no_drill old new c result from is goes makes later disk runs memory =
+    → Ends terms command old new from result
+ends_open terms command no_drill old new c result from is goes makes later disk runs memory =
     let s = open_session old.plant old.controller c from is goes.stands in
     let m = makes old.plant.faults s.0 (inl refl) s.2 in
-    subst (λ f. Ends takes command old new f result) (sym s.1)
-    (ends_of takes command old new (Open s.0) m.to result (begins_open takes command old.plant.faults no_drill old.plant new c s.0 (reply_if result) s.2 m) m.closed later disk m.device m.opened runs memory (λ some. m.goes_on))
+    subst (λ f. Ends terms command old new f result) (sym s.1)
+    (ends_of terms command old new (Open s.0) m.to result (begins_open terms command old.plant.faults no_drill old.plant new c s.0 (reply_if result) s.2 m) m.closed later disk m.device m.opened runs memory (λ some. m.goes_on))
 
 -- or was opened for it
-pub ends_opened : (takes : Bool) (command : Command) → drill_of command ≡ None → (old new : Moment) (mid : Seen) (c : Control) (result : Result Reply CommandFault) (from : Session) → old.controller ≡ None → HasSession old from → OpenTold old.plant.told mid.told (2 ^ 32) (Ok c)
+pub ends_opened : (terms : Terms) (command : Command) → drill_of command ≡ None → (old new : Moment) (mid : Seen) (c : Control) (result : Result Reply CommandFault) (from : Session) → old.controller ≡ None → HasSession old from → OpenTold old.plant.told mid.told (2 ^ 32) (Ok c)
     → IfSome old.plant.told (λ t. AsRead t.trace) → Works mid.told c → c.swaps ≡ [] → limit_of c.journal ≡ 2 ^ 32 → IsLater old.plant mid
-    → ((mark : Faults) (swaps : List OpenSwap) → IsMarkAt mark mid swaps → IsOpen mid c swaps → Makes takes mark command mid c swaps new (reply_if result)) → Later old.plant.faults new.plant.faults
+    → ((mark : Faults) (swaps : List OpenSwap) → IsMarkAt mark mid swaps → IsOpen mid c swaps → Makes terms mark command mid c swaps new (reply_if result)) → Later old.plant.faults new.plant.faults
     → (closes_if (reply_if result) ≡ true → Rose old.plant.faults.disk new.plant.faults.disk) → (is_some (reply_if result) ≡ true → old.plant.stopped ≡ false → new.plant.stopped ≡ false) → OnErr result (result ≡ Err command_faults.Memory)
-    → Ends takes command old new from result
-ends_opened takes command no_drill old new mid c result from is goes told there works alone limit passed makes later disk runs memory =
+    → Ends terms command old new from result
+ends_opened terms command no_drill old new mid c result from is goes told there works alone limit passed makes later disk runs memory =
     let m = makes old.plant.faults [] (inr (refl, passed.devices)) (is_open mid c works alone limit) in
-    closed_from takes command old new from result is goes
-    (ends_of takes command old new Closed m.to result (begins_opened takes command old.plant.faults no_drill old.plant.told mid new c (reply_if result) told there works limit m) m.closed later disk m.device m.opened runs memory (λ some. m.goes_on))
+    closed_from terms command old new from result is goes
+    (ends_of terms command old new Closed m.to result (begins_opened terms command old.plant.faults no_drill old.plant.told mid new c (reply_if result) told there works limit m) m.closed later disk m.device m.opened runs memory (λ some. m.goes_on))
 
 -- a count that rose since a later moment rose since an earlier one
 pub rose_since : (a b now : ℕ) → a ≤ b → Rose b now → Rose a now

@@ -1,5 +1,5 @@
 -- A run of commands goes on, one piece after another.
-use Rattle.std.proofs.Common.{◌≡◌, ◌⊎◌, inl, inr, ℕ, ◌+◌, ◌^◌, arith, Bool, true, false, ◌&&◌, List, [], ◌∷◌, ◌++◌, length, take, Option, Some, None, Ok, Err, refl, sym, ◌∙◌, ap, subst}
+use Rattle.std.proofs.Common.{◌≡◌, ◌⊎◌, inl, inr, ℕ, ◌+◌, ◌^◌, arith, true, false, ◌&&◌, List, [], ◌∷◌, ◌++◌, length, take, Option, Some, None, Ok, Err, refl, sym, ◌∙◌, ap, subst}
 use Rattle.std.specs.Prelude.{IfSome, is_some}
 use Rattle.std.specs.Io.KnownBytes.{append_known}
 use Rattle.std.proofs.lemmas.List.{append-nil, map-append}
@@ -24,14 +24,14 @@ use Rattle.script_text.specs.declared.reply.Reply.{Reply}
 use Rattle.script_text.specs.Replies.{text_of}
 use Rattle.lab_core.specs.Moments.{IsNoJournal, bad, cannot_follow, no_room}
 use Rattle.lab_core.specs.Controller.{Control}
-use Rattle.lab_core.specs.Sessions.{Session, Closed}
+use Rattle.lab_core.specs.Sessions.{Session, Closed, Terms}
 use Rattle.lab_top.specs.declared.command.CommandFault.TheVariants as faults
 use Rattle.lab_top.specs.declared.status.Status.TheVariants as statuses
 use Rattle.lab_top.specs.declared.status.Status.{Status}
 use Rattle.lab_top.specs.Answering.{Moment, HasSession, Made, Answered, marked, piece_of}
 use Rattle.lab_top.specs.Pieces.{Begun, steps_of, commands_of, planned_of, trace_after, with_drill_if, with_piece, with_pieces, IsCaused, Counts, FindsNone, IsPiece, AreHandedOn, ArePieces, reply_text, reply_texts, session_after}
 use Rattle.lab_top.specs.Ran.{AreAnswered, BegunCommands, EndsSo, GoesOn, LastFindsNone, LastIsNot, Outside, Ran, WroteReplies, Answered as StatusAnswered}
-use Rattle.lab_top.specs.Words.{Choices, Usual}
+use Rattle.lab_words.specs.Words.{Choices, Usual}
 use Rattle.lab_top.proofs.Obeyed.{goes_closed, map_both, map_three}
 use Rattle.lab_top.proofs.Stepping.{all_some, map_some}
 
@@ -45,9 +45,9 @@ pub trace-push : (trace : List Event) (begun : List Begun) (b : Begun) → trace
 trace-push trace [] b = refl
 trace-push trace (x ∷ begun) b = trace-push (trace ++ steps_of x.piece) begun b
 
-pieces-push : (takes : Bool) (trace : List Event) (begun : List Begun) (b : Begun) → ArePieces takes trace begun → IsPiece takes (trace_after trace begun) b.piece → ArePieces takes trace (begun ++ b ∷ [])
-pieces-push takes trace [] b are is = (is, tt)
-pieces-push takes trace (x ∷ begun) b are is = (are.0, pieces-push takes (trace ++ steps_of x.piece) begun b are.1 is)
+pieces-push : (terms : Terms) (trace : List Event) (begun : List Begun) (b : Begun) → ArePieces terms trace begun → IsPiece terms (trace_after trace begun) b.piece → ArePieces terms trace (begun ++ b ∷ [])
+pieces-push terms trace [] b are is = (is, tt)
+pieces-push terms trace (x ∷ begun) b are is = (are.0, pieces-push terms (trace ++ steps_of x.piece) begun b are.1 is)
 
 sessions-push : (session : Session) (begun : List Begun) (b : Begun) → AreHandedOn session begun → b.piece.from ≡ session_after session begun → AreHandedOn session (begun ++ b ∷ [])
 sessions-push session [] b are from = (from, tt)
@@ -57,9 +57,9 @@ told-push : (told : Option Told) (begun : List Begun) (b : Begun) → with_piece
 told-push told [] b = refl
 told-push told (x ∷ begun) b = told-push (with_piece told x) begun b
 
-counts-push : (takes : Bool) (entry mid : Faults) (begun : List Begun) (b : Begun) → Counts takes entry begun mid → b.piece.faults ≡ mid → IsCaused takes b → Counts takes entry (begun ++ b ∷ []) b.later
-counts-push takes entry mid [] b is first caused = (first ∙ is, caused, refl)
-counts-push takes entry mid (x ∷ begun) b are first caused = (are.0, are.1, counts-push takes x.later mid begun b are.2 first caused)
+counts-push : (terms : Terms) (entry mid : Faults) (begun : List Begun) (b : Begun) → Counts terms entry begun mid → b.piece.faults ≡ mid → IsCaused terms b → Counts terms entry (begun ++ b ∷ []) b.later
+counts-push terms entry mid [] b is first caused = (first ∙ is, caused, refl)
+counts-push terms entry mid (x ∷ begun) b are first caused = (are.0, are.1, counts-push terms x.later mid begun b are.2 first caused)
 
 pub commands-push : (begun : List Begun) (b : Begun) → commands_of (begun ++ b ∷ []) ≡ commands_of begun ++ b.piece.command ∷ []
 commands-push begun b = map-append (λ (x : Begun). x.piece.command) begun (b ∷ [])
@@ -71,9 +71,9 @@ answered-push : (begun : List Begun) (b : Begun) → AreAnswered begun → is_so
 answered-push begun b are is = list_all-append (λ (x : Begun). is_some x.piece.reply) begun (b ∷ []) ∙ (λ i. are i && (is i && true))
 
 -- THE TRACE STAYS SOUND
-pub sound_after : (takes : Bool) (trace : List Event) (begun : List Begun) → ArePieces takes trace begun → IsSound the_texts trace → IsSound the_texts (trace_after trace begun)
-sound_after takes trace [] are sound = sound
-sound_after takes trace (b ∷ begun) are sound = sound_after takes (trace ++ steps_of b.piece) begun are.1 (are.0.done sound).sound
+pub sound_after : (terms : Terms) (trace : List Event) (begun : List Begun) → ArePieces terms trace begun → IsSound the_texts trace → IsSound the_texts (trace_after trace begun)
+sound_after terms trace [] are sound = sound
+sound_after terms trace (b ∷ begun) are sound = sound_after terms (trace ++ steps_of b.piece) begun are.1 (are.0.done sound).sound
 
 -- WHAT THE PLANT TELLS after pieces is the trace after them
 abbrev next_told : Told → Begun → Told
@@ -118,14 +118,14 @@ unmarked None faults P h = tt
 unmarked (Some t) faults P h = h
 
 -- THE PIECES SO FAR, from the first moment to this one
-pub record PiecesSoFar (takes : Bool) (start now : Moment) (begun : List Begun) : Type 0 where
+pub record PiecesSoFar (terms : Terms) (start now : Moment) (begun : List Begun) : Type 0 where
   pub told : now.plant.told ≡ with_pieces start.plant.told begun
-  pub counts : Counts takes start.plant.faults begun now.plant.faults
+  pub counts : Counts terms start.plant.faults begun now.plant.faults
   pub sessions : AreHandedOn Closed begun
-  pub are : IfSome start.plant.told (λ t. ArePieces takes t.trace begun)
+  pub are : IfSome start.plant.told (λ t. ArePieces terms t.trace begun)
 
-module _ (takes : Bool) (start before now : Moment) (begun : List Begun) (so : PiecesSoFar takes start before begun) (command : Command) (to : Session) (reply : Option Reply)
-    (made : Made takes command (marked before) now (session_after Closed begun) to reply) where
+module _ (terms : Terms) (start before now : Moment) (begun : List Begun) (so : PiecesSoFar terms start before begun) (command : Command) (to : Session) (reply : Option Reply)
+    (made : Made terms command (marked before) now (session_after Closed begun) to reply) where
   abbrev pub next : Begun
   next = record {
     piece = piece_of command before.plant.faults (session_after Closed begun) to made.begun.opening made.begun.own reply;
@@ -137,25 +137,25 @@ module _ (takes : Bool) (start before now : Moment) (begun : List Begun) (so : P
   pub at_mark : (P : List Event → Type 0) → IfSome (marked before).plant.told (λ u. P u.trace) → IfSome start.plant.told (λ t. P (trace_after t.trace begun))
   at_mark P h = from_told start.plant.told before.plant.told begun so.told P (unmarked before.plant.told before.plant.faults P h)
 
-  pub one_more : PiecesSoFar takes start now (begun ++ next ∷ [])
+  pub one_more : PiecesSoFar terms start now (begun ++ next ∷ [])
   one_more = record {
     told = made.begun.told ∙ ap (λ (o : Option Told). with_piece o next) so.told ∙ sym (told-push start.plant.told begun next);
-    counts = counts-push takes start.plant.faults before.plant.faults begun next so.counts refl
+    counts = counts-push terms start.plant.faults before.plant.faults begun next so.counts refl
         (record { later = made.later; disk = made.disk; device = made.device; opened = made.opened; planned = made.begun.planned_by });
     sessions = sessions-push Closed begun next so.sessions refl;
-    are = map_both start.plant.told (λ t are is. pieces-push takes t.trace begun next are is) so.are (at_mark (λ l. IsPiece takes l next.piece) made.begun.is_piece);
+    are = map_both start.plant.told (λ t are is. pieces-push terms t.trace begun next are is) so.are (at_mark (λ l. IsPiece terms l next.piece) made.begun.is_piece);
   }
 
 -- THE RUN SO FAR: all commands that were begun are answered, and the session behind them stands
-pub record Going (takes : Bool) (start now : Moment) (first written : Option (List ℕ)) (begun : List Begun) : Type 0 where
-  pub so : PiecesSoFar takes start now begun
+pub record Going (terms : Terms) (start now : Moment) (first written : Option (List ℕ)) (begun : List Begun) : Type 0 where
+  pub so : PiecesSoFar terms start now begun
   pub goes_on : HasSession now (session_after Closed begun)
   pub answered : AreAnswered begun
   pub wrote : written ≡ append_known first (reply_texts begun)
   pub runs : start.plant.stopped ≡ false → now.plant.stopped ≡ false
 
-pub going_none : (takes : Bool) (start : Moment) (written : Option (List ℕ)) → start.controller ≡ None → Going takes start start written written []
-going_none takes start written none = record {
+pub going_none : (terms : Terms) (start : Moment) (written : Option (List ℕ)) → start.controller ≡ None → Going terms start start written written []
+going_none terms start written none = record {
   so = record { told = refl; counts = refl; sessions = tt; are = all_some start.plant.told (λ t. tt) };
   goes_on = subst (λ (k : Option Control). HasSession (record { plant = start.plant; controller = k }) Closed) (sym none) (goes_closed start.plant);
   answered = refl;
@@ -167,14 +167,16 @@ going_none takes start written none = record {
 abbrev pub outside : Moment → Option (List ℕ) → Option (List ℕ) → Outside
 outside now left written = record { left = left; plant = now.plant; written = written }
 
-abbrev pub Ends : Bool → (start now : Moment) → Option (List ℕ) → Option (List ℕ) → Status → List Begun → Type 0
-Ends takes start now first new status made =
-    PiecesSoFar takes start now made × IfSome start.plant.told (λ t. EndsSo t.trace made status) × StatusAnswered status made × WroteReplies first new made status × (start.plant.stopped ≡ false → GoesOn status now.plant.stopped)
+abbrev pub Ends : Terms → (start now : Moment) → Option (List ℕ) → Option (List ℕ) → Status → List Begun → Type 0
+Ends terms start now first new status made =
+    PiecesSoFar terms start now made × IfSome start.plant.told (λ t. EndsSo t.trace made status) × StatusAnswered status made × WroteReplies first new made status × (start.plant.stopped ≡ false → GoesOn status now.plant.stopped)
 
-pub ran : (takes : Bool) (choices : Option Choices) (start now : Moment) (first new left rest : Option (List ℕ)) (status : Status) (made : List Begun) → ((status ≡ statuses.Usage) → choices ≡ None) → (choices ≡ None → status ≡ statuses.Usage)
-    → Ends takes start now first new status made → ((bytes : List ℕ) → left ≡ Some bytes → BegunCommands bytes rest (commands_of made) status) → Ran takes choices (outside start left first) (outside now rest new) status made
-ran takes choices start now first new left rest status made refused none ends begun = record {
-  usage = (refused, none);
+pub begun_ran : (terms : Terms) (start now : Moment) (first new left rest : Option (List ℕ)) (status : Status) (made : List Begun) → Ends terms start now first new status made → ((bytes : List ℕ) → left ≡ Some bytes → BegunCommands bytes rest (commands_of made) status)
+    → (status ≡ statuses.Usage → ⊥) → Ran terms (Some Usual) (outside start left first) (outside now rest new) status made
+begun_ran terms start now first new left rest status made ends begun not = record {
+  refused = λ is. absurd (cc is);
+  usage = λ is. absurd (not is);
+  none = λ is. absurd (cc is);
   told = ends.0.told;
   counts = ends.0.counts;
   sessions = ends.0.sessions;
@@ -187,37 +189,35 @@ ran takes choices start now first new left rest status made refused none ends be
   wrote = ends.3;
 }
   where
-    sound : (told : Option Told) → now.plant.told ≡ with_pieces told made → IfSome told (λ t. ArePieces takes t.trace made) → IfSome told (λ t. IsSound the_texts t.trace → IfSome now.plant.told (λ u. IsSound the_texts u.trace))
+    sound : (told : Option Told) → now.plant.told ≡ with_pieces told made → IfSome told (λ t. ArePieces terms t.trace made) → IfSome told (λ t. IsSound the_texts t.trace → IfSome now.plant.told (λ u. IsSound the_texts u.trace))
     sound None is are = tt
-    sound (Some t) is are = λ first. to_told (Some t) now.plant.told made is (IsSound the_texts) (sound_after takes t.trace made are first)
-
--- of words that choose something
-pub begun_ran : (takes : Bool) (start now : Moment) (first new left rest : Option (List ℕ)) (status : Status) (made : List Begun) → Ends takes start now first new status made → ((bytes : List ℕ) → left ≡ Some bytes → BegunCommands bytes rest (commands_of made) status)
-    → (status ≡ statuses.Usage → ⊥) → Ran takes (Some Usual) (outside start left first) (outside now rest new) status made
-begun_ran takes start now first new left rest status made ends begun not = ran takes (Some Usual) start now first new left rest status made (λ is. absurd (not is)) (λ is. absurd (cc is)) ends begun
+    sound (Some t) is are = λ first. to_told (Some t) now.plant.told made is (IsSound the_texts) (sound_after terms t.trace made are first)
 
 -- where all are answered
-pub going_ends : (takes : Bool) (start now : Moment) (first new : Option (List ℕ)) (begun : List Begun) → Going takes start now first new begun → (status : Status) → ((t : Told) → EndsSo t.trace begun status)
-    → (now.plant.stopped ≡ false → GoesOn status now.plant.stopped) → (AreAnswered begun → StatusAnswered status begun) → (new ≡ append_known first (reply_texts begun) → WroteReplies first new begun status) → Ends takes start now first new status begun
-going_ends takes start now first new begun going status ends goes_on answered wrote = (going.so, all_some start.plant.told ends, answered going.answered, wrote going.wrote, λ was. goes_on (going.runs was))
+pub going_ends : (terms : Terms) (start now : Moment) (first new : Option (List ℕ)) (begun : List Begun) → Going terms start now first new begun → (status : Status) → ((t : Told) → EndsSo t.trace begun status)
+    → (now.plant.stopped ≡ false → GoesOn status now.plant.stopped) → (AreAnswered begun → StatusAnswered status begun) → (new ≡ append_known first (reply_texts begun) → WroteReplies first new begun status) → Ends terms start now first new status begun
+going_ends terms start now first new begun going status ends goes_on answered wrote = (going.so, all_some start.plant.told ends, answered going.answered, wrote going.wrote, λ was. goes_on (going.runs was))
 
 -- A COMMAND MORE
-module _ (takes : Bool) (start before now : Moment) (first old new : Option (List ℕ)) (begun : List Begun) (going : Going takes start before first old begun) (command : Command) where
+abbrev pub TakenBy : (Reply → Type 0) → Begun → Type 0
+TakenBy taken b = (reply : Reply) × (b.piece.reply ≡ Some reply) × taken reply
+
+module _ (terms : Terms) (start before now : Moment) (first old new : Option (List ℕ)) (begun : List Begun) (going : Going terms start before first old begun) (command : Command) (taken : Reply → Type 0) where
   wrote_more : (part : List ℕ) → new ≡ append_known old part → new ≡ append_known first (reply_texts begun ++ part)
   wrote_more part is = is ∙ ap (λ (w : Option (List ℕ)). append_known w part) going.wrote ∙ append_known-append first (reply_texts begun) part
 
   abbrev from : Session
   from = session_after Closed begun
 
-  module _ (to : Session) (reply : Option Reply) (made : Made takes command (marked before) now from to reply) where
+  module _ (to : Session) (reply : Option Reply) (made : Made terms command (marked before) now from to reply) where
     abbrev one : Begun
-    one = next takes start before now begun going.so command to reply made
+    one = next terms start before now begun going.so command to reply made
 
-    so_now : PiecesSoFar takes start now (begun ++ one ∷ [])
-    so_now = one_more takes start before now begun going.so command to reply made
+    so_now : PiecesSoFar terms start now (begun ++ one ∷ [])
+    so_now = one_more terms start before now begun going.so command to reply made
 
-  pub going_more : Answered takes command before now from old new (Ok tt) → (b : Begun) × (b.piece.command ≡ command) × Going takes start now first new (begun ++ b ∷ [])
-  going_more (reply, to, made, wrote) =
+  pub going_more : Answered terms command before now from old new taken (Ok tt) → (b : Begun) × (b.piece.command ≡ command) × Going terms start now first new (begun ++ b ∷ []) × TakenBy taken b
+  going_more (reply, to, made, wrote, took) =
       let b = one to (Some reply) made in (
         b,
         refl,
@@ -228,10 +228,11 @@ module _ (takes : Bool) (start before now : Moment) (first old new : Option (Lis
           wrote = wrote_more (text_of reply) wrote ∙ ap (append_known first) (sym (texts-push begun b));
           runs = λ was. made.runs refl (going.runs was);
         },
+        (reply, refl, took),
       )
 
   -- a reply that was cut
-  pub going_cut : Answered takes command before now from old new (Err faults.WriteFault) → (made : List Begun) × (commands_of made ≡ commands_of begun ++ command ∷ []) × Ends takes start now first new statuses.WriteFault made
+  pub going_cut : Answered terms command before now from old new taken (Err faults.WriteFault) → (made : List Begun) × (commands_of made ≡ commands_of begun ++ command ∷ []) × Ends terms start now first new statuses.WriteFault made
   going_cut (reply, to, made, n, less, wrote) =
       let b = one to (Some reply) made in (
         begun ++ b ∷ [],
@@ -246,7 +247,7 @@ module _ (takes : Bool) (start before now : Moment) (first old new : Option (Lis
       )
 
   -- a command that has no reply
-  module _ (made : Made takes command (marked before) now from Closed None) (wrote : new ≡ old) where
+  module _ (made : Made terms command (marked before) now from Closed None) (wrote : new ≡ old) where
     abbrev silent : List Begun
     silent = begun ++ one Closed None made ∷ []
 
@@ -256,13 +257,13 @@ module _ (takes : Bool) (start before now : Moment) (first old new : Option (Lis
     wrote_none : new ≡ append_known first (reply_texts silent)
     wrote_none = wrote ∙ going.wrote ∙ ap (append_known first) (sym (append-nil (reply_texts begun)) ∙ sym (texts-push begun (one Closed None made)))
 
-  pub going_memory : Answered takes command before now from old new (Err faults.Memory)
-      → (made : List Begun) × ((commands_of made ≡ commands_of begun) ⊎ (commands_of made ≡ commands_of begun ++ command ∷ [])) × Ends takes start now first new statuses.Memory made
+  pub going_memory : Answered terms command before now from old new taken (Err faults.Memory)
+      → (made : List Begun) × ((commands_of made ≡ commands_of begun) ⊎ (commands_of made ≡ commands_of begun ++ command ∷ [])) × Ends terms start now first new statuses.Memory made
   going_memory (inl still, wrote) = (
     begun,
     inl refl,
     (
-      record { told = ap (λ (p : Seen). p.told) still ∙ going.so.told; counts = subst (λ (p : Seen). Counts takes start.plant.faults begun p.faults) (sym still) going.so.counts; sessions = going.so.sessions; are = going.so.are },
+      record { told = ap (λ (p : Seen). p.told) still ∙ going.so.told; counts = subst (λ (p : Seen). Counts terms start.plant.faults begun p.faults) (sym still) going.so.counts; sessions = going.so.sessions; are = going.so.are },
       all_some start.plant.told (λ t. tt),
       inl going.answered,
       wrote ∙ going.wrote,
@@ -273,7 +274,7 @@ module _ (takes : Bool) (start before now : Moment) (first old new : Option (Lis
       (silent made wrote, inr (commands-push begun (one Closed None made)), (so_now Closed None made, all_some start.plant.told (λ t. tt), inr (waits made wrote), wrote_none made wrote, λ was. tt))
 
   -- sides that are no journal
-  pub going_bad : (side : Side) (at : ℕ) → Answered takes command before now from old new (Err (faults.JournalBad side at)) → (made : List Begun) × (commands_of made ≡ commands_of begun ++ command ∷ []) × Ends takes start now first new (statuses.JournalBad side at) made
+  pub going_bad : (side : Side) (at : ℕ) → Answered terms command before now from old new taken (Err (faults.JournalBad side at)) → (made : List Begun) × (commands_of made ≡ commands_of begun ++ command ∷ []) × Ends terms start now first new (statuses.JournalBad side at) made
   going_bad side at (found, wrote) =
       let made = found.made in
       let last = one Closed None made in (
@@ -282,7 +283,7 @@ module _ (takes : Bool) (start before now : Moment) (first old new : Option (Lis
         (
           so_now Closed None made,
           map_some start.plant.told (λ t finds. record { before = begun; last = last; made_are = refl; answered = going.answered; finds = finds })
-              (at_mark takes start before now begun going.so command Closed None made (λ l. FindsNone l last.piece side at) found.finds),
+              (at_mark terms start before now begun going.so command Closed None made (λ l. FindsNone l last.piece side at) found.finds),
           waits made wrote,
           wrote_none made wrote,
           λ was. found.runs,
@@ -301,9 +302,9 @@ last_bad trace made side at l =
     (subst (λ a. IsNoJournal a (disk B (trace_after trace l.before ++ steps_of l.last.piece)).reads (2 ^ 32) side at) (sym (l.finds.as_before A))
     (subst (λ b. IsNoJournal (disk A (trace_after trace l.before)).reads b (2 ^ 32) side at) (sym (l.finds.as_before B)) l.finds.no_journal)))
 
-pub ran_bad : (takes : Bool) (choices : Option Choices) (old new : Outside) (side : Side) (at : ℕ) (made : List Begun) → Ran takes choices old new (statuses.JournalBad side at) made
+pub ran_bad : (terms : Terms) (choices : Option Choices) (old new : Outside) (side : Side) (at : ℕ) (made : List Begun) → Ran terms choices old new (statuses.JournalBad side at) made
     → IfSome new.plant.told (λ t. IsNoJournal (disk A t.trace).reads (disk B t.trace).reads (2 ^ 32) side at)
-ran_bad takes choices old new side at made r = to_told old.plant.told new.plant.told made r.told (NoJournal side at) (map_some old.plant.told (λ t l. last_bad t.trace made side at l) r.ends)
+ran_bad terms choices old new side at made r = to_told old.plant.told new.plant.told made r.told (NoJournal side at) (map_some old.plant.told (λ t l. last_bad t.trace made side at l) r.ends)
 
 -- over a sound trace the sides are a journal
 sides_read : (trace : List Event) (side : Side) (at : ℕ) → ArePossible trace (disk A trace).reads (disk B trace).reads → IsSound the_texts trace → IsNoJournal (disk A trace).reads (disk B trace).reads (2 ^ 32) side at → ⊥
@@ -314,8 +315,8 @@ sides_read trace side at possible sound (no_room rs s read on lab less is) =
     let room = sound_room the_texts trace _ _ rs s possible sound texts_once read lab in
     omega (arith, size, room, less)
 
-pub never_bad : (takes : Bool) (choices : Option Choices) (old new : Outside) (side : Side) (at : ℕ) (made : List Begun) → Ran takes choices old new (statuses.JournalBad side at) made
+pub never_bad : (terms : Terms) (choices : Option Choices) (old new : Outside) (side : Side) (at : ℕ) (made : List Begun) → Ran terms choices old new (statuses.JournalBad side at) made
     → IfSome new.plant.told (λ t. ArePossible t.trace (disk A t.trace).reads (disk B t.trace).reads) → IfSome old.plant.told (λ t. IsSound the_texts t.trace → ⊥)
-never_bad takes choices old new side at made r there =
-    map_three old.plant.told (λ t l are possible sound. sides_read (trace_after t.trace made) side at possible (sound_after takes t.trace made are sound) (last_bad t.trace made side at l)) r.ends r.pieces
+never_bad terms choices old new side at made r there =
+    map_three old.plant.told (λ t l are possible sound. sides_read (trace_after t.trace made) side at possible (sound_after terms t.trace made are sound) (last_bad t.trace made side at l)) r.ends r.pieces
     (from_told old.plant.told new.plant.told made r.told (λ l. ArePossible l (disk A l).reads (disk B l).reads) there)

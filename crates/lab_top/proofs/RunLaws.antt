@@ -32,7 +32,7 @@ use Rattle.script_text.specs.declared.reply.Reply.TheVariants.{Recovered}
 use Rattle.lab_core.specs.Breaks.{Breaks, stopped, failed, unanswered}
 use Rattle.lab_core.specs.LabSteps.{JudgedBeside, LabStep, StepOf}
 use Rattle.lab_core.specs.Moments.{IsLabAt, IsNoJournal, StandForLab, IsLabOfImage, AllStandFor}
-use Rattle.lab_core.specs.Sessions.{Session, Closed, Open, Setting, After, name_of}
+use Rattle.lab_core.specs.Sessions.{Session, Closed, Open, Setting, After, name_of, Terms}
 use Rattle.lab_core.specs.Tells.{BeginsAt, IsFeasibleFor, Hinders, TellsBroken, busy_of, is_of_drill, is_stopped, of_drill_if, settles, taken_reply}
 use Rattle.lab_core.proofs.OneJournal.{not_both, one_place}
 use Rattle.lab_core.proofs.OuterReplies.{step_so}
@@ -42,7 +42,7 @@ use Rattle.lab_core.proofs.SolutionLaws.{in_both}
 use Rattle.lab_core.proofs.StepLaws.{by_one, step_stays, was, step_stops}
 use Rattle.lab_top.specs.Pieces.{Piece, Begun, AreHandedOn, ArePieces, ButForReply, Counts, Finds, FirstLab, IsCaused, IsPiece, StepsFrom, is_closed, stays_open, steps_of, trace_after, IsOpening, broken_off, opened, AllHave, AreOthers, ImagesAfter, IsDone, is_early, leaves_one, AllRestBut, HasOpened, Leads, OpensTo, may_shut, IsPlannedAs, IsPlannedBy}
 use Rattle.lab_top.specs.Ran.{Outside, Ran, AreAnswered, Answered, EndsSo, LastFindsNone}
-use Rattle.lab_top.specs.Words.{Choices}
+use Rattle.lab_words.specs.Words.{Choices}
 use Rattle.lab_top.specs.declared.status.Status.{Status}
 use Rattle.lab_top.specs.declared.status.Status.TheVariants.{Memory, JournalBad}
 use Rattle.lab_top.proofs.BrokenOpenings.{breaks_as, breaks_not}
@@ -50,25 +50,25 @@ use Rattle.lab_top.proofs.Pieces.{trace-push}
 use Rattle.lab_top.proofs.Stepping.{and_left, and_right, has_started}
 
 -- ONE OF THE PIECES
-pub piece_at : (takes : Bool) (trace : List Event) (before after : List Begun) (b : Begun) → ArePieces takes trace (before ++ b ∷ after) → IsPiece takes (trace_after trace before) b.piece
-piece_at takes trace [] after b are = are.0
-piece_at takes trace (x ∷ before) after b are = piece_at takes (trace ++ steps_of x.piece) before after b are.1
+pub piece_at : (terms : Terms) (trace : List Event) (before after : List Begun) (b : Begun) → ArePieces terms trace (before ++ b ∷ after) → IsPiece terms (trace_after trace before) b.piece
+piece_at terms trace [] after b are = are.0
+piece_at terms trace (x ∷ before) after b are = piece_at terms (trace ++ steps_of x.piece) before after b are.1
 
-pub caused_at : (takes : Bool) (entry exit : Faults) (before after : List Begun) (b : Begun) → Counts takes entry (before ++ b ∷ after) exit → IsCaused takes b
-caused_at takes entry exit [] after b counts = counts.1
-caused_at takes entry exit (x ∷ before) after b counts = caused_at takes x.later exit before after b counts.2
+pub caused_at : (terms : Terms) (entry exit : Faults) (before after : List Begun) (b : Begun) → Counts terms entry (before ++ b ∷ after) exit → IsCaused terms b
+caused_at terms entry exit [] after b counts = counts.1
+caused_at terms entry exit (x ∷ before) after b counts = caused_at terms x.later exit before after b counts.2
 
 -- the pieces behind the first of them
-pub behind : (takes : Bool) (trace : List Event) (before rest : List Begun) → ArePieces takes trace (before ++ rest) → IsSound the_texts trace → ArePieces takes (trace_after trace before) rest × IsSound the_texts (trace_after trace before)
-behind takes trace [] rest are sound = (are, sound)
-behind takes trace (b ∷ before) rest are sound = behind takes (trace ++ steps_of b.piece) before rest are.1 (are.0.done sound).sound
+pub behind : (terms : Terms) (trace : List Event) (before rest : List Begun) → ArePieces terms trace (before ++ rest) → IsSound the_texts trace → ArePieces terms (trace_after trace before) rest × IsSound the_texts (trace_after trace before)
+behind terms trace [] rest are sound = (are, sound)
+behind terms trace (b ∷ before) rest are sound = behind terms (trace ++ steps_of b.piece) before rest are.1 (are.0.done sound).sound
 
-pub pieces_of : (takes : Bool) (choices : Option Choices) (old new : Outside) (status : Status) (made : List Begun) (t : Told) → Ran takes choices old new status made → old.plant.told ≡ Some t → ArePieces takes t.trace made
-pieces_of takes choices old new status made t r is = subst (λ (o : Option Told). IfSome o (λ u. ArePieces takes u.trace made)) is r.pieces
+pub pieces_of : (terms : Terms) (choices : Option Choices) (old new : Outside) (status : Status) (made : List Begun) (t : Told) → Ran terms choices old new status made → old.plant.told ≡ Some t → ArePieces terms t.trace made
+pieces_of terms choices old new status made t r is = subst (λ (o : Option Told). IfSome o (λ u. ArePieces terms u.trace made)) is r.pieces
 
 -- THE LAB BEFORE A PIECE from an open session, over any trace
-lab_behind : (takes : Bool) (trace : List Event) (piece : Piece) → IsPiece takes trace piece → (is_closed piece.from ≡ false → (s : LabState) × IsLabAt trace s) → is_closed piece.to ≡ false → (s : LabState) × IsLabAt (trace ++ steps_of piece) s
-lab_behind takes trace piece is here open_now = by (drill_of piece.command) refl is.finds
+lab_behind : (terms : Terms) (trace : List Event) (piece : Piece) → IsPiece terms trace piece → (is_closed piece.from ≡ false → (s : LabState) × IsLabAt trace s) → is_closed piece.to ≡ false → (s : LabState) × IsLabAt (trace ++ steps_of piece) s
+lab_behind terms trace piece is here open_now = by (drill_of piece.command) refl is.finds
   where
     by_drill : (reply : Option Reply) → piece.reply ≡ reply → piece.opening ≡ [] → piece.own ≡ [] → (is_some piece.reply ≡ true → piece.to ≡ piece.from) → (s : LabState) × IsLabAt (trace ++ steps_of piece) s
     by_drill None none opening own same = absurd (cc (ap is_closed (is.leaves (ap (λ (r : Option Reply). stays_open r) none)), open_now))
@@ -80,11 +80,11 @@ lab_behind takes trace piece is here open_now = by (drill_of piece.command) refl
     by None none finds = let l = is.leads none open_now in (l.last, l.behind)
     by (Some drill) some finds = by_drill piece.reply refl finds.0 finds.1 finds.2
 
-pub lab_before : (takes : Bool) (trace : List Event) (session : Session) (before after : List Begun) (b : Begun) → ArePieces takes trace (before ++ b ∷ after) → AreHandedOn session (before ++ b ∷ after)
+pub lab_before : (terms : Terms) (trace : List Event) (session : Session) (before after : List Begun) (b : Begun) → ArePieces terms trace (before ++ b ∷ after) → AreHandedOn session (before ++ b ∷ after)
     → (is_closed session ≡ false → (s : LabState) × IsLabAt trace s) → is_closed b.piece.from ≡ false → (s : LabState) × IsLabAt (trace_after trace before) s
-lab_before takes trace session [] after b are handed here open_now = here (ap is_closed (sym handed.0) ∙ open_now)
-lab_before takes trace session (x ∷ before) after b are handed here open_now =
-    lab_before takes (trace ++ steps_of x.piece) x.piece.to before after b are.1 handed.1 (λ goes. lab_behind takes trace x.piece are.0 (λ from. here (ap is_closed (sym handed.0) ∙ from)) goes) open_now
+lab_before terms trace session [] after b are handed here open_now = here (ap is_closed (sym handed.0) ∙ open_now)
+lab_before terms trace session (x ∷ before) after b are handed here open_now =
+    lab_before terms (trace ++ steps_of x.piece) x.piece.to before after b are.1 handed.1 (λ goes. lab_behind terms trace x.piece are.0 (λ from. here (ap is_closed (sym handed.0) ∙ from)) goes) open_now
 
 -- A FIRST LAB is sane
 pub first_sane : (early : Bool) (trace : List Event) (s : LabState) → FirstLab early trace s → Sane s
@@ -92,8 +92,8 @@ first_sane true trace s image = lab_sane the_texts image.stand.records s image.s
 first_sane false trace s at = lab_sane the_texts at.records s at.lab_of
 
 -- what is told of a piece that is answered
-pub told_of : (takes : Bool) (trace : List Event) (piece : Piece) (s after : LabState) (steps : StepsFrom takes trace piece s after) (reply : Reply) → piece.reply ≡ Some reply → (steps.told ≡ Some reply) × (steps.session ≡ piece.to) × (steps.behind ≡ [])
-told_of takes trace piece s after steps reply is = subst (λ (o : Option Reply). ButForReply o piece.to steps.told steps.session steps.behind) is steps.is_told
+pub told_of : (terms : Terms) (trace : List Event) (piece : Piece) (s after : LabState) (steps : StepsFrom terms trace piece s after) (reply : Reply) → piece.reply ≡ Some reply → (steps.told ≡ Some reply) × (steps.session ≡ piece.to) × (steps.behind ≡ [])
+told_of terms trace piece s after steps reply is = subst (λ (o : Option Reply). ButForReply o piece.to steps.told steps.session steps.behind) is steps.is_told
 
 opening_of : (drill : Option Drill) (from : Session) (trace : List Event) (piece : Piece) → drill ≡ None → from ≡ Closed → Finds drill from trace piece → IsOpening trace piece
 opening_of (Some drill) from trace piece no_drill closed finds = absurd (cc no_drill)
@@ -149,12 +149,12 @@ module _ (trace : List Event) (before after : List Begun) (b : Begun) (side : Si
   by (JournalBad s n) all ends = inr (found s n ends)
   by status all ends = absurd (not_answered before after b none all)
 
-pub ends_bad : (takes : Bool) (choices : Option Choices) (old new : Outside) (status : Status) (before after : List Begun) (b : Begun) (t : Told) (side : Side) (at : ℕ) → Ran takes choices old new status (before ++ b ∷ after) → old.plant.told ≡ Some t
+pub ends_bad : (terms : Terms) (choices : Option Choices) (old new : Outside) (status : Status) (before after : List Begun) (b : Begun) (t : Told) (side : Side) (at : ℕ) → Ran terms choices old new status (before ++ b ∷ after) → old.plant.told ≡ Some t
     → drill_of b.piece.command ≡ None → b.piece.from ≡ Closed → has_miss b.piece.opening ≡ false → has_restart b.piece.opening ≡ false
     → IsNoJournal (disk A (trace_after t.trace before)).reads (disk B (trace_after t.trace before)).reads (2 ^ 32) side at → (status ≡ Memory) ⊎ (status ≡ JournalBad side at)
-ends_bad takes choices old new status before after b t side at r is no_drill closed miss restart missing =
+ends_bad terms choices old new status before after b t side at r is no_drill closed miss restart missing =
     let ends = subst (λ (o : Option Told). IfSome o (λ u. EndsSo u.trace (before ++ b ∷ after) status)) is r.ends in
-    let piece = piece_at takes t.trace before after b (pieces_of takes choices old new status (before ++ b ∷ after) t r is) in
+    let piece = piece_at terms t.trace before after b (pieces_of terms choices old new status (before ++ b ∷ after) t r is) in
     let none = no_reply (trace_after t.trace before) b.piece side at (opening_of _ _ _ b.piece no_drill closed piece.finds) miss restart missing in
     by t.trace before after b side at missing none status r.answered ends
 
@@ -171,32 +171,32 @@ is_set a b s name e stand found = none_in name s e (lab_sane the_texts stand.rec
 some_same : {x y : Experiment} → Some x ≡ Some y → x ≡ y
 some_same same = cc same
 
-stays : (takes : Bool) (set : Setting) (s : LabState) (session : Session) (command : Command) (opening own : List Event) (after : After) (e : Experiment) → is_some s.lab ≡ true → find e.name s.experiments ≡ Some e
-    → (settles session command e.name ≡ true → is_moving e ≡ false) → name_of command ≢ Some e.name → LabStep takes set s session command opening own after → find e.name after.lab.experiments ≡ Some e
-stays takes set s session command opening own after e there found rests other step =
-    let one = by_one (drill_of command) takes set s session command opening own after step in
-    (step_stays e.name own after s there session command (λ settled x is. subst (λ (y : Experiment). is_moving y ≡ false) (some_same (sym found ∙ is)) (rests settled)) opening one.0 takes set other
-    (was one.0 takes set s command opening own after (drill_of command) session one.1)).same
+stays : (terms : Terms) (set : Setting) (s : LabState) (session : Session) (command : Command) (opening own : List Event) (after : After) (e : Experiment) → is_some s.lab ≡ true → find e.name s.experiments ≡ Some e
+    → (settles session command e.name ≡ true → is_moving e ≡ false) → name_of command ≢ Some e.name → LabStep terms set s session command opening own after → find e.name after.lab.experiments ≡ Some e
+stays terms set s session command opening own after e there found rests other step =
+    let one = by_one (drill_of command) terms set s session command opening own after step in
+    (step_stays e.name own after s there session command (λ settled x is. subst (λ (y : Experiment). is_moving y ≡ false) (some_same (sym found ∙ is)) (rests settled)) opening one.0 terms set other
+    (was one.0 terms set s command opening own after (drill_of command) session one.1)).same
     ∙ found
 
 -- ONE PIECE
-module _ (takes : Bool) (trace : List Event) (piece : Piece) (e : Experiment) (rests : settles piece.from piece.command e.name ≡ true → is_moving e ≡ false) (have : AllHave trace e) (other : name_of piece.command ≢ Some e.name) where
-  from_image : (s after : LabState) → IsLabOfImage trace s → StepsFrom takes trace piece s after → find e.name after.experiments ≡ Some e
+module _ (terms : Terms) (trace : List Event) (piece : Piece) (e : Experiment) (rests : settles piece.from piece.command e.name ≡ true → is_moving e ≡ false) (have : AllHave trace e) (other : name_of piece.command ≢ Some e.name) where
+  from_image : (s after : LabState) → IsLabOfImage trace s → StepsFrom terms trace piece s after → find e.name after.experiments ≡ Some e
   from_image s after image steps =
       let had = have image.a image.b image.possible in
       let same = stood_once the_texts image.a image.b had.0 s texts_once had.1 image.stand in
       let found : find e.name s.experiments ≡ Some e = ap (λ (u : LabState). find e.name u.experiments) (sym same) ∙ had.2 in
-      stays takes _ s piece.from piece.command piece.opening (piece.own ++ steps.behind) _ e (is_set image.a image.b s e.name e image.stand found) found rests other steps.step
+      stays terms _ s piece.from piece.command piece.opening (piece.own ++ steps.behind) _ e (is_set image.a image.b s e.name e image.stand found) found rests other steps.step
 
   first_image : ArePossible trace (disk A trace).reads (disk B trace).reads → (early : Bool) (s : LabState) → FirstLab early trace s → IsLabOfImage trace s
   first_image readable true s image = image
   first_image readable false s at = record { a = (disk A trace).reads; b = (disk B trace).reads; possible = readable; stand = at }
 
-  after_images : (one : Bool) (last : LabState) → find e.name last.experiments ≡ Some e → ImagesAfter takes one trace piece last → AllHave (trace ++ steps_of piece) e
+  after_images : (one : Bool) (last : LabState) → find e.name last.experiments ≡ Some e → ImagesAfter terms one trace piece last → AllHave (trace ++ steps_of piece) e
   after_images true last found all a b possible = (last, all a b possible, found)
   after_images false last found images a b possible = let x = images a b possible in (x.1, x.3, from_image x.0 x.1 x.2 x.4)
 
-  pub piece_keeps : ArePossible trace (disk A trace).reads (disk B trace).reads → IsDone takes trace piece → is_some piece.reply ≡ true → AllHave (trace ++ steps_of piece) e
+  pub piece_keeps : ArePossible trace (disk A trace).reads (disk B trace).reads → IsDone terms trace piece → is_some piece.reply ≡ true → AllHave (trace ++ steps_of piece) e
   piece_keeps readable done some =
       let l = done.leads in
       after_images (leaves_one piece.to piece.reply) l.last (from_image l.first l.last (first_image readable (is_early piece) l.first l.before) l.steps) (done.images some)
@@ -210,32 +210,32 @@ at_rest : (e : Experiment) (begun : List Begun) → is_moving e ≡ false → Ar
 at_rest e [] rests = tt
 at_rest e (b ∷ begun) rests = ((λ settled. rests), at_rest e begun rests)
 
-pub pieces_keep : (takes : Bool) (trace : List Event) (middle after : List Begun) (e : Experiment) → ArePieces takes trace (middle ++ after) → IsSound the_texts trace → AreSparing e middle → AllHave trace e → AreAnswered middle → AreOthers e.name middle
+pub pieces_keep : (terms : Terms) (trace : List Event) (middle after : List Begun) (e : Experiment) → ArePieces terms trace (middle ++ after) → IsSound the_texts trace → AreSparing e middle → AllHave trace e → AreAnswered middle → AreOthers e.name middle
     → AllHave (trace_after trace middle) e
-pieces_keep takes trace [] after e are sound rests have all others = have
-pieces_keep takes trace (b ∷ middle) after e are sound rests have all others =
+pieces_keep terms trace [] after e are sound rests have all others = have
+pieces_keep terms trace (b ∷ middle) after e are sound rests have all others =
     let done = are.0.done sound in
-    pieces_keep takes (trace ++ steps_of b.piece) middle after e are.1 done.sound rests.1
-    (piece_keeps takes trace b.piece e rests.0 have others.0 are.0.readable done (and_left (is_some b.piece.reply) _ all)) (and_right (is_some b.piece.reply) _ all) others.1
+    pieces_keep terms (trace ++ steps_of b.piece) middle after e are.1 done.sound rests.1
+    (piece_keeps terms trace b.piece e rests.0 have others.0 are.0.readable done (and_left (is_some b.piece.reply) _ all)) (and_right (is_some b.piece.reply) _ all) others.1
 
 pub traces_join : (trace : List Event) (before middle : List Begun) → trace_after trace (before ++ middle) ≡ trace_after (trace_after trace before) middle
 traces_join trace [] middle = refl
 traces_join trace (b ∷ before) middle = traces_join (trace ++ steps_of b.piece) before middle
 
 -- in one run
-module _ (takes : Bool) (choices : Option Choices) (old new : Outside) (status : Status) (before middle after : List Begun) (t : Told) (e : Experiment) (r : Ran takes choices old new status (before ++ (middle ++ after))) (is : old.plant.told ≡ Some t) where
+module _ (terms : Terms) (choices : Option Choices) (old new : Outside) (status : Status) (before middle after : List Begun) (t : Told) (e : Experiment) (r : Ran terms choices old new status (before ++ (middle ++ after))) (is : old.plant.told ≡ Some t) where
   pub kept_along : IsSound the_texts t.trace → AreSparing e middle → AllHave (trace_after t.trace before) e → AreAnswered middle → AreOthers e.name middle → AllHave (trace_after t.trace (before ++ middle)) e
   kept_along sound rests have all others =
-      let here = behind takes t.trace before (middle ++ after) (pieces_of takes choices old new status (before ++ (middle ++ after)) t r is) sound in
-      subst (λ l. AllHave l e) (sym (traces_join t.trace before middle)) (pieces_keep takes (trace_after t.trace before) middle after e here.0 here.1 rests have all others)
+      let here = behind terms t.trace before (middle ++ after) (pieces_of terms choices old new status (before ++ (middle ++ after)) t r is) sound in
+      subst (λ l. AllHave l e) (sym (traces_join t.trace before middle)) (pieces_keep terms (trace_after t.trace before) middle after e here.0 here.1 rests have all others)
 
   pub are_kept : IsSound the_texts t.trace → is_moving e ≡ false → AllHave (trace_after t.trace before) e → AreAnswered middle → AreOthers e.name middle → AllHave (trace_after t.trace (before ++ middle)) e
   are_kept sound rests = kept_along sound (at_rest e middle rests)
 
 -- A PIECE OF NO DRILL THAT IS ANSWERED: its opening broke off, and nothing else was done; or it is a lab step
-module _ (takes : Bool) (trace : List Event) (piece : Piece) (is : IsPiece takes trace piece) (no_drill : drill_of piece.command ≡ None) (reply : Reply) (replied : piece.reply ≡ Some reply) where
+module _ (terms : Terms) (trace : List Event) (piece : Piece) (is : IsPiece terms trace piece) (no_drill : drill_of piece.command ≡ None) (reply : Reply) (replied : piece.reply ≡ Some reply) where
   abbrev pub Was : Type 0
-  Was = (Breaks piece.opening (Some reply) × (piece.own ≡ [])) ⊎ ((s : LabState) × (after : LabState) × StepsFrom takes trace piece s after)
+  Was = (Breaks piece.opening (Some reply) × (piece.own ≡ [])) ⊎ ((s : LabState) × (after : LabState) × StepsFrom terms trace piece s after)
 
   from_lab : has_miss piece.opening ≡ false → has_restart piece.opening ≡ false → (s : LabState) → IsLabAt trace s → Was
   from_lab miss restart s at = let x = is.steps no_drill (ap is_some replied) miss restart s at in inr (s, x.0, x.1)
@@ -257,11 +257,11 @@ breaks_stopped events o reply (stopped ends is) told = let same : replies.Stoppe
 breaks_stopped events o reply (failed once missed is) told = let same : replies.Down ≡ reply = cc (is, told) in once ∙ ap is_stopped same
 breaks_stopped events o reply (unanswered is) told = absurd (cc (is, told))
 
-step_stopped : (takes : Bool) (set : Setting) (s : LabState) (session : Session) (command : Command) (opening own : List Event) (after : After) (reply : Reply) → after.reply ≡ Some reply → LabStep takes set s session command opening own after
+step_stopped : (terms : Terms) (set : Setting) (s : LabState) (session : Session) (command : Command) (opening own : List Event) (after : After) (reply : Reply) → after.reply ≡ Some reply → LabStep terms set s session command opening own after
     → has_restart (opening ++ own) ≡ is_stopped reply
-step_stopped takes set s session command opening own after reply is step =
-    let one = by_one (drill_of command) takes set s session command opening own after step in
-    step_stops own after reply is (drill_of command) one.0 takes set s session command opening (was one.0 takes set s command opening own after (drill_of command) session one.1)
+step_stopped terms set s session command opening own after reply is step =
+    let one = by_one (drill_of command) terms set s session command opening own after step in
+    step_stops own after reply is (drill_of command) one.0 terms set s session command opening (was one.0 terms set s command opening own after (drill_of command) session one.1)
 
 -- the reply to a drill
 drill_replied : (takes planned : Bool) (reply : Reply) → IsPlannedAs takes planned (Some reply) → is_stopped reply ≡ false
@@ -275,22 +275,22 @@ left_open Closed reply never shuts = absurd (cc (never, shuts refl))
 left_open (Open opens) reply never shuts = refl
 
 -- ONE PIECE OF A RUN
-module _ (takes : Bool) (choices : Option Choices) (old new : Outside) (status : Status) (before after : List Begun) (b : Begun) (t : Told) (r : Ran takes choices old new status (before ++ b ∷ after)) (told : old.plant.told ≡ Some t) where
+module _ (terms : Terms) (choices : Option Choices) (old new : Outside) (status : Status) (before after : List Begun) (b : Begun) (t : Told) (r : Ran terms choices old new status (before ++ b ∷ after)) (told : old.plant.told ≡ Some t) where
   abbrev trace : List Event
   trace = trace_after t.trace before
 
-  are : ArePieces takes t.trace (before ++ b ∷ after)
-  are = pieces_of takes choices old new status (before ++ b ∷ after) t r told
+  are : ArePieces terms t.trace (before ++ b ∷ after)
+  are = pieces_of terms choices old new status (before ++ b ∷ after) t r told
 
-  pub piece : IsPiece takes trace b.piece
-  piece = piece_at takes t.trace before after b are
+  pub piece : IsPiece terms trace b.piece
+  piece = piece_at terms t.trace before after b are
 
   -- OVER A SOUND TRACE
   module _ (sound : IsSound the_texts t.trace) where
-    done : IsDone takes trace b.piece
-    done = piece.done (behind takes t.trace before (b ∷ after) are sound).1
+    done : IsDone terms trace b.piece
+    done = piece.done (behind terms t.trace before (b ∷ after) are sound).1
 
-    abbrev l : Leads takes trace b.piece
+    abbrev l : Leads terms trace b.piece
     l = done.leads
 
     abbrev set : Setting
@@ -302,8 +302,8 @@ module _ (takes : Bool) (choices : Option Choices) (old new : Outside) (status :
     abbrev ends : After
     ends = record { reply = l.steps.told; lab = l.last; session = l.steps.session }
 
-    step_by : (command : Command) → b.piece.command ≡ command → LabStep takes set l.first b.piece.from command b.piece.opening own ends
-    step_by command asks = subst (λ (c : Command). LabStep takes set l.first b.piece.from c b.piece.opening own ends) asks l.steps.step
+    step_by : (command : Command) → b.piece.command ≡ command → LabStep terms set l.first b.piece.from command b.piece.opening own ends
+    step_by command asks = subst (λ (c : Command). LabStep terms set l.first b.piece.from c b.piece.opening own ends) asks l.steps.step
 
     -- a supplied solution
     pub swapped_in : (only : Bool) (exp text : List ℕ) (lines : ℕ) (reply : Reply) → b.piece.command ≡ SwapinWith only exp lines text → b.piece.reply ≡ Some reply
@@ -311,7 +311,7 @@ module _ (takes : Bool) (choices : Option Choices) (old new : Outside) (status :
         × (reply ≡ taken_reply only exp → IsFeasibleFor mid exp text) × (IsFeasibleFor mid exp text → (reply ≡ taken_reply only exp) ⊎ Hinders reply))
     swapped_in only exp text lines reply asks replied =
         ⊎_elim (λ broken. inl broken) (λ both. inr (l.first, l.before, both.0, both.1, both.2, both.3))
-        (in_both takes set l.first b.piece.from only exp text lines b.piece.opening own ends reply (step_by (SwapinWith only exp lines text) asks) (told_of takes trace b.piece l.first l.last l.steps reply replied).0)
+        (in_both terms set l.first b.piece.from only exp text lines b.piece.opening own ends reply (step_by (SwapinWith only exp lines text) asks) (told_of terms trace b.piece l.first l.last l.steps reply replied).0)
 
     -- an untroubled recovery
     sane : Sane l.first
@@ -338,13 +338,13 @@ module _ (takes : Bool) (choices : Option Choices) (old new : Outside) (status :
       one = ap (leaves_one b.piece.to) replied ∙ left_open b.piece.to (Recovered number 0) refl (λ shut. ap may_shut (sym replied) ∙ piece.shuts (ap drill_of asks) shut)
 
       all : AllStandFor (trace ++ steps_of b.piece) l.last
-      all = subst (λ x. ImagesAfter takes x trace b.piece l.last) one (done.images (ap is_some replied))
+      all = subst (λ x. ImagesAfter terms x trace b.piece l.last) one (done.images (ap is_some replied))
 
       rest : (e : Experiment) → Has l.last.experiments e → is_moving e ≡ true → is_busy (busy_of b.piece.from) e.name ≡ true
       rest =
-          let by = by_one None takes set l.first b.piece.from Recover b.piece.opening own ends (step_by Recover asks) in
-          recovered_rest own ends number (told_of takes trace b.piece l.first l.last l.steps (Recovered number 0) replied).0 by.0 takes set l.first b.piece.from b.piece.opening sane
-          (was by.0 takes set l.first Recover b.piece.opening own ends None b.piece.from by.1)
+          let by = by_one None terms set l.first b.piece.from Recover b.piece.opening own ends (step_by Recover asks) in
+          recovered_rest own ends number (told_of terms trace b.piece l.first l.last l.steps (Recovered number 0) replied).0 by.0 terms set l.first b.piece.from b.piece.opening sane
+          (was by.0 terms set l.first Recover b.piece.opening own ends None b.piece.from by.1)
 
       pub recovered_rests : AllRestBut (busy_of b.piece.from) (trace_after t.trace (before ++ b ∷ []))
       recovered_rests =
@@ -353,8 +353,8 @@ module _ (takes : Bool) (choices : Option Choices) (old new : Outside) (status :
 
   -- OVER ANY TRACE: `stopped` exactly where the plant stopped, and no drill of a command that is none
   module _ (reply : Reply) (replied : b.piece.reply ≡ Some reply) where
-    pub was_of : (no_drill : drill_of b.piece.command ≡ None) → Was takes trace b.piece piece no_drill reply replied
-    was_of no_drill = was_so takes trace b.piece piece no_drill reply replied (lab_before takes t.trace Closed before after b are r.sessions (λ open_now. absurd (cc open_now)))
+    pub was_of : (no_drill : drill_of b.piece.command ≡ None) → Was terms trace b.piece piece no_drill reply replied
+    was_of no_drill = was_so terms trace b.piece piece no_drill reply replied (lab_before terms t.trace Closed before after b are r.sessions (λ open_now. absurd (cc open_now)))
 
     pub stops_told : has_restart (steps_of b.piece) ≡ is_stopped reply
     stops_told = by (drill_of b.piece.command) refl
@@ -362,14 +362,14 @@ module _ (takes : Bool) (choices : Option Choices) (old new : Outside) (status :
         by : (drill : Option Drill) → drill_of b.piece.command ≡ drill → has_restart (steps_of b.piece) ≡ is_stopped reply
         by (Some drill) is =
             let finds = subst (λ (d : Option Drill). Finds d b.piece.from trace b.piece) is piece.finds in
-            let planned = subst (λ (d : Option Drill). IsPlannedBy takes d b.planned b.piece.reply) is (caused_at takes _ _ before after b r.counts).planned in
-            (λ i. has_restart (finds.0 i ++ finds.1 i)) ∙ sym (drill_replied takes b.planned reply (subst (λ (o : Option Reply). IsPlannedAs takes b.planned o) replied planned))
+            let planned = subst (λ (d : Option Drill). IsPlannedBy terms d b.planned b.piece.reply) is (caused_at terms _ _ before after b r.counts).planned in
+            (λ i. has_restart (finds.0 i ++ finds.1 i)) ∙ sym (drill_replied terms.takes b.planned reply (subst (λ (o : Option Reply). IsPlannedAs terms.takes b.planned o) replied planned))
         by None is = ⊎_elim (λ broke. ap (λ l. has_restart (b.piece.opening ++ l)) broke.1 ∙ ap has_restart (append-nil b.piece.opening) ∙ breaks_stopped b.piece.opening (Some reply) reply broke.0 refl)
             (λ x.
             let steps = x.2 in
-            let so = told_of takes trace b.piece x.0 x.1 steps reply replied in
+            let so = told_of terms trace b.piece x.0 x.1 steps reply replied in
             ap (λ l. has_restart (b.piece.opening ++ l)) (sym (ap (λ l. b.piece.own ++ l) so.2 ∙ append-nil b.piece.own))
-            ∙ step_stopped takes _ x.0 b.piece.from b.piece.command b.piece.opening (b.piece.own ++ steps.behind) _ reply so.0 steps.step)
+            ∙ step_stopped terms _ x.0 b.piece.from b.piece.command b.piece.opening (b.piece.own ++ steps.behind) _ reply so.0 steps.step)
             (was_of is)
 
     pub undrilled_told : drill_of b.piece.command ≡ None → is_of_drill reply ≡ false
@@ -378,7 +378,7 @@ module _ (takes : Bool) (choices : Option Choices) (old new : Outside) (status :
         let steps = x.2 in
         let now : Setting = record { length = steps.length; limit = 2 ^ 32; devices = b.piece.faults.devices } in
         let last : After = record { reply = steps.told; lab = x.1; session = steps.session } in
-        ap of_drill_if (sym (told_of takes trace b.piece x.0 x.1 steps reply replied).0)
-        ∙ step_so takes now x.0 b.piece.from b.piece.command b.piece.opening (b.piece.own ++ steps.behind) last
-        (subst (λ (d : Option Drill). StepOf d (JudgedBeside b.piece.command) takes now x.0 b.piece.from b.piece.opening (b.piece.own ++ steps.behind) last) is steps.step))
+        ap of_drill_if (sym (told_of terms trace b.piece x.0 x.1 steps reply replied).0)
+        ∙ step_so terms now x.0 b.piece.from b.piece.command b.piece.opening (b.piece.own ++ steps.behind) last
+        (subst (λ (d : Option Drill). StepOf d (JudgedBeside terms.rule b.piece.command) terms now x.0 b.piece.from b.piece.opening (b.piece.own ++ steps.behind) last) is steps.step))
         (was_of is)

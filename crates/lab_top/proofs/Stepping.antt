@@ -35,9 +35,10 @@ use Rattle.lab_core.specs.Moments.{StandForLab, IsLabAt, IsLabOfImage, AllStandF
 use Rattle.lab_core.specs.Obey.{Leaves, Start}
 use Rattle.lab_core.specs.Opening.{OpenSteps}
 use Rattle.lab_core.specs.Recovery.{Opens}
-use Rattle.lab_core.specs.Sessions.{OpenSwap, Session, Closed, Open, Setting, After}
+use Rattle.lab_core.specs.Sessions.{OpenSwap, Session, Closed, Open, Setting, After, Terms}
 use Rattle.lab_top.specs.Pieces.{Piece, ButForReply, HasOpened, IsDone, OpensTo, StepsFrom, FirstLab, ImagesAfter, is_closed, is_early, leaves_one, steps_of}
 use Rattle.lab_top.specs.Answering.{Does, WasOpened, piece_of}
+use Rattle.lab_top.proofs.Compact.{compact_behind, compacted_quiet}
 
 abbrev pub AsRead : List Event → Type 0
 AsRead trace = ArePossible trace (disk A trace).reads (disk B trace).reads
@@ -113,9 +114,9 @@ silent_told : (reply told : Option Reply) (to session : Session) (behind : List 
 silent_told None told to session behind is = is
 silent_told (Some reply) told to session behind is = inl is.2
 
-pub silent_done : (takes : Bool) (trace : List Event) (command : Command) (mark : Faults) (from to : Session) (opening own : List Event) (reply : Option Reply) → IsDone takes trace (piece_of command mark from to opening own reply)
-    → IsDone takes trace (piece_of command mark from Closed opening own None)
-silent_done takes trace command mark from to opening own reply done =
+pub silent_done : (terms : Terms) (trace : List Event) (command : Command) (mark : Faults) (from to : Session) (opening own : List Event) (reply : Option Reply) → IsDone terms trace (piece_of command mark from to opening own reply)
+    → IsDone terms trace (piece_of command mark from Closed opening own None)
+silent_done terms trace command mark from to opening own reply done =
     let l = done.leads in
     let s = l.steps in
     record {
@@ -132,16 +133,16 @@ silent_done takes trace command mark from to opening own reply done =
     }
 
 -- A PIECE IS DONE, over the trace as it is behind it
-module _ (takes : Bool) (trace : List Event) (piece : Piece) where
+module _ (terms : Terms) (trace : List Event) (piece : Piece) where
   abbrev pub ImagesAt : Bool → List Event → LabState → Type 0
   ImagesAt true now last = AllStandFor now last
-  ImagesAt false now last = (a b : List ℕ) → ArePossible now a b → (s : LabState) × (after : LabState) × IsLabOfImage trace s × StandForLab a b after × StepsFrom takes trace piece s after
+  ImagesAt false now last = (a b : List ℕ) → ArePossible now a b → (s : LabState) × (after : LabState) × IsLabOfImage trace s × StandForLab a b after × StepsFrom terms trace piece s after
 
   abbrev Comes : List Event → Type 0
-  Comes now = (first last : LabState) → FirstLab (is_early piece) trace first → StepsFrom takes trace piece first last → (HasOpened piece → (mid : LabState) × OpensTo trace piece first mid) → IsSound the_texts now → IsLabAt now last
-      → (is_some piece.reply ≡ true → ImagesAt (leaves_one piece.to piece.reply) now last) → IsDone takes trace piece
+  Comes now = (first last : LabState) → FirstLab (is_early piece) trace first → StepsFrom terms trace piece first last → (HasOpened piece → (mid : LabState) × OpensTo trace piece first mid) → IsSound the_texts now → IsLabAt now last
+      → (is_some piece.reply ≡ true → ImagesAt (leaves_one piece.to piece.reply) now last) → IsDone terms trace piece
 
-  images_after : (one : Bool) (last : LabState) → ImagesAt one (trace ++ steps_of piece) last → ImagesAfter takes one trace piece last
+  images_after : (one : Bool) (last : LabState) → ImagesAt one (trace ++ steps_of piece) last → ImagesAfter terms one trace piece last
   images_after true last images = images
   images_after false last images = images
 
@@ -154,18 +155,18 @@ module _ (takes : Bool) (trace : List Event) (piece : Piece) where
   })
 
 -- A COMMAND THAT IS NO DRILL
-pub step_of : (takes : Bool) (set : Setting) (s : LabState) (from : Session) (command : Command) (opening own : List Event) (after : After) → drill_of command ≡ None → StepOf None (JudgedBeside command) takes set s from opening own after
-    → LabStep takes set s from command opening own after
-step_of takes set s from command opening own after no_drill step = subst (λ (d : Option Drill). StepOf d (JudgedBeside command) takes set s from opening own after) (sym no_drill) step
+pub step_of : (terms : Terms) (set : Setting) (s : LabState) (from : Session) (command : Command) (opening own : List Event) (after : After) → drill_of command ≡ None → StepOf None (JudgedBeside terms.rule command) terms set s from opening own after
+    → LabStep terms set s from command opening own after
+step_of terms set s from command opening own after no_drill step = subst (λ (d : Option Drill). StepOf d (JudgedBeside terms.rule command) terms set s from opening own after) (sym no_drill) step
 
 -- where a command begins, by the count of device faults at its mark
 abbrev pub start_at : Faults → Control → List OpenSwap → Start
 start_at mark c swaps = record { set = record { length = length_of c.journal; limit = limit_of c.journal; devices = mark.devices }; lab = c.lab; opens = swaps }
 
 -- WHAT AN OPEN CONTROLLER DOES OF ITS OWN
-module _ (takes : Bool) (mark : Faults) (before : List Event) (from : Session) (opening : List Event) (c : Control) (swaps : List OpenSwap) (w : WasOpened before from opening c swaps) (command : Command) (no_drill : drill_of command ≡ None) where
+module _ (terms : Terms) (mark : Faults) (before : List Event) (from : Session) (opening : List Event) (c : Control) (swaps : List OpenSwap) (w : WasOpened before from opening c swaps) (command : Command) (no_drill : drill_of command ≡ None) where
   abbrev Judges : Result Task Reply → Type 0
-  Judges = JudgedBeside command swaps c.lab
+  Judges = JudgedBeside terms.rule command swaps c.lab
 
   abbrev start : Start
   start = start_at mark c swaps
@@ -177,7 +178,7 @@ module _ (takes : Bool) (mark : Faults) (before : List Event) (from : Session) (
   of own to reply = piece_of command mark from to opening own reply
 
   abbrev Steps : List Event → Session → Option Reply → LabState → Type 0
-  Steps own to reply lab = StepsFrom takes before (of own to reply) w.start lab
+  Steps own to reply lab = StepsFrom terms before (of own to reply) w.start lab
 
   own_steps : (own : List Event) (to : Session) (reply : Option Reply) (lab : LabState) (told : Option Reply) (session : Session) (behind : List Event) → ButForReply reply to told session behind → IsDoneOf (own ++ behind) told lab session
       → Steps own to reply lab
@@ -188,7 +189,7 @@ module _ (takes : Bool) (mark : Faults) (before : List Event) (from : Session) (
     session = session;
     behind = behind;
     is_told = is;
-    step = w.step takes (record { length = length_of c.journal; limit = 2 ^ 32; devices = mark.devices }) command (own ++ behind) (after_of told lab session) no_drill
+    step = w.step terms (record { length = length_of c.journal; limit = 2 ^ 32; devices = mark.devices }) command (own ++ behind) (after_of told lab session) no_drill
         (subst (λ n. IsDoneBy Judges (record { length = length_of c.journal; limit = n; devices = mark.devices }) c.lab swaps (own ++ behind) (after_of told lab session)) w.limit done);
   }
 
@@ -204,15 +205,16 @@ module _ (takes : Bool) (mark : Faults) (before : List Event) (from : Session) (
 
   -- behind its steps, over any trace and over a sound one
   done_behind : (own : List Event) (to : Session) (reply : Option Reply) (now : List Event) → before ++ (opening ++ own) ≡ now → (lab : LabState) → Steps own to reply lab → IsSound the_texts now → IsLabAt now lab
-      → (is_some reply ≡ true → ImagesAt takes before (of own to reply) (leaves_one to reply) now lab) → IsSound the_texts before → IsDone takes before (of own to reply)
+      → (is_some reply ≡ true → ImagesAt terms before (of own to reply) (leaves_one to reply) now lab) → IsSound the_texts before → IsDone terms before (of own to reply)
   done_behind own to reply now is lab steps sound at images first =
-      done_at takes before (of own to reply) now is w.start lab first_lab steps (λ opens. (c.lab, record { opens = w.opens opens.closed; images = standing_all (before ++ opening) c w.stands; sound = w.sound first })) sound at images
+      done_at terms before (of own to reply) now is w.start lab first_lab steps (λ opens. (c.lab, record { opens = w.opens opens.closed; images = standing_all (before ++ opening) c w.stands; sound = w.sound first })) sound at images
 
-  does_behind : (own : List Event) (to : Session) (reply : Option Reply) (lab : LabState) → Steps own to reply lab → (is_closed to ≡ false → IsLabAt (before ++ (opening ++ own)) lab) → (IsSound the_texts before → IsDone takes before (of own to reply))
-      → Does takes before (of own to reply)
+  does_behind : (own : List Event) (to : Session) (reply : Option Reply) (lab : LabState) → Steps own to reply lab → (is_closed to ≡ false → IsLabAt (before ++ (opening ++ own)) lab) → (IsSound the_texts before → IsDone terms before (of own to reply))
+      → Does terms before (of own to reply)
   does_behind own to reply lab steps at done = record {
-    steps = λ s there. (lab, subst (λ u. StepsFrom takes before (of own to reply) u lab) (stood_once the_texts _ _ w.start s texts_once w.first there) steps);
+    steps = λ s there. (lab, subst (λ u. StepsFrom terms before (of own to reply) u lab) (stood_once the_texts _ _ w.start s texts_once w.first there) steps);
     leads = λ open_now. record { first = w.start; last = lab; before = first_lab; behind = at open_now; steps = steps };
+    compact = λ opens. (c.lab, w.compact opens.closed);
     done = done;
   }
 
@@ -224,21 +226,21 @@ module _ (takes : Bool) (mark : Faults) (before : List Event) (from : Session) (
     there = sym (append_assoc before opening own)
 
     -- it goes on
-    pub own_answered : (new : Control) (to : List OpenSwap) (reply : Reply) → IsDoneOf own (Some reply) new.lab (Open to) → Stands the_texts now new.journal new.lab → Does takes before (of own (Open to) (Some reply))
+    pub own_answered : (new : Control) (to : List OpenSwap) (reply : Reply) → IsDoneOf own (Some reply) new.lab (Open to) → Stands the_texts now new.journal new.lab → Does terms before (of own (Open to) (Some reply))
     own_answered new to reply done stands =
         let steps = so_steps own (Open to) (Some reply) new.lab done in
         does_behind own (Open to) (Some reply) new.lab steps (λ open_now. subst (λ l. IsLabAt l new.lab) (sym there) (standing_lab now new stands))
         (λ first. done_behind own (Open to) (Some reply) now there new.lab steps (sound (w.sound first)) (standing_lab now new stands) (λ some. standing_all now new stands) first)
 
     -- memory was wanting
-    pub own_unmade : (new : Control) → IsDoneOf own None new.lab Closed → Stands the_texts now new.journal new.lab → Does takes before (of own Closed None)
+    pub own_unmade : (new : Control) → IsDoneOf own None new.lab Closed → Stands the_texts now new.journal new.lab → Does terms before (of own Closed None)
     own_unmade new done stands =
         let steps = so_steps own Closed None new.lab done in
         does_behind own Closed None new.lab steps (λ open_now. absurd (cc open_now))
         (λ first. done_behind own Closed None now there new.lab steps (sound (w.sound first)) (standing_lab now new stands) (λ some. absurd (cc some)) first)
 
     -- a reply closes it
-    pub own_closed : (reply : Reply) → leaves_one Closed (Some reply) ≡ false → Leaves (before ++ opening) Judges start own reply (λ a b. []) → AsRead now → Does takes before (of own Closed (Some reply))
+    pub own_closed : (reply : Reply) → leaves_one Closed (Some reply) ≡ false → Leaves (before ++ opening) Judges start own reply (λ a b. []) → AsRead now → Does terms before (of own Closed (Some reply))
     own_closed reply other leaves readable =
         does_behind own Closed (Some reply) leaves.lab (left_steps own reply leaves.lab (leaves.done [] [])) (λ open_now. absurd (cc open_now))
         (λ first.
@@ -246,11 +248,11 @@ module _ (takes : Bool) (mark : Faults) (before : List Event) (from : Session) (
         let x = image _ _ readable in
         let from_there : IsLabOfImage before w.start = record { a = (disk A before).reads; b = (disk B before).reads; possible = w.readable; stand = w.first } in
         done_behind own Closed (Some reply) now there x.0 (left_steps own reply x.0 x.2) (sound (w.sound first)) x.1
-        (λ some. subst (λ b. ImagesAt takes before (of own Closed (Some reply)) b now x.0) (sym other) (λ a b at. let y = image a b at in (w.start, y.0, from_there, y.1, left_steps own reply y.0 y.2))) first)
+        (λ some. subst (λ b. ImagesAt terms before (of own Closed (Some reply)) b now x.0) (sym other) (λ a b at. let y = image a b at in (w.start, y.0, from_there, y.1, left_steps own reply y.0 y.2))) first)
 
     module _ (leaves : Leaves (before ++ opening) Judges start own replies.Stopped (λ a b. Restarted a b ∷ [])) where
       -- the plant stopped, and is started again with an image
-      pub own_stopped : (a b : List ℕ) → ArePossible now a b → Does takes before (of (own ++ Restarted a b ∷ []) Closed (Some replies.Stopped))
+      pub own_stopped : (a b : List ℕ) → ArePossible now a b → Does terms before (of (own ++ Restarted a b ∷ []) Closed (Some replies.Stopped))
       own_stopped a b possible =
           let more = own ++ Restarted a b ∷ [] in
           does_behind more Closed (Some replies.Stopped) leaves.lab (so_steps more Closed (Some replies.Stopped) leaves.lab (leaves.done a b)) (λ open_now. absurd (cc open_now))
@@ -263,7 +265,7 @@ module _ (takes : Bool) (mark : Faults) (before : List Event) (from : Session) (
       stays_steps : (a b : List ℕ) (lab : LabState) → IsDoneOf (own ++ Restarted a b ∷ []) (Some replies.Stopped) lab Closed → Steps own Closed None lab
       stays_steps a b lab done = own_steps own Closed None lab (Some replies.Stopped) Closed (Restarted a b ∷ []) (inr (a, b, refl)) done
 
-      pub own_stays : AsRead now → Does takes before (of own Closed None)
+      pub own_stays : AsRead now → Does terms before (of own Closed None)
       own_stays readable =
           does_behind own Closed None leaves.lab (stays_steps [] [] leaves.lab (leaves.done [] [])) (λ open_now. absurd (cc open_now))
           (λ first. let x = leaves.images (w.sound first) _ _ readable in done_behind own Closed None now there x.0 (stays_steps _ _ x.0 x.2) (sound (w.sound first)) x.1 (λ some. absurd (cc some)) first)
@@ -279,31 +281,36 @@ was_open trace c swaps stands limit = record {
   sound = λ sound. subst (λ l. IsSound the_texts l) (sym (append-nil trace)) sound;
   limit = limit;
   opens = λ closed. absurd (cc closed);
-  step = λ takes set command own after no_drill done. step_of takes set c.lab (Open swaps) command [] own after no_drill (refl, done);
+  compact = λ closed. absurd (cc closed);
+  step = λ terms set command own after no_drill done. step_of terms set c.lab (Open swaps) command [] own after no_drill (refl, done);
 }
 
-pub is_opened : (trace reading moving : List Event) (c : Control) → OpenSteps trace reading moving (2 ^ 32) (Ok c) → Stands the_texts (trace ++ (reading ++ moving)) c.journal c.lab → limit_of c.journal ≡ 2 ^ 32 → AsRead trace
-    → WasOpened trace Closed (reading ++ moving) c []
-is_opened trace reading moving c o stands limit readable =
+pub is_opened : (trace reading behind : List Event) (c : Control) → OpenSteps trace reading behind (2 ^ 32) (Ok c) → Stands the_texts (trace ++ (reading ++ behind)) c.journal c.lab → limit_of c.journal ≡ 2 ^ 32 → AsRead trace
+    → WasOpened trace Closed (reading ++ behind) c []
+is_opened trace reading behind c o stands limit readable =
     let e = o.ends in
-    let opens : Opens e.start (reading ++ moving) c.lab = record {
+    let s = e.settled in
+    let opens : Opens s.start (reading ++ behind) c.lab = record {
       reading = reading;
-      moving = moving;
-      is = refl;
+      moving = e.moving;
+      shifting = e.shifting;
+      is = ap (λ l. reading ++ l) e.parts;
       reads = o.reads.no_command;
-      outcomes = e.outcomes;
-      settles = e.settles;
-      no_miss = shows is_miss (reading ++ moving) reading moving false false refl e.read.no_miss (settles_show _ _ _ _ _ e.settles).miss_is;
-      no_restart = shows is_restart (reading ++ moving) reading moving false false refl o.reads.no_restart o.no_restart;
+      outcomes = s.outcomes;
+      settles = s.settles;
+      shifts = e.shifts;
+      no_miss = shows is_miss (reading ++ behind) reading behind false false refl s.read.no_miss (shows is_miss behind e.moving e.shifting false false e.parts (settles_show _ _ _ _ _ s.settles).miss_is (compacted_quiet e.compacts));
+      no_restart = shows is_restart (reading ++ behind) reading behind false false refl o.reads.no_restart o.no_restart;
     } in
     record {
-      start = e.start;
+      start = s.start;
       readable = readable;
-      first = (stood_alike the_texts _ _ _ _ e.start o.reads.alike).0 e.read.lab;
+      first = (stood_alike the_texts _ _ _ _ s.start o.reads.alike).0 s.read.lab;
       no_restart = opens.no_restart;
       stands = stands;
       sound = o.sound;
       limit = limit;
       opens = λ closed. opens;
-      step = λ takes set command own after no_drill done. step_of takes set e.start Closed command (reading ++ moving) own after no_drill (opened c.lab opens done);
+      compact = λ closed. compact_behind trace reading behind c e (standing_lab (trace ++ (reading ++ behind)) c stands);
+      step = λ terms set command own after no_drill done. step_of terms set s.start Closed command (reading ++ behind) own after no_drill (opened c.lab opens done);
     }

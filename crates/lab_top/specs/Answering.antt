@@ -27,11 +27,11 @@ use Rattle.lab_core.specs.Controller.{Control, WorksWith}
 use Rattle.lab_core.specs.LabSteps.{LabStep, IsDoneBy, JudgedBeside}
 use Rattle.lab_core.specs.Moments.{IsLabAt}
 use Rattle.lab_core.specs.Recovery.{Opens}
-use Rattle.lab_core.specs.Sessions.{OpenSwap, Session, Closed, Open, Setting, After, AreOpenedBy, counted_from, name_of}
+use Rattle.lab_core.specs.Sessions.{OpenSwap, Session, Closed, Open, Setting, After, AreOpenedBy, counted_from, name_of, Terms}
 use Rattle.lab_core.specs.Tells.{opens_of}
 use Rattle.lab_top.specs.declared.command.CommandFault.{CommandFault}
 use Rattle.lab_top.specs.declared.command.CommandFault.TheVariants.{Memory, WriteFault, JournalBad}
-use Rattle.lab_top.specs.Pieces.{Piece, FindsNone, IsDone, IsPiece, IsPlannedBy, Leads, Later, StepsFrom, blames_if, closes_if, is_closed, may_shut, stays_open, with_drill_if}
+use Rattle.lab_top.specs.Pieces.{Piece, FindsNone, HasOpened, IsCompact, IsDone, IsPiece, IsPlannedBy, Leads, Later, StepsFrom, blames_if, closes_if, is_closed, may_shut, stays_open, with_drill_if}
 
 -- what is seen of the plant between two commands, and the controller where it is open
 pub record Moment : Type 0 where
@@ -75,21 +75,23 @@ pub record WasOpened (trace : List Event) (from : Session) (opening : List Event
   pub sound : IsSound the_texts trace → IsSound the_texts (trace ++ opening)
   pub limit : limit_of c.journal ≡ 2 ^ 32
   pub opens : from ≡ Closed → Opens start opening c.lab
-  pub step : (takes : Bool) (set : Setting) (command : Command) (own : List Event) (after : After) → drill_of command ≡ None → IsDoneBy (JudgedBeside command swaps c.lab) set c.lab swaps own after
-      → LabStep takes set start from command opening own after
+  pub compact : from ≡ Closed → IsCompact trace opening c.lab
+  pub step : (terms : Terms) (set : Setting) (command : Command) (own : List Event) (after : After) → drill_of command ≡ None → IsDoneBy (JudgedBeside terms.rule command swaps c.lab) set c.lab swaps own after
+      → LabStep terms set start from command opening own after
 
 -- what an open controller does of a command, however it was opened
-pub record Does (takes : Bool) (trace : List Event) (piece : Piece) : Type 0 where
-  pub steps : (s : LabState) → IsLabAt trace s → (after : LabState) × StepsFrom takes trace piece s after
-  pub leads : is_closed piece.to ≡ false → Leads takes trace piece
-  pub done : IsSound the_texts trace → IsDone takes trace piece
+pub record Does (terms : Terms) (trace : List Event) (piece : Piece) : Type 0 where
+  pub steps : (s : LabState) → IsLabAt trace s → (after : LabState) × StepsFrom terms trace piece s after
+  pub leads : is_closed piece.to ≡ false → Leads terms trace piece
+  pub compact : HasOpened piece → (mid : LabState) × IsCompact trace piece.opening mid
+  pub done : IsSound the_texts trace → IsDone terms trace piece
 
-abbrev pub DoesOwn : Bool → List Event → Command → Faults → Control → List OpenSwap → List Event → Session → Option Reply → Type 0
-DoesOwn takes trace command mark c swaps own to reply = (before : List Event) (from : Session) (opening : List Event) → trace ≡ before ++ opening → WasOpened before from opening c swaps
-    → Does takes before (piece_of command mark from to opening own reply)
+abbrev pub DoesOwn : Terms → List Event → Command → Faults → Control → List OpenSwap → List Event → Session → Option Reply → Type 0
+DoesOwn terms trace command mark c swaps own to reply = (before : List Event) (from : Session) (opening : List Event) → trace ≡ before ++ opening → WasOpened before from opening c swaps
+    → Does terms before (piece_of command mark from to opening own reply)
 
-abbrev pub OwnTold : Bool → Option Told → Option Told → Command → Faults → Control → List OpenSwap → Session → Option Reply → Type 0
-OwnTold takes old new command mark c swaps to reply = (own : List Event) × (new ≡ with_steps old own) × IfSome old (λ t. DoesOwn takes t.trace command mark c swaps own to reply)
+abbrev pub OwnTold : Terms → Option Told → Option Told → Command → Faults → Control → List OpenSwap → Session → Option Reply → Type 0
+OwnTold terms old new command mark c swaps to reply = (own : List Event) × (new ≡ with_steps old own) × IfSome old (λ t. DoesOwn terms t.trace command mark c swaps own to reply)
 
 -- the count of device faults at the mark is that of the moment, or where no swap is open yet an earlier one
 abbrev pub IsMarkAt : Faults → Seen → List OpenSwap → Type 0
@@ -100,9 +102,9 @@ reply_if (Ok reply) = Some reply
 reply_if (Err fault) = None
 
 -- WHAT AN OPEN CONTROLLER MAKES of a command behind that mark, with these open swaps: the session behind it, which is closed where there is no reply
-pub record Makes (takes : Bool) (mark : Faults) (command : Command) (old : Seen) (c : Control) (swaps : List OpenSwap) (new : Moment) (reply : Option Reply) : Type 0 where
+pub record Makes (terms : Terms) (mark : Faults) (command : Command) (old : Seen) (c : Control) (swaps : List OpenSwap) (new : Moment) (reply : Option Reply) : Type 0 where
   pub to : Session
-  pub own : OwnTold takes old.told new.plant.told command mark c swaps to reply
+  pub own : OwnTold terms old.told new.plant.told command mark c swaps to reply
   pub shut : is_closed to ≡ true → may_shut reply ≡ true
   pub closed : stays_open reply ≡ false → to ≡ Closed
   pub device : blames_if reply ≡ true → Rose (counted_from swaps (name_of command) mark.devices) new.plant.faults.devices
@@ -127,16 +129,16 @@ Unopened (openings.Bad side at) old new result = (result ≡ Err (JournalBad sid
 Unopened openings.Memory old new result = (result ≡ Err Memory) × (new ≡ old)
 
 -- A COMMAND WAS BEGUN, by some steps, and perhaps a drill that was planned; it has a reply or none
-pub record Begins (takes : Bool) (command : Command) (mark : Faults) (old new : Option Told) (from to : Session) (reply : Option Reply) : Type 0 where
+pub record Begins (terms : Terms) (command : Command) (mark : Faults) (old new : Option Told) (from to : Session) (reply : Option Reply) : Type 0 where
   pub opening : List Event
   pub own : List Event
   pub planned : Bool
   pub told : new ≡ with_drill_if (with_steps old (opening ++ own)) (if planned then drill_of command else None)
-  pub planned_by : IsPlannedBy takes (drill_of command) planned reply
-  pub is_piece : IfSome old (λ t. IsPiece takes t.trace (piece_of command mark from to opening own reply))
+  pub planned_by : IsPlannedBy terms (drill_of command) planned reply
+  pub is_piece : IfSome old (λ t. IsPiece terms t.trace (piece_of command mark from to opening own reply))
 
-pub record Made (takes : Bool) (command : Command) (old new : Moment) (from to : Session) (reply : Option Reply) : Type 0 where
-  pub begun : Begins takes command old.plant.faults old.plant.told new.plant.told from to reply
+pub record Made (terms : Terms) (command : Command) (old new : Moment) (from to : Session) (reply : Option Reply) : Type 0 where
+  pub begun : Begins terms command old.plant.faults old.plant.told new.plant.told from to reply
   pub later : Later old.plant.faults new.plant.faults
   pub disk : closes_if reply ≡ true → Rose old.plant.faults.disk new.plant.faults.disk
   pub device : blames_if reply ≡ true → Rose (counted_from (opens_of from) (name_of command) old.plant.faults.devices) new.plant.faults.devices
@@ -145,17 +147,17 @@ pub record Made (takes : Bool) (command : Command) (old new : Moment) (from to :
   pub goes_on : is_some reply ≡ true → HasSession new to
 
 -- the sides are no journal, and the plant is not stopped
-pub record FoundNone (takes : Bool) (command : Command) (old new : Moment) (from : Session) (side : Side) (at : ℕ) : Type 0 where
-  pub made : Made takes command old new from Closed None
+pub record FoundNone (terms : Terms) (command : Command) (old new : Moment) (from : Session) (side : Side) (at : ℕ) : Type 0 where
+  pub made : Made terms command old new from Closed None
   pub finds : IfSome old.plant.told (λ t. FindsNone t.trace (piece_of command old.plant.faults from Closed made.begun.opening made.begun.own None) side at)
   pub runs : new.plant.stopped ≡ false
 
 -- A COMMAND WAS OBEYED from that session, or its drill planned: it was begun; and where the sides are no journal it found them so
-abbrev pub Ends : Bool → Command → (old new : Moment) → Session → Result Reply CommandFault → Type 0
-Ends takes command old new from (Ok reply) = (to : Session) × Made takes command old new from to (Some reply)
-Ends takes command old new from (Err Memory) = Made takes command old new from Closed None
-Ends takes command old new from (Err WriteFault) = ⊥
-Ends takes command old new from (Err (JournalBad side at)) = FoundNone takes command old new from side at
+abbrev pub Ends : Terms → Command → (old new : Moment) → Session → Result Reply CommandFault → Type 0
+Ends terms command old new from (Ok reply) = (to : Session) × Made terms command old new from to (Some reply)
+Ends terms command old new from (Err Memory) = Made terms command old new from Closed None
+Ends terms command old new from (Err WriteFault) = ⊥
+Ends terms command old new from (Err (JournalBad side at)) = FoundNone terms command old new from side at
 
 -- a reply's text is written, or a proper prefix of it; or memory is wanting, and nothing is
 abbrev pub Sent : Option (List ℕ) → Option (List ℕ) → List ℕ → Result (Unit {0}) CommandFault → Type 0
@@ -168,11 +170,12 @@ Sent before now text (Err (JournalBad side at)) = ⊥
 abbrev pub marked : Moment → Moment
 marked old = record old { plant = record (old.plant) { told = with_mark old.plant.told old.plant.faults } }
 
--- A COMMAND WAS ANSWERED: it was begun behind a mark, and what was written grew by its reply, or by a proper prefix of it. At want of memory it has no
--- reply, or wasn't even begun; where the sides are no journal it has none.
-abbrev pub Answered : Bool → Command → Moment → Moment → Session → Option (List ℕ) → Option (List ℕ) → Result (Unit {0}) CommandFault → Type 0
-Answered takes command old new from before now (Ok done) = (reply : Reply) × (to : Session) × Made takes command (marked old) new from to (Some reply) × (now ≡ append_known before (text_of reply))
-Answered takes command old new from before now (Err WriteFault) =
-    (reply : Reply) × (to : Session) × Made takes command (marked old) new from to (Some reply) × (n : ℕ) × (n < length (text_of reply)) × (now ≡ append_known before (take n (text_of reply)))
-Answered takes command old new from before now (Err Memory) = ((new.plant ≡ old.plant) ⊎ Made takes command (marked old) new from Closed None) × (now ≡ before)
-Answered takes command old new from before now (Err (JournalBad side at)) = FoundNone takes command (marked old) new from side at × (now ≡ before)
+-- A COMMAND WAS ANSWERED: it was begun behind a mark, and what was written grew by its reply, which was taken, or by a proper prefix of it. At want of
+-- memory it has no reply, or wasn't even begun; where the sides are no journal it has none.
+abbrev pub Answered : Terms → Command → Moment → Moment → Session → Option (List ℕ) → Option (List ℕ) → (Reply → Type 0) → Result (Unit {0}) CommandFault → Type 0
+Answered terms command old new from before now taken (Ok done) =
+    (reply : Reply) × (to : Session) × Made terms command (marked old) new from to (Some reply) × (now ≡ append_known before (text_of reply)) × taken reply
+Answered terms command old new from before now taken (Err WriteFault) =
+    (reply : Reply) × (to : Session) × Made terms command (marked old) new from to (Some reply) × (n : ℕ) × (n < length (text_of reply)) × (now ≡ append_known before (take n (text_of reply)))
+Answered terms command old new from before now taken (Err Memory) = ((new.plant ≡ old.plant) ⊎ Made terms command (marked old) new from Closed None) × (now ≡ before)
+Answered terms command old new from before now taken (Err (JournalBad side at)) = FoundNone terms command (marked old) new from side at × (now ≡ before)

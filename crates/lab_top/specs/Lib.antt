@@ -1,7 +1,6 @@
 pub mod Answering
 pub mod Codes
 pub mod Pieces
-pub mod Places
 pub mod Ran
 pub mod Readers
-pub mod Words
+pub mod Tellers

@@ -1,5 +1,5 @@
 -- Pieces: what a command does, from its mark to its reply.
-use Rattle.std.specs.Prelude.{◌≡◌, ◌≢◌, ◌⊎◌, ◌≤◌, ◌^◌, ℕ, Bool, true, false, ◌&&◌, not, is_some, List, [], ◌∷◌, ◌++◌, map, Option, Some, None, if◌then◌else◌}
+use Rattle.std.specs.Prelude.{◌≡◌, ◌≢◌, ◌⊎◌, ◌<◌, ◌≤◌, ◌+◌, ◌-◌, ◌*◌, ◌^◌, ℕ, Bool, true, false, ◌&&◌, not, is_some, List, [], ◌∷◌, ◌++◌, map, Option, Some, None, if◌then◌else◌}
 use Rattle.std.specs.List.{flat_map}
 use Rattle.lab_base.specs.Lists.{Has}
 use Rattle.lab_model.specs.Sound.{is_moving}
@@ -14,6 +14,7 @@ use Rattle.plant.specs.declared.moment.Faults.{Faults}
 use Rattle.plant.specs.declared.step.Side.{Side}
 use Rattle.plant.specs.declared.step.Side.TheVariants.{A, B}
 use Rattle.virt_topo.specs.declared.experiment.Experiment.{Experiment}
+use Rattle.journal_model.specs.Appends.{other_side}
 use Rattle.records_model.specs.Labs.{LabState, find}
 use Rattle.records_model.specs.Works.{IsSound}
 use Rattle.journal_disk.specs.Before.{are_synced}
@@ -27,12 +28,13 @@ use Rattle.script_text.specs.Drills.{drill_of}
 use Rattle.script_text.specs.Replies.{text_of, closes, blames_device}
 use Rattle.lab_core.specs.Recovery.{Opens}
 use Rattle.lab_core.specs.LabSteps.{LabStep}
-use Rattle.lab_core.specs.Moments.{IsNoJournal, IsLabAt, IsLabOfImage, AllStandFor, StandForLab, IsLengthAt}
+use Rattle.lab_core.specs.Compaction.{packed_length}
+use Rattle.lab_core.specs.Moments.{IsNoJournal, IsLabAt, IsLabOfImage, AllStandFor, StandForLab, IsLengthAt, IsLiveAt}
 use Rattle.lab_core.specs.Breaks.{Breaks}
 use Rattle.lab_core.specs.Opening.{IsJournal}
 use Rattle.lab_core.specs.Said.{IsAsSaid}
 use Rattle.lab_core.specs.Tells.{opens_of}
-use Rattle.lab_core.specs.Sessions.{Session, Closed, Open, AreOpenedBy, counted_from, name_of}
+use Rattle.lab_core.specs.Sessions.{Session, Closed, Open, AreOpenedBy, counted_from, name_of, Terms}
 
 -- A PIECE: a command, the counts of faults at its mark, the session before and after it, the steps of its opening and its own, and its reply, if it was
 -- answered
@@ -101,24 +103,24 @@ IsPlannedAs takes planned (Some Planned) = (planned ≡ true) × (takes ≡ true
 IsPlannedAs takes planned (Some NoDrill) = (planned ≡ false) × (takes ≡ false)
 IsPlannedAs takes planned (Some reply) = ⊥
 
-abbrev pub IsPlannedBy : Bool → Option Drill → Bool → Option Reply → Type 0
-IsPlannedBy takes None planned reply = planned ≡ false
-IsPlannedBy takes (Some drill) planned reply = IsPlannedAs takes planned reply
+abbrev pub IsPlannedBy : Terms → Option Drill → Bool → Option Reply → Type 0
+IsPlannedBy terms None planned reply = planned ≡ false
+IsPlannedBy terms (Some drill) planned reply = IsPlannedAs terms.takes planned reply
 
 -- a reply that closes comes only where the disk's count rose; one that blames a device only where the devices' count rose since the mark of the command
 -- that opened the experiment's swap, or where none is open since that of this one; each swap that is open behind the command was opened before it, or
 -- at its mark; and a drill is planned as its reply tells
-pub record IsCaused (takes : Bool) (b : Begun) : Type 0 where
+pub record IsCaused (terms : Terms) (b : Begun) : Type 0 where
   pub later : Later b.piece.faults b.later
   pub disk : closes_if b.piece.reply ≡ true → Rose b.piece.faults.disk b.later.disk
   pub device : blames_if b.piece.reply ≡ true → Rose (counted_from (opens_of b.piece.from) (name_of b.piece.command) b.piece.faults.devices) b.later.devices
   pub opened : AreOpenedBy (opens_of b.piece.from) (opens_of b.piece.to) b.piece.faults.devices
-  pub planned : IsPlannedBy takes (drill_of b.piece.command) b.planned b.piece.reply
+  pub planned : IsPlannedBy terms (drill_of b.piece.command) b.planned b.piece.reply
 
 -- THE COUNTS OF FAULTS begin with those of the entry and end with those of the exit
-abbrev pub Counts : Bool → Faults → List Begun → Faults → Type 0
-Counts takes entry [] exit = exit ≡ entry
-Counts takes entry (b ∷ begun) exit = (b.piece.faults ≡ entry) × IsCaused takes b × Counts takes b.later begun exit
+abbrev pub Counts : Terms → Faults → List Begun → Faults → Type 0
+Counts terms entry [] exit = exit ≡ entry
+Counts terms entry (b ∷ begun) exit = (b.piece.faults ≡ entry) × IsCaused terms b × Counts terms b.later begun exit
 
 -- THE SESSION IS HANDED ON from each command to the next
 abbrev pub AreHandedOn : Session → List Begun → Type 0
@@ -172,14 +174,14 @@ abbrev pub ButForReply : Option Reply → Session → Option Reply → Session �
 ButForReply (Some reply) to told session behind = (told ≡ Some reply) × (session ≡ to) × (behind ≡ [])
 ButForReply None to told session behind = (behind ≡ []) ⊎ ((a b : List ℕ) × (behind ≡ Restarted a b ∷ []))
 
-pub record StepsFrom (takes : Bool) (trace : List Event) (piece : Piece) (s after : LabState) : Type 0 where
+pub record StepsFrom (terms : Terms) (trace : List Event) (piece : Piece) (s after : LabState) : Type 0 where
   pub length : ℕ
   pub length_is : IsLengthAt (trace ++ piece.opening) length
   pub told : Option Reply
   pub session : Session
   pub behind : List Event
   pub is_told : ButForReply piece.reply piece.to told session behind
-  pub step : LabStep takes (record { length = length; limit = 2 ^ 32; devices = piece.faults.devices }) s piece.from piece.command piece.opening (piece.own ++ behind) (record { reply = told; lab = after; session = session })
+  pub step : LabStep terms (record { length = length; limit = 2 ^ 32; devices = piece.faults.devices }) s piece.from piece.command piece.opening (piece.own ++ behind) (record { reply = told; lab = after; session = session })
 
 -- the first lab is that of the moment; where the plant stopped in an opening before both sides were synced, that of an image
 abbrev pub is_closed : Session → Bool
@@ -200,18 +202,18 @@ leaves_one (Open opens) reply = true
 leaves_one Closed (Some Stopped) = true
 leaves_one Closed reply = false
 
-abbrev pub ImagesAfter : Bool → Bool → List Event → Piece → LabState → Type 0
-ImagesAfter takes true trace piece last = AllStandFor (trace ++ steps_of piece) last
-ImagesAfter takes false trace piece last = (a b : List ℕ) → ArePossible (trace ++ steps_of piece) a b
-    → (s : LabState) × (after : LabState) × IsLabOfImage trace s × StandForLab a b after × StepsFrom takes trace piece s after
+abbrev pub ImagesAfter : Terms → Bool → List Event → Piece → LabState → Type 0
+ImagesAfter terms true trace piece last = AllStandFor (trace ++ steps_of piece) last
+ImagesAfter terms false trace piece last = (a b : List ℕ) → ArePossible (trace ++ steps_of piece) a b
+    → (s : LabState) × (after : LabState) × IsLabOfImage trace s × StandForLab a b after × StepsFrom terms trace piece s after
 
 -- A PIECE IS A LAB STEP over the trace before it: the lab that it goes from, the one that it leaves, and the step between both
-pub record Leads (takes : Bool) (trace : List Event) (piece : Piece) : Type 0 where
+pub record Leads (terms : Terms) (trace : List Event) (piece : Piece) : Type 0 where
   pub first : LabState
   pub last : LabState
   pub before : FirstLab (is_early piece) trace first
   pub behind : IsLabAt (trace ++ steps_of piece) last
-  pub steps : StepsFrom takes trace piece first last
+  pub steps : StepsFrom terms trace piece first last
 
 -- the command opened the controller, and no call of the disk failed and the plant did not stop in that
 pub record HasOpened (piece : Piece) : Type 0 where
@@ -227,24 +229,38 @@ pub record OpensTo (trace : List Event) (piece : Piece) (s mid : LabState) : Typ
   pub images : AllStandFor (trace ++ piece.opening) mid
   pub sound : IsSound the_texts (trace ++ piece.opening)
 
+-- BEHIND AN OPENING THE JOURNAL IS COMPACT, in that lab: it is at most a mebibyte long, or more than half of it is needed without the lab's past, or its
+-- epoch is the last one. Where a side was live before the opening, the same one is so with the same epoch, or it was moved onto the other side, with
+-- the next epoch.
+pub record IsCompact (trace opening : List Event) (mid : LabState) : Type 0 where
+  pub lab : IsLabAt (trace ++ opening) mid
+  pub length : ℕ
+  pub length_is : IsLengthAt (trace ++ opening) length
+  pub side : Side
+  pub epoch : ℕ
+  pub live : IsLiveAt (trace ++ opening) side epoch
+  pub small : (length ≤ 1048576) ⊎ ((length < 2 * packed_length mid) ⊎ (2 ^ 64 - 1 ≤ epoch))
+  pub moved : (was : Side) (old : ℕ) → IsLiveAt trace was old → ((side ≡ was) × (epoch ≡ old)) ⊎ ((side ≡ other_side was) × (epoch ≡ old + 1))
+
 -- over a sound trace it is one, whatever its reply; each image stands for such a lab, and the trace stays sound
-pub record IsDone (takes : Bool) (trace : List Event) (piece : Piece) : Type 0 where
-  pub leads : Leads takes trace piece
+pub record IsDone (terms : Terms) (trace : List Event) (piece : Piece) : Type 0 where
+  pub leads : Leads terms trace piece
   pub opened : HasOpened piece → (mid : LabState) × OpensTo trace piece leads.first mid
-  pub images : is_some piece.reply ≡ true → ImagesAfter takes (leaves_one piece.to piece.reply) trace piece leads.last
+  pub images : is_some piece.reply ≡ true → ImagesAfter terms (leaves_one piece.to piece.reply) trace piece leads.last
   pub sound : IsSound the_texts (trace ++ steps_of piece)
 
 -- OVER ANY TRACE a piece finds the journal so; where the sides stand for a lab, and no call of its opening failed or stopped, one that is answered is a
--- lab step from there; and where it leaves the session open, the sides stand for the lab that it leads to
-pub record IsPiece (takes : Bool) (trace : List Event) (piece : Piece) : Type 0 where
+-- lab step from there; where it leaves the session open, the sides stand for the lab that it leads to; and behind an opening the journal is compact
+pub record IsPiece (terms : Terms) (trace : List Event) (piece : Piece) : Type 0 where
   pub readable : ArePossible trace (disk A trace).reads (disk B trace).reads
   pub finds : Finds (drill_of piece.command) piece.from trace piece
   pub leaves : stays_open piece.reply ≡ false → piece.to ≡ Closed
   pub shuts : drill_of piece.command ≡ None → is_closed piece.to ≡ true → may_shut piece.reply ≡ true
   pub steps : drill_of piece.command ≡ None → is_some piece.reply ≡ true → has_miss piece.opening ≡ false → has_restart piece.opening ≡ false
-      → (s : LabState) → IsLabAt trace s → (after : LabState) × StepsFrom takes trace piece s after
-  pub leads : drill_of piece.command ≡ None → is_closed piece.to ≡ false → Leads takes trace piece
-  pub done : IsSound the_texts trace → IsDone takes trace piece
+      → (s : LabState) → IsLabAt trace s → (after : LabState) × StepsFrom terms trace piece s after
+  pub leads : drill_of piece.command ≡ None → is_closed piece.to ≡ false → Leads terms trace piece
+  pub compact : HasOpened piece → (mid : LabState) × IsCompact trace piece.opening mid
+  pub done : IsSound the_texts trace → IsDone terms trace piece
 
 -- each image that is possible stands for a lab in which the experiment is so
 abbrev pub AllHave : List Event → Experiment → Type 0
@@ -269,9 +285,9 @@ StayOpen [] = Unit {0}
 StayOpen (b ∷ begun) = (is_closed b.piece.to ≡ false) × StayOpen begun
 
 -- pieces one after another
-abbrev pub ArePieces : Bool → List Event → List Begun → Type 0
-ArePieces takes trace [] = Unit {0}
-ArePieces takes trace (b ∷ begun) = IsPiece takes trace b.piece × ArePieces takes (trace ++ steps_of b.piece) begun
+abbrev pub ArePieces : Terms → List Event → List Begun → Type 0
+ArePieces terms trace [] = Unit {0}
+ArePieces terms trace (b ∷ begun) = IsPiece terms trace b.piece × ArePieces terms (trace ++ steps_of b.piece) begun
 
 -- the text of the reply, if there is one
 abbrev pub text_if : Option Reply → List ℕ

@@ -1,5 +1,5 @@
 -- THE RUN OF THE PROGRAM: what it says of the bytes that it read, the bytes that it wrote and the plant's past.
-use Rattle.std.specs.Prelude.{◌≡◌, ◌⊎◌, ◌↔◌, ℕ, ◌+◌, ◌<◌, Bool, true, false, is_some, List, [], ◌∷◌, ◌++◌, length, take, Option, Some, None, IfSome}
+use Rattle.std.specs.Prelude.{◌≡◌, ◌⊎◌, ℕ, ◌+◌, ◌<◌, Bool, true, false, is_some, List, [], ◌∷◌, ◌++◌, length, take, Option, Some, None, IfSome}
 use Rattle.std.specs.List.{list_all}
 use Rattle.std.specs.Io.KnownBytes.{append_known}
 use Rattle.lab_io.specs.Feeds.{NoFeed}
@@ -14,9 +14,14 @@ use Rattle.script_text.specs.declared.command.Command.{Command}
 use Rattle.script_text.specs.Commands.{Lines, Got, next_of, AtEnd, BadLine, IsScript}
 use Rattle.lab_top.specs.declared.status.Status.{Status}
 use Rattle.lab_top.specs.declared.status.Status.TheVariants.{Done, ReadFault, WriteFault, Usage, BadScript, Memory, JournalBad}
-use Rattle.lab_core.specs.Sessions.{Closed}
+use Rattle.lab_core.specs.Sessions.{Closed, Terms}
 use Rattle.lab_top.specs.Pieces.{Begun, AreHandedOn, ArePieces, Counts, FindsNone, commands_of, trace_after, with_pieces, reply_text, reply_texts}
-use Rattle.lab_top.specs.Words.{Choices}
+use Rattle.lab_top.specs.Tellers.{replies_of}
+use Rattle.lab_gen.specs.Script.{generated}
+use Rattle.lab_gen.specs.Summary.{summary}
+use Rattle.lab_words.specs.Words.{Choices, Usual}
+use Rattle.cost_rule.specs.declared.rule.RuleNumber.{RuleNumber}
+use Rattle.cost_rule.specs.declared.rule.RuleNumber.TheVariants.{Trunk}
 
 -- the outside: what the source has left, what is seen of the plant, and what was written
 pub record Outside : Type 0 where
@@ -47,6 +52,22 @@ BegunCommands bytes left begun Memory = AreFirst 0 (script_lines bytes) begun
 BegunCommands bytes left begun (JournalBad side at) = AreFirst 0 (script_lines bytes) begun
 -- none, and nothing is taken
 BegunCommands bytes left begun Usage = (begun ≡ []) × (left ≡ Some bytes)
+
+-- those of a generated run, which reads nothing, and whose script is in the grammar
+abbrev pub GeneratedCommands : List ℕ → List Command → Status → Type 0
+-- all of them, also where their summary could not be written whole
+GeneratedCommands bytes begun Done = IsScript bytes begun AtEnd
+GeneratedCommands bytes begun WriteFault = IsScript bytes begun AtEnd
+-- some of the first
+GeneratedCommands bytes begun Memory = AreFirst 0 (script_lines bytes) begun
+GeneratedCommands bytes begun (JournalBad side at) = AreFirst 0 (script_lines bytes) begun
+-- it has no other end
+GeneratedCommands bytes begun status = ⊥
+
+-- the script is that of the number which the words give, else what the source has left
+abbrev pub BegunBy : Option ℕ → Option (List ℕ) → Option (List ℕ) → List Command → Status → Type 0
+BegunBy None old new begun status = (bytes : List ℕ) → old ≡ Some bytes → BegunCommands bytes new begun status
+BegunBy (Some seed) old new begun status = (new ≡ old) × GeneratedCommands (generated seed) begun status
 
 -- all that were begun are answered; at want of memory the last one may not be, and where the sides are no journal it is not
 abbrev pub AreAnswered : List Begun → Type 0
@@ -81,30 +102,62 @@ abbrev pub WroteReplies : Option (List ℕ) → Option (List ℕ) → List Begun
 WroteReplies old new made WriteFault = (before : List Begun) × (last : Begun) × (n : ℕ) × (made ≡ before ++ last ∷ []) × (n < length (reply_text last)) × (new ≡ append_known old (reply_texts before ++ take n (reply_text last)))
 WroteReplies old new made status = new ≡ append_known old (reply_texts made)
 
+-- the summary of a generated run, at its end, or a proper prefix of it
+abbrev pub WroteSummary : Option (List ℕ) → Option (List ℕ) → List ℕ → Status → Type 0
+WroteSummary old new text Done = new ≡ append_known old text
+WroteSummary old new text WriteFault = (n : ℕ) × (n < length text) × (new ≡ append_known old (take n text))
+WroteSummary old new text status = new ≡ old
+
+abbrev pub WroteBy : Option ℕ → Option (List ℕ) → Option (List ℕ) → List Begun → Status → Type 0
+WroteBy None old new made status = WroteReplies old new made status
+WroteBy (Some seed) old new made status = WroteSummary old new (summary seed (replies_of made)) status
+
+-- the number that words give of a generated run, and words that give no more than that
+abbrev pub number_of : Option Choices → Option ℕ
+number_of None = None
+number_of (Some choices) = choices.generated
+
+abbrev pub Numbered : Option ℕ → Choices
+Numbered number = record Usual { generated = number }
+
+-- the cost rule of the session
+abbrev pub rule_of : Option Choices → RuleNumber
+rule_of None = Trunk
+rule_of (Some choices) = choices.rule
+
+-- the end of a generated run whose script was obeyed
+abbrev pub Finishes : Status → Type 0
+Finishes Done = Unit {0}
+Finishes WriteFault = Unit {0}
+Finishes Memory = Unit {0}
+Finishes status = ⊥
+
 -- whether the plant is stopped: only at want of memory
 abbrev pub GoesOn : Status → Bool → Type 0
 GoesOn Memory stopped = Unit {0}
 GoesOn status stopped = stopped ≡ false
 
 -- A RUN of the program by what its words choose, and by the commands that it began, over a plant that takes drills or not
-pub record Ran (takes : Bool) (choices : Option Choices) (old new : Outside) (status : Status) (made : List Begun) : Type 0 where
-  -- words that say nothing are refused, and nothing is done
-  pub usage : (status ≡ Usage) ↔ (choices ≡ None)
+pub record Ran (terms : Terms) (choices : Option Choices) (old new : Outside) (status : Status) (made : List Begun) : Type 0 where
+  -- words that say nothing are refused, unless memory is wanting, and nothing is done; no others are
+  pub refused : choices ≡ None → (status ≡ Usage) ⊎ (status ≡ Memory)
+  pub usage : status ≡ Usage → choices ≡ None
+  pub none : choices ≡ None → made ≡ []
   -- the marks are the moments just before the commands that were begun, behind each mark stand the steps of its command, and the drills are those that were planned
   pub told : new.plant.told ≡ with_pieces old.plant.told made
-  pub counts : Counts takes old.plant.faults made new.plant.faults
+  pub counts : Counts terms old.plant.faults made new.plant.faults
   -- the session is closed at first, and handed on
   pub sessions : AreHandedOn Closed made
   pub goes_on : old.plant.stopped ≡ false → GoesOn status new.plant.stopped
   -- over any trace each command finds the journal as its piece says, and is a lab step, from the lab of the moment before it to that of the moment after
   -- it, where it leaves the session open; over one that is sound at the entry each is
-  pub pieces : IfSome old.plant.told (λ t. ArePieces takes t.trace made)
+  pub pieces : IfSome old.plant.told (λ t. ArePieces terms t.trace made)
   -- JournalBad comes where the last command found the sides to be no journal, and left them so
   pub ends : IfSome old.plant.told (λ t. EndsSo t.trace made status)
   -- and a trace that is sound at the entry is sound at the exit
   pub sound : IfSome old.plant.told (λ t. IsSound the_texts t.trace → IfSome new.plant.told (λ u. IsSound the_texts u.trace))
   pub answered : Answered status made
   -- the commands are those of the script
-  pub begun : (bytes : List ℕ) → old.left ≡ Some bytes → BegunCommands bytes new.left (commands_of made) status
-  -- the output is the replies
-  pub wrote : WroteReplies old.written new.written made status
+  pub begun : BegunBy (number_of choices) old.left new.left (commands_of made) status
+  -- the output is the replies, or of a generated run their summary
+  pub wrote : WroteBy (number_of choices) old.written new.written made status

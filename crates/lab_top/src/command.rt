@@ -4,15 +4,15 @@ ghost use Rattle.plant.specs.declared.moment.Faults.{Faults as AnyFaults};
 ghost use Rattle.plant.specs.declared.step.Side.{Side as AnySide};
 ghost use Rattle.script_text.specs.Blocks.{HasBlocks};
 ghost use Rattle.script_text.specs.Drills.{drill_of};
-ghost use Rattle.script_text.specs.Replies.{text_of};
-ghost use Rattle.lab_core.specs.Sessions.{OpenSwap, Session};
-ghost use Rattle.lab_top.specs.Answering.{Answered, Ends, HasSession, IsMarkAt, IsOpen, Makes, MayGoOn, MayOpen, Plans, Sent, Starts, Unopened, reply_if};
+ghost use Rattle.lab_core.specs.Sessions.{OpenSwap, Session, terms_of};
+ghost use Rattle.lab_top.specs.Answering.{Answered, Ends, HasSession, IsMarkAt, IsOpen, Makes, MayGoOn, MayOpen, Plans, Starts, Unopened, reply_if};
 ghost use Rattle.lab_top.specs.Pieces.{Later, closes_if};
 
+use crate::tellers::Teller;
+use cost_rule::StepRule;
 use lab_core::{Controller, CoreFault, OpenFault};
-use lab_io::{Sink, write_all};
 use plant::{Drill, DrillFault, Plant, Side};
-use script_text::{Command, Reply, reply_text};
+use script_text::{Command, Reply};
 use std::alloc::Global;
 
 /// How long the journal may be, on each side.
@@ -63,6 +63,7 @@ fn obey_open<P: Plant>(
     mut opened: Controller,
     controller: &mut Option<Controller>,
     command: &Command,
+    rule: &StepRule,
     plant: &mut P,
 ) -> Result<Reply, CommandFault>
     requires blocks { HasBlocks command.now }
@@ -71,13 +72,13 @@ fn obey_open<P: Plant>(
     requires open { MayOpen (P.seen plant.old) opened }
     requires runs { (P.seen plant.old).stopped ≡ false }
     ensures makes { (mark : AnyFaults) (swaps : List OpenSwap) → IsMarkAt mark (P.seen plant.old) swaps → IsOpen (P.seen plant.old) opened swaps
-        → Makes P.takes_drills mark command.now (P.seen plant.old) opened swaps (record { plant = P.seen plant.new; controller = controller.new }) (reply_if result) }
+        → Makes (terms_of P.takes_drills rule.now.number) mark command.now (P.seen plant.old) opened swaps (record { plant = P.seen plant.new; controller = controller.new }) (reply_if result) }
     ensures memory { OnErr result (result ≡ Err CommandFault.Memory) }
     ensures runs { OnOk result ((P.seen plant.new).stopped ≡ false) }
     ensures disk { closes_if (reply_if result) ≡ true → Rose (P.seen plant.old).faults.disk (P.seen plant.new).faults.disk }
     ensures later { Later (P.seen plant.old).faults (P.seen plant.new).faults }
 {
-    match opened.obey(command, plant) {
+    match opened.obey(command, rule, plant) {
         Ok(reply) => {
             if !reply.closes() {
                 *controller = Some(opened);
@@ -94,20 +95,21 @@ fn obey<P: Plant>(
     alloc: Global,
     controller: &mut Option<Controller>,
     command: &Command,
+    rule: &StepRule,
     plant: &mut P,
 ) -> Result<Reply, CommandFault>
     requires blocks { HasBlocks command.now }
     requires no_drill { drill_of command.now ≡ None }
     requires goes_on { MayGoOn (record { plant = P.seen plant.old; controller = controller.old }) }
     ensures { (from : Session) → HasSession (record { plant = P.seen plant.old; controller = controller.old }) from
-        → Ends P.takes_drills command.now
+        → Ends (terms_of P.takes_drills rule.now.number) command.now
         (record { plant = P.seen plant.old; controller = controller.old })
         (record { plant = P.seen plant.new; controller = controller.new }) from result }
 {
     match controller.take() {
-        Some(opened) => obey_open(opened, controller, command, plant),
+        Some(opened) => obey_open(opened, controller, command, rule, plant),
         None => match Controller::open(alloc, LIMIT, plant) {
-            Ok(opened) => obey_open(opened, controller, command, plant),
+            Ok(opened) => obey_open(opened, controller, command, rule, plant),
             Err(fault) => unopened(fault, plant),
         },
     }
@@ -131,59 +133,46 @@ fn reply_to<P: Plant>(
     alloc: Global,
     controller: &mut Option<Controller>,
     command: &Command,
+    rule: &StepRule,
     plant: &mut P,
 ) -> Result<Reply, CommandFault>
     requires blocks { HasBlocks command.now }
     requires goes_on { MayGoOn (record { plant = P.seen plant.old; controller = controller.old }) }
     ensures { (from : Session) → HasSession (record { plant = P.seen plant.old; controller = controller.old }) from
-        → Ends P.takes_drills command.now
+        → Ends (terms_of P.takes_drills rule.now.number) command.now
         (record { plant = P.seen plant.old; controller = controller.old })
         (record { plant = P.seen plant.new; controller = controller.new }) from result }
 {
     match command.drill() {
         Some(drill) => plan(drill, plant),
-        None => obey(alloc, controller, command, plant),
+        None => obey(alloc, controller, command, rule, plant),
     }
 }
 
-/// Writes the text of a reply.
-fn send_reply<K: Sink>(alloc: Global, reply: &Reply, sink: &mut K) -> Result<(), CommandFault>
-    ensures sent { Sent (K.written sink.old) (K.written sink.new) (text_of reply.now) result }
-    ensures write { IsErrOf result CommandFault.WriteFault → Rose (K.faults sink.old) (K.faults sink.new) }
-    ensures later { K.faults sink.old ≤ K.faults sink.new }
-{
-    let Ok(text) = reply_text(alloc, reply) else {
-        return Err(CommandFault::Memory);
-    };
-    match write_all(sink, text.bytes()) {
-        Ok(()) => Ok(()),
-        Err(_) => Err(CommandFault::WriteFault),
-    }
-}
-
-/// Marks the moment, obeys a command or plans the failure of a drill, and writes the reply.
-pub(crate) fn answer_command<K: Sink, P: Plant>(
+/// Marks the moment, obeys a command or plans the failure of a drill, and tells the reply.
+pub(crate) fn answer_command<T: Teller, P: Plant>(
     alloc: Global,
     controller: &mut Option<Controller>,
     command: Command,
-    sink: &mut K,
+    rule: &StepRule,
+    teller: &mut T,
     plant: &mut P,
 ) -> Result<(), CommandFault>
     requires blocks { HasBlocks command }
     requires goes_on { MayGoOn (record { plant = P.seen plant.old; controller = controller.old }) }
     ensures answered { (from : Session) → HasSession (record { plant = P.seen plant.old; controller = controller.old }) from
-        → Answered P.takes_drills command
+        → Answered (terms_of P.takes_drills rule.now.number) command
         (record { plant = P.seen plant.old; controller = controller.old })
         (record { plant = P.seen plant.new; controller = controller.new }) from
-        (K.written sink.old) (K.written sink.new) result }
-    ensures write { IsErrOf result CommandFault.WriteFault → Rose (K.faults sink.old) (K.faults sink.new) }
-    ensures later { K.faults sink.old ≤ K.faults sink.new }
+        (T.written teller.old) (T.written teller.new) (λ reply. T.takes teller.old reply teller.new) result }
+    ensures write { IsErrOf result CommandFault.WriteFault → Rose (T.faults teller.old) (T.faults teller.new) }
+    ensures later { T.faults teller.old ≤ T.faults teller.new }
 {
     let Ok(()) = plant.mark() else {
         return Err(CommandFault::Memory);
     };
-    match reply_to(alloc, controller, &command, plant) {
-        Ok(reply) => send_reply(alloc, &reply, sink),
+    match reply_to(alloc, controller, &command, rule, plant) {
+        Ok(reply) => teller.tell(alloc, &reply),
         Err(fault) => Err(fault),
     }
 }

@@ -1,14 +1,16 @@
 // Laws of a run.
-ghost use Rattle.std.specs.Prelude.{◌≡◌, ◌⊎◌, ◌≤◌, ◌^◌, count_by, ℕ, Bool, false, List, [], ◌∷◌, ◌++◌, length, Option, Some, None};
+ghost use Rattle.std.specs.Prelude.{◌≡◌, ◌≢◌, ◌⊎◌, ◌≤◌, ◌^◌, count_by, ℕ, Bool, false, List, [], ◌∷◌, ◌++◌, length, Option, Some, None};
 ghost use Rattle.lab_base.specs.Lists.{AllDiffer, Has};
 ghost use Rattle.plant.specs.Disks.{disk};
 ghost use Rattle.plant.specs.Told.{Told};
+ghost use Rattle.plant.specs.Worlds.{world_of};
 ghost use Rattle.plant.specs.declared.step.Side.{Side};
 ghost use Rattle.plant.specs.declared.step.Side.TheVariants.{A, B};
 ghost use Rattle.virt_topo.specs.declared.experiment.Experiment.{Experiment};
-ghost use Rattle.records_model.specs.Labs.{LabState};
+ghost use Rattle.records_model.specs.Labs.{LabState, lab_in};
 ghost use Rattle.records_model.specs.Works.{IsSound};
 ghost use Rattle.journal_runs.specs.Pieces.{has_command, has_miss, has_restart};
+ghost use Rattle.lab_model.specs.Leavings.{SameFor};
 ghost use Rattle.lab_model.specs.Sound.{is_moving};
 ghost use Rattle.recovery.specs.Settle.{is_stuck};
 ghost use Rattle.lab_state.specs.Texts.{the_texts};
@@ -17,20 +19,20 @@ ghost use Rattle.script_text.specs.declared.reply.Reply.{Reply};
 ghost use Rattle.script_text.specs.declared.reply.Reply.TheVariants.{Recovered};
 ghost use Rattle.script_text.specs.Drills.{drill_of};
 ghost use Rattle.script_text.specs.Replies.{closes};
-ghost use Rattle.lab_core.specs.Moments.{IsNoJournal};
-ghost use Rattle.lab_core.specs.Sessions.{OpenSwap, Closed, open_at};
-ghost use Rattle.lab_core.specs.Tells.{BeginsAt, busy_of, has_journal_step, IsFeasibleFor, Hinders, is_of_drill, is_stopped, IsTurn, opens_of, taken_reply, TellsBroken};
+ghost use Rattle.lab_core.specs.Moments.{IsLabAt, IsNoJournal};
+ghost use Rattle.lab_core.specs.Sessions.{OpenSwap, Closed, open_at, Terms};
+ghost use Rattle.lab_core.specs.Tells.{BeginsAt, busy_of, IsFeasibleFor, Hinders, is_of_drill, is_stopped, IsTurn, IsTurnOf, SendsOne, opens_of, taken_reply, TellsBroken};
 ghost use Rattle.lab_top.specs.Pieces.{Begun, AllHave, AllRestBut, AreOthers, FirstLab, HasOpened, OpensTo, StayOpen, is_closed, is_early, session_after, steps_of, trace_after};
 ghost use Rattle.lab_top.specs.Ran.{AreAnswered, Outside, Ran};
-ghost use Rattle.lab_top.specs.Words.{Choices};
+ghost use Rattle.lab_words.specs.Words.{Choices};
 ghost use Rattle.lab_top.specs.declared.status.Status.{Status};
 ghost use Rattle.lab_top.specs.declared.status.Status.TheVariants.{Memory, JournalBad};
 
 /// Where a command that is no drill finds the session closed and the sides to be no journal, and no call of its opening failed or
 /// stopped, the run ends with `JournalBad` at that very place, or memory is wanting. No premise is on what the trace was before.
 pub fn bad_journals()
-    ensures { (takes : Bool) (choices : Option Choices) (old new : Outside) (status : Status) (before after : List Begun) (b : Begun) (t : Told) (side : Side) (at : ℕ)
-        → Ran takes choices old new status (before ++ b ∷ after) → old.plant.told ≡ Some t → drill_of b.piece.command ≡ None → b.piece.from ≡ Closed
+    ensures { (terms : Terms) (choices : Option Choices) (old new : Outside) (status : Status) (before after : List Begun) (b : Begun) (t : Told) (side : Side) (at : ℕ)
+        → Ran terms choices old new status (before ++ b ∷ after) → old.plant.told ≡ Some t → drill_of b.piece.command ≡ None → b.piece.from ≡ Closed
         → has_miss b.piece.opening ≡ false → has_restart b.piece.opening ≡ false
         → IsNoJournal (disk A (trace_after t.trace before)).reads (disk B (trace_after t.trace before)).reads (2 ^ 32) side at
         → (status ≡ Memory) ⊎ (status ≡ JournalBad side at) }
@@ -41,17 +43,17 @@ pub fn bad_journals()
 /// later command on it. The reply is `stopped` exactly where the plant stopped, and a command that is no drill has no reply of a
 /// drill, both whatever the trace was before. A trace in which nothing has happened is sound.
 pub fn runs()
-    ensures solutions { (takes : Bool) (choices : Option Choices) (old new : Outside) (status : Status) (before after : List Begun) (b : Begun) (t : Told) (only_begin : Bool) (exp text : List ℕ) (lines : ℕ) (reply : Reply)
-        → Ran takes choices old new status (before ++ b ∷ after) → old.plant.told ≡ Some t → IsSound the_texts t.trace → b.piece.command ≡ SwapinWith only_begin exp lines text → b.piece.reply ≡ Some reply
+    ensures solutions { (terms : Terms) (choices : Option Choices) (old new : Outside) (status : Status) (before after : List Begun) (b : Begun) (t : Told) (only_begin : Bool) (exp text : List ℕ) (lines : ℕ) (reply : Reply)
+        → Ran terms choices old new status (before ++ b ∷ after) → old.plant.told ≡ Some t → IsSound the_texts t.trace → b.piece.command ≡ SwapinWith only_begin exp lines text → b.piece.reply ≡ Some reply
         → TellsBroken reply ⊎ ((s : LabState) × FirstLab (is_early b.piece) (trace_after t.trace before) s × (mid : LabState) × BeginsAt b.piece.from s b.piece.opening mid
         × (reply ≡ taken_reply only_begin exp → IsFeasibleFor mid exp text) × (IsFeasibleFor mid exp text → (reply ≡ taken_reply only_begin exp) ⊎ Hinders reply)) }
-    ensures kept { (takes : Bool) (choices : Option Choices) (old new : Outside) (status : Status) (before middle after : List Begun) (t : Told) (e : Experiment)
-        → Ran takes choices old new status (before ++ (middle ++ after)) → old.plant.told ≡ Some t → IsSound the_texts t.trace → is_moving e ≡ false
+    ensures kept { (terms : Terms) (choices : Option Choices) (old new : Outside) (status : Status) (before middle after : List Begun) (t : Told) (e : Experiment)
+        → Ran terms choices old new status (before ++ (middle ++ after)) → old.plant.told ≡ Some t → IsSound the_texts t.trace → is_moving e ≡ false
         → AllHave (trace_after t.trace before) e → AreAnswered middle → AreOthers e.name middle → AllHave (trace_after t.trace (before ++ middle)) e }
-    ensures stops { (takes : Bool) (choices : Option Choices) (old new : Outside) (status : Status) (before after : List Begun) (b : Begun) (t : Told) (reply : Reply)
-        → Ran takes choices old new status (before ++ b ∷ after) → old.plant.told ≡ Some t → b.piece.reply ≡ Some reply → has_restart (steps_of b.piece) ≡ is_stopped reply }
-    ensures undrilled { (takes : Bool) (choices : Option Choices) (old new : Outside) (status : Status) (before after : List Begun) (b : Begun) (t : Told) (reply : Reply)
-        → Ran takes choices old new status (before ++ b ∷ after) → old.plant.told ≡ Some t → drill_of b.piece.command ≡ None → b.piece.reply ≡ Some reply → is_of_drill reply ≡ false }
+    ensures stops { (terms : Terms) (choices : Option Choices) (old new : Outside) (status : Status) (before after : List Begun) (b : Begun) (t : Told) (reply : Reply)
+        → Ran terms choices old new status (before ++ b ∷ after) → old.plant.told ≡ Some t → b.piece.reply ≡ Some reply → has_restart (steps_of b.piece) ≡ is_stopped reply }
+    ensures undrilled { (terms : Terms) (choices : Option Choices) (old new : Outside) (status : Status) (before after : List Begun) (b : Begun) (t : Told) (reply : Reply)
+        → Ran terms choices old new status (before ++ b ∷ after) → old.plant.told ≡ Some t → drill_of b.piece.command ≡ None → b.piece.reply ≡ Some reply → is_of_drill reply ≡ false }
     ensures blank { IsSound the_texts [] }
 {}
 
@@ -59,36 +61,42 @@ pub fn runs()
 /// that none did, no experiment moves in any image that a stop may leave but those with an open swap, and besides what these
 /// claim the devices have exactly what the experiments that are in want.
 pub fn recoveries()
-    ensures opened { (takes : Bool) (choices : Option Choices) (old new : Outside) (status : Status) (before after : List Begun) (b : Begun) (t : Told)
-        → Ran takes choices old new status (before ++ b ∷ after) → old.plant.told ≡ Some t → IsSound the_texts t.trace → HasOpened b.piece
+    ensures opened { (terms : Terms) (choices : Option Choices) (old new : Outside) (status : Status) (before after : List Begun) (b : Begun) (t : Told)
+        → Ran terms choices old new status (before ++ b ∷ after) → old.plant.told ≡ Some t → IsSound the_texts t.trace → HasOpened b.piece
         → (s : LabState) × (mid : LabState) × (to : OpensTo (trace_after t.trace before) b.piece s mid)
         × (count_by is_stuck to.opens.outcomes ≡ 0 → AllRestBut [] (trace_after t.trace before ++ b.piece.opening)) }
-    ensures recovered { (takes : Bool) (choices : Option Choices) (old new : Outside) (status : Status) (before after : List Begun) (b : Begun) (t : Told) (done : ℕ)
-        → Ran takes choices old new status (before ++ b ∷ after) → old.plant.told ≡ Some t → IsSound the_texts t.trace → b.piece.command ≡ Recover → b.piece.reply ≡ Some (Recovered done 0)
+    ensures recovered { (terms : Terms) (choices : Option Choices) (old new : Outside) (status : Status) (before after : List Begun) (b : Begun) (t : Told) (done : ℕ)
+        → Ran terms choices old new status (before ++ b ∷ after) → old.plant.told ≡ Some t → IsSound the_texts t.trace → b.piece.command ≡ Recover → b.piece.reply ≡ Some (Recovered done 0)
         → AllRestBut (busy_of b.piece.from) (trace_after t.trace (before ++ b ∷ [])) }
 {}
 
 /// Many swaps at once, over commands that are about other experiments, each of which leaves the session open: an experiment's open
 /// swap stays as it is, over any trace; and where it has one, over every sound trace the experiment stays as it is, in every image
 /// that a later stop may leave. A turn sends one device command, or appends one record, over any trace; one that is refused does
-/// neither, and one that breaks off does not both. No more than sixteen swaps are open, and no two of one name; and each has the
-/// count of device faults at the mark of a command before, over every plant.
+/// neither, and one that breaks off sends no more than one, and nothing of the journal behind it. Where a turn of one, or all up to
+/// its end, find the session open, they leave the world of each other experiment as it was, however they end: each row that it wants,
+/// and each node that it claims. No more than sixteen swaps are open, and no two of one name; and each has the count of device faults
+/// at the mark of a command before, over every plant.
 pub fn turns()
-    ensures swaps { (takes : Bool) (choices : Option Choices) (old new : Outside) (status : Status) (before middle after : List Begun) (t : Told) (name : List ℕ)
-        → Ran takes choices old new status (before ++ (middle ++ after)) → old.plant.told ≡ Some t → StayOpen middle → AreOthers name middle
+    ensures swaps { (terms : Terms) (choices : Option Choices) (old new : Outside) (status : Status) (before middle after : List Begun) (t : Told) (name : List ℕ)
+        → Ran terms choices old new status (before ++ (middle ++ after)) → old.plant.told ≡ Some t → StayOpen middle → AreOthers name middle
         → open_at name (opens_of (session_after Closed (before ++ middle))) ≡ open_at name (opens_of (session_after Closed before)) }
-    ensures kept { (takes : Bool) (choices : Option Choices) (old new : Outside) (status : Status) (before middle after : List Begun) (t : Told) (e : Experiment) (swap : OpenSwap)
-        → Ran takes choices old new status (before ++ (middle ++ after)) → old.plant.told ≡ Some t → IsSound the_texts t.trace → open_at e.name (opens_of (session_after Closed before)) ≡ Some swap
+    ensures kept { (terms : Terms) (choices : Option Choices) (old new : Outside) (status : Status) (before middle after : List Begun) (t : Told) (e : Experiment) (swap : OpenSwap)
+        → Ran terms choices old new status (before ++ (middle ++ after)) → old.plant.told ≡ Some t → IsSound the_texts t.trace → open_at e.name (opens_of (session_after Closed before)) ≡ Some swap
         → AllHave (trace_after t.trace before) e → StayOpen middle → AreOthers e.name middle → AllHave (trace_after t.trace (before ++ middle)) e }
-    ensures turned { (takes : Bool) (choices : Option Choices) (old new : Outside) (status : Status) (before after : List Begun) (b : Begun) (t : Told) (exp : List ℕ) (reply : Reply)
-        → Ran takes choices old new status (before ++ b ∷ after) → old.plant.told ≡ Some t → b.piece.command ≡ Turn exp → b.piece.reply ≡ Some reply → closes reply ≡ false → is_stopped reply ≡ false
+    ensures turned { (terms : Terms) (choices : Option Choices) (old new : Outside) (status : Status) (before after : List Begun) (b : Begun) (t : Told) (exp : List ℕ) (reply : Reply)
+        → Ran terms choices old new status (before ++ b ∷ after) → old.plant.told ≡ Some t → b.piece.command ≡ Turn exp → b.piece.reply ≡ Some reply → closes reply ≡ false → is_stopped reply ≡ false
         → is_closed b.piece.from ≡ false → (b.piece.own ≡ []) ⊎ IsTurn b.piece.own }
-    ensures not_both { (takes : Bool) (choices : Option Choices) (old new : Outside) (status : Status) (before after : List Begun) (b : Begun) (t : Told) (exp : List ℕ) (reply : Reply)
-        → Ran takes choices old new status (before ++ b ∷ after) → old.plant.told ≡ Some t → b.piece.command ≡ Turn exp → b.piece.reply ≡ Some reply
-        → (has_command b.piece.own ≡ false) ⊎ (has_journal_step b.piece.own ≡ false) }
-    ensures few { (takes : Bool) (choices : Option Choices) (old new : Outside) (status : Status) (before after : List Begun) (t : Told)
-        → Ran takes choices old new status (before ++ after) → old.plant.told ≡ Some t → (length (opens_of (session_after Closed before)) ≤ 16) × AllDiffer (busy_of (session_after Closed before)) }
-    ensures marked { (takes : Bool) (choices : Option Choices) (old new : Outside) (status : Status) (before after : List Begun) (swap : OpenSwap)
-        → Ran takes choices old new status (before ++ after) → Has (opens_of (session_after Closed before)) swap
+    ensures at_most_one { (terms : Terms) (choices : Option Choices) (old new : Outside) (status : Status) (before after : List Begun) (b : Begun) (t : Told) (exp : List ℕ) (reply : Reply)
+        → Ran terms choices old new status (before ++ b ∷ after) → old.plant.told ≡ Some t → b.piece.command ≡ Turn exp → b.piece.reply ≡ Some reply
+        → (has_command b.piece.own ≡ false) ⊎ SendsOne b.piece.own }
+    ensures world { (terms : Terms) (choices : Option Choices) (old new : Outside) (status : Status) (before after : List Begun) (b : Begun) (t : Told) (s : LabState) (exp : List ℕ) (e : Experiment) (reply : Reply)
+        → Ran terms choices old new status (before ++ b ∷ after) → old.plant.told ≡ Some t → IsTurnOf exp b.piece.command → b.piece.reply ≡ Some reply → is_closed b.piece.from ≡ false
+        → IsLabAt (trace_after t.trace before) s → Has s.experiments e → e.name ≢ exp
+        → SameFor (lab_in s.lab) e (world_of (trace_after t.trace before)) (world_of (trace_after t.trace (before ++ b ∷ []))) }
+    ensures few { (terms : Terms) (choices : Option Choices) (old new : Outside) (status : Status) (before after : List Begun) (t : Told)
+        → Ran terms choices old new status (before ++ after) → old.plant.told ≡ Some t → (length (opens_of (session_after Closed before)) ≤ 16) × AllDiffer (busy_of (session_after Closed before)) }
+    ensures marked { (terms : Terms) (choices : Option Choices) (old new : Outside) (status : Status) (before after : List Begun) (swap : OpenSwap)
+        → Ran terms choices old new status (before ++ after) → Has (opens_of (session_after Closed before)) swap
         → (front : List Begun) × (b : Begun) × (rest : List Begun) × (before ≡ front ++ b ∷ rest) × (b.piece.faults.devices ≡ swap.devices) }
 {}

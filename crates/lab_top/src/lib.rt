@@ -3,12 +3,14 @@
 
 mod command;
 mod commands;
+mod generated;
 mod laws;
-mod place;
+mod session;
 mod status;
+mod tellers;
 mod top;
 
+pub use lab_words::{Place, PlaceFault, place_of};
 pub use laws::{bad_journals, recoveries, runs, turns};
-pub use place::{Place, PlaceFault, place_of};
 pub use status::Status;
 pub use top::labctl;

@@ -1,4 +1,4 @@
-ghost use Rattle.std.specs.Prelude.{◌≡◌, ◌↔◌, ◌≤◌, ◌^◌, ℕ, List, None, IfSome};
+ghost use Rattle.std.specs.Prelude.{◌≡◌, ◌⊎◌, ◌≤◌, ◌^◌, ℕ, List, None, IfSome, is_some, true};
 ghost use Rattle.lab_io.specs.Causes.{Rose};
 ghost use Rattle.plant.specs.Disks.{disk};
 ghost use Rattle.plant.specs.declared.step.Side.{Side as AnySide};
@@ -6,20 +6,22 @@ ghost use Rattle.plant.specs.declared.step.Side.TheVariants.{A, B};
 ghost use Rattle.records_model.specs.Works.{IsSound};
 ghost use Rattle.lab_state.specs.Texts.{the_texts};
 ghost use Rattle.lab_core.specs.Moments.{IsNoJournal};
+ghost use Rattle.lab_core.specs.Sessions.{terms_of};
 ghost use Rattle.lab_top.specs.Pieces.{Begun};
-ghost use Rattle.lab_top.specs.Ran.{Ran};
-ghost use Rattle.lab_top.specs.Words.{choices_of};
+ghost use Rattle.lab_top.specs.Ran.{Ran, number_of, rule_of};
+ghost use Rattle.lab_words.specs.Words.{choices_of};
 
-use crate::commands::obey_commands;
-use crate::place::is_allowed;
+use crate::session::run_under;
 use crate::status::Status;
-use lab_io::{LineReader, Sink, Source};
+use lab_io::{Sink, Source};
+use lab_words::{PlaceFault, read_words};
 use plant::Plant;
 use std::alloc::Global;
 
-/// Obeys the script of the source, and writes a reply to each of its commands before it reads the next.
+/// Obeys the script of the source, and writes a reply to each of its commands before it reads the next. With `--gen N` it obeys the
+/// script of that number instead, and writes a summary of the replies at its end.
 ///
-/// `words` are those behind the program's name, and what they choose is the plant's place: see [`crate::place_of`].
+/// `words` are those behind the program's name. What they choose of the plant's place is done already: see [`crate::place_of`].
 pub fn labctl<S: Source, K: Sink, P: Plant>(
     alloc: Global,
     words: &[String],
@@ -27,26 +29,26 @@ pub fn labctl<S: Source, K: Sink, P: Plant>(
     sink: &mut K,
     plant: &mut P,
 ) -> Status
-    ensures run { (made : List Begun) × Ran P.takes_drills (choices_of words.now)
+    ensures run { (made : List Begun) × Ran (terms_of P.takes_drills (rule_of (choices_of words.now))) (choices_of words.now)
         (record { left = S.left source.old; plant = P.seen plant.old; written = K.written sink.old })
         (record { left = S.left source.new; plant = P.seen plant.new; written = K.written sink.new }) result made }
     ensures bad { (side : AnySide) (at : ℕ) → result ≡ Status.JournalBad side at
         → IfSome (P.seen plant.new).told (λ t. IsNoJournal (disk A t.trace).reads (disk B t.trace).reads (2 ^ 32) side at) }
     ensures never_bad { (side : AnySide) (at : ℕ) → result ≡ Status.JournalBad side at → IfSome (P.seen plant.old).told (λ t. IsSound the_texts t.trace → ⊥) }
-    ensures usage { (result ≡ Status.Usage) ↔ (choices_of words.now ≡ None) }
-    ensures unread { result ≡ Status.Usage → source.new ≡ source.old }
-    ensures unwritten { result ≡ Status.Usage → sink.new ≡ sink.old }
-    ensures unsent { result ≡ Status.Usage → plant.new ≡ plant.old }
+    ensures usage { result ≡ Status.Usage → choices_of words.now ≡ None }
+    ensures refused { choices_of words.now ≡ None → (result ≡ Status.Usage) ⊎ (result ≡ Status.Memory) }
+    ensures unread { choices_of words.now ≡ None → source.new ≡ source.old }
+    ensures unread_where_generated { is_some (number_of (choices_of words.now)) ≡ true → source.new ≡ source.old }
+    ensures unwritten { choices_of words.now ≡ None → sink.new ≡ sink.old }
+    ensures unsent { choices_of words.now ≡ None → plant.new ≡ plant.old }
     ensures read { result ≡ Status.ReadFault → Rose (S.faults source.old) (S.faults source.new) }
     ensures read_later { S.faults source.old ≤ S.faults source.new }
     ensures write { result ≡ Status.WriteFault → Rose (K.faults sink.old) (K.faults sink.new) }
     ensures write_later { K.faults sink.old ≤ K.faults sink.new }
 {
-    if !is_allowed(words) {
-        return Status::Usage;
+    match read_words(alloc, words) {
+        Ok(chosen) => run_under(alloc, chosen.rule, chosen.generated, source, sink, plant),
+        Err(PlaceFault::Usage) => Status::Usage,
+        Err(PlaceFault::Memory) => Status::Memory,
     }
-    let Ok(mut reader) = LineReader::new(alloc) else {
-        return Status::Memory;
-    };
-    obey_commands(alloc, &mut reader, source, sink, plant)
 }

@@ -1,5 +1,5 @@
 //! Obeys the script of standard input over a plant in memory, or with `--dir DIR` in the files of a folder, and writes the replies to
-//! standard output.
+//! standard output. With `--cost pack` searches use few nodes; with `--gen N` a script of its own is obeyed, and a summary is written.
 #![tactic(auto)]
 
 use lab_io::{StdSink, StdSource};
@@ -44,7 +44,7 @@ fn run(rt: &HostRuntime) -> Status {
     let Ok(words) = words_of(rt) else {
         return Status::Memory;
     };
-    match place_of(&words) {
+    match place_of(rt.alloc(), &words) {
         Ok(Place::Blank) => run_in_memory(rt, &words),
         Ok(Place::Folder(dir)) => run_in_folder(rt, &words, dir.as_str()),
         Err(PlaceFault::Usage) => Status::Usage,

@@ -9,6 +9,7 @@ use Rattle.lab_top.specs.Pieces.{commands_of}
 use Rattle.lab_top.specs.Readers.{at_start}
 use Rattle.lab_top.proofs.Commanding.{Covers, covers_none, covers_more, first_begun, bad_begun, all_begun, cut_begun, none_begun, one_begun}
 use Rattle.lab_top.proofs.Pieces.{begun_ran, commands-push, going_none, going_ends, going_more, going_cut, going_memory, going_bad}
+use Rattle.lab_top.proofs.Tellings.{took_more}
 use Rattle.lab_top.proofs.commands.obey_commands.Goals as goal
 
 pub commands-init : goal.commands-init
@@ -18,7 +19,7 @@ commands-init g c =
     let stand = stand_of c.args.reader.now left in
     record {
       ready = (n.fault, inl n.ended);
-      going = ([], going_none _ _ (g.K.Sink.written c.args.sink.now) refl, λ bytes is. covers_none bytes stand (ap (λ p. prepend_known p left) n.pending ∙ prepend_known-nil left ∙ is) n.ended n.taken n.lines);
+      going = ([], going_none _ _ (g.T.Teller.written c.args.teller.now) refl, λ bytes is. covers_none bytes stand (ap (λ p. prepend_known p left) n.pending ∙ prepend_known-nil left ∙ is) n.ended n.taken n.lines, refl);
       read = omega arith;
       write = omega arith;
     }
@@ -36,6 +37,7 @@ returns-in-Ok-End-clause-ran g c =
       was.0,
       begun_ran _ _ _ _ _ _ _ Done was.0 (going_ends _ _ _ _ _ was.0 was.1 Done (λ t. tt) (λ runs. runs) (λ all. all) (λ wrote. wrote))
           (λ bytes is. all_begun bytes now (commands_of was.0) (was.2 bytes is) new (e.next inv.ready) (pending_of c.read_command.new.lines) (g.S.Source.left c.read_command.new.source) refl) (λ is. absurd (cc is)),
+      λ is. was.3,
     )
 
 pub returns-in-Err-Bad-clause-ran : goal.returns-in-Err-Bad-clause-ran
@@ -48,6 +50,7 @@ returns-in-Err-Bad-clause-ran g c =
       was.0,
       begun_ran _ _ _ _ _ _ _ (BadScript line) was.0 (going_ends _ _ _ _ _ was.0 was.1 (BadScript line) (λ t. tt) (λ runs. runs) (λ all. all) (λ wrote. wrote))
           (λ bytes is. bad_begun bytes now (commands_of was.0) (was.2 bytes is) line (e.bad inv.ready line refl)) (λ is. absurd (cc is)),
+      λ is. absurd (cc is),
     )
 
 pub returns-in-Err-ReadFault-clause-ran : goal.returns-in-Err-ReadFault-clause-ran
@@ -60,13 +63,14 @@ returns-in-Err-ReadFault-clause-ran g c =
       was.0,
       begun_ran _ _ _ _ _ _ _ ReadFault was.0 (going_ends _ _ _ _ _ was.0 was.1 ReadFault (λ t. tt) (λ runs. runs) (λ all. all) (λ wrote. wrote))
           (λ bytes is. cut_begun bytes now (commands_of was.0) (was.2 bytes is) new (e.unfinished inv.ready refl) (pending_of c.read_command.new.lines) (g.S.Source.left c.read_command.new.source) refl (e.read inv.ready.0 refl).1) (λ is. absurd (cc is)),
+      λ is. absurd (cc is),
     )
 
 pub returns-in-Err-Memory-clause-ran : goal.returns-in-Err-Memory-clause-ran
 returns-in-Err-Memory-clause-ran g c =
     let was = c.commands.invariant.going in
     let now = stand_of c.commands.reader (g.S.Source.left c.commands.source) in
-    (was.0, begun_ran _ _ _ _ _ _ _ Memory was.0 (going_ends _ _ _ _ _ was.0 was.1 Memory (λ t. tt) (λ runs. tt) (λ all. inl all) (λ wrote. wrote)) (λ bytes is. first_begun bytes now (commands_of was.0) (was.2 bytes is)) (λ is. absurd (cc is)))
+    (was.0, begun_ran _ _ _ _ _ _ _ Memory was.0 (going_ends _ _ _ _ _ was.0 was.1 Memory (λ t. tt) (λ runs. tt) (λ all. inl all) (λ wrote. wrote)) (λ bytes is. first_begun bytes now (commands_of was.0) (was.2 bytes is)) (λ is. absurd (cc is)), λ is. absurd (cc is))
 
 pub commands-preserved : goal.commands-preserved
 commands-preserved g c =
@@ -78,13 +82,14 @@ commands-preserved g c =
     let new = stand_of c.read_command.new.lines (g.S.Source.left c.read_command.new.source) in
     let command = c.in-Ok-Command.command in
     let read = e.next inv.ready in
-    let more = going_more _ _ _ _ _ _ _ was.0 was.1 command (a.answered _ was.1.goes_on) in
+    let more = going_more _ _ _ _ _ _ _ was.0 was.1 command _ (a.answered _ was.1.goes_on) in
     record {
       ready = (e.ok, read.1.ends);
       going = (
         was.0 ++ more.0 ∷ [],
         more.2,
         λ bytes is. subst (λ (cs : List Command). Covers (at_start bytes) new cs) (sym (commands-push was.0 more.0 ∙ ap (λ x. commands_of was.0 ++ x ∷ []) more.1)) (covers_more (at_start bytes) now new (commands_of was.0) command (was.2 bytes is) read),
+        took_more g.T.Teller.takes c.args.teller.now c.commands.teller c.answer_command.new.teller was.0 more.0 was.3 more.3,
       );
       read = omega (arith, e.later, inv.read);
       write = omega (arith, a.later, inv.write);
@@ -98,8 +103,8 @@ returns-in-Err-WriteFault-clause-ran g c =
     let a = rw c.in-Err-WriteFault.field-0-is at c.in-Err-WriteFault.ensures in
     let now = stand_of c.commands.reader (g.S.Source.left c.commands.source) in
     let new = stand_of c.read_command.new.lines (g.S.Source.left c.read_command.new.source) in
-    let cut = going_cut _ _ _ _ _ _ _ was.0 was.1 c.in-Ok-Command.command (a.answered _ was.1.goes_on) in
-    (cut.0, begun_ran _ _ _ _ _ _ _ WriteFault cut.0 cut.2 (λ bytes is. one_begun bytes now new (commands_of was.0) (commands_of cut.0) c.in-Ok-Command.command (was.2 bytes is) (e.next inv.ready) cut.1) (λ is. absurd (cc is)))
+    let cut = going_cut _ _ _ _ _ _ _ was.0 was.1 c.in-Ok-Command.command (λ reply. g.T.Teller.takes c.commands.teller reply c.answer_command.new.teller) (a.answered _ was.1.goes_on) in
+    (cut.0, begun_ran _ _ _ _ _ _ _ WriteFault cut.0 cut.2 (λ bytes is. one_begun bytes now new (commands_of was.0) (commands_of cut.0) c.in-Ok-Command.command (was.2 bytes is) (e.next inv.ready) cut.1) (λ is. absurd (cc is)), λ is. absurd (cc is))
 
 pub returns-in-Err-Memory-answer_command-clause-ran : goal.returns-in-Err-Memory-answer_command-clause-ran
 returns-in-Err-Memory-answer_command-clause-ran g c =
@@ -109,10 +114,11 @@ returns-in-Err-Memory-answer_command-clause-ran g c =
     let a = rw c.in-Err-Memory-answer_command.field-0-is at c.in-Err-Memory-answer_command.ensures in
     let now = stand_of c.commands.reader (g.S.Source.left c.commands.source) in
     let new = stand_of c.read_command.new.lines (g.S.Source.left c.read_command.new.source) in
-    let cut = going_memory _ _ _ _ _ _ _ was.0 was.1 c.in-Ok-Command.command (a.answered _ was.1.goes_on) in (
+    let cut = going_memory _ _ _ _ _ _ _ was.0 was.1 c.in-Ok-Command.command (λ reply. g.T.Teller.takes c.commands.teller reply c.answer_command.new.teller) (a.answered _ was.1.goes_on) in (
       cut.0,
       begun_ran _ _ _ _ _ _ _ Memory cut.0 cut.2 (λ bytes is. ⊎_elim (λ same. none_begun bytes now (commands_of was.0) (commands_of cut.0) (was.2 bytes is) same)
           (λ one. one_begun bytes now new (commands_of was.0) (commands_of cut.0) c.in-Ok-Command.command (was.2 bytes is) (e.next inv.ready) one) cut.1) (λ is. absurd (cc is)),
+      λ is. absurd (cc is),
     )
 
 pub returns-in-Err-JournalBad-clause-ran : goal.returns-in-Err-JournalBad-clause-ran
@@ -125,5 +131,5 @@ returns-in-Err-JournalBad-clause-ran g c =
     let new = stand_of c.read_command.new.lines (g.S.Source.left c.read_command.new.source) in
     let side = c.in-Err-JournalBad.side in
     let at = c.in-Err-JournalBad.at in
-    let cut = going_bad _ _ _ _ _ _ _ was.0 was.1 c.in-Ok-Command.command side at (a.answered _ was.1.goes_on) in
-    rw c.in-Err-JournalBad.field-0-is (cut.0, begun_ran _ _ _ _ _ _ _ (JournalBad side at) cut.0 cut.2 (λ bytes is. one_begun bytes now new (commands_of was.0) (commands_of cut.0) c.in-Ok-Command.command (was.2 bytes is) (e.next inv.ready) cut.1) (λ is. absurd (cc is)))
+    let cut = going_bad _ _ _ _ _ _ _ was.0 was.1 c.in-Ok-Command.command (λ reply. g.T.Teller.takes c.commands.teller reply c.answer_command.new.teller) side at (a.answered _ was.1.goes_on) in
+    rw c.in-Err-JournalBad.field-0-is (cut.0, begun_ran _ _ _ _ _ _ _ (JournalBad side at) cut.0 cut.2 (λ bytes is. one_begun bytes now new (commands_of was.0) (commands_of cut.0) c.in-Ok-Command.command (was.2 bytes is) (e.next inv.ready) cut.1) (λ is. absurd (cc is)), λ is. absurd (cc is))

@@ -4,6 +4,8 @@ use Rattle.lab_io.specs.Taken.{taken_of}
 use Rattle.lab_top.specs.Answering.{Moment}
 use Rattle.lab_top.specs.Pieces.{Begun, commands_of}
 use Rattle.lab_top.specs.Readers.{at_start}
+use Rattle.lab_top.specs.Tellers.{Took, replies_of}
+use Rattle.lab_core.specs.Sessions.{terms_of}
 use Rattle.lab_top.proofs.Commanding.{Covers}
 use Rattle.lab_top.proofs.Pieces.{Going}
 use Rattle.lab_top.proofs.commands.obey_commands.Given as goal
@@ -14,10 +16,11 @@ invariant-commands g l =
     let here : Moment = record { plant = g.P.Plant.seen l.plant; controller = l.controller } in
     record {
       ready : IsReady l.reader (g.S.Source.left l.source);
-      going : (begun : List Begun) × Going g.P.Plant.takes_drills start here (g.K.Sink.written l.fn.sink) (g.K.Sink.written l.sink) begun
-          × ((bytes : List ℕ) → g.S.Source.left l.fn.source ≡ Some bytes → Covers (at_start bytes) (stand_of l.reader (g.S.Source.left l.source)) (commands_of begun));
+      going : (begun : List Begun) × Going (terms_of g.P.Plant.takes_drills l.fn.rule.number) start here (g.T.Teller.written l.fn.teller) (g.T.Teller.written l.teller) begun
+          × ((bytes : List ℕ) → g.S.Source.left l.fn.source ≡ Some bytes → Covers (at_start bytes) (stand_of l.reader (g.S.Source.left l.source)) (commands_of begun))
+          × Took g.T.Teller.takes l.fn.teller (replies_of begun) l.teller;
       read : g.S.Source.faults l.fn.source ≤ g.S.Source.faults l.source;
-      write : g.K.Sink.faults l.fn.sink ≤ g.K.Sink.faults l.sink;
+      write : g.T.Teller.faults l.fn.teller ≤ g.T.Teller.faults l.teller;
     }
 
 abbrev pub decreases-commands : goal.decreases-commands

@@ -2,7 +2,7 @@ use Rattle.lab_top.proofs.RunLaws.{opened_rests, recovered_rests}
 use Rattle.lab_top.proofs.laws.recoveries.Goals as goal
 
 pub returns-clause-opened : goal.returns-clause-opened
-returns-clause-opened c = λ takes choices old new status before after b t r told sound opens. opened_rests takes choices old new status before after b t r told sound opens
+returns-clause-opened c = λ terms choices old new status before after b t r told sound opens. opened_rests terms choices old new status before after b t r told sound opens
 
 pub returns-clause-recovered : goal.returns-clause-recovered
-returns-clause-recovered c = λ takes choices old new status before after b t done r told sound asks replied. recovered_rests takes choices old new status before after b t r told sound done asks replied
+returns-clause-recovered c = λ terms choices old new status before after b t done r told sound asks replied. recovered_rests terms choices old new status before after b t r told sound done asks replied
