@@ -38,7 +38,7 @@ fn run<R: Files + AllocGlobal + Clone + Drop>(
     script: &[u8],
 ) -> Result<(Status, Vec<u8>), Fail> {
     let words = words_of(rt.alloc(), words)?;
-    match place_of(&words) {
+    match place_of(rt.alloc(), &words) {
         Ok(Place::Folder(folder)) => run_in(rt, folder.as_str(), &words, script),
         Ok(Place::Blank) | Err(_) => Ok((Status::Usage, Vec::new(rt.alloc()))),
     }
@@ -122,13 +122,26 @@ const WORDS: &[(&[&str], bool)] = &[
     (&["--dir", "lab", "more"], false),
     (&["--di", "lab"], false),
     (&["lab"], false),
+    (&["--dir=lab"], true),
+    (&["--dir", "lab", "--dir", "lab"], false),
+    (&["--cost", "pack"], true),
+    (&["--cost=trunk", "--dir", "lab"], true),
+    (&["--cost", "cheap"], false),
+    (&["--cost", "pack", "--cost", "pack"], false),
+    (&["--gen", "18446744073709551615"], true),
+    (&["--gen", "18446744073709551616"], false),
+    (&["--gen", "+5", "--cost", "pack"], true),
+    (&["--gen", "-1"], false),
+    (&["--gen"], false),
+    (&["--help"], false),
+    (&["-h"], false),
 ];
 
 #[test]
 fn words_choose_a_place_or_are_refused(rt: HostRuntime) -> Result<(), Fail> {
     for (words, allowed) in WORDS {
         let words = words_of(rt.alloc(), words)?;
-        let refused = matches!(place_of(&words), Err(PlaceFault::Usage));
+        let refused = matches!(place_of(rt.alloc(), &words), Err(PlaceFault::Usage));
         assert_eq!(rt; refused, !*allowed);
     }
     Ok(())

@@ -59,8 +59,16 @@ const NETWORK: &[u8] =
 const NETWORK_REPLIES: &[u8] =
     b"lab 1 0 0\ncreated A 3 1\nshow A out\nnode node-1 pc default\nnode node-2 pc default\nnode node-3 pc default\nlink big big 100000 node-1=10.1.1.1 node-2=10.1.1.2 node-3=10.1.1.3\nend A\ncreated B 3 2\nshow B out\nnode a pc default\nnode b pc default\nnode l.d delay delay\nlink l.0 l 100000 a=10.1.1.1 l.d\nlink l.1 l 100000 l.d b=10.1.1.2\npipe l.d 0 1 100000 2000 0 100000 2000 0\nend B\nbad C 4 unsupported\n";
 
-/// The demos, as the manual has them.
-const DEMOS: &[Row] = &[
+/// `demo/search.lab`: places that are searched.
+const SEARCH: &[u8] =
+    b"# Two switches with two machines each, joined by a trunk, and a machine that shapes links.\nptop 15\nvlans 100 103\nnode s1 switch\nnode s2 switch\nnode pc1 pc:1\nnode pc2 pc:1\nnode pc3 pc:1\nnode pc4 pc:1\nnode d1 delay:1\nlink i1 pc1:eth0 s1:1 1000000\nlink i2 pc2:eth0 s1:2 1000000\nlink i3 pc3:eth0 s2:1 1000000\nlink i4 pc4:eth0 s2:2 1000000\nlink i5 d1:eth0 s2:3 100000\nlink i6 d1:eth1 s2:4 100000\nlink t1 s1:24 s2:24 100000\n\n# A LAN of three nodes, of which one has to be across the trunk. `solve` tells where they would be and what that costs, and changes nothing.\ncreate A 7\nset ns [new Simulator]\nsource tb_compat.tcl\nset a [$ns node]\nset b [$ns node]\nset c [$ns node]\nset big [$ns make-lan \"$a $b $c\" 100Mb 0ms]\n$ns run\nsolve A 7\nswapin A 7\nshow A\n\n# A leaves one machine of the type `pc`, so there is no place for the two nodes of B.\ncreate B 5\nset ns [new Simulator]\nset a [$ns node]\nset b [$ns node]\nset l [$ns duplex-link $a $b 100Mb 0ms DropTail]\n$ns run\nswapin B 7\n\n# A changes to two nodes with a link of 2 milliseconds. It goes to the switch of the machine that shapes it, where no trunk is used, and B finds a place.\nmodify A 7 5\nset ns [new Simulator]\nset a [$ns node]\nset b [$ns node]\nset l [$ns duplex-link $a $b 100Mb 2ms DropTail]\n$ns run\nshow A\nswapin B 7\nstatus\nswapout A\n";
+
+/// What it replies.
+const SEARCH_REPLIES: &[u8] =
+    b"lab 2 5 1\ncreated A 3 1\nleast A 100000\nnode a pc1 pc\nnode b pc2 pc\nnode c pc3 pc\nplug a:0 pc1:eth0\nplug b:0 pc2:eth0\nplug c:0 pc3:eth0\nend A\nin A\nshow A in\nnode a pc default\nnode b pc default\nnode c pc default\nlink big big 100000 a=10.1.1.1 b=10.1.1.2 c=10.1.1.3\nnode a pc1 pc\nnode b pc2 pc\nnode c pc3 pc\nplug a:0 pc1:eth0\nplug b:0 pc2:eth0\nplug c:0 pc3:eth0\ntag big 100\nend A\ncreated B 2 1\nnone B\nin A\nshow A in\nnode a pc default\nnode b pc default\nnode l.d delay delay\nlink l.0 l 100000 a=10.1.1.1 l.d\nlink l.1 l 100000 l.d b=10.1.1.2\npipe l.d 0 1 100000 2000 0 100000 2000 0\nnode a pc3 pc\nnode b pc4 pc\nnode l.d d1 delay\nplug a:0 pc3:eth0\nplug l.d:0 d1:eth0\nplug l.d:1 d1:eth1\nplug b:0 pc4:eth0\ntag l.0 101\ntag l.1 102\nend A\nin B\nexp A in 3 2\nexp B in 2 1\nfree 0 1\nout A\n";
+
+/// The demos of given solutions, as the manual has them.
+const GIVEN: &[Row] = &[
     (&[FIRST], FIRST_REPLIES, Status::Done, None),
     (&[RECOVERY], RECOVERY_REPLIES, Status::Done, None),
     (&[CHANGE], CHANGE_REPLIES, Status::Done, None),
@@ -72,11 +80,18 @@ const DEMOS: &[Row] = &[
         Status::BadScript { line: 51 },
         None,
     ),
+];
+
+/// Those of NS files.
+const NETWORKS: &[Row] = &[
     (&[NETWORK], NETWORK_REPLIES, Status::Done, None),
+    (&[SEARCH], SEARCH_REPLIES, Status::Done, None),
 ];
 
 #[test]
 fn the_demos_are_answered_as_the_manual_says(rt: HostRuntime) -> Result<(), Fail> {
-    assert_eq!(rt; other_row(rt.alloc(), DEMOS)?, None);
+    let alloc = rt.alloc();
+    assert_eq!(rt; other_row(alloc, GIVEN)?, None);
+    assert_eq!(rt; other_row(alloc, NETWORKS)?, None);
     Ok(())
 }

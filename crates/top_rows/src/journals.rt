@@ -1,17 +1,25 @@
 // The journal where calls fail and the plant stops, sides that are no journal, and its limits.
 ghost use Rattle.std.specs.Prelude.{◌≡◌, ◌≤◌, ◌^◌, None};
+ghost use Rattle.virt_topo.specs.Soundness.{IsSound};
+ghost use Rattle.lab_model.specs.Shapes.{IsShaped};
+ghost use Rattle.cost_rule.specs.Cost.{cost};
+ghost use Rattle.cost_rule.specs.Parts.{AreParts, cost_of_parts};
 ghost use Rattle.script_text.specs.Blocks.{HasBlocks};
 ghost use Rattle.script_text.specs.Drills.{drill_of};
 
 use crate::table::{FAIL_DISK, STOP_ALL, STOP_NONE, STOP_TORN, Span, other_number, run_over};
+use cost_rule::{CostFn, Parts, PartsFn, Rule, RuleNumber, StepFn, StepRule};
 use lab_base::Text;
 use lab_core::Controller;
 use lab_top::Status;
+use phys_lab::Lab;
 use plant::{Plant, Side};
 use plant_mem::MemLab;
+use rule_costs::{cost_of, parts_cost};
 use script_text::{Command, Reply, reply_text};
 use std::alloc::Global;
 use std::test::Fail;
+use virt_topo::{Mapping, Wiring};
 
 /// A lab is set, and an experiment is made and deleted; behind each of the three the experiments are listed.
 const SCRIPT: &[u8] =
@@ -206,8 +214,8 @@ fn lab_of_nothing(alloc: Global) -> Command
     }
 }
 
-/// What a controller of that limit replies to a lab of nothing, over a blank plant.
-fn reply_within(alloc: Global, limit: u64) -> Result<Reply, Fail>
+/// What a controller of that limit replies to a lab of nothing, over a blank plant. It asks for no cost.
+fn reply_under(alloc: Global, rule: &StepRule, limit: u64) -> Result<Reply, Fail>
     requires least { 18 ≤ limit }
     requires most { limit ≤ 2 ^ 32 }
 {
@@ -216,10 +224,35 @@ fn reply_within(alloc: Global, limit: u64) -> Result<Reply, Fail>
         return Err("an open journal".into());
     };
     let command = lab_of_nothing(alloc);
-    match controller.obey(&command, &mut plant) {
+    match controller.obey(&command, rule, &mut plant) {
         Ok(reply) => Ok(reply),
         Err(_) => Err("a reply".into()),
     }
+}
+
+/// That, under the rule that stands where none is chosen.
+fn reply_within(alloc: Global, limit: u64) -> Result<Reply, Fail>
+    requires least { 18 ≤ limit }
+    requires most { limit ≤ 2 ^ 32 }
+{
+    let number = RuleNumber::Trunk;
+    let by_number = move |lab: &Lab, wiring: &Wiring, mapping: &Mapping| -> u64
+        requires { IsSound wiring.now × IsShaped lab.now wiring.now mapping.now }
+        ensures { result ≡ cost number lab.now wiring.now mapping.now }
+    { cost_of(number, lab, wiring, mapping) };
+    let by_step = move |lab: &Lab, wiring: &Wiring, _from: &Mapping, to: &Mapping, _cost: u64| -> u64
+        requires { IsSound wiring.now × IsShaped lab.now wiring.now to.now }
+        ensures { result ≡ cost number lab.now wiring.now to.now }
+    { cost_of(number, lab, wiring, to) };
+    let by_parts = move |parts: Parts| -> u64
+        requires { AreParts parts }
+        ensures { result ≡ cost_of_parts number parts }
+    { parts_cost(number, parts) };
+    let whole: CostFn = Box::new(alloc, by_number)?;
+    let step: StepFn = Box::new(alloc, by_step)?;
+    let parted: PartsFn = Box::new(alloc, by_parts)?;
+    let rule = StepRule::new(Rule::new(number, whole), step, parted);
+    reply_under(alloc, &rule, limit)
 }
 
 /// Whether that reply has this text.

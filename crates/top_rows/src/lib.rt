@@ -12,6 +12,8 @@ mod changes;
 #[cfg(test)]
 mod commands;
 #[cfg(test)]
+mod compactions;
+#[cfg(test)]
 mod cuts;
 #[cfg(test)]
 mod demos;
@@ -28,8 +30,12 @@ mod orders;
 #[cfg(test)]
 mod recoveries;
 #[cfg(test)]
+mod searches;
+#[cfg(test)]
 mod swaps;
 #[cfg(test)]
 mod table;
 #[cfg(test)]
 mod turns;
+#[cfg(test)]
+mod words;

@@ -4,7 +4,7 @@ use lab_top::Status;
 use std::test::Fail;
 
 /// A LAN of three nodes that a loop makes: ten lines.
-const LAN_OF_THREE: &[u8] =
+pub const LAN_OF_THREE: &[u8] =
     b"set ns [new Simulator]\nsource tb_compat.tcl\nset lanstr \"\"\nfor {set i 1} {$i <= 3} {incr i} {\n  set node($i) [$ns node]\n  append lanstr \"$node($i) \"\n}\nset big [$ns make-lan \"$lanstr\" 100Mb 0ms]\n$ns rtproto Static\n$ns run\n";
 
 /// NS files that are expanded.

@@ -1,10 +1,10 @@
 use Rattle.std.proofs.Common.{[], refl, sym, ap, subst, length}
 use Rattle.lab_base.specs.Lists.{Has}
-use Rattle.top_rows.proofs.journals.reply_within.Goals as goal
+use Rattle.top_rows.proofs.journals.reply_under.Goals as goal
 
 -- a controller that was opened works with no open swap
 pub obey-requires-clause-works : goal.obey-requires-clause-works
-obey-requires-clause-works c = let alone = c.in-Ok.ensures.alone in (
+obey-requires-clause-works g c = let alone = c.in-Ok.ensures.alone in (
   [],
   record {
     pairs = [];
