@@ -14,6 +14,8 @@ mod networks;
 #[cfg(test)]
 mod ptops;
 #[cfg(test)]
+mod replies;
+#[cfg(test)]
 mod scripts;
 #[cfg(test)]
 mod solutions;
