@@ -1,7 +1,11 @@
 -- Moves and exchanges taken back, and what isn't cheaper.
-use Rattle.std.proofs.Common.{◌≡◌, ◌≢◌, ◌≤◌, ◌<◌, ◌∙◌, ◌∷◌, [], ℕ, zero, suc, List, length, get_or, Option, Some, refl, ap, sym, subst, arith, get_or-set_same, get_or-set_other}
+use Rattle.std.proofs.Common.{◌≡◌, ◌≢◌, ◌≤◌, ◌<◌, ◌∙◌, ◌∷◌, [], ℕ, zero, suc, List, length, get_or, Option, Some, refl, ap, sym, subst, arith, get_or-set_same, get_or-set_other, true, ◌==◌}
+use Rattle.std.specs.Prelude.{◌&&◌}
+use Rattle.std.proofs.lemmas.Bool.{and_parts, eqb-true}
 use Rattle.std.proofs.Math.ListN.{set}
 use Rattle.std.proofs.lemmas.List.{set-get_or, set_comm, length-set}
+use Rattle.phys_lab.proofs.KeptLaws.{same_name-true}
+use Rattle.virt_topo.specs.Repeats.{same_name}
 use Rattle.virt_topo.specs.declared.mapping.Mapping.{Mapping}
 use Rattle.lab_model.specs.Shapes.{Place}
 use Rattle.lab_model.specs.Rules.{no_place, place_at}
@@ -11,6 +15,7 @@ use Rattle.map_board.specs.Seated.{placed_at}
 use Rattle.map_board.specs.Boards.{IsBoard, Was}
 use Rattle.map_anneal.specs.Sought.{Sought, price, IsNoCheaper}
 use Rattle.map_board.proofs.Alikes.{alike_moved, alike_exchanged}
+use Rattle.map_board.proofs.SettledLaws.{place_is}
 
 set_twice : (places : List Place) (k : ℕ) (a b : Place) → set (set places k a) k b ≡ set places k b
 set_twice [] k a b = refl
@@ -24,6 +29,13 @@ mapping_is m n places plugs = (λ j. record { places = places j; plugs = plugs j
 -- a virtual node that went back
 pub moved_back : (m : Mapping) (v : ℕ) (p : Place) → placed_at (placed_at m v p) v (get_or m.places v no_place) ≡ m
 moved_back m v p = ap (λ (l : List Place). record { places = l; plugs = m.plugs }) (set_twice m.places v p (get_or m.places v no_place) ∙ set-get_or m.places v no_place)
+
+-- a virtual node that goes where it is
+pub stays : (places : List Place) (v : ℕ) (p q : Place) → (p.0.0 == q.0.0 && same_name p.1 q.1) ≡ true → q ≡ get_or places v no_place → set places v p ≡ places
+stays places v p q is at =
+    let both = and_parts _ _ is in
+    let same : p ≡ q = place_is p q (eqb-true p.0.0 q.0.0 both.0) (same_name-true p.1 q.1 both.1) in
+    ap (set places v) (same ∙ at) ∙ set-get_or places v no_place
 
 abbrev pub exchanged_at : Mapping → ℕ → ℕ → Mapping
 exchanged_at m v u = placed_at (placed_at m v (place_at m u)) u (place_at m v)

@@ -144,8 +144,9 @@ impl Tried {
         Ok(true)
     }
 
-    /// Moves a virtual node to another of its candidates, where the map is feasible and costs less than that.
-    pub fn move_if(
+    /// Moves a virtual node to another of its candidates, where the map is feasible and costs less than that: it is seated there, and
+    /// back where that comes to nothing.
+    fn go_if(
         &mut self,
         alloc: Global,
         moves: &Moves,
@@ -175,6 +176,40 @@ impl Tried {
         }
         self.board.seat(alloc, &setting, node, old);
         Ok(false)
+    }
+
+    /// Moves a virtual node to another of its candidates, where the map is feasible and costs less than that. One that stays, or that
+    /// finds the node full, is not seated.
+    pub fn move_if(
+        &mut self,
+        alloc: Global,
+        moves: &Moves,
+        rule: &StepRule,
+        node: usize,
+        place: Place,
+        below: u128,
+    ) -> Result<bool, Memory>
+        requires moves { IsMoves moves.now }
+        requires tried { IsTried moves.now rule.now.number self.old }
+        requires within { node < length (choices (sought_of moves.now rule.now.number)) }
+        requires among { Contains (candidates_at (sought_of moves.now rule.now.number) node) place }
+        ensures tried { OnOk result (IsTried moves.now rule.now.number self.new) }
+        ensures map { IfOk result (λ yes. yes ≡ true → moved (sought_of moves.now rule.now.number) self.old.board.mapping node place ≡ Some self.new.board.mapping) }
+        ensures below { IfOk result (λ yes. yes ≡ true → self.new.cost < below) }
+        ensures same { IfOk result (λ yes. yes ≡ false → self.new.board.mapping ≡ self.old.board.mapping) }
+        ensures same_cost { IfOk result (λ yes. yes ≡ false → self.new.cost ≡ self.old.cost) }
+        ensures dear { IfOk result (λ yes. yes ≡ false → (m : MappingSeen) → moved (sought_of moves.now rule.now.number) self.old.board.mapping node place ≡ Some m → below ≤ price (sought_of moves.now rule.now.number) m) }
+    {
+        let setting = moves.setting;
+        let from = place_of(self.board.mapping.places.as_slice(), node);
+        if place == from {
+            return Ok(u128::from(self.cost) < below);
+        }
+        if self.board.is_full(&setting, node, place) {
+            return Ok(false);
+        }
+        let yes = self.go_if(alloc, moves, rule, node, place, below)?;
+        Ok(yes)
     }
 
     /// Exchanges the places of two virtual nodes, each of which is a candidate of the other; the plugs stay.

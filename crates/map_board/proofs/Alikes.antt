@@ -1,16 +1,17 @@
 -- Places that are changed, beside the others.
-use Rattle.std.proofs.Common.{◌≡◌, ◌<◌, ◌∙◌, inl, inr, ℕ, List, length, get_or, ap, arith, get_or-set_other, get_or-set_same}
+use Rattle.std.proofs.Common.{◌≡◌, ◌<◌, ◌∙◌, inl, inr, ℕ, List, [], length, get_or, Contains, true, ap, subst, arith, get_or-set_other, get_or-set_same}
 use Rattle.std.proofs.Math.ListN.{set}
 use Rattle.std.proofs.lemmas.Bool.{cases_eq}
 use Rattle.std.proofs.lemmas.List.{length-set, get_or_default}
 use Rattle.phys_lab.specs.declared.free.Free.{Free}
 use Rattle.phys_lab.specs.Labs.{Lab}
 use Rattle.virt_topo.specs.declared.wiring.Wiring.{Wiring}
-use Rattle.lab_model.specs.Shapes.{Place}
+use Rattle.lab_model.specs.Shapes.{Place, node_at, has_name}
 use Rattle.lab_model.specs.Rules.{no_place}
 use Rattle.node_maps.specs.NodeMaps.{candidates, IsChoice}
 use Rattle.node_maps.specs.Moved.{AlikeBut}
 use Rattle.node_maps.proofs.MapLaws.{choice_within}
+use Rattle.map_board.proofs.Choices.{choice_moved}
 
 -- the node of a place
 abbrev node : Place → ℕ
@@ -55,3 +56,12 @@ pub place_within : (lab : Lab) (free : Free) (w : Wiring) (places : List Place) 
     → (get_or places v no_place).0.0 < length lab.nodes
 place_within lab free w places v choice lt =
     (choice_within lab free w places choice).are.in_nodes v no_place (omega (arith, lt, choice.one_each))
+
+-- a candidate of a virtual node is on a node of the lab, which has its type
+pub candidate_within : (lab : Lab) (free : Free) (w : Wiring) (places : List Place) (v : ℕ) (p : Place) → IsChoice (candidates lab free w) places → v < length places
+    → Contains (get_or (candidates lab free w) v []) p → (p.0.0 < length lab.nodes) × (has_name (node_at lab p.0).types p.1 ≡ true)
+candidate_within lab free w places v p choice lt among =
+    let changed = choice_moved (candidates lab free w) places v p choice (omega (arith, lt, choice.one_each)) among in
+    let are = (choice_within lab free w (set places v p) changed).are in
+    let there : v < length (set places v p) = omega (arith, lt, length-set places v p) in
+    subst (λ (q : Place). (q.0.0 < length lab.nodes) × (has_name (node_at lab q.0).types q.1 ≡ true)) (get_or-set_same places v p no_place lt) (are.in_nodes v no_place there, are.of_node v no_place there)

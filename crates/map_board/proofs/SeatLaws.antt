@@ -233,6 +233,18 @@ used_left places v lt =
 others_set : (places : List Place) (v : ℕ) (p : Place) → others (set places v p) v ≡ others places v
 others_set places v p = ap (λ (l : List ℕ). remove l v) (map-set (λ (q : Place). q.0.0) places v p) ∙ removed_set (nodes_of places) v p.0.0
 
+-- a node has one guest more once a virtual node of another one goes there
+pub guest_more : (places : List Place) (v : ℕ) (p : Place) → v < length places → (get_or places v no_place).0.0 ≢ p.0.0
+    → guests_at (set places v p) p.0.0 ≡ guests_at places p.0.0 + 1
+guest_more places v p lt apart =
+    let n = p.0.0 in
+    let before = guest_left places v n lt in
+    let after = guest_left (set places v p) v n (omega (arith, lt, length-set places v p)) in
+    let same : ◌≡◌ {A = ℕ} (guests (others (set places v p) v) n) (guests (others places v) n) = ap (λ (l : List ℕ). guests l n) (others_set places v p) in
+    let here : ◌≡◌ {A = ℕ} (one_if (eqb (get_or (set places v p) v no_place).0.0 n)) 1 = ap (λ (q : Place). one_if (eqb q.0.0 n)) (get_or-set_same places v p no_place lt) ∙ ap one_if (eq-eqb n n refl) in
+    let gone : ◌≡◌ {A = ℕ} (one_if (eqb (get_or places v no_place).0.0 n)) 0 = ap one_if (ne_eqb (get_or places v no_place).0.0 n apart) in
+    omega (arith, before, after, same, here, gone)
+
 pub guests_went : (n : ℕ) (places : List Place) (v : ℕ) (p : Place) (g h k : List ℕ) (x y z : ℕ) → v < length places → Went n places v p g h k x y z
     → (i : ℕ) → i < n → get_or k i 0 ≡ guests_at (set places v p) i
 guests_went n places v p g h k x y z lt w i i_lt =

@@ -127,6 +127,19 @@ impl Board {
         self.seats.guests[place.0.0 as usize] > number_of(types, place.1)
     }
 
+    /// Whether a virtual node that goes to another of its candidates is one more on a node than may have its type there.
+    pub fn is_full(&self, setting: &Setting, virt: usize, place: Place) -> bool
+        requires setting { IsSetting setting.now }
+        requires laid { IsLaid setting.now self.now }
+        requires virt { virt < length setting.now.mapper.wiring.now.nodes }
+        requires among { Contains (slice_index_or (candidates setting.now.mapper.lab.now setting.now.mapper.free.now setting.now.mapper.wiring.now) virt []) place }
+        ensures { IsTrue result → node_map setting.now.mapper.lab.now setting.now.mapper.free.now setting.now.mapper.wiring.now (placed_at self.now.mapping virt place).places ≡ None }
+    {
+        let from = self.mapping.places.as_slice()[virt].0;
+        let types = types_at(setting.mapper.lab, place.0);
+        from.0 != place.0.0 && self.seats.guests[place.0.0 as usize] >= number_of(types, place.1)
+    }
+
     /// A virtual node goes to another of its candidates; the plugs stay.
     pub fn seat(&mut self, alloc: Global, setting: &Setting, virt: usize, place: Place)
         requires setting { IsSetting setting.now }

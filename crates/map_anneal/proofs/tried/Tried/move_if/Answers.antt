@@ -1,104 +1,31 @@
-use Rattle.std.proofs.Common.{◌≡◌, ◌<◌, ◌∙◌, List, [], length, get_or, Some, Contains, sym, ap, subst, arith, get_or-set_same}
-use Rattle.std.proofs.Math.ListN.{set}
-use Rattle.virt_topo.specs.declared.mapping.Mapping.{Mapping}
+use Rattle.std.proofs.Common.{◌≡◌, ◌∙◌, List, get_or, sym, ap, arith}
+use Rattle.std.proofs.lemmas.Bool.{ltb-false}
+use Rattle.std.proofs.lemmas.Option.{same_Some}
 use Rattle.lab_model.specs.Shapes.{Place}
 use Rattle.lab_model.specs.Rules.{no_place}
 use Rattle.node_maps.specs.NodeMaps.{node_map}
-use Rattle.map_board.proofs.Choices.{choice_moved}
-use Rattle.map_board.specs.Seated.{placed_at}
-use Rattle.map_anneal.specs.Sought.{choices, price}
+use Rattle.map_anneal.specs.Sought.{price}
 use Rattle.map_anneal.specs.Searches.{sought_of}
-use Rattle.map_board.proofs.Alikes.{place_within}
-use Rattle.map_anneal.proofs.Undone.{mapping_is, moved_back, was_moved}
+use Rattle.map_anneal.proofs.Undone.{stays}
 use Rattle.map_anneal.proofs.tried.Tried.move_if.Goals as goal
 
-pub settle_if-requires-clause-first : goal.settle_if-requires-clause-first
-settle_if-requires-clause-first g c =
+pub returns-then-eq-clause-map : goal.returns-then-eq-clause-map
+returns-then-eq-clause-map g c = λ is.
+    let m = c.args.self.now.board.mapping in
+    let from = c.place_of-from.ensures ∙ ap (λ (l : List Place). get_or l c.args.node no_place) c.as_slice.ensures in
+    let x = c.args.moves.now.setting.mapper in
+    ap (node_map x.lab.now x.free.now x.wiring.now) (stays m.places c.args.node c.args.place c.place_of-from.result (sym c.if-eq.ensures) from)
+    ∙ c.requires.tried.board.mapped
+
+pub returns-then-eq-clause-dear : goal.returns-then-eq-clause-dear
+returns-then-eq-clause-dear g c = λ is other found.
+    let m = c.args.self.now.board.mapping in
+    let from = c.place_of-from.ensures ∙ ap (λ (l : List Place). get_or l c.args.node no_place) c.as_slice.ensures in
     let x = c.args.moves.now.setting.mapper in
     let s = sought_of c.args.moves.now c.args.rule.now.number in
-    let places = c.args.self.now.board.mapping.places in
-    let choice = c.requires.tried.board.laid.choice in
-    let changed = choice_moved (choices s) places c.args.node c.args.place choice c.requires.within c.requires.among in
-    let within : c.args.node < length places = omega (arith, c.requires.within, choice.one_each) in
-    subst (λ (p : Place). p.0.0 < length x.lab.now.nodes) (get_or-set_same places c.args.node c.args.place no_place within)
-    (place_within x.lab.now x.free.now x.wiring.now (set places c.args.node c.args.place) c.args.node changed c.requires.within)
-
-pub returns-then-branch-clause-map : goal.returns-then-branch-clause-map
-returns-then-branch-clause-map g c = λ is.
-    let x = c.args.moves.now.setting in
-    let m = c.args.self.now.board.mapping in
-    let v = c.args.node in
-    let choice = c.requires.tried.board.laid.choice in
-    let lt : v < length m.places = omega (arith, c.requires.within, choice.one_each) in
-    let from = c.node_of-from.ensures ∙ ap (λ (l : List Place). (get_or l v no_place).0.0) c.as_slice.ensures in
-    let was = was_moved x c.args.self.now.board c.seat.new.self.mapping v c.args.place c.node_of-from.result.0 c.requires.tried.board lt c.seat.ensures.mapping from in
-    ap (λ (y : Mapping). node_map x.mapper.lab.now x.mapper.free.now x.mapper.wiring.now y.places) (sym c.seat.ensures.mapping) ∙ c.in_ok-settle_if.ensures.map c.if-branch.true m.places was
-
-pub returns-then-branch-clause-tried : goal.returns-then-branch-clause-tried
-returns-then-branch-clause-tried g c =
-    let x = c.args.moves.now.setting in
-    let m = c.args.self.now.board.mapping in
-    let v = c.args.node in
-    let choice = c.requires.tried.board.laid.choice in
-    let lt : v < length m.places = omega (arith, c.requires.within, choice.one_each) in
-    let from = c.node_of-from.ensures ∙ ap (λ (l : List Place). (get_or l v no_place).0.0) c.as_slice.ensures in
-    let was = was_moved x c.args.self.now.board c.seat.new.self.mapping v c.args.place c.node_of-from.result.0 c.requires.tried.board lt c.seat.ensures.mapping from in
-    record {
-      board = record {
-        laid = c.in_ok-settle_if.ensures.laid;
-        mapped = ap (λ (l : List Place). node_map x.mapper.lab.now x.mapper.free.now x.mapper.wiring.now l) c.in_ok-settle_if.ensures.places ∙ c.in_ok-settle_if.ensures.map c.if-branch.true m.places was;
-      };
-      none = c.in_ok-settle_if.ensures.none;
-      cost = c.in_ok-settle_if.ensures.cost c.if-branch.true;
-    }
-
-pub seat-requires-2-clause-among : goal.seat-requires-2-clause-among
-seat-requires-2-clause-among g c =
-    let s = sought_of c.args.moves.now c.args.rule.now.number in
-    let m = c.args.self.now.board.mapping in
-    let v = c.args.node in
-    let old : c.place_of-old.result ≡ get_or m.places v no_place = c.place_of-old.ensures ∙ ap (λ (l : List Place). get_or l v no_place) c.as_slice-2.ensures in
-    subst (λ (p : Place). Contains (get_or (choices s) v []) p) (sym old) (c.requires.tried.board.laid.choice.among v no_place c.requires.within)
-
-pub returns-clause-same : goal.returns-clause-same
-returns-clause-same g c = λ is.
-    let m = c.args.self.now.board.mapping in
-    let v = c.args.node in
-    let old : c.place_of-old.result ≡ get_or m.places v no_place = c.place_of-old.ensures ∙ ap (λ (l : List Place). get_or l v no_place) c.as_slice-2.ensures in
-    let left : c.settle_if.new.self.board.mapping ≡ placed_at m v c.args.place =
-    mapping_is c.settle_if.new.self.board.mapping (placed_at m v c.args.place)
-    (c.in_ok-settle_if.ensures.places ∙ ap (λ (y : Mapping). y.places) c.seat.ensures.mapping)
-    (c.in_ok-settle_if.ensures.plugs c.if-branch.false ∙ ap (λ (y : Mapping). y.plugs) c.seat.ensures.mapping) in
-    c.seat-2.ensures.mapping ∙ (λ j. placed_at (left j) v (old j)) ∙ moved_back m v c.args.place
-
-pub returns-clause-tried : goal.returns-clause-tried
-returns-clause-tried g c =
-    let x = c.args.moves.now.setting in
-    let s = sought_of c.args.moves.now c.args.rule.now.number in
-    let m = c.args.self.now.board.mapping in
-    let v = c.args.node in
-    let old : c.place_of-old.result ≡ get_or m.places v no_place = c.place_of-old.ensures ∙ ap (λ (l : List Place). get_or l v no_place) c.as_slice-2.ensures in
-    let left : c.settle_if.new.self.board.mapping ≡ placed_at m v c.args.place =
-    mapping_is c.settle_if.new.self.board.mapping (placed_at m v c.args.place)
-    (c.in_ok-settle_if.ensures.places ∙ ap (λ (y : Mapping). y.places) c.seat.ensures.mapping)
-    (c.in_ok-settle_if.ensures.plugs c.if-branch.false ∙ ap (λ (y : Mapping). y.plugs) c.seat.ensures.mapping) in
-    let same : c.seat-2.new.self.mapping ≡ m = c.seat-2.ensures.mapping ∙ (λ j. placed_at (left j) v (old j)) ∙ moved_back m v c.args.place in
-    record {
-      board = record {
-        laid = c.seat-2.ensures.laid;
-        mapped = subst (λ (y : Mapping). node_map x.mapper.lab.now x.mapper.free.now x.mapper.wiring.now y.places ≡ Some y) (sym same) c.requires.tried.board.mapped;
-      };
-      none = c.seat-2.ensures.back ∙ c.in_ok-settle_if.ensures.none;
-      cost = c.in_ok-settle_if.ensures.same_cost c.if-branch.false ∙ c.requires.tried.cost ∙ ap (price s) (sym same);
-    }
-
-pub returns-clause-dear : goal.returns-clause-dear
-returns-clause-dear g c = λ is other found.
-    let x = c.args.moves.now.setting in
-    let m = c.args.self.now.board.mapping in
-    let v = c.args.node in
-    let choice = c.requires.tried.board.laid.choice in
-    let lt : v < length m.places = omega (arith, c.requires.within, choice.one_each) in
-    let from = c.node_of-from.ensures ∙ ap (λ (l : List Place). (get_or l v no_place).0.0) c.as_slice.ensures in
-    let was = was_moved x c.args.self.now.board c.seat.new.self.mapping v c.args.place c.node_of-from.result.0 c.requires.tried.board lt c.seat.ensures.mapping from in
-    c.in_ok-settle_if.ensures.dear c.if-branch.false m.places was other (ap (λ (y : Mapping). node_map x.mapper.lab.now x.mapper.free.now x.mapper.wiring.now y.places) c.seat.ensures.mapping ∙ found)
+    let places = stays m.places c.args.node c.args.place c.place_of-from.result (sym c.if-eq.ensures) from in
+    let same : m ≡ other = same_Some m other (sym c.requires.tried.board.mapped ∙ sym (ap (node_map x.lab.now x.free.now x.wiring.now) places) ∙ found) in
+    let cost = c.requires.tried.cost ∙ ap (price s) same in
+    let wide = c.from.ensures in
+    let le = ltb-false c.from.result c.args.below is in
+    omega (arith, cost, wide, le)
