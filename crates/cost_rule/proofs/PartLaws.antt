@@ -32,7 +32,7 @@ cost_is numbers.Trunk lab w m = refl
 cost_is numbers.Pack lab w m = refl
 
 -- a sum of numbers that are at most c
-sum_below_le : (n c : ℕ) (f : ℕ → ℕ) → ((k : ℕ) → k < n → f k ≤ c) → sum_below n f ≤ n * c
+pub sum_below_le : (n c : ℕ) (f : ℕ → ℕ) → ((k : ℕ) → k < n → f k ≤ c) → sum_below n f ≤ n * c
 sum_below_le zero c f small = omega arith
 sum_below_le (suc n) c f small = let rest = sum_below_le n c f (λ k lt. small k (omega (arith, lt))) in let last = small n (omega arith) in omega (arith, rest, last)
 

@@ -35,7 +35,8 @@ pub(crate) fn trunk_uses(lab: &Lab, wiring: &Wiring, mapping: &Mapping) -> u64
     total
 }
 
-fn is_on(node: NodeId, places: &[(NodeId, Name)]) -> bool
+/// Whether one of the places is on a node.
+pub fn is_on(node: NodeId, places: &[(NodeId, Name)]) -> bool
     ensures { result ≡ list_any (λ p. node.0 == p.0.0) places.now }
 {
     places.iter().any(|place| node.0 == place.0.0)

@@ -71,7 +71,8 @@ fn nodes_soft(lab: &Lab, wiring: &Wiring, mapping: &Mapping) -> u64
     total
 }
 
-fn is_member(class: u16, asks: &Asks) -> bool
+/// Whether a virtual node that asks so is a member of a class.
+pub fn is_member(class: u16, asks: &Asks) -> bool
     ensures { result ≡ is_member class asks.now }
 {
     match asks {

@@ -17,13 +17,10 @@ use Rattle.virt_topo.specs.declared.mapping.Mapping.{Mapping}
 use Rattle.lab_model.specs.Shapes.{Place, node_at}
 use Rattle.lab_model.specs.Rules.{virt_at, class_at, no_virt, no_place, is_member}
 use Rattle.cost_rule.specs.Cost.{sum_below, different, missed, same_node, node_soft, class_soft, types_of, soft}
+use Rattle.cost_rule.proofs.Sums.{sum_same, different_cons}
 use Rattle.map_board.specs.Seated.{guests_at, asked_soft, seat_soft, placed_at}
 
 -- sums that differ in one number
-sum_same : (n : ℕ) (f g : ℕ → ℕ) → ((k : ℕ) → k < n → f k ≡ g k) → sum_below n f ≡ sum_below n g
-sum_same zero f g same = refl
-sum_same (suc n) f g same = let rest = sum_same n f g (λ k lt. same k (omega (arith, lt))) in let last = same n (omega arith) in omega (arith, rest, last)
-
 sum_at : (n v : ℕ) (f g : ℕ → ℕ) → v < n → ((k : ℕ) → k < n → k ≢ v → f k ≡ g k) → sum_below n f + g v ≡ sum_below n g + f v
 sum_at zero v f g lt same = absurd (omega (arith, lt))
 sum_at (suc n) v f g lt same = elim (cases_eq v n) [
@@ -147,13 +144,6 @@ any_counted y (x ∷ xs) = by (eqb y x) refl (any_counted y xs)
         let none : ◌≡◌ {A = ℕ} (one_if (eqb x y)) 0 = ap one_if (eqb_turned x y ∙ is) in
         let same : guests (x ∷ xs) y ≡ guests xs y = omega (arith, step, none) in
         ap (λ (b : Bool). cond (b || list_any (same_node y) xs) 0 1) is ∙ rest ∙ ap (λ (n : ℕ). one_if (eqb n 0)) (sym same)
-
-different_cons : (x : ℕ) (xs : List ℕ) → different same_node (x ∷ xs) ≡ different same_node xs + cond (list_any (same_node x) xs) 0 1
-different_cons x xs = by (list_any (same_node x) xs)
-  where
-    by : (b : Bool) → cond b (different same_node xs) (different same_node xs + 1) ≡ different same_node xs + cond b 0 1
-    by true = omega arith
-    by false = refl
 
 different_removed : (xs : List ℕ) (v d : ℕ) → v < length xs → different same_node xs ≡ different same_node (remove xs v) + one_if (eqb (guests (remove xs v) (get_or xs v d)) 0)
 different_removed [] v d lt = absurd (omega (arith, lt))

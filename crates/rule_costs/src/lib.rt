@@ -9,8 +9,15 @@ ghost use Rattle.lab_model.specs.Shapes.{IsShaped};
 ghost use Rattle.cost_rule.specs.Cost.{cost};
 ghost use Rattle.cost_rule.specs.Parts.{cost_of_parts, AreParts};
 
+mod moved;
+mod nodes;
+mod soft;
+mod step;
+mod uses;
+
 use cost_rule::{Parts, RuleNumber, parts_of};
 use phys_lab::Lab;
+pub use step::step_cost;
 use virt_topo::{Mapping, Wiring};
 
 /// What a mapping of these parts costs by the number of a rule.

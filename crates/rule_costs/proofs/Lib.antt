@@ -1,0 +1,4 @@
+pub mod CostLaws
+pub mod NodeLaws
+pub mod SoftLaws
+pub mod UseLaws

@@ -1,0 +1,103 @@
+-- Nodes in use by one mapping and by another one.
+use Rattle.std.proofs.Common.{◌≡◌, ◌≢◌, inl, inr, ℕ, ◌+◌, ◌<◌, ◌∙◌, List, [], ◌∷◌, ◌++◌, length, map, drop, get_or, Bool, true, false, cond, eqb, ◌==◌, ◌||◌, refl, sym, ap, arith}
+use Rattle.std.specs.List.{list_any}
+use Rattle.std.proofs.lemmas.Bool.{cases_eq, eq-eqb, ne_eqb}
+use Rattle.std.proofs.lemmas.List.{append-nil}
+use Rattle.std.proofs.lemmas.List.Folds.{list_any-append}
+use Rattle.phys_lab.proofs.NameLaws.{any_in_map}
+use Rattle.lab_model.specs.Shapes.{Place}
+use Rattle.lab_model.specs.Rules.{no_place}
+use Rattle.cost_rule.specs.Cost.{different, same_node}
+use Rattle.cost_rule.proofs.KindSteps.{next_of}
+use Rattle.cost_rule.proofs.Sums.{different_cons}
+use Rattle.rule_costs.specs.Nodes.{nodes_of, beyond}
+
+-- those of two lists are those of the second, and those beyond it
+both : (xs ys : List ℕ) → different same_node (xs ++ ys) ≡ beyond xs ys + different same_node ys
+both [] ys = omega arith
+both (x ∷ xs) ys = by (list_any (same_node x) (xs ++ ys)) (both xs ys)
+  where
+    by : (b : Bool) → different same_node (xs ++ ys) ≡ beyond xs ys + different same_node ys
+        → cond b (different same_node (xs ++ ys)) (different same_node (xs ++ ys) + 1) ≡ cond b (beyond xs ys) (beyond xs ys + 1) + different same_node ys
+    by true rest = rest
+    by false rest = omega (arith, rest)
+
+or_swapped : (a b c : Bool) → (a || (b || c)) ≡ (b || (a || c))
+or_swapped true true c = refl
+or_swapped true false c = refl
+or_swapped false true c = refl
+or_swapped false false c = refl
+
+or_turned : (a b : Bool) → (a || b) ≡ (b || a)
+or_turned true true = refl
+or_turned true false = refl
+or_turned false true = refl
+or_turned false false = refl
+
+any_within : (xs ys : List ℕ) (x y : ℕ) → list_any (same_node x) (xs ++ y ∷ ys) ≡ (eqb x y || list_any (same_node x) (xs ++ ys))
+any_within [] ys x y = refl
+any_within (z ∷ xs) ys x y = ap (λ (b : Bool). eqb x z || b) (any_within xs ys x y) ∙ or_swapped (eqb x z) (eqb x y) (list_any (same_node x) (xs ++ ys))
+
+any_turned : (xs ys : List ℕ) (x : ℕ) → list_any (same_node x) (xs ++ ys) ≡ list_any (same_node x) (ys ++ xs)
+any_turned xs ys x =
+    list_any-append (same_node x) xs ys ∙ or_turned (list_any (same_node x) xs) (list_any (same_node x) ys) ∙ sym (list_any-append (same_node x) ys xs)
+
+-- those of places, split
+pub any_split : (n : ℕ) (later others : List Place) → list_any (same_node n) (nodes_of later ++ nodes_of others) ≡ (list_any (λ p. n == p.0.0) later || list_any (λ p. n == p.0.0) others)
+any_split n later others =
+    list_any-append (same_node n) (nodes_of later) (nodes_of others)
+    ∙ (λ j. any_in_map (same_node n) (λ (p : Place). p.0.0) later j || any_in_map (same_node n) (λ (p : Place). p.0.0) others j)
+
+pub or_true : (a : Bool) → (a || true) ≡ true
+or_true a = or_turned a true
+
+pub or_false : (a : Bool) → (a || false) ≡ a
+or_false a = or_turned a false
+
+abbrev new_if : Bool → ℕ
+new_if b = cond b 0 1
+
+-- one in the middle counts as one in front
+within : (xs ys : List ℕ) (y : ℕ) → different same_node (xs ++ y ∷ ys) ≡ different same_node (xs ++ ys) + new_if (list_any (same_node y) (xs ++ ys))
+within [] ys y = different_cons y ys
+within (x ∷ xs) ys y =
+    let zs = xs ++ ys in
+    let later = within xs ys y in
+    let whole = different_cons x (xs ++ y ∷ ys) in
+    let part = different_cons x zs in
+    let any : ◌≡◌ {A = ℕ} (new_if (list_any (same_node x) (xs ++ y ∷ ys))) (new_if (eqb x y || list_any (same_node x) zs)) = ap new_if (any_within xs ys x y) in
+    elim (cases_eq x y) [
+      | inl is ↦ (
+          let here : ◌≡◌ {A = ℕ} (new_if (eqb x y || list_any (same_node x) zs)) 0 = ap (λ (b : Bool). new_if (b || list_any (same_node x) zs)) (eq-eqb x y is) in
+          let there : ◌≡◌ {A = ℕ} (new_if (eqb y x || list_any (same_node y) zs)) 0 = ap (λ (b : Bool). new_if (b || list_any (same_node y) zs)) (eq-eqb y x (sym is)) in
+          let same : ◌≡◌ {A = ℕ} (new_if (list_any (same_node x) zs)) (new_if (list_any (same_node y) zs)) = ap (λ (n : ℕ). new_if (list_any (same_node n) zs)) is in
+          omega (arith, later, whole, part, any, here, there, same))
+      | inr apart ↦ (
+          let here : ◌≡◌ {A = ℕ} (new_if (eqb x y || list_any (same_node x) zs)) (new_if (list_any (same_node x) zs)) = ap (λ (b : Bool). new_if (b || list_any (same_node x) zs)) (ne_eqb x y apart) in
+          let there : ◌≡◌ {A = ℕ} (new_if (eqb y x || list_any (same_node y) zs)) (new_if (list_any (same_node y) zs)) = ap (λ (b : Bool). new_if (b || list_any (same_node y) zs)) (ne_eqb y x (λ e. apart (sym e))) in
+          omega (arith, later, whole, part, any, here, there))
+    ]
+
+turned : (xs ys : List ℕ) → different same_node (xs ++ ys) ≡ different same_node (ys ++ xs)
+turned [] ys = ap (different same_node) (sym (append-nil ys))
+turned (x ∷ xs) ys =
+    let rest = turned xs ys in
+    let front = different_cons x (xs ++ ys) in
+    let middle = within ys xs x in
+    let any : ◌≡◌ {A = ℕ} (new_if (list_any (same_node x) (xs ++ ys))) (new_if (list_any (same_node x) (ys ++ xs))) = ap new_if (any_turned xs ys x) in
+    omega (arith, rest, front, middle, any)
+
+-- WHAT EACH HAS BEYOND THE OTHER MAKES THE DIFFERENCE
+pub nodes_differ : (xs ys : List ℕ) → different same_node ys + beyond xs ys ≡ different same_node xs + beyond ys xs
+nodes_differ xs ys = omega (arith, both xs ys, both ys xs, turned xs ys)
+
+pub beyond_step : (places others : List Place) (v : ℕ) → v < length places
+    → beyond (nodes_of (drop v places)) (nodes_of others)
+    ≡ new_if (list_any (same_node (get_or places v no_place).0.0) (nodes_of (drop (v + 1) places) ++ nodes_of others)) + beyond (nodes_of (drop (v + 1) places)) (nodes_of others)
+beyond_step places others v lt =
+    ap (λ (l : List Place). beyond (nodes_of l) (nodes_of others)) (next_of places v no_place lt)
+    ∙ by (list_any (same_node (get_or places v no_place).0.0) (nodes_of (drop (v + 1) places) ++ nodes_of others)) (beyond (nodes_of (drop (v + 1) places)) (nodes_of others))
+  where
+    by : (b : Bool) (n : ℕ) → cond b n (n + 1) ≡ new_if b + n
+    by true n = omega arith
+    by false n = omega arith
