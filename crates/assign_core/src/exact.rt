@@ -5,8 +5,9 @@ ghost use Rattle.virt_topo.specs.declared.mapping.Mapping.{Mapping as MappingVal
 ghost use Rattle.virt_topo.specs.Soundness.{IsSound};
 ghost use Rattle.lab_model.specs.Shapes.{IsFreeOf};
 ghost use Rattle.map_board.specs.Chosen.{IsChosen};
-ghost use Rattle.map_anneal.specs.Sought.{sought, choices, mapped, IsNodeMap};
-ghost use Rattle.map_anneal.specs.Searches.{sought_of, IsMoves};
+ghost use Rattle.map_board.specs.Boards.{IsLaid};
+ghost use Rattle.map_anneal.specs.Sought.{sought, choices, mapped, price, IsNodeMap};
+ghost use Rattle.map_anneal.specs.Searches.{sought_of, IsMoves, IsPriced};
 ghost use Rattle.assign_core.specs.Bests.{IsBest, is_below};
 ghost use Rattle.assign_core.specs.Exact.{all_choices, count, node_maps, IsCheapestOf};
 
@@ -14,7 +15,7 @@ use crate::begin::first_choice;
 use cost_rule::StepRule;
 use lab_base::Memory;
 use map_anneal::{Moves, Prepared, Priced};
-use map_board::Chosen;
+use map_board::{Board, Chosen};
 use phys_lab::{Free, Lab};
 use std::alloc::Global;
 use virt_topo::{Mapping, Wiring};
@@ -29,6 +30,21 @@ fn is_below(cost: u64, best: &Option<Priced>) -> bool
     }
 }
 
+/// The cost of a map that is taken: the rule's step from the best one so far answers it, and the rule that of the first one.
+fn taken_cost(moves: &Moves, rule: &StepRule, board: &Board, best: &Option<Priced>) -> u64
+    requires moves { IsMoves moves.now }
+    requires laid { IsLaid moves.now.setting board.now }
+    requires best { IfSome best.now (IsPriced (sought_of moves.now rule.now.number)) }
+    ensures { result ≡ price (sought_of moves.now rule.now.number) board.now.mapping }
+{
+    let mapper = moves.setting.mapper;
+    let next = &board.mapping;
+    match best {
+        Some(kept) => rule.ask_step(mapper.lab, mapper.wiring, &kept.mapping, next, kept.cost),
+        None => rule.ask(mapper.lab, mapper.wiring, next),
+    }
+}
+
 /// The best map after the one that is chosen, if it is one.
 fn weigh(
     alloc: Global,
@@ -39,17 +55,19 @@ fn weigh(
 ) -> Result<Option<Priced>, Memory>
     requires moves { IsMoves moves.now }
     requires chosen { IsChosen moves.now.setting chosen.old }
+    requires priced { IfSome best (IsPriced (sought_of moves.now rule.now.number)) }
     ensures chosen { OnOk result (IsChosen moves.now.setting chosen.new) }
     ensures places { OnOk result (chosen.new.board.mapping.places ≡ chosen.old.board.mapping.places) }
+    ensures priced { IfOk result (λ after. IfSome after (IsPriced (sought_of moves.now rule.now.number))) }
     ensures best { IfOk result (λ after. (maps : List MappingValue) → IsBest (sought_of moves.now rule.now.number) maps best → IsBest (sought_of moves.now rule.now.number) (maps ++ cons_option (mapped (sought_of moves.now rule.now.number) chosen.old.board.mapping.places) []) after) }
 {
     if !chosen.is_map(alloc, &moves.setting)? {
         return Ok(best);
     }
-    let cost = moves.cost(rule, &chosen.board);
-    if !is_below(cost, &best) {
+    if !is_below(moves.cost(rule, &chosen.board), &best) {
         return Ok(best);
     }
+    let cost = taken_cost(moves, rule, &chosen.board, &best);
     let mapping = chosen.board.mapping.copy(alloc)?;
     Ok(Some(Priced { mapping, cost }))
 }
@@ -66,8 +84,10 @@ fn explore(
     requires moves { IsMoves moves.now }
     requires chosen { IsChosen moves.now.setting chosen.old }
     requires begun { begun ≤ length (choices (sought_of moves.now rule.now.number)) }
+    requires priced { IfSome best (IsPriced (sought_of moves.now rule.now.number)) }
     ensures chosen { OnOk result (IsChosen moves.now.setting chosen.new) }
     ensures places { OnOk result (take begun chosen.new.board.mapping.places ≡ take begun chosen.old.board.mapping.places) }
+    ensures priced { IfOk result (λ after. IfSome after (IsPriced (sought_of moves.now rule.now.number))) }
     ensures best { IfOk result (λ after. (maps : List MappingValue) → IsBest (sought_of moves.now rule.now.number) maps best → IsBest (sought_of moves.now rule.now.number) (maps ++ filter_map (λ p. mapped (sought_of moves.now rule.now.number) p) (all_choices (take begun chosen.old.board.mapping.places ∷ []) (drop begun (choices (sought_of moves.now rule.now.number))))) after) }
 {
     if begun == moves.candidates.len() {

@@ -186,11 +186,15 @@ pub fn descend_by(
     ensures cheaper { IfOk result (λ m. price (sought_of moves.now rule.now.number) m ≤ price (sought_of moves.now rule.now.number) start.now) }
 {
     let mut at = moves.started(alloc, rule, start)?;
+    let mut lowest = at.priced(alloc)?;
     let mut better = true;
     while better {
         better = cheaper_neighbour(alloc, moves, rule, &mut at)?;
+        if better {
+            lowest = at.taken(alloc, moves, rule, &lowest)?;
+        }
     }
-    Ok(at.board.mapping)
+    Ok(lowest.mapping)
 }
 
 /// A locally best map that costs at most the start.

@@ -1,7 +1,9 @@
 ghost use Rattle.std.specs.Prelude.{◌≡◌, IfOk};
-ghost use Rattle.map_anneal.specs.Searches.{priced_by};
+ghost use Rattle.map_anneal.specs.Searches.{sought_of, priced_by, IsMoves, IsPriced, IsTried};
 
+use crate::moves::Moves;
 use crate::search::Priced;
+use cost_rule::StepRule;
 use lab_base::Memory;
 use map_board::Board;
 use std::alloc::Global;
@@ -22,5 +24,30 @@ impl Tried {
             mapping: self.board.mapping.copy(alloc)?,
             cost: self.cost,
         })
+    }
+
+    /// The mapping, taken behind another one: the rule's step from that one answers its cost.
+    pub fn taken(
+        &self,
+        alloc: Global,
+        moves: &Moves,
+        rule: &StepRule,
+        last: &Priced,
+    ) -> Result<Priced, Memory>
+        requires moves { IsMoves moves.now }
+        requires tried { IsTried moves.now rule.now.number self.now }
+        requires last { IsPriced (sought_of moves.now rule.now.number) last.now }
+        ensures { IfOk result (λ priced. priced ≡ priced_by self.now) }
+    {
+        let mapper = moves.setting.mapper;
+        let mapping = self.board.mapping.copy(alloc)?;
+        let cost = rule.ask_step(
+            mapper.lab,
+            mapper.wiring,
+            &last.mapping,
+            &mapping,
+            last.cost,
+        );
+        Ok(Priced { mapping, cost })
     }
 }

@@ -4,7 +4,7 @@ ghost use Rattle.node_maps.specs.Least.{IsFirstLeast};
 ghost use Rattle.virt_topo.specs.Soundness.{IsSound};
 ghost use Rattle.lab_model.specs.Shapes.{IsFreeOf};
 ghost use Rattle.map_anneal.specs.Sought.{sought, choices, price, IsNodeMap};
-ghost use Rattle.map_anneal.specs.Searches.{sought_of, priced_by, IsMoves};
+ghost use Rattle.map_anneal.specs.Searches.{sought_of, priced_by, IsMoves, IsPriced, IsTried};
 ghost use Rattle.map_anneal.specs.Walk.{drawn, one_try, round, cooled, walk as walk_of, Walker};
 
 use crate::moves::Moves;
@@ -59,12 +59,22 @@ fn cooler(heat: u64) -> u64
     (u128::from(heat) * 9 / 10) as u64
 }
 
-/// Puts the next map in the place of the best one where it is cheaper.
-fn keep_cheaper(alloc: Global, best: &mut Priced, next: &Tried) -> Result<(), Memory>
+/// Takes the next map in the place of the best one where it is cheaper.
+fn keep_cheaper(
+    alloc: Global,
+    moves: &Moves,
+    rule: &StepRule,
+    best: &mut Priced,
+    next: &Tried,
+) -> Result<(), Memory>
+    requires moves { IsMoves moves.now }
+    requires best { IsPriced (sought_of moves.now rule.now.number) best.old }
+    requires next { IsTried moves.now rule.now.number next.now }
     ensures { OnOk result (best.new ≡ (if nat_lt next.now.cost best.old.cost then priced_by next.now else best.old)) }
 {
     if next.cost < best.cost {
-        *best = next.priced(alloc)?;
+        let taken = next.taken(alloc, moves, rule, best)?;
+        *best = taken;
     }
     Ok(())
 }
@@ -103,7 +113,7 @@ impl Walk {
         {
             return Ok(());
         }
-        keep_cheaper(alloc, &mut self.best, &self.last)?;
+        keep_cheaper(alloc, moves, rule, &mut self.best, &self.last)?;
         Ok(())
     }
 

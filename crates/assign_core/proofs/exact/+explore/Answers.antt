@@ -28,6 +28,7 @@ loop-place-init g t c =
     record {
       chosen = c.requires.chosen;
       begun = refl;
+      priced = c.requires.priced;
       best = λ maps h.
           let same : maps ++ found s [] rest ≡ maps = ap (λ xs. maps ++ xs) (found_none s rest) ∙ append-nil maps in
           subst (λ xs. IsBest s xs c.args.best) (sym same) h;
@@ -50,7 +51,7 @@ put-requires-clause-among g t c =
 pub explore-requires : goal.explore-requires
 explore-requires g t c = (
   omega (arith, c.decreases, c.requires.begun, c.if-begun-len.false, c.len.ensures, ap length c.requires.moves.listed),
-  (c.requires.moves, (c.put.ensures.chosen, omega (arith, c.requires.begun, c.if-begun-len.false, c.len.ensures, ap length c.requires.moves.listed))),
+  (c.requires.moves, (c.put.ensures.chosen, (omega (arith, c.requires.begun, c.if-begun-len.false, c.len.ensures, ap length c.requires.moves.listed), c.loop-place.invariant.priced))),
 )
 
 pub loop-place-preserved : goal.loop-place-preserved
@@ -72,6 +73,7 @@ loop-place-preserved g t c =
     ap (take (n + 1)) c.put.ensures.places ∙ take_more_set before n x lt ∙ ap (λ xs. xs ++ x ∷ []) known.begun in
     record {
       chosen = c.in_ok-kept.ensures.chosen;
+      priced = c.in_ok-kept.ensures.priced;
       begun = begun_alike n last put c.in_ok-kept.ensures.places ∙ ap (take n) c.put.ensures.places ∙ take-set before n x ∙ known.begun;
       best = λ maps h.
           let so_far = maps ++ found s (with_each (take n start) (take k items)) rest in

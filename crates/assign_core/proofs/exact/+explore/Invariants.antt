@@ -1,8 +1,8 @@
-use Rattle.std.proofs.Common.{◌≡◌, ◌-◌, ◌+◌, ◌++◌, length, take, drop, List}
+use Rattle.std.proofs.Common.{◌≡◌, ◌-◌, ◌+◌, ◌++◌, length, take, drop, List, IfSome}
 use Rattle.virt_topo.specs.declared.mapping.Mapping.{Mapping}
 use Rattle.map_board.specs.Chosen.{IsChosen}
 use Rattle.map_anneal.specs.Sought.{choices}
-use Rattle.map_anneal.specs.Searches.{sought_of}
+use Rattle.map_anneal.specs.Searches.{sought_of, IsPriced}
 use Rattle.assign_core.specs.Bests.{IsBest}
 use Rattle.assign_core.proofs.Choosing.{found, with_each}
 use Rattle.assign_core.proofs.exact.+explore.Given as goal
@@ -14,6 +14,7 @@ abbrev pub invariant-loop-place : goal.invariant-loop-place
 invariant-loop-place g l = record {
   chosen : IsChosen l.moves.setting l.chosen;
   begun : take l.begun l.chosen.board.mapping.places ≡ take l.begun l.initial.chosen.board.mapping.places;
+  priced : IfSome l.kept (λ p. IsPriced (sought_of l.moves l.rule.number) p);
   best : (maps : List Mapping) → IsBest (sought_of l.moves l.rule.number) maps l.initial.kept
       → IsBest (sought_of l.moves l.rule.number)
       (maps ++ found (sought_of l.moves l.rule.number) (with_each (take l.begun l.initial.chosen.board.mapping.places) (take l.place-index l.place-items)) (drop (l.begun + 1) (choices (sought_of l.moves l.rule.number))))

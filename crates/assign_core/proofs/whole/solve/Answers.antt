@@ -4,10 +4,11 @@ use Rattle.virt_topo.specs.declared.mapping.Mapping.{Mapping}
 use Rattle.node_maps.specs.Least.{IsFirstLeast}
 use Rattle.node_maps.specs.NodeMaps.{candidates, IsChoice}
 use Rattle.map_anneal.specs.Searches.{sought_of}
-use Rattle.assign_core.proofs.Found.{map_feasible, map_shaped}
+use Rattle.assign_core.proofs.Found.{map_feasible}
 use Rattle.map_anneal.specs.Sought.{Sought, sought, choices, price, IsNodeMap, LocallyBest}
 use Rattle.map_anneal.specs.Walk.{walk}
 use Rattle.map_anneal.proofs.PreparedLaws.{same_sought}
+use Rattle.map_anneal.proofs.Prices.{map_shaped}
 use Rattle.assign_core.specs.Exact.{count}
 use Rattle.assign_core.proofs.Firsts.{first_fit_mapped}
 use Rattle.assign_core.proofs.whole.solve.Goals as goal

@@ -1,14 +1,12 @@
 use Rattle.std.proofs.Common.{sym, ap, ◌∙◌}
-use Rattle.node_maps.proofs.MapLaws.{choice_within, mapped_shaped}
 use Rattle.map_anneal.specs.Sought.{price}
 use Rattle.map_anneal.specs.Searches.{sought_of}
+use Rattle.map_anneal.proofs.Prices.{map_shaped}
 use Rattle.map_anneal.proofs.moves.Moves.started.Goals as goal
 
 pub ask-cost-requires-clause-shaped : goal.ask-cost-requires-clause-shaped
 ask-cost-requires-clause-shaped g c =
-    let x = c.args.self.now.setting.mapper in
-    let is = choice_within x.lab.now x.free.now x.wiring.now c.args.start.now.places c.requires.start.choice in
-    mapped_shaped x.lab.now x.free.now x.wiring.now c.args.start.now.places c.args.start.now c.requires.moves.setting.mapper.sound is.placed is.are c.requires.start.feasible
+    map_shaped (sought_of c.args.self.now c.args.rule.now.number) c.args.start.now c.requires.moves.setting.mapper.sound c.requires.start
 
 pub returns-clause-tried : goal.returns-clause-tried
 returns-clause-tried g c = record {
