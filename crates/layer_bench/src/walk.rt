@@ -10,7 +10,7 @@ use assign_core::{Solved, first_fit, solve};
 use cost_rule::{CostFn, Parts, PartsFn, Rule, RuleNumber, StepFn, StepRule};
 use map_anneal::anneal;
 use phys_lab::{Free, Lab};
-use rule_costs::{cost_of, parts_cost};
+use rule_costs::{cost_of, parts_cost, step_cost};
 use virt_topo::{Mapping, Wiring};
 
 /// The seed of the walk.
@@ -94,10 +94,10 @@ pub fn search(rt: &HostRuntime, whole: bool, ptop: &[u8], top: &[u8]) -> anyhow:
         requires { IsSound wiring.now × IsShaped lab.now wiring.now mapping.now }
         ensures { result ≡ cost number lab.now wiring.now mapping.now }
     { cost_of(number, lab, wiring, mapping) };
-    let by_step = move |lab: &Lab, wiring: &Wiring, _from: &Mapping, to: &Mapping, _cost: u64| -> u64
-        requires { IsSound wiring.now × IsShaped lab.now wiring.now to.now }
+    let by_step = move |lab: &Lab, wiring: &Wiring, from: &Mapping, to: &Mapping, told: u64| -> u64
+        requires { IsSound wiring.now × IsShaped lab.now wiring.now from.now × IsShaped lab.now wiring.now to.now × (told ≡ cost number lab.now wiring.now from.now) }
         ensures { result ≡ cost number lab.now wiring.now to.now }
-    { cost_of(number, lab, wiring, to) };
+    { step_cost(number, lab, wiring, from, to, told) };
     let by_parts = move |parts: Parts| -> u64
         requires { AreParts parts }
         ensures { result ≡ cost_of_parts number parts }

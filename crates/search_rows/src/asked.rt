@@ -11,7 +11,7 @@ use cost_rule::{CostFn, Parts, PartsFn, Rule, RuleNumber, StepFn, StepRule};
 use lab_base::Memory;
 use map_anneal::{anneal, descend};
 use phys_lab::{Free, Lab};
-use rule_costs::{cost_of, parts_cost};
+use rule_costs::{cost_of, parts_cost, step_cost};
 use std::alloc::Global;
 use std::cell::Cell;
 use std::rc::Rc;
@@ -63,13 +63,15 @@ enum Call {
 }
 
 /// What a call found: the word of its answer, its cost where it tells it, the node of each virtual node, and how often
-/// the rule was asked.
+/// the rule was asked for a mapping alone, by a step and by parts.
 #[derive(Drop)]
 struct Found {
     word: &'static str,
     cost: u64,
     nodes: Vec<u16>,
     asked: u32,
+    steps: u32,
+    parts: u32,
 }
 
 fn nodes_of(alloc: Global, mapping: &Mapping) -> Result<Vec<u16>, Fail> {
@@ -95,6 +97,8 @@ fn told(
         cost,
         nodes,
         asked: 0,
+        steps: 0,
+        parts: 0,
     })
 }
 
@@ -135,36 +139,43 @@ fn called(
     }
 }
 
-/// A call under cost rule `trunk`, by a closure that notes how often it is asked.
+/// Notes one more call.
+fn note(calls: &Cell<u32>) {
+    calls.set(calls.get().saturating_add(1));
+}
+
+/// A call under cost rule `trunk`, by closures that note how often they are asked.
 fn asked(alloc: Global, lab: &Lab, wiring: &Wiring, call: Call) -> Result<Found, Fail> {
     let free = free_of(alloc, lab)?;
     if wiring.check().is_err() || !is_free_of(lab, &free) {
         return Err(Fail::from("a sound wiring"));
     }
-    let calls = Rc::new(alloc, Cell::new(0u32))?;
-    let noted = Rc::clone(&calls)?;
+    let asked = Rc::new(alloc, Cell::new(0u32))?;
+    let steps = Rc::new(alloc, Cell::new(0u32))?;
+    let parts_asked = Rc::new(alloc, Cell::new(0u32))?;
     let number = RuleNumber::Trunk;
+    let noted = Rc::clone(&asked)?;
     let by_number = move |lab: &Lab, wiring: &Wiring, mapping: &Mapping| -> u64
         requires { IsSound wiring.now × IsShaped lab.now wiring.now mapping.now }
         ensures { result ≡ cost number lab.now wiring.now mapping.now }
     {
-        noted.set(noted.get().saturating_add(1));
+        note(&noted);
         cost_of(number, lab, wiring, mapping)
     };
-    let stepped = Rc::clone(&calls)?;
-    let by_step = move |lab: &Lab, wiring: &Wiring, _from: &Mapping, to: &Mapping, _cost: u64| -> u64
-        requires { IsSound wiring.now × IsShaped lab.now wiring.now to.now }
+    let stepped = Rc::clone(&steps)?;
+    let by_step = move |lab: &Lab, wiring: &Wiring, from: &Mapping, to: &Mapping, told: u64| -> u64
+        requires { IsSound wiring.now × IsShaped lab.now wiring.now from.now × IsShaped lab.now wiring.now to.now × (told ≡ cost number lab.now wiring.now from.now) }
         ensures { result ≡ cost number lab.now wiring.now to.now }
     {
-        stepped.set(stepped.get().saturating_add(1));
-        cost_of(number, lab, wiring, to)
+        note(&stepped);
+        step_cost(number, lab, wiring, from, to, told)
     };
-    let parted = Rc::clone(&calls)?;
+    let parted = Rc::clone(&parts_asked)?;
     let by_parts = move |parts: Parts| -> u64
         requires { AreParts parts }
         ensures { result ≡ cost_of_parts number parts }
     {
-        parted.set(parted.get().saturating_add(1));
+        note(&parted);
         parts_cost(number, parts)
     };
     let boxed: CostFn = Box::new(alloc, by_number)?;
@@ -172,7 +183,9 @@ fn asked(alloc: Global, lab: &Lab, wiring: &Wiring, call: Call) -> Result<Found,
     let by_parts: PartsFn = Box::new(alloc, by_parts)?;
     let rule = StepRule::new(Rule::new(number, boxed), step, by_parts);
     let mut found = called(alloc, lab, &free, wiring, &rule, call)?;
-    found.asked = calls.get();
+    found.asked = asked.get();
+    found.steps = steps.get();
+    found.parts = parts_asked.get();
     Ok(found)
 }
 
@@ -188,7 +201,7 @@ const SIX: [(&[u8], &[u8]); 6] = [
 ];
 
 #[test]
-fn few_candidates_are_all_asked_for(rt: HostRuntime) -> Result<(), Fail> {
+fn few_candidates_are_all_tried(rt: HostRuntime) -> Result<(), Fail> {
     let alloc = rt.alloc();
     let lab = lab_of(alloc, &PAIR, 100_000, 100_000)?;
     let fast = asked(
@@ -197,15 +210,16 @@ fn few_candidates_are_all_asked_for(rt: HostRuntime) -> Result<(), Fail> {
         &wiring_of(alloc, &TWO, 200_000, 2)?,
         Call::Solve(0),
     )?;
-    assert_eq!(rt; fast.word, "none");
-    assert_eq!(rt; fast.asked, 0);
+    assert_eq!(rt; (fast.word, fast.asked, fast.steps, fast.parts), ("none", 0, 0, 0));
     let slow = asked(
         alloc,
         &lab,
         &wiring_of(alloc, &TWO, 100_000, 2)?,
         Call::Solve(0),
     )?;
-    assert_eq!(rt; (slow.word, slow.cost, slow.asked), ("least", 0, 2));
+    assert_eq!(rt; (slow.word, slow.cost), ("least", 0));
+    // of the two maps the first is taken, and the second isn't cheaper
+    assert_eq!(rt; (slow.asked, slow.steps, slow.parts), (1, 0, 2));
     assert_eq!(rt; slow.nodes.as_slice(), [0u16, 1].as_slice());
     Ok(())
 }
@@ -218,6 +232,8 @@ fn a_lan_of_three_on_two_switches(rt: HostRuntime) -> Result<(), Fail> {
     let lan = asked(alloc, &lab, &wiring, Call::Solve(7))?;
     assert_eq!(rt; (lan.word, lan.cost), ("least", 100_000));
     assert_eq!(rt; lan.nodes.as_slice(), [0u16, 1, 2].as_slice());
+    // four machines for three are 24 maps, and each has one end beyond the trunk
+    assert_eq!(rt; (lan.asked, lan.steps, lan.parts), (1, 0, 24));
     Ok(())
 }
 
@@ -228,19 +244,52 @@ fn the_walk_leaves_what_the_descent_keeps(rt: HostRuntime) -> Result<(), Fail> {
     let wiring = wiring_of(alloc, &SIX, 150, 2)?;
     let stays = asked(alloc, &lab, &wiring, Call::Descend)?;
     assert_eq!(rt; stays.nodes.as_slice(), [0u16, 1, 2, 3, 4, 5].as_slice());
-    // its start, seven feasible moves of each of six virtual nodes, and fifteen exchanges
-    assert_eq!(rt; stays.asked, 58);
-    assert!(rt; asked(alloc, &lab, &wiring, Call::Walk(0))?.asked > 1);
+    // its start is taken alone; tried are seven feasible moves of each of six virtual nodes, and fifteen exchanges
+    assert_eq!(rt; (stays.asked, stays.steps, stays.parts), (1, 0, 57));
     let mut free_ones = 0u32;
     for seed in 0..16u64 {
         let local = asked(alloc, &lab, &wiring, Call::Solve(seed))?;
         assert_eq!(rt; local.word, "local");
+        // the start of the walk and that of the descent are taken alone, and the answer's cost is told
+        assert_eq!(rt; local.asked, 3);
         assert!(rt; local.cost == 0 || local.cost == 200);
         if local.cost == 0 {
             free_ones = free_ones.saturating_add(1);
         }
     }
     assert!(rt; free_ones > 0);
+    Ok(())
+}
+
+#[test]
+fn a_descent_of_two_steps(rt: HostRuntime) -> Result<(), Fail> {
+    let alloc = rt.alloc();
+    let lab = lab_of(alloc, &OLD_AND_NEW, 1_000, 1_000)?;
+    let wiring = wiring_of(alloc, &SIX, 50, 2)?;
+    let lowest = asked(alloc, &lab, &wiring, Call::Descend)?;
+    // a goes to q5, since 50 over the trunk is less than its feature, and then b to q6
+    assert_eq!(rt; lowest.nodes.as_slice(), [6u16, 7, 2, 3, 4, 5].as_slice());
+    // tried are two maps before the first step, of which the one that is taken is asked for twice; eight and such a one before the
+    // second; then seven moves of each of six, and fifteen exchanges
+    assert_eq!(rt; (lowest.asked, lowest.steps, lowest.parts), (1, 2, 71));
+    Ok(())
+}
+
+#[test]
+fn a_walk_of_one_step(rt: HostRuntime) -> Result<(), Fail> {
+    let alloc = rt.alloc();
+    let lab = lab_of(alloc, &OLD_AND_NEW, 1_000, 1_000)?;
+    let wiring = wiring_of(alloc, &TWO, 150, 2)?;
+    let mut steps = 0u32;
+    for seed in 0..16u64 {
+        let walk = asked(alloc, &lab, &wiring, Call::Walk(seed))?;
+        // on p1 and p2 both cost 200, and one beside a new machine 250; two new machines cost nothing
+        let is_free = walk.nodes.iter().all(|node| *node > 1);
+        assert_eq!(rt; (walk.asked, walk.steps), (1, u32::from(is_free)));
+        assert!(rt; walk.parts > walk.steps);
+        steps = steps.saturating_add(walk.steps);
+    }
+    assert!(rt; steps > 0);
     Ok(())
 }
 
@@ -260,5 +309,7 @@ fn two_fixed_places(rt: HostRuntime) -> Result<(), Fail> {
     assert_eq!(rt; (least.word, least.cost), ("least", 250));
     // p2 would cost its feature, so the others are on q2 to q5
     assert_eq!(rt; least.nodes.as_slice(), [2u16, 0, 3, 4, 5, 6].as_slice());
+    // ten machines for four are 5,040 maps; the first has c on p2, and the first without p2 is a step
+    assert_eq!(rt; (least.asked, least.steps, least.parts), (1, 1, 5_040));
     Ok(())
 }
