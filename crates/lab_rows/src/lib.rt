@@ -8,6 +8,8 @@ mod claimed;
 #[cfg(test)]
 mod labs;
 #[cfg(test)]
+mod lefts;
+#[cfg(test)]
 mod packs;
 #[cfg(test)]
 mod plans;

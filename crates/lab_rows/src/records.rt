@@ -13,7 +13,7 @@ const LAB: &[u8] =
     link l3 pc3:eth0 s1:3 100000\nlink l4 pc4:eth0 s1:4 100000\n";
 
 /// Two virtual nodes with a link, and its places on two pairs of nodes.
-const TOP: &[u8] = b"node a pc linux\nnode b pc linux\nlink ab ab 100000 a b\n";
+pub(crate) const TOP: &[u8] = b"node a pc linux\nnode b pc linux\nlink ab ab 100000 a b\n";
 
 const FIRST: &[u8] = b"node a pc1 pc\nnode b pc2 pc\nplug a:0 pc1:eth0\nplug b:0 pc2:eth0\n";
 
