@@ -1,9 +1,5 @@
-//! Rows of labs that are kept in folders, over real files.
-//!
-//! They stand apart, since a crate with tests is proved twice.
+//! Calls of the plant in files, over real ones.
 #![tactic(auto)]
 
 #[cfg(test)]
 mod calls;
-#[cfg(test)]
-mod runs;

@@ -1,0 +1,32 @@
+//! Where a run may lead: what is told at its end, and what the devices hold then.
+use crate::devices::held;
+use crate::run::{plainly, run_blank};
+use anyhow::bail;
+use lab_top::Status;
+use std::alloc::Global;
+use std::fs;
+
+/// What a run wrote, and behind that what the devices hold. It reads its script to the end.
+pub fn left_by(alloc: Global, script: &str) -> anyhow::Result<String> {
+    let (ran, plant) = run_blank(alloc, plainly(script))?;
+    if ran.status != Status::Done {
+        bail!("a run ends with code {}", ran.status.code());
+    }
+    let mut left = ran.output;
+    left.push_str(held(alloc, &plant)?.as_str())?;
+    Ok(left)
+}
+
+/// The ends of these names.
+pub fn ends_of(rt: &HostRuntime, names: &[&str]) -> anyhow::Result<Vec<String>> {
+    let mut ends = Vec::new(rt.alloc());
+    for name in names {
+        ends.push(fs::read_to_string(rt, format!(in rt.alloc(); "{name}.end")?)?)?;
+    }
+    Ok(ends)
+}
+
+/// Whether it is at one of the ends.
+pub fn is_at_one(left: &str, ends: &[String]) -> bool {
+    ends.iter().any(|end| left.ends_with(end.as_str()))
+}

@@ -1,0 +1,210 @@
+//! A row is a line of words, of which the first one says what is run and what is told of it:
+//!
+//! ```text
+//! script FILE [WORDS]    the script by the words, over the folder that they choose or else a blank plant: what it writes, and how it ends
+//! steps FILE [WORDS]     the same over a blank plant, and how many steps it has then: an opening of blank sides has 8, and an append 4
+//! devices FILE           the same, with what the devices did, and what they hold then
+//! again FILE             over the plant that the row before left
+//! faulty R W ROOM FILE [WORDS]   the R-th read or the W-th write fails (0: none), and there is room for so many bytes
+//! side SIDE FILE         over a plant whose side A has the bytes of a file
+//! sides                  how long both sides are that the row before left, and what is in them where that is little
+//! place WORDS            where the words keep the lab
+//! file FILE              what is in the file
+//! remove FOLDER          nothing, and the folder is gone
+//! turns LAST FILE        the steps where the marked lines of the script stand 0, 1, .. LAST times
+//! long COUNT FILE        what is written where they stand so often
+//! numbers LAST DRILL FILE        where the drill of number 1, 2, .. LAST stands at the mark
+//! cuts NAME CALLS END..  how many numbers of each drill cut a command, each leading to one of the ends
+//! order LETTERS END [DRILL , ..]         whether swaps that are turned in that order lead to the end
+//! ```
+//!
+//! A blank plant is one in which nothing has happened. Lines are marked by a line `@` before and one behind them, and a place by one.
+use crate::cuts::cuts;
+use crate::devices::{did, held};
+use crate::drills::drill_named;
+use crate::folders::{folder_of, place, run_in};
+use crate::numbers::{long, numbers, turns};
+use crate::orders::order;
+use crate::run::{Given, Ran, ending, plainly, run, run_blank};
+use crate::sides::{plant_with, sides};
+use anyhow::{anyhow, bail};
+use plant_mem::MemLab;
+use std::alloc::Global;
+use std::fmt::Write;
+use std::fs;
+
+/// The script of a file.
+fn script_of(rt: &HostRuntime, file: &str) -> anyhow::Result<String> {
+    Ok(fs::read_to_string(rt, format!(in rt.alloc(); "{file}.lab")?)?)
+}
+
+/// Runs a script over a blank plant, and keeps that as the last one.
+fn run_kept(alloc: Global, given: Given<'_>, last: &mut Option<MemLab>) -> anyhow::Result<Ran> {
+    let (ran, plant) = run_blank(alloc, given)?;
+    *last = Some(plant);
+    Ok(ran)
+}
+
+/// Runs a script by words over the folder that they choose, or else over a blank plant.
+fn script(
+    rt: &HostRuntime,
+    file: &str,
+    words: &[&str],
+    last: &mut Option<MemLab>,
+) -> anyhow::Result<String> {
+    let script = script_of(rt, file)?;
+    let given = Given {
+        words,
+        ..plainly(script.as_str())
+    };
+    let ran = match folder_of(rt.alloc(), words)? {
+        Some(folder) => run_in(rt, folder.as_str(), given)?,
+        None => run_kept(rt.alloc(), given, last)?,
+    };
+    Ok(ending(ran)?)
+}
+
+/// Runs a script over a blank plant, and tells how many steps that has then.
+fn steps(rt: &HostRuntime, file: &str, words: &[&str]) -> anyhow::Result<String> {
+    let script = script_of(rt, file)?;
+    let given = Given {
+        words,
+        ..plainly(script.as_str())
+    };
+    let (ran, plant) = run_blank(rt.alloc(), given)?;
+    let mut out = ending(ran)?;
+    writeln!(out, "steps {}", plant.trace().len())?;
+    Ok(out)
+}
+
+/// Runs a script over a blank plant, and tells what its devices did and hold.
+fn devices(rt: &HostRuntime, file: &str) -> anyhow::Result<String> {
+    let alloc = rt.alloc();
+    let (ran, plant) = run_blank(alloc, plainly(script_of(rt, file)?.as_str()))?;
+    let mut out = ending(ran)?;
+    out.push_str(did(alloc, &plant)?.as_str())?;
+    out.push_str(held(alloc, &plant)?.as_str())?;
+    Ok(out)
+}
+
+/// Runs a script over the plant, which is the last one then.
+fn over(
+    rt: &HostRuntime,
+    file: &str,
+    mut plant: MemLab,
+    last: &mut Option<MemLab>,
+) -> anyhow::Result<String> {
+    let script = script_of(rt, file)?;
+    let ran = run(rt.alloc(), plainly(script.as_str()), &mut plant)?;
+    *last = Some(plant);
+    Ok(ending(ran)?)
+}
+
+/// Runs a script by words over a blank plant, with numbers of a read, a write and bytes.
+fn faulty(
+    rt: &HostRuntime,
+    numbers: [u32; 3],
+    file: &str,
+    words: &[&str],
+) -> anyhow::Result<String> {
+    let script = script_of(rt, file)?;
+    let [read, write, room] = numbers;
+    let given = Given {
+        words,
+        script: script.as_str(),
+        read,
+        write,
+        room: room as usize,
+    };
+    Ok(ending(run_blank(rt.alloc(), given)?.0)?)
+}
+
+/// Runs a script whose marked lines stand many times, over a plant that is the last one then.
+fn many(
+    rt: &HostRuntime,
+    file: &str,
+    count: u32,
+    last: &mut Option<MemLab>,
+) -> anyhow::Result<String> {
+    let (told, plant) = long(rt.alloc(), script_of(rt, file)?.as_str(), count)?;
+    *last = Some(plant);
+    Ok(told)
+}
+
+fn remove(rt: &HostRuntime, folder: &str) -> anyhow::Result<String> {
+    if fs::exists(rt, folder)? {
+        fs::remove_dir_all(rt, folder)?;
+    }
+    Ok(String::new(rt.alloc()))
+}
+
+/// What is told of a row over the plant that the row before left, or that keeps its own for the next one.
+fn told_of_last(
+    rt: &HostRuntime,
+    words: &[&str],
+    last: &mut Option<MemLab>,
+) -> anyhow::Result<Option<String>> {
+    match words {
+        ["script", file, words @ ..] => Ok(Some(script(rt, file, words, last)?)),
+        ["again", file] => {
+            let plant = last.take().ok_or_else(|| anyhow!("no plant is left"))?;
+            Ok(Some(over(rt, file, plant, last)?))
+        }
+        ["side", side, file] => {
+            let plant = plant_with(rt.alloc(), &fs::read(rt, *side)?)?;
+            Ok(Some(over(rt, file, plant, last)?))
+        }
+        ["sides"] => {
+            let plant = last.as_mut().ok_or_else(|| anyhow!("no plant is left"))?;
+            Ok(Some(sides(rt.alloc(), plant)?))
+        }
+        ["long", count, file] => Ok(Some(many(rt, file, count.parse()?, last)?)),
+        _ => Ok(None),
+    }
+}
+
+/// What is told of any other row.
+fn told_alone(rt: &HostRuntime, words: &[&str]) -> anyhow::Result<String> {
+    let alloc = rt.alloc();
+    match words {
+        ["steps", file, words @ ..] => steps(rt, file, words),
+        ["devices", file] => devices(rt, file),
+        ["faulty", read, write, room, file, words @ ..] => {
+            faulty(
+                rt,
+                [read.parse()?, write.parse()?, room.parse()?],
+                file,
+                words,
+            )
+        }
+        ["place", words @ ..] => place(alloc, words),
+        ["file", file] => Ok(fs::read_to_string(rt, *file)?),
+        ["remove", folder] => remove(rt, folder),
+        ["turns", last, file] => turns(alloc, script_of(rt, file)?.as_str(), last.parse()?),
+        ["numbers", last, drill, file] => {
+            numbers(
+                alloc,
+                script_of(rt, file)?.as_str(),
+                drill_named(drill)?,
+                last.parse()?,
+            )
+        }
+        ["cuts", file, calls, ends @ ..] => cuts(
+            rt,
+            script_of(rt, file)?.as_str(),
+            calls.parse()?,
+            ends,
+        ),
+        ["order", letters, end, drills @ ..] => order(rt, letters, end, drills),
+        _ => bail!("no such row"),
+    }
+}
+
+/// What is told of a row. Where it ran over a plant of its own, that is left to the next row.
+pub fn told(rt: &HostRuntime, line: &str, last: &mut Option<MemLab>) -> anyhow::Result<String> {
+    let words: Vec<&str> = line.split_whitespace().collect(rt.alloc())?;
+    match told_of_last(rt, &words, last)? {
+        Some(told) => Ok(told),
+        None => told_alone(rt, &words),
+    }
+}

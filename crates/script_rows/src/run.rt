@@ -1,0 +1,97 @@
+//! A run of the program over a plant.
+use anyhow::anyhow;
+use lab_base::Memory;
+use lab_io::{MemSink, MemSource};
+use lab_top::{Status, labctl};
+use plant::{Plant, Side};
+use plant_mem::MemLab;
+use std::alloc::{AllocError, Global};
+use std::fmt::Write;
+use std::str;
+
+/// What a run is given.
+#[derive(Clone, Copy)]
+pub struct Given<'a> {
+    /// The words of the command line.
+    pub words: &'a [&'a str],
+    pub script: &'a str,
+    /// The number of the read that fails, or 0.
+    pub read: u32,
+    /// That of the write.
+    pub write: u32,
+    /// How many bytes may be written.
+    pub room: usize,
+}
+
+/// A script without words, in which nothing fails.
+pub fn plainly(script: &str) -> Given<'_> {
+    Given {
+        words: &[],
+        script,
+        read: 0,
+        write: 0,
+        room: 65_536,
+    }
+}
+
+/// What a run wrote, and how it ended.
+#[derive(Drop)]
+pub struct Ran {
+    pub output: String,
+    pub status: Status,
+}
+
+/// Memory was wanting.
+pub fn wanting(_memory: Memory) -> anyhow::Error {
+    anyhow!("out of memory")
+}
+
+/// The words, as the program has them.
+pub fn words_of(alloc: Global, words: &[&str]) -> Result<Vec<String>, AllocError> {
+    let mut own = Vec::new(alloc);
+    for word in words {
+        own.push(String::from_str(alloc, word)?)?;
+    }
+    Ok(own)
+}
+
+/// Runs a script over a plant.
+pub fn run<P: Plant>(alloc: Global, given: Given<'_>, plant: &mut P) -> anyhow::Result<Ran> {
+    let words = words_of(alloc, given.words)?;
+    let mut source = MemSource::new(alloc, given.script.as_bytes(), &[given.read]).map_err(
+        wanting,
+    )?;
+    let mut sink = MemSink::new(alloc, given.room, &[given.write]).map_err(wanting)?;
+    let status = labctl(alloc, &words, &mut source, &mut sink, plant);
+    let output = String::from_str(alloc, str::from_utf8(sink.bytes())?)?;
+    Ok(Ran { output, status })
+}
+
+/// The same over a plant in which nothing has happened, which is given back.
+pub fn run_blank(alloc: Global, given: Given<'_>) -> anyhow::Result<(Ran, MemLab)> {
+    let mut plant = MemLab::blank(alloc).map_err(wanting)?;
+    let ran = run(alloc, given, &mut plant)?;
+    Ok((ran, plant))
+}
+
+/// Adds the code of the status, with what else it says.
+fn add_status(out: &mut String, status: Status) -> Result<(), AllocError> {
+    write!(out, "-- {}", status.code())?;
+    match status {
+        Status::BadScript { line } => write!(out, " line {line}"),
+        Status::JournalBad { side: Side::A, at } => write!(out, " A {at}"),
+        Status::JournalBad { side: Side::B, at } => write!(out, " B {at}"),
+        _ => Ok(()),
+    }
+}
+
+/// What was written, and in a line of its own how the run ended.
+pub fn ending(ran: Ran) -> Result<String, AllocError> {
+    let mut out = ran.output;
+    if !out.is_empty() && !out.ends_with('\n') {
+        out.push('\n')?;
+    }
+    add_status(&mut out, ran.status)?;
+    out.push('\n')?;
+    Ok(out)
+}

@@ -1,0 +1,52 @@
+//! The sides of the disk.
+use crate::run::wanting;
+use anyhow::anyhow;
+use plant::{Plant, Side};
+use plant_mem::MemLab;
+use std::alloc::{AllocError, Global};
+use std::fmt::Write;
+
+/// A plant whose side A has these bytes, and in which nothing else has happened.
+pub fn plant_with(alloc: Global, bytes: &[u8]) -> anyhow::Result<MemLab> {
+    let mut plant = MemLab::blank(alloc).map_err(wanting)?;
+    plant
+        .write(Side::A, 0, bytes)
+        .map_err(|_fault| anyhow!("a write failed"))?;
+    Ok(plant)
+}
+
+/// What a side reads as.
+fn read_side(alloc: Global, plant: &mut MemLab, side: Side) -> anyhow::Result<Vec<u8>> {
+    let size = plant
+        .length(side)
+        .map_err(|_fault| anyhow!("a side has no length"))?;
+    let mut bytes = vec![in alloc; 0u8; size as usize]?;
+    plant
+        .read(side, 0, &mut bytes)
+        .map_err(|_fault| anyhow!("a side can't be read"))?;
+    Ok(bytes)
+}
+
+/// Adds bytes: letters as they are, a line's end as one, and any other by two digits.
+fn add_bytes(out: &mut String, bytes: &[u8]) -> Result<(), AllocError> {
+    for byte in bytes {
+        match byte {
+            b' '..=b'~' | b'\n' => out.push(char::from(*byte))?,
+            _ => write!(out, "<{byte:02x}>")?,
+        }
+    }
+    out.push('\n')
+}
+
+/// How long both sides are, and what is in them where that is little.
+pub fn sides(alloc: Global, plant: &mut MemLab) -> anyhow::Result<String> {
+    let mut out = String::new(alloc);
+    for (name, side) in [("A", Side::A), ("B", Side::B)] {
+        let bytes = read_side(alloc, plant, side)?;
+        writeln!(out, "{name} {}", bytes.len())?;
+        if !bytes.is_empty() && bytes.len() < 200 {
+            add_bytes(&mut out, &bytes)?;
+        }
+    }
+    Ok(out)
+}
