@@ -1,5 +1,5 @@
-# Prints what a real Tcl makes of each text: a row of the text and the value that its variable `r` has at the
-# end, or `!` where Tcl refuses it. The rows are those of the table in crates/text_rows/src/table.rt:
+# Prints what a real Tcl makes of each text, as crates/text_rows/stdout has it: the text, and the value that its variable `r` has at the
+# end, or `!` where Tcl refuses it. Without their first signs the lines of texts are those of crates/text_rows/stdin:
 #
 #     tclsh tools/tcl_table.tcl
 #
@@ -133,9 +133,9 @@ set r $a$b}
     {foreach x}
 }
 
-# a text as a literal of the test
-proc literal {text} {
-    return "\"[string map {\\ \\\\ \" \\\" \n \\n \t \\t} $text]\""
+# a text as the letters of a row
+proc letters {text} {
+    return [string map {\\ \\\\ \n \\n \t \\t} $text]
 }
 
 proc value {text} {
@@ -147,14 +147,7 @@ proc value {text} {
     return $value
 }
 
-# five tables of equal size, as the test has them
-set size [expr {[llength $texts] / 5}]
-set names {FIRST SECOND THIRD FOURTH FIFTH}
-for {set n 0} {$n < 5} {incr n} {
-    puts "\npub const [lindex $names $n]: \[(&str, &str); $size\] = \["
-    foreach text [lrange $texts [expr {$n * $size}] [expr {($n + 1) * $size - 1}]] {
-        set text [string map [list @ "\\\n"] $text]
-        puts "    ([literal $text], [literal [value $text]]),"
-    }
-    puts "\];"
+foreach text $texts {
+    set text [string map [list @ "\\\n"] $text]
+    puts "== value [letters $text]\n[value $text]"
 }

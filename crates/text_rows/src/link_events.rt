@@ -1,22 +1,22 @@
+//! Events that are due, and what they make of pipes.
 ghost use Rattle.std.specs.Prelude.{IfOk};
 ghost use Rattle.virt_topo.specs.Soundness.{IsSound};
 
-use lab_base::{Items, Name, Rates};
+use lab_base::{Items, Memory, Name, Rates, Text};
 use net_plan::{lan_pipe, link_pipe};
 use ns_events::*;
 use std::alloc::Global;
-use std::test::Fail;
 use virt_topo::{Asks, Pipe, Segment, VirtEnd, VirtNode, Wiring};
 
-fn named(text: &[u8]) -> Result<Name, Fail> {
-    Ok(Name::read(text).ok().ok_or("a name")?)
+fn named(text: &[u8]) -> Result<Name, Memory> {
+    Name::read(text).map_err(|_bad| Memory)
 }
 
 fn rates(kbps: u64, micros: u32, ppm: u32) -> Rates {
     Rates { kbps, micros, ppm }
 }
 
-fn node(alloc: Global, name: &[u8]) -> Result<VirtNode, Fail> {
+fn node(alloc: Global, name: &[u8]) -> Result<VirtNode, Memory> {
     Ok(VirtNode {
         name: named(name)?,
         asks: Asks::Plain(named(b"pc")?),
@@ -26,7 +26,7 @@ fn node(alloc: Global, name: &[u8]) -> Result<VirtNode, Fail> {
     })
 }
 
-fn segment(alloc: Global, names: (&[u8], &[u8]), ends: (u16, u16)) -> Result<Segment, Fail> {
+fn segment(alloc: Global, names: (&[u8], &[u8]), ends: (u16, u16)) -> Result<Segment, Memory> {
     let (name, owner) = names;
     let mut both = Items::new(alloc);
     for node in [ends.0, ends.1] {
@@ -43,17 +43,17 @@ fn segment(alloc: Global, names: (&[u8], &[u8]), ends: (u16, u16)) -> Result<Seg
     })
 }
 
-fn sound(wiring: Wiring) -> Result<Wiring, Fail>
+fn sound(wiring: Wiring) -> Result<Wiring, Memory>
     ensures { IfOk result (λ sound. IsSound sound) }
 {
     match wiring.check() {
         Ok(()) => Ok(wiring),
-        Err(_) => Err(Fail::from("a sound wiring")),
+        Err(_) => Err(Memory),
     }
 }
 
 /// A shaped link `l` and a shaped LAN `m` between the nodes `a` and `b`, with the first of their three pipes.
-fn wiring(alloc: Global, link: Rates, lan: Rates, pipes: usize) -> Result<Wiring, Fail>
+fn wiring(alloc: Global, link: Rates, lan: Rates, pipes: usize) -> Result<Wiring, Memory>
     ensures { IfOk result (λ wiring. IsSound wiring) }
 {
     let mut nodes = Items::new(alloc);
@@ -80,7 +80,7 @@ fn wiring(alloc: Global, link: Rates, lan: Rates, pipes: usize) -> Result<Wiring
     })
 }
 
-fn event(at: u64, link: &[u8], what: What, line: u32) -> Result<Event, Fail> {
+fn event(at: u64, link: &[u8], what: What, line: u32) -> Result<Event, Memory> {
     Ok(Event {
         at,
         link: named(link)?,
@@ -89,77 +89,96 @@ fn event(at: u64, link: &[u8], what: What, line: u32) -> Result<Event, Fail> {
     })
 }
 
-#[test]
-fn equal_times_stand_in_text_order(rt: HostRuntime) -> Result<(), Fail> {
-    let alloc = rt.alloc();
+/// The lines of the events from second 5 to second 9.
+fn due_lines(alloc: Global) -> Result<Text, Memory> {
     let mut events = Vec::new(alloc);
     for (at, line) in [(9, 1), (5, 2), (7, 3), (5, 4), (2, 5), (7, 6)] {
         events.push(event(at, b"l", What::Down, line)?)?;
     }
-    let due = schedule(alloc, &events, 5, 9)?;
-    let lines = [2, 4, 3, 6];
-    assert_eq!(rt; due.len(), lines.len());
-    for (event, line) in due.iter().zip(lines.iter()) {
-        assert_eq!(rt; event.line, *line);
+    let mut out = Text::from_slice(alloc, b"lines")?;
+    for event in schedule(alloc, &events, 5, 9)?.iter() {
+        push_numbers(&mut out, &[u64::from(event.line)])?;
     }
-    assert!(rt; schedule(alloc, &events, 9, 9)?.is_empty());
+    out.push_bytes(b"\nand none:")?;
+    for event in schedule(alloc, &events, 9, 9)?.iter() {
+        push_numbers(&mut out, &[u64::from(event.line)])?;
+    }
+    Ok(out)
+}
+
+fn push_numbers(out: &mut Text, numbers: &[u64]) -> Result<(), Memory> {
+    for number in numbers {
+        out.push(b' ')?;
+        out.push_number(*number)?;
+    }
     Ok(())
 }
 
-/// The rates that pipes have after an event, and those that they had.
-#[test]
-fn events_change_the_pipes_of_their_link(rt: HostRuntime) -> Result<(), Fail> {
-    let alloc = rt.alloc();
+/// Adds rates.
+fn push_rates(out: &mut Text, rates: Rates) -> Result<(), Memory> {
+    push_numbers(
+        out,
+        &[rates.kbps, u64::from(rates.micros), u64::from(rates.ppm)],
+    )
+}
+
+/// Adds the rates of pipes, a line each.
+fn push_pipes(out: &mut Text, pipes: &[Pipe]) -> Result<(), Memory> {
+    for pipe in pipes {
+        push_rates(out, pipe.there)?;
+        out.push(b',')?;
+        push_rates(out, pipe.back)?;
+        out.push(b'\n')?;
+    }
+    Ok(())
+}
+
+/// What an event makes of the pipes of a link `l` and a LAN `m`, whose rates are slow now and were plain in the text.
+fn push_change(out: &mut Text, alloc: Global, link: &[u8], what: What) -> Result<(), Memory> {
     let plain = rates(100_000, 2_000, 0);
     let slow = rates(5_000, 5_001, 7);
     let text = wiring(alloc, plain, plain, 3)?;
     let now = wiring(alloc, slow, slow, 3)?;
-    let gone = rates(5_000, 5_001, 1_000_000);
-    let back = rates(5_000, 2_501, 0);
-    let toward = rates(5_000, 2_500, 7);
-    let half = rates(100_000, 1_000, 0);
-    let given = rates(1_000, 3, 9);
-    let cases = [
-        (b"l", What::Down, [(gone, gone), (toward, back)]),
-        (b"l", What::Up, [(plain, plain), (toward, back)]),
-        (b"l", What::Rates(given), [(given, given), (toward, back)]),
-        (b"m", What::Up, [(slow, slow), (half, half)]),
-        (
-            b"m",
-            What::Rates(given),
-            [(slow, slow), (rates(1_000, 1, 9), rates(1_000, 2, 0))],
-        ),
-    ];
-    for (link, what, [(there, again), (first, second)]) in cases {
-        let new = apply(alloc, &event(0, link, what, 5)?, &text, &now);
-        let Ok(new) = new else {
-            return Err(Fail::from("a wiring"));
-        };
-        let wanted = [(there, again), (first, second), (first, second)];
-        assert_eq!(rt; new.pipes.len(), wanted.len());
-        for (pipe, (there, back)) in new.pipes.as_slice().iter().zip(wanted.iter()) {
-            assert_eq!(rt; pipe.there, *there);
-            assert_eq!(rt; pipe.back, *back);
-        }
+    out.push_bytes(link)?;
+    out.push(b'\n')?;
+    match apply(alloc, &event(0, link, what, 5)?, &text, &now) {
+        Ok(new) => push_pipes(out, new.pipes.as_slice()),
+        Err(_) => out.push_bytes(b"refused\n"),
     }
-    Ok(())
 }
 
-#[test]
-fn a_link_without_its_pipes_has_no_shape(rt: HostRuntime) -> Result<(), Fail> {
-    let alloc = rt.alloc();
+/// The pipes after events of the link and the LAN.
+fn changes(alloc: Global) -> Result<Text, Memory> {
+    let given = rates(1_000, 3, 9);
+    let mut out = Text::new(alloc);
+    push_change(&mut out, alloc, b"l", What::Down)?;
+    push_change(&mut out, alloc, b"l", What::Up)?;
+    push_change(&mut out, alloc, b"l", What::Rates(given))?;
+    push_change(&mut out, alloc, b"m", What::Up)?;
+    push_change(&mut out, alloc, b"m", What::Rates(given))?;
+    Ok(out)
+}
+
+/// Whether an event lacks a shape: of an unknown link, and of a LAN that has one or two of its pipes now or in the text.
+fn shapes(alloc: Global) -> Result<Text, Memory> {
     let plain = rates(100_000, 2_000, 0);
-    let cases = [
-        (b"x", 3, 3, true),
-        (b"m", 1, 1, true),
-        (b"m", 3, 2, true),
-        (b"m", 2, 2, false),
-    ];
-    for (link, old, present, lacks) in cases {
+    let mut out = Text::new(alloc);
+    for (link, old, present) in [(b"x", 3, 3), (b"m", 1, 1), (b"m", 3, 2), (b"m", 2, 2)] {
         let text = wiring(alloc, plain, plain, old)?;
         let now = wiring(alloc, plain, plain, present)?;
         let new = apply(alloc, &event(0, link, What::Down, 5)?, &text, &now);
-        assert_eq!(rt; new.err() == Some(ApplyFault::Shape), lacks);
+        let lacks = new.err() == Some(ApplyFault::Shape);
+        out.push_bytes(if lacks { b"lacks one\n" } else { b"has one\n" })?;
     }
-    Ok(())
+    Ok(out)
+}
+
+/// What is told of a row about what events do.
+pub fn told(alloc: Global, kind: &str) -> Result<Option<Text>, Memory> {
+    Ok(Some(match kind {
+        "due" => due_lines(alloc)?,
+        "changes" => changes(alloc)?,
+        "shapes" => shapes(alloc)?,
+        _ => return Ok(None),
+    }))
 }
