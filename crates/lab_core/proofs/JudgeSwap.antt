@@ -246,13 +246,3 @@ begun_same (tasks.BeginOnly exp way ops) other = refl
 begun_same (tasks.Turn exp) other = refl
 begun_same (tasks.Finish exp) other = refl
 begun_same tasks.Recover other = refl
-
--- what the code gives is what is judged
-pub is_judged : (judgement : Result Task Reply) (result : Result TaskInHand Refusal) → Gives judgement result → IsJudged (Is judgement) result
-is_judged judgement (Ok task) h = sym h
-is_judged judgement (Err (Refused reply)) h = (sym h.0, h.1)
-is_judged judgement (Err Memory) h = tt
-
-pub slot_judged : (count : ℕ) (only : Bool) (judgement : Result Task Reply) (given result : Result TaskInHand Refusal) → Gives judgement given → ((j : Result Task Reply) → Gives j given → Gives (in_slot count only j) result)
-    → IsJudged (Is (in_slot count only judgement)) result
-slot_judged count only judgement given result h each = is_judged (in_slot count only judgement) result (each judgement h)

@@ -4,7 +4,8 @@ use Rattle.std.proofs.Common.{◌≡◌, ◌≢◌, ℕ, Bool, true, false, is_s
 use Rattle.lab_base.specs.declared.fault.TextFault.{TextFault}
 use Rattle.phys_lab.specs.Labs.{Lab}
 use Rattle.virt_topo.specs.declared.wiring.Wiring.{Wiring}
-use Rattle.journal_rec.specs.declared.record.Record.TheVariants.{Create, Delete, Begin}
+use Rattle.journal_rec.specs.declared.record.Record.{Record}
+use Rattle.journal_rec.specs.declared.record.Record.TheVariants as records
 use Rattle.journal_rec.specs.declared.record.Way.{Way}
 use Rattle.journal_rec.specs.declared.record.Way.TheVariants.{In as WayIn, Out as WayOut, Change as WayChange}
 use Rattle.assign_core.specs.declared.whole.Solved.{Solved}
@@ -30,8 +31,7 @@ use Rattle.lab_core.specs.declared.task.Refusal.TheVariants.{Refused, Memory}
 use Rattle.lab_core.specs.Tasks.{Gives, IsJudged, IsRefusedBy, Refuses, task_of}
 use Rattle.lab_core.specs.Sessions.{name_of}
 use Rattle.lab_core.proofs.Others.{IsApart, IsSpared}
-use Rattle.lab_core.proofs.OwnTasks.{Begins, bound, entry_begins, modify_begins, remap_begins, swap_begins, swapin_begins, swapout_begins}
-use Rattle.lab_core.proofs.Several.{of_found, of_refused, of_text}
+use Rattle.lab_core.proofs.Fits.{IsFit, IsOwn}
 
 -- ---- ONE JUDGEMENT
 refused_once : {A : Type 0} (needed : Result A Reply) (Judges : A → Result Task Reply → Type 0) (a b : Result Task Reply) → ((x : A) → Judges x a → Judges x b → a ≡ b)
@@ -122,6 +122,10 @@ is_so judgement (Err (Refused reply)) h = (sym h.0, h.1)
 is_so judgement (Err Memory) h = tt
 
 -- beside the open swaps
+pub slot_judged : (count : ℕ) (only : Bool) (judgement : Result Task Reply) (given result : Result TaskInHand Refusal) → Gives judgement given → ((j : Result Task Reply) → Gives j given → Gives (in_slot count only j) result)
+    → IsJudged (Is (in_slot count only judgement)) result
+slot_judged count only judgement given result h each = is_so (in_slot count only judgement) result (each judgement h)
+
 pub slot_so : (count : ℕ) (only : Bool) (Judges : Result Task Reply → Type 0) (given result : Result TaskInHand Refusal) → IsJudged Judges given
     → ((j : Result Task Reply) → Gives j given → Gives (in_slot count only j) result) → IsJudged (InSlot count only Judges) result
 slot_so count only Judges (Ok task) result judged each = slotted result (each (Ok (task_of task)) refl)
@@ -148,125 +152,33 @@ slot_so count only Judges (Err Memory) result judged each = wanting result (each
 abbrev pub IsTaskApart : List ℕ → List (List ℕ) → LabState → Task → Type 0
 IsTaskApart name busy s (Tell reply) = Unit {0}
 IsTaskApart name busy s (Append entry reply) = (move : Move) → Says the_texts s entry move → IsApart name move
-IsTaskApart name busy s (Swap exp way) = (exp ≢ name) × ((move : Move) → Says the_texts s (Begin exp way) move → IsApart name move)
-IsTaskApart name busy s (BeginOnly exp way) = (exp ≢ name) × ((move : Move) → Says the_texts s (Begin exp way) move → IsApart name move)
+IsTaskApart name busy s (Swap exp way) = (exp ≢ name) × ((move : Move) → Says the_texts s (records.Begin exp way) move → IsApart name move)
+IsTaskApart name busy s (BeginOnly exp way) = (exp ≢ name) × ((move : Move) → Says the_texts s (records.Begin exp way) move → IsApart name move)
 IsTaskApart name busy s (Turn exp) = exp ≢ name
 IsTaskApart name busy s (Finish exp) = exp ≢ name
 IsTaskApart name busy s Recover = IsSpared busy s name
 
-not_set : (o : Option Lab) (x : Unit {0}) → is_some o ≡ true → need_none o ≡ Ok x → ⊥
-not_set None x set h = cc set
-not_set (Some lab) x set h = cc h
+module _ (name : List ℕ) (s : LabState) (o : Option (List ℕ)) (other : o ≢ Some name) where
+  own_apart : (exp : List ℕ) → o ≡ Some exp → exp ≢ name
+  own_apart exp is = λ same. other (is ∙ ap (λ (n : List ℕ). Some n) same)
 
-module _ (name : List ℕ) (names : List (List ℕ)) (s : LabState) (busy : Bool) (count : ℕ) (task : Task) where
-  -- the move is that of a record
-  by_move : (move other : Move) → move ≡ other → IsApart name other → IsApart name move
-  by_move move other is apart = subst (λ (m : Move). IsApart name m) (sym is) apart
+  begin_apart : (exp : List ℕ) (way : Way) → o ≡ Some exp → (move : Move) → Says the_texts s (records.Begin exp way) move → IsApart name move
+  begin_apart exp (WayIn map tags) own move says = subst (IsApart name) (sym says.9) (own_apart exp own)
+  begin_apart exp WayOut own move says = subst (IsApart name) (sym says) (own_apart exp own)
+  begin_apart exp (WayChange top map tags) own move says = subst (IsApart name) (sym says.9) (own_apart exp own)
 
-  begin_apart : (exp : List ℕ) (way : Way) → exp ≢ name → (move : Move) → Says the_texts s (Begin exp way) move → IsApart name move
-  begin_apart exp (WayIn map tags) own move says = by_move move (BeginsIn exp says.2 tags) says.9 own
-  begin_apart exp WayOut own move says = by_move move (BeginsOut exp) says own
-  begin_apart exp (WayChange top map tags) own move says = by_move move (BeginsChange exp says.1 says.2 tags) says.9 own
+  entry_apart : (entry : Record) → is_some s.lab ≡ true → IsOwn s o entry → (move : Move) → Says the_texts s entry move → IsApart name move
+  entry_apart (records.Lab ptop) there none move says = absurd (cc (ap is_some none, there))
+  entry_apart (records.Create exp top) there own move says = subst (IsApart name) (sym says.3) (own_apart exp own)
+  entry_apart (records.Delete exp) there own move says = subst (IsApart name) (sym says) (own_apart exp own)
+  entry_apart entry there own move says = absurd own
 
-  task_is : (other : Task) → ◌≡◌ {A = Result Task Reply} (Ok other) (Ok task) → IsTaskApart name names s other → IsTaskApart name names s task
-  task_is other h apart = let same : other ≡ task = cc h in subst (λ (t : Task). IsTaskApart name names s t) same apart
-
-  wiring_apart : (exp : List ℕ) (wiring : Wiring) → exp ≢ name → judged_wiring s exp wiring ≡ Ok task → IsTaskApart name names s task
-  wiring_apart exp wiring own h =
-      let room = bound (need_room s.experiments) _ task h in
-      task_is (Append (Create exp (canonical_top wiring)) (created_reply exp wiring)) room.2 (λ move says. by_move move (Creates exp says.0) says.3 own)
-
-  -- of whatever is judged
-  abbrev IsApartIf : Result Task Reply → Type 0
-  IsApartIf judgement = judgement ≡ Ok task → IsTaskApart name names s task
-
-  refusal_apart : (reply : Reply) → IsApartIf (Err reply)
-  refusal_apart reply = λ is. absurd (cc is)
-
-  network_apart : (exp text : List ℕ) → exp ≢ name → JudgedNetwork s exp text (Ok task) → IsTaskApart name names s task
-  network_apart exp text own n =
-      of_refused IsApartIf (need_place s exp) _ (Ok task) (λ reply is. refusal_apart reply)
-      (λ x place j t. of_text IsApartIf exp text _ j (λ fault. refusal_apart (Bad exp fault)) (λ w j is. λ ok. wiring_apart exp w own (sym is ∙ ok)) t) n refl
-
-  solve_apart : (rule : RuleNumber) (exp : List ℕ) (seed : ℕ) → JudgedSolve rule s busy exp seed (Ok task) → IsTaskApart name names s task
-  solve_apart rule exp seed n =
-      of_refused IsApartIf (need_idle_out s busy exp) _ (Ok task) (λ reply is. refusal_apart reply)
-      (λ p place j f. of_found IsApartIf rule s p.0 p.1 p.1.wiring seed (judged_solved p.0 p.1) j (λ found is. by p.0 p.1 found) f) n refl
-    where
-      by : (lab : Lab) (e : Experiment) (found : Solved) → IsApartIf (judged_solved lab e found)
-      by lab e (solved.Least m c) = λ is. task_is (Tell _) is tt
-      by lab e (solved.Local m c) = λ is. task_is (Tell _) is tt
-      by lab e solved.None = refusal_apart _
-      by lab e solved.GaveUp = refusal_apart _
-
-  ptop_apart : (text : List ℕ) → is_some s.lab ≡ true → judged_ptop s text ≡ Ok task → IsTaskApart name names s task
-  ptop_apart text there h = let none = bound (need_none s.lab) _ task h in absurd (not_set s.lab none.0 there none.1)
-
-  create_apart : (exp text : List ℕ) → exp ≢ name → judged_create s exp text ≡ Ok task → IsTaskApart name names s task
-  create_apart exp text own h =
-      let place = bound (need_place s exp) _ task h in
-      let wiring = bound (need_meaning (Bad exp) (wiring_of_text text)) _ task place.2 in
-      wiring_apart exp wiring.0 own wiring.2
-
-  show_apart : (exp : List ℕ) → judged_show s exp ≡ Ok task → IsTaskApart name names s task
-  show_apart exp h =
-      let lab = bound (need_lab s.lab) _ task h in
-      let found = bound (need_found exp (find exp s.experiments)) _ task lab.2 in
-      task_is (Tell (shown_reply lab.0 found.0)) found.2 tt
-
-  delete_apart : (exp : List ℕ) → exp ≢ name → judged_delete s busy exp ≡ Ok task → IsTaskApart name names s task
-  delete_apart exp own h =
-      let lab = bound (need_lab s.lab) _ task h in
-      let found = bound (need_found exp (find exp s.experiments)) _ task lab.2 in
-      let idle = bound (need_idle exp busy) _ task found.2 in
-      let out = bound (need_out exp found.0.phase) _ task idle.2 in
-      task_is (Append (Delete exp) (Deleted exp)) out.2 (λ move says. by_move move (Deletes exp) says own)
-
-  -- a swap, whether it is only begun or not
-  begun_apart : (exp : List ℕ) (only : Bool) (way : Way) → exp ≢ name → IsTaskApart name names s (begun_as only (Swap exp way))
-  begun_apart exp true way own = (own, begin_apart exp way own)
-  begun_apart exp false way own = (own, begin_apart exp way own)
-
-  swap_apart : (exp : List ℕ) (only : Bool) (judgement : Result Task Reply) → exp ≢ name → IfOk judgement (Begins exp busy) → Ok task ≡ in_slot count only judgement → IsTaskApart name names s task
-  swap_apart exp only judgement own begins h =
-      let b = swap_begins s busy count exp only judgement task begins h in
-      subst (λ (t : Task). IsTaskApart name names s t) (sym b.1) (begun_apart exp only b.0 own)
-
-  turn_apart : (exp : List ℕ) (other : Task) → IsTaskApart name names s other
-      → (need_lab s.lab >>= λ lab. need_found exp (find exp s.experiments) >>= λ e. need_open exp busy >>= λ opened. let r : Result Task Reply = Ok other in r) ≡ Ok task → IsTaskApart name names s task
-  turn_apart exp other apart h =
-      let lab = bound (need_lab s.lab) _ task h in
-      let found = bound (need_found exp (find exp s.experiments)) _ task lab.2 in
-      let opened = bound (need_open exp busy) _ task found.2 in
-      task_is other opened.2 apart
-
-  recover_apart : IsSpared names s name → judged_recover s ≡ Ok task → IsTaskApart name names s task
-  recover_apart rests h = let lab = bound (need_lab s.lab) _ task h in task_is Recover lab.2 rests
-
-  status_apart : judged_status s ≡ Ok task → IsTaskApart name names s task
-  status_apart h = let lab = bound (need_lab s.lab) _ task h in task_is (Tell (status_reply lab.0 s.experiments)) lab.2 tt
-
-  apart_from : (exp : List ℕ) → ◌≢◌ {A = Option (List ℕ)} (Some exp) (Some name) → exp ≢ name
-  apart_from exp other same = other (ap (λ (n : List ℕ). Some n) same)
-
-  pub task_apart : (rule : RuleNumber) (command : Command) → (command ≡ commands.Recover → IsSpared names s name) → is_some s.lab ≡ true → name_of command ≢ Some name → Judged rule s busy count command (Ok task) → IsTaskApart name names s task
-  task_apart rule (commands.Ptop lines text) spared there other is = ptop_apart text there (sym is)
-  task_apart rule (commands.Create exp lines text) spared there other is = network_apart exp text (apart_from exp other) is
-  task_apart rule (commands.CreateTop exp lines text) spared there other is = create_apart exp text (apart_from exp other) (sym is)
-  task_apart rule (commands.Show exp) spared there other is = show_apart exp (sym is)
-  task_apart rule (commands.Solve exp seed) spared there other is = solve_apart rule exp seed is
-  task_apart rule (commands.Swapin only exp seed) spared there other is =
-      swap_apart exp only is.before (apart_from exp other) (entry_begins s busy exp rule seed is.before is.judged) is.is
-  task_apart rule (commands.Modify only exp seed lines text) spared there other is =
-      swap_apart exp only is.before (apart_from exp other) (remap_begins s busy exp rule seed text is.before is.judged) is.is
-  task_apart rule (commands.SwapinWith only exp lines text) spared there other is = swap_apart exp only (judged_swapin s busy exp text) (apart_from exp other) (swapin_begins s busy exp text) is
-  task_apart rule (commands.ModifyWith only exp lines top others map) spared there other is = swap_apart exp only (judged_modify s busy exp lines top map) (apart_from exp other) (modify_begins s busy exp lines top map) is
-  task_apart rule (commands.Swapout only exp) spared there other is = swap_apart exp only (judged_swapout s busy exp) (apart_from exp other) (swapout_begins s busy exp) is
-  task_apart rule (commands.Turn exp) spared there other is = turn_apart exp (Turn exp) (apart_from exp other) (sym is)
-  task_apart rule (commands.Finish exp) spared there other is = turn_apart exp (Finish exp) (apart_from exp other) (sym is)
-  task_apart rule commands.Recover spared there other is = recover_apart (spared refl) (sym is)
-  task_apart rule (commands.Fail device nth how) spared there other is = absurd is
-  task_apart rule (commands.FailDisk nth) spared there other is = absurd is
-  task_apart rule (commands.Stop nth pick) spared there other is = absurd is
-  task_apart rule (commands.Delete exp) spared there other is = delete_apart exp (apart_from exp other) (sym is)
-  task_apart rule commands.Status spared there other is = status_apart (sym is)
+pub task_apart : (name : List ℕ) (names : List (List ℕ)) (s : LabState) (command : Command) (busy : Bool) (count : ℕ) (task : Task) → IsFit s command busy count (Ok task) → (command ≡ commands.Recover → IsSpared names s name) → is_some s.lab ≡ true
+    → name_of command ≢ Some name → IsTaskApart name names s task
+task_apart name names s command busy count (Tell reply) fit spared there other = tt
+task_apart name names s command busy count (Append entry reply) fit spared there other = entry_apart name s (name_of command) other entry there fit.1
+task_apart name names s command busy count (Swap exp way) fit spared there other = (own_apart name s (name_of command) other exp fit.0, begin_apart name s (name_of command) other exp way fit.0)
+task_apart name names s command busy count (BeginOnly exp way) fit spared there other = (own_apart name s (name_of command) other exp fit.0, begin_apart name s (name_of command) other exp way fit.0)
+task_apart name names s command busy count (Turn exp) fit spared there other = own_apart name s (name_of command) other exp fit.0
+task_apart name names s command busy count (Finish exp) fit spared there other = own_apart name s (name_of command) other exp fit.0
+task_apart name names s command busy count Recover fit spared there other = spared fit

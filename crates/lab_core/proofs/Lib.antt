@@ -2,6 +2,7 @@ pub mod Behind
 pub mod Claimed
 pub mod Compacting
 pub mod EndOne
+pub mod Fits
 pub mod JudgeSwap
 pub mod JudgeTasks
 pub mod Judgements
@@ -17,7 +18,6 @@ pub mod OtherSwaps
 pub mod OtherWorlds
 pub mod Others
 pub mod OuterReplies
-pub mod OwnTasks
 pub mod PerformAppend
 pub mod PerformSwap
 pub mod Readiness
@@ -28,7 +28,6 @@ pub mod Said
 pub mod SettledOpenings
 pub mod SearchLaws
 pub mod Searched
-pub mod Several
 pub mod Shown
 pub mod SolutionLaws
 pub mod StepLaws

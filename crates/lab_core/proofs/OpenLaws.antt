@@ -30,8 +30,9 @@ use Rattle.lab_core.specs.Recovery.{Recovers, settled, broken_off}
 use Rattle.cost_rule.specs.declared.rule.RuleNumber.{RuleNumber}
 use Rattle.lab_core.specs.Sessions.{OpenSwap, Session, Closed, Open, Setting, After, is_among, name_in, name_of, names_of, open_at, Terms}
 use Rattle.lab_core.specs.Tells.{IsOpened, busy_of, opens_of}
-use Rattle.lab_core.proofs.OwnTasks.{IsAllowed, own_task}
+use Rattle.lab_core.proofs.Fits.{IsFit, fits}
 use Rattle.lab_core.proofs.StepLaws.{Was, done, wanting, broke, drilled, none_told}
+use Rattle.phys_lab.proofs.FaultLaws.{neither}
 
 -- OPEN SWAPS BY NAME, without one of another name, and with it
 at_without : (name : List ℕ) (front rest : List OpenSwap) (o : OpenSwap) → name_in o ≢ name → open_at name (front ++ o ∷ rest) ≡ open_at name (front ++ rest)
@@ -104,17 +105,9 @@ module _ (after : After) (to : List OpenSwap) (is : after.session ≡ Open to) w
     does_next set (Ok (Finish exp)) d = (d.one, answered_next _ (d.one.front ++ d.one.rest) d.outcome d.behind d.answered)
     does_next set (Ok Recover) d = recover_next d
 
--- the open swaps allow the task, if it is one
-abbrev IsMaybe : Command → List OpenSwap → Result Task Reply → Type 0
-IsMaybe command opens judgement = (task : Task) → judgement ≡ Ok task → IsAllowed (name_of command) (is_among (names_of opens) (name_of command)) (length opens) task
-
-maybe : (rule : RuleNumber) (command : Command) (opens : List OpenSwap) (mid : LabState) (judgement : Result Task Reply) → JudgedBeside rule command opens mid judgement → IsMaybe command opens judgement
-maybe rule command opens mid judgement judged =
-    λ task is. own_task mid (is_among (names_of opens) (name_of command)) (length opens) rule command task (subst (λ (j : Result Task Reply). JudgedBeside rule command opens mid j) is judged)
-
 -- WHAT THE STEP LEFT OPEN: what its judgement did with the open swaps that it began with, or just these
 pub data Leaves (set : Setting) (session : Session) (command : Command) (judgement : Result Task Reply) (to : List OpenSwap) : Type 0 where
-  goes : IsMaybe command (opens_of session) judgement → IsNext set.devices (opens_of session) judgement to → Leaves set session command judgement to
+  goes : (mid : LabState) → IsFit mid command (is_among (busy_of session) (name_of command)) (length (opens_of session)) judgement → IsNext set.devices (opens_of session) judgement to → Leaves set session command judgement to
   stands : to ≡ opens_of session → Leaves set session command judgement to
 
 drill_stands : (terms : Terms) (s : LabState) (session : Session) (own : List Event) (after : After) (to : List OpenSwap) → after.session ≡ Open to → Drills terms.takes s session own after → to ≡ opens_of session
@@ -125,7 +118,8 @@ drill_stands terms s session own after to is (wants_memory wants) = not_closed a
 pub leaves : (drill : Option Drill) (judgement : Result Task Reply) (terms : Terms) (set : Setting) (s : LabState) (session : Session) (command : Command) (opening own : List Event) (after : After) (to : List OpenSwap)
     → after.session ≡ Open to → Was drill judgement terms set s session command opening own after → Leaves set session command judgement to
 leaves drill judgement terms set s session command opening own after to is (done mid opens begins judged d) =
-    goes (maybe terms.rule command (opens_of session) mid judgement (subst (λ (l : List OpenSwap). JudgedBeside terms.rule command l mid judgement) begins.are judged)) (subst (λ (l : List OpenSwap). IsNext set.devices l judgement to) begins.are (does_next after to is mid opens own set judgement d))
+    goes mid (fits mid (is_among (busy_of session) (name_of command)) (length (opens_of session)) terms.rule command judgement (subst (λ (l : List OpenSwap). JudgedBeside terms.rule command l mid judgement) begins.are judged))
+    (subst (λ (l : List OpenSwap). IsNext set.devices l judgement to) begins.are (does_next after to is mid opens own set judgement d))
 leaves drill judgement terms set s session command opening own after to is (wanting mid opens begins wants) = not_closed after to is (ap (λ (a : After). a.session) wants.after_is)
 leaves drill judgement terms set s session command opening own after to is (broke none closed breaks) = not_closed after to is breaks.session
 leaves drill judgement terms set s session command opening own after to is (drilled some none drills) = stands (drill_stands terms s session own after to is drills)
@@ -138,38 +132,34 @@ module _ (command : Command) (name : List ℕ) (other : name_of command ≢ Some
   as_it_was : to ≡ opens → open_at name to ≡ open_at name opens
   as_it_was same = ap (λ (l : List OpenSwap). open_at name l) same
 
-  next_others : (devices : ℕ) (judgement : Result Task Reply) → IsMaybe command opens judgement → IsNext devices opens judgement to → open_at name to ≡ open_at name opens
-  next_others devices (Err refusal) may next = as_it_was next
-  next_others devices (Ok (Tell told)) may next = as_it_was next
-  next_others devices (Ok (Append entry told)) may next = as_it_was next
-  next_others devices (Ok (Swap exp way)) may next = as_it_was next
-  next_others devices (Ok Recover) may next = as_it_was next
-  next_others devices (Ok (BeginOnly exp way)) may (inl same) = as_it_was same
-  next_others devices (Ok (BeginOnly exp way)) may (inr (p, named, is)) =
-      ap (λ (l : List OpenSwap). open_at name l) is ∙ at_without name opens [] (begun_at p devices) (apart_from p.name exp named (may (BeginOnly exp way) refl).0)
+  next_others : (mid : LabState) (devices : ℕ) (judgement : Result Task Reply) → IsFit mid command (is_among (names_of opens) (name_of command)) (length opens) judgement → IsNext devices opens judgement to → open_at name to ≡ open_at name opens
+  next_others mid devices (Err refusal) may next = as_it_was next
+  next_others mid devices (Ok (Tell told)) may next = as_it_was next
+  next_others mid devices (Ok (Append entry told)) may next = as_it_was next
+  next_others mid devices (Ok (Swap exp way)) may next = as_it_was next
+  next_others mid devices (Ok Recover) may next = as_it_was next
+  next_others mid devices (Ok (BeginOnly exp way)) may (inl same) = as_it_was same
+  next_others mid devices (Ok (BeginOnly exp way)) may (inr (p, named, is)) =
+      ap (λ (l : List OpenSwap). open_at name l) is ∙ at_without name opens [] (begun_at p devices) (apart_from p.name exp named may.0)
       ∙ ap (λ (l : List OpenSwap). open_at name l) (append-nil opens)
-  next_others devices (Ok (Turn exp)) may (one, steps, outcome, is) =
-      ap (λ (l : List OpenSwap). open_at name l) is ∙ at_turned name one.front one.rest one.swap steps outcome (apart_from (name_in one.swap) exp one.name (may (Turn exp) refl).0)
+  next_others mid devices (Ok (Turn exp)) may (one, steps, outcome, is) =
+      ap (λ (l : List OpenSwap). open_at name l) is ∙ at_turned name one.front one.rest one.swap steps outcome (apart_from (name_in one.swap) exp one.name may.0)
       ∙ ap (λ (l : List OpenSwap). open_at name l) (sym one.are)
-  next_others devices (Ok (Finish exp)) may (one, is) =
-      ap (λ (l : List OpenSwap). open_at name l) is ∙ sym (at_without name one.front one.rest one.swap (apart_from (name_in one.swap) exp one.name (may (Finish exp) refl).0))
+  next_others mid devices (Ok (Finish exp)) may (one, is) =
+      ap (λ (l : List OpenSwap). open_at name l) is ∙ sym (at_without name one.front one.rest one.swap (apart_from (name_in one.swap) exp one.name may.0))
       ∙ ap (λ (l : List OpenSwap). open_at name l) (sym one.are)
 
 pub others_as_they_were : (set : Setting) (session : Session) (command : Command) (judgement : Result Task Reply) (to : List OpenSwap) (name : List ℕ) → name_of command ≢ Some name → Leaves set session command judgement to → open_at name to ≡ open_at name (opens_of session)
-others_as_they_were set session command judgement to name other (goes may next) = next_others command name other (opens_of session) to set.devices judgement may next
+others_as_they_were set session command judgement to name other (goes mid may next) = next_others command name other (opens_of session) to mid set.devices judgement may next
 others_as_they_were set session command judgement to name other (stands same) = as_it_was command name other (opens_of session) to same
 
 -- THEIR NAMES DIFFER
-none_of : (a b : Bool) → (a || b) ≡ false → (a ≡ false) × (b ≡ false)
-none_of true b h = absurd (cc h)
-none_of false b h = (refl, h)
-
 not_busy : (names : List (List ℕ)) (exp name : List ℕ) → is_busy names exp ≡ false → Has names name → name ≢ exp
 not_busy [] exp name idle there = absurd there
 not_busy (n ∷ names) exp name idle (inl same) = λ is.
-    let first = (none_of (bytes_eq n exp) (is_busy names exp) idle).0 in
+    let first = (neither (bytes_eq n exp) (is_busy names exp) idle).0 in
     (let both : false ≡ true = sym first ∙ (bytes_eq-Decides n exp).1 (same ∙ is) in cc both)
-not_busy (n ∷ names) exp name idle (inr there) = not_busy names exp name (none_of (bytes_eq n exp) (is_busy names exp) idle).1 there
+not_busy (n ∷ names) exp name idle (inr there) = not_busy names exp name (neither (bytes_eq n exp) (is_busy names exp) idle).1 there
 
 names_split : (front rest : List OpenSwap) → names_of (front ++ rest) ≡ names_of front ++ names_of rest
 names_split front rest = map-append name_in front rest
@@ -217,27 +207,26 @@ module _ (P : List OpenSwap → Type 0) (opens to : List OpenSwap) (holds : P op
   stays : to ≡ opens → P to
   stays same = subst P (sym same) holds
 
-  next_holds : (devices : ℕ) (judgement : Result Task Reply) → IsMaybe command opens judgement → IsNext devices opens judgement to → P to
-  next_holds devices (Err refusal) may next = stays next
-  next_holds devices (Ok (Tell told)) may next = stays next
-  next_holds devices (Ok (Append entry told)) may next = stays next
-  next_holds devices (Ok (Swap exp way)) may next = stays next
-  next_holds devices (Ok Recover) may next = stays next
-  next_holds devices (Ok (BeginOnly exp way)) may (inl same) = stays same
-  next_holds devices (Ok (BeginOnly exp way)) may (inr (p, named, is)) =
-      let asked = may (BeginOnly exp way) refl in
-      subst P (sym is) (one_more (begun_at p devices) (asked.0 ∙ ap (λ (n : List ℕ). Some n) (sym named)) asked.1 asked.2)
-  next_holds devices (Ok (Turn exp)) may (one, steps, outcome, is) = subst P (sym is) (turned one.front one.rest one.swap steps outcome (subst P one.are holds))
-  next_holds devices (Ok (Finish exp)) may (one, is) = subst P (sym is) (ended one.front one.rest one.swap (subst P one.are holds))
+  next_holds : (mid : LabState) (devices : ℕ) (judgement : Result Task Reply) → IsFit mid command (is_among (names_of opens) (name_of command)) (length opens) judgement → IsNext devices opens judgement to → P to
+  next_holds mid devices (Err refusal) may next = stays next
+  next_holds mid devices (Ok (Tell told)) may next = stays next
+  next_holds mid devices (Ok (Append entry told)) may next = stays next
+  next_holds mid devices (Ok (Swap exp way)) may next = stays next
+  next_holds mid devices (Ok Recover) may next = stays next
+  next_holds mid devices (Ok (BeginOnly exp way)) may (inl same) = stays same
+  next_holds mid devices (Ok (BeginOnly exp way)) may (inr (p, named, is)) =
+      subst P (sym is) (one_more (begun_at p devices) (may.0 ∙ ap (λ (n : List ℕ). Some n) (sym named)) may.1 may.2)
+  next_holds mid devices (Ok (Turn exp)) may (one, steps, outcome, is) = subst P (sym is) (turned one.front one.rest one.swap steps outcome (subst P one.are holds))
+  next_holds mid devices (Ok (Finish exp)) may (one, is) = subst P (sym is) (ended one.front one.rest one.swap (subst P one.are holds))
 
 pub names_differ : (set : Setting) (session : Session) (command : Command) (judgement : Result Task Reply) (to : List OpenSwap) → AllDiffer (busy_of session) → Leaves set session command judgement to → AllDiffer (names_of to)
-names_differ set session command judgement to differ (goes may next) =
+names_differ set session command judgement to differ (goes mid may next) =
     next_holds (λ l. AllDiffer (names_of l)) (opens_of session) to differ command
-    (λ o is idle free. with_one (opens_of session) o (sym (ap (λ n. is_among (busy_of session) n) is) ∙ idle) differ) turned_differ without_one set.devices judgement may next
+    (λ o is idle free. with_one (opens_of session) o (sym (ap (λ n. is_among (busy_of session) n) is) ∙ idle) differ) turned_differ without_one mid set.devices judgement may next
 names_differ set session command judgement to differ (stands same) = subst (λ l. AllDiffer (names_of l)) (sym same) differ
 
 pub they_are_few : (set : Setting) (session : Session) (command : Command) (judgement : Result Task Reply) (to : List OpenSwap) → length (opens_of session) ≤ 16 → Leaves set session command judgement to → length to ≤ 16
-they_are_few set session command judgement to few (goes may next) =
+they_are_few set session command judgement to few (goes mid may next) =
     next_holds (λ l. length l ≤ 16) (opens_of session) to few command (λ o is idle free. with_one_few (opens_of session) o free)
     (λ front rest o steps outcome h. omega (
       arith,
@@ -247,7 +236,7 @@ they_are_few set session command judgement to few (goes may next) =
       length-append (turned_on o steps outcome) rest,
       turned_few o steps outcome,
     ))
-    (λ front rest o h. omega (arith, h, length-append front (o ∷ rest), length-append front rest)) set.devices judgement may next
+    (λ front rest o h. omega (arith, h, length-append front (o ∷ rest), length-append front rest)) mid set.devices judgement may next
 they_are_few set session command judgement to few (stands same) = subst (λ l. length l ≤ 16) (sym same) few
 
 -- ONE THAT `open` BEGAN

@@ -1,5 +1,5 @@
 -- The open swaps allow the task of a command, which swaps no other experiment than the command's.
-use Rattle.std.proofs.Common.{◌≡◌, ◌⊎◌, inl, inr, ◌<◌, ℕ, Bool, true, false, nat_le, List, length, Option, Some, None, Ok, refl, sym, ◌∙◌, subst}
+use Rattle.std.proofs.Common.{◌≡◌, ◌⊎◌, inl, inr, ◌<◌, ℕ, Bool, true, false, nat_le, List, length, Option, Some, None, Ok, refl, sym, ◌∙◌, subst, arith}
 use Rattle.std.proofs.lemmas.Bool.{leb-false}
 use Rattle.records_model.specs.Labs.{LabState}
 use Rattle.script_text.specs.declared.command.Command.{Command}
@@ -7,11 +7,11 @@ use Rattle.swap_mgr.specs.Open.{HasOpen}
 use Rattle.swap_txn.specs.declared.live.Live.{Live}
 use Rattle.cost_rule.specs.declared.rule.RuleNumber.{RuleNumber}
 use Rattle.lab_core.specs.Controller.{has_open, has_open_for, open_names}
-use Rattle.lab_core.specs.Judge.{Task, Tell, Append, Swap, BeginOnly, Turn, Finish, Recover, Judged}
+use Rattle.lab_core.specs.Judge.{Task, Swap, BeginOnly, Turn, Finish, Judged}
 use Rattle.lab_core.specs.Sessions.{is_among, name_of}
 use Rattle.lab_core.specs.Tasks.{IsReady, swapped_by}
+use Rattle.lab_core.proofs.Fits.{IsFit, fits}
 use Rattle.lab_core.proofs.OpenNames.{busy_open, open_busy}
-use Rattle.lab_core.proofs.OwnTasks.{IsAllowed, own_task}
 
 -- IT IS READY where it is allowed
 module _ (swaps : List Live) (exp : Option (List ℕ)) where
@@ -23,27 +23,19 @@ module _ (swaps : List Live) (exp : Option (List ℕ)) where
   open_ready : (name : List ℕ) → (exp ≡ Some name) × (is_among (open_names swaps) exp ≡ true) → HasOpen swaps name
   open_ready name h = busy_open swaps name (subst (λ (o : Option (List ℕ)). is_among (open_names swaps) o ≡ true) h.0 h.1)
 
-  allowed_ready : (task : Task) → IsAllowed exp (is_among (open_names swaps) exp) (length swaps) task → IsReady swaps task
-  allowed_ready (Tell reply) h = tt
-  allowed_ready (Append entry reply) h = tt
-  allowed_ready (Swap name way) h = idle_ready name h
-  allowed_ready (BeginOnly name way) h = idle_ready name h
-  allowed_ready (Turn name) h = open_ready name h
-  allowed_ready (Finish name) h = open_ready name h
-  allowed_ready Recover h = tt
+fit_ready : (s : LabState) (swaps : List Live) (command : Command) (task : Task) → IsFit s command (has_open_for swaps command) (length swaps) (Ok task) → IsReady swaps task
+fit_ready s swaps command (Swap name way) h = idle_ready swaps (name_of command) name h
+fit_ready s swaps command (BeginOnly name way) h = idle_ready swaps (name_of command) name h
+fit_ready s swaps command (Turn name) h = open_ready swaps (name_of command) name h
+fit_ready s swaps command (Finish name) h = open_ready swaps (name_of command) name h
+fit_ready s swaps command task h = tt
 
 pub ready_of_judged : (rule : RuleNumber) (s : LabState) (swaps : List Live) (command : Command) (task : Task) → Judged rule s (has_open_for swaps command) (length swaps) command (Ok task) → IsReady swaps task
-ready_of_judged rule s swaps command task is = allowed_ready swaps (name_of command) task (own_task s (has_open_for swaps command) (length swaps) rule command task is)
+ready_of_judged rule s swaps command task is = fit_ready s swaps command task (fits s (has_open_for swaps command) (length swaps) rule command (Ok task) is)
 
 -- IT SWAPS NO OTHER
-allowed_own : (exp : Option (List ℕ)) (busy : Bool) (count : ℕ) (task : Task) → IsAllowed exp busy count task → (swapped_by task ≡ exp) ⊎ (swapped_by task ≡ None)
-allowed_own exp busy count (Tell reply) h = inr refl
-allowed_own exp busy count (Append entry reply) h = inr refl
-allowed_own exp busy count (Swap name way) h = inl (sym h.0)
-allowed_own exp busy count (BeginOnly name way) h = inl (sym h.0)
-allowed_own exp busy count (Turn name) h = inl (sym h.0)
-allowed_own exp busy count (Finish name) h = inl (sym h.0)
-allowed_own exp busy count Recover h = inr refl
+fit_own : (s : LabState) (command : Command) (busy : Bool) (count : ℕ) (task : Task) → IsFit s command busy count (Ok task) → (swapped_by task ≡ name_of command) ⊎ (swapped_by task ≡ None)
+fit_own s command busy count task h = grind arith
 
 pub swaps_own : (rule : RuleNumber) (s : LabState) (busy : Bool) (count : ℕ) (command : Command) (task : Task) → Judged rule s busy count command (Ok task) → (swapped_by task ≡ name_of command) ⊎ (swapped_by task ≡ None)
-swaps_own rule s busy count command task is = allowed_own (name_of command) busy count task (own_task s busy count rule command task is)
+swaps_own rule s busy count command task is = fit_own s command busy count task (fits s busy count rule command (Ok task) is)

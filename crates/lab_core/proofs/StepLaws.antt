@@ -43,9 +43,10 @@ use Rattle.lab_core.specs.Breaks.{Breaks, StartsBehind, stopped, failed, unanswe
 use Rattle.lab_core.specs.Recovery.{BreaksOpening, OpensInPart, reading, settling, shifting, Recovers, settled, broken_off}
 use Rattle.lab_core.specs.Sessions.{OpenSwap, Session, Closed, Open, Setting, After, is_among, name_of, names_of, Terms}
 use Rattle.lab_core.specs.Tells.{BeginsAt, GoBy, IsAtRest, IsNoSwap, TellsBroken, TellsLab, is_stopped, opens_of, settles}
+use Rattle.lab_core.proofs.Fits.{IsFit, fits}
 use Rattle.lab_core.proofs.Judgements.{IsTaskApart, task_apart}
 use Rattle.lab_core.proofs.Others.{IsSpared, Stays, begun_stays, both_stay, either_stays, ended_stays, in_part_stay, move_stays, rests_on, same_stays, settled_stay, settles_stay, some_stay, swap_stays, turned_stays}
-use Rattle.lab_core.proofs.OuterReplies.{judged_so, no_stop_of, outer_by}
+use Rattle.lab_core.proofs.OuterReplies.{no_stop_of}
 
 -- where none is told
 pub none_told : {X : Type 0} (told : Option Reply) (reply : Reply) → told ≡ None → told ≡ Some reply → X
@@ -350,15 +351,15 @@ module _ (own : List Event) (after : After) (reply : Reply) (is : after.reply �
   recover_stops s opens (settled outcomes settles told session) = calm _ refl told (settles_show s _ outcomes own after.lab settles).restart
   recover_stops s opens (broken_off part breaks session) = breaks_stop own breaks
 
-  does_stop : (set : Setting) (s : LabState) (opens : List OpenSwap) (judgement : Result Task Reply) → outer_by judgement ≡ false → Does set s opens judgement own after → has_restart own ≡ is_stopped reply
-  does_stop set s opens (Err refusal) inner d = replies_stop s opens refusal (no_stop_of refusal inner) d
-  does_stop set s opens (Ok (Tell told)) inner d = replies_stop s opens told (no_stop_of told inner) d
-  does_stop set s opens (Ok (Append entry told)) inner d = space_stop s opens _ set.length (Appends s opens entry told own after) (append_stops s opens entry told (no_stop_of told inner)) d
-  does_stop set s opens (Ok (Swap exp way)) inner d = space_stop s opens _ set.length (Swaps s opens exp (Begin exp way) own after) (swap_stops s opens exp (Begin exp way)) d
-  does_stop set s opens (Ok (BeginOnly exp way)) inner d = space_stop s opens _ set.length (BeginsSwap s opens set.devices exp (Begin exp way) own after) (begin_stops s opens set.devices exp (Begin exp way)) d
-  does_stop set s opens (Ok (Turn exp)) inner d = one_stops s opens exp d
-  does_stop set s opens (Ok (Finish exp)) inner d = finish_stops s opens exp d
-  does_stop set s opens (Ok Recover) inner d = recover_stops s opens d
+  does_stop : (set : Setting) (s : LabState) (opens : List OpenSwap) (command : Command) (busy : Bool) (count : ℕ) (judgement : Result Task Reply) → IsFit s command busy count judgement → Does set s opens judgement own after → has_restart own ≡ is_stopped reply
+  does_stop set s opens command busy count (Err refusal) inner d = replies_stop s opens refusal (no_stop_of refusal inner) d
+  does_stop set s opens command busy count (Ok (Tell told)) inner d = replies_stop s opens told (no_stop_of told inner) d
+  does_stop set s opens command busy count (Ok (Append entry told)) inner d = space_stop s opens _ set.length (Appends s opens entry told own after) (append_stops s opens entry told (no_stop_of told inner.0)) d
+  does_stop set s opens command busy count (Ok (Swap exp way)) inner d = space_stop s opens _ set.length (Swaps s opens exp (Begin exp way) own after) (swap_stops s opens exp (Begin exp way)) d
+  does_stop set s opens command busy count (Ok (BeginOnly exp way)) inner d = space_stop s opens _ set.length (BeginsSwap s opens set.devices exp (Begin exp way) own after) (begin_stops s opens set.devices exp (Begin exp way)) d
+  does_stop set s opens command busy count (Ok (Turn exp)) inner d = one_stops s opens exp d
+  does_stop set s opens command busy count (Ok (Finish exp)) inner d = finish_stops s opens exp d
+  does_stop set s opens command busy count (Ok Recover) inner d = recover_stops s opens d
 
   drill_stops : (terms : Terms) (s : LabState) (session : Session) → Drills terms.takes s session own after → has_restart own ≡ is_stopped reply
   drill_stops terms s session (is_planned yes' none a) = calm Planned refl (ap (λ (v : After). v.reply) a) (ap has_restart none)
@@ -367,7 +368,7 @@ module _ (own : List Event) (after : After) (reply : Reply) (is : after.reply �
 
   pub step_stops : (drill : Option Drill) (judgement : Result Task Reply) (terms : Terms) (set : Setting) (s : LabState) (session : Session) (command : Command) (opening : List Event) → Was drill judgement terms set s session command opening own after → has_restart (opening ++ own) ≡ is_stopped reply
   step_stops drill judgement terms set s session command opening (done mid opens begins judged d) =
-      shows is_restart (opening ++ own) opening own false (is_stopped reply) refl begins.quiet (does_stop set mid opens judgement (judged_so mid terms.rule (is_among (names_of opens) (name_of command)) (length opens) command judgement judged) d)
+      shows is_restart (opening ++ own) opening own false (is_stopped reply) refl begins.quiet (does_stop set mid opens command (is_among (names_of opens) (name_of command)) (length opens) judgement (fits mid (is_among (names_of opens) (name_of command)) (length opens) terms.rule command judgement judged) d)
   step_stops drill judgement terms set s session command opening (wanting mid opens begins wants) = none_told after.reply reply (ap (λ (v : After). v.reply) wants.after_is) is
   step_stops drill judgement terms set s session command opening (broke no' closed breaks) = ap (λ l. has_restart (opening ++ l)) breaks.nothing ∙ ap has_restart (append-nil opening) ∙ breaks_stop opening breaks.breaks
   step_stops drill judgement terms set s session command opening (drilled some none drills) = ap (λ l. has_restart (l ++ own)) none ∙ drill_stops terms s session drills
@@ -435,8 +436,8 @@ module _ (name : List ℕ) (own : List Event) (after : After) where
         let busy = is_among (names_of opens) (name_of command) in
         both_stay name s mid after.lab first
         (does_stays mid first.set opens set judgement
-        (λ task is. task_apart name (names_of opens) mid busy (length opens) task terms.rule command (λ recovers. spared_on mid opens first begins.are (if_recover session rests recovers)) first.set other
-        (subst (λ (j : Result Task Reply). JudgedBeside terms.rule command opens mid j) is judged)) d)
+        (λ task is. task_apart name (names_of opens) mid command busy (length opens) task (subst (IsFit mid command busy (length opens)) is (fits mid busy (length opens) terms.rule command judgement judged))
+        (λ recovers. spared_on mid opens first begins.are (if_recover session rests recovers)) first.set other) d)
     step_stays judgement terms set other (wanting mid opens begins wants) = let first = begins_stay session rests mid opens begins in both_stay name s mid after.lab first (same_stays name mid after.lab first.set (ap (λ (a : After). a.lab) wants.after_is))
     step_stays judgement terms set other (broke no' closed breaks) = part_stays breaks.part (rests (ap (λ (x : Session). settles x command name) closed ∙ ap is_none no'))
     step_stays judgement terms set other (drilled some none drills) = same_stays name s after.lab there (drill_is terms s session own after drills).1

@@ -2,8 +2,7 @@ use Rattle.std.proofs.Common.{arith, length}
 use Rattle.script_text.proofs.Blocks.{block_length, block_size}
 use Rattle.lab_core.specs.Controller.{has_open}
 use Rattle.lab_core.specs.Judge.{JudgedModify, JudgedSwapin, judged_modify, judged_swapin, judged_swapout}
-use Rattle.lab_core.proofs.Judgements.{slot_so}
-use Rattle.lab_core.proofs.JudgeSwap.{slot_judged}
+use Rattle.lab_core.proofs.Judgements.{slot_judged, slot_so}
 use Rattle.lab_core.proofs.judge.judge.Goals as goal
 
 pub judge_ptop-requires : goal.judge_ptop-requires
