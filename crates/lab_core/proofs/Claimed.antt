@@ -6,7 +6,7 @@ use Rattle.std.proofs.lemmas.List.Recursion.{is_count_by}
 use Rattle.std.proofs.lemmas.Slice.Eq.{bytes_eq-Decides}
 use Rattle.std.proofs.lemmas.List.Sums.{sum_by-cons, length-filter}
 use Rattle.lab_base.specs.Lists.{Has, AllDiffer}
-use Rattle.lab_base.proofs.Members.{Has-left, Has-right, flat-each}
+use Rattle.lab_base.proofs.Members.{Has-left, Has-right, flat-each, Has-flat_mapped}
 use Rattle.phys_lab.specs.Labs.{Lab}
 use Rattle.phys_lab.specs.Kept.{IsLab}
 use Rattle.phys_lab.specs.Forests.{numbers}
@@ -29,6 +29,7 @@ use Rattle.claims.proofs.Matching.{Match}
 use Rattle.claims.proofs.OthersLeave.{node_by, side_tags, id_by, named_apart}
 use Rattle.claims.proofs.Ranges.{rest_of_range}
 use Rattle.lab_core.specs.Counts.{nodes_claimed, ids_claimed, nodes_free, is_taken, ids_free}
+use Rattle.virt_topo.proofs.MoreLaws.{or_false}
 
 -- a test that none passes, and what pass and don't are all
 count_none : {X : Type 0} (p : X → Bool) → ((x : X) → p x ≡ false) → (xs : List X) → count_by p xs ≡ 0
@@ -45,10 +46,6 @@ count_both p (x ∷ xs) = omega (arith, sum_by-cons (λ y. cond (p y) 1 0) x xs,
 length_range : (a n : ℕ) → length (range_with_len a n) ≡ n
 length_range a zero = refl
 length_range a (suc n) = omega (arith, length_range (a + 1) n)
-
-or_false : (b : Bool) → (b || false) ≡ b
-or_false true = refl
-or_false false = refl
 
 -- ---- an experiment that is out claims nothing
 out_nodes : (lab : Lab) (e : Experiment) → e.phase ≡ Out → nodes_claimed lab e ≡ 0
@@ -87,16 +84,11 @@ in_nodes lab e is_lab fits is =
     count_places (λ node. claims_it lab e node.name) (λ n. is_in n (claim_nodes (claim_of lab e))) lab.nodes no_node 0
     (λ i h. node_of lab e i is_lab fits h is ∙ ap (λ (n : ℕ). is_in n (claim_nodes (claim_of lab e))) (omega arith))
 
-flat_has : {X Y : Type 0} (f : X → List Y) (xs : List X) (x : X) (y : Y) → Has xs x → Has (f x) y → Has (flat_map f xs) y
-flat_has f [] x y h g = absurd h
-flat_has {X} {Y} f (z ∷ xs) x y (inl same) g = Has-left (f z) (flat_map f xs) y (subst (λ (w : X). Has (f w) y) (sym same) g)
-flat_has f (z ∷ xs) x y (inr h) g = Has-right (f z) (flat_map f xs) y (flat_has f xs x y h g)
-
 in_ids : (lab : Lab) (es : List Experiment) (e : Experiment) → Holding lab es → Has es e → ids_claimed e ≡ ids_claimed_of lab.range (Some (claim_of lab e))
 in_ids lab es e holding h =
     let taken = claimed_tags e in
     let tags : claim_tags (claim_of lab e) ≡ taken = λ i. side_tags lab (claimed e Old) i ++ side_tags lab (claimed e New) i in
-    let within : (x : ℕ) → Has taken x → (lab.range.0 ≤ x) × (x < lab.range.0 + size_of lab.range) = λ x g. by x (holding.in_range x (flat_has claimed_tags es e x h g)) in
+    let within : (x : ℕ) → Has taken x → (lab.range.0 ≤ x) × (x < lab.range.0 + size_of lab.range) = λ x g. by x (holding.in_range x (Has-flat_mapped claimed_tags es e x h g)) in
     let rest = rest_of_range taken lab.range.0 (size_of lab.range) (flat-each claimed_tags es e holding.tags h) within in
     let both = count_both (λ id. is_in id taken) (ids lab.range) in
     let counted : count_by (λ id. is_in id taken) (ids lab.range) ≡ length taken = omega (arith, rest, both, length_range lab.range.0 (size_of lab.range)) in

@@ -35,6 +35,7 @@ use Rattle.lab_core.specs.Compaction.{AfterMove, HasMoved, IsPacked, IsToMove, M
 use Rattle.lab_core.specs.Controller.{Control}
 use Rattle.lab_core.specs.Moments.{AllStandFor, IsLengthAt, IsLiveAt}
 use Rattle.lab_core.proofs.Obey.{if_all}
+use Rattle.journal_disk.proofs.Chains.{nothing_yet}
 
 pub ok_then : {T E P Q : Type 0} → (result : Result T E) → (P → Q) → OnOk result P → OnOk result Q
 ok_then (Ok value) f p = f p
@@ -74,13 +75,9 @@ pub is_needed : (size epoch : ℕ) (s : LabState) (packed : List ℕ) → IsPack
 is_needed size epoch s packed are none due = let half : nat_le (2 * side_length packed) size ≡ true = le-leb _ _ (omega (arith, due.half, packed_side packed _ are.bytes)) in absurd (cc (none, half))
 
 -- where nothing was done
-nothing_added : (told : Option Told) → told ≡ with_steps told []
-nothing_added None = refl
-nothing_added (Some t) = ap (λ l. let o : Option Told = Some (record t { trace = l }) in o) (sym (append-nil t.trace))
-
 undone : (s : LabState) (j : Journal) (told : Option Told) (result : Result (Unit {0}) OpenFault) → ((t : Told) → MoveEnds t.trace [] s j result) → AfterMove s j told told result
 undone s j told result ends =
-    ([], nothing_added told, if_all told (λ t. MoveSteps t.trace [] s j result) (λ t. record { shifts = refl; no_restart = refl; sound = λ sound. subst (λ l. IsSound the_texts l) (sym (append-nil t.trace)) sound; ends = ends t }))
+    ([], nothing_yet told, if_all told (λ t. MoveSteps t.trace [] s j result) (λ t. record { shifts = refl; no_restart = refl; sound = λ sound. subst (λ l. IsSound the_texts l) (sym (append-nil t.trace)) sound; ends = ends t }))
 
 pub stays_after : (s : LabState) (j : Journal) (told : Option Told) (done : Unit {0}) → (IsToMove (length_of j) (epoch_of j) s → ⊥) → AfterMove s j told told (Ok done)
 stays_after s j told done not = undone s j told (Ok done) (λ t. stays not refl)

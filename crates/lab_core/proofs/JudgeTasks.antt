@@ -37,6 +37,7 @@ use Rattle.lab_core.specs.declared.task.Task.TheVariants as tasks
 use Rattle.lab_core.specs.Judge.{lab_reply, created_reply, need_place}
 use Rattle.lab_state.specs.Texts.{the_texts}
 use Rattle.lab_core.specs.Tasks.{CanDo, EndsNoMove, IsMild, MayFollow}
+use Rattle.line_text.proofs.Widths.{name_length}
 
 -- the lab stays
 pub lab_stays : (s u : LabState) (lab : Lab) (move : Move) → s.lab ≡ Some lab → moved s move ≡ Some u → lab ≡ lab_in u.lab
@@ -45,9 +46,6 @@ lab_stays s u lab move is gives =
     ap (λ (v : LabState). lab_in v.lab) x.2
 
 -- a name is short
-pub name_short : (name : List ℕ) → is_name name ≡ true → length name ≤ 32
-name_short name is = leb-true (length name) 32 (and_parts _ _ (and_parts _ _ is).1).0
-
 -- THE SWAP OF A RECORD, which can follow whatever the world: the experiment moves so then, and that is the plan
 pub record Leads (s : LabState) (lab : Lab) (p : SwapOf) (way : Way) (course back : Plan) : Type 0 where
   pub move : Move
@@ -70,7 +68,7 @@ can_swap s lab p way ops is_lab is_record h = (
     says = h.says;
     ready = h.ready;
     begins = h.begins;
-    moves = h.moves (name_short p.name is_record.fields.0);
+    moves = h.moves (name_length p.name is_record.fields.0);
     plan = λ u gives. subst (λ (l : Lab). IsPlanOf p l (unsent p.name way ops.commands ops.undo)) (lab_stays s u lab h.move is_lab gives) h.plan;
   },
 )

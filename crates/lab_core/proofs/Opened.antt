@@ -27,11 +27,6 @@ one_more es n x false is moves =
     count_by_more_no is_moving es n x (slice_get_within es n x is) (ap is_moving (get_or_from_slice_get es n x x is) ∙ sym moves) ∙ omega arith
 
 -- below the length an experiment stands
-pub is_there : (es : List Experiment) (n : ℕ) → n < length es → slice_get es n ≡ None → ⊥
-is_there [] n within none = absurd (omega (arith, within))
-is_there (e ∷ es) zero within none = cc none
-is_there (e ∷ es) (suc n) within none = is_there es n (omega (arith, within)) none
-
 -- THE RECORDS that were found, with their places
 pub records_of_placed : (gate : ℕ) (rs : List Record) → map (λ f. f.entry) (placed gate rs) ≡ rs
 records_of_placed gate [] = refl
