@@ -88,7 +88,7 @@ module _ (before now : Seen) (old new : Control) (opens : List OpenSwap) (exp : 
   pub cause_since : IsCausedSince h.end.finished.outcome place.one.devices before now
   cause_since = causes h.end.finished.outcome h.end.finished.over (subst (λ (o : RunningSwap). IsFinishCaused o h.end.finished.outcome before now) (sym place.running) h.end.finished.cause)
 
-  module _ (limit : limit_of new.journal ≡ limit_of old.journal) (stops : IsStop told ↔ IsTrue now.stopped) where
+  module _ (devices : ℕ) (limit : limit_of new.journal ≡ limit_of old.journal) (stops : IsStop told ↔ IsTrue now.stopped) where
     abbrev EndIs : Outcome → List Event → LabState → Type 0
     EndIs outcome steps lab = Finishes old.lab place.one.running steps outcome lab
 
@@ -96,14 +96,14 @@ module _ (before now : Seen) (old new : Control) (opens : List OpenSwap) (exp : 
     end_to outcome = place.front ++ place.rest
 
     end_done : (outcome : Outcome) (lab : LabState) (behind : List Event) (reply : Reply) (session : Session) → EndIs outcome h.end.finished.steps lab → StartsBehind outcome behind → turn_reply place.one.running.swap outcome ≡ Some reply → session ≡ end_session (end_to outcome) outcome
-        → IsDone (Is (Ok (Finish exp))) (start_of before old opens) (h.end.finished.steps ++ behind) (Some reply) lab session
+        → IsDone (Is (Ok (Finish exp))) (start_of devices old opens) (h.end.finished.steps ++ behind) (Some reply) lab session
     end_done outcome lab behind reply session is starts reply_is session_is =
         does (Ok (Finish exp)) refl
         (record { one = end_one; moves = end_moves; outcome = outcome; steps = h.end.finished.steps; behind = behind; own_is = refl; finishes = is; answered = is_told starts (sym (over_reply place.one.running.swap outcome reply is.over reply_is)) session_is })
 
     abbrev EndLeads : Outcome → Type 0
-    EndLeads outcome = Leads before now (Is (Ok (Finish exp))) old new opens end_to place.one.running.swap exp h.end.finished.steps h.end.finished.told h.end.finished.sound h.end.finished.later limit
-        (λ outcome. opened_without opens place.front place.one place.rest place.are before.faults.devices) EndIs end_done outcome
+    EndLeads outcome = Leads devices before now (Is (Ok (Finish exp))) old new opens end_to place.one.running.swap exp h.end.finished.steps h.end.finished.told h.end.finished.sound h.end.finished.later limit
+        (λ outcome. opened_without opens place.front place.one place.rest place.are devices) EndIs end_done outcome
 
     leads_by : (outcome : Outcome) → IsOver outcome → Goes outcome → FinishLeaves the_texts old.lab h.end.swap before now new.journal h.end.finished.steps outcome → EndLeads outcome
     leads_by More over goes leaves = absurd over
@@ -114,10 +114,10 @@ module _ (before now : Seen) (old new : Control) (opens : List OpenSwap) (exp : 
     leads_by Stopped over goes leaves = closes_as the_texts before.told h.end.finished.steps _ _ (λ lab all. ends_from Stopped h.end.finished.steps lab all) leaves
 
     -- IT IS GONE, and each other is as it was
-    pub ended : Obeyed before now (Is (Ok (Finish exp))) old new opens (Some exp) (progress_answer exp told)
+    pub ended : Obeyed devices before now (Is (Ok (Finish exp))) old new opens (Some exp) (progress_answer exp told)
     ended =
-        by_outcome before now (Is (Ok (Finish exp))) old new opens end_to place.one.running.swap exp h.end.finished.steps h.end.finished.told h.end.finished.sound h.end.finished.later limit
-        (λ outcome. opened_without opens place.front place.one place.rest place.are before.faults.devices) EndIs end_done h.end.finished.outcome (leads_by h.end.finished.outcome h.end.finished.over h.goes h.end.finished.leaves)
-        (subst (λ (n : ℕ). IsCausedSince h.end.finished.outcome n before now) (sym (counted before now old new opens exp works h.end.before h.end.behind x h.end.opens_are h.end.named)) cause_since)
+        by_outcome devices before now (Is (Ok (Finish exp))) old new opens end_to place.one.running.swap exp h.end.finished.steps h.end.finished.told h.end.finished.sound h.end.finished.later limit
+        (λ outcome. opened_without opens place.front place.one place.rest place.are devices) EndIs end_done h.end.finished.outcome (leads_by h.end.finished.outcome h.end.finished.over h.goes h.end.finished.leaves)
+        (subst (λ (n : ℕ). IsCausedSince h.end.finished.outcome n before now) (sym (counted before now old new opens exp works h.end.before h.end.behind x h.end.opens_are h.end.named devices)) cause_since)
         (λ halted. stops.0 (end_halts.0 halted)) (λ stopped. end_halts.1 (stops.1 stopped)) (progress_answer exp told)
         (subst (λ (o : RunningSwap). IsAnswer o.swap h.end.finished.outcome (progress_answer exp told)) (sym place.running) (end_answer h.end.finished.outcome refl))

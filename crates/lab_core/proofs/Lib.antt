@@ -14,7 +14,6 @@ pub mod OpenNames
 pub mod Opened
 pub mod OpenLaws
 pub mod Openings
-pub mod OtherSwaps
 pub mod OtherWorlds
 pub mod Others
 pub mod OuterReplies

@@ -26,12 +26,9 @@ use Rattle.lab_core.specs.LabSteps.{IsDoneBy, JudgedBeside, does, no_memory}
 use Rattle.lab_core.specs.Obey.{Start, start_of, IsDone, Leaves, Answers, ObeyEnds, ObeySteps, ObeyTold, Obeyed}
 use Rattle.lab_core.specs.Sessions.{After, Closed, Open, OpenSwap, Setting, AreOpenedBy, counted_from}
 use Rattle.lab_core.specs.Tasks.{IsMild}
+use Rattle.journal_disk.proofs.Chains.{nothing_yet}
 
 -- no steps more
-pub no_steps : (told : Option Told) → told ≡ with_steps told []
-no_steps None = refl
-no_steps (Some t) = ap (λ (l : List Event). Some (record t { trace = l })) (sym (append-nil t.trace))
-
 pub false_true : {X : Type 0} → false ≡ true → X
 false_true h = absurd (cc h)
 
@@ -48,13 +45,13 @@ abbrev pub RunsOn : Seen → Seen → Type 0
 RunsOn before now = before.stopped ≡ false → now.stopped ≡ true → ⊥
 
 -- WHAT A CALL LEAVES, by the steps that it added
-module _ (before now : Seen) (IsJudged : Result Task Reply → Type 0) (old new : Control) (opens to : List OpenSwap) (exp : Option (List ℕ)) (own : List Event) (told : now.told ≡ with_steps before.told own)
-    (sound : IfSome before.told (λ w. IsSound the_texts w.trace → IsSound the_texts (w.trace ++ own))) (later : IsLater before now) (limit : limit_of new.journal ≡ limit_of old.journal) (opened : AreOpenedBy opens to before.faults.devices) where
+module _ (devices : ℕ) (before now : Seen) (IsJudged : Result Task Reply → Type 0) (old new : Control) (opens to : List OpenSwap) (exp : Option (List ℕ)) (own : List Event) (told : now.told ≡ with_steps before.told own)
+    (sound : IfSome before.told (λ w. IsSound the_texts w.trace → IsSound the_texts (w.trace ++ own))) (later : IsLater before now) (limit : limit_of new.journal ≡ limit_of old.journal) (opened : AreOpenedBy opens to devices) where
   abbrev start : Start
-  start = start_of before old opens
+  start = start_of devices old opens
 
   abbrev Left : Result Reply CoreFault → Type 0
-  Left result = Obeyed before now IsJudged old new opens exp result
+  Left result = Obeyed devices before now IsJudged old new opens exp result
 
   steps_by : (result : Result Reply CoreFault) → IfSome before.told (λ w. ObeyEnds w.trace IsJudged start own new.lab to result) → ObeyTold before now IsJudged start new.lab to result
   steps_by result ends = (
@@ -65,7 +62,7 @@ module _ (before now : Seen) (IsJudged : Result Task Reply → Type 0) (old new 
 
   -- IT GOES ON
   pub goes_on : (reply : Reply) → closes reply ≡ false → IsDone IsJudged start own (Some reply) new.lab (Open to) → WorksWith now new to
-      → (blames_device reply ≡ true → Rose (counted_from opens exp before.faults.devices) now.faults.devices) → RunsOn before now → Left (Ok reply)
+      → (blames_device reply ≡ true → Rose (counted_from opens exp devices) now.faults.devices) → RunsOn before now → Left (Ok reply)
   goes_on reply open_still done works blames runs = record {
     to = to;
     obeys = steps_by (Ok reply) (if_all before.told (λ w. ObeyEnds w.trace IsJudged start own new.lab to (Ok reply)) (λ w. subst (λ b. Answers w.trace IsJudged start own reply new.lab to b) (sym open_still) done));
@@ -75,7 +72,7 @@ module _ (before now : Seen) (IsJudged : Result Task Reply → Type 0) (old new 
     down = λ closing. not_both (closes reply) closing open_still;
     device = blames;
     later = later.disk;
-    devices = later.devices;
+    still = later.devices;
     stopped = λ ran. (λ h. cc h, λ h. absurd (runs ran h));
   }
 
@@ -90,7 +87,7 @@ module _ (before now : Seen) (IsJudged : Result Task Reply → Type 0) (old new 
     down = tt;
     device = tt;
     later = later.disk;
-    devices = later.devices;
+    still = later.devices;
     stopped = λ ran. (λ h. cc h, λ h. absurd (runs ran h));
   }
 
@@ -114,7 +111,7 @@ module _ (before now : Seen) (IsJudged : Result Task Reply → Type 0) (old new 
     down = λ _. rose;
     device = λ blaming. not_both (blames_device reply) blaming mild;
     later = later.disk;
-    devices = later.devices;
+    still = later.devices;
     stopped = λ ran. (λ h. cc h, λ h. absurd (runs ran h));
   }
 
@@ -130,7 +127,7 @@ module _ (before now : Seen) (IsJudged : Result Task Reply → Type 0) (old new 
     down = tt;
     device = tt;
     later = later.disk;
-    devices = later.devices;
+    still = later.devices;
     stopped = λ ran. (λ h. stop ran, λ h. refl);
   }
 
@@ -146,21 +143,21 @@ pub same_opened : (opens : List OpenSwap) (count : ℕ) → AreOpenedBy opens op
 same_opened opens count = λ o has. inr (o, has, refl, refl)
 
 -- a mild reply
-pub replied : (before : Seen) (IsJudged : Result Task Reply → Type 0) (c : Control) (opens : List OpenSwap) (exp : Option (List ℕ)) (reply : Reply) → WorksWith before c opens → IsMild reply
-    → IsDone IsJudged (start_of before c opens) [] (Some reply) c.lab (Open opens) → Obeyed before before IsJudged c c opens exp (Ok reply)
-replied before IsJudged c opens exp reply works mild done =
-    goes_on before before IsJudged c c opens opens exp [] (no_steps before.told) (sound_still before.told) (same_later before) refl (same_opened opens before.faults.devices) reply mild.0 done works (λ blaming. not_both (blames_device reply) blaming mild.1)
+pub replied : (devices : ℕ) (before : Seen) (IsJudged : Result Task Reply → Type 0) (c : Control) (opens : List OpenSwap) (exp : Option (List ℕ)) (reply : Reply) → WorksWith before c opens → IsMild reply
+    → IsDone IsJudged (start_of devices c opens) [] (Some reply) c.lab (Open opens) → Obeyed devices before before IsJudged c c opens exp (Ok reply)
+replied devices before IsJudged c opens exp reply works mild done =
+    goes_on devices before before IsJudged c c opens opens exp [] (nothing_yet before.told) (sound_still before.told) (same_later before) refl (same_opened opens devices) reply mild.0 done works (λ blaming. not_both (blames_device reply) blaming mild.1)
     (λ ran stopped. not_both before.stopped stopped ran)
 
 -- a refusal
-pub refuses : (before : Seen) (IsJudged : Result Task Reply → Type 0) (c : Control) (opens : List OpenSwap) (exp : Option (List ℕ)) (reply : Reply) → WorksWith before c opens → IsJudged (Err reply) × IsMild reply
-    → Obeyed before before IsJudged c c opens exp (Ok reply)
-refuses before IsJudged c opens exp reply works is = replied before IsJudged c opens exp reply works is.1 (does (Err reply) is.0 (record { nothing = refl; after_is = refl }))
+pub refuses : (devices : ℕ) (before : Seen) (IsJudged : Result Task Reply → Type 0) (c : Control) (opens : List OpenSwap) (exp : Option (List ℕ)) (reply : Reply) → WorksWith before c opens → IsJudged (Err reply) × IsMild reply
+    → Obeyed devices before before IsJudged c c opens exp (Ok reply)
+refuses devices before IsJudged c opens exp reply works is = replied devices before IsJudged c opens exp reply works is.1 (does (Err reply) is.0 (record { nothing = refl; after_is = refl }))
 
 -- memory was wanting
-pub wanted : (before : Seen) (IsJudged : Result Task Reply → Type 0) (c : Control) (opens : List OpenSwap) (exp : Option (List ℕ)) → WorksWith before c opens → Obeyed before before IsJudged c c opens exp (Err faults.Memory)
-wanted before IsJudged c opens exp works =
-    wants before before IsJudged c c opens opens exp [] (no_steps before.told) (sound_still before.told) (same_later before) refl (same_opened opens before.faults.devices) (no_memory (record { nothing = refl; after_is = refl })) works
+pub wanted : (devices : ℕ) (before : Seen) (IsJudged : Result Task Reply → Type 0) (c : Control) (opens : List OpenSwap) (exp : Option (List ℕ)) → WorksWith before c opens → Obeyed devices before before IsJudged c c opens exp (Err faults.Memory)
+wanted devices before IsJudged c opens exp works =
+    wants devices before before IsJudged c c opens opens exp [] (nothing_yet before.told) (sound_still before.told) (same_later before) refl (same_opened opens devices) (no_memory (record { nothing = refl; after_is = refl })) works
     (λ ran stopped. not_both before.stopped stopped ran)
 
 -- WHAT IS JUDGED in other words
@@ -185,9 +182,9 @@ module _ (A B : Result Task Reply → Type 0) (each : (j : Result Task Reply) �
   ends_by trace start own lab to (Err faults.Stopped) h = left_by trace start own _ _ h
   ends_by trace start own lab to (Err faults.Memory) h = done_by start.set start.lab start.opens own _ h
 
-  pub obeyed_by : (before now : Seen) (old new : Control) (opens : List OpenSwap) (exp : Option (List ℕ)) (result : Result Reply CoreFault) → Obeyed before now A old new opens exp result → Obeyed before now B old new opens exp result
-  obeyed_by before now old new opens exp result h =
-      let start = start_of before old opens in
+  pub obeyed_by : (devices : ℕ) (before now : Seen) (old new : Control) (opens : List OpenSwap) (exp : Option (List ℕ)) (result : Result Reply CoreFault) → Obeyed devices before now A old new opens exp result → Obeyed devices before now B old new opens exp result
+  obeyed_by devices before now old new opens exp result h =
+      let start = start_of devices old opens in
       record {
         to = h.to;
         obeys = (
@@ -202,12 +199,12 @@ module _ (A B : Result Task Reply → Type 0) (each : (j : Result Task Reply) �
         down = h.down;
         device = h.device;
         later = h.later;
-        devices = h.devices;
+        still = h.still;
         stopped = h.stopped;
       }
 
 -- WHAT WAS JUDGED of a command beside the open swaps, and done
-pub obeyed_as : (rule : RuleNumber) (before now : Seen) (old new : Control) (opens : List OpenSwap) (exp : Option (List ℕ)) (command : Command) (judgement : Result Task Reply) → JudgedBeside rule command opens old.lab judgement → (result : Result Reply CoreFault)
-    → Obeyed before now (Is judgement) old new opens exp result → Obeyed before now (JudgedBeside rule command opens old.lab) old new opens exp result
-obeyed_as rule before now old new opens exp command judgement judged result h =
-    obeyed_by (Is judgement) (JudgedBeside rule command opens old.lab) (λ j is. subst (λ (x : Result Task Reply). JudgedBeside rule command opens old.lab x) (sym is) judged) before now old new opens exp result h
+pub obeyed_as : (rule : RuleNumber) (devices : ℕ) (before now : Seen) (old new : Control) (opens : List OpenSwap) (exp : Option (List ℕ)) (command : Command) (judgement : Result Task Reply) → JudgedBeside rule command opens old.lab judgement → (result : Result Reply CoreFault)
+    → Obeyed devices before now (Is judgement) old new opens exp result → Obeyed devices before now (JudgedBeside rule command opens old.lab) old new opens exp result
+obeyed_as rule devices before now old new opens exp command judgement judged result h =
+    obeyed_by (Is judgement) (JudgedBeside rule command opens old.lab) (λ j is. subst (λ (x : Result Task Reply). JudgedBeside rule command opens old.lab x) (sym is) judged) devices before now old new opens exp result h

@@ -20,6 +20,7 @@ use Rattle.lab_core.specs.Controller.{Control, WorksWith, has_open, has_open_for
 use Rattle.lab_core.specs.Judge.{Task, Judged}
 use Rattle.lab_core.specs.LabSteps.{JudgedBeside}
 use Rattle.lab_core.specs.Sessions.{OpenSwap, is_among, name_in, name_of, names_of}
+use Rattle.phys_lab.proofs.ForestLaws.{same_test}
 
 -- A NAME IS BUSY exactly where it is one of these
 pub busy_has : (names : List (List ℕ)) (exp : List ℕ) → is_busy names exp ≡ true → Has names exp
@@ -49,21 +50,16 @@ busy_open swaps exp h =
 pub not_busy : (swaps : List Live) (exp : List ℕ) → (HasOpen swaps exp → ⊥) → has_open swaps exp ≡ false
 not_busy swaps exp none = false_from_ne_true (has_open swaps exp) (λ h. none (busy_open swaps exp h))
 
-same_test : (a b : Bool) → (a ≡ true → b ≡ true) → (b ≡ true → a ≡ true) → a ≡ b
-same_test true b to back = sym (to refl)
-same_test false true to back = back refl
-same_test false false to back = refl
-
 -- THE SESSION HAS THE SAME NAMES, and as many
 module _ (now : Seen) (c : Control) (opens : List OpenSwap) (works : WorksWith now c opens) where
-  opens_has : (exp : List ℕ) → Has (names_of opens) exp → HasOpen c.swaps exp
+  pub opens_has : (exp : List ℕ) → Has (names_of opens) exp → HasOpen c.swaps exp
   opens_has exp h =
       let o = Has-map name_in opens exp h in
       let listed = subst (λ (l : List RunningSwap). Has l o.0.running) (sym works.are) (Has-mapped (λ (x : OpenSwap). x.running) opens o.0 o.1) in
       let q = Has-map (λ (x : RunningSwap × Live). x.0) works.pairs o.0.running listed in
       record { state = q.0.1; stands = works.holds.stands q.0 q.1; named = named_open c.lab q.0.0 q.0.1 (works.working.each q.0 q.1) ∙ ap (λ (r : RunningSwap). r.swap.name) q.2 ∙ o.2 }
 
-  has_opens : (exp : List ℕ) → HasOpen c.swaps exp → Has (names_of opens) exp
+  pub has_opens : (exp : List ℕ) → HasOpen c.swaps exp → Has (names_of opens) exp
   has_opens exp h =
       let q = works.holds.listed_of h.state h.stands in
       let listed = subst (λ (l : List RunningSwap). Has l q.0) works.are (Has-mapped (λ (x : RunningSwap × Live). x.0) works.pairs (q.0, h.state) q.1) in

@@ -1,5 +1,5 @@
 -- The open swaps of a session beside the pairs of a manager: where one of them stands, and what was counted since it was opened.
-use Rattle.std.proofs.Common.{◌≡◌, ◌≢◌, ◌⊎◌, inl, inr, ◌≤◌, ℕ, List, [], ◌∷◌, ◌++◌, map, Some, None, refl, sym, ap, ◌∙◌, subst, arith}
+use Rattle.std.proofs.Common.{◌≡◌, ◌≢◌, ◌⊎◌, inl, inr, ◌≤◌, ℕ, List, [], ◌∷◌, ◌++◌, map, length, Some, None, Result, Ok, Err, refl, sym, ap, ◌∙◌, subst, arith}
 use Rattle.std.proofs.lemmas.Bool.{cond-true, cond-false, false_from_ne_true}
 use Rattle.std.proofs.lemmas.List.{map-append}
 use Rattle.std.proofs.lemmas.Slice.Eq.{bytes_eq-Decides}
@@ -17,9 +17,11 @@ use Rattle.swap_turns.specs.Legs.{Leg, Forth, Undo, Settling}
 use Rattle.swap_turns.specs.Running.{OpenSwap as RunningSwap}
 use Rattle.swap_turns.specs.Turning.{Outcome, More, TurnsBack, Ended, Stuck, Unwritten, Stopped, IsOutcomeCaused, open_after}
 use Rattle.swap_turns.proofs.Pushing.{rose_later}
-use Rattle.lab_core.specs.Controller.{Control, WorksWith}
+use Rattle.journal_disk.specs.declared.fault.OpenFault.{OpenFault}
+use Rattle.lab_core.specs.Controller.{Control, Works, WorksWith}
 use Rattle.lab_core.specs.LabSteps.{turned_on}
 use Rattle.lab_core.specs.Sessions.{OpenSwap, IsSince, HasRisenBy, name_in, open_at, AreOpenedBy}
+use Rattle.std.specs.Prelude.{IfOk}
 
 abbrev pub Pair : Type 0
 Pair = RunningSwap × Live
@@ -196,3 +198,17 @@ opened_more opens last count is x has = elim (Has-append opens (last ∷ []) x h
     | inr none ↦ absurd none
   ]
 ]
+
+-- A CONTROLLER THAT WORKS with no open swap
+alone_works : (now : Seen) (c : Control) → Works now.told c → c.swaps ≡ [] → WorksWith now c []
+alone_works now c works none = record {
+  pairs = [];
+  are = refl;
+  working = record { work = works; differ = tt; each = λ o there. absurd there; running = λ o there. absurd there };
+  holds = record { listed_of = λ x there. absurd (subst (λ l. Has l x) none there); stands = λ q there. absurd there; count = sym (ap length none); plain = λ q there. absurd there };
+  since = λ o there. absurd there;
+}
+
+pub opened_alone : (now : Seen) (old : Control) (result : Result Control OpenFault) → old.swaps ≡ [] → IfOk result (λ c. Works now.told c) → IfOk result (λ c. c.swaps ≡ old.swaps) → IfOk result (λ c. WorksWith now c [])
+opened_alone now old (Ok c) none works same = alone_works now c works (same ∙ none)
+opened_alone now old (Err fault) none works same = tt

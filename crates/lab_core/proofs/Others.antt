@@ -1,5 +1,5 @@
--- Moves of one experiment leave those of other names, and a settling leaves those that don't move.
-use Rattle.std.proofs.Common.{◌≡◌, ◌≢◌, ◌⊎◌, inl, inr, ℕ, Bool, true, false, cond, is_some, Option, Some, None, List, [], ◌∷◌, ◌++◌, refl, sym, ap, ◌∙◌, subst}
+-- Moves of one experiment leave those of other names, a settling leaves those that don't move, and a record that ends no move those that do.
+use Rattle.std.proofs.Common.{◌≡◌, ◌≢◌, ◌⊎◌, inl, inr, ℕ, Bool, true, false, cond, is_some, Option, Some, None, List, [], ◌∷◌, ◌++◌, refl, sym, ap, ◌∙◌, subst, arith}
 use Rattle.std.specs.Prelude.{if◌then◌else◌}
 use Rattle.std.specs.Str.{bytes_eq}
 use Rattle.std.proofs.lemmas.Bool.{cases_Bool, cond-true, cond-false, false_from_ne_true}
@@ -10,16 +10,22 @@ use Rattle.plant.specs.declared.step.Side.{Side}
 use Rattle.virt_topo.specs.declared.experiment.Experiment.{Experiment}
 use Rattle.virt_topo.specs.declared.experiment.Phase.{Phase}
 use Rattle.virt_topo.specs.declared.experiment.Phase.TheVariants.{Out, In, Moving}
+use Rattle.virt_topo.specs.declared.mapping.Mapped.{Mapped}
 use Rattle.journal_rec.specs.declared.record.Record.{Record}
-use Rattle.records_model.specs.Labs.{LabState, Move, SetLab, Creates, Deletes, BeginsIn, BeginsOut, BeginsChange, Commits, Aborts, find, others, becomes, is_out, deleted, moved_one, moved_in, moved_of, moved}
+use Rattle.journal_rec.specs.declared.record.Record.TheVariants as records
+use Rattle.journal_rec.specs.declared.record.Way.{Way}
+use Rattle.journal_rec.specs.declared.record.Way.TheVariants as ways
+use Rattle.records_model.specs.Labs.{LabState, Move, Says, SetLab, Creates, Deletes, BeginsIn, BeginsOut, BeginsChange, Commits, Aborts, find, others, becomes, is_out, deleted, moved_one, moved_in, moved_of, moved}
 use Rattle.records_model.proofs.Finding.{some_is, none_some, found_from}
+use Rattle.claims.proofs.Matching.{not_eq}
+use Rattle.lab_state.specs.Texts.{the_texts}
 use Rattle.records_model.proofs.LabLaws.{in_state-some, with_replaced-some, found_one}
 use Rattle.records_model.proofs.Swaps.{find_others}
 use Rattle.lab_base.specs.Lists.{Has, listed}
 use Rattle.lab_base.proofs.Members.{Has-left, Has-right, Has-flat_map}
 use Rattle.lab_model.specs.Sound.{is_moving}
 use Rattle.recovery.specs.Due.{due, is_busy, swap_if, swaps_of}
-use Rattle.swap_turns.specs.Swaps.{Swap}
+use Rattle.swap_turns.specs.Swaps.{Swap, Moves}
 use Rattle.swap_turns.specs.Records.{IsBroken}
 use Rattle.swap_turns.specs.Beginning.{opened, settling}
 use Rattle.swap_turns.specs.Finishing.{Finishes}
@@ -31,14 +37,12 @@ use Rattle.swap_turns.specs.Whole.{SwapSteps, begun, unwritten, stopped}
 use Rattle.swap_turns.proofs.Finishing.{onward_swap}
 use Rattle.lab_core.specs.LabSteps.{BeginSteps}
 use Rattle.lab_core.specs.Recovery.{SettlesSome, some, within}
+use Rattle.lab_core.specs.Tasks.{EndsNoMove}
 use Rattle.lab_core.specs.Tells.{IsAtRest}
-
-differs : (a b : List ℕ) → a ≢ b → bytes_eq a b ≡ false
-differs a b apart = false_from_ne_true (bytes_eq a b) (λ h. apart ((bytes_eq-Decides a b).0 h))
 
 -- ---- lists of experiments
 find_added : (name : List ℕ) (es : List Experiment) (e : Experiment) → e.name ≢ name → find name (es ++ e ∷ []) ≡ find name es
-find_added name [] e apart = cond-false (bytes_eq e.name name) (Some e) None (differs e.name name apart)
+find_added name [] e apart = cond-false (bytes_eq e.name name) (Some e) None (not_eq e.name name apart)
 find_added name (x ∷ es) e apart = ap (λ o. cond (bytes_eq x.name name) (Some x) o) (find_added name es e apart)
 
 find_without : (own name : List ℕ) (es : List Experiment) → own ≢ name → find name (others own es) ≡ find name es
@@ -47,7 +51,7 @@ find_without own name (x ∷ es) apart = elim (cases_Bool (bytes_eq x.name own))
   | inl yes' ↦
       let x_is : x.name ≡ own = (bytes_eq-Decides x.name own).0 yes' in
       ap (λ l. find name l) (cond-true (bytes_eq x.name own) es (x ∷ others own es) yes')
-      ∙ sym (cond-false (bytes_eq x.name name) (Some x) (find name es) (differs x.name name (λ same. apart (sym x_is ∙ same))))
+      ∙ sym (cond-false (bytes_eq x.name name) (Some x) (find name es) (not_eq x.name name (λ same. apart (sym x_is ∙ same))))
   | inr no' ↦
       ap (λ l. find name l) (cond-false (bytes_eq x.name own) es (x ∷ others own es) no')
       ∙ ap (λ o. cond (bytes_eq x.name name) (Some x) o) (find_without own name es apart)
@@ -112,15 +116,15 @@ module _ (name : List ℕ) where
   in_stays lab es (Commits own) xs apart h = one_stays lab es own (Commits own) xs apart h
   in_stays lab es (Aborts own) xs apart h = one_stays lab es own (Aborts own) xs apart h
 
-  of_stays : (o : Option Lab) (es : List Experiment) (move : Move) (u : LabState) → is_some o ≡ true → IsApart name move → moved_of o es move ≡ Some u → (is_some u.lab ≡ true) × (find name u.experiments ≡ find name es)
+  pub of_stays : (o : Option Lab) (es : List Experiment) (move : Move) (u : LabState) → is_some o ≡ true → IsApart name move → moved_of o es move ≡ Some u → (u.lab ≡ o) × (find name u.experiments ≡ find name es)
   of_stays None es move u set apart h = absurd (cc set)
   of_stays (Some lab) es move u set apart h =
       let xs = in_state-some lab (moved_in lab es move) u h in
-      (ap (λ (x : LabState). is_some x.lab) (sym xs.2), ap (λ (x : LabState). find name x.experiments) (sym xs.2) ∙ in_stays lab es move xs.0 apart xs.1)
+      (ap (λ (x : LabState). x.lab) (sym xs.2), ap (λ (x : LabState). find name x.experiments) (sym xs.2) ∙ in_stays lab es move xs.0 apart xs.1)
 
   -- A MOVE of another experiment
   pub move_stays : (s u : LabState) (move : Move) → is_some s.lab ≡ true → IsApart name move → moved s move ≡ Some u → Stays name s u
-  move_stays s u move set apart h = let both = of_stays s.lab s.experiments move u set apart h in record { set = both.0; same = both.1 }
+  move_stays s u move set apart h = let both = of_stays s.lab s.experiments move u set apart h in record { set = ap is_some both.0 ∙ set; same = both.1 }
 
   pub same_stays : (s u : LabState) → is_some s.lab ≡ true → u ≡ s → Stays name s u
   same_stays s u set is = record { set = ap (λ (x : LabState). is_some x.lab) is ∙ set; same = ap (λ (x : LabState). find name x.experiments) is }
@@ -272,3 +276,42 @@ module _ (name : List ℕ) where
   pub in_part_stay : (busy : List (List ℕ)) (s after : LabState) (steps : List Event) → is_some s.lab ≡ true → IsSpared busy s name → SettlesSome s busy steps after → Stays name s after
   in_part_stay busy s after steps set (inl is_busy_now) part = some_apart s after busy steps set (busy_apart busy s.experiments is_busy_now) part
   in_part_stay busy s after steps set (inr rests) part = some_stay s after busy steps set rests part
+
+-- A RECORD THAT ENDS NO MOVE leaves each experiment that moves
+abbrev EndsNone : Move → Type 0
+EndsNone (Commits name) = ⊥
+EndsNone (Aborts name) = ⊥
+EndsNone move = Unit {0}
+
+begin_ends_none : (s : LabState) (exp : List ℕ) (way : Way) (move : Move) → Says the_texts s (records.Begin exp way) move → EndsNone move
+begin_ends_none s exp (ways.In map tags) move says = subst EndsNone (sym says.9) tt
+begin_ends_none s exp ways.Out move says = subst EndsNone (sym says) tt
+begin_ends_none s exp (ways.Change top map tags) move says = subst EndsNone (sym says.9) tt
+
+ends_none : (s : LabState) (entry : Record) (move : Move) → EndsNoMove entry → Says the_texts s entry move → EndsNone move
+ends_none s (records.Lab ptop) move no_end says = subst EndsNone (sym says.3) tt
+ends_none s (records.Create exp top) move no_end says = subst EndsNone (sym says.3) tt
+ends_none s (records.Delete exp) move no_end says = subst EndsNone (sym says) tt
+ends_none s (records.Begin exp way) move no_end says = begin_ends_none s exp way move says
+ends_none s (records.Commit exp) move no_end says = absurd no_end
+ends_none s (records.Abort exp) move no_end says = absurd no_end
+
+-- the move is of another one, since one that moves begins nothing
+module _ (es : List Experiment) (e : Experiment) (name : List ℕ) (old new : Option Mapped) (found : find name es ≡ Some e) (moving : e.phase ≡ Moving old new) where
+  in_apart : (lab : Lab) (move : Move) (xs : List Experiment) → EndsNone move → moved_in lab es move ≡ Some xs → IsApart name move
+  in_apart lab (SetLab l) xs none h = tt
+  in_apart lab (Creates own wiring) xs none h = λ same. grind arith
+  in_apart lab (Deletes own) xs none h = λ same. grind arith
+  in_apart lab (BeginsIn own mapping tags) xs none h = λ same. grind arith
+  in_apart lab (BeginsOut own) xs none h = λ same. grind arith
+  in_apart lab (BeginsChange own wiring mapping tags) xs none h = λ same. grind arith
+  in_apart lab (Commits own) xs none h = absurd none
+  in_apart lab (Aborts own) xs none h = absurd none
+
+  of_apart : (o : Option Lab) (move : Move) (u : LabState) → (o ≡ None → es ≡ []) → EndsNone move → moved_of o es move ≡ Some u → (u.lab ≡ o) × (find name u.experiments ≡ find name es)
+  of_apart None move u empty none h = none_some e (sym (ap (λ l. find name l) (empty refl)) ∙ found)
+  of_apart (Some l) move u empty none h = let xs = in_state-some l (moved_in l es move) u h in of_stays name (Some l) es move u refl (in_apart l move xs.0 none xs.1) h
+
+pub record_leaves : (s u : LabState) (entry : Record) (move : Move) (p : Swap) → (s.lab ≡ None → s.experiments ≡ []) → EndsNoMove entry → Says the_texts s entry move → Moves p s → moved s move ≡ Some u
+    → (u.lab ≡ s.lab) × (find p.name u.experiments ≡ find p.name s.experiments)
+record_leaves s u entry move p empty no_end says m h = of_apart s.experiments m.exp p.name p.old p.new m.found m.moving s.lab move u empty (ends_none s entry move no_end says) h

@@ -51,7 +51,7 @@ use Rattle.lab_core.specs.Sessions.{OpenSwap, Setting, Session, Closed, Open, Af
 use Rattle.lab_core.specs.Tasks.{CanAppend}
 use Rattle.lab_core.proofs.Obey.{RunsOn, closed_by, goes_on, halted, not_both, replied, same_opened}
 use Rattle.lab_core.proofs.OpenSwaps.{since_later}
-use Rattle.lab_core.proofs.OtherSwaps.{record_leaves}
+use Rattle.lab_core.proofs.Others.{record_leaves}
 
 -- a record is short enough to be written
 few_tags : (way : Way) → IsWay way → length (tags_of_way way) ≤ 65535
@@ -79,21 +79,21 @@ stands_of before c opens works = by before.told works.working.work.stands
     by (Some t) stands = (stands.records, stands.at)
 
 -- NO SPACE for the first record of a task
-pub full : (before : Seen) (c : Control) (opens : List OpenSwap) (exp : Option (List ℕ)) (task : Task) (entry : Record) (bytes : List ℕ) (long : ℕ) → WorksWith before c opens
-    → ((own : List Event) (after : After) → has_space (start_of before c opens).set entry ≡ false → Replies c.lab opens (replies.FullJournal (length_of c.journal)) own after → Performs (start_of before c opens).set c.lab opens task own after)
+pub full : (devices : ℕ) (before : Seen) (c : Control) (opens : List OpenSwap) (exp : Option (List ℕ)) (task : Task) (entry : Record) (bytes : List ℕ) (long : ℕ) → WorksWith before c opens
+    → ((own : List Event) (after : After) → has_space (start_of devices c opens).set entry ≡ false → Replies c.lab opens (replies.FullJournal (length_of c.journal)) own after → Performs (start_of devices c opens).set c.lab opens task own after)
     → length bytes ≡ size entry → nat_le (length_of c.journal + length bytes + 10240) (limit_of c.journal) ≡ false → long ≡ length_of c.journal
-    → Obeyed before before (Is (Ok task)) c c opens exp (Ok (replies.FullJournal long))
-full before c opens exp task entry bytes long works does_so size_is no_space long_is =
-    let full_so : has_space (start_of before c opens).set entry ≡ false = sym (ap (λ (n : ℕ). nat_le (length_of c.journal + n + 10240) (limit_of c.journal)) size_is) ∙ no_space in
-    subst (λ (n : ℕ). Obeyed before before (Is (Ok task)) c c opens exp (Ok (replies.FullJournal n))) (sym long_is)
-    (replied before (Is (Ok task)) c opens exp (replies.FullJournal (length_of c.journal)) works (refl, refl) (does (Ok task) refl (does_so [] _ full_so (record { nothing = refl; after_is = refl }))))
+    → Obeyed devices before before (Is (Ok task)) c c opens exp (Ok (replies.FullJournal long))
+full devices before c opens exp task entry bytes long works does_so size_is no_space long_is =
+    let full_so : has_space (start_of devices c opens).set entry ≡ false = sym (ap (λ (n : ℕ). nat_le (length_of c.journal + n + 10240) (limit_of c.journal)) size_is) ∙ no_space in
+    subst (λ (n : ℕ). Obeyed devices before before (Is (Ok task)) c c opens exp (Ok (replies.FullJournal n))) (sym long_is)
+    (replied devices before (Is (Ok task)) c opens exp (replies.FullJournal (length_of c.journal)) works (refl, refl) (does (Ok task) refl (does_so [] _ full_so (record { nothing = refl; after_is = refl }))))
 
 pub no_space : (set : Setting) (s : LabState) (opens : List OpenSwap) (entry : Record) (Done : Type 0) (own : List Event) (after : After) → has_space set entry ≡ false → Replies s opens (replies.FullJournal set.length) own after
     → IfSpace (has_space set entry) set.length s opens Done own after
 no_space set s opens entry Done own after no' replies = subst (λ (b : Bool). IfSpace b set.length s opens Done own after) (sym no') replies
 
 -- A RECORD that can follow, with space, was written so
-module _ (before now : Seen) (c new : Control) (opens : List OpenSwap) (entry : Record) (reply : Reply) (state : LabState) (can : CanAppend c.lab entry reply) (follows : Follows the_texts c.lab entry state) (space : has_space (start_of before c opens).set entry ≡ true)
+module _ (devices : ℕ) (exp : Option (List ℕ)) (before now : Seen) (c new : Control) (opens : List OpenSwap) (entry : Record) (reply : Reply) (state : LabState) (can : CanAppend c.lab entry reply) (follows : Follows the_texts c.lab entry state) (space : has_space (start_of devices c opens).set entry ≡ true)
     (most : limit_of c.journal ≤ 2 ^ 32) (works : WorksWith before c opens) (same : new.swaps ≡ c.swaps) (answer : Result (Unit {0}) AppendFault) (writes : Writes entry before now c.journal new.journal answer) where
   abbrev own : List Event
   own = steps_of entry before now c.journal new.journal answer writes
@@ -102,7 +102,7 @@ module _ (before now : Seen) (c new : Control) (opens : List OpenSwap) (entry : 
   Judges = Is (Ok (Append entry reply))
 
   abbrev set : Setting
-  set = (start_of before c opens).set
+  set = (start_of devices c opens).set
 
   abbrev work : AtWork the_texts before.told c.journal c.lab
   work = works.working.work
@@ -189,7 +189,7 @@ module _ (before now : Seen) (c new : Control) (opens : List OpenSwap) (entry : 
   ends_as : (a : Result (Unit {0}) AppendFault) → answer ≡ a → Ends (side_of c.journal) a writes.appends.run writes.appends.more
   ends_as a is = subst (λ a. Ends (side_of c.journal) a writes.appends.run writes.appends.more) is writes.appends.ends
 
-  done : (ok : Unit {0}) → answer ≡ Ok ok → new.lab ≡ state → IsDone Judges (start_of before c opens) own (Some reply) new.lab (Open opens)
+  done : (ok : Unit {0}) → answer ≡ Ok ok → new.lab ≡ state → IsDone Judges (start_of devices c opens) own (Some reply) new.lab (Open opens)
   done ok is lab =
       let ends = ends_as (Ok ok) is in
       done_so own (after_it reply new.lab (Open opens)) (append_so writes.appends.more own (after_it reply new.lab (Open opens)) refl (Rattle.lab_core.specs.LabSteps.nothing ends.1) (whole ends.0 ends.1 (ap (λ (s : LabState). after_it reply s (Open opens)) lab)))
@@ -209,7 +209,7 @@ module _ (before now : Seen) (c new : Control) (opens : List OpenSwap) (entry : 
   }
 
   -- behind which the plant was started again, or a call of the disk missed
-  part_so : (told : Reply) (behind : List Event) → Behind (side_of c.journal) (writes.appends.more ++ behind) → Breaks (own ++ behind) (Some told) → (lab : LabState) → Either own lab → IsDone Judges (start_of before c opens) (own ++ behind) (Some told) lab Closed
+  part_so : (told : Reply) (behind : List Event) → Behind (side_of c.journal) (writes.appends.more ++ behind) → Breaks (own ++ behind) (Some told) → (lab : LabState) → Either own lab → IsDone Judges (start_of devices c opens) (own ++ behind) (Some told) lab Closed
   part_so told behind last breaks lab either =
       done_so (own ++ behind) (after_it told lab Closed)
       (append_so (writes.appends.more ++ behind) (own ++ behind) (after_it told lab Closed) (append_assoc (added (side_of c.journal) (gate_of c.journal) entry writes.appends.run) writes.appends.more behind) last (broken breaks either refl))
@@ -221,16 +221,16 @@ module _ (before now : Seen) (c new : Control) (opens : List OpenSwap) (entry : 
   runs a is not = λ _ stop. not (sym is ∙ writes.halts.1 stop)
 
   -- WHATEVER IT ANSWERED
-  pub left : (a : Result (Unit {0}) AppendFault) → answer ≡ a → OnOk a (new.lab ≡ state) → Obeyed before now Judges c new opens None (append_answer reply a)
+  pub left : (a : Result (Unit {0}) AppendFault) → answer ≡ a → OnOk a (new.lab ≡ state) → Obeyed devices before now Judges c new opens exp (append_answer reply a)
   left (Ok ok) is lab =
-      goes_on before now Judges c new opens opens None own writes.appends.trace sound later writes.limit (same_opened opens before.faults.devices) reply can.mild.0 (done ok is lab) (works_in ok is lab) (λ blaming. not_both _ blaming can.mild.1) (runs (Ok ok) is (λ h. cc h))
+      goes_on devices before now Judges c new opens opens exp own writes.appends.trace sound later writes.limit (same_opened opens devices) reply can.mild.0 (done ok is lab) (works_in ok is lab) (λ blaming. not_both _ blaming can.mild.1) (runs (Ok ok) is (λ h. cc h))
   left (Err appending.Plant) is lab =
       let ends = ends_as (Err appending.Plant) is in
       let all : own ++ [] ≡ own = append-nil own in
       let miss : has_miss own ≡ true = ended_missed (side_of c.journal) (gate_of c.journal) entry writes.appends.run writes.appends.more true (ap has_miss ends) in
-      closed_by before now Judges c new opens opens None own writes.appends.trace sound later writes.limit (same_opened opens before.faults.devices) replies.Down refl refl Either closes_either
+      closed_by devices before now Judges c new opens opens exp own writes.appends.trace sound later writes.limit (same_opened opens devices) replies.Down refl refl Either closes_either
       (part_so replies.Down [] (missed (append-nil writes.appends.more ∙ ends)) (failed (ap has_restart all ∙ quiet) (ap has_miss all ∙ miss) refl)) (writes.cause is) (runs (Err appending.Plant) is (λ h. cc h))
   left (Err appending.Stopped) is lab =
-      halted before now Judges c new opens opens None own writes.appends.trace sound later writes.limit (same_opened opens before.faults.devices) Either closes_either
+      halted devices before now Judges c new opens opens exp own writes.appends.trace sound later writes.limit (same_opened opens devices) Either closes_either
       (λ lab either a b. part_so replies.Stopped (Restarted a b ∷ []) (restarted a b (ap (λ l. l ++ Restarted a b ∷ []) (ends_as (Err appending.Stopped) is))) (stopped (record { front = own; a = a; b = b; is = refl; once = quiet }) refl) lab either) (λ _. writes.halts.0 is)
   left (Err (appending.Full long much)) is lab = absurd (writes.fits long much is)

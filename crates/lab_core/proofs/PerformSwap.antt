@@ -66,13 +66,13 @@ IsCausedSince Unwritten devices before now = Rose before.faults.disk now.faults.
 IsCausedSince outcome devices before now = Unit {0}
 
 -- the steps `Is` of a swap, after which these swaps are open
-module _ (before now : Seen) (IsJudged : Result Task Reply → Type 0) (old new : Control) (opens : List OpenSwap) (to : Outcome → List OpenSwap) (p : SwapOf) (exp : List ℕ) (steps : List Event) (told : now.told ≡ with_steps before.told steps)
+module _ (devices : ℕ) (before now : Seen) (IsJudged : Result Task Reply → Type 0) (old new : Control) (opens : List OpenSwap) (to : Outcome → List OpenSwap) (p : SwapOf) (exp : List ℕ) (steps : List Event) (told : now.told ≡ with_steps before.told steps)
     (sound : IfSome before.told (λ w. IsSound the_texts w.trace → IsSound the_texts (w.trace ++ steps))) (later : IsLater before now) (limit : limit_of new.journal ≡ limit_of old.journal)
-    (opened : (outcome : Outcome) → AreOpenedBy opens (to outcome) before.faults.devices) (Is : Outcome → List Event → LabState → Type 0)
+    (opened : (outcome : Outcome) → AreOpenedBy opens (to outcome) devices) (Is : Outcome → List Event → LabState → Type 0)
     (done : (outcome : Outcome) (lab : LabState) (behind : List Event) (reply : Reply) (session : Session) → Is outcome steps lab → StartsBehind outcome behind → turn_reply p outcome ≡ Some reply → session ≡ end_session (to outcome) outcome
-    → IsDone IsJudged (start_of before old opens) (steps ++ behind) (Some reply) lab session) where
+    → IsDone IsJudged (start_of devices old opens) (steps ++ behind) (Some reply) lab session) where
   abbrev Left : Result Reply CoreFault → Type 0
-  Left result = Obeyed before now IsJudged old new opens (Some exp) result
+  Left result = Obeyed devices before now IsJudged old new opens (Some exp) result
 
   -- it goes on with that lab, or it is closed
   abbrev pub Leads : Outcome → Type 0
@@ -80,11 +80,11 @@ module _ (before now : Seen) (IsJudged : Result Task Reply → Type 0) (old new 
   Leads Stopped = Closes the_texts before.told steps (λ steps lab. Is Stopped steps lab)
   Leads outcome = Is outcome steps new.lab × WorksWith now new (to outcome)
 
-  on : (outcome : Outcome) (reply : Reply) → closes reply ≡ false → turn_reply p outcome ≡ Some reply → Open (to outcome) ≡ end_session (to outcome) outcome → StartsBehind outcome [] → (blames_device reply ≡ true → Rose (counted_from opens (Some exp) before.faults.devices) now.faults.devices)
+  on : (outcome : Outcome) (reply : Reply) → closes reply ≡ false → turn_reply p outcome ≡ Some reply → Open (to outcome) ≡ end_session (to outcome) outcome → StartsBehind outcome [] → (blames_device reply ≡ true → Rose (counted_from opens (Some exp) devices) now.faults.devices)
       → Is outcome steps new.lab × WorksWith now new (to outcome) → (now.stopped ≡ true → ⊥) → Left (Ok reply)
   on outcome reply goes reply_is session_is starts blame is running =
-      goes_on before now IsJudged old new opens (to outcome) (Some exp) steps told sound later limit (opened outcome) reply goes
-      (subst (λ (l : List Event). IsDone IsJudged (start_of before old opens) l (Some reply) new.lab (Open (to outcome))) (append-nil steps) (done outcome new.lab [] reply (Open (to outcome)) is.0 starts reply_is session_is)) is.1 blame (λ _. running)
+      goes_on devices before now IsJudged old new opens (to outcome) (Some exp) steps told sound later limit (opened outcome) reply goes
+      (subst (λ (l : List Event). IsDone IsJudged (start_of devices old opens) l (Some reply) new.lab (Open (to outcome))) (append-nil steps) (done outcome new.lab [] reply (Open (to outcome)) is.0 starts reply_is session_is)) is.1 blame (λ _. running)
 
   -- the answer has that reply
   answered : (outcome : Outcome) (reply : Reply) (result : Result Reply CoreFault) → (r : Reply) × (turn_reply p outcome ≡ Some r) × (result ≡ Ok r) → turn_reply p outcome ≡ Some reply → Left (Ok reply) → Left result
@@ -93,7 +93,7 @@ module _ (before now : Seen) (IsJudged : Result Task Reply → Type 0) (old new 
       subst Left (sym (is.2 ∙ ap (λ (r : Reply). let x : Result Reply CoreFault = Ok r in x) (sym same))) left
 
   -- WHATEVER ITS OUTCOME
-  pub by_outcome : (outcome : Outcome) → Leads outcome → IsCausedSince outcome (counted_from opens (Some exp) before.faults.devices) before now → (Halts outcome → now.stopped ≡ true) → (now.stopped ≡ true → Halts outcome) → (result : Result Reply CoreFault)
+  pub by_outcome : (outcome : Outcome) → Leads outcome → IsCausedSince outcome (counted_from opens (Some exp) devices) before now → (Halts outcome → now.stopped ≡ true) → (now.stopped ≡ true → Halts outcome) → (result : Result Reply CoreFault)
       → IsAnswer p outcome result → Left result
   by_outcome More leads cause stop running result is = answered More (replies.More p.name) result is refl (on More (replies.More p.name) refl refl refl refl (λ blaming. false_true blaming) leads running)
   by_outcome (TurnsBack why) leads cause stop running result is =
@@ -112,7 +112,7 @@ module _ (before now : Seen) (IsJudged : Result Task Reply → Type 0) (old new 
   by_outcome Unwritten leads cause stop running result is =
       let reply = replies.Failed p.name ends.Stuck whats.Journal in
       answered Unwritten reply result is refl
-      (closed_by before now IsJudged old new opens (to Unwritten) (Some exp) steps told sound later limit (opened Unwritten) reply refl refl _ leads (λ lab all. done Unwritten lab [] reply Closed all refl refl refl) cause (λ _. running))
+      (closed_by devices before now IsJudged old new opens (to Unwritten) (Some exp) steps told sound later limit (opened Unwritten) reply refl refl _ leads (λ lab all. done Unwritten lab [] reply Closed all refl refl refl) cause (λ _. running))
   by_outcome Stopped leads cause stop running result is =
       subst Left (sym is)
-      (halted before now IsJudged old new opens (to Stopped) (Some exp) steps told sound later limit (opened Stopped) _ leads (λ lab all a b. done Stopped lab (Restarted a b ∷ []) replies.Stopped Closed all (a, b, refl) refl refl) (λ _. stop tt))
+      (halted devices before now IsJudged old new opens (to Stopped) (Some exp) steps told sound later limit (opened Stopped) _ leads (λ lab all a b. done Stopped lab (Restarted a b ∷ []) replies.Stopped Closed all (a, b, refl) refl refl) (λ _. stop tt))

@@ -44,29 +44,13 @@ use Rattle.lab_core.specs.Recovery.{settled, broken_off, some, within}
 use Rattle.lab_core.specs.Sessions.{OpenSwap, Closed, name_in, names_of}
 use Rattle.lab_core.proofs.Obey.{RunsOn, closed_by, false_true, goes_on, halted, not_both, same_opened, wants}
 use Rattle.lab_core.proofs.OpenSwaps.{Pair, running_has, since_later}
+use Rattle.phys_lab.proofs.ForestLaws.{same_test}
+use Rattle.lab_core.proofs.OpenNames.{busy_has, has_busy, has_opens, opens_has}
 
 -- ---- busy names
-busy_has : (busy : List (List ℕ)) (name : List ℕ) → is_busy busy name ≡ true → Has busy name
-busy_has [] name h = false_true h
-busy_has (b ∷ busy) name h = elim (cases_Bool (bytes_eq b name)) [ inl yes' ↦ inl ((bytes_eq-Decides b name).0 yes') | inr no' ↦ inr (busy_has busy name (sym (ap (λ x. x || is_busy busy name) no') ∙ h)) ]
-
-or_right : (b : Bool) → (b || true) ≡ true
-or_right true = refl
-or_right false = refl
-
-pub has_busy : (busy : List (List ℕ)) (name : List ℕ) → Has busy name → is_busy busy name ≡ true
-has_busy [] name h = absurd h
-has_busy (b ∷ busy) name (inl e) = ap (λ x. x || is_busy busy name) ((bytes_eq-Decides b name).1 e)
-has_busy (b ∷ busy) name (inr h) = ap (λ x. bytes_eq b name || x) (has_busy busy name h) ∙ or_right (bytes_eq b name)
-
-same_if : (a b : Bool) → (a ≡ true → b ≡ true) → (b ≡ true → a ≡ true) → a ≡ b
-same_if true b to from = sym (to refl)
-same_if false true to from = from refl
-same_if false false to from = refl
-
 -- the same names are busy
 busy_same : (xs ys : List (List ℕ)) → ((name : List ℕ) → Has xs name → Has ys name) → ((name : List ℕ) → Has ys name → Has xs name) → (name : List ℕ) → is_busy xs name ≡ is_busy ys name
-busy_same xs ys to from name = same_if (is_busy xs name) (is_busy ys name) (λ h. has_busy ys name (to name (busy_has xs name h))) (λ h. has_busy xs name (from name (busy_has ys name h)))
+busy_same xs ys to from name = same_test (is_busy xs name) (is_busy ys name) (λ h. has_busy ys name (to name (busy_has xs name h))) (λ h. has_busy xs name (from name (busy_has ys name h)))
 
 swaps_same : (xs ys : List (List ℕ)) → ((name : List ℕ) → is_busy xs name ≡ is_busy ys name) → (es : List Experiment) → swaps_of xs es ≡ swaps_of ys es
 swaps_same xs ys same [] = refl
@@ -90,26 +74,13 @@ due_idle busy es p h =
     let is = due_if (is_busy busy e.0.name) e.0.name e.0.phase p (listed_is (due busy e.0) p e.2) in
     ap (λ n. is_busy busy n) is.1 ∙ is.0
 
-module _ (before now : Seen) (old new : Control) (opens : List OpenSwap) (works : WorksWith before old opens) (same : new.swaps ≡ old.swaps) (busy : List (List ℕ)) (names : AreNames old.swaps busy) where
+module _ (devices : ℕ) (exp : Option (List ℕ)) (before now : Seen) (old new : Control) (opens : List OpenSwap) (works : WorksWith before old opens) (same : new.swaps ≡ old.swaps) (busy : List (List ℕ)) (names : AreNames old.swaps busy) where
   -- the manager's names are those of the open swaps
-  named : (name : List ℕ) → Has busy name → Has (names_of opens) name
-  named name h =
-      let x = names.only name h in
-      let q = works.holds.listed_of x.state x.stands in
-      let listed_swap : Has (map (λ (o : OpenSwap). o.running) opens) q.0 = subst (λ (l : List RunningSwap). Has l q.0) works.are (Has-mapped (λ (y : Pair). y.0) works.pairs (q.0, x.state) q.1) in
-      let o = Has-map (λ (o : OpenSwap). o.running) opens q.0 listed_swap in
-      subst (λ (n : List ℕ). Has (names_of opens) n) (ap (λ (r : RunningSwap). r.swap.name) o.2 ∙ sym (named_open old.lab q.0 x.state (works.working.each (q.0, x.state) q.1)) ∙ x.named) (Has-mapped name_in opens o.0 o.1)
-
-  pub held : (o : OpenSwap) → Has opens o → Has busy (name_in o)
-  held o h =
-      let y = running_has works.pairs opens (sym works.are) o h in
-      subst (λ (n : List ℕ). Has busy n) (named_open old.lab y.0.0 y.0.1 (works.working.each y.0 y.1) ∙ ap (λ (r : RunningSwap). r.swap.name) y.2) (names.each y.0.1 (works.holds.stands y.0 y.1))
-
   held_name : (name : List ℕ) → Has (names_of opens) name → Has busy name
-  held_name name h = let o = Has-map name_in opens name h in subst (λ (n : List ℕ). Has busy n) o.2 (held o.0 o.1)
+  held_name name h = let o = opens_has before old opens works name h in subst (λ (n : List ℕ). Has busy n) o.named (names.each o.state o.stands)
 
   all_same : swaps_of busy old.lab.experiments ≡ swaps_of (names_of opens) old.lab.experiments
-  all_same = swaps_same busy (names_of opens) (busy_same busy (names_of opens) named held_name) old.lab.experiments
+  all_same = swaps_same busy (names_of opens) (busy_same busy (names_of opens) (λ name h. has_opens before old opens works name (names.only name h)) held_name) old.lab.experiments
 
   abbrev ps : List Swap
   ps = swaps_of (names_of opens) old.lab.experiments
@@ -134,40 +105,40 @@ module _ (before now : Seen) (old new : Control) (opens : List OpenSwap) (works 
 
   -- all were settled
   all_recovered : (all : Settled) → SettledAll the_texts old.lab busy before now new.journal new.lab all → limit_of new.journal ≡ limit_of old.journal → RunsOn before now
-      → Obeyed before now (Is (Ok Recover)) old new opens None (Ok (replies.Recovered all.done all.stuck))
+      → Obeyed devices before now (Is (Ok Recover)) old new opens exp (Ok (replies.Recovered all.done all.stuck))
   all_recovered all is limit runs =
       let h = is.has in
-      goes_on before now (Is (Ok Recover)) old new opens opens None h.steps h.told h.sound h.later limit (same_opened opens before.faults.devices) (replies.Recovered all.done all.stuck) refl
+      goes_on devices before now (Is (Ok Recover)) old new opens opens exp h.steps h.told h.sound h.later limit (same_opened opens devices) (replies.Recovered all.done all.stuck) refl
       (does (Ok Recover) refl (settled is.outcomes (subst (λ (l : List Swap). Settles old.lab l is.outcomes h.steps new.lab) all_same h.settled) (λ i. Some (replies.Recovered (is.counts.done i) (is.counts.stuck i))) refl))
       (works_by (swaps_of busy old.lab.experiments) is.outcomes (λ p has. due_idle busy old.lab.experiments p has) h) (λ blaming. false_true blaming) runs
 
   -- memory was wanting
-  some_recovered : SettledSome the_texts old.lab busy before now new.journal new.lab → limit_of new.journal ≡ limit_of old.journal → RunsOn before now → Obeyed before now (Is (Ok Recover)) old new opens None (Err faults.Memory)
+  some_recovered : SettledSome the_texts old.lab busy before now new.journal new.lab → limit_of new.journal ≡ limit_of old.journal → RunsOn before now → Obeyed devices before now (Is (Ok Recover)) old new opens exp (Err faults.Memory)
   some_recovered first limit runs =
       let h = first.has in
-      wants before now (Is (Ok Recover)) old new opens opens None h.steps h.told h.sound h.later limit (same_opened opens before.faults.devices)
+      wants devices before now (Is (Ok Recover)) old new opens opens exp h.steps h.told h.sound h.later limit (same_opened opens devices)
       (does (Ok Recover) refl (broken_off (some first.past first.rest first.outcomes (sym all_same ∙ first.all) h.settled) (unanswered refl) refl))
       (works_by first.past first.outcomes (λ p has. due_idle busy old.lab.experiments p (subst (λ (l : List Swap). Has l p) (sym first.all) (Has-left first.past first.rest p has))) h) runs
 
   -- it broke off
   broken_so : (outcome : Outcome) (steps behind : List Event) (reply : Reply) → (behind ≡ []) ⊎ StartsBehind outcome behind → Breaks (steps ++ behind) (Some reply) → (lab : LabState) → Broken outcome steps lab
-      → IsDone (Is (Ok Recover)) (start_of before old opens) (steps ++ behind) (Some reply) lab Closed
+      → IsDone (Is (Ok Recover)) (start_of devices old opens) (steps ++ behind) (Some reply) lab Closed
   broken_so outcome steps behind reply starts breaks lab broken = does (Ok Recover) refl (broken_off (within outcome steps behind refl broken starts) breaks refl)
 
   as_open : (outcome : Outcome) → HasBrokenOff the_texts old.lab (swaps_of busy old.lab.experiments) before now outcome → HasBrokenOff the_texts old.lab ps before now outcome
   as_open outcome h = subst (λ (l : List Swap). HasBrokenOff the_texts old.lab l before now outcome) all_same h
 
-  down : HasBrokenOff the_texts old.lab ps before now Unwritten → limit_of new.journal ≡ limit_of old.journal → RunsOn before now → Obeyed before now (Is (Ok Recover)) old new opens None (Ok replies.Down)
+  down : HasBrokenOff the_texts old.lab ps before now Unwritten → limit_of new.journal ≡ limit_of old.journal → RunsOn before now → Obeyed devices before now (Is (Ok Recover)) old new opens exp (Ok replies.Down)
   down h limit runs =
       let shows = broken_shows _ _ h.steps Unwritten h.leaves.after h.leaves.is in
       let all : h.steps ++ [] ≡ h.steps = append-nil h.steps in
-      closed_by before now (Is (Ok Recover)) old new opens opens None h.steps h.told h.sound h.later limit (same_opened opens before.faults.devices) replies.Down refl refl (Broken Unwritten) h.leaves
+      closed_by devices before now (Is (Ok Recover)) old new opens opens exp h.steps h.told h.sound h.later limit (same_opened opens devices) replies.Down refl refl (Broken Unwritten) h.leaves
       (broken_so Unwritten h.steps [] replies.Down (inl refl) (failed (ap has_restart all ∙ shows.restart) (ap has_miss all ∙ shows.miss_is) refl)) h.cause runs
 
-  stops : HasBrokenOff the_texts old.lab ps before now Stopped → limit_of new.journal ≡ limit_of old.journal → (before.stopped ≡ false → now.stopped ≡ true) → Obeyed before now (Is (Ok Recover)) old new opens None (Err faults.Stopped)
+  stops : HasBrokenOff the_texts old.lab ps before now Stopped → limit_of new.journal ≡ limit_of old.journal → (before.stopped ≡ false → now.stopped ≡ true) → Obeyed devices before now (Is (Ok Recover)) old new opens exp (Err faults.Stopped)
   stops h limit stop =
       let shows = broken_shows _ _ h.steps Stopped h.leaves.after h.leaves.is in
-      halted before now (Is (Ok Recover)) old new opens opens None h.steps h.told h.sound h.later limit (same_opened opens before.faults.devices) (Broken Stopped) h.leaves
+      halted devices before now (Is (Ok Recover)) old new opens opens exp h.steps h.told h.sound h.later limit (same_opened opens devices) (Broken Stopped) h.leaves
       (λ lab broken a b. broken_so Stopped h.steps (Restarted a b ∷ []) replies.Stopped (inr (a, b, refl)) (stopped (record { front = h.steps; a = a; b = b; is = refl; once = shows.restart }) refl) lab broken) stop
 
   -- WHATEVER IT ANSWERED
@@ -175,7 +146,7 @@ module _ (before now : Seen) (old new : Control) (opens : List OpenSwap) (works 
   runs_by result not told = λ ran stop. not ((told ran).1 stop)
 
   pub recovered : limit_of new.journal ≡ limit_of old.journal → (result : Result Settled SettleFault) → (before.stopped ≡ false → IsErrOf result settling.Stopped ↔ IsTrue now.stopped)
-      → AfterAll the_texts old.lab busy before now new.journal new.lab result → Obeyed before now (Is (Ok Recover)) old new opens None (recover_answer result)
+      → AfterAll the_texts old.lab busy before now new.journal new.lab result → Obeyed devices before now (Is (Ok Recover)) old new opens exp (recover_answer result)
   recovered limit (Ok all) told is = all_recovered all is limit (runs_by (Ok all) (λ h. cc h) told)
   recovered limit (Err settling.Memory) told is = some_recovered is limit (runs_by (Err settling.Memory) (λ h. cc h) told)
   recovered limit (Err settling.Plant) told is = down (as_open Unwritten is) limit (runs_by (Err settling.Plant) (λ h. cc h) told)

@@ -16,7 +16,7 @@ use Rattle.journal_disk.specs.Standing.{length_of, limit_of}
 use Rattle.journal_disk.specs.declared.journal.Journal.{Journal}
 use Rattle.journal_disk.proofs.Parts.{body_size}
 use Rattle.lab_model.specs.Courses.{Plan}
-use Rattle.records_model.specs.Labs.{LabState, Move, Follows, moved}
+use Rattle.records_model.specs.Labs.{LabState, Move, Says, Follows, moved}
 use Rattle.records_model.specs.Works.{IsSound}
 use Rattle.records_model.proofs.LabLaws.{says_once}
 use Rattle.lab_state.specs.Texts.{the_texts}
@@ -26,7 +26,7 @@ use Rattle.swap_turns.specs.Beginning.{HasNotBegun, opened}
 use Rattle.swap_turns.specs.Finishing.{Finishes, FinishLeaves, IsOver}
 use Rattle.swap_turns.specs.Records.{IsBroken, missed, nothing}
 use Rattle.swap_turns.specs.Running.{OpenSwap as RunningSwap}
-use Rattle.swap_turns.specs.Swaps.{Swap as SwapOf}
+use Rattle.swap_turns.specs.Swaps.{Swap as SwapOf, Moves}
 use Rattle.swap_turns.specs.Turning.{Outcome, More, TurnsBack, Ended, Stuck, Unwritten, Stopped}
 use Rattle.swap_turns.specs.Whole as whole
 use Rattle.swap_turns.specs.Whole.{SwapSteps}
@@ -105,88 +105,81 @@ has_open now c opens exp works o has is =
     let y = running_has works.pairs opens (sym works.are) o has in
     record { state = y.0.1; stands = works.holds.stands y.0 y.1; named = named_open c.lab y.0.0 y.0.1 (works.working.each y.0 y.1) ∙ ap (λ (r : RunningSwap). r.swap.name) y.2 ∙ is }
 
+-- WHAT IS DONE of a record for which there is space, by its beginning alone or by the whole swap
+module _ (devices : ℕ) (old : Control) (opens : List OpenSwap) (exp : List ℕ) (way : Way) (p : SwapOf) (name : p.name ≡ exp) (move : Move) (says : Says the_texts old.lab (Begin exp way) move) (moves : (state : LabState) → moved old.lab move ≡ Some state → Moves p state)
+    (space : has_space (start_of devices old opens).set (Begin exp way) ≡ true) (outcome : Outcome) (steps : List Event) (lab : LabState) (behind : List Event) (reply : Reply) (session : Session) (starts : StartsBehind outcome behind) where
+  abbrev after : After
+  after = record { reply = Some reply; lab = lab; session = session }
+
+  only_done : BeginSteps old.lab (Begin exp way) move steps lab outcome → turn_reply p outcome ≡ Some reply → session ≡ end_session (opens ++ begun_at p devices ∷ []) outcome
+      → IsDone (Is (Ok (BeginOnly exp way))) (start_of devices old opens) (steps ++ behind) (Some reply) lab session
+  only_done begins reply_is session_is =
+      does (Ok (BeginOnly exp way)) refl
+      (subst (λ (b : Bool). IfSpace b (length_of old.journal) old.lab opens (Begins old.lab opens devices exp (Begin exp way) (steps ++ behind) after) (steps ++ behind) after) (sym space)
+      (record { swap = p; name = name; move = move; says = says; moves = moves; outcome = outcome; steps = steps; behind = behind; own_is = refl; begins = begins; answered = is_told starts (sym reply_is) session_is }))
+
+  whole_done : SwapSteps p old.lab (Begin exp way) move steps lab outcome → end_reply p outcome ≡ Some reply → session ≡ end_session opens outcome → IsDone (Is (Ok (Swap exp way))) (start_of devices old opens) (steps ++ behind) (Some reply) lab session
+  whole_done ends reply_is session_is =
+      does (Ok (Swap exp way)) refl
+      (subst (λ (b : Bool). IfSpace b (length_of old.journal) old.lab opens (Swaps old.lab opens exp (Begin exp way) (steps ++ behind) after) (steps ++ behind) after) (sym space)
+      (record { swap = p; name = name; move = move; says = says; moves = moves; outcome = outcome; steps = steps; behind = behind; own_is = refl; ends = ends; answered = is_told starts (sym reply_is) session_is }))
+
 -- A SWAP OF A RECORD for which there is space, over a controller at work with these open swaps
-module _ (before now : Seen) (old new : Control) (opens : List OpenSwap) (exp : List ℕ) (way : Way) (course back : Plan) (by : IsSwapBy old.lab exp way course back) (works : WorksWith before old opens)
-    (space : has_space (start_of before old opens).set (Begin exp way) ≡ true) where
+module _ (devices : ℕ) (before now : Seen) (old new : Control) (opens : List OpenSwap) (exp : List ℕ) (way : Way) (course back : Plan) (by : IsSwapBy old.lab exp way course back) (works : WorksWith before old opens) (within : devices ≤ before.faults.devices)
+    (space : has_space (start_of devices old opens).set (Begin exp way) ≡ true) where
   abbrev start : Start
-  start = start_of before old opens
+  start = start_of devices old opens
 
   abbrev begun_one : OpenSwap
-  begun_one = begun_at by.swap before.faults.devices
-
-  -- what is done, by its beginning alone or by the whole swap
-  only_done : (own : List Event) (after : After) → Begins old.lab opens before.faults.devices exp (Begin exp way) own after → Rattle.lab_core.specs.LabSteps.IsDoneBy (Is (Ok (BeginOnly exp way))) start.set old.lab opens own after
-  only_done own after is = does (Ok (BeginOnly exp way)) refl (subst (λ (b : Bool). IfSpace b start.set.length old.lab opens (Begins old.lab opens before.faults.devices exp (Begin exp way) own after) own after) (sym space) is)
-
-  whole_done : (own : List Event) (after : After) → Swaps old.lab opens exp (Begin exp way) own after → Rattle.lab_core.specs.LabSteps.IsDoneBy (Is (Ok (Swap exp way))) start.set old.lab opens own after
-  whole_done own after is = does (Ok (Swap exp way)) refl (subst (λ (b : Bool). IfSpace b start.set.length old.lab opens (Swaps old.lab opens exp (Begin exp way) own after) own after) (sym space) is)
+  begun_one = begun_at by.swap devices
 
   -- ITS BEGIN BROKE OFF
   abbrev broken_reply : Reply
   broken_reply = replies.Failed by.swap.name ends.Stuck whats.Journal
 
   unwritten_done : (only : Bool) (steps : List Event) (lab : LabState) → IsBroken missed old.lab (Begin exp way) by.move steps lab → IsDone (Is (Ok (begun_as only (Swap exp way)))) start (steps ++ []) (Some broken_reply) lab Closed
-  unwritten_done true steps lab broken =
-      only_done (steps ++ []) _ (record { swap = by.swap; name = by.name; move = by.move; says = by.says; moves = by.moves; outcome = Unwritten; steps = steps; behind = []; own_is = refl; begins = broken; answered = is_told refl refl refl })
-  unwritten_done false steps lab broken =
-      whole_done (steps ++ []) _
-      (record { swap = by.swap; name = by.name; move = by.move; says = by.says; moves = by.moves; outcome = Unwritten; steps = steps; behind = []; own_is = refl; ends = whole.unwritten broken refl; answered = is_told refl refl refl })
+  unwritten_done true steps lab broken = only_done devices old opens exp way by.swap by.name by.move by.says by.moves space Unwritten steps lab [] broken_reply Closed refl broken refl refl
+  unwritten_done false steps lab broken = whole_done devices old opens exp way by.swap by.name by.move by.says by.moves space Unwritten steps lab [] broken_reply Closed refl (whole.unwritten broken refl) refl refl
 
   stopped_done : (only : Bool) (steps : List Event) (lab : LabState) → IsBroken nothing old.lab (Begin exp way) by.move steps lab → (a b : List ℕ) → IsDone (Is (Ok (begun_as only (Swap exp way)))) start (steps ++ Restarted a b ∷ []) (Some replies.Stopped) lab Closed
-  stopped_done true steps lab broken a b =
-      only_done (steps ++ Restarted a b ∷ []) _
-      (record { swap = by.swap; name = by.name; move = by.move; says = by.says; moves = by.moves; outcome = Stopped; steps = steps; behind = Restarted a b ∷ []; own_is = refl; begins = broken; answered = is_told (a, b, refl) refl refl })
-  stopped_done false steps lab broken a b =
-      whole_done (steps ++ Restarted a b ∷ []) _
-      (record {
-        swap = by.swap;
-        name = by.name;
-        move = by.move;
-        says = by.says;
-        moves = by.moves;
-        outcome = Stopped;
-        steps = steps;
-        behind = Restarted a b ∷ [];
-        own_is = refl;
-        ends = whole.stopped broken refl;
-        answered = is_told (a, b, refl) refl refl;
-      })
+  stopped_done true steps lab broken a b = only_done devices old opens exp way by.swap by.name by.move by.says by.moves space Stopped steps lab (Restarted a b ∷ []) replies.Stopped Closed (a, b, refl) broken refl refl
+  stopped_done false steps lab broken a b = whole_done devices old opens exp way by.swap by.name by.move by.says by.moves space Stopped steps lab (Restarted a b ∷ []) replies.Stopped Closed (a, b, refl) (whole.stopped broken refl) refl refl
 
   pub unwritten : HasNotBegun the_texts old.lab (Begin exp way) by.move missed Unwritten before now → limit_of new.journal ≡ limit_of old.journal → (now.stopped ≡ true → ⊥) → (what : What) → what ≡ whats.Journal → (only : Bool)
-      → Obeyed before now (Is (Ok (begun_as only (Swap exp way)))) old new opens (Some exp) (Ok (replies.Failed exp ends.Stuck what))
+      → Obeyed devices before now (Is (Ok (begun_as only (Swap exp way)))) old new opens (Some exp) (Ok (replies.Failed exp ends.Stuck what))
   unwritten h limit runs what is only =
-      subst (λ (r : Reply). Obeyed before now (Is (Ok (begun_as only (Swap exp way)))) old new opens (Some exp) (Ok r)) (λ i. replies.Failed (by.name i) ends.Stuck (sym is i))
-      (closed_by before now (Is (Ok (begun_as only (Swap exp way)))) old new opens opens (Some exp) h.steps h.told h.sound h.later limit (same_opened opens before.faults.devices) broken_reply refl refl (IsBroken missed old.lab (Begin exp way) by.move)
+      subst (λ (r : Reply). Obeyed devices before now (Is (Ok (begun_as only (Swap exp way)))) old new opens (Some exp) (Ok r)) (λ i. replies.Failed (by.name i) ends.Stuck (sym is i))
+      (closed_by devices before now (Is (Ok (begun_as only (Swap exp way)))) old new opens opens (Some exp) h.steps h.told h.sound h.later limit (same_opened opens devices) broken_reply refl refl (IsBroken missed old.lab (Begin exp way) by.move)
       h.leaves (λ lab broken. unwritten_done only h.steps lab broken) h.cause (λ _. runs))
 
   pub broke_off : HasNotBegun the_texts old.lab (Begin exp way) by.move nothing Stopped before now → limit_of new.journal ≡ limit_of old.journal → now.stopped ≡ true → (only : Bool)
-      → Obeyed before now (Is (Ok (begun_as only (Swap exp way)))) old new opens (Some exp) (Err faults.Stopped)
+      → Obeyed devices before now (Is (Ok (begun_as only (Swap exp way)))) old new opens (Some exp) (Err faults.Stopped)
   broke_off h limit stop only =
-      halted before now (Is (Ok (begun_as only (Swap exp way)))) old new opens opens (Some exp) h.steps h.told h.sound h.later limit (same_opened opens before.faults.devices) (IsBroken nothing old.lab (Begin exp way) by.move) h.leaves
+      halted devices before now (Is (Ok (begun_as only (Swap exp way)))) old new opens opens (Some exp) h.steps h.told h.sound h.later limit (same_opened opens devices) (IsBroken nothing old.lab (Begin exp way) by.move) h.leaves
       (λ lab broken a b. stopped_done only h.steps lab broken a b) (λ _. stop)
 
   -- IT WAS NOT OPENED
   pub not_opened : (u : LabState) (fault : Unopened) → HasTried fault → IsAfterOpening the_texts works.pairs by.swap old.lab u (Begin exp way) by.move before now old.journal new.journal new.swaps (Err fault) → IfNothingSent (Err fault) ((now ≡ before) × (new ≡ old))
-      → IfSent (Err fault) (IsStopOpening (Err fault) ↔ IsTrue now.stopped) → limit_of new.journal ≡ limit_of old.journal → IsBegunBy before now old new opens exp way (unopened_answer exp fault)
+      → IfSent (Err fault) (IsStopOpening (Err fault) ↔ IsTrue now.stopped) → limit_of new.journal ≡ limit_of old.journal → IsBegunBy devices before now old new opens exp way (unopened_answer exp fault)
   not_opened u (unopened.Busy name) tried after still stops limit = absurd tried
   not_opened u (unopened.TooManyOpen most) tried after still stops limit = absurd tried
   not_opened u (unopened.Stuck what) tried after still stops limit = λ only. unwritten after.1 limit (λ stopped. absurd (stops.1 stopped)) what after.0 only
   not_opened u unopened.Stopped tried after still stops limit = λ only. broke_off after limit (stops.0 tt) only
   not_opened u unopened.Memory tried after still stops limit = λ only.
-      subst (λ (x : Control). Obeyed before now (Is (Ok (begun_as only (Swap exp way)))) old x opens (Some exp) (Err faults.Memory)) (sym still.1)
-      (subst (λ (x : Seen). Obeyed before x (Is (Ok (begun_as only (Swap exp way)))) old old opens (Some exp) (Err faults.Memory)) (sym still.0) (wanted before (Is (Ok (begun_as only (Swap exp way)))) old opens (Some exp) works))
+      subst (λ (x : Control). Obeyed devices before now (Is (Ok (begun_as only (Swap exp way)))) old x opens (Some exp) (Err faults.Memory)) (sym still.1)
+      (subst (λ (x : Seen). Obeyed devices before x (Is (Ok (begun_as only (Swap exp way)))) old old opens (Some exp) (Err faults.Memory)) (sym still.0) (wanted devices before (Is (Ok (begun_as only (Swap exp way)))) old opens (Some exp) works))
 
   -- IT IS OPENED, one more
   since_more : before.faults.devices ≤ now.faults.devices → (o : OpenSwap) → Has (opens ++ begun_one ∷ []) o → IsSince now.faults.devices o
   since_more later o has = elim (Has-append opens (begun_one ∷ []) o has) [
     | inl old_one ↦ since_later o before.faults.devices now.faults.devices later (works.since o old_one)
     | inr at_end ↦ elim at_end [
-      | inl here ↦ subst (λ (x : OpenSwap). IsSince now.faults.devices x) here (record { later = later; caused = tt })
+      | inl here ↦ subst (λ (x : OpenSwap). IsSince now.faults.devices x) here (record { later = omega (arith, within, later); caused = tt })
       | inr none ↦ absurd none
     ]
   ]
 
-  pub is_opened : HasOpened the_texts works.pairs by.swap old.lab new.lab (Begin exp way) by.move before now old.journal new.journal new.swaps → (now.stopped ≡ true → ⊥) → IsOpened before now old new opens exp way
+  pub is_opened : HasOpened the_texts works.pairs by.swap old.lab new.lab (Begin exp way) by.move before now old.journal new.journal new.swaps → (now.stopped ≡ true → ⊥) → IsOpened devices before now old new opens exp way
   is_opened h runs = record {
     swap = by.swap;
     name = by.name;
@@ -207,37 +200,21 @@ module _ (before now : Seen) (old new : Control) (opens : List OpenSwap) (exp : 
   }
 
 -- IT WAS ONLY BEGUN
-module _ (before now : Seen) (old new : Control) (opens : List OpenSwap) (exp : List ℕ) (way : Way) (h : IsOpened before now old new opens exp way) where
+module _ (devices : ℕ) (before now : Seen) (old new : Control) (opens : List OpenSwap) (exp : List ℕ) (way : Way) (h : IsOpened devices before now old new opens exp way) where
   abbrev begun_to : Outcome → List OpenSwap
-  begun_to outcome = opens ++ begun_at h.swap before.faults.devices ∷ []
+  begun_to outcome = opens ++ begun_at h.swap devices ∷ []
 
   abbrev BegunIs : Outcome → List Event → LabState → Type 0
   BegunIs outcome steps lab = BeginSteps old.lab (Begin exp way) h.move steps lab outcome
 
   begun_done : (outcome : Outcome) (lab : LabState) (behind : List Event) (reply : Reply) (session : Session) → BegunIs outcome h.begun.steps lab → StartsBehind outcome behind → turn_reply h.swap outcome ≡ Some reply → session ≡ end_session (begun_to outcome) outcome
-      → IsDone (Is (Ok (BeginOnly exp way))) (start_of before old opens) (h.begun.steps ++ behind) (Some reply) lab session
-  begun_done outcome lab behind reply session is starts reply_is session_is =
-      let set = (start_of before old opens).set in
-      let after : After = record { reply = Some reply; lab = lab; session = session } in
-      does (Ok (BeginOnly exp way)) refl
-      (subst (λ (b : Bool). IfSpace b set.length old.lab opens (Begins old.lab opens before.faults.devices exp (Begin exp way) (h.begun.steps ++ behind) after) (h.begun.steps ++ behind) after) (sym h.space) (record {
-        swap = h.swap;
-        name = h.name;
-        move = h.move;
-        says = h.says;
-        moves = h.moves;
-        outcome = outcome;
-        steps = h.begun.steps;
-        behind = behind;
-        own_is = refl;
-        begins = is;
-        answered = is_told starts (sym reply_is) session_is;
-      }))
+      → IsDone (Is (Ok (BeginOnly exp way))) (start_of devices old opens) (h.begun.steps ++ behind) (Some reply) lab session
+  begun_done outcome lab behind reply session is starts reply_is session_is = only_done devices old opens exp way h.swap h.name h.move h.says h.moves h.space outcome h.begun.steps lab behind reply session starts is reply_is session_is
 
-  pub only_begun : Obeyed before now (Is (Ok (BeginOnly exp way))) old new opens (Some exp) (Ok (replies.More exp))
+  pub only_begun : Obeyed devices before now (Is (Ok (BeginOnly exp way))) old new opens (Some exp) (Ok (replies.More exp))
   only_begun =
-      by_outcome before now (Is (Ok (BeginOnly exp way))) old new opens begun_to h.swap exp h.begun.steps h.begun.told h.begun.sound h.begun.later h.begun.limit
-      (λ outcome. opened_more opens (begun_at h.swap before.faults.devices) before.faults.devices refl) BegunIs begun_done More (h.begun.begins, h.works) tt (λ halted. absurd halted) (λ stopped. h.runs stopped) (Ok (replies.More exp))
+      by_outcome devices before now (Is (Ok (BeginOnly exp way))) old new opens begun_to h.swap exp h.begun.steps h.begun.told h.begun.sound h.begun.later h.begun.limit
+      (λ outcome. opened_more opens (begun_at h.swap devices) devices refl) BegunIs begun_done More (h.begun.begins, h.works) tt (λ halted. absurd halted) (λ stopped. h.runs stopped) (Ok (replies.More exp))
       (replies.More h.swap.name, refl, ap (λ (n : List ℕ). Ok (replies.More n)) (sym h.name))
 
 steps_over : (p : SwapOf) (s : LabState) (begin : Rattle.journal_rec.specs.declared.record.Record.Record) (move : Move) (steps : List Event) (lab : LabState) (outcome : Outcome) → SwapSteps p s begin move steps lab outcome → IsOver outcome
@@ -246,10 +223,10 @@ steps_over p s begin move steps lab outcome (whole.unwritten broken is) = subst 
 steps_over p s begin move steps lab outcome (whole.stopped broken is) = subst IsOver (sym is) tt
 
 -- BEGUN, AND TURNED TO ITS END
-module _ (before mid now : Seen) (old between new : Control) (opens : List OpenSwap) (exp : List ℕ) (way : Way) (works : WorksWith before old opens) (idle : HasOpen old.swaps exp → ⊥) (h : IsOpened before mid old between opens exp way) (told : Progress)
+module _ (devices : ℕ) (before mid now : Seen) (old between new : Control) (opens : List OpenSwap) (exp : List ℕ) (way : Way) (works : WorksWith before old opens) (idle : HasOpen old.swaps exp → ⊥) (h : IsOpened devices before mid old between opens exp way) (told : Progress)
     (f : HasEndedIn between.lab h.works.pairs exp mid now new.journal told new.swaps new.lab) (limit : limit_of new.journal ≡ limit_of between.journal) (stops : IsStop told ↔ IsTrue now.stopped) where
   abbrev last : OpenSwap
-  last = begun_at h.swap before.faults.devices
+  last = begun_at h.swap devices
 
   abbrev more : List OpenSwap
   more = opens ++ last ∷ []
@@ -312,30 +289,16 @@ module _ (before mid now : Seen) (old between new : Control) (opens : List OpenS
       closes_behind the_texts before.told mid.told h.begun.steps end_steps (λ steps lab. Finishes between.lab f.end.swap steps outcome lab) (λ steps lab. WholeIs outcome steps lab) h.begun.told h.begun.sound (λ lab is. steps_as outcome lab is) leaves
 
   whole_done' : (outcome : Outcome) (lab : LabState) (behind : List Event) (reply : Reply) (session : Session) → WholeIs outcome all_steps lab → StartsBehind outcome behind → turn_reply h.swap outcome ≡ Some reply → session ≡ end_session (whole_to outcome) outcome
-      → IsDone (Is (Ok (Swap exp way))) (start_of before old opens) (all_steps ++ behind) (Some reply) lab session
+      → IsDone (Is (Ok (Swap exp way))) (start_of devices old opens) (all_steps ++ behind) (Some reply) lab session
   whole_done' outcome lab behind reply session is starts reply_is session_is =
-      let set = (start_of before old opens).set in
-      let after : After = record { reply = Some reply; lab = lab; session = session } in
-      does (Ok (Swap exp way)) refl
-      (subst (λ (b : Bool). IfSpace b set.length old.lab opens (Swaps old.lab opens exp (Begin exp way) (all_steps ++ behind) after) (all_steps ++ behind) after) (sym h.space) (record {
-        swap = h.swap;
-        name = h.name;
-        move = h.move;
-        says = h.says;
-        moves = h.moves;
-        outcome = outcome;
-        steps = all_steps;
-        behind = behind;
-        own_is = refl;
-        ends = is;
-        answered = is_told starts (sym (over_reply h.swap outcome reply (steps_over h.swap old.lab (Begin exp way) h.move all_steps lab outcome is) reply_is)) session_is;
-      }))
+      whole_done devices old opens exp way h.swap h.name h.move h.says h.moves h.space outcome all_steps lab behind reply session starts is
+      (over_reply h.swap outcome reply (steps_over h.swap old.lab (Begin exp way) h.move all_steps lab outcome is) reply_is) session_is
 
   all_limit : limit_of new.journal ≡ limit_of old.journal
   all_limit = limit ∙ h.begun.limit
 
   abbrev WholeLeads : Outcome → Type 0
-  WholeLeads outcome = Leads before now (Is (Ok (Swap exp way))) old new opens whole_to h.swap exp all_steps all_told all_sound all_later all_limit (λ _. same_opened opens before.faults.devices) WholeIs whole_done' outcome
+  WholeLeads outcome = Leads devices before now (Is (Ok (Swap exp way))) old new opens whole_to h.swap exp all_steps all_told all_sound all_later all_limit (λ _. same_opened opens devices) WholeIs whole_done' outcome
 
   leads_by : (outcome : Outcome) → IsOver outcome → Rattle.lab_core.proofs.EndOne.Goes mid now between new more exp h.works told f outcome → FinishLeaves the_texts between.lab f.end.swap mid now new.journal end_steps outcome → WholeLeads outcome
   leads_by More over goes leaves = absurd over
@@ -346,7 +309,7 @@ module _ (before mid now : Seen) (old between new : Control) (opens : List OpenS
   leads_by Stopped over goes leaves = closes Stopped leaves
 
   -- its causes came since it was opened, in this call
-  causes : (outcome : Outcome) → IsCausedSince outcome before.faults.devices mid now → IsCausedSince outcome before.faults.devices before now
+  causes : (outcome : Outcome) → IsCausedSince outcome devices mid now → IsCausedSince outcome devices before now
   causes More cause = tt
   causes (TurnsBack why) cause = cause
   causes (Ended Forth) cause = tt
@@ -356,15 +319,15 @@ module _ (before mid now : Seen) (old between new : Control) (opens : List OpenS
   causes Unwritten cause = rose_later before.faults.disk mid.faults.disk now.faults.disk now.faults.disk h.begun.later.disk cause (omega arith)
   causes Stopped cause = tt
 
-  caused_here : IsCausedSince end_outcome before.faults.devices before now
+  caused_here : IsCausedSince end_outcome devices before now
   caused_here = causes end_outcome (subst (λ (o : OpenSwap). IsCausedSince end_outcome o.devices mid now) is_last.one_is (cause_since mid now between new more exp h.works told f))
 
-  counted_here : counted_from opens (Some exp) before.faults.devices ≡ before.faults.devices
-  counted_here = ap (λ (o : Option OpenSwap). devices_if o before.faults.devices) (open_at_none exp opens apart)
+  counted_here : counted_from opens (Some exp) devices ≡ devices
+  counted_here = ap (λ (o : Option OpenSwap). devices_if o devices) (open_at_none exp opens apart)
 
-  pub whole_swap : Obeyed before now (Is (Ok (Swap exp way))) old new opens (Some exp) (progress_answer exp told)
+  pub whole_swap : Obeyed devices before now (Is (Ok (Swap exp way))) old new opens (Some exp) (progress_answer exp told)
   whole_swap =
       let halts = end_halts mid now between new more exp h.works told f in
-      by_outcome before now (Is (Ok (Swap exp way))) old new opens whole_to h.swap exp all_steps all_told all_sound all_later all_limit (λ _. same_opened opens before.faults.devices) WholeIs whole_done' end_outcome
+      by_outcome devices before now (Is (Ok (Swap exp way))) old new opens whole_to h.swap exp all_steps all_told all_sound all_later all_limit (λ _. same_opened opens devices) WholeIs whole_done' end_outcome
       (leads_by end_outcome f.end.finished.over f.goes f.end.finished.leaves) (subst (λ (n : ℕ). IsCausedSince end_outcome n before now) (sym counted_here) caused_here) (λ halted. stops.0 (halts.0 halted)) (λ stopped. halts.1 (stops.1 stopped))
       (progress_answer exp told) (subst (λ (o : RunningSwap). IsAnswer o.swap end_outcome (progress_answer exp told)) swap_is (end_answer mid now between new more exp h.works told f end_outcome refl))

@@ -56,10 +56,10 @@ module _ (before now : Seen) (old new : Control) (opens : List OpenSwap) (exp : 
   pub since : IsSince before.faults.devices at.one
   since = works.since at.one (has_one opens at.front at.one at.rest at.are before.faults.devices)
 
-  pub counted : counted_from opens (Some exp) before.faults.devices ≡ at.one.devices
-  counted =
+  pub counted : (devices : ℕ) → counted_from opens (Some exp) devices ≡ at.one.devices
+  counted devices =
       let apart = others_before works.pairs a x b opens at pairs_are works.working.differ in
-      ap (λ (o : Option OpenSwap). devices_if o before.faults.devices) (ap (λ (l : List OpenSwap). open_at exp l) at.are ∙ open_at_one exp at.front at.one at.rest (λ q has same. apart q has (same ∙ sym one.name)) one.name)
+      ap (λ (o : Option OpenSwap). devices_if o devices) (ap (λ (l : List OpenSwap). open_at exp l) at.are ∙ open_at_one exp at.front at.one at.rest (λ q has same. apart q has (same ∙ sym one.name)) one.name)
 
   pub plain : IsPlain x.0.leg
   plain = works.holds.plain x (subst (λ (l : List Pair). Has l x) (sym pairs_are) (Has-right a (x ∷ b) x (inl refl)))
@@ -86,7 +86,7 @@ module _ (before now : Seen) (old new : Control) (opens : List OpenSwap) (exp : 
     works_with = record { pairs = a ++ (next ++ b); are = are_then; working = working; holds = holds; since = since_all }
 
 -- A TURN
-module _ (before now : Seen) (old new : Control) (opens : List OpenSwap) (exp : List ℕ) (works : WorksWith before old opens) (told : Progress) (h : HasTurnedIn old.lab works.pairs exp before now new.journal told new.swaps new.lab)
+module _ (devices : ℕ) (before now : Seen) (old new : Control) (opens : List OpenSwap) (exp : List ℕ) (works : WorksWith before old opens) (told : Progress) (h : HasTurnedIn old.lab works.pairs exp before now new.journal told new.swaps new.lab)
     (limit : limit_of new.journal ≡ limit_of old.journal) (stops : IsStop told ↔ IsTrue now.stopped) where
   abbrev x : Pair
   x = (h.turn.swap, h.turn.state)
@@ -110,7 +110,7 @@ module _ (before now : Seen) (old new : Control) (opens : List OpenSwap) (exp : 
   TurnIs outcome steps lab = TurnSteps old.lab place.one.running steps outcome lab
 
   turn_done : (outcome : Outcome) (lab : LabState) (behind : List Event) (reply : Reply) (session : Session) → TurnIs outcome h.turn.steps lab → StartsBehind outcome behind → turn_reply place.one.running.swap outcome ≡ Some reply → session ≡ end_session (turn_to outcome) outcome
-      → IsDone (Is (Ok (Turn exp))) (start_of before old opens) (h.turn.steps ++ behind) (Some reply) lab session
+      → IsDone (Is (Ok (Turn exp))) (start_of devices old opens) (h.turn.steps ++ behind) (Some reply) lab session
   turn_done outcome lab behind reply session is starts reply_is session_is =
       does (Ok (Turn exp)) refl (record { one = turn_one; moves = turn_moves; outcome = outcome; steps = h.turn.steps; behind = behind; own_is = refl; turn = is; answered = is_told starts (sym reply_is) session_is })
 
@@ -129,12 +129,12 @@ module _ (before now : Seen) (old new : Control) (opens : List OpenSwap) (exp : 
   Goes outcome = IfGoesOn outcome (TurnSteps old.lab h.turn.swap h.turn.steps outcome new.lab × Working the_texts now.told new.journal new.lab (h.turn.before ++ (h.turn.next ++ h.turn.behind)))
 
   turned_result : (outcome : Outcome) → h.turn.outcome ≡ outcome → Goes outcome → Leaves the_texts old.lab h.turn.swap before now new.journal h.turn.steps outcome → IsOutcomeCaused outcome before now
-      → Obeyed before now (Is (Ok (Turn exp))) old new opens (Some exp) (progress_answer exp told)
+      → Obeyed devices before now (Is (Ok (Turn exp))) old new opens (Some exp) (progress_answer exp told)
   turned_result outcome is goes leaves cause = by outcome is goes leaves cause
     where
       -- THE COUNT since which its causes came
-      count_is : counted_from opens (Some exp) before.faults.devices ≡ place.one.devices
-      count_is = counted before now old new opens exp works h.turn.before h.turn.behind x h.turn.opens_are h.turn.named
+      count_is : counted_from opens (Some exp) devices ≡ place.one.devices
+      count_is = counted before now old new opens exp works h.turn.before h.turn.behind x h.turn.opens_are h.turn.named devices
 
       halts : (Halts h.turn.outcome → IsStop told) × (IsStop told → Halts h.turn.outcome)
       halts = halts_as h.turn.swap told h.turn.outcome h.turn.is_told
@@ -144,14 +144,14 @@ module _ (before now : Seen) (old new : Control) (opens : List OpenSwap) (exp : 
           (subst (λ (o : Outcome). IsAnswer h.turn.swap.swap o (progress_answer exp told)) is
           (answered h.turn.swap exp h.turn.named told h.turn.outcome (λ _. plain before now old new opens exp works h.turn.before h.turn.behind x h.turn.opens_are h.turn.named) h.turn.is_told))
 
-      left : (outcome : Outcome) → h.turn.outcome ≡ outcome → Rattle.lab_core.proofs.PerformSwap.Leads before now (Is (Ok (Turn exp))) old new opens turn_to place.one.running.swap exp h.turn.steps h.turn.told_is h.turn.sound h.turn.later limit
-          (λ outcome. opened_turned opens place.front place.one place.rest place.are before.faults.devices h.turn.steps outcome) TurnIs turn_done outcome → IsCausedSince outcome place.one.devices before now → Obeyed before now (Is (Ok (Turn exp))) old new opens (Some exp) (progress_answer exp told)
+      left : (outcome : Outcome) → h.turn.outcome ≡ outcome → Rattle.lab_core.proofs.PerformSwap.Leads devices before now (Is (Ok (Turn exp))) old new opens turn_to place.one.running.swap exp h.turn.steps h.turn.told_is h.turn.sound h.turn.later limit
+          (λ outcome. opened_turned opens place.front place.one place.rest place.are devices h.turn.steps outcome) TurnIs turn_done outcome → IsCausedSince outcome place.one.devices before now → Obeyed devices before now (Is (Ok (Turn exp))) old new opens (Some exp) (progress_answer exp told)
       left outcome is leads cause =
-          by_outcome before now (Is (Ok (Turn exp))) old new opens turn_to place.one.running.swap exp h.turn.steps h.turn.told_is h.turn.sound h.turn.later limit
-          (λ outcome. opened_turned opens place.front place.one place.rest place.are before.faults.devices h.turn.steps outcome) TurnIs turn_done outcome leads
+          by_outcome devices before now (Is (Ok (Turn exp))) old new opens turn_to place.one.running.swap exp h.turn.steps h.turn.told_is h.turn.sound h.turn.later limit
+          (λ outcome. opened_turned opens place.front place.one place.rest place.are devices h.turn.steps outcome) TurnIs turn_done outcome leads
           (subst (λ (n : ℕ). IsCausedSince outcome n before now) (sym count_is) cause) (λ h'. stops.0 (halts.0 (subst Halts (sym is) h'))) (λ h'. subst Halts is (halts.1 (stops.1 h'))) (progress_answer exp told) (answer outcome is)
 
-      by : (outcome : Outcome) → h.turn.outcome ≡ outcome → Goes outcome → Leaves the_texts old.lab h.turn.swap before now new.journal h.turn.steps outcome → IsOutcomeCaused outcome before now → Obeyed before now (Is (Ok (Turn exp))) old new opens (Some exp) (progress_answer exp told)
+      by : (outcome : Outcome) → h.turn.outcome ≡ outcome → Goes outcome → Leaves the_texts old.lab h.turn.swap before now new.journal h.turn.steps outcome → IsOutcomeCaused outcome before now → Obeyed devices before now (Is (Ok (Turn exp))) old new opens (Some exp) (progress_answer exp told)
       by More is goes leaves cause = left More is (steps_as More h.turn.steps new.lab goes.0, turn_works More is goes.1) tt
       by (TurnsBack why) is goes leaves cause = left (TurnsBack why) is (steps_as (TurnsBack why) h.turn.steps new.lab goes.0, turn_works (TurnsBack why) is goes.1) (risen_by why place.one.devices before now turn_since.later cause)
       by (Ended leg) is goes leaves cause =
@@ -162,5 +162,5 @@ module _ (before now : Seen) (old new : Control) (opens : List OpenSwap) (exp : 
           left Unwritten is (Rattle.swap_turns.proofs.Closing.closes_as the_texts before.told h.turn.steps _ _ (λ lab all. steps_as Unwritten h.turn.steps lab all) leaves) cause
       by Stopped is goes leaves cause = left Stopped is (Rattle.swap_turns.proofs.Closing.closes_as the_texts before.told h.turn.steps _ _ (λ lab all. steps_as Stopped h.turn.steps lab all) leaves) tt
 
-  pub turned : Obeyed before now (Is (Ok (Turn exp))) old new opens (Some exp) (progress_answer exp told)
+  pub turned : Obeyed devices before now (Is (Ok (Turn exp))) old new opens (Some exp) (progress_answer exp told)
   turned = turned_result h.turn.outcome refl h.goes h.turn.leaves h.turn.cause

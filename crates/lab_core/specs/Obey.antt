@@ -20,14 +20,14 @@ use Rattle.lab_core.specs.LabSteps.{IsDoneBy}
 use Rattle.lab_core.specs.Moments.{StandForLab}
 use Rattle.lab_core.specs.Sessions.{OpenSwap, Session, Closed, Open, Setting, After, AreOpenedBy, counted_from}
 
--- WHERE A COMMAND BEGINS: what its journal and its swap are judged by, the lab, and the open swaps
+-- WHERE A COMMAND BEGINS: what its journal is judged by, the count of device faults at which a swap of it is opened, the lab, and the open swaps
 pub record Start : Type 0 where
   pub set : Setting
   pub lab : LabState
   pub opens : List OpenSwap
 
-abbrev pub start_of : Seen → Control → List OpenSwap → Start
-start_of before c opens = record { set = record { length = length_of c.journal; limit = limit_of c.journal; devices = before.faults.devices }; lab = c.lab; opens = opens }
+abbrev pub start_of : ℕ → Control → List OpenSwap → Start
+start_of devices c opens = record { set = record { length = length_of c.journal; limit = limit_of c.journal; devices = devices }; lab = c.lab; opens = opens }
 
 -- what was judged is done, with that reply
 abbrev pub IsDone : (Result Task Reply → Type 0) → Start → List Event → Option Reply → LabState → Session → Type 0
@@ -65,16 +65,16 @@ stays_at_work (Ok reply) = not (closes reply)
 stays_at_work (Err faults.Stopped) = false
 stays_at_work (Err faults.Memory) = true
 
--- ALL THAT A CALL LEAVES, of what is seen of a plant before it and after it, where the controller works with these open swaps. A failure of a device is
--- told only where their count rose since the experiment's swap was opened, or in this call.
-pub record Obeyed (before now : Seen) (IsJudged : Result Task Reply → Type 0) (old new : Control) (opens : List OpenSwap) (exp : Option (List ℕ)) (result : Result Reply CoreFault) : Type 0 where
+-- ALL THAT A CALL LEAVES, of what is seen of a plant before it and after it, where the controller works with these open swaps, and a swap of the command
+-- is opened at that count. A failure of a device is told only where their count rose since the experiment's swap was opened, or since that count.
+pub record Obeyed (devices : ℕ) (before now : Seen) (IsJudged : Result Task Reply → Type 0) (old new : Control) (opens : List OpenSwap) (exp : Option (List ℕ)) (result : Result Reply CoreFault) : Type 0 where
   pub to : List OpenSwap
-  pub obeys : ObeyTold before now IsJudged (start_of before old opens) new.lab to result
+  pub obeys : ObeyTold before now IsJudged (start_of devices old opens) new.lab to result
   pub works : stays_at_work result ≡ true → WorksWith now new to
   pub limit : limit_of new.journal ≡ limit_of old.journal
-  pub opened : AreOpenedBy opens to before.faults.devices
+  pub opened : AreOpenedBy opens to devices
   pub down : IfOk result (λ reply. closes reply ≡ true → Rose before.faults.disk now.faults.disk)
-  pub device : IfOk result (λ reply. blames_device reply ≡ true → Rose (counted_from opens exp before.faults.devices) now.faults.devices)
+  pub device : IfOk result (λ reply. blames_device reply ≡ true → Rose (counted_from opens exp devices) now.faults.devices)
   pub later : before.faults.disk ≤ now.faults.disk
-  pub devices : before.faults.devices ≤ now.faults.devices
+  pub still : before.faults.devices ≤ now.faults.devices
   pub stopped : before.stopped ≡ false → IsErrOf result faults.Stopped ↔ IsTrue now.stopped

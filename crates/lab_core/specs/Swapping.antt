@@ -71,24 +71,24 @@ pub record HasEndedIn (s : LabState) (pairs : List (RunningSwap × Live)) (exp :
   pub end : HasTurnedToEnd the_texts s pairs exp was now k told new
   pub goes : IfGoesOn end.finished.outcome (Finishes s end.swap end.finished.steps end.finished.outcome after × Working the_texts now.told k after (end.before ++ end.behind))
 
--- A SWAP WAS BEGUN, which is open then
-pub record IsOpened (before now : Seen) (old new : Control) (opens : List OpenSwap) (exp : List ℕ) (way : Way) : Type 0 where
+-- A SWAP WAS BEGUN, which is open then since that count
+pub record IsOpened (devices : ℕ) (before now : Seen) (old new : Control) (opens : List OpenSwap) (exp : List ℕ) (way : Way) : Type 0 where
   pub swap : SwapOf
   pub name : swap.name ≡ exp
   pub move : Move
   pub says : Says the_texts old.lab (Begin exp way) move
   pub moves : (state : LabState) → moved old.lab move ≡ Some state → Moves swap state
-  pub space : has_space (start_of before old opens).set (Begin exp way) ≡ true
+  pub space : has_space (start_of devices old opens).set (Begin exp way) ≡ true
   pub state : Live
   pub begun : HasBegun the_texts swap old.lab new.lab (Begin exp way) move before now old.journal new.journal state
-  pub works : WorksWith now new (opens ++ begun_at swap before.faults.devices ∷ [])
+  pub works : WorksWith now new (opens ++ begun_at swap devices ∷ [])
   pub runs : IsTrue now.stopped → ⊥
 
 -- it was begun, or what is told is all that the command does, whether it only begins the swap or not
-abbrev pub IsBegunBy : Seen → Seen → Control → Control → List OpenSwap → List ℕ → Way → Result (Option Reply) CoreFault → Type 0
-IsBegunBy before now old new opens exp way (Ok None) = IsOpened before now old new opens exp way
-IsBegunBy before now old new opens exp way (Ok (Some reply)) = (only : Bool) → Obeyed before now (Is (Ok (begun_as only (Swap exp way)))) old new opens (Some exp) (Ok reply)
-IsBegunBy before now old new opens exp way (Err fault) = (only : Bool) → Obeyed before now (Is (Ok (begun_as only (Swap exp way)))) old new opens (Some exp) (Err fault)
+abbrev pub IsBegunBy : ℕ → Seen → Seen → Control → Control → List OpenSwap → List ℕ → Way → Result (Option Reply) CoreFault → Type 0
+IsBegunBy devices before now old new opens exp way (Ok None) = IsOpened devices before now old new opens exp way
+IsBegunBy devices before now old new opens exp way (Ok (Some reply)) = (only : Bool) → Obeyed devices before now (Is (Ok (begun_as only (Swap exp way)))) old new opens (Some exp) (Ok reply)
+IsBegunBy devices before now old new opens exp way (Err fault) = (only : Bool) → Obeyed devices before now (Is (Ok (begun_as only (Swap exp way)))) old new opens (Some exp) (Err fault)
 
 -- WHAT IS TOLD of a swap that is over: where the experiment is, or the trouble that began the undo
 abbrev pub reply_of_done : List ℕ → Bool → Reply

@@ -125,3 +125,8 @@ swapped_by (BeginOnly exp way) = Some exp
 swapped_by (Turn exp) = Some exp
 swapped_by (Finish exp) = Some exp
 swapped_by task = None
+
+-- that one, or any where it swaps none
+abbrev pub or_any : Option (List ℕ) → Option (List ℕ) → Option (List ℕ)
+or_any None exp = exp
+or_any (Some name) exp = Some name

@@ -195,8 +195,7 @@ impl Controller {
         ensures steps { OpenTold (P.seen plant.old).told (P.seen plant.new).told limit result }
         ensures bad { (side : AnySide) (at : ℕ) → result ≡ Err (OpenFault.Bad side at)
             → IfSome (P.seen plant.new).told (λ t. IsNoJournal (disk A t.trace).reads (disk B t.trace).reads limit side at) }
-        ensures works { IfOk result (λ controller. Works (P.seen plant.new).told controller) }
-        ensures alone { IfOk result (λ controller. controller.swaps ≡ []) }
+        ensures works { IfOk result (λ controller. WorksWith (P.seen plant.new) controller []) }
         ensures limit { IfOk result (λ controller. limit_of controller.journal ≡ limit) }
         ensures plant { IsErrOf result OpenFault.Plant → Rose (P.seen plant.old).faults.disk (P.seen plant.new).faults.disk }
         ensures later { IsLater (P.seen plant.old) (P.seen plant.new) }
@@ -209,7 +208,8 @@ impl Controller {
 
     /// Obeys a command whose blocks have the lines that its words say, and tells the reply. A drill is none of its commands:
     /// those are planned on the plant. Searches count costs by the rule. After a reply that closes, and after `Stopped`, the
-    /// controller is of no use any more.
+    /// controller is of no use any more. Failures of devices are counted from the moment or from any before it, such as a mark
+    /// that an opening lies behind.
     pub fn obey<P: Plant>(
         &mut self,
         command: &Command,
@@ -219,8 +219,8 @@ impl Controller {
         requires blocks { HasBlocks command.now }
         requires no_drill { drill_of command.now ≡ None }
         requires works { CanWork (P.seen plant.old) self.old }
-        ensures obeys { (opens : List OpenSwap) → WorksWith (P.seen plant.old) self.old opens
-            → Obeyed (P.seen plant.old) (P.seen plant.new) (JudgedBeside rule.now.number command.now opens self.old.lab) self.old self.new opens (name_of command.now) result }
+        ensures obeys { (opens : List OpenSwap) (devices : ℕ) → devices ≤ (P.seen plant.old).faults.devices → WorksWith (P.seen plant.old) self.old opens
+            → Obeyed devices (P.seen plant.old) (P.seen plant.new) (JudgedBeside rule.now.number command.now opens self.old.lab) self.old self.new opens (name_of command.now) result }
     {
         self.answer(command, rule, plant)
     }
@@ -235,8 +235,8 @@ impl Controller {
         requires blocks { HasBlocks command.now }
         requires no_drill { drill_of command.now ≡ None }
         requires works { CanWork (P.seen plant.old) self.old }
-        ensures { (opens : List OpenSwap) → WorksWith (P.seen plant.old) self.old opens
-            → Obeyed (P.seen plant.old) (P.seen plant.new) (JudgedBeside rule.now.number command.now opens self.old.lab) self.old self.new opens (name_of command.now) result }
+        ensures { (opens : List OpenSwap) (devices : ℕ) → devices ≤ (P.seen plant.old).faults.devices → WorksWith (P.seen plant.old) self.old opens
+            → Obeyed devices (P.seen plant.old) (P.seen plant.new) (JudgedBeside rule.now.number command.now opens self.old.lab) self.old self.new opens (name_of command.now) result }
     {
         match judge(self.alloc, &self.lab, &self.swaps, command, rule) {
             Ok(task) => perform(

@@ -1,5 +1,5 @@
 // A task is done: over the plant, where the journal has room for it.
-ghost use Rattle.std.specs.Prelude.{◌≡◌, ◌≤◌, ◌+◌, ◌^◌, ℕ, Err, IfOk, List, None, Ok, OnOk, Some, length, nat_le};
+ghost use Rattle.std.specs.Prelude.{◌≡◌, ◌≤◌, ◌+◌, ◌^◌, ℕ, Err, IfOk, List, Ok, OnOk, Option, Some, length, nat_le};
 ghost use Rattle.journal_rec.specs.Payloads.{IsBody, IsRecord};
 ghost use Rattle.journal_rec.specs.declared.record.Record.{Record as AnyRecord};
 ghost use Rattle.journal_rec.specs.declared.record.Record.TheVariants as records;
@@ -14,7 +14,7 @@ ghost use Rattle.lab_core.specs.Obey.{Obeyed};
 ghost use Rattle.lab_core.specs.Perform.{append_answer, recover_answer};
 ghost use Rattle.lab_core.specs.Sessions.{OpenSwap};
 ghost use Rattle.lab_core.specs.Swapping.{IsBegunBy};
-ghost use Rattle.lab_core.specs.Tasks.{CanAppend, CanDo, IsReady, IsSwapBy, MayFollow, swapped_by, task_of};
+ghost use Rattle.lab_core.specs.Tasks.{CanAppend, CanDo, IsReady, IsSwapBy, MayFollow, or_any, swapped_by, task_of};
 
 use crate::CoreFault;
 use crate::swapping::{
@@ -113,8 +113,8 @@ fn append<P: Plant>(
 ) -> Result<Reply, CoreFault>
     requires can { CanAppend lab.old.state entry.now reply }
     requires works { CanWork (P.seen plant.old) (control lab.old.state journal.old swaps.now) }
-    ensures { (opens : List OpenSwap) → WorksWith (P.seen plant.old) (control lab.old.state journal.old swaps.now) opens
-        → Obeyed (P.seen plant.old) (P.seen plant.new) (Is (Ok (Append entry.now reply))) (control lab.old.state journal.old swaps.now) (control lab.new.state journal.new swaps.now) opens None result }
+    ensures { (opens : List OpenSwap) (devices : ℕ) (exp : Option (List ℕ)) → devices ≤ (P.seen plant.old).faults.devices → WorksWith (P.seen plant.old) (control lab.old.state journal.old swaps.now) opens
+        → Obeyed devices (P.seen plant.old) (P.seen plant.new) (Is (Ok (Append entry.now reply))) (control lab.old.state journal.old swaps.now) (control lab.new.state journal.new swaps.now) opens exp result }
 {
     let encoded = encode(alloc, entry)?;
     if !has_space(journal, encoded.size()) {
@@ -144,8 +144,8 @@ fn begin<P: Plant>(
     requires by { IsSwapBy lab.old.state exp way ops.commands ops.undo }
     requires ready { IsReady swaps.old (Swap exp way) }
     requires works { CanWork (P.seen plant.old) (control lab.old.state journal.old swaps.old) }
-    ensures { (opens : List OpenSwap) → WorksWith (P.seen plant.old) (control lab.old.state journal.old swaps.old) opens
-        → IsBegunBy (P.seen plant.old) (P.seen plant.new) (control lab.old.state journal.old swaps.old) (control lab.new.state journal.new swaps.new) opens exp way result }
+    ensures { (opens : List OpenSwap) (devices : ℕ) → devices ≤ (P.seen plant.old).faults.devices → WorksWith (P.seen plant.old) (control lab.old.state journal.old swaps.old) opens
+        → IsBegunBy devices (P.seen plant.old) (P.seen plant.new) (control lab.old.state journal.old swaps.old) (control lab.new.state journal.new swaps.new) opens exp way result }
 {
     let ready = prepare_swap(alloc, lab, exp, way, ops)?;
     if !has_space(journal, ready.planned.size()) {
@@ -175,8 +175,8 @@ fn begin_only<P: Plant>(
     requires by { IsSwapBy lab.old.state exp way ops.commands ops.undo }
     requires ready { IsReady swaps.old (BeginOnly exp way) }
     requires works { CanWork (P.seen plant.old) (control lab.old.state journal.old swaps.old) }
-    ensures { (opens : List OpenSwap) → WorksWith (P.seen plant.old) (control lab.old.state journal.old swaps.old) opens
-        → Obeyed (P.seen plant.old) (P.seen plant.new) (Is (Ok (BeginOnly exp way))) (control lab.old.state journal.old swaps.old) (control lab.new.state journal.new swaps.new) opens (Some exp) result }
+    ensures { (opens : List OpenSwap) (devices : ℕ) → devices ≤ (P.seen plant.old).faults.devices → WorksWith (P.seen plant.old) (control lab.old.state journal.old swaps.old) opens
+        → Obeyed devices (P.seen plant.old) (P.seen plant.new) (Is (Ok (BeginOnly exp way))) (control lab.old.state journal.old swaps.old) (control lab.new.state journal.new swaps.new) opens (Some exp) result }
 {
     match begin(alloc, lab, journal, swaps, exp, way, ops, plant)? {
         None => Ok(Reply::More { exp }),
@@ -194,8 +194,8 @@ fn turn<P: Plant>(
 ) -> Result<Reply, CoreFault>
     requires ready { IsReady swaps.old (Turn exp) }
     requires works { CanWork (P.seen plant.old) (control lab.old.state journal.old swaps.old) }
-    ensures { (opens : List OpenSwap) → WorksWith (P.seen plant.old) (control lab.old.state journal.old swaps.old) opens
-        → Obeyed (P.seen plant.old) (P.seen plant.new) (Is (Ok (Turn exp))) (control lab.old.state journal.old swaps.old) (control lab.new.state journal.new swaps.new) opens (Some exp) result }
+    ensures { (opens : List OpenSwap) (devices : ℕ) → devices ≤ (P.seen plant.old).faults.devices → WorksWith (P.seen plant.old) (control lab.old.state journal.old swaps.old) opens
+        → Obeyed devices (P.seen plant.old) (P.seen plant.new) (Is (Ok (Turn exp))) (control lab.old.state journal.old swaps.old) (control lab.new.state journal.new swaps.new) opens (Some exp) result }
 {
     let progress = turn_swap(lab, journal, swaps, exp, plant);
     reply_of_progress(exp, progress)
@@ -211,8 +211,8 @@ fn finish<P: Plant>(
 ) -> Result<Reply, CoreFault>
     requires ready { IsReady swaps.old (Finish exp) }
     requires works { CanWork (P.seen plant.old) (control lab.old.state journal.old swaps.old) }
-    ensures { (opens : List OpenSwap) → WorksWith (P.seen plant.old) (control lab.old.state journal.old swaps.old) opens
-        → Obeyed (P.seen plant.old) (P.seen plant.new) (Is (Ok (Finish exp))) (control lab.old.state journal.old swaps.old) (control lab.new.state journal.new swaps.new) opens (Some exp) result }
+    ensures { (opens : List OpenSwap) (devices : ℕ) → devices ≤ (P.seen plant.old).faults.devices → WorksWith (P.seen plant.old) (control lab.old.state journal.old swaps.old) opens
+        → Obeyed devices (P.seen plant.old) (P.seen plant.new) (Is (Ok (Finish exp))) (control lab.old.state journal.old swaps.old) (control lab.new.state journal.new swaps.new) opens (Some exp) result }
 {
     let progress = finish_swap(lab, journal, swaps, exp, plant);
     reply_of_progress(exp, progress)
@@ -234,8 +234,8 @@ fn swap<P: Plant>(
     requires by { IsSwapBy lab.old.state exp way ops.commands ops.undo }
     requires ready { IsReady swaps.old (Swap exp way) }
     requires works { CanWork (P.seen plant.old) (control lab.old.state journal.old swaps.old) }
-    ensures { (opens : List OpenSwap) → WorksWith (P.seen plant.old) (control lab.old.state journal.old swaps.old) opens
-        → Obeyed (P.seen plant.old) (P.seen plant.new) (Is (Ok (Swap exp way))) (control lab.old.state journal.old swaps.old) (control lab.new.state journal.new swaps.new) opens (Some exp) result }
+    ensures { (opens : List OpenSwap) (devices : ℕ) → devices ≤ (P.seen plant.old).faults.devices → WorksWith (P.seen plant.old) (control lab.old.state journal.old swaps.old) opens
+        → Obeyed devices (P.seen plant.old) (P.seen plant.new) (Is (Ok (Swap exp way))) (control lab.old.state journal.old swaps.old) (control lab.new.state journal.new swaps.new) opens (Some exp) result }
 {
     match begin(alloc, lab, journal, swaps, exp, way, ops, plant)? {
         None => {
@@ -267,8 +267,8 @@ fn recover<P: Plant>(
     plant: &mut P,
 ) -> Result<Reply, CoreFault>
     requires works { CanWork (P.seen plant.old) (control lab.old.state journal.old swaps.now) }
-    ensures { (opens : List OpenSwap) → WorksWith (P.seen plant.old) (control lab.old.state journal.old swaps.now) opens
-        → Obeyed (P.seen plant.old) (P.seen plant.new) (Is (Ok Recover)) (control lab.old.state journal.old swaps.now) (control lab.new.state journal.new swaps.now) opens None result }
+    ensures { (opens : List OpenSwap) (devices : ℕ) (exp : Option (List ℕ)) → devices ≤ (P.seen plant.old).faults.devices → WorksWith (P.seen plant.old) (control lab.old.state journal.old swaps.now) opens
+        → Obeyed devices (P.seen plant.old) (P.seen plant.new) (Is (Ok Recover)) (control lab.old.state journal.old swaps.now) (control lab.new.state journal.new swaps.now) opens exp result }
 {
     let busy = swaps.names(alloc)?;
     let settled = settle(alloc, lab, &busy, journal, plant);
@@ -287,8 +287,8 @@ pub(crate) fn perform<P: Plant>(
     requires can { CanDo lab.old.state task }
     requires ready { IsReady swaps.old (task_of task) }
     requires works { CanWork (P.seen plant.old) (control lab.old.state journal.old swaps.old) }
-    ensures { (opens : List OpenSwap) → WorksWith (P.seen plant.old) (control lab.old.state journal.old swaps.old) opens
-        → Obeyed (P.seen plant.old) (P.seen plant.new) (Is (Ok (task_of task))) (control lab.old.state journal.old swaps.old) (control lab.new.state journal.new swaps.new) opens (swapped_by (task_of task)) result }
+    ensures { (opens : List OpenSwap) (devices : ℕ) (exp : Option (List ℕ)) → devices ≤ (P.seen plant.old).faults.devices → WorksWith (P.seen plant.old) (control lab.old.state journal.old swaps.old) opens
+        → Obeyed devices (P.seen plant.old) (P.seen plant.new) (Is (Ok (task_of task))) (control lab.old.state journal.old swaps.old) (control lab.new.state journal.new swaps.new) opens (or_any (swapped_by (task_of task)) exp) result }
 {
     match task {
         Task::Tell(reply) => Ok(reply),

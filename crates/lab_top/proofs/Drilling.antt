@@ -26,7 +26,8 @@ use Rattle.lab_top.specs.declared.command.CommandFault.{CommandFault}
 use Rattle.lab_top.specs.declared.command.CommandFault.TheVariants as faults
 use Rattle.lab_top.specs.Answering.{Begins, Ends, HasSession, Moment, Plans, StandsAt, piece_of, reply_if}
 use Rattle.lab_top.specs.Pieces.{Finds, FirstLab, IsDone, IsPlannedBy, StepsFrom, blames_if, closes_if, leaves_one, stays_open, with_drill_if}
-use Rattle.lab_top.proofs.Obeyed.{ends_of, later_same, map_both, steps_none}
+use Rattle.journal_disk.proofs.Chains.{nothing_yet}
+use Rattle.lab_top.proofs.Obeyed.{ends_of, later_same, map_both}
 use Rattle.lab_top.proofs.Stepping.{AsRead, ImagesAt, after_of, all_some, done_at, lab_length, map_some, not_early, standing_all, standing_lab, told_so}
 
 -- THE STEP OF A DRILL over one trace: it has no steps, and its reply, if it has one, leaves the session as it was
@@ -163,7 +164,7 @@ module _ (terms : Terms) (command : Command) (mark : Faults) (drill : Drill) (is
     opening = [];
     own = [];
     planned = false;
-    told = told ∙ steps_none old.told;
+    told = told ∙ nothing_yet old.told;
     planned_by = subst (λ (d : Option Drill). IsPlannedBy terms d false None) (sym is) (λ none. absurd (cc none));
     is_piece = map_some old.told (λ t there. record {
       readable = there;
@@ -182,10 +183,10 @@ module _ (terms : Terms) (command : Command) (mark : Faults) (drill : Drill) (is
   begun_drill (Ok reply) (inl planned) =
       subst (λ r. Begins terms command mark old.told new from from (Some r)) (sym planned.0)
       (begun_with replies.Planned true refl refl (λ s lab. is_planned planned.1 refl refl) (refl, planned.1)
-      (planned.2 ∙ ap (λ (o : Option Told). with_drill o drill) (steps_none old.told) ∙ ap (λ (d : Option Drill). with_drill_if (with_steps old.told []) d) (sym is)))
+      (planned.2 ∙ ap (λ (o : Option Told). with_drill o drill) (nothing_yet old.told) ∙ ap (λ (d : Option Drill). with_drill_if (with_steps old.told []) d) (sym is)))
   begun_drill (Ok reply) (inr refused) =
       subst (λ r. Begins terms command mark old.told new from from (Some r)) (sym refused.0)
-      (begun_with replies.NoDrill false refl refl (λ s lab. is_refused refused.1 refl refl) (refl, refused.1) (refused.2 ∙ steps_none old.told))
+      (begun_with replies.NoDrill false refl refl (λ s lab. is_refused refused.1 refl refl) (refl, refused.1) (refused.2 ∙ nothing_yet old.told))
   begun_drill (Err fault) wants = begun_silent wants.1
 
 -- what the plant tells is of the same trace

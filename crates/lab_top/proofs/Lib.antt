@@ -3,7 +3,6 @@ mod BrokenOpenings
 mod Commanding
 mod Compact
 mod Drilling
-mod Marks
 mod Obeyed
 mod Pieces
 mod RunLaws

@@ -12,6 +12,7 @@ use Rattle.plant.specs.Events.{Event, Restarted}
 use Rattle.plant.specs.Seen.{Seen}
 use Rattle.plant.specs.Told.{Told, with_steps}
 use Rattle.journal_disk.specs.Standing.{limit_of}
+use Rattle.journal_disk.proofs.Chains.{nothing_yet, with_steps-append}
 use Rattle.journal_disk.specs.declared.fault.OpenFault.{OpenFault}
 use Rattle.journal_disk.specs.declared.fault.OpenFault.TheVariants as openings
 use Rattle.lab_state.specs.Texts.{the_texts}
@@ -28,7 +29,7 @@ use Rattle.lab_core.specs.Breaks.{Breaks, failed, unanswered}
 use Rattle.lab_core.specs.Controller.{Control, Works, WorksWith}
 use Rattle.lab_core.specs.Judge.{Task}
 use Rattle.lab_core.specs.LabSteps.{JudgedBeside}
-use Rattle.lab_core.specs.Obey.{Answers, ObeySteps}
+use Rattle.lab_core.specs.Obey.{Answers, ObeySteps, Obeyed, start_of}
 use Rattle.lab_core.specs.Opening.{OpenEnds, OpenSteps, OpenTold}
 use Rattle.lab_core.specs.Sessions.{OpenSwap, Session, Closed, Open, AreOpenedBy, counted_from, name_of, Terms}
 use Rattle.lab_core.specs.Tells.{opens_of}
@@ -37,8 +38,7 @@ use Rattle.lab_top.specs.declared.command.CommandFault.TheVariants as command_fa
 use Rattle.lab_top.specs.Pieces.{Finds, FindsNone, IsPiece, IsPlannedBy, Later, blames_if, closes_if, is_closed, leaves_one, may_shut, opened, stays_open}
 use Rattle.lab_top.specs.Answering.{Does, DoesOwn, FoundNone, HasSession, IsMarkAt, IsOpen, Makes, MayGoOn, MayOpen, OwnTold, StandsAt, Starts, Unopened, Begins, Made, Ends, Moment, WasOpened, piece_of, reply_if}
 use Rattle.lab_top.proofs.BrokenOpenings.{again_piece, cut_piece, missed_in, started_nowhere}
-use Rattle.lab_top.proofs.Marks.{ObeyedAt}
-use Rattle.lab_top.proofs.Stepping.{AsRead, map_some, own_answered, own_closed, own_stopped, own_stays, own_unmade, start_at, was_open, is_opened}
+use Rattle.lab_top.proofs.Stepping.{AsRead, map_some, own_answered, own_closed, own_stopped, own_stays, own_unmade, was_open, is_opened}
 
 -- WHAT A PLANT TELLS after more steps
 
@@ -58,14 +58,6 @@ carried (Some t) new steps is P h = subst (λ (o : Option Told). IfSome o (λ u.
 pub carried_on : (old new : Option Told) (steps : List Event) → new ≡ with_steps old steps → (P : List Event → Type 0) → IfSome old (λ t. P (t.trace ++ steps)) → IfSome new (λ t. P t.trace)
 carried_on None new steps is P h = subst (λ (o : Option Told). IfSome o (λ u. P u.trace)) (sym is) tt
 carried_on (Some t) new steps is P h = subst (λ (o : Option Told). IfSome o (λ u. P u.trace)) (sym is) h
-
-pub steps_twice : (old : Option Told) (a b : List Event) → with_steps (with_steps old a) b ≡ with_steps old (a ++ b)
-steps_twice None a b = refl
-steps_twice (Some t) a b = ap (λ l. let o : Option Told = Some (record t { trace = l }) in o) (append_assoc t.trace a b)
-
-pub steps_none : (old : Option Told) → old ≡ with_steps old []
-steps_none None = refl
-steps_none (Some t) = ap (λ l. let o : Option Told = Some (record t { trace = l }) in o) (sym (append-nil t.trace))
 
 -- a reply that closes is not `stopped`
 not_one : (reply : Reply) → closes reply ≡ true → leaves_one Closed (Some reply) ≡ false
@@ -97,10 +89,10 @@ module _ (terms : Terms) (mark : Faults) (old mid : Seen) (command : Command) (n
   Judges = JudgedBeside terms.rule command swaps c.lab
 
   abbrev At : Result Reply CoreFault → Type 0
-  At result = ObeyedAt mark old mid Judges c d swaps (name_of command) result
+  At result = Obeyed mark.devices old mid Judges c d swaps (name_of command) result
 
   abbrev Leaving : List OpenSwap → Result Reply CoreFault → List Event → List Event → Type 0
-  Leaving to result own trace = ObeySteps trace Judges (start_at mark c swaps) own d.lab to result
+  Leaving to result own trace = ObeySteps trace Judges (start_of mark.devices c swaps) own d.lab to result
 
   abbrev Does_so : (List Event → Type 0) → List OpenSwap → Result Reply CoreFault → List Event → List Event → Session → Option Reply → Type 0
   Does_so Then to result own all session reply = (before : List Event) (from : Session) (opening : List Event) → WasOpened before from opening c swaps → Leaving to result own (before ++ opening) → Then ((before ++ opening) ++ own)
@@ -112,7 +104,7 @@ module _ (terms : Terms) (mark : Faults) (old mid : Seen) (command : Command) (n
   own_by result at new more session reply is Then then does =
       let told = at.obeys in (
         told.0 ++ more,
-        is ∙ ap (λ o. with_steps o more) told.1 ∙ steps_twice old.told told.0 more,
+        is ∙ ap (λ o. with_steps o more) told.1 ∙ with_steps-append old.told told.0 more,
         map_both old.told (λ t obeys here before from opening same w. does before from opening w (subst (Leaving at.to result told.0) same obeys) (subst (λ l. Then (l ++ told.0)) same here)) told.2 (carried old.told mid.told told.0 told.1 Then then),
       )
 
@@ -120,7 +112,7 @@ module _ (terms : Terms) (mark : Faults) (old mid : Seen) (command : Command) (n
   own_alone : (result : Result Reply CoreFault) (at : At result) (session : Session) (reply : Option Reply) → (Then : List Event → Type 0) → IfSome mid.told (λ t. Then t.trace) → Does_so Then at.to result at.obeys.0 at.obeys.0 session reply
       → OwnTold terms old.told mid.told command mark c swaps session reply
   own_alone result at session reply Then then does =
-      own_by result at mid.told [] session reply (steps_none mid.told) Then then
+      own_by result at mid.told [] session reply (nothing_yet mid.told) Then then
       (λ before from opening w obeys here. subst (λ l. Does terms before (piece_of command mark from session opening l reply)) (sym (append-nil at.obeys.0)) (does before from opening w obeys here))
 
   abbrev AtWorkHere : List Event → Type 0
@@ -134,7 +126,7 @@ module _ (terms : Terms) (mark : Faults) (old mid : Seen) (command : Command) (n
         to = Open at.to;
         own = own_alone (Ok reply) at (Open at.to) (Some reply) AtWorkHere works.working.work.stands
             (λ before from opening w o stands.
-            own_answered terms mark before from opening c swaps w command no_drill at.obeys.0 o.sound d at.to reply (subst (λ b. Answers (before ++ opening) Judges (start_at mark c swaps) at.obeys.0 reply d.lab at.to b) goes o.ends) stands);
+            own_answered terms mark before from opening c swaps w command no_drill at.obeys.0 o.sound d at.to reply (subst (λ b. Answers (before ++ opening) Judges (start_of mark.devices c swaps) at.obeys.0 reply d.lab at.to b) goes o.ends) stands);
         shut = λ shut. absurd (cc shut);
         closed = λ shut. let open_now : stays_open (Some reply) ≡ true = ap not goes in absurd (cc (open_now, shut));
         device = at.device;
@@ -148,7 +140,7 @@ module _ (terms : Terms) (mark : Faults) (old mid : Seen) (command : Command) (n
     to = Closed;
     own = own_alone (Ok reply) at Closed (Some reply) AsRead there
         (λ before from opening w o here.
-        own_closed terms mark before from opening c swaps w command no_drill at.obeys.0 o.sound reply (not_one reply shut) (subst (λ b. Answers (before ++ opening) Judges (start_at mark c swaps) at.obeys.0 reply d.lab at.to b) shut o.ends) here);
+        own_closed terms mark before from opening c swaps w command no_drill at.obeys.0 o.sound reply (not_one reply shut) (subst (λ b. Answers (before ++ opening) Judges (start_of mark.devices c swaps) at.obeys.0 reply d.lab at.to b) shut o.ends) here);
     shut = λ closed. shuts_so reply shut;
     closed = λ closed. refl;
     device = at.device;
@@ -231,7 +223,7 @@ module _ (terms : Terms) (command : Command) (mark : Faults) (no_drill : drill_o
       → (m : Makes terms mark command mid c [] new reply) → Begins terms command mark old new.plant.told Closed m.to reply
   begins_opened old mid new c reply (reading, moving, is, opens) there works limit m =
       let steps = reading ++ moving in
-      begins_so old new.plant.told Closed m.to steps m.own.0 reply (m.own.1 ∙ ap (λ o. with_steps o m.own.0) is ∙ steps_twice old steps m.own.0)
+      begins_so old new.plant.told Closed m.to steps m.own.0 reply (m.own.1 ∙ ap (λ o. with_steps o m.own.0) is ∙ with_steps-append old steps m.own.0)
       (map_three old (λ t o readable both.
       let w = is_opened t.trace reading moving c o both.0 limit readable in
       let it = w.opens refl in
@@ -276,7 +268,7 @@ module _ (terms : Terms) (command : Command) (no_drill : drill_of command ≡ No
       let opening = steps ++ Restarted a b ∷ [] in
       subst (λ r. Ends terms command old new Closed (Ok r)) (sym told)
       (in_reply replies.Stopped (made (Some replies.Stopped) (begins_so terms command plant.faults no_drill plant.told new.plant.told Closed Closed opening [] (Some replies.Stopped)
-      (again ∙ ap (λ o. with_steps o (Restarted a b ∷ [])) opens.2 ∙ steps_twice plant.told steps (Restarted a b ∷ []) ∙ ap (λ l. with_steps plant.told l) (sym (append-nil opening)))
+      (again ∙ ap (λ o. with_steps o (Restarted a b ∷ [])) opens.2 ∙ with_steps-append plant.told steps (Restarted a b ∷ []) ∙ ap (λ l. with_steps plant.told l) (sym (append-nil opening)))
       (map_three plant.told (λ t o readable now. again_piece terms t.trace command plant.faults no_drill opens.0 opens.1 (subst (λ f. OpenSteps t.trace opens.0 opens.1 (2 ^ 32) (Err f)) is o) readable a b now) opens.3 there
       (carried plant.told mid steps opens.2 (λ l. ArePossible l a b) possible)))
       (λ shut. absurd (cc shut)) refl (λ some. runs)))
@@ -329,24 +321,6 @@ ends_of terms command old new from to (Err fault) begun closed later down device
     subst (λ r. Ends terms command old new from r) (sym memory)
     (subst (λ s. Made terms command old new from s None) (closed refl) (record { begun = begun; later = later; disk = down; device = device; opened = since; runs = runs; goes_on = goes_on }))
 
--- A CONTROLLER THAT WORKS with no open swap
-alone_works : (now : Seen) (c : Control) → Works now.told c → c.swaps ≡ [] → WorksWith now c []
-alone_works now c works none = record {
-  pairs = [];
-  are = refl;
-  working = record { work = works; differ = tt; each = λ o there. absurd there; running = λ o there. absurd there };
-  holds = record {
-    listed_of = λ x there. absurd (subst (λ l. Has l x) none there);
-    stands = λ q there. absurd there;
-    count = sym (ap length none);
-    plain = λ q there. absurd there;
-  };
-  since = λ o there. absurd there;
-}
-
-pub is_open : (now : Seen) (c : Control) → Works now.told c → c.swaps ≡ [] → limit_of c.journal ≡ 2 ^ 32 → IsOpen now c []
-is_open now c works none limit = record { works = alone_works now c works none; limit = limit }
-
 -- the session of a controller that is there, and of none
 pub open_session : (plant : Seen) (k : Option Control) (c : Control) (from : Session) → k ≡ Some c → StandsAt plant k from → (swaps : List OpenSwap) × (from ≡ Open swaps) × IsOpen plant c swaps
 open_session plant k c from is at = by from (subst (λ k. StandsAt plant k from) is at)
@@ -370,25 +344,25 @@ closed_from terms command old new from result is goes ends = subst (λ s. Ends t
 
 -- A COMMAND OF AN OPEN CONTROLLER, that was open before
 pub ends_open : (terms : Terms) (command : Command) → drill_of command ≡ None → (old new : Moment) (c : Control) (result : Result Reply CommandFault) (from : Session) → old.controller ≡ Some c → HasSession old from
-    → ((mark : Faults) (swaps : List OpenSwap) → IsMarkAt mark old.plant swaps → IsOpen old.plant c swaps → Makes terms mark command old.plant c swaps new (reply_if result)) → Later old.plant.faults new.plant.faults
+    → ((mark : Faults) (swaps : List OpenSwap) → IsMarkAt mark old.plant → IsOpen old.plant c swaps → Makes terms mark command old.plant c swaps new (reply_if result)) → Later old.plant.faults new.plant.faults
     → (closes_if (reply_if result) ≡ true → Rose old.plant.faults.disk new.plant.faults.disk) → (is_some (reply_if result) ≡ true → old.plant.stopped ≡ false → new.plant.stopped ≡ false) → OnErr result (result ≡ Err command_faults.Memory)
     → Ends terms command old new from result
 ends_open terms command no_drill old new c result from is goes makes later disk runs memory =
     let s = open_session old.plant old.controller c from is goes.stands in
-    let m = makes old.plant.faults s.0 (inl refl) s.2 in
+    let m = makes old.plant.faults s.0 (omega arith) s.2 in
     subst (λ f. Ends terms command old new f result) (sym s.1)
     (ends_of terms command old new (Open s.0) m.to result (begins_open terms command old.plant.faults no_drill old.plant new c s.0 (reply_if result) s.2 m) m.closed later disk m.device m.opened runs memory (λ some. m.goes_on))
 
 -- or was opened for it
 pub ends_opened : (terms : Terms) (command : Command) → drill_of command ≡ None → (old new : Moment) (mid : Seen) (c : Control) (result : Result Reply CommandFault) (from : Session) → old.controller ≡ None → HasSession old from → OpenTold old.plant.told mid.told (2 ^ 32) (Ok c)
-    → IfSome old.plant.told (λ t. AsRead t.trace) → Works mid.told c → c.swaps ≡ [] → limit_of c.journal ≡ 2 ^ 32 → IsLater old.plant mid
-    → ((mark : Faults) (swaps : List OpenSwap) → IsMarkAt mark mid swaps → IsOpen mid c swaps → Makes terms mark command mid c swaps new (reply_if result)) → Later old.plant.faults new.plant.faults
+    → IfSome old.plant.told (λ t. AsRead t.trace) → WorksWith mid c [] → limit_of c.journal ≡ 2 ^ 32 → IsLater old.plant mid
+    → ((mark : Faults) (swaps : List OpenSwap) → IsMarkAt mark mid → IsOpen mid c swaps → Makes terms mark command mid c swaps new (reply_if result)) → Later old.plant.faults new.plant.faults
     → (closes_if (reply_if result) ≡ true → Rose old.plant.faults.disk new.plant.faults.disk) → (is_some (reply_if result) ≡ true → old.plant.stopped ≡ false → new.plant.stopped ≡ false) → OnErr result (result ≡ Err command_faults.Memory)
     → Ends terms command old new from result
-ends_opened terms command no_drill old new mid c result from is goes told there works alone limit passed makes later disk runs memory =
-    let m = makes old.plant.faults [] (inr (refl, passed.devices)) (is_open mid c works alone limit) in
+ends_opened terms command no_drill old new mid c result from is goes told there works limit passed makes later disk runs memory =
+    let m = makes old.plant.faults [] passed.devices (record { works = works; limit = limit }) in
     closed_from terms command old new from result is goes
-    (ends_of terms command old new Closed m.to result (begins_opened terms command old.plant.faults no_drill old.plant.told mid new c (reply_if result) told there works limit m) m.closed later disk m.device m.opened runs memory (λ some. m.goes_on))
+    (ends_of terms command old new Closed m.to result (begins_opened terms command old.plant.faults no_drill old.plant.told mid new c (reply_if result) told there works.working.work limit m) m.closed later disk m.device m.opened runs memory (λ some. m.goes_on))
 
 -- a count that rose since a later moment rose since an earlier one
 pub rose_since : (a b now : ℕ) → a ≤ b → Rose b now → Rose a now

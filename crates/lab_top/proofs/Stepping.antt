@@ -32,7 +32,7 @@ use Rattle.lab_core.specs.Controller.{Control}
 use Rattle.lab_core.specs.Judge.{Task}
 use Rattle.lab_core.specs.LabSteps.{LabStep, StepOf, IsDoneBy, JudgedBeside, opened}
 use Rattle.lab_core.specs.Moments.{StandForLab, IsLabAt, IsLabOfImage, AllStandFor, IsLengthAt}
-use Rattle.lab_core.specs.Obey.{Leaves, Start}
+use Rattle.lab_core.specs.Obey.{Leaves, Start, start_of}
 use Rattle.lab_core.specs.Opening.{OpenSteps}
 use Rattle.lab_core.specs.Recovery.{Opens}
 use Rattle.lab_core.specs.Sessions.{OpenSwap, Session, Closed, Open, Setting, After, Terms}
@@ -159,17 +159,13 @@ pub step_of : (terms : Terms) (set : Setting) (s : LabState) (from : Session) (c
     → LabStep terms set s from command opening own after
 step_of terms set s from command opening own after no_drill step = subst (λ (d : Option Drill). StepOf d (JudgedBeside terms.rule command) terms set s from opening own after) (sym no_drill) step
 
--- where a command begins, by the count of device faults at its mark
-abbrev pub start_at : Faults → Control → List OpenSwap → Start
-start_at mark c swaps = record { set = record { length = length_of c.journal; limit = limit_of c.journal; devices = mark.devices }; lab = c.lab; opens = swaps }
-
 -- WHAT AN OPEN CONTROLLER DOES OF ITS OWN
 module _ (terms : Terms) (mark : Faults) (before : List Event) (from : Session) (opening : List Event) (c : Control) (swaps : List OpenSwap) (w : WasOpened before from opening c swaps) (command : Command) (no_drill : drill_of command ≡ None) where
   abbrev Judges : Result Task Reply → Type 0
   Judges = JudgedBeside terms.rule command swaps c.lab
 
   abbrev start : Start
-  start = start_at mark c swaps
+  start = start_of mark.devices c swaps
 
   abbrev IsDoneOf : List Event → Option Reply → LabState → Session → Type 0
   IsDoneOf own reply lab session = IsDoneBy Judges start.set c.lab swaps own (after_of reply lab session)

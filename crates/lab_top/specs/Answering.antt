@@ -93,9 +93,9 @@ DoesOwn terms trace command mark c swaps own to reply = (before : List Event) (f
 abbrev pub OwnTold : Terms → Option Told → Option Told → Command → Faults → Control → List OpenSwap → Session → Option Reply → Type 0
 OwnTold terms old new command mark c swaps to reply = (own : List Event) × (new ≡ with_steps old own) × IfSome old (λ t. DoesOwn terms t.trace command mark c swaps own to reply)
 
--- the count of device faults at the mark is that of the moment, or where no swap is open yet an earlier one
-abbrev pub IsMarkAt : Faults → Seen → List OpenSwap → Type 0
-IsMarkAt mark now swaps = (mark.devices ≡ now.faults.devices) ⊎ ((swaps ≡ []) × (mark.devices ≤ now.faults.devices))
+-- the count of device faults at the mark is at most that of the moment, which an opening may come before
+abbrev pub IsMarkAt : Faults → Seen → Type 0
+IsMarkAt mark now = mark.devices ≤ now.faults.devices
 
 abbrev pub reply_if : Result Reply CommandFault → Option Reply
 reply_if (Ok reply) = Some reply

@@ -1,4 +1,4 @@
-ghost use Rattle.std.specs.Prelude.{◌≡◌, ◌⊎◌, ◌≤◌, ◌^◌, ℕ, List, None, IfSome, is_some, true};
+ghost use Rattle.std.specs.Prelude.{◌≡◌, ◌≤◌, ◌^◌, ℕ, List, None, IfSome, is_some, true};
 ghost use Rattle.lab_io.specs.Causes.{Rose};
 ghost use Rattle.plant.specs.Disks.{disk};
 ghost use Rattle.plant.specs.declared.step.Side.{Side as AnySide};
@@ -35,8 +35,6 @@ pub fn labctl<S: Source, K: Sink, P: Plant>(
     ensures bad { (side : AnySide) (at : ℕ) → result ≡ Status.JournalBad side at
         → IfSome (P.seen plant.new).told (λ t. IsNoJournal (disk A t.trace).reads (disk B t.trace).reads (2 ^ 32) side at) }
     ensures never_bad { (side : AnySide) (at : ℕ) → result ≡ Status.JournalBad side at → IfSome (P.seen plant.old).told (λ t. IsSound the_texts t.trace → ⊥) }
-    ensures usage { result ≡ Status.Usage → choices_of words.now ≡ None }
-    ensures refused { choices_of words.now ≡ None → (result ≡ Status.Usage) ⊎ (result ≡ Status.Memory) }
     ensures unread { choices_of words.now ≡ None → source.new ≡ source.old }
     ensures unread_where_generated { is_some (number_of (choices_of words.now)) ≡ true → source.new ≡ source.old }
     ensures unwritten { choices_of words.now ≡ None → sink.new ≡ sink.old }

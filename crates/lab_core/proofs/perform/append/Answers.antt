@@ -19,12 +19,12 @@ encode-requires g c = is_short c.args.entry.now c.requires.can.is_record
 pub returns-in_err-encoded : goal.returns-in_err-encoded
 returns-in_err-encoded g c =
     let p = err_from_is_err_and c.from_residual.result c.from_residual.ensures.1 in
-    rw (p.1, p.2) (λ opens works. wanted _ _ (control c.args.lab.now.state c.args.journal.now c.args.swaps.now) opens None works)
+    rw (p.1, p.2) (λ opens devices exp within works. wanted devices _ _ (control c.args.lab.now.state c.args.journal.now c.args.swaps.now) opens exp works)
 
 pub returns-then-not-has_space : goal.returns-then-not-has_space
-returns-then-not-has_space g c = λ opens works.
+returns-then-not-has_space g c = λ opens devices exp within works.
     let old : Control = control c.args.lab.now.state c.args.journal.now c.args.swaps.now in
-    full _ old opens None (Append c.args.entry.now c.args.reply) c.args.entry.now c.in_ok-encoded.encoded c.length.result works (λ own after no' replies. no_space (start_of (g.P.Plant.seen c.args.plant.now) old opens).set old.lab opens c.args.entry.now _ own after no' replies) c.in_ok-encoded.ensures.size
+    full devices _ old opens exp (Append c.args.entry.now c.args.reply) c.args.entry.now c.in_ok-encoded.encoded c.length.result works (λ own after no' replies. no_space (start_of devices old opens).set old.lab opens c.args.entry.now _ own after no' replies) c.in_ok-encoded.ensures.size
     (sym (ap (λ (n : ℕ). nat_le (length_of c.args.journal.now + n + 10240) (limit_of c.args.journal.now)) c.size.ensures) ∙ (sym c.has_space.ensures.space ∙ c.if-not-has_space.true)) c.length.ensures
 
 pub prepare-requires-clause-record : goal.prepare-requires-clause-record
@@ -36,7 +36,7 @@ prepare-requires-clause-follows g c = c.requires.can.follows
 pub returns-in_err-prepared : goal.returns-in_err-prepared
 returns-in_err-prepared g c =
     let p = err_from_is_err_and c.from_residual-in_err-prepared.result c.from_residual-in_err-prepared.ensures.1 in
-    rw (p.1, p.2, c.prepare.ensures.unchanged) (λ opens works. wanted _ _ (control c.args.lab.now.state c.args.journal.now c.args.swaps.now) opens None works)
+    rw (p.1, p.2, c.prepare.ensures.unchanged) (λ opens devices exp within works. wanted devices _ _ (control c.args.lab.now.state c.args.journal.now c.args.swaps.now) opens exp works)
 
 pub write-written-requires-clause-stands : goal.write-written-requires-clause-stands
 write-written-requires-clause-stands g c = stands_of _ (control c.args.lab.now.state c.args.journal.now c.args.swaps.now) c.requires.works.0 c.requires.works.1
@@ -47,7 +47,7 @@ write-written-requires-clause-fits g c =
     omega (arith, fits, c.size.ensures)
 
 pub returns : goal.returns
-returns g c = λ opens works.
+returns g c = λ opens devices exp within works.
     let s = c.args.lab.now.state in
     let j = c.args.journal.now in
     let old : Control = control s j c.args.swaps.now in
@@ -55,6 +55,6 @@ returns g c = λ opens works.
     let space : nat_le (length_of j + Rattle.journal_model.specs.Journals.size c.args.entry.now + 10240) (limit_of j) ≡ true =
     sym (ap (λ (n : ℕ). nat_le (length_of j + n + 10240) (limit_of j)) (c.size.ensures ∙ c.in_ok-encoded.ensures.size)) ∙ (sym c.has_space.ensures.space ∙ c.if-not-has_space.false) in
     let lab = subst (λ (x : LabState). OnOk c.write-written.result (c.enter_written.new.lab.state ≡ after x c.in_ok-prepared.prepared)) c.prepare.ensures.unchanged c.enter_written.ensures in
-    subst (λ (r : Result Reply CoreFault). Obeyed (g.P.Plant.seen c.args.plant.now) (g.P.Plant.seen c.write-written.new.plant) (Is (Ok (Append c.args.entry.now c.args.reply))) old new opens None r) (sym c.reply_of_append.ensures)
-    (left _ _ old new opens c.args.entry.now c.args.reply (after s c.in_ok-prepared.prepared) c.requires.can c.in_ok-prepared.ensures.ok space c.has_space.ensures.most works refl c.write-written.result
+    subst (λ (r : Result Reply CoreFault). Obeyed devices (g.P.Plant.seen c.args.plant.now) (g.P.Plant.seen c.write-written.new.plant) (Is (Ok (Append c.args.entry.now c.args.reply))) old new opens exp r) (sym c.reply_of_append.ensures)
+    (left devices exp _ _ old new opens c.args.entry.now c.args.reply (after s c.in_ok-prepared.prepared) c.requires.can c.in_ok-prepared.ensures.ok space c.has_space.ensures.most works refl c.write-written.result
     (c.write-written.ensures c.args.entry.now c.in_ok-encoded.ensures.spelled) c.write-written.result refl lab)

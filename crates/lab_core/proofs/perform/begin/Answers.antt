@@ -22,14 +22,14 @@ use Rattle.lab_core.proofs.perform.begin.Goals as goal
 pub returns-in_err-ready : goal.returns-in_err-ready
 returns-in_err-ready g c =
     let p = err_from_is_err_and c.from_residual.result c.from_residual.ensures.1 in
-    rw (p.1, p.2, c.prepare_swap.ensures.unchanged) (λ opens works only. wanted _ _ (control c.args.lab.now.state c.args.journal.now c.args.swaps.now) opens (Some c.args.exp) works)
+    rw (p.1, p.2, c.prepare_swap.ensures.unchanged) (λ opens devices within works only. wanted devices _ _ (control c.args.lab.now.state c.args.journal.now c.args.swaps.now) opens (Some c.args.exp) works)
 
 pub returns-then-not-has_space : goal.returns-then-not-has_space
 returns-then-not-has_space g c =
     let old : Control = control c.args.lab.now.state c.args.journal.now c.args.swaps.now in
     rw c.prepare_swap.ensures.unchanged
-    (λ opens works only. full _ old opens (Some c.args.exp) (begun_as only (Swap c.args.exp c.args.way)) (Begin c.args.exp c.args.way) c.in_ok-ready.ready.planned.begin c.length.result works
-    (λ own after no' replies. no_space_for (start_of (g.P.Plant.seen c.args.plant.now) old opens).set old.lab opens c.args.exp c.args.way only own after no' replies)
+    (λ opens devices within works only. full devices _ old opens (Some c.args.exp) (begun_as only (Swap c.args.exp c.args.way)) (Begin c.args.exp c.args.way) c.in_ok-ready.ready.planned.begin c.length.result works
+    (λ own after no' replies. no_space_for (start_of devices old opens).set old.lab opens c.args.exp c.args.way only own after no' replies)
     (body_size c.in_ok-ready.ready.planned.begin (Begin c.args.exp c.args.way) c.in_ok-ready.ensures.body)
     (sym (ap (λ (n : ℕ). nat_le (length_of c.args.journal.now + n + 10240) (limit_of c.args.journal.now)) c.size.ensures) ∙ (sym c.has_space.ensures.space ∙ c.if-not-has_space.true)) c.length.ensures)
 
@@ -55,7 +55,7 @@ reply_of_unopened-requires g c = c.in-Err.ensures.tried
 
 -- the swap is planned, with space
 pub returns-in-Ok : goal.returns-in-Ok
-returns-in-Ok g c = λ opens works.
+returns-in-Ok g c = λ opens devices within works.
     let s = c.args.lab.now.state in
     let j = c.args.journal.now in
     let old : Control = control s j c.args.swaps.now in
@@ -71,12 +71,12 @@ returns-in-Ok g c = λ opens works.
     (subst (λ (x : LabState). IsPlanned x (after x ready.prepared) j ready.planned by.swap begin by.move) (sym same) plans) in
     let opened = subst (λ (x : LabState). HasOpened the_texts works.pairs by.swap x (after x ready.prepared) begin by.move (g.P.Plant.seen c.args.plant.now) (g.P.Plant.seen c.open_swap.new.plant) j new.journal new.swaps) same here in
     let lab : new.lab ≡ after s ready.prepared = c.in-Ok.ensures.lab ∙ ap (λ (x : LabState). after x ready.prepared) same in
-    is_opened _ _ old new opens c.args.exp c.args.way c.args.ops.commands c.args.ops.undo by works
+    is_opened devices _ _ old new opens c.args.exp c.args.way c.args.ops.commands c.args.ops.undo by works within
     (sym (ap (λ (n : ℕ). nat_le (length_of j + n + 10240) (limit_of j)) (body_size ready.planned.begin begin e.body)) ∙ space)
     (subst (λ (x : LabState). HasOpened the_texts works.pairs by.swap s x begin by.move (g.P.Plant.seen c.args.plant.now) (g.P.Plant.seen c.open_swap.new.plant) j new.journal new.swaps) (sym lab) opened) (λ stopped. c.in-Ok.ensures.stopped.1 stopped)
 
 pub returns-in-Err : goal.returns-in-Err
-returns-in-Err g c = λ opens works.
+returns-in-Err g c = λ opens devices within works.
     let s = c.args.lab.now.state in
     let j = c.args.journal.now in
     let old : Control = control s j c.args.swaps.now in
@@ -95,5 +95,5 @@ returns-in-Err g c = λ opens works.
     let lab : new.lab ≡ s = c.in-Err.ensures.unchanged.0 ∙ same in
     let still = nothing_as _ _ (Err fault) (λ kept. (ap g.P.Plant.seen kept.0, λ i. control (lab i) (kept.1 i) (c.in-Err.ensures.unchanged.1 i))) c.in-Err.ensures.nothing in
     rw c.reply_of_unopened.ensures
-    (not_opened _ _ old new opens c.args.exp c.args.way c.args.ops.commands c.args.ops.undo by works (sym (ap (λ (n : ℕ). nat_le (length_of j + n + 10240) (limit_of j)) (body_size ready.planned.begin begin e.body)) ∙ space)
+    (not_opened devices _ _ old new opens c.args.exp c.args.way c.args.ops.commands c.args.ops.undo by works within (sym (ap (λ (n : ℕ). nat_le (length_of j + n + 10240) (limit_of j)) (body_size ready.planned.begin begin e.body)) ∙ space)
     (after s ready.prepared) fault c.in-Err.ensures.tried unopened still c.in-Err.ensures.stopped c.in-Err.ensures.limit)

@@ -9,8 +9,8 @@ pub finish_swap-progress-requires-clause-is_open : goal.finish_swap-progress-req
 finish_swap-progress-requires-clause-is_open g c = c.requires.ready
 
 pub returns : goal.returns
-returns g c = λ opens works.
+returns g c = λ opens devices within works.
     let old : Control = control c.args.lab.now.state c.args.journal.now c.args.swaps.now in
     let new : Control = control c.finish_swap-progress.new.lab.state c.finish_swap-progress.new.journal c.finish_swap-progress.new.swaps in
     let e = c.finish_swap-progress.ensures in
-    rw c.reply_of_progress.ensures (ended _ _ old new opens c.args.exp works c.finish_swap-progress.result (e.ended works.pairs works.working works.holds) e.limit e.stopped)
+    rw c.reply_of_progress.ensures (ended _ _ old new opens c.args.exp works c.finish_swap-progress.result (e.ended works.pairs works.working works.holds) devices e.limit e.stopped)

@@ -1,4 +1,4 @@
-use Rattle.std.proofs.Common.{None, Ok, refl}
+use Rattle.std.proofs.Common.{Ok, refl}
 use Rattle.lab_core.specs.Controller.{control}
 use Rattle.lab_core.specs.Judge.{Is, Tell}
 use Rattle.lab_core.specs.LabSteps.{does}
@@ -9,7 +9,7 @@ pub returns-in-Tell : goal.returns-in-Tell
 returns-in-Tell g c =
     let mild = rw c.in-Tell.is at c.requires.can in
     rw c.in-Tell.is
-    (λ opens works. replied _ (Is (Ok (Tell c.in-Tell.reply))) (control c.args.lab.now.state c.args.journal.now c.args.swaps.now) opens None c.in-Tell.reply works mild (does (Ok (Tell c.in-Tell.reply)) refl (record { nothing = refl; after_is = refl })))
+    (λ opens devices exp within works. replied devices _ (Is (Ok (Tell c.in-Tell.reply))) (control c.args.lab.now.state c.args.journal.now c.args.swaps.now) opens exp c.in-Tell.reply works mild (does (Ok (Tell c.in-Tell.reply)) refl (record { nothing = refl; after_is = refl })))
 
 pub append-requires-clause-can : goal.append-requires-clause-can
 append-requires-clause-can g c = rw c.in-Append.is at c.requires.can
@@ -30,7 +30,7 @@ pub swap-requires-clause-ready : goal.swap-requires-clause-ready
 swap-requires-clause-ready g c = rw c.in-Swap.is at c.requires.ready
 
 pub returns-in-Swap : goal.returns-in-Swap
-returns-in-Swap g c = rw c.in-Swap.is c.swap.ensures
+returns-in-Swap g c = rw c.in-Swap.is (λ opens devices exp within works. c.swap.ensures opens devices within works)
 
 pub begin_only-requires-clause-record : goal.begin_only-requires-clause-record
 begin_only-requires-clause-record g c = (rw c.in-BeginOnly.is at c.requires.can).0
@@ -45,19 +45,19 @@ pub begin_only-requires-clause-ready : goal.begin_only-requires-clause-ready
 begin_only-requires-clause-ready g c = rw c.in-BeginOnly.is at c.requires.ready
 
 pub returns-in-BeginOnly : goal.returns-in-BeginOnly
-returns-in-BeginOnly g c = rw c.in-BeginOnly.is c.begin_only.ensures
+returns-in-BeginOnly g c = rw c.in-BeginOnly.is (λ opens devices exp within works. c.begin_only.ensures opens devices within works)
 
 pub turn-requires-clause-ready : goal.turn-requires-clause-ready
 turn-requires-clause-ready g c = rw c.in-Turn.is at c.requires.ready
 
 pub returns-in-Turn : goal.returns-in-Turn
-returns-in-Turn g c = rw c.in-Turn.is c.turn.ensures
+returns-in-Turn g c = rw c.in-Turn.is (λ opens devices exp within works. c.turn.ensures opens devices within works)
 
 pub finish-requires-clause-ready : goal.finish-requires-clause-ready
 finish-requires-clause-ready g c = rw c.in-Finish.is at c.requires.ready
 
 pub returns-in-Finish : goal.returns-in-Finish
-returns-in-Finish g c = rw c.in-Finish.is c.finish.ensures
+returns-in-Finish g c = rw c.in-Finish.is (λ opens devices exp within works. c.finish.ensures opens devices within works)
 
 pub returns-in-Recover : goal.returns-in-Recover
 returns-in-Recover g c = rw c.in-Recover.is c.recover.ensures

@@ -1,4 +1,4 @@
-use Rattle.std.proofs.Common.{ℕ, List, None, refl, sym, subst}
+use Rattle.std.proofs.Common.{ℕ, List, refl, sym, subst}
 use Rattle.std.proofs.lemmas.Result.{err_from_is_err_and}
 use Rattle.swap_mgr.specs.Open.{AreNames}
 use Rattle.lab_core.specs.Controller.{Control, control}
@@ -9,13 +9,13 @@ use Rattle.lab_core.proofs.perform.recover.Goals as goal
 pub returns-in_err-busy : goal.returns-in_err-busy
 returns-in_err-busy g c =
     let p = err_from_is_err_and c.from_residual.result c.from_residual.ensures.1 in
-    rw (p.1, p.2) (λ opens works. wanted _ _ (control c.args.lab.now.state c.args.journal.now c.args.swaps.now) opens None works)
+    rw (p.1, p.2) (λ opens devices exp within works. wanted devices _ _ (control c.args.lab.now.state c.args.journal.now c.args.swaps.now) opens exp works)
 
 pub settle-settled-requires : goal.settle-settled-requires
 settle-settled-requires g c = c.requires.works.1.working.work
 
 pub returns : goal.returns
-returns g c = λ opens works.
+returns g c = λ opens devices exp within works.
     let old : Control = control c.args.lab.now.state c.args.journal.now c.args.swaps.now in
     let new : Control = control c.settle-settled.new.state.state c.settle-settled.new.journal c.args.swaps.now in
-    rw c.reply_of_settling.ensures (recovered _ _ old new opens works refl c.deref.result.now (subst (λ (l : List (List ℕ)). AreNames old.swaps l) (sym c.deref.ensures.value) c.in_ok-busy.ensures) c.settle-settled.ensures.limit c.settle-settled.result c.settle-settled.ensures.stopped c.settle-settled.ensures.after)
+    rw c.reply_of_settling.ensures (recovered devices exp _ _ old new opens works refl c.deref.result.now (subst (λ (l : List (List ℕ)). AreNames old.swaps l) (sym c.deref.ensures.value) c.in_ok-busy.ensures) c.settle-settled.ensures.limit c.settle-settled.result c.settle-settled.ensures.stopped c.settle-settled.ensures.after)

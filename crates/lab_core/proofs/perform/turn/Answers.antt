@@ -9,8 +9,8 @@ pub turn_swap-progress-requires-clause-is_open : goal.turn_swap-progress-require
 turn_swap-progress-requires-clause-is_open g c = c.requires.ready
 
 pub returns : goal.returns
-returns g c = λ opens works.
+returns g c = λ opens devices within works.
     let old : Control = control c.args.lab.now.state c.args.journal.now c.args.swaps.now in
     let new : Control = control c.turn_swap-progress.new.lab.state c.turn_swap-progress.new.journal c.turn_swap-progress.new.swaps in
     let e = c.turn_swap-progress.ensures in
-    rw c.reply_of_progress.ensures (turned _ _ old new opens c.args.exp works c.turn_swap-progress.result (e.turned works.pairs works.working works.holds) e.limit e.stopped)
+    rw c.reply_of_progress.ensures (turned devices _ _ old new opens c.args.exp works c.turn_swap-progress.result (e.turned works.pairs works.working works.holds) e.limit e.stopped)

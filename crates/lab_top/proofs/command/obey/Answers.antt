@@ -1,5 +1,5 @@
 use Rattle.std.proofs.Common.{arith, [], None, sym, ◌∙◌, ◌≡◌, Some, Err}
-use Rattle.lab_top.proofs.Obeyed.{closed_from, ends_open, ends_opened, ends_unopened, goes_closed, is_open, later_same, may_open, rose_same, rose_since, runs_if}
+use Rattle.lab_top.proofs.Obeyed.{closed_from, ends_open, ends_opened, ends_unopened, goes_closed, later_same, may_open, rose_same, rose_since, runs_if}
 use Rattle.lab_top.proofs.command.obey.Goals as goal
 
 pub obey_open-requires-clause-open : goal.obey_open-requires-clause-open
@@ -8,7 +8,7 @@ obey_open-requires-clause-open g c =
     may_open _ c.args.controller.now c.in-Some.opened is c.requires.goes_on
 
 pub obey_open-requires-in-Ok-clause-open : goal.obey_open-requires-in-Ok-clause-open
-obey_open-requires-in-Ok-clause-open g c = let e = c.in-Ok.ensures in ([], is_open _ c.in-Ok.opened e.works e.alone e.limit)
+obey_open-requires-in-Ok-clause-open g c = let e = c.in-Ok.ensures in ([], record { works = e.works; limit = e.limit })
 
 pub returns-in-Some : goal.returns-in-Some
 returns-in-Some g c = λ from goes.
@@ -21,7 +21,7 @@ returns-in-Ok g c = λ from goes.
     let is : c.args.controller.now ≡ None = sym c.take.ensures.value ∙ c.in-None.is in
     let e = c.in-Ok.ensures in
     let o = c.obey_open-in-Ok.ensures in
-    ends_opened _ c.args.command.now c.requires.no_drill _ _ (g.P.Plant.seen c.open.new.plant) c.in-Ok.opened c.obey_open-in-Ok.result from is goes e.steps (g.met.P.Plant.reads_possible c.args.plant.now) e.works e.alone e.limit e.later o.makes
+    ends_opened _ c.args.command.now c.requires.no_drill _ _ (g.P.Plant.seen c.open.new.plant) c.in-Ok.opened c.obey_open-in-Ok.result from is goes e.steps (g.met.P.Plant.reads_possible c.args.plant.now) e.works e.limit e.later o.makes
     (record { disk = omega (arith, e.later.disk, o.later.disk); devices = omega (arith, e.later.devices, o.later.devices) })
     (λ shut. rose_since _ _ _ e.later.disk (o.disk shut)) (λ some was. runs_if _ _ o.runs some) o.memory
 

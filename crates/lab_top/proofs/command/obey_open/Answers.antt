@@ -1,6 +1,5 @@
-use Rattle.std.proofs.Common.{false, ◌≡◌, ◌∙◌, refl}
+use Rattle.std.proofs.Common.{false, ◌≡◌, ◌∙◌, refl, arith}
 use Rattle.script_text.specs.Replies.{closes}
-use Rattle.lab_top.proofs.Marks.{obeyed_at}
 use Rattle.lab_top.proofs.Obeyed.{later_same, makes_not, makes_off, makes_on, makes_stopped, ok_runs}
 use Rattle.lab_top.proofs.command.obey_open.Goals.{then-not-closes, else-not-closes}
 use Rattle.lab_top.proofs.command.obey_open.Goals as goal
@@ -10,53 +9,52 @@ obey-requires-clause-works g c = (c.requires.open.0, c.requires.open.1.works)
 
 pub returns-in-Ok-clause-makes : goal.returns-in-Ok-clause-makes
 returns-in-Ok-clause-makes g c = λ mark swaps at is.
-    let o = c.in-Ok.ensures.obeys swaps is.works in
+    let o = c.in-Ok.ensures.obeys swaps mark.devices at is.works in
     let old = g.P.Plant.seen c.args.plant.now in
     let mid = g.P.Plant.seen c.obey.new.plant in
-    let so = obeyed_at mark old mid _ c.args.opened c.obey.new.self swaps _ _ at o in
     elim c.if-not-closes.branch [
       | then-not-closes w ↦
           let goes : closes c.in-Ok.reply ≡ false = cc (c.closes.ensures, w.if-not-closes.true) in
-          rw w.controller-is (makes_on _ mark old mid c.args.command.now c.requires.no_drill c.args.opened c.obey.new.self swaps c.in-Ok.reply so goes (o.limit ∙ is.limit) (ok_runs c.in-Ok.reply mid.stopped (o.stopped c.requires.runs)))
+          rw w.controller-is (makes_on _ mark old mid c.args.command.now c.requires.no_drill c.args.opened c.obey.new.self swaps c.in-Ok.reply o goes (o.limit ∙ is.limit) (ok_runs c.in-Ok.reply mid.stopped (o.stopped c.requires.runs)))
       | else-not-closes w ↦
-          rw w.controller-is (rw c.requires.taken (makes_off _ mark old mid c.args.command.now c.requires.no_drill c.args.opened c.obey.new.self swaps c.in-Ok.reply so (cc (c.closes.ensures, w.if-not-closes.false)) (g.met.P.Plant.reads_possible c.obey.new.plant)))
+          rw w.controller-is (rw c.requires.taken (makes_off _ mark old mid c.args.command.now c.requires.no_drill c.args.opened c.obey.new.self swaps c.in-Ok.reply o (cc (c.closes.ensures, w.if-not-closes.false)) (g.met.P.Plant.reads_possible c.obey.new.plant)))
     ]
 
 pub returns-in-Err-Stopped-clause-makes : goal.returns-in-Err-Stopped-clause-makes
 returns-in-Err-Stopped-clause-makes g c = λ mark swaps at is.
-    let o = (rw c.in-Err-Stopped.field-0-is at c.in-Err-Stopped.ensures).obeys swaps is.works in
+    let o = (rw c.in-Err-Stopped.field-0-is at c.in-Err-Stopped.ensures).obeys swaps mark.devices at is.works in
     let old = g.P.Plant.seen c.args.plant.now in
     let mid = g.P.Plant.seen c.obey.new.plant in
-    rw c.requires.taken (makes_stopped _ mark old mid c.args.command.now c.requires.no_drill c.args.opened c.obey.new.self swaps _ c.start_again.result (obeyed_at mark old mid _ c.args.opened c.obey.new.self swaps _ _ at o) c.start_again.ensures.starts
+    rw c.requires.taken (makes_stopped _ mark old mid c.args.command.now c.requires.no_drill c.args.opened c.obey.new.self swaps _ c.start_again.result o c.start_again.ensures.starts
     (g.met.P.Plant.reads_possible c.obey.new.plant))
 
 pub returns-clause-makes : goal.returns-clause-makes
 returns-clause-makes g c = λ mark swaps at is.
-    let o = (rw c.in-Err-Memory.field-0-is at c.in-Err-Memory.ensures).obeys swaps is.works in
+    let o = (rw c.in-Err-Memory.field-0-is at c.in-Err-Memory.ensures).obeys swaps mark.devices at is.works in
     let old = g.P.Plant.seen c.args.plant.now in
     let mid = g.P.Plant.seen c.obey.new.plant in
-    rw c.requires.taken (makes_not _ mark old mid c.args.command.now c.requires.no_drill c.args.opened c.obey.new.self swaps (obeyed_at mark old mid _ c.args.opened c.obey.new.self swaps _ _ at o))
+    rw c.requires.taken (makes_not _ mark old mid c.args.command.now c.requires.no_drill c.args.opened c.obey.new.self swaps o)
 
 pub returns-in-Ok-clause-runs : goal.returns-in-Ok-clause-runs
-returns-in-Ok-clause-runs g c = let o = c.in-Ok.ensures.obeys c.requires.open.0 c.requires.open.1.works in ok_runs c.in-Ok.reply _ (o.stopped c.requires.runs)
+returns-in-Ok-clause-runs g c = let o = c.in-Ok.ensures.obeys c.requires.open.0 0 (omega arith) c.requires.open.1.works in ok_runs c.in-Ok.reply _ (o.stopped c.requires.runs)
 
 pub returns-in-Ok-clause-disk : goal.returns-in-Ok-clause-disk
-returns-in-Ok-clause-disk g c = (c.in-Ok.ensures.obeys c.requires.open.0 c.requires.open.1.works).down
+returns-in-Ok-clause-disk g c = (c.in-Ok.ensures.obeys c.requires.open.0 0 (omega arith) c.requires.open.1.works).down
 
 pub returns-in-Ok-clause-later : goal.returns-in-Ok-clause-later
-returns-in-Ok-clause-later g c = let o = c.in-Ok.ensures.obeys c.requires.open.0 c.requires.open.1.works in record { disk = o.later; devices = o.devices }
+returns-in-Ok-clause-later g c = let o = c.in-Ok.ensures.obeys c.requires.open.0 0 (omega arith) c.requires.open.1.works in record { disk = o.later; devices = o.still }
 
 pub start_again-requires : goal.start_again-requires
 start_again-requires g c =
-    let o = (rw c.in-Err-Stopped.field-0-is at c.in-Err-Stopped.ensures).obeys c.requires.open.0 c.requires.open.1.works in
+    let o = (rw c.in-Err-Stopped.field-0-is at c.in-Err-Stopped.ensures).obeys c.requires.open.0 0 (omega arith) c.requires.open.1.works in
     (o.stopped c.requires.runs).0 refl
 
 pub returns-in-Err-Stopped-clause-later : goal.returns-in-Err-Stopped-clause-later
 returns-in-Err-Stopped-clause-later g c =
-    let o = (rw c.in-Err-Stopped.field-0-is at c.in-Err-Stopped.ensures).obeys c.requires.open.0 c.requires.open.1.works in
-    later_same _ _ _ o.later o.devices c.start_again.ensures.faults
+    let o = (rw c.in-Err-Stopped.field-0-is at c.in-Err-Stopped.ensures).obeys c.requires.open.0 0 (omega arith) c.requires.open.1.works in
+    later_same _ _ _ o.later o.still c.start_again.ensures.faults
 
 pub returns-clause-later : goal.returns-clause-later
 returns-clause-later g c =
-    let o = (rw c.in-Err-Memory.field-0-is at c.in-Err-Memory.ensures).obeys c.requires.open.0 c.requires.open.1.works in
-    record { disk = o.later; devices = o.devices }
+    let o = (rw c.in-Err-Memory.field-0-is at c.in-Err-Memory.ensures).obeys c.requires.open.0 0 (omega arith) c.requires.open.1.works in
+    record { disk = o.later; devices = o.still }

@@ -15,22 +15,22 @@ pub perform-requires-clause-works : goal.perform-requires-clause-works
 perform-requires-clause-works g c = subst (λ (k : Control). CanWork (g.P.Plant.seen c.args.plant.now) k) (sym c.self.view_is) c.requires.works
 
 pub returns-in-Ok : goal.returns-in-Ok
-returns-in-Ok g c = λ opens works.
+returns-in-Ok g c = λ opens devices within works.
     let before = g.P.Plant.seen c.args.plant.now in
     let now = g.P.Plant.seen c.perform.new.plant in
     let inside = control c.self.inside.lab.state c.self.inside.journal c.self.inside.swaps in
     let new = control c.perform.new.lab.state c.perform.new.journal c.perform.new.swaps in
     let works_inside = subst (λ (k : Control). WorksWith before k opens) (sym c.self.view_is) works in
-    done_beside before inside c.args.self.now c.self.view_is opens works_inside c.args.rule.now.number c.args.command.now now new (task_of c.in-Ok.task) c.perform.result c.in-Ok.ensures.judged (c.perform.ensures opens works_inside)
+    done_beside before inside c.args.self.now c.self.view_is opens works_inside c.args.rule.now.number c.args.command.now devices now new (task_of c.in-Ok.task) c.perform.result c.in-Ok.ensures.judged (c.perform.ensures opens devices (name_of c.args.command.now) within works_inside)
 
 pub returns-in-Err-Refused : goal.returns-in-Err-Refused
-returns-in-Err-Refused g c = λ opens works.
+returns-in-Err-Refused g c = λ opens devices within works.
     let before = g.P.Plant.seen c.args.plant.now in
     let inside = control c.self.inside.lab.state c.self.inside.journal c.self.inside.swaps in
     let judged = rw c.in-Err-Refused.field-0-is at c.in-Err-Refused.ensures.judged in
-    refuses before (JudgedBeside c.args.rule.now.number c.args.command.now opens c.args.self.now.lab) c.args.self.now opens (name_of c.args.command.now) c.in-Err-Refused.reply works
+    refuses devices before (JudgedBeside c.args.rule.now.number c.args.command.now opens c.args.self.now.lab) c.args.self.now opens (name_of c.args.command.now) c.in-Err-Refused.reply works
     (refused_beside before inside c.args.self.now c.self.view_is opens (subst (λ (k : Control). WorksWith before k opens) (sym c.self.view_is) works) c.args.rule.now.number c.args.command.now c.in-Err-Refused.reply judged)
 
 pub returns-in-Err-Memory : goal.returns-in-Err-Memory
-returns-in-Err-Memory g c = λ opens works.
-    wanted (g.P.Plant.seen c.args.plant.now) (JudgedBeside c.args.rule.now.number c.args.command.now opens c.args.self.now.lab) c.args.self.now opens (name_of c.args.command.now) works
+returns-in-Err-Memory g c = λ opens devices within works.
+    wanted devices (g.P.Plant.seen c.args.plant.now) (JudgedBeside c.args.rule.now.number c.args.command.now opens c.args.self.now.lab) c.args.self.now opens (name_of c.args.command.now) works

@@ -1,8 +1,9 @@
-use Rattle.std.proofs.Common.{◌≡◌, ◌↔◌, Bool, true, false, Err, IsErrOf, IsTrue, Ok, refl, subst}
+use Rattle.std.proofs.Common.{◌≡◌, ◌↔◌, ◌∙◌, Bool, true, false, Err, IsErrOf, IsTrue, Ok, refl, subst}
 use Rattle.std.proofs.lemmas.Result.{err_from_is_err_and}
 use Rattle.journal_disk.specs.declared.fault.OpenFault.TheVariants as faults
 use Rattle.lab_core.specs.Opening.{AfterOpening}
 use Rattle.lab_core.proofs.Openings.{bad_behind}
+use Rattle.lab_core.proofs.OpenSwaps.{opened_alone}
 use Rattle.lab_core.proofs.SettledOpenings.{not_read, then_broken, then_moved}
 use Rattle.lab_core.proofs.controller.Controller.open.Goals as goal
 
@@ -39,3 +40,8 @@ returns-in_err-controller-2-clause-steps g c =
     let first = c.in_ok-controller in
     rw (p.1, p.2)
     (then_broken c.args.limit (g.P.Plant.seen c.args.plant.now) (g.P.Plant.seen c.read.new.plant) (g.P.Plant.seen c.settle_all.new.plant) first.controller first.ensures.steps c.in_err-controller-2.field-0.0 c.in_err-controller-2.ensures.after)
+
+pub returns-clause-works : goal.returns-clause-works
+returns-clause-works g c =
+    let last = c.compact.ensures in
+    opened_alone (g.P.Plant.seen c.compact.new.plant) c.in_ok-controller-2.controller c.compact.result (c.in_ok-controller-2.ensures.alone ∙ c.in_ok-controller.ensures.alone) last.works last.alone
