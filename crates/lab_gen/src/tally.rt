@@ -1,4 +1,4 @@
-ghost use Rattle.std.specs.Prelude.{◌≡◌, ◌+◌, ◌++◌, ◌∷◌, [], List, IfOk, OnOk, if◌then◌else◌};
+ghost use Rattle.std.specs.Prelude.{◌≡◌, ◌+◌, ◌++◌, ◌∷◌, [], List, IfOk, OnErr, OnOk, if◌then◌else◌};
 ghost use Rattle.script_text.specs.declared.reply.Reply.{Reply as AnyReply};
 ghost use Rattle.lab_gen.specs.Summary.{count_line, is_created, is_in, is_lab, is_other, is_out, nodes_in, summary, HasWords, IsTally};
 
@@ -101,7 +101,8 @@ impl Tally {
 
     /// Counts a reply.
     pub fn count(&mut self, reply: &Reply) -> Result<(), Memory>
-        ensures { OnOk result ((replies : List AnyReply) → IsTally self.old replies → IsTally self.new (replies ++ reply.now ∷ [])) }
+        ensures ok { OnOk result ((replies : List AnyReply) → IsTally self.old replies → IsTally self.new (replies ++ reply.now ∷ [])) }
+        ensures err { OnErr result (self.new ≡ self.old) }
     {
         let commands = plus(self.commands, 1)?;
         let nodes = plus(self.nodes, nodes_in(reply))?;

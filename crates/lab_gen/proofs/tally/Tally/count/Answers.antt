@@ -2,8 +2,8 @@ use Rattle.lab_gen.specs.Summary.{is_created, is_in, is_lab, is_other, is_out, n
 use Rattle.lab_gen.proofs.Counting.{count_more, one_more, sum_more}
 use Rattle.lab_gen.proofs.tally.Tally.count.Goals as goal
 
-pub returns : goal.returns
-returns c = λ replies is.
+pub returns-clause-ok : goal.returns-clause-ok
+returns-clause-ok c = λ replies is.
     let reply = c.args.reply.now in record {
       commands = one_more replies reply _ _ is.commands c.in_ok-commands.ensures;
       nodes = sum_more nodes_in replies reply _ _ _ is.nodes c.nodes_in.ensures c.in_ok-nodes.ensures;
