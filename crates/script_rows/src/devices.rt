@@ -68,17 +68,23 @@ pub fn held(alloc: Global, plant: &MemLab) -> Result<String, AllocError> {
     Ok(out)
 }
 
+/// A poll by the state that it was answered with, if it was.
+fn poll_counted(alloc: Global, answer: &Result<Answer, Fault>) -> Result<String, AllocError> {
+    match answer {
+        Ok(Answer::State(state)) => format!(in alloc; "polls {}", boot_word(*state)),
+        _ => "others".to_string(alloc),
+    }
+}
+
 /// What is counted of a command: the boots of a node, the polls with an answer, and all others.
 fn counted(
     alloc: Global,
     op: &DeviceOp,
     answer: &Result<Answer, Fault>,
 ) -> Result<String, AllocError> {
-    match (op, answer) {
-        (DeviceOp::Boot { node }, _) => format!(in alloc; "boots {}", letters(node)),
-        (DeviceOp::Poll { .. }, Ok(Answer::State(state))) => {
-            format!(in alloc; "polls {}", boot_word(*state))
-        }
+    match op {
+        DeviceOp::Boot { node } => format!(in alloc; "boots {}", letters(node)),
+        DeviceOp::Poll { .. } => poll_counted(alloc, answer),
         _ => "others".to_string(alloc),
     }
 }
