@@ -2,7 +2,7 @@
 use Rattle.std.proofs.Common.{◌≡◌, ◌≤◌, ◌<◌, ◌∙◌, ◌+◌, ◌++◌, ◌∷◌, [], inl, inr, ℕ, List, length, take, drop, map, get_or, Contains, Option, Some, None, true, false, refl, sym, ap, subst, suc, zero, length-append, arith}
 use Rattle.std.specs.List.{filter_map, cons_option}
 use Rattle.std.proofs.lemmas.Grind.{flat_map-append}
-use Rattle.std.proofs.lemmas.List.{take_more, map-append, get_or_append_left}
+use Rattle.std.proofs.lemmas.List.{take_more, map-append, get_or_append_left, get_or_default}
 use Rattle.std.proofs.lemmas.List.Elements.{filter_map-append}
 use Rattle.std.proofs.Math.Seq.{get_or-append_seam}
 use Rattle.std.proofs.lemmas.Bool.{cases_lt, ltb-true, ltb-false}
@@ -17,11 +17,6 @@ use Rattle.map_anneal.specs.Sought.{Sought, mapped, price}
 use Rattle.map_anneal.specs.Searches.{IsPriced}
 use Rattle.assign_core.specs.Bests.{IsBest, IsPartial, is_below}
 use Rattle.assign_core.specs.Exact.{extended, all_choices}
-
-get_or-within : {X : Type 0} (xs : List X) (k : ℕ) (d e : X) → k < length xs → get_or xs k d ≡ get_or xs k e
-get_or-within [] k d e lt = absurd (omega arith)
-get_or-within (x ∷ xs) zero d e lt = refl
-get_or-within (x ∷ xs) (suc k) d e lt = get_or-within xs k d e (omega arith)
 
 pub partial_more : (cs : List (List Place)) (places : List Place) (p : Place) → IsPartial cs places → length places < length cs
     → Contains (get_or cs (length places) []) p → IsPartial cs (places ++ p ∷ [])
@@ -54,7 +49,7 @@ append_nil [] = refl
 append_nil (x ∷ xs) = ap (λ ys. x ∷ ys) (append_nil xs)
 
 pub get_or_here : (cs : List (List Place)) (d : ℕ) → d < length cs → get_or cs d [] ≡ get_or cs d (get_or cs d [])
-get_or_here cs d lt = get_or-within cs d [] (get_or cs d []) lt
+get_or_here cs d lt = get_or_default cs d [] (get_or cs d []) lt
 
 pub all_choices-none : (cs : List (List Place)) → all_choices [] cs ≡ []
 all_choices-none [] = refl

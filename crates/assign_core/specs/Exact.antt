@@ -5,10 +5,10 @@ use Rattle.phys_lab.specs.Labs.{Lab}
 use Rattle.phys_lab.specs.declared.free.Free.{Free}
 use Rattle.virt_topo.specs.declared.wiring.Wiring.{Wiring}
 use Rattle.virt_topo.specs.declared.mapping.Mapping.{Mapping}
-use Rattle.lab_model.specs.Shapes.{Place, node_at}
-use Rattle.lab_model.specs.Rules.{agree, guests}
+use Rattle.lab_model.specs.Shapes.{Place}
 use Rattle.node_maps.specs.NodeMaps.{candidates, plugs_of, node_map}
 use Rattle.node_maps.specs.Least.{IsFirstLeast}
+use Rattle.node_maps.specs.Moved.{may_share}
 use Rattle.map_anneal.specs.Sought.{Sought, choices, mapped, price, LocallyBest}
 use Rattle.map_anneal.specs.Walk.{walk}
 use Rattle.assign_core.specs.declared.whole.Solved.{Solved}
@@ -36,10 +36,6 @@ node_maps s = filter_map (λ places. mapped s places) (all_choices ([] ∷ []) (
 abbrev pub IsCheapestOf : Sought → List Mapping → Option (Mapping × ℕ) → Type 0
 IsCheapestOf s maps None = maps ≡ []
 IsCheapestOf s maps (Some best) = IsFirstLeast (price s) maps best.0 × (best.1 ≡ price s best.0)
-
--- F2 on one node among the virtual nodes placed so far
-abbrev pub may_share : Lab → Wiring → List Place → ℕ → Bool
-may_share lab w places n = agree (node_at lab (record { 0 = n })).types (guests w.nodes places n)
 
 -- the virtual nodes placed so far and one more: on its node they keep F2, as on the others before, and the interface rule
 -- serves all their ends

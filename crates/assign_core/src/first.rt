@@ -4,8 +4,9 @@ ghost use Rattle.std.specs.List.{find};
 ghost use Rattle.virt_topo.specs.Soundness.{IsSound};
 ghost use Rattle.lab_model.specs.Shapes.{IsFreeOf};
 ghost use Rattle.node_maps.specs.NodeMaps.{IsChoice, plugs_of, candidates as candidates_in};
+ghost use Rattle.node_maps.specs.Moved.{may_share as may_share_in};
 ghost use Rattle.assign_core.specs.Placing.{IsPlacing};
-ghost use Rattle.assign_core.specs.Exact.{may_share as may_share_in, fits_next, first_fit as first_fit_of};
+ghost use Rattle.assign_core.specs.Exact.{fits_next, first_fit as first_fit_of};
 
 use feas::may_share;
 use lab_base::{Memory, NodeId};

@@ -6,6 +6,7 @@ use Rattle.std.proofs.lemmas.Bool.{cases_eq, cases_lt, lt-ltb, le-ltb, eq-eqb, n
 use Rattle.std.proofs.lemmas.List.{get_or-set_same, get_or-set_other, length-set}
 use Rattle.std.proofs.lemmas.List.Sums.{sum_by-cons, sum_by-append}
 use Rattle.std.proofs.lemmas.Slice.Eq.{bytes_eq-Decides}
+use Rattle.std.proofs.lemmas.Option.{same_Some}
 use Rattle.lab_base.specs.Lists.{Has, Apart}
 use Rattle.lab_base.proofs.Members.{Has-append}
 use Rattle.claims.specs.declared.claim.Claim.{Claim}
@@ -85,9 +86,6 @@ pub record Named (exp : List ℕ) (es : List Entry) (c : Claim) : Type 0 where
   pub name : entry.exp ≡ exp
   pub claim : entry.claim ≡ c
 
-some_is : (c d : Claim) → Some c ≡ Some d → c ≡ d
-some_is c d e = cc e
-
 pub named : (exp : List ℕ) (es : List Entry) (c : Claim) → claim_named exp es ≡ Some c → Named exp es c
 named exp [] c h = absurd (cc h)
 named exp (f ∷ es) c h = elim (cases_Bool (bytes_eq f.exp exp)) [
@@ -95,7 +93,7 @@ named exp (f ∷ es) c h = elim (cases_Bool (bytes_eq f.exp exp)) [
     entry = f;
     among = inl refl;
     name = (bytes_eq-Decides f.exp exp).0 is_so;
-    claim = some_is f.claim c (sym (ap (λ b. if b then Some f.claim else claim_named exp es) is_so) ∙ h);
+    claim = same_Some f.claim c (sym (ap (λ b. if b then Some f.claim else claim_named exp es) is_so) ∙ h);
   }
   | inr not_so ↦
       let more = named exp es c (sym (ap (λ b. if b then Some f.claim else claim_named exp es) not_so) ∙ h) in
@@ -109,7 +107,7 @@ pub share_nothing : (exp : List ℕ) (es : List Entry) (c : Claim) → Apart Are
 share_nothing exp [] c apart h e among = absurd among
 share_nothing exp (f ∷ es) c apart h e among = elim (cases_Bool (bytes_eq f.exp exp)) [
   | inl is_so ↦
-      let here : f.claim ≡ c = some_is f.claim c (sym (ap (λ b. if b then Some f.claim else claim_named exp es) is_so) ∙ h) in
+      let here : f.claim ≡ c = same_Some f.claim c (sym (ap (λ b. if b then Some f.claim else claim_named exp es) is_so) ∙ h) in
       let later : Has es e = subst (λ l. Has l e) (ap (λ b. if b then es else f ∷ others exp es) is_so) among in
       subst (λ d. ShareNothing e.claim d) here (flipped f.claim e.claim (apart.0 e later).share)
   | inr not_so ↦
@@ -151,7 +149,7 @@ module _ (numbers : Claim → List ℕ) where
   owner_rest exp [] c n h out = refl
   owner_rest exp (f ∷ es) c n h out = elim (cases_Bool (bytes_eq f.exp exp)) [
     | inl is_so ↦
-        let here : f.claim ≡ c = some_is f.claim c (sym (ap (λ b. if b then Some f.claim else claim_named exp es) is_so) ∙ h) in
+        let here : f.claim ≡ c = same_Some f.claim c (sym (ap (λ b. if b then Some f.claim else claim_named exp es) is_so) ∙ h) in
         let free : is_in n (numbers f.claim) ≡ false = ap (λ d. is_in n (numbers d)) here ∙ out in
         ap (λ b. if b then Some f.exp else owner_of numbers es n) free ∙ sym (ap (λ b. owner_of numbers (if b then es else f ∷ others exp es) n) is_so)
     | inr not_so ↦
@@ -176,7 +174,7 @@ pub use_rest : (t : ℕ) (exp : List ℕ) (es : List Entry) (c : Claim) → clai
 use_rest t exp [] c h = absurd (cc h)
 use_rest t exp (f ∷ es) c h = elim (cases_Bool (bytes_eq f.exp exp)) [
   | inl is_so ↦
-      let here : f.claim ≡ c = some_is f.claim c (sym (ap (λ b. if b then Some f.claim else claim_named exp es) is_so) ∙ h) in
+      let here : f.claim ≡ c = same_Some f.claim c (sym (ap (λ b. if b then Some f.claim else claim_named exp es) is_so) ∙ h) in
       let uses : claim_use t f.claim ≡ claim_use t c = ap (λ d. claim_use t d) here in
       let rest : use_by t (others exp (f ∷ es)) ≡ use_by t es = ap (λ b. use_by t (if b then es else f ∷ others exp es)) is_so in
       omega (arith, sum_by-cons (λ (e : Entry). claim_use t e.claim) f es, uses, rest)

@@ -1,15 +1,16 @@
 -- Virtual nodes and their places, one after another.
-use Rattle.std.proofs.Common.{◌≡◌, ℕ, suc, ◌+◌, ◌<◌, ◌≤◌, Bool, true, false, cond, List, ◌∷◌, length, map, drop, get_or, refl, sym, ap, ◌∙◌, arith}
+use Rattle.std.proofs.Common.{◌≡◌, ℕ, ◌+◌, ◌<◌, ◌≤◌, Bool, true, false, cond, List, ◌∷◌, length, map, refl, sym, ap, ◌∙◌, arith}
 use Rattle.std.specs.Prelude.{◌&&◌, ◌||◌, not, ◌==◌}
 use Rattle.std.specs.List.{list_any}
 use mir.Val.{bool_byte}
-use Rattle.std.proofs.Math.Seq.{drop-cons}
+use Rattle.std.proofs.lemmas.List.{drop_more}
+use Rattle.lab_base.specs.Names.{same_name}
 use Rattle.phys_lab.proofs.NameLaws.{any_in_map}
-use Rattle.virt_topo.specs.Repeats.{same_name}
 use Rattle.virt_topo.specs.declared.wiring.Wiring.{Wiring}
 use Rattle.virt_topo.specs.declared.mapping.Mapping.{Mapping}
+use Rattle.virt_topo.specs.Wirings.{virt_at, no_virt}
 use Rattle.lab_model.specs.Shapes.{Place}
-use Rattle.lab_model.specs.Rules.{is_member, virt_at, place_at, no_virt, no_place}
+use Rattle.lab_model.specs.Rules.{is_member, place_at, no_place}
 use Rattle.cost_rule.specs.Cost.{different, same_node, types_of}
 use Rattle.cost_rule.specs.Counting.{is_of_kind, types_from}
 
@@ -21,15 +22,12 @@ pub byte_one : (b : Bool) → bool_byte b ≤ 1
 byte_one true = omega arith
 byte_one false = omega arith
 
-pub next_of : {X : Type 0} (xs : List X) (i : ℕ) (d : X) → i < length xs → drop i xs ≡ get_or xs i d ∷ drop (i + 1) xs
-next_of xs i d lt = let next : suc i ≡ i + 1 = omega arith in drop-cons xs i d lt ∙ ap (λ (j : ℕ). get_or xs i d ∷ drop j xs) next
-
 -- the types from virtual node v on: its own where it is a member, and the later ones
 pub types_step : (w : Wiring) (m : Mapping) (c v : ℕ) → v < length w.nodes → v < length m.places
     → types_from w m c v ≡ cond (is_member c (virt_at w v).asks) ((place_at m v).1 ∷ types_from w m c (v + 1)) (types_from w m c (v + 1))
 types_step w m c v lt few =
-    let one = next_of w.nodes v no_virt lt in
-    let two = next_of m.places v no_place few in
+    let one = drop_more w.nodes v no_virt lt in
+    let two = drop_more m.places v no_place few in
     λ j. types_of c (one j) (two j)
 
 pub any_step : (w : Wiring) (m : Mapping) (c v : ℕ) (kind : List ℕ) → v < length w.nodes → v < length m.places

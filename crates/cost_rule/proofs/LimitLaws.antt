@@ -9,8 +9,8 @@ use Rattle.virt_topo.specs.declared.wiring.Wiring.{Wiring}
 use Rattle.virt_topo.specs.Soundness.{IsSound, keeps_limits, limits_node}
 use Rattle.virt_topo.proofs.CableLaws.{Limits, limits_of}
 use Rattle.lab_base.specs.declared.ids.NodeId.{NodeId}
+use Rattle.virt_topo.specs.Wirings.{virt_at, no_virt}
 use Rattle.lab_model.specs.Shapes.{node_at, no_node}
-use Rattle.lab_model.specs.Rules.{virt_at, no_virt}
 use Rattle.lab_model.proofs.WiringLaws.{all_has, has_at}
 
 past : {X : Type 0} (faulty : Bool) (fault : X) (later : Option X) → (if faulty then Some fault else later) ≡ None → faulty ≡ false

@@ -6,6 +6,7 @@ use Rattle.std.proofs.lemmas.Bool.Decides.{nat_tests}
 use Rattle.std.proofs.lemmas.List.Sums.{sum_by-le}
 use Rattle.std.proofs.lemmas.Nat.{mul-le}
 use Rattle.std.proofs.lemmas.List.{length-map}
+use Rattle.lab_base.specs.Names.{same_name}
 use Rattle.phys_lab.specs.Labs.{Lab}
 use Rattle.phys_lab.specs.Kept.{IsLab}
 use Rattle.phys_lab.specs.Forests.{first_side_of}
@@ -15,9 +16,9 @@ use Rattle.virt_topo.specs.declared.wiring.VirtNode.{VirtNode}
 use Rattle.virt_topo.specs.declared.wiring.Wiring.{Wiring}
 use Rattle.virt_topo.specs.declared.mapping.Mapping.{Mapping}
 use Rattle.virt_topo.specs.Soundness.{IsSound}
-use Rattle.virt_topo.specs.Repeats.{same_name}
+use Rattle.virt_topo.specs.Wirings.{virt_at}
 use Rattle.lab_model.specs.Shapes.{IsShaped, Place, node_at, has_name}
-use Rattle.lab_model.specs.Rules.{place_at, virt_at, class_at, is_member, no_place}
+use Rattle.lab_model.specs.Rules.{place_at, class_at, is_member, no_place}
 use Rattle.lab_model.specs.Uses.{use_of}
 use Rattle.lab_model.proofs.CutLaws.{cut_is_use}
 use Rattle.cost_rule.specs.declared.rule.RuleNumber.{RuleNumber}

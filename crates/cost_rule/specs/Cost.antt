@@ -1,13 +1,14 @@
 -- What a mapping costs by the number of a rule. All sums are in whole numbers.
 use Rattle.std.specs.Prelude.{◌+◌, ◌-◌, ◌*◌, ℕ, zero, suc, Bool, not, ◌&&◌, ◌==◌, nat_lt, List, [], ◌∷◌, length, map, sum_by, if◌then◌else◌}
 use Rattle.std.specs.List.{list_any}
+use Rattle.lab_base.specs.Names.{same_name}
 use Rattle.phys_lab.specs.Labs.{Lab}
-use Rattle.virt_topo.specs.Repeats.{same_name}
 use Rattle.virt_topo.specs.declared.wiring.VirtNode.{VirtNode}
 use Rattle.virt_topo.specs.declared.wiring.Wiring.{Wiring}
 use Rattle.virt_topo.specs.declared.mapping.Mapping.{Mapping}
+use Rattle.virt_topo.specs.Wirings.{virt_at}
 use Rattle.lab_model.specs.Shapes.{Place, node_at, has_name}
-use Rattle.lab_model.specs.Rules.{place_at, virt_at, class_at, is_member}
+use Rattle.lab_model.specs.Rules.{place_at, class_at, is_member}
 use Rattle.lab_model.specs.Uses.{use_of}
 use Rattle.cost_rule.specs.declared.rule.RuleNumber.{RuleNumber}
 use Rattle.cost_rule.specs.declared.rule.RuleNumber.TheVariants as numbers

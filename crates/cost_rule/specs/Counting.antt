@@ -1,9 +1,10 @@
 -- What is counted step by step.
 use Rattle.std.specs.Prelude.{ℕ, Bool, ◌&&◌, List, drop}
-use Rattle.virt_topo.specs.Repeats.{same_name}
+use Rattle.lab_base.specs.Names.{same_name}
 use Rattle.virt_topo.specs.declared.wiring.Wiring.{Wiring}
 use Rattle.virt_topo.specs.declared.mapping.Mapping.{Mapping}
-use Rattle.lab_model.specs.Rules.{place_at, virt_at, is_member}
+use Rattle.virt_topo.specs.Wirings.{virt_at}
+use Rattle.lab_model.specs.Rules.{place_at, is_member}
 use Rattle.cost_rule.specs.Cost.{types_of}
 
 -- virtual node v is a member of the class, and this is its type

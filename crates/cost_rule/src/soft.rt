@@ -1,10 +1,11 @@
 // What a mapping leaves of desires, features and classes.
 ghost use Rattle.std.specs.Prelude.{◌≡◌, ◌<◌, ◌≤◌, ◌*◌, ◌+◌, ◌-◌, ◌&&◌, not, if◌then◌else◌, length};
 ghost use Rattle.std.specs.List.{list_any};
-ghost use Rattle.virt_topo.specs.Repeats.{same_name};
+ghost use Rattle.lab_base.specs.Names.{same_name};
 ghost use Rattle.virt_topo.specs.Soundness.{IsSound};
+ghost use Rattle.virt_topo.specs.Wirings.{virt_at};
 ghost use Rattle.lab_model.specs.Shapes.{IsShaped, has_name};
-ghost use Rattle.lab_model.specs.Rules.{is_member, place_at, virt_at};
+ghost use Rattle.lab_model.specs.Rules.{is_member, place_at};
 ghost use Rattle.cost_rule.specs.Cost.{sum_below, missed_weight, missed, node_soft, kinds_of, class_soft, soft};
 ghost use Rattle.cost_rule.specs.Counting.{is_of_kind, types_from};
 

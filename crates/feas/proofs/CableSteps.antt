@@ -1,6 +1,7 @@
 -- The cables of a mapping, one after another.
 use Rattle.std.proofs.Common.{◌≡◌, ℕ, zero, suc, ◌+◌, ◌<◌, List, [], ◌∷◌, length, take, drop, get_or, refl, sym, ap, ◌∙◌, arith}
 use Rattle.std.proofs.Math.Seq.{drop-cons}
+use Rattle.std.proofs.lemmas.List.{get_or_default}
 use Rattle.lab_base.specs.declared.ids.IfaceId.{IfaceId}
 use Rattle.virt_topo.specs.declared.wiring.Segment.{Segment}
 use Rattle.virt_topo.specs.declared.wiring.Wiring.{Wiring}
@@ -8,7 +9,6 @@ use Rattle.virt_topo.specs.declared.mapping.Mapping.{Mapping}
 use Rattle.virt_topo.specs.Ends.{end_nodes}
 use Rattle.virt_topo.specs.Cables.{Cable, cables}
 use Rattle.virt_topo.proofs.EndLaws.{ends_from}
-use Rattle.phys_lab.proofs.TableLaws.{same_at}
 use Rattle.lab_model.specs.Rules.{no_cable, cable_at}
 
 pub length-cables : (segments : List Segment) (plugs : List IfaceId) → length (cables segments plugs) ≡ length segments
@@ -40,7 +40,7 @@ cable_step segments plugs rest i d e lt is =
 
 pub ends_at : (segments : List Segment) (i : ℕ) (d : Segment) → i < length segments
     → length (end_nodes (drop i segments)) ≡ length (get_or segments i d).ends + length (end_nodes (drop (i + 1) segments))
-ends_at segments i d lt = ends_from segments i (get_or segments i d) lt (same_at segments i d (get_or segments i d) lt)
+ends_at segments i d lt = ends_from segments i (get_or segments i d) lt (get_or_default segments i d (get_or segments i d) lt)
 
 -- the plugs of the segment at i are these, and those of the segments behind it are the others
 pub record IsCut (w : Wiring) (m : Mapping) (i len : ℕ) (own later : List IfaceId) : Type 0 where

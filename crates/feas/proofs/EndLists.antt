@@ -2,12 +2,11 @@
 use Rattle.std.proofs.Common.{◌≡◌, ℕ, zero, suc, ◌+◌, ◌<◌, Bool, List, [], ◌∷◌, ◌++◌, length, take, drop, get_or, refl, sym, ap, ◌∙◌, arith, length-append, append_assoc}
 use Rattle.std.specs.Prelude.{replicate, ◌==◌, ◌&&◌, not, nat_le}
 use Rattle.std.specs.List.{flat_map, list_any}
-use Rattle.std.proofs.lemmas.List.{take_more, length-replicate, length-map}
+use Rattle.std.proofs.lemmas.List.{take_more, length-replicate, length-map, get_or_default}
 use Rattle.std.proofs.lemmas.Grind.{common_steps, flat_map-append}
 use Rattle.virt_topo.specs.declared.wiring.Segment.{Segment}
 use Rattle.virt_topo.specs.Ends.{end_nodes}
 use Rattle.phys_lab.specs.Labs.{Lab}
-use Rattle.phys_lab.proofs.TableLaws.{same_at}
 use Rattle.virt_topo.specs.declared.wiring.Wiring.{Wiring}
 use Rattle.virt_topo.specs.declared.mapping.Mapping.{Mapping}
 use Rattle.lab_model.specs.Uses.{iface_at}
@@ -41,7 +40,7 @@ plug_test lab m e virt kbps =
     && nat_le kbps (iface_at lab (plug_at m e)).kbps)
 
 at_zero : (xs ys : List ℕ) (i x : ℕ) → xs ≡ ys → i < length ys → x ≡ get_or xs i x → x ≡ get_or ys i 0
-at_zero xs ys i x same lt is = is ∙ ap (λ (l : List ℕ). get_or l i x) same ∙ same_at ys i x 0 lt
+at_zero xs ys i x same lt is = is ∙ ap (λ (l : List ℕ). get_or l i x) same ∙ get_or_default ys i x 0 lt
 
 pub kept_is : (lab : Lab) (w : Wiring) (m : Mapping) (e virt kbps : ℕ) (nodes speeds : List ℕ) (result : Bool) → nodes ≡ end_nodes w.segments → speeds ≡ end_speeds w.segments
     → e < length (end_nodes w.segments) → virt ≡ get_or nodes e virt → kbps ≡ get_or speeds e kbps → result ≡ plug_test lab m e virt kbps → result ≡ keeps_f5 lab w m e

@@ -1,15 +1,12 @@
 -- Virtual nodes and their places, one after another.
-use Rattle.std.proofs.Common.{◌≡◌, ℕ, zero, suc, ◌+◌, ◌<◌, Bool, true, false, cond, eqb, List, [], ◌∷◌, ◌++◌, length, drop, get_or, refl, sym, ap, ◌∙◌, arith}
-use Rattle.std.proofs.Math.Seq.{drop-cons}
+use Rattle.std.proofs.Common.{◌≡◌, ℕ, zero, ◌+◌, ◌<◌, Bool, true, false, cond, eqb, List, [], ◌∷◌, ◌++◌, length, drop, get_or, refl, sym, ap, ◌∙◌}
+use Rattle.std.proofs.lemmas.List.{drop_more}
 use Rattle.virt_topo.specs.declared.wiring.VirtNode.{VirtNode}
 use Rattle.lab_model.specs.Shapes.{Place}
 use Rattle.lab_model.specs.Rules.{Guest, guests, is_member, first_type}
 
-next_of : {X : Type 0} (xs : List X) (i : ℕ) (d : X) → i < length xs → drop i xs ≡ get_or xs i d ∷ drop (i + 1) xs
-next_of xs i d lt = let next : suc i ≡ i + 1 = omega arith in drop-cons xs i d lt ∙ ap (λ (j : ℕ). get_or xs i d ∷ drop j xs) next
-
 next_item : {X : Type 0} (xs : List X) (i : ℕ) (x : X) → i < length xs → x ≡ get_or xs i x → drop i xs ≡ x ∷ drop (i + 1) xs
-next_item xs i x lt is = next_of xs i x lt ∙ ap (λ y. y ∷ drop (i + 1) xs) (sym is)
+next_item xs i x lt is = drop_more xs i x lt ∙ ap (λ y. y ∷ drop (i + 1) xs) (sym is)
 
 pub guest_step : (vs : List VirtNode) (places : List Place) (i n : ℕ) (v : VirtNode) (p : Place) → i < length vs → i < length places → v ≡ get_or vs i v → p ≡ get_or places i p
     → cond (eqb p.0.0 n) ((p.1, v.os) ∷ []) [] ++ guests (drop (i + 1) vs) (drop (i + 1) places) n ≡ guests (drop i vs) (drop i places) n
@@ -30,6 +27,6 @@ no_guests (v ∷ vs) n = refl
 pub first_step : (c : ℕ) (vs : List VirtNode) (places : List Place) (i : ℕ) (d : VirtNode) (e : Place) → i < length vs → i < length places
     → first_type c (drop i vs) (drop i places) ≡ cond (is_member c (get_or vs i d).asks) (get_or places i e).1 (first_type c (drop (i + 1) vs) (drop (i + 1) places))
 first_step c vs places i d e lt few =
-    let one = next_of vs i d lt in
-    let two = next_of places i e few in
+    let one = drop_more vs i d lt in
+    let two = drop_more places i e few in
     λ j. first_type c (one j) (two j)

@@ -1,7 +1,8 @@
 // What numbers of a mapping name.
 ghost use Rattle.std.specs.Prelude.{◌≡◌, ◌<◌, length};
+ghost use Rattle.virt_topo.specs.Wirings.{virt_at};
 ghost use Rattle.lab_model.specs.Shapes.{node_at};
-ghost use Rattle.lab_model.specs.Rules.{place_at, plug_at, virt_at};
+ghost use Rattle.lab_model.specs.Rules.{place_at, plug_at};
 ghost use Rattle.lab_model.specs.Uses.{iface_at};
 
 use lab_base::{IfaceId, Name, NodeId};

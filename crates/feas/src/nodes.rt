@@ -1,7 +1,7 @@
 // The rule on the virtual nodes of one node.
 ghost use Rattle.std.specs.Prelude.{◌≡◌, IfSome, ◌<◌, ◌≤◌, ◌&&◌, ◌++◌, ◌∷◌, [], ◌==◌, if◌then◌else◌, length, IfOk, OnOk};
 ghost use Rattle.std.specs.List.{list_all};
-ghost use Rattle.virt_topo.specs.Repeats.{same_name};
+ghost use Rattle.lab_base.specs.Names.{same_name};
 ghost use Rattle.lab_model.specs.Shapes.{IsShaped, node_at};
 ghost use Rattle.lab_model.specs.Rules.{guests, number_of, agree, keeps_f2};
 ghost use Rattle.lab_model.specs.Feasible.{first_below};

@@ -7,10 +7,11 @@ use Rattle.plant.specs.Disks.{Disk, disk, disk_after, wrote, synced, at_once, Is
 use Rattle.plant.specs.Events.{Event}
 use Rattle.plant.specs.declared.step.Side.{Side}
 use Rattle.plant.specs.declared.step.Side.TheVariants.{A, B}
+use Rattle.plant.specs.Sides.{of_side}
 use Rattle.journal_rec.specs.declared.record.Record.{Record}
 use Rattle.journal_rec.specs.Payloads.{le, number}
 use Rattle.journal_rec.proofs.Numbers.{number_le}
-use Rattle.journal_model.specs.Journals.{header, Head, Blank, Headed, head, of_side, gate_after, size}
+use Rattle.journal_model.specs.Journals.{header, Head, Blank, Headed, head, gate_after, size}
 use Rattle.journal_model.specs.Appends.{blocks, front, other_side, IsOlder, Known, Rests, Opened, IsOn}
 use Rattle.journal_model.proofs.Images.{synced_image, byte_image}
 use Rattle.journal_model.proofs.Making.{short_blank, shut_blank}

@@ -8,10 +8,11 @@ use Rattle.plant.specs.Events.{Event}
 use Rattle.plant.specs.Told.{Told, with_steps}
 use Rattle.plant.specs.declared.step.Side.{Side}
 use Rattle.plant.specs.declared.step.Side.TheVariants.{A, B}
+use Rattle.plant.specs.Sides.{of_side}
 use Rattle.journal_rec.specs.declared.record.Record.{Record}
 use Rattle.journal_rec.specs.declared.record.Found.{Found}
 use Rattle.journal_rec.specs.Payloads.{le, number, IsBody}
-use Rattle.journal_model.specs.Journals.{Headed, head, of_side}
+use Rattle.journal_model.specs.Journals.{Headed, head}
 use Rattle.journal_model.specs.Appends.{Rests, All, added}
 use Rattle.journal_model.proofs.Runs.{run_disk}
 use Rattle.journal_model.proofs.Syncs.{live_back, headed_bytes}

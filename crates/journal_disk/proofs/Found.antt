@@ -13,7 +13,7 @@ use Rattle.journal_rec.specs.declared.record.Record.{Record}
 use Rattle.journal_rec.specs.declared.record.Record.TheVariants.{Delete}
 use Rattle.journal_rec.specs.declared.record.Found.{Found}
 use Rattle.journal_rec.specs.Payloads.{le, IsRecord}
-use Rattle.journal_model.specs.Journals.{magic, Head, Blank, Foreign, Headed, head, Live, New, On, Wrong, live, of_side, Bad, BadOf}
+use Rattle.journal_model.specs.Journals.{magic, Head, Blank, Foreign, Headed, head, Live, New, On, Wrong, live, Bad, BadOf}
 use Rattle.journal_model.specs.Appends.{IsOlder, Rests, Opened, Nothing}
 use Rattle.journal_model.specs.Making.{IsShort, IsClosed}
 use Rattle.journal_model.proofs.Traces.{disk_more}
@@ -30,6 +30,7 @@ use Rattle.journal_disk.specs.Walks.{placed}
 use Rattle.journal_disk.specs.Opening.{both_synced, making}
 use Rattle.journal_disk.specs.Openings.{IsRead, IsOpened}
 use Rattle.std.proofs.lemmas.List.{append-nil}
+use Rattle.plant.specs.Sides.{of_side}
 
 -- ---- where the journal stands
 chosen : (t u : Bool) → (if t then places.Wrong A else if u then places.On A else places.On B) ≡ seen_live (if t then Wrong A else if u then On A else On B)

@@ -11,9 +11,10 @@ use Rattle.plant.specs.declared.device.Fault.{Fault}
 use Rattle.plant.specs.declared.device.Fault.TheVariants.{Failed, Stopped}
 use Rattle.plant.specs.declared.step.Side.{Side}
 use Rattle.plant.specs.declared.step.Side.TheVariants.{A, B}
+use Rattle.plant.specs.Sides.{of_side}
 use Rattle.journal_rec.specs.declared.record.Record.{Record}
 use Rattle.journal_rec.specs.declared.record.Found.{Found}
-use Rattle.journal_model.specs.Journals.{head, of_side, New, live, Records}
+use Rattle.journal_model.specs.Journals.{head, New, live, Records}
 use Rattle.journal_model.specs.Making.{made_header}
 use Rattle.journal_model.proofs.Readings.{records_once, records_or_bad}
 use Rattle.journal_model.proofs.Images.{synced_image}

@@ -1,5 +1,5 @@
 ghost use Rattle.std.specs.Prelude.{◌≡◌, ◌↔◌, ◌≤◌, ◌<◌, ◌+◌, ◌-◌, ◌^◌, ◌++◌, ◌∷◌, [], ℕ, Bool, List, true, length, Option, Result, IfSome, IsErrOf, IsTrue, OnOk, OnErr};
-ghost use Rattle.plant.specs.Calls.{Rose};
+ghost use Rattle.lab_base.specs.Counts.{Rose};
 ghost use Rattle.plant.specs.DiskCalls.{DiskCause};
 ghost use Rattle.plant.specs.Events.{Event, Wrote, Synced};
 ghost use Rattle.plant.specs.Told.{Told, with_steps};

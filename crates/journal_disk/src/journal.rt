@@ -21,7 +21,7 @@ pub struct Journal {
 
 impl Journal {
     ghost use Rattle.std.specs.Prelude.{◌≡◌, ◌↔◌, ◌<◌, ◌≤◌, ◌+◌, ◌++◌, [], ◌∷◌, ℕ, List, length, Option, Some, Err, IfSome, IsErrOf, OnOk, OnErr, IsTrue};
-    ghost use Rattle.plant.specs.Calls.{Rose};
+    ghost use Rattle.lab_base.specs.Counts.{Rose};
     ghost use Rattle.plant.specs.Events.{Event};
     ghost use Rattle.plant.specs.Told.{with_steps};
     ghost use Rattle.journal_rec.specs.Payloads.{IsBody};

@@ -1,5 +1,5 @@
 ghost use Rattle.std.specs.Prelude.{◌≡◌, ◌↔◌, ◌≤◌, ℕ, Err, length, true, false, IfSome, OnOk, IsErrOf, IsTrue};
-ghost use Rattle.plant.specs.Calls.{Rose};
+ghost use Rattle.lab_base.specs.Counts.{Rose};
 ghost use Rattle.plant.specs.Disks.{disk};
 ghost use Rattle.plant.specs.Told.{with_steps};
 ghost use Rattle.plant.specs.declared.step.Side.{Side as AnySide};

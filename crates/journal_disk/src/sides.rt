@@ -1,11 +1,10 @@
-ghost use Rattle.std.specs.Prelude.{◌≡◌, ◌↔◌, ◌≤◌, ◌<◌, ℕ, Option, Err, length, take, drop, vec_len, ◌+◌, IfOk, IfSome, OnOk, OnErr, IsErrOf, IsTrue};
-ghost use Rattle.plant.specs.Calls.{Rose};
+ghost use Rattle.std.specs.Prelude.{◌≡◌, ◌↔◌, ◌≤◌, ◌<◌, ℕ, Option, Err, length, take, drop, vec_len, ◌+◌, IfOk, IfSome, OnOk, OnErr, IsErrOf, IsTrue, List, ◌++◌};
 ghost use Rattle.plant.specs.Disks.{disk};
 ghost use Rattle.plant.specs.Told.{with_steps};
 ghost use Rattle.plant.specs.Events.{Event};
 ghost use Rattle.plant.specs.declared.step.Side.{Side as AnySide};
 ghost use Rattle.journal_disk.specs.Opening.{both_synced, Syncs, MayMiss};
-ghost use Rattle.std.specs.Prelude.{List, ◌++◌};
+ghost use Rattle.lab_base.specs.Counts.{Rose};
 
 use crate::OpenFault;
 use plant::{Plant, Side};

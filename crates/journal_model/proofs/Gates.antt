@@ -8,9 +8,10 @@ use Rattle.lab_base.proofs.Members.{Has-append}
 use Rattle.plant.specs.Disks.{Disk, put, wrote, synced, IsImage, at_once}
 use Rattle.plant.specs.declared.step.Side.{Side}
 use Rattle.plant.specs.declared.step.Side.TheVariants.{A, B}
+use Rattle.plant.specs.Sides.{of_side}
 use Rattle.journal_rec.specs.declared.record.Record.{Record}
 use Rattle.journal_rec.specs.Payloads.{le, number, payload, IsRecord, body}
-use Rattle.journal_model.specs.Journals.{header, Head, Blank, Foreign, Headed, head, On, Wrong, live, of_side, block, size, Reads, gate_after, RecordsOf, size_of}
+use Rattle.journal_model.specs.Journals.{header, Head, Blank, Foreign, Headed, head, On, Wrong, live, block, size, Reads, gate_after, RecordsOf, size_of}
 use Rattle.journal_model.specs.Appends.{blocks, front, other_side, IsOlder, Rests, Writes, IsReady, Opens, IsOn}
 use Rattle.journal_model.proofs.Images.{front_kept, synced_image, byte_image, put_one}
 

@@ -9,9 +9,10 @@ use Rattle.plant.specs.Disks.{Disk, put, wrote, synced, shortened, IsImage, at_o
 use Rattle.plant.specs.Events.{Event, Missed, Did, Restarted, Cut as CutTo, Wrote, Synced}
 use Rattle.plant.specs.declared.step.Side.{Side}
 use Rattle.plant.specs.declared.step.Side.TheVariants.{A, B}
+use Rattle.plant.specs.Sides.{of_side}
 use Rattle.journal_rec.specs.declared.record.Record.{Record}
 use Rattle.journal_rec.specs.Payloads.{number, IsRecord}
-use Rattle.journal_model.specs.Journals.{magic, header, Head, Blank, Foreign, Headed, head, Live, On, Wrong, live, of_side, block, Reads}
+use Rattle.journal_model.specs.Journals.{magic, header, Head, Blank, Foreign, Headed, head, Live, On, Wrong, live, block, Reads}
 use Rattle.journal_model.specs.Appends.{blocks, other_side, IsOlder, IsReadable, IsWithin, AreWithin, IsLawful, Opened}
 use Rattle.journal_model.proofs.Traces.{disk_push}
 use Rattle.journal_model.proofs.Images.{synced_image}

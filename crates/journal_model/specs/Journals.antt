@@ -4,6 +4,7 @@ use Rattle.std.specs.Str.{bytes_eq}
 use Rattle.lab_base.specs.Lists.{Has}
 use Rattle.plant.specs.declared.step.Side.{Side}
 use Rattle.plant.specs.declared.step.Side.TheVariants.{A, B}
+use Rattle.plant.specs.Sides.{of_side}
 use Rattle.journal_rec.specs.declared.record.Record.{Record}
 use Rattle.journal_rec.specs.Payloads.{le, number, payload, IsRecord, Decodes}
 
@@ -40,10 +41,6 @@ live Blank Blank = New
 live (Headed m) Blank = On A
 live Blank (Headed n) = On B
 live (Headed m) (Headed n) = if number m == number n then Wrong A else if nat_lt (number n) (number m) then On A else On B
-
-abbrev pub of_side : {X : Type 0} → Side → X → X → X
-of_side A a b = a
-of_side B a b = b
 
 -- a record behind an open gate
 abbrev pub block : Record → List ℕ

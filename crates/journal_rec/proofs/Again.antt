@@ -12,8 +12,9 @@ use Rattle.journal_rec.specs.declared.record.Record.{Record}
 use Rattle.journal_rec.specs.declared.record.Record.TheVariants.{Lab, Create, Delete, Begin, Commit, Abort}
 use Rattle.journal_rec.specs.Payloads.{name_bytes, text_bytes, tags_bytes, way_bytes, payload, IsWay, tags_of_way, tags_of, HasFields, IsShort, IsRecord, Decodes, IsReadAs}
 use Rattle.journal_rec.specs.Reading.{◌>>=◌, Gives, name_of, field_at, text_at, way_at, lab_at, create_at, begin_at, delete_at, commit_at, abort_at, record_at, all_of}
-use Rattle.journal_rec.proofs.Fields.{field_again, text_again, some_is}
+use Rattle.journal_rec.proofs.Fields.{field_again, text_again}
 use Rattle.std.specs.Prelude.{IfOk, IsErrOf}
+use Rattle.std.proofs.lemmas.Option.{same_Some}
 use Rattle.journal_rec.proofs.Numbers.{IsBytes}
 use Rattle.journal_rec.proofs.Records.{all_takes, in_again, change_again, name_again}
 
@@ -86,7 +87,7 @@ read_again bytes r d = ap all_of d.spelled ∙ all_again r d.is_record
 
 -- what reading gives is that record
 pub read_as : (bytes : List ℕ) (r : Record) (result : Result Record RecFault) → Decodes bytes r → Gives (λ entry. entry) result (all_of bytes) → IsReadAs r result
-read_as bytes r (Ok s) d gives = some_is s r (sym gives ∙ read_again bytes r d)
+read_as bytes r (Ok s) d gives = same_Some s r (sym gives ∙ read_again bytes r d)
 read_as bytes r (Err faults.Bad) d gives = absurd (differ (sym gives ∙ read_again bytes r d))
   where
     differ : {x : Record} → None ≡ Some x → ⊥
@@ -95,7 +96,7 @@ read_as bytes r (Err faults.Memory) d gives = tt
 
 -- bytes are a payload of one record
 pub decodes_once : (bytes : List ℕ) (r s : Record) → Decodes bytes r → Decodes bytes s → r ≡ s
-decodes_once bytes r s a b = some_is r s (sym (read_again bytes r a) ∙ read_again bytes s b)
+decodes_once bytes r s a b = same_Some r s (sym (read_again bytes r a) ∙ read_again bytes s b)
 
 pub payload_once : (r s : Record) → IsRecord r → IsRecord s → payload r ≡ payload s → r ≡ s
 payload_once r s a b e = decodes_once (payload r) r s (record { is_record = a; spelled = refl }) (record { is_record = b; spelled = e })

@@ -3,6 +3,7 @@ use Rattle.std.proofs.Common.{◌≡◌, ℕ, zero, suc, ◌+◌, ◌^◌, ◌<�
 use Rattle.std.specs.List.{flat_map}
 use Rattle.std.proofs.lemmas.Bool.{cases_lt, ltb-false, le-ltb}
 use Rattle.std.proofs.lemmas.List.{take_at, drop_at, take-append-drop, length-append, length-take, get_or-drop, get_or-take, get_or_past}
+use Rattle.std.proofs.lemmas.Option.{same_Some}
 use Rattle.lab_base.specs.Lists.{Has}
 use Rattle.lab_base.specs.declared.ids.VlanId.{VlanId}
 use Rattle.journal_rec.specs.Payloads.{le, number, name_bytes, text_bytes, tag_bytes, tags_bytes, AreTags}
@@ -33,9 +34,6 @@ pub guard_so : {A : Type 0} (b : Bool) (x y : A) → cond b (Some x) None ≡ So
 guard_so true x y e = (refl, cc)
 guard_so false x y e = absurd cc
 
-pub some_is : {A : Type 0} (x y : A) → Some x ≡ Some y → x ≡ y
-some_is x y e = cc
-
 -- what a reader took from the front
 pub record Takes (bytes front rest : List ℕ) : Type 0 where
   pub parts : bytes ≡ front ++ rest
@@ -48,7 +46,7 @@ Takes-then a x b y c p q = record { parts = p.parts ∙ ap (λ (t : List ℕ). x
 pub byte_takes : (bytes : List ℕ) (n : ℕ) (rest : List ℕ) → IsBytes bytes → byte_at bytes ≡ Some (n, rest) → Takes bytes (n ∷ []) rest
 byte_takes [] n rest fits e = absurd cc
 byte_takes (byte ∷ bytes) n rest fits e =
-    subst (λ (p : ℕ × List ℕ). Takes (byte ∷ bytes) (p.0 ∷ []) p.1) (some_is (byte, bytes) (n, rest) e) (record { parts = refl; fits = λ i. fits (suc i) })
+    subst (λ (p : ℕ × List ℕ). Takes (byte ∷ bytes) (p.0 ∷ []) p.1) (same_Some (byte, bytes) (n, rest) e) (record { parts = refl; fits = λ i. fits (suc i) })
 
 pub number_takes : (k : ℕ) (bytes : List ℕ) (n : ℕ) (rest : List ℕ) → IsBytes bytes → number_at k bytes ≡ Some (n, rest) → Takes bytes (le k n) rest × (n < 256 ^ k)
 number_takes k bytes n rest fits e =
@@ -109,7 +107,7 @@ pub each_takes : (count : ℕ) (bytes : List ℕ) (tags : List VlanId) (rest : L
     → Takes bytes (flat_map tag_bytes tags) rest × (length tags ≡ count) × ((tag : VlanId) → Has tags tag → tag.0 < 2 ^ 16)
 unfolding each_at
 each_takes zero bytes tags rest fits e =
-    subst (λ (p : List VlanId × List ℕ). Takes bytes (flat_map tag_bytes p.0) p.1 × (length p.0 ≡ 0) × ((tag : VlanId) → Has p.0 tag → tag.0 < 2 ^ 16)) (some_is ([], bytes) (tags, rest) e)
+    subst (λ (p : List VlanId × List ℕ). Takes bytes (flat_map tag_bytes p.0) p.1 × (length p.0 ≡ 0) × ((tag : VlanId) → Has p.0 tag → tag.0 < 2 ^ 16)) (same_Some ([], bytes) (tags, rest) e)
     (record { parts = refl; fits = fits }, refl, λ tag h. absurd h)
 each_takes (suc count) bytes tags rest fits e =
     let b = bind_some (number_at 2 bytes) (λ first. each_at count first.1 >>= λ others. Some (record { 0 = first.0 } ∷ others.0, others.1)) (tags, rest) e in
@@ -117,7 +115,7 @@ each_takes (suc count) bytes tags rest fits e =
     let first = number_takes 2 bytes b.0.0 b.0.1 fits b.1 in
     let more = each_takes count b.0.1 d.0.0 d.0.1 first.0.fits d.1 in
     let tag : VlanId = record { 0 = b.0.0 } in
-    subst (λ (p : List VlanId × List ℕ). Takes bytes (flat_map tag_bytes p.0) p.1 × (length p.0 ≡ suc count) × ((tag : VlanId) → Has p.0 tag → tag.0 < 2 ^ 16)) (some_is (tag ∷ d.0.0, d.0.1) (tags, rest) d.2)
+    subst (λ (p : List VlanId × List ℕ). Takes bytes (flat_map tag_bytes p.0) p.1 × (length p.0 ≡ suc count) × ((tag : VlanId) → Has p.0 tag → tag.0 < 2 ^ 16)) (same_Some (tag ∷ d.0.0, d.0.1) (tags, rest) d.2)
     (Takes-then bytes (le 2 b.0.0) b.0.1 (flat_map tag_bytes d.0.0) d.0.1 first.0 more.0, ap suc more.1, here tag d.0.0 first.1 more.2)
   where
     here : (first : VlanId) (others : List VlanId) → first.0 < 2 ^ 16 → ((tag : VlanId) → Has others tag → tag.0 < 2 ^ 16) → (tag : VlanId) → Has (first ∷ others) tag → tag.0 < 2 ^ 16

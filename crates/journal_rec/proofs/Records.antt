@@ -2,6 +2,7 @@
 use Rattle.std.proofs.Common.{◌≡◌, ℕ, ◌^◌, ◌<◌, Bool, true, false, ◌⊎◌, inl, inr, cond, eqb, ltb, List, [], ◌∷◌, ◌++◌, length, Option, Some, None, refl, sym, ap, subst, ◌∙◌, append_assoc}
 use Rattle.std.proofs.lemmas.Bool.{eqb-true, ltb-true}
 use Rattle.std.proofs.lemmas.List.{append-nil, nil_from_length}
+use Rattle.std.proofs.lemmas.Option.{same_Some}
 use Rattle.lab_base.specs.Names.{is_name}
 use Rattle.lab_base.specs.declared.ids.VlanId.{VlanId}
 use Rattle.journal_rec.specs.declared.record.Way.{Way}
@@ -11,7 +12,7 @@ use Rattle.journal_rec.specs.declared.record.Record.TheVariants.{Lab, Create, De
 use Rattle.journal_rec.specs.Payloads.{name_bytes, text_bytes, tags_bytes, way_bytes, payload, AreTags, IsWay, HasFields, Decodes}
 use Rattle.journal_rec.specs.Reading.{◌>>=◌, byte_at, name_of, field_at, text_at, tags_at, in_at, change_at, way_at, lab_at, create_at, begin_at, delete_at, commit_at, abort_at, record_at, all_of}
 use Rattle.journal_rec.proofs.Numbers.{IsBytes}
-use Rattle.journal_rec.proofs.Fields.{bind_some, guard_so, some_is, Takes, Takes-then, byte_takes, field_takes, text_takes, text_again, tags_takes, tags_again}
+use Rattle.journal_rec.proofs.Fields.{bind_some, guard_so, Takes, Takes-then, byte_takes, field_takes, text_takes, text_again, tags_takes, tags_again}
 
 abbrev none : {A : Type 0} → Option A
 none = None
@@ -36,7 +37,7 @@ in_takes bytes x fits e =
     let t0 = text_takes bytes a.0.0 a.0.1 fits a.1 in
     let t1 = tags_takes a.0.1 b.0.0 b.0.1 t0.fits b.1 in
     let all = Takes-then bytes (text_bytes a.0.0) a.0.1 (tags_bytes b.0.0) b.0.1 t0 t1.0 in
-    subst (λ (y : Way × List ℕ). Takes (1 ∷ bytes) (way_bytes y.0) y.1 × IsWay y.0) (some_is (In a.0.0 b.0.0, b.0.1) x b.2)
+    subst (λ (y : Way × List ℕ). Takes (1 ∷ bytes) (way_bytes y.0) y.1 × IsWay y.0) (same_Some (In a.0.0 b.0.0, b.0.1) x b.2)
     (record { parts = ap (λ (l : List ℕ). 1 ∷ l) all.parts; fits = all.fits }, t1.1)
 
 change_takes : (bytes : List ℕ) (x : Way × List ℕ) → IsBytes bytes → change_at bytes ≡ Some x → Takes (3 ∷ bytes) (way_bytes x.0) x.1 × IsWay x.0
@@ -50,7 +51,7 @@ change_takes bytes x fits e =
     let t2 = tags_takes b.0.1 c.0.0 c.0.1 t1.fits c.1 in
     let two = Takes-then a.0.1 (text_bytes b.0.0) b.0.1 (tags_bytes c.0.0) c.0.1 t1 t2.0 in
     let all = Takes-then bytes (text_bytes a.0.0) a.0.1 (text_bytes b.0.0 ++ tags_bytes c.0.0) c.0.1 t0 two in
-    subst (λ (y : Way × List ℕ). Takes (3 ∷ bytes) (way_bytes y.0) y.1 × IsWay y.0) (some_is (Change a.0.0 b.0.0 c.0.0, c.0.1) x c.2)
+    subst (λ (y : Way × List ℕ). Takes (3 ∷ bytes) (way_bytes y.0) y.1 × IsWay y.0) (same_Some (Change a.0.0 b.0.0 c.0.0, c.0.1) x c.2)
     (record { parts = ap (λ (l : List ℕ). 3 ∷ l) all.parts; fits = all.fits }, t2.1)
 
 abbrev way_of : ℕ → List ℕ → Option (Way × List ℕ)
@@ -65,7 +66,7 @@ way_kind k rest x fits e = one (chosen (eqb k 1) (in_at rest) (cond (eqb k 2) (S
 
     two : ((eqb k 2 ≡ true) × (Some (Out, rest) ≡ Some x)) ⊎ (cond (eqb k 3) (change_at rest) None ≡ Some x) → Takes (k ∷ rest) (way_bytes x.0) x.1 × IsWay x.0
     two (inl h) = subst (λ k. Takes (k ∷ rest) (way_bytes x.0) x.1 × IsWay x.0) (sym (eqb-true k 2 h.0))
-        (subst (λ (y : Way × List ℕ). Takes (2 ∷ rest) (way_bytes y.0) y.1 × IsWay y.0) (some_is (Out, rest) x h.1) (record { parts = refl; fits = fits }, tt))
+        (subst (λ (y : Way × List ℕ). Takes (2 ∷ rest) (way_bytes y.0) y.1 × IsWay y.0) (same_Some (Out, rest) x h.1) (record { parts = refl; fits = fits }, tt))
     two (inr h) = three (chosen (eqb k 3) (change_at rest) None x h)
 
     one : ((eqb k 1 ≡ true) × (in_at rest ≡ Some x)) ⊎ (cond (eqb k 2) (Some (Out, rest)) (cond (eqb k 3) (change_at rest) None) ≡ Some x) → Takes (k ∷ rest) (way_bytes x.0) x.1 × IsWay x.0
@@ -102,7 +103,7 @@ unfolding lab_at
 lab_takes bytes x fits e =
     let a = bind_some (text_at bytes) (λ ptop. Some (Lab ptop.0, ptop.1)) x e in
     let t = text_takes bytes a.0.0 a.0.1 fits a.1 in
-    subst (λ (y : Record × List ℕ). Takes (1 ∷ bytes) (payload y.0) y.1 × HasFields y.0) (some_is (Lab a.0.0, a.0.1) x a.2)
+    subst (λ (y : Record × List ℕ). Takes (1 ∷ bytes) (payload y.0) y.1 × HasFields y.0) (same_Some (Lab a.0.0, a.0.1) x a.2)
     (record { parts = ap (λ (l : List ℕ). 1 ∷ l) t.parts; fits = t.fits }, tt)
 
 -- a name at the front, and what follows it
@@ -119,7 +120,7 @@ create_takes bytes x fits e =
     let t0 = named bytes a.0.0 b.0 a.0.1 (field_takes bytes a.0.0 a.0.1 fits a.1) is.1 in
     let t1 = text_takes a.0.1 c.0.0 c.0.1 t0.fits c.1 in
     let all = Takes-then bytes (name_bytes b.0) a.0.1 (text_bytes c.0.0) c.0.1 t0 t1 in
-    subst (λ (y : Record × List ℕ). Takes (2 ∷ bytes) (payload y.0) y.1 × HasFields y.0) (some_is (Create b.0 c.0.0, c.0.1) x c.2)
+    subst (λ (y : Record × List ℕ). Takes (2 ∷ bytes) (payload y.0) y.1 × HasFields y.0) (same_Some (Create b.0 c.0.0, c.0.1) x c.2)
     (record { parts = ap (λ (l : List ℕ). 2 ∷ l) all.parts; fits = all.fits }, subst (λ (l : List ℕ). is_name l ≡ true) is.1 is.0)
 
 begin_takes : (bytes : List ℕ) (x : Record × List ℕ) → IsBytes bytes → begin_at bytes ≡ Some x → Takes (4 ∷ bytes) (payload x.0) x.1 × HasFields x.0
@@ -132,7 +133,7 @@ begin_takes bytes x fits e =
     let t0 = named bytes a.0.0 b.0 a.0.1 (field_takes bytes a.0.0 a.0.1 fits a.1) is.1 in
     let t1 = way_takes a.0.1 c.0 t0.fits c.1 in
     let all = Takes-then bytes (name_bytes b.0) a.0.1 (way_bytes c.0.0) c.0.1 t0 t1.0 in
-    subst (λ (y : Record × List ℕ). Takes (4 ∷ bytes) (payload y.0) y.1 × HasFields y.0) (some_is (Begin b.0 c.0.0, c.0.1) x c.2)
+    subst (λ (y : Record × List ℕ). Takes (4 ∷ bytes) (payload y.0) y.1 × HasFields y.0) (same_Some (Begin b.0 c.0.0, c.0.1) x c.2)
     (record { parts = ap (λ (l : List ℕ). 4 ∷ l) all.parts; fits = all.fits }, (subst (λ (l : List ℕ). is_name l ≡ true) is.1 is.0, t1.1))
 
 -- a name alone
@@ -142,7 +143,7 @@ alone bytes make x fits e =
     let a = bind_some (field_at bytes) (λ part. name_of part.0 >>= λ exp. Some (make exp, part.1)) x e in
     let b = bind_some (name_of a.0.0) (λ exp. Some (make exp, a.0.1)) x a.2 in
     let is = name_takes a.0.0 b.0 b.1 in
-    let end = some_is (make b.0, a.0.1) x b.2 in
+    let end = same_Some (make b.0, a.0.1) x b.2 in
     let t = named bytes a.0.0 b.0 a.0.1 (field_takes bytes a.0.0 a.0.1 fits a.1) is.1 in
     (b.0, subst (λ (l : List ℕ). Takes bytes (name_bytes b.0) l) (ap (λ (y : Record × List ℕ). y.1) end) t, subst (λ (l : List ℕ). is_name l ≡ true) is.1 is.0, ap (λ (y : Record × List ℕ). y.0) end)
 

@@ -6,8 +6,9 @@ use Rattle.std.proofs.lemmas.List.Sums.{sum_by-cons}
 use Rattle.lab_base.specs.Lists.{Has}
 use Rattle.lab_base.proofs.Members.{Has-map}
 use Rattle.lab_base.specs.declared.ids.NodeId.{NodeId}
+use Rattle.lab_base.specs.Names.{same_name}
 use Rattle.phys_lab.specs.Labs.{Lab}
-use Rattle.phys_lab.specs.Keys.{has_name, same_name}
+use Rattle.phys_lab.specs.Keys.{has_name}
 use Rattle.phys_lab.proofs.KeptLaws.{same_name-true}
 use Rattle.lab_ahead.specs.declared.fitting.Need.{Need}
 use Rattle.lab_ahead.specs.Givings.{Fits, IsShort, has_type, have_of, need_at}

@@ -4,13 +4,12 @@ use Rattle.std.specs.Ordering.{nat_cmp}
 use Rattle.std.specs.List.Sorted.{IsStrictlySortedBy}
 use Rattle.std.specs.Cmp.Lexicographic.{slice_cmp}
 use Rattle.std.proofs.lemmas.Bool.{cases_eq, cases_lt, lt-ltb, le-ltb}
-use Rattle.std.proofs.lemmas.List.{get_or-map, get_or-replicate, get_or_past, length-map, length-replicate}
+use Rattle.std.proofs.lemmas.List.{get_or-map, get_or-replicate, get_or_past, length-map, length-replicate, get_or_default}
 use Rattle.lab_base.specs.Lists.{Has, AllDiffer}
 use Rattle.lab_base.specs.declared.ids.NodeId.{NodeId}
+use Rattle.lab_base.specs.Names.{same_name}
 use Rattle.phys_lab.specs.Labs.{Lab}
-use Rattle.phys_lab.specs.Keys.{same_name}
 use Rattle.phys_lab.proofs.KeptLaws.{same_name-self}
-use Rattle.phys_lab.proofs.TableLaws.{same_at}
 use Rattle.lab_ahead.specs.declared.fitting.Need.{Need}
 use Rattle.lab_ahead.specs.declared.giving.Giving.{Giving}
 use Rattle.lab_ahead.specs.declared.trail.Step.{Step}
@@ -174,7 +173,7 @@ module _ (lab : Lab) (left : List NodeId) (needs : List Need) (first last : Givi
   steps_within trail is k d lt =
       let within : (step_at trail.steps.items k).need < length (table_in last) = reached_within (step_at trail.steps.items k).need is.stuck.is_trail (k, lt, refl) in
       let wide : length (table_in last) ≡ length needs = ap (λ (t : List (List Bool)). length t) table_is ∙ length-map needs (λ (need : Need). map (has_type lab need.kind) left) in
-      let same : (get_or trail.steps.items k d).need ≡ (step_at trail.steps.items k).need = ap (λ (s : Step). s.need) (same_at trail.steps.items k d (record { need = 0; position = 0; parent = 0 }) lt) in
+      let same : (get_or trail.steps.items k d).need ≡ (step_at trail.steps.items k).need = ap (λ (s : Step). s.need) (get_or_default trail.steps.items k d (record { need = 0; position = 0; parent = 0 }) lt) in
       omega arith
 
   pub shows_short : (trail : Trail) → IsWanting needs (table_in last) (owners_in last) trail → (kinds : List (List ℕ)) → IsStrictlySortedBy (slice_cmp nat_cmp) kinds

@@ -6,9 +6,9 @@ use Rattle.lab_base.specs.Kinds.{both_of}
 use Rattle.lab_base.specs.declared.fault.Kind.{Kind}
 use Rattle.lab_base.specs.declared.fault.Kind.TheVariants as kinds
 use Rattle.lab_base.specs.declared.fault.TextFault.{TextFault}
+use Rattle.lab_base.specs.Names.{same_name}
 use Rattle.line_text.specs.Reading.{and_then, read_from}
 use Rattle.line_text.specs.Fields.{field_at}
-use Rattle.phys_lab.specs.Keys.{same_name}
 use Rattle.lab_ahead.specs.declared.batch.Batch.{Batch}
 use Rattle.lab_ahead.specs.declared.batch.Promise.{Promise}
 use Rattle.lab_ahead.specs.declared.batch.Run.{Run}

@@ -6,8 +6,9 @@ use Rattle.std.specs.List.Sorted.{IsStrictlySortedBy}
 use Rattle.std.specs.Cmp.Lexicographic.{slice_cmp}
 use Rattle.lab_base.specs.Lists.{Has, AllDiffer}
 use Rattle.lab_base.specs.declared.ids.NodeId.{NodeId}
+use Rattle.lab_base.specs.Names.{same_name}
 use Rattle.phys_lab.specs.Labs.{Lab}
-use Rattle.phys_lab.specs.Keys.{same_name, has_name}
+use Rattle.phys_lab.specs.Keys.{has_name}
 use Rattle.lab_ahead.specs.declared.fitting.Need.{Need}
 use Rattle.lab_ahead.specs.declared.fitting.Fit.{Fit}
 use Rattle.lab_ahead.specs.declared.fitting.Fit.TheVariants.{Yes, No}

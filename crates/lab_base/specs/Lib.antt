@@ -5,3 +5,4 @@ pub mod Kinds
 pub mod Texts
 pub mod Parts
 pub mod Lists
+pub mod Counts

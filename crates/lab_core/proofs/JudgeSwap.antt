@@ -14,6 +14,7 @@ use Rattle.virt_topo.specs.declared.mapping.Mapped.{Mapped}
 use Rattle.virt_topo.specs.declared.mapping.Mapping.{Mapping}
 use Rattle.virt_topo.specs.declared.wiring.Wiring.{Wiring}
 use Rattle.virt_topo.specs.declared.violation.Broken.TheVariants.{F8}
+use Rattle.virt_topo.specs.Wirings.{mapped}
 use Rattle.journal_rec.specs.declared.record.Way.{Way}
 use Rattle.journal_rec.specs.declared.record.Way.TheVariants.{In as WayIn}
 use Rattle.lab_model.specs.Beside.{IsLeft, violation_beside}
@@ -24,7 +25,7 @@ use Rattle.lab_model.specs.Rules.{keeps_f1, keeps_f6, keeps_f8}
 use Rattle.lab_model.specs.Shapes.{IsShaped}
 use Rattle.lab_model.proofs.FeasibleLaws.{kept_from}
 use Rattle.lab_model.proofs.FirstViolation.{same_violation}
-use Rattle.records_model.specs.Labs.{LabState, Move, Sane, BeginsIn, BeginsChange, SaysBegin, becomes, can_take, find, in_phase, in_state, lab_in, mapped, moved, moved_in, moved_of, moved_one, others, replace, with_replaced}
+use Rattle.records_model.specs.Labs.{LabState, Move, Sane, BeginsIn, BeginsChange, SaysBegin, becomes, can_take, find, in_phase, in_state, lab_in, moved, moved_in, moved_of, moved_one, others, replace, with_replaced}
 use Rattle.records_model.proofs.Finding.{Found, found_from}
 use Rattle.records_model.proofs.Swaps.{found_in}
 use Rattle.claims.specs.Answered.{AreTaken}

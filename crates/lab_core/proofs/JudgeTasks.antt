@@ -11,6 +11,7 @@ use Rattle.virt_topo.specs.declared.experiment.Phase.{Phase}
 use Rattle.virt_topo.specs.declared.experiment.Phase.TheVariants.{Out, In, Moving}
 use Rattle.virt_topo.specs.declared.mapping.Mapping.{Mapping}
 use Rattle.virt_topo.specs.declared.wiring.Wiring.{Wiring}
+use Rattle.virt_topo.specs.Wirings.{mapped}
 use Rattle.journal_rec.specs.Payloads.{IsRecord}
 use Rattle.journal_rec.specs.declared.record.Record.{Record}
 use Rattle.journal_rec.specs.declared.record.Record.TheVariants.{Lab as LabRecord, Create, Delete, Begin}
@@ -20,7 +21,7 @@ use Rattle.lab_model.specs.Claims.{New, claimed_in}
 use Rattle.lab_model.specs.Courses.{Plan, commands}
 use Rattle.lab_model.specs.Shapes.{IsShaped}
 use Rattle.plant.specs.Worlds.{World}
-use Rattle.records_model.specs.Labs.{LabState, Move, IsRightFor, Says, SetLab, Creates, Deletes, BeginsOut, moved, moved_in, moved_of, mapped, find, others, replace, in_phase, lab_in, Sane}
+use Rattle.records_model.specs.Labs.{LabState, Move, IsRightFor, Says, SetLab, Creates, Deletes, BeginsOut, moved, moved_in, moved_of, find, others, replace, in_phase, lab_in, Sane}
 use Rattle.records_model.proofs.LabLaws.{in_state-some}
 use Rattle.records_model.proofs.Swaps.{found_in}
 use Rattle.lab_state.proofs.Named.{name_is}

@@ -1,7 +1,7 @@
 -- What a call leaves, by the steps that it added, and what is said of it in other words.
 use Rattle.std.proofs.Common.{◌≡◌, inr, ℕ, Bool, true, false, not, List, [], ◌∷◌, ◌++◌, Option, Some, None, IfSome, Result, Ok, Err, refl, sym, ap, ◌∙◌, subst, arith}
 use Rattle.std.proofs.lemmas.List.{append-nil}
-use Rattle.plant.specs.Calls.{Rose}
+use Rattle.lab_base.specs.Counts.{Rose}
 use Rattle.plant.specs.Events.{Event, Restarted}
 use Rattle.plant.specs.Told.{Told, with_steps}
 use Rattle.journal_disk.specs.Standing.{limit_of}

@@ -5,6 +5,7 @@ use Rattle.std.proofs.Common.{◌≡◌, ◌≢◌, ◌⊎◌, inl, inr, ◌≤�
 use Rattle.std.proofs.lemmas.Bool.{cond-false, leb-false, false_from_ne_true}
 use Rattle.std.proofs.lemmas.List.{append-nil, length-append, map-append}
 use Rattle.std.proofs.lemmas.Slice.Eq.{bytes_eq-Decides}
+use Rattle.std.proofs.lemmas.Option.{same_Some}
 use Rattle.lab_base.specs.Lists.{Has, AllDiffer}
 use Rattle.lab_model.proofs.HoldingLaws.{apart_append}
 use Rattle.lab_model.proofs.ListLaws.{apart_drop}
@@ -14,7 +15,6 @@ use Rattle.journal_rec.specs.declared.record.Record.{Record}
 use Rattle.journal_rec.specs.declared.record.Record.TheVariants.{Begin}
 use Rattle.journal_rec.specs.declared.record.Way.{Way}
 use Rattle.records_model.specs.Labs.{LabState}
-use Rattle.records_model.proofs.Finding.{some_is}
 use Rattle.recovery.specs.Due.{is_busy}
 use Rattle.lab_base.specs.declared.what.What.TheVariants as whats
 use Rattle.script_text.specs.declared.command.Command.{Command}
@@ -245,7 +245,7 @@ module _ (own : List Event) (after : After) (exp name : List ℕ) (way : Way) (i
   HasBegun devices opens = (name ≡ exp) × ((to : List OpenSwap) × (after.session ≡ Open to) × IsOpened exp devices after.lab opens to)
 
   tells_other : {X : Type 0} (told : Reply) → after.reply ≡ Some told → (told ≡ replies.More name → ⊥) → X
-  tells_other told told_is no' = absurd (no' (some_is told (replies.More name) (sym told_is ∙ is)))
+  tells_other told told_is no' = absurd (no' (same_Some told (replies.More name) (sym told_is ∙ is)))
 
   begun_by : (s : LabState) (opens : List OpenSwap) (devices : ℕ) → BeginsSwap s opens devices exp (Begin exp way) own after → HasBegun devices opens
   begun_by s opens devices d = by d.answered
@@ -255,7 +255,7 @@ module _ (own : List Event) (after : After) (exp name : List ℕ) (way : Way) (i
 
       by_outcome : (outcome : Outcome) → BeginSteps s (Begin exp way) d.move d.steps after.lab outcome → after.reply ≡ turn_reply d.swap outcome → after.session ≡ end_session to outcome → HasBegun devices opens
       by_outcome More b told session =
-          let same : replies.More name ≡ replies.More d.swap.name = some_is (replies.More name) (replies.More d.swap.name) (sym is ∙ told) in
+          let same : replies.More name ≡ replies.More d.swap.name = same_Some (replies.More name) (replies.More d.swap.name) (sym is ∙ told) in
           ((let one : name ≡ d.swap.name = cc same in one ∙ d.name), (to, session, record { swap = d.swap; name = d.name; moves = d.moves after.lab b.moves; is = refl }))
       by_outcome Unwritten b told session = tells_other (replies.Failed d.swap.name ends.Stuck whats.Journal) told (λ h. cc h)
       by_outcome Halted b told session = tells_other replies.Stopped told (λ h. cc h)

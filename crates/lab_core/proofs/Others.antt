@@ -4,6 +4,7 @@ use Rattle.std.specs.Prelude.{if◌then◌else◌}
 use Rattle.std.specs.Str.{bytes_eq}
 use Rattle.std.proofs.lemmas.Bool.{cases_Bool, cond-true, cond-false, false_from_ne_true}
 use Rattle.std.proofs.lemmas.Slice.Eq.{bytes_eq-Decides}
+use Rattle.std.proofs.lemmas.Option.{same_Some}
 use Rattle.phys_lab.specs.Labs.{Lab}
 use Rattle.plant.specs.Events.{Event}
 use Rattle.plant.specs.declared.step.Side.{Side}
@@ -16,7 +17,7 @@ use Rattle.journal_rec.specs.declared.record.Record.TheVariants as records
 use Rattle.journal_rec.specs.declared.record.Way.{Way}
 use Rattle.journal_rec.specs.declared.record.Way.TheVariants as ways
 use Rattle.records_model.specs.Labs.{LabState, Move, Says, SetLab, Creates, Deletes, BeginsIn, BeginsOut, BeginsChange, Commits, Aborts, find, others, becomes, is_out, deleted, moved_one, moved_in, moved_of, moved}
-use Rattle.records_model.proofs.Finding.{some_is, none_some, found_from}
+use Rattle.records_model.proofs.Finding.{none_some, found_from}
 use Rattle.claims.proofs.Matching.{not_eq}
 use Rattle.lab_state.specs.Texts.{the_texts}
 use Rattle.records_model.proofs.LabLaws.{in_state-some, with_replaced-some, found_one}
@@ -58,19 +59,19 @@ find_without own name (x ∷ es) apart = elim (cases_Bool (bytes_eq x.name own))
 ]
 
 if_some : {X : Type 0} (b : Bool) (x y : X) → ◌≡◌ {A = Option X} (if b then Some x else None) (Some y) → x ≡ y
-if_some true x y h = some_is x y h
+if_some true x y h = same_Some x y h
 if_some false x y h = none_some y h
 
 -- what an experiment becomes keeps its name
 becomes_name : (lab : Lab) (es : List Experiment) (e g : Experiment) (phase : Phase) (move : Move) → becomes lab es e phase move ≡ Some g → g.name ≡ e.name
 becomes_name lab es e g Out (BeginsIn name mapping tags) h = sym (ap (λ x. x.name) (if_some _ _ g h))
-becomes_name lab es e g (In old old_tags) (BeginsOut name) h = sym (ap (λ x. x.name) (some_is _ g h))
+becomes_name lab es e g (In old old_tags) (BeginsOut name) h = sym (ap (λ x. x.name) (same_Some _ g h))
 becomes_name lab es e g (In old old_tags) (BeginsChange name wiring mapping tags) h = sym (ap (λ x. x.name) (if_some _ _ g h))
-becomes_name lab es e g (Moving None (Some new)) (Commits name) h = sym (ap (λ x. x.name) (some_is _ g h))
-becomes_name lab es e g (Moving (Some old) (Some new)) (Commits name) h = sym (ap (λ x. x.name) (some_is _ g h))
-becomes_name lab es e g (Moving (Some old) None) (Commits name) h = sym (ap (λ x. x.name) (some_is _ g h))
-becomes_name lab es e g (Moving None (Some new)) (Aborts name) h = sym (ap (λ x. x.name) (some_is _ g h))
-becomes_name lab es e g (Moving (Some old) (Some new)) (Aborts name) h = sym (ap (λ x. x.name) (some_is _ g h))
+becomes_name lab es e g (Moving None (Some new)) (Commits name) h = sym (ap (λ x. x.name) (same_Some _ g h))
+becomes_name lab es e g (Moving (Some old) (Some new)) (Commits name) h = sym (ap (λ x. x.name) (same_Some _ g h))
+becomes_name lab es e g (Moving (Some old) None) (Commits name) h = sym (ap (λ x. x.name) (same_Some _ g h))
+becomes_name lab es e g (Moving None (Some new)) (Aborts name) h = sym (ap (λ x. x.name) (same_Some _ g h))
+becomes_name lab es e g (Moving (Some old) (Some new)) (Aborts name) h = sym (ap (λ x. x.name) (same_Some _ g h))
 becomes_name lab es e g phase move h = none_some g h
 
 -- ---- moves

@@ -1,7 +1,8 @@
 -- What a call leaves that begins or turns a swap, by how that ended.
 use Rattle.std.proofs.Common.{◌≡◌, ℕ, true, false, List, [], ◌∷◌, ◌++◌, Option, Some, None, IfSome, Result, Ok, refl, sym, ap, ◌∙◌, subst}
 use Rattle.std.proofs.lemmas.List.{append-nil}
-use Rattle.plant.specs.Calls.{Rose}
+use Rattle.std.proofs.lemmas.Option.{same_Some}
+use Rattle.lab_base.specs.Counts.{Rose}
 use Rattle.plant.specs.Events.{Event, Restarted}
 use Rattle.plant.specs.Seen.{Seen}
 use Rattle.plant.specs.Told.{with_steps}
@@ -11,7 +12,7 @@ use Rattle.lab_base.specs.declared.what.What.TheVariants as whats
 use Rattle.lab_model.specs.Courses.{Trouble as AnyTrouble, Device, Late, Unlawful}
 use Rattle.records_model.specs.Labs.{LabState}
 use Rattle.records_model.specs.Works.{IsSound}
-use Rattle.records_model.proofs.Finding.{some_is, none_some}
+use Rattle.records_model.proofs.Finding.{none_some}
 use Rattle.lab_state.specs.Texts.{the_texts}
 use Rattle.swap_txn.specs.Troubles.{what_of}
 use Rattle.swap_turns.specs.Causes.{IsLater}
@@ -89,7 +90,7 @@ module _ (devices : ℕ) (before now : Seen) (IsJudged : Result Task Reply → T
   -- the answer has that reply
   answered : (outcome : Outcome) (reply : Reply) (result : Result Reply CoreFault) → (r : Reply) × (turn_reply p outcome ≡ Some r) × (result ≡ Ok r) → turn_reply p outcome ≡ Some reply → Left (Ok reply) → Left result
   answered outcome reply result is reply_is left =
-      let same : reply ≡ is.0 = some_is reply is.0 (sym reply_is ∙ is.1) in
+      let same : reply ≡ is.0 = same_Some reply is.0 (sym reply_is ∙ is.1) in
       subst Left (sym (is.2 ∙ ap (λ (r : Reply). let x : Result Reply CoreFault = Ok r in x) (sym same))) left
 
   -- WHATEVER ITS OUTCOME

@@ -5,6 +5,7 @@ use Rattle.std.specs.Str.{bytes_eq}
 use Rattle.std.proofs.lemmas.Bool.{cases_Bool}
 use Rattle.std.proofs.lemmas.List.{append-nil}
 use Rattle.std.proofs.lemmas.Slice.Eq.{bytes_eq-Decides}
+use Rattle.std.proofs.lemmas.Option.{same_Some}
 use Rattle.lab_base.specs.Lists.{Has, listed}
 use Rattle.lab_base.proofs.Members.{Has-flat_map, Has-left, Has-map, Has-mapped}
 use Rattle.plant.specs.Events.{Event, Restarted}
@@ -15,7 +16,7 @@ use Rattle.journal_runs.specs.Pieces.{has_restart, has_miss}
 use Rattle.virt_topo.specs.declared.experiment.Phase.{Phase}
 use Rattle.virt_topo.specs.declared.experiment.Phase.TheVariants.{Out, In, Moving}
 use Rattle.records_model.specs.Labs.{LabState}
-use Rattle.records_model.proofs.Finding.{none_some, some_is}
+use Rattle.records_model.proofs.Finding.{none_some}
 use Rattle.lab_state.specs.Texts.{the_texts}
 use Rattle.script_text.specs.declared.reply.Reply.{Reply}
 use Rattle.script_text.specs.declared.reply.Reply.TheVariants as replies
@@ -66,7 +67,7 @@ due_if : (b : Bool) (name : List ℕ) (phase : Phase) (p : Swap) → ◌≡◌ {
 due_if true name phase p h = none_some p h
 due_if false name Out p h = none_some p h
 due_if false name (In mapping tags) p h = none_some p h
-due_if false name (Moving old new) p h = (refl, sym (ap (λ (x : Swap). x.name) (some_is _ p h)))
+due_if false name (Moving old new) p h = (refl, sym (ap (λ (x : Swap). x.name) (same_Some _ p h)))
 
 due_idle : (busy : List (List ℕ)) (es : List Experiment) (p : Swap) → Has (swaps_of busy es) p → is_busy busy p.name ≡ false
 due_idle busy es p h =

@@ -2,7 +2,7 @@
 use Rattle.std.specs.Prelude.{nat_le, slice_get}
 use Rattle.std.proofs.Common.{◌≡◌, ◌≤◌, ◌<◌, ◌+◌, ◌⊎◌, inl, inr, ℕ, Bool, true, false, List, [], length, get_or, Option, Some, None, refl, sym, ap, ◌∙◌, subst, arith}
 use Rattle.std.proofs.lemmas.Bool.{cases_Bool, leb-true, leb-false}
-use Rattle.std.proofs.lemmas.Option.{slice_get_within}
+use Rattle.std.proofs.lemmas.Option.{slice_get_within, same_Some}
 use Rattle.std.proofs.lemmas.List.{get_or_default, same_lists}
 use Rattle.std.proofs.lemmas.Grind.{same_number_lists}
 use Rattle.phys_lab.specs.Labs.{Lab}
@@ -18,7 +18,6 @@ use Rattle.assign_core.specs.Exact.{IsAllowed, node_maps}
 use Rattle.assign_core.specs.declared.whole.Solved.{Solved}
 use Rattle.assign_core.specs.declared.whole.Solved.TheVariants as solved
 use Rattle.records_model.specs.Labs.{others}
-use Rattle.records_model.proofs.Finding.{some_is}
 use Rattle.lab_core.specs.Judge.{IsFound}
 use Rattle.lab_core.specs.Tells.{AreLocal}
 
@@ -30,7 +29,7 @@ least_once cost xs x y a b = elim (cases_Bool (nat_le (a.place + 1) b.place)) [
     | inl behind ↦ absurd (omega (arith, leb-true (b.place + 1) a.place behind, a.earlier b.place y b.stands (omega (arith, leb-true (b.place + 1) a.place behind)), b.least a.place x a.stands))
     | inr not_behind ↦
         let same : a.place ≡ b.place = omega (arith, leb-false (a.place + 1) b.place not_before, leb-false (b.place + 1) a.place not_behind) in
-        some_is x y (sym a.stands ∙ ap (λ (n : ℕ). slice_get xs n) same ∙ b.stands)
+        same_Some x y (sym a.stands ∙ ap (λ (n : ℕ). slice_get xs n) same ∙ b.stands)
   ]
 ]
 

@@ -1,6 +1,8 @@
 -- The answer to a supplied solution.
 use Rattle.std.specs.Prelude.{nat_le}
 use Rattle.std.proofs.Common.{◌≡◌, ◌≤◌, ◌⊎◌, inl, inr, ℕ, Bool, true, false, List, length, Option, Some, None, Result, Ok, Err, refl, sym, ap, ◌∙◌, subst, [], ◌∷◌, ◌++◌}
+use Rattle.std.proofs.lemmas.Option.{same_Some}
+use Rattle.virt_topo.specs.Wirings.{mapped}
 use Rattle.plant.specs.Events.{Event}
 use Rattle.phys_lab.specs.Labs.{Lab}
 use Rattle.lab_base.specs.declared.fault.TextFault.{TextFault}
@@ -16,8 +18,8 @@ use Rattle.journal_rec.specs.declared.record.Record.{Record}
 use Rattle.journal_rec.specs.declared.record.Record.TheVariants.{Begin}
 use Rattle.journal_rec.specs.declared.record.Way.TheVariants.{In as WayIn}
 use Rattle.lab_model.specs.Beside.{violation_beside}
-use Rattle.records_model.specs.Labs.{LabState, Move, BeginsIn, find, mapped, moved, others}
-use Rattle.records_model.proofs.Finding.{some_is, found_from}
+use Rattle.records_model.specs.Labs.{LabState, Move, BeginsIn, find, moved, others}
+use Rattle.records_model.proofs.Finding.{found_from}
 use Rattle.solution_text.specs.CanonicalSolution.{canonical_solution}
 use Rattle.solution_text.specs.Solutions.{mapping_of_text}
 use Rattle.script_text.specs.declared.command.Command.TheVariants as commands
@@ -134,7 +136,7 @@ only_if set s opens only exp text own after d is = elim (by_lab s exp text (is_a
   | inr refused ↦
       let judged : judged_there s opens only exp text ≡ Err refused.0 = ap (λ (r : Result Task Reply). in_slot (length opens) only r) refused.1 in
       let replies_so : Replies s opens refused.0 own after = subst (λ (j : Result Task Reply). Does set s opens j own after) judged d in
-      let same : refused.0 ≡ taken_reply only exp = some_is refused.0 (taken_reply only exp) (sym (ap (λ (a : After). a.reply) replies_so.after_is) ∙ is) in
+      let same : refused.0 ≡ taken_reply only exp = same_Some refused.0 (taken_reply only exp) (sym (ap (λ (a : After). a.reply) replies_so.after_is) ∙ is) in
       let both : false ≡ true = sym refused.2 ∙ ap is_taking same ∙ taking only exp in
       absurd (cc both)
 ]
@@ -145,7 +147,7 @@ module _ (s : LabState) (only : Bool) (exp text : List ℕ) (f : IsFeasibleFor s
   Fine begins r = (r ≡ taken_reply begins exp) ⊎ Hinders r
 
   fine_as : (begins : Bool) (told : Reply) → after.reply ≡ Some told → Fine begins told → Fine begins reply
-  fine_as begins told told_is fine = subst (Fine begins) (some_is told reply (sym told_is ∙ is)) fine
+  fine_as begins told told_is fine = subst (Fine begins) (same_Some told reply (sym told_is ∙ is)) fine
 
   abbrev map : List ℕ
   map = canonical_solution f.lab f.experiment.wiring f.mapping
@@ -162,7 +164,7 @@ module _ (s : LabState) (only : Bool) (exp text : List ℕ) (f : IsFeasibleFor s
       let found : find f.experiment.name s.experiments ≡ Some f.experiment = ap (λ (n : List ℕ). find n s.experiments) named ∙ f.found in
       let short : length f.experiment.name ≤ 32 = subst (λ (n : List ℕ). length n ≤ 32) name moves.short in
       let begins = moves_in s u f.experiment m tags short found f.out (ap (λ (x : Move). moved s x) (sym move_is) ∙ gives) in
-      let same : moves.exp ≡ begins.exp = some_is moves.exp begins.exp (sym moves.found ∙ ap (λ (n : List ℕ). find n u.experiments) name ∙ begins.found) in
+      let same : moves.exp ≡ begins.exp = same_Some moves.exp begins.exp (sym moves.found ∙ ap (λ (n : List ℕ). find n u.experiments) name ∙ begins.found) in
       let phases : Moving p.old p.new ≡ Moving None (Some (mapped f.experiment.wiring m tags)) = sym moves.moving ∙ ap (λ (e : Experiment). e.phase) same ∙ begins.moving in
       cc phases
 
@@ -254,7 +256,7 @@ in_both terms set s session only exp text lines opening own after reply step is 
       λ f. by_done mid only exp text f own after reply is (is_among (names_of opens) (Some exp)) (length opens) set opens d,
     )
     by (silent none) = let both : None ≡ Some reply = sym none ∙ is in absurd (cc both)
-    by (broke told told_is breaks) = inl (subst TellsBroken (some_is told reply (sym told_is ∙ is)) breaks)
+    by (broke told told_is breaks) = inl (subst TellsBroken (same_Some told reply (sym told_is ∙ is)) breaks)
 
 broken_not : (only : Bool) (exp : List ℕ) → TellsBroken (taken_reply only exp) → ⊥
 broken_not true exp breaks = breaks

@@ -2,6 +2,7 @@
 use Rattle.std.proofs.Common.{◌≡◌, ◌≢◌, ◌⊎◌, inl, inr, ℕ, ◌||◌, Bool, true, false, is_none, is_some, List, [], ◌∷◌, ◌++◌, length, not, Option, Some, None, Result, Ok, Err, refl, sym, ap, ◌∙◌, subst}
 use Rattle.std.proofs.lemmas.Bool.{cases_Bool}
 use Rattle.std.proofs.lemmas.List.{append-nil}
+use Rattle.std.proofs.lemmas.Option.{same_Some}
 use Rattle.plant.specs.Events.{Event, Restarted}
 use Rattle.plant.specs.declared.drill.Drill.{Drill}
 use Rattle.journal_rec.specs.declared.record.Record.{Record}
@@ -11,7 +12,6 @@ use Rattle.lab_base.specs.declared.what.What.TheVariants as whats
 use Rattle.lab_model.specs.Courses.{Trouble as AnyTrouble, Device, Late, Unlawful}
 use Rattle.virt_topo.specs.declared.mapping.Mapped.{Mapped}
 use Rattle.records_model.specs.Labs.{LabState, Move, Says, Commits, Aborts, moved}
-use Rattle.records_model.proofs.Finding.{some_is}
 use Rattle.records_model.proofs.LabLaws.{says_once}
 use Rattle.journal_runs.specs.Pieces.{has_restart, has_miss, is_restart}
 use Rattle.journal_model.specs.Appends.{All}
@@ -57,7 +57,7 @@ onward_at : (p : SwapOf) (u : LabState) (front : List Event) (at : TurnsOpen) �
 onward_at p u front at onward = onward_swap u (opened_swap p) front at onward
 
 end_tells : (p : SwapOf) (s after : LabState) (exp : List ℕ) (entry : Record) (move : Move) (steps : List Event) (outcome : Outcome) (reply : Reply) → p.name ≡ exp → end_reply p outcome ≡ Some reply → SwapSteps p s entry move steps after outcome → TellsLab s exp move reply after
-end_tells p s after exp entry move steps (Ended Forth) reply name is (begun b) = subst (λ (r : Reply). TellsLab s exp move r after) (some_is (done_reply p.name p.new) reply is) (by p.new)
+end_tells p s after exp entry move steps (Ended Forth) reply name is (begun b) = subst (λ (r : Reply). TellsLab s exp move r after) (same_Some (done_reply p.name p.new) reply is) (by p.new)
   where
     go : GoBy s move (Commits exp) after
     go = (b.state, b.begins.moves, ap (λ (n : List ℕ). moved b.state (Commits n)) (sym (ap (λ (q : SwapOf). q.name) (onward_at p b.state b.finishes.front b.finishes.at b.finishes.onward) ∙ name)) ∙ b.finishes.turn.0.1.moves)
@@ -65,7 +65,7 @@ end_tells p s after exp entry move steps (Ended Forth) reply name is (begun b) =
     by : (new : Option Mapped) → TellsLab s exp move (done_reply p.name new) after
     by None = (name, go)
     by (Some m) = (name, go)
-end_tells p s after exp entry move steps (Ended (Undo why)) reply name is (begun b) = subst (λ (r : Reply). TellsLab s exp move r after) (some_is (Failed p.name (undone_end p.old) (what_of why)) reply is) (by p.old)
+end_tells p s after exp entry move steps (Ended (Undo why)) reply name is (begun b) = subst (λ (r : Reply). TellsLab s exp move r after) (same_Some (Failed p.name (undone_end p.old) (what_of why)) reply is) (by p.old)
   where
     go : GoBy s move (Aborts exp) after
     go = (b.state, b.begins.moves, ap (λ (n : List ℕ). moved b.state (Aborts n)) (sym (ap (λ (q : SwapOf). q.name) (onward_at p b.state b.finishes.front b.finishes.at b.finishes.onward) ∙ name)) ∙ b.finishes.turn.0.1.moves)
@@ -73,7 +73,7 @@ end_tells p s after exp entry move steps (Ended (Undo why)) reply name is (begun
     by : (old : Option Mapped) → TellsLab s exp move (Failed p.name (undone_end old) (what_of why)) after
     by None = (name, go)
     by (Some m) = (name, go)
-end_tells p s after exp entry move steps (Stuck trouble) reply name is (begun b) = subst (λ (r : Reply). TellsLab s exp move r after) (some_is (Failed p.name ends.Stuck (what_of trouble)) reply is) (by trouble)
+end_tells p s after exp entry move steps (Stuck trouble) reply name is (begun b) = subst (λ (r : Reply). TellsLab s exp move r after) (same_Some (Failed p.name ends.Stuck (what_of trouble)) reply is) (by trouble)
   where
     stays : moved s move ≡ Some after
     stays = b.begins.moves ∙ ap (λ (u : LabState). Some u) (sym b.finishes.turn.3)
@@ -82,10 +82,10 @@ end_tells p s after exp entry move steps (Stuck trouble) reply name is (begun b)
     by (Device device) = (name, stays)
     by (Late node) = (name, stays)
     by (Unlawful node from to) = (name, stays)
-end_tells p s after exp entry move steps Unwritten reply name is h = subst (λ (r : Reply). TellsLab s exp move r after) (some_is (Failed p.name ends.Stuck whats.Journal) reply is) name
-end_tells p s after exp entry move steps Halted reply name is h = subst (λ (r : Reply). TellsLab s exp move r after) (some_is StoppedReply reply is) tt
-end_tells p s after exp entry move steps outcome reply name is (unwritten b other) = subst (λ (r : Reply). TellsLab s exp move r after) (some_is (Failed p.name ends.Stuck whats.Journal) reply (sym (ap (λ (x : Outcome). end_reply p x) other) ∙ is)) name
-end_tells p s after exp entry move steps outcome reply name is (stopped_so b other) = subst (λ (r : Reply). TellsLab s exp move r after) (some_is StoppedReply reply (sym (ap (λ (x : Outcome). end_reply p x) other) ∙ is)) tt
+end_tells p s after exp entry move steps Unwritten reply name is h = subst (λ (r : Reply). TellsLab s exp move r after) (same_Some (Failed p.name ends.Stuck whats.Journal) reply is) name
+end_tells p s after exp entry move steps Halted reply name is h = subst (λ (r : Reply). TellsLab s exp move r after) (same_Some StoppedReply reply is) tt
+end_tells p s after exp entry move steps outcome reply name is (unwritten b other) = subst (λ (r : Reply). TellsLab s exp move r after) (same_Some (Failed p.name ends.Stuck whats.Journal) reply (sym (ap (λ (x : Outcome). end_reply p x) other) ∙ is)) name
+end_tells p s after exp entry move steps outcome reply name is (stopped_so b other) = subst (λ (r : Reply). TellsLab s exp move r after) (same_Some StoppedReply reply (sym (ap (λ (x : Outcome). end_reply p x) other) ∙ is)) tt
 end_tells p s after exp entry move steps More reply name is (begun b) = let none : None ≡ Some reply = is in absurd (cc none)
 end_tells p s after exp entry move steps (TurnsBack why) reply name is (begun b) = let none : None ≡ Some reply = is in absurd (cc none)
 end_tells p s after exp entry move steps (Ended Settling) reply name is (begun b) = let none : None ≡ Some reply = is in absurd (cc none)
@@ -174,15 +174,15 @@ did_go own told reply went is (unanswered none) = none_told told reply none is
 module _ (s : LabState) (opens : List OpenSwap) (own : List Event) (reply other : Reply) (after later : After) (is : after.reply ≡ Some reply) (also : later.reply ≡ Some other) where
   replies_once : (told : Reply) → Replies s opens told own after → Replies s opens told own later → (reply ≡ other) × (after.lab ≡ later.lab)
   replies_once told one two =
-      let first : told ≡ reply = some_is told reply (sym (ap (λ (a : After). a.reply) one.after_is) ∙ is) in
-      let second : told ≡ other = some_is told other (sym (ap (λ (a : After). a.reply) two.after_is) ∙ also) in
+      let first : told ≡ reply = same_Some told reply (sym (ap (λ (a : After). a.reply) one.after_is) ∙ is) in
+      let second : told ≡ other = same_Some told other (sym (ap (λ (a : After). a.reply) two.after_is) ∙ also) in
       (sym first ∙ second, ap (λ (a : After). a.lab) one.after_is ∙ sym (ap (λ (a : After). a.lab) two.after_is))
 
   append_whole : (entry : Record) (told : Reply) (x : After) (y : Reply) → Went own → x.reply ≡ Some y → (a : Appends s opens entry told own x) → (told ≡ y) × (moved s a.move ≡ Some x.lab)
   append_whole entry told x y went y_is a = by a.ends
     where
       by : AppendEnds s opens a.state told a.run a.more own x → (told ≡ y) × (moved s a.move ≡ Some x.lab)
-      by (whole all none x_is) = (some_is told y (sym (ap (λ (v : After). v.reply) x_is) ∙ y_is), a.moves ∙ ap Some (sym (ap (λ (v : After). v.lab) x_is)))
+      by (whole all none x_is) = (same_Some told y (sym (ap (λ (v : After). v.reply) x_is) ∙ y_is), a.moves ∙ ap Some (sym (ap (λ (v : After). v.lab) x_is)))
       by (broken breaks either session) = absurd (did_go own x.reply y went y_is breaks)
 
   appends_once : (entry : Record) (told : Reply) → Went own → Appends s opens entry told own after → Appends s opens entry told own later → (reply ≡ other) × (after.lab ≡ later.lab)
@@ -190,7 +190,7 @@ module _ (s : LabState) (opens : List OpenSwap) (own : List Event) (reply other 
       let first = append_whole entry told after reply went is one in
       let second = append_whole entry told later other went also two in
       let same : one.move ≡ two.move = says_once the_texts s entry one.move two.move texts_once one.says two.says in
-      (sym first.0 ∙ second.0, some_is after.lab later.lab (sym first.1 ∙ ap (λ (m : Move). moved s m) same ∙ second.1))
+      (sym first.0 ∙ second.0, same_Some after.lab later.lab (sym first.1 ∙ ap (λ (m : Move). moved s m) same ∙ second.1))
 
   does_once : (set : Setting) (judgement : Result Task Reply) → IsNoSwap judgement → Went own → Does set s opens judgement own after → Does set s opens judgement own later → (reply ≡ other) × (after.lab ≡ later.lab)
   does_once set (Err refusal) no_swap went one two = replies_once refusal one two
@@ -212,7 +212,7 @@ module _ (s : LabState) (opens : List OpenSwap) (own : List Event) (reply other 
       (by one two, labs)
     where
       told_by : (x : After) (y told : Reply) (session : Session) → x.reply ≡ Some y → x ≡ record { reply = Some told; lab = s; session = session } → y ≡ told
-      told_by x y told session y_is x_is = sym (some_is told y (sym (ap (λ (v : After). v.reply) x_is) ∙ y_is))
+      told_by x y told session y_is x_is = sym (same_Some told y (sym (ap (λ (v : After). v.reply) x_is) ∙ y_is))
 
       by : Drills terms.takes s (Open opens) own after → Drills terms.takes s (Open opens) own later → reply ≡ other
       by (is_planned yes' none a) (is_planned yes'' none' b) = told_by after reply Planned (Open opens) is a ∙ sym (told_by later other Planned (Open opens) also b)
@@ -251,11 +251,11 @@ module _ (exp : List ℕ) (way : Way) (own : List Event) (after : After) (reply 
     does_tell : (b : Bool) (length : ℕ) (opens : List OpenSwap) → IfSpace b length s opens (Swaps s opens exp (Begin exp way) own after) own after → TellsLab s exp move reply after.lab
     does_tell true length opens d = swaps_tell opens d
     does_tell false length opens d =
-        subst (λ (r : Reply). TellsLab s exp move r after.lab) (some_is (FullJournal length) reply (sym (ap (λ (a : After). a.reply) d.after_is) ∙ is)) (ap (λ (a : After). a.lab) d.after_is)
+        subst (λ (r : Reply). TellsLab s exp move r after.lab) (same_Some (FullJournal length) reply (sym (ap (λ (a : After). a.reply) d.after_is) ∙ is)) (ap (λ (a : After). a.lab) d.after_is)
 
   breaks_tell : (events : List Event) → Breaks events after.reply → TellsBroken reply
-  breaks_tell events (stopped ends told) = subst TellsBroken (some_is StoppedReply reply (sym told ∙ is)) tt
-  breaks_tell events (failed no' miss told) = subst TellsBroken (some_is Down reply (sym told ∙ is)) tt
+  breaks_tell events (stopped ends told) = subst TellsBroken (same_Some StoppedReply reply (sym told ∙ is)) tt
+  breaks_tell events (failed no' miss told) = subst TellsBroken (same_Some Down reply (sym told ∙ is)) tt
   breaks_tell events (unanswered none) = none_told after.reply reply none is
 
   pub swap_tells : (drill : Option Drill) (terms : Terms) (set : Setting) (s : LabState) (session : Session) (command : Command) (opening : List Event) → drill ≡ None → Was drill (Ok (Swap exp way)) terms set s session command opening own after
@@ -274,18 +274,18 @@ done_calm exp None = refl
 done_calm exp (Some m) = refl
 
 end_stops : (p : SwapOf) (outcome : Outcome) (steps behind : List Event) (reply : Reply) → has_restart steps ≡ false → StartsBehind outcome behind → end_reply p outcome ≡ Some reply → has_restart (steps ++ behind) ≡ is_stopped reply
-end_stops p Halted steps behind reply quiet (a, b, starts) is = ap (λ l. has_restart (steps ++ l)) starts ∙ has_started steps a b ∙ ap is_stopped (some_is StoppedReply reply is)
+end_stops p Halted steps behind reply quiet (a, b, starts) is = ap (λ l. has_restart (steps ++ l)) starts ∙ has_started steps a b ∙ ap is_stopped (same_Some StoppedReply reply is)
 end_stops p More steps behind reply quiet starts is = let none : None ≡ Some reply = is in absurd (cc none)
 end_stops p (TurnsBack why) steps behind reply quiet starts is = let none : None ≡ Some reply = is in absurd (cc none)
 end_stops p (Ended Settling) steps behind reply quiet starts is = let none : None ≡ Some reply = is in absurd (cc none)
-end_stops p (Ended Forth) steps behind reply quiet starts is = nothing_behind steps behind quiet starts ∙ sym (done_calm p.name p.new) ∙ ap is_stopped (some_is (done_reply p.name p.new) reply is)
-end_stops p (Ended (Undo why)) steps behind reply quiet starts is = nothing_behind steps behind quiet starts ∙ ap is_stopped (some_is (Failed p.name (undone_end p.old) (what_of why)) reply is)
-end_stops p (Stuck why) steps behind reply quiet starts is = nothing_behind steps behind quiet starts ∙ ap is_stopped (some_is (Failed p.name ends.Stuck (what_of why)) reply is)
-end_stops p Unwritten steps behind reply quiet starts is = nothing_behind steps behind quiet starts ∙ ap is_stopped (some_is (Failed p.name ends.Stuck whats.Journal) reply is)
+end_stops p (Ended Forth) steps behind reply quiet starts is = nothing_behind steps behind quiet starts ∙ sym (done_calm p.name p.new) ∙ ap is_stopped (same_Some (done_reply p.name p.new) reply is)
+end_stops p (Ended (Undo why)) steps behind reply quiet starts is = nothing_behind steps behind quiet starts ∙ ap is_stopped (same_Some (Failed p.name (undone_end p.old) (what_of why)) reply is)
+end_stops p (Stuck why) steps behind reply quiet starts is = nothing_behind steps behind quiet starts ∙ ap is_stopped (same_Some (Failed p.name ends.Stuck (what_of why)) reply is)
+end_stops p Unwritten steps behind reply quiet starts is = nothing_behind steps behind quiet starts ∙ ap is_stopped (same_Some (Failed p.name ends.Stuck whats.Journal) reply is)
 
 turn_stops : (p : SwapOf) (outcome : Outcome) (steps behind : List Event) (reply : Reply) → has_restart steps ≡ false → StartsBehind outcome behind → turn_reply p outcome ≡ Some reply → has_restart (steps ++ behind) ≡ is_stopped reply
-turn_stops p More steps behind reply quiet starts is = nothing_behind steps behind quiet starts ∙ ap is_stopped (some_is (MoreReply p.name) reply is)
-turn_stops p (TurnsBack why) steps behind reply quiet starts is = nothing_behind steps behind quiet starts ∙ ap is_stopped (some_is (Trouble p.name (what_of why)) reply is)
+turn_stops p More steps behind reply quiet starts is = nothing_behind steps behind quiet starts ∙ ap is_stopped (same_Some (MoreReply p.name) reply is)
+turn_stops p (TurnsBack why) steps behind reply quiet starts is = nothing_behind steps behind quiet starts ∙ ap is_stopped (same_Some (Trouble p.name (what_of why)) reply is)
 turn_stops p (Ended leg) steps behind reply quiet starts is = end_stops p (Ended leg) steps behind reply quiet starts is
 turn_stops p (Stuck why) steps behind reply quiet starts is = end_stops p (Stuck why) steps behind reply quiet starts is
 turn_stops p Unwritten steps behind reply quiet starts is = end_stops p Unwritten steps behind reply quiet starts is
@@ -302,12 +302,12 @@ begin_quiet p s after entry move steps (Stuck trouble) b = absurd b
 
 module _ (own : List Event) (after : After) (reply : Reply) (is : after.reply ≡ Some reply) where
   breaks_stop : (events : List Event) → Breaks events after.reply → has_restart events ≡ is_stopped reply
-  breaks_stop events (stopped ends told) = ap has_restart ends.is ∙ has_started ends.front ends.a ends.b ∙ ap is_stopped (some_is StoppedReply reply (sym told ∙ is))
-  breaks_stop events (failed no' miss told) = no' ∙ ap is_stopped (some_is Down reply (sym told ∙ is))
+  breaks_stop events (stopped ends told) = ap has_restart ends.is ∙ has_started ends.front ends.a ends.b ∙ ap is_stopped (same_Some StoppedReply reply (sym told ∙ is))
+  breaks_stop events (failed no' miss told) = no' ∙ ap is_stopped (same_Some Down reply (sym told ∙ is))
   breaks_stop events (unanswered none) = none_told after.reply reply none is
 
   calm : (told : Reply) → is_stopped told ≡ false → after.reply ≡ Some told → has_restart own ≡ false → has_restart own ≡ is_stopped reply
-  calm told goes told_is quiet = quiet ∙ sym goes ∙ ap is_stopped (some_is told reply (sym told_is ∙ is))
+  calm told goes told_is quiet = quiet ∙ sym goes ∙ ap is_stopped (same_Some told reply (sym told_is ∙ is))
 
   replies_stop : (s : LabState) (opens : List OpenSwap) (told : Reply) → is_stopped told ≡ false → Replies s opens told own after → has_restart own ≡ is_stopped reply
   replies_stop s opens told goes d = calm told goes (ap (λ (a : After). a.reply) d.after_is) (ap has_restart d.nothing)

@@ -1,12 +1,12 @@
 -- What is told of a turn, beside how it ended; and the lab after it.
 use Rattle.std.proofs.Common.{◌≡◌, ℕ, Bool, true, false, List, Option, Some, None, is_some, Result, Ok, Err, refl, sym, ap, ◌∙◌, subst}
+use Rattle.std.proofs.lemmas.Option.{same_Some}
 use Rattle.lab_base.specs.declared.what.What.{What}
 use Rattle.lab_base.specs.declared.what.What.TheVariants as whats
 use Rattle.lab_model.specs.Courses.{Trouble as AnyTrouble}
 use Rattle.virt_topo.specs.declared.mapping.Mapped.{Mapped}
 use Rattle.plant.specs.Events.{Event}
 use Rattle.records_model.specs.Labs.{LabState, Commits, Aborts, moved}
-use Rattle.records_model.proofs.Finding.{some_is}
 use Rattle.lab_state.specs.Changes.{ending}
 use Rattle.swap_txn.specs.declared.ended.Ended.{Ended as Over}
 use Rattle.swap_txn.specs.Troubles.{what_of}
@@ -133,7 +133,7 @@ module _ (s : LabState) (o : RunningSwap) (exp : List ℕ) (name : o.swap.name �
   pub same_lab : (told : Progress) (outcome : Outcome) → TellsOf o.swap told outcome → (outcome ≡ Unwritten → ⊥) → (outcome ≡ Stopped → ⊥) → (after lab : LabState) → TurnSteps s o steps outcome after → IsEndedBy s exp told lab → after ≡ lab
   same_lab progress.More outcome is goes on after lab turn ended = (subst (λ (x : Outcome). TurnSteps s o steps x after) is turn).2 ∙ sym ended
   same_lab (progress.Trouble what) outcome is goes on after lab turn ended = (subst (λ (x : Outcome). TurnSteps s o steps x after) is.2 turn).4 ∙ sym ended
-  same_lab (progress.Ended over) outcome is goes on after lab turn ended = some_is after lab (sym (ended_as over is.0 after is.2 (subst (λ (x : Outcome). TurnSteps s o steps x after) is.1 turn)) ∙ ended)
+  same_lab (progress.Ended over) outcome is goes on after lab turn ended = same_Some after lab (sym (ended_as over is.0 after is.2 (subst (λ (x : Outcome). TurnSteps s o steps x after) is.1 turn)) ∙ ended)
   same_lab (progress.Stuck what) outcome is goes on after lab turn ended = stuck_lab what outcome is goes after turn ∙ sym ended
   same_lab progress.Stopped outcome is goes on after lab turn ended = absurd (on is)
 

@@ -1,6 +1,7 @@
 -- Laws of turns: what a turn does, and what its reply tells of the lab.
 use Rattle.std.proofs.Common.{◌≡◌, ◌⊎◌, inl, inr, ℕ, Bool, true, false, is_some, List, [], ◌++◌, Option, Some, None, Ok, refl, sym, ap, ◌∙◌, subst}
 use Rattle.std.proofs.lemmas.List.{append-nil}
+use Rattle.std.proofs.lemmas.Option.{same_Some}
 use Rattle.plant.specs.Events.{Event}
 use Rattle.plant.specs.declared.drill.Drill.{Drill}
 use Rattle.journal_model.specs.Appends.{All, added}
@@ -11,7 +12,6 @@ use Rattle.lab_base.specs.declared.what.What.TheVariants as whats
 use Rattle.lab_model.specs.Courses.{Trouble as AnyTrouble, Device, Late, Unlawful}
 use Rattle.virt_topo.specs.declared.mapping.Mapped.{Mapped}
 use Rattle.records_model.specs.Labs.{LabState, Commits, Aborts, moved}
-use Rattle.records_model.proofs.Finding.{some_is}
 use Rattle.script_text.specs.Replies.{closes}
 use Rattle.script_text.specs.declared.command.Command.{Command}
 use Rattle.script_text.specs.declared.reply.Reply.{Reply}
@@ -50,8 +50,8 @@ module _ (own : List Event) (after : After) (reply : Reply) (is : after.reply �
   by_outcome s o steps behind (Ended leg) own_is starts told turn =
       let whole = turn.0.1 in appends whole.side whole.gate (last o.swap leg) (own_is ∙ ap (λ l. steps ++ l) starts ∙ append-nil steps ∙ whole.steps_are)
   by_outcome s o steps behind Unwritten own_is starts told turn =
-      let both : true ≡ false = ap closes (some_is (replies.Failed o.swap.name ends.Stuck whats.Journal) reply (sym told ∙ is)) ∙ open_still in absurd (cc both)
-  by_outcome s o steps behind Halted own_is starts told turn = let both : true ≡ false = ap is_stopped (some_is replies.Stopped reply (sym told ∙ is)) ∙ goes_on in absurd (cc both)
+      let both : true ≡ false = ap closes (same_Some (replies.Failed o.swap.name ends.Stuck whats.Journal) reply (sym told ∙ is)) ∙ open_still in absurd (cc both)
+  by_outcome s o steps behind Halted own_is starts told turn = let both : true ≡ false = ap is_stopped (same_Some replies.Stopped reply (sym told ∙ is)) ∙ goes_on in absurd (cc both)
 
   did_turn : (s : LabState) (opens : List OpenSwap) (exp : List ℕ) → Turns s opens exp own after → IsTurn own
   did_turn s opens exp d = by d.answered
@@ -139,7 +139,7 @@ module _ (s after : LabState) (exp : List ℕ) (reply : Reply) where
   Tells told = TellsEnd s exp told after
 
   tells_as : (told : Reply) → Some told ≡ Some reply → Tells told → Tells reply
-  tells_as told is tells = subst (λ (r : Reply). Tells r) (some_is told reply is) tells
+  tells_as told is tells = subst (λ (r : Reply). Tells r) (same_Some told reply is) tells
 
   end_tells : (at : RunningSwap) (steps : List Event) (outcome : Outcome) → at.swap.name ≡ exp → end_reply at.swap outcome ≡ Some reply → TurnSteps s at steps outcome after → Tells reply
   end_tells at steps (Ended Forth) named is turn = tells_as (done_reply at.swap.name at.swap.new) is (by at.swap.new)

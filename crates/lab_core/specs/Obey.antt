@@ -1,6 +1,6 @@
 -- What a call of `obey` leaves, over a trace.
 use Rattle.std.specs.Prelude.{◌≡◌, ◌↔◌, ◌≤◌, ℕ, Bool, true, false, List, [], ◌∷◌, ◌++◌, not, Option, Some, None, Result, Ok, Err, IfOk, IfSome, IsErrOf, IsTrue}
-use Rattle.plant.specs.Calls.{Rose}
+use Rattle.lab_base.specs.Counts.{Rose}
 use Rattle.plant.specs.Disks.{ArePossible}
 use Rattle.plant.specs.Events.{Event, Restarted}
 use Rattle.plant.specs.Told.{with_steps}

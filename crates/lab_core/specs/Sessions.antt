@@ -2,7 +2,7 @@
 use Rattle.std.specs.Prelude.{◌≡◌, ◌⊎◌, ◌≤◌, ℕ, Bool, false, List, [], ◌∷◌, length, map, Option, Some, None, if◌then◌else◌}
 use Rattle.std.specs.Str.{bytes_eq}
 use Rattle.lab_base.specs.Lists.{Has}
-use Rattle.plant.specs.Calls.{Rose}
+use Rattle.lab_base.specs.Counts.{Rose}
 use Rattle.records_model.specs.Labs.{LabState}
 use Rattle.lab_model.specs.Courses.{Device}
 use Rattle.recovery.specs.Due.{is_busy}

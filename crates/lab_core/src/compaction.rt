@@ -1,6 +1,6 @@
 // The journal's move onto its other side, behind the settling of an opening.
 ghost use Rattle.std.specs.Prelude.{◌≡◌, ◌↔◌, ◌<◌, ◌≤◌, ◌*◌, ◌-◌, ◌^◌, ◌&&◌, nat_le, nat_lt, false, IfOk, OnOk, IsErrOf, IsTrue};
-ghost use Rattle.plant.specs.Calls.{Rose};
+ghost use Rattle.lab_base.specs.Counts.{Rose};
 ghost use Rattle.journal_disk.specs.Epochs.{epoch_of};
 ghost use Rattle.journal_disk.specs.Standing.{length_of, limit_of};
 ghost use Rattle.journal_packed.specs.Packing.{side_length};

@@ -1,7 +1,7 @@
 // The lines of a source.
 ghost use Rattle.std.specs.Prelude.{◌≡◌, ◌≢◌, ◌≤◌, ◌<◌, ◌+◌, ◌-◌, ◌^◌, ◌⊎◌, ℕ, length, [], take, drop, None, Some, Ok, Err, true, false, IfNone, IsTrue, IsFalse, slice_index, IfOk, IfErr, IfSome, OnErr, OnOk, IsErrOf, IsSome, vec_len};
 ghost use Rattle.std.specs.Io.KnownBytes.{prepend_known};
-ghost use Rattle.lab_io.specs.Causes.{Rose};
+ghost use Rattle.lab_base.specs.Counts.{Rose};
 ghost use Rattle.lab_io.specs.Feeds.{NoFeed, without_return};
 ghost use Rattle.lab_io.specs.Next.{IsNext, HasNoText};
 ghost use Rattle.lab_io.specs.Taken.{Took, Counted, IsFound, IsTooLong, rest_of, pending_of, ended_of, fault_of, lines_of, taken_of};

@@ -3,6 +3,7 @@ use Rattle.std.specs.List.{flat_map, list_any, sum_by}
 use Rattle.std.proofs.Common.{◌≡◌, ◌≢◌, ◌⊎◌, inl, inr, ℕ, zero, suc, max, ◌+◌, ◌<◌, ◌≤◌, Bool, true, false, not, ◌&&◌, ◌||◌, ◌==◌, Option, Some, None, List, [], ◌∷◌, ◌++◌, map, length, if◌then◌else◌, refl, sym, ap, ◌∙◌, subst, arith, zero-add, nat_le}
 use Rattle.std.proofs.lemmas.Bool.{cases_Bool, and_parts, not-true, or_left, or_right, leb-true, eqb-true, eq-eqb, both_ways, cases_eq, cond-true, cond-false}
 use Rattle.std.proofs.lemmas.List.Sums.{sum_by-append}
+use Rattle.std.proofs.lemmas.Option.{same_Some}
 use Rattle.lab_base.specs.Lists.{Has, AllDiffer}
 use Rattle.lab_base.proofs.Members.{Has-append, Has-left, Has-right, Has-map, Has-flat_mapped, Apart-left, Apart-right, flat-each}
 use Rattle.lab_base.specs.declared.ids.VlanId.{VlanId}
@@ -113,9 +114,6 @@ claimed_test lab e name New m is placed = or_right _ _ (is_placed_from lab _ m n
 pub unclaimed : (lab : Lab) (es : List Experiment) (y : Experiment) (name : List ℕ) → is_claimed lab es name ≡ false → Has es y → Claims lab y name → ⊥
 unclaimed lab es y name none h claims = both_ways _ none (any_has (λ e. is_placed lab (claimed e Old) name || is_placed lab (claimed e New) name) es y h (claimed_test lab y name claims.which claims.mapped claims.is claims.placed))
 
-some_is : {X : Type 0} (x y : X) → Some x ≡ Some y → x ≡ y
-some_is x y e = cc
-
 -- FROM THE CHECK TO THE MAPPING
 pub suits_from : (lab : Lab) (n : Mapped) (f1 f6 : ℕ → Bool) (f8 : Bool) → first_violation lab n.wiring n.mapping f1 f6 f8 ≡ None → IsSound n.wiring → IsShaped lab n.wiring n.mapping → length n.tags ≡ length n.wiring.segments → Suits lab n
 suits_from lab n f1 f6 f8 none sound shaped tags =
@@ -184,9 +182,9 @@ takes_new lab a b own e n none free wired shaped =
     let sized = and_parts _ _ parts.0 in
     let each : (tag : VlanId) → Has n.tags tag → (nat_le lab.range.0 tag.0 && nat_le tag.0 lab.range.1 && not (list_any (λ u. u == tag.0) (flat_map claimed_tags (a ++ e ∷ b)))) ≡ true = λ tag h. all_has _ n.tags tag parts.1 h in
     record {
-      fits = λ m is. let same : n ≡ m = some_is n m is in subst (λ x. Suits lab x) same (suits_from lab n _ _ _ none wired shaped (eqb-true _ _ sized.0));
+      fits = λ m is. let same : n ≡ m = same_Some n m is in subst (λ x. Suits lab x) same (suits_from lab n _ _ _ none wired shaped (eqb-true _ _ sized.0));
       nodes = λ m y name is h placed claims.
-          let same : m ≡ n = sym (some_is n m is) in
+          let same : m ≡ n = sym (same_Some n m is) in
           let there : Has (map (λ p. node_name lab p.0) n.mapping.places) name = subst (λ x. Places lab x name) same placed in
           let p = Has-map (λ p. node_name lab p.0) n.mapping.places name there in
           let at = has_index n.mapping.places p.0 no_place p.1 in

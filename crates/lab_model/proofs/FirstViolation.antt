@@ -2,6 +2,7 @@
 use Rattle.std.proofs.Common.{◌≡◌, ◌⊎◌, inl, inr, ℕ, zero, suc, ◌+◌, ◌<◌, ◌≤◌, Bool, true, false, Option, Some, None, List, length, if◌then◌else◌, refl, sym, ap, ◌∙◌, subst, arith, zero-add, nat_le}
 use Rattle.std.proofs.lemmas.Bool.{cases_Bool, leb-true, le-leb, both_ways}
 use Rattle.std.proofs.lemmas.List.Elements.{All-get_or}
+use Rattle.std.proofs.lemmas.Option.{same_Some}
 use Rattle.lab_base.specs.declared.ids.NodeId.{NodeId}
 use Rattle.phys_lab.specs.declared.free.Free.{Free}
 use Rattle.phys_lab.specs.Labs.{Lab}
@@ -45,10 +46,7 @@ fails n test k f = fails_from n 0 test k f.below (ap test (omega arith) ∙ f.fa
 or_some : (o : Option ℕ) (as_one : ℕ → Broken × Subject) (later : Option (Broken × Subject)) (b : Broken × Subject) → or_later o as_one later ≡ Some b
     → ((k : ℕ) × (o ≡ Some k) × (as_one k ≡ b)) ⊎ ((o ≡ None) × (later ≡ Some b))
 or_some None as_one later b e = inr (refl, e)
-or_some (Some k) as_one later b e = inl (k, refl, some_is (as_one k) b e)
-  where
-    some_is : (x y : Broken × Subject) → Some x ≡ Some y → x ≡ y
-    some_is x y e = cc
+or_some (Some k) as_one later b e = inl (k, refl, same_Some (as_one k) b e)
 
 some_else : (t : Bool) (x b : Broken × Subject) → ◌≡◌ {A = Option (Broken × Subject)} (if t then None else Some x) (Some b) → (t ≡ false) × (x ≡ b)
 some_else true x b e = absurd (cc e)

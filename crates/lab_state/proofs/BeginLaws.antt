@@ -1,6 +1,7 @@
 -- What an experiment may begin to move to.
 use Rattle.std.proofs.Common.{◌≡◌, ◌==◌, ℕ, true, inl, Option, Some, None, is_none, List, ◌∷◌, ◌++◌, length, refl, sym, ap, subst, ◌∙◌, ◌&&◌}
 use Rattle.std.proofs.lemmas.Bool.{and_parts}
+use Rattle.std.proofs.lemmas.Option.{same_Some}
 use Rattle.lab_base.proofs.Members.{Has-right}
 use Rattle.phys_lab.specs.declared.free.Free.{Free}
 use Rattle.virt_topo.specs.declared.experiment.Experiment.{Experiment}
@@ -15,7 +16,7 @@ use Rattle.lab_model.specs.Feasible.{violation}
 use Rattle.lab_model.specs.Shapes.{IsShaped, IsFreeOf}
 use Rattle.lab_model.proofs.FirstViolation.{same_violation}
 use Rattle.records_model.specs.Labs.{HasText, find, others, can_take, is_out}
-use Rattle.records_model.proofs.Finding.{Found, found_from, some_is, none_some}
+use Rattle.records_model.proofs.Finding.{Found, found_from, none_some}
 use Rattle.claims.specs.Held.{IsLeftTo}
 use Rattle.claims.specs.Holds.{claim_of}
 use Rattle.claims.specs.Answered.{are_free_ids}
@@ -124,7 +125,7 @@ module _ (place : ClaimedLab) (es : List Experiment) (exp : List ℕ) (e : Exper
           before = e;
           found = own_found;
           moving = refl;
-          printable = to_printable (Some new) (λ m h. subst (λ (x : Mapped). is_printable x.wiring ≡ true) (some_is new m h) text.printable);
+          printable = to_printable (Some new) (λ m h. subst (λ (x : Mapped). is_printable x.wiring ≡ true) (same_Some new m h) text.printable);
           claimed = refl;
           may = λ held of_es. may_take place.lab at_exp.before at_exp.after e (moving e (Some new)) held was.sane.holding was.sane.names (subst (λ l. ClaimsOf place.lab l held) at_exp.whole of_es) new (from_claimed (Some new)) none text.sound shaped free;
         }

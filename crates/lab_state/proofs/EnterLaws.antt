@@ -1,5 +1,6 @@
 -- What is kept where a change is entered.
 use Rattle.std.proofs.Common.{◌≡◌, ◌≢◌, ◌<◌, ℕ, Bool, true, false, inl, inr, Option, Some, None, List, [], ◌∷◌, ◌++◌, length, map, refl, sym, ap, subst, ◌∙◌, is_some, IfSome, if◌then◌else◌, arith}
+use Rattle.std.proofs.lemmas.Option.{same_Some}
 use Rattle.lab_base.specs.Lists.{AllDiffer}
 use Rattle.lab_base.proofs.Members.{Has-append, Has-right}
 use Rattle.phys_lab.specs.Labs.{Lab}
@@ -12,7 +13,7 @@ use Rattle.top_text.specs.Printable.{is_printable}
 use Rattle.lab_model.specs.Claims.{Which, Old, New, claimed, claimed_in}
 use Rattle.lab_model.proofs.Records.{Has_mid, Has_other}
 use Rattle.records_model.specs.Labs.{Sane, find, others, replace, moved, inside}
-use Rattle.records_model.proofs.Finding.{Found, found_from, not_found, some_is, none_some}
+use Rattle.records_model.proofs.Finding.{Found, found_from, not_found, none_some}
 use Rattle.records_model.proofs.LabLaws.{follows_sane}
 use Rattle.claims.specs.declared.claim.Claim.{Claim}
 use Rattle.claims.specs.Held.{Held, others as other_claims}
@@ -96,7 +97,7 @@ module _ (place : ClaimedLab) (es : List Experiment) (f : Experiment) (claim : C
   at_name = found_from f.name es begins.before begins.found
 
   same_lab : place.lab ≡ begins.lab
-  same_lab = some_is place.lab begins.lab begins.is_lab
+  same_lab = same_Some place.lab begins.lab begins.is_lab
 
   of_lab : ClaimsOf begins.lab es place.claims
   of_lab = subst (λ l. ClaimsOf l es place.claims) same_lab kept.claims
@@ -149,7 +150,7 @@ ended_printable e commit (Some m) is printable =
   where
     by : is_printable m.wiring ≡ true → (which : Which) (n : Mapped) → claimed (inside e m) which ≡ Some n → is_printable n.wiring ≡ true
     by own Old n h = none_some n h
-    by own New n h = subst (λ (x : Mapped). is_printable x.wiring ≡ true) (some_is _ n h) own
+    by own New n h = subst (λ (x : Mapped). is_printable x.wiring ≡ true) (same_Some _ n h) own
 
 ended_claims : (lab : Lab) (a b : List Experiment) (e : Experiment) (held : Held) (commit : Bool) (o : Option Mapped) → AllDiffer (map (λ x. x.name) (a ++ e ∷ b)) → ClaimsOf lab (a ++ e ∷ b) held
     → kept_of commit e.phase ≡ o → ClaimsOf lab (a ++ standing e o ∷ b) (kept_side (is_some o) e.name commit held)
@@ -162,7 +163,7 @@ module _ (place : ClaimedLab) (es : List Experiment) (exp : List ℕ) (commit : 
   turn = turn_of (Some place.lab) es exp (ending exp commit) can.0 (ending_of exp commit) can.1
 
   same : place.lab ≡ turn.lab
-  same = some_is place.lab turn.lab turn.is_lab
+  same = same_Some place.lab turn.lab turn.is_lab
 
   is_ended : turn.now ≡ ended commit turn.before
   is_ended = ends_as turn.lab es turn.before turn.now exp commit turn.before.phase turn.becomes

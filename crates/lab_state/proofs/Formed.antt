@@ -2,6 +2,7 @@
 use Rattle.std.proofs.Common.{◌≡◌, ◌⊎◌, inl, inr, ℕ, Bool, true, false, ◌&&◌, if◌then◌else◌, is_none, nat_le, Option, Some, None, List, [], ◌∷◌, ◌++◌, length, refl, sym, ap, ◌∙◌, subst}
 use Rattle.std.specs.Str.{bytes_eq}
 use Rattle.std.proofs.lemmas.Bool.{cases_Bool, cond-true, cond-false}
+use Rattle.std.proofs.lemmas.Option.{same_Some}
 use Rattle.lab_base.specs.Lists.{Has}
 use Rattle.lab_base.proofs.Members.{Has-append, Has-right}
 use Rattle.phys_lab.specs.Labs.{Lab}
@@ -9,11 +10,12 @@ use Rattle.virt_topo.specs.declared.wiring.Wiring.{Wiring}
 use Rattle.virt_topo.specs.declared.experiment.Experiment.{Experiment}
 use Rattle.virt_topo.specs.declared.experiment.Phase.{Phase}
 use Rattle.virt_topo.specs.declared.experiment.Phase.TheVariants.{Out, In, Moving}
+use Rattle.virt_topo.specs.Wirings.{mapped}
 use Rattle.journal_rec.specs.declared.record.Way.TheVariants.{In as WayIn, Out as WayOut, Change as WayChange}
 use Rattle.journal_rec.specs.declared.record.Record.{Record}
 use Rattle.journal_rec.specs.declared.record.Record.TheVariants.{Lab as LabRecord, Create, Delete, Begin, Commit, Abort}
-use Rattle.records_model.specs.Labs.{LabState, Move, SetLab, Creates, Deletes, BeginsIn, BeginsOut, BeginsChange, Commits, Aborts, find, replace, others, in_phase, mapped, can_take, becomes, is_out, moved_one, deleted, in_state, moved_of, Texts, HasText, Says, FoldsTo, LabOf, at_first}
-use Rattle.records_model.proofs.Finding.{some_is, none_some, found_from}
+use Rattle.records_model.specs.Labs.{LabState, Move, SetLab, Creates, Deletes, BeginsIn, BeginsOut, BeginsChange, Commits, Aborts, find, replace, others, in_phase, can_take, becomes, is_out, moved_one, deleted, in_state, moved_of, Texts, HasText, Says, FoldsTo, LabOf, at_first}
+use Rattle.records_model.proofs.Finding.{none_some, found_from}
 use Rattle.records_model.proofs.LabLaws.{in_state-some, with_replaced-some, found_one}
 
 abbrev pub IsFormedPhase : Texts → Wiring → Phase → Type 0
@@ -48,7 +50,7 @@ says_worded t s (Commit exp) move h = subst (λ m. Worded t m) (sym h) tt
 says_worded t s (Abort exp) move h = subst (λ m. Worded t m) (sym h) tt
 
 if_some : {X : Type 0} (b : Bool) (x y : X) → ◌≡◌ {A = Option X} (if b then Some x else None) (Some y) → (b ≡ true) × (x ≡ y)
-if_some true x y h = (refl, some_is x y h)
+if_some true x y h = (refl, same_Some x y h)
 if_some false x y h = none_some y h
 
 -- what an experiment becomes
@@ -56,18 +58,18 @@ becomes_formed : (t : Texts) (lab : Lab) (es : List Experiment) (e g : Experimen
 becomes_formed t lab es e g Out (BeginsIn name mapping tags) worded text formed h =
     let m = mapped e.wiring mapping tags in
     subst (IsFormed t) (if_some (can_take lab es e m) (in_phase e (Moving None (Some m))) g h).1 (record { wiring = text; phase = refl })
-becomes_formed t lab es e g (In mapping tags) (BeginsOut name) worded text formed h = subst (IsFormed t) (some_is _ g h) (record { wiring = text; phase = refl })
+becomes_formed t lab es e g (In mapping tags) (BeginsOut name) worded text formed h = subst (IsFormed t) (same_Some _ g h) (record { wiring = text; phase = refl })
 becomes_formed t lab es e g (In mapping tags) (BeginsChange name wiring new new_tags) worded text formed h =
     let m = mapped e.wiring mapping tags in
     let n = mapped wiring new new_tags in
     subst (IsFormed t) (if_some (can_take lab es e n) (in_phase e (Moving (Some m) (Some n))) g h).1 (record { wiring = text; phase = (refl, worded) })
 becomes_formed t lab es e g (Moving None (Some new)) (Commits name) worded text formed h =
-    subst (IsFormed t) (some_is _ g h) (record { wiring = subst (HasText t) (sym formed) text; phase = tt })
-becomes_formed t lab es e g (Moving (Some old) (Some new)) (Commits name) worded text formed h = subst (IsFormed t) (some_is _ g h) (record { wiring = formed.1; phase = tt })
-becomes_formed t lab es e g (Moving (Some old) None) (Commits name) worded text formed h = subst (IsFormed t) (some_is _ g h) (record { wiring = text; phase = tt })
-becomes_formed t lab es e g (Moving None (Some new)) (Aborts name) worded text formed h = subst (IsFormed t) (some_is _ g h) (record { wiring = text; phase = tt })
+    subst (IsFormed t) (same_Some _ g h) (record { wiring = subst (HasText t) (sym formed) text; phase = tt })
+becomes_formed t lab es e g (Moving (Some old) (Some new)) (Commits name) worded text formed h = subst (IsFormed t) (same_Some _ g h) (record { wiring = formed.1; phase = tt })
+becomes_formed t lab es e g (Moving (Some old) None) (Commits name) worded text formed h = subst (IsFormed t) (same_Some _ g h) (record { wiring = text; phase = tt })
+becomes_formed t lab es e g (Moving None (Some new)) (Aborts name) worded text formed h = subst (IsFormed t) (same_Some _ g h) (record { wiring = text; phase = tt })
 becomes_formed t lab es e g (Moving (Some old) (Some new)) (Aborts name) worded text formed h =
-    subst (IsFormed t) (some_is _ g h) (record { wiring = subst (HasText t) (sym formed.0) text; phase = tt })
+    subst (IsFormed t) (same_Some _ g h) (record { wiring = subst (HasText t) (sym formed.0) text; phase = tt })
 becomes_formed t lab es e g p move worded text formed h = none_some g h
 
 has_replaced : (name : List ℕ) (g : Experiment) (es : List Experiment) (x : Experiment) → Has (replace name g es) x → (g ≡ x) ⊎ Has es x
@@ -110,7 +112,7 @@ one_formed t lab es name move u worded formed h =
     (λ x has. elim (has_replaced name g.0 es x has) [ inl is ↦ subst (IsFormed t) is now | inr old ↦ formed x old ])
 
 steps_formed : (t : Texts) (o : Option Lab) (es : List Experiment) (move : Move) (u : LabState) → Worded t move → AreFormed t es → moved_of o es move ≡ Some u → AreFormed t u.experiments
-steps_formed t None es (SetLab lab) u worded formed h = subst (λ (s : LabState). AreFormed t s.experiments) (some_is _ u h) (λ e none. absurd none)
+steps_formed t None es (SetLab lab) u worded formed h = subst (λ (s : LabState). AreFormed t s.experiments) (same_Some _ u h) (λ e none. absurd none)
 steps_formed t None es move u worded formed h = none_some u h
 steps_formed t (Some lab) es (SetLab l) u worded formed h = none_some u h
 steps_formed t (Some lab) es (Creates name w) u worded formed h =

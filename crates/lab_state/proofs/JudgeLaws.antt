@@ -1,6 +1,7 @@
 -- Which records can follow.
 use Rattle.std.proofs.Common.{◌≡◌, ◌≤◌, ◌<◌, ℕ, Bool, true, false, Option, Some, None, is_some, is_none, List, [], ◌∷◌, ◌++◌, length, nat_le, ◌&&◌, if◌then◌else◌, refl, sym, ap, subst, ◌∙◌, arith, Err, Bor, option_copied}
 use Rattle.std.proofs.lemmas.Bool.{and_parts, leb-true, le-leb}
+use Rattle.std.proofs.lemmas.Option.{same_Some}
 use Rattle.phys_lab.specs.Labs.{Lab}
 use Rattle.phys_lab.specs.Kept.{IsLab}
 use Rattle.virt_topo.specs.declared.experiment.Experiment.{Experiment}
@@ -10,7 +11,7 @@ use Rattle.virt_topo.specs.declared.wiring.Wiring.{Wiring}
 use Rattle.journal_rec.specs.declared.record.Record.{Record}
 use Rattle.journal_rec.specs.declared.record.Record.TheVariants.{Lab as LabRecord, Create, Delete}
 use Rattle.records_model.specs.Labs.{LabState, SetLab, Creates, Deletes, HasText, Follows, CannotFollow, find, others, replace, deleted, is_out, moved, moved_of, moved_in, in_state}
-use Rattle.records_model.proofs.Finding.{some_is, none_some}
+use Rattle.records_model.proofs.Finding.{none_some}
 use Rattle.records_model.proofs.LabLaws.{in_state-some}
 use Rattle.claims.specs.Answered.{none_of}
 use Rattle.lab_state.specs.declared.claimed_lab.ClaimedLab.{ClaimedLab}
@@ -44,7 +45,7 @@ lab_follows (Some p) es ptop place none is text claims = absurd (cc none)
 
 -- ---- a new experiment
 if_some : {X : Type 0} (t : Bool) (x y : X) → ◌≡◌ {A = Option X} (if t then Some x else None) (Some y) → (t ≡ true) × (x ≡ y)
-if_some true x y h = (refl, some_is x y h)
+if_some true x y h = (refl, same_Some x y h)
 if_some false x y h = none_some y h
 
 none_is : {X : Type 0} (o : Option X) → is_none o ≡ true → o ≡ None
@@ -137,7 +138,7 @@ delete_nothing o es exp none u f = let d = delete_says o es exp u f in none_some
 pub delete_inside : (o : Option ClaimedLab) (es : List Experiment) (exp : List ℕ) (e : Experiment) → find exp es ≡ Some e → is_out e.phase ≡ false → CannotFollow the_texts (state_of o es) (Delete exp)
 delete_inside o es exp e found inside u f =
     let d = delete_says o es exp u f in
-    let same : e ≡ d.0 = some_is e d.0 (sym found ∙ d.1) in
+    let same : e ≡ d.0 = same_Some e d.0 (sym found ∙ d.1) in
     let both : false ≡ true = sym inside ∙ ap (λ (x : Experiment). is_out x.phase) same ∙ d.2 in cc both
 
 out_is : (p : Phase) → is_out p ≡ true → p ≡ Out
@@ -166,7 +167,7 @@ end_nothing o es exp commit none u f =
 pub end_still : (o : Option ClaimedLab) (es : List Experiment) (exp : List ℕ) (commit : Bool) (e : Experiment) → find exp es ≡ Some e → may_end commit e.phase ≡ false → CannotFollow the_texts (state_of o es) (ending_record exp commit)
 end_still o es exp commit e found still u f =
     let t = turn_of (lab_of o) es exp (ending exp commit) u (ending_of exp commit) (follows_ending (state_of o es) u exp commit f) in
-    let same : e ≡ t.before = some_is e t.before (sym found ∙ t.found) in
+    let same : e ≡ t.before = same_Some e t.before (sym found ∙ t.found) in
     ends_not t.lab es t.before t.now exp commit t.before.phase (subst (λ (x : Experiment). may_end commit x.phase ≡ false) same still) t.becomes
 
 pub end_follows : (o : Option ClaimedLab) (es : List Experiment) (exp : List ℕ) (commit : Bool) (e : Experiment) → IsKept o es → find exp es ≡ Some e → may_end commit e.phase ≡ true

@@ -1,11 +1,12 @@
 -- What a move of one experiment says of it.
 use Rattle.std.proofs.Common.{◌≡◌, ℕ, Bool, true, false, Option, Some, None, List, refl, sym, ap, ◌∙◌}
+use Rattle.std.proofs.lemmas.Option.{same_Some}
 use Rattle.phys_lab.specs.Labs.{Lab}
 use Rattle.virt_topo.specs.declared.experiment.Experiment.{Experiment}
 use Rattle.virt_topo.specs.declared.experiment.Phase.{Phase}
 use Rattle.virt_topo.specs.declared.experiment.Phase.TheVariants.{Out, In, Moving}
 use Rattle.records_model.specs.Labs.{LabState, Move, Commits, Aborts, find, replace, becomes, in_state, moved_one, with_replaced, moved_of, moved, Follows}
-use Rattle.records_model.proofs.Finding.{some_is, none_some}
+use Rattle.records_model.proofs.Finding.{none_some}
 use Rattle.records_model.proofs.LabLaws.{in_state-some, with_replaced-some, found_one}
 use Rattle.lab_state.specs.Texts.{the_texts}
 use Rattle.lab_state.specs.Changes.{ending, ending_record}
@@ -58,12 +59,12 @@ ends_as lab es e f exp true (In m tags) h = none_some f h
 ends_as lab es e f exp false (In m tags) h = none_some f h
 ends_as lab es e f exp true (Moving None None) h = none_some f h
 ends_as lab es e f exp false (Moving None None) h = none_some f h
-ends_as lab es e f exp true (Moving None (Some new)) h = sym (some_is _ f h)
-ends_as lab es e f exp false (Moving None (Some new)) h = sym (some_is _ f h)
-ends_as lab es e f exp true (Moving (Some old) None) h = sym (some_is _ f h)
+ends_as lab es e f exp true (Moving None (Some new)) h = sym (same_Some _ f h)
+ends_as lab es e f exp false (Moving None (Some new)) h = sym (same_Some _ f h)
+ends_as lab es e f exp true (Moving (Some old) None) h = sym (same_Some _ f h)
 ends_as lab es e f exp false (Moving (Some old) None) h = none_some f h
-ends_as lab es e f exp true (Moving (Some old) (Some new)) h = sym (some_is _ f h)
-ends_as lab es e f exp false (Moving (Some old) (Some new)) h = sym (some_is _ f h)
+ends_as lab es e f exp true (Moving (Some old) (Some new)) h = sym (same_Some _ f h)
+ends_as lab es e f exp false (Moving (Some old) (Some new)) h = sym (same_Some _ f h)
 
 -- where it may end it does, and only there
 pub ends_where : (lab : Lab) (es : List Experiment) (e : Experiment) (exp : List ℕ) (commit : Bool) (p : Phase) → may_end commit p ≡ true → becomes lab es e p (ending exp commit) ≡ Some (standing e (kept_of commit p))

@@ -15,6 +15,7 @@ use Rattle.virt_topo.specs.declared.mapping.Mapped.{Mapped}
 use Rattle.virt_topo.specs.declared.experiment.Experiment.{Experiment}
 use Rattle.virt_topo.specs.declared.experiment.Phase.{Phase}
 use Rattle.virt_topo.specs.declared.experiment.Phase.TheVariants.{Out, In, Moving}
+use Rattle.virt_topo.specs.Wirings.{mapped}
 use Rattle.journal_rec.specs.declared.record.Way.TheVariants.{Out as WayOut}
 use Rattle.journal_rec.specs.declared.record.Record.{Record}
 use Rattle.journal_rec.specs.declared.record.Record.TheVariants.{Begin, Commit}
@@ -22,7 +23,7 @@ use Rattle.lab_model.specs.Claims.{Which, Old, New, claimed, claimed_tags, tags_
 use Rattle.lab_model.specs.Holding.{Holding}
 use Rattle.lab_model.specs.Beside.{claimed_segments, ids_of}
 use Rattle.lab_model.proofs.FeasibleLaws.{TakesOne, takes_claimed}
-use Rattle.records_model.specs.Labs.{LabState, Move, SetLab, Creates, BeginsIn, BeginsOut, BeginsChange, Commits, find, replace, others, mapped, can_take, becomes, moved_one, moved_in, with_replaced, in_state, Texts, HasText, Says, Follows, FoldsTo, LabOf, Sane}
+use Rattle.records_model.specs.Labs.{LabState, Move, SetLab, Creates, BeginsIn, BeginsOut, BeginsChange, Commits, find, replace, others, can_take, becomes, moved_one, moved_in, with_replaced, in_state, Texts, HasText, Says, Follows, FoldsTo, LabOf, Sane}
 use Rattle.records_model.proofs.LabLaws.{lab_sane}
 use Rattle.lab_state.specs.Packing.{creation, entry, turn, stand, packed_phase, packed_one, packed_in, packed_of}
 use Rattle.lab_state.proofs.Formed.{IsFormedPhase, AreFormed, lab_formed}

@@ -1,5 +1,6 @@
 -- Which swaps can begin.
 use Rattle.std.proofs.Common.{◌≡◌, ℕ, Bool, true, false, Option, Some, None, List, refl, sym, ap, subst, ◌∙◌, if◌then◌else◌, Result, Ok, Err}
+use Rattle.std.proofs.lemmas.Option.{same_Some}
 use Rattle.lab_base.specs.declared.ids.VlanId.{VlanId}
 use Rattle.phys_lab.specs.Labs.{Lab}
 use Rattle.phys_lab.specs.Kept.{IsLab}
@@ -8,12 +9,13 @@ use Rattle.virt_topo.specs.declared.experiment.Phase.{Phase}
 use Rattle.virt_topo.specs.declared.experiment.Phase.TheVariants.{Out, In, Moving}
 use Rattle.virt_topo.specs.declared.mapping.Mapping.{Mapping}
 use Rattle.virt_topo.specs.declared.wiring.Wiring.{Wiring}
+use Rattle.virt_topo.specs.Wirings.{mapped}
 use Rattle.lab_model.specs.Shapes.{IsShaped}
 use Rattle.journal_rec.specs.declared.record.Way.{Way}
 use Rattle.journal_rec.specs.declared.record.Way.TheVariants.{In as WayIn, Out as WayOut, Change as WayChange}
 use Rattle.journal_rec.specs.declared.record.Record.TheVariants.{Begin}
-use Rattle.records_model.specs.Labs.{LabState, BeginsIn, BeginsOut, BeginsChange, HasText, Follows, CannotFollow, find, replace, mapped, in_phase, becomes, is_out, can_take, moved}
-use Rattle.records_model.proofs.Finding.{some_is, none_some, found_from}
+use Rattle.records_model.specs.Labs.{LabState, BeginsIn, BeginsOut, BeginsChange, HasText, Follows, CannotFollow, find, replace, in_phase, becomes, is_out, can_take, moved}
+use Rattle.records_model.proofs.Finding.{none_some, found_from}
 use Rattle.claims.specs.Holds.{claim_of}
 use Rattle.solution_text.proofs.SolutionAgain.{canonical_again}
 use Rattle.top_text.proofs.TopWhole.{top_again}
@@ -95,11 +97,11 @@ pub record BegunIn (place : ClaimedLab) (es : List Experiment) (exp map : List �
 
 in_says : (place : ClaimedLab) (es : List Experiment) (exp map : List ℕ) (tags : List VlanId) (u : LabState) → Follows the_texts (state_of (Some place) es) (Begin exp (WayIn map tags)) u → BegunIn place es exp map tags
 in_says place es exp map tags u f =
-    let lab : f.says.0 ≡ place.lab = sym (some_is place.lab f.says.0 f.says.3) in
+    let lab : f.says.0 ≡ place.lab = sym (same_Some place.lab f.says.0 f.says.3) in
     let m = f.says.2 in
     let t = turn_of (Some place.lab) es exp (BeginsIn exp m tags) u (of_in exp m tags) (sym (ap (λ x. moved (state_of (Some place) es) x) f.says.9) ∙ f.gives) in
-    let same : f.says.1 ≡ t.before = some_is f.says.1 t.before (sym f.says.4 ∙ t.found) in
-    let here : t.lab ≡ place.lab = sym (some_is place.lab t.lab t.is_lab) in
+    let same : f.says.1 ≡ t.before = same_Some f.says.1 t.before (sym f.says.4 ∙ t.found) in
+    let here : t.lab ≡ place.lab = sym (same_Some place.lab t.lab t.is_lab) in
     let b = becomes_in t.lab es t.before t.now exp m tags t.before.phase t.becomes in
     record {
       before = t.before;
@@ -126,11 +128,11 @@ pub record BegunChange (place : ClaimedLab) (es : List Experiment) (exp top map 
 change_says : (place : ClaimedLab) (es : List Experiment) (exp top map : List ℕ) (tags : List VlanId) (u : LabState) → Follows the_texts (state_of (Some place) es) (Begin exp (WayChange top map tags)) u
     → BegunChange place es exp top map tags
 change_says place es exp top map tags u f =
-    let lab : f.says.0 ≡ place.lab = sym (some_is place.lab f.says.0 f.says.3) in
+    let lab : f.says.0 ≡ place.lab = sym (same_Some place.lab f.says.0 f.says.3) in
     let w = f.says.1 in
     let m = f.says.2 in
     let t = turn_of (Some place.lab) es exp (BeginsChange exp w m tags) u (of_change exp w m tags) (sym (ap (λ x. moved (state_of (Some place) es) x) f.says.9) ∙ f.gives) in
-    let here : t.lab ≡ place.lab = sym (some_is place.lab t.lab t.is_lab) in
+    let here : t.lab ≡ place.lab = sym (same_Some place.lab t.lab t.is_lab) in
     let b = becomes_change t.lab es t.before t.now exp w m tags t.before.phase t.becomes in
     record {
       before = t.before;
@@ -170,7 +172,7 @@ begin_nothing place es exp (WayChange top map tags) none u f = let x = change_sa
 -- ---- the experiment that is found
 module _ (place : ClaimedLab) (es : List Experiment) (exp : List ℕ) (e : Experiment) (kept : IsKept (Some place) es) (found : find exp es ≡ Some e) where
   is_before : (x : Experiment) → find exp es ≡ Some x → x ≡ e
-  is_before x h = some_is x e (sym h ∙ found)
+  is_before x h = same_Some x e (sym h ∙ found)
 
   name_is : e.name ≡ exp
   name_is = (found_from exp es e found).name_is

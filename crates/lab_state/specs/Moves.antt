@@ -5,7 +5,8 @@ use Rattle.virt_topo.specs.declared.experiment.Experiment.{Experiment}
 use Rattle.virt_topo.specs.declared.experiment.Phase.{Phase}
 use Rattle.virt_topo.specs.declared.experiment.Phase.TheVariants.{Out, In, Moving}
 use Rattle.virt_topo.specs.declared.mapping.Mapped.{Mapped}
-use Rattle.records_model.specs.Labs.{mapped, in_phase}
+use Rattle.virt_topo.specs.Wirings.{mapped}
+use Rattle.records_model.specs.Labs.{in_phase}
 
 -- the mapping of an experiment that stands in the lab
 abbrev pub standing_in : Wiring → Phase → Option Mapped

@@ -7,10 +7,11 @@ use Rattle.virt_topo.specs.declared.mapping.Mapped.{Mapped}
 use Rattle.virt_topo.specs.declared.experiment.Experiment.{Experiment}
 use Rattle.virt_topo.specs.declared.experiment.Phase.{Phase}
 use Rattle.virt_topo.specs.declared.experiment.Phase.TheVariants.{Out, In, Moving}
+use Rattle.virt_topo.specs.Wirings.{mapped}
 use Rattle.journal_rec.specs.declared.record.Way.TheVariants.{In as WayIn, Out as WayOut, Change as WayChange}
 use Rattle.journal_rec.specs.declared.record.Record.{Record}
 use Rattle.journal_rec.specs.declared.record.Record.TheVariants.{Lab as LabRecord, Create, Begin, Commit}
-use Rattle.records_model.specs.Labs.{LabState, Texts, mapped}
+use Rattle.records_model.specs.Labs.{LabState, Texts}
 use Rattle.journal_packed.specs.Packing.{ArePacked}
 
 -- a new experiment with that wiring; its way into the lab, and to another mapping

@@ -2,12 +2,13 @@
 ghost use Rattle.std.specs.Prelude.{◌≡◌, ◌∷◌, [], List, Some, None, IfOk, OnOk};
 ghost use Rattle.lab_base.specs.Lists.{Has};
 ghost use Rattle.std.specs.List.{flat_map};
+ghost use Rattle.virt_topo.specs.Wirings.{mapped};
 ghost use Rattle.journal_packed.specs.Packing.{ArePacked};
 ghost use Rattle.journal_rec.specs.Payloads.{IsShort};
 ghost use Rattle.journal_rec.specs.declared.record.Record.{Record as AnyRecord};
 ghost use Rattle.lab_model.specs.Claims.{Which, claimed};
 ghost use Rattle.lab_model.specs.Holding.{Suits};
-ghost use Rattle.records_model.specs.Labs.{LabOf, mapped};
+ghost use Rattle.records_model.specs.Labs.{LabOf};
 ghost use Rattle.virt_topo.specs.Soundness.{IsSound};
 ghost use Rattle.virt_topo.specs.declared.experiment.Experiment.{Experiment as AnyExperiment};
 ghost use Rattle.virt_topo.specs.declared.experiment.Phase.TheVariants as phases;

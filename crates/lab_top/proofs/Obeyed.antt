@@ -3,10 +3,10 @@ use Rattle.std.proofs.Common.{◌≡◌, ◌↔◌, inl, inr, ℕ, ◌^◌, Bool
 use Rattle.std.specs.Prelude.{IfSome, IsErrOf, IsTrue, OnOk, OnErr, ◌≤◌, is_some, not}
 use Rattle.std.proofs.lemmas.List.{append-nil}
 use Rattle.lab_base.specs.Lists.{Has}
+use Rattle.lab_base.specs.Counts.{Rose}
 use Rattle.plant.specs.declared.drill.Drill.{Drill}
 use Rattle.plant.specs.declared.moment.Faults.{Faults}
 use Rattle.plant.specs.declared.step.Side.{Side}
-use Rattle.plant.specs.Calls.{Rose}
 use Rattle.plant.specs.Disks.{disk, ArePossible}
 use Rattle.plant.specs.Events.{Event, Restarted}
 use Rattle.plant.specs.Seen.{Seen}

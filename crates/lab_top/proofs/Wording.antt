@@ -1,8 +1,8 @@
 -- Runs by what words choose.
 use Rattle.std.proofs.Common.{◌≡◌, inl, inr, ℕ, Bool, false, List, [], ◌∷◌, Option, None, Some, refl, sym, subst, ◌∙◌, arith}
 use Rattle.std.specs.Prelude.{IfSome}
+use Rattle.lab_base.specs.Counts.{Rose}
 use Rattle.lab_io.proofs.Known.{append_known-nil}
-use Rattle.lab_io.specs.Causes.{Rose}
 use Rattle.plant.specs.Told.{Told}
 use Rattle.records_model.specs.Works.{IsSound}
 use Rattle.lab_state.specs.Texts.{the_texts}

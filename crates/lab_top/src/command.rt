@@ -1,5 +1,5 @@
 ghost use Rattle.std.specs.Prelude.{◌≡◌, ◌↔◌, ◌≤◌, ℕ, List, None, IfSome, IsErrOf, IsTrue, true, false, Err, OnOk, OnErr};
-ghost use Rattle.lab_io.specs.Causes.{Rose};
+ghost use Rattle.lab_base.specs.Counts.{Rose};
 ghost use Rattle.plant.specs.declared.moment.Faults.{Faults as AnyFaults};
 ghost use Rattle.plant.specs.declared.step.Side.{Side as AnySide};
 ghost use Rattle.script_text.specs.Blocks.{HasBlocks};

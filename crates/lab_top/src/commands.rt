@@ -1,5 +1,5 @@
 ghost use Rattle.std.specs.Prelude.{◌≡◌, ◌≤◌, List, Some};
-ghost use Rattle.lab_io.specs.Causes.{Rose};
+ghost use Rattle.lab_base.specs.Counts.{Rose};
 ghost use Rattle.lab_core.specs.Sessions.{terms_of};
 ghost use Rattle.lab_top.specs.Pieces.{Begun};
 ghost use Rattle.lab_top.specs.Ran.{Ran};

@@ -1,6 +1,6 @@
 // A generated run.
 ghost use Rattle.std.specs.Prelude.{◌≡◌, ◌≤◌, ℕ, List, Option, Some};
-ghost use Rattle.lab_io.specs.Causes.{Rose};
+ghost use Rattle.lab_base.specs.Counts.{Rose};
 ghost use Rattle.script_text.specs.declared.reply.Reply.{Reply as AnyReply};
 ghost use Rattle.lab_core.specs.Sessions.{terms_of};
 ghost use Rattle.lab_gen.specs.Summary.{IsTally, summary};

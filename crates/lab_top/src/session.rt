@@ -1,6 +1,6 @@
 // A session under its cost rule.
 ghost use Rattle.std.specs.Prelude.{◌≡◌, ◌≤◌, List, Some, None, is_some, true};
-ghost use Rattle.lab_io.specs.Causes.{Rose};
+ghost use Rattle.lab_base.specs.Counts.{Rose};
 ghost use Rattle.virt_topo.specs.Soundness.{IsSound};
 ghost use Rattle.lab_model.specs.Shapes.{IsShaped};
 ghost use Rattle.cost_rule.specs.Cost.{cost};

@@ -1,6 +1,6 @@
 // What takes the reply to each command.
 ghost use Rattle.std.specs.Prelude.{◌≡◌, ◌≤◌, ℕ, List, Option, IsErrOf, OnOk};
-ghost use Rattle.lab_io.specs.Causes.{Rose};
+ghost use Rattle.lab_base.specs.Counts.{Rose};
 ghost use Rattle.script_text.specs.Replies.{text_of};
 ghost use Rattle.script_text.specs.declared.reply.Reply.{Reply as AnyReply};
 ghost use Rattle.lab_top.specs.Answering.{Sent};

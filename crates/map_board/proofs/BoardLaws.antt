@@ -9,15 +9,14 @@ use Rattle.std.proofs.lemmas.Bool.Decides.{nat_tests}
 use Rattle.std.proofs.lemmas.List.{length-map, length-set, get_or-map}
 use Rattle.std.proofs.lemmas.List.Elements.{All-cons, All-take, All-drop, All-set, All-append}
 use Rattle.std.proofs.lemmas.List.Sums.{sum_by-cons}
+use Rattle.std.proofs.lemmas.Option.{same_Some}
 use Rattle.lab_base.specs.declared.ids.IfaceId.{IfaceId}
 use Rattle.phys_lab.specs.declared.free.Free.{Free}
 use Rattle.phys_lab.specs.Labs.{Lab}
 use Rattle.phys_lab.specs.Kept.{IsLab}
-use Rattle.lab_base.specs.Names.{is_name}
+use Rattle.lab_base.specs.Names.{is_name, same_name}
 use Rattle.phys_lab.specs.Faults.{is_type}
-use Rattle.phys_lab.specs.Keys.{same_name as lab_name}
 use Rattle.phys_lab.specs.Sides.{joined}
-use Rattle.virt_topo.specs.Repeats.{same_name}
 use Rattle.virt_topo.specs.Soundness.{IsSound}
 use Rattle.virt_topo.specs.Cables.{cables}
 use Rattle.virt_topo.specs.declared.wiring.Asks.{Asks}
@@ -26,9 +25,10 @@ use Rattle.virt_topo.specs.declared.wiring.Segment.{Segment}
 use Rattle.virt_topo.specs.declared.wiring.VirtNode.{VirtNode}
 use Rattle.virt_topo.specs.declared.wiring.Wiring.{Wiring}
 use Rattle.virt_topo.specs.declared.mapping.Mapping.{Mapping}
+use Rattle.virt_topo.specs.Wirings.{virt_at}
 use Rattle.lab_model.specs.Shapes.{Place, IsShaped, node_at, no_node, has_name}
 use Rattle.lab_model.specs.Uses.{switch_of, no_iface}
-use Rattle.lab_model.specs.Rules.{agree, guests, Guest, number_of, no_place, no_cable, cable_at, virt_at, is_of_one_type, first_type, keeps_f6, keeps_f7, keeps_f8}
+use Rattle.lab_model.specs.Rules.{agree, guests, Guest, number_of, no_place, no_cable, cable_at, is_of_one_type, first_type, keeps_f6, keeps_f7, keeps_f8}
 use Rattle.lab_model.specs.Feasible.{AllPass, violation}
 use Rattle.lab_model.proofs.CutLaws.{cut_is_use}
 use Rattle.lab_model.proofs.WiringLaws.{has_at}
@@ -57,7 +57,7 @@ use Rattle.map_board.proofs.GivenAnew.{count_given, given_anew, filter_placed}
 
 -- F2 where at most one virtual node is on a node
 abbrev has_codes : List ℕ → Bool
-has_codes name = lab_name name (codes "switch")
+has_codes name = same_name name (codes "switch")
 
 -- a type's count is 1 at least
 some_of : (a b c d : Bool) → a && ((b && c) && d) ≡ true → b ≡ true
@@ -164,9 +164,6 @@ pub record Fresh (lab : Lab) (free : Free) (w : Wiring) (m : Mapping) (a b : ℕ
   pub alike : AlikeBut a b m.places last
   pub given : plugs_of lab w m.places ≡ Some m.plugs
 
-pub some_is : (x y : List IfaceId) → ◌≡◌ {A = Option (List IfaceId)} (Some x) (Some y) → x ≡ y
-some_is x y e = cc e
-
 -- what is known of a mapping whose plugs the rule gave, whose nodes are all shared as they may be, and for whose segments there are VLAN ids
 pub record Shared (lab : Lab) (free : Free) (w : Wiring) (m : Mapping) : Type 0 where
   pub kept : IsLab lab
@@ -192,7 +189,7 @@ plainly_whole lab free w m x true f plain summed room =
     })
 plainly_whole lab free w m x false f plain summed room =
     no_map lab free w m.places (λ plugs all.
-    let same : plugs ≡ m.plugs = some_is plugs m.plugs (sym all.given ∙ f.given) in
+    let same : plugs ≡ m.plugs = same_Some plugs m.plugs (sym all.given ∙ f.given) in
     let fits : AllPass (length lab.trunks) (keeps_f6 lab free w m) = subst (λ (l : List IfaceId). AllPass (length lab.trunks) (keeps_f6 lab free w (record { places = m.places; plugs = l }))) same all.room in
     let both : false ≡ true = room.1 (λ t lt. let within : t < length lab.trunks = (let count = summed.one_each in omega (arith, lt, count)) in room_at lab free w m x t summed f.shaped within ∙ fits t within) in
     absurd (cc both))

@@ -1,9 +1,8 @@
 -- Steps of the loops.
-use Rattle.std.proofs.Common.{◌≡◌, ◌<◌, ◌+◌, ◌∙◌, ◌∷◌, ◌++◌, [], ℕ, zero, suc, List, length, map, drop, get_or, Bool, true, false, cond, Some, None, refl, ap, sym, arith, append_assoc}
+use Rattle.std.proofs.Common.{◌≡◌, ◌<◌, ◌+◌, ◌∙◌, ◌∷◌, ◌++◌, [], ℕ, zero, suc, List, length, map, drop, get_or, Bool, true, false, cond, Some, None, refl, ap, sym, append_assoc}
 use Rattle.std.specs.Option.{option_and_then}
 use Rattle.std.proofs.Math.ListN.{set}
-use Rattle.std.proofs.Math.Seq.{drop-cons}
-use Rattle.std.proofs.lemmas.List.{set-get_or}
+use Rattle.std.proofs.lemmas.List.{set-get_or, drop_more}
 use Rattle.lab_base.specs.declared.ids.IfaceId.{IfaceId}
 use Rattle.phys_lab.specs.Labs.{Lab}
 use Rattle.lab_model.specs.Shapes.{Place}
@@ -14,20 +13,17 @@ use Rattle.node_maps.specs.NodeMaps.{with_plug, plugs_from}
 use Rattle.map_board.specs.Nodes.{numbers_of, changes_of, no_row}
 use Rattle.map_board.specs.Unmade.{unmade}
 
-next_of : {X : Type 0} (xs : List X) (i : ℕ) (d : X) → i < length xs → drop i xs ≡ get_or xs i d ∷ drop (i + 1) xs
-next_of xs i d lt = let next : suc i ≡ i + 1 = omega arith in drop-cons xs i d lt ∙ ap (λ (j : ℕ). get_or xs i d ∷ drop j xs) next
-
 -- one end more that gets its plug, or gets none
 pub served_more : (lab : Lab) (places : List Place) (at : ℕ → End) (numbers : List ℕ) (k d : ℕ) (had more : List IfaceId) → k < length numbers → with_plug lab places (at (get_or numbers k d)) had ≡ Some more
     → plugs_from lab places (map at (drop k numbers)) had ≡ plugs_from lab places (map at (drop (k + 1) numbers)) more
 served_more lab places at numbers k d had more lt is =
-    ap (λ (l : List ℕ). plugs_from lab places (map at l) had) (next_of numbers k d lt)
+    ap (λ (l : List ℕ). plugs_from lab places (map at l) had) (drop_more numbers k d lt)
     ∙ ap (λ o. option_and_then (λ plugs. plugs_from lab places (map at (drop (k + 1) numbers)) plugs) o) is
 
 pub served_none : (lab : Lab) (places : List Place) (at : ℕ → End) (numbers : List ℕ) (k d : ℕ) (had : List IfaceId) → k < length numbers → with_plug lab places (at (get_or numbers k d)) had ≡ None
     → plugs_from lab places (map at (drop k numbers)) had ≡ None
 served_none lab places at numbers k d had lt is =
-    ap (λ (l : List ℕ). plugs_from lab places (map at l) had) (next_of numbers k d lt)
+    ap (λ (l : List ℕ). plugs_from lab places (map at l) had) (drop_more numbers k d lt)
     ∙ ap (λ o. option_and_then (λ plugs. plugs_from lab places (map at (drop (k + 1) numbers)) plugs) o) is
 
 -- one end more that is listed, or isn't
@@ -36,13 +32,13 @@ pub listed_more : (p : End → Bool) (es : List End) (k : ℕ) (e : End) (listed
 listed_more p es k e listed lt is passes =
     append_assoc listed (k ∷ []) (numbers_of (k + 1) p (drop (k + 1) es))
     ∙ ap (λ (b : Bool). listed ++ cond b (k ∷ numbers_of (k + 1) p (drop (k + 1) es)) (numbers_of (k + 1) p (drop (k + 1) es))) (sym passes)
-    ∙ ap (λ (l : List End). listed ++ numbers_of k p l) (sym (next_of es k e lt ∙ ap (λ (x : End). x ∷ drop (k + 1) es) (sym is)))
+    ∙ ap (λ (l : List End). listed ++ numbers_of k p l) (sym (drop_more es k e lt ∙ ap (λ (x : End). x ∷ drop (k + 1) es) (sym is)))
 
 pub listed_same : (p : End → Bool) (es : List End) (k : ℕ) (e : End) (listed : List ℕ) → k < length es → e ≡ get_or es k e → p e ≡ false
     → listed ++ numbers_of (k + 1) p (drop (k + 1) es) ≡ listed ++ numbers_of k p (drop k es)
 listed_same p es k e listed lt is fails =
     ap (λ (b : Bool). listed ++ cond b (k ∷ numbers_of (k + 1) p (drop (k + 1) es)) (numbers_of (k + 1) p (drop (k + 1) es))) (sym fails)
-    ∙ ap (λ (l : List End). listed ++ numbers_of k p l) (sym (next_of es k e lt ∙ ap (λ (x : End). x ∷ drop (k + 1) es) (sym is)))
+    ∙ ap (λ (l : List End). listed ++ numbers_of k p l) (sym (drop_more es k e lt ∙ ap (λ (x : End). x ∷ drop (k + 1) es) (sym is)))
 
 -- one change more
 pub noted_more : (rows : List EndRow) (listed : List ℕ) (plugs : List IfaceId) (k d : ℕ) (i : IfaceId) (changes : List Change) → k < length listed → k < length plugs
@@ -50,7 +46,7 @@ pub noted_more : (rows : List EndRow) (listed : List ℕ) (plugs : List IfaceId)
     ≡ changes ++ changes_of rows (drop k listed) (drop k plugs)
 noted_more rows listed plugs k d i changes lt few =
     append_assoc changes (record { end = get_or listed k d; row = get_or rows (get_or listed k d) no_row; to = get_or plugs k i } ∷ []) (changes_of rows (drop (k + 1) listed) (drop (k + 1) plugs))
-    ∙ (λ j. changes ++ changes_of rows (sym (next_of listed k d lt) j) (sym (next_of plugs k i few) j))
+    ∙ (λ j. changes ++ changes_of rows (sym (drop_more listed k d lt) j) (sym (drop_more plugs k i few) j))
 
 -- what takes a change back
 set_again : (plugs : List IfaceId) (k : ℕ) (a b : IfaceId) → set (set plugs k a) k b ≡ set plugs k b

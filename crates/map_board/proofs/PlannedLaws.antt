@@ -1,6 +1,7 @@
 -- The mapping that is planned.
 use Rattle.std.proofs.Common.{◌≡◌, ◌<◌, ◌∙◌, ◌∷◌, [], ℕ, suc, List, length, Some, All, sym, arith}
 use Rattle.std.proofs.Math.ListN.{set}
+use Rattle.std.proofs.lemmas.Option.{same_Some}
 use Rattle.lab_base.specs.declared.ids.IfaceId.{IfaceId}
 use Rattle.virt_topo.specs.declared.mapping.Mapping.{Mapping}
 use Rattle.lab_model.specs.Shapes.{Place, IsShaped}
@@ -15,7 +16,7 @@ use Rattle.map_board.specs.declared.table.Setting.{Setting}
 use Rattle.map_board.specs.Boards.{IsLaid, IsPlanned, Was}
 use Rattle.map_board.specs.Planned.{planned}
 use Rattle.map_board.specs.Tables.{IsSetting}
-use Rattle.map_board.proofs.BoardLaws.{planned_plugs, some_is}
+use Rattle.map_board.proofs.BoardLaws.{planned_plugs}
 
 remade_within : (n : ℕ) (plugs : List IfaceId) (cs : List Change) → All (λ (i : IfaceId). i.0 < n) plugs → All (λ (c : Change). c.to.0 < n) cs → All (λ (i : IfaceId). i.0 < n) (remade plugs cs)
 remade_within n plugs [] all to = all
@@ -39,6 +40,6 @@ pub planned_is : (x : Setting) (b : Board) (n k : ℕ) (last : List Place) (m : 
 planned_is x b n k last m is laid plan was found =
     let given = planned_plugs x b.mapping n k b.changes.items last is laid.shaped plan was in
     let its = mapped_is x.mapper.lab.now x.mapper.free.now x.mapper.wiring.now b.mapping.places m found in
-    let plugs : m.plugs ≡ remade b.mapping.plugs b.changes.items = some_is m.plugs (remade b.mapping.plugs b.changes.items) (sym its.given ∙ given) in
+    let plugs : m.plugs ≡ remade b.mapping.plugs b.changes.items = same_Some m.plugs (remade b.mapping.plugs b.changes.items) (sym its.given ∙ given) in
     let places = its.same_places in
     (λ j. record { places = places j; plugs = plugs j })

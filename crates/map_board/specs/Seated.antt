@@ -5,8 +5,8 @@ use Rattle.virt_topo.specs.declared.wiring.Asks.{Asks}
 use Rattle.virt_topo.specs.declared.wiring.Asks.TheVariants.{Plain, Class as InClass}
 use Rattle.virt_topo.specs.declared.wiring.Wiring.{Wiring}
 use Rattle.virt_topo.specs.declared.mapping.Mapping.{Mapping}
+use Rattle.virt_topo.specs.Wirings.{virt_at}
 use Rattle.lab_model.specs.Shapes.{Place}
-use Rattle.lab_model.specs.Rules.{virt_at}
 use Rattle.cost_rule.specs.Cost.{node_soft, class_soft, soft, nodes_in_use}
 use Rattle.map_board.specs.declared.seats.Seats.{Seats}
 

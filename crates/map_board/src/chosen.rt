@@ -1,6 +1,6 @@
 // Choices of candidates that change place by place.
 ghost use Rattle.std.specs.Prelude.{◌≡◌, ◌<◌, ◌==◌, ◌&&◌, ℕ, true, false, [], length, slice_index_or, slice_set, Contains, Some, None, if◌then◌else◌, IfOk, OnOk};
-ghost use Rattle.virt_topo.specs.Repeats.{same_name};
+ghost use Rattle.lab_base.specs.Names.{same_name};
 ghost use Rattle.lab_model.specs.Shapes.{IsShaped};
 ghost use Rattle.lab_model.specs.Rules.{no_place};
 ghost use Rattle.node_maps.specs.NodeMaps.{candidates, IsChoice, node_map};

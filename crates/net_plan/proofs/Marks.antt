@@ -11,7 +11,7 @@ use Rattle.std.proofs.lemmas.Bool.Decides.{nat_tests}
 use Rattle.std.proofs.lemmas.Fmt.{digits_value-decimal}
 use Rattle.std.proofs.lemmas.List.Folds.{list_all-append}
 use Rattle.lab_base.proofs.Digits.{own}
-use Rattle.virt_topo.specs.Repeats.{same_name}
+use Rattle.lab_base.specs.Names.{same_name}
 use Rattle.virt_topo.specs.Topos.{is_word_byte, IsAskedName}
 use Rattle.virt_topo.specs.Topos.IsAskedName.{plain, indexed, numbered_one}
 use Rattle.net_plan.proofs.NameLaws.{list_all-more}

@@ -8,10 +8,11 @@ use Rattle.std.proofs.lemmas.List.Sums.{sum_by-cons}
 use Rattle.lab_base.specs.Lists.{Has, AllDiffer}
 use Rattle.lab_base.specs.declared.rates.Rates.{Rates}
 use Rattle.lab_base.proofs.Members.{Has-map, Has-mapped}
+use Rattle.lab_base.specs.Names.{same_name}
 use Rattle.virt_topo.specs.declared.wiring.VirtEnd.{VirtEnd}
 use Rattle.virt_topo.specs.declared.topo.AskedLink.{AskedLink}
 use Rattle.virt_topo.specs.Ends.{end_nodes}
-use Rattle.virt_topo.specs.Repeats.{same_name, stands_again}
+use Rattle.virt_topo.specs.Repeats.{stands_again}
 use Rattle.virt_topo.specs.Soundness.{is_between, are_rates, keeps_limits}
 use Rattle.virt_topo.specs.Topos.{Topo, IsTopo, IsAskedName, most_ends}
 use Rattle.net_plan.specs.Parts.{IsExpandable, AreExpandable, is_shaped, delays, part, lan_segments, link_segments, segments_of}

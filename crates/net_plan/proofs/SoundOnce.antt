@@ -6,13 +6,14 @@ use Rattle.std.proofs.lemmas.Bool.{or_parts, eqb-false, ne_eqb}
 use Rattle.std.proofs.lemmas.Grind.{flat_map-append}
 use Rattle.std.proofs.lemmas.List.Elements.{filter_map-append}
 use Rattle.lab_base.specs.Lists.{Has, AllDiffer}
+use Rattle.lab_base.specs.Names.{same_name}
 use Rattle.virt_topo.specs.declared.fault.WiringFault.TheVariants as faults
 use Rattle.virt_topo.specs.declared.wiring.Asks.{Asks}
 use Rattle.virt_topo.specs.declared.wiring.Asks.TheVariants.{Plain, Class as InClass}
 use Rattle.virt_topo.specs.declared.wiring.Class.{Class}
 use Rattle.virt_topo.specs.declared.wiring.VirtEnd.{VirtEnd}
 use Rattle.virt_topo.specs.declared.topo.AskedLink.{AskedLink}
-use Rattle.virt_topo.specs.Repeats.{same_name, stands_again}
+use Rattle.virt_topo.specs.Repeats.{stands_again}
 use Rattle.virt_topo.specs.Soundness.{same_some, same_address, all_ends, asks_class_name, has_twice, IsSound}
 use Rattle.virt_topo.specs.Topos.{Topo, IsTopo, asks_type, is_type_name}
 use Rattle.net_plan.specs.Parts.{AreExpandable, is_shaped, delays, part, delay_end, member_segment, lan_segments, link_segments, segments_of}

@@ -5,6 +5,7 @@ use Rattle.std.specs.List.{list_all, list_any, flat_map, enumerate_from, range_w
 use Rattle.std.proofs.lemmas.Bool.{and_from, lt-ltb, eqb-true, ne_eqb}
 use Rattle.lab_base.specs.Lists.{Has, AllDiffer}
 use Rattle.lab_base.proofs.Members.{Has-map, Has-mapped, Has-append, Has-flat_map}
+use Rattle.lab_base.specs.Names.{same_name}
 use Rattle.virt_topo.specs.declared.wiring.Asks.{Asks}
 use Rattle.virt_topo.specs.declared.wiring.Asks.TheVariants.{Plain, Class as InClass}
 use Rattle.virt_topo.specs.declared.wiring.VirtNode.{VirtNode}
@@ -14,7 +15,7 @@ use Rattle.virt_topo.specs.declared.wiring.Pipe.{Pipe}
 use Rattle.virt_topo.specs.declared.topo.AskedNode.{AskedNode}
 use Rattle.virt_topo.specs.declared.topo.AskedLink.{AskedLink}
 use Rattle.virt_topo.specs.Ends.{end_nodes, end_owners, end_number, pipe_from, pipe_to}
-use Rattle.virt_topo.specs.Repeats.{same_name, stands_again}
+use Rattle.virt_topo.specs.Repeats.{stands_again}
 use Rattle.virt_topo.specs.Soundness.{knows_class, knows_node, is_end, knows_pipe, knows_all, has_same, owner_at, is_bad_pipe, shares_end, has_bad_pipe}
 use Rattle.virt_topo.specs.Topos.{Topo, knows_asked}
 use Rattle.net_plan.specs.Parts.{is_shaped, asked_node, delay_node, delay_nodes, member_node_name, delays, part, delay_end, member_segment, lan_segments, link_segments, segments_of, pipes_of}

@@ -1,10 +1,10 @@
 -- The places of a lab.
 use Rattle.std.proofs.Common.{◌≡◌, ◌≤◌, ◌<◌, ◌+◌, ◌∷◌, [], ◌++◌, ◌∙◌, ℕ, true, List, length, drop, get_or, map, All, ap, sym, suc, arith}
 use Rattle.std.proofs.lemmas.List.Elements.{All-append, All-map}
+use Rattle.lab_base.specs.Names.{same_name}
 use Rattle.phys_lab.specs.declared.parts.Node.{Node}
 use Rattle.phys_lab.specs.Labs.{Lab}
 use Rattle.phys_lab.proofs.KeptLaws.{same_name-self}
-use Rattle.virt_topo.specs.Repeats.{same_name}
 use Rattle.virt_topo.proofs.EndLaws.{item_at}
 use Rattle.lab_model.specs.Shapes.{Place, node_at, no_node, has_name}
 use Rattle.lab_model.proofs.SuitLaws.{any_has}

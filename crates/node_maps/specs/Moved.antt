@@ -5,8 +5,9 @@ use Rattle.phys_lab.specs.declared.free.Free.{Free}
 use Rattle.phys_lab.specs.Labs.{Lab}
 use Rattle.virt_topo.specs.declared.wiring.Wiring.{Wiring}
 use Rattle.virt_topo.specs.declared.mapping.Mapping.{Mapping}
+use Rattle.virt_topo.specs.Wirings.{virt_at}
 use Rattle.lab_model.specs.Shapes.{Place, node_at}
-use Rattle.lab_model.specs.Rules.{agree, guests, is_of_one_type, keeps_f6, keeps_f7, keeps_f8, no_place, virt_at}
+use Rattle.lab_model.specs.Rules.{agree, guests, is_of_one_type, keeps_f6, keeps_f7, keeps_f8, no_place}
 use Rattle.lab_model.specs.Feasible.{AllPass}
 use Rattle.node_maps.specs.NodeMaps.{plugs_of}
 

@@ -5,7 +5,7 @@ use Rattle.std.specs.List.{starts_with}
 use Rattle.std.proofs.lemmas.Bool.{ltb-true}
 use Rattle.lab_base.specs.Numbers.{number_of}
 use Rattle.lab_base.specs.declared.fault.Kind.{Kind}
-use Rattle.virt_topo.specs.Repeats.{same_name}
+use Rattle.lab_base.specs.Names.{same_name}
 use Rattle.ns_build.specs.Words.{place_below, place_in}
 use Rattle.ns_build.specs.Checks.{◌>>=◌, each, need, refuse}
 use Rattle.ns_build.proofs.Elements.{and_first}

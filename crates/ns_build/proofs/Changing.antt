@@ -2,6 +2,7 @@
 use Rattle.std.proofs.Common.{◌≡◌, ℕ, zero, suc, ◌+◌, ◌<◌, ◌≤◌, List, [], ◌∷◌, ◌++◌, length, map, take, drop, get_or, refl, sym, ap, subst, ◌∙◌, arith}
 use Rattle.std.proofs.lemmas.List.Edits.{map_over_more}
 use Rattle.std.proofs.Math.ListN.{set}
+use Rattle.std.proofs.lemmas.List.{get_or_default}
 use Rattle.ns_build.specs.declared.task.NodeChange.{NodeChange}
 use Rattle.ns_build.specs.declared.task.LinkChange.{LinkChange}
 use Rattle.virt_topo.specs.declared.topo.AskedNode.{AskedNode}
@@ -20,16 +21,10 @@ changed-none f k [] le = refl
 changed-none f zero (y ∷ ys) le = absurd (omega arith)
 changed-none f (suc k) (y ∷ ys) le = ap (λ (l : List _). y ∷ l) (changed-none f k ys (omega arith))
 
--- an element there is one, whatever stands for none
-pub any_default : {X : Type 0} (xs : List X) (i : ℕ) (d e : X) → i < length xs → get_or xs i d ≡ get_or xs i e
-any_default [] i d e lt = absurd (omega arith)
-any_default (x ∷ xs) zero d e lt = refl
-any_default (x ∷ xs) (suc i) d e lt = any_default xs i d e (omega arith)
-
 -- a loop that writes over each element, one element more
 pub map_over_at : {X : Type 0} (f : X → X) (xs ys : List X) (i : ℕ) (d : X) → i < length xs → i < length ys → ys ≡ map f (take i xs) ++ drop i xs
     → set ys i (f (get_or ys i d)) ≡ map f (take (i + 1) xs) ++ drop (i + 1) xs
-map_over_at f xs ys i d lt within was = map_over_more f xs ys i (get_or ys i d) lt was (any_default ys i d (get_or ys i d) within)
+map_over_at f xs ys i d lt within was = map_over_more f xs ys i (get_or ys i d) lt was (get_or_default ys i d (get_or ys i d) within)
 
 -- the network in which the node at a place is changed
 pub node_changed : (n m : Network) (change : NodeChange) (place at : ℕ) (x y : AskedNode) → n ≡ m → at ≡ place → at < length n.nodes → x ≡ get_or n.nodes at x → y ≡ node_with change x

@@ -4,8 +4,9 @@ use Rattle.std.specs.Prelude.{nat_lt, nat_le, not, codes, ◌||◌, ◌&&◌, �
 use Rattle.std.specs.List.{list_all}
 use Rattle.std.proofs.lemmas.Bool.{lt-ltb, le-leb}
 use Rattle.lab_base.specs.declared.fault.Kind.TheVariants as kinds
+use Rattle.lab_base.specs.Names.{same_name}
 use Rattle.virt_topo.specs.declared.wiring.VirtEnd.{VirtEnd}
-use Rattle.virt_topo.specs.Repeats.{same_name, stands_again}
+use Rattle.virt_topo.specs.Repeats.{stands_again}
 use Rattle.virt_topo.specs.Soundness.{is_between, is_address, is_speed, are_rates}
 use Rattle.virt_topo.specs.Topos.{most_ends}
 use Rattle.ns_build.specs.declared.keywords.Verb.{Verb}

@@ -4,7 +4,8 @@ use Rattle.std.specs.Prelude.{nat_lt, nat_le, not, ◌||◌}
 use Rattle.std.specs.List.{list_any}
 use Rattle.std.proofs.lemmas.Bool.{le-leb}
 use Rattle.lab_base.specs.declared.fault.Kind.TheVariants as kinds
-use Rattle.virt_topo.specs.Repeats.{same_name, stands_again}
+use Rattle.lab_base.specs.Names.{same_name}
+use Rattle.virt_topo.specs.Repeats.{stands_again}
 use Rattle.virt_topo.specs.Soundness.{is_between, is_address}
 use Rattle.ns_words.specs.Values.{loss_of}
 use Rattle.ns_words.specs.Addresses.{address_of}

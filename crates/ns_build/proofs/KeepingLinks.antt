@@ -5,10 +5,11 @@ use Rattle.std.specs.Prelude.{nat_lt, nat_le, codes, ◌||◌, ◌&&◌, ◌==�
 use Rattle.std.specs.List.{list_all, list_any}
 use Rattle.std.proofs.lemmas.Bool.{le-leb}
 use Rattle.lab_base.specs.declared.rates.Rates.{Rates}
+use Rattle.lab_base.specs.Names.{same_name}
 use Rattle.virt_topo.specs.declared.wiring.VirtEnd.{VirtEnd}
 use Rattle.virt_topo.specs.declared.topo.AskedNode.{AskedNode}
 use Rattle.virt_topo.specs.declared.topo.AskedLink.{AskedLink}
-use Rattle.virt_topo.specs.Repeats.{same_name, stands_again}
+use Rattle.virt_topo.specs.Repeats.{stands_again}
 use Rattle.virt_topo.specs.Soundness.{is_between, is_address, is_speed, are_rates}
 use Rattle.virt_topo.specs.Topos.{IsTopo, HasForm, IsAskedName, knows_asked, limits_link, most_ends}
 use Rattle.ns_words.specs.declared.names.Numbered.TheVariants as numbered

@@ -2,7 +2,8 @@
 use Rattle.std.proofs.Common.{◌≡◌, ℕ, zero, suc, Bool, true, false, List, [], ◌∷◌, ◌++◌, refl, sym, ap, subst, ◌∙◌}
 use Rattle.std.specs.Prelude.{◌||◌}
 use Rattle.std.specs.List.{list_any}
-use Rattle.virt_topo.specs.Repeats.{same_name, stands_again}
+use Rattle.lab_base.specs.Names.{same_name}
+use Rattle.virt_topo.specs.Repeats.{stands_again}
 use Rattle.ns_words.proofs.Lookups.{same_self, same_true}
 use Rattle.ns_build.specs.Networks.{changed_at}
 use Rattle.ns_build.proofs.Elements.{or_first, or_second, or_neither, none_push}

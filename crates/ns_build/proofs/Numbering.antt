@@ -6,7 +6,7 @@ use Rattle.std.specs.Str.Parse.{digits_value}
 use Rattle.std.proofs.lemmas.Fmt.{decimal_is_IsNumeral}
 use Rattle.std.proofs.lemmas.List.{append_cancel_left}
 use Rattle.std.proofs.lemmas.List.Folds.{list_any-append}
-use Rattle.virt_topo.specs.Repeats.{same_name}
+use Rattle.lab_base.specs.Names.{same_name}
 use Rattle.virt_topo.specs.Topos.{is_word_byte, IsWord, IsIndex}
 use Rattle.ns_words.specs.declared.names.Numbered.{Numbered}
 use Rattle.ns_words.specs.declared.names.Numbered.TheVariants.{Node, Link}

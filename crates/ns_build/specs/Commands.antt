@@ -2,8 +2,8 @@
 use Rattle.std.specs.Prelude.{ℕ, ◌==◌, nat_lt, nat_le, Bool, true, false, not, ◌||◌, List, [], ◌∷◌, ◌++◌, length, codes, Option, Some, None, Result, Ok, Err}
 use Rattle.lab_base.specs.declared.fault.Kind.{Kind}
 use Rattle.lab_base.specs.declared.fault.Kind.TheVariants as kinds
+use Rattle.lab_base.specs.Names.{same_name}
 use Rattle.virt_topo.specs.declared.wiring.VirtEnd.{VirtEnd}
-use Rattle.virt_topo.specs.Repeats.{same_name}
 use Rattle.ns_build.specs.declared.keywords.Verb.{Verb}
 use Rattle.ns_build.specs.declared.keywords.Verb.TheVariants as verbs
 use Rattle.ns_build.specs.declared.task.Task.{Task}

@@ -2,7 +2,7 @@
 use Rattle.std.specs.Prelude.{ℕ, ◌==◌, nat_le, Bool, ◌&&◌, List, length, codes, Result, Ok, Err, if◌then◌else◌}
 use Rattle.lab_base.specs.declared.fault.Kind.{Kind}
 use Rattle.lab_base.specs.declared.fault.Kind.TheVariants as kinds
-use Rattle.virt_topo.specs.Repeats.{same_name}
+use Rattle.lab_base.specs.Names.{same_name}
 use Rattle.ns_words.specs.Values.{time_of}
 use Rattle.ns_events.specs.declared.event.What.{What}
 use Rattle.ns_events.specs.declared.event.What.TheVariants as whats

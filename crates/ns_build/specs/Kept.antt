@@ -2,7 +2,7 @@
 use Rattle.std.specs.Prelude.{◌≡◌, ◌⊎◌, ℕ, ◌+◌, ◌<◌, ◌≤◌, ◌==◌, false, Bool, List, [], ◌∷◌, length, map, codes}
 use Rattle.std.specs.List.{list_any}
 use Rattle.lab_base.specs.Lists.{Has}
-use Rattle.virt_topo.specs.Repeats.{same_name}
+use Rattle.lab_base.specs.Names.{same_name}
 use Rattle.virt_topo.specs.Topos.{IsTopo}
 use Rattle.ns_words.specs.declared.names.Numbered.{Numbered}
 use Rattle.ns_words.specs.declared.names.Numbered.TheVariants as numbered

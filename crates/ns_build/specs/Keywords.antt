@@ -1,7 +1,7 @@
 -- The words that begin a command, and those behind the simulator's word.
 use Rattle.std.specs.Prelude.{ℕ, nat_eq, List, codes, Option, Some, None, if◌then◌else◌}
 use Rattle.std.specs.List.{starts_with}
-use Rattle.virt_topo.specs.Repeats.{same_name}
+use Rattle.lab_base.specs.Names.{same_name}
 use Rattle.ns_build.specs.declared.keywords.Keyword.{Keyword}
 use Rattle.ns_build.specs.declared.keywords.Keyword.TheVariants as keywords
 use Rattle.ns_build.specs.declared.keywords.Verb.{Verb}

@@ -3,13 +3,13 @@ use Rattle.std.specs.Prelude.{ℕ, ◌+◌, ◌==◌, Bool, false, ◌||◌, Lis
 use Rattle.std.proofs.Common.{zero, suc}
 use Rattle.std.specs.List.{list_any}
 use Rattle.lab_base.specs.declared.rates.Rates.{Rates}
+use Rattle.lab_base.specs.Names.{same_name}
 use Rattle.virt_topo.specs.declared.wiring.Asks.{Asks}
 use Rattle.virt_topo.specs.declared.wiring.Asks.TheVariants.{Plain, Class as InClass}
 use Rattle.virt_topo.specs.declared.wiring.Class.{Class}
 use Rattle.virt_topo.specs.declared.wiring.VirtEnd.{VirtEnd}
 use Rattle.virt_topo.specs.declared.topo.AskedNode.{AskedNode}
 use Rattle.virt_topo.specs.declared.topo.AskedLink.{AskedLink}
-use Rattle.virt_topo.specs.Repeats.{same_name}
 use Rattle.virt_topo.specs.Topos.{Topo, asks_type}
 use Rattle.ns_words.specs.declared.names.Numbered.TheVariants as numbered
 use Rattle.ns_words.specs.Objects.{numbered_name_of}

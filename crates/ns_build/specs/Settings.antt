@@ -3,7 +3,7 @@ use Rattle.std.specs.Prelude.{ℕ, nat_lt, nat_le, Bool, not, ◌||◌, List, []
 use Rattle.std.specs.List.{list_any}
 use Rattle.lab_base.specs.declared.fault.Kind.{Kind}
 use Rattle.lab_base.specs.declared.fault.Kind.TheVariants as kinds
-use Rattle.virt_topo.specs.Repeats.{same_name}
+use Rattle.lab_base.specs.Names.{same_name}
 use Rattle.ns_build.specs.declared.task.Task.{Task}
 use Rattle.ns_build.specs.declared.task.Task.TheVariants as tasks
 use Rattle.ns_build.specs.declared.task.NodeChange.TheVariants as nodes

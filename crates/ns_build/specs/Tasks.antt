@@ -3,7 +3,7 @@ use Rattle.std.specs.Prelude.{ℕ, Bool, true, false, ◌&&◌, List, [], ◌∷
 use Rattle.std.specs.List.{list_any}
 use Rattle.lab_base.specs.declared.fault.Kind.{Kind}
 use Rattle.lab_base.specs.declared.fault.Kind.TheVariants as kinds
-use Rattle.virt_topo.specs.Repeats.{same_name}
+use Rattle.lab_base.specs.Names.{same_name}
 use Rattle.ns_words.specs.declared.names.Numbered.TheVariants as numbered
 use Rattle.ns_words.specs.Objects.{numbered_name_of}
 use Rattle.ns_build.specs.declared.keywords.Keyword.{Keyword}

@@ -3,7 +3,7 @@ use Rattle.std.specs.Prelude.{ℕ, ◌==◌, nat_lt, nat_eq, Bool, true, false, 
 use Rattle.std.specs.List.{slice_split, starts_with}
 use Rattle.lab_base.specs.Numbers.{number_of}
 use Rattle.lab_base.specs.Texts.{is_filled}
-use Rattle.virt_topo.specs.Repeats.{same_name}
+use Rattle.lab_base.specs.Names.{same_name}
 use Rattle.ns_build.specs.Networks.{Network}
 
 -- THE WORDS OF OBJECTS begin with a colon, which no name has, and have no byte that parts the elements of a list

@@ -3,8 +3,8 @@
 ghost use Rattle.std.specs.Prelude.{◌≡◌, ◌||◌, [], length, nat_le, nat_lt};
 ghost use Rattle.std.specs.List.{list_any};
 ghost use Rattle.lab_base.specs.Texts.{views};
+ghost use Rattle.lab_base.specs.Names.{same_name};
 ghost use Rattle.virt_topo.specs.Topos as topos;
-ghost use Rattle.virt_topo.specs.Repeats.{same_name};
 ghost use Rattle.ns_build.specs.Networks as networks;
 ghost use Rattle.ns_build.specs.Checks.{each};
 ghost use Rattle.ns_build.specs.Settings as settings;

@@ -2,7 +2,7 @@
 
 ghost use Rattle.std.specs.Prelude.{◌≡◌, ◌<◌, ◌+◌, map};
 ghost use Rattle.std.specs.List.{list_any};
-ghost use Rattle.virt_topo.specs.Repeats.{same_name};
+ghost use Rattle.lab_base.specs.Names.{same_name};
 ghost use Rattle.ns_words.specs.Objects.{numbered_name_of};
 ghost use Rattle.ns_words.specs.declared.names.Numbered.TheVariants as numbered;
 ghost use Rattle.ns_build.specs.Tasks as judges;

@@ -1,7 +1,7 @@
 //! The network that a text has made so far.
 
 ghost use Rattle.std.specs.Prelude.{◌≡◌, ◌≤◌, ◌<◌, false, length, map, slice_index_or, position, IfSome};
-ghost use Rattle.virt_topo.specs.Repeats.{same_name};
+ghost use Rattle.lab_base.specs.Names.{same_name};
 ghost use Rattle.virt_topo.specs.Topos.{IsTopo};
 ghost use Rattle.ns_build.specs.Networks as networks;
 ghost use Rattle.ns_build.specs.Words as words;

@@ -4,7 +4,7 @@ ghost use Rattle.std.specs.Prelude.{◌≡◌, ◌<◌, ◌++◌, IfOk, IfSome, 
 ghost use Rattle.std.specs.List.{slice_split};
 ghost use Rattle.lab_base.specs.Texts.{views};
 ghost use Rattle.lab_base.specs.Numbers.{number_of};
-ghost use Rattle.virt_topo.specs.Repeats.{same_name};
+ghost use Rattle.lab_base.specs.Names.{same_name};
 ghost use Rattle.ns_build.specs.Words.{place_below, place_in, is_parting, elements_of};
 
 use lab_base::{Memory, Text, read_number};

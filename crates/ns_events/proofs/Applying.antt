@@ -1,10 +1,10 @@
 -- The wiring that an event leaves.
 use Rattle.std.proofs.Common.{◌≡◌, ℕ, true, List, length, map, refl, ap, sym, ◌∙◌}
 use Rattle.std.specs.List.{list_all}
+use Rattle.lab_base.specs.Names.{same_name}
 use Rattle.virt_topo.specs.declared.wiring.Pipe.{Pipe}
 use Rattle.virt_topo.specs.declared.wiring.Wiring.{Wiring}
 use Rattle.virt_topo.specs.Ends.{end_nodes, end_number}
-use Rattle.virt_topo.specs.Repeats.{same_name}
 use Rattle.virt_topo.specs.Soundness.{IsSound, limits_pipe, owner_at}
 use Rattle.ns_events.specs.declared.event.Event.{Event}
 use Rattle.ns_events.specs.Pipes.{is_of, own_pipes, ends_of, rates_of}

@@ -1,10 +1,10 @@
 -- The pipes of a link or LAN.
 use Rattle.std.specs.Prelude.{ℕ, Bool, not, ◌||◌, ◌==◌, List, filter, length}
 use Rattle.lab_base.specs.declared.rates.Rates.{Rates}
+use Rattle.lab_base.specs.Names.{same_name}
 use Rattle.virt_topo.specs.declared.wiring.Pipe.{Pipe}
 use Rattle.virt_topo.specs.declared.wiring.Wiring.{Wiring}
 use Rattle.virt_topo.specs.Ends.{pipe_from}
-use Rattle.virt_topo.specs.Repeats.{same_name}
 use Rattle.virt_topo.specs.Soundness.{owner_at}
 
 -- the link or LAN owns the segments that the pipe joins

@@ -4,7 +4,8 @@ use Rattle.std.specs.Prelude.{nat_eq}
 use Rattle.std.specs.List.{list_any}
 use Rattle.std.proofs.lemmas.Bool.{and_parts, and_from, or_parts, eq-eqb, eqb-true}
 use Rattle.lab_base.specs.Lists.{Has}
-use Rattle.virt_topo.specs.Repeats.{same_name, stands_again}
+use Rattle.lab_base.specs.Names.{same_name}
+use Rattle.virt_topo.specs.Repeats.{stands_again}
 use Rattle.ns_words.specs.Quantities.{Units}
 use Rattle.ns_words.specs.Values.{scale_of}
 

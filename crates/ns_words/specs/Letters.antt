@@ -1,6 +1,6 @@
 -- The units of bandwidth by their first byte.
 use Rattle.std.specs.Prelude.{ℕ, Bool, ◌||◌, ◌==◌, List, [], codes, Option, Some, None, if◌then◌else◌}
-use Rattle.virt_topo.specs.Repeats.{same_name}
+use Rattle.lab_base.specs.Names.{same_name}
 
 abbrev pub letter_scale : ℕ → Option ℕ
 letter_scale b =

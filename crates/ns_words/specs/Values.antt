@@ -3,7 +3,7 @@ use Rattle.std.specs.Prelude.{◌*◌, ◌/◌, ◌%◌, ◌^◌, ℕ, Bool, fal
 use Rattle.std.specs.Char.{is_ascii_digit}
 use Rattle.std.specs.List.{before_first, position_or_len}
 use Rattle.std.specs.Str.Parse.{digits_value}
-use Rattle.virt_topo.specs.Repeats.{same_name}
+use Rattle.lab_base.specs.Names.{same_name}
 use Rattle.virt_topo.specs.Soundness.{is_between}
 use Rattle.ns_words.specs.Quantities.{Units, rate_units, time_units, loss_units, second_units}
 

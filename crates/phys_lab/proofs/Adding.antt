@@ -7,7 +7,7 @@ use Rattle.std.proofs.lemmas.Bool.Decides.{nat_tests}
 use Rattle.std.proofs.lemmas.List.{append_assoc, map-append}
 use Rattle.std.proofs.lemmas.List.Sums.{sum_by-append, sum_by-cons}
 use Rattle.std.proofs.lemmas.Grind.{flat_map-append}
-use Rattle.lab_base.specs.Names.{is_name}
+use Rattle.lab_base.specs.Names.{is_name, same_name}
 use Rattle.lab_base.specs.Lists.{Has, AllDiffer}
 use Rattle.lab_base.proofs.Members.{Has-append}
 use Rattle.phys_lab.specs.declared.fault.LabFault.TheVariants as faults
@@ -15,7 +15,7 @@ use Rattle.phys_lab.specs.declared.parts.Node.{Node}
 use Rattle.phys_lab.specs.declared.parts.Iface.{Iface}
 use Rattle.phys_lab.specs.declared.parts.Trunk.{Trunk}
 use Rattle.phys_lab.specs.Labs.{Lab}
-use Rattle.phys_lab.specs.Keys.{same_name, same_iface, same_port, name_on_node, port_of, ports_of}
+use Rattle.phys_lab.specs.Keys.{same_iface, same_port, name_on_node, port_of, ports_of}
 use Rattle.phys_lab.specs.Faults.{range_fault, switch_fault, node_fault, iface_fault, trunk_fault, is_device, is_iface, is_trunk, ifaces_of, empty_lab, with_switch, with_node, with_iface, with_trunk}
 use Rattle.phys_lab.specs.Tables.{IsLinked}
 use Rattle.phys_lab.specs.Kept.{IsWhole, IsLab}

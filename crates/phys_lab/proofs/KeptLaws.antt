@@ -8,7 +8,8 @@ use Rattle.lab_base.specs.declared.ids.SwitchId.{SwitchId}
 use Rattle.lab_base.specs.declared.ids.NodeId.{NodeId}
 use Rattle.lab_base.specs.Lists.{Has, AllDiffer}
 use Rattle.lab_base.proofs.Members.{Has-append, Has-left, Has-right}
-use Rattle.phys_lab.specs.Keys.{same_name, same_iface, same_port}
+use Rattle.lab_base.specs.Names.{same_name}
+use Rattle.phys_lab.specs.Keys.{same_iface, same_port}
 
 -- DIFFERENT ELEMENTS
 

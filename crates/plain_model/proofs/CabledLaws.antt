@@ -5,6 +5,7 @@ use Rattle.std.proofs.Common.{◌≡◌, ◌⊎◌, inl, inr, ℕ, Bool, true, f
 use Rattle.std.proofs.lemmas.Bool.{cases_Bool, and_parts, and_from, or_cases, or_left, or_right, not_from_false, both_ways}
 use Rattle.std.proofs.lemmas.Slice.Eq.{bytes_eq-Decides}
 use Rattle.std.specs.Prelude.{slice_get}
+use Rattle.std.proofs.lemmas.Option.{same_Some}
 use Rattle.lab_base.specs.Lists.{Has}
 use Rattle.lab_base.specs.declared.ids.VlanId.{VlanId}
 use Rattle.lab_base.proofs.Members.{Has-map, Has-mapped}
@@ -37,7 +38,7 @@ use Rattle.plain_model.proofs.Neighbours.{any_some, all_from, row_is, row_same}
 use Rattle.plain_model.proofs.IsolationLaws.{wanted_owns, owns_wanted}
 use Rattle.plain_model.proofs.HoldsLaws.{places_from, claims_from, claims_test}
 use Rattle.plain_model.proofs.RowLaws.{row_told, pipe_told}
-use Rattle.plain_model.proofs.SeenLaws.{some_is, rows_there, rows_stand}
+use Rattle.plain_model.proofs.SeenLaws.{rows_there, rows_stand}
 use Rattle.plain_model.proofs.NodeLaws.{second, some_are, some_same, left_set, right_from, right_test, wiped_from, wiped_test}
 
 unless : (t b : Bool) → (t ≡ true → b ≡ true) → (not t || b) ≡ true
@@ -62,7 +63,7 @@ goes_or_not : (o : Option (List ℕ)) (name : List ℕ) → (o ≡ Some name) �
 goes_or_not None name = inr (λ e. cc e)
 goes_or_not (Some x) name = elim (cases_Bool (bytes_eq x name)) [
   | inl is ↦ inl (ap (λ n. Some n) ((bytes_eq-Decides x name).0 is))
-  | inr not_is ↦ inr (λ e. both_ways (bytes_eq x name) not_is ((bytes_eq-Decides x name).1 (some_is x name e)))
+  | inr not_is ↦ inr (λ e. both_ways (bytes_eq x name) not_is ((bytes_eq-Decides x name).1 (same_Some x name e)))
 ]
 
 -- some command went to the node, or it is as it was
@@ -147,7 +148,7 @@ module _ (commands : List Sent) (lab : Lab) where
     kept_from old (Some n) t m name is kept =
         let p = Has-map (λ (p : Place). node_name lab p.0) n.mapping.places name (kept_there lab old n name kept) in
         let one : is_kept_right commands lab old n name ≡ true = subst (λ x. is_kept_right commands lab old n x ≡ true) p.2 (all_has (λ (p : Place). is_kept_right commands lab old n (node_name lab p.0)) n.mapping.places p.0 t p.1) in
-        subst (λ x. SameNode (node_sent commands name) (node_row_of lab x name)) (some_is n m is) (right_from commands lab n name (second (is_kept lab old (Some n) name) _ kept one))
+        subst (λ x. SameNode (node_sent commands name) (node_row_of lab x name)) (same_Some n m is) (right_from commands lab n name (second (is_kept lab old (Some n) name) _ kept one))
 
     kept_test : (old new : Option Mapped) → claimed e New ≡ new
         → ((m : Mapped) (name : List ℕ) → Claims lab e name → new ≡ Some m → is_kept lab old new name ≡ true → SameNode (node_sent commands name) (node_row_of lab m name))
@@ -167,7 +168,7 @@ module _ (commands : List Sent) (lab : Lab) where
     allowed_from : (old new : Option Mapped) (op : DeviceOp) (name : List ℕ) (k : ℕ) (row : PipeRow) → is_set_allowed commands lab e old new op ≡ true → op_pipe op ≡ Some (name, k, row)
         → Claims lab e name → is_kept lab old new name ≡ false → pipe_left commands name k ≡ Some row → WantsPipe lab old name k row ⊎ WantsPipe lab new name k row
     allowed_from old new (Shape node number from to there back) name k row t is claims not_kept left =
-        let key = some_is (node, number, record { from = from; to = to; there = there; back = back }) (name, k, row) is in
+        let key = same_Some (node, number, record { from = from; to = to; there = there; back = back }) (name, k, row) is in
         let same : node ≡ name = ap (λ x. x.0) key in
         let count : number ≡ k = ap (λ x. x.1) key in
         let one = second (claims_it lab e node) _ (claims_test lab e node (subst (λ n. Claims lab e n) (sym same) claims)) t in

@@ -5,6 +5,7 @@ use Rattle.std.proofs.Common.{◌≡◌, inl, inr, ℕ, ◌≤◌, Bool, true, n
 use Rattle.std.proofs.lemmas.Bool.{and_parts, and_from, or_cases, or_right, not-true, both_ways, cases_order, eqb-true, eq-eqb}
 use Rattle.std.specs.Prelude.{slice_get}
 use Rattle.std.proofs.lemmas.Slice.Eq.{bytes_eq-Decides}
+use Rattle.std.proofs.lemmas.Option.{same_Some}
 use Rattle.lab_base.specs.Lists.{Has}
 use Rattle.lab_base.specs.declared.rates.Rates.{Rates}
 use Rattle.lab_base.specs.declared.boot.Boot.{Boot}
@@ -27,7 +28,7 @@ use Rattle.plain_model.proofs.Neighbours.{all_from}
 use Rattle.plain_model.proofs.HoldsLaws.{pass_from, pass_test}
 use Rattle.plain_model.proofs.KeptLaws.{past_end, few_left}
 use Rattle.plain_model.proofs.RowLaws.{os_told, boot_told, pipe_told}
-use Rattle.plain_model.proofs.SeenLaws.{some_is, pipes_came}
+use Rattle.plain_model.proofs.SeenLaws.{pipes_came}
 
 same_bytes : (a b : List ℕ) → bytes_eq a b ≡ true → a ≡ b
 same_bytes a b e = (bytes_eq-Decides a b).0 e
@@ -112,7 +113,7 @@ module _ (commands : List Sent) where
       → ((node : List ℕ) (number : ℕ) (from to : List ℕ) (there back : Rates) → test (Shape node number from to there back) ≡ true → bytes_eq name node ≡ true → right number ≡ true)
       → test op ≡ true → (k : ℕ) (row : PipeRow) → op_pipe op ≡ Some (name, k, row) → right k ≡ true
   set_at right name (Shape node number from to there back) test each t k row is =
-      let key = some_is (node, number, record { from = from; to = to; there = there; back = back }) (name, k, row) is in
+      let key = same_Some (node, number, record { from = from; to = to; there = there; back = back }) (name, k, row) is in
       subst (λ n. right n ≡ true) (ap (λ x. x.1) key) (each node number from to there back t (bytes_same name node (sym (ap (λ x. x.0) key))))
   set_at right name (Join switch port vlan) test each t k row is = absurd (cc is)
   set_at right name (Leave switch port vlan) test each t k row is = absurd (cc is)

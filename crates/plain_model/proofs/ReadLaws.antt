@@ -2,11 +2,11 @@
 use Rattle.std.proofs.Common.{◌≡◌, inl, inr, ℕ, suc, ◌+◌, ◌-◌, ◌<◌, ◌≤◌, List, [], ◌∷◌, ◌++◌, length, take, drop, get_or, Result, Ok, Err, IfOk, refl, sym, ap, ◌∙◌, subst, arith, sum_by, length-append}
 use Rattle.std.proofs.lemmas.List.Sums.{sum_by-append}
 use Rattle.std.proofs.lemmas.List.{take_all, length-drop, length-take, drop_at}
+use Rattle.plant.specs.Sides.{of_side}
 use Rattle.journal_rec.specs.declared.record.Record.{Record}
 use Rattle.journal_rec.specs.Payloads.{le, number, payload, Decodes}
-use Rattle.journal_model.specs.Journals.{block, size, Reads, Breaks, AreBytes}
+use Rattle.journal_model.specs.Journals.{block, size, Reads, Breaks, AreBytes, head, live, On}
 use Rattle.plant.specs.declared.step.Side.{Side}
-use Rattle.journal_model.specs.Journals.{head, live, On, of_side}
 use Rattle.journal_model.proofs.Syncs.{live_back, headed_long}
 use Rattle.journal_model.proofs.Totals.{one_block}
 use Rattle.plain_model.specs.declared.reading.Read.{Read}

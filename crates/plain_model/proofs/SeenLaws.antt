@@ -1,5 +1,6 @@
 -- The rows and the pipes that stand after commands.
 use Rattle.std.proofs.Common.{◌≡◌, ◌⊎◌, inl, inr, ℕ, Bool, true, false, if◌then◌else◌, Option, Some, None, List, [], ◌∷◌, fold, refl, sym, ap, ◌∙◌, subst}
+use Rattle.std.proofs.lemmas.Option.{same_Some}
 use Rattle.lab_base.specs.Lists.{Has}
 use Rattle.lab_base.proofs.Members.{Has-flat_map, Has-flat_mapped}
 use Rattle.plant.specs.declared.device.DeviceOp.{DeviceOp}
@@ -28,9 +29,6 @@ pipes_came (s ∷ xs) w name k row is = elim (pipes_came xs (sent_to w s) name k
   | inl here ↦ elim (pipe_came w s.op s.applied s.answer name k row here) [ inl was ↦ inl was | inr came ↦ inr (s, inl refl, came) ]
   | inr later ↦ inr (later.0, inr later.1, later.2)
 ]
-
-pub some_is : {X : Type 0} (x y : X) → Some x ≡ Some y → x ≡ y
-some_is x y e = cc
 
 module _ (commands : List Sent) where
   seen_row : (p : Row) → has_row commands p ≡ true → Has (row_seen commands p) p
@@ -71,7 +69,7 @@ module _ (commands : List Sent) where
   pipe_by : (op : DeviceOp) (name : List ℕ) (k : ℕ) (row : PipeRow) → op_pipe op ≡ Some (name, k, row) → (node_sent commands name).pipes k ≡ Some row
       → Has (pipes_by commands op) (record { node = name; from = row.from; to = row.to })
   pipe_by (Shape node number from to there back) name k row is at =
-      let key = some_is (node, number, record { from = from; to = to; there = there; back = back }) (name, k, row) is in
+      let key = same_Some (node, number, record { from = from; to = to; there = there; back = back }) (name, k, row) is in
       let same : node ≡ name = ap (λ x. x.0) key in
       let count : number ≡ k = ap (λ x. x.1) key in
       let left : fold (pipe_then name k) None commands ≡ Some row = sym (pipe_told name k commands) ∙ at in

@@ -2,7 +2,6 @@
 use Rattle.std.specs.Prelude.{ℕ, Bool, true, false, not, ◌&&◌, ◌||◌, ◌==◌, nat_lt, nat_le, List, [], ◌∷◌, length, Option, Some, None, is_none, sum_by}
 use Rattle.std.specs.List.{flat_map, list_any, list_all}
 use Rattle.lab_base.specs.declared.ids.IfaceId.{IfaceId}
-use Rattle.lab_base.specs.declared.ids.VlanId.{VlanId}
 use Rattle.phys_lab.specs.Labs.{Lab}
 use Rattle.phys_lab.specs.Sides.{trunk_at}
 use Rattle.virt_topo.specs.Ends.{end_nodes}
@@ -17,10 +16,6 @@ use Rattle.lab_model.specs.Feasible.{first_below}
 use Rattle.lab_model.specs.Beside.{all_differ}
 use Rattle.lab_model.specs.Wants.{node_name}
 use Rattle.lab_model.specs.Claims.{Old, New, claimed, claims_it, claimed_tags, claimed_use}
-
--- a wiring with its mapping and its VLAN ids
-abbrev pub mapped : Wiring → Mapping → List VlanId → Mapped
-mapped w m tags = record { wiring = w; mapping = m; tags = tags }
 
 -- all numbers below n pass the test
 abbrev pub all_pass : ℕ → (ℕ → Bool) → Bool

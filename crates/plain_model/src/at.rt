@@ -1,7 +1,7 @@
 // What numbers of a mapping name; what names nothing has nothing.
 ghost use Rattle.std.specs.Prelude.{◌≡◌};
 ghost use Rattle.std.specs.Str.{bytes_eq};
-ghost use Rattle.virt_topo.specs.Repeats.{same_name};
+ghost use Rattle.lab_base.specs.Names.{same_name};
 ghost use Rattle.lab_model.specs.Shapes.{node_at};
 ghost use Rattle.lab_model.specs.Uses.{iface_at};
 ghost use Rattle.lab_model.specs.Wants.{node_name};

@@ -2,13 +2,14 @@
 ghost use Rattle.std.specs.Prelude.{◌≡◌, ◌&&◌, [], true, Some, None, IfOk, IsTrue, ◌↔◌};
 ghost use Rattle.std.specs.List.{list_all};
 ghost use Rattle.virt_topo.specs.Soundness.{IsSound};
+ghost use Rattle.virt_topo.specs.Wirings.{mapped};
 ghost use Rattle.lab_model.specs.Shapes.{IsShaped};
 ghost use Rattle.lab_model.specs.Cabled.{Cabled};
 ghost use Rattle.lab_model.specs.Holding.{Suits};
 ghost use Rattle.lab_model.specs.Beside.{is_claimed};
 ghost use Rattle.lab_model.specs.Courses.{op_node};
 ghost use Rattle.lab_model.specs.Wants.{node_name};
-ghost use Rattle.plain_model.specs.Holds.{mapped, fits_in, fits, all_fit, all_pass};
+ghost use Rattle.plain_model.specs.Holds.{fits_in, fits, all_fit, all_pass};
 ghost use Rattle.plain_model.specs.Rows.{has_row, rows_of, world_sent};
 ghost use Rattle.plain_model.specs.Isolation.{wanted_in};
 ghost use Rattle.plain_model.specs.Cabling.{same_some, is_up, is_off, is_pipe_right, is_set_right, is_node_right, is_set_wiped, is_wiped, are_nodes_right, is_kept_right, are_kept_right, is_wanted_pipe, is_set_allowed, are_sets_allowed, is_free_wiped, is_cabled_by, is_cabled};

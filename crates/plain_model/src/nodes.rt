@@ -4,12 +4,13 @@ ghost use Rattle.std.specs.List.{list_all};
 ghost use Rattle.std.specs.Str.{bytes_eq};
 ghost use Rattle.virt_topo.specs.Ends.{end_nodes, end_number};
 ghost use Rattle.virt_topo.specs.Soundness.{IsSound, keeps_limits, knows_pipe, is_end};
+ghost use Rattle.virt_topo.specs.Wirings.{mapped};
 ghost use Rattle.lab_model.specs.Shapes.{IsShaped};
 ghost use Rattle.lab_model.specs.Uses.{iface_at};
 ghost use Rattle.lab_model.specs.Rules.{place_at, plug_at};
 ghost use Rattle.lab_model.specs.Wants.{node_name, os_on, pipe_row};
 ghost use Rattle.lab_model.specs.Kept.{same_rates, same_pipe, same_os, is_kept};
-ghost use Rattle.plain_model.specs.Holds.{mapped, fits_in, all_pass};
+ghost use Rattle.plain_model.specs.Holds.{fits_in, all_pass};
 ghost use Rattle.plain_model.specs.Cabling.{same_some, pipes_in, pipe_wanted, same_wanted, pipe_count, os_wanted, keeps};
 
 use crate::Pipe;

@@ -1,7 +1,7 @@
 // The rules on what is placed on nodes, each as its definition has it.
 ghost use Rattle.std.specs.Prelude.{◌≡◌, ◌<◌, ◌≤◌, ◌&&◌, nat_lt, length};
 ghost use Rattle.std.specs.List.{list_all, list_any};
-ghost use Rattle.virt_topo.specs.Repeats.{same_name};
+ghost use Rattle.lab_base.specs.Names.{same_name};
 ghost use Rattle.lab_model.specs.Shapes.{has_name};
 ghost use Rattle.lab_model.specs.Rules.{guests, number_of, agree, keeps_f2, class_at, is_asked, are_met, is_member, first_type, is_of_one_type, suits, keeps_f3, keeps_f4};
 

@@ -1,8 +1,9 @@
 // Whether a mapping suits a lab.
 ghost use Rattle.std.specs.Prelude.{◌≡◌, IsTrue, length};
 ghost use Rattle.std.specs.List.{list_all};
+ghost use Rattle.virt_topo.specs.Wirings.{mapped};
 ghost use Rattle.lab_model.specs.Shapes.{has_name};
-ghost use Rattle.plain_model.specs.Holds.{mapped, is_sound, is_place, is_plug, is_shaped, keeps_rules, suits, fits_in, fits, all_fit};
+ghost use Rattle.plain_model.specs.Holds.{is_sound, is_place, is_plug, is_shaped, keeps_rules, suits, fits_in, fits, all_fit};
 
 use crate::at::types_of;
 use crate::firsts::{first_f2, first_f3, first_f4, first_f5, first_f7};

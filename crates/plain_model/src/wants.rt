@@ -3,12 +3,13 @@ ghost use Rattle.std.specs.Prelude.{◌≡◌, ◌<◌, ◌≤◌, ◌&&◌, ◌
 ghost use Rattle.std.specs.List.{flat_map, list_all, enumerate_from};
 ghost use Rattle.phys_lab.specs.Sides.{on_first_side, trunk_at};
 ghost use Rattle.virt_topo.specs.Cables.{cables};
+ghost use Rattle.virt_topo.specs.Wirings.{mapped};
 ghost use Rattle.lab_model.specs.Uses.{switch_of, is_carried};
 ghost use Rattle.lab_model.specs.Wants.{switch_name, plug_row, trunk_rows, cable_rows, owned_rows, rows_of};
 ghost use Rattle.lab_model.specs.Claims.{Old, New};
 ghost use Rattle.lab_model.specs.Courses.{rows_from};
 ghost use Rattle.plain_model.specs.OwnerView.{half_of};
-ghost use Rattle.plain_model.specs.Holds.{mapped, is_plug, fits_in, fits, all_fit, suits};
+ghost use Rattle.plain_model.specs.Holds.{is_plug, fits_in, fits, all_fit, suits};
 ghost use Rattle.plain_model.specs.Isolation.{wanted_by, wanted_in};
 ghost use Rattle.plain_model.specs.WantedRows.{cable, with_owner, owned_as, trunk_rows_from};
 

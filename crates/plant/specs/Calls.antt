@@ -1,6 +1,7 @@
 -- What the calls of a plant do.
-use Rattle.std.specs.Prelude.{◌≡◌, ◌⊎◌, ℕ, ◌+◌, ◌-◌, ◌^◌, ◌≤◌, min, Bool, true, false, List, [], ◌∷◌, Result, Ok, Err, IsErrOf}
+use Rattle.std.specs.Prelude.{◌≡◌, ◌⊎◌, ℕ, ◌≤◌, Bool, true, false, List, [], ◌∷◌, Result, Ok, Err, IsErrOf}
 use Rattle.lab_base.specs.declared.boot.Boot.{Boot}
+use Rattle.lab_base.specs.Counts.{Rose}
 use Rattle.plant.specs.declared.device.DeviceOp.{DeviceOp}
 use Rattle.plant.specs.declared.device.DeviceOp.TheVariants.{Join, Leave, Shape, Load, Boot as BootIt, Poll, Wipe}
 use Rattle.plant.specs.declared.device.Answer.{Answer}
@@ -32,10 +33,6 @@ CommandSteps op true result steps = (result ≡ Err Stopped) × (steps ≡ [])
 CommandSteps op false (Ok answer) steps = Fits op answer × (steps ≡ Did op true (Ok answer) ∷ [])
 CommandSteps op false (Err Failed) steps = (applied : Bool) × (steps ≡ Did op applied (Err Failed) ∷ [])
 CommandSteps op false (Err Stopped) steps = (steps ≡ []) ⊎ ((applied : Bool) × (steps ≡ Did op applied (Err Stopped) ∷ []))
-
--- a count rose; at its last value it counts as risen
-abbrev pub Rose : ℕ → ℕ → Type 0
-Rose before now = min (before + 1) (2 ^ 64 - 1) ≤ now
 
 -- after a command: the disk's count stands, the devices' does not fall, and it rose where the command failed
 pub record DeviceCause (before now : Faults) (result : Result Answer Fault) : Type 0 where

@@ -1,10 +1,10 @@
 -- What the calls of the disk do.
 use Rattle.std.specs.Prelude.{◌≡◌, ◌⊎◌, ℕ, ◌≤◌, Bool, true, false, List, [], ◌∷◌, length, Result, Ok, Err, IsErrOf}
+use Rattle.lab_base.specs.Counts.{Rose}
 use Rattle.plant.specs.declared.device.Fault.{Fault}
 use Rattle.plant.specs.declared.device.Fault.TheVariants.{Failed, Stopped}
 use Rattle.plant.specs.declared.moment.Faults.{Faults}
 use Rattle.plant.specs.declared.step.Side.{Side}
-use Rattle.plant.specs.Calls.{Rose}
 use Rattle.plant.specs.Events.{Event, Wrote, Synced, Cut, Missed}
 
 -- a call that reads adds a step only where it failed

@@ -6,3 +6,4 @@ pub mod Events
 pub mod Seen
 pub mod Told
 pub mod Worlds
+pub mod Sides

@@ -2,15 +2,9 @@
 use Rattle.std.specs.Prelude.{◌≤◌, ℕ, ◌+◌, max, reverse, vec_len, vec_capacity}
 use Rattle.plant.specs.Disks.{Disk}
 use Rattle.plant_mem.specs.declared.face.Face.{Face}
-use Rattle.plant.specs.declared.step.Side.{Side}
-use Rattle.plant.specs.declared.step.Side.TheVariants.{A, B}
 
 abbrev pub disk_of : Face → Disk
 disk_of face = record { durable = face.durable.items; reads = face.reads.items; written = reverse face.written.items }
-
-abbrev pub of_side : {X : Type 0} → Side → X → X → X
-of_side A a b = a
-of_side B a b = b
 
 -- its room is as it was, but for one entry of the table of writes
 pub record KeepsRoom (old new : Face) : Type 0 where

@@ -1,12 +1,12 @@
 -- What a plant in memory shows.
 use Rattle.std.specs.Prelude.{ℕ, Bool, List, Some}
 use Rattle.lab_base.specs.declared.boot.Boot.{Boot}
+use Rattle.plant.specs.Sides.{of_side}
 use Rattle.plant_mem.specs.declared.face.Face.{Face}
 use Rattle.plant.specs.declared.step.Side.{Side}
 use Rattle.plant_mem.specs.declared.mem.MemLab.{MemLab}
 use Rattle.plant.specs.declared.moment.Faults.{Faults}
 use Rattle.plant_mem.specs.Boots.{state_in}
-use Rattle.plant_mem.specs.Faces.{of_side}
 use Rattle.plant_mem.specs.Steps.{trace_of}
 use Rattle.plant.specs.Seen.{Seen}
 use Rattle.plant.specs.Told.{Told}

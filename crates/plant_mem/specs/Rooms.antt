@@ -4,7 +4,7 @@ use Rattle.plant.specs.Disks.{Disk, disk}
 use Rattle.plant.specs.Events.{Event}
 use Rattle.plant.specs.declared.step.Side.{Side}
 use Rattle.plant.specs.declared.step.Side.TheVariants.{A, B}
-use Rattle.plant_mem.specs.Faces.{of_side}
+use Rattle.plant.specs.Sides.{of_side}
 use Rattle.plant_mem.specs.MemLab.{told_of}
 use Rattle.plant_mem.specs.declared.face.Face.{Face}
 use Rattle.plant_mem.specs.declared.mem.MemLab.{MemLab}

@@ -1,6 +1,7 @@
 ghost use Rattle.std.specs.Prelude.{◌≡◌, ◌<◌, ◌≤◌, ◌+◌, ◌++◌, [], ◌∷◌, ℕ, true, length, vec_len, vec_capacity};
 ghost use Rattle.plant.specs.Disks.{disk, wrote, synced, shortened, on_side, same_side};
-ghost use Rattle.plant_mem.specs.Faces.{disk_of, of_side, KeepsRoom, HasMore};
+ghost use Rattle.plant.specs.Sides.{of_side};
+ghost use Rattle.plant_mem.specs.Faces.{disk_of, KeepsRoom, HasMore};
 ghost use Rattle.plant_mem.specs.Knows.{Knows};
 ghost use Rattle.plant_mem.specs.Picks.{left_by};
 ghost use Rattle.plant_mem.specs.Steps.{trace_of, are_within};
@@ -96,7 +97,8 @@ impl Past {
     ghost use Rattle.plant_mem.specs.Boots.{state_in, state_after, state_sent, answer_of};
     ghost use Rattle.plant.specs.Events as events;
     ghost use Rattle.plant.specs.Disks.{disk};
-    ghost use Rattle.plant_mem.specs.Faces.{disk_of, of_side, KeepsRoom, HasMore};
+    ghost use Rattle.plant.specs.Sides.{of_side};
+    ghost use Rattle.plant_mem.specs.Faces.{disk_of, KeepsRoom, HasMore};
     ghost use Rattle.plant_mem.specs.Picks.{left_by};
     ghost use Rattle.plant_mem.specs.Steps.{trace_of};
     ghost use Rattle.plant.specs.declared.drill.Pick.{Pick};

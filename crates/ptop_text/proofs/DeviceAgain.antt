@@ -6,13 +6,12 @@ use Rattle.std.proofs.lemmas.Bool.{and_from, and_parts}
 use Rattle.std.proofs.lemmas.Bool.Decides.{nat_tests}
 use Rattle.std.proofs.lemmas.List.{append-nil, length-map}
 use Rattle.std.proofs.Math.Seq.{take-append_seam}
-use Rattle.lab_base.specs.Names.{is_name}
+use Rattle.lab_base.specs.Names.{is_name, same_name}
 use Rattle.lab_base.specs.Kinds.{both_of}
 use Rattle.lab_base.specs.Parts.{name_of, number_from, all_of}
 use Rattle.lab_base.specs.declared.fault.Kind.TheVariants as kinds
 use Rattle.phys_lab.specs.declared.parts.Node.{Node}
 use Rattle.phys_lab.specs.declared.fault.LabFault.TheVariants as faults
-use Rattle.phys_lab.specs.Keys.{same_name}
 use Rattle.phys_lab.specs.Faults.{range_fault, is_type, is_feature, is_between}
 use Rattle.phys_lab.specs.Kept.{IsWhole}
 use Rattle.ptop_text.specs.declared.device.Device.TheVariants as devices

@@ -4,13 +4,12 @@ use Rattle.std.specs.Prelude.{decimal, is_some, nat_le}
 use Rattle.std.specs.List.{list_all, position, prefix_len}
 use Rattle.std.proofs.lemmas.Bool.{and_from, and_parts}
 use Rattle.std.proofs.lemmas.List.{length-map}
-use Rattle.lab_base.specs.Names.{is_name}
+use Rattle.lab_base.specs.Names.{is_name, same_name}
 use Rattle.lab_base.specs.Kinds.{both_of}
 use Rattle.lab_base.specs.Lists.{Has, AllDiffer}
 use Rattle.lab_base.proofs.Members.{Has-map, Apart-left, Apart-right, Apart-across}
 use Rattle.phys_lab.specs.declared.parts.Node.{Node}
 use Rattle.phys_lab.specs.Labs.{Lab}
-use Rattle.phys_lab.specs.Keys.{same_name}
 use Rattle.phys_lab.specs.Faults.{is_port_number, is_speed}
 use Rattle.phys_lab.specs.Kept.{IsLab}
 use Rattle.phys_lab.proofs.KeptLaws.{same_name-self, same_name-true}

@@ -10,13 +10,14 @@ use Rattle.std.proofs.lemmas.Grind.{flat_map-append}
 use Rattle.lab_base.specs.Lists.{Has, AllDiffer}
 use Rattle.lab_base.specs.declared.ids.SwitchId.{SwitchId}
 use Rattle.lab_base.proofs.Members.{Has-right, Apart-left, Apart-right, Apart-across}
+use Rattle.lab_base.specs.Names.{same_name}
 use Rattle.phys_lab.specs.declared.fault.LabFault.{LabFault}
 use Rattle.phys_lab.specs.declared.fault.LabFault.TheVariants as faults
 use Rattle.phys_lab.specs.declared.parts.Node.{Node}
 use Rattle.phys_lab.specs.declared.parts.Iface.{Iface}
 use Rattle.phys_lab.specs.declared.parts.Trunk.{Trunk}
 use Rattle.phys_lab.specs.Labs.{Lab}
-use Rattle.phys_lab.specs.Keys.{same_name, same_iface, same_port, has_name, has_port, name_on_node, port_of, ports_of}
+use Rattle.phys_lab.specs.Keys.{same_iface, same_port, has_name, has_port, name_on_node, port_of, ports_of}
 use Rattle.phys_lab.specs.Faults.{switch_fault, node_fault, iface_fault, trunk_fault, ifaces_of}
 use Rattle.phys_lab.specs.Sides.{IsForest}
 use Rattle.phys_lab.specs.Forests.{IsWithin}

@@ -6,8 +6,8 @@ use Rattle.lab_base.specs.declared.fault.Kind.TheVariants as kinds
 use Rattle.lab_base.specs.declared.fault.TextFault.{TextFault}
 use Rattle.lab_base.specs.declared.ids.NodeId.{NodeId}
 use Rattle.lab_base.specs.declared.ids.SwitchId.{SwitchId}
+use Rattle.lab_base.specs.Names.{same_name}
 use Rattle.phys_lab.specs.Labs.{Lab}
-use Rattle.phys_lab.specs.Keys.{same_name}
 use Rattle.phys_lab.specs.Faults.{range_fault, switch_fault, node_fault, iface_fault, trunk_fault, empty_lab, with_switch, with_node, with_iface, with_trunk}
 use Rattle.phys_lab.specs.declared.fault.LabFault.{LabFault}
 use Rattle.phys_lab.specs.declared.fault.LabFault.TheVariants as faults

@@ -2,11 +2,11 @@
 use Rattle.std.specs.Prelude.{◌+◌, ℕ, Bool, true, false, ◌&&◌, nat_le, List, [], ◌∷◌, length, take, drop, position, codes, Option, Some, None, is_some, is_ok, Result, Ok, Err, if◌then◌else◌}
 use Rattle.lab_base.specs.Kinds.{both_of}
 use Rattle.lab_base.specs.Parts.{name_of, number_from, all_of}
+use Rattle.lab_base.specs.Names.{same_name}
 use Rattle.line_text.specs.Pairs.{has_byte, pair_at, numbered}
 use Rattle.lab_base.specs.declared.fault.Kind.{Kind}
 use Rattle.lab_base.specs.declared.fault.Kind.TheVariants as kinds
 use Rattle.phys_lab.specs.Labs.{Lab}
-use Rattle.phys_lab.specs.Keys.{same_name}
 use Rattle.ptop_text.specs.declared.link.FirstEnd.{FirstEnd}
 use Rattle.ptop_text.specs.declared.link.FirstEnd.TheVariants as ends
 use Rattle.ptop_text.specs.declared.device.Device.{Device}

@@ -3,12 +3,10 @@ use Rattle.std.specs.Str.{bytes_eq}
 use Rattle.std.proofs.Common.{◌≡◌, ◌≢◌, inl, inr, ℕ, true, false, Some, None, List, [], ◌∷◌, ◌++◌, map, sym, ap, ◌∙◌}
 use Rattle.std.proofs.lemmas.Bool.{cases_Bool, cond-true, cond-false}
 use Rattle.std.proofs.lemmas.Slice.Eq.{bytes_eq-Decides}
+use Rattle.std.proofs.lemmas.Option.{same_Some}
 use Rattle.lab_base.specs.Lists.{Has}
 use Rattle.virt_topo.specs.declared.experiment.Experiment.{Experiment}
 use Rattle.records_model.specs.Labs.{find, replace, others}
-
-pub some_is : {X : Type 0} (x y : X) → Some x ≡ Some y → x ≡ y
-some_is x y e = cc
 
 pub none_some : {X Y : Type 0} (x : X) → None ≡ Some x → Y
 none_some x e = absurd (cc e)
@@ -26,7 +24,7 @@ pub found_from : (name : List ℕ) (es : List Experiment) (e : Experiment) → f
 found_from name [] e h = none_some e h
 found_from name (x ∷ es) e h = elim (cases_Bool (bytes_eq x.name name)) [
   | inl yes' ↦
-      let same : x ≡ e = some_is x e (sym (cond-true (bytes_eq x.name name) (Some x) (find name es) yes') ∙ h) in
+      let same : x ≡ e = same_Some x e (sym (cond-true (bytes_eq x.name name) (Some x) (find name es) yes') ∙ h) in
       record {
         before = [];
         after = es;

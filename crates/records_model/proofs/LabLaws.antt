@@ -2,6 +2,7 @@
 use Rattle.std.proofs.Common.{◌≡◌, ◌≢◌, inl, inr, ℕ, zero, suc, ◌≤◌, Bool, true, false, ◌&&◌, if◌then◌else◌, is_none, nat_le, Option, Some, None, List, [], ◌∷◌, ◌++◌, map, length, refl, sym, ap, ◌∙◌, subst, arith, length-append}
 use Rattle.std.proofs.lemmas.Bool.{and_parts, leb-true}
 use Rattle.std.proofs.lemmas.List.{append-nil}
+use Rattle.std.proofs.lemmas.Option.{same_Some}
 use Rattle.lab_base.specs.Lists.{Has, AllDiffer}
 use Rattle.lab_base.proofs.Members.{Has-append, Has-map, Has-mapped, Has-right}
 use Rattle.lab_base.specs.Names.{is_name}
@@ -24,7 +25,7 @@ use Rattle.phys_lab.proofs.Adding.{empty_kept}
 use Rattle.lab_model.proofs.Records.{Has_mid, Has_other}
 use Rattle.lab_model.proofs.ListLaws.{holding_drop, holding_add, parts_drop, parts_add}
 use Rattle.records_model.specs.Labs.{LabState, at_first, StopsAt, Move, SetLab, Creates, Deletes, BeginsIn, BeginsOut, BeginsChange, Commits, Aborts, find, replace, others, becomes, is_out, with_replaced, moved_one, deleted, in_state, moved_of, moved, Texts, AreCanonical, Says, Follows, FoldsTo, LabOf, no_lab, Sane, IsRightFor, KeepsParts}
-use Rattle.records_model.proofs.Finding.{some_is, none_some, found_from, not_found, names_mid}
+use Rattle.records_model.proofs.Finding.{none_some, found_from, not_found, names_mid}
 use Rattle.records_model.proofs.Turning.{ShapedFor, ReadyOne, Turned, turned}
 
 -- what the texts of a record say of its values
@@ -40,14 +41,14 @@ says_shaped t s (LabRecord ptop) move h = subst (λ m. Shaped s m) (sym h.3) h.1
 says_shaped t s (Create exp top) move h = subst (λ m. Shaped s m) (sym h.3) h.1.sound
 says_shaped t s (Delete exp) move h = subst (λ m. Shaped s m) (sym h) tt
 says_shaped t s (Begin exp (WayIn map tags)) move h = subst (λ m. Shaped s m) (sym h.9) (λ lab e is_lab is_e.
-    let one : h.0 ≡ lab = some_is _ _ (sym h.3 ∙ is_lab) in
-    let two : h.1 ≡ e = some_is _ _ (sym h.4 ∙ is_e) in
+    let one : h.0 ≡ lab = same_Some _ _ (sym h.3 ∙ is_lab) in
+    let two : h.1 ≡ e = same_Some _ _ (sym h.4 ∙ is_e) in
     subst (λ l. IsShaped l e.wiring h.2) one (subst (λ x. IsShaped h.0 x.wiring h.2) two h.7))
 says_shaped t s (Begin exp WayOut) move h = subst (λ m. Shaped s m) (sym h) tt
 says_shaped t s (Begin exp (WayChange top map tags)) move h = subst (λ m. Shaped s m) (sym h.9) (
   h.5.sound,
   λ lab is_lab.
-      let one : h.0 ≡ lab = some_is _ _ (sym h.3 ∙ is_lab) in
+      let one : h.0 ≡ lab = same_Some _ _ (sym h.3 ∙ is_lab) in
       subst (λ l. IsShaped l h.1 h.2) one h.7,
 )
 says_shaped t s (Commit exp) move h = subst (λ m. Shaped s m) (sym h) tt
@@ -189,11 +190,11 @@ step_one lab es name e g move sane is h shaped ready =
 
 pub in_state-some : (lab : Lab) (o : Option (List Experiment)) (u : LabState) → in_state lab o ≡ Some u → (es : List Experiment) × (o ≡ Some es) × (state lab es ≡ u)
 in_state-some lab None u h = none_some u h
-in_state-some lab (Some es) u h = (es, refl, some_is (state lab es) u h)
+in_state-some lab (Some es) u h = (es, refl, same_Some (state lab es) u h)
 
 pub with_replaced-some : (name : List ℕ) (es : List Experiment) (o : Option Experiment) (xs : List Experiment) → with_replaced name es o ≡ Some xs → (g : Experiment) × (o ≡ Some g) × (replace name g es ≡ xs)
 with_replaced-some name es None xs h = none_some xs h
-with_replaced-some name es (Some g) xs h = (g, refl, some_is _ xs h)
+with_replaced-some name es (Some g) xs h = (g, refl, same_Some _ xs h)
 
 pub found_one : (lab : Lab) (es : List Experiment) (name : List ℕ) (move : Move) (o : Option Experiment) (xs : List Experiment) → moved_one lab es name o move ≡ Some xs → (e : Experiment) × (o ≡ Some e) × (with_replaced name es (becomes lab es e e.phase move) ≡ Some xs)
 found_one lab es name move None xs h = none_some xs h
@@ -209,7 +210,7 @@ one lab es name move u sane h shaped ready =
     (step_one lab es name e.0 g.0 move sane e.1 g.1 (shaped e.0 e.1) (ready e.0 e.1))
 
 if_list : (t : Bool) (xs ys : List Experiment) → ◌≡◌ {A = Option (List Experiment)} (if t then Some xs else None) (Some ys) → (t ≡ true) × (xs ≡ ys)
-if_list true xs ys h = (refl, some_is xs ys h)
+if_list true xs ys h = (refl, same_Some xs ys h)
 if_list false xs ys h = none_some ys h
 
 none_is : {X : Type 0} (o : Option X) → is_none o ≡ true → o ≡ None
@@ -227,7 +228,7 @@ deleted-some name es (Some e) xs h = let r = if_list (is_out e.phase) (others na
 
 -- EACH MOVE
 steps : (o : Option Lab) (es : List Experiment) (move : Move) (u : LabState) → Sane (record { lab = o; experiments = es }) → Shaped (record { lab = o; experiments = es }) move → moved_of o es move ≡ Some u → Stepped (record { lab = o; experiments = es }) move u
-steps None es (SetLab lab) u sane shaped h = subst (λ x. Stepped (record { lab = None; experiments = es }) (SetLab lab) x) (some_is _ u h) (step_lab es lab sane shaped)
+steps None es (SetLab lab) u sane shaped h = subst (λ x. Stepped (record { lab = None; experiments = es }) (SetLab lab) x) (same_Some _ u h) (step_lab es lab sane shaped)
 steps None es move u sane shaped h = none_some u h
 steps (Some lab) es (SetLab l) u sane shaped h = none_some u h
 steps (Some lab) es (Creates name w) u sane shaped h =
@@ -302,14 +303,14 @@ says_once t s (LabRecord ptop) m n can p q = p.3 ∙ ap (λ l. SetLab l) (can.pt
 says_once t s (Create exp top) m n can p q = p.3 ∙ ap (λ w. Creates exp w) (can.tops p.0 q.0 p.1 q.1 (sym p.2 ∙ q.2)) ∙ sym q.3
 says_once t s (Delete exp) m n can p q = p ∙ sym q
 says_once t s (Begin exp (WayIn map tags)) m n can p q =
-    let lab : p.0 ≡ q.0 = some_is _ _ (sym p.3 ∙ q.3) in
-    let e : p.1 ≡ q.1 = some_is _ _ (sym p.4 ∙ q.4) in
+    let lab : p.0 ≡ q.0 = same_Some _ _ (sym p.3 ∙ q.3) in
+    let e : p.1 ≡ q.1 = same_Some _ _ (sym p.4 ∙ q.4) in
     let shaped : IsShaped q.0 q.1.wiring p.2 = subst (λ l. IsShaped l q.1.wiring p.2) lab (subst (λ x. IsShaped p.0 x.wiring p.2) e p.7) in
     let text : map ≡ t.solution q.0 q.1.wiring p.2 = p.8 ∙ (λ i. t.solution (lab i) (e i).wiring p.2) in
     p.9 ∙ ap (λ x. BeginsIn exp x tags) (can.solutions q.0 q.1.wiring p.2 q.2 q.5 q.6 shaped q.7 (sym text ∙ q.8)) ∙ sym q.9
 says_once t s (Begin exp WayOut) m n can p q = p ∙ sym q
 says_once t s (Begin exp (WayChange top map tags)) m n can p q =
-    let lab : p.0 ≡ q.0 = some_is _ _ (sym p.3 ∙ q.3) in
+    let lab : p.0 ≡ q.0 = same_Some _ _ (sym p.3 ∙ q.3) in
     let w : p.1 ≡ q.1 = can.tops p.1 q.1 p.5 q.5 (sym p.6 ∙ q.6) in
     let shaped : IsShaped q.0 q.1 p.2 = subst (λ l. IsShaped l q.1 p.2) lab (subst (λ x. IsShaped p.0 x p.2) w p.7) in
     let text : map ≡ t.solution q.0 q.1 p.2 = p.8 ∙ (λ i. t.solution (lab i) (w i) p.2) in
@@ -318,7 +319,7 @@ says_once t s (Commit exp) m n can p q = p ∙ sym q
 says_once t s (Abort exp) m n can p q = p ∙ sym q
 
 pub follows_once : (t : Texts) (s : LabState) (r : Record) (u v : LabState) → AreCanonical t → Follows t s r u → Follows t s r v → u ≡ v
-follows_once t s r u v can f g = some_is u v (sym f.gives ∙ ap (λ m. moved s m) (says_once t s r f.move g.move can f.says g.says) ∙ g.gives)
+follows_once t s r u v can f g = same_Some u v (sym f.gives ∙ ap (λ m. moved s m) (says_once t s r f.move g.move can f.says g.says) ∙ g.gives)
 
 pub folds_once : (t : Texts) (s : LabState) (rs : List Record) (u v : LabState) → AreCanonical t → FoldsTo t s rs u → FoldsTo t s rs v → u ≡ v
 folds_once t s [] u v can h g = sym h ∙ g

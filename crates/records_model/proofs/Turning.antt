@@ -1,6 +1,7 @@
 -- What one experiment's move keeps.
 use Rattle.std.proofs.Common.{◌≡◌, ◌≢◌, inl, ℕ, Bool, true, false, if◌then◌else◌, is_none, Option, Some, None, List, ◌∷◌, ◌++◌, refl, sym, ap, subst}
 use Rattle.std.proofs.lemmas.Bool.{and_parts}
+use Rattle.std.proofs.lemmas.Option.{same_Some}
 use Rattle.lab_base.specs.Lists.{Has}
 use Rattle.lab_base.proofs.Members.{Has-right}
 use Rattle.lab_base.specs.declared.ids.VlanId.{VlanId}
@@ -12,6 +13,7 @@ use Rattle.virt_topo.specs.declared.experiment.Experiment.{Experiment}
 use Rattle.virt_topo.specs.declared.experiment.Phase.{Phase}
 use Rattle.virt_topo.specs.declared.experiment.Phase.TheVariants.{Out, In, Moving}
 use Rattle.virt_topo.specs.Soundness.{IsSound}
+use Rattle.virt_topo.specs.Wirings.{mapped}
 use Rattle.plant.specs.Worlds.{World}
 use Rattle.lab_model.specs.Claims.{Which, Old, New, claimed, claimed_in, tags_of}
 use Rattle.lab_model.specs.Holding.{Holding, Suits}
@@ -23,8 +25,8 @@ use Rattle.lab_model.proofs.FeasibleLaws.{TakesOne, takes_nothing, takes_claimed
 use Rattle.lab_model.proofs.HoldingLaws.{holding_replaced}
 use Rattle.lab_model.proofs.Begins.{begin_in, begin_from}
 use Rattle.lab_model.proofs.Ending.{ended_in, ended_out}
-use Rattle.records_model.specs.Labs.{Move, BeginsIn, BeginsOut, BeginsChange, Commits, Aborts, others, inside, in_phase, mapped, can_take, becomes, EndsMove}
-use Rattle.records_model.proofs.Finding.{some_is, none_some}
+use Rattle.records_model.specs.Labs.{Move, BeginsIn, BeginsOut, BeginsChange, Commits, Aborts, others, inside, in_phase, can_take, becomes, EndsMove}
+use Rattle.records_model.proofs.Finding.{none_some}
 
 -- what the texts of a move say of its values
 abbrev pub ShapedFor : Lab → Experiment → Move → Type 0
@@ -134,7 +136,7 @@ module _ (lab : Lab) (a b : List Experiment) (e : Experiment) (is_lab : IsLab la
   ready_abort w name p is ready = subst (λ q. EndsMove lab w e q false) is ready
 
   if_some : (t : Bool) (f g : Experiment) → ◌≡◌ {A = Option Experiment} (if t then Some f else None) (Some g) → (t ≡ true) × (f ≡ g)
-  if_some true f g h = (refl, some_is f g h)
+  if_some true f g h = (refl, same_Some f g h)
   if_some false f g h = none_some g h
 
   -- EACH MOVE THAT CAN FOLLOW
@@ -146,7 +148,7 @@ module _ (lab : Lab) (a b : List Experiment) (e : Experiment) (is_lab : IsLab la
       let ok : violation_beside lab (a ++ b) e m.wiring m.mapping ≡ None = none_true _ (subst (λ l. is_none (violation_beside lab l e m.wiring m.mapping) ≡ true) rest tests.0) in
       let free : are_free_tags lab (a ++ e ∷ b) m.wiring m.tags ≡ true = subst (λ l. are_free_tags lab l m.wiring m.tags ≡ true) whole tests.1 in
       subst (λ x. Turned lab a b e x (BeginsIn name mapping tags)) both.1 (turn_in name m refl is ok free shaped)
-  turned es f (In mapping tags) (BeginsOut name) whole rest is h shaped = subst (λ x. Turned lab a b e x (BeginsOut name)) (some_is _ f h) (turn_out name mapping tags is)
+  turned es f (In mapping tags) (BeginsOut name) whole rest is h shaped = subst (λ x. Turned lab a b e x (BeginsOut name)) (same_Some _ f h) (turn_out name mapping tags is)
   turned es f (In mapping tags) (BeginsChange name wiring new new_tags) whole rest is h shaped =
       let n = mapped wiring new new_tags in
       let both = if_some (can_take lab es e n) (in_phase e (Moving (Some (mapped e.wiring mapping tags)) (Some n))) f h in
@@ -155,13 +157,13 @@ module _ (lab : Lab) (a b : List Experiment) (e : Experiment) (is_lab : IsLab la
       let free : are_free_tags lab (a ++ e ∷ b) n.wiring n.tags ≡ true = subst (λ l. are_free_tags lab l n.wiring n.tags ≡ true) whole tests.1 in
       subst (λ x. Turned lab a b e x (BeginsChange name wiring new new_tags)) both.1 (turn_change name mapping tags n is ok free shaped.0 shaped.1)
   turned es f (Moving None (Some new)) (Commits name) whole rest is h shaped =
-      subst (λ x. Turned lab a b e x (Commits name)) (some_is _ f h) (turn_inside New new (Commits name) (ap (λ q. claimed_in e.wiring q New) is) (λ w ready. ready_commit w name _ is ready))
+      subst (λ x. Turned lab a b e x (Commits name)) (same_Some _ f h) (turn_inside New new (Commits name) (ap (λ q. claimed_in e.wiring q New) is) (λ w ready. ready_commit w name _ is ready))
   turned es f (Moving (Some old) (Some new)) (Commits name) whole rest is h shaped =
-      subst (λ x. Turned lab a b e x (Commits name)) (some_is _ f h) (turn_inside New new (Commits name) (ap (λ q. claimed_in e.wiring q New) is) (λ w ready. ready_commit w name _ is ready))
+      subst (λ x. Turned lab a b e x (Commits name)) (same_Some _ f h) (turn_inside New new (Commits name) (ap (λ q. claimed_in e.wiring q New) is) (λ w ready. ready_commit w name _ is ready))
   turned es f (Moving (Some old) None) (Commits name) whole rest is h shaped =
-      subst (λ x. Turned lab a b e x (Commits name)) (some_is _ f h) (turn_outside (Commits name) (λ w ready. ready_commit w name _ is ready))
+      subst (λ x. Turned lab a b e x (Commits name)) (same_Some _ f h) (turn_outside (Commits name) (λ w ready. ready_commit w name _ is ready))
   turned es f (Moving None (Some new)) (Aborts name) whole rest is h shaped =
-      subst (λ x. Turned lab a b e x (Aborts name)) (some_is _ f h) (turn_outside (Aborts name) (λ w ready. ready_abort w name _ is ready))
+      subst (λ x. Turned lab a b e x (Aborts name)) (same_Some _ f h) (turn_outside (Aborts name) (λ w ready. ready_abort w name _ is ready))
   turned es f (Moving (Some old) (Some new)) (Aborts name) whole rest is h shaped =
-      subst (λ x. Turned lab a b e x (Aborts name)) (some_is _ f h) (turn_inside Old old (Aborts name) (ap (λ q. claimed_in e.wiring q Old) is) (λ w ready. ready_abort w name _ is ready))
+      subst (λ x. Turned lab a b e x (Aborts name)) (same_Some _ f h) (turn_inside Old old (Aborts name) (ap (λ q. claimed_in e.wiring q Old) is) (λ w ready. ready_abort w name _ is ready))
   turned es f p move whole rest is h shaped = none_some f h

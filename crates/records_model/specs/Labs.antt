@@ -14,6 +14,7 @@ use Rattle.virt_topo.specs.declared.experiment.Experiment.{Experiment}
 use Rattle.virt_topo.specs.declared.experiment.Phase.{Phase}
 use Rattle.virt_topo.specs.declared.experiment.Phase.TheVariants.{Out, In, Moving}
 use Rattle.virt_topo.specs.Soundness.{IsSound}
+use Rattle.virt_topo.specs.Wirings.{mapped}
 use Rattle.plant.specs.Worlds.{World}
 use Rattle.journal_rec.specs.declared.record.Way.{Way}
 use Rattle.journal_rec.specs.declared.record.Way.TheVariants.{In as WayIn, Out as WayOut, Change as WayChange}
@@ -64,9 +65,6 @@ inside e m = record { name = e.name; wiring = m.wiring; phase = In m.mapping m.t
 
 abbrev pub in_phase : Experiment → Phase → Experiment
 in_phase e phase = record { name = e.name; wiring = e.wiring; phase = phase }
-
-abbrev pub mapped : Wiring → Mapping → List VlanId → Mapped
-mapped wiring mapping tags = record { wiring = wiring; mapping = mapping; tags = tags }
 
 -- feasible on what the others leave, and the tags are free
 abbrev pub can_take : Lab → List Experiment → Experiment → Mapped → Bool

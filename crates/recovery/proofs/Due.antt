@@ -6,7 +6,7 @@ use Rattle.std.proofs.lemmas.Slice.Eq.{bytes_eq-Decides}
 use Rattle.std.proofs.lemmas.List.{take_more, append-nil}
 use Rattle.std.proofs.lemmas.List.Sums.{sum_by-append}
 use Rattle.std.proofs.lemmas.Grind.{flat_map-append}
-use Rattle.std.proofs.lemmas.Option.{slice_get_within, get_or_from_slice_get}
+use Rattle.std.proofs.lemmas.Option.{slice_get_within, get_or_from_slice_get, same_Some}
 use Rattle.lab_base.specs.Lists.{Has, AllDiffer, listed}
 use Rattle.lab_base.proofs.Members.{Has-mapped}
 use Rattle.lab_model.proofs.OneSided.{Has-slice_get}
@@ -16,7 +16,7 @@ use Rattle.virt_topo.specs.declared.experiment.Experiment.{Experiment}
 use Rattle.virt_topo.specs.declared.experiment.Phase.{Phase}
 use Rattle.virt_topo.specs.declared.experiment.Phase.TheVariants.{Out, In, Moving}
 use Rattle.records_model.specs.Labs.{LabState, Move, find, replace, becomes, moved, moved_of, moved_in, in_state, inside, in_phase}
-use Rattle.records_model.proofs.Finding.{some_is, none_some}
+use Rattle.records_model.proofs.Finding.{none_some}
 use Rattle.records_model.proofs.LabLaws.{found_one, with_replaced-some}
 use Rattle.swap_turns.specs.Swaps.{Swap}
 use Rattle.swap_turns.specs.Legs.{last_move_by}
@@ -26,7 +26,7 @@ use Rattle.recovery.specs.Due.{is_busy, swap_if, due, due_in, name_of, swaps_of}
 if_moves : (name : List ℕ) (phase : Phase) (p : Swap) → swap_if name phase ≡ Some p → (p.name ≡ name) × (phase ≡ Moving p.old p.new)
 if_moves name Out p h = none_some p h
 if_moves name (In mapping tags) p h = none_some p h
-if_moves name (Moving old new) p h = let is = some_is (record { name = name; old = old; new = new }) p h in (ap (λ q. q.name) (sym is), λ i. Moving ((is i).old) ((is i).new))
+if_moves name (Moving old new) p h = let is = same_Some (record { name = name; old = old; new = new }) p h in (ap (λ q. q.name) (sym is), λ i. Moving ((is i).old) ((is i).new))
 
 due_if : (b : Bool) (name : List ℕ) (phase : Phase) (p : Swap) → cond b None (swap_if name phase) ≡ Some p → (b ≡ false) × (p.name ≡ name) × (phase ≡ Moving p.old p.new)
 due_if true name phase p h = none_some p h
@@ -37,7 +37,7 @@ due_is busy e p h = due_if (is_busy busy e.name) e.name e.phase p h
 
 named_some : (o : Option Swap) (name : List ℕ) → Some name ≡ name_of o → (p : Swap) × (o ≡ Some p) × (name ≡ p.name)
 named_some None name h = none_some name (sym h)
-named_some (Some p) name h = (p, refl, some_is name p.name h)
+named_some (Some p) name h = (p, refl, same_Some name p.name h)
 
 pub due_some : (busy : List (List ℕ)) (o : Option Experiment) (name : List ℕ) → Some name ≡ name_of (due_in busy o) → (e : Experiment) × (p : Swap) × (o ≡ Some e) × (due busy e ≡ Some p) × (name ≡ p.name)
 due_some busy None name h = none_some name (sym h)
@@ -60,7 +60,7 @@ swaps_more busy es n e h =
 -- all of them, by one
 split_at : (es : List Experiment) (n : ℕ) (e : Experiment) → slice_get es n ≡ Some e → es ≡ take n es ++ e ∷ drop (suc n) es
 split_at [] n e h = none_some e h
-split_at (x ∷ es) zero e h = ap (λ y. y ∷ es) (some_is x e h)
+split_at (x ∷ es) zero e h = ap (λ y. y ∷ es) (same_Some x e h)
 split_at (x ∷ es) (suc n) e h = ap (λ l. x ∷ l) (split_at es n e h)
 
 pub swaps_split : (busy : List (List ℕ)) (es : List Experiment) (n : ℕ) (e : Experiment) (p : Swap) → slice_get es n ≡ Some e → due busy e ≡ Some p → swaps_of busy (take n es) ++ p ∷ swaps_of busy (drop (suc n) es) ≡ swaps_of busy es
@@ -102,7 +102,7 @@ rest_kept es n e f differ at = let next : n + 1 ≡ suc n = omega arith in ap (�
   where
     go : (es : List Experiment) (n : ℕ) → AllDiffer (map (λ x. x.name) es) → slice_get es n ≡ Some e → drop (suc n) (replace e.name f es) ≡ drop (suc n) es
     go [] n differ at = none_some e at
-    go (x ∷ es) zero differ at = ap (drop 1) (cond-true (bytes_eq x.name e.name) (f ∷ es) (x ∷ replace e.name f es) ((bytes_eq-Decides x.name e.name).1 (ap (λ y. y.name) (some_is x e at))))
+    go (x ∷ es) zero differ at = ap (drop 1) (cond-true (bytes_eq x.name e.name) (f ∷ es) (x ∷ replace e.name f es) ((bytes_eq-Decides x.name e.name).1 (ap (λ y. y.name) (same_Some x e at))))
     go (x ∷ es) (suc n) differ at =
         ap (drop (suc (suc n))) (cond-false (bytes_eq x.name e.name) (f ∷ es) (x ∷ replace e.name f es)
         (false_from_ne_true (bytes_eq x.name e.name) (λ yes'. differ.0 e.name (Has-mapped (λ y. y.name) es e (Has-slice_get es n e at)) ((bytes_eq-Decides x.name e.name).0 yes'))))
@@ -126,17 +126,17 @@ ends_case lab es e Out true name f h = none_some f h
 ends_case lab es e Out false name f h = none_some f h
 ends_case lab es e (In mapping tags) true name f h = none_some f h
 ends_case lab es e (In mapping tags) false name f h = none_some f h
-ends_case lab es e (Moving old (Some new)) true name f h = rests_by e (inside e new) f (some_is (inside e new) f h) (refl, refl)
-ends_case lab es e (Moving (Some old) None) true name f h = rests_by e (in_phase e Out) f (some_is (in_phase e Out) f h) (refl, refl)
+ends_case lab es e (Moving old (Some new)) true name f h = rests_by e (inside e new) f (same_Some (inside e new) f h) (refl, refl)
+ends_case lab es e (Moving (Some old) None) true name f h = rests_by e (in_phase e Out) f (same_Some (in_phase e Out) f h) (refl, refl)
 ends_case lab es e (Moving None None) true name f h = none_some f h
-ends_case lab es e (Moving None (Some new)) false name f h = rests_by e (in_phase e Out) f (some_is (in_phase e Out) f h) (refl, refl)
-ends_case lab es e (Moving (Some old) (Some new)) false name f h = rests_by e (inside e old) f (some_is (inside e old) f h) (refl, refl)
+ends_case lab es e (Moving None (Some new)) false name f h = rests_by e (in_phase e Out) f (same_Some (in_phase e Out) f h) (refl, refl)
+ends_case lab es e (Moving (Some old) (Some new)) false name f h = rests_by e (inside e old) f (same_Some (inside e old) f h) (refl, refl)
 ends_case lab es e (Moving None None) false name f h = none_some f h
 ends_case lab es e (Moving (Some old) None) false name f h = none_some f h
 
 in_some : (lab : Lab) (o : Option (List Experiment)) (u : LabState) → in_state lab o ≡ Some u → (u.lab ≡ Some lab) × (o ≡ Some u.experiments)
 in_some lab None u h = none_some u h
-in_some lab (Some es) u h = let is = some_is (record { lab = Some lab; experiments = es }) u h in (ap (λ (x : LabState). x.lab) (sym is), ap (λ (x : LabState). Some x.experiments) is)
+in_some lab (Some es) u h = let is = same_Some (record { lab = Some lab; experiments = es }) u h in (ap (λ (x : LabState). x.lab) (sym is), ap (λ (x : LabState). Some x.experiments) is)
 
 ends_in : (lab : Lab) (es : List Experiment) (commit : Bool) (name : List ℕ) (u : LabState) → in_state lab (Rattle.records_model.specs.Labs.moved_one lab es name (find name es) (last_move_by commit name)) ≡ Some u
     → EndsOne (record { lab = Some lab; experiments = es }) name u

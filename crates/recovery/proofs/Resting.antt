@@ -4,6 +4,7 @@ use Rattle.std.specs.Str.{bytes_eq}
 use Rattle.std.proofs.lemmas.Bool.{cases_Bool, cond-false}
 use Rattle.std.proofs.lemmas.Slice.Eq.{bytes_eq-Decides}
 use Rattle.std.proofs.lemmas.List.Sums.{sum_by-cons}
+use Rattle.std.proofs.lemmas.Option.{same_Some}
 use Rattle.lab_base.specs.Lists.{Has, AllDiffer, listed}
 use Rattle.lab_base.proofs.Members.{Has-mapped, Has-flat_mapped}
 use Rattle.lab_model.specs.Sound.{is_moving}
@@ -14,7 +15,7 @@ use Rattle.virt_topo.specs.declared.experiment.Phase.{Phase}
 use Rattle.virt_topo.specs.declared.experiment.Phase.TheVariants.{Out, In, Moving}
 use Rattle.journal_disk.specs.declared.journal.Journal.{Journal}
 use Rattle.records_model.specs.Labs.{LabState, Sane, Texts, find}
-use Rattle.records_model.proofs.Finding.{some_is, found_from, names_mid}
+use Rattle.records_model.proofs.Finding.{found_from, names_mid}
 use Rattle.records_model.proofs.Swaps.{found_in, find_replaced, find_others}
 use Rattle.plant.specs.Seen.{Seen}
 use Rattle.swap_turns.specs.Swaps.{Swap}
@@ -44,7 +45,7 @@ module _ (busy : List (List ℕ)) (p : Swap) (ps : List Swap) (s mid : LabState)
   one_less left e h moving = elim (cases_Bool (bytes_eq e.name p.name)) [
     | inl yes' ↦
         let same : e.name ≡ p.name = (bytes_eq-Decides e.name p.name).0 yes' in
-        let own : x.now ≡ e = some_is x.now e (sym (find_replaced p.name s.experiments x.was x.now x.found (x.named ∙ was_named)) ∙ ap (λ l. find p.name l) (sym x.is) ∙ ap (λ n. find n mid.experiments) (sym same) ∙ find_has mid.experiments e differ_now h) in
+        let own : x.now ≡ e = same_Some x.now e (sym (find_replaced p.name s.experiments x.was x.now x.found (x.named ∙ was_named)) ∙ ap (λ l. find p.name l) (sym x.is) ∙ ap (λ n. find n mid.experiments) (sym same) ∙ find_has mid.experiments e differ_now h) in
         let not : false ≡ true = sym x.rests ∙ ap is_moving own ∙ moving in
         absurd (cc not)
     | inr no' ↦

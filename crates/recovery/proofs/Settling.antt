@@ -1,6 +1,7 @@
 -- The settling of one experiment.
 use Rattle.std.proofs.Common.{◌≡◌, ◌↔◌, ℕ, Bool, true, false, List, Option, Some, None, Result, Ok, Err, refl, sym, ap, ◌∙◌, subst, arith}
 use Rattle.std.specs.Prelude.{is_none, is_some, IsErrOf, IsTrue}
+use Rattle.std.proofs.lemmas.Option.{same_Some}
 use Rattle.lab_base.specs.Lists.{Has}
 use Rattle.lab_base.specs.declared.what.What.TheVariants as whats
 use Rattle.phys_lab.specs.Labs.{Lab}
@@ -13,7 +14,6 @@ use Rattle.journal_disk.specs.declared.journal.Journal.{Journal}
 use Rattle.lab_model.specs.Claims.{Old, New, claimed_in}
 use Rattle.lab_model.specs.Courses.{commands, undo, Trouble}
 use Rattle.records_model.specs.Labs.{LabState, Sane, Texts, find, lab_in, moved}
-use Rattle.records_model.proofs.Finding.{some_is}
 use Rattle.records_model.proofs.Swaps.{found_in}
 use Rattle.lab_state.specs.Changes.{ending}
 use Rattle.swap_txn.specs.declared.ended.Ended.{Ended as Over}
@@ -150,7 +150,7 @@ module _ (t : Texts) (s : LabState) (exp : List ℕ) (p : Swap) (named : p.name 
             why = f.is_told.why ∙ ap (λ l. why_of l) (settles ended f);
             outcome_is = refl;
           },
-          over_by _ f (turning.Ended Settling) is (left _ f (turning.Ended Settling) g (some_is g.after after (sym (gives ended f g.after g.is) ∙ ends))),
+          over_by _ f (turning.Ended Settling) is (left _ f (turning.Ended Settling) g (same_Some g.after after (sym (gives ended f g.after g.is) ∙ ends))),
         )
 
     -- IT IS OVER, for the lab after it

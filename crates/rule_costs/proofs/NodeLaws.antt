@@ -2,13 +2,12 @@
 use Rattle.std.proofs.Common.{◌≡◌, ◌≢◌, inl, inr, ℕ, ◌+◌, ◌<◌, ◌∙◌, List, [], ◌∷◌, ◌++◌, length, map, drop, get_or, Bool, true, false, cond, eqb, ◌==◌, ◌||◌, refl, sym, ap, arith}
 use Rattle.std.specs.List.{list_any}
 use Rattle.std.proofs.lemmas.Bool.{cases_eq, eq-eqb, ne_eqb}
-use Rattle.std.proofs.lemmas.List.{append-nil}
+use Rattle.std.proofs.lemmas.List.{append-nil, drop_more}
 use Rattle.std.proofs.lemmas.List.Folds.{list_any-append}
 use Rattle.phys_lab.proofs.NameLaws.{any_in_map}
 use Rattle.lab_model.specs.Shapes.{Place}
 use Rattle.lab_model.specs.Rules.{no_place}
 use Rattle.cost_rule.specs.Cost.{different, same_node}
-use Rattle.cost_rule.proofs.KindSteps.{next_of}
 use Rattle.cost_rule.proofs.Sums.{different_cons}
 use Rattle.rule_costs.specs.Nodes.{nodes_of, beyond}
 
@@ -95,7 +94,7 @@ pub beyond_step : (places others : List Place) (v : ℕ) → v < length places
     → beyond (nodes_of (drop v places)) (nodes_of others)
     ≡ new_if (list_any (same_node (get_or places v no_place).0.0) (nodes_of (drop (v + 1) places) ++ nodes_of others)) + beyond (nodes_of (drop (v + 1) places)) (nodes_of others)
 beyond_step places others v lt =
-    ap (λ (l : List Place). beyond (nodes_of l) (nodes_of others)) (next_of places v no_place lt)
+    ap (λ (l : List Place). beyond (nodes_of l) (nodes_of others)) (drop_more places v no_place lt)
     ∙ by (list_any (same_node (get_or places v no_place).0.0) (nodes_of (drop (v + 1) places) ++ nodes_of others)) (beyond (nodes_of (drop (v + 1) places)) (nodes_of others))
   where
     by : (b : Bool) (n : ℕ) → cond b n (n + 1) ≡ new_if b + n

@@ -1,13 +1,14 @@
 -- Virtual nodes that stay leave what they left.
 use Rattle.std.proofs.Common.{◌≡◌, ◌+◌, ◌<◌, ℕ, zero, suc, List, [], ◌∷◌, length, get_or, Bool, true, false, cond, refl, ap, arith}
 use Rattle.std.specs.Prelude.{◌-◌, ◌*◌, nat_lt}
+use Rattle.lab_base.specs.Names.{same_name}
 use Rattle.phys_lab.specs.Labs.{Lab}
-use Rattle.virt_topo.specs.Repeats.{same_name}
 use Rattle.virt_topo.specs.declared.wiring.VirtNode.{VirtNode}
 use Rattle.virt_topo.specs.declared.wiring.Wiring.{Wiring}
 use Rattle.virt_topo.specs.declared.mapping.Mapping.{Mapping}
+use Rattle.virt_topo.specs.Wirings.{virt_at, no_virt}
 use Rattle.lab_model.specs.Shapes.{Place, node_at}
-use Rattle.lab_model.specs.Rules.{is_member, virt_at, place_at, class_at, no_virt, no_place}
+use Rattle.lab_model.specs.Rules.{is_member, place_at, class_at, no_place}
 use Rattle.cost_rule.specs.Cost.{missed, node_soft, class_soft, different, types_of}
 
 pub node_alike : (lab : Lab) (w : Wiring) (from to : Mapping) (v : ℕ) → place_at from v ≡ place_at to v → node_soft lab w from v ≡ node_soft lab w to v

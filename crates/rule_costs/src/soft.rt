@@ -1,8 +1,9 @@
 // What the virtual nodes that moved leave of desires and features, and their classes.
 ghost use Rattle.std.specs.Prelude.{◌≡◌, ◌<◌, ◌≤◌, ◌*◌, ◌↔◌, ℕ, true, false, length};
 ghost use Rattle.virt_topo.specs.Soundness.{IsSound};
+ghost use Rattle.virt_topo.specs.Wirings.{virt_at};
 ghost use Rattle.lab_model.specs.Shapes.{IsShaped};
-ghost use Rattle.lab_model.specs.Rules.{is_member, place_at, virt_at};
+ghost use Rattle.lab_model.specs.Rules.{is_member, place_at};
 ghost use Rattle.cost_rule.specs.Cost.{sum_below, node_soft, class_soft, soft};
 ghost use Rattle.rule_costs.specs.Moved.{IsDifference};
 

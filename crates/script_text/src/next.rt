@@ -1,6 +1,6 @@
 ghost use Rattle.std.specs.Prelude.{◌≡◌, ◌≤◌, ◌<◌, ◌+◌, ◌^◌, ℕ, [], ◌∷◌, length, None, Some, false, IfOk, IfSome, IfNone, OnOk, IsErrOf};
 ghost use Rattle.std.specs.Io.KnownBytes.{IsAtEnd};
-ghost use Rattle.lab_io.specs.Causes.{Rose};
+ghost use Rattle.lab_base.specs.Counts.{Rose};
 ghost use Rattle.lab_io.specs.Feeds.{NoFeed};
 ghost use Rattle.lab_io.specs.Passed.{Passed, IsReady, stand_of};
 ghost use Rattle.lab_io.specs.Taken.{fault_of, lines_of, taken_of, ended_of, pending_of, rest_of};

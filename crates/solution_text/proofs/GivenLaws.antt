@@ -11,11 +11,11 @@ use Rattle.lab_base.specs.declared.fault.TextRefused.{TextRefused}
 use Rattle.lab_base.specs.declared.fault.TextRefused.TheVariants as refusals
 use Rattle.lab_base.specs.declared.ids.NodeId.{NodeId}
 use Rattle.lab_base.specs.declared.ids.IfaceId.{IfaceId}
+use Rattle.lab_base.specs.Names.{same_name}
 use Rattle.line_text.specs.Reading.{and_then, at_line, line_added, read_from}
 use Rattle.line_text.specs.Refusals.{Reads, ReadsInto}
 use Rattle.line_text.proofs.ReadLaws.{stays}
 use Rattle.phys_lab.specs.Labs.{Lab}
-use Rattle.virt_topo.specs.Repeats.{same_name}
 use Rattle.virt_topo.specs.Ends.{end_nodes}
 use Rattle.virt_topo.specs.declared.wiring.Wiring.{Wiring}
 use Rattle.virt_topo.specs.declared.mapping.Mapping.{Mapping}

@@ -3,11 +3,11 @@ use Rattle.std.proofs.Common.{◌≡◌, ℕ, zero, suc, ◌+◌, ◌*◌, ◌<�
 use Rattle.std.specs.Prelude.{sum_by, IfSome}
 use Rattle.std.proofs.lemmas.Bool.Decides.{nat_tests}
 use Rattle.std.proofs.lemmas.List.Sums.{sum_by-cons}
+use Rattle.lab_base.specs.Names.{same_name}
 use Rattle.phys_lab.specs.Labs.{Lab}
 use Rattle.phys_lab.specs.Kept.{IsLab}
 use Rattle.phys_lab.specs.Faults.{ifaces_of}
 use Rattle.phys_lab.specs.declared.parts.Iface.{Iface}
-use Rattle.virt_topo.specs.Repeats.{same_name}
 use Rattle.solution_text.specs.Solutions.{iface_on, iface_by}
 use Rattle.solution_text.proofs.Places.{also_some, place_below}
 

@@ -7,7 +7,7 @@ use Rattle.std.proofs.lemmas.Bool.{and_parts}
 use Rattle.std.proofs.lemmas.Bool.Decides.{nat_tests}
 use Rattle.std.proofs.lemmas.List.{append-nil, length-map, map-append, get_or_default}
 use Rattle.std.proofs.Math.Seq.{get_or-append_seam, set-append_seam}
-use Rattle.lab_base.specs.Names.{is_name}
+use Rattle.lab_base.specs.Names.{is_name, same_name}
 use Rattle.lab_base.specs.Kinds.{both_of}
 use Rattle.lab_base.specs.Texts.{lines_of}
 use Rattle.lab_base.specs.Lists.{Has, AllDiffer}
@@ -16,6 +16,7 @@ use Rattle.lab_base.specs.declared.fault.Kind.TheVariants as kinds
 use Rattle.lab_base.specs.declared.ids.NodeId.{NodeId}
 use Rattle.lab_base.specs.declared.ids.IfaceId.{IfaceId}
 use Rattle.lab_base.proofs.Members.{Has-append, Has-map, Apart-right}
+use Rattle.virt_topo.specs.Wirings.{no_virt}
 use Rattle.line_text.specs.Reading.{and_then}
 use Rattle.line_text.specs.Printing.{with_number}
 use Rattle.line_text.proofs.PartsAgain.{IsPlain, plain_name, plain_number, plain_pair, name_again, named_pair, numbered_again}
@@ -31,15 +32,13 @@ use Rattle.phys_lab.specs.Faults.{is_type}
 use Rattle.virt_topo.specs.declared.wiring.VirtNode.{VirtNode}
 use Rattle.virt_topo.specs.declared.wiring.Wiring.{Wiring}
 use Rattle.virt_topo.specs.declared.mapping.Mapping.{Mapping}
-use Rattle.virt_topo.specs.Repeats.{same_name}
-use Rattle.virt_topo.specs.Soundness.{IsSound}
-use Rattle.virt_topo.specs.Soundness.{end_if, end_of}
+use Rattle.virt_topo.specs.Soundness.{IsSound, end_if, end_of}
 use Rattle.virt_topo.specs.Ends.{end_nodes, end_number}
 use Rattle.virt_topo.proofs.CableLaws.{limits_of, passes_at}
 use Rattle.lab_model.specs.Shapes.{Place, IsShaped, has_name, no_node, node_at}
 use Rattle.lab_model.specs.Uses.{no_iface, iface_at}
 use Rattle.lab_model.proofs.WiringLaws.{has_at, sound_ends}
-use Rattle.top_text.specs.Adding.{virt_named, no_virt}
+use Rattle.top_text.specs.Adding.{virt_named}
 use Rattle.top_text.specs.Canonical.{virt_name}
 use Rattle.top_text.specs.Printable.{are_named}
 use Rattle.solution_text.specs.declared.given.Given.{Given}

@@ -1,7 +1,7 @@
 -- What the names of a solution text are looked up in.
 use Rattle.std.specs.Prelude.{◌≡◌, ◌==◌, ◌&&◌, ℕ, Bool, List}
+use Rattle.lab_base.specs.Names.{same_name}
 use Rattle.indexmap.specs.IndexMap.{get}
-use Rattle.virt_topo.specs.Repeats.{same_name}
 use Rattle.virt_topo.specs.Soundness.{end_of}
 use Rattle.top_text.specs.Adding.{virt_named}
 use Rattle.solution_text.specs.Solutions.{node_named, iface_on}

@@ -8,11 +8,11 @@ use Rattle.lab_base.specs.declared.fault.Kind.TheVariants as kinds
 use Rattle.lab_base.specs.declared.fault.TextFault.{TextFault}
 use Rattle.lab_base.specs.declared.ids.NodeId.{NodeId}
 use Rattle.lab_base.specs.declared.ids.IfaceId.{IfaceId}
+use Rattle.lab_base.specs.Names.{same_name}
 use Rattle.line_text.specs.Reading.{and_then, read_from}
 use Rattle.line_text.specs.Fields.{field_at}
 use Rattle.line_text.specs.Pairs.{pair_at, numbered}
 use Rattle.phys_lab.specs.Labs.{Lab}
-use Rattle.virt_topo.specs.Repeats.{same_name}
 use Rattle.virt_topo.specs.Ends.{end_nodes}
 use Rattle.virt_topo.specs.Soundness.{end_of}
 use Rattle.virt_topo.specs.declared.wiring.Wiring.{Wiring}

@@ -1,7 +1,7 @@
 // What the names of a solution text are looked up in.
 ghost use Rattle.std.specs.Prelude.{◌≡◌, ◌<◌, ℕ, List, map, position, length, None, IfOk, IfSome};
+ghost use Rattle.lab_base.specs.Names.{same_name};
 ghost use Rattle.indexmap.specs.IndexMap.{get};
-ghost use Rattle.virt_topo.specs.Repeats.{same_name};
 ghost use Rattle.virt_topo.specs.Soundness.{end_of};
 ghost use Rattle.top_text.specs.Adding.{virt_named};
 ghost use Rattle.solution_text.specs.Solutions.{node_named, end_by, end_named, iface_on, iface_by, iface_named};

@@ -1,11 +1,13 @@
 -- What the manager holds, and what its calls make of it.
 use Rattle.std.proofs.Common.{◌≡◌, ◌≢◌, ◌⊎◌, inl, inr, ℕ, List, [], ◌∷◌, ◌++◌, IfSome, length, length-append, Option, Some, None, Result, Ok, Err, refl, sym, ap, ◌∙◌, subst, arith}
 use Rattle.std.proofs.lemmas.List.{append-nil}
+use Rattle.std.proofs.lemmas.Option.{same_Some}
 use Rattle.lab_base.specs.Lists.{Has}
 use Rattle.lab_base.proofs.Members.{Has-left, Has-right, Has-append, Apart-across, Apart-right}
 use Rattle.plant.specs.Events.{Event}
 use Rattle.plant.specs.Told.{Told}
 use Rattle.journal_rec.specs.declared.record.Record.{Record}
+use Rattle.records_model.proofs.Finding.{none_some}
 use Rattle.journal_disk.specs.declared.journal.Journal.{Journal}
 use Rattle.journal_disk.specs.declared.fault.AppendFault.{AppendFault}
 use Rattle.journal_disk.specs.declared.fault.AppendFault.TheVariants as faults
@@ -37,23 +39,17 @@ use Rattle.swap_mgr.proofs.Telling.{IsNext, retold, next_of}
 abbrev pub Slot : Type 0
 Slot = OpenSwap × Live
 
-some_is : {X : Type 0} (x y : X) → Some x ≡ Some y → x ≡ y
-some_is x y e = cc
-
-none_is : {X Y : Type 0} (x : X) → None ≡ Some x → Y
-none_is x e = absurd (cc e)
-
 -- a state has the name of what is seen of it
 exp_by : (v : View) (state : Live) → view_of state ≡ Some v → exp_of state ≡ v.exp
-exp_by v (live.Begun f) is = ap (λ (x : View). x.exp) (some_is f v is)
-exp_by v (live.Clearing f) is = ap (λ (x : View). x.exp) (some_is f v is)
-exp_by v (live.Cabling f) is = ap (λ (x : View). x.exp) (some_is f v is)
-exp_by v (live.Loading f) is = ap (λ (x : View). x.exp) (some_is f v is)
-exp_by v (live.Booting f) is = ap (λ (x : View). x.exp) (some_is f v is)
-exp_by v (live.Ready f) is = ap (λ (x : View). x.exp) (some_is f v is)
-exp_by v (live.Undoing b) is = ap (λ (x : View). x.exp) (some_is b v is)
-exp_by v (live.Undone b) is = ap (λ (x : View). x.exp) (some_is b v is)
-exp_by v (live.Ended e) is = none_is v is
+exp_by v (live.Begun f) is = ap (λ (x : View). x.exp) (same_Some f v is)
+exp_by v (live.Clearing f) is = ap (λ (x : View). x.exp) (same_Some f v is)
+exp_by v (live.Cabling f) is = ap (λ (x : View). x.exp) (same_Some f v is)
+exp_by v (live.Loading f) is = ap (λ (x : View). x.exp) (same_Some f v is)
+exp_by v (live.Booting f) is = ap (λ (x : View). x.exp) (same_Some f v is)
+exp_by v (live.Ready f) is = ap (λ (x : View). x.exp) (same_Some f v is)
+exp_by v (live.Undoing b) is = ap (λ (x : View). x.exp) (same_Some b v is)
+exp_by v (live.Undone b) is = ap (λ (x : View). x.exp) (same_Some b v is)
+exp_by v (live.Ended e) is = none_some v is
 
 pub named_open : (s : LabState) (o : OpenSwap) (state : Live) → IsOpen s o state → exp_of state ≡ o.swap.name
 named_open s o state is = exp_by (leg_view o.swap (lab_in s.lab) o.leg is.left) state is.state_is

@@ -1,10 +1,9 @@
 -- Tables by node of the lab.
 use Rattle.std.specs.Str.{bytes_eq}
 use Rattle.std.proofs.Common.{◌≡◌, ◌≢◌, inl, inr, ℕ, zero, suc, ◌+◌, ◌<◌, false, cond, Option, Some, None, List, [], ◌∷◌, ◌++◌, length, map, filter, take, drop, get_or, set, replicate, refl, sym, ap, subst, ◌∙◌, arith, append_assoc, ◌≤◌}
-use Rattle.std.proofs.Math.Seq.{drop-cons}
 use Rattle.std.proofs.Math.ListN.{drop_of_length-le}
 use Rattle.std.proofs.lemmas.Bool.{cases_Bool}
-use Rattle.std.proofs.lemmas.List.{length-map, get_or-map, append-nil, take_all, map_more}
+use Rattle.std.proofs.lemmas.List.{length-map, get_or-map, append-nil, take_all, map_more, get_or_default, drop_more}
 use Rattle.std.proofs.lemmas.List.Elements.{filter_more}
 use Rattle.std.proofs.lemmas.Slice.Eq.{bytes_eq-Decides}
 use Rattle.lab_base.specs.Lists.{Has, AllDiffer}
@@ -16,13 +15,14 @@ use Rattle.virt_topo.specs.declared.wiring.Pipe.{Pipe}
 use Rattle.virt_topo.specs.declared.wiring.VirtNode.{VirtNode}
 use Rattle.virt_topo.specs.declared.wiring.Wiring.{Wiring}
 use Rattle.virt_topo.specs.declared.mapping.Mapping.{Mapping}
+use Rattle.virt_topo.specs.Wirings.{virt_at, no_virt}
 use Rattle.lab_model.specs.Courses.{node_names}
 use Rattle.lab_model.specs.Shapes.{Place, IsShaped, no_node}
-use Rattle.lab_model.specs.Rules.{no_place, no_virt, place_at, virt_at}
+use Rattle.lab_model.specs.Rules.{no_place, place_at}
 use Rattle.lab_model.specs.Wants.{node_name, os_on, place_of}
 use Rattle.lab_model.proofs.WiringLaws.{has_at}
 use Rattle.lab_model.proofs.Kept.{Has-filter}
-use Rattle.swap_plan.proofs.PipeLaws.{placed, pipe_there, same_get}
+use Rattle.swap_plan.proofs.PipeLaws.{placed, pipe_there}
 use Rattle.swap_plan.specs.Plans.{untagged, host_if, hosts_at, hosts_by, pipes_at, Host}
 
 pub names_differ : (lab : Lab) → IsLab lab → AllDiffer (node_names lab)
@@ -55,16 +55,13 @@ map_at f g (x ∷ xs) (suc n) differ lt same =
 table_at : {X : Type 0} (f : List ℕ → X) (names : List (List ℕ)) (n : ℕ) (d : X) → n < length names → get_or (map f names) n d ≡ f (get_or names n [])
 table_at f names n d lt = get_or-map f names n [] d lt
 
-next_of : {X : Type 0} (xs : List X) (i : ℕ) (d : X) → i < length xs → drop i xs ≡ get_or xs i d ∷ drop (i + 1) xs
-next_of xs i d lt = let next : suc i ≡ i + 1 = omega arith in drop-cons xs i d lt ∙ ap (λ (j : ℕ). get_or xs i d ∷ drop j xs) next
-
 -- THE OS OF EACH NODE, from virtual node i on
 
 os_next : (lab : Lab) (vs : List VirtNode) (places : List Place) (i : ℕ) (name : List ℕ) → i < length vs → i < length places
     → os_on lab (drop i vs) (drop i places) name ≡ cond (bytes_eq (node_name lab (get_or places i no_place).0) name) (Some (get_or vs i no_virt).os) (os_on lab (drop (i + 1) vs) (drop (i + 1) places) name)
 os_next lab vs places i name lt few =
-    let one = next_of vs i no_virt lt in
-    let two = next_of places i no_place few in
+    let one = drop_more vs i no_virt lt in
+    let two = drop_more places i no_place few in
     λ j. os_on lab (one j) (two j) name
 
 -- the node of a virtual node is of the lab, and so in its tables
@@ -159,7 +156,7 @@ module _ {X : Type 0} (of : List Host → List X) (parts : (a b : List Host) →
       let names = node_names lab in
       let below : k < length names = omega (arith, lt, one_each, length-map lab.nodes (λ node. node.name)) in
       let next : of (hosts_at (take (k + 1) names) (take (k + 1) oses)) ≡ of (hosts_at (take k names) (take k oses)) ++ of (host_if name os) =
-      ap of (hosts_more names oses k below lt ∙ (λ i. hosts_at (take k names) (take k oses) ++ host_if (sym named i) (sym (at ∙ same_get oses k d None lt) i))) ∙ parts (hosts_at (take k names) (take k oses)) (host_if name os) in
+      ap of (hosts_more names oses k below lt ∙ (λ i. hosts_at (take k names) (take k oses) ++ host_if (sym named i) (sym (at ∙ get_or_default oses k d None lt) i))) ∙ parts (hosts_at (take k names) (take k oses)) (host_if name os) in
       adds ∙ ap (λ l. l ++ of (host_if name os)) before ∙ append_assoc start (of (hosts_at (take k names) (take k oses))) (of (host_if name os)) ∙ ap (λ l. start ++ l) (sym next)
 
   pub listed_all : (k : ℕ) (start listed : List X) → length oses ≤ k → listed ≡ start ++ of (hosts_at (take k (node_names lab)) (take k oses)) → listed ≡ start ++ of (hosts_at (node_names lab) oses)

@@ -1,8 +1,9 @@
 // What a mapping wants of nodes, by the lab's numbers of these.
 ghost use Rattle.std.specs.Prelude.{◌≡◌, ◌<◌, ◌++◌, ◌∷◌, [], length, map, replicate, slice_index_or, slice_set, Some, IfOk, OnOk};
 ghost use Rattle.virt_topo.specs.Soundness.{IsSound};
+ghost use Rattle.virt_topo.specs.Wirings.{virt_at};
 ghost use Rattle.lab_model.specs.Courses.{node_names};
-ghost use Rattle.lab_model.specs.Rules.{place_at, virt_at};
+ghost use Rattle.lab_model.specs.Rules.{place_at};
 ghost use Rattle.lab_model.specs.Shapes.{IsShaped};
 ghost use Rattle.lab_model.specs.Wants.{os_on};
 ghost use Rattle.swap_plan.specs.Plans.{pipes_at};

@@ -1,18 +1,20 @@
 -- Which experiment moves after a Begin.
 use Rattle.std.proofs.Common.{◌≡◌, ◌≤◌, Bool, true, false, cond, List, length, Option, Some, None, refl, sym, ap, ◌∙◌}
+use Rattle.std.proofs.lemmas.Option.{same_Some}
 use Rattle.lab_base.specs.declared.ids.VlanId.{VlanId}
 use Rattle.phys_lab.specs.Labs.{Lab}
 use Rattle.virt_topo.specs.declared.experiment.Experiment.{Experiment}
 use Rattle.virt_topo.specs.declared.experiment.Phase.TheVariants.{Out, In, Moving}
 use Rattle.virt_topo.specs.declared.mapping.Mapping.{Mapping}
 use Rattle.virt_topo.specs.declared.wiring.Wiring.{Wiring}
-use Rattle.records_model.specs.Labs.{LabState, BeginsIn, BeginsOut, BeginsChange, moved, moved_of, moved_one, in_state, with_replaced, becomes, can_take, mapped, find, replace, in_phase}
-use Rattle.records_model.proofs.Finding.{some_is, none_some}
+use Rattle.virt_topo.specs.Wirings.{mapped}
+use Rattle.records_model.specs.Labs.{LabState, BeginsIn, BeginsOut, BeginsChange, moved, moved_of, moved_one, in_state, with_replaced, becomes, can_take, find, replace, in_phase}
+use Rattle.records_model.proofs.Finding.{none_some}
 use Rattle.records_model.proofs.Swaps.{find_replaced}
 use Rattle.swap_turns.specs.Swaps.{swap_in, swap_out, swap_over, Moves}
 
 replaced : (lab : Lab) (es : List Experiment) (was g : Experiment) (u : LabState) → find was.name es ≡ Some was → g.name ≡ was.name → in_state lab (with_replaced was.name es (Some g)) ≡ Some u → find was.name u.experiments ≡ Some g
-replaced lab es was g u found same h = ap (λ (x : LabState). find was.name x.experiments) (sym (some_is (record { lab = Some lab; experiments = replace was.name g es }) u h)) ∙ find_replaced was.name es was g found same
+replaced lab es was g u found same h = ap (λ (x : LabState). find was.name x.experiments) (sym (same_Some (record { lab = Some lab; experiments = replace was.name g es }) u h)) ∙ find_replaced was.name es was g found same
 
 replaced_if : (b : Bool) (lab : Lab) (es : List Experiment) (was g : Experiment) (u : LabState) → find was.name es ≡ Some was → g.name ≡ was.name → in_state lab (with_replaced was.name es (cond b (Some g) None)) ≡ Some u → find was.name u.experiments ≡ Some g
 replaced_if true lab es was g u found same h = replaced lab es was g u found same h

@@ -1,6 +1,7 @@
 -- What the answer of one command makes of a course, and what it adds to a trace.
 use Rattle.std.proofs.Common.{ℕ, ◌≡◌, ◌⊎◌, inl, ◌+◌, ◌<◌, ◌≤◌, Bool, true, false, cond, eqb, List, [], ◌∷◌, Option, Some, None, Result, Ok, Err, refl, sym, ap, ◌∙◌, subst, arith}
 use Rattle.std.proofs.lemmas.Bool.{eqb-false}
+use Rattle.std.proofs.lemmas.Option.{same_Some}
 use Rattle.lab_base.specs.declared.boot.Boot.{Boot}
 use Rattle.lab_base.specs.declared.boot.Boot.TheVariants.{Off, Shutdown, Booting, TbSetup, IsUp}
 use Rattle.plant.specs.Calls.{Fits, CommandSteps}
@@ -58,10 +59,7 @@ not_done : (node : List ℕ) → Fits (Poll node) Done → ⊥
 not_done node fits = cc fits.1
 
 poll_of : (w : Watch) (op : DeviceOp) (answer : Answer) → next [] (Some w) [] ≡ Some op → Fits op answer → Fits (Poll w.node) answer
-poll_of w op answer comes fits = subst (λ o. Fits o answer) (sym (some_is (Poll w.node) op comes)) fits
-  where
-    some_is : (x y : DeviceOp) → Some x ≡ Some y → x ≡ y
-    some_is x y same = cc
+poll_of w op answer comes fits = subst (λ o. Fits o answer) (sym (same_Some (Poll w.node) op comes)) fits
 
 pub told_course : (todo : List DeviceOp) (watch : Option Watch) (boot : List (List ℕ)) (op : DeviceOp) (answer : Answer) → next todo watch boot ≡ Some op → Fits op answer → IsTold (answered todo watch boot (Ok answer))
 told_course (o ∷ todo) watch boot op answer comes fits = tt

@@ -1,5 +1,6 @@
 -- What a typed state knows, where its swap is open.
 use Rattle.std.proofs.Common.{ℕ, ◌≡◌, Bool, false, Option, Some, None, IsSome, IfSome, refl, sym, ◌∙◌, subst}
+use Rattle.std.proofs.lemmas.Option.{same_Some}
 use Rattle.lab_base.specs.Lists.{AllDiffer}
 use Rattle.phys_lab.specs.Labs.{Lab}
 use Rattle.phys_lab.specs.Kept.{IsLab}
@@ -14,7 +15,6 @@ use Rattle.lab_model.specs.Claims.{Which, claimed, claimed_tags}
 use Rattle.lab_model.specs.Holding.{Suits}
 use Rattle.records_model.specs.Labs.{LabState, Texts, find, lab_in}
 use Rattle.records_model.specs.Works.{IsSound}
-use Rattle.records_model.proofs.Finding.{some_is}
 use Rattle.records_model.proofs.Swaps.{found_in, listed, part_now}
 use Rattle.swap_txn.specs.declared.live.Live.{Live}
 use Rattle.swap_txn.specs.Facts.{IsOwn, IsOwnUndo, KnowsBy, Knows, IsOfBy, IsOf}
@@ -32,7 +32,7 @@ knows_open t told j s o state work u running = if_both told (λ w. Stands t w.tr
     (λ w. IsSound t w.trace → (e : Experiment) → find o.swap.name s.experiments ≡ Some e → (start : ℕ) × Knows (lab_in s.lab) e start state w.trace)
     (λ w x runs sound e found.
     let r = runs sound e found in
-    let same : u.moves.exp ≡ e = some_is u.moves.exp e (sym u.moves.found ∙ found) in
+    let same : u.moves.exp ≡ e = same_Some u.moves.exp e (sym u.moves.found ∙ found) in
     let part = part_now t w.trace (side_of j) x.records s u.moves.exp (x.works sound).work (listed t w.trace (side_of j) x.records s u.moves.exp (found_own o.swap s u.moves)) in (
       r.start,
       subst (λ v. KnowsBy (lab_in s.lab) e r.start v w.trace) (sym u.state_is) (record {
@@ -59,7 +59,7 @@ pub of_open : (t : Texts) (told : Option Told) (j : Journal) (s : LabState) (o :
 of_open t told j s o state work u e found = subst (λ v. IsOfBy (lab_in s.lab) e v) (sym u.state_is) (plan (commits o.swap o.leg) (can_end o.swap o.leg u.moves.is_swap u.has_leg), back o.leg)
   where
     same : u.moves.exp ≡ e
-    same = some_is u.moves.exp e (sym u.moves.found ∙ found)
+    same = same_Some u.moves.exp e (sym u.moves.found ∙ found)
 
     plan : (commit : Bool) → CanEnd o.swap.old o.swap.new commit → IsOwn (lab_in s.lab) e (plan_by (lab_in s.lab) o.swap.old o.swap.new commit)
     plan commit can =

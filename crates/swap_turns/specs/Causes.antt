@@ -1,6 +1,6 @@
 -- What counts of faults say.
 use Rattle.std.specs.Prelude.{◌≤◌}
-use Rattle.plant.specs.Calls.{Rose}
+use Rattle.lab_base.specs.Counts.{Rose}
 use Rattle.lab_model.specs.Courses.{Trouble, Device, Late, Unlawful}
 use Rattle.plant.specs.Seen.{Seen}
 

@@ -6,7 +6,8 @@ use Rattle.virt_topo.specs.declared.experiment.Phase.TheVariants.{Moving}
 use Rattle.virt_topo.specs.declared.mapping.Mapped.{Mapped}
 use Rattle.virt_topo.specs.declared.mapping.Mapping.{Mapping}
 use Rattle.virt_topo.specs.declared.wiring.Wiring.{Wiring}
-use Rattle.records_model.specs.Labs.{LabState, mapped, find}
+use Rattle.virt_topo.specs.Wirings.{mapped}
+use Rattle.records_model.specs.Labs.{LabState, find}
 
 -- which experiment moves, from which mapping, to which one
 pub record Swap : Type 0 where

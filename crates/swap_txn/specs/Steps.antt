@@ -1,9 +1,10 @@
 -- What one turn does outside: a command or a record.
 use Rattle.std.specs.Prelude.{◌≡◌, ◌↔◌, ◌≤◌, ◌+◌, ℕ, List, [], ◌∷◌, ◌++◌, Option, Some, Result, Err, IsErrOf, IsTrue, IfSome, OnOk, OnErr}
+use Rattle.lab_base.specs.Counts.{Rose}
 use Rattle.plant.specs.Events.{Event}
 use Rattle.plant.specs.Seen.{Seen}
 use Rattle.plant.specs.Told.{Told, with_steps}
-use Rattle.plant.specs.Calls.{CommandSteps, DeviceCause, Rose}
+use Rattle.plant.specs.Calls.{CommandSteps, DeviceCause}
 use Rattle.plant.specs.declared.device.DeviceOp.{DeviceOp}
 use Rattle.plant.specs.declared.device.Answer.{Answer}
 use Rattle.plant.specs.declared.device.Fault.{Fault}

@@ -1,6 +1,6 @@
 -- The branches of `if` among its words.
 use Rattle.std.proofs.Common.{◌≡◌, ℕ, ◌+◌, ◌<◌, ◌≤◌, List, [], ◌∷◌, ◌++◌, length, get_or, drop, map, Option, Some, None, codes, true, false, option_map, slice_index_or, refl, sym, ap, ◌∙◌, arith, drop-cons, add-one, append_assoc}
-use Rattle.std.proofs.lemmas.List.{append-nil, map_push, drop_all}
+use Rattle.std.proofs.lemmas.List.{append-nil, map_push, drop_all, get_or_default}
 use Rattle.tcl_eval.specs.declared.branches.Branch.{Branch}
 use Rattle.tcl_eval.proofs.Elements.{item_on}
 use Rattle.tcl_eval.specs.Short.{branching_of}
@@ -53,10 +53,6 @@ elseif_found ws i j k e h is here = rw (three_left ws i j k e h is, here) refl
 pub elseif_missing : (ws : List (List ℕ)) (i : ℕ) (k : List ℕ) → i + 3 ≤ length ws → k ≡ get_or ws i k → is_text k (codes "elseif") ≡ false → more_branches (drop i ws) ≡ None
 elseif_missing ws i k h is other = rw (three_left ws i (i + 3) k refl h is, other) refl
 
--- a branch of the words, by its places
-pub get_or_same : {A : Type 0} (xs : List A) (i : ℕ) (d e : A) → i < length xs → get_or xs i d ≡ get_or xs i e
-get_or_same xs i d e h = let a = drop-cons xs i d h in let b = drop-cons xs i e h in cc (a, b)
-
 pub next_branch : (ws : List (List ℕ)) (bs : List Branch) (i : ℕ) (d : Branch) → i < length bs
     → map (branching_of ws) (drop i bs) ≡ branching_of ws (get_or bs i d) ∷ map (branching_of ws) (drop (i + 1) bs)
 next_branch ws bs i d h = rw (add-one i, drop-cons bs i d h) refl
@@ -64,7 +60,7 @@ next_branch ws bs i d h = rw (add-one i, drop-cons bs i d h) refl
 pub with_condition : (ws : List (List ℕ)) (b : Branch) (place : ℕ) (cond : List ℕ) → b.condition ≡ Some place → cond ≡ get_or ws place cond → place < length ws
     → branching_of ws b ≡ (Some cond, slice_index_or ws b.body [])
 with_condition ws b place cond some is less =
-    let e : get_or ws place [] ≡ cond = get_or_same ws place [] cond less ∙ sym is in
+    let e : get_or ws place [] ≡ cond = get_or_default ws place [] cond less ∙ sym is in
     let c : option_map (λ (place : ℕ). slice_index_or ws place []) b.condition ≡ Some cond =
     rw some (ap (λ (c : List ℕ). Some c) e) in
     ap (λ (o : Option (List ℕ)). (o, slice_index_or ws b.body [])) c
@@ -75,7 +71,7 @@ no_condition ws b none =
     ap (λ (o : Option (List ℕ)). (o, slice_index_or ws b.body [])) c
 
 pub body_of : (ws : List (List ℕ)) (n : ℕ) (body : List ℕ) → body ≡ get_or ws n body → n < length ws → slice_index_or ws n [] ≡ body
-body_of ws n body is less = get_or_same ws n [] body less ∙ sym is
+body_of ws n body is less = get_or_default ws n [] body less ∙ sym is
 
 -- a branch behind those so far
 pub pushed_on : (ws : List (List ℕ)) (bs new : List Branch) (b : Branch) (at : ℕ) → new ≡ bs ++ b ∷ []

@@ -7,6 +7,7 @@ use Rattle.std.proofs.lemmas.Bool.{or_parts, cases_lt}
 use Rattle.std.proofs.lemmas.Bool.Decides.{nat_tests}
 use Rattle.std.proofs.lemmas.List.{append-nil, map-append, length-map, get_or_append_left, get_or-append-add}
 use Rattle.std.proofs.lemmas.Grind.{flat_map-append}
+use Rattle.lab_base.specs.Names.{same_name}
 use Rattle.virt_topo.specs.declared.wiring.Class.{Class}
 use Rattle.virt_topo.specs.declared.wiring.VirtNode.{VirtNode}
 use Rattle.virt_topo.specs.declared.wiring.VirtEnd.{VirtEnd}
@@ -15,7 +16,7 @@ use Rattle.virt_topo.specs.declared.wiring.Pipe.{Pipe}
 use Rattle.virt_topo.specs.declared.wiring.Wiring.{Wiring}
 use Rattle.virt_topo.specs.Ends.{end_nodes, end_owners, end_number}
 use Rattle.virt_topo.specs.Owners.{at_ends, owners_on}
-use Rattle.virt_topo.specs.Repeats.{same_name, stands_again}
+use Rattle.virt_topo.specs.Repeats.{stands_again}
 use Rattle.virt_topo.specs.Soundness.{limits_class, limits_node, limits_segment, limits_pipe, knows_class, knows_node, knows_all, is_end, is_bad_pipe, shares_end, same_address, all_ends, asks_class_name}
 use Rattle.virt_topo.specs.Topos.{asks_type}
 use Rattle.virt_topo.proofs.EndLaws.{nodes_of, owners_of}

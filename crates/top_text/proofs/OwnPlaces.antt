@@ -6,7 +6,8 @@ use Rattle.lab_base.specs.Lists.{Has, AllDiffer}
 use Rattle.line_text.proofs.PartsAgain.{less}
 use Rattle.std.specs.Cmp.Lexicographic.{nat_list_eq_equiv}
 use Rattle.std.proofs.Math.ListN.{get_or-map}
-use Rattle.virt_topo.specs.Repeats.{same_name, stands_again}
+use Rattle.lab_base.specs.Names.{same_name}
+use Rattle.virt_topo.specs.Repeats.{stands_again}
 use Rattle.virt_topo.specs.Soundness.{IsSound}
 use Rattle.virt_topo.specs.declared.wiring.VirtNode.{VirtNode}
 use Rattle.virt_topo.specs.declared.wiring.Wiring.{Wiring}

@@ -2,9 +2,10 @@
 use Rattle.std.proofs.Common.{◌≡◌, Bool, true, false, not, cond, eqb, length, Option, Some, None, refl}
 use Rattle.std.specs.List.{list_any}
 use Rattle.std.proofs.lemmas.Bool.{not-false, or_parts}
+use Rattle.lab_base.specs.Names.{same_name}
 use Rattle.virt_topo.specs.declared.fault.WiringFault.{WiringFault}
 use Rattle.virt_topo.specs.declared.wiring.Wiring.{Wiring}
-use Rattle.virt_topo.specs.Repeats.{same_name, stands_again}
+use Rattle.virt_topo.specs.Repeats.{stands_again}
 use Rattle.virt_topo.specs.Soundness.{IsSound, keeps_limits, knows_all, same_address, all_ends, asks_class_name, has_twice, has_same, has_bad_pipe}
 use Rattle.top_text.proofs.KeptLaws.{IsKept}
 

@@ -5,11 +5,12 @@ use Rattle.std.specs.List.{list_all, list_any, flat_map, prefix_len}
 use Rattle.std.proofs.Math.ListN.{set}
 use Rattle.std.proofs.lemmas.Bool.{and_parts, and_from, or_parts, cases_eq}
 use Rattle.std.proofs.lemmas.Bool.Decides.{nat_tests}
-use Rattle.std.proofs.lemmas.List.{append-nil, append_assoc, take-append-drop, get_or-set_same, get_or-set_other}
+use Rattle.std.proofs.lemmas.List.{append-nil, append_assoc, take-append-drop, get_or-set_same, get_or-set_other, get_or_default}
 use Rattle.std.proofs.lemmas.List.Folds.{list_all-append, list_all-map}
 use Rattle.std.proofs.lemmas.Grind.{flat_map-append}
 use Rattle.lab_base.specs.declared.fault.Kind.TheVariants as kinds
 use Rattle.lab_base.proofs.Members.{any_map}
+use Rattle.lab_base.specs.Names.{same_name}
 use Rattle.virt_topo.specs.declared.wiring.Class.{Class}
 use Rattle.virt_topo.specs.declared.wiring.VirtEnd.{VirtEnd}
 use Rattle.virt_topo.specs.declared.wiring.Segment.{Segment}
@@ -17,7 +18,7 @@ use Rattle.virt_topo.specs.declared.wiring.Pipe.{Pipe}
 use Rattle.virt_topo.specs.declared.wiring.Wiring.{Wiring}
 use Rattle.virt_topo.specs.Ends.{end_nodes, end_owners}
 use Rattle.virt_topo.specs.Owners.{at_ends, owners_on}
-use Rattle.virt_topo.specs.Repeats.{same_name, stands_again}
+use Rattle.virt_topo.specs.Repeats.{stands_again}
 use Rattle.virt_topo.specs.Soundness.{keeps_limits, knows_all, knows_class, has_twice, has_same, has_bad_pipe, shares_end, same_some, same_address, asks_class_name}
 use Rattle.virt_topo.proofs.EndLaws.{nodes_of, item_at}
 use Rattle.virt_topo.proofs.MoreLaws.{again_more, all_alike}
@@ -137,12 +138,6 @@ take_next {X} (y ∷ xs) (suc i) x lt is =
     let next : suc i + 1 ≡ suc (i + 1) = omega arith in
     ap (λ (n : ℕ). take n (y ∷ xs)) next ∙ ap (λ (l : List X). y ∷ l) (take_next xs i x (omega arith) is)
 
--- an element there is one, whatever stands for none
-pub own_item : {X : Type 0} (xs : List X) (i : ℕ) (d e : X) → i < length xs → get_or xs i d ≡ get_or xs i e
-own_item [] i d e lt = absurd (omega arith)
-own_item (x ∷ xs) zero d e lt = refl
-own_item (x ∷ xs) (suc i) d e lt = own_item xs i d e (omega arith)
-
 -- the end at i has an address that was there, or that an earlier end has
 pub address_again : (old keys : List ℕ) (ends : List VirtEnd) (i : ℕ) (e : VirtEnd) → i < length ends → e ≡ get_or ends i e → keys ≡ old ++ addresses_of (take i ends)
     → list_any (λ a. list_any (nat_eq a) keys) (listed e.address) ≡ true → stands_again nat_eq (old ++ addresses_of ends) ≡ true
@@ -221,7 +216,7 @@ owners_next old so_far new own owner ends i e lt is count within own_is were now
     changed = elim (cases_eq v e.node) [
       | inl same ↦
           let here : get_or (set so_far e.node (own ++ owner ∷ [])) v [] ≡ own ++ owner ∷ [] = ap (λ (n : ℕ). get_or (set so_far e.node (own ++ owner ∷ [])) n []) same ∙ get_or-set_same so_far e.node (own ++ owner ∷ []) [] (omega (arith, count, within)) in
-          let own_was : own ≡ get_or so_far v [] = own_is ∙ own_item so_far e.node own [] (omega (arith, count, within)) ∙ ap (λ (n : ℕ). get_or so_far n []) (sym same) in
+          let own_was : own ≡ get_or so_far v [] = own_is ∙ get_or_default so_far e.node own [] (omega (arith, count, within)) ∙ ap (λ (n : ℕ). get_or so_far n []) (sym same) in
           let one : cond (eqb e.node v) (owner ∷ []) [] ≡ owner ∷ [] = ap (λ (b : Bool). cond b (owner ∷ []) []) (equal e.node v (sym same)) in
           here ∙ ap (λ (l : List (List ℕ)). l ++ owner ∷ []) (own_was ∙ were v v_in) ∙ append_assoc (get_or old v []) before (owner ∷ []) ∙ ap (λ (l : List (List ℕ)). get_or old v [] ++ (before ++ l)) (sym one)
       | inr other ↦

@@ -6,7 +6,7 @@ use Rattle.std.proofs.lemmas.Bool.{and_parts}
 use Rattle.std.proofs.lemmas.List.{append-nil, map-append, get_or_default}
 use Rattle.std.proofs.lemmas.Simd.{map-map}
 use Rattle.std.proofs.Math.Seq.{get_or-append_seam, set-append_seam}
-use Rattle.lab_base.specs.Names.{is_name}
+use Rattle.lab_base.specs.Names.{is_name, same_name}
 use Rattle.lab_base.specs.Lists.{Has}
 use Rattle.lab_base.specs.declared.fault.Kind.{Kind}
 use Rattle.lab_base.specs.declared.fault.Kind.TheVariants as kinds
@@ -24,16 +24,16 @@ use Rattle.virt_topo.specs.declared.wiring.Segment.{Segment}
 use Rattle.virt_topo.specs.declared.wiring.Pipe.{Pipe}
 use Rattle.virt_topo.specs.declared.wiring.Wiring.{Wiring}
 use Rattle.virt_topo.specs.Ends.{end_nodes, end_number}
-use Rattle.virt_topo.specs.Repeats.{same_name}
 use Rattle.virt_topo.specs.Soundness.{IsSound, are_rates, limits_class, limits_node, limits_segment, limits_pipe, knows_class, knows_node, knows_pipe, asks_class_name}
 use Rattle.virt_topo.proofs.CableLaws.{limits_of, segment_limits, passes_at}
 use Rattle.top_text.specs.Lines.{NodeRead, LinkRead, PipeRead}
-use Rattle.top_text.specs.Adding.{kept, with_class, with_node, virt_named, virt_number, number_or_none, end_at, segment_of, with_segment, pipe_of, with_pipe, no_virt, virt_at, placed, added, start}
+use Rattle.top_text.specs.Adding.{kept, with_class, with_node, virt_named, virt_number, number_or_none, end_at, segment_of, with_segment, pipe_of, with_pipe, placed, added, start}
 use Rattle.top_text.specs.Canonical.{virt_name, class_name, asked_name, class_fields, node_fields, fix_at, fix_lines, link_fields, pipe_fields, wiring_lines}
 use Rattle.top_text.specs.Printable.{named_class, named_asks, named_node, named_place, named_segment, is_printable}
 use Rattle.top_text.proofs.SoundTests.{sound_tests, classes_once, types_apart}
 use Rattle.top_text.proofs.PartLaws.{unfixed, part_kept}
 use Rattle.std.proofs.Math.ListN.{get_or-map}
+use Rattle.virt_topo.specs.Wirings.{virt_at, no_virt}
 use Rattle.top_text.proofs.OwnPlaces.{virt_own}
 use Rattle.top_text.proofs.TopLines.{end_read, class_again, node_again, asks_again, fix_again, link_again, pipe_again, number_high, lt_from}
 

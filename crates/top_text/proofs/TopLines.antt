@@ -6,7 +6,7 @@ use Rattle.std.proofs.lemmas.Bool.{and_parts, and_from, or_parts, eqb-true}
 use Rattle.std.proofs.lemmas.Bool.Decides.{nat_tests}
 use Rattle.std.proofs.lemmas.List.{append-nil, length-map}
 use Rattle.std.proofs.lemmas.Simd.{map-map}
-use Rattle.lab_base.specs.Names.{is_name}
+use Rattle.lab_base.specs.Names.{is_name, same_name}
 use Rattle.lab_base.specs.Kinds.{both_of}
 use Rattle.lab_base.specs.Parts.{name_of, all_of}
 use Rattle.lab_base.specs.Lists.{Has}
@@ -27,7 +27,7 @@ use Rattle.virt_topo.specs.declared.wiring.Segment.{Segment}
 use Rattle.virt_topo.specs.declared.wiring.Pipe.{Pipe}
 use Rattle.virt_topo.specs.declared.wiring.Wiring.{Wiring}
 use Rattle.virt_topo.specs.Ends.{end_number}
-use Rattle.virt_topo.specs.Repeats.{same_name, stands_again}
+use Rattle.virt_topo.specs.Repeats.{stands_again}
 use Rattle.virt_topo.specs.Soundness.{is_speed, are_rates, limits_class, limits_node, knows_class, asks_class_name}
 use Rattle.virt_topo.specs.Soundness as soundness
 use Rattle.virt_topo.proofs.CableLaws.{SegmentLimits}

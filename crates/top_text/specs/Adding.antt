@@ -1,16 +1,16 @@
 -- What a line of a top text adds to the wiring so far, or its fault.
-use Rattle.std.specs.Prelude.{◌+◌, ℕ, not, ◌==◌, List, [], ◌∷◌, ◌++◌, length, map, position, codes, slice_index_or, slice_set, Option, Some, None, is_some, Result, Ok, Err, if◌then◌else◌}
+use Rattle.std.specs.Prelude.{◌+◌, ℕ, not, ◌==◌, List, [], ◌∷◌, ◌++◌, length, map, position, codes, slice_set, Option, Some, None, is_some, Result, Ok, Err, if◌then◌else◌}
 use Rattle.lab_base.specs.Texts.{lines_of}
 use Rattle.lab_base.specs.declared.fault.Kind.{Kind}
 use Rattle.lab_base.specs.declared.fault.Kind.TheVariants as kinds
 use Rattle.lab_base.specs.declared.fault.TextFault.{TextFault}
+use Rattle.lab_base.specs.Names.{same_name}
+use Rattle.virt_topo.specs.Wirings.{virt_at}
 use Rattle.line_text.specs.Reading.{and_then, read_from}
-use Rattle.virt_topo.specs.Repeats.{same_name}
 use Rattle.virt_topo.specs.Soundness.{keeps_limits, knows_all, has_twice, has_same, has_bad_pipe}
 use Rattle.virt_topo.specs.declared.wiring.Asks.{Asks}
 use Rattle.virt_topo.specs.declared.wiring.Asks.TheVariants.{Plain, Class as InClass}
 use Rattle.virt_topo.specs.declared.wiring.Class.{Class}
-use Rattle.virt_topo.specs.declared.wiring.VirtNode.{VirtNode}
 use Rattle.virt_topo.specs.declared.wiring.VirtEnd.{VirtEnd}
 use Rattle.virt_topo.specs.declared.wiring.Segment.{Segment}
 use Rattle.virt_topo.specs.declared.wiring.Pipe.{Pipe}
@@ -66,12 +66,6 @@ pipe_of w (name, ((from, to), (there, back))) = record { node = virt_number w na
 
 abbrev pub with_pipe : Wiring → Pipe → Wiring
 with_pipe w pipe = record w { pipes = w.pipes ++ pipe ∷ [] }
-
-abbrev pub no_virt : VirtNode
-no_virt = record { name = []; asks = Plain []; desires = []; os = []; fixed = None }
-
-abbrev pub virt_at : Wiring → ℕ → VirtNode
-virt_at w v = slice_index_or w.nodes v no_virt
 
 abbrev pub with_place : Wiring → ℕ → List ℕ → Wiring
 with_place w v place = record w { nodes = slice_set w.nodes v (record (virt_at w v) { fixed = Some place }) }

@@ -2,14 +2,16 @@
 ghost use Rattle.std.specs.Prelude.{◌≡◌, ◌≤◌, ◌<◌, ◌++◌, ◌∷◌, ◌||◌, ◌&&◌, ◌+◌, ◌==◌, [], true, not, ℕ, List, Ok, OnOk, IfOk, IfSome, map, length, is_some, nat_lt, nat_le, slice_index_or, codes};
 ghost use Rattle.std.specs.List.{list_all, list_any};
 ghost use Rattle.lab_base.specs.Texts.{views};
+ghost use Rattle.lab_base.specs.Names.{same_name};
+ghost use Rattle.virt_topo.specs.Wirings.{virt_at};
 ghost use Rattle.line_text.specs.Reading.{and_then};
 ghost use Rattle.line_text.specs.Refusals.{Takes};
-ghost use Rattle.virt_topo.specs.Repeats.{same_name, stands_again};
+ghost use Rattle.virt_topo.specs.Repeats.{stands_again};
 ghost use Rattle.virt_topo.specs.Ends.{end_nodes};
 ghost use Rattle.virt_topo.specs.Soundness.{same_address, all_ends, limits_class, limits_node, limits_segment};
 ghost use Rattle.virt_topo.specs.Topos.{asks_type};
 ghost use Rattle.top_text.specs.Lines.{class_line, node_line, fix_line, link_line, pipe_line};
-ghost use Rattle.top_text.specs.Adding.{kept, start, with_class, asks_of, with_node, virt_named, virt_number, end_at, segment_of, with_segment, pipe_of, with_pipe, virt_at, with_place, placed, wire_added, node_added, keyed, added};
+ghost use Rattle.top_text.specs.Adding.{kept, start, with_class, asks_of, with_node, virt_named, virt_number, end_at, segment_of, with_segment, pipe_of, with_pipe, with_place, placed, wire_added, node_added, keyed, added};
 ghost use Rattle.top_text.specs.Tables.{IsReading, same_end};
 
 use crate::judge::Tests;

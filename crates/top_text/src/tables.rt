@@ -1,8 +1,9 @@
 // What the names, the addresses and the ends of the wiring so far are looked up in.
 ghost use Rattle.std.specs.Prelude.{◌≡◌, ◌<◌, ◌≤◌, ◌++◌, ◌∷◌, ◌&&◌, ◌||◌, ℕ, [], false, true, nat_eq, nat_lt, length, map, position, slice_index_or, IfOk, IfSome, OnOk};
 ghost use Rattle.std.specs.List.{list_any, list_all};
+ghost use Rattle.lab_base.specs.Names.{same_name};
 ghost use Rattle.indexmap.specs.IndexSet.{contains};
-ghost use Rattle.virt_topo.specs.Repeats.{same_name, stands_again};
+ghost use Rattle.virt_topo.specs.Repeats.{stands_again};
 ghost use Rattle.virt_topo.specs.Owners.{at_ends};
 ghost use Rattle.top_text.specs.Tables.{AreTables, listed, addresses_of, same_end};
 ghost use Rattle.top_text.specs.Adding.{start};

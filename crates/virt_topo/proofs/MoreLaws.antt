@@ -8,6 +8,7 @@ use Rattle.std.proofs.lemmas.Bool.Decides.{nat_tests}
 use Rattle.std.proofs.lemmas.Grind.{flat_map-append}
 use Rattle.std.proofs.lemmas.List.{append-nil, length-map}
 use Rattle.std.proofs.lemmas.List.Folds.{list_all-append, list_any-append}
+use Rattle.lab_base.specs.Names.{same_name}
 use Rattle.virt_topo.specs.declared.wiring.Asks.{Asks}
 use Rattle.virt_topo.specs.declared.wiring.Asks.TheVariants.{Plain, Class as InClass}
 use Rattle.virt_topo.specs.declared.wiring.Class.{Class}
@@ -17,7 +18,7 @@ use Rattle.virt_topo.specs.declared.wiring.Segment.{Segment}
 use Rattle.virt_topo.specs.declared.wiring.Pipe.{Pipe}
 use Rattle.virt_topo.specs.declared.wiring.Wiring.{Wiring}
 use Rattle.virt_topo.specs.Ends.{end_nodes, end_number, end_owners}
-use Rattle.virt_topo.specs.Repeats.{same_name, stands_again}
+use Rattle.virt_topo.specs.Repeats.{stands_again}
 use Rattle.virt_topo.specs.Soundness.{limits_class, limits_node, limits_segment, limits_pipe, keeps_limits, knows_class, knows_node, knows_pipe, is_end, knows_all, same_address, all_ends, asks_class_name, has_twice, has_same, is_bad_pipe, shares_end, has_bad_pipe}
 use Rattle.virt_topo.specs.Topos.{asks_type}
 use Rattle.virt_topo.proofs.EndLaws.{nodes_of, owners_of}

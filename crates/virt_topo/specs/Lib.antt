@@ -5,3 +5,4 @@ pub mod Repeats
 pub mod Soundness
 pub mod Sought
 pub mod Topos
+pub mod Wirings

@@ -1,11 +1,6 @@
 -- What stands again in a list.
-use Rattle.std.specs.Prelude.{ℕ, Bool, false, ◌||◌, nat_eq, List, [], ◌∷◌}
+use Rattle.std.specs.Prelude.{Bool, false, ◌||◌, List, [], ◌∷◌}
 use Rattle.std.specs.List.{list_any}
-use Rattle.std.specs.Cmp.Lexicographic.{pointwise}
-
--- two names are one
-abbrev pub same_name : List ℕ → List ℕ → Bool
-same_name = pointwise nat_eq
 
 -- some element and a later one are the same
 abbrev pub stands_again : {X : Type 0} → (X → X → Bool) → List X → Bool

@@ -1,7 +1,8 @@
 // What is given again in a wiring.
 ghost use Rattle.std.specs.Prelude.{◌≡◌, ◌++◌, ◌||◌, ◌==◌};
 ghost use Rattle.std.specs.List.{list_any};
-ghost use Rattle.virt_topo.specs.Repeats.{same_name, stands_again};
+ghost use Rattle.lab_base.specs.Names.{same_name};
+ghost use Rattle.virt_topo.specs.Repeats.{stands_again};
 ghost use Rattle.virt_topo.specs.Soundness.{all_ends, asks_class_name, has_same, has_twice, same_address, same_some};
 
 use crate::{Asks, Class, Segment, VirtEnd, VirtNode, Wiring};

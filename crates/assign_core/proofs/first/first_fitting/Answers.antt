@@ -4,7 +4,8 @@ use Rattle.std.specs.List.{find}
 use Rattle.lab_model.specs.Shapes.{Place}
 use Rattle.node_maps.specs.NodeMaps.{candidates, plugs_of}
 use Rattle.node_maps.proofs.MapLaws.{candidates_count}
-use Rattle.assign_core.specs.Exact.{may_share, fits_next}
+use Rattle.node_maps.specs.Moved.{may_share}
+use Rattle.assign_core.specs.Exact.{fits_next}
 use Rattle.assign_core.proofs.Firsts.{candidates_within, find_here, find_later}
 use Rattle.assign_core.proofs.first.first_fitting.Goals as goal
 

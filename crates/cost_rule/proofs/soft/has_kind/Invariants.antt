@@ -1,6 +1,6 @@
 use Rattle.std.proofs.Common.{◌≡◌}
 use Rattle.std.specs.List.{list_any}
-use Rattle.virt_topo.specs.Repeats.{same_name}
+use Rattle.lab_base.specs.Names.{same_name}
 use Rattle.cost_rule.specs.Counting.{types_from}
 use Rattle.cost_rule.proofs.soft.has_kind.Given as goal
 

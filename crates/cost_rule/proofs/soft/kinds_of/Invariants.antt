@@ -1,5 +1,5 @@
 use Rattle.std.proofs.Common.{◌≡◌, ◌≤◌, ◌+◌}
-use Rattle.virt_topo.specs.Repeats.{same_name}
+use Rattle.lab_base.specs.Names.{same_name}
 use Rattle.cost_rule.specs.Cost.{different, kinds_of}
 use Rattle.cost_rule.specs.Counting.{types_from}
 use Rattle.cost_rule.proofs.soft.kinds_of.Given as goal

@@ -1,6 +1,7 @@
 use Rattle.std.proofs.Common.{◌≡◌, ◌+◌, Bool, List, false, ℕ, cond, drop, get_or, sym, ap, arith, ◌∙◌}
 use Rattle.virt_topo.specs.declared.wiring.VirtNode.{VirtNode}
-use Rattle.lab_model.specs.Rules.{is_member, first_type, no_virt, no_place}
+use Rattle.virt_topo.specs.Wirings.{no_virt}
+use Rattle.lab_model.specs.Rules.{is_member, first_type, no_place}
 use Rattle.feas.proofs.GuestLaws.{first_step}
 use Rattle.feas.proofs.places.is_first_type.Goals as goal
 

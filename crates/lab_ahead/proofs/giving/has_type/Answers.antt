@@ -1,7 +1,7 @@
 use Rattle.std.proofs.Common.{ℕ, List, [], get_or, sym, ap, ◌∙◌}
 use Rattle.std.specs.List.{list_any}
 use Rattle.std.proofs.lemmas.List.{get_or-map}
-use Rattle.phys_lab.specs.Keys.{same_name}
+use Rattle.lab_base.specs.Names.{same_name}
 use Rattle.phys_lab.specs.declared.parts.Node.{Node}
 use Rattle.lab_ahead.proofs.giving.has_type.Goals as goal
 

@@ -1,6 +1,6 @@
 use Rattle.std.proofs.Common.{sym, subst}
 use Rattle.virt_topo.specs.declared.mapping.Mapped.{Mapped}
-use Rattle.records_model.specs.Labs.{mapped}
+use Rattle.virt_topo.specs.Wirings.{mapped}
 use Rattle.swap_plan.specs.Plans.{IsFit}
 use Rattle.lab_core.specs.JudgeSwap.{IsTaskOf, change_of, way_over}
 use Rattle.lab_core.proofs.JudgeSwap.{ids_fit, new_fit, old_fit, planned_over}

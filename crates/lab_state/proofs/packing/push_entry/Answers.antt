@@ -1,9 +1,9 @@
 use Rattle.std.proofs.Common.{◌≤◌, ℕ, List, [], ◌∷◌, length, subst, sym}
 use Rattle.std.specs.Prelude.{OnOk}
 use Rattle.lab_base.specs.declared.ids.VlanId.{VlanId}
+use Rattle.virt_topo.specs.Wirings.{mapped}
 use Rattle.journal_rec.specs.declared.record.Record.TheVariants.{Begin}
 use Rattle.journal_rec.specs.declared.record.Way.TheVariants.{In as WayIn}
-use Rattle.records_model.specs.Labs.{mapped}
 use Rattle.lab_state.specs.Packing.{PacksMore}
 use Rattle.lab_state.proofs.PackSteps.{entry_short, few_tags}
 use Rattle.lab_state.proofs.packing.push_entry.Goals as goal

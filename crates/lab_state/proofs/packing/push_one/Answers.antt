@@ -1,6 +1,6 @@
 use Rattle.std.proofs.Common.{ap, ◌∙◌}
+use Rattle.virt_topo.specs.Wirings.{mapped}
 use Rattle.lab_model.specs.Claims.{Old, New, claimed_in}
-use Rattle.records_model.specs.Labs.{mapped}
 use Rattle.lab_state.proofs.packing.push_one.Goals as goal
 
 pub push_stand-requires : goal.push_stand-requires

@@ -1,6 +1,6 @@
 use Rattle.std.proofs.Common.{[], ◌∷◌}
+use Rattle.virt_topo.specs.Wirings.{mapped}
 use Rattle.journal_rec.specs.declared.record.Record.TheVariants.{Commit}
-use Rattle.records_model.specs.Labs.{mapped}
 use Rattle.lab_state.specs.Packing.{creation, entry}
 use Rattle.lab_state.specs.Texts.{the_texts}
 use Rattle.lab_state.proofs.PackSteps.{packs_on, packs_then}

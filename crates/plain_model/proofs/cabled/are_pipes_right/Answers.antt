@@ -1,5 +1,5 @@
 use Rattle.std.proofs.Common.{Some, [], arith, below_more, sym, ◌∙◌}
-use Rattle.plain_model.specs.Holds.{mapped}
+use Rattle.virt_topo.specs.Wirings.{mapped}
 use Rattle.plain_model.specs.Cabling.{is_pipe_right}
 use Rattle.plain_model.proofs.HoldsLaws.{pass_fails, pass_all}
 use Rattle.plain_model.proofs.cabled.are_pipes_right.Goals as goal

@@ -1,6 +1,6 @@
 use Rattle.std.proofs.Common.{Some, []}
+use Rattle.virt_topo.specs.Wirings.{mapped}
 use Rattle.lab_model.specs.Feasible.{AllPass}
-use Rattle.plain_model.specs.Holds.{mapped}
 use Rattle.plain_model.specs.Cabling.{is_pipe_right}
 use Rattle.plain_model.proofs.cabled.are_pipes_right.Given as goal
 

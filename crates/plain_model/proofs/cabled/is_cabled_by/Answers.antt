@@ -1,6 +1,6 @@
 use Rattle.std.specs.List.{list_all}
 use Rattle.std.proofs.Common.{◌&&◌, [], sym, ap, ◌∙◌}
-use Rattle.plain_model.specs.Holds.{mapped}
+use Rattle.virt_topo.specs.Wirings.{mapped}
 use Rattle.plain_model.specs.Rows.{has_row}
 use Rattle.plain_model.specs.Cabling.{are_nodes_right, is_cabled_in}
 use Rattle.plain_model.proofs.HoldsLaws.{in_suits, moving_fits}

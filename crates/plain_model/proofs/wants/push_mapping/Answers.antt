@@ -1,6 +1,7 @@
 use Rattle.std.specs.List.{list_all}
 use Rattle.std.proofs.Common.{◌≡◌, true, sym, subst}
-use Rattle.plain_model.specs.Holds.{mapped, is_plug}
+use Rattle.virt_topo.specs.Wirings.{mapped}
+use Rattle.plain_model.specs.Holds.{is_plug}
 use Rattle.plain_model.proofs.WantLaws.{plugs_known}
 use Rattle.plain_model.proofs.wants.push_mapping.Goals as goal
 

@@ -1,6 +1,6 @@
 use Rattle.std.proofs.Common.{◌∙◌, sym}
 use Rattle.std.specs.Prelude.{codes}
-use Rattle.phys_lab.specs.Keys.{same_name}
+use Rattle.lab_base.specs.Names.{same_name}
 use Rattle.line_text.proofs.SliceLaws.{position-map}
 use Rattle.ptop_text.proofs.device.dash_in.Goals as goal
 

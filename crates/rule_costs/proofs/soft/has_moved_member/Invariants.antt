@@ -1,5 +1,6 @@
 use Rattle.std.proofs.Common.{◌≡◌, ◌<◌, ℕ, true}
-use Rattle.lab_model.specs.Rules.{is_member, place_at, virt_at}
+use Rattle.virt_topo.specs.Wirings.{virt_at}
+use Rattle.lab_model.specs.Rules.{is_member, place_at}
 use Rattle.rule_costs.proofs.soft.has_moved_member.Given as goal
 
 abbrev pub invariant-loop-virt : goal.invariant-loop-virt

@@ -1,7 +1,7 @@
 use Rattle.std.proofs.Common.{List, ℕ, ap, ◌∙◌}
 use Rattle.std.specs.List.{position}
+use Rattle.lab_base.specs.Names.{same_name}
 use Rattle.line_text.proofs.SliceLaws.{position-map}
-use Rattle.virt_topo.specs.Repeats.{same_name}
 use Rattle.phys_lab.specs.declared.parts.Node.{Node}
 use Rattle.solution_text.proofs.Places.{also}
 use Rattle.solution_text.proofs.names.node_table.Goals as goal

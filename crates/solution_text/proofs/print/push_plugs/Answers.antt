@@ -1,10 +1,9 @@
 use Rattle.std.proofs.Common.{◌≡◌, ℕ, List, get_or, map, take, ◌++◌, ap, ◌∙◌, arith}
 use Rattle.std.specs.List.{zip}
-use Rattle.std.proofs.lemmas.List.{take_all}
+use Rattle.std.proofs.lemmas.List.{take_all, get_or_default}
 use Rattle.lab_base.specs.declared.ids.IfaceId.{IfaceId}
 use Rattle.line_text.specs.Printing.{text_of}
 use Rattle.line_text.proofs.PrintLaws.{text_more}
-use Rattle.phys_lab.proofs.TableLaws.{same_at}
 use Rattle.solution_text.specs.CanonicalSolution.{plug_fields}
 use Rattle.solution_text.proofs.ZipLaws.{zip_length, zip_at}
 use Rattle.solution_text.proofs.print.push_plugs.Goals as goal
@@ -18,7 +17,7 @@ loop-end-preserved c =
     let plug : IfaceId = get_or plugs i (record { 0 = 0 }) in
     text_more (plug_fields c.args.lab.now c.args.wiring.now) (zip keys plugs) i (key, plug) c.args.text.now c.loop-end.text c.push_plug.new.text
     (omega (arith, zip_length keys plugs c.requires.plugs))
-    (zip_at keys plugs i key plug c.requires.plugs c.loop-end-test.true (same_at keys i (0, 0) key c.loop-end-test.true) (same_at plugs i (record { 0 = 0 }) plug (omega (arith, c.requires.plugs))))
+    (zip_at keys plugs i key plug c.requires.plugs c.loop-end-test.true (get_or_default keys i (0, 0) key c.loop-end-test.true) (get_or_default plugs i (record { 0 = 0 }) plug (omega (arith, c.requires.plugs))))
     c.loop-end.invariant c.in_ok-push_plug.ensures
 
 pub returns : goal.returns

@@ -2,12 +2,12 @@ use Rattle.std.proofs.Common.{◌≡◌, ◌<◌, ℕ, List, [], ◌++◌, None,
 use Rattle.std.specs.Prelude.{nat_lt}
 use Rattle.std.proofs.Math.ListN.{set}
 use Rattle.std.proofs.lemmas.Bool.Decides.{nat_tests}
-use Rattle.std.proofs.lemmas.List.{take_all, length-set}
+use Rattle.std.proofs.lemmas.List.{take_all, length-set, get_or_default}
 use Rattle.virt_topo.specs.declared.wiring.VirtEnd.{VirtEnd}
 use Rattle.virt_topo.specs.Owners.{at_ends}
 use Rattle.virt_topo.proofs.EndLaws.{nodes_of}
 use Rattle.virt_topo.proofs.CableLaws.{passes_at}
-use Rattle.top_text.proofs.TableLaws.{of_owner, own_item, owners_next}
+use Rattle.top_text.proofs.TableLaws.{of_owner, owners_next}
 use Rattle.top_text.proofs.tables.put_owner.Goals as goal
 
 abbrev none : VirtEnd
@@ -24,7 +24,7 @@ loop-end-preserved c =
     let old = c.args.owners.now.items in
     let so_far = c.loop-end.owners.items in
     let own = c.index_mut.result.now in
-    let is : e ≡ get_or ends i e = own_item ends i none e c.loop-end-test.true in
+    let is : e ≡ get_or ends i e = get_or_default ends i none e c.loop-end-test.true in
     let within : e.node < length old = less e.node (length old) (passes_at (λ x. nat_lt x.node (length old)) ends i e c.requires c.loop-end-test.true is) in
     record {
       count = length-set so_far e.node c.push.new.self ∙ c.loop-end.invariant.count;

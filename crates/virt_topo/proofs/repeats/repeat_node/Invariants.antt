@@ -1,5 +1,6 @@
 use Rattle.std.proofs.Common.{◌≡◌, length}
-use Rattle.virt_topo.specs.Repeats.{same_name, stands_again}
+use Rattle.lab_base.specs.Names.{same_name}
+use Rattle.virt_topo.specs.Repeats.{stands_again}
 use Rattle.virt_topo.proofs.repeats.repeat_node.Given as goal
 
 abbrev pub invariant-loop-first : goal.invariant-loop-first

@@ -1,8 +1,8 @@
 use Rattle.std.proofs.Common.{Some, Err, sym, subst}
 use Rattle.std.proofs.lemmas.Result.{err_from_is_err_and}
+use Rattle.virt_topo.specs.Wirings.{mapped}
 use Rattle.journal_rec.specs.declared.record.Record.TheVariants.{Begin}
 use Rattle.journal_rec.specs.declared.record.Way.TheVariants.{Change}
-use Rattle.records_model.specs.Labs.{mapped}
 use Rattle.lab_state.specs.Kept.{IsKept, state_of}
 use Rattle.lab_state.specs.Judged.{IsJudged, IsTaken}
 use Rattle.lab_state.proofs.BeginLaws.{own_found}

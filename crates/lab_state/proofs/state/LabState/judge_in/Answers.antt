@@ -1,7 +1,7 @@
 use Rattle.std.proofs.Common.{sym, subst}
+use Rattle.virt_topo.specs.Wirings.{mapped}
 use Rattle.journal_rec.specs.declared.record.Record.TheVariants.{Begin}
 use Rattle.journal_rec.specs.declared.record.Way.TheVariants.{In}
-use Rattle.records_model.specs.Labs.{mapped}
 use Rattle.virt_topo.specs.Soundness.{IsSound}
 use Rattle.lab_state.specs.Kept.{IsKept, state_of}
 use Rattle.lab_state.specs.Judged.{IsJudged, IsTaken}

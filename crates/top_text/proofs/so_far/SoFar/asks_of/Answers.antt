@@ -1,8 +1,8 @@
 use Rattle.std.proofs.Common.{List, ℕ, length, arith, sym, ap, ◌∙◌}
 use Rattle.std.specs.List.{position}
 use Rattle.std.proofs.lemmas.List.{length-map}
+use Rattle.lab_base.specs.Names.{same_name}
 use Rattle.line_text.proofs.SliceLaws.{position-map}
-use Rattle.virt_topo.specs.Repeats.{same_name}
 use Rattle.virt_topo.specs.declared.wiring.Class.{Class}
 use Rattle.virt_topo.proofs.CableLaws.{limits_of}
 use Rattle.top_text.specs.Adding.{asks_at}
