@@ -12,7 +12,7 @@ use std::alloc::Global;
 use std::marker::Model;
 
 /// For how many claims there is room from the start: as many experiments as there may be.
-const MOST: usize = 256;
+const MAX_CLAIMS: usize = 256;
 
 /// What the experiments of a lab claim.
 #[derive(Drop)]
@@ -127,7 +127,7 @@ impl Claims {
         Ok(Claims {
             range,
             kbps: kbps_of(alloc, lab.trunks())?,
-            entries: Vec::with_capacity(alloc, MOST)?,
+            entries: Vec::with_capacity(alloc, MAX_CLAIMS)?,
             tables: no_tables(alloc, lab.nodes().len(), lab.trunks().len(), ids)?,
         })
     }

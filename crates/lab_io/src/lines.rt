@@ -12,7 +12,7 @@ use lab_base::{Memory, Text};
 use std::alloc::Global;
 
 /// The most bytes of a line, without its end.
-const MOST: usize = 4_096;
+const MAX_LINE: usize = 4_096;
 
 /// The most bytes that are asked of a source at once.
 const CHUNK: usize = 4_096;
@@ -81,7 +81,7 @@ fn fill<S: Source>(pending: &mut Vec<u8>, taken: u64, source: &mut S) -> Result<
         if at < pending.len() {
             return Ok(Found::Feed(at));
         }
-        if pending.len() > MOST + 1 || pending.len() as u64 > LIMIT - taken {
+        if pending.len() > MAX_LINE + 1 || pending.len() as u64 > LIMIT - taken {
             return Ok(Found::Long);
         }
         if pending.try_reserve(CHUNK).is_err() {
@@ -117,7 +117,7 @@ fn take_text(
     ensures long { (n : ℕ) → IsErrOf result (LineFault.TooLong n) → (n ≡ number) × ((4096 < end) ⊎ (2 ^ 32 < taken.old + after)) }
     ensures read { result ≢ Err LineFault.ReadFault }
 {
-    if end > MOST {
+    if end > MAX_LINE {
         return Err(LineFault::TooLong(number));
     }
     if after as u64 > LIMIT - *taken {
@@ -192,7 +192,7 @@ fn text_at(
     ensures long { IfOk result (λ peeked. IfNone peeked ((4096 < end) ⊎ (2 ^ 32 < taken + after))) }
     ensures err { IfErr result (λ fault. fault ≡ LineFault.Memory) }
 {
-    if end > MOST || after as u64 > LIMIT - taken {
+    if end > MAX_LINE || after as u64 > LIMIT - taken {
         return Ok(None);
     }
     match Text::from_slice(alloc, &pending[..end]) {

@@ -60,12 +60,12 @@ fn free(alloc: Global, lab: &Lab, taken: usize, left: u64) -> Result<Free, Fail>
 }
 
 /// How long a text of these rows may be.
-const MOST: usize = 1_000;
+const MAX_TEXT: usize = 1_000;
 
 pub(crate) fn wiring_of(alloc: Global, top: &[u8]) -> Result<Wiring, Fail>
     ensures { IfOk result (λ wiring. IsSound wiring) }
 {
-    if top.len() > MOST {
+    if top.len() > MAX_TEXT {
         return Err("a shorter text".into());
     }
     match read_top(alloc, top) {
@@ -83,7 +83,7 @@ pub(crate) fn mapping_of(
     requires { IsSound wiring.now }
     ensures { IfOk result (λ mapping. IsShaped lab.now wiring.now mapping) }
 {
-    if solution.len() > MOST {
+    if solution.len() > MAX_TEXT {
         return Err("a shorter text".into());
     }
     match read_solution(alloc, solution, lab, wiring) {

@@ -18,7 +18,7 @@ use lab_base::{Name, Tags};
 use virt_topo::{Experiment, Mapped, Phase};
 
 /// The most experiments of a lab.
-const MOST: usize = 256;
+const MAX_EXPERIMENTS: usize = 256;
 
 impl LabState {
     /// A lab comes first, and once.
@@ -42,7 +42,7 @@ impl LabState {
         if self.place.is_none() {
             return Err(PrepareFault::Bad);
         }
-        if self.experiments.len() >= MOST {
+        if self.experiments.len() >= MAX_EXPERIMENTS {
             return Err(PrepareFault::Bad);
         }
         if self.experiments.named(exp).is_some() {

@@ -13,7 +13,7 @@ use top_text::{print_top, read_top};
 use virt_topo::{Mapping, Wiring};
 
 /// The most bytes of a text.
-const MOST: usize = 16_777_216;
+const MAX_TEXT: usize = 16_777_216;
 
 /// What no experiment claims is all of it.
 pub(crate) fn all_free(alloc: Global, lab: &Lab) -> Result<Free, Memory>
@@ -36,7 +36,7 @@ pub(crate) fn fault_of(refused: TextRefused) -> anyhow::Error {
 pub(crate) fn short(text: &[u8]) -> anyhow::Result<()>
     ensures { IfOk result (λ _. length text.now < 2 ^ 32 - 1) }
 {
-    if text.len() > MOST {
+    if text.len() > MAX_TEXT {
         bail!("a text of over 16,777,216 bytes");
     }
     Ok(())

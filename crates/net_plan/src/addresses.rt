@@ -14,7 +14,7 @@ use std::alloc::Global;
 use virt_topo::{AskedLink, VirtEnd};
 
 /// The greatest number of a link or LAN that has a subnet of its own.
-const MOST_NUMBER: u32 = 254;
+const MAX_NUMBER: u32 = 254;
 
 /// 10.1.0.0, without its last number.
 const FIRST_SUBNET: u32 = (10 * 256 + 1) * 256;
@@ -38,7 +38,7 @@ fn subnet_of(number: u32, ends: &[VirtEnd]) -> Option<u32>
     if let Some(address) = first_address(ends) {
         return Some(address / 256);
     }
-    if number > MOST_NUMBER {
+    if number > MAX_NUMBER {
         return None;
     }
     Some(FIRST_SUBNET + number)

@@ -7,7 +7,7 @@ use lab_base::Boot;
 use std::marker::Model;
 
 /// The poll after which a node that isn't up has taken too long.
-const MOST: u32 = 64;
+const MAX_POLLS: u32 = 64;
 
 /// What a watch says of a state: the first of these that holds.
 #[derive(Clone, Copy, Debug, PartialEq, Eq)]
@@ -63,7 +63,7 @@ impl Watch {
             Seen::Unlawful(last, state)
         } else if state == Boot::IsUp {
             Seen::Up
-        } else if self.polls == MOST {
+        } else if self.polls == MAX_POLLS {
             Seen::TooLong
         } else {
             Seen::Wait

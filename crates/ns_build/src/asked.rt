@@ -15,7 +15,7 @@ use tcl_words::line_of;
 use virt_topo::Topo;
 
 /// The most bytes of a text.
-const MOST: usize = 65_536;
+const MAX_TEXT: usize = 65_536;
 
 /// What an NS text asks for.
 #[derive(Drop)]
@@ -45,8 +45,8 @@ pub fn read_ns(alloc: Global, text: &[u8]) -> Result<Asked, TextRefused>
     ensures few { IfOk result (λ asked. length asked.events ≤ 1024) }
     ensures limits { IfOk result (λ asked. AllKeepLimits asked.events) }
 {
-    if text.len() > MOST {
-        return Err(refused(line_of(text, MOST), Kind::Long));
+    if text.len() > MAX_TEXT {
+        return Err(refused(line_of(text, MAX_TEXT), Kind::Long));
     }
     let mut interp = Interp::new(alloc, NsHost::new(alloc))?;
     match interp.run(text)? {

@@ -20,10 +20,10 @@ use std::alloc::Global;
 use virt_topo::{Asks, Class};
 
 /// The most classes.
-const MOST_CLASSES: usize = 64;
+const MAX_CLASSES: usize = 64;
 
 /// The most types of a class.
-const MOST_TYPES: usize = 8;
+const MAX_TYPES: usize = 8;
 
 /// The weight of a class, in thousandths.
 const WEIGHT: u32 = 500;
@@ -86,7 +86,7 @@ impl Network {
     fn has_no_room(&self, types: usize) -> bool
         ensures { result ≡ (nat_lt 8 types || nat_le 64 (length self.now.classes)) }
     {
-        types > MOST_TYPES || self.classes.len() >= MOST_CLASSES
+        types > MAX_TYPES || self.classes.len() >= MAX_CLASSES
     }
 
     /// Whether no class may have this name.

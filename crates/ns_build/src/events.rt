@@ -19,7 +19,7 @@ use ns_events::{Event, What};
 use std::alloc::Global;
 
 /// The most events.
-const MOST_EVENTS: usize = 1_024;
+const MAX_EVENTS: usize = 1_024;
 
 /// The time that a word is, in microseconds.
 #[tactic(auto, unfolding(crate::specs::Events::time_in))]
@@ -99,7 +99,7 @@ impl Network {
         let at = time_in(word_at(words, 2))?;
         let parts = elements_in(alloc, word_at(words, 3))?;
         let event = self.event_in(line, at, &parts)?;
-        refuse(Kind::Limit, self.events.len() >= MOST_EVENTS)?;
+        refuse(Kind::Limit, self.events.len() >= MAX_EVENTS)?;
         Ok(Task::AddEvent { event })
     }
 

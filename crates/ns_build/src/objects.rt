@@ -19,13 +19,13 @@ use std::alloc::Global;
 use virt_topo::{AskedLink, VirtEnd};
 
 /// The most nodes.
-const MOST_NODES: usize = 256;
+const MAX_NODES: usize = 256;
 
 /// The most links and LANs.
-const MOST_LINKS: usize = 512;
+const MAX_LINKS: usize = 512;
 
 /// The most nodes of a LAN.
-const MOST_MEMBERS: usize = 254;
+const MAX_MEMBERS: usize = 254;
 
 /// An end without an address.
 fn bare_end(node: u16) -> VirtEnd
@@ -57,7 +57,7 @@ impl Network {
     {
         counted(2, words)?;
         let place = self.nodes.len();
-        if place >= MOST_NODES {
+        if place >= MAX_NODES {
             return Err(Kind::Limit);
         }
         Ok(Task::AddNode {
@@ -69,7 +69,7 @@ impl Network {
     fn link_room(&self) -> Result<(), Kind>
         ensures { result ≡ commands.link_room self.now }
     {
-        refuse(Kind::Limit, self.links.len() >= MOST_LINKS)
+        refuse(Kind::Limit, self.links.len() >= MAX_LINKS)
     }
 
     /// A link or LAN without loss.
@@ -142,7 +142,7 @@ impl Network {
         let elements = elements_in(alloc, word_at(words, 2))?;
         let ends = self.joined_ends(alloc, &elements)?;
         refuse(Kind::Node, ends.len() < 2)?;
-        refuse(Kind::Limit, ends.len() > MOST_MEMBERS)?;
+        refuse(Kind::Limit, ends.len() > MAX_MEMBERS)?;
         let kbps = bandwidth_in(word_at(words, 3))?;
         let micros = delay_in(word_at(words, 4))?;
         self.link_room()?;

@@ -11,7 +11,7 @@ use arrayvec::ArrayVec;
 use lab_base::{Name, Parts, parted};
 
 /// The most bytes of an object's name.
-const MOST: usize = 26;
+const MAX_NAME: usize = 26;
 
 /// What is numbered, if no variable names it.
 #[derive(Clone, Copy, Debug, PartialEq, Eq)]
@@ -61,13 +61,13 @@ fn is_index(bytes: &[u8]) -> bool
 fn name_in(bytes: &[u8]) -> Option<Name>
     ensures { result ≡ named_if bytes.now }
 {
-    if bytes.len() <= MOST {
+    if bytes.len() <= MAX_NAME {
         return Name::read(bytes).ok();
     }
     None
 }
 
-fn extend(bytes: &mut ArrayVec<u8, MOST>, more: &[u8])
+fn extend(bytes: &mut ArrayVec<u8, MAX_NAME>, more: &[u8])
     requires { array_vec_len bytes.old + length more.now ≤ 26 }
     ensures { bytes.new.items ≡ bytes.old.items ++ more.now }
 {
@@ -79,10 +79,10 @@ fn joined(first: &[u8], second: &[u8], third: &[u8]) -> Option<Name>
     ensures { result ≡ named_if (first.now ++ second.now ++ third.now) }
 {
     let len = first.len().saturating_add(second.len());
-    if len.saturating_add(third.len()) > MOST {
+    if len.saturating_add(third.len()) > MAX_NAME {
         return None;
     }
-    let mut bytes = ArrayVec::<u8, MOST>::new();
+    let mut bytes = ArrayVec::<u8, MAX_NAME>::new();
     extend(&mut bytes, first);
     extend(&mut bytes, second);
     extend(&mut bytes, third);

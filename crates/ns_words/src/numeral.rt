@@ -11,7 +11,7 @@ ghost use Rattle.ns_words.specs.Seen.{numeral_seen, IsNumeral, capped};
 const LARGE: u64 = 10_000_000_000_000;
 
 /// The most digits behind a point.
-const MOST_PLACES: usize = 9;
+const MAX_PLACES: usize = 9;
 
 /// The parts of a word: the digits before and behind the point, and what is left.
 #[derive(Clone, Copy)]
@@ -42,7 +42,7 @@ fn numeral_from<'a>(whole: &'a [u8], rest: &'a [u8]) -> Numeral<'a>
 {
     if let [b'.', behind @ ..] = rest {
         let places = digits_len(behind);
-        if 1 <= places && places <= MOST_PLACES {
+        if 1 <= places && places <= MAX_PLACES {
             return Numeral {
                 whole,
                 fraction: &behind[..places],

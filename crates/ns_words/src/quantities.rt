@@ -9,7 +9,7 @@ use crate::numeral::numeral_in;
 use crate::units::{loss_scale, rate_scale, second_scale, time_scale};
 
 /// The most digits behind the point of a time.
-const MOST_PLACES: usize = 6;
+const MAX_PLACES: usize = 6;
 
 fn narrow(value: Option<u64>) -> Option<u32>
     requires { ForSome value (λ n. n < 4294967296) }
@@ -59,7 +59,7 @@ pub fn time(word: &[u8]) -> Option<u64>
     ensures limits { IfSome result (λ micros. micros ≤ 1000000000000) }
 {
     let numeral = numeral_in(word);
-    if numeral.fraction.len() > MOST_PLACES {
+    if numeral.fraction.len() > MAX_PLACES {
         return None;
     }
     numeral.measured(second_scale(numeral.unit), 1, 0, 1_000_000_000_000)

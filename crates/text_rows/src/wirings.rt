@@ -6,7 +6,7 @@ use std::alloc::Global;
 use top_text::{print_top, read_top};
 
 /// How long a text of these rows may be.
-const MOST: usize = 100_000;
+const MAX_TEXT: usize = 100_000;
 
 /// Three nodes.
 const HEAD: &[u8] =
@@ -14,7 +14,7 @@ const HEAD: &[u8] =
 
 /// What a text of these rows is read and printed as.
 fn printed(alloc: Global, text: &[u8]) -> Result<Text, TextRefused> {
-    if text.len() > MOST {
+    if text.len() > MAX_TEXT {
         return Err(TextRefused::Memory);
     }
     Ok(read_and_print(alloc, text)?.top)
@@ -22,7 +22,7 @@ fn printed(alloc: Global, text: &[u8]) -> Result<Text, TextRefused> {
 
 /// The text of the wiring that a top text is read as.
 fn again(alloc: Global, top: &[u8]) -> Result<Text, TextRefused> {
-    if top.len() > MOST {
+    if top.len() > MAX_TEXT {
         return Err(TextRefused::Memory);
     }
     Ok(print_top(alloc, &read_top(alloc, top)?)?)

@@ -3,8 +3,8 @@ use Rattle.std.proofs.lemmas.Result.{err_from_is_err_and}
 use Rattle.ns_build.proofs.Meanings.{stopped, ended, failed, too_long, no_memory}
 use Rattle.ns_build.proofs.asked.read_ns.Goals as goal
 
-pub returns-then-text-gt-MOST-clause-meaning : goal.returns-then-text-gt-MOST-clause-meaning
-returns-then-text-gt-MOST-clause-meaning c = rw c.refused.ensures (too_long c.args.text.now c.line_of.result c.if-text-gt-MOST.true c.line_of.ensures)
+pub returns-then-text-gt-MAX_TEXT-clause-meaning : goal.returns-then-text-gt-MAX_TEXT-clause-meaning
+returns-then-text-gt-MAX_TEXT-clause-meaning c = rw c.refused.ensures (too_long c.args.text.now c.line_of.result c.if-text-gt-MAX_TEXT.true c.line_of.ensures)
 
 pub returns-in_err-interp-clause-meaning : goal.returns-in_err-interp-clause-meaning
 returns-in_err-interp-clause-meaning c =

@@ -8,9 +8,9 @@ use Rattle.lab_state.proofs.state.LabState.judge_create.Goals as goal
 pub returns-then-is_none : goal.returns-then-is_none
 returns-then-is_none c = rw (← c.self.view_is) (create_nowhere c.self.inside.place c.self.inside.experiments.list c.args.exp c.args.text.now c.if-is_none.ensures)
 
-pub returns-then-len-ge-MOST : goal.returns-then-len-ge-MOST
-returns-then-len-ge-MOST c =
-    rw (← c.self.view_is) (create_full c.self.inside.place c.self.inside.experiments.list c.args.exp c.args.text.now (subst (λ n. 256 ≤ n) c.len.ensures c.if-len-ge-MOST.true))
+pub returns-then-len-ge-MAX_EXPERIMENTS : goal.returns-then-len-ge-MAX_EXPERIMENTS
+returns-then-len-ge-MAX_EXPERIMENTS c =
+    rw (← c.self.view_is) (create_full c.self.inside.place c.self.inside.experiments.list c.args.exp c.args.text.now (subst (λ n. 256 ≤ n) c.len.ensures c.if-len-ge-MAX_EXPERIMENTS.true))
 
 pub returns-then-is_some : goal.returns-then-is_some
 returns-then-is_some c =
@@ -30,4 +30,4 @@ returns c =
     let place = c.self.inside.place in
     let es = c.self.inside.experiments.list in
     let new = looked_up c.named.result _ c.is_some.result c.named.ensures c.is_some.ensures ∙ c.if-is_some.false in
-    rw (← c.self.view_is) (create_follows place es c.args.exp c.args.text.now c.in_ok-wiring.wiring c.if-is_none.ensures (rw c.len.ensures at c.if-len-ge-MOST.false) new c.in_ok-wiring.ensures.ok.0 c.in_ok-wiring.ensures.ok.1)
+    rw (← c.self.view_is) (create_follows place es c.args.exp c.args.text.now c.in_ok-wiring.wiring c.if-is_none.ensures (rw c.len.ensures at c.if-len-ge-MAX_EXPERIMENTS.false) new c.in_ok-wiring.ensures.ok.0 c.in_ok-wiring.ensures.ok.1)
