@@ -210,7 +210,10 @@ fn few_candidates_are_all_tried(rt: HostRuntime) -> Result<(), Fail> {
         &wiring_of(alloc, &TWO, 200_000, 2)?,
         Call::Solve(0),
     )?;
-    assert_eq!(rt; (fast.word, fast.asked, fast.steps, fast.parts), ("none", 0, 0, 0));
+    assert_eq!(rt;
+        (fast.word, fast.asked, fast.steps, fast.parts),
+        ("none", 0, 0, 0)
+    );
     let slow = asked(
         alloc,
         &lab,
