@@ -1,0 +1,281 @@
+// Three open swaps, a change, one out and one in: orders of their turns, with what is planned to fail, and where they lead.
+use crate::cases::{
+    Case, End, calls_lead_to_ends, failures_lead_to_ends, is_at, stops_lead_to_ends,
+};
+use crate::held::Held;
+use crate::table::{Ran, run};
+use lab_base::Text;
+use lab_top::Status;
+use std::alloc::Global;
+use std::test::Fail;
+
+/// Two switches with four machines each and a trunk. A is in on machines 1 and 5 with VLAN id 100, B on 2 and 6 with 101, and C is out.
+const MADE: &[u8] =
+    b"ptop 20\nvlans 100 105\nnode s1 switch\nnode s2 switch\nnode pc1 pc:1\nnode pc2 pc:1\nnode pc3 pc:1\nnode pc4 pc:1\nnode pc5 pc:1\nnode pc6 pc:1\nnode pc7 pc:1\nnode pc8 pc:1\nlink i1 pc1:eth0 s1:1 1000000\nlink i2 pc2:eth0 s1:2 1000000\nlink i3 pc3:eth0 s1:3 1000000\nlink i4 pc4:eth0 s1:4 1000000\nlink i5 pc5:eth0 s2:1 1000000\nlink i6 pc6:eth0 s2:2 1000000\nlink i7 pc7:eth0 s2:3 1000000\nlink i8 pc8:eth0 s2:4 1000000\nlink t1 s1:24 s2:24 200000\ncreate-top A 3\nnode a pc linux\nnode b pc linux\nlink ab ab 1000 a b\ncreate-top B 3\nnode a pc linux\nnode b pc linux\nlink ab ab 1000 a b\ncreate-top C 3\nnode a pc linux\nnode b pc linux\nlink ab ab 1000 a b\nswapin-with A 4\nnode a pc1 pc\nnode b pc5 pc\nplug a:0 pc1:eth0\nplug b:0 pc5:eth0\nswapin-with B 4\nnode a pc2 pc\nnode b pc6 pc\nplug a:0 pc2:eth0\nplug b:0 pc6:eth0\n";
+
+/// The first node of A is to move to machine 3, B is to go out, and C is to come in on machines 4 and 8.
+const OPENED: &[u8] =
+    b"open modify-with A 3 4\nnode a pc linux\nnode b pc linux\nlink ab ab 1000 a b\nnode a pc3 pc\nnode b pc5 pc\nplug a:0 pc3:eth0\nplug b:0 pc5:eth0\nopen swapout B\nopen swapin-with C 4\nnode a pc4 pc\nnode b pc8 pc\nplug a:0 pc4:eth0\nplug b:0 pc8:eth0\n";
+
+/// What A holds where it was, and where it has moved.
+const A_OLD: Held = Held {
+    rows: &[
+        (b"s1", 1, 100),
+        (b"s2", 1, 100),
+        (b"s1", 24, 100),
+        (b"s2", 24, 100),
+    ],
+    machines: &[(b"pc1", b"linux"), (b"pc5", b"linux")],
+};
+
+const A_NEW: Held = Held {
+    rows: &[
+        (b"s1", 3, 102),
+        (b"s2", 1, 102),
+        (b"s1", 24, 102),
+        (b"s2", 24, 102),
+    ],
+    machines: &[(b"pc3", b"linux"), (b"pc5", b"linux")],
+};
+
+/// What C holds where it is in.
+const C_IN: Held = Held {
+    rows: &[
+        (b"s1", 4, 103),
+        (b"s2", 4, 103),
+        (b"s1", 24, 103),
+        (b"s2", 24, 103),
+    ],
+    machines: &[(b"pc4", b"linux"), (b"pc8", b"linux")],
+};
+
+/// A has moved, and C is in.
+const ALL_DONE: End = End {
+    told: b"exp A in 2 1\nexp B out 0 0\nexp C in 2 1\nfree 4 4\nshow A in\nnode a pc linux\nnode b pc linux\nlink ab ab 1000 a b\nnode a pc3 pc\nnode b pc5 pc\nplug a:0 pc3:eth0\nplug b:0 pc5:eth0\ntag ab 102\nend A\n",
+    held: &[A_NEW, C_IN],
+};
+
+/// A is where it was, and C is in.
+const A_BACK: End = End {
+    told: b"exp A in 2 1\nexp B out 0 0\nexp C in 2 1\nfree 4 4\nshow A in\nnode a pc linux\nnode b pc linux\nlink ab ab 1000 a b\nnode a pc1 pc\nnode b pc5 pc\nplug a:0 pc1:eth0\nplug b:0 pc5:eth0\ntag ab 100\nend A\n",
+    held: &[A_OLD, C_IN],
+};
+
+/// A has moved, and C is out.
+const C_BACK: End = End {
+    told: b"exp A in 2 1\nexp B out 0 0\nexp C out 0 0\nfree 6 5\nshow A in\nnode a pc linux\nnode b pc linux\nlink ab ab 1000 a b\nnode a pc3 pc\nnode b pc5 pc\nplug a:0 pc3:eth0\nplug b:0 pc5:eth0\ntag ab 102\nend A\n",
+    held: &[A_NEW],
+};
+
+/// A is where it was, and C is out.
+const BOTH_BACK: End = End {
+    told: b"exp A in 2 1\nexp B out 0 0\nexp C out 0 0\nfree 6 5\nshow A in\nnode a pc linux\nnode b pc linux\nlink ab ab 1000 a b\nnode a pc1 pc\nnode b pc5 pc\nplug a:0 pc1:eth0\nplug b:0 pc5:eth0\ntag ab 100\nend A\n",
+    held: &[A_OLD],
+};
+
+/// A turn of each after the other: of A 13 commands, of B 6 and of C 12, and a record of each. Further turns are refused, and what is undone
+/// then is finished.
+const ROUNDS: &[u8] =
+    b"turn A\nturn B\nturn C\nturn A\nturn B\nturn C\nturn A\nturn B\nturn C\nturn A\nturn B\nturn C\nturn A\nturn B\nturn C\nturn A\nturn B\nturn C\nturn A\nturn B\nturn C\nturn A\nturn B\nturn C\nturn A\nturn B\nturn C\nturn A\nturn B\nturn C\nturn A\nturn B\nturn C\nturn A\nturn B\nturn C\nturn A\nturn B\nturn C\nturn A\nturn B\nturn C\nfinish A\nfinish B\nfinish C\n";
+
+const ROUND_BY_ROUND: Case = Case {
+    before: &[MADE, OPENED],
+    command: ROUNDS,
+    ends: &[ALL_DONE, A_BACK, C_BACK, BOTH_BACK],
+    stops: 43,
+    failures: 62,
+    calls: 12,
+};
+
+#[test]
+fn no_stop_of_three_swaps_leaves_one_moving(rt: HostRuntime) -> Result<(), Fail> {
+    assert!(rt; stops_lead_to_ends(rt.alloc(), &ROUND_BY_ROUND)?);
+    Ok(())
+}
+
+#[test]
+fn no_failure_of_a_device_leaves_one_of_three_moving(rt: HostRuntime) -> Result<(), Fail> {
+    assert!(rt; failures_lead_to_ends(rt.alloc(), &ROUND_BY_ROUND)?);
+    Ok(())
+}
+
+#[test]
+fn no_failure_of_the_disk_leaves_one_of_three_moving(rt: HostRuntime) -> Result<(), Fail> {
+    assert!(rt; calls_lead_to_ends(rt.alloc(), &ROUND_BY_ROUND)?);
+    Ok(())
+}
+
+/// What is planned, an order of turns, a letter each, and where it leads: whether A has moved then, and whether C is in. A is back where a
+/// command to one of its machines fails, and so is C. A stop or a failure of the disk takes back what has not ended by then. B goes on
+/// outwards.
+type Order = (&'static [u8], &'static [u8], bool, bool);
+
+const ORDERS: &[Order] = &[
+    // Nothing fails.
+    (b"", b"ABCAACABCACAAA", true, true),
+    (b"", b"BAAACBACAACCCACCBAAA", true, true),
+    (b"", b"ABBACACBCCAACCCABACACACACC", true, true),
+    (b"", b"BBCCCBBAAAACBCCBCBCAACBABA", true, true),
+    (b"", b"BACACCBBBCCCCAABCCAA", true, true),
+    (b"", b"BCCCCBBCBACBACACAABAABBCAACBCB", true, true),
+    // A device fails.
+    (b"fail s2 3 not\n", b"BCBBBCBAA", true, false),
+    (b"fail pc1 1 applied\n", b"CAACCABBA", false, true),
+    (
+        b"fail pc4 1 not\n",
+        b"CBACCCCACCCBBBBACCBAAAACAA",
+        true,
+        false,
+    ),
+    (b"fail s1 2 not\n", b"CACABC", false, true),
+    (
+        b"fail pc4 2 not\n",
+        b"BACBBCBCAACCCCBAAABBCACAAC",
+        true,
+        false,
+    ),
+    (
+        b"fail pc3 4 applied\n",
+        b"BCABCBABACCCBCACAABAACCBAA",
+        false,
+        true,
+    ),
+    (b"fail pc8 2 applied\n", b"CBCBBAAAA", true, false),
+    (b"fail s2 7 not\n", b"CCCACCBCA", true, true),
+    (b"fail pc8 3 not\n", b"ABCBABCBAAAAAACCCACC", true, false),
+    (
+        b"fail pc6 1 not\n",
+        b"CAAACACABAAABABCACBBCBAABC",
+        true,
+        true,
+    ),
+    // Two devices, or one twice.
+    (
+        b"fail s1 2 applied\nfail s1 2 applied\n",
+        b"CACACAAAACCACABCCCCCACAAAB",
+        false,
+        true,
+    ),
+    (
+        b"fail pc2 1 not\nfail pc6 1 applied\n",
+        b"CCCCABCCCCCACB",
+        true,
+        true,
+    ),
+    (
+        b"fail pc6 1 not\nfail pc2 1 applied\n",
+        b"BACABAACBAACCBABACAA",
+        true,
+        true,
+    ),
+    (
+        b"fail pc3 1 not\nfail pc3 2 applied\n",
+        b"BBBABBABABCCCABBCCBCAAAAAB",
+        false,
+        true,
+    ),
+    (
+        b"fail pc3 2 not\nfail pc2 1 not\n",
+        b"BBACCCCBABAABABACABACAABACABCB",
+        false,
+        true,
+    ),
+    (
+        b"fail pc4 1 applied\nfail s1 1 not\n",
+        b"AAABCBCABCCCAB",
+        false,
+        false,
+    ),
+    // The controller stops.
+    (
+        b"stop 19 all\n",
+        b"CCACCACACCBCCCBCBAABACABBAAAAC",
+        false,
+        false,
+    ),
+    (b"stop 21 none\n", b"AACBCCBCA", false, false),
+    (b"stop 33 all\n", b"AABCABBBCBAABABAABBA", true, false),
+    (
+        b"stop 34 none\n",
+        b"CAACAABAABCABABBCAACCACCBB",
+        false,
+        false,
+    ),
+    (b"stop 40 torn\n", b"CCAACCBCACCCAC", true, false),
+    (
+        b"stop 33 all\n",
+        b"CAAAAACBABCCACACCCACBACACCACCA",
+        false,
+        true,
+    ),
+    (b"stop 34 all\n", b"BAAACC", true, false),
+    (b"stop 15 none\n", b"CCBACC", false, false),
+    // The disk fails.
+    (b"fail disk 4\n", b"ABBCBCCAACACBCAACCBCBCCCAC", false, true),
+    (b"fail disk 2\n", b"ACABCACCBBAAAC", false, false),
+    (b"fail disk 12\n", b"CBBACCCBA", true, true),
+    (b"fail disk 6\n", b"ACCBAAACCCBBAB", true, false),
+    (b"fail disk 5\n", b"BABABBBAAABBBABBCABB", false, false),
+    (b"fail disk 3\n", b"BAACBC", false, false),
+    // A device fails, and the controller stops.
+    (b"fail pc6 1 not\nstop 6 torn\n", b"BBCBABBAC", false, false),
+    (
+        b"fail pc2 1 applied\nstop 38 torn\n",
+        b"CCACBCACAACBBBBBCBBC",
+        true,
+        true,
+    ),
+    (
+        b"fail pc4 1 applied\nstop 18 all\n",
+        b"AACAAACCCACBCBACAAAA",
+        false,
+        false,
+    ),
+    (
+        b"fail pc4 2 not\nstop 8 all\n",
+        b"CAABBBCABBBACB",
+        false,
+        false,
+    ),
+];
+
+/// The end of an order.
+fn end_of(order: &Order) -> End {
+    match (order.2, order.3) {
+        (true, true) => ALL_DONE,
+        (false, true) => A_BACK,
+        (true, false) => C_BACK,
+        (false, false) => BOTH_BACK,
+    }
+}
+
+/// Runs an order over the lab, finishes each swap, and recovers what is stuck, and once more what a last failure left stuck.
+fn run_order(alloc: Global, order: &Order) -> Result<Ran, Fail> {
+    let mut script = Text::from_slice(alloc, MADE)?;
+    script.push_bytes(OPENED)?;
+    script.push_bytes(order.0)?;
+    for letter in order.1 {
+        script.push_bytes(b"turn ")?;
+        script.push(*letter)?;
+        script.push(b'\n')?;
+    }
+    script.push_bytes(b"finish A\nfinish B\nfinish C\nrecover\nrecover\nstatus\nshow A\n")?;
+    run(alloc, script.bytes())
+}
+
+/// The first order that leads elsewhere.
+fn other_order(alloc: Global, orders: &[Order]) -> Result<Option<usize>, Fail> {
+    for at in 0..orders.len() {
+        let ran = run_order(alloc, &orders[at])?;
+        if ran.status != Status::Done || !is_at(&ran, &end_of(&orders[at]))? {
+            return Ok(Some(at));
+        }
+    }
+    Ok(None)
+}
+
+#[test]
+fn three_swaps_in_any_order_lead_where_they_are_to(rt: HostRuntime) -> Result<(), Fail> {
+    assert_eq!(rt; other_order(rt.alloc(), ORDERS)?, None);
+    Ok(())
+}
