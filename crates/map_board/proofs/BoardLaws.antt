@@ -195,10 +195,10 @@ plainly_whole lab free w m x false f plain summed room =
     absurd (cc both))
 
 pub plainly_kept : (lab : Lab) (free : Free) (w : Wiring) (m : Mapping) (a b : ℕ) (last : List Place) (old : List IfaceId) (x : Sums) (b1 : Bool) → Fresh lab free w m a b last old → IsPlain lab w
-    → guests_at m.places a ≤ 1 → guests_at m.places b ≤ 1 → IsSummed lab w m.plugs x
+    → may_share lab w m.places a ≡ true → may_share lab w m.places b ≡ true → IsSummed lab w m.plugs x
     → (IsTrue b1 ↔ AllPass (length x.uses.items) (λ t. nat_le (get_or x.uses.items t 0) (get_or free.left t 0)))
     → node_map lab free w m.places ≡ cond b1 (Some m) None
-plainly_kept lab free w m a b last old x b1 f plain few_a few_b summed room =
+plainly_kept lab free w m a b last old x b1 f plain shares_a shares_b summed room =
     let before = parts_of_map lab free w last (record { places = last; plugs = old }) f.mapped in
     plainly_whole lab free w m x b1 (record {
       kept = f.kept;
@@ -207,12 +207,20 @@ plainly_kept lab free w m a b last old x b1 f plain few_a few_b summed room =
       shaped = f.shaped;
       given = f.given;
       shared = shared_all lab w m.places last a b f.alike before.shared (record {
-        first = alone_shares lab w m a f.kept f.shaped f.first few_a;
-        second = alone_shares lab w m b f.kept f.shaped f.second few_b;
+        first = shares_a;
+        second = shares_b;
         typed = λ v lt. typed_plain lab w m.places v plain;
       });
       ids = before.ids;
     }) plain summed room
+
+-- where one of two nodes can't be shared, that is no node map
+pub not_both : (lab : Lab) (free : Free) (w : Wiring) (m : Mapping) (a b : ℕ) → a < length lab.nodes → b < length lab.nodes
+    → (may_share lab w m.places a && may_share lab w m.places b) ≡ false → node_map lab free w m.places ≡ None
+not_both lab free w m a b a_lt b_lt is =
+    no_map lab free w m.places (λ plugs all.
+    let both : (may_share lab w m.places a && may_share lab w m.places b) ≡ true = (λ j. all.shared a a_lt j && all.shared b b_lt j) in
+    absurd (cc (is, both)))
 
 -- the eight rules decide
 pub wholly_kept : (lab : Lab) (free : Free) (w : Wiring) (m : Mapping) (kept : Bool) → plugs_of lab w m.places ≡ Some m.plugs → kept ≡ is_none (violation lab free w m) → node_map lab free w m.places ≡ cond kept (Some m) None

@@ -288,11 +288,14 @@ impl Board {
     {
         let mapper = setting.mapper;
         let _kept = mapper.lab.range();
-        if setting.table.plain && self.seats.are_few(first, second) {
-            return Ok(has_room(mapper.free, self.sums.uses()));
+        if !setting.table.plain {
+            let yes = is_feasible(alloc, mapper.lab, mapper.free, mapper.wiring, &self.mapping)?;
+            return Ok(yes);
         }
-        let yes = is_feasible(alloc, mapper.lab, mapper.free, mapper.wiring, &self.mapping)?;
-        Ok(yes)
+        if !self.may_share_both(alloc, setting, first, second)? {
+            return Ok(false);
+        }
+        Ok(has_room(mapper.free, self.sums.uses()))
     }
 
     /// Makes what is planned of the ends on two nodes, where virtual nodes of a node map went from one of them to the other;

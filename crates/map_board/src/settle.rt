@@ -1,5 +1,5 @@
 // The ends on one node given anew, whatever is on the others.
-ghost use Rattle.std.specs.Prelude.{◌≡◌, ◌≢◌, ◌<◌, ◌↔◌, ℕ, true, false, [], nat_le, length, Some, None, if◌then◌else◌, IfOk, OnOk};
+ghost use Rattle.std.specs.Prelude.{◌≡◌, ◌≢◌, ◌<◌, ◌↔◌, ◌&&◌, ℕ, true, false, [], nat_le, length, Some, None, if◌then◌else◌, IfOk, OnOk};
 ghost use Rattle.lab_model.specs.Rules.{keeps_f8};
 ghost use Rattle.node_maps.specs.NodeMaps.{node_map};
 ghost use Rattle.node_maps.specs.Moved.{may_share};
@@ -43,6 +43,27 @@ impl Board {
         let nodes = mapper.wiring.nodes.as_slice();
         let places = self.mapping.places.as_slice();
         let yes = may_share(alloc, mapper.lab, nodes, places, node)?;
+        Ok(yes)
+    }
+
+    /// Whether the virtual nodes on each of two nodes may share it.
+    pub(crate) fn may_share_both(
+        &self,
+        alloc: Global,
+        setting: &Setting,
+        first: NodeId,
+        second: NodeId,
+    ) -> Result<bool, Memory>
+        requires setting { IsSetting setting.now }
+        requires laid { IsLaid setting.now self.now }
+        requires first { first.0 < length setting.now.mapper.lab.now.nodes }
+        requires second { second.0 < length setting.now.mapper.lab.now.nodes }
+        ensures { IfOk result (λ yes. yes ≡ (may_share setting.now.mapper.lab.now setting.now.mapper.wiring.now self.now.mapping.places first.0 && may_share setting.now.mapper.lab.now setting.now.mapper.wiring.now self.now.mapping.places second.0)) }
+    {
+        if !self.may_share(alloc, setting, first)? {
+            return Ok(false);
+        }
+        let yes = self.may_share(alloc, setting, second)?;
         Ok(yes)
     }
 
