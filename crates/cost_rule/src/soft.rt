@@ -92,7 +92,7 @@ fn is_of_kind(wiring: &Wiring, mapping: &Mapping, class: u16, kind: Name, virt: 
 }
 
 /// Whether a member of the class, from a virtual node on, has the type.
-fn has_kind(wiring: &Wiring, mapping: &Mapping, class: u16, kind: Name, from: usize) -> bool
+pub fn has_kind(wiring: &Wiring, mapping: &Mapping, class: u16, kind: Name, from: usize) -> bool
     requires placed { length mapping.now.places ≡ length wiring.now.nodes }
     ensures { result ≡ list_any (same_name kind) (types_from wiring.now mapping.now class from) }
 {

@@ -1,12 +1,14 @@
 -- What changes where a virtual node goes to another place.
-use Rattle.std.proofs.Common.{◌≡◌, ◌≢◌, ◌<◌, ◌≤◌, ◌+◌, ◌-◌, ◌*◌, ◌∙◌, ◌∷◌, [], inl, inr, ℕ, zero, suc, List, length, map, get_or, Bool, true, false, cond, eqb, ◌==◌, ◌||◌, refl, ap, sym, arith, get_or-set_other, get_or-set_same}
-use Rattle.std.specs.Prelude.{nat_lt, count_by}
+use Rattle.std.proofs.Common.{◌≡◌, ◌≢◌, ◌<◌, ◌≤◌, ◌+◌, ◌-◌, ◌*◌, ◌∙◌, ◌∷◌, ◌++◌, [], inl, inr, ℕ, zero, suc, List, length, map, take, drop, get_or, Bool, true, false, cond, eqb, ◌==◌, ◌||◌, refl, ap, sym, arith, get_or-set_other, get_or-set_same}
+use Rattle.std.specs.Prelude.{nat_lt, count_by, not, ◌&&◌}
 use Rattle.std.specs.List.{list_any, remove}
 use Rattle.std.proofs.Math.ListN.{set}
 use Rattle.std.proofs.lemmas.Bool.{cases_eq, eq-eqb, ne_eqb}
 use Rattle.std.proofs.lemmas.Bool.Decides.{nat_tests}
 use Rattle.std.proofs.lemmas.List.{map-set, length-set, length-map, get_or-map}
 use Rattle.std.proofs.lemmas.List.Sums.{sum_by-cons}
+use Rattle.std.proofs.lemmas.Slice.Eq.{bytes_eq-Decides}
+use Rattle.std.proofs.Math.Nat.{mul-suc}
 use Rattle.lab_base.specs.Names.{same_name}
 use Rattle.phys_lab.specs.Labs.{Lab}
 use Rattle.virt_topo.specs.declared.wiring.Asks.{Asks}
@@ -18,8 +20,9 @@ use Rattle.virt_topo.specs.Wirings.{virt_at, no_virt}
 use Rattle.lab_model.specs.Shapes.{Place, node_at}
 use Rattle.lab_model.specs.Rules.{class_at, no_place, is_member}
 use Rattle.cost_rule.specs.Cost.{sum_below, different, missed, same_node, node_soft, class_soft, types_of, soft}
-use Rattle.cost_rule.proofs.Sums.{sum_same, different_cons}
-use Rattle.map_board.specs.Seated.{guests_at, asked_soft, seat_soft, placed_at}
+use Rattle.cost_rule.proofs.Sums.{sum_same}
+use Rattle.cost_rule.proofs.Different.{different_cons, new_if, replaced, some_different}
+use Rattle.map_board.specs.Seated.{guests_at, kind_soft, asked_soft, placed_at}
 
 -- sums that differ in one number
 sum_at : (n v : ℕ) (f g : ℕ → ℕ) → v < n → ((k : ℕ) → k < n → k ≢ v → f k ≡ g k) → sum_below n f + g v ≡ sum_below n g + f v
@@ -34,13 +37,6 @@ sum_at (suc n) v f g lt same = elim (cases_eq v n) [
       let rest = sum_at n v f g (omega (arith, lt, apart)) (λ k less ne. same k (omega (arith, less)) ne) in
       let last = same n (omega arith) (λ e. apart (sym e)) in
       omega (arith, rest, last))
-]
-
-sum_part : (n v : ℕ) (f : ℕ → ℕ) → v < n → f v ≤ sum_below n f
-sum_part zero v f lt = absurd (omega (arith, lt))
-sum_part (suc n) v f lt = elim (cases_eq v n) [
-  | inl is ↦ (let one : ◌≡◌ {A = ℕ} (f n) (f v) = ap f (sym is) in omega (arith, one))
-  | inr apart ↦ (let rest = sum_part n v f (omega (arith, lt, apart)) in omega (arith, rest))
 ]
 
 -- SOFT
@@ -59,46 +55,98 @@ other_class : (w : Wiring) (m : Mapping) (v c : ℕ) (p : Place) → is_member c
 other_class w m v c p apart =
     ap (λ (l : List (List ℕ)). cond (nat_lt (class_at w c).weight 1000) ((class_at w c).weight * (different same_name l - 1)) 0) (types_same c w.nodes m.places v p apart)
 
-classes_after : (w : Wiring) (m : Mapping) (v : ℕ) (p : Place) (asks : Asks) → (virt_at w v).asks ≡ asks
-    → sum_below (length w.classes) (class_soft w (placed_at m v p)) + asked_soft w m asks ≡ sum_below (length w.classes) (class_soft w m) + asked_soft w (placed_at m v p) asks
-classes_after w m v p (Plain t) is =
-    let same = sum_same (length w.classes) (class_soft w (placed_at m v p)) (class_soft w m) (λ c lt. other_class w m v c p (ap (is_member c) is)) in
+-- the types of a class's members, where virtual node v is one of them
+types_at : (c : ℕ) (vs : List VirtNode) (places : List Place) (v : ℕ) → v < length vs → v < length places → is_member c (get_or vs v no_virt).asks ≡ true
+    → types_of c vs places ≡ types_of c (take v vs) (take v places) ++ (get_or places v no_place).1 ∷ types_of c (drop (v + 1) vs) (drop (v + 1) places)
+types_at c [] places v lt few is = absurd (omega (arith, lt))
+types_at c (x ∷ vs) [] v lt few is = absurd (omega (arith, few))
+types_at c (x ∷ vs) (q ∷ places) zero lt few is = ap (λ (b : Bool). cond b (q.1 ∷ types_of c vs places) (types_of c vs places)) is
+types_at c (x ∷ vs) (q ∷ places) (suc v) lt few is =
+    let next : suc v + 1 ≡ suc (v + 1) = omega arith in
+    ap (λ (l : List (List ℕ)). cond (is_member c x.asks) (q.1 ∷ l) l) (types_at c vs places v (omega (arith, lt)) (omega (arith, few)) is)
+    ∙ by (is_member c x.asks) (types_of c (take v vs) (take v places)) ((get_or places v no_place).1 ∷ types_of c (drop (v + 1) vs) (drop (v + 1) places))
+    ∙ ap (λ (k : ℕ). types_of c (take (suc v) (x ∷ vs)) (take (suc v) (q ∷ places)) ++ (get_or places v no_place).1 ∷ types_of c (drop k (x ∷ vs)) (drop k (q ∷ places))) (sym next)
+  where
+    by : (b : Bool) (front back : List (List ℕ)) → cond b (q.1 ∷ (front ++ back)) (front ++ back) ≡ cond b (q.1 ∷ front) front ++ back
+    by true front back = refl
+    by false front back = refl
+
+-- the same once it has another place
+types_set : (c : ℕ) (vs : List VirtNode) (places : List Place) (v : ℕ) (p : Place) → v < length vs → v < length places → is_member c (get_or vs v no_virt).asks ≡ true
+    → types_of c vs (set places v p) ≡ types_of c (take v vs) (take v places) ++ p.1 ∷ types_of c (drop (v + 1) vs) (drop (v + 1) places)
+types_set c [] places v p lt few is = absurd (omega (arith, lt))
+types_set c (x ∷ vs) [] v p lt few is = absurd (omega (arith, few))
+types_set c (x ∷ vs) (q ∷ places) zero p lt few is = ap (λ (b : Bool). cond b (p.1 ∷ types_of c vs places) (types_of c vs places)) is
+types_set c (x ∷ vs) (q ∷ places) (suc v) p lt few is =
+    let next : suc v + 1 ≡ suc (v + 1) = omega arith in
+    ap (λ (l : List (List ℕ)). cond (is_member c x.asks) (q.1 ∷ l) l) (types_set c vs places v p (omega (arith, lt)) (omega (arith, few)) is)
+    ∙ by (is_member c x.asks) (types_of c (take v vs) (take v places)) (p.1 ∷ types_of c (drop (v + 1) vs) (drop (v + 1) places))
+    ∙ ap (λ (k : ℕ). types_of c (take (suc v) (x ∷ vs)) (take (suc v) (q ∷ places)) ++ p.1 ∷ types_of c (drop k (x ∷ vs)) (drop k (q ∷ places))) (sym next)
+  where
+    by : (b : Bool) (front back : List (List ℕ)) → cond b (q.1 ∷ (front ++ back)) (front ++ back) ≡ cond b (q.1 ∷ front) front ++ back
+    by true front back = refl
+    by false front back = refl
+
+-- a weight for each but one
+weighed : (n d e : ℕ) (x y : Bool) → 1 ≤ d → 1 ≤ e → e + new_if x ≡ d + new_if y → n * (e - 1) + cond (not x) n 0 ≡ n * (d - 1) + cond (not y) n 0
+weighed n d e true true some more is = let same : e ≡ d = omega (arith, is) in ap (λ (k : ℕ). n * (k - 1) + 0) same
+weighed n d e false false some more is = let same : e ≡ d = omega (arith, is) in ap (λ (k : ℕ). n * (k - 1) + n) same
+weighed n d e true false some more is = let same : e - 1 ≡ suc (d - 1) = omega (arith, is, some) in let step = ap (λ (k : ℕ). n * k) same ∙ mul-suc n (d - 1) in omega (arith, step)
+weighed n d e false true some more is = let same : d - 1 ≡ suc (e - 1) = omega (arith, is, more) in let step = ap (λ (k : ℕ). n * k) same ∙ mul-suc n (e - 1) in omega (arith, step)
+
+-- a class whose member v has another place
+member_class : (w : Wiring) (m : Mapping) (v c : ℕ) (p : Place) → v < length w.nodes → v < length m.places → is_member c (virt_at w v).asks ≡ true
+    → class_soft w (placed_at m v p) c + kind_soft w (placed_at m v p) c (get_or m.places v no_place).1 ≡ class_soft w m c + kind_soft w m c p.1
+member_class w m v c p lt few is =
+    let a = (get_or m.places v no_place).1 in
+    let front = types_of c (take v w.nodes) (take v m.places) in
+    let back = types_of c (drop (v + 1) w.nodes) (drop (v + 1) m.places) in
+    let old = types_at c w.nodes m.places v lt few is in
+    let new = types_set c w.nodes m.places v p lt few is in
+    let whole : List (List ℕ) → List ℕ → ℕ =
+    λ types kind. cond (nat_lt (class_at w c).weight 1000) ((class_at w c).weight * (different same_name types - 1)) 0
+    + cond (nat_lt (class_at w c).weight 1000 && not (list_any (same_name kind) types)) (class_at w c).weight 0 in
+    (λ j. whole (new j) a) ∙ by (nat_lt (class_at w c).weight 1000) front back a ∙ (λ j. whole (sym old j) p.1)
+  where
+    by : (b : Bool) (front back : List (List ℕ)) (a : List ℕ)
+        → cond b ((class_at w c).weight * (different same_name (front ++ p.1 ∷ back) - 1)) 0 + cond (b && not (list_any (same_name a) (front ++ p.1 ∷ back))) (class_at w c).weight 0
+        ≡ cond b ((class_at w c).weight * (different same_name (front ++ a ∷ back) - 1)) 0 + cond (b && not (list_any (same_name p.1) (front ++ a ∷ back))) (class_at w c).weight 0
+    by false front back a = refl
+    by true front back a =
+        weighed (class_at w c).weight (different same_name (front ++ a ∷ back)) (different same_name (front ++ p.1 ∷ back)) (list_any (same_name a) (front ++ p.1 ∷ back)) (list_any (same_name p.1) (front ++ a ∷ back))
+        (some_different same_name front back a) (some_different same_name front back p.1) (replaced same_name bytes_eq-Decides front back a p.1)
+
+classes_after : (w : Wiring) (m : Mapping) (v : ℕ) (p : Place) (asks : Asks) → v < length w.nodes → v < length m.places → (virt_at w v).asks ≡ asks
+    → sum_below (length w.classes) (class_soft w (placed_at m v p)) + asked_soft w (placed_at m v p) asks (get_or m.places v no_place).1
+    ≡ sum_below (length w.classes) (class_soft w m) + asked_soft w m asks p.1
+classes_after w m v p (Plain t) lt few is =
+    let same = sum_same (length w.classes) (class_soft w (placed_at m v p)) (class_soft w m) (λ c c_lt. other_class w m v c p (ap (is_member c) is)) in
     omega (arith, same)
-classes_after w m v p (InClass c) is = by (nat_lt c (length w.classes)) refl
+classes_after w m v p (InClass c) lt few is = by (nat_lt c (length w.classes)) refl
   where
     others : (d : ℕ) → d ≢ c → class_soft w (placed_at m v p) d ≡ class_soft w m d
     others d ne = other_class w m v d p (ap (is_member d) is ∙ ne_eqb c d (λ e. ne (sym e)))
 
     by : (b : Bool) → nat_lt c (length w.classes) ≡ b
-        → sum_below (length w.classes) (class_soft w (placed_at m v p)) + cond b (class_soft w m c) 0 ≡ sum_below (length w.classes) (class_soft w m) + cond b (class_soft w (placed_at m v p) c) 0
+        → sum_below (length w.classes) (class_soft w (placed_at m v p)) + cond b (kind_soft w (placed_at m v p) c (get_or m.places v no_place).1) 0
+        ≡ sum_below (length w.classes) (class_soft w m) + cond b (kind_soft w m c p.1) 0
     by true within =
-        let lt : c < length w.classes = grind (arith, nat_tests) in
-        sum_at (length w.classes) c (class_soft w (placed_at m v p)) (class_soft w m) lt (λ d d_lt ne. others d ne)
+        let c_lt : c < length w.classes = grind (arith, nat_tests) in
+        let sums = sum_at (length w.classes) c (class_soft w (placed_at m v p)) (class_soft w m) c_lt (λ d d_lt ne. others d ne) in
+        let own = member_class w m v c p lt few (ap (is_member c) is ∙ eq-eqb c c refl) in
+        omega (arith, sums, own)
     by false out =
         let le : length w.classes ≤ c = grind (arith, nat_tests) in
-        let same = sum_same (length w.classes) (class_soft w (placed_at m v p)) (class_soft w m) (λ d lt. others d (λ e. absurd (omega (arith, e, lt, le)))) in
+        let same = sum_same (length w.classes) (class_soft w (placed_at m v p)) (class_soft w m) (λ d d_lt. others d (λ e. absurd (omega (arith, e, d_lt, le)))) in
         omega (arith, same)
 
-pub soft_after : (lab : Lab) (w : Wiring) (m : Mapping) (v : ℕ) (p : Place) → v < length w.nodes
-    → soft lab w (placed_at m v p) + seat_soft lab w m v ≡ soft lab w m + seat_soft lab w (placed_at m v p) v
-soft_after lab w m v p lt =
+pub soft_after : (lab : Lab) (w : Wiring) (m : Mapping) (v : ℕ) (p : Place) → v < length w.nodes → v < length m.places
+    → soft lab w (placed_at m v p) + node_soft lab w m v + asked_soft w (placed_at m v p) (virt_at w v).asks (get_or m.places v no_place).1
+    ≡ soft lab w m + node_soft lab w (placed_at m v p) v + asked_soft w m (virt_at w v).asks p.1
+soft_after lab w m v p lt few =
     let nodes = sum_at (length w.nodes) v (node_soft lab w (placed_at m v p)) (node_soft lab w m) lt (λ k k_lt ne. other_node lab w m v k p ne) in
-    let classes = classes_after w m v p (virt_at w v).asks refl in
+    let classes = classes_after w m v p (virt_at w v).asks lt few refl in
     omega (arith, nodes, classes)
-
-asked_le : (w : Wiring) (m : Mapping) (asks : Asks) → asked_soft w m asks ≤ sum_below (length w.classes) (class_soft w m)
-asked_le w m (Plain t) = omega arith
-asked_le w m (InClass c) = by (nat_lt c (length w.classes)) refl
-  where
-    by : (b : Bool) → nat_lt c (length w.classes) ≡ b → cond b (class_soft w m c) 0 ≤ sum_below (length w.classes) (class_soft w m)
-    by true within = let lt : c < length w.classes = grind (arith, nat_tests) in sum_part (length w.classes) c (class_soft w m) lt
-    by false out = omega arith
-
-pub seat_le : (lab : Lab) (w : Wiring) (m : Mapping) (v : ℕ) → v < length w.nodes → seat_soft lab w m v ≤ soft lab w m
-seat_le lab w m v lt =
-    let node = sum_part (length w.nodes) v (node_soft lab w m) lt in
-    let class = asked_le w m (virt_at w v).asks in
-    omega (arith, node, class)
 
 -- NODES IN USE
 eqb_turned : (a b : ℕ) → eqb a b ≡ eqb b a
@@ -148,12 +196,12 @@ any_counted y (x ∷ xs) = by (eqb y x) refl (any_counted y xs)
 
 different_removed : (xs : List ℕ) (v d : ℕ) → v < length xs → different same_node xs ≡ different same_node (remove xs v) + one_if (eqb (guests (remove xs v) (get_or xs v d)) 0)
 different_removed [] v d lt = absurd (omega (arith, lt))
-different_removed (x ∷ xs) zero d lt = let step = different_cons x xs in let any = any_counted x xs in omega (arith, step, any)
+different_removed (x ∷ xs) zero d lt = let step = different_cons same_node x xs in let any = any_counted x xs in omega (arith, step, any)
 different_removed (x ∷ xs) (suc v) d lt =
     let y = get_or xs v d in
     let rest = remove xs v in
-    let whole = different_cons x xs in
-    let part = different_cons x rest in
+    let whole = different_cons same_node x xs in
+    let part = different_cons same_node x rest in
     let any_whole = any_counted x xs in
     let any_part = any_counted x rest in
     let later = different_removed xs v d (omega (arith, lt)) in

@@ -1,13 +1,15 @@
 -- What is kept of the places of a mapping.
-use Rattle.std.specs.Prelude.{◌≡◌, ◌<◌, ◌+◌, ◌==◌, ℕ, List, length, nat_lt, count_by, slice_index_or, slice_set, if◌then◌else◌}
+use Rattle.std.specs.Prelude.{◌≡◌, ◌<◌, ◌==◌, ◌&&◌, not, ℕ, List, length, nat_lt, count_by, slice_index_or, slice_set, if◌then◌else◌}
+use Rattle.std.specs.List.{list_any}
+use Rattle.lab_base.specs.Names.{same_name}
 use Rattle.phys_lab.specs.Labs.{Lab}
 use Rattle.virt_topo.specs.declared.wiring.Asks.{Asks}
 use Rattle.virt_topo.specs.declared.wiring.Asks.TheVariants.{Plain, Class as InClass}
 use Rattle.virt_topo.specs.declared.wiring.Wiring.{Wiring}
 use Rattle.virt_topo.specs.declared.mapping.Mapping.{Mapping}
-use Rattle.virt_topo.specs.Wirings.{virt_at}
 use Rattle.lab_model.specs.Shapes.{Place}
-use Rattle.cost_rule.specs.Cost.{node_soft, class_soft, soft, nodes_in_use}
+use Rattle.lab_model.specs.Rules.{class_at}
+use Rattle.cost_rule.specs.Cost.{types_of, soft, nodes_in_use}
 use Rattle.map_board.specs.declared.seats.Seats.{Seats}
 
 -- how many virtual nodes are on node n
@@ -21,14 +23,14 @@ pub record IsSeated (lab : Lab) (w : Wiring) (m : Mapping) (x : Seats) : Type 0 
   pub nodes : x.nodes ≡ nodes_in_use m
   pub soft : x.soft ≡ soft lab w m
 
--- what the class that a virtual node asks for costs, if it asks for one
-abbrev pub asked_soft : Wiring → Mapping → Asks → ℕ
-asked_soft w m (Plain t) = 0
-asked_soft w m (InClass c) = if nat_lt c (length w.classes) then class_soft w m c else 0
+-- what class c would cost more if one of its members had this type too: nothing where one has it
+abbrev pub kind_soft : Wiring → Mapping → ℕ → List ℕ → ℕ
+kind_soft w m c kind = if nat_lt (class_at w c).weight 1000 && not (list_any (same_name kind) (types_of c w.nodes m.places)) then (class_at w c).weight else 0
 
--- what hangs on the place of virtual node v
-abbrev pub seat_soft : Lab → Wiring → Mapping → ℕ → ℕ
-seat_soft lab w m v = node_soft lab w m v + asked_soft w m (virt_at w v).asks
+-- the same of the class that a virtual node asks for, if it asks for one
+abbrev pub asked_soft : Wiring → Mapping → Asks → List ℕ → ℕ
+asked_soft w m (Plain t) kind = 0
+asked_soft w m (InClass c) kind = if nat_lt c (length w.classes) then kind_soft w m c kind else 0
 
 -- the mapping with virtual node v at another place
 abbrev pub placed_at : Mapping → ℕ → Place → Mapping

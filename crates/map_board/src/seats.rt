@@ -1,12 +1,13 @@
 // What is kept of the places of a mapping.
-ghost use Rattle.std.specs.Prelude.{◌≡◌, ◌<◌, ◌≤◌, ◌+◌, ◌-◌, ◌==◌, ◌&&◌, nat_le, ℕ, length, slice_index_or, slice_set, if◌then◌else◌, IfOk, OnOk, All, true};
+ghost use Rattle.std.specs.Prelude.{◌≡◌, ◌<◌, ◌≤◌, ◌+◌, ◌-◌, ◌==◌, ℕ, length, slice_index_or, slice_set, if◌then◌else◌, IfOk, OnOk, All, true};
 ghost use Rattle.virt_topo.specs.Soundness.{IsSound};
 ghost use Rattle.lab_model.specs.Shapes.{IsShaped, node_at, has_name};
+ghost use Rattle.virt_topo.specs.Wirings.{virt_at};
 ghost use Rattle.lab_model.specs.Rules.{no_place};
-ghost use Rattle.map_board.specs.Seated.{IsSeated, guests_at, seat_soft as seat_soft_in, asked_soft as asked_soft_in, placed_at};
+ghost use Rattle.map_board.specs.Seated.{IsSeated, guests_at, kind_soft as kind_soft_in, asked_soft as asked_soft_in, placed_at};
 
-use cost_rule::{class_soft, node_soft, parts_of};
-use lab_base::{Items, Memory, NodeId};
+use cost_rule::{has_kind, node_soft, parts_of};
+use lab_base::{Items, Memory, Name, NodeId};
 use node_maps::Place;
 use phys_lab::Lab;
 use std::alloc::Global;
@@ -21,17 +22,34 @@ pub struct Seats {
     pub(crate) soft: u64,
 }
 
-fn asked_soft(wiring: &Wiring, mapping: &Mapping, asks: &Asks) -> u64
+/// What a class would cost more if one of its members had a type too.
+fn kind_soft(wiring: &Wiring, mapping: &Mapping, class: usize, kind: Name) -> u64
+    requires placed { length mapping.now.places ≡ length wiring.now.nodes }
+    requires class { class < length wiring.now.classes }
+    requires few { length wiring.now.classes ≤ 64 }
+    ensures is { result ≡ kind_soft_in wiring.now mapping.now class kind }
+    ensures small { result ≤ 999 }
+{
+    let weight = wiring.classes.as_slice()[class].weight;
+    if weight < 1_000 && !has_kind(wiring, mapping, class as u16, kind, 0) {
+        weight as u64
+    } else {
+        0
+    }
+}
+
+/// The same of the class that a virtual node asks for, if it asks for one.
+fn asked_soft(wiring: &Wiring, mapping: &Mapping, asks: &Asks, kind: Name) -> u64
     requires sound { IsSound wiring.now }
     requires placed { length mapping.now.places ≡ length wiring.now.nodes }
-    ensures is { result ≡ asked_soft_in wiring.now mapping.now asks.now }
-    ensures small { result ≤ 1000000000 }
+    ensures is { result ≡ asked_soft_in wiring.now mapping.now asks.now kind }
+    ensures small { result ≤ 999 }
 {
     match asks {
         Asks::Plain(_) => 0,
         Asks::Class(class) => {
             if (*class as usize) < wiring.classes.len() {
-                class_soft(wiring, mapping, *class as usize)
+                kind_soft(wiring, mapping, *class as usize, kind)
             } else {
                 0
             }
@@ -39,15 +57,16 @@ fn asked_soft(wiring: &Wiring, mapping: &Mapping, asks: &Asks) -> u64
     }
 }
 
-/// What hangs on the place of a virtual node.
-fn seat_soft(lab: &Lab, wiring: &Wiring, mapping: &Mapping, virt: usize) -> u64
+/// The same of the class that a virtual node of that number asks for.
+fn type_soft(wiring: &Wiring, mapping: &Mapping, virt: usize, kind: Name) -> u64
     requires sound { IsSound wiring.now }
-    requires shaped { IsShaped lab.now wiring.now mapping.now }
+    requires placed { length mapping.now.places ≡ length wiring.now.nodes }
     requires virt { virt < length wiring.now.nodes }
-    ensures is { result ≡ seat_soft_in lab.now wiring.now mapping.now virt }
+    ensures is { result ≡ asked_soft_in wiring.now mapping.now (virt_at wiring.now virt).asks kind }
+    ensures small { result ≤ 999 }
 {
     let asks = &wiring.nodes.as_slice()[virt].asks;
-    node_soft(lab, wiring, mapping, virt) + asked_soft(wiring, mapping, asks)
+    asked_soft(wiring, mapping, asks, kind)
 }
 
 fn node_of(mapping: &Mapping, virt: usize) -> NodeId
@@ -55,6 +74,24 @@ fn node_of(mapping: &Mapping, virt: usize) -> NodeId
     ensures { result.0 ≡ (slice_index_or mapping.now.places virt no_place).0.0 }
 {
     mapping.places.as_slice()[virt].0
+}
+
+fn kind_of(mapping: &Mapping, virt: usize) -> Name
+    requires { virt < length mapping.now.places }
+    ensures { result ≡ (slice_index_or mapping.now.places virt no_place).1 }
+{
+    mapping.places.as_slice()[virt].1
+}
+
+/// A sum, with two parts more and two less.
+fn changed(sum: u64, more: (u64, u64), less: (u64, u64)) -> u64
+    requires small { sum ≤ 1000000000 }
+    requires first { more.0 ≤ 1000000000 }
+    requires second { more.1 ≤ 1000000000 }
+    requires within { less.0 + less.1 ≤ sum + more.0 + more.1 }
+    ensures { result + less.0 + less.1 ≡ sum + more.0 + more.1 }
+{
+    sum + more.0 + more.1 - less.0 - less.1
 }
 
 fn set_place(alloc: Global, mapping: &mut Mapping, virt: usize, place: Place)
@@ -93,15 +130,6 @@ impl Seats {
             nodes: parts.nodes,
             soft: parts.soft,
         })
-    }
-
-    /// Whether at most one virtual node is on each of two nodes.
-    pub(crate) fn are_few(&self, first: NodeId, second: NodeId) -> bool
-        requires first { first.0 < length self.now.guests.items }
-        requires second { second.0 < length self.now.guests.items }
-        ensures { result ≡ (nat_le (slice_index_or self.now.guests.items first.0 0) 1 && nat_le (slice_index_or self.now.guests.items second.0 0) 1) }
-    {
-        self.guests[first.0 as usize] <= 1 && self.guests[second.0 as usize] <= 1
     }
 
     fn leave(&mut self, node: NodeId)
@@ -154,10 +182,14 @@ impl Seats {
     {
         let _kept = lab.range();
         let from = node_of(mapping, virt);
-        let others = self.soft - seat_soft(lab, wiring, mapping, virt);
+        let kind = kind_of(mapping, virt);
+        let before = node_soft(lab, wiring, mapping, virt);
+        let gained = type_soft(wiring, mapping, virt, place.1);
         self.leave(from);
         self.join(place.0);
         set_place(alloc, mapping, virt, place);
-        self.soft = others + seat_soft(lab, wiring, mapping, virt);
+        let after = node_soft(lab, wiring, mapping, virt);
+        let lost = type_soft(wiring, mapping, virt, kind);
+        self.soft = changed(self.soft, (after, gained), (before, lost));
     }
 }

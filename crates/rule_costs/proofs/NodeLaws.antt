@@ -1,14 +1,14 @@
 -- Nodes in use by one mapping and by another one.
-use Rattle.std.proofs.Common.{◌≡◌, ◌≢◌, inl, inr, ℕ, ◌+◌, ◌<◌, ◌∙◌, List, [], ◌∷◌, ◌++◌, length, map, drop, get_or, Bool, true, false, cond, eqb, ◌==◌, ◌||◌, refl, sym, ap, arith}
+use Rattle.std.proofs.Common.{◌≡◌, ℕ, ◌+◌, ◌<◌, ◌∙◌, List, [], ◌∷◌, ◌++◌, length, map, drop, get_or, Bool, true, false, cond, ◌==◌, ◌||◌, refl, sym, ap, arith}
 use Rattle.std.specs.List.{list_any}
-use Rattle.std.proofs.lemmas.Bool.{cases_eq, eq-eqb, ne_eqb}
+use Rattle.std.proofs.lemmas.Bool.Decides.{Decides-eqb}
 use Rattle.std.proofs.lemmas.List.{append-nil, drop_more}
 use Rattle.std.proofs.lemmas.List.Folds.{list_any-append}
 use Rattle.phys_lab.proofs.NameLaws.{any_in_map}
 use Rattle.lab_model.specs.Shapes.{Place}
 use Rattle.lab_model.specs.Rules.{no_place}
 use Rattle.cost_rule.specs.Cost.{different, same_node}
-use Rattle.cost_rule.proofs.Sums.{different_cons}
+use Rattle.cost_rule.proofs.Different.{different_cons, new_if, within}
 use Rattle.rule_costs.specs.Nodes.{nodes_of, beyond}
 
 -- those of two lists are those of the second, and those beyond it
@@ -21,21 +21,11 @@ both (x ∷ xs) ys = by (list_any (same_node x) (xs ++ ys)) (both xs ys)
     by true rest = rest
     by false rest = omega (arith, rest)
 
-or_swapped : (a b c : Bool) → (a || (b || c)) ≡ (b || (a || c))
-or_swapped true true c = refl
-or_swapped true false c = refl
-or_swapped false true c = refl
-or_swapped false false c = refl
-
 or_turned : (a b : Bool) → (a || b) ≡ (b || a)
 or_turned true true = refl
 or_turned true false = refl
 or_turned false true = refl
 or_turned false false = refl
-
-any_within : (xs ys : List ℕ) (x y : ℕ) → list_any (same_node x) (xs ++ y ∷ ys) ≡ (eqb x y || list_any (same_node x) (xs ++ ys))
-any_within [] ys x y = refl
-any_within (z ∷ xs) ys x y = ap (λ (b : Bool). eqb x z || b) (any_within xs ys x y) ∙ or_swapped (eqb x z) (eqb x y) (list_any (same_node x) (xs ++ ys))
 
 any_turned : (xs ys : List ℕ) (x : ℕ) → list_any (same_node x) (xs ++ ys) ≡ list_any (same_node x) (ys ++ xs)
 any_turned xs ys x =
@@ -53,36 +43,12 @@ or_true a = or_turned a true
 pub or_false : (a : Bool) → (a || false) ≡ a
 or_false a = or_turned a false
 
-abbrev new_if : Bool → ℕ
-new_if b = cond b 0 1
-
--- one in the middle counts as one in front
-within : (xs ys : List ℕ) (y : ℕ) → different same_node (xs ++ y ∷ ys) ≡ different same_node (xs ++ ys) + new_if (list_any (same_node y) (xs ++ ys))
-within [] ys y = different_cons y ys
-within (x ∷ xs) ys y =
-    let zs = xs ++ ys in
-    let later = within xs ys y in
-    let whole = different_cons x (xs ++ y ∷ ys) in
-    let part = different_cons x zs in
-    let any : ◌≡◌ {A = ℕ} (new_if (list_any (same_node x) (xs ++ y ∷ ys))) (new_if (eqb x y || list_any (same_node x) zs)) = ap new_if (any_within xs ys x y) in
-    elim (cases_eq x y) [
-      | inl is ↦ (
-          let here : ◌≡◌ {A = ℕ} (new_if (eqb x y || list_any (same_node x) zs)) 0 = ap (λ (b : Bool). new_if (b || list_any (same_node x) zs)) (eq-eqb x y is) in
-          let there : ◌≡◌ {A = ℕ} (new_if (eqb y x || list_any (same_node y) zs)) 0 = ap (λ (b : Bool). new_if (b || list_any (same_node y) zs)) (eq-eqb y x (sym is)) in
-          let same : ◌≡◌ {A = ℕ} (new_if (list_any (same_node x) zs)) (new_if (list_any (same_node y) zs)) = ap (λ (n : ℕ). new_if (list_any (same_node n) zs)) is in
-          omega (arith, later, whole, part, any, here, there, same))
-      | inr apart ↦ (
-          let here : ◌≡◌ {A = ℕ} (new_if (eqb x y || list_any (same_node x) zs)) (new_if (list_any (same_node x) zs)) = ap (λ (b : Bool). new_if (b || list_any (same_node x) zs)) (ne_eqb x y apart) in
-          let there : ◌≡◌ {A = ℕ} (new_if (eqb y x || list_any (same_node y) zs)) (new_if (list_any (same_node y) zs)) = ap (λ (b : Bool). new_if (b || list_any (same_node y) zs)) (ne_eqb y x (λ e. apart (sym e))) in
-          omega (arith, later, whole, part, any, here, there))
-    ]
-
 turned : (xs ys : List ℕ) → different same_node (xs ++ ys) ≡ different same_node (ys ++ xs)
 turned [] ys = ap (different same_node) (sym (append-nil ys))
 turned (x ∷ xs) ys =
     let rest = turned xs ys in
-    let front = different_cons x (xs ++ ys) in
-    let middle = within ys xs x in
+    let front = different_cons same_node x (xs ++ ys) in
+    let middle = within same_node (λ a b. Decides-eqb a b) ys xs x in
     let any : ◌≡◌ {A = ℕ} (new_if (list_any (same_node x) (xs ++ ys))) (new_if (list_any (same_node x) (ys ++ xs))) = ap new_if (any_turned xs ys x) in
     omega (arith, rest, front, middle, any)
 

@@ -4,23 +4,18 @@ use Rattle.std.proofs.Math.ListN.{set}
 use Rattle.std.proofs.lemmas.Bool.{eq-eqb}
 use Rattle.std.proofs.lemmas.List.{length-set}
 use Rattle.virt_topo.specs.declared.mapping.Mapping.{Mapping}
-use Rattle.lab_model.specs.Shapes.{Place}
+use Rattle.virt_topo.specs.Wirings.{virt_at}
+use Rattle.lab_model.specs.Shapes.{Place, IsShaped}
 use Rattle.lab_model.specs.Rules.{no_place}
+use Rattle.cost_rule.specs.Cost.{node_soft}
 use Rattle.cost_rule.proofs.PartLaws.{soft_small, nodes_small}
-use Rattle.map_board.specs.Seated.{IsSeated, seat_soft, placed_at}
+use Rattle.map_board.specs.Seated.{IsSeated, asked_soft, placed_at}
 use Rattle.map_board.proofs.BoardLaws.{shaped_at}
-use Rattle.map_board.proofs.SeatLaws.{Went, guest_left, used_left, guests_went, used_went, soft_after, seat_le}
+use Rattle.map_board.proofs.SeatLaws.{Went, guest_left, used_left, guests_went, used_went, soft_after}
 use Rattle.map_board.proofs.seats.Seats.seat.Goals as goal
 
 abbrev others_at : Mapping → ℕ → ℕ → ℕ
 others_at m v n = count_by (λ (x : ℕ). x == n) (remove (map (λ (q : Place). q.0.0) m.places) v)
-
-pub overflow_sub-others : goal.overflow_sub-others
-overflow_sub-others c =
-    let le = seat_le c.args.lab.now c.args.wiring.now c.args.mapping.now c.args.virt c.requires.virt in
-    let own = c.seat_soft.ensures.is in
-    let all = c.requires.seated.soft in
-    omega (arith, le, own, all)
 
 pub leave-requires-clause-guest : goal.leave-requires-clause-guest
 leave-requires-clause-guest c =
@@ -61,21 +56,31 @@ join-requires-clause-few_nodes c =
     let left = c.leave.ensures.nodes in
     omega (arith, few, nodes, left)
 
--- what is soft after the virtual node went
-pub overflow_add-self : goal.overflow_add-self
-overflow_add-self c =
+pub changed-self-requires-clause-small : goal.changed-self-requires-clause-small
+changed-self-requires-clause-small c =
+    let small = soft_small c.args.lab.now c.args.wiring.now c.args.mapping.now c.range-kept.ensures.lab c.requires.sound c.requires.shaped in
+    omega (arith, small, c.requires.seated.soft, c.leave.ensures.soft, c.join.ensures.soft)
+
+-- what the virtual node and its class cost before and after makes the difference
+pub changed-self-requires-clause-within : goal.changed-self-requires-clause-within
+changed-self-requires-clause-within c =
     let lab = c.args.lab.now in
     let w = c.args.wiring.now in
     let m = c.args.mapping.now in
-    let p = c.args.place in
-    let new = placed_at m c.args.virt p in
-    let after = soft_after lab w m c.args.virt p c.requires.virt in
-    let small = soft_small lab w new c.range-kept.ensures.lab c.requires.sound (shaped_at lab w m c.args.virt p c.requires.shaped c.requires.node c.requires.typed) in
-    let own = c.seat_soft.ensures.is in
-    let own_after : ◌≡◌ {A = ℕ} c.seat_soft-2.result (seat_soft lab w new c.args.virt) = c.seat_soft-2.ensures.is ∙ ap (λ (x : Mapping). seat_soft lab w x c.args.virt) c.set_place.ensures in
-    let all = c.requires.seated.soft in
-    let le = seat_le lab w m c.args.virt c.requires.virt in
-    omega (arith, after, small, own, own_after, all, le)
+    let v = c.args.virt in
+    let virt = c.requires.virt in
+    let all = c.requires.shaped.places in
+    let lt : v < length m.places = omega (arith, virt, all) in
+    let law = soft_after lab w m v c.args.place virt lt in
+    let after : ◌≡◌ {A = ℕ} c.node_soft-after.result (node_soft lab w (placed_at m v c.args.place) v) = c.node_soft-after.ensures.sum ∙ ap (λ (y : Mapping). node_soft lab w y v) c.set_place.ensures in
+    let lost : ◌≡◌ {A = ℕ} c.type_soft-lost.result (asked_soft w (placed_at m v c.args.place) (virt_at w v).asks (get_or m.places v no_place).1) =
+    c.type_soft-lost.ensures.is ∙ (λ i. asked_soft w (c.set_place.ensures i) (virt_at w v).asks (c.kind_of-kind.ensures i)) in
+    omega (arith, law, c.node_soft-before.ensures.sum, c.type_soft-gained.ensures.is, after, lost, c.requires.seated.soft, c.leave.ensures.soft, c.join.ensures.soft)
+
+pub returns-clause-shaped : goal.returns-clause-shaped
+returns-clause-shaped c =
+    subst (λ (y : Mapping). IsShaped c.args.lab.now c.args.wiring.now y) (sym c.set_place.ensures)
+    (shaped_at c.args.lab.now c.args.wiring.now c.args.mapping.now c.args.virt c.args.place c.requires.shaped c.requires.node c.requires.typed)
 
 pub returns-clause-seated : goal.returns-clause-seated
 returns-clause-seated c =
@@ -106,14 +111,19 @@ returns-clause-seated c =
       joined = c.join.ensures.guests;
       joined_used = c.join.ensures.nodes;
     } in
-    let after = soft_after lab w m v p c.requires.virt in
-    let own = c.seat_soft.ensures.is in
-    let own_after : ◌≡◌ {A = ℕ} c.seat_soft-2.result (seat_soft lab w new v) = c.seat_soft-2.ensures.is ∙ ap (λ (y : Mapping). seat_soft lab w y v) c.set_place.ensures in
+    let law = soft_after lab w m v p virt lt in
+    let before = c.node_soft-before.ensures.sum in
+    let gained = c.type_soft-gained.ensures.is in
+    let after : ◌≡◌ {A = ℕ} c.node_soft-after.result (node_soft lab w new v) = c.node_soft-after.ensures.sum ∙ ap (λ (y : Mapping). node_soft lab w y v) c.set_place.ensures in
+    let lost : ◌≡◌ {A = ℕ} c.type_soft-lost.result (asked_soft w new (virt_at w v).asks (get_or m.places v no_place).1) =
+    c.type_soft-lost.ensures.is ∙ (λ i. asked_soft w (c.set_place.ensures i) (virt_at w v).asks (c.kind_of-kind.ensures i)) in
     let soft = seated.soft in
-    let le = seat_le lab w m v c.requires.virt in
-    subst (λ (y : Mapping). IsSeated lab w y (record { guests = c.join.new.self.guests; nodes = c.join.new.self.nodes; soft = x.soft - c.seat_soft.result + c.seat_soft-2.result })) (sym c.set_place.ensures) (record {
+    let kept_first = c.leave.ensures.soft in
+    let kept = c.join.ensures.soft in
+    let sum = c.changed-self.ensures in
+    subst (λ (y : Mapping). IsSeated lab w y (record { guests = c.join.new.self.guests; nodes = c.join.new.self.nodes; soft = c.changed-self.result })) (sym c.set_place.ensures) (record {
       one_each = ap length c.join.ensures.guests ∙ length-set h p.0.0 _ ∙ ap length c.leave.ensures.guests ∙ length-set g c.node_of-from.result.0 _ ∙ seated.one_each;
       guests = λ n n_lt. guests_went (length lab.nodes) m.places v p g h k x.nodes c.leave.new.self.nodes c.join.new.self.nodes lt went n n_lt;
       nodes = used_went (length lab.nodes) m.places v p g h k x.nodes c.leave.new.self.nodes c.join.new.self.nodes lt went;
-      soft = omega (arith, after, own, own_after, soft, le);
+      soft = omega (arith, law, before, gained, after, lost, soft, kept_first, kept, sum);
     })
