@@ -117,7 +117,9 @@ pub(crate) fn best_by(
         return Ok(None);
     };
     let mut chosen = Chosen::of(alloc, &moves.setting, &start)?;
-    let found = explore(alloc, moves, rule, 0, &mut chosen, None)?;
+    let explored = explore(alloc, moves, rule, 0, &mut chosen, None);
+    drop(chosen);
+    let found = explored?;
     match found {
         Some(best) => Ok(Some((best.mapping, best.cost))),
         None => Ok(None),

@@ -4,6 +4,7 @@ ghost use Rattle.virt_topo.specs.Soundness.{IsSound};
 ghost use Rattle.lab_model.specs.Feasible.{IsFeasible};
 ghost use Rattle.lab_model.specs.Shapes.{IsFreeOf, IsShaped};
 ghost use Rattle.map_anneal.specs.Sought.{sought};
+ghost use Rattle.map_anneal.specs.Searches.{IsPrepared};
 ghost use Rattle.assign_core.specs.Exact.{count, IfFound, IsAllowed};
 
 use crate::exact::best_by;
@@ -47,23 +48,23 @@ pub fn are_few(listed: &Candidates) -> bool
     total <= 65_536
 }
 
-/// The whole search: with at most 65,536 candidates the cheapest feasible node map or None; with more a locally best one
-/// that is at most as dear as every map of the walk of FirstFit and the seed, or GaveUp where FirstFit isn't feasible.
-pub fn solve(
+/// The whole search, by what is prepared.
+fn solve_by(
     alloc: Global,
     lab: &Lab,
     free: &Free,
     wiring: &Wiring,
+    prepared: &Prepared,
     rule: &StepRule,
     seed: u64,
 ) -> Result<Solved, Memory>
     requires free { IsFreeOf lab.now free.now }
     requires sound { IsSound wiring.now }
+    requires prepared { IsPrepared lab.now free.now wiring.now prepared.now }
     ensures allowed { IfOk result (λ solved. IsAllowed (sought lab.now free.now wiring.now rule.now.number) seed solved) }
     ensures shaped { IfOk result (λ solved. IfFound solved (IsShaped lab.now wiring.now)) }
     ensures feasible { IfOk result (λ solved. IfFound solved (IsFeasible lab.now free.now wiring.now)) }
 {
-    let prepared = Prepared::of(alloc, lab, free, wiring)?;
     let moves = prepared.moves(lab, free, wiring);
     if are_few(moves.candidates) {
         let Some((mapping, cost)) = best_by(alloc, &moves, rule)? else {
@@ -85,4 +86,26 @@ pub fn solve(
     let lowest = descend_by(alloc, &moves, &annealed, rule)?;
     let cost = rule.ask(lab, wiring, &lowest);
     Ok(Solved::Local(lowest, cost))
+}
+
+/// The whole search: with at most 65,536 candidates the cheapest feasible node map or None; with more a locally best one
+/// that is at most as dear as every map of the walk of FirstFit and the seed, or GaveUp where FirstFit isn't feasible.
+pub fn solve(
+    alloc: Global,
+    lab: &Lab,
+    free: &Free,
+    wiring: &Wiring,
+    rule: &StepRule,
+    seed: u64,
+) -> Result<Solved, Memory>
+    requires free { IsFreeOf lab.now free.now }
+    requires sound { IsSound wiring.now }
+    ensures allowed { IfOk result (λ solved. IsAllowed (sought lab.now free.now wiring.now rule.now.number) seed solved) }
+    ensures shaped { IfOk result (λ solved. IfFound solved (IsShaped lab.now wiring.now)) }
+    ensures feasible { IfOk result (λ solved. IfFound solved (IsFeasible lab.now free.now wiring.now)) }
+{
+    let prepared = Prepared::of(alloc, lab, free, wiring)?;
+    let solved = solve_by(alloc, lab, free, wiring, &prepared, rule, seed);
+    drop(prepared);
+    solved
 }

@@ -180,8 +180,11 @@ pub fn anneal_by(
         last,
         generator: Pcg32::seed_from_u64(seed),
     };
-    walk.cool(alloc, moves, rule, cost)?;
-    Ok(walk.best.mapping)
+    let cooled = walk.cool(alloc, moves, rule, cost);
+    let Walk { best, last, .. } = walk;
+    drop(last);
+    cooled?;
+    Ok(best.mapping)
 }
 
 /// The cheapest map of the walk of a start and a seed, the earliest among equals.

@@ -57,6 +57,9 @@ pub fn read_ptop(alloc: Global, text: &[u8]) -> Result<Lab, TextRefused>
     let mut so_far = start(alloc)?;
     match add_lines(&mut so_far, alloc, text) {
         Ok(()) => Ok(so_far.lab.finish()?),
-        Err(refused) => Err(refused),
+        Err(refused) => {
+            drop(so_far);
+            Err(refused)
+        }
     }
 }

@@ -60,6 +60,7 @@ fn finish(so_far: SoFar, line: u32) -> Result<Wiring, TextRefused>
     ensures sound { IfOk result IsSound }
 {
     if so_far.wiring.nodes.is_empty() {
+        drop(so_far);
         return Err(empty_at(line));
     }
     Ok(so_far.into_wiring())
@@ -72,6 +73,11 @@ pub fn read_top(alloc: Global, text: &[u8]) -> Result<Wiring, TextRefused>
     ensures sound { IfOk result IsSound }
 {
     let mut so_far = SoFar::new(alloc);
-    let line = add_lines(&mut so_far, alloc, text)?;
-    finish(so_far, line)
+    match add_lines(&mut so_far, alloc, text) {
+        Ok(line) => finish(so_far, line),
+        Err(refused) => {
+            drop(so_far);
+            Err(refused)
+        }
+    }
 }

@@ -80,7 +80,9 @@ impl SoFar {
     pub(crate) fn into_wiring(self) -> Wiring
         ensures { result ≡ self.wiring }
     {
-        self.wiring
+        let SoFar { wiring, tables } = self;
+        drop(tables);
+        wiring
     }
 
     fn asks_of(&self, name: Name) -> Asks

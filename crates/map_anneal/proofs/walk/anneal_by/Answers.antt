@@ -13,10 +13,10 @@ unfolding walk
 returns-clause-least g c =
     let s = sought_of c.args.moves.now c.args.rule.now.number in
     let start = c.args.start.now in
-    let best = c.cool.new.self.best.mapping in
+    let best = c.cool-cooled.new.self.best.mapping in
     let Alone : Mapping → Type 0 = λ m. IsFirstLeast (price s) (start ∷ []) m in
     let Whole : ℕ → Type 0 = λ n. IsFirstLeast (price s) (cooled s n n (started start c.args.seed)).maps best in
-    let kept = c.in_ok-cool.ensures.cooled (started start c.args.seed) (record {
+    let kept = c.in_ok-cooled.ensures.cooled (started start c.args.seed) (record {
       words = search rules;
       last = c.in_ok-last.ensures.start;
       best = subst Alone (sym (ap (λ (p : Priced). p.mapping) c.in_ok-priced.ensures ∙ c.in_ok-last.ensures.start)) (least_alone (price s) start);

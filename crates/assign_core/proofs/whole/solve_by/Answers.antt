@@ -11,7 +11,7 @@ use Rattle.map_anneal.proofs.PreparedLaws.{same_sought}
 use Rattle.map_anneal.proofs.Prices.{map_shaped}
 use Rattle.assign_core.specs.Exact.{count}
 use Rattle.assign_core.proofs.Firsts.{first_fit_mapped}
-use Rattle.assign_core.proofs.whole.solve.Goals as goal
+use Rattle.assign_core.proofs.whole.solve_by.Goals as goal
 
 pub anneal_by-requires-clause-start : goal.anneal_by-requires-clause-start
 anneal_by-requires-clause-start g c =
