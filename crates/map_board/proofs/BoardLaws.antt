@@ -1,7 +1,6 @@
 -- Node maps from what is kept of them.
 use Rattle.std.proofs.Common.{◌≡◌, ◌≢◌, ◌<◌, ◌≤◌, ◌+◌, ◌∙◌, ◌∷◌, [], inl, inr, ℕ, zero, suc, List, length, drop, map, filter, get_or, Bool, true, false, cond, eqb, not, nat_le, ◌==◌, ◌&&◌, ◌||◌, Option, Some, None, All, refl, ap, sym, subst, arith}
-use Rattle.std.specs.Prelude.{codes, IsTrue, ◌↔◌, is_none}
-use Rattle.std.specs.Option.{option_and_then}
+use Rattle.std.specs.Prelude.{codes, IsTrue, ◌↔◌}
 use Rattle.std.specs.List.{list_all, remove, count_by}
 use Rattle.std.proofs.Math.ListN.{set}
 use Rattle.std.proofs.lemmas.Bool.{and_parts, cases_eq, eq-eqb, eqb-true, ne_eqb}
@@ -19,17 +18,14 @@ use Rattle.phys_lab.specs.Faults.{is_type}
 use Rattle.phys_lab.specs.Sides.{joined}
 use Rattle.virt_topo.specs.Soundness.{IsSound}
 use Rattle.virt_topo.specs.Cables.{cables}
-use Rattle.virt_topo.specs.declared.wiring.Asks.{Asks}
-use Rattle.virt_topo.specs.declared.wiring.Asks.TheVariants.{Plain, Class as InClass}
 use Rattle.virt_topo.specs.declared.wiring.Segment.{Segment}
 use Rattle.virt_topo.specs.declared.wiring.VirtNode.{VirtNode}
 use Rattle.virt_topo.specs.declared.wiring.Wiring.{Wiring}
 use Rattle.virt_topo.specs.declared.mapping.Mapping.{Mapping}
-use Rattle.virt_topo.specs.Wirings.{virt_at}
 use Rattle.lab_model.specs.Shapes.{Place, IsShaped, node_at, no_node, has_name}
 use Rattle.lab_model.specs.Uses.{switch_of, no_iface}
-use Rattle.lab_model.specs.Rules.{agree, guests, Guest, number_of, no_place, no_cable, cable_at, is_of_one_type, first_type, keeps_f6, keeps_f7, keeps_f8}
-use Rattle.lab_model.specs.Feasible.{AllPass, violation}
+use Rattle.lab_model.specs.Rules.{agree, guests, Guest, number_of, no_place, no_cable, cable_at, keeps_f6, keeps_f7, keeps_f8}
+use Rattle.lab_model.specs.Feasible.{AllPass}
 use Rattle.lab_model.proofs.CutLaws.{cut_is_use}
 use Rattle.lab_model.proofs.WiringLaws.{has_at}
 use Rattle.trunk_sums.specs.declared.made.Change.{Change}
@@ -38,7 +34,7 @@ use Rattle.trunk_sums.specs.declared.sums.Sums.{Sums}
 use Rattle.trunk_sums.specs.Remade.{remade, AreChanges}
 use Rattle.trunk_sums.specs.Summed.{IsSummed, IsRow}
 use Rattle.node_maps.specs.declared.ends.End.{End}
-use Rattle.node_maps.specs.NodeMaps.{candidates, IsChoice, ends_of, plugs_from, plugs_of, node_map, if_feasible}
+use Rattle.node_maps.specs.NodeMaps.{candidates, IsChoice, ends_of, plugs_from, plugs_of, node_map}
 use Rattle.node_maps.specs.Moved.{may_share, has_class_type, AlikeBut}
 use Rattle.node_maps.proofs.Assembled.{map_of_parts, parts_of_map, no_map}
 use Rattle.node_maps.proofs.EndLists.{on_nodes, same_length}
@@ -48,7 +44,7 @@ use Rattle.node_maps.proofs.Shaped.{plugs_within}
 use Rattle.cost_rule.proofs.LimitLaws.{sound_limits}
 use Rattle.map_board.specs.declared.table.Setting.{Setting}
 use Rattle.map_board.specs.Nodes.{is_on, numbers_of, with_plugs, changes_of, no_row, no_end}
-use Rattle.map_board.specs.Tables.{IsPlain, IsSetting}
+use Rattle.map_board.specs.Tables.{AreAllJoined, IsSetting}
 use Rattle.map_board.specs.Seated.{guests_at, placed_at}
 use Rattle.map_board.specs.Boards.{IsPlanned, Was}
 use Rattle.map_board.proofs.SeatLaws.{guest_left}
@@ -121,32 +117,29 @@ alone_shares lab w m n is shaped lt few =
     counted_type types (get_or m.places k d).1 ranges
     (ap (λ (j : ℕ). has_name (node_at lab (record { 0 = j })).types (get_or m.places k d).1) (sym on) ∙ shaped.of_node k d k_lt)))
 
--- F3's words on classes, and F7, on what is plain
-typed_plain : (lab : Lab) (w : Wiring) (places : List Place) (v : ℕ) → IsPlain lab w → has_class_type w places v ≡ true
-typed_plain lab w places v plain = by (virt_at w v).asks
-  where
-    by : (asks : Asks) → is_of_one_type w (record { places = places; plugs = [] }) asks (get_or places v no_place).1 ≡ true
-    by (Plain t) = refl
-    by (InClass c) = ap (λ (b : Bool). b || same_name (first_type c w.nodes places) (get_or places v no_place).1) (plain.light c)
-
-all_true : {X : Type 0} (p : X → Bool) (xs : List X) → All (λ x. p x ≡ true) xs → list_all p xs ≡ true
+-- F7 where all switches are joined
+pub all_true : {X : Type 0} (p : X → Bool) (xs : List X) → All (λ x. p x ≡ true) xs → list_all p xs ≡ true
 all_true p [] each = refl
 all_true p (x ∷ xs) each = ap (λ (b : Bool). b && list_all p xs) (each 0 x (omega arith)) ∙ all_true p xs (λ k d lt. each (suc k) d (omega (arith, lt)))
+
+pub each_true : {X : Type 0} (p : X → Bool) (xs : List X) → list_all p xs ≡ true → All (λ x. p x ≡ true) xs
+each_true p [] is = λ k d lt. absurd (omega (arith, lt))
+each_true p (x ∷ xs) is = let parts = and_parts (p x) (list_all p xs) is in All-cons (λ y. p y ≡ true) x xs parts.0 (each_true p xs parts.1)
 
 cable_in : (P : IfaceId → Type 0) (segments : List Segment) (plugs : List IfaceId) (s : ℕ) → All P plugs → All P (get_or (cables segments plugs) s no_cable).plugs
 cable_in P [] plugs s all = λ k d lt. absurd (omega (arith, lt))
 cable_in P (x ∷ segments) plugs zero all = All-take P (length x.ends) plugs all
 cable_in P (x ∷ segments) plugs (suc s) all = cable_in P segments (drop (length x.ends) plugs) s (All-drop P (length x.ends) plugs all)
 
-joined_plain : (lab : Lab) (w : Wiring) (m : Mapping) (s : ℕ) → IsLab lab → IsPlain lab w → IsShaped lab w m → keeps_f7 lab w m s ≡ true
-joined_plain lab w m s is plain shaped =
+pub joined_all : (lab : Lab) (w : Wiring) (m : Mapping) (s : ℕ) → IsLab lab → AreAllJoined lab → IsShaped lab w m → keeps_f7 lab w m s ≡ true
+joined_all lab w m s is all shaped =
     let plugs = (cable_at w m s).plugs in
     let within = cable_in (λ i. i.0 < length lab.ifaces) w.segments m.plugs s shaped.in_lab in
     let at : (k : ℕ) (d : IfaceId) → k < length plugs → switch_of lab (get_or plugs k d) < length lab.switches = λ k d lt.
     is.linked.switches (get_or plugs k d).0 no_iface (within k d lt) in
     all_true (λ i. list_all (λ j. joined lab.trunks (switch_of lab i) (switch_of lab j)) plugs) plugs
     (λ k d lt. all_true (λ j. joined lab.trunks (switch_of lab (get_or plugs k d)) (switch_of lab j)) plugs
-    (λ j e j_lt. plain.joined (switch_of lab (get_or plugs k d)) (switch_of lab (get_or plugs j e)) (at k d lt) (at j e j_lt)))
+    (λ j e j_lt. all (switch_of lab (get_or plugs k d)) (switch_of lab (get_or plugs j e)) (at k d lt) (at j e j_lt)))
 
 room_at : (lab : Lab) (free : Free) (w : Wiring) (m : Mapping) (x : Sums) (t : ℕ) → IsSummed lab w m.plugs x → IsShaped lab w m → t < length lab.trunks
     → nat_le (get_or x.uses.items t 0) (get_or free.left t 0) ≡ keeps_f6 lab free w m t
@@ -174,33 +167,38 @@ pub record Shared (lab : Lab) (free : Free) (w : Wiring) (m : Mapping) : Type 0 
   pub shared : AllPass (length lab.nodes) (may_share lab w m.places)
   pub ids : keeps_f8 free w ≡ true
 
--- WHERE ALL IS PLAIN, ROOM ON THE TRUNKS DECIDES
-pub plainly_whole : (lab : Lab) (free : Free) (w : Wiring) (m : Mapping) (x : Sums) (b : Bool) → Shared lab free w m → IsPlain lab w → IsSummed lab w m.plugs x
+-- F3's words on classes, and F7, of all
+pub record Asked (lab : Lab) (w : Wiring) (m : Mapping) : Type 0 where
+  pub typed : AllPass (length w.nodes) (has_class_type w m.places)
+  pub joined : AllPass (length w.segments) (keeps_f7 lab w m)
+
+-- THEN ROOM ON THE TRUNKS DECIDES
+pub whole_by_room : (lab : Lab) (free : Free) (w : Wiring) (m : Mapping) (x : Sums) (b : Bool) → Shared lab free w m → Asked lab w m → IsSummed lab w m.plugs x
     → (IsTrue b ↔ AllPass (length x.uses.items) (λ t. nat_le (get_or x.uses.items t 0) (get_or free.left t 0)))
     → node_map lab free w m.places ≡ cond b (Some m) None
-plainly_whole lab free w m x true f plain summed room =
+whole_by_room lab free w m x true f asked summed room =
     map_of_parts lab free w m.places m.plugs f.sound f.choice (record {
       given = f.given;
       shared = f.shared;
-      typed = λ v lt. typed_plain lab w m.places v plain;
+      typed = asked.typed;
       room = λ t lt. sym (room_at lab free w m x t summed f.shaped lt) ∙ room.0 refl t (let count = summed.one_each in omega (arith, lt, count));
-      joined = λ s lt. joined_plain lab w m s f.kept plain f.shaped;
+      joined = asked.joined;
       ids = f.ids;
     })
-plainly_whole lab free w m x false f plain summed room =
+whole_by_room lab free w m x false f asked summed room =
     no_map lab free w m.places (λ plugs all.
     let same : plugs ≡ m.plugs = same_Some plugs m.plugs (sym all.given ∙ f.given) in
     let fits : AllPass (length lab.trunks) (keeps_f6 lab free w m) = subst (λ (l : List IfaceId). AllPass (length lab.trunks) (keeps_f6 lab free w (record { places = m.places; plugs = l }))) same all.room in
     let both : false ≡ true = room.1 (λ t lt. let within : t < length lab.trunks = (let count = summed.one_each in omega (arith, lt, count)) in room_at lab free w m x t summed f.shaped within ∙ fits t within) in
     absurd (cc both))
 
-pub plainly_kept : (lab : Lab) (free : Free) (w : Wiring) (m : Mapping) (a b : ℕ) (last : List Place) (old : List IfaceId) (x : Sums) (b1 : Bool) → Fresh lab free w m a b last old → IsPlain lab w
+pub kept_by_room : (lab : Lab) (free : Free) (w : Wiring) (m : Mapping) (a b : ℕ) (last : List Place) (old : List IfaceId) (x : Sums) (b1 : Bool) → Fresh lab free w m a b last old → Asked lab w m
     → may_share lab w m.places a ≡ true → may_share lab w m.places b ≡ true → IsSummed lab w m.plugs x
     → (IsTrue b1 ↔ AllPass (length x.uses.items) (λ t. nat_le (get_or x.uses.items t 0) (get_or free.left t 0)))
     → node_map lab free w m.places ≡ cond b1 (Some m) None
-plainly_kept lab free w m a b last old x b1 f plain shares_a shares_b summed room =
+kept_by_room lab free w m a b last old x b1 f asked shares_a shares_b summed room =
     let before = parts_of_map lab free w last (record { places = last; plugs = old }) f.mapped in
-    plainly_whole lab free w m x b1 (record {
+    whole_by_room lab free w m x b1 (record {
       kept = f.kept;
       sound = f.sound;
       choice = f.choice;
@@ -209,10 +207,26 @@ plainly_kept lab free w m a b last old x b1 f plain shares_a shares_b summed roo
       shared = shared_all lab w m.places last a b f.alike before.shared (record {
         first = shares_a;
         second = shares_b;
-        typed = λ v lt. typed_plain lab w m.places v plain;
+        typed = asked.typed;
       });
       ids = before.ids;
-    }) plain summed room
+    }) asked summed room
+
+-- where some class or some segment is not as it has to be, that is no node map
+pub not_typed : (lab : Lab) (free : Free) (w : Wiring) (places : List Place) (b : Bool) → (IsTrue b ↔ AllPass (length w.nodes) (has_class_type w places)) → b ≡ false → node_map lab free w places ≡ None
+not_typed lab free w places b test off =
+    no_map lab free w places (λ plugs all.
+    let both : false ≡ true = sym off ∙ test.1 all.typed in
+    absurd (cc both))
+
+pub not_joined : (lab : Lab) (free : Free) (w : Wiring) (m : Mapping) (b : Bool) → plugs_of lab w m.places ≡ Some m.plugs → (IsTrue b ↔ AllPass (length w.segments) (keeps_f7 lab w m)) → b ≡ false
+    → node_map lab free w m.places ≡ None
+not_joined lab free w m b given test off =
+    no_map lab free w m.places (λ plugs all.
+    let same : plugs ≡ m.plugs = same_Some plugs m.plugs (sym all.given ∙ given) in
+    let joined : AllPass (length w.segments) (keeps_f7 lab w m) = subst (λ (l : List IfaceId). AllPass (length w.segments) (keeps_f7 lab w (record { places = m.places; plugs = l }))) same all.joined in
+    let both : false ≡ true = sym off ∙ test.1 joined in
+    absurd (cc both))
 
 -- where one of two nodes can't be shared, that is no node map
 pub not_both : (lab : Lab) (free : Free) (w : Wiring) (m : Mapping) (a b : ℕ) → a < length lab.nodes → b < length lab.nodes
@@ -221,13 +235,6 @@ not_both lab free w m a b a_lt b_lt is =
     no_map lab free w m.places (λ plugs all.
     let both : (may_share lab w m.places a && may_share lab w m.places b) ≡ true = (λ j. all.shared a a_lt j && all.shared b b_lt j) in
     absurd (cc (is, both)))
-
--- the eight rules decide
-pub wholly_kept : (lab : Lab) (free : Free) (w : Wiring) (m : Mapping) (kept : Bool) → plugs_of lab w m.places ≡ Some m.plugs → kept ≡ is_none (violation lab free w m) → node_map lab free w m.places ≡ cond kept (Some m) None
-unfolding node_map
-wholly_kept lab free w m kept given is =
-    ap (λ o. option_and_then (λ plugs. if_feasible lab free w (record { places = m.places; plugs = plugs })) o) given
-    ∙ ap (λ (b : Bool). cond b (Some m) None) (sym is)
 
 -- THE PLUGS THAT ARE PLANNED
 pub placed_ends : (x : Setting) (places : List Place) → IsSetting x → length places ≡ length x.mapper.wiring.now.nodes → All (λ (e : End). e.node < length places) x.mapper.ends.now

@@ -11,3 +11,5 @@ pub mod CrowdLaws
 pub mod PlannedLaws
 pub mod Alikes
 pub mod SettledLaws
+pub mod TieLaws
+pub mod JointLaws

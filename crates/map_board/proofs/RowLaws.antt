@@ -32,6 +32,18 @@ first_all (x ∷ segments) =
     let own = length-map x.ends (end_of x.kbps) in
     omega (arith, rest, both, own)
 
+-- the first end of one segment more
+pub firsts_more : (segments : List Segment) (firsts : List ℕ) (s next : ℕ) → length firsts ≡ s → next ≡ first_end segments s → ((k : ℕ) → k < s → get_or firsts k 0 ≡ first_end segments k)
+    → (more : List ℕ) → more ≡ firsts ++ next ∷ [] → (k : ℕ) → k < s + 1 → get_or more k 0 ≡ first_end segments k
+firsts_more segments firsts s next count is each more made k lt = elim (cases_lt k s) [
+  | inl below ↦ ap (λ (l : List ℕ). get_or l k 0) made ∙ get_or_append_left firsts (next ∷ []) 0 k (omega (arith, below, count)) ∙ each k below
+  | inr above ↦ (
+      let here : k ≡ s = omega (arith, lt, above) in
+      let none : ◌≡◌ {A = ℕ} (k - length firsts) 0 = omega (arith, here, count) in
+      ap (λ (l : List ℕ). get_or l k 0) made ∙ get_or-append_right firsts (next ∷ []) (length firsts) k 0 refl (omega (arith, above, count))
+      ∙ ap (λ (j : ℕ). get_or (next ∷ []) j 0) none ∙ is ∙ ap (first_end segments) (sym here))
+]
+
 -- the rows of one segment more
 pub rows_more : (w : Wiring) (rows : List EndRow) (s : ℕ) (x : Segment) → s < length w.segments → x ≡ get_or w.segments s no_segment → length rows ≡ first_end w.segments s
     → ((k : ℕ) → k < length rows → IsRow w k (get_or rows k no_row)) → (more : List EndRow) → more ≡ rows ++ replicate (length x.ends) (record { segment = s; ends = length x.ends; kbps = x.kbps })

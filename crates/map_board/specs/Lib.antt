@@ -1,4 +1,5 @@
 pub mod Nodes
+pub mod Ties
 pub mod Tables
 pub mod Seated
 pub mod Unmade

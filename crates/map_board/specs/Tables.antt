@@ -1,22 +1,21 @@
 -- What tries look up.
-use Rattle.std.specs.Prelude.{◌≡◌, ◌<◌, ◌==◌, ℕ, true, List, [], length, nat_lt, slice_index_or}
+use Rattle.std.specs.Prelude.{◌≡◌, ◌<◌, ◌==◌, ℕ, true, List, [], length, slice_index_or}
 use Rattle.phys_lab.specs.Labs.{Lab}
 use Rattle.phys_lab.specs.Sides.{joined}
 use Rattle.virt_topo.specs.declared.wiring.Wiring.{Wiring}
-use Rattle.lab_model.specs.Rules.{class_at}
 use Rattle.trunk_sums.specs.Between.{IsTable}
-use Rattle.trunk_sums.specs.Summed.{IsRow}
+use Rattle.trunk_sums.specs.Summed.{IsRow, first_end}
 use Rattle.trunk_sums.specs.declared.sums.EndRow.{EndRow}
 use Rattle.node_maps.specs.NodeMaps.{ends_of}
 use Rattle.node_maps.specs.Mappers.{IsMapper}
 use Rattle.map_board.specs.declared.table.Table.{Table}
 use Rattle.map_board.specs.declared.table.Setting.{Setting}
 use Rattle.map_board.specs.Nodes.{numbers_of, no_row}
+use Rattle.map_board.specs.Ties.{AreTies}
 
--- no class has a weight of 1000 or more, and all switches are joined
-pub record IsPlain (lab : Lab) (w : Wiring) : Type 0 where
-  pub light : (c : ℕ) → nat_lt (class_at w c).weight 1000 ≡ true
-  pub joined : (a b : ℕ) → a < length lab.switches → b < length lab.switches → joined lab.trunks a b ≡ true
+-- all switches are joined
+abbrev pub AreAllJoined : Lab → Type 0
+AreAllJoined lab = (a b : ℕ) → a < length lab.switches → b < length lab.switches → joined lab.trunks a b ≡ true
 
 -- by end its row
 pub record AreRows (w : Wiring) (rows : List EndRow) : Type 0 where
@@ -28,11 +27,18 @@ pub record AreOwn (w : Wiring) (lists : List (List ℕ)) : Type 0 where
   pub one_each : length lists ≡ length w.nodes
   pub each : (v : ℕ) → v < length w.nodes → slice_index_or lists v [] ≡ numbers_of 0 (λ e. e.node == v) (ends_of w.segments)
 
+-- by segment the number of its first end
+pub record AreFirsts (w : Wiring) (firsts : List ℕ) : Type 0 where
+  pub one_each : length firsts ≡ length w.segments
+  pub each : (s : ℕ) → s < length w.segments → slice_index_or firsts s 0 ≡ first_end w.segments s
+
 pub record IsTableOf (lab : Lab) (w : Wiring) (x : Table) : Type 0 where
   pub rows : AreRows w x.rows.items
   pub own : AreOwn w x.own.items
+  pub firsts : AreFirsts w x.firsts.items
   pub crossings : IsTable lab x.crossings
-  pub plain : x.plain ≡ true → IsPlain lab w
+  pub ties : AreTies w x.ties.items
+  pub joined : x.joined ≡ true → AreAllJoined lab
 
 -- what the node maps are made from, and what their tries look up
 pub record IsSetting (x : Setting) : Type 0 where

@@ -1,6 +1,5 @@
 // The board.
 ghost use Rattle.std.specs.Prelude.{◌≡◌, true, false, ◌<◌, [], List, Some, None, length, slice_index_or, if◌then◌else◌, Contains, IfOk, OnOk, IfSome, IsTrue};
-ghost use Rattle.lab_base.specs.declared.ids.IfaceId.{IfaceId as IfaceSeen};
 ghost use Rattle.lab_model.specs.Shapes.{Place as PlaceSeen, IsShaped};
 ghost use Rattle.node_maps.specs.NodeMaps.{candidates, IsChoice, node_map, plugs_of};
 ghost use Rattle.map_board.specs.Tables.{IsSetting};
@@ -13,7 +12,7 @@ use crate::seats::Seats;
 use crate::table::Setting;
 use cost_rule::Parts;
 use lab_base::{Items, Memory, NodeId};
-use node_maps::{Given, Place, has_room, is_feasible};
+use node_maps::{Given, Place, has_room};
 use std::alloc::Global;
 use std::mem;
 use trunk_sums::{Change, Sums, are_rising};
@@ -271,8 +270,8 @@ impl Board {
         self.back.clear();
     }
 
-    /// Whether a mapping keeps the eight rules, whose plugs the interface rule gave, and whose places differ from those of a
-    /// node map on two nodes alone.
+    /// Whether a mapping keeps the eight rules, whose plugs the interface rule gave, and which before the last try was a node
+    /// map whose places differ on two nodes alone.
     fn is_kept(
         &self,
         alloc: Global,
@@ -284,15 +283,18 @@ impl Board {
         requires laid { IsLaid setting.now self.now }
         requires first { first.0 < length setting.now.mapper.lab.now.nodes }
         requires second { second.0 < length setting.now.mapper.lab.now.nodes }
-        ensures { IfOk result (λ yes. (last : List PlaceSeen) (old : List IfaceSeen) → Was setting.now self.now.mapping.places old first.0 second.0 last → plugs_of setting.now.mapper.lab.now setting.now.mapper.wiring.now self.now.mapping.places ≡ Some self.now.mapping.plugs → node_map setting.now.mapper.lab.now setting.now.mapper.free.now setting.now.mapper.wiring.now self.now.mapping.places ≡ (if yes then Some self.now.mapping else None)) }
+        requires backward { AreChanges setting.now.mapper.lab.now setting.now.mapper.wiring.now self.now.back.items }
+        ensures { IfOk result (λ yes. (last : List PlaceSeen) → Was setting.now self.now.mapping.places (unmade self.now.mapping.plugs self.now.back.items) first.0 second.0 last → plugs_of setting.now.mapper.lab.now setting.now.mapper.wiring.now self.now.mapping.places ≡ Some self.now.mapping.plugs → node_map setting.now.mapper.lab.now setting.now.mapper.free.now setting.now.mapper.wiring.now self.now.mapping.places ≡ (if yes then Some self.now.mapping else None)) }
     {
         let mapper = setting.mapper;
         let _kept = mapper.lab.range();
-        if !setting.table.plain {
-            let yes = is_feasible(alloc, mapper.lab, mapper.free, mapper.wiring, &self.mapping)?;
-            return Ok(yes);
+        if !self.has_types(setting) {
+            return Ok(false);
         }
         if !self.may_share_both(alloc, setting, first, second)? {
+            return Ok(false);
+        }
+        if !self.is_still_joined(setting) {
             return Ok(false);
         }
         Ok(has_room(mapper.free, self.sums.uses()))

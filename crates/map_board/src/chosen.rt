@@ -111,7 +111,6 @@ impl Chosen {
         if !self.refresh_all(alloc, setting)? {
             return Ok(false);
         }
-        let yes = self.board.is_whole(alloc, setting)?;
-        Ok(yes)
+        Ok(self.board.is_whole(setting))
     }
 }

@@ -6,10 +6,12 @@ mod board;
 mod chosen;
 mod crowd;
 mod give;
+mod joints;
 mod remake;
 mod seats;
 mod settle;
 mod table;
+mod ties;
 
 pub use board::Board;
 pub use chosen::Chosen;

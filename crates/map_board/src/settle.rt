@@ -1,18 +1,22 @@
 // The ends on one node given anew, whatever is on the others.
-ghost use Rattle.std.specs.Prelude.{◌≡◌, ◌≢◌, ◌<◌, ◌↔◌, ◌&&◌, ℕ, true, false, [], nat_le, length, Some, None, if◌then◌else◌, IfOk, OnOk};
-ghost use Rattle.lab_model.specs.Rules.{keeps_f8};
+ghost use Rattle.std.specs.Prelude.{◌≡◌, ◌≢◌, ◌<◌, ◌↔◌, ◌&&◌, ℕ, List, true, false, [], nat_le, length, Some, None, if◌then◌else◌, IfOk, OnOk, IsTrue};
+ghost use Rattle.lab_model.specs.Shapes.{Place as PlaceSeen};
+ghost use Rattle.lab_model.specs.Rules.{keeps_f7, keeps_f8};
+ghost use Rattle.lab_model.specs.Feasible.{AllPass};
 ghost use Rattle.node_maps.specs.NodeMaps.{node_map};
-ghost use Rattle.node_maps.specs.Moved.{may_share};
+ghost use Rattle.node_maps.specs.Moved.{has_class_type, may_share};
 ghost use Rattle.map_board.specs.Tables.{IsSetting};
 ghost use Rattle.map_board.specs.Boards.{IsLaid};
 ghost use Rattle.map_board.specs.Chosen.{IsSettled};
 
 use crate::board::Board;
 use crate::give::give;
+use crate::joints::{all_keep_f7, changed_keep_f7};
 use crate::table::Setting;
+use crate::ties::are_kept;
 use feas::may_share;
 use lab_base::{Items, Memory, NodeId};
-use node_maps::{has_room, is_feasible};
+use node_maps::has_room;
 use phys_lab::Free;
 use std::alloc::Global;
 use std::mem;
@@ -27,6 +31,7 @@ fn has_ids(free: &Free, wiring: &Wiring) -> bool
 
 impl Board {
     ghost use Rattle.trunk_sums.specs.Remade.{remade, AreChanges};
+    ghost use Rattle.map_board.specs.Unmade.{unmade};
 
     /// Whether the virtual nodes on a node may share it.
     fn may_share(&self, alloc: Global, setting: &Setting, node: NodeId) -> Result<bool, Memory>
@@ -65,6 +70,42 @@ impl Board {
         }
         let yes = self.may_share(alloc, setting, second)?;
         Ok(yes)
+    }
+
+    /// Whether the members of each class of weight 1,000 or more have one type.
+    pub(crate) fn has_types(&self, setting: &Setting) -> bool
+        requires setting { IsSetting setting.now }
+        requires laid { IsLaid setting.now self.now }
+        ensures { IsTrue result ↔ AllPass (length setting.now.mapper.wiring.now.nodes) (has_class_type setting.now.mapper.wiring.now self.now.mapping.places) }
+    {
+        are_kept(&setting.table.ties, self.mapping.places.as_slice())
+    }
+
+    /// Whether the plugs of each segment are on switches that are joined.
+    fn is_joined(&self, setting: &Setting) -> bool
+        requires setting { IsSetting setting.now }
+        requires laid { IsLaid setting.now self.now }
+        ensures { IsTrue result ↔ AllPass (length setting.now.mapper.wiring.now.segments) (keeps_f7 setting.now.mapper.lab.now setting.now.mapper.wiring.now self.now.mapping) }
+    {
+        let _kept = setting.mapper.lab.range();
+        if setting.table.joined {
+            return true;
+        }
+        all_keep_f7(setting, &self.mapping)
+    }
+
+    /// The same where it was so before the last try.
+    pub(crate) fn is_still_joined(&self, setting: &Setting) -> bool
+        requires setting { IsSetting setting.now }
+        requires laid { IsLaid setting.now self.now }
+        requires backward { AreChanges setting.now.mapper.lab.now setting.now.mapper.wiring.now self.now.back.items }
+        ensures { (last : List PlaceSeen) → AllPass (length setting.now.mapper.wiring.now.segments) (keeps_f7 setting.now.mapper.lab.now setting.now.mapper.wiring.now (record { places = last; plugs = unmade self.now.mapping.plugs self.now.back.items })) → (IsTrue result ↔ AllPass (length setting.now.mapper.wiring.now.segments) (keeps_f7 setting.now.mapper.lab.now setting.now.mapper.wiring.now self.now.mapping)) }
+    {
+        let _kept = setting.mapper.lab.range();
+        if setting.table.joined {
+            return true;
+        }
+        changed_keep_f7(setting, &self.mapping, &self.back)
     }
 
     /// Makes what is planned, for good.
@@ -156,21 +197,23 @@ impl Board {
     }
 
     /// Whether a mapping whose nodes are all settled keeps the eight rules.
-    pub(crate) fn is_whole(&self, alloc: Global, setting: &Setting) -> Result<bool, Memory>
+    pub(crate) fn is_whole(&self, setting: &Setting) -> bool
         requires setting { IsSetting setting.now }
         requires laid { IsLaid setting.now self.now }
         requires settled { (n : ℕ) → n < length setting.now.mapper.lab.now.nodes → IsSettled setting.now self.now.mapping n }
-        ensures { IfOk result (λ yes. node_map setting.now.mapper.lab.now setting.now.mapper.free.now setting.now.mapper.wiring.now self.now.mapping.places ≡ (if yes then Some self.now.mapping else None)) }
+        ensures { node_map setting.now.mapper.lab.now setting.now.mapper.free.now setting.now.mapper.wiring.now self.now.mapping.places ≡ (if result then Some self.now.mapping else None) }
     {
         let mapper = setting.mapper;
         let _kept = mapper.lab.range();
         if !has_ids(mapper.free, mapper.wiring) {
-            return Ok(false);
+            return false;
         }
-        if setting.table.plain {
-            return Ok(has_room(mapper.free, self.sums.uses()));
+        if !self.has_types(setting) {
+            return false;
         }
-        let yes = is_feasible(alloc, mapper.lab, mapper.free, mapper.wiring, &self.mapping)?;
-        Ok(yes)
+        if !self.is_joined(setting) {
+            return false;
+        }
+        has_room(mapper.free, self.sums.uses())
     }
 }

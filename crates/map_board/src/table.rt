@@ -2,11 +2,11 @@
 ghost use Rattle.std.specs.Prelude.{◌≡◌, ◌<◌, ◌≤◌, ◌==◌, ◌++◌, ℕ, true, [], length, replicate, IfOk, OnOk, IsTrue};
 ghost use Rattle.phys_lab.specs.Sides.{joined};
 ghost use Rattle.virt_topo.specs.Soundness.{IsSound};
-ghost use Rattle.lab_model.specs.Rules.{class_at};
 ghost use Rattle.node_maps.specs.NodeMaps.{ends_of};
 ghost use Rattle.map_board.specs.Nodes.{numbers_of};
-ghost use Rattle.map_board.specs.Tables.{IsPlain, AreRows, AreOwn, IsTableOf};
+ghost use Rattle.map_board.specs.Tables.{AreAllJoined, AreFirsts, AreRows, AreOwn, IsTableOf};
 
+use crate::ties::{Tie, ties_of};
 use lab_base::{Items, Memory, SwitchId};
 use node_maps::{End, Mapper};
 use phys_lab::Lab;
@@ -21,9 +21,13 @@ pub struct Table {
     pub(crate) rows: Vec<EndRow>,
     /// By virtual node the numbers of its ends.
     pub(crate) own: Vec<Items<u16>>,
+    /// By segment the number of its first end.
+    pub(crate) firsts: Vec<u16>,
     pub(crate) crossings: Crossings,
-    /// No class has a weight of 1,000 or more, and all switches are joined.
-    pub(crate) plain: bool,
+    /// The virtual nodes that must have one type; none where no class has a weight of 1,000 or more.
+    pub(crate) ties: Vec<Tie>,
+    /// All switches are joined.
+    pub(crate) joined: bool,
 }
 
 /// What the node maps of a wiring are made from, and what their tries look up.
@@ -89,16 +93,18 @@ fn own_of(alloc: Global, wiring: &Wiring, ends: &[End]) -> Result<Vec<Items<u16>
     Ok(own)
 }
 
-/// Whether no class has a weight of 1,000 or more.
-fn are_light(wiring: &Wiring) -> bool
-    ensures { IsTrue result → (c : ℕ) → c < length wiring.now.classes → (class_at wiring.now c).weight < 1000 }
+/// By segment the number of its first end.
+fn firsts_of(alloc: Global, wiring: &Wiring) -> Result<Vec<u16>, Memory>
+    requires { IsSound wiring.now }
+    ensures { IfOk result (λ firsts. AreFirsts wiring.now firsts.items) }
 {
-    for class in wiring.classes.as_slice() {
-        if class.weight >= 1_000 {
-            return false;
-        }
+    let mut firsts = Vec::new(alloc);
+    let mut next = 0u16;
+    for segment in wiring.segments.as_slice() {
+        firsts.push(next)?;
+        next += segment.ends.len() as u16;
     }
-    true
+    Ok(firsts)
 }
 
 fn is_joined_to_all(lab: &Lab, switch: usize) -> bool
@@ -115,7 +121,7 @@ fn is_joined_to_all(lab: &Lab, switch: usize) -> bool
 }
 
 fn are_all_joined(lab: &Lab) -> bool
-    ensures { IsTrue result → (a b : ℕ) → a < length lab.now.switches → b < length lab.now.switches → joined lab.now.trunks a b ≡ true }
+    ensures { IsTrue result → AreAllJoined lab.now }
 {
     for switch in 0..lab.switches().len() {
         if !is_joined_to_all(lab, switch) {
@@ -134,13 +140,17 @@ impl Table {
     {
         let rows = rows_of(alloc, wiring)?;
         let own = own_of(alloc, wiring, ends)?;
+        let firsts = firsts_of(alloc, wiring)?;
         let crossings = Crossings::of_lab(alloc, lab)?;
-        let plain = are_light(wiring) && are_all_joined(lab);
+        let ties = ties_of(alloc, wiring)?;
+        let joined = are_all_joined(lab);
         Ok(Table {
             rows,
             own,
+            firsts,
             crossings,
-            plain,
+            ties,
+            joined,
         })
     }
 }

@@ -2,7 +2,7 @@ use Rattle.std.proofs.Common.{◌∙◌, ℕ, List, length, get_or, nat_le, sym,
 use Rattle.std.specs.Prelude.{IsTrue, ◌↔◌}
 use Rattle.lab_model.specs.Feasible.{AllPass}
 use Rattle.node_maps.proofs.Assembled.{no_map}
-use Rattle.map_board.proofs.BoardLaws.{plainly_whole, wholly_kept}
+use Rattle.map_board.proofs.BoardLaws.{whole_by_room, not_joined, not_typed}
 use Rattle.map_board.proofs.SettledLaws.{all_given}
 use Rattle.map_board.proofs.board.Board.is_whole.Goals as goal
 
@@ -13,13 +13,24 @@ returns-then-not-has_ids c =
     let both = sym all.ids ∙ sym c.has_ids.ensures ∙ c.if-not-has_ids.true in
     absurd (cc both))
 
-pub returns-then-setting : goal.returns-then-setting
-returns-then-setting c =
+pub returns-then-not-has_types : goal.returns-then-not-has_types
+returns-then-not-has_types c =
+    let x = c.args.setting.now.mapper in
+    not_typed x.lab.now x.free.now x.wiring.now c.args.self.now.mapping.places c.has_types.result c.has_types.ensures c.if-not-has_types.true
+
+pub returns-then-not-is_joined : goal.returns-then-not-is_joined
+returns-then-not-is_joined c =
+    let x = c.args.setting.now in
+    let m = c.args.self.now.mapping in
+    not_joined x.mapper.lab.now x.mapper.free.now x.mapper.wiring.now m c.is_joined.result (all_given x m c.requires.setting c.requires.laid.shaped c.requires.settled) c.is_joined.ensures c.if-not-is_joined.true
+
+pub returns : goal.returns
+returns c =
     let x = c.args.setting.now in
     let m = c.args.self.now.mapping in
     let laid = c.requires.laid in
     let set = c.requires.setting in
-    plainly_whole x.mapper.lab.now x.mapper.free.now x.mapper.wiring.now m c.args.self.now.sums c.has_room.result
+    whole_by_room x.mapper.lab.now x.mapper.free.now x.mapper.wiring.now m c.args.self.now.sums c.has_room.result
     (record {
       kept = c.range-kept.ensures.lab;
       sound = set.mapper.sound;
@@ -29,11 +40,9 @@ returns-then-setting c =
       shared = λ n lt. (c.requires.settled n lt).shares;
       ids = sym c.has_ids.ensures ∙ c.if-not-has_ids.false;
     })
-    (set.table.plain c.if-setting.true) laid.summed
+    (record {
+      typed = c.has_types.ensures.0 c.if-not-has_types.false;
+      joined = c.is_joined.ensures.0 c.if-not-is_joined.false;
+    })
+    laid.summed
     (subst (λ (l : List ℕ). IsTrue c.has_room.result ↔ AllPass (length l) (λ t. nat_le (get_or l t 0) (get_or x.mapper.free.now.left t 0))) c.uses.ensures c.has_room.ensures)
-
-pub returns : goal.returns
-returns c =
-    let x = c.args.setting.now in
-    let m = c.args.self.now.mapping in
-    wholly_kept x.mapper.lab.now x.mapper.free.now x.mapper.wiring.now m c.in_ok-yes.yes (all_given x m c.requires.setting c.requires.laid.shaped c.requires.settled) c.in_ok-yes.ensures

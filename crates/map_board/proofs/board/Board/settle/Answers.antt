@@ -1,8 +1,10 @@
 use Rattle.std.proofs.Common.{◌≡◌, ◌∙◌, List, Some, ap, sym, subst}
+use Rattle.lab_base.specs.declared.ids.IfaceId.{IfaceId}
 use Rattle.lab_model.specs.Shapes.{Place}
 use Rattle.node_maps.specs.NodeMaps.{plugs_of, node_map}
 use Rattle.trunk_sums.specs.Remade.{remade}
 use Rattle.map_board.specs.Boards.{Was}
+use Rattle.map_board.specs.Unmade.{unmade}
 use Rattle.map_board.proofs.BoardLaws.{planned_changes, planned_plugs}
 use Rattle.map_board.proofs.board.Board.settle.Goals as goal
 
@@ -26,5 +28,6 @@ returns-clause-map c = λ last was.
     let places : made.places ≡ start.places = c.in_ok-make.ensures.places in
     let given_made : plugs_of lab w made.places ≡ Some made.plugs =
     ap (λ (l : List Place). plugs_of lab w l) places ∙ given ∙ ap Some (sym c.in_ok-make.ensures.plugs) in
-    let was_made : Was x made.places start.plugs a b last = subst (λ (l : List Place). Was x l start.plugs a b last) (sym places) was in
-    ap (λ (l : List Place). node_map lab free w l) (sym places) ∙ c.in_ok-yes.ensures last start.plugs was_made given_made
+    let was_made : Was x made.places (unmade made.plugs c.make.new.self.back.items) a b last =
+    subst (λ (l : List IfaceId). Was x made.places l a b last) (sym c.in_ok-make.ensures.back) (subst (λ (l : List Place). Was x l start.plugs a b last) (sym places) was) in
+    ap (λ (l : List Place). node_map lab free w l) (sym places) ∙ c.in_ok-yes.ensures last was_made given_made

@@ -24,4 +24,4 @@ is_whole-requires-clause-settled c = λ n lt.
 pub returns-clause-map : goal.returns-clause-map
 returns-clause-map c =
     let x = c.args.setting.now.mapper in
-    ap (λ (l : List Place). node_map x.lab.now x.free.now x.wiring.now l) (sym c.in_ok-refresh_all.ensures.places) ∙ c.in_ok-yes.ensures
+    ap (λ (l : List Place). node_map x.lab.now x.free.now x.wiring.now l) (sym c.in_ok-refresh_all.ensures.places) ∙ c.is_whole.ensures
