@@ -1,14 +1,22 @@
-//! Runs one layer on files, for measuring: the words are the layer's name, then its files.
+//! Runs on files what no command of `labctl` runs by itself, for measuring: the words are what is run, how many times, and two files, a lab
+//! and the text of a batch or of a wiring. No experiment claims anything of the lab.
+//!
+//! ```text
+//! ahead   whether the promises of a batch that hold at 0 fit
+//! fit     FirstFit
+//! walk    the annealing walk from FirstFit
+//! solve   the whole search
+//! ```
 #![tactic(auto)]
 
 mod ahead;
-mod journal;
-mod labs;
-mod ns;
-mod tcl;
+mod search;
+mod setting;
 mod walk;
 
-use anyhow::bail;
+use crate::search::What;
+use anyhow::{anyhow, bail};
+use lab_base::number_in;
 use std::{env, fs};
 
 /// The words behind the program's name.
@@ -20,28 +28,24 @@ fn words_of(rt: &HostRuntime) -> anyhow::Result<Vec<String>> {
     Ok(words)
 }
 
+/// The number of times that a word is.
+fn times_of(word: &str) -> anyhow::Result<u64> {
+    number_in(word.as_bytes(), 1, 1_000_000).map_err(|_| anyhow!("not a number of times: {word}"))
+}
+
 fn main(rt: HostRuntime) -> anyhow::Result<()> {
     let words = words_of(&rt)?;
-    let [layer, paths @ ..] = words.as_slice() else {
-        bail!("no layer is named");
+    let [what, times, lab, asked] = words.as_slice() else {
+        bail!("the words are: ahead|fit|walk|solve TIMES LAB TEXT");
     };
-    let mut files = Vec::new(rt.alloc());
-    for path in paths {
-        files.push(fs::read(&rt, path.as_str())?)?;
-    }
-    match (layer.as_str(), files.as_slice()) {
-        ("journal", [side]) => journal::open(&rt, side),
-        ("lab", [side]) => journal::replay(&rt, side),
-        ("tcl", [text]) => tcl::run(&rt, text),
-        ("ns", [text]) => ns::read(&rt, text),
-        ("expand", [text]) => ns::expanded(&rt, text),
-        ("ptop", [ptop]) => labs::again(&rt, ptop),
-        ("top", [top]) => labs::top_again(&rt, top),
-        ("ahead", [ptop, batch]) => ahead::fitted(&rt, ptop, batch),
-        ("fit", [ptop, top]) => walk::fit(&rt, ptop, top),
-        ("walk", [ptop, top]) => walk::search(&rt, false, ptop, top),
-        ("solve", [ptop, top]) => walk::search(&rt, true, ptop, top),
-        ("check", [ptop, top, solution]) => labs::check(&rt, ptop, top, solution),
-        _ => bail!("no layer of that name over so many files"),
+    let times = times_of(times)?;
+    let ptop = fs::read(&rt, lab.as_str())?;
+    let text = fs::read(&rt, asked.as_str())?;
+    match what.as_str() {
+        "ahead" => ahead::fitted(&rt, times, &ptop, &text),
+        "fit" => search::fitted(&rt, times, &ptop, &text),
+        "walk" => search::searched(&rt, What::Walk, times, &ptop, &text),
+        "solve" => search::searched(&rt, What::Solve, times, &ptop, &text),
+        _ => bail!("nothing of that name is measured"),
     }
 }

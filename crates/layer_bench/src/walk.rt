@@ -1,20 +1,19 @@
-ghost use Rattle.std.specs.Prelude.{◌≡◌, ◌*◌, ◌/◌};
+// The annealing walk from FirstFit.
+ghost use Rattle.std.specs.Prelude.{◌≡◌, ◌*◌, ◌/◌, IfOk};
 ghost use Rattle.virt_topo.specs.Soundness.{IsSound};
 ghost use Rattle.lab_model.specs.Shapes.{IsFreeOf, IsShaped};
-ghost use Rattle.cost_rule.specs.Cost.{cost};
-ghost use Rattle.cost_rule.specs.Parts.{cost_of_parts, AreParts};
+ghost use Rattle.map_anneal.specs.Sought.{sought, IsNodeMap};
+ghost use Rattle.map_anneal.specs.Searches.{IsMoves, sought_of};
 
-use crate::labs::{all_free, lab_of, wiring_of};
+use crate::setting::Problem;
 use anyhow::bail;
-use assign_core::{Solved, first_fit, solve};
-use cost_rule::{CostFn, Parts, PartsFn, Rule, RuleNumber, StepFn, StepRule};
-use map_anneal::anneal;
-use phys_lab::{Free, Lab};
-use rule_costs::{cost_of, parts_cost, step_cost};
-use virt_topo::{Mapping, Wiring};
+use assign_core::first_fit;
+use cost_rule::StepRule;
+use map_anneal::{Moves, Prepared, anneal_by};
+use virt_topo::Mapping;
 
 /// The seed of the walk.
-const SEED: u64 = 1;
+pub(crate) const SEED: u64 = 1;
 
 /// A heat after a round.
 fn cooler(heat: u64) -> u64
@@ -34,96 +33,57 @@ fn rounds_from(cost: u64) -> u64 {
     rounds
 }
 
-/// The walk of FirstFit: prints how many tries it has, and what the start and the cheapest map cost.
-fn walked(
-    rt: &HostRuntime,
-    lab: &Lab,
-    free: &Free,
-    wiring: &Wiring,
-    rule: &StepRule,
-) -> anyhow::Result<()>
-    requires free { IsFreeOf lab.now free.now }
-    requires sound { IsSound wiring.now }
+/// Where the walk begins.
+fn start_of(rt: &HostRuntime, problem: &Problem, rule: &StepRule) -> anyhow::Result<Mapping>
+    requires free { IsFreeOf problem.now.lab problem.now.free }
+    requires sound { IsSound problem.now.wiring }
+    ensures shaped { IfOk result (IsShaped problem.now.lab problem.now.wiring) }
+    ensures start { IfOk result (IsNodeMap (sought problem.now.lab problem.now.free problem.now.wiring rule.now.number)) }
 {
-    let Ok(found) = first_fit(rt.alloc(), lab, free, wiring) else {
-        bail!("out of memory");
-    };
-    let Some(start) = found else {
-        bail!("FirstFit isn't feasible");
-    };
-    let from = rule.ask(lab, wiring, &start);
-    let Ok(best) = anneal(rt.alloc(), lab, free, wiring, &start, rule, SEED) else {
-        bail!("out of memory");
-    };
-    let to = rule.ask(lab, wiring, &best);
-    let tries = rounds_from(from).saturating_mul(8 * wiring.nodes.len() as u64);
-    println!(rt; "{tries} tries, cost {from} to {to}")?;
-    Ok(())
+    match first_fit(rt.alloc(), &problem.lab, &problem.free, &problem.wiring) {
+        Ok(Some(start)) => Ok(start),
+        Ok(None) => bail!("FirstFit isn't feasible"),
+        Err(_) => bail!("out of memory"),
+    }
 }
 
-/// The whole search: prints its answer with its cost.
-fn solved(
+/// Walks so many times.
+fn walk(
     rt: &HostRuntime,
-    lab: &Lab,
-    free: &Free,
-    wiring: &Wiring,
+    times: u64,
+    moves: &Moves,
+    start: &Mapping,
     rule: &StepRule,
 ) -> anyhow::Result<()>
-    requires free { IsFreeOf lab.now free.now }
-    requires sound { IsSound wiring.now }
+    requires moves { IsMoves moves.now }
+    requires start { IsNodeMap (sought_of moves.now rule.now.number) start.now }
 {
-    match solve(rt.alloc(), lab, free, wiring, rule, SEED) {
-        Ok(Solved::Least(_, cost)) => println!(rt; "least {cost}")?,
-        Ok(Solved::Local(_, cost)) => println!(rt; "local {cost}")?,
-        Ok(Solved::None) => println!(rt; "none")?,
-        Ok(Solved::GaveUp) => println!(rt; "gave up")?,
-        Err(_) => bail!("out of memory"),
+    for _time in 0..times {
+        if anneal_by(rt.alloc(), moves, start, rule, SEED).is_err() {
+            bail!("out of memory");
+        }
     }
     Ok(())
 }
 
-/// The whole search, or the walk from FirstFit alone, on a lab of which nothing is claimed, under the cost rule of the trunks.
-pub fn search(rt: &HostRuntime, whole: bool, ptop: &[u8], top: &[u8]) -> anyhow::Result<()> {
-    let lab = lab_of(rt.alloc(), ptop)?;
-    let wiring = wiring_of(rt.alloc(), top)?;
-    let Ok(free) = all_free(rt.alloc(), &lab) else {
+/// Walks so many times, and prints how many tries all of these have.
+pub(crate) fn walked(
+    rt: &HostRuntime,
+    times: u64,
+    problem: &Problem,
+    rule: &StepRule,
+) -> anyhow::Result<()>
+    requires free { IsFreeOf problem.now.lab problem.now.free }
+    requires sound { IsSound problem.now.wiring }
+{
+    let start = start_of(rt, problem, rule)?;
+    let rounds = rounds_from(rule.ask(&problem.lab, &problem.wiring, &start));
+    let tries = rounds.saturating_mul(8 * problem.wiring.nodes.len() as u64);
+    let Ok(prepared) = Prepared::of(rt.alloc(), &problem.lab, &problem.free, &problem.wiring) else {
         bail!("out of memory");
     };
-    let number = RuleNumber::Trunk;
-    let by_number = move |lab: &Lab, wiring: &Wiring, mapping: &Mapping| -> u64
-        requires { IsSound wiring.now × IsShaped lab.now wiring.now mapping.now }
-        ensures { result ≡ cost number lab.now wiring.now mapping.now }
-    { cost_of(number, lab, wiring, mapping) };
-    let by_step = move |lab: &Lab, wiring: &Wiring, from: &Mapping, to: &Mapping, told: u64| -> u64
-        requires { IsSound wiring.now × IsShaped lab.now wiring.now from.now × IsShaped lab.now wiring.now to.now × (told ≡ cost number lab.now wiring.now from.now) }
-        ensures { result ≡ cost number lab.now wiring.now to.now }
-    { step_cost(number, lab, wiring, from, to, told) };
-    let by_parts = move |parts: Parts| -> u64
-        requires { AreParts parts }
-        ensures { result ≡ cost_of_parts number parts }
-    { parts_cost(number, parts) };
-    let boxed: CostFn = Box::new(rt.alloc(), by_number)?;
-    let step: StepFn = Box::new(rt.alloc(), by_step)?;
-    let parted: PartsFn = Box::new(rt.alloc(), by_parts)?;
-    let rule = StepRule::new(Rule::new(number, boxed), step, parted);
-    if whole {
-        solved(rt, &lab, &free, &wiring, &rule)
-    } else {
-        walked(rt, &lab, &free, &wiring, &rule)
-    }
-}
-
-/// Places a wiring by FirstFit, as before a walk.
-pub fn fit(rt: &HostRuntime, ptop: &[u8], top: &[u8]) -> anyhow::Result<()> {
-    let lab = lab_of(rt.alloc(), ptop)?;
-    let wiring = wiring_of(rt.alloc(), top)?;
-    let Ok(free) = all_free(rt.alloc(), &lab) else {
-        bail!("out of memory");
-    };
-    match first_fit(rt.alloc(), &lab, &free, &wiring) {
-        Ok(Some(_)) => println!(rt; "placed")?,
-        Ok(None) => println!(rt; "not placed")?,
-        Err(_) => bail!("out of memory"),
-    }
+    let moves = prepared.moves(&problem.lab, &problem.free, &problem.wiring);
+    walk(rt, times, &moves, &start, rule)?;
+    println!(rt; "{} tries", tries.saturating_mul(times))?;
     Ok(())
 }
