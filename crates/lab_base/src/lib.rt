@@ -28,6 +28,3 @@ pub use parts::{ListRead, add_read, name_in, number_in};
 pub use rates::Rates;
 pub use text::Text;
 pub use what::What;
-
-#[cfg(test)]
-mod tests;

@@ -9,6 +9,3 @@ mod tally;
 pub use script::generate;
 pub use source::TextSource;
 pub use tally::{Tally, words_of_replies};
-
-#[cfg(test)]
-mod tests;

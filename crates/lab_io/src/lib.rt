@@ -11,6 +11,3 @@ pub use mem::{MemSink, MemSource};
 pub use outside::{Failed, Sink, Source, write_all};
 pub use reader::{Line, LineFault, LineReader};
 pub use standard::{StdSink, StdSource};
-
-#[cfg(test)]
-mod tests;

@@ -6,6 +6,3 @@ mod watch;
 
 pub use pairs::lawful;
 pub use watch::{Seen, Watch};
-
-#[cfg(test)]
-mod tests;

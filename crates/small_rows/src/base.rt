@@ -1,4 +1,6 @@
-use super::*;
+use lab_base::{
+    Kind, Name, Tags, Text, VlanId, both, fields_in, first_line, is_skipped, read_number,
+};
 use std::cmp::Ordering;
 use std::test::Fail;
 

@@ -1,5 +1,5 @@
-use super::*;
 use lab_base::Boot;
+use node_state::{Seen, Watch, lawful};
 use std::test::Fail;
 
 #[test]

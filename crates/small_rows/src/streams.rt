@@ -1,4 +1,4 @@
-use super::*;
+use lab_io::{Failed, Line, LineFault, LineReader, MemSink, MemSource, Sink, write_all};
 use std::test::Fail;
 
 /// The texts of the lines that a reader takes of these bytes, a `|` behind each, and the fault that ends it, if any.

@@ -1,4 +1,4 @@
-use super::*;
+use lab_gen::generate;
 use std::test::Fail;
 
 /// How many bytes, commands and virtual nodes the script of a seed has.
