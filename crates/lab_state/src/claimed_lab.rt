@@ -1,6 +1,7 @@
 ghost use Rattle.std.specs.Prelude.{◌≡◌, ◌==◌, ◌&&◌, List, length, Option, Some, is_none, IfOk};
 ghost use Rattle.virt_topo.specs.declared.experiment.Experiment.{Experiment as AnyExperiment};
 ghost use Rattle.virt_topo.specs.Soundness.{IsSound};
+ghost use Rattle.virt_topo.specs.declared.experiment.Phase.TheVariants as phases;
 ghost use Rattle.virt_topo.specs.declared.mapping.Mapped.{Mapped as AnyMapped};
 ghost use Rattle.lab_model.specs.Feasible.{violation};
 ghost use Rattle.lab_model.specs.Shapes.{IsShaped, IsFreeOf};
@@ -19,7 +20,7 @@ use feas::{CheckFault, check};
 use lab_base::{Memory, Name};
 use phys_lab::{Free, Lab};
 use std::alloc::Global;
-use virt_topo::{Experiment, Mapped, Phase};
+use virt_topo::{Experiment, Mapped, Phase, Wiring};
 
 /// A lab, and what its experiments claim.
 #[derive(Drop)]
@@ -45,6 +46,30 @@ fn standing_of(alloc: Global, experiment: &Experiment) -> Result<Option<Mapped>,
         }
         Phase::Out => Ok(None),
         Phase::Moving { .. } => Ok(None),
+    }
+}
+
+/// What is made of an experiment that moves, beside its new mapping: its wiring, the mapping with which it stands, and what it claims.
+#[derive(Drop)]
+struct Begun {
+    wiring: Wiring,
+    old: Option<Mapped>,
+    claim: Claim,
+}
+
+impl Begun {
+    /// What changes where an experiment of that name begins to move to a new mapping, or out.
+    fn change(self, name: Name, new: Option<Mapped>) -> Change
+        ensures { result ≡ changes.Begin (record { name = name; wiring = self.wiring; phase = phases.Moving self.old new }) self.claim }
+    {
+        let Begun { wiring, old, claim } = self;
+        let phase = Phase::Moving { old, new };
+        let experiment = Experiment {
+            name,
+            wiring,
+            phase,
+        };
+        Change::Begin { experiment, claim }
     }
 }
 
@@ -109,6 +134,47 @@ impl ClaimedLab {
         }
     }
 
+    /// What an experiment claims that moves from one of two mappings to the other.
+    fn claim_of(
+        &self,
+        alloc: Global,
+        old: &Option<Mapped>,
+        new: &Option<Mapped>,
+    ) -> Result<Claim, Memory>
+        requires old { (m : AnyMapped) → old.now ≡ Some m → IsSound m.wiring × IsShaped self.now.lab m.wiring m.mapping }
+        requires new { (m : AnyMapped) → new.now ≡ Some m → IsSound m.wiring × IsShaped self.now.lab m.wiring m.mapping }
+        ensures { IfOk result (λ claim. claim ≡ record { old = hold_in self.now.lab old.now; new = hold_in self.now.lab new.now }) }
+    {
+        let old = self.hold_of(alloc, old)?;
+        let new = self.hold_of(alloc, new)?;
+        Ok(Claim { old, new })
+    }
+
+    /// What is made of an experiment where it begins to move to a new mapping, or out.
+    fn begun(
+        &self,
+        alloc: Global,
+        experiment: &Experiment,
+        new: &Option<Mapped>,
+    ) -> Result<Begun, Memory>
+        requires old { (m : AnyMapped) → standing_in experiment.now.wiring experiment.now.phase ≡ Some m → IsSound m.wiring × IsShaped self.now.lab m.wiring m.mapping }
+        requires new { (m : AnyMapped) → new.now ≡ Some m → IsSound m.wiring × IsShaped self.now.lab m.wiring m.mapping }
+        ensures wiring { IfOk result (λ begun. begun.wiring ≡ experiment.now.wiring) }
+        ensures old { IfOk result (λ begun. begun.old ≡ standing_in experiment.now.wiring experiment.now.phase) }
+        ensures claim { IfOk result (λ begun. begun.claim ≡ record { old = hold_in self.now.lab (standing_in experiment.now.wiring experiment.now.phase); new = hold_in self.now.lab new.now }) }
+    {
+        let wiring = experiment.wiring.copy(alloc)?;
+        let old = standing_of(alloc, experiment)?;
+        match self.claim_of(alloc, &old, new) {
+            Ok(claim) => Ok(Begun { wiring, old, claim }),
+            Err(memory) => {
+                drop(old);
+                drop(wiring);
+                Err(memory)
+            }
+        }
+    }
+
     /// What changes where an experiment begins to move from the mapping with which it stands to a new one, or out.
     pub(crate) fn begin(
         &self,
@@ -120,18 +186,13 @@ impl ClaimedLab {
         requires new { (m : AnyMapped) → new ≡ Some m → IsSound m.wiring × IsShaped self.now.lab m.wiring m.mapping }
         ensures { IfOk result (λ change. let f = moving experiment.now new in change ≡ changes.Begin f (claim_of self.now.lab f)) }
     {
-        let old = standing_of(alloc, experiment)?;
-        let claim = Claim {
-            old: self.hold_of(alloc, &old)?,
-            new: self.hold_of(alloc, &new)?,
-        };
-        let wiring = experiment.wiring.copy(alloc)?;
-        let experiment = Experiment {
-            name: experiment.name,
-            wiring,
-            phase: Phase::Moving { old, new },
-        };
-        Ok(Change::Begin { experiment, claim })
+        match self.begun(alloc, experiment, &new) {
+            Ok(begun) => Ok(begun.change(experiment.name, new)),
+            Err(memory) => {
+                drop(new);
+                Err(memory)
+            }
+        }
     }
 
     /// What changes where an experiment begins to take a mapping; `Bad` where it can't take it.
@@ -147,10 +208,18 @@ impl ClaimedLab {
         ensures { (es : List AnyExperiment) → IsKept (Some self.now) es → find experiment.now.name es ≡ Some experiment.now
             → IsTaken self.now.lab es experiment.now new result }
     {
-        if self.can_take(alloc, experiment.name, &new)? {
+        let can = match self.can_take(alloc, experiment.name, &new) {
+            Ok(can) => can,
+            Err(memory) => {
+                drop(new);
+                return Err(PrepareFault::from(memory));
+            }
+        };
+        if can {
             let change = self.begin(alloc, experiment, Some(new))?;
             Ok(change)
         } else {
+            drop(new);
             Err(PrepareFault::Bad)
         }
     }

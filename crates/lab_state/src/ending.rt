@@ -11,7 +11,15 @@ fn kept_of(phase: Phase, commit: bool) -> Option<Mapped>
     ensures { result ≡ kept_of commit phase }
 {
     match phase {
-        Phase::Moving { old, new } => { if commit { new } else { old } }
+        Phase::Moving { old, new } => {
+            if commit {
+                drop(old);
+                new
+            } else {
+                drop(new);
+                old
+            }
+        }
         Phase::In { .. } => None,
         Phase::Out => None,
     }
@@ -25,11 +33,13 @@ pub(crate) fn end(experiment: &mut Experiment, commit: bool) -> bool
     let phase = mem::replace(&mut experiment.phase, Phase::Out);
     match kept_of(phase, commit) {
         Some(kept) => {
-            experiment.wiring = kept.wiring;
-            experiment.phase = Phase::In {
-                mapping: kept.mapping,
-                tags: kept.tags,
-            };
+            let Mapped {
+                wiring,
+                mapping,
+                tags,
+            } = kept;
+            drop(mem::replace(&mut experiment.wiring, wiring));
+            drop(mem::replace(&mut experiment.phase, Phase::In { mapping, tags }));
             true
         }
         None => false,

@@ -25,6 +25,8 @@ fn note(place: &mut Option<ClaimedLab>, exp: Name, claim: Claim)
 {
     if let Some(place) = place {
         place.claims.note(exp, claim);
+    } else {
+        drop(claim);
     }
 }
 

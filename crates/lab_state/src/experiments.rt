@@ -74,14 +74,14 @@ impl Experiments {
         requires room { 1 ≤ self.old.room }
         ensures { self.new.list ≡ self.old.list ++ experiment ∷ [] }
     {
-        let _ = self.table.insert(experiment.name, experiment);
+        drop(self.table.insert(experiment.name, experiment));
     }
 
     /// Removes the experiment of a name; it is no error if there is none.
     pub(crate) fn remove(&mut self, exp: Name)
         ensures { self.new.list ≡ others exp self.old.list }
     {
-        self.table.shift_remove(&exp);
+        drop(self.table.shift_remove(&exp));
     }
 
     /// Puts an experiment in the place of the one with its name.
@@ -89,7 +89,7 @@ impl Experiments {
         requires { (before : AnyExperiment) × (find experiment.name self.old.list ≡ Some before) }
         ensures { self.new.list ≡ replace experiment.name experiment self.old.list }
     {
-        let _ = self.table.insert(experiment.name, experiment);
+        drop(self.table.insert(experiment.name, experiment));
     }
 
     /// Ends the move of an experiment. Tells whether it stands in the lab then.

@@ -86,9 +86,9 @@ impl LabState {
         if !is_out(&experiment.phase) {
             return Err(PrepareFault::Bad);
         }
+        let tags = tags.copy(self.alloc)?;
         let mapping = mapping_of(self.alloc, &place.lab, &experiment.wiring, map)?;
         let wiring = experiment.wiring.copy(self.alloc)?;
-        let tags = tags.copy(self.alloc)?;
         let new = Mapped {
             wiring,
             mapping,
@@ -135,9 +135,9 @@ impl LabState {
         if !is_in(&experiment.phase) {
             return Err(PrepareFault::Bad);
         }
+        let tags = tags.copy(self.alloc)?;
         let wiring = wiring_of(self.alloc, top)?;
         let mapping = mapping_of(self.alloc, &place.lab, &wiring, map)?;
-        let tags = tags.copy(self.alloc)?;
         let new = Mapped {
             wiring,
             mapping,

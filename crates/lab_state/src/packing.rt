@@ -28,11 +28,18 @@ use std::alloc::Global;
 use top_text::print_top;
 use virt_topo::{Experiment, Mapped, Mapping, Phase, Wiring};
 
-fn push(alloc: Global, packed: &mut Packed, entry: &Record) -> Result<(), Memory>
-    requires { IsShort entry.now }
-    ensures { OnOk result (PacksMore packed.old packed.new (entry.now ∷ [])) }
+fn push(alloc: Global, packed: &mut Packed, entry: Record) -> Result<(), Memory>
+    requires { IsShort entry }
+    ensures { OnOk result (PacksMore packed.old packed.new (entry ∷ [])) }
 {
-    let encoded = encode(alloc, entry)?;
+    let encoded = match encode(alloc, &entry) {
+        Ok(encoded) => encoded,
+        Err(memory) => {
+            drop(entry);
+            return Err(memory);
+        }
+    };
+    drop(entry);
     packed.add(&encoded)
 }
 
@@ -41,7 +48,7 @@ fn push_lab(alloc: Global, packed: &mut Packed, lab: &Lab) -> Result<(), Memory>
     ensures { OnOk result (PacksMore packed.old packed.new (AnyRecord.Lab (the_texts.ptop lab.now) ∷ [])) }
 {
     let ptop = print_ptop(alloc, lab)?;
-    push(alloc, packed, &Record::Lab { ptop })
+    push(alloc, packed, Record::Lab { ptop })
 }
 
 /// A new experiment with that wiring.
@@ -56,7 +63,7 @@ fn push_creation(
 {
     let _named = exp.bytes();
     let top = print_top(alloc, wiring)?;
-    push(alloc, packed, &Record::Create { exp, top })
+    push(alloc, packed, Record::Create { exp, top })
 }
 
 /// Its way into the lab.
@@ -76,7 +83,7 @@ fn push_entry(
     let map = print_solution(alloc, lab, wiring, mapping)?;
     let tags = tags.copy(alloc)?;
     let way = Way::In { map, tags };
-    push(alloc, packed, &Record::Begin { exp, way })
+    push(alloc, packed, Record::Begin { exp, way })
 }
 
 /// Its way to another mapping.
@@ -95,7 +102,7 @@ fn push_turn(
     let map = print_solution(alloc, lab, &new.wiring, &new.mapping)?;
     let tags = new.tags.copy(alloc)?;
     let way = Way::Change { top, map, tags };
-    push(alloc, packed, &Record::Begin { exp, way })
+    push(alloc, packed, Record::Begin { exp, way })
 }
 
 /// Its way out.
@@ -104,7 +111,7 @@ fn push_exit(alloc: Global, packed: &mut Packed, exp: Name) -> Result<(), Memory
 {
     let _named = exp.bytes();
     let way = Way::Out;
-    push(alloc, packed, &Record::Begin { exp, way })
+    push(alloc, packed, Record::Begin { exp, way })
 }
 
 /// The end of its move.
@@ -112,7 +119,7 @@ fn push_commit(alloc: Global, packed: &mut Packed, exp: Name) -> Result<(), Memo
     ensures { OnOk result (PacksMore packed.old packed.new (AnyRecord.Commit exp ∷ [])) }
 {
     let _named = exp.bytes();
-    push(alloc, packed, &Record::Commit { exp })
+    push(alloc, packed, Record::Commit { exp })
 }
 
 /// An experiment that stands with a mapping.

@@ -106,8 +106,13 @@ impl LabState {
         ensures unchanged { self.new.state ≡ self.old.state }
     {
         let change = self.judge(entry)?;
-        self.make_room(&change)?;
-        Ok(Prepared { change })
+        match self.make_room(&change) {
+            Ok(()) => Ok(Prepared { change }),
+            Err(memory) => {
+                drop(change);
+                Err(PrepareFault::from(memory))
+            }
+        }
     }
 
     /// Makes room for what a change adds.

@@ -25,10 +25,17 @@ pub(crate) fn lab_of(alloc: Global, text: &[u8]) -> Result<Lab, PrepareFault>
 {
     let lab = read_ptop(alloc, text)?;
     let _kept = lab.range();
-    let printed = print_ptop(alloc, &lab)?;
+    let printed = match print_ptop(alloc, &lab) {
+        Ok(printed) => printed,
+        Err(memory) => {
+            drop(lab);
+            return Err(PrepareFault::from(memory));
+        }
+    };
     if printed.bytes() == text {
         Ok(lab)
     } else {
+        drop(lab);
         Err(PrepareFault::Bad)
     }
 }
@@ -40,10 +47,17 @@ pub(crate) fn wiring_of(alloc: Global, text: &[u8]) -> Result<Wiring, PrepareFau
     ensures bad { OnBad result ((wiring : AnyWiring) → HasText the_texts wiring → text.now ≡ the_texts.top wiring → ⊥) }
 {
     let wiring = read_top(alloc, text)?;
-    let printed = print_top(alloc, &wiring)?;
+    let printed = match print_top(alloc, &wiring) {
+        Ok(printed) => printed,
+        Err(memory) => {
+            drop(wiring);
+            return Err(PrepareFault::from(memory));
+        }
+    };
     if printed.bytes() == text {
         Ok(wiring)
     } else {
+        drop(wiring);
         Err(PrepareFault::Bad)
     }
 }

@@ -12,8 +12,8 @@ returns-in_err-lab-clause-bad c =
     let p = err_from_is_err_and c.from_residual.result c.from_residual.ensures.1 in
     rw (p.1, p.2) (bad_text (lab_of_text) (canonical) (IsLab) (canonical_again) c.args.text.now c.in_err-lab.field-0.0 (ptop_refused c.in_err-lab.field-0.0 (lab_of_text c.args.text.now) c.in_err-lab.ensures))
 
-pub returns-else-eq-clause-bad : goal.returns-else-eq-clause-bad
-returns-else-eq-clause-bad c = λ other is same.
+pub returns-clause-bad : goal.returns-clause-bad
+returns-clause-bad c = λ other is same.
     let x = c.in_ok-lab.lab in
     misprinted (lab_of_text) (canonical) (IsLab) (canonical_again) c.args.text.now x c.in_ok-lab.ensures
-    (λ e. unequal c.bytes.result.now c.args.text.now (sym c.eq.ensures ∙ c.if-eq.false) (c.bytes.ensures ∙ c.in_ok-printed.ensures.text ∙ e)) other is same
+    (λ e. unequal c.bytes.result.now c.args.text.now (sym c.eq.ensures ∙ c.if-eq.false) (c.bytes.ensures ∙ c.in-Ok.ensures.text ∙ e)) other is same

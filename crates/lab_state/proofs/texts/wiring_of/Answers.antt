@@ -13,8 +13,8 @@ returns-in_err-wiring-clause-bad c =
     let p = err_from_is_err_and c.from_residual.result c.from_residual.ensures.1 in
     rw (p.1, p.2) (bad_text (wiring_of_text) (canonical_top) (HasText the_texts) (λ w text. top_again w text.sound text.printable) c.args.text.now c.in_err-wiring.field-0.0 (c.in_err-wiring.ensures.reads))
 
-pub returns-else-eq-clause-bad : goal.returns-else-eq-clause-bad
-returns-else-eq-clause-bad c = λ other is same.
+pub returns-clause-bad : goal.returns-clause-bad
+returns-clause-bad c = λ other is same.
     let x = c.in_ok-wiring.wiring in
     misprinted (wiring_of_text) (canonical_top) (HasText the_texts) (λ w text. top_again w text.sound text.printable) c.args.text.now x c.in_ok-wiring.ensures.reads
-    (λ e. unequal c.bytes.result.now c.args.text.now (sym c.eq.ensures ∙ c.if-eq.false) (c.bytes.ensures ∙ c.in_ok-printed.ensures.text ∙ e)) other is same
+    (λ e. unequal c.bytes.result.now c.args.text.now (sym c.eq.ensures ∙ c.if-eq.false) (c.bytes.ensures ∙ c.in-Ok.ensures.text ∙ e)) other is same

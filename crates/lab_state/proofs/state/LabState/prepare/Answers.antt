@@ -12,8 +12,8 @@ returns-in_err-change-clause-bad c =
     let p = err_from_is_err_and c.from_residual.result c.from_residual.ensures.1 in
     rw (p.1, p.2) (bad_is c.args.self.now.state c.args.entry.now c.in_err-change.field-0.0 c.in_err-change.ensures.judged)
 
-pub returns-clause-enters : goal.returns-clause-enters
-returns-clause-enters c =
+pub returns-in-Ok-clause-enters : goal.returns-in-Ok-clause-enters
+returns-in-Ok-clause-enters c =
     let s = c.args.self.now.state in
     let change = c.in_ok-change.change in
     let judged = c.in_ok-change.ensures.judged in
@@ -21,5 +21,5 @@ returns-clause-enters c =
     record {
       fits = subst (λ x. Fits x change) same judged.fits;
       sane = subst (λ x. Sane (after x change)) same (follows_sane the_texts s c.args.entry.now (after s change) c.judge.ensures.sane judged.follows);
-      room = c.in_ok-make_room.ensures.room;
+      room = c.in-Ok.ensures.room;
     }
