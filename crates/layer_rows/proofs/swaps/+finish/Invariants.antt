@@ -1,4 +1,4 @@
-use Rattle.layer_rows.proofs.swap_tests.+finish.Given as goal
+use Rattle.layer_rows.proofs.swaps.+finish.Given as goal
 
 abbrev pub decreases-finish : goal.decreases-finish
 decreases-finish l = l.turns

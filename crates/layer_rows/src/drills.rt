@@ -1,0 +1,76 @@
+//! Drills, and what a stop leaves behind.
+use crate::untold::Untold;
+use crate::words::Words;
+use lab_base::Name;
+use plant::{Drill, DrillFault, How, Pick, Plant};
+use plant_mem::MemLab;
+
+fn how(words: &mut Words<'_>) -> Result<How, Untold> {
+    match words.word() {
+        "applied" => Ok(How::Applied),
+        "not" => Ok(How::Not),
+        "hang" => Ok(How::Hang),
+        "jump" => Ok(How::Jump),
+        _ => Err(Untold::Words),
+    }
+}
+
+fn pick(words: &mut Words<'_>) -> Result<Pick, Untold> {
+    match words.word() {
+        "none" => Ok(Pick::Nothing),
+        "all" => Ok(Pick::All),
+        "torn" => Ok(Pick::Torn),
+        _ => Err(Untold::Words),
+    }
+}
+
+/// A failure of the disk or of a device.
+fn failure(words: &mut Words<'_>) -> Result<Drill, Untold> {
+    match words.word() {
+        "disk" => Ok(Drill::Disk {
+            nth: words.number()?,
+        }),
+        device => Ok(Drill::Device {
+            name: Name::read(device.as_bytes())?,
+            nth: words.number()?,
+            how: how(words)?,
+        }),
+    }
+}
+
+fn stop(words: &mut Words<'_>) -> Result<Drill, Untold> {
+    Ok(Drill::Stop {
+        nth: words.number()?,
+        pick: pick(words)?,
+    })
+}
+
+fn plan(plant: &mut MemLab, drill: Drill) -> Result<&'static str, DrillFault> {
+    plant.drill(drill)?;
+    Ok("planned")
+}
+
+/// Starts a stopped plant again; tells whether it was stopped.
+fn restart(plant: &mut MemLab) -> Result<&'static str, Untold> {
+    if !plant.stopped() {
+        return Ok("not stopped");
+    }
+    plant.restart()?;
+    Ok("started")
+}
+
+/// Does an action with drills, and adds what is told of it, if it is one.
+pub fn told(
+    out: &mut String,
+    plant: &mut MemLab,
+    kind: &str,
+    words: &mut Words<'_>,
+) -> Result<bool, Untold> {
+    match kind {
+        "fail" => out.push_str(plan(plant, failure(words)?)?)?,
+        "stop" => out.push_str(plan(plant, stop(words)?)?)?,
+        "restart" => out.push_str(restart(plant)?)?,
+        _ => return Ok(false),
+    }
+    Ok(true)
+}

@@ -1,0 +1,52 @@
+//! Records as the journal holds them.
+use crate::bytes::{bytes_of, push_spelled};
+use crate::untold::Untold;
+use crate::words::Words;
+use journal_rec::{Encoded, RecFault, Record, decode, encode};
+use lab_base::Name;
+use std::alloc::{AllocError, Global};
+use std::fmt::Write;
+
+/// The deletion of an experiment.
+pub fn deletion(alloc: Global, exp: Name) -> Result<Encoded, Untold> {
+    Ok(encode(alloc, &Record::Delete { exp })?)
+}
+
+/// Adds how much longer the record makes the journal, and its bytes.
+fn push_encoded(out: &mut String, encoded: &Encoded) -> Result<(), AllocError> {
+    write!(out, "{} ", encoded.size())?;
+    push_spelled(out, encoded.bytes())
+}
+
+/// Adds the deletion of an experiment.
+fn push_deletion(out: &mut String, alloc: Global, exp: Name) -> Result<(), Untold> {
+    Ok(push_encoded(out, &deletion(alloc, exp)?)?)
+}
+
+/// Adds the record that is read from a payload, or that there is none.
+fn push_read(out: &mut String, alloc: Global, payload: &[u8]) -> Result<(), Untold> {
+    match decode(alloc, payload) {
+        Ok(record) => {
+            let encoded = encode(alloc, &record);
+            drop(record);
+            Ok(push_encoded(out, &encoded?)?)
+        }
+        Err(RecFault::Bad) => Ok(out.push_str("bad")?),
+        Err(RecFault::Memory) => Err(Untold::Memory),
+    }
+}
+
+/// Adds what is told of an action with a record, if it is one.
+pub fn told(
+    out: &mut String,
+    alloc: Global,
+    kind: &str,
+    words: &mut Words<'_>,
+) -> Result<bool, Untold> {
+    match kind {
+        "delete" => push_deletion(out, alloc, words.name()?)?,
+        "payload" => push_read(out, alloc, bytes_of(alloc, words.word())?.bytes())?,
+        _ => return Ok(false),
+    }
+    Ok(true)
+}
