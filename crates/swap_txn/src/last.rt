@@ -1,6 +1,7 @@
 // The records that end a swap.
-ghost use Rattle.std.specs.Prelude.{◌≡◌, IfOk};
-ghost use Rattle.journal_rec.specs.Payloads.{IsBody};
+ghost use Rattle.std.specs.Prelude.{◌≡◌, IfOk, true};
+ghost use Rattle.journal_rec.specs.Payloads.{IsBody, IsShort};
+ghost use Rattle.journal_rec.specs.declared.record.Record.TheVariants as records;
 ghost use Rattle.swap_txn.specs.States.{undo_by, last_by};
 ghost use Rattle.swap_txn.specs.Ways.{undo_of, HasAbortBy};
 
@@ -10,6 +11,15 @@ use lab_base::{Memory, Name};
 use std::alloc::Global;
 use swap_plan::Commands;
 
+fn encoded(alloc: Global, entry: Record) -> Result<Encoded, Memory>
+    requires { IsShort entry }
+    ensures { IfOk result (λ encoded. IsBody encoded entry) }
+{
+    let encoded = encode(alloc, &entry);
+    drop(entry);
+    encoded
+}
+
 /// The record Commit, or else Abort.
 pub(crate) fn last_of(alloc: Global, exp: Name, commit: bool) -> Result<Encoded, Memory>
     ensures { IfOk result (λ encoded. IsBody encoded (last_by commit exp)) }
@@ -17,10 +27,25 @@ pub(crate) fn last_of(alloc: Global, exp: Name, commit: bool) -> Result<Encoded,
     // A name is short, and so is the record.
     let _name = exp.bytes();
     if commit {
-        encode(alloc, &Record::Commit { exp })
+        encoded(alloc, Record::Commit { exp })
     } else {
-        encode(alloc, &Record::Abort { exp })
+        encoded(alloc, Record::Abort { exp })
     }
+}
+
+/// The record Begin of a swap, and the record Commit.
+pub(crate) fn begin_and_commit(
+    alloc: Global,
+    exp: Name,
+    way: Way,
+) -> Result<(Encoded, Encoded), Memory>
+    requires { IsShort (records.Begin exp way) }
+    ensures begin { IfOk result (λ encoded. IsBody encoded.0 (records.Begin exp way)) }
+    ensures commit { IfOk result (λ encoded. IsBody encoded.1 (last_by true exp)) }
+{
+    let begin = encoded(alloc, Record::Begin { exp, way })?;
+    let commit = last_of(alloc, exp, true)?;
+    Ok((begin, commit))
 }
 
 /// The way back of a move, which a move out has not.
@@ -35,12 +60,21 @@ pub(crate) fn way_back(
 {
     let inside = match way {
         Way::In { .. } => false,
-        Way::Out => return Ok(None),
+        Way::Out => {
+            drop(undo);
+            return Ok(None);
+        }
         Way::Change { .. } => true,
     };
-    Ok(Some(WayBack {
-        commands: undo,
-        abort: last_of(alloc, exp, false)?,
-        inside,
-    }))
+    match last_of(alloc, exp, false) {
+        Ok(abort) => Ok(Some(WayBack {
+            commands: undo,
+            abort,
+            inside,
+        })),
+        Err(memory) => {
+            drop(undo);
+            Err(memory)
+        }
+    }
 }

@@ -65,26 +65,35 @@ impl Live {
         ensures live { IfOk result (λ live. live ≡ begun_again exp ops.commands ops.undo ops.inside out) }
         ensures facts { IfOk result (λ live. (trace : List Event) → StartsAt trace live) }
     {
+        let last = match last_of(alloc, exp, out) {
+            Ok(last) => last,
+            Err(memory) => {
+                drop(ops);
+                return Err(memory);
+            }
+        };
         let Ops {
             commands,
             undo,
             inside,
         } = ops;
         let work = if out {
+            drop(undo);
             Work {
                 exp,
                 sending: Sending::new(commands),
-                last: last_of(alloc, exp, true)?,
+                last,
                 commit: true,
                 inside: false,
                 why: None,
                 back: None,
             }
         } else {
+            drop(commands);
             Work {
                 exp,
                 sending: Sending::new(undo),
-                last: last_of(alloc, exp, false)?,
+                last,
                 commit: false,
                 inside,
                 why: None,

@@ -1,12 +1,12 @@
 use crate::begun::Begun;
 use crate::halt::Halt;
-use crate::last::{last_of, way_back};
+use crate::last::{begin_and_commit, way_back};
 use crate::sending::Sending;
 use crate::work::Work;
 use crate::write::write;
 use crate::{Live, Turned};
 use journal_disk::Journal;
-use journal_rec::{Encoded, Record, Way, encode};
+use journal_rec::{Encoded, Way};
 use lab_base::{Memory, Name};
 use plant::Plant;
 use std::alloc::Global;
@@ -53,9 +53,22 @@ impl Planned {
         ensures forth { IfOk result (λ p. p.forth ≡ unsent exp way ops.commands ops.undo) }
     {
         let Ops { commands, undo, .. } = ops;
-        let back = way_back(alloc, exp, &way, undo)?;
-        let last = last_of(alloc, exp, true)?;
-        let begin = encode(alloc, &Record::Begin { exp, way })?;
+        let back = match way_back(alloc, exp, &way, undo) {
+            Ok(back) => back,
+            Err(memory) => {
+                drop(way);
+                drop(commands);
+                return Err(memory);
+            }
+        };
+        let (begin, last) = match begin_and_commit(alloc, exp, way) {
+            Ok(records) => records,
+            Err(memory) => {
+                drop(back);
+                drop(commands);
+                return Err(memory);
+            }
+        };
         Ok(Planned {
             begin,
             work: Work {

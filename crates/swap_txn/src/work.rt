@@ -44,13 +44,16 @@ impl Drop for Work {
     fn drop(self) {
         let Work {
             exp: _,
-            sending: _,
-            last: _,
+            sending,
+            last,
             commit: _,
             inside: _,
             why: _,
-            back: _,
+            back,
         } = self;
+        drop(sending);
+        drop(last);
+        drop(back);
     }
 }
 
