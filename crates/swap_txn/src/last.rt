@@ -1,4 +1,4 @@
-// The records that end a swap.
+// The records of a swap.
 ghost use Rattle.std.specs.Prelude.{◌≡◌, IfOk, true};
 ghost use Rattle.journal_rec.specs.Payloads.{IsBody, IsShort};
 ghost use Rattle.journal_rec.specs.declared.record.Record.TheVariants as records;
@@ -11,6 +11,7 @@ use lab_base::{Memory, Name};
 use std::alloc::Global;
 use swap_plan::Commands;
 
+/// A record as it is appended.
 fn encoded(alloc: Global, entry: Record) -> Result<Encoded, Memory>
     requires { IsShort entry }
     ensures { IfOk result (λ encoded. IsBody encoded entry) }
