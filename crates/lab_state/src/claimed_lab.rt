@@ -35,9 +35,9 @@ fn standing_of(alloc: Global, experiment: &Experiment) -> Result<Option<Mapped>,
 {
     match &experiment.phase {
         Phase::In { mapping, tags } => {
-            let wiring = experiment.wiring.copy(alloc)?;
-            let mapping = mapping.copy(alloc)?;
             let tags = tags.copy(alloc)?;
+            let mapping = mapping.copy(alloc)?;
+            let wiring = experiment.wiring.copy(alloc)?;
             Ok(Some(Mapped {
                 wiring,
                 mapping,
