@@ -175,8 +175,13 @@ fn in_slot(
     ensures can { (s : AnyLabState) → IfOk judged (CanDo s) → IfOk result (CanDo s) }
 {
     let task = judged?;
-    need_slot(swaps)?;
-    Ok(task.begun_as(only_begin))
+    match need_slot(swaps) {
+        Ok(()) => Ok(task.begun_as(only_begin)),
+        Err(refusal) => {
+            drop(task);
+            Err(refusal)
+        }
+    }
 }
 
 fn judge_turn(state: &LabState, swaps: &Manager, exp: Name) -> Result<Task, Refusal>

@@ -1,13 +1,16 @@
 // What is judged of a change of an experiment that is in.
-ghost use Rattle.std.specs.Prelude.{◌≡◌, ◌+◌, ◌<◌, ◌^◌, IfOk, OnOk, length, true};
+ghost use Rattle.std.specs.Prelude.{◌≡◌, ◌+◌, ◌<◌, ◌≤◌, ◌^◌, IfOk, OnOk, Some, length, true};
 ghost use Rattle.lab_base.specs.Lists.{Has};
 ghost use Rattle.lab_base.specs.declared.fault.TextFault.{TextFault as AnyTextFault};
 ghost use Rattle.lab_base.specs.declared.fault.TextRefused.TheVariants as refusals;
 ghost use Rattle.lab_base.specs.declared.ids.VlanId.{VlanId as AnyVlanId};
 ghost use Rattle.virt_topo.specs.Wirings.{mapped};
+ghost use Rattle.lab_model.specs.Courses.{commands, undo};
 ghost use Rattle.lab_model.specs.Shapes.{IsShaped};
 ghost use Rattle.script_text.specs.declared.reply.Reply.TheVariants as replies;
 ghost use Rattle.swap_plan.specs.Plans.{IsFit};
+ghost use Rattle.solution_text.specs.CanonicalSolution.{canonical_solution};
+ghost use Rattle.top_text.specs.Canonical.{canonical_top};
 ghost use Rattle.top_text.specs.Printable.{is_printable};
 ghost use Rattle.virt_topo.specs.Soundness.{IsSound};
 ghost use Rattle.lab_core.specs.Controller.{has_open};
@@ -20,14 +23,14 @@ use crate::judge_swap::need_tags;
 use crate::needs::{need_found, need_idle, need_in, need_lab};
 use crate::records::way_over;
 use crate::task::{Refusal, Task};
-use lab_base::{Memory, Name, Tags, TextFault, TextRefused};
+use lab_base::{Memory, Name, Tags, Text, TextFault, TextRefused};
 use lab_state::LabState;
 use phys_lab::Lab;
 use script_text::Reply;
 use solution_text::{print_solution, read_solution};
 use std::alloc::Global;
 use swap_mgr::Manager;
-use swap_plan::plan_change;
+use swap_plan::{Ops, plan_change};
 use top_text::{print_top, read_top};
 use virt_topo::{Experiment, Mapped, Mapping, Wiring};
 
@@ -67,6 +70,32 @@ fn mapped_copy(
     })
 }
 
+/// The commands of a change, and the texts of what it leads to.
+#[derive(Drop)]
+struct Over {
+    ops: Ops,
+    top: Text,
+    map: Text,
+}
+
+/// Plans the commands of a change and prints what it leads to.
+fn over_to(alloc: Global, lab: &Lab, old: &Mapped, new: &Mapped) -> Result<Over, Memory>
+    requires old_fit { IsFit lab.now old.now }
+    requires new_fit { IsFit lab.now new.now }
+    ensures commands { IfOk result (λ over. over.ops.commands ≡ commands lab.now (Some old.now) (Some new.now)) }
+    ensures undo { IfOk result (λ over. over.ops.undo ≡ undo lab.now (Some old.now) (Some new.now)) }
+    ensures top { IfOk result (λ over. over.top ≡ canonical_top new.now.wiring) }
+    ensures map { IfOk result (λ over. over.map ≡ canonical_solution lab.now new.now.wiring new.now.mapping) }
+    ensures short_top { IfOk result (λ over. length over.top ≤ 16777216) }
+    ensures short_map { IfOk result (λ over. length over.map ≤ 16777216) }
+    ensures printable { OnOk result (is_printable new.now.wiring ≡ true) }
+{
+    let top = print_top(alloc, &new.wiring)?;
+    let map = print_solution(alloc, lab, &new.wiring, &new.mapping)?;
+    let ops = plan_change(alloc, lab, old, new)?;
+    Ok(Over { ops, top, map })
+}
+
 /// Plans the change of an experiment from where it is in.
 fn plan_swap_over(
     alloc: Global,
@@ -81,12 +110,18 @@ fn plan_swap_over(
     ensures task { IfOk result (IsTaskOf lab.now (change_of exp old.now new) (way_over lab.now new)) }
     ensures printable { OnOk result (is_printable new.wiring ≡ true) }
 {
-    let ops = plan_change(alloc, lab, old, &new)?;
-    let top = print_top(alloc, &new.wiring)?;
-    let map = print_solution(alloc, lab, &new.wiring, &new.mapping)?;
+    let over = over_to(alloc, lab, old, &new);
+    let Mapped {
+        wiring,
+        mapping,
+        tags,
+    } = new;
+    drop(wiring);
+    drop(mapping);
+    let Over { ops, top, map } = over?;
     Ok(Task::Swap {
         exp,
-        way: way_over(exp, top, map, new.tags),
+        way: way_over(exp, top, map, tags),
         ops,
     })
 }
@@ -114,7 +149,9 @@ pub(crate) fn judge_change(
         mapping,
         tags,
     };
-    let task = plan_swap_over(alloc, lab, experiment.name, &old, new)?;
+    let planned = plan_swap_over(alloc, lab, experiment.name, &old, new);
+    drop(old);
+    let task = planned?;
     Ok(task)
 }
 

@@ -84,6 +84,8 @@ fn enter_written(lab: &mut LabState, prepared: Prepared, written: &Result<(), Ap
 {
     if written.is_ok() {
         lab.enter(prepared);
+    } else {
+        drop(prepared);
     }
 }
 

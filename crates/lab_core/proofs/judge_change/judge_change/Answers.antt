@@ -9,18 +9,18 @@ use Rattle.lab_core.proofs.judge_change.judge_change.Goals as goal
 pub need_tags-requires-clause-there : goal.need_tags-requires-clause-there
 need_tags-requires-clause-there c = c.requires.inside.there
 
-pub plan_swap_over-requires-clause-old_fit : goal.plan_swap_over-requires-clause-old_fit
-plan_swap_over-requires-clause-old_fit c =
+pub plan_swap_over-planned-requires-clause-old_fit : goal.plan_swap_over-planned-requires-clause-old_fit
+plan_swap_over-planned-requires-clause-old_fit c =
     let e = c.args.experiment.now in
     subst (λ (m : Mapped). IsFit c.args.lab.now m) (sym c.in_ok-old.ensures)
     (old_fit c.args.state.now.state c.args.lab.now e c.args.place.0.now c.args.place.1.now c.args.wiring c.args.mapping c.in_ok-tags.tags c.requires.inside c.requires.sound c.requires.shaped)
 
-pub plan_swap_over-requires-clause-new_fit : goal.plan_swap_over-requires-clause-new_fit
-plan_swap_over-requires-clause-new_fit c =
+pub plan_swap_over-planned-requires-clause-new_fit : goal.plan_swap_over-planned-requires-clause-new_fit
+plan_swap_over-planned-requires-clause-new_fit c =
     new_fit c.args.state.now.state c.args.lab.now c.args.experiment.now c.args.place.0.now c.args.place.1.now c.args.wiring c.args.mapping c.in_ok-tags.tags c.requires.inside c.requires.sound c.requires.shaped c.in_ok-tags.ensures.can
 
-pub plan_swap_over-requires-clause-ids : goal.plan_swap_over-requires-clause-ids
-plan_swap_over-requires-clause-ids c = ids_fit c.args.state.now.state c.args.lab.now c.args.experiment.now c.args.wiring c.args.mapping c.in_ok-tags.tags c.requires.inside.there c.in_ok-tags.ensures.can
+pub plan_swap_over-planned-requires-clause-ids : goal.plan_swap_over-planned-requires-clause-ids
+plan_swap_over-planned-requires-clause-ids c = ids_fit c.args.state.now.state c.args.lab.now c.args.experiment.now c.args.wiring c.args.mapping c.in_ok-tags.tags c.requires.inside.there c.in_ok-tags.ensures.can
 
 pub returns-clause-judged : goal.returns-clause-judged
 returns-clause-judged c =
