@@ -1,40 +1,17 @@
-// Claims of experiments.
-ghost use Rattle.std.specs.Prelude.{◌≡◌, ◌∷◌, [], IfOk};
-ghost use Rattle.claims.specs.Held.{claim_nodes, claim_tags};
-ghost use Rattle.claims.specs.Adding.{HasUses};
+//! Claims of experiments.
+ghost use Rattle.std.specs.Prelude.{◌≡◌, ◌<◌, ◌∷◌, [], length, IfOk};
+ghost use Rattle.claims.specs.Held.{claim_nodes, claim_tags, others};
+ghost use Rattle.claims.specs.Adding.{HasUses, MayAdd};
 
-use claims::*;
-use lab_base::{IfaceId, Items, Memory, Name, NodeId, Tags, VlanId};
-use phys_lab::{Lab, LabBuilder, Node};
+use crate::reading::lab_of;
+use crate::texts::Texts;
+use crate::words::{number, push_answer, push_number};
+use crate::wrong::Wrong;
+use claims::{Claim, Claims, Hold, TakeFault};
+use lab_base::{IfaceId, Items, Memory, Name, NodeId, Tags, Text, VlanId, name_in};
+use line_text::field_at;
+use phys_lab::Lab;
 use std::alloc::Global;
-use std::test::Fail;
-
-fn named(text: &[u8]) -> Result<Name, Fail> {
-    Ok(Name::read(text).ok().ok_or("a name")?)
-}
-
-fn node(alloc: Global, name: &[u8]) -> Result<Node, Fail> {
-    let mut types = Items::new(alloc);
-    types.push((named(b"pc")?, 1))?;
-    Ok(Node {
-        name: named(name)?,
-        types,
-        features: Items::new(alloc),
-    })
-}
-
-fn add_nodes(alloc: Global, builder: &mut LabBuilder) -> Result<(), Fail> {
-    builder.add_node(node(alloc, b"a")?)?;
-    builder.add_node(node(alloc, b"b")?)?;
-    Ok(())
-}
-
-/// Two nodes, and the VLAN ids 100 and 101.
-fn small_lab(alloc: Global) -> Result<Lab, Fail> {
-    let mut builder = LabBuilder::new(alloc, 100, 101)?;
-    add_nodes(alloc, &mut builder)?;
-    Ok(builder.finish().ok().ok_or("memory")?)
-}
 
 /// The claim of a mapping that has one segment between both nodes, with VLAN id 100.
 fn both_nodes(alloc: Global) -> Result<Claim, Memory>
@@ -62,81 +39,125 @@ fn both_nodes(alloc: Global) -> Result<Claim, Memory>
     })
 }
 
-/// No claim on the small lab but that one.
-fn with_one(alloc: Global, lab: &Lab, exp: Name) -> Result<Claims, Fail> {
-    let mut claims = Claims::empty(alloc, lab)?;
-    let range = lab.range();
-    if range.0 == 100 && range.1 == 101 && lab.nodes().len() == 2 && lab.trunks().is_empty() {
-        claims.add(exp, both_nodes(alloc)?)?;
+/// Adds a claim, or notes it.
+fn put(claims: &mut Claims, exp: Name, claim: Claim, notes: bool) -> Result<(), Memory>
+    requires may { MayAdd claims.old exp claim }
+    requires few { length (others exp claims.old.entries) < 256 }
+{
+    if notes {
+        claims.note(exp, claim);
+        return Ok(());
     }
-    Ok(claims)
+    claims.add(exp, claim)
 }
 
-#[test]
-fn one_claim_is_counted(rt: HostRuntime) -> Result<(), Fail> {
-    let lab = small_lab(rt.alloc())?;
-    let exp = named(b"e")?;
-    let none = Claims::empty(rt.alloc(), &lab)?;
-    assert_eq!(rt; none.counted(), (2, 2));
-    let mut claims = with_one(rt.alloc(), &lab, exp)?;
-    assert_eq!(rt; claims.counted(), (0, 1));
-    assert_eq!(rt; claims.counted_of(exp), (2, 1));
-    let tags = claims.take_vlans(rt.alloc(), 1)?;
-    assert_eq!(rt; tags.as_slice(), [VlanId(101)].as_slice());
-    assert_eq!(rt;
-        claims.take_vlans(rt.alloc(), 2).err(),
-        Some(TakeFault::TooFew(1))
-    );
+/// No claim on a lab of two nodes and of the VLAN ids 100 and 101 but that one, which is added or noted.
+fn with_one(alloc: Global, lab: &Lab, exp: Name, notes: bool) -> Result<Claims, Memory> {
+    let claim = both_nodes(alloc)?;
+    let mut claims = match Claims::empty(alloc, lab) {
+        Ok(claims) => claims,
+        Err(memory) => {
+            drop(claim);
+            return Err(memory);
+        }
+    };
+    let range = lab.range();
+    if range.0 != 100 || range.1 != 101 || lab.nodes().len() != 2 || !lab.trunks().is_empty() {
+        drop(claim);
+        return Ok(claims);
+    }
+    match put(&mut claims, exp, claim, notes) {
+        Ok(()) => Ok(claims),
+        Err(memory) => {
+            drop(claims);
+            Err(memory)
+        }
+    }
+}
+
+/// Adds how many nodes and VLAN ids there are.
+fn push_counts(out: &mut Text, counts: (u16, u16)) -> Result<(), Memory> {
+    push_number(out, u64::from(counts.0))?;
+    push_number(out, u64::from(counts.1))?;
+    out.push(b'\n')
+}
+
+/// Adds so many VLAN ids that are free, or how many there are.
+fn push_taken(out: &mut Text, alloc: Global, claims: &Claims, count: u16) -> Result<(), Memory> {
+    match claims.take_vlans(alloc, count) {
+        Ok(tags) => {
+            for tag in tags.as_slice() {
+                push_number(out, u64::from(tag.0))?;
+            }
+        }
+        Err(TakeFault::TooFew(free)) => {
+            out.push_bytes(b"only")?;
+            push_number(out, u64::from(free))?;
+        }
+        Err(TakeFault::Memory) => return Err(Memory),
+    }
+    out.push(b'\n')
+}
+
+/// Adds what is free beside the claim of an experiment, what that has, one VLAN id that is free, and two; and what is free without it.
+fn push_all(out: &mut Text, alloc: Global, claims: &mut Claims, exp: Name) -> Result<(), Memory> {
+    push_counts(out, claims.counted())?;
+    push_counts(out, claims.counted_of(exp))?;
+    push_taken(out, alloc, claims, 1)?;
+    push_taken(out, alloc, claims, 2)?;
     claims.drop_claim(exp);
-    assert_eq!(rt; claims.counted(), (2, 2));
-    Ok(())
+    push_counts(out, claims.counted())
 }
 
-/// No claim on the small lab but that one, which is noted.
-fn with_noted(alloc: Global, lab: &Lab, exp: Name) -> Result<Claims, Fail> {
-    let mut claims = Claims::empty(alloc, lab)?;
-    let range = lab.range();
-    if range.0 == 100 && range.1 == 101 && lab.nodes().len() == 2 && lab.trunks().is_empty() {
-        claims.note(exp, both_nodes(alloc)?);
-    }
-    Ok(claims)
+/// Adds what is free of a lab, and what with a claim.
+fn push_claims(out: &mut Text, alloc: Global, lab: &Lab, exp: Name) -> Result<(), Memory> {
+    let none = Claims::empty(alloc, lab)?;
+    let counted = none.counted();
+    drop(none);
+    push_counts(out, counted)?;
+    let mut claims = with_one(alloc, lab, exp, false)?;
+    let told = push_all(out, alloc, &mut claims, exp);
+    drop(claims);
+    told
 }
 
-fn tags_of(alloc: Global, ids: &[u16]) -> Result<Tags, Memory> {
+/// What is free of a lab, and what with a claim.
+pub fn tell(out: &mut Text, alloc: Global, texts: &Texts, words: &[&[u8]]) -> Result<(), Wrong> {
+    let exp = name_in(b"e")?;
+    let lab = lab_of(alloc, texts, field_at(words, 0))?;
+    let told = push_claims(out, alloc, &lab, exp);
+    drop(lab);
+    Ok(told?)
+}
+
+/// The VLAN ids of words behind the first one.
+fn tags_of(alloc: Global, words: &[&[u8]]) -> Result<Tags, Wrong> {
     let mut tags = Items::new(alloc);
-    for id in ids {
-        tags.push(VlanId(*id))?;
+    for word in words.iter().skip(1) {
+        tags.push(VlanId(number(word)?))?;
     }
     Ok(tags)
 }
 
-/// The number of the first case that is answered otherwise, if there is one.
-fn first_wrong(
-    alloc: Global,
-    claims: &Claims,
-    cases: &[(&[u16], bool)],
-) -> Result<Option<usize>, Memory> {
-    for (at, (ids, free)) in cases.iter().enumerate() {
-        if claims.are_free(&tags_of(alloc, ids)?) != *free {
-            return Ok(Some(at));
-        }
-    }
-    Ok(None)
+fn push_free(out: &mut Text, claims: &Claims, tags: &Tags) -> Result<(), Memory> {
+    push_counts(out, claims.counted())?;
+    push_answer(out, claims.are_free(tags))
 }
 
-#[test]
-fn a_noted_claim_has_its_ids(rt: HostRuntime) -> Result<(), Fail> {
-    let lab = small_lab(rt.alloc())?;
-    let claims = with_noted(rt.alloc(), &lab, named(b"e")?)?;
-    assert_eq!(rt; claims.counted(), (0, 1));
-    let cases: [(&[u16], bool); 6] = [
-        (&[], true),
-        (&[101], true),
-        (&[100], false),
-        (&[99], false),
-        (&[102], false),
-        (&[101, 101], false),
-    ];
-    assert_eq!(rt; first_wrong(rt.alloc(), &claims, &cases)?, None);
-    Ok(())
+/// What is free of a lab beside a claim that is noted, and whether VLAN ids are.
+pub fn tell_free(
+    out: &mut Text,
+    alloc: Global,
+    texts: &Texts,
+    words: &[&[u8]],
+) -> Result<(), Wrong> {
+    let exp = name_in(b"e")?;
+    let tags = tags_of(alloc, words)?;
+    let lab = lab_of(alloc, texts, field_at(words, 0))?;
+    let claims = with_one(alloc, &lab, exp, true);
+    drop(lab);
+    let claims = claims?;
+    let told = push_free(out, &claims, &tags);
+    drop(claims);
+    Ok(told?)
 }

@@ -1,157 +1,171 @@
-// Plans of swaps.
+//! Plans of swaps.
 ghost use Rattle.std.specs.Prelude.{IfOk};
 ghost use Rattle.swap_plan.specs.Plans.{IsFit};
 
-use crate::rules::{mapping_of, wiring_of};
-use lab_base::{Items, Name, Tags, VlanId};
+use crate::reading::{lab_of, mapping_of, wiring_of};
+use crate::texts::Texts;
+use crate::words::{number_at, push_answer, push_number};
+use crate::wrong::Wrong;
+use lab_base::{Items, Kind, Memory, Name, Tags, Text, VlanId};
+use line_text::{field_at, push_field};
 use phys_lab::Lab;
 use plant::DeviceOp;
-use ptop_text::read_ptop;
 use std::alloc::Global;
-use std::test::Fail;
 use swap_plan::{Commands, Ops, plan_change, plan_in, plan_out};
 use virt_topo::Mapped;
 
-/// Nodes `pc1` and `pc2`, with `eth0` at ports 1 and 2 of the switch `s1`.
-const LAB: &[u8] = b"vlans 100 103\nnode s1 switch\nnode pc1 pc:1\nnode pc2 pc:1\n\
-    link i1 pc1:eth0 s1:1 100000\nlink i2 pc2:eth0 s1:2 100000\n";
+fn one_tag(alloc: Global, tag: u16) -> Result<Tags, Memory> {
+    let mut tags = Items::new(alloc);
+    tags.push(VlanId(tag))?;
+    Ok(tags)
+}
 
-const TOP: &[u8] = b"node a pc linux\nnode b pc bsd\nlink l l 100000 a b\n";
-
-const ON: &[u8] = b"node a pc2 pc\nnode b pc1 pc\nplug a:0 pc2:eth0\nplug b:0 pc1:eth0\n";
-
-/// The link with its nodes, on the lab with that VLAN id.
-fn mapped(alloc: Global, lab: &Lab, tag: u16) -> Result<Mapped, Fail>
+/// A wiring with its mapping and that VLAN id, where it has one segment.
+fn mapped(
+    alloc: Global,
+    lab: &Lab,
+    texts: &Texts,
+    words: &[&[u8]],
+    tag: u16,
+) -> Result<Mapped, Wrong>
     ensures { IfOk result (λ mapped. IsFit lab.now mapped) }
 {
-    let wiring = wiring_of(alloc, TOP)?;
-    let mapping = mapping_of(alloc, ON, lab, &wiring)?;
-    let mut tags: Tags = Items::new(alloc);
-    tags.push(VlanId(tag))?;
+    let tags = one_tag(alloc, tag)?;
+    let wiring = wiring_of(alloc, texts, field_at(words, 1))?;
     if tags.len() != wiring.segments.len() {
-        return Err("one segment".into());
+        drop(wiring);
+        return Err(Wrong::Word(Kind::Many));
     }
-    Ok(Mapped {
-        wiring,
-        mapping,
-        tags,
-    })
-}
-
-/// The plans of the swap in and of the swap out.
-fn planned(alloc: Global) -> Result<(Ops, Ops), Fail> {
-    let lab = read_ptop(alloc, LAB).ok().ok_or("a lab")?;
-    let mapped = mapped(alloc, &lab, 100)?;
-    let there = plan_in(alloc, &lab, &mapped.wiring, &mapped.mapping, &mapped.tags)?;
-    let back = plan_out(alloc, &lab, &mapped.wiring, &mapped.mapping, &mapped.tags)?;
-    Ok((there, back))
-}
-
-/// The plan of a change from tag 100 to tag 101.
-fn changed(alloc: Global) -> Result<Ops, Fail> {
-    let lab = read_ptop(alloc, LAB).ok().ok_or("a lab")?;
-    let old = mapped(alloc, &lab, 100)?;
-    let new = mapped(alloc, &lab, 101)?;
-    Ok(plan_change(alloc, &lab, &old, &new)?)
-}
-
-/// A Join, or else a Leave, of port 2 and then of port 1.
-fn at_ports(alloc: Global, joins: bool, tag: u16) -> Result<Items<DeviceOp>, Fail> {
-    let switch = Name::read(b"s1")?;
-    let vlan = VlanId(tag);
-    let mut listed = Items::new(alloc);
-    for port in [2, 1] {
-        listed.push(if joins {
-            DeviceOp::Join { switch, port, vlan }
-        } else {
-            DeviceOp::Leave { switch, port, vlan }
-        })?;
+    match mapping_of(alloc, texts, field_at(words, 2), lab, &wiring) {
+        Ok(mapping) => Ok(Mapped {
+            wiring,
+            mapping,
+            tags,
+        }),
+        Err(wrong) => {
+            drop(wiring);
+            Err(wrong)
+        }
     }
-    Ok(listed)
 }
 
-fn clear_wanted(alloc: Global) -> Result<Items<DeviceOp>, Fail> {
-    let mut listed = at_ports(alloc, false, 100)?;
-    listed.push(DeviceOp::Wipe {
-        node: Name::read(b"pc1")?,
-    })?;
-    listed.push(DeviceOp::Wipe {
-        node: Name::read(b"pc2")?,
-    })?;
-    Ok(listed)
+/// Adds a Join or a Leave.
+fn push_at_port(
+    out: &mut Text,
+    verb: &[u8],
+    switch: &Name,
+    port: u16,
+    vlan: VlanId,
+) -> Result<(), Memory> {
+    out.push_bytes(verb)?;
+    push_field(out, switch)?;
+    push_number(out, u64::from(port))?;
+    push_number(out, u64::from(vlan.0))
 }
 
-fn load_wanted(alloc: Global) -> Result<Items<DeviceOp>, Fail> {
-    let mut listed = Items::new(alloc);
-    listed.push(DeviceOp::Load {
-        node: Name::read(b"pc1")?,
-        os: Name::read(b"bsd")?,
-    })?;
-    listed.push(DeviceOp::Load {
-        node: Name::read(b"pc2")?,
-        os: Name::read(b"linux")?,
-    })?;
-    Ok(listed)
+fn push_op(out: &mut Text, op: &DeviceOp) -> Result<(), Memory> {
+    match op {
+        DeviceOp::Join { switch, port, vlan } => {
+            push_at_port(out, b"join", switch, *port, *vlan)?;
+        }
+        DeviceOp::Leave { switch, port, vlan } => {
+            push_at_port(out, b"leave", switch, *port, *vlan)?;
+        }
+        DeviceOp::Load { node, os } => {
+            out.push_bytes(b"load")?;
+            push_field(out, node)?;
+            push_field(out, os)?;
+        }
+        DeviceOp::Wipe { node } => {
+            out.push_bytes(b"wipe")?;
+            push_field(out, node)?;
+        }
+        _ => out.push_bytes(b"another")?,
+    }
+    out.push(b'\n')
 }
 
-fn boot_wanted(alloc: Global) -> Result<Items<Name>, Fail> {
-    let mut listed = Items::new(alloc);
-    listed.push(Name::read(b"pc1")?)?;
-    listed.push(Name::read(b"pc2")?)?;
-    Ok(listed)
-}
-
-/// Whether the commands clear the mapping away, and nothing more.
-fn clears(alloc: Global, commands: &Commands) -> Result<bool, Fail> {
-    let wanted = clear_wanted(alloc)?;
-    Ok(
-        commands.clear == wanted
-            && commands.cable.is_empty()
-            && commands.load.is_empty()
-            && commands.boot.is_empty(),
-    )
-}
-
-/// Whether the commands build the mapping, and nothing more.
-fn builds(alloc: Global, commands: &Commands) -> Result<bool, Fail> {
-    let cable = at_ports(alloc, true, 100)?;
-    let load = load_wanted(alloc)?;
-    let boot = boot_wanted(alloc)?;
-    Ok(
-        commands.clear.is_empty()
-            && commands.cable == cable
-            && commands.load == load
-            && commands.boot == boot,
-    )
-}
-
-#[test]
-fn the_first_swap_joins_loads_and_boots(rt: HostRuntime) -> Result<(), Fail> {
-    let (there, back) = planned(rt.alloc())?;
-    assert!(rt; builds(rt.alloc(), &there.commands)?);
-    assert!(rt; clears(rt.alloc(), &there.undo)?);
-    assert!(rt; clears(rt.alloc(), &back.commands)?);
-    assert!(rt; back.undo.clear.is_empty());
+fn push_ops(out: &mut Text, ops: &[DeviceOp]) -> Result<(), Memory> {
+    for op in ops {
+        push_op(out, op)?;
+    }
     Ok(())
 }
 
-/// Whether the commands change the one tag for the other, and touch no node.
-fn retags(alloc: Global, commands: &Commands, from: u16, to: u16) -> Result<bool, Fail> {
-    let clear = at_ports(alloc, false, from)?;
-    let cable = at_ports(alloc, true, to)?;
-    Ok(
-        commands.clear == clear
-            && commands.cable == cable
-            && commands.load.is_empty()
-            && commands.boot.is_empty(),
-    )
+/// Adds commands, those of each list behind its name, a line each.
+fn push_commands(out: &mut Text, commands: &Commands) -> Result<(), Memory> {
+    out.push_bytes(b"clear\n")?;
+    push_ops(out, commands.clear.as_slice())?;
+    out.push_bytes(b"cable\n")?;
+    push_ops(out, commands.cable.as_slice())?;
+    out.push_bytes(b"load\n")?;
+    push_ops(out, commands.load.as_slice())?;
+    out.push_bytes(b"boot")?;
+    for node in commands.boot.as_slice() {
+        push_field(out, node)?;
+    }
+    out.push(b'\n')
 }
 
-#[test]
-fn a_change_of_rows_boots_nothing(rt: HostRuntime) -> Result<(), Fail> {
-    let ops = changed(rt.alloc())?;
-    assert!(rt; retags(rt.alloc(), &ops.commands, 100, 101)?);
-    assert!(rt; retags(rt.alloc(), &ops.undo, 101, 100)?);
-    assert!(rt; ops.inside);
-    Ok(())
+/// Adds the commands of a swap, those of its undo, and whether that leads back into the lab.
+fn push_plan(out: &mut Text, ops: &Ops) -> Result<(), Memory> {
+    push_commands(out, &ops.commands)?;
+    out.push_bytes(b"undo: ")?;
+    push_commands(out, &ops.undo)?;
+    out.push_bytes(b"inside")?;
+    push_answer(out, ops.inside)
+}
+
+fn ops_in(alloc: Global, lab: &Lab, new: &Mapped) -> Result<Ops, Wrong>
+    requires { IsFit lab.now new.now }
+{
+    Ok(plan_in(alloc, lab, &new.wiring, &new.mapping, &new.tags)?)
+}
+
+fn ops_out(alloc: Global, lab: &Lab, old: &Mapped) -> Result<Ops, Wrong>
+    requires { IsFit lab.now old.now }
+{
+    Ok(plan_out(alloc, lab, &old.wiring, &old.mapping, &old.tags)?)
+}
+
+/// The plan of a change from one VLAN id to another.
+fn ops_between(
+    alloc: Global,
+    lab: &Lab,
+    texts: &Texts,
+    words: &[&[u8]],
+    new: &Mapped,
+) -> Result<Ops, Wrong>
+    requires { IsFit lab.now new.now }
+{
+    let old = mapped(alloc, lab, texts, words, number_at(words, 3)?)?;
+    let ops = plan_change(alloc, lab, &old, new);
+    drop(old);
+    Ok(ops?)
+}
+
+/// The plan of a swap: in where there is no old VLAN id, out where there is no new one, or else a change.
+fn ops_of(alloc: Global, lab: &Lab, texts: &Texts, words: &[&[u8]]) -> Result<Ops, Wrong> {
+    let (from, to) = (number_at(words, 3)?, number_at(words, 4)?);
+    let one = mapped(alloc, lab, texts, words, if to == 0 { from } else { to })?;
+    let ops = if from == 0 {
+        ops_in(alloc, lab, &one)
+    } else if to == 0 {
+        ops_out(alloc, lab, &one)
+    } else {
+        ops_between(alloc, lab, texts, words, &one)
+    };
+    drop(one);
+    ops
+}
+
+/// The plan of a swap. The words are the texts of the lab, the wiring and the mapping, and its VLAN id before and then, 0 for none.
+pub fn tell(out: &mut Text, alloc: Global, texts: &Texts, words: &[&[u8]]) -> Result<(), Wrong> {
+    let lab = lab_of(alloc, texts, field_at(words, 0))?;
+    let ops = ops_of(alloc, &lab, texts, words);
+    drop(lab);
+    let ops = ops?;
+    let told = push_plan(out, &ops);
+    drop(ops);
+    Ok(told?)
 }

@@ -1,194 +1,160 @@
-// Promises made in advance.
-ghost use Rattle.std.specs.Prelude.{◌<◌};
-
+//! Promises made in advance.
+use crate::reading::{MAX_TEXT, lab_of};
+use crate::texts::{Texts, text_of};
+use crate::words::{number, number_at, pair_of, push_number};
+use crate::wrong::Wrong;
 use lab_ahead::{Batch, Fit, Left, Need, fits, left_at, moments, needs_at, read_batch};
-use lab_base::{Items, Kind, Name, NodeId, TextFault, TextRefused};
-use phys_lab::{Lab, LabBuilder, Node};
+use lab_base::{Items, Kind, Memory, Name, NodeId, Text, name_in};
+use line_text::{field_at, push_field, push_numbered};
+use phys_lab::Lab;
 use std::alloc::Global;
-use std::test::Fail;
 
-fn named(text: &[u8]) -> Result<Name, Fail> {
-    Ok(Name::read(text).ok().ok_or("a name")?)
-}
-
-fn need(kind: &[u8], count: u16) -> Result<Need, Fail> {
+/// The type of a word, and how many nodes of it are needed.
+fn need_of(word: &[u8]) -> Result<Need, Wrong> {
+    let pair = pair_of(word)?;
     Ok(Need {
-        kind: named(kind)?,
-        count,
+        kind: name_in(pair.before)?,
+        count: number(pair.behind)?,
     })
 }
 
-fn add_node(lab: &mut LabBuilder, alloc: Global, name: &[u8], kinds: &[&[u8]]) -> Result<(), Fail> {
-    let mut types = Items::new(alloc);
-    for kind in kinds {
-        types.push((named(kind)?, 1))?;
-    }
-    let node = Node {
-        name: named(name)?,
-        types,
-        features: Items::new(alloc),
-    };
-    Ok(lab.add_node(node)?)
-}
-
-/// A lab of `x` with the types `big` and `pc`, and `y` with the type `pc`.
-fn lab(alloc: Global) -> Result<Lab, Fail> {
-    let mut lab = LabBuilder::new(alloc, 2, 4_094)?;
-    add_node(
-        &mut lab,
-        alloc,
-        b"x",
-        &[b"big".as_slice(), b"pc".as_slice()],
-    )?;
-    add_node(&mut lab, alloc, b"y", &[b"pc".as_slice()])?;
-    Ok(lab.finish().ok().ok_or("memory")?)
-}
-
-/// Whether two needs fit both nodes.
-fn shown(alloc: Global, needs: &[Need; 2]) -> Result<Fit, Fail> {
-    let lab = lab(alloc)?;
+/// Whether two needs fit both nodes of a lab.
+fn fit(alloc: Global, lab: &Lab, needs: &[Need; 2]) -> Result<Fit, Wrong> {
     if lab.nodes().len() != 2 {
-        Err("two nodes")?;
+        return Err(Wrong::Word(Kind::Many));
     }
-    let mut left = Vec::new(alloc);
+    let mut left = Items::new(alloc);
     left.push(NodeId(0))?;
     left.push(NodeId(1))?;
-    Ok(fits(alloc, &lab, &left, needs)?)
+    Ok(fits(alloc, lab, left.as_slice(), needs)?)
 }
 
-fn given(fit: Fit) -> Result<Items<(NodeId, u16)>, Fail> {
+/// Adds nodes, each with the need that it is given to.
+fn push_given(out: &mut Text, given: &[(NodeId, u16)]) -> Result<(), Memory> {
+    for (node, need) in given {
+        push_number(out, u64::from(node.0))?;
+        out.push(b':')?;
+        out.push_number(u64::from(*need))?;
+    }
+    Ok(())
+}
+
+fn push_names(out: &mut Text, names: &[Name]) -> Result<(), Memory> {
+    for name in names {
+        push_field(out, name)?;
+    }
+    Ok(())
+}
+
+fn push_fit(out: &mut Text, fit: &Fit) -> Result<(), Memory> {
     match fit {
-        Fit::Yes(given) => Ok(given),
-        Fit::No(_) => Err("no giving")?,
+        Fit::Yes(given) => push_given(out, given.as_slice()),
+        Fit::No(kinds) => {
+            out.push_bytes(b"short")?;
+            push_names(out, kinds.as_slice())
+        }
     }
 }
 
-fn short(fit: Fit) -> Result<Items<Name>, Fail> {
-    match fit {
-        Fit::Yes(_) => Err("a giving")?,
-        Fit::No(kinds) => Ok(kinds),
+/// The nodes that two needs are given, or the types that are short.
+pub fn tell_fit(
+    out: &mut Text,
+    alloc: Global,
+    texts: &Texts,
+    words: &[&[u8]],
+) -> Result<(), Wrong> {
+    let needs = [need_of(field_at(words, 1))?, need_of(field_at(words, 2))?];
+    let lab = lab_of(alloc, texts, field_at(words, 0))?;
+    let found = fit(alloc, &lab, &needs);
+    drop(lab);
+    Ok(push_fit(out, &found?)?)
+}
+
+/// The batch of a text.
+fn batch_of(alloc: Global, text: &[u8]) -> Result<Batch, Wrong> {
+    if text.len() > MAX_TEXT {
+        return Err(Wrong::Memory);
     }
+    Ok(read_batch(alloc, text)?)
 }
 
-#[test]
-fn a_node_of_two_types_is_given_once(rt: HostRuntime) -> Result<(), Fail> {
-    let big = need(b"big", 1)?;
-    let one = need(b"pc", 1)?;
-    let found = given(shown(rt.alloc(), &[big, one])?)?;
-    assert_eq!(rt;
-        found.as_slice(),
-        [(NodeId(0), 0), (NodeId(1), 1)].as_slice()
-    );
-    let found = given(shown(rt.alloc(), &[one, big])?)?;
-    assert_eq!(rt;
-        found.as_slice(),
-        [(NodeId(0), 1), (NodeId(1), 0)].as_slice()
-    );
-    Ok(())
+/// How many promises and runs a batch has.
+pub fn tell_batch(out: &mut Text, alloc: Global, letters: &[u8]) -> Result<(), Wrong> {
+    let text = text_of(alloc, letters)?;
+    let batch = batch_of(alloc, text.bytes())?;
+    let (promises, runs) = (batch.promises.len(), batch.runs.len());
+    drop(batch);
+    push_number(out, promises as u64)?;
+    Ok(push_number(out, runs as u64)?)
 }
 
-#[test]
-fn types_together_show_what_is_short(rt: HostRuntime) -> Result<(), Fail> {
-    let big = need(b"big", 1)?;
-    let two = need(b"pc", 2)?;
-    let kinds = short(shown(rt.alloc(), &[big, two])?)?;
-    assert!(rt; kinds.as_slice() == [big.kind, two.kind].as_slice());
-    Ok(())
-}
-
-fn read(alloc: Global, text: &[u8]) -> Result<Result<Batch, TextRefused>, Fail> {
-    if text.len() < 4_294_967_295 {
-        Ok(read_batch(alloc, text))
-    } else {
-        Err("long")?
-    }
-}
-
-fn fault(alloc: Global, text: &[u8]) -> Result<TextFault, Fail> {
-    match read(alloc, text)? {
-        Ok(_) => Err("a batch")?,
-        Err(TextRefused::Text(fault)) => Ok(fault),
-        Err(TextRefused::Memory) => Err("memory")?,
-    }
-}
-
-#[test]
-fn the_first_fault_is_told_with_its_line(rt: HostRuntime) -> Result<(), Fail> {
-    let cases = [
-        (b"run A 0 60\nwalk A 0 60\n".as_slice(), 2, Kind::Word),
-        (b"# none\n\nrun A 0".as_slice(), 3, Kind::Fields),
-        (b"promise p!c 0 9 1\n".as_slice(), 1, Kind::Name),
-        (b"promise pc 1025 9 1\n".as_slice(), 1, Kind::Number),
-        (b"promise pc 0 1 9\n".as_slice(), 1, Kind::Number),
-        (b"promise pc 1 9 9\n".as_slice(), 1, Kind::Range),
-        (
-            b"promise pc 1 0 1000000000001\n".as_slice(),
-            1,
-            Kind::Number,
-        ),
-        (b"run A 0 0\n".as_slice(), 1, Kind::Number),
-        (
-            b"run A 18446744073709551616 1\n".as_slice(),
-            1,
-            Kind::Number,
-        ),
-    ];
-    for (text, line, kind) in cases.iter() {
-        assert_eq!(rt;
-            fault(rt.alloc(), *text)?,
-            TextFault {
-                line: *line,
-                kind: *kind
-            }
-        );
+fn push_numbers(out: &mut Text, numbers: &[u64]) -> Result<(), Memory> {
+    for number in numbers {
+        push_number(out, *number)?;
     }
     Ok(())
 }
 
-const PROMISES: &[u8] =
-    b"promise pc 2 100 200\nrun A 0 60\npromise big 1 50 100\npromise pc 1 110 300\nrun B 0 60\n";
-
-fn promised(alloc: Global) -> Result<Batch, Fail> {
-    Ok(read(alloc, PROMISES)?.ok().ok_or("a fault")?)
+/// The moments at which a run that begins so late and takes so long is tested against the promises of a batch.
+pub fn tell_moments(
+    out: &mut Text,
+    alloc: Global,
+    texts: &Texts,
+    words: &[&[u8]],
+) -> Result<(), Wrong> {
+    let now = u64::from(number_at(words, 1)?);
+    let length = u64::from(number_at(words, 2)?);
+    let batch = batch_of(alloc, texts.of(field_at(words, 0))?)?;
+    let tested = moments(alloc, batch.promises.as_slice(), now, length);
+    drop(batch);
+    Ok(push_numbers(out, tested?.as_slice())?)
 }
 
-#[test]
-fn a_run_is_tested_at_its_first_moment_and_at_starts(rt: HostRuntime) -> Result<(), Fail> {
-    let batch = promised(rt.alloc())?;
-    assert_eq!(rt; batch.runs.len(), 2);
-    let tested = moments(rt.alloc(), batch.promises.as_slice(), 50, 60)?;
-    assert_eq!(rt; tested.as_slice(), [50, 100].as_slice());
+fn push_needs(out: &mut Text, needs: &[Need]) -> Result<(), Memory> {
+    for need in needs {
+        push_numbered(out, &need.kind, u64::from(need.count))?;
+    }
     Ok(())
 }
 
-#[test]
-fn a_promise_ends_before_its_end(rt: HostRuntime) -> Result<(), Fail> {
-    let batch = promised(rt.alloc())?;
-    let promises = batch.promises.as_slice();
-    let needs = needs_at(rt.alloc(), promises, 99)?;
-    assert!(rt; needs.as_slice() == [need(b"big", 1)?].as_slice());
-    let needs = needs_at(rt.alloc(), promises, 100)?;
-    assert!(rt; needs.as_slice() == [need(b"pc", 2)?].as_slice());
-    assert_eq!(rt; needs_at(rt.alloc(), promises, 199)?.len(), 2);
-    Ok(())
+/// What the promises of a batch need at a moment.
+pub fn tell_needs(
+    out: &mut Text,
+    alloc: Global,
+    texts: &Texts,
+    words: &[&[u8]],
+) -> Result<(), Wrong> {
+    let at = u64::from(number_at(words, 1)?);
+    let batch = batch_of(alloc, texts.of(field_at(words, 0))?)?;
+    let needs = needs_at(alloc, batch.promises.as_slice(), at);
+    drop(batch);
+    Ok(push_needs(out, needs?.as_slice())?)
 }
 
-#[test]
-fn a_node_is_left_from_its_moment_on(rt: HostRuntime) -> Result<(), Fail> {
-    let left = [
-        Left {
-            node: NodeId(3),
-            from: 0,
-        },
-        Left {
-            node: NodeId(1),
-            from: 110,
-        },
-    ];
-    assert_eq!(rt;
-        left_at(rt.alloc(), &left, 109)?.as_slice(),
-        [NodeId(3)].as_slice()
-    );
-    assert_eq!(rt; left_at(rt.alloc(), &left, 110)?.len(), 2);
+/// The node of a word, and the moment from which it is left.
+fn left_of(word: &[u8]) -> Result<Left, Wrong> {
+    let pair = pair_of(word)?;
+    Ok(Left {
+        node: NodeId(number(pair.before)?),
+        from: u64::from(number(pair.behind)?),
+    })
+}
+
+/// The nodes of words behind the first one.
+fn lefts_of(alloc: Global, words: &[&[u8]]) -> Result<Items<Left>, Wrong> {
+    let mut left = Items::new(alloc);
+    for word in words.iter().skip(1) {
+        left.push(left_of(word)?)?;
+    }
+    Ok(left)
+}
+
+/// The nodes that are left at a moment.
+pub fn tell_left(out: &mut Text, alloc: Global, words: &[&[u8]]) -> Result<(), Wrong> {
+    let at = u64::from(number_at(words, 0)?);
+    let left = lefts_of(alloc, words)?;
+    for node in left_at(alloc, left.as_slice(), at)?.as_slice() {
+        push_number(out, u64::from(node.0))?;
+    }
     Ok(())
 }

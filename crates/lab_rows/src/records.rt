@@ -1,78 +1,29 @@
+//! Records that follow one another, and what they give.
 ghost use Rattle.std.specs.Prelude.{◌≡◌, IfOk};
 ghost use Rattle.journal_rec.specs.Payloads.{IsRecord};
 
+use crate::texts::Texts;
+use crate::words::{at_bar, push_answer, push_number};
+use crate::wrong::Wrong;
+use journal_packed::Packed;
 use journal_rec::{Found, Record, decode};
-use lab_base::Text;
+use lab_base::{Kind, Memory, Text, TrunkId};
 use lab_state::{LabState, PrepareFault, ReplayFault};
-use std::test::Fail;
-
-/// One switch with four nodes.
-const LAB: &[u8] =
-    b"vlans 100 101\nnode s1 switch\nnode pc1 pc:1\nnode pc2 pc:1\nnode pc3 pc:1\nnode pc4 pc:1\n\
-    link l1 pc1:eth0 s1:1 100000\nlink l2 pc2:eth0 s1:2 100000\n\
-    link l3 pc3:eth0 s1:3 100000\nlink l4 pc4:eth0 s1:4 100000\n";
-
-/// Two virtual nodes with a link, and its places on two pairs of nodes.
-pub(crate) const TOP: &[u8] = b"node a pc linux\nnode b pc linux\nlink ab ab 100000 a b\n";
-
-const FIRST: &[u8] = b"node a pc1 pc\nnode b pc2 pc\nplug a:0 pc1:eth0\nplug b:0 pc2:eth0\n";
-
-pub(crate) const SECOND: &[u8] =
-    b"node a pc3 pc\nnode b pc4 pc\nplug a:0 pc3:eth0\nplug b:0 pc4:eth0\n";
-
-/// The parts of a payload, one behind another; before each text stand the four bytes of its length.
-pub(crate) type Payload = &'static [&'static [u8]];
-
-pub(crate) const LAB_RECORD: Payload = &[b"\x01", b"\xc9\0\0\0", LAB];
-
-pub(crate) const CREATE: Payload = &[b"\x02\x01A", b"\x36\0\0\0", TOP];
-
-pub(crate) const DELETE: Payload = &[b"\x03\x01A"];
-
-/// A swap-in with the VLAN id 100, and what ends a move.
-pub(crate) const IN: Payload = &[b"\x04\x01A\x01", b"\x40\0\0\0", FIRST, b"\x01\0\x64\0"];
-
-pub(crate) const OUT: Payload = &[b"\x04\x01A\x02"];
-
-pub(crate) const COMMIT: Payload = &[b"\x05\x01A"];
-
-pub(crate) const ABORT: Payload = &[b"\x06\x01A"];
-
-/// Changes with the VLAN id 101: to other nodes, and on the same ones.
-pub(crate) const CHANGE: Payload = &[
-    b"\x04\x01A\x03",
-    b"\x36\0\0\0",
-    TOP,
-    b"\x40\0\0\0",
-    SECOND,
-    b"\x01\0\x65\0",
-];
-
-const CHANGE_IN_PLACE: Payload = &[
-    b"\x04\x01A\x03",
-    b"\x36\0\0\0",
-    TOP,
-    b"\x40\0\0\0",
-    FIRST,
-    b"\x01\0\x65\0",
-];
+use line_text::field_at;
+use std::alloc::Global;
 
 /// The record that its payload is read as.
-fn record(rt: &HostRuntime, parts: &[&[u8]]) -> Result<Record, Fail>
+fn record_of(alloc: Global, payload: &[u8]) -> Result<Record, Wrong>
     ensures { IfOk result IsRecord }
 {
-    let mut payload = Text::new(rt.alloc());
-    for part in parts {
-        payload.push_bytes(part)?;
-    }
-    match decode(rt.alloc(), payload.bytes()) {
+    match decode(alloc, payload) {
         Ok(record) => Ok(record),
-        Err(_) => Err("a record")?,
+        Err(fault) => Err(Wrong::from(fault)),
     }
 }
 
 /// Enters a record; tells whether it can follow.
-fn follows(state: &mut LabState, entry: &Record) -> Result<bool, Fail>
+fn follows(state: &mut LabState, entry: &Record) -> Result<bool, Wrong>
     requires { IsRecord entry.now }
 {
     match state.prepare(entry) {
@@ -81,111 +32,57 @@ fn follows(state: &mut LabState, entry: &Record) -> Result<bool, Fail>
             Ok(true)
         }
         Err(PrepareFault::Bad) => Ok(false),
-        Err(PrepareFault::Memory) => Err("memory")?,
+        Err(PrepareFault::Memory) => Err(Wrong::Memory),
     }
 }
 
-pub(crate) fn says_follows(
-    rt: &HostRuntime,
+/// Enters the record of a text; tells whether it can follow.
+fn enters(alloc: Global, texts: &Texts, state: &mut LabState, name: &[u8]) -> Result<bool, Wrong> {
+    let entry = record_of(alloc, texts.of(name)?)?;
+    let follows = follows(state, &entry);
+    drop(entry);
+    follows
+}
+
+/// Adds the kbps that the claims leave of the first trunk, if there is one.
+fn push_left(out: &mut Text, state: &LabState) -> Result<(), Memory> {
+    if let Some(lab) = state.lab()
+        && let Some(claims) = state.claims()
+        && !lab.trunks().is_empty()
+    {
+        push_number(out, claims.left(TrunkId(0)))?;
+    }
+    out.push(b'\n')
+}
+
+/// Enters records, and adds whether each can follow, with what is left then, and how many experiments there are at the end.
+fn push_all(
+    out: &mut Text,
+    alloc: Global,
+    texts: &Texts,
     state: &mut LabState,
-    says: Payload,
-) -> Result<bool, Fail> {
-    let entry = record(rt, says)?;
-    follows(state, &entry)
-}
-
-#[test]
-fn records_of_all_kinds_follow(rt: HostRuntime) -> Result<(), Fail> {
-    let mut state = LabState::new(rt.alloc());
-    let cases: [Payload; 13] = [
-        LAB_RECORD,
-        CREATE,
-        IN,
-        ABORT,
-        IN,
-        COMMIT,
-        CHANGE,
-        ABORT,
-        CHANGE_IN_PLACE,
-        COMMIT,
-        OUT,
-        COMMIT,
-        DELETE,
-    ];
-    for says in cases {
-        assert!(rt; says_follows(&rt, &mut state, says)?);
+    names: &[&[u8]],
+) -> Result<(), Wrong> {
+    for name in names {
+        out.push_bytes(name)?;
+        push_answer(out, enters(alloc, texts, state, name)?)?;
+        push_left(out, state)?;
     }
-    assert_eq!(rt; state.len(), 0);
+    out.push_number(state.len() as u64)?;
     Ok(())
 }
 
-#[test]
-fn records_that_cannot_follow(rt: HostRuntime) -> Result<(), Fail> {
-    let mut state = LabState::new(rt.alloc());
-    let cases: [(Payload, bool); 22] = [
-        (DELETE, false),
-        (CREATE, false),
-        (
-            &[b"\x01", b"\x1e\0\0\0", b"vlans 100 101\n\nnode s1 switch\n"],
-            false,
-        ),
-        (LAB_RECORD, true),
-        (LAB_RECORD, false),
-        (
-            &[b"\x02\x01A", b"\x11\0\0\0", b"node a pc linux\n\n"],
-            false,
-        ),
-        (CREATE, true),
-        (CREATE, false),
-        (
-            &[
-                b"\x04\x01A\x01",
-                b"\x40\0\0\0",
-                b"node a pc1 pc\nnode b pc1 pc\nplug a:0 pc1:eth0\nplug b:0 pc1:eth0\n",
-                b"\x01\0\x64\0",
-            ],
-            false,
-        ),
-        (
-            &[
-                b"\x04\x01A\x01",
-                b"\x40\0\0\0",
-                b"node a pc1 pc\nplug a:0 pc1:eth0\nnode b pc2 pc\nplug b:0 pc2:eth0\n",
-                b"\x01\0\x64\0",
-            ],
-            false,
-        ),
-        (
-            &[b"\x04\x01A\x01", b"\x40\0\0\0", FIRST, b"\x01\0\x66\0"],
-            false,
-        ),
-        (OUT, false),
-        (COMMIT, false),
-        (IN, true),
-        (DELETE, false),
-        (COMMIT, true),
-        (ABORT, false),
-        (&[b"\x02\x01B", b"\x36\0\0\0", TOP], true),
-        (
-            &[b"\x04\x01B\x01", b"\x40\0\0\0", FIRST, b"\x01\0\x65\0"],
-            false,
-        ),
-        (
-            &[b"\x04\x01B\x01", b"\x40\0\0\0", SECOND, b"\x01\0\x64\0"],
-            false,
-        ),
-        (OUT, true),
-        (ABORT, false),
-    ];
-    for (says, wanted) in cases {
-        assert_eq!(rt; says_follows(&rt, &mut state, says)?, wanted);
-    }
-    Ok(())
+/// Whether records can follow one another.
+pub fn tell(out: &mut Text, alloc: Global, texts: &Texts, words: &[&[u8]]) -> Result<(), Wrong> {
+    let mut state = LabState::new(alloc);
+    let told = push_all(out, alloc, texts, &mut state, words);
+    drop(state);
+    told
 }
 
 /// How many experiments three records give, or the number of the first that can't follow.
 fn replayed(
-    rt: &HostRuntime,
+    alloc: Global,
     first: Record,
     second: Record,
     third: Record,
@@ -208,22 +105,120 @@ fn replayed(
             entry: third,
         },
     ];
-    match LabState::replay(rt.alloc(), &records) {
-        Ok(state) => Ok(state.len()),
+    let replayed = LabState::replay(alloc, &records);
+    drop(records);
+    match replayed {
+        Ok(state) => {
+            let count = state.len();
+            drop(state);
+            Ok(count)
+        }
         Err(fault) => Err(fault),
     }
 }
 
-fn two_creates(rt: &HostRuntime, second: &[u8]) -> Result<Result<usize, ReplayFault>, Fail> {
-    let lab = record(rt, LAB_RECORD)?;
-    let first = record(rt, CREATE)?;
-    let second = record(rt, &[b"\x02\x01", second, b"\x36\0\0\0", TOP])?;
-    Ok(replayed(rt, lab, first, second))
+/// What comes of a record and two payloads.
+fn replayed_behind(
+    alloc: Global,
+    first: Record,
+    second: &[u8],
+    third: &[u8],
+) -> Result<Result<usize, ReplayFault>, Wrong>
+    requires { IsRecord first }
+{
+    let second = match record_of(alloc, second) {
+        Ok(second) => second,
+        Err(wrong) => {
+            drop(first);
+            return Err(wrong);
+        }
+    };
+    match record_of(alloc, third) {
+        Ok(third) => Ok(replayed(alloc, first, second, third)),
+        Err(wrong) => {
+            drop(first);
+            drop(second);
+            Err(wrong)
+        }
+    }
 }
 
-#[test]
-fn records_are_replayed(rt: HostRuntime) -> Result<(), Fail> {
-    assert_eq!(rt; two_creates(&rt, b"B")?, Ok(2));
-    assert_eq!(rt; two_creates(&rt, b"A")?, Err(ReplayFault::Bad { index: 2 }));
+fn push_replayed(out: &mut Text, replayed: Result<usize, ReplayFault>) -> Result<(), Memory> {
+    match replayed {
+        Ok(count) => out.push_number(count as u64),
+        Err(ReplayFault::Bad { index }) => {
+            out.push_bytes(b"bad")?;
+            push_number(out, index as u64)
+        }
+        Err(ReplayFault::Memory) => Err(Memory),
+    }
+}
+
+/// What comes of three records that are replayed.
+pub fn tell_three(
+    out: &mut Text,
+    alloc: Global,
+    texts: &Texts,
+    words: &[&[u8]],
+) -> Result<(), Wrong> {
+    let (second, third) = (texts.of(field_at(words, 1))?, texts.of(field_at(words, 2))?);
+    let first = record_of(alloc, texts.of(field_at(words, 0))?)?;
+    Ok(push_replayed(out, replayed_behind(alloc, first, second, third)?)?)
+}
+
+/// Adds a payload behind its open gate.
+fn push_gate(bytes: &mut Text, payload: &[u8]) -> Result<(), Memory> {
+    let size = u32::try_from(payload.len()).unwrap_or(0);
+    bytes.push(0xa5)?;
+    bytes.push_bytes(&size.to_le_bytes())?;
+    bytes.push_bytes(payload)
+}
+
+/// The records of texts, each behind its open gate, and a closed gate after the last.
+fn gates_of(alloc: Global, texts: &Texts, names: &[&[u8]]) -> Result<Text, Wrong> {
+    let mut bytes = Text::new(alloc);
+    for name in names {
+        push_gate(&mut bytes, texts.of(name)?)?;
+    }
+    bytes.push(0)?;
+    Ok(bytes)
+}
+
+/// Enters the records of texts.
+fn enter_all(
+    alloc: Global,
+    texts: &Texts,
+    state: &mut LabState,
+    names: &[&[u8]],
+) -> Result<(), Wrong> {
+    for name in names {
+        if !enters(alloc, texts, state, name)? {
+            return Err(Wrong::Word(Kind::Missing));
+        }
+    }
+    Ok(())
+}
+
+/// The lab that the records of texts give, packed.
+fn packed_of(alloc: Global, texts: &Texts, names: &[&[u8]]) -> Result<Packed, Wrong> {
+    let mut state = LabState::new(alloc);
+    let entered = enter_all(alloc, texts, &mut state, names);
+    let packed = state.pack();
+    drop(state);
+    entered?;
+    Ok(packed?)
+}
+
+/// Whether the lab that records before a bar give is packed into those behind it.
+pub fn tell_packed(
+    out: &mut Text,
+    alloc: Global,
+    texts: &Texts,
+    words: &[&[u8]],
+) -> Result<(), Wrong> {
+    let halves = at_bar(words);
+    let packed = packed_of(alloc, texts, halves.before)?;
+    let wanted = gates_of(alloc, texts, halves.behind)?;
+    push_answer(out, packed.bytes() == wanted.bytes())?;
     Ok(())
 }
