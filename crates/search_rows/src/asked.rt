@@ -5,7 +5,9 @@ ghost use Rattle.lab_model.specs.Shapes.{IsFreeOf, IsShaped};
 ghost use Rattle.cost_rule.specs.Cost.{cost};
 ghost use Rattle.cost_rule.specs.Parts.{cost_of_parts, AreParts};
 
-use crate::labs::{FOUR, OLD_AND_NEW, PAIR, free_of, is_free_of, lab_of, wiring_of};
+use crate::labs::{
+    APART, FOUR, MIXED, OLD_AND_NEW, PAIR, class_wiring_of, free_of, is_free_of, lab_of, wiring_of,
+};
 use assign_core::{Solved, first_fit, solve};
 use cost_rule::{CostFn, Parts, PartsFn, Rule, RuleNumber, StepFn, StepRule};
 use lab_base::Memory;
@@ -314,5 +316,50 @@ fn two_fixed_places(rt: HostRuntime) -> Result<(), Fail> {
     assert_eq!(rt; least.nodes.as_slice(), [2u16, 0, 3, 4, 5, 6].as_slice());
     // ten machines for four are 5,040 maps; the first has c on p2, and the first without p2 is a step
     assert_eq!(rt; (least.asked, least.steps, least.parts), (1, 1, 5_040));
+    Ok(())
+}
+
+/// What the search, the descent and a walk find.
+#[derive(Drop)]
+struct ByAll {
+    least: Found,
+    lowest: Found,
+    walked: Found,
+}
+
+fn found_by_all(alloc: Global, lab: &Lab, wiring: &Wiring) -> Result<ByAll, Fail> {
+    let least = asked(alloc, lab, wiring, Call::Solve(0))?;
+    let lowest = asked(alloc, lab, wiring, Call::Descend)?;
+    let walked = asked(alloc, lab, wiring, Call::Walk(0))?;
+    Ok(ByAll {
+        least,
+        lowest,
+        walked,
+    })
+}
+
+#[test]
+fn a_cheap_map_of_two_types(rt: HostRuntime) -> Result<(), Fail> {
+    let alloc = rt.alloc();
+    let lab = lab_of(alloc, &MIXED, 1_000, 1_000)?;
+    let found = found_by_all(alloc, &lab, &class_wiring_of(alloc, &TWO, 100, 2)?)?;
+    // on m1 and m2 they use the trunk, and beside m1 both m3 and m4 are free of that; m3 is of another type
+    assert_eq!(rt; found.least.nodes.as_slice(), [0u16, 3].as_slice());
+    assert_eq!(rt; found.lowest.nodes.as_slice(), [0u16, 3].as_slice());
+    assert_eq!(rt; found.walked.nodes.len(), 2);
+    assert!(rt; found.walked.nodes.iter().all(|node| *node != 2));
+    Ok(())
+}
+
+#[test]
+fn a_cheap_map_on_two_switches_without_a_trunk(rt: HostRuntime) -> Result<(), Fail> {
+    let alloc = rt.alloc();
+    let lab = lab_of(alloc, &APART, 1_000, 0)?;
+    let found = found_by_all(alloc, &lab, &wiring_of(alloc, &TWO, 100, 2)?)?;
+    // n1 has a feature; beside n2 both n3 and n4 have none, and no trunk leads to n3
+    assert_eq!(rt; found.least.nodes.as_slice(), [1u16, 3].as_slice());
+    assert_eq!(rt; found.lowest.nodes.as_slice(), [3u16, 1].as_slice());
+    assert_eq!(rt; found.walked.nodes.len(), 2);
+    assert!(rt; found.walked.nodes.iter().all(|node| *node != 2));
     Ok(())
 }

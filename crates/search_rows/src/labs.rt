@@ -6,16 +6,17 @@ use lab_base::{Items, Name, NodeId, SwitchId};
 use phys_lab::{Free, Iface, Lab, LabBuilder, Node, Trunk};
 use std::alloc::Global;
 use std::test::Fail;
-use virt_topo::{Asks, Segment, VirtEnd, VirtNode, Wiring};
+use virt_topo::{Asks, Class, Segment, VirtEnd, VirtNode, Wiring};
 
 fn named(text: &[u8]) -> Result<Name, Fail> {
     Ok(Name::read(text).ok().ok_or("a name")?)
 }
 
-/// A machine on a switch, with the weight of its feature `old`, 0 for none.
+/// A machine of a type on a switch, with the weight of its feature `old`, 0 for none.
 #[derive(Clone, Copy)]
 pub struct Machine {
     name: &'static [u8],
+    kind: &'static [u8],
     switch: u16,
     old: u32,
 }
@@ -23,11 +24,13 @@ pub struct Machine {
 pub const PAIR: [Machine; 2] = [
     Machine {
         name: b"pc1",
+        kind: b"pc",
         switch: 0,
         old: 0,
     },
     Machine {
         name: b"pc2",
+        kind: b"pc",
         switch: 0,
         old: 0,
     },
@@ -36,21 +39,25 @@ pub const PAIR: [Machine; 2] = [
 pub const FOUR: [Machine; 4] = [
     Machine {
         name: b"pc1",
+        kind: b"pc",
         switch: 0,
         old: 0,
     },
     Machine {
         name: b"pc2",
+        kind: b"pc",
         switch: 0,
         old: 0,
     },
     Machine {
         name: b"pc3",
+        kind: b"pc",
         switch: 1,
         old: 0,
     },
     Machine {
         name: b"pc4",
+        kind: b"pc",
         switch: 1,
         old: 0,
     },
@@ -59,69 +66,137 @@ pub const FOUR: [Machine; 4] = [
 pub const OLD_AND_NEW: [Machine; 12] = [
     Machine {
         name: b"p1",
+        kind: b"pc",
         switch: 0,
         old: 100,
     },
     Machine {
         name: b"p2",
+        kind: b"pc",
         switch: 0,
         old: 100,
     },
     Machine {
         name: b"q1",
+        kind: b"pc",
         switch: 1,
         old: 0,
     },
     Machine {
         name: b"q2",
+        kind: b"pc",
         switch: 1,
         old: 0,
     },
     Machine {
         name: b"q3",
+        kind: b"pc",
         switch: 1,
         old: 0,
     },
     Machine {
         name: b"q4",
+        kind: b"pc",
         switch: 1,
         old: 0,
     },
     Machine {
         name: b"q5",
+        kind: b"pc",
         switch: 1,
         old: 0,
     },
     Machine {
         name: b"q6",
+        kind: b"pc",
         switch: 1,
         old: 0,
     },
     Machine {
         name: b"q7",
+        kind: b"pc",
         switch: 1,
         old: 0,
     },
     Machine {
         name: b"q8",
+        kind: b"pc",
         switch: 1,
         old: 0,
     },
     Machine {
         name: b"q9",
+        kind: b"pc",
         switch: 1,
         old: 0,
     },
     Machine {
         name: b"q10",
+        kind: b"pc",
         switch: 1,
+        old: 0,
+    },
+];
+
+/// The third one is of another type.
+pub const MIXED: [Machine; 4] = [
+    Machine {
+        name: b"m1",
+        kind: b"arm",
+        switch: 0,
+        old: 0,
+    },
+    Machine {
+        name: b"m2",
+        kind: b"arm",
+        switch: 1,
+        old: 0,
+    },
+    Machine {
+        name: b"m3",
+        kind: b"pc",
+        switch: 0,
+        old: 0,
+    },
+    Machine {
+        name: b"m4",
+        kind: b"arm",
+        switch: 0,
+        old: 0,
+    },
+];
+
+/// The third one is on the other switch.
+pub const APART: [Machine; 4] = [
+    Machine {
+        name: b"n1",
+        kind: b"pc",
+        switch: 0,
+        old: 100,
+    },
+    Machine {
+        name: b"n2",
+        kind: b"pc",
+        switch: 0,
+        old: 0,
+    },
+    Machine {
+        name: b"n3",
+        kind: b"pc",
+        switch: 1,
+        old: 0,
+    },
+    Machine {
+        name: b"n4",
+        kind: b"pc",
+        switch: 0,
         old: 0,
     },
 ];
 
 fn node_of(alloc: Global, machine: Machine) -> Result<Node, Fail> {
     let mut types = Items::new(alloc);
-    types.push((named(b"pc")?, 1))?;
+    types.push((named(machine.kind)?, 1))?;
     let mut features = Items::new(alloc);
     if machine.old > 0 {
         features.push((named(b"old")?, machine.old))?;
@@ -159,16 +234,18 @@ fn add_machine(
 fn add_switches(builder: &mut LabBuilder, trunk: u64) -> Result<(), Fail> {
     builder.add_switch(named(b"s1")?)?;
     builder.add_switch(named(b"s2")?)?;
-    builder.add_trunk(Trunk {
-        link: named(b"t1")?,
-        first: (SwitchId(0), 24),
-        second: (SwitchId(1), 24),
-        kbps: trunk,
-    })?;
+    if trunk > 0 {
+        builder.add_trunk(Trunk {
+            link: named(b"t1")?,
+            first: (SwitchId(0), 24),
+            second: (SwitchId(1), 24),
+            kbps: trunk,
+        })?;
+    }
     Ok(())
 }
 
-/// Switches s1 and s2 with a trunk of so many kbps, and machines with one interface each.
+/// Switches s1 and s2 with a trunk of so many kbps, 0 for none, and machines with one interface each.
 pub fn lab_of(alloc: Global, machines: &[Machine], kbps: u64, trunk: u64) -> Result<Lab, Fail> {
     let mut builder = LabBuilder::new(alloc, 100, 103)?;
     add_switches(&mut builder, trunk)?;
@@ -242,6 +319,30 @@ pub fn wiring_of(
         segments,
         pipes: Items::new(alloc),
     })
+}
+
+/// The same, whose virtual nodes ask for a class of two types, which all have one of them.
+pub fn class_wiring_of(
+    alloc: Global,
+    names: &[(&[u8], &[u8])],
+    kbps: u64,
+    ends: u16,
+) -> Result<Wiring, Fail> {
+    let mut wiring = wiring_of(alloc, names, kbps, ends)?;
+    let mut types = Items::new(alloc);
+    types.push(named(b"arm")?)?;
+    types.push(named(b"pc")?)?;
+    wiring.classes.push(Class {
+        name: named(b"any")?,
+        weight: 1_000,
+        types,
+    })?;
+    let mut nodes = wiring.nodes.into_vec();
+    for node in &mut nodes {
+        node.asks = Asks::Class(0);
+    }
+    wiring.nodes = Items::from_vec(nodes);
+    Ok(wiring)
 }
 
 pub fn is_free_of(lab: &Lab, free: &Free) -> bool
