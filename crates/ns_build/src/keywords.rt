@@ -4,7 +4,7 @@ ghost use Rattle.std.specs.Prelude.{◌≡◌};
 ghost use Rattle.ns_build.specs.Keywords.{setting_of, keyword_of, verb_of};
 
 /// The first word of a command.
-#[derive(Clone, Copy, PartialEq, Eq, Debug, Drop)]
+#[derive(Clone, Copy, Drop)]
 pub(crate) enum Keyword {
     New,
     Source,
@@ -22,7 +22,7 @@ pub(crate) enum Keyword {
 }
 
 /// The word behind the simulator's word.
-#[derive(Clone, Copy, PartialEq, Eq, Debug, Drop)]
+#[derive(Clone, Copy, Drop)]
 pub(crate) enum Verb {
     MakeNode,
     DuplexLink,

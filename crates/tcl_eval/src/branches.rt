@@ -9,7 +9,7 @@ use lab_base::{Memory, Text};
 use std::alloc::Global;
 
 /// A branch of an `if`: the places of its condition, if it has one, and its body among the words.
-#[derive(Clone, Copy, PartialEq, Eq, Debug, Drop)]
+#[derive(Clone, Copy, Drop)]
 pub struct Branch {
     pub condition: Option<usize>,
     pub body: usize,

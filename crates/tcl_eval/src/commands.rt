@@ -6,7 +6,7 @@ ghost use Rattle.tcl_eval.specs.Forms.{own, own_of};
 use lab_base::Text;
 
 /// A command of the interpreter's own.
-#[derive(Clone, Copy, PartialEq, Eq, Debug, Drop)]
+#[derive(Clone, Copy, Drop)]
 pub enum Own {
     Set,
     Incr,

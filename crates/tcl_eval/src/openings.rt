@@ -5,7 +5,7 @@ ghost use Rattle.tcl_words.specs.Tokens.{begins_with};
 ghost use Rattle.tcl_eval.specs.Operators.{opening_of};
 
 /// What an operand begins with.
-#[derive(Clone, Copy, PartialEq, Eq, Debug, Drop)]
+#[derive(Clone, Copy, Drop)]
 pub enum Opening {
     /// A `!` that isn't the start of `!=`.
     Not,

@@ -12,7 +12,7 @@ ghost use Rattle.tcl_eval.specs.declared.operators.Operator.TheVariants.{Over, M
 use lab_base::Kind;
 
 /// An operator between two sides.
-#[derive(Clone, Copy, PartialEq, Eq, Debug, Drop)]
+#[derive(Clone, Copy, Drop)]
 pub enum Operator {
     Or,
     And,

@@ -7,7 +7,7 @@ use crate::flaw::Flaw;
 use lab_base::Kind;
 
 /// Where in a bracket.
-#[derive(Clone, Copy, PartialEq, Eq, Debug, Drop)]
+#[derive(Clone, Copy, Drop)]
 pub enum Place {
     /// Where a command would begin.
     Start,
@@ -37,7 +37,7 @@ impl Place {
 }
 
 /// What is open, and where it was opened.
-#[derive(Clone, Copy, PartialEq, Eq, Debug, Drop)]
+#[derive(Clone, Copy, Drop)]
 pub enum Frame {
     Bracket { opened: usize, place: Place },
     Quote { opened: usize },
@@ -45,7 +45,7 @@ pub enum Frame {
 }
 
 /// What comes next in what is open.
-#[derive(Clone, Copy, PartialEq, Eq, Debug, Drop)]
+#[derive(Clone, Copy, Drop)]
 pub enum Step {
     /// It goes on.
     Goes {

@@ -36,7 +36,7 @@ fn push_bytes(parts: &mut Items<Part>, start: usize, end: usize) -> Result<(), B
 }
 
 /// What ends the parts.
-#[derive(Clone, Copy, PartialEq, Eq, Debug, Drop)]
+#[derive(Clone, Copy, Drop)]
 pub enum Closing {
     /// The end of a bare word.
     Blank,
@@ -47,7 +47,7 @@ pub enum Closing {
 }
 
 /// What comes next among parts.
-#[derive(Clone, Copy, PartialEq, Eq, Debug, Drop)]
+#[derive(Clone, Copy, Drop)]
 pub enum Next {
     /// They are closed, and this is the place behind what closes them.
     Closed { end: usize },

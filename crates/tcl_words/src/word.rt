@@ -3,7 +3,7 @@
 use lab_base::Items;
 
 /// How a word is written.
-#[derive(Clone, Copy, PartialEq, Eq, Debug, Drop)]
+#[derive(Clone, Copy, Drop)]
 pub enum WordKind {
     Bare,
     Quoted,
@@ -11,7 +11,7 @@ pub enum WordKind {
 }
 
 /// A part of a word.
-#[derive(Clone, Copy, PartialEq, Eq, Debug, Drop)]
+#[derive(Clone, Copy, Drop)]
 pub enum Part {
     /// Bytes that stand for themselves.
     Plain { start: u32, end: u32 },
@@ -24,7 +24,7 @@ pub enum Part {
 }
 
 /// A word, with its quotes or braces.
-#[derive(Debug, Drop)]
+#[derive(Drop)]
 pub struct Word {
     pub kind: WordKind,
     pub start: u32,
@@ -33,14 +33,14 @@ pub struct Word {
 }
 
 /// A command, and the line on which its first word begins.
-#[derive(Debug, Drop)]
+#[derive(Drop)]
 pub struct Command {
     pub words: Items<Word>,
     pub line: u32,
 }
 
 /// A variable where it stands: its name, its index if it has one, and the place behind it.
-#[derive(Debug, Drop)]
+#[derive(Drop)]
 pub struct Reference {
     pub name_start: usize,
     pub name_end: usize,
