@@ -47,7 +47,7 @@ mod wrong;
 
 use crate::texts::{Texts, keep_line};
 use crate::wrong::Wrong;
-use anyhow::{anyhow, bail};
+use anyhow::bail;
 use lab_base::{Text, fields_in};
 use std::alloc::Global;
 use std::str;
@@ -166,7 +166,11 @@ fn tell(rt: &HostRuntime, texts: &Texts, line: &str) -> anyhow::Result<()> {
 
 /// Keeps the text of a line; tells whether it names one.
 fn keep(alloc: Global, texts: &mut Texts, line: &str) -> anyhow::Result<bool> {
-    keep_line(alloc, texts, line).map_err(|_memory| anyhow!("out of memory"))
+    match keep_line(alloc, texts, line) {
+        Ok(is_kept) => Ok(is_kept),
+        Err(Wrong::Memory) => bail!("out of memory"),
+        Err(_) => bail!("no text: {line}"),
+    }
 }
 
 /// Goes over the lines.

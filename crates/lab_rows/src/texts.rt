@@ -2,6 +2,7 @@
 use crate::wrong::Wrong;
 use lab_base::{Items, Kind, Memory, Text, fields_in};
 use std::alloc::Global;
+use std::str;
 
 #[derive(Drop)]
 struct Entry {
@@ -64,44 +65,39 @@ pub fn text_of(alloc: Global, letters: &[u8]) -> Result<Text, Memory> {
     Ok(text)
 }
 
-/// The value of a hexadecimal digit.
-fn digit(letter: u8) -> u8 {
-    match letter {
-        b'0'..=b'9' => letter - b'0',
-        b'a'..=b'f' => letter - b'a' + 10,
-        _ => 0,
+/// Adds the byte of two hexadecimal digits.
+fn push_digits(text: &mut Text, digits: &[u8]) -> Result<(), Wrong> {
+    let digits = str::from_utf8(digits).map_err(|_broken| Wrong::Word(Kind::Number))?;
+    match u8::from_str_radix(digits, 16) {
+        Ok(byte) => Ok(text.push(byte)?),
+        Err(_) => Err(Wrong::Word(Kind::Number)),
     }
 }
 
-/// Adds the bytes of hexadecimal digits, of which each two are a byte.
-fn push_digits(text: &mut Text, digits: &[u8]) -> Result<(), Memory> {
-    let mut first = None;
-    for letter in digits {
-        match first {
-            Some(high) => {
-                text.push(digit(high).wrapping_mul(16).wrapping_add(digit(*letter)))?;
-                first = None;
-            }
-            None => first = Some(*letter),
+/// Adds what a word says: the text that it names, nothing where it is `-`, or else the bytes of its digits.
+fn push_word(text: &mut Text, texts: &Texts, word: &[u8]) -> Result<(), Wrong> {
+    if let Some(named) = texts.get(word) {
+        return Ok(text.push_bytes(named)?);
+    }
+    if word != b"-".as_slice() {
+        for digits in word.chunks(2) {
+            push_digits(text, digits)?;
         }
     }
     Ok(())
 }
 
-/// The bytes that words say, one behind another: a word is the name of a text, or else digits.
-pub fn bytes_of(alloc: Global, texts: &Texts, words: &[&[u8]]) -> Result<Text, Memory> {
+/// The bytes that words say, one behind another.
+pub fn bytes_of(alloc: Global, texts: &Texts, words: &[&[u8]]) -> Result<Text, Wrong> {
     let mut bytes = Text::new(alloc);
     for word in words {
-        match texts.get(word) {
-            Some(text) => bytes.push_bytes(text)?,
-            None => push_digits(&mut bytes, word)?,
-        }
+        push_word(&mut bytes, texts, word)?;
     }
     Ok(bytes)
 }
 
 /// Keeps the text of a line that names one, `text` with its letters, or `bytes` with its words; tells whether it is such a line.
-pub fn keep_line(alloc: Global, texts: &mut Texts, line: &str) -> Result<bool, Memory> {
+pub fn keep_line(alloc: Global, texts: &mut Texts, line: &str) -> Result<bool, Wrong> {
     let (kind, named) = line.split_once(' ').unwrap_or((line, ""));
     let (name, letters) = named.split_once(' ').unwrap_or((named, ""));
     let text = match kind {
