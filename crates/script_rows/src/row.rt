@@ -138,110 +138,38 @@ fn remove(rt: &HostRuntime, folder: &str) -> anyhow::Result<String> {
     Ok(String::new(rt.alloc()))
 }
 
-/// The first of some words, and those behind it.
-fn first<'a, 'b>(words: &'a [&'b str]) -> anyhow::Result<(&'b str, &'a [&'b str])> {
-    match words {
-        [word, more @ ..] => Ok((word, more)),
-        [] => bail!("a word is missing"),
-    }
-}
-
-/// The only word.
-fn one<'a>(words: &[&'a str]) -> anyhow::Result<&'a str> {
-    match words {
-        [word] => Ok(word),
-        _ => bail!("one word is wanted"),
-    }
-}
-
-/// The only two words.
-fn two<'a>(words: &[&'a str]) -> anyhow::Result<(&'a str, &'a str)> {
-    match words {
-        [word, other] => Ok((word, other)),
-        _ => bail!("two words are wanted"),
-    }
-}
-
 /// What is told of a row over the plant that the row before left, or that keeps its own for the next one.
 fn told_of_last(
     rt: &HostRuntime,
-    kind: &str,
     words: &[&str],
     last: &mut Option<MemLab>,
 ) -> anyhow::Result<Option<String>> {
-    let told = match kind {
-        "script" => {
-            let (file, words) = first(words)?;
-            script(rt, file, words, last)?
-        }
-        "again" => {
+    match words {
+        ["script", file, words @ ..] => Ok(Some(script(rt, file, words, last)?)),
+        ["again", file] => {
             let plant = last.take().ok_or_else(|| anyhow!("no plant is left"))?;
-            over(rt, one(words)?, plant, last)?
+            Ok(Some(over(rt, file, plant, last)?))
         }
-        "side" => {
-            let (side, file) = two(words)?;
-            let plant = plant_with(rt.alloc(), &fs::read(rt, side)?)?;
-            over(rt, file, plant, last)?
+        ["side", side, file] => {
+            let plant = plant_with(rt.alloc(), &fs::read(rt, *side)?)?;
+            Ok(Some(over(rt, file, plant, last)?))
         }
-        "sides" => {
+        ["sides"] => {
             let plant = last.as_mut().ok_or_else(|| anyhow!("no plant is left"))?;
-            sides(rt.alloc(), plant)?
+            Ok(Some(sides(rt.alloc(), plant)?))
         }
-        "long" => {
-            let (count, file) = two(words)?;
-            many(rt, file, count.parse()?, last)?
-        }
-        _ => return Ok(None),
-    };
-    Ok(Some(told))
-}
-
-/// What is told of a row that runs many scripts.
-fn told_of_many(rt: &HostRuntime, kind: &str, words: &[&str]) -> anyhow::Result<Option<String>> {
-    let alloc = rt.alloc();
-    let told = match kind {
-        "turns" => {
-            let (last, file) = two(words)?;
-            turns(alloc, script_of(rt, file)?.as_str(), last.parse()?)?
-        }
-        "numbers" => {
-            let (last, words) = first(words)?;
-            let (drill, file) = two(words)?;
-            numbers(
-                alloc,
-                script_of(rt, file)?.as_str(),
-                drill_named(drill)?,
-                last.parse()?,
-            )?
-        }
-        "cuts" => {
-            let (file, words) = first(words)?;
-            let (calls, ends) = first(words)?;
-            cuts(rt, script_of(rt, file)?.as_str(), calls.parse()?, ends)?
-        }
-        "order" => {
-            let (letters, words) = first(words)?;
-            let (end, drills) = first(words)?;
-            order(rt, letters, end, drills)?
-        }
-        _ => return Ok(None),
-    };
-    Ok(Some(told))
+        ["long", count, file] => Ok(Some(many(rt, file, count.parse()?, last)?)),
+        _ => Ok(None),
+    }
 }
 
 /// What is told of any other row.
-fn told_alone(rt: &HostRuntime, kind: &str, words: &[&str]) -> anyhow::Result<String> {
-    match kind {
-        "steps" => {
-            let (file, words) = first(words)?;
-            steps(rt, file, words)
-        }
-        "devices" => devices(rt, one(words)?),
-        "faulty" => {
-            let (read, words) = first(words)?;
-            let (write, words) = first(words)?;
-            let (room, words) = first(words)?;
-            let (file, words) = first(words)?;
+fn told_alone(rt: &HostRuntime, words: &[&str]) -> anyhow::Result<String> {
+    let alloc = rt.alloc();
+    match words {
+        ["steps", file, words @ ..] => steps(rt, file, words),
+        ["devices", file] => devices(rt, file),
+        ["faulty", read, write, room, file, words @ ..] => {
             faulty(
                 rt,
                 [read.parse()?, write.parse()?, room.parse()?],
@@ -249,9 +177,25 @@ fn told_alone(rt: &HostRuntime, kind: &str, words: &[&str]) -> anyhow::Result<St
                 words,
             )
         }
-        "place" => place(rt.alloc(), words),
-        "file" => Ok(fs::read_to_string(rt, one(words)?)?),
-        "remove" => remove(rt, one(words)?),
+        ["place", words @ ..] => place(alloc, words),
+        ["file", file] => Ok(fs::read_to_string(rt, *file)?),
+        ["remove", folder] => remove(rt, folder),
+        ["turns", last, file] => turns(alloc, script_of(rt, file)?.as_str(), last.parse()?),
+        ["numbers", last, drill, file] => {
+            numbers(
+                alloc,
+                script_of(rt, file)?.as_str(),
+                drill_named(drill)?,
+                last.parse()?,
+            )
+        }
+        ["cuts", file, calls, ends @ ..] => cuts(
+            rt,
+            script_of(rt, file)?.as_str(),
+            calls.parse()?,
+            ends,
+        ),
+        ["order", letters, end, drills @ ..] => order(rt, letters, end, drills),
         _ => bail!("no such row"),
     }
 }
@@ -259,12 +203,8 @@ fn told_alone(rt: &HostRuntime, kind: &str, words: &[&str]) -> anyhow::Result<St
 /// What is told of a row. Where it ran over a plant of its own, that is left to the next row.
 pub fn told(rt: &HostRuntime, line: &str, last: &mut Option<MemLab>) -> anyhow::Result<String> {
     let words: Vec<&str> = line.split_whitespace().collect(rt.alloc())?;
-    let (kind, words) = first(&words)?;
-    if let Some(told) = told_of_last(rt, kind, words, last)? {
-        return Ok(told);
-    }
-    match told_of_many(rt, kind, words)? {
+    match told_of_last(rt, &words, last)? {
         Some(told) => Ok(told),
-        None => told_alone(rt, kind, words),
+        None => told_alone(rt, &words),
     }
 }
