@@ -1,5 +1,5 @@
-# Prints what a real Tcl makes of each text, as crates/text_rows/stdout has it: the text, and the value that its variable `r` has at the
-# end, or `!` where Tcl refuses it. Without their first signs the lines of texts are those of crates/text_rows/stdin:
+# Prints what a real Tcl makes of each text, as crates/rows/stdout has it: the text, and the value that its variable `r` has at the end,
+# or `!` where Tcl refuses it. Without their first signs the lines of texts are those of crates/rows/stdin:
 #
 #     tclsh tools/tcl_table.tcl
 #

@@ -149,8 +149,11 @@ fn begin<P: Plant>(
     ensures { (opens : List OpenSwap) (devices : ℕ) → devices ≤ (P.seen plant.old).faults.devices → WorksWith (P.seen plant.old) (control lab.old.state journal.old swaps.old) opens
         → IsBegunBy devices (P.seen plant.old) (P.seen plant.new) (control lab.old.state journal.old swaps.old) (control lab.new.state journal.new swaps.new) opens exp way result }
 {
-    let ready = prepare_swap(alloc, lab, exp, way, ops)?;
+    let Ok(ready) = prepare_swap(alloc, lab, exp, way, ops) else {
+        return Err(CoreFault::Memory);
+    };
     if !has_space(journal, ready.planned.size()) {
+        drop(ready);
         return Ok(Some(Reply::FullJournal {
             length: journal.length(),
         }));

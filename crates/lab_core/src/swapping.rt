@@ -69,9 +69,21 @@ fn ready_swap(
     ensures forth { (exp : List ℕ) (way : AnyWay) → begin ≡ records.Begin exp way → IfOk result (λ r. r.planned.forth ≡ unsent exp way ops.commands ops.undo) }
     ensures unchanged { lab.new.state ≡ lab.old.state }
 {
-    let prepared = prepare(lab, &begin)?;
-    let planned = plan_swap(alloc, begin, ops)?;
-    Ok(ReadySwap { prepared, planned })
+    let prepared = match prepare(lab, &begin) {
+        Ok(prepared) => prepared,
+        Err(memory) => {
+            drop(begin);
+            drop(ops);
+            return Err(memory);
+        }
+    };
+    match plan_swap(alloc, begin, ops) {
+        Ok(planned) => Ok(ReadySwap { prepared, planned }),
+        Err(memory) => {
+            drop(prepared);
+            Err(memory)
+        }
+    }
 }
 
 /// Prepares and plans the swap of an experiment that way.
@@ -119,9 +131,16 @@ pub(crate) fn open_swap<P: Plant>(
     ensures limit { limit_of journal.new ≡ limit_of journal.old }
 {
     let ReadySwap { prepared, planned } = ready;
-    swaps.open(planned, journal, plant)?;
-    lab.enter(prepared);
-    Ok(())
+    match swaps.open(planned, journal, plant) {
+        Ok(()) => {
+            lab.enter(prepared);
+            Ok(())
+        }
+        Err(fault) => {
+            drop(prepared);
+            Err(fault)
+        }
+    }
 }
 
 /// Ends the experiment's move, where its swap came to its last record.

@@ -25,12 +25,12 @@ impl Texts {
     }
 
     /// Adds a text.
-    pub fn add(&mut self, name: Text, text: Text) -> Result<(), Memory> {
+    pub(crate) fn add(&mut self, name: Text, text: Text) -> Result<(), Memory> {
         self.entries.push(Entry { name, text })
     }
 
     /// The text of a name, if there is one.
-    pub fn get(&self, name: &[u8]) -> Option<&[u8]> {
+    pub(crate) fn get(&self, name: &[u8]) -> Option<&[u8]> {
         for entry in self.entries.as_slice() {
             if entry.name.bytes() == name {
                 return Some(entry.text.bytes());
@@ -40,7 +40,7 @@ impl Texts {
     }
 
     /// The text of a name.
-    pub fn of(&self, name: &[u8]) -> Result<&[u8], Wrong> {
+    pub(crate) fn of(&self, name: &[u8]) -> Result<&[u8], Wrong> {
         match self.get(name) {
             Some(text) => Ok(text),
             None => Err(Wrong::Word(Kind::Unknown)),

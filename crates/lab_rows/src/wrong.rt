@@ -5,7 +5,7 @@ use lab_base::{Kind, Memory, TextFault, TextRefused};
 /// Why a row is not told.
 #[derive(Clone, Copy)]
 pub enum Wrong {
-    /// A text that it names has this fault.
+    /// A text that it names is refused for this fault, which is what the row tells.
     Text(TextFault),
     /// A word of the row has.
     Word(Kind),

@@ -20,7 +20,8 @@ use virt_topo::Wiring;
 
 /// Whether each change is of a later segment than those before it.
 pub fn are_rising(changes: &[Change]) -> bool
-    ensures { IsTrue result → AreRising changes.now }
+    ensures rising { IsTrue result → AreRising changes.now }
+    ensures told { AreRising changes.now → IsTrue result }
 {
     let mut from = 0u32;
     for change in changes {

@@ -1,6 +1,5 @@
 use Rattle.std.proofs.Common.{◌≡◌, ◌+◌, ℕ, true, nat_le, length, Some, Err, sym, ap, ◌∙◌, subst, arith}
 use Rattle.std.proofs.lemmas.Bool.{leb-true}
-use Rattle.std.proofs.lemmas.Result.{err_from_is_err_and}
 use Rattle.journal_rec.specs.declared.record.Record.TheVariants.{Begin}
 use Rattle.journal_disk.specs.Standing.{length_of, limit_of}
 use Rattle.journal_disk.proofs.Parts.{body_size}
@@ -19,18 +18,16 @@ use Rattle.lab_core.proofs.PerformAppend.{full, stands_of}
 use Rattle.lab_core.proofs.RunSwap.{is_opened, no_space_for, not_opened, nothing_as, planned}
 use Rattle.lab_core.proofs.perform.begin.Goals as goal
 
-pub returns-in_err-ready : goal.returns-in_err-ready
-returns-in_err-ready g c =
-    let p = err_from_is_err_and c.from_residual.result c.from_residual.ensures.1 in
-    rw (p.1, p.2, c.prepare_swap.ensures.unchanged) (λ opens devices within works only. wanted devices _ _ (control c.args.lab.now.state c.args.journal.now c.args.swaps.now) opens (Some c.args.exp) works)
+pub returns-in_default : goal.returns-in_default
+returns-in_default g c = rw c.prepare_swap.ensures.unchanged (λ opens devices within works only. wanted devices _ _ (control c.args.lab.now.state c.args.journal.now c.args.swaps.now) opens (Some c.args.exp) works)
 
 pub returns-then-not-has_space : goal.returns-then-not-has_space
 returns-then-not-has_space g c =
     let old : Control = control c.args.lab.now.state c.args.journal.now c.args.swaps.now in
     rw c.prepare_swap.ensures.unchanged
-    (λ opens devices within works only. full devices _ old opens (Some c.args.exp) (begun_as only (Swap c.args.exp c.args.way)) (Begin c.args.exp c.args.way) c.in_ok-ready.ready.planned.begin c.length.result works
+    (λ opens devices within works only. full devices _ old opens (Some c.args.exp) (begun_as only (Swap c.args.exp c.args.way)) (Begin c.args.exp c.args.way) c.in-Ok.ready.planned.begin c.length.result works
     (λ own after no' replies. no_space_for (start_of devices old opens).set old.lab opens c.args.exp c.args.way only own after no' replies)
-    (body_size c.in_ok-ready.ready.planned.begin (Begin c.args.exp c.args.way) c.in_ok-ready.ensures.body)
+    (body_size c.in-Ok.ready.planned.begin (Begin c.args.exp c.args.way) c.in-Ok.ensures.body)
     (sym (ap (λ (n : ℕ). nat_le (length_of c.args.journal.now + n + 10240) (limit_of c.args.journal.now)) c.size.ensures) ∙ (sym c.has_space.ensures.space ∙ c.if-not-has_space.true)) c.length.ensures)
 
 pub open_swap-requires-clause-stands : goal.open_swap-requires-clause-stands
@@ -42,10 +39,10 @@ open_swap-requires-clause-fits g c =
     omega (arith, fits, c.size.ensures)
 
 pub open_swap-requires-clause-enters : goal.open_swap-requires-clause-enters
-open_swap-requires-clause-enters g c = c.in_ok-ready.ensures.enters
+open_swap-requires-clause-enters g c = c.in-Ok.ensures.enters
 
 pub open_swap-requires-clause-idle : goal.open_swap-requires-clause-idle
-open_swap-requires-clause-idle g c = λ h. c.requires.ready.0 (subst (λ (n : Rattle.std.specs.Prelude.List ℕ). Rattle.swap_mgr.specs.Open.HasOpen c.args.swaps.now n) (ap (λ (v : View). v.exp) c.in_ok-ready.ensures.forth) h)
+open_swap-requires-clause-idle g c = λ h. c.requires.ready.0 (subst (λ (n : Rattle.std.specs.Prelude.List ℕ). Rattle.swap_mgr.specs.Open.HasOpen c.args.swaps.now n) (ap (λ (v : View). v.exp) c.in-Ok.ensures.forth) h)
 
 pub open_swap-requires-clause-room : goal.open_swap-requires-clause-room
 open_swap-requires-clause-room g c = c.requires.ready.1
@@ -54,26 +51,26 @@ pub reply_of_unopened-requires : goal.reply_of_unopened-requires
 reply_of_unopened-requires g c = c.in-Err.ensures.tried
 
 -- the swap is planned, with space
-pub returns-in-Ok : goal.returns-in-Ok
-returns-in-Ok g c = λ opens devices within works.
+pub returns-in-Ok-open_swap : goal.returns-in-Ok-open_swap
+returns-in-Ok-open_swap g c = λ opens devices within works.
     let s = c.args.lab.now.state in
     let j = c.args.journal.now in
     let old : Control = control s j c.args.swaps.now in
     let new : Control = control c.open_swap.new.lab.state c.open_swap.new.journal c.open_swap.new.swaps in
-    let ready = c.in_ok-ready.ready in
-    let e = c.in_ok-ready.ensures in
+    let ready = c.in-Ok.ready in
+    let e = c.in-Ok.ensures in
     let by = c.requires.by in
     let begin = Begin c.args.exp c.args.way in
     let same = c.prepare_swap.ensures.unchanged in
     let space : nat_le (length_of j + length ready.planned.begin + 10240) (limit_of j) ≡ true = sym (ap (λ (n : ℕ). nat_le (length_of j + n + 10240) (limit_of j)) c.size.ensures) ∙ (sym c.has_space.ensures.space ∙ c.if-not-has_space.false) in
     let plans : IsPlanned s (after s ready.prepared) j ready.planned by.swap begin by.move = planned s (after s ready.prepared) j ready.planned c.args.exp c.args.way c.args.ops.commands c.args.ops.undo by c.requires.record e.follows e.body e.forth space c.has_space.ensures.most in
-    let here = c.in-Ok.ensures.begun works.pairs by.swap begin by.move (subst (λ (x : LabState). Working the_texts (g.P.Plant.seen c.args.plant.now).told j x works.pairs) (sym same) works.working) works.holds
+    let here = c.in-Ok-open_swap.ensures.begun works.pairs by.swap begin by.move (subst (λ (x : LabState). Working the_texts (g.P.Plant.seen c.args.plant.now).told j x works.pairs) (sym same) works.working) works.holds
     (subst (λ (x : LabState). IsPlanned x (after x ready.prepared) j ready.planned by.swap begin by.move) (sym same) plans) in
     let opened = subst (λ (x : LabState). HasOpened the_texts works.pairs by.swap x (after x ready.prepared) begin by.move (g.P.Plant.seen c.args.plant.now) (g.P.Plant.seen c.open_swap.new.plant) j new.journal new.swaps) same here in
-    let lab : new.lab ≡ after s ready.prepared = c.in-Ok.ensures.lab ∙ ap (λ (x : LabState). after x ready.prepared) same in
+    let lab : new.lab ≡ after s ready.prepared = c.in-Ok-open_swap.ensures.lab ∙ ap (λ (x : LabState). after x ready.prepared) same in
     is_opened devices _ _ old new opens c.args.exp c.args.way c.args.ops.commands c.args.ops.undo by works within
     (sym (ap (λ (n : ℕ). nat_le (length_of j + n + 10240) (limit_of j)) (body_size ready.planned.begin begin e.body)) ∙ space)
-    (subst (λ (x : LabState). HasOpened the_texts works.pairs by.swap s x begin by.move (g.P.Plant.seen c.args.plant.now) (g.P.Plant.seen c.open_swap.new.plant) j new.journal new.swaps) (sym lab) opened) (λ stopped. c.in-Ok.ensures.stopped.1 stopped)
+    (subst (λ (x : LabState). HasOpened the_texts works.pairs by.swap s x begin by.move (g.P.Plant.seen c.args.plant.now) (g.P.Plant.seen c.open_swap.new.plant) j new.journal new.swaps) (sym lab) opened) (λ stopped. c.in-Ok-open_swap.ensures.stopped.1 stopped)
 
 pub returns-in-Err : goal.returns-in-Err
 returns-in-Err g c = λ opens devices within works.
@@ -81,8 +78,8 @@ returns-in-Err g c = λ opens devices within works.
     let j = c.args.journal.now in
     let old : Control = control s j c.args.swaps.now in
     let new : Control = control c.open_swap.new.lab.state c.open_swap.new.journal c.open_swap.new.swaps in
-    let ready = c.in_ok-ready.ready in
-    let e = c.in_ok-ready.ensures in
+    let ready = c.in-Ok.ready in
+    let e = c.in-Ok.ensures in
     let by = c.requires.by in
     let begin = Begin c.args.exp c.args.way in
     let same = c.prepare_swap.ensures.unchanged in

@@ -1,0 +1,160 @@
+//! Rows of the layers of labs, each a line, and what such a layer makes of it. A line `text NAME LETTERS` keeps a text, in which `\n` is the end
+//! of a line, and `bytes NAME WORDS` one of hexadecimal digits and of texts that stand above it. The words of a row, of which the first one says
+//! what is told, name such texts:
+//!
+//! ```text
+//! build PART..                what comes of switches and trunks that are added to a lab, and how many trunks and switches it has then
+//! sides LAB                   by trunk, which switches are on its first side, by the plain program
+//! check TOP TOP               the check of a wiring, and of one with the nodes of another too
+//! stands ROW COMMAND..        whether a row stands after commands; one behind a `!` was not applied
+//! isolated LAB TEXT WORD..    whether a world is isolated: rows `s1:1:100`, pipes `pipe:a:e0:e1`, and what is wanted `e:new:l:s1:1:100`
+//! world LAB EXP.. | COMMAND.. whether the experiments' claims hold, and the world is isolated and cabled, where the mappings suit the lab
+//! gate WORD..                 the records from a gate on, and whether a closed one ends them
+//! two SIDE SIDE               what two sides of a journal are read as, where `-` is an empty one
+//! follow RECORD..             whether each record can follow, and what it leaves of the first trunk; and how many experiments there are then
+//! replay RECORD RECORD RECORD how many experiments three records give, or the number of the first that can't follow
+//! pack RECORD.. | RECORD..    whether the lab of some records is packed into others
+//! fit LAB TYPE:COUNT TYPE:COUNT      the nodes that two needs are given, or the types that are short
+//! batch LETTERS               how many promises and runs a batch has
+//! moments BATCH NOW LENGTH    when a run is tested
+//! needs BATCH AT              what promises need
+//! left AT NODE:FROM..         which nodes are left
+//! plan LAB TOP MAP OLD NEW    the plan of a swap from one VLAN id to another, 0 for none, and that of its undo
+//! claims LAB                  what is counted of claims
+//! free LAB VLAN..             what is left beside a claim, and whether VLAN ids are
+//! rule LAB TOP MAP TAKEN LEFT the rule that a mapping breaks, with its subject
+//! ```
+//!
+//! The experiments of a world are named with the plans by which they stand, `e:E`, or between which they move, `e:E>F`; a plan is a text of the
+//! name of a wiring, numbers of nodes with types, and numbers of interfaces and VLAN ids.
+#![tactic(auto)]
+
+mod builds;
+mod claimed;
+mod isolation;
+mod plans;
+mod promises;
+mod reading;
+mod records;
+mod rules;
+mod sides;
+mod steps;
+mod texts;
+mod words;
+mod worlds;
+mod wrong;
+
+use lab_base::{Kind, Text, fields_in};
+use std::alloc::Global;
+pub use texts::Texts;
+use texts::keep_line;
+pub use wrong::Wrong;
+
+/// Adds what a row about labs and worlds gives; tells whether it is one.
+fn tell_of_worlds(
+    out: &mut Text,
+    alloc: Global,
+    texts: &Texts,
+    kind: &str,
+    words: &[&[u8]],
+) -> Result<bool, Wrong> {
+    match kind {
+        "build" => builds::tell(out, alloc, words)?,
+        "sides" => builds::tell_sides(out, alloc, texts, words)?,
+        "check" => builds::tell_check(out, alloc, texts, words)?,
+        "stands" => steps::tell(out, alloc, words)?,
+        "isolated" => isolation::tell(out, alloc, texts, words)?,
+        "world" => worlds::tell(out, alloc, texts, words)?,
+        _ => return Ok(false),
+    }
+    Ok(true)
+}
+
+/// The same of a row about records.
+fn tell_of_records(
+    out: &mut Text,
+    alloc: Global,
+    texts: &Texts,
+    kind: &str,
+    words: &[&[u8]],
+) -> Result<bool, Wrong> {
+    match kind {
+        "gate" => sides::tell(out, alloc, texts, words)?,
+        "two" => sides::tell_two(out, alloc, texts, words)?,
+        "follow" => records::tell(out, alloc, texts, words)?,
+        "replay" => records::tell_three(out, alloc, texts, words)?,
+        "pack" => records::tell_packed(out, alloc, texts, words)?,
+        _ => return Ok(false),
+    }
+    Ok(true)
+}
+
+/// The same of a row about promises.
+fn tell_of_promises(
+    out: &mut Text,
+    alloc: Global,
+    texts: &Texts,
+    kind: &str,
+    words: &[&[u8]],
+) -> Result<bool, Wrong> {
+    match kind {
+        "fit" => promises::tell_fit(out, alloc, texts, words)?,
+        "moments" => promises::tell_moments(out, alloc, texts, words)?,
+        "needs" => promises::tell_needs(out, alloc, texts, words)?,
+        "left" => promises::tell_left(out, alloc, words)?,
+        _ => return Ok(false),
+    }
+    Ok(true)
+}
+
+/// The same of a row about mappings.
+fn tell_of_mappings(
+    out: &mut Text,
+    alloc: Global,
+    texts: &Texts,
+    kind: &str,
+    words: &[&[u8]],
+) -> Result<bool, Wrong> {
+    match kind {
+        "plan" => plans::tell(out, alloc, texts, words)?,
+        "claims" => claimed::tell(out, alloc, texts, words)?,
+        "free" => claimed::tell_free(out, alloc, texts, words)?,
+        "rule" => rules::tell(out, alloc, texts, words)?,
+        _ => return Ok(false),
+    }
+    Ok(true)
+}
+
+/// Adds what a row gives; tells whether it is one.
+fn tell_row(
+    out: &mut Text,
+    alloc: Global,
+    texts: &Texts,
+    kind: &str,
+    letters: &[u8],
+) -> Result<bool, Wrong> {
+    if kind == "batch" {
+        promises::tell_batch(out, alloc, letters)?;
+        return Ok(true);
+    }
+    let words = fields_in(alloc, letters)?;
+    Ok(
+        tell_of_worlds(out, alloc, texts, kind, &words)?
+            || tell_of_records(out, alloc, texts, kind, &words)?
+            || tell_of_promises(out, alloc, texts, kind, &words)?
+            || tell_of_mappings(out, alloc, texts, kind, &words)?,
+    )
+}
+
+/// What is told of a line, or nothing of one that keeps a text.
+pub fn told(alloc: Global, texts: &mut Texts, line: &str) -> Result<Option<Text>, Wrong> {
+    if keep_line(alloc, texts, line)? {
+        return Ok(None);
+    }
+    let (kind, letters) = line.split_once(' ').unwrap_or((line, ""));
+    let mut out = Text::new(alloc);
+    if !tell_row(&mut out, alloc, texts, kind, letters.as_bytes())? {
+        return Err(Wrong::Word(Kind::Unknown));
+    }
+    Ok(Some(out))
+}

@@ -1,4 +1,0 @@
-use Rattle.layer_bench.proofs.walk.rounds_from.Given as goal
-
-abbrev pub decreases-loop-heat : goal.decreases-loop-heat
-decreases-loop-heat l = l.heat

@@ -1,0 +1,4 @@
+use Rattle.rows.proofs.searches.walk.rounds_from.Given as goal
+
+abbrev pub decreases-loop-heat : goal.decreases-loop-heat
+decreases-loop-heat l = l.heat

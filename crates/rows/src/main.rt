@@ -1,0 +1,124 @@
+//! Runs the rows that standard input lists, one a line, and tells behind each line what came of it. A line in brackets says of what the rows
+//! below it are: `[texts]`, `[labs]` and `[layers]` of the crates of these names, `[searches]` of searches and the outlook over files, and
+//! `[scripts]` of the whole program. What a line of the last may be stands in `row.rt`.
+//!
+//! The scripts and the other files that lines name lie in the folder where this runs. Those of `demo` must equal the files of the
+//! repository's folder of that name, which users run.
+#![tactic(auto)]
+
+mod cuts;
+mod devices;
+mod drills;
+mod ends;
+mod folders;
+mod numbers;
+mod orders;
+mod row;
+mod run;
+mod searches;
+mod sides;
+
+use anyhow::{anyhow, bail};
+use lab_rows::{Texts, Wrong};
+use layer_rows::Untold;
+use plant_mem::MemLab;
+use std::str;
+
+/// What rows are of.
+#[derive(Clone, Copy)]
+enum Of {
+    Texts,
+    Labs,
+    Layers,
+    Searches,
+    Scripts,
+}
+
+/// What rows are of below a line, if it begins them.
+fn begun(line: &str) -> Option<Of> {
+    match line {
+        "[texts]" => Some(Of::Texts),
+        "[labs]" => Some(Of::Labs),
+        "[layers]" => Some(Of::Layers),
+        "[searches]" => Some(Of::Searches),
+        "[scripts]" => Some(Of::Scripts),
+        _ => None,
+    }
+}
+
+fn tell_text(rt: &HostRuntime, line: &str) -> anyhow::Result<()> {
+    match text_rows::told(rt.alloc(), line) {
+        Ok(Some(told)) => Ok(println!(rt; "== {line}\n{}", str::from_utf8(told.bytes())?)?),
+        Ok(None) => bail!("no row: {line}"),
+        Err(_memory) => bail!("out of memory"),
+    }
+}
+
+fn tell_lab(rt: &HostRuntime, texts: &mut Texts, line: &str) -> anyhow::Result<()> {
+    match lab_rows::told(rt.alloc(), texts, line) {
+        Ok(Some(told)) => println!(rt; "== {line}\n{}", str::from_utf8(told.bytes())?)?,
+        Ok(None) => {}
+        Err(Wrong::Text(fault)) => {
+            println!(rt; "== {line}\n{} {}", fault.line, fault.kind.word())?;
+        }
+        Err(Wrong::Word(kind)) => bail!("{}: {line}", kind.word()),
+        Err(Wrong::Memory) => bail!("out of memory"),
+    }
+    Ok(())
+}
+
+fn tell_layer(rt: &HostRuntime, line: &str) -> anyhow::Result<()> {
+    match layer_rows::told(rt.alloc(), line) {
+        Ok(told) => Ok(print!(rt; "== {line}\n{told}")?),
+        Err(Untold::Memory) => bail!("out of memory"),
+        Err(Untold::Words) => bail!("no row: {line}"),
+        Err(Untold::Plant) => bail!("a call failed: {line}"),
+    }
+}
+
+fn tell_script(rt: &HostRuntime, last: &mut Option<MemLab>, line: &str) -> anyhow::Result<()> {
+    let told = row::told(rt, line, last)?;
+    Ok(print!(rt; "== {line}\n{told}")?)
+}
+
+/// Tells a row.
+fn tell(
+    rt: &HostRuntime,
+    of: Option<Of>,
+    texts: &mut Texts,
+    last: &mut Option<MemLab>,
+    line: &str,
+) -> anyhow::Result<()> {
+    match of {
+        Some(Of::Texts) => tell_text(rt, line),
+        Some(Of::Labs) => tell_lab(rt, texts, line),
+        Some(Of::Layers) => tell_layer(rt, line),
+        Some(Of::Searches) => searches::tell(rt, line),
+        Some(Of::Scripts) => tell_script(rt, last, line),
+        None => Err(anyhow!("no line says of what this is: {line}")),
+    }
+}
+
+/// Goes over the lines.
+fn tell_all(rt: &HostRuntime, texts: &mut Texts, last: &mut Option<MemLab>) -> anyhow::Result<()> {
+    let mut of = None;
+    for line in rt.lines(rt.alloc()) {
+        let line = line?;
+        if let Some(other) = begun(line.as_str()) {
+            of = Some(other);
+            println!(rt; "{line}")?;
+        } else if !line.is_empty() && !line.starts_with('#') {
+            tell(rt, of, texts, last, line.as_str())?;
+        }
+    }
+    Ok(())
+}
+
+fn main(rt: HostRuntime) -> anyhow::Result<()> {
+    let mut texts = Texts::new(rt.alloc());
+    let mut last: Option<MemLab> = None;
+    let told = tell_all(&rt, &mut texts, &mut last);
+    drop(last);
+    drop(texts);
+    told
+}
