@@ -1,5 +1,5 @@
 -- What is kept of the places of a mapping.
-use Rattle.std.specs.Prelude.{◌≡◌, ◌<◌, ◌==◌, ◌&&◌, not, ℕ, List, length, nat_lt, count_by, slice_index_or, slice_set, if◌then◌else◌}
+use Rattle.std.specs.Prelude.{◌≡◌, ◌<◌, ◌≤◌, ◌==◌, ◌&&◌, not, ℕ, List, length, nat_lt, count_by, slice_index_or, slice_set, if◌then◌else◌}
 use Rattle.std.specs.List.{list_any}
 use Rattle.lab_base.specs.Names.{same_name}
 use Rattle.phys_lab.specs.Labs.{Lab}
@@ -7,14 +7,22 @@ use Rattle.virt_topo.specs.declared.wiring.Asks.{Asks}
 use Rattle.virt_topo.specs.declared.wiring.Asks.TheVariants.{Plain, Class as InClass}
 use Rattle.virt_topo.specs.declared.wiring.Wiring.{Wiring}
 use Rattle.virt_topo.specs.declared.mapping.Mapping.{Mapping}
-use Rattle.lab_model.specs.Shapes.{Place}
-use Rattle.lab_model.specs.Rules.{class_at}
+use Rattle.lab_model.specs.Shapes.{Place, node_at}
+use Rattle.lab_model.specs.Rules.{class_at, no_place, number_of}
 use Rattle.cost_rule.specs.Cost.{types_of, soft, nodes_in_use}
 use Rattle.map_board.specs.declared.seats.Seats.{Seats}
 
 -- how many virtual nodes are on node n
 abbrev pub guests_at : List Place → ℕ → ℕ
 guests_at places n = count_by (λ p. p.0.0 == n) places
+
+-- more virtual nodes are on the node of virtual node v than may have its type there
+abbrev pub IsCrowded : Lab → List Place → ℕ → Type 0
+IsCrowded lab places v = number_of (node_at lab (slice_index_or places v no_place).0).types (slice_index_or places v no_place).1 < guests_at places (slice_index_or places v no_place).0.0
+
+-- virtual node v is on another node than that of place p, where as many are as may have its type there
+abbrev pub IsFull : Lab → List Place → ℕ → Place → Type 0
+IsFull lab places v p = ((slice_index_or places v no_place).0.0 ≡ p.0.0 → ⊥) × (number_of (node_at lab p.0).types p.1 ≤ guests_at places p.0.0)
 
 -- by node how many virtual nodes are on it; how many nodes are in use; what is soft
 pub record IsSeated (lab : Lab) (w : Wiring) (m : Mapping) (x : Seats) : Type 0 where

@@ -1,5 +1,5 @@
 // The board.
-ghost use Rattle.std.specs.Prelude.{◌≡◌, true, false, ◌<◌, [], List, Some, None, length, slice_index_or, if◌then◌else◌, Contains, IfOk, OnOk, IfSome, IsTrue};
+ghost use Rattle.std.specs.Prelude.{◌≡◌, ◌↔◌, true, false, ◌<◌, [], List, Some, None, length, slice_index_or, if◌then◌else◌, Contains, IfOk, OnOk, IfSome, IsTrue};
 ghost use Rattle.lab_model.specs.Shapes.{Place as PlaceSeen, IsShaped};
 ghost use Rattle.node_maps.specs.NodeMaps.{candidates, IsChoice, node_map, plugs_of};
 ghost use Rattle.map_board.specs.Tables.{IsSetting};
@@ -34,7 +34,7 @@ pub struct Board {
 impl Board {
     ghost use Rattle.cost_rule.specs.Parts.{parts_of};
     ghost use Rattle.trunk_sums.specs.Remade.{remade, AreChanges};
-    ghost use Rattle.map_board.specs.Seated.{placed_at};
+    ghost use Rattle.map_board.specs.Seated.{IsCrowded, IsFull, placed_at};
     ghost use Rattle.map_board.specs.Unmade.{unmade};
     ghost use Rattle.map_board.specs.Planned.{planned};
 
@@ -119,7 +119,8 @@ impl Board {
         requires setting { IsSetting setting.now }
         requires laid { IsLaid setting.now self.now }
         requires virt { virt < length setting.now.mapper.wiring.now.nodes }
-        ensures { IsTrue result → node_map setting.now.mapper.lab.now setting.now.mapper.free.now setting.now.mapper.wiring.now self.now.mapping.places ≡ None }
+        ensures crowded { IsTrue result ↔ IsCrowded setting.now.mapper.lab.now self.now.mapping.places virt }
+        ensures none { IsTrue result → node_map setting.now.mapper.lab.now setting.now.mapper.free.now setting.now.mapper.wiring.now self.now.mapping.places ≡ None }
     {
         let place = self.mapping.places.as_slice()[virt];
         let types = types_at(setting.mapper.lab, place.0);
@@ -132,7 +133,8 @@ impl Board {
         requires laid { IsLaid setting.now self.now }
         requires virt { virt < length setting.now.mapper.wiring.now.nodes }
         requires among { Contains (slice_index_or (candidates setting.now.mapper.lab.now setting.now.mapper.free.now setting.now.mapper.wiring.now) virt []) place }
-        ensures { IsTrue result → node_map setting.now.mapper.lab.now setting.now.mapper.free.now setting.now.mapper.wiring.now (placed_at self.now.mapping virt place).places ≡ None }
+        ensures full { IsTrue result ↔ IsFull setting.now.mapper.lab.now self.now.mapping.places virt place }
+        ensures none { IsTrue result → node_map setting.now.mapper.lab.now setting.now.mapper.free.now setting.now.mapper.wiring.now (placed_at self.now.mapping virt place).places ≡ None }
     {
         let from = self.mapping.places.as_slice()[virt].0;
         let types = types_at(setting.mapper.lab, place.0);

@@ -1,5 +1,5 @@
 use Rattle.std.proofs.Common.{◌≡◌, ◌<◌, ◌∙◌, ℕ, List, length, get_or, ap, arith}
-use Rattle.std.proofs.lemmas.Bool.{ltb-true}
+use Rattle.std.proofs.lemmas.Bool.{lt-ltb, ltb-true}
 use Rattle.std.proofs.lemmas.List.{get_or_default}
 use Rattle.lab_model.specs.Shapes.{Place, node_at}
 use Rattle.lab_model.specs.Rules.{no_place, number_of}
@@ -7,8 +7,8 @@ use Rattle.map_board.specs.Seated.{guests_at}
 use Rattle.map_board.proofs.CrowdLaws.{crowded}
 use Rattle.map_board.proofs.board.Board.is_crowded.Goals as goal
 
-pub returns : goal.returns
-returns c = λ is.
+pub returns-clause-crowded : goal.returns-clause-crowded
+returns-clause-crowded c =
     let x = c.args.setting.now.mapper in
     let lab = x.lab.now in
     let m = c.args.self.now.mapping in
@@ -26,6 +26,15 @@ returns c = λ is.
     let count : ◌≡◌ {A = ℕ} c.number_of.result (number_of (node_at lab q.0).types q.1) =
     c.number_of.ensures ∙ (λ j. number_of (c.types_at-types.ensures j) p.1) ∙ ap (λ (y : Place). number_of (node_at lab y.0).types y.1) place in
     let here : ◌≡◌ {A = ℕ} c.index.result.now (guests_at m.places q.0.0) =
-    c.index.ensures ∙ get_or_default guests p.0.0 c.index.result.now 0 (omega (arith, node, at, each)) ∙ ap (λ (k : ℕ). get_or guests k 0) at ∙ laid.seated.guests q.0.0 node in
-    let more = ltb-true c.number_of.result c.index.result.now is in
-    crowded lab x.free.now x.wiring.now m v laid.shaped lt (omega (arith, more, count, here))
+    c.index.ensures ∙ get_or_default guests p.0.0 c.index.result.now 0 (omega (arith, node, at, each)) ∙ ap (λ (k : ℕ). get_or guests k 0) at ∙ laid.seated.guests q.0.0 node in (
+      λ is. let more = ltb-true c.number_of.result c.index.result.now is in omega (arith, more, count, here),
+      λ more. lt-ltb c.number_of.result c.index.result.now (omega (arith, more, count, here)),
+    )
+
+pub returns-clause-none : goal.returns-clause-none
+returns-clause-none c = λ is.
+    let x = c.args.setting.now.mapper in
+    let laid = c.requires.laid in
+    let v = c.args.virt in
+    let all = laid.shaped.places in
+    crowded x.lab.now x.free.now x.wiring.now c.args.self.now.mapping v laid.shaped (omega (arith, c.requires.virt, all)) ((returns-clause-crowded c).0 is)

@@ -1,6 +1,6 @@
 use Rattle.std.proofs.Common.{◌≡◌, ◌≢◌, ◌<◌, ◌∙◌, ℕ, List, length, get_or, ap, arith, get_or-set_same}
 use Rattle.std.proofs.Math.ListN.{set}
-use Rattle.std.proofs.lemmas.Bool.{leb-true}
+use Rattle.std.proofs.lemmas.Bool.{le-leb, leb-true}
 use Rattle.std.proofs.lemmas.List.{get_or_default, length-set}
 use Rattle.lab_model.specs.Shapes.{Place, node_at}
 use Rattle.lab_model.specs.Rules.{no_place, number_of}
@@ -27,8 +27,8 @@ index-requires c =
     let each = laid.seated.one_each in
     omega (arith, node, each)
 
-pub returns-then-from-place : goal.returns-then-from-place
-returns-then-from-place c = λ is.
+pub returns-then-from-place-clause-full : goal.returns-then-from-place-clause-full
+returns-then-from-place-clause-full c =
     let x = c.args.setting.now.mapper in
     let lab = x.lab.now in
     let m = c.args.self.now.mapping in
@@ -44,10 +44,25 @@ returns-then-from-place c = λ is.
     let each = laid.seated.one_each in
     let here : ◌≡◌ {A = ℕ} c.index.result.now (guests_at m.places p.0.0) =
     c.index.ensures ∙ get_or_default guests p.0.0 c.index.result.now 0 (let node = within.0 in omega (arith, node, each)) ∙ laid.seated.guests p.0.0 within.0 in
-    let count : ◌≡◌ {A = ℕ} c.number_of.result (number_of (node_at lab p.0).types p.1) = c.number_of.ensures ∙ (λ j. number_of (c.types_at-types.ensures j) p.1) in
-    let full = leb-true c.number_of.result c.index.result.now is in
-    let more = guest_more m.places v p lt apart in
+    let count : ◌≡◌ {A = ℕ} c.number_of.result (number_of (node_at lab p.0).types p.1) = c.number_of.ensures ∙ (λ j. number_of (c.types_at-types.ensures j) p.1) in (
+      λ is. (apart, (let full = leb-true c.number_of.result c.index.result.now is in omega (arith, full, here, count))),
+      λ full. le-leb c.number_of.result c.index.result.now (let most = full.1 in omega (arith, most, here, count)),
+    )
+
+pub returns-then-from-place-clause-none : goal.returns-then-from-place-clause-none
+returns-then-from-place-clause-none c = λ is.
+    let x = c.args.setting.now.mapper in
+    let lab = x.lab.now in
+    let m = c.args.self.now.mapping in
+    let v = c.args.virt in
+    let p = c.args.place in
+    let laid = c.requires.laid in
+    let lt : v < length m.places = (let all = laid.shaped.places in let virt = c.requires.virt in omega (arith, virt, all)) in
+    let within = candidate_within lab x.free.now x.wiring.now m.places v p laid.choice lt c.requires.among in
+    let is_full = (returns-then-from-place-clause-full c).0 is in
+    let full = is_full.1 in
+    let more = guest_more m.places v p lt is_full.0 in
     let there : get_or (set m.places v p) v no_place ≡ p = get_or-set_same m.places v p no_place lt in
     let on : ◌≡◌ {A = ℕ} (guests_at (set m.places v p) (get_or (set m.places v p) v no_place).0.0) (guests_at (set m.places v p) p.0.0) = ap (λ (q : Place). guests_at (set m.places v p) q.0.0) there in
     let allowed : ◌≡◌ {A = ℕ} (number_of (node_at lab (get_or (set m.places v p) v no_place).0).types (get_or (set m.places v p) v no_place).1) (number_of (node_at lab p.0).types p.1) = ap (λ (q : Place). number_of (node_at lab q.0).types q.1) there in
-    crowded lab x.free.now x.wiring.now (placed_at m v p) v (shaped_at lab x.wiring.now m v p laid.shaped within.0 within.1) (omega (arith, lt, length-set m.places v p)) (omega (arith, here, count, full, more, on, allowed))
+    crowded lab x.free.now x.wiring.now (placed_at m v p) v (shaped_at lab x.wiring.now m v p laid.shaped within.0 within.1) (omega (arith, lt, length-set m.places v p)) (omega (arith, full, more, on, allowed))
