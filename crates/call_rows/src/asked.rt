@@ -231,7 +231,7 @@ fn search_of_class(alloc: Global, problem: Problem<'_>, call: Call) -> Result<Fo
     asked(alloc, &lab, &wiring, call)
 }
 
-/// Six virtual nodes on six machines with a feature and six without it, of which the first two have a link.
+/// Six virtual nodes, the first two with a link, on twelve machines, of which p1 and p2 have a feature.
 const PAIR_OF_SIX: Problem<'_> = Problem {
     machines: &OLD_AND_NEW,
     links: 1_000,
