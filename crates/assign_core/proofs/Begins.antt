@@ -10,9 +10,9 @@ use Rattle.phys_lab.specs.Labs.{Lab}
 use Rattle.virt_topo.specs.declared.mapping.Mapping.{Mapping}
 use Rattle.virt_topo.specs.Soundness.{IsSound}
 use Rattle.lab_model.specs.Shapes.{Place}
-use Rattle.lab_model.specs.Rules.{no_place}
+use Rattle.lab_model.specs.Rules.{no_place, Laid}
 use Rattle.node_maps.specs.declared.ends.End.{End}
-use Rattle.node_maps.specs.NodeMaps.{ends_of, first_iface, plugs_from}
+use Rattle.node_maps.specs.NodeMaps.{ends_of, load_of, first_iface, laid_from, plugs_in, plugs_from}
 use Rattle.node_maps.proofs.EndLists.{on_nodes}
 use Rattle.node_maps.proofs.MapLaws.{candidates_count}
 use Rattle.node_maps.proofs.MovedLaws.{no_plugs}
@@ -53,14 +53,15 @@ nothing_mapped f [] none = refl
 nothing_mapped f (x ∷ xs) none = ap (λ o. cons_option o (filter_map f xs)) (none 0 x (omega arith)) ∙ nothing_mapped f xs (λ k d lt. none (suc k) d (omega (arith, lt)))
 
 -- a lab without interfaces
-unserved : (lab : Lab) (ifaces : List Iface) (places : List Place) (es : List End) → lab.ifaces ≡ ifaces → length ifaces ≡ 0 → 0 < length es → All (λ (e : End). e.node < length places) es → plugs_from lab places es [] ≡ None
+unserved : (lab : Lab) (ifaces : List Iface) (places : List Place) (es : List End) → lab.ifaces ≡ ifaces → length ifaces ≡ 0 → 0 < length es → All (λ (e : End). e.node < length places) es → plugs_from lab places es ≡ None
 unserved lab (i ∷ ifaces) places es is none some placed = absurd (omega (arith, none))
 unserved lab [] places [] is none some placed = absurd (omega (arith, some))
 unserved lab [] places (e ∷ es) is none some placed =
-    let given : Place → Option (List IfaceId) = λ q. option_map (λ j. [] ++ j ∷ []) (first_iface 0 lab.ifaces [] q.0 e.kbps) in
+    let given : Place → Option (List Laid) = λ q. option_map (λ j. [] ++ (load_of e, j) ∷ []) (first_iface 0 lab.ifaces [] q.0 (load_of e)) in
     let place = get_or places e.node no_place in
-    ap (λ o. option_and_then (λ plugs. plugs_from lab places es plugs) (option_map_or given o (Some []))) (slice_get-get_or places e.node no_place (placed 0 e (omega arith)))
-    ∙ ap (λ (xs : List Iface). option_and_then (λ plugs. plugs_from lab places es plugs) (option_map (λ j. [] ++ j ∷ []) (first_iface 0 xs [] place.0 e.kbps))) is
+    ap (option_map (λ laid. plugs_in laid))
+    (ap (λ o. option_and_then (λ laid. laid_from lab places es laid) (option_map_or given o (Some []))) (slice_get-get_or places e.node no_place (placed 0 e (omega arith)))
+    ∙ ap (λ (xs : List Iface). option_and_then (λ laid. laid_from lab places es laid) (option_map (λ j. [] ++ (load_of e, j) ∷ []) (first_iface 0 xs [] place.0 (load_of e)))) is)
 
 abbrev alone : List (List Place)
 alone = [] ∷ []

@@ -296,6 +296,7 @@ fn segment_of(alloc: Global, kbps: u64, ends: u16) -> Result<Segment, Fail> {
         name: named(b"ab")?,
         owner: named(b"ab")?,
         kbps,
+        multiplexed: false,
         ends: listed,
     })
 }

@@ -1,12 +1,12 @@
 pub mod Counting
 pub mod Empty
-pub mod Entries
-pub mod Fits
+mod Entries
+mod Fits
 pub mod FreeIds
-pub mod Leavings
+mod Leavings
 pub mod Matching
 pub mod OthersLeave
 pub mod Ranges
 pub mod Replacing
-pub mod Standing
+mod Standing
 pub mod Taking

@@ -1,5 +1,5 @@
 pub mod Sums
 pub mod Different
-pub mod KindSteps
+mod KindSteps
 pub mod LimitLaws
 pub mod PartLaws

@@ -1,5 +1,6 @@
-pub mod FirstLaws
-pub mod GuestLaws
-pub mod EndLists
+mod FirstLaws
+mod GuestLaws
+mod EndLists
+mod LoadLists
 pub mod JoinLaws
-pub mod CableSteps
+mod CableSteps

@@ -1,7 +1,6 @@
-// The virtual nodes and the speeds of the ends of a wiring.
-ghost use Rattle.std.specs.Prelude.{◌≡◌, ◌++◌, length, map, replicate, IfOk, OnOk};
+// The virtual nodes of the ends of a wiring.
+ghost use Rattle.std.specs.Prelude.{◌≡◌, ◌++◌, map, IfOk, OnOk};
 ghost use Rattle.virt_topo.specs.Ends.{end_nodes};
-ghost use Rattle.lab_model.specs.Rules.{end_speeds};
 
 use lab_base::Memory;
 use std::alloc::Global;
@@ -22,25 +21,6 @@ pub(crate) fn end_nodes(alloc: Global, segments: &[Segment]) -> Result<Vec<u16>,
     let mut listed = Vec::new(alloc);
     for segment in segments {
         push_nodes(&mut listed, segment.ends.as_slice())?;
-    }
-    Ok(listed)
-}
-
-fn push_speeds(listed: &mut Vec<u64>, ends: usize, kbps: u64) -> Result<(), Memory>
-    ensures { OnOk result (listed.new.items ≡ listed.old.items ++ replicate ends kbps) }
-{
-    for _end in 0..ends {
-        listed.push(kbps)?;
-    }
-    Ok(())
-}
-
-pub(crate) fn end_speeds(alloc: Global, segments: &[Segment]) -> Result<Vec<u64>, Memory>
-    ensures { IfOk result (λ listed. listed.items ≡ end_speeds segments.now) }
-{
-    let mut listed = Vec::new(alloc);
-    for segment in segments {
-        push_speeds(&mut listed, segment.ends.len(), segment.kbps)?;
     }
     Ok(listed)
 }

@@ -1,17 +1,17 @@
-pub mod Bytes
+mod Bytes
 pub mod Chains
 pub mod Prefixes
-pub mod Walking
+mod Walking
 pub mod Parts
-pub mod Found
-pub mod Made
-pub mod Opening
+mod Found
+mod Made
+mod Opening
 pub mod Holding
-pub mod Shutting
-pub mod CompactSteps
-pub mod CompactImages
-pub mod CompactMoments
-pub mod Leaving
-pub mod EpochLaws
-pub mod PourLaws
-pub mod CompactExits
+mod Shutting
+mod CompactSteps
+mod CompactImages
+mod CompactMoments
+mod Leaving
+mod EpochLaws
+mod PourLaws
+mod CompactExits

@@ -1,9 +1,10 @@
 -- A text that is written in pieces.
-use Rattle.std.proofs.Common.{◌≡◌, inl, inr, ℕ, ◌+◌, ◌-◌, ◌<◌, ◌≤◌, Bool, List, [], ◌∷◌, ◌++◌, length, take, drop, Option, Some, None, Result, Ok, Err, refl, sym, ap, ◌∙◌, subst, arith, append_assoc, length-append, take-append-drop}
+use Rattle.std.proofs.Common.{◌≡◌, ◌⊎◌, inl, inr, ℕ, ◌+◌, ◌-◌, ◌<◌, ◌≤◌, Bool, List, [], ◌∷◌, ◌++◌, length, take, drop, Option, Some, None, Result, Ok, Err, refl, sym, ap, ◌∙◌, subst, arith, append_assoc, length-append, length-drop, take-append-drop}
 use Rattle.std.specs.List.{flat_map}
 use Rattle.std.specs.Prelude.{IfSome}
 use Rattle.std.proofs.lemmas.List.{append-nil, take_all, length-take}
 use Rattle.std.proofs.Math.Seq.{take-add}
+use Rattle.std.proofs.lemmas.Bool.{cases_lt}
 use Rattle.std.proofs.lemmas.Grind.{flat_map-append}
 use Rattle.lab_base.specs.Lists.{Has}
 use Rattle.lab_base.proofs.Members.{Has-append}
@@ -18,7 +19,7 @@ use Rattle.plant.specs.declared.step.Side.TheVariants.{A, B}
 use Rattle.journal_rec.specs.Payloads.{le}
 use Rattle.journal_model.specs.Journals.{magic}
 use Rattle.journal_model.proofs.Traces.{disk_push, disk_more}
-use Rattle.journal_disk.specs.Compacting.{side_text, ArePieces, poured, IsLastOf, PourEnds, Pours}
+use Rattle.journal_disk.specs.Compacting.{side_text, AreFull, ArePieces, poured, IsLastOf, PourEnds, Pours}
 use Rattle.journal_disk.proofs.Chains.{chain, nothing_yet, write_ok, Came, IsLast, write_came}
 
 abbrev pub joined : List (List ℕ) → List ℕ
@@ -39,20 +40,51 @@ poured_push side at (first ∷ pieces) piece =
 pub pushed : (side : Side) (at n : ℕ) (pieces : List (List ℕ)) (piece : List ℕ) → n ≡ at + length (joined pieces) → poured side at pieces ++ Wrote side n piece ∷ [] ≡ poured side at (pieces ++ piece ∷ [])
 pushed side at n pieces piece is = ap (λ m. poured side at pieces ++ Wrote side m piece ∷ []) is ∙ sym (poured_push side at pieces piece)
 
-pub no_pieces : (bytes : List ℕ) → ArePieces (take 0 bytes) []
-no_pieces bytes = record { whole = refl; short = λ piece none. absurd none }
+-- each of them has 65,536 bytes
+abbrev pub AllFull : List (List ℕ) → Type 0
+AllFull pieces = (piece : List ℕ) → Has pieces piece → length piece ≡ 65536
 
-pub pieces_push : (bytes : List ℕ) (done size : ℕ) (pieces : List (List ℕ)) → ArePieces (take done bytes) pieces → done + size ≤ length bytes → size ≤ 65536 → ArePieces (take (done + size) bytes) (pieces ++ take size (drop done bytes) ∷ [])
-pieces_push bytes done size pieces are within small = record {
-  whole = flat_map-append (λ p. p) pieces (piece ∷ []) ∙ (λ i. are.whole i ++ append-nil piece i) ∙ sym (take-add done size bytes);
-  short = λ p has. elim (Has-append pieces (piece ∷ []) p has) [
-    | inl before ↦ are.short p before
-    | inr here ↦ elim here [ inl e ↦ subst (λ (l : List ℕ). length l ≤ 65536) e (omega (arith, length-take size (drop done bytes), small)) | inr none ↦ absurd none ]
-  ];
+full_push : (pieces : List (List ℕ)) (last : List ℕ) → AllFull pieces → 0 < length last → length last ≤ 65536 → AreFull (pieces ++ last ∷ [])
+full_push [] last all some small = (some, small)
+full_push (piece ∷ []) last all some small = (all piece (inl refl), (some, small))
+full_push (piece ∷ next ∷ pieces) last all some small = (all piece (inl refl), full_push (next ∷ pieces) last (λ p has. all p (inr has)) some small)
+
+pub all_full_push : (pieces : List (List ℕ)) (last : List ℕ) → AllFull pieces → length last ≡ 65536 → AllFull (pieces ++ last ∷ [])
+all_full_push pieces last all full p has = elim (Has-append pieces (last ∷ []) p has) [
+  | inl before ↦ all p before
+  | inr here ↦ elim here [ inl e ↦ subst (λ (l : List ℕ). length l ≡ 65536) e full | inr none ↦ absurd none ]
+]
+
+-- all bytes were written, or each piece is full
+abbrev pub IsFilled : List ℕ → ℕ → List (List ℕ) → Type 0
+IsFilled bytes done pieces = (length bytes ≤ done) ⊎ AllFull pieces
+
+pub still_full : (bytes : List ℕ) (done : ℕ) (pieces : List (List ℕ)) → done < length bytes → IsFilled bytes done pieces → AllFull pieces
+still_full bytes done pieces lt (inl all) = absurd (omega (arith, lt, all))
+still_full bytes done pieces lt (inr full) = full
+
+pub no_pieces : (bytes : List ℕ) → ArePieces (take 0 bytes) []
+no_pieces bytes = record { whole = refl; full = tt }
+
+pub none_yet : (bytes : List ℕ) → IsFilled bytes 0 []
+none_yet bytes = inr (λ piece none. absurd none)
+
+piece_length : (bytes : List ℕ) (done size : ℕ) → done + size ≤ length bytes → length (take size (drop done bytes)) ≡ size
+piece_length bytes done size within = omega (arith, length-take size (drop done bytes), length-drop done bytes, within)
+
+pub pieces_push : (bytes : List ℕ) (done size : ℕ) (pieces : List (List ℕ)) → ArePieces (take done bytes) pieces → done + size ≤ length bytes → 0 < size → size ≤ 65536 → AllFull pieces
+    → ArePieces (take (done + size) bytes) (pieces ++ take size (drop done bytes) ∷ [])
+pieces_push bytes done size pieces are within some small all = record {
+  whole = flat_map-append (λ p. p) pieces (take size (drop done bytes) ∷ []) ∙ (λ i. are.whole i ++ append-nil (take size (drop done bytes)) i) ∙ sym (take-add done size bytes);
+  full = let long = piece_length bytes done size within in full_push pieces (take size (drop done bytes)) all (omega (arith, long, some)) (omega (arith, long, small));
 }
-  where
-    piece : List ℕ
-    piece = take size (drop done bytes)
+
+pub filled_push : (bytes : List ℕ) (done size : ℕ) (pieces : List (List ℕ)) → done + size ≤ length bytes → (size < length bytes - done → size ≡ 65536) → AllFull pieces
+    → IsFilled bytes (done + size) (pieces ++ take size (drop done bytes) ∷ [])
+filled_push bytes done size pieces within most all = elim (cases_lt (done + size) (length bytes)) [
+  | inl lt ↦ inr (all_full_push pieces (take size (drop done bytes)) all (piece_length bytes done size within ∙ most (omega (arith, lt))))
+  | inr le ↦ inl le
+]
 
 pub all_pieces : (bytes : List ℕ) (done : ℕ) (pieces : List (List ℕ)) → length bytes ≤ done → ArePieces (take done bytes) pieces → ArePieces bytes pieces
 all_pieces bytes done pieces all are = subst (λ l. ArePieces l pieces) (take_all done bytes all) are
@@ -87,18 +119,30 @@ pours_left side at n bytes old one two pieces piece stopped fault steps first is
 pub pours_done : (side : Side) (at : ℕ) (bytes : List ℕ) (old new : Option Told) (pieces : List (List ℕ)) (u : Unit {0}) → ArePieces bytes pieces → new ≡ with_steps old (poured side at pieces) → Pours side at bytes old new (Ok u)
 pours_done side at bytes old new pieces u are is = record { pieces = pieces; more = []; trace = is ∙ ap (with_steps old) (sym (append-nil (poured side at pieces))); ends = (are, refl) }
 
+some_first : (piece : List ℕ) (pieces : List (List ℕ)) → AreFull (piece ∷ pieces) → 0 < length piece
+some_first piece [] full = full.0
+some_first piece (next ∷ pieces) full = omega (arith, full.0)
+
 -- the first piece, with the header, and then the rest
-module _ (side : Side) (epoch first : ℕ) (records : List ℕ) (old one : Option Told) (written : one ≡ with_steps old (Wrote side 1 (side_text epoch (take first records)) ∷ [])) (within : first ≤ length records) (small : 16 + first ≤ 65536) where
+module _ (side : Side) (epoch first : ℕ) (records : List ℕ) (old one : Option Told) (written : one ≡ with_steps old (Wrote side 1 (side_text epoch (take first records)) ∷ [])) (within : first ≤ length records) (small : 16 + first ≤ 65536) (most : first < length records → 16 + first ≡ 65536) where
   head_length : length (side_text epoch (take first records)) ≡ 16 + first
   head_length = omega (arith, length-append (magic ++ le 8 epoch) (take first records), length-take first records, within)
 
   whole_text : side_text epoch (take first records) ++ drop first records ≡ side_text epoch records
   whole_text = append_assoc (magic ++ le 8 epoch) (take first records) (drop first records) ∙ ap (λ l. side_text epoch l) (take-append-drop first records)
 
+  -- where more stand behind it, the first piece is full
+  full_first : (pieces : List (List ℕ)) → flat_map (λ piece. piece) pieces ≡ drop first records → AreFull pieces → AreFull (side_text epoch (take first records) ∷ pieces)
+  full_first [] is full = (omega (arith, head_length), omega (arith, head_length, small))
+  full_first (piece ∷ pieces) is full =
+      let some : 0 < length piece = some_first piece pieces full in
+      let left : first < length records = omega (arith, some, ap length is, length-append piece (joined pieces), length-drop first records) in
+      (head_length ∙ most left, full)
+
   pieces_joined : (pieces : List (List ℕ)) → ArePieces (drop first records) pieces → ArePieces (side_text epoch records) (side_text epoch (take first records) ∷ pieces)
   pieces_joined pieces are = record {
     whole = ap (λ l. side_text epoch (take first records) ++ l) are.whole ∙ whole_text;
-    short = λ p has. elim has [ inl e ↦ subst (λ (l : List ℕ). length l ≤ 65536) e (omega (arith, head_length, small)) | inr more ↦ are.short p more ];
+    full = full_first pieces are.whole are.full;
   }
 
   pub pours_joined : (new : Option Told) (n : ℕ) (result : Result (Unit {0}) Fault) → n ≡ 17 + first → Pours side n (drop first records) one new result → Pours side 1 (side_text epoch records) old new result

@@ -1,7 +1,6 @@
 -- What a journal's move onto the other side adds to a trace.
-use Rattle.std.specs.Prelude.{◌≡◌, ◌≤◌, ◌+◌, ◌==◌, ℕ, Bool, true, false, List, [], ◌∷◌, ◌++◌, length, Option, Result, Ok, Err}
+use Rattle.std.specs.Prelude.{◌≡◌, ◌≤◌, ◌<◌, ◌+◌, ◌==◌, ℕ, Bool, true, false, List, [], ◌∷◌, ◌++◌, length, Option, Result, Ok, Err}
 use Rattle.std.specs.List.{flat_map}
-use Rattle.lab_base.specs.Lists.{Has}
 use Rattle.plant.specs.Disks.{disk}
 use Rattle.plant.specs.Events.{Event, Wrote, Synced, Cut, Missed}
 use Rattle.plant.specs.Told.{Told, with_steps}
@@ -20,10 +19,16 @@ abbrev pub is_unshut : List ℕ → Bool
 is_unshut [] = true
 is_unshut (gate ∷ bytes) = gate == 165
 
--- the text in pieces that were written one behind the other, each of at most 65,536 bytes
+-- each has 65,536 bytes but the last, which has some and at most so many
+abbrev pub AreFull : List (List ℕ) → Type 0
+AreFull [] = Unit {0}
+AreFull (last ∷ []) = (0 < length last) × (length last ≤ 65536)
+AreFull (piece ∷ next ∷ pieces) = (length piece ≡ 65536) × AreFull (next ∷ pieces)
+
+-- the text in pieces of 65,536 bytes and a last one, which are written one behind the other
 pub record ArePieces (text : List ℕ) (pieces : List (List ℕ)) : Type 0 where
   pub whole : flat_map (λ piece. piece) pieces ≡ text
-  pub short : (piece : List ℕ) → Has pieces piece → length piece ≤ 65536
+  pub full : AreFull pieces
 
 abbrev pub poured : Side → ℕ → List (List ℕ) → List Event
 poured side at [] = []

@@ -71,6 +71,7 @@ fn pour_rest<P: Plant>(plant: &mut P, side: Side, at: u64, bytes: &[u8]) -> Resu
 fn first_of(all: usize) -> usize
     ensures within { result ≤ all }
     ensures short { HEAD + result ≤ PIECE }
+    ensures full { result < all → HEAD + result ≡ PIECE }
 {
     if all < PIECE - HEAD {
         all

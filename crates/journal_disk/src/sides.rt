@@ -59,6 +59,7 @@ pub fn piece_of(left: usize) -> usize
     ensures some { 0 < result }
     ensures piece { result ≤ PIECE }
     ensures within { result ≤ left }
+    ensures full { result < left → result ≡ PIECE }
 {
     if left < PIECE { left } else { PIECE }
 }

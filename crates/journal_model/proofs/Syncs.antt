@@ -6,7 +6,7 @@ use Rattle.std.proofs.lemmas.Bool.{cases_eq, or_parts, not-false, eqb-true, eqb-
 use Rattle.std.proofs.lemmas.Slice.Eq.{bytes_eq-Decides}
 use Rattle.lab_base.specs.Lists.{Has}
 use Rattle.plant.specs.Disks.{Disk, put, wrote, synced, shortened, IsImage, at_once, disk, disk_after, ArePossible}
-use Rattle.plant.specs.Events.{Event, Missed, Did, Restarted, Cut as CutTo, Wrote, Synced}
+use Rattle.plant.specs.Events.{Event, Missed, Did, Restarted, Cut as CutTo, Wrote, Synced, Unread}
 use Rattle.plant.specs.declared.step.Side.{Side}
 use Rattle.plant.specs.declared.step.Side.TheVariants.{A, B}
 use Rattle.plant.specs.Sides.{of_side}
@@ -81,6 +81,8 @@ readable_after A d (Missed side) within h = h
 readable_after B d (Missed side) within h = h
 readable_after A d (Did op applied answer) within h = h
 readable_after B d (Did op applied answer) within h = h
+readable_after A d (Unread device) within h = h
+readable_after B d (Unread device) within h = h
 
 readable_along : (side : Side) (d : Disk) (events : List Event) → AreWithin side d events → IsReadable d → IsReadable (fold (disk_after side) d events)
 readable_along side d [] within h = h

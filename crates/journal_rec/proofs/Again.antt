@@ -7,16 +7,16 @@ use Rattle.lab_base.specs.declared.ids.VlanId.{VlanId}
 use Rattle.journal_rec.specs.declared.fault.RecFault.{RecFault}
 use Rattle.journal_rec.specs.declared.fault.RecFault.TheVariants as faults
 use Rattle.journal_rec.specs.declared.record.Way.{Way}
-use Rattle.journal_rec.specs.declared.record.Way.TheVariants.{In, Out, Change}
+use Rattle.journal_rec.specs.declared.record.Way.TheVariants.{In, Out, Change, Change2}
 use Rattle.journal_rec.specs.declared.record.Record.{Record}
-use Rattle.journal_rec.specs.declared.record.Record.TheVariants.{Lab, Create, Delete, Begin, Commit, Abort}
+use Rattle.journal_rec.specs.declared.record.Record.TheVariants.{Lab, Create, Delete, Begin, Commit, Abort, Create2}
 use Rattle.journal_rec.specs.Payloads.{name_bytes, text_bytes, tags_bytes, way_bytes, payload, IsWay, tags_of_way, tags_of, HasFields, IsShort, IsRecord, Decodes, IsReadAs}
-use Rattle.journal_rec.specs.Reading.{◌>>=◌, Gives, name_of, field_at, text_at, way_at, lab_at, create_at, begin_at, delete_at, commit_at, abort_at, record_at, all_of}
+use Rattle.journal_rec.specs.Reading.{◌>>=◌, Gives, name_of, field_at, text_at, way_at, lab_at, create_at, create2_at, begin_at, delete_at, commit_at, abort_at, record_at, all_of}
 use Rattle.journal_rec.proofs.Fields.{field_again, text_again}
 use Rattle.std.specs.Prelude.{IfOk, IsErrOf}
 use Rattle.std.proofs.lemmas.Option.{same_Some}
 use Rattle.journal_rec.proofs.Numbers.{IsBytes}
-use Rattle.journal_rec.proofs.Records.{all_takes, in_again, change_again, name_again}
+use Rattle.journal_rec.proofs.Records.{all_takes, in_again, change_again, change2_again, name_again}
 
 -- the texts of a payload that is short enough
 module _ where
@@ -26,12 +26,21 @@ module _ where
   text_2 : (exp t : List ℕ) → length (payload (Create exp t)) < 2 ^ 32 → length t < 2 ^ 32
   text_2 exp t h = omega (arith, length-append (2 ∷ name_bytes exp) (text_bytes t), h)
 
+  text_7 : (exp t : List ℕ) → length (payload (Create2 exp t)) < 2 ^ 32 → length t < 2 ^ 32
+  text_7 exp t h = omega (arith, length-append (7 ∷ name_bytes exp) (text_bytes t), h)
+
   text_in : (map : List ℕ) (tags : List VlanId) → length (way_bytes (In map tags)) < 2 ^ 32 → length map < 2 ^ 32
   text_in map tags h = omega (arith, length-append (1 ∷ text_bytes map) (tags_bytes tags), h)
 
   texts_change : (top map : List ℕ) (tags : List VlanId) → length (way_bytes (Change top map tags)) < 2 ^ 32 → (length top < 2 ^ 32) × (length map < 2 ^ 32)
   texts_change top map tags h =
       let b = length-append (3 ∷ text_bytes top) (text_bytes map ++ tags_bytes tags) in
+      let c = length-append (text_bytes map) (tags_bytes tags) in
+      (omega (arith, b, c, h), omega (arith, b, c, h))
+
+  texts_change2 : (top map : List ℕ) (tags : List VlanId) → length (way_bytes (Change2 top map tags)) < 2 ^ 32 → (length top < 2 ^ 32) × (length map < 2 ^ 32)
+  texts_change2 top map tags h =
+      let b = length-append (4 ∷ text_bytes top) (text_bytes map ++ tags_bytes tags) in
       let c = length-append (text_bytes map) (tags_bytes tags) in
       (omega (arith, b, c, h), omega (arith, b, c, h))
 
@@ -46,6 +55,9 @@ way_again Out are short = refl
 way_again (Change top map tags) are short =
     let both = texts_change top map tags short in
     ap way_at (sym (append-nil (way_bytes (Change top map tags)))) ∙ change_again top map tags [] both.0 both.1 are
+way_again (Change2 top map tags) are short =
+    let both = texts_change2 top map tags short in
+    ap way_at (sym (append-nil (way_bytes (Change2 top map tags)))) ∙ change2_again top map tags [] both.0 both.1 are
 
 abbrev with_rest : {X : Type 0} → X → List ℕ → Option (X × List ℕ)
 with_rest x rest = Some (x, rest)
@@ -58,7 +70,7 @@ alone_again exp make named =
     ∙ ap (λ (read : Option (List ℕ)). read >>= λ exp. with_rest (make exp) []) (name_again exp named)
 
 record_again : (r : Record) → IsRecord r → record_at (payload r) ≡ Some (r, [])
-unfolding record_at lab_at create_at begin_at delete_at commit_at abort_at
+unfolding record_at lab_at create_at create2_at begin_at delete_at commit_at abort_at
 record_again (Lab t) is =
     ap lab_at (sym (append-nil (text_bytes t)))
     ∙ ap (λ (read : Option (List ℕ × List ℕ)). read >>= λ ptop. let o : Option (Record × List ℕ) = Some (Lab ptop.0, ptop.1) in o) (text_again t [] (text_1 t is.size))
@@ -67,6 +79,11 @@ record_again (Create exp t) is =
     ∙ ap (λ (read : Option (List ℕ × List ℕ)). read >>= λ part. name_of part.0 >>= λ exp. text_at part.1 >>= λ top. Some (Create exp top.0, top.1)) (field_again exp (text_bytes t ++ []))
     ∙ ap (λ (read : Option (List ℕ)). read >>= λ exp. text_at (text_bytes t ++ []) >>= λ top. Some (Create exp top.0, top.1)) (name_again exp is.fields)
     ∙ ap (λ (read : Option (List ℕ × List ℕ)). read >>= λ top. let o : Option (Record × List ℕ) = Some (Create exp top.0, top.1) in o) (text_again t [] (text_2 exp t is.size))
+record_again (Create2 exp t) is =
+    ap (λ (l : List ℕ). create2_at (name_bytes exp ++ l)) (sym (append-nil (text_bytes t)))
+    ∙ ap (λ (read : Option (List ℕ × List ℕ)). read >>= λ part. name_of part.0 >>= λ exp. text_at part.1 >>= λ top. Some (Create2 exp top.0, top.1)) (field_again exp (text_bytes t ++ []))
+    ∙ ap (λ (read : Option (List ℕ)). read >>= λ exp. text_at (text_bytes t ++ []) >>= λ top. Some (Create2 exp top.0, top.1)) (name_again exp is.fields)
+    ∙ ap (λ (read : Option (List ℕ × List ℕ)). read >>= λ top. let o : Option (Record × List ℕ) = Some (Create2 exp top.0, top.1) in o) (text_again t [] (text_7 exp t is.size))
 record_again (Delete exp) is = alone_again exp (λ e. Delete e) is.fields
 record_again (Commit exp) is = alone_again exp (λ e. Commit e) is.fields
 record_again (Abort exp) is = alone_again exp (λ e. Abort e) is.fields
@@ -116,6 +133,7 @@ short_way : (way : Way) → IsWay way → length (tags_of_way way) < 2 ^ 16
 short_way (In map tags) are = are.count
 short_way Out are = omega arith
 short_way (Change top map tags) are = are.count
+short_way (Change2 top map tags) are = are.count
 
 short_tags : (r : Record) → HasFields r → length (tags_of r) < 2 ^ 16
 short_tags (Lab ptop) has = omega arith
@@ -124,6 +142,7 @@ short_tags (Delete exp) has = omega arith
 short_tags (Begin exp way) has = short_way way has.1
 short_tags (Commit exp) has = omega arith
 short_tags (Abort exp) has = omega arith
+short_tags (Create2 exp top) has = omega arith
 
 pub is_short : (bytes : List ℕ) (result : Result Record RecFault) → IsBytes bytes → Gives (λ entry. entry) result (all_of bytes) → IfOk result IsShort
 is_short bytes (Ok r) fits gives =

@@ -1,4 +1,4 @@
-pub mod Loops
+mod Loops
 pub mod Numbers
 pub mod Fields
 pub mod Records

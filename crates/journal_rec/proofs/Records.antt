@@ -6,11 +6,11 @@ use Rattle.std.proofs.lemmas.Option.{same_Some}
 use Rattle.lab_base.specs.Names.{is_name}
 use Rattle.lab_base.specs.declared.ids.VlanId.{VlanId}
 use Rattle.journal_rec.specs.declared.record.Way.{Way}
-use Rattle.journal_rec.specs.declared.record.Way.TheVariants.{In, Out, Change}
+use Rattle.journal_rec.specs.declared.record.Way.TheVariants.{In, Out, Change, Change2}
 use Rattle.journal_rec.specs.declared.record.Record.{Record}
-use Rattle.journal_rec.specs.declared.record.Record.TheVariants.{Lab, Create, Delete, Begin, Commit, Abort}
+use Rattle.journal_rec.specs.declared.record.Record.TheVariants.{Lab, Create, Delete, Begin, Commit, Abort, Create2}
 use Rattle.journal_rec.specs.Payloads.{name_bytes, text_bytes, tags_bytes, way_bytes, payload, AreTags, IsWay, HasFields, Decodes}
-use Rattle.journal_rec.specs.Reading.{◌>>=◌, byte_at, name_of, field_at, text_at, tags_at, in_at, change_at, way_at, lab_at, create_at, begin_at, delete_at, commit_at, abort_at, record_at, all_of}
+use Rattle.journal_rec.specs.Reading.{◌>>=◌, byte_at, name_of, field_at, text_at, tags_at, in_at, change_at, change2_at, way_at, lab_at, create_at, create2_at, begin_at, delete_at, commit_at, abort_at, record_at, all_of}
 use Rattle.journal_rec.proofs.Numbers.{IsBytes}
 use Rattle.journal_rec.proofs.Fields.{bind_some, guard_so, Takes, Takes-then, byte_takes, field_takes, text_takes, text_again, tags_takes, tags_again}
 
@@ -54,24 +54,45 @@ change_takes bytes x fits e =
     subst (λ (y : Way × List ℕ). Takes (3 ∷ bytes) (way_bytes y.0) y.1 × IsWay y.0) (same_Some (Change a.0.0 b.0.0 c.0.0, c.0.1) x c.2)
     (record { parts = ap (λ (l : List ℕ). 3 ∷ l) all.parts; fits = all.fits }, t2.1)
 
+change2_takes : (bytes : List ℕ) (x : Way × List ℕ) → IsBytes bytes → change2_at bytes ≡ Some x → Takes (4 ∷ bytes) (way_bytes x.0) x.1 × IsWay x.0
+unfolding change2_at
+change2_takes bytes x fits e =
+    let a = bind_some (text_at bytes) (λ top. text_at top.1 >>= λ map. tags_at map.1 >>= λ tags. Some (Change2 top.0 map.0 tags.0, tags.1)) x e in
+    let b = bind_some (text_at a.0.1) (λ map. tags_at map.1 >>= λ tags. Some (Change2 a.0.0 map.0 tags.0, tags.1)) x a.2 in
+    let c = bind_some (tags_at b.0.1) (λ tags. Some (Change2 a.0.0 b.0.0 tags.0, tags.1)) x b.2 in
+    let t0 = text_takes bytes a.0.0 a.0.1 fits a.1 in
+    let t1 = text_takes a.0.1 b.0.0 b.0.1 t0.fits b.1 in
+    let t2 = tags_takes b.0.1 c.0.0 c.0.1 t1.fits c.1 in
+    let two = Takes-then a.0.1 (text_bytes b.0.0) b.0.1 (tags_bytes c.0.0) c.0.1 t1 t2.0 in
+    let all = Takes-then bytes (text_bytes a.0.0) a.0.1 (text_bytes b.0.0 ++ tags_bytes c.0.0) c.0.1 t0 two in
+    subst (λ (y : Way × List ℕ). Takes (4 ∷ bytes) (way_bytes y.0) y.1 × IsWay y.0) (same_Some (Change2 a.0.0 b.0.0 c.0.0, c.0.1) x c.2)
+    (record { parts = ap (λ (l : List ℕ). 4 ∷ l) all.parts; fits = all.fits }, t2.1)
+
 abbrev way_of : ℕ → List ℕ → Option (Way × List ℕ)
-way_of k rest = cond (eqb k 1) (in_at rest) (cond (eqb k 2) (Some (Out, rest)) (cond (eqb k 3) (change_at rest) None))
+way_of k rest = cond (eqb k 1) (in_at rest) (cond (eqb k 2) (Some (Out, rest)) (cond (eqb k 3) (change_at rest) (cond (eqb k 4) (change2_at rest) None)))
 
-way_kind : (k : ℕ) (rest : List ℕ) (x : Way × List ℕ) → IsBytes rest → way_of k rest ≡ Some x → Takes (k ∷ rest) (way_bytes x.0) x.1 × IsWay x.0
-way_kind k rest x fits e = one (chosen (eqb k 1) (in_at rest) (cond (eqb k 2) (Some (Out, rest)) (cond (eqb k 3) (change_at rest) None)) x e)
+abbrev IsKind : ℕ → List ℕ → Way × List ℕ → Type 0
+IsKind k rest x = Takes (k ∷ rest) (way_bytes x.0) x.1 × IsWay x.0
+
+way_kind : (k : ℕ) (rest : List ℕ) (x : Way × List ℕ) → IsBytes rest → way_of k rest ≡ Some x → IsKind k rest x
+way_kind k rest x fits e = one (chosen (eqb k 1) (in_at rest) (cond (eqb k 2) (Some (Out, rest)) (cond (eqb k 3) (change_at rest) (cond (eqb k 4) (change2_at rest) None))) x e)
   where
-    three : ((eqb k 3 ≡ true) × (change_at rest ≡ Some x)) ⊎ (none ≡ Some x) → Takes (k ∷ rest) (way_bytes x.0) x.1 × IsWay x.0
-    three (inl h) = subst (λ k. Takes (k ∷ rest) (way_bytes x.0) x.1 × IsWay x.0) (sym (eqb-true k 3 h.0)) (change_takes rest x fits h.1)
-    three (inr h) = absurd (cc h)
+    four : ((eqb k 4 ≡ true) × (change2_at rest ≡ Some x)) ⊎ (none ≡ Some x) → IsKind k rest x
+    four (inl h) = subst (λ k. IsKind k rest x) (sym (eqb-true k 4 h.0)) (change2_takes rest x fits h.1)
+    four (inr h) = absurd (cc h)
 
-    two : ((eqb k 2 ≡ true) × (Some (Out, rest) ≡ Some x)) ⊎ (cond (eqb k 3) (change_at rest) None ≡ Some x) → Takes (k ∷ rest) (way_bytes x.0) x.1 × IsWay x.0
-    two (inl h) = subst (λ k. Takes (k ∷ rest) (way_bytes x.0) x.1 × IsWay x.0) (sym (eqb-true k 2 h.0))
-        (subst (λ (y : Way × List ℕ). Takes (2 ∷ rest) (way_bytes y.0) y.1 × IsWay y.0) (same_Some (Out, rest) x h.1) (record { parts = refl; fits = fits }, tt))
-    two (inr h) = three (chosen (eqb k 3) (change_at rest) None x h)
+    three : ((eqb k 3 ≡ true) × (change_at rest ≡ Some x)) ⊎ (cond (eqb k 4) (change2_at rest) None ≡ Some x) → IsKind k rest x
+    three (inl h) = subst (λ k. IsKind k rest x) (sym (eqb-true k 3 h.0)) (change_takes rest x fits h.1)
+    three (inr h) = four (chosen (eqb k 4) (change2_at rest) None x h)
 
-    one : ((eqb k 1 ≡ true) × (in_at rest ≡ Some x)) ⊎ (cond (eqb k 2) (Some (Out, rest)) (cond (eqb k 3) (change_at rest) None) ≡ Some x) → Takes (k ∷ rest) (way_bytes x.0) x.1 × IsWay x.0
-    one (inl h) = subst (λ k. Takes (k ∷ rest) (way_bytes x.0) x.1 × IsWay x.0) (sym (eqb-true k 1 h.0)) (in_takes rest x fits h.1)
-    one (inr h) = two (chosen (eqb k 2) (Some (Out, rest)) (cond (eqb k 3) (change_at rest) None) x h)
+    two : ((eqb k 2 ≡ true) × (Some (Out, rest) ≡ Some x)) ⊎ (cond (eqb k 3) (change_at rest) (cond (eqb k 4) (change2_at rest) None) ≡ Some x) → IsKind k rest x
+    two (inl h) = subst (λ k. IsKind k rest x) (sym (eqb-true k 2 h.0))
+        (subst (λ (y : Way × List ℕ). IsKind 2 rest y) (same_Some (Out, rest) x h.1) (record { parts = refl; fits = fits }, tt))
+    two (inr h) = three (chosen (eqb k 3) (change_at rest) (cond (eqb k 4) (change2_at rest) None) x h)
+
+    one : ((eqb k 1 ≡ true) × (in_at rest ≡ Some x)) ⊎ (cond (eqb k 2) (Some (Out, rest)) (cond (eqb k 3) (change_at rest) (cond (eqb k 4) (change2_at rest) None)) ≡ Some x) → IsKind k rest x
+    one (inl h) = subst (λ k. IsKind k rest x) (sym (eqb-true k 1 h.0)) (in_takes rest x fits h.1)
+    one (inr h) = two (chosen (eqb k 2) (Some (Out, rest)) (cond (eqb k 3) (change_at rest) (cond (eqb k 4) (change2_at rest) None)) x h)
 
 way_takes : (bytes : List ℕ) (x : Way × List ℕ) → IsBytes bytes → way_at bytes ≡ Some x → Takes bytes (way_bytes x.0) x.1 × IsWay x.0
 unfolding way_at
@@ -96,6 +117,15 @@ change_again top map tags rest short small are =
     ∙ ap (λ (read : Option (List ℕ × List ℕ)). read >>= λ top. text_at top.1 >>= λ map. tags_at map.1 >>= λ tags. Some (Change top.0 map.0 tags.0, tags.1)) (text_again top (text_bytes map ++ (tags_bytes tags ++ rest)) short)
     ∙ ap (λ (read : Option (List ℕ × List ℕ)). read >>= λ map. tags_at map.1 >>= λ tags. Some (Change top map.0 tags.0, tags.1)) (text_again map (tags_bytes tags ++ rest) small)
     ∙ ap (λ (read : Option (List VlanId × List ℕ)). read >>= λ tags. Some (Change top map tags.0, tags.1)) (tags_again tags rest are)
+
+pub change2_again : (top map : List ℕ) (tags : List VlanId) (rest : List ℕ) → length top < 2 ^ 32 → length map < 2 ^ 32 → AreTags tags
+    → change2_at ((text_bytes top ++ (text_bytes map ++ tags_bytes tags)) ++ rest) ≡ Some (Change2 top map tags, rest)
+unfolding change2_at
+change2_again top map tags rest short small are =
+    ap change2_at (append_assoc (text_bytes top) (text_bytes map ++ tags_bytes tags) rest ∙ ap (λ (l : List ℕ). text_bytes top ++ l) (append_assoc (text_bytes map) (tags_bytes tags) rest))
+    ∙ ap (λ (read : Option (List ℕ × List ℕ)). read >>= λ top. text_at top.1 >>= λ map. tags_at map.1 >>= λ tags. Some (Change2 top.0 map.0 tags.0, tags.1)) (text_again top (text_bytes map ++ (tags_bytes tags ++ rest)) short)
+    ∙ ap (λ (read : Option (List ℕ × List ℕ)). read >>= λ map. tags_at map.1 >>= λ tags. Some (Change2 top map.0 tags.0, tags.1)) (text_again map (tags_bytes tags ++ rest) small)
+    ∙ ap (λ (read : Option (List VlanId × List ℕ)). read >>= λ tags. Some (Change2 top map tags.0, tags.1)) (tags_again tags rest are)
 
 -- ---- records
 lab_takes : (bytes : List ℕ) (x : Record × List ℕ) → IsBytes bytes → lab_at bytes ≡ Some x → Takes (1 ∷ bytes) (payload x.0) x.1 × HasFields x.0
@@ -122,6 +152,19 @@ create_takes bytes x fits e =
     let all = Takes-then bytes (name_bytes b.0) a.0.1 (text_bytes c.0.0) c.0.1 t0 t1 in
     subst (λ (y : Record × List ℕ). Takes (2 ∷ bytes) (payload y.0) y.1 × HasFields y.0) (same_Some (Create b.0 c.0.0, c.0.1) x c.2)
     (record { parts = ap (λ (l : List ℕ). 2 ∷ l) all.parts; fits = all.fits }, subst (λ (l : List ℕ). is_name l ≡ true) is.1 is.0)
+
+create2_takes : (bytes : List ℕ) (x : Record × List ℕ) → IsBytes bytes → create2_at bytes ≡ Some x → Takes (7 ∷ bytes) (payload x.0) x.1 × HasFields x.0
+unfolding create2_at
+create2_takes bytes x fits e =
+    let a = bind_some (field_at bytes) (λ part. name_of part.0 >>= λ exp. text_at part.1 >>= λ top. Some (Create2 exp top.0, top.1)) x e in
+    let b = bind_some (name_of a.0.0) (λ exp. text_at a.0.1 >>= λ top. Some (Create2 exp top.0, top.1)) x a.2 in
+    let c = bind_some (text_at a.0.1) (λ top. Some (Create2 b.0 top.0, top.1)) x b.2 in
+    let is = name_takes a.0.0 b.0 b.1 in
+    let t0 = named bytes a.0.0 b.0 a.0.1 (field_takes bytes a.0.0 a.0.1 fits a.1) is.1 in
+    let t1 = text_takes a.0.1 c.0.0 c.0.1 t0.fits c.1 in
+    let all = Takes-then bytes (name_bytes b.0) a.0.1 (text_bytes c.0.0) c.0.1 t0 t1 in
+    subst (λ (y : Record × List ℕ). Takes (7 ∷ bytes) (payload y.0) y.1 × HasFields y.0) (same_Some (Create2 b.0 c.0.0, c.0.1) x c.2)
+    (record { parts = ap (λ (l : List ℕ). 7 ∷ l) all.parts; fits = all.fits }, subst (λ (l : List ℕ). is_name l ≡ true) is.1 is.0)
 
 begin_takes : (bytes : List ℕ) (x : Record × List ℕ) → IsBytes bytes → begin_at bytes ≡ Some x → Takes (4 ∷ bytes) (payload x.0) x.1 × HasFields x.0
 unfolding begin_at
@@ -165,8 +208,11 @@ abort_takes bytes x fits e =
     let a = alone bytes (λ exp. Abort exp) x fits e in
     subst (λ (r : Record). Takes (6 ∷ bytes) (payload r) x.1 × HasFields r) a.3 (record { parts = ap (λ (l : List ℕ). 6 ∷ l) a.1.parts; fits = a.1.fits }, a.2)
 
+abbrev kind_7 : ℕ → List ℕ → Option (Record × List ℕ)
+kind_7 k rest = cond (eqb k 7) (create2_at rest) None
+
 abbrev kind_6 : ℕ → List ℕ → Option (Record × List ℕ)
-kind_6 k rest = cond (eqb k 6) (abort_at rest) None
+kind_6 k rest = cond (eqb k 6) (abort_at rest) (kind_7 k rest)
 
 abbrev kind_5 : ℕ → List ℕ → Option (Record × List ℕ)
 kind_5 k rest = cond (eqb k 5) (commit_at rest) (kind_6 k rest)
@@ -205,7 +251,8 @@ record_kind k rest x fits e =
     one_kind k 3 rest x (delete_at rest) (kind_4 k rest) e (delete_takes rest x fits) (λ e.
     one_kind k 4 rest x (begin_at rest) (kind_5 k rest) e (begin_takes rest x fits) (λ e.
     one_kind k 5 rest x (commit_at rest) (kind_6 k rest) e (commit_takes rest x fits) (λ e.
-    one_kind k 6 rest x (abort_at rest) None e (abort_takes rest x fits) (no_kind k rest x))))))
+    one_kind k 6 rest x (abort_at rest) (kind_7 k rest) e (abort_takes rest x fits) (λ e.
+    one_kind k 7 rest x (create2_at rest) None e (create2_takes rest x fits) (no_kind k rest x)))))))
 
 record_takes : (bytes : List ℕ) (x : Record × List ℕ) → IsBytes bytes → record_at bytes ≡ Some x → Takes bytes (payload x.0) x.1 × HasFields x.0
 unfolding record_at

@@ -8,9 +8,9 @@ use Rattle.lab_base.specs.declared.ids.VlanId.{VlanId}
 use Rattle.journal_rec.specs.declared.fault.RecFault.{RecFault}
 use Rattle.journal_rec.specs.declared.fault.RecFault.TheVariants as faults
 use Rattle.journal_rec.specs.declared.record.Way.{Way}
-use Rattle.journal_rec.specs.declared.record.Way.TheVariants.{In, Out, Change}
+use Rattle.journal_rec.specs.declared.record.Way.TheVariants.{In, Out, Change, Change2}
 use Rattle.journal_rec.specs.declared.record.Record.{Record}
-use Rattle.journal_rec.specs.declared.record.Record.TheVariants.{Lab, Create, Delete, Begin, Commit, Abort}
+use Rattle.journal_rec.specs.declared.record.Record.TheVariants.{Lab, Create, Delete, Begin, Commit, Abort, Create2}
 
 -- a number in that many bytes, the least first
 abbrev pub le : ℕ → ℕ → List ℕ
@@ -41,6 +41,7 @@ abbrev pub way_bytes : Way → List ℕ
 way_bytes (In map tags) = 1 ∷ text_bytes map ++ tags_bytes tags
 way_bytes Out = 2 ∷ []
 way_bytes (Change top map tags) = 3 ∷ text_bytes top ++ (text_bytes map ++ tags_bytes tags)
+way_bytes (Change2 top map tags) = 4 ∷ text_bytes top ++ (text_bytes map ++ tags_bytes tags)
 
 -- the one spelling of a record
 abbrev pub payload : Record → List ℕ
@@ -50,6 +51,7 @@ payload (Delete exp) = 3 ∷ name_bytes exp
 payload (Begin exp way) = 4 ∷ name_bytes exp ++ way_bytes way
 payload (Commit exp) = 5 ∷ name_bytes exp
 payload (Abort exp) = 6 ∷ name_bytes exp
+payload (Create2 exp top) = 7 ∷ name_bytes exp ++ text_bytes top
 
 -- at most 65,535 tags, each of 2 bytes
 pub record AreTags (tags : List VlanId) : Type 0 where
@@ -60,6 +62,7 @@ abbrev pub IsWay : Way → Type 0
 IsWay (In map tags) = AreTags tags
 IsWay Out = Unit {0}
 IsWay (Change top map tags) = AreTags tags
+IsWay (Change2 top map tags) = AreTags tags
 
 abbrev pub HasFields : Record → Type 0
 HasFields (Lab ptop) = Unit {0}
@@ -68,6 +71,7 @@ HasFields (Delete exp) = is_name exp ≡ true
 HasFields (Begin exp way) = (is_name exp ≡ true) × IsWay way
 HasFields (Commit exp) = is_name exp ≡ true
 HasFields (Abort exp) = is_name exp ≡ true
+HasFields (Create2 exp top) = is_name exp ≡ true
 
 -- the record can be written: its names are names, its tags are tags, and its payload's length fits 4 bytes
 pub record IsRecord (r : Record) : Type 0 where
@@ -90,6 +94,7 @@ abbrev pub tags_of_way : Way → List VlanId
 tags_of_way (In map tags) = tags
 tags_of_way Out = []
 tags_of_way (Change top map tags) = tags
+tags_of_way (Change2 top map tags) = tags
 
 abbrev pub tags_of : Record → List VlanId
 tags_of (Begin exp way) = tags_of_way way

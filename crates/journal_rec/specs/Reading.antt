@@ -7,9 +7,9 @@ use Rattle.journal_rec.specs.Payloads.{number}
 use Rattle.journal_rec.specs.declared.fault.RecFault.{RecFault}
 use Rattle.journal_rec.specs.declared.fault.RecFault.TheVariants as faults
 use Rattle.journal_rec.specs.declared.record.Way.{Way}
-use Rattle.journal_rec.specs.declared.record.Way.TheVariants.{In, Out, Change}
+use Rattle.journal_rec.specs.declared.record.Way.TheVariants.{In, Out, Change, Change2}
 use Rattle.journal_rec.specs.declared.record.Record.{Record}
-use Rattle.journal_rec.specs.declared.record.Record.TheVariants.{Lab, Create, Delete, Begin, Commit, Abort}
+use Rattle.journal_rec.specs.declared.record.Record.TheVariants.{Lab, Create, Delete, Begin, Commit, Abort, Create2}
 
 infixl 10 ◌>>=◌
 abbrev pub ◌>>=◌ : {A B : Type 0} → Option A → (A → Option B) → Option B
@@ -74,10 +74,17 @@ change_at bytes = do
   tags ← tags_at map.1
   Some (Change top.0 map.0 tags.0, tags.1)
 
+unfoldable pub change2_at : List ℕ → Option (Way × List ℕ)
+change2_at bytes = do
+  top ← text_at bytes
+  map ← text_at top.1
+  tags ← tags_at map.1
+  Some (Change2 top.0 map.0 tags.0, tags.1)
+
 unfoldable pub way_at : List ℕ → Option (Way × List ℕ)
 way_at bytes = do
   kind ← byte_at bytes
-  if kind.0 == 1 then in_at kind.1 else if kind.0 == 2 then Some (Out, kind.1) else if kind.0 == 3 then change_at kind.1 else None
+  if kind.0 == 1 then in_at kind.1 else if kind.0 == 2 then Some (Out, kind.1) else if kind.0 == 3 then change_at kind.1 else if kind.0 == 4 then change2_at kind.1 else None
 
 unfoldable pub lab_at : List ℕ → Option (Record × List ℕ)
 lab_at bytes = do
@@ -90,6 +97,13 @@ create_at bytes = do
   exp ← name_of part.0
   top ← text_at part.1
   Some (Create exp top.0, top.1)
+
+unfoldable pub create2_at : List ℕ → Option (Record × List ℕ)
+create2_at bytes = do
+  part ← field_at bytes
+  exp ← name_of part.0
+  top ← text_at part.1
+  Some (Create2 exp top.0, top.1)
 
 unfoldable pub begin_at : List ℕ → Option (Record × List ℕ)
 begin_at bytes = do
@@ -119,7 +133,7 @@ abort_at bytes = do
 unfoldable pub record_at : List ℕ → Option (Record × List ℕ)
 record_at bytes = do
   kind ← byte_at bytes
-  if kind.0 == 1 then lab_at kind.1 else if kind.0 == 2 then create_at kind.1 else if kind.0 == 3 then delete_at kind.1 else if kind.0 == 4 then begin_at kind.1 else if kind.0 == 5 then commit_at kind.1 else if kind.0 == 6 then abort_at kind.1 else None
+  if kind.0 == 1 then lab_at kind.1 else if kind.0 == 2 then create_at kind.1 else if kind.0 == 3 then delete_at kind.1 else if kind.0 == 4 then begin_at kind.1 else if kind.0 == 5 then commit_at kind.1 else if kind.0 == 6 then abort_at kind.1 else if kind.0 == 7 then create2_at kind.1 else None
 
 -- all of the bytes, which are few enough
 unfoldable pub all_of : List ℕ → Option Record

@@ -1,6 +1,6 @@
 ghost use Rattle.std.specs.Prelude.{IfOk, IsErrOf};
 ghost use Rattle.journal_rec.specs.Payloads.{Decodes, IsReadAs, IsShort};
-ghost use Rattle.journal_rec.specs.Reading.{Gives, byte_at, number_at, part_at, name_of, field_at, text_at, each_at, tags_at, in_at, change_at, way_at, lab_at, create_at, begin_at, delete_at, commit_at, abort_at, record_at, all_of};
+ghost use Rattle.journal_rec.specs.Reading.{Gives, byte_at, number_at, part_at, name_of, field_at, text_at, each_at, tags_at, in_at, change_at, change2_at, way_at, lab_at, create_at, create2_at, begin_at, delete_at, commit_at, abort_at, record_at, all_of};
 ghost use Rattle.journal_rec.specs.declared.record.Record.{Record as AnyRecord};
 
 use crate::{RecFault, Record, Way};
@@ -115,6 +115,16 @@ fn change_of(alloc: Global, bytes: &[u8]) -> Result<(Way, &[u8]), RecFault>
     Ok((Way::Change { top, map, tags }, rest))
 }
 
+#[tactic(auto, unfolding(crate::specs::Reading::change2_at))]
+fn change2_of(alloc: Global, bytes: &[u8]) -> Result<(Way, &[u8]), RecFault>
+    ensures { Gives (λ x. (x.0, x.1.now)) result (change2_at bytes.now) }
+{
+    let (top, rest) = text_of(alloc, bytes)?;
+    let (map, rest) = text_of(alloc, rest)?;
+    let (tags, rest) = tags_of(alloc, rest)?;
+    Ok((Way::Change2 { top, map, tags }, rest))
+}
+
 #[tactic(auto, unfolding(crate::specs::Reading::way_at))]
 fn way_of(alloc: Global, bytes: &[u8]) -> Result<(Way, &[u8]), RecFault>
     ensures { Gives (λ x. (x.0, x.1.now)) result (way_at bytes.now) }
@@ -124,6 +134,7 @@ fn way_of(alloc: Global, bytes: &[u8]) -> Result<(Way, &[u8]), RecFault>
         1 => in_of(alloc, rest),
         2 => Ok((Way::Out, rest)),
         3 => change_of(alloc, rest),
+        4 => change2_of(alloc, rest),
         _ => Err(RecFault::Bad),
     }
 }
@@ -144,6 +155,16 @@ fn create_of(alloc: Global, bytes: &[u8]) -> Result<(Record, &[u8]), RecFault>
     let exp = name_in(part)?;
     let (top, rest) = text_of(alloc, rest)?;
     Ok((Record::Create { exp, top }, rest))
+}
+
+#[tactic(auto, unfolding(crate::specs::Reading::create2_at))]
+fn create2_of(alloc: Global, bytes: &[u8]) -> Result<(Record, &[u8]), RecFault>
+    ensures { Gives (λ x. (x.0, x.1.now)) result (create2_at bytes.now) }
+{
+    let (part, rest) = field_of(bytes)?;
+    let exp = name_in(part)?;
+    let (top, rest) = text_of(alloc, rest)?;
+    Ok((Record::Create2 { exp, top }, rest))
 }
 
 #[tactic(auto, unfolding(crate::specs::Reading::begin_at))]
@@ -195,6 +216,7 @@ fn record_of(alloc: Global, bytes: &[u8]) -> Result<(Record, &[u8]), RecFault>
         4 => begin_of(alloc, rest),
         5 => commit_of(rest),
         6 => abort_of(rest),
+        7 => create2_of(alloc, rest),
         _ => Err(RecFault::Bad),
     }
 }

@@ -9,6 +9,8 @@ pub enum Way {
     Out,
     /// To another wiring or mapping: canonical top and solution texts, and by segment its VLAN id.
     Change { top: Text, map: Text, tags: Tags },
+    /// A change, as `Change`, where the new wiring has a multiplexed segment.
+    Change2 { top: Text, map: Text, tags: Tags },
 }
 
 /// A record: one move of the lab.
@@ -26,6 +28,8 @@ pub enum Record {
     Commit { exp: Name },
     /// A move is undone.
     Abort { exp: Name },
+    /// A new experiment, as `Create`, where its wiring has a multiplexed segment.
+    Create2 { exp: Name, top: Text },
 }
 
 /// A record with the position of its gate.

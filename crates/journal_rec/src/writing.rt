@@ -71,6 +71,12 @@ fn put_way(out: &mut Vec<u8>, way: &Way) -> Result<(), Memory>
             put_text(out, map)?;
             put_tags(out, tags)?;
         }
+        Way::Change2 { top, map, tags } => {
+            out.push(4)?;
+            put_text(out, top)?;
+            put_text(out, map)?;
+            put_tags(out, tags)?;
+        }
     }
     Ok(())
 }
@@ -104,6 +110,10 @@ fn put_record(out: &mut Vec<u8>, entry: &Record) -> Result<(), Memory>
         }
         Record::Commit { exp } => put_kind(out, 5, exp),
         Record::Abort { exp } => put_kind(out, 6, exp),
+        Record::Create2 { exp, top } => {
+            put_kind(out, 7, exp)?;
+            put_text(out, top)
+        }
     }
 }
 

@@ -5,7 +5,7 @@ use Rattle.std.proofs.lemmas.List.{take-append-le, take_all}
 use Rattle.std.proofs.lemmas.List.Folds.{list_any-append}
 use Rattle.std.proofs.Math.Seq.{take-append-add}
 use Rattle.plant.specs.Disks.{disk, ArePossible}
-use Rattle.plant.specs.Events.{Event, Wrote, Synced, Cut, Missed, Did, Restarted}
+use Rattle.plant.specs.Events.{Event, Wrote, Synced, Cut, Missed, Did, Restarted, Unread}
 use Rattle.plant.specs.Worlds.{World, world_of, world_after}
 use Rattle.plant.specs.declared.step.Side.TheVariants.{A, B}
 use Rattle.journal_rec.specs.declared.record.Record.{Record}
@@ -34,6 +34,7 @@ world_stays (Cut side size ∷ steps) w quiet = world_stays steps w quiet
 world_stays (Missed side ∷ steps) w quiet = world_stays steps w quiet
 world_stays (Did op applied answer ∷ steps) w quiet = absurd (cc quiet)
 world_stays (Restarted a b ∷ steps) w quiet = world_stays steps w quiet
+world_stays (Unread device ∷ steps) w quiet = world_stays steps w quiet
 
 pub take_quiet : (n : ℕ) (steps : List Event) → has_command steps ≡ false → has_command (take n steps) ≡ false
 take_quiet n steps quiet = (or_parts _ _ (sym (list_any-append is_command (take n steps) (drop n steps)) ∙ ap has_command (take-append-drop n steps) ∙ quiet)).0

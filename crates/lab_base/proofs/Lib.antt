@@ -1,5 +1,5 @@
 pub mod Digits
-pub mod LineLaws
+mod LineLaws
 pub mod FieldLaws
 pub mod Again
 pub mod FieldLists

@@ -52,6 +52,7 @@ pub enum Kind {
     NotRun,
     Address,
     Subnet,
+    Shape,
 }
 
 impl Kind {
@@ -103,6 +104,7 @@ impl Kind {
             Kind::NotRun => "not-run",
             Kind::Address => "address",
             Kind::Subnet => "subnet",
+            Kind::Shape => "shape",
         }
     }
 }

@@ -21,8 +21,8 @@ use Rattle.lab_core.specs.LabSteps.{IsOneOf, does, end_reply, end_session, is_to
 use Rattle.lab_core.specs.Obey.{start_of, IsDone, Obeyed}
 use Rattle.lab_core.specs.Sessions.{OpenSwap, Session, IsSince}
 use Rattle.lab_core.specs.Swapping.{HasEndedIn, progress_answer}
-use Rattle.lab_core.proofs.OpenSwaps.{Pair, Place, opened_without, risen_by}
-use Rattle.lab_core.proofs.PerformSwap.{IsCausedSince, Leads, by_outcome}
+use Rattle.lab_core.proofs.OpenSwaps.{Pair, Place, open_without, risen_by}
+use Rattle.lab_core.proofs.PerformSwap.{IsCausedNow, IsCausedSince, Leads, by_outcome}
 use Rattle.lab_core.proofs.Told.{Halts, IsAnswer, answered, halts_as, onward_plain}
 use Rattle.lab_core.proofs.TurnOne.{at, counted, end_caused, moves, one, plain, since, works_with}
 
@@ -88,6 +88,17 @@ module _ (before now : Seen) (old new : Control) (opens : List OpenSwap) (exp : 
   pub cause_since : IsCausedSince h.end.finished.outcome place.one.devices before now
   cause_since = causes h.end.finished.outcome h.end.finished.over (subst (λ (o : RunningSwap). IsFinishCaused o h.end.finished.outcome before now) (sym place.running) h.end.finished.cause)
 
+  causes_now : (outcome : Outcome) → IsOver outcome → IsFinishCaused place.one.running outcome before now → IsCausedNow outcome before now
+  causes_now More over cause = tt
+  causes_now (TurnsBack why) over cause = absurd over
+  causes_now (Ended leg) over cause = tt
+  causes_now (Stuck why) over cause = cause
+  causes_now Unwritten over cause = tt
+  causes_now Stopped over cause = tt
+
+  pub cause_now : IsCausedNow h.end.finished.outcome before now
+  cause_now = causes_now h.end.finished.outcome h.end.finished.over (subst (λ (o : RunningSwap). IsFinishCaused o h.end.finished.outcome before now) (sym place.running) h.end.finished.cause)
+
   module _ (devices : ℕ) (limit : limit_of new.journal ≡ limit_of old.journal) (stops : IsStop told ↔ IsTrue now.stopped) where
     abbrev EndIs : Outcome → List Event → LabState → Type 0
     EndIs outcome steps lab = Finishes old.lab place.one.running steps outcome lab
@@ -103,7 +114,7 @@ module _ (before now : Seen) (old new : Control) (opens : List OpenSwap) (exp : 
 
     abbrev EndLeads : Outcome → Type 0
     EndLeads outcome = Leads devices before now (Is (Ok (Finish exp))) old new opens end_to place.one.running.swap exp h.end.finished.steps h.end.finished.told h.end.finished.sound h.end.finished.later limit
-        (λ outcome. opened_without opens place.front place.one place.rest place.are devices) EndIs end_done outcome
+        (λ outcome. open_without opens place.front place.one place.rest place.are) EndIs end_done outcome
 
     leads_by : (outcome : Outcome) → IsOver outcome → Goes outcome → FinishLeaves the_texts old.lab h.end.swap before now new.journal h.end.finished.steps outcome → EndLeads outcome
     leads_by More over goes leaves = absurd over
@@ -117,7 +128,7 @@ module _ (before now : Seen) (old new : Control) (opens : List OpenSwap) (exp : 
     pub ended : Obeyed devices before now (Is (Ok (Finish exp))) old new opens (Some exp) (progress_answer exp told)
     ended =
         by_outcome devices before now (Is (Ok (Finish exp))) old new opens end_to place.one.running.swap exp h.end.finished.steps h.end.finished.told h.end.finished.sound h.end.finished.later limit
-        (λ outcome. opened_without opens place.front place.one place.rest place.are devices) EndIs end_done h.end.finished.outcome (leads_by h.end.finished.outcome h.end.finished.over h.goes h.end.finished.leaves)
-        (subst (λ (n : ℕ). IsCausedSince h.end.finished.outcome n before now) (sym (counted before now old new opens exp works h.end.before h.end.behind x h.end.opens_are h.end.named devices)) cause_since)
+        (λ outcome. open_without opens place.front place.one place.rest place.are) EndIs end_done h.end.finished.outcome (leads_by h.end.finished.outcome h.end.finished.over h.goes h.end.finished.leaves)
+        (subst (λ (n : ℕ). IsCausedSince h.end.finished.outcome n before now) (sym (counted before now old new opens exp works h.end.before h.end.behind x h.end.opens_are h.end.named devices)) cause_since) cause_now
         (λ halted. stops.0 (end_halts.0 halted)) (λ stopped. end_halts.1 (stops.1 stopped)) (progress_answer exp told)
         (subst (λ (o : RunningSwap). IsAnswer o.swap h.end.finished.outcome (progress_answer exp told)) (sym place.running) (end_answer h.end.finished.outcome refl))

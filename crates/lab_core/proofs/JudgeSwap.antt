@@ -14,6 +14,7 @@ use Rattle.virt_topo.specs.declared.mapping.Mapped.{Mapped}
 use Rattle.virt_topo.specs.declared.mapping.Mapping.{Mapping}
 use Rattle.virt_topo.specs.declared.wiring.Wiring.{Wiring}
 use Rattle.virt_topo.specs.declared.violation.Broken.TheVariants.{F8}
+use Rattle.virt_topo.specs.Sharing.{has_multiplexed}
 use Rattle.virt_topo.specs.Wirings.{mapped}
 use Rattle.journal_rec.specs.declared.record.Way.{Way}
 use Rattle.journal_rec.specs.declared.record.Way.TheVariants.{In as WayIn}
@@ -25,23 +26,25 @@ use Rattle.lab_model.specs.Rules.{keeps_f1, keeps_f6, keeps_f8}
 use Rattle.lab_model.specs.Shapes.{IsShaped}
 use Rattle.lab_model.proofs.FeasibleLaws.{kept_from}
 use Rattle.lab_model.proofs.FirstViolation.{same_violation}
-use Rattle.records_model.specs.Labs.{LabState, Move, Sane, BeginsIn, BeginsChange, SaysBegin, becomes, can_take, find, in_phase, in_state, lab_in, moved, moved_in, moved_of, moved_one, others, replace, with_replaced}
+use Rattle.records_model.specs.Labs.{LabState, Move, Sane, BeginsIn, BeginsChange, SaysBegin, becomes, can_take, change_in, find, in_phase, in_state, lab_in, moved, moved_in, moved_of, moved_one, others, replace, with_replaced}
 use Rattle.records_model.proofs.Finding.{Found, found_from}
+use Rattle.records_model.proofs.LabLaws.{change_says}
 use Rattle.records_model.proofs.Swaps.{found_in}
 use Rattle.claims.specs.Answered.{AreTaken}
 use Rattle.claims.specs.Experiments.{ClaimsOf}
 use Rattle.claims.specs.Held.{Held, IsLeftTo, free_ids}
 use Rattle.claims.proofs.OthersLeave.{is_left}
 use Rattle.solution_text.specs.CanonicalSolution.{canonical_solution}
-use Rattle.swap_txn.specs.States.{unsent}
+use Rattle.swap_txn.specs.States.{is_over, unsent}
 use Rattle.swap_plan.specs.Plans.{IsFit}
 use Rattle.swap_plan.specs.declared.commands.Ops.{Ops}
 use Rattle.swap_turns.specs.Swaps.{Swap as SwapOf, swap_in}
-use Rattle.swap_turns.proofs.Begins.{moves_in, moves_over}
+use Rattle.swap_turns.proofs.Begins.{moves_in, moves_over, unsent_over}
 use Rattle.lab_state.specs.Texts.{the_texts}
 use Rattle.script_text.specs.declared.reply.Reply.{Reply}
 use Rattle.solution_text.specs.Solutions.{mapping_of_text}
 use Rattle.top_text.specs.Adding.{wiring_of_text}
+use Rattle.top_text.specs.Canonical.{canonical_top}
 use Rattle.top_text.specs.Printable.{is_printable}
 use Rattle.lab_core.specs.declared.task.Task.{Task as TaskInHand}
 use Rattle.lab_core.specs.declared.task.Task.TheVariants as tasks
@@ -169,6 +172,13 @@ module _ (s : LabState) (lab : Lab) (e : Experiment) (m : Mapping) (tags : List 
   pub planned_in : (task : TaskInHand) → IsTaskOf lab (swap_in e m tags) (WayIn (canonical_solution lab e.wiring m) tags) task → (judged_mapping s lab e m ≡ Ok (task_of task)) × CanDo s task
   planned_in = planned s lab e e.wiring m tags o.there can (swap_in e m tags) (λ tags. WayIn (canonical_solution lab e.wiring m) tags) refl leads_in
 
+over_by : (second : Bool) (top map : List ℕ) (tags : List VlanId) → is_over (change_in second top map tags) ≡ true
+over_by false top map tags = refl
+over_by true top map tags = refl
+
+over_leads : (lab : Lab) (new : Mapped) → is_over (way_over lab new) ≡ true
+over_leads lab new = over_by (has_multiplexed new.wiring) (canonical_top new.wiring) (canonical_solution lab new.wiring new.mapping) new.tags
+
 -- A CHANGE of one that is in
 module _ (s : LabState) (lab : Lab) (e : Experiment) (mapping : Mapping) (old : List VlanId) (w : Wiring) (m : Mapping) (tags : List VlanId) (o : IsInIn s lab e mapping old) (sound : IsSound w) (shaped : IsShaped lab w m) where
   pub old_fit : IsFit lab (mapped e.wiring mapping old)
@@ -184,7 +194,8 @@ module _ (s : LabState) (lab : Lab) (e : Experiment) (mapping : Mapping) (old : 
       leads_over way course back is =
           let move : Move = BeginsChange e.name w m tags in
           let said : SaysBegin the_texts s e.name (way_over lab (mapped w m tags)) move
-          = (lab, w, m, o.there.is_lab, lab_kept s lab e w m tags o.there can, record { sound = sound; printable = printable }, refl, shaped, refl, refl) in
+          = change_says the_texts s e.name (canonical_top w) (canonical_solution lab w m) tags (has_multiplexed w) move
+          (lab, w, m, o.there.is_lab, lab_kept s lab e w m tags o.there can, record { text = record { sound = sound; printable = printable }; says = refl; format = refl }, shaped, refl, refl) in
           record {
             move = move;
             says = subst (λ (x : Way). SaysBegin the_texts s e.name x move) (sym is.way_is) said;
@@ -193,7 +204,7 @@ module _ (s : LabState) (lab : Lab) (e : Experiment) (mapping : Mapping) (old : 
             state = record { lab = Some lab; experiments = replace e.name (begun s lab e w m tags o.there can (Some (mapped e.wiring mapping old))) s.experiments };
             gives = gives_by s lab e w m tags o.there can (Some (mapped e.wiring mapping old)) (In mapping old) move o.inside refl refl;
             moves = λ short u gives. moves_over s u e mapping old w m tags short o.there.found o.inside gives;
-            plan = λ i. unsent e.name (is.way_is i) (is.course_is i) (is.back_is i);
+            plan = (λ i. unsent e.name (is.way_is i) (is.course_is i) (is.back_is i)) ∙ unsent_over e mapping old w m tags lab (way_over lab (mapped w m tags)) (over_leads lab (mapped w m tags));
           }
 
       pub planned_over : (task : TaskInHand) → IsTaskOf lab (change_of e.name (mapped e.wiring mapping old) (mapped w m tags)) (way_over lab (mapped w m tags)) task → (judged_change s lab e w m ≡ Ok (task_of task)) × CanDo s task

@@ -1,5 +1,5 @@
 -- The tasks of commands can be done.
-use Rattle.std.proofs.Common.{◌≡◌, ◌<◌, ◌≤◌, ℕ, true, nat_le, List, [], ◌∷◌, ◌++◌, length, Option, Some, None, Ok, refl, sym, ap, ◌∙◌, subst, arith}
+use Rattle.std.proofs.Common.{◌≡◌, ◌<◌, ◌≤◌, ℕ, Bool, true, false, nat_le, List, [], ◌∷◌, ◌++◌, length, Option, Some, None, Ok, refl, sym, ap, ◌∙◌, subst, arith}
 use Rattle.std.proofs.lemmas.Bool.{leb-true, le-leb, and_parts}
 use Rattle.lab_base.specs.Names.{is_name}
 use Rattle.lab_base.specs.declared.ids.VlanId.{VlanId}
@@ -11,18 +11,19 @@ use Rattle.virt_topo.specs.declared.experiment.Phase.{Phase}
 use Rattle.virt_topo.specs.declared.experiment.Phase.TheVariants.{Out, In, Moving}
 use Rattle.virt_topo.specs.declared.mapping.Mapping.{Mapping}
 use Rattle.virt_topo.specs.declared.wiring.Wiring.{Wiring}
+use Rattle.virt_topo.specs.Sharing.{has_multiplexed}
 use Rattle.virt_topo.specs.Wirings.{mapped}
 use Rattle.journal_rec.specs.Payloads.{IsRecord}
 use Rattle.journal_rec.specs.declared.record.Record.{Record}
-use Rattle.journal_rec.specs.declared.record.Record.TheVariants.{Lab as LabRecord, Create, Delete, Begin}
+use Rattle.journal_rec.specs.declared.record.Record.TheVariants.{Lab as LabRecord, Delete, Begin}
 use Rattle.journal_rec.specs.declared.record.Way.{Way}
 use Rattle.journal_rec.specs.declared.record.Way.TheVariants.{Out as WayOut}
 use Rattle.lab_model.specs.Claims.{New, claimed_in}
 use Rattle.lab_model.specs.Courses.{Plan, commands}
 use Rattle.lab_model.specs.Shapes.{IsShaped}
 use Rattle.plant.specs.Worlds.{World}
-use Rattle.records_model.specs.Labs.{LabState, Move, IsRightFor, Says, SetLab, Creates, Deletes, BeginsOut, moved, moved_in, moved_of, find, others, replace, in_phase, lab_in, Sane}
-use Rattle.records_model.proofs.LabLaws.{in_state-some}
+use Rattle.records_model.specs.Labs.{LabState, Move, IsRightFor, Says, create_in, SetLab, Creates, Deletes, BeginsOut, moved, moved_in, moved_of, find, others, replace, in_phase, lab_in, Sane}
+use Rattle.records_model.proofs.LabLaws.{in_state-some, create_says}
 use Rattle.records_model.proofs.Swaps.{found_in}
 use Rattle.lab_state.proofs.Named.{name_is}
 use Rattle.ptop_text.specs.Canonical.{canonical}
@@ -74,6 +75,10 @@ can_swap s lab p way ops is_lab is_record h = (
   },
 )
 
+creates_none : (second : Bool) (exp top : List ℕ) → EndsNoMove (create_in second exp top)
+creates_none false exp top = tt
+creates_none true exp top = tt
+
 module _ (s : LabState) where
   -- `ptop`
   pub can_set : (lab : Lab) (ptop : List ℕ) (entry : Record) (reply : Reply) → s.lab ≡ None → IsLab lab → ptop ≡ canonical lab → entry ≡ LabRecord ptop → IsRecord entry → reply ≡ lab_reply lab → CanDo s (tasks.Append entry reply)
@@ -86,12 +91,12 @@ module _ (s : LabState) where
   }
 
   -- `create` and `create-top`
-  created : (exp : List ℕ) (w : Wiring) (lab : Lab) → s.lab ≡ Some lab → find exp s.experiments ≡ None → length s.experiments < 256 → IsSound w → is_printable w ≡ true → MayFollow s (Create exp (canonical_top w))
+  created : (exp : List ℕ) (w : Wiring) (lab : Lab) → s.lab ≡ Some lab → find exp s.experiments ≡ None → length s.experiments < 256 → IsSound w → is_printable w ≡ true → MayFollow s (create_in (has_multiplexed w) exp (canonical_top w))
   created exp w lab is new few sound printable =
       let few_so : nat_le (length s.experiments) 255 ≡ true = le-leb _ _ (omega (arith, few)) in
       record {
         move = Creates exp w;
-        says = (w, record { sound = sound; printable = printable }, refl, refl);
+        says = create_says the_texts s exp (canonical_top w) (has_multiplexed w) (Creates exp w) (w, record { text = record { sound = sound; printable = printable }; says = refl; format = refl }, refl);
         state = record { lab = Some lab; experiments = s.experiments ++ record { name = exp; wiring = w; phase = Out } ∷ [] };
         moves = rw (is, new, few_so) refl;
         ready = λ v. tt;
@@ -105,12 +110,12 @@ module _ (s : LabState) where
       by (Some lab) None is found = (lab, is, found)
       by (Some lab) (Some e) is found = let h = rw (is, found) at place in absurd (cc h)
 
-  pub can_create : (exp : List ℕ) (w : Wiring) (top : List ℕ) (entry : Record) (reply : Reply) → need_place s exp ≡ Ok tt → length s.experiments < 256 → IsSound w → is_printable w ≡ true → top ≡ canonical_top w → entry ≡ Create exp top → IsRecord entry → reply ≡ created_reply exp w
+  pub can_create : (exp : List ℕ) (w : Wiring) (top : List ℕ) (entry : Record) (reply : Reply) → need_place s exp ≡ Ok tt → length s.experiments < 256 → IsSound w → is_printable w ≡ true → top ≡ canonical_top w → entry ≡ create_in (has_multiplexed w) exp top → IsRecord entry → reply ≡ created_reply exp w
       → CanDo s (tasks.Append entry reply)
   can_create exp w top entry reply place few sound printable text entry_is is_record reply_is = record {
     is_record = is_record;
-    follows = let p = placed exp place in subst (λ (r : Record). MayFollow s r) (sym (entry_is ∙ ap (λ (t : List ℕ). Create exp t) text)) (created exp w p.0 p.1 p.2 few sound printable);
-    no_end = subst EndsNoMove (sym entry_is) tt;
+    follows = let p = placed exp place in subst (λ (r : Record). MayFollow s r) (sym (entry_is ∙ ap (λ (t : List ℕ). create_in (has_multiplexed w) exp t) text)) (created exp w p.0 p.1 p.2 few sound printable);
+    no_end = subst EndsNoMove (sym entry_is) (creates_none (has_multiplexed w) exp top);
     mild = subst IsMild (sym reply_is) (refl, refl);
   }
 

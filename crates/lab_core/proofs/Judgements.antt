@@ -7,7 +7,7 @@ use Rattle.virt_topo.specs.declared.wiring.Wiring.{Wiring}
 use Rattle.journal_rec.specs.declared.record.Record.{Record}
 use Rattle.journal_rec.specs.declared.record.Record.TheVariants as records
 use Rattle.journal_rec.specs.declared.record.Way.{Way}
-use Rattle.journal_rec.specs.declared.record.Way.TheVariants.{In as WayIn, Out as WayOut, Change as WayChange}
+use Rattle.journal_rec.specs.declared.record.Way.TheVariants.{In as WayIn, Out as WayOut, Change as WayChange, Change2 as WayChange2}
 use Rattle.assign_core.specs.declared.whole.Solved.{Solved}
 use Rattle.assign_core.specs.declared.whole.Solved.TheVariants as solved
 use Rattle.virt_topo.specs.declared.experiment.Experiment.{Experiment}
@@ -165,11 +165,13 @@ module _ (name : List ℕ) (s : LabState) (o : Option (List ℕ)) (other : o ≢
   begin_apart : (exp : List ℕ) (way : Way) → o ≡ Some exp → (move : Move) → Says the_texts s (records.Begin exp way) move → IsApart name move
   begin_apart exp (WayIn map tags) own move says = subst (IsApart name) (sym says.9) (own_apart exp own)
   begin_apart exp WayOut own move says = subst (IsApart name) (sym says) (own_apart exp own)
-  begin_apart exp (WayChange top map tags) own move says = subst (IsApart name) (sym says.9) (own_apart exp own)
+  begin_apart exp (WayChange top map tags) own move says = subst (IsApart name) (sym says.8) (own_apart exp own)
+  begin_apart exp (WayChange2 top map tags) own move says = subst (IsApart name) (sym says.8) (own_apart exp own)
 
   entry_apart : (entry : Record) → is_some s.lab ≡ true → IsOwn s o entry → (move : Move) → Says the_texts s entry move → IsApart name move
   entry_apart (records.Lab ptop) there none move says = absurd (cc (ap is_some none, there))
-  entry_apart (records.Create exp top) there own move says = subst (IsApart name) (sym says.3) (own_apart exp own)
+  entry_apart (records.Create exp top) there own move says = subst (IsApart name) (sym says.2) (own_apart exp own)
+  entry_apart (records.Create2 exp top) there own move says = subst (IsApart name) (sym says.2) (own_apart exp own)
   entry_apart (records.Delete exp) there own move says = subst (IsApart name) (sym says) (own_apart exp own)
   entry_apart entry there own move says = absurd own
 

@@ -1,39 +1,44 @@
-pub mod Behind
-pub mod Claimed
-pub mod Compacting
-pub mod EndOne
+mod Behind
+pub mod Beside
+pub mod BySolution
+mod Claimed
+mod Compacting
+mod EndOne
 pub mod Fits
-pub mod JudgeSwap
-pub mod JudgeTasks
-pub mod Judgements
+mod JudgeSwap
+mod JudgeTasks
+mod Judgements
 pub mod Obey
-pub mod ObeyJudged
+mod ObeyJudged
 pub mod OneJournal
-pub mod OpenSwaps
-pub mod OpenNames
-pub mod Opened
+mod OpenSwaps
+pub mod OpenMoves
+mod OpenNames
+mod Opened
 pub mod OpenLaws
 pub mod Openings
 pub mod OtherWorlds
 pub mod Others
 pub mod OuterReplies
-pub mod PerformAppend
-pub mod PerformSwap
-pub mod Readiness
-pub mod Recovering
+mod PerformAppend
+mod PerformSwap
+pub mod Places
+mod Readiness
+mod Recovering
 pub mod Rested
-pub mod RunSwap
+mod RunSwap
+pub mod SameSwaps
 pub mod Said
-pub mod SettledOpenings
-pub mod SearchLaws
-pub mod Searched
-pub mod Shown
+mod SettledOpenings
+mod SearchLaws
+mod Searched
+mod Shown
 pub mod SolutionLaws
 pub mod StepLaws
-pub mod Tags
-pub mod Taken
-pub mod Told
+mod Tags
+mod Taken
+mod Told
 pub mod TurnLaws
-pub mod TurnLabs
-pub mod TurnOne
-pub mod WaysIn
+mod TurnLabs
+mod TurnOne
+mod WaysIn

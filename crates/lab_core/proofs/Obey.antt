@@ -10,6 +10,8 @@ use Rattle.records_model.specs.Works.{IsSound}
 use Rattle.lab_state.specs.Texts.{the_texts}
 use Rattle.script_text.specs.Replies.{blames_device, closes}
 use Rattle.script_text.specs.declared.command.Command.{Command}
+use Rattle.lab_base.specs.declared.what.What.TheVariants as whats
+use Rattle.script_text.specs.declared.reply.FailedEnd.TheVariants as ends
 use Rattle.script_text.specs.declared.reply.Reply.{Reply}
 use Rattle.script_text.specs.declared.reply.Reply.TheVariants as replies
 use Rattle.swap_turns.specs.Causes.{IsLater}
@@ -21,10 +23,12 @@ use Rattle.cost_rule.specs.declared.rule.RuleNumber.{RuleNumber}
 use Rattle.lab_core.specs.declared.fault.CoreFault.{CoreFault}
 use Rattle.lab_core.specs.declared.fault.CoreFault.TheVariants as faults
 use Rattle.lab_core.specs.Controller.{Control, WorksWith}
-use Rattle.lab_core.specs.Judge.{Task, Is}
+use Rattle.lab_core.specs.Judge.{Task, Is, Recover}
 use Rattle.lab_core.specs.LabSteps.{IsDoneBy, JudgedBeside, does, no_memory}
-use Rattle.lab_core.specs.Obey.{Start, start_of, IsDone, Leaves, Answers, ObeyEnds, ObeySteps, ObeyTold, Obeyed}
-use Rattle.lab_core.specs.Sessions.{After, Closed, Open, OpenSwap, Setting, AreOpenedBy, counted_from}
+use Rattle.lab_core.specs.Obey.{Start, start_of, IsDone, Leaves, Answers, ObeyEnds, ObeySteps, ObeyTold, Obeyed, WantsIn, undone, between}
+use Rattle.lab_core.specs.Recovery.{broken_off, some}
+use Rattle.lab_core.specs.Breaks.{unanswered}
+use Rattle.lab_core.specs.Sessions.{After, Closed, Open, OpenSwap, Setting, AreOpenedBy, WereOpen, blames_now, counted_from}
 use Rattle.lab_core.specs.Tasks.{IsMild}
 use Rattle.journal_disk.proofs.Chains.{nothing_yet}
 
@@ -40,13 +44,23 @@ pub if_all : {X : Type 0} (o : Option X) (P : X → Type 0) → ((x : X) → P x
 if_all None P each = tt
 if_all (Some x) P each = each x
 
+-- those that were open are so, whatever the reply
+pub as_open : (exp : Option (List ℕ)) (reply : Option Reply) (old new : List OpenSwap) (count : ℕ) → WereOpen old new → AreOpenedBy exp reply old new count
+as_open exp reply old new count were = λ o has. inr (were o has)
+
+-- a device that is blamed for what the command itself sent is blamed
+pub now_blames : (reply : Reply) → blames_now reply ≡ true → blames_device reply ≡ true
+now_blames (replies.Trouble exp (whats.Device name)) h = refl
+now_blames (replies.Failed exp ends.Stuck (whats.Device name)) h = refl
+now_blames reply h = false_true h
+
 -- the plant runs on, if it ran
 abbrev pub RunsOn : Seen → Seen → Type 0
 RunsOn before now = before.stopped ≡ false → now.stopped ≡ true → ⊥
 
 -- WHAT A CALL LEAVES, by the steps that it added
 module _ (devices : ℕ) (before now : Seen) (IsJudged : Result Task Reply → Type 0) (old new : Control) (opens to : List OpenSwap) (exp : Option (List ℕ)) (own : List Event) (told : now.told ≡ with_steps before.told own)
-    (sound : IfSome before.told (λ w. IsSound the_texts w.trace → IsSound the_texts (w.trace ++ own))) (later : IsLater before now) (limit : limit_of new.journal ≡ limit_of old.journal) (opened : AreOpenedBy opens to devices) where
+    (sound : IfSome before.told (λ w. IsSound the_texts w.trace → IsSound the_texts (w.trace ++ own))) (later : IsLater before now) (limit : limit_of new.journal ≡ limit_of old.journal) where
   abbrev start : Start
   start = start_of devices old opens
 
@@ -61,9 +75,9 @@ module _ (devices : ℕ) (before now : Seen) (IsJudged : Result Task Reply → T
   )
 
   -- IT GOES ON
-  pub goes_on : (reply : Reply) → closes reply ≡ false → IsDone IsJudged start own (Some reply) new.lab (Open to) → WorksWith now new to
-      → (blames_device reply ≡ true → Rose (counted_from opens exp devices) now.faults.devices) → RunsOn before now → Left (Ok reply)
-  goes_on reply open_still done works blames runs = record {
+  pub goes_on : (reply : Reply) → closes reply ≡ false → AreOpenedBy exp (Some reply) opens to devices → IsDone IsJudged start own (Some reply) new.lab (Open to) → WorksWith now new to
+      → (blames_device reply ≡ true → Rose (counted_from opens exp devices) now.faults.devices) → (blames_now reply ≡ true → Rose before.faults.devices now.faults.devices) → RunsOn before now → Left (Ok reply)
+  goes_on reply open_still opened done works blames here runs = record {
     to = to;
     obeys = steps_by (Ok reply) (if_all before.told (λ w. ObeyEnds w.trace IsJudged start own new.lab to (Ok reply)) (λ w. subst (λ b. Answers w.trace IsJudged start own reply new.lab to b) (sym open_still) done));
     works = λ _. works;
@@ -71,21 +85,23 @@ module _ (devices : ℕ) (before now : Seen) (IsJudged : Result Task Reply → T
     opened = opened;
     down = λ closing. not_both (closes reply) closing open_still;
     device = blames;
+    here = here;
     later = later.disk;
     still = later.devices;
     stopped = λ ran. (λ h. cc h, λ h. absurd (runs ran h));
   }
 
   -- MEMORY WAS WANTING
-  pub wants : IsDone IsJudged start own None new.lab Closed → WorksWith now new to → RunsOn before now → Left (Err faults.Memory)
-  wants done works runs = record {
+  pub wants : WereOpen opens to → WantsIn IsJudged start own new.lab to → WorksWith now new to → RunsOn before now → Left (Err faults.Memory)
+  wants were done works runs = record {
     to = to;
-    obeys = steps_by (Err faults.Memory) (if_all before.told (λ w. IsDone IsJudged start own None new.lab Closed) (λ w. done));
+    obeys = steps_by (Err faults.Memory) (if_all before.told (λ w. WantsIn IsJudged start own new.lab to) (λ w. done));
     works = λ _. works;
     limit = limit;
-    opened = opened;
+    opened = as_open exp None opens to devices were;
     down = tt;
     device = tt;
+    here = tt;
     later = later.disk;
     still = later.devices;
     stopped = λ ran. (λ h. cc h, λ h. absurd (runs ran h));
@@ -99,37 +115,44 @@ module _ (devices : ℕ) (before now : Seen) (IsJudged : Result Task Reply → T
         (λ w images. record { lab = closed.after; done = done closed.after closed.is; images = λ sound a b possible. let i = images sound a b possible in (i.0, i.1, done i.0 i.2 a b) }) closed.images
 
   -- by a reply that blames no device
-  pub closed_by : (reply : Reply) → closes reply ≡ true → blames_device reply ≡ false → (Is : List Event → LabState → Type 0) → Closes the_texts before.told own Is
+  pub closed_by : WereOpen opens to → (reply : Reply) → closes reply ≡ true → blames_device reply ≡ false → (Is : List Event → LabState → Type 0) → Closes the_texts before.told own Is
       → ((lab : LabState) → Is own lab → IsDone IsJudged start (own ++ []) (Some reply) lab Closed) → Rose before.faults.disk now.faults.disk → RunsOn before now → Left (Ok reply)
-  closed_by reply closing mild Is closed done rose runs = record {
+  closed_by were reply closing mild Is closed done rose runs = record {
     to = to;
     obeys = steps_by (Ok reply) (if_some before.told (λ w. Leaves w.trace IsJudged start own reply (λ a b. [])) (λ w. ObeyEnds w.trace IsJudged start own new.lab to (Ok reply))
         (λ w l. subst (λ b. Answers w.trace IsJudged start own reply new.lab to b) (sym closing) l) (leaves Is closed reply (λ a b. []) (λ lab is a b. done lab is)));
     works = λ going. false_true (subst (λ b. not b ≡ true) closing going);
     limit = limit;
-    opened = opened;
+    opened = as_open exp (Some reply) opens to devices were;
     down = λ _. rose;
     device = λ blaming. not_both (blames_device reply) blaming mild;
+    here = λ blaming. not_both (blames_device reply) (now_blames reply blaming) mild;
     later = later.disk;
     still = later.devices;
     stopped = λ ran. (λ h. cc h, λ h. absurd (runs ran h));
   }
 
   -- by a stop
-  pub halted : (Is : List Event → LabState → Type 0) → Closes the_texts before.told own Is → ((lab : LabState) → Is own lab → (a b : List ℕ) → IsDone IsJudged start (own ++ Restarted a b ∷ []) (Some replies.Stopped) lab Closed)
+  pub halted : WereOpen opens to → (Is : List Event → LabState → Type 0) → Closes the_texts before.told own Is → ((lab : LabState) → Is own lab → (a b : List ℕ) → IsDone IsJudged start (own ++ Restarted a b ∷ []) (Some replies.Stopped) lab Closed)
       → (before.stopped ≡ false → now.stopped ≡ true) → Left (Err faults.Stopped)
-  halted Is closed done stop = record {
+  halted were Is closed done stop = record {
     to = to;
     obeys = steps_by (Err faults.Stopped) (leaves Is closed replies.Stopped (λ a b. Restarted a b ∷ []) done);
     works = λ going. false_true going;
     limit = limit;
-    opened = opened;
+    opened = as_open exp None opens to devices were;
     down = tt;
     device = tt;
+    here = tt;
     later = later.disk;
     still = later.devices;
     stopped = λ ran. (λ h. stop ran, λ h. refl);
   }
+
+-- WHERE MEMORY WAS WANTING the command is done as far as it came
+pub wants_done : (IsJudged : Result Task Reply → Type 0) (start : Start) (own : List Event) (lab : LabState) (to : List OpenSwap) → WantsIn IsJudged start own lab to → IsDone IsJudged start own None lab Closed
+wants_done IsJudged start own lab to (undone none lab_is to_is) = no_memory (record { nothing = none; after_is = ap (λ u. record { reply = None; lab = u; session = Closed }) lab_is })
+wants_done IsJudged start own lab to (between judged settles to_is) = does (Ok Recover) judged (broken_off (some settles) (unanswered refl) refl)
 
 -- NOTHING WAS DONE
 sound_still : (told : Option Told) → IfSome told (λ w. IsSound the_texts w.trace → IsSound the_texts (w.trace ++ []))
@@ -139,14 +162,15 @@ same_later : (before : Seen) → IsLater before before
 same_later before = record { disk = omega arith; devices = omega arith }
 
 -- the same are open
-pub same_opened : (opens : List OpenSwap) (count : ℕ) → AreOpenedBy opens opens count
-same_opened opens count = λ o has. inr (o, has, refl, refl)
+pub same_open : (opens : List OpenSwap) → WereOpen opens opens
+same_open opens = λ o has. (o, has, refl, refl)
 
 -- a mild reply
 pub replied : (devices : ℕ) (before : Seen) (IsJudged : Result Task Reply → Type 0) (c : Control) (opens : List OpenSwap) (exp : Option (List ℕ)) (reply : Reply) → WorksWith before c opens → IsMild reply
     → IsDone IsJudged (start_of devices c opens) [] (Some reply) c.lab (Open opens) → Obeyed devices before before IsJudged c c opens exp (Ok reply)
 replied devices before IsJudged c opens exp reply works mild done =
-    goes_on devices before before IsJudged c c opens opens exp [] (nothing_yet before.told) (sound_still before.told) (same_later before) refl (same_opened opens devices) reply mild.0 done works (λ blaming. not_both (blames_device reply) blaming mild.1)
+    goes_on devices before before IsJudged c c opens opens exp [] (nothing_yet before.told) (sound_still before.told) (same_later before) refl reply mild.0 (as_open exp (Some reply) opens opens devices (same_open opens)) done works (λ blaming. not_both (blames_device reply) blaming mild.1)
+    (λ blaming. not_both (blames_device reply) (now_blames reply blaming) mild.1)
     (λ ran stopped. not_both before.stopped stopped ran)
 
 -- a refusal
@@ -157,7 +181,7 @@ refuses devices before IsJudged c opens exp reply works is = replied devices bef
 -- memory was wanting
 pub wanted : (devices : ℕ) (before : Seen) (IsJudged : Result Task Reply → Type 0) (c : Control) (opens : List OpenSwap) (exp : Option (List ℕ)) → WorksWith before c opens → Obeyed devices before before IsJudged c c opens exp (Err faults.Memory)
 wanted devices before IsJudged c opens exp works =
-    wants devices before before IsJudged c c opens opens exp [] (nothing_yet before.told) (sound_still before.told) (same_later before) refl (same_opened opens devices) (no_memory (record { nothing = refl; after_is = refl })) works
+    wants devices before before IsJudged c c opens opens exp [] (nothing_yet before.told) (sound_still before.told) (same_later before) refl (same_open opens) (undone refl refl refl) works
     (λ ran stopped. not_both before.stopped stopped ran)
 
 -- WHAT IS JUDGED in other words
@@ -180,7 +204,8 @@ module _ (A B : Result Task Reply → Type 0) (each : (j : Result Task Reply) �
   ends_by : (trace : List Event) (start : Start) (own : List Event) (lab : LabState) (to : List OpenSwap) (result : Result Reply CoreFault) → ObeyEnds trace A start own lab to result → ObeyEnds trace B start own lab to result
   ends_by trace start own lab to (Ok reply) h = answers_by trace start own reply lab to (closes reply) h
   ends_by trace start own lab to (Err faults.Stopped) h = left_by trace start own _ _ h
-  ends_by trace start own lab to (Err faults.Memory) h = done_by start.set start.lab start.opens own _ h
+  ends_by trace start own lab to (Err faults.Memory) (undone none lab_is to_is) = undone none lab_is to_is
+  ends_by trace start own lab to (Err faults.Memory) (between judged settles to_is) = between (each (Ok Recover) judged) settles to_is
 
   pub obeyed_by : (devices : ℕ) (before now : Seen) (old new : Control) (opens : List OpenSwap) (exp : Option (List ℕ)) (result : Result Reply CoreFault) → Obeyed devices before now A old new opens exp result → Obeyed devices before now B old new opens exp result
   obeyed_by devices before now old new opens exp result h =
@@ -198,6 +223,7 @@ module _ (A B : Result Task Reply → Type 0) (each : (j : Result Task Reply) �
         opened = h.opened;
         down = h.down;
         device = h.device;
+        here = h.here;
         later = h.later;
         still = h.still;
         stopped = h.stopped;

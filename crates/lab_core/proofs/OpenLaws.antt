@@ -25,7 +25,7 @@ use Rattle.swap_turns.specs.Swaps.{Swap as SwapOf}
 use Rattle.swap_turns.specs.Turning.{Outcome, More, TurnsBack, Ended, Stuck, Unwritten, Stopped as Halted}
 use Rattle.lab_core.specs.Breaks.{Breaks, stopped, failed, unanswered}
 use Rattle.lab_core.specs.Judge.{Task, Tell, Append, Swap, BeginOnly, Turn, Finish, Recover}
-use Rattle.lab_core.specs.LabSteps.{AppendEnds, whole, broken, Appends, IsAnswered, is_told, unanswered as untold, end_session, turn_reply, Swaps, BeginSteps, Begins as BeginsSwap, begun_at, IsOneOf, turned_on, has_space, IfSpace, Does, Drills, is_planned, is_refused, wants_memory, JudgedBeside}
+use Rattle.lab_core.specs.LabSteps.{AppendEnds, whole, broken, Appends, IsAnswered, is_told, end_session, turn_reply, Swaps, BeginSteps, Begins as BeginsSwap, begun_at, IsOneOf, turned_on, has_space, IfSpace, Does, Drills, is_planned, is_refused, wants_memory, JudgedBeside}
 use Rattle.lab_core.specs.Recovery.{Recovers, settled, broken_off}
 use Rattle.cost_rule.specs.declared.rule.RuleNumber.{RuleNumber}
 use Rattle.lab_core.specs.Sessions.{OpenSwap, Session, Closed, Open, Setting, After, is_among, name_in, name_of, names_of, open_at, Terms}
@@ -35,11 +35,11 @@ use Rattle.lab_core.proofs.StepLaws.{Was, done, wanting, broke, drilled, none_to
 use Rattle.phys_lab.proofs.FaultLaws.{neither}
 
 -- OPEN SWAPS BY NAME, without one of another name, and with it
-at_without : (name : List ℕ) (front rest : List OpenSwap) (o : OpenSwap) → name_in o ≢ name → open_at name (front ++ o ∷ rest) ≡ open_at name (front ++ rest)
+pub at_without : (name : List ℕ) (front rest : List OpenSwap) (o : OpenSwap) → name_in o ≢ name → open_at name (front ++ o ∷ rest) ≡ open_at name (front ++ rest)
 at_without name [] rest o apart = cond-false (bytes_eq (name_in o) name) (Some o) (open_at name rest) (false_from_ne_true (bytes_eq (name_in o) name) (λ h. apart ((bytes_eq-Decides (name_in o) name).0 h)))
 at_without name (x ∷ front) rest o apart = ap (λ (at : Option OpenSwap). cond (bytes_eq (name_in x) name) (Some x) at) (at_without name front rest o apart)
 
-at_turned : (name : List ℕ) (front rest : List OpenSwap) (o : OpenSwap) (steps : List Event) (outcome : Outcome) → name_in o ≢ name → open_at name (front ++ (turned_on o steps outcome ++ rest)) ≡ open_at name (front ++ o ∷ rest)
+pub at_turned : (name : List ℕ) (front rest : List OpenSwap) (o : OpenSwap) (steps : List Event) (outcome : Outcome) → name_in o ≢ name → open_at name (front ++ (turned_on o steps outcome ++ rest)) ≡ open_at name (front ++ o ∷ rest)
 at_turned name front rest o steps More apart = at_without name front rest _ apart ∙ sym (at_without name front rest o apart)
 at_turned name front rest o steps (TurnsBack why) apart = at_without name front rest _ apart ∙ sym (at_without name front rest o apart)
 at_turned name front rest o steps (Ended leg) apart = sym (at_without name front rest o apart)
@@ -55,10 +55,10 @@ IsNext devices opens (Ok (Finish exp)) to = (one : IsOneOf opens exp) × (to ≡
 IsNext devices opens judgement to = to ≡ opens
 
 module _ (after : After) (to : List OpenSwap) (is : after.session ≡ Open to) where
-  not_closed : {X : Type 0} → after.session ≡ Closed → X
+  pub not_closed : {X : Type 0} → after.session ≡ Closed → X
   not_closed closed = let both : Closed ≡ Open to = sym closed ∙ is in absurd (cc both)
 
-  open_is : (opens : List OpenSwap) → after.session ≡ Open opens → to ≡ opens
+  pub open_is : (opens : List OpenSwap) → after.session ≡ Open opens → to ≡ opens
   open_is opens opened = let both : Open to ≡ Open opens = sym is ∙ opened in cc both
 
   by_outcome : (opens : List OpenSwap) (outcome : Outcome) → after.session ≡ end_session opens outcome → to ≡ opens
@@ -69,9 +69,8 @@ module _ (after : After) (to : List OpenSwap) (is : after.session ≡ Open to) w
   by_outcome opens Unwritten ends = not_closed ends
   by_outcome opens Halted ends = not_closed ends
 
-  answered_next : (told : Option Reply) (opens : List OpenSwap) (outcome : Outcome) (behind : List Event) → IsAnswered told opens outcome behind after → to ≡ opens
+  pub answered_next : (told : Option Reply) (opens : List OpenSwap) (outcome : Outcome) (behind : List Event) → IsAnswered told opens outcome behind after → to ≡ opens
   answered_next told opens outcome behind (is_told starts replied session) = by_outcome opens outcome session
-  answered_next told opens outcome behind (untold starts none session) = not_closed session
 
   module _ (s : LabState) (opens : List OpenSwap) (own : List Event) where
     replied_next : {lab : LabState} {reply : Option Reply} → after ≡ record { reply = reply; lab = lab; session = Open opens } → to ≡ opens
@@ -82,7 +81,7 @@ module _ (after : After) (to : List OpenSwap) (is : after.session ≡ Open to) w
       where
         by : AppendEnds s opens a.state told a.run a.more own after → to ≡ opens
         by (whole all none after_is) = replied_next after_is
-        by (broken breaks either closed) = not_closed closed
+        by (broken breaks said either closed) = not_closed closed
 
     space_next : (b : Bool) (length : ℕ) (Done Next : Type 0) → (Done → Next) → (to ≡ opens → Next) → IfSpace b length s opens Done own after → Next
     space_next true length Done Next each full d = each d
@@ -92,7 +91,7 @@ module _ (after : After) (to : List OpenSwap) (is : after.session ≡ Open to) w
     recover_next (settled outcomes settles told session) = open_is opens session
     recover_next (broken_off part breaks closed) = not_closed closed
 
-    does_next : (set : Setting) (judgement : Result Task Reply) → Does set s opens judgement own after → IsNext set.devices opens judgement to
+    pub does_next : (set : Setting) (judgement : Result Task Reply) → Does set s opens judgement own after → IsNext set.devices opens judgement to
     does_next set (Err refusal) d = replied_next d.after_is
     does_next set (Ok (Tell told)) d = replied_next d.after_is
     does_next set (Ok (Append entry told)) d = space_next (has_space set entry) set.length (Appends s opens entry told own after) (to ≡ opens) (append_next entry told) (λ same. same) d
@@ -110,7 +109,7 @@ pub data Leaves (set : Setting) (session : Session) (command : Command) (judgeme
   goes : (mid : LabState) → IsFit mid command (is_among (busy_of session) (name_of command)) (length (opens_of session)) judgement → IsNext set.devices (opens_of session) judgement to → Leaves set session command judgement to
   stands : to ≡ opens_of session → Leaves set session command judgement to
 
-drill_stands : (terms : Terms) (s : LabState) (session : Session) (own : List Event) (after : After) (to : List OpenSwap) → after.session ≡ Open to → Drills terms.takes s session own after → to ≡ opens_of session
+pub drill_stands : (terms : Terms) (s : LabState) (session : Session) (own : List Event) (after : After) (to : List OpenSwap) → after.session ≡ Open to → Drills terms.takes s session own after → to ≡ opens_of session
 drill_stands terms s session own after to is (is_planned yes' none after_is) = sym (ap opens_of (sym (ap (λ (a : After). a.session) after_is) ∙ is))
 drill_stands terms s session own after to is (is_refused no' none after_is) = sym (ap opens_of (sym (ap (λ (a : After). a.session) after_is) ∙ is))
 drill_stands terms s session own after to is (wants_memory wants) = not_closed after to is (ap (λ (a : After). a.session) wants.after_is)
@@ -161,7 +160,7 @@ not_busy (n ∷ names) exp name idle (inl same) = λ is.
     (let both : false ≡ true = sym first ∙ (bytes_eq-Decides n exp).1 (same ∙ is) in cc both)
 not_busy (n ∷ names) exp name idle (inr there) = not_busy names exp name (neither (bytes_eq n exp) (is_busy names exp) idle).1 there
 
-names_split : (front rest : List OpenSwap) → names_of (front ++ rest) ≡ names_of front ++ names_of rest
+pub names_split : (front rest : List OpenSwap) → names_of (front ++ rest) ≡ names_of front ++ names_of rest
 names_split front rest = map-append name_in front rest
 
 with_one : (opens : List OpenSwap) (o : OpenSwap) → is_busy (names_of opens) (name_in o) ≡ false → AllDiffer (names_of opens) → AllDiffer (names_of (opens ++ o ∷ []))
@@ -265,7 +264,6 @@ module _ (own : List Event) (after : After) (exp name : List ℕ) (way : Way) (i
 
       by : IsAnswered (turn_reply d.swap d.outcome) to d.outcome d.behind after → HasBegun devices opens
       by (is_told starts told session) = by_outcome d.outcome d.begins told session
-      by (untold starts none session) = none_told after.reply (replies.More name) none is
 
   if_space : (s : LabState) (opens : List OpenSwap) (devices : ℕ) (b : Bool) (length : ℕ) → IfSpace b length s opens (BeginsSwap s opens devices exp (Begin exp way) own after) own after → HasBegun devices opens
   if_space s opens devices true length d = begun_by s opens devices d

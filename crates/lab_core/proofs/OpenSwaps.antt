@@ -20,7 +20,8 @@ use Rattle.swap_turns.proofs.Pushing.{rose_later}
 use Rattle.journal_disk.specs.declared.fault.OpenFault.{OpenFault}
 use Rattle.lab_core.specs.Controller.{Control, Works, WorksWith}
 use Rattle.lab_core.specs.LabSteps.{turned_on}
-use Rattle.lab_core.specs.Sessions.{OpenSwap, IsSince, HasRisenBy, name_in, open_at, AreOpenedBy}
+use Rattle.script_text.specs.declared.reply.Reply.TheVariants as replies
+use Rattle.lab_core.specs.Sessions.{OpenSwap, IsSince, HasRisenBy, name_in, open_at, AreOpenedBy, WasOpen, WereOpen}
 use Rattle.std.specs.Prelude.{IfOk}
 
 abbrev pub Pair : Type 0
@@ -162,10 +163,7 @@ turned_running o steps Unwritten = refl
 turned_running o steps Stopped = refl
 
 -- WHEN THEY WERE OPENED: before, each, where one of them was turned, or is open no longer; or one of them now
-module _ (opens front : List OpenSwap) (o : OpenSwap) (rest : List OpenSwap) (are : opens ≡ front ++ o ∷ rest) (count : ℕ) where
-  abbrev WasOpened : OpenSwap → Type 0
-  WasOpened x = (x.devices ≡ count) ⊎ ((q : OpenSwap) × Has opens q × (name_in q ≡ name_in x) × (q.devices ≡ x.devices))
-
+module _ (opens front : List OpenSwap) (o : OpenSwap) (rest : List OpenSwap) (are : opens ≡ front ++ o ∷ rest) where
   pub has_one : Has opens o
   has_one = subst (λ (l : List OpenSwap). Has l o) (sym are) (Has-right front (o ∷ rest) o (inl refl))
 
@@ -175,26 +173,29 @@ module _ (opens front : List OpenSwap) (o : OpenSwap) (rest : List OpenSwap) (ar
   pub has_rest : (x : OpenSwap) → Has rest x → Has opens x
   has_rest x has = subst (λ (l : List OpenSwap). Has l x) (sym are) (Has-right front (o ∷ rest) x (inr has))
 
-  itself : (x : OpenSwap) → Has opens x → WasOpened x
-  itself x has = inr (x, has, refl, refl)
+  itself : (x : OpenSwap) → Has opens x → WasOpen opens x
+  itself x has = (x, has, refl, refl)
 
-  pub opened_turned : (steps : List Event) (outcome : Outcome) → AreOpenedBy opens (front ++ (turned_on o steps outcome ++ rest)) count
-  opened_turned steps outcome x has = elim (Has-append front (turned_on o steps outcome ++ rest) x has) [
+  pub open_turned : (steps : List Event) (outcome : Outcome) → WereOpen opens (front ++ (turned_on o steps outcome ++ rest))
+  open_turned steps outcome x has = elim (Has-append front (turned_on o steps outcome ++ rest) x has) [
     | inl in_front ↦ itself x (has_front x in_front)
     | inr behind ↦ elim (Has-append (turned_on o steps outcome) rest x behind) [
-      | inl here ↦ let same = turned_same o steps outcome x here in inr (o, has_one, same.0, same.1)
+      | inl here ↦ let same = turned_same o steps outcome x here in (o, has_one, same.0, same.1)
       | inr in_rest ↦ itself x (has_rest x in_rest)
     ]
   ]
 
-  pub opened_without : AreOpenedBy opens (front ++ rest) count
-  opened_without x has = elim (Has-append front rest x has) [ inl in_front ↦ itself x (has_front x in_front) | inr in_rest ↦ itself x (has_rest x in_rest) ]
+  pub open_without : WereOpen opens (front ++ rest)
+  open_without x has = elim (Has-append front rest x has) [ inl in_front ↦ itself x (has_front x in_front) | inr in_rest ↦ itself x (has_rest x in_rest) ]
 
-pub opened_more : (opens : List OpenSwap) (last : OpenSwap) (count : ℕ) → last.devices ≡ count → AreOpenedBy opens (opens ++ last ∷ []) count
-opened_more opens last count is x has = elim (Has-append opens (last ∷ []) x has) [
+-- one more, which has begun
+pub opened_more : (exp : List ℕ) (opens : List OpenSwap) (last : OpenSwap) (count : ℕ) → name_in last ≡ exp → last.devices ≡ count → AreOpenedBy (Some exp) (Some (replies.More exp)) opens (opens ++ last ∷ []) count
+opened_more exp opens last count named is x has = elim (Has-append opens (last ∷ []) x has) [
   | inl old ↦ inr (x, old, refl, refl)
   | inr at_end ↦ elim at_end [
-    | inl here ↦ inl (sym (ap (λ (y : OpenSwap). y.devices) here) ∙ is)
+    | inl here ↦
+        let same : exp ≡ name_in x = sym named ∙ ap name_in here in
+        inl (ap (λ (n : List ℕ). Some n) same, ap (λ (n : List ℕ). Some (replies.More n)) same, sym (ap (λ (y : OpenSwap). y.devices) here) ∙ is)
     | inr none ↦ absurd none
   ]
 ]

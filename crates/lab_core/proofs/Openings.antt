@@ -1,10 +1,10 @@
 -- What reading the journal adds, and what it leaves, by what the journal's opening says and what the records made of it.
-use Rattle.std.proofs.Common.{◌≡◌, inl, inr, ℕ, ◌+◌, ◌*◌, ◌<◌, ◌≤◌, ◌^◌, Bool, List, [], ◌∷◌, ◌++◌, count_by, Option, Some, None, Result, Ok, Err, IfSome, IfOk, refl, sym, ap, subst, ◌∙◌, arith}
+use Rattle.std.proofs.Common.{◌≡◌, ◌⊎◌, inl, inr, true, false, ◌∷◌, ℕ, ◌+◌, ◌*◌, ◌<◌, ◌≤◌, ◌^◌, Bool, List, [], ◌++◌, count_by, Option, Some, None, Result, Ok, Err, IfSome, IfOk, refl, sym, ap, subst, ◌∙◌, arith}
 use Rattle.std.specs.Prelude.{length, nat_lt}
 use Rattle.std.proofs.lemmas.List.Sums.{fold-append}
 use Rattle.std.specs.Global.{Vec}
 use Rattle.plant.specs.Disks.{Disk, disk, disk_after, at_once, ArePossible}
-use Rattle.plant.specs.Events.{Event}
+use Rattle.plant.specs.Events.{Event, Missed}
 use Rattle.plant.specs.Told.{Told, with_steps}
 use Rattle.plant.specs.declared.step.Side.{Side}
 use Rattle.plant.specs.declared.step.Side.TheVariants.{A, B}
@@ -12,9 +12,9 @@ use Rattle.journal_rec.specs.declared.record.Record.{Record}
 use Rattle.journal_rec.specs.declared.record.Found.{Found}
 use Rattle.lab_model.specs.Sound.{is_moving}
 use Rattle.journal_model.specs.Journals.{Bad, Records, RecordsOf, Live, New, On, Wrong, live, head, gate_after}
-use Rattle.records_model.specs.Labs.{LabState, LabOf}
+use Rattle.records_model.specs.Labs.{LabState, LabOf, at_first}
 use Rattle.journal_disk.specs.Before.{IsOpening, are_synced}
-use Rattle.journal_disk.specs.Opening.{both_synced, new_journal, far_steps, opening}
+use Rattle.journal_disk.specs.Opening.{AtStart, BothSynced, Far, Making, MayMake, OneSynced, Opens, both_synced, new_journal, far_steps, opening}
 use Rattle.journal_disk.specs.Epochs.{HasEpoch}
 use Rattle.journal_disk.specs.Standing.{side_of, gate_of, length_of, limit_of, Holds, IsAt, HasAll}
 use Rattle.journal_disk.specs.Walks.{placed}
@@ -23,8 +23,8 @@ use Rattle.journal_disk.specs.declared.fault.OpenFault.{OpenFault}
 use Rattle.journal_disk.specs.declared.fault.OpenFault.TheVariants as faults
 use Rattle.journal_runs.specs.Pieces.{has_miss}
 use Rattle.journal_runs.proofs.Alike.{opened_alike}
-use Rattle.journal_runs.proofs.Images.{reads_on}
-use Rattle.journal_runs.proofs.Quiet.{opening_quiet, opening_missed}
+use Rattle.journal_runs.proofs.Images.{on_image, reads_on}
+use Rattle.journal_runs.proofs.Quiet.{last_step, opening_quiet, opening_missed, shows}
 use Rattle.journal_runs.proofs.Sounds.{steps_sound, works_as}
 use Rattle.lab_state.specs.Texts.{the_texts}
 use Rattle.lab_state.specs.Replays.{records_of}
@@ -33,8 +33,8 @@ use Rattle.records_model.proofs.LabLaws.{lab_sane}
 use Rattle.swap_turns.specs.Running.{Stands}
 use Rattle.swap_turns.proofs.MovesAreSwaps.{lab_swaps}
 use Rattle.lab_core.specs.Controller.{Control, Works}
-use Rattle.lab_core.specs.Moments.{IsLabAt, IsLiveAt, IsNoJournal, bad, cannot_follow, no_room}
-use Rattle.lab_core.specs.Opening.{IsOfJournal, ReadSteps, HasFoundNone, ReadEnds, ReadTold}
+use Rattle.lab_core.specs.Moments.{AllStandFor, IsLabAt, IsLiveAt, IsNoJournal, bad, cannot_follow, no_room}
+use Rattle.lab_core.specs.Opening.{IsJournal, IsOfJournal, ReadSteps, HasFoundNone, ReadEnds, ReadTold, has_change, is_change}
 use Rattle.lab_core.proofs.Opened.{records_of_placed, are_held}
 
 -- what the journal's opening added
@@ -66,6 +66,28 @@ made_of new limit j items found result is ok holds of =
     at_of None both = tt
     at_of (Some t) both = both.0
 
+-- it writes only where both sides are blank
+far_changes : (a b : List ℕ) (far : Far) → MayMake a b far → (has_change (far_steps far) ≡ false) ⊎ (live (head a) (head b) ≡ New)
+far_changes a b AtStart blank = inl refl
+far_changes a b OneSynced blank = inl refl
+far_changes a b BothSynced blank = inl refl
+far_changes a b (Making is_short made) blank = inr blank.0
+
+last_changes : (more : List Event) → (more ≡ []) ⊎ ((side : Side) × (more ≡ Missed side ∷ [])) → has_change more ≡ false
+last_changes more (inl none) = ap has_change none
+last_changes more (inr one) = ap has_change one.1
+
+opening_changes : (trace steps : List Event) (result : Result (Journal × Vec Found) OpenFault) → Opens trace steps result → has_change steps ≡ true → live (head (disk A trace).reads) (head (disk B trace).reads) ≡ New
+opening_changes trace steps result o changed = by (far_changes (disk A trace).reads (disk B trace).reads o.far o.blank)
+  where
+    by : (has_change (far_steps o.far) ≡ false) ⊎ (live (head (disk A trace).reads) (head (disk B trace).reads) ≡ New) → live (head (disk A trace).reads) (head (disk B trace).reads) ≡ New
+    by (inl quiet) = absurd (cc (changed, shows is_change steps (far_steps o.far) o.more false false o.steps_are quiet (last_changes o.more (last_step result _ _ o.far o.more o.ends))))
+    by (inr new) = new
+
+-- sides that are blank are a journal without records
+pub blank_journal : (a b : List ℕ) (limit : ℕ) → 18 ≤ limit → live (head a) (head b) ≡ New → IsJournal a b limit
+blank_journal a b limit least new = record { records = []; lab = at_first; read = subst (λ (l : Live). RecordsOf l a b []) (sym new) refl; lab_of = refl; room = omega (arith, least) }
+
 -- WHAT READING ADDED, whatever came of it
 steps_of : (trace steps : List Event) (result : Result (Journal × Vec Found) OpenFault) → IsOpening trace steps result
     → ArePossible (trace ++ steps) (disk A (trace ++ steps)).reads (disk B (trace ++ steps)).reads → ReadSteps trace steps
@@ -74,6 +96,7 @@ steps_of trace steps result is possible =
     record {
       no_command = quiet.0;
       no_restart = quiet.1;
+      changes = opening_changes trace steps result is.opens;
       before = is.before;
       settled = is.settled;
       alike = opened_alike trace steps result is possible;
@@ -119,6 +142,10 @@ failed_opening limit old new fault result is moments possible reads =
 -- A JOURNAL THAT WAS OPENED
 pub lab_at : (trace : List Event) (j : Journal) (rs : List Record) (s : LabState) → IsAt trace j rs → LabOf the_texts rs s → IsLabAt trace s
 lab_at trace j rs s at lab = record { records = rs; read = (reads_on trace (side_of j) rs at.opened).reads; lab_of = lab }
+
+-- and so is each possible image
+pub all_at : (trace : List Event) (j : Journal) (rs : List Record) (s : LabState) → IsAt trace j rs → LabOf the_texts rs s → AllStandFor trace s
+all_at trace j rs s at lab a b possible = record { records = rs; read = (on_image trace (side_of j) rs at.opened a b possible).reads; lab_of = lab }
 
 -- where it is none, it is not a new one
 not_new : (a b : List ℕ) (limit : ℕ) (j : Journal) (rs : List Record) (side : Side) (place : ℕ) → Records a b rs → gate_of j ≡ gate_after rs → 18 ≤ limit → IsOfJournal limit j rs (Err (faults.Bad side place))

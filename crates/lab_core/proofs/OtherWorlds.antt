@@ -22,7 +22,7 @@ use Rattle.lab_core.specs.Tells.{IsTurnOf}
 use Rattle.lab_core.proofs.TurnLaws.{answer_calm}
 
 -- AS THEY ARE JUDGED: a refusal, or the turn, or the turns up to the end
-abbrev IsThisOrRefused : Task → Result Task Reply → Type 0
+abbrev pub IsThisOrRefused : Task → Result Task Reply → Type 0
 IsThisOrRefused task judgement = ((refusal : Reply) × (judgement ≡ Err refusal)) ⊎ (judgement ≡ Ok task)
 
 open_or_refused : (task : Task) (exp : List ℕ) (lab : Option Lab) (found : Option Experiment) (busy : Bool) → IsThisOrRefused task (need_lab lab >>= (λ l. need_found exp found >>= (λ e. need_open exp busy >>= (λ opened. Ok task))))
@@ -34,7 +34,7 @@ open_or_refused task exp (Some lab) (Some e) true = inr refl
 pub turn_or_refused : (s : LabState) (busy : Bool) (exp : List ℕ) → ((refusal : Reply) × (judged_turn s busy exp ≡ Err refusal)) ⊎ (judged_turn s busy exp ≡ Ok (Turn exp))
 turn_or_refused s busy exp = open_or_refused (Turn exp) exp s.lab (find exp s.experiments) busy
 
-finish_or_refused : (s : LabState) (busy : Bool) (exp : List ℕ) → IsThisOrRefused (Finish exp) (judged_finish s busy exp)
+pub finish_or_refused : (s : LabState) (busy : Bool) (exp : List ℕ) → IsThisOrRefused (Finish exp) (judged_finish s busy exp)
 finish_or_refused s busy exp = open_or_refused (Finish exp) exp s.lab (find exp s.experiments) busy
 
 module _ (set : Setting) (s : LabState) (opens : List OpenSwap) (exp : List ℕ) (own : List Event) (after : After) (w : World) (e : Experiment) (sane : Sane s) (has : Has s.experiments e) (other : e.name ≢ exp) where
@@ -76,18 +76,18 @@ module _ (set : Setting) (s : LabState) (opens : List OpenSwap) (exp : List ℕ)
       let busy = is_among (names_of opens) (Some exp) in
       by_task (Finish exp) (judged_finish s busy exp) one_ended (finish_or_refused s busy exp) (subst (λ (j : Result Task Reply). Does set s opens j own after) judged did)
 
-  step_spares : (terms : Terms) (command : Command) (opening : List Event) → IsTurnOf exp command → LabStep terms set s (Open opens) command opening own after → Spares own
-  step_spares terms command opening (inl is) step =
-      let turn : LabStep terms set s (Open opens) (commands.Turn exp) opening own after = subst (λ (c : Command). LabStep terms set s (Open opens) c opening own after) is step in
+  step_spares : (terms : Terms) (at : List Event) (command : Command) (opening : List Event) → IsTurnOf exp command → LabStep terms at set s (Open opens) command opening own after → Spares own
+  step_spares terms at command opening (inl is) step =
+      let turn : LabStep terms at set s (Open opens) (commands.Turn exp) opening own after = subst (λ (c : Command). LabStep terms at set s (Open opens) c opening own after) is step in
       turn_spares terms.rule turn.1
-  step_spares terms command opening (inr is) step =
-      let finish : LabStep terms set s (Open opens) (commands.Finish exp) opening own after = subst (λ (c : Command). LabStep terms set s (Open opens) c opening own after) is step in
+  step_spares terms at command opening (inr is) step =
+      let finish : LabStep terms at set s (Open opens) (commands.Finish exp) opening own after = subst (λ (c : Command). LabStep terms at set s (Open opens) c opening own after) is step in
       finish_spares terms.rule finish.1
 
 -- OVER A TRACE
-pub others_spared : (terms : Terms) (set : Setting) (s : LabState) (opens : List OpenSwap) (command : Command) (opening own : List Event) (after : After) (trace : List Event) (exp : List ℕ) (e : Experiment)
-    → Sane s → IsTurnOf exp command → Has s.experiments e → e.name ≢ exp → LabStep terms set s (Open opens) command opening own after
+pub others_spared : (terms : Terms) (at : List Event) (set : Setting) (s : LabState) (opens : List OpenSwap) (command : Command) (opening own : List Event) (after : After) (trace : List Event) (exp : List ℕ) (e : Experiment)
+    → Sane s → IsTurnOf exp command → Has s.experiments e → e.name ≢ exp → LabStep terms at set s (Open opens) command opening own after
     → SameFor (lab_in s.lab) e (world_of trace) (world_of (trace ++ own))
-others_spared terms set s opens command opening own after trace exp e sane turns has other step =
+others_spared terms at set s opens command opening own after trace exp e sane turns has other step =
     subst (λ (v : World). SameFor (lab_in s.lab) e (world_of trace) v) (sym (fold-append world_after blank trace own))
-    (step_spares set s opens exp own after (world_of trace) e sane has other terms command opening turns step)
+    (step_spares set s opens exp own after (world_of trace) e sane has other terms at command opening turns step)

@@ -90,9 +90,10 @@ IsApart name (Aborts own) = own ≢ name
 abbrev pub IsSpared : List (List ℕ) → LabState → List ℕ → Type 0
 IsSpared busy s name = (is_busy busy name ≡ true) ⊎ IsAtRest s name
 
--- the lab is set still, and the experiment of that name is as it was
+-- the lab is the same, and set still, and the experiment of that name is as it was
 pub record Stays (name : List ℕ) (s u : LabState) : Type 0 where
   pub set : is_some u.lab ≡ true
+  pub lab : u.lab ≡ s.lab
   pub same : find name u.experiments ≡ find name s.experiments
 
 module _ (name : List ℕ) where
@@ -125,13 +126,13 @@ module _ (name : List ℕ) where
 
   -- A MOVE of another experiment
   pub move_stays : (s u : LabState) (move : Move) → is_some s.lab ≡ true → IsApart name move → moved s move ≡ Some u → Stays name s u
-  move_stays s u move set apart h = let both = of_stays s.lab s.experiments move u set apart h in record { set = ap is_some both.0 ∙ set; same = both.1 }
+  move_stays s u move set apart h = let both = of_stays s.lab s.experiments move u set apart h in record { set = ap is_some both.0 ∙ set; lab = both.0; same = both.1 }
 
   pub same_stays : (s u : LabState) → is_some s.lab ≡ true → u ≡ s → Stays name s u
-  same_stays s u set is = record { set = ap (λ (x : LabState). is_some x.lab) is ∙ set; same = ap (λ (x : LabState). find name x.experiments) is }
+  same_stays s u set is = record { set = ap (λ (x : LabState). is_some x.lab) is ∙ set; lab = ap (λ (x : LabState). x.lab) is; same = ap (λ (x : LabState). find name x.experiments) is }
 
   pub both_stay : (s u v : LabState) → Stays name s u → Stays name u v → Stays name s v
-  both_stay s u v a b = record { set = b.set; same = b.same ∙ a.same }
+  both_stay s u v a b = record { set = b.set; lab = b.lab ∙ a.lab; same = b.same ∙ a.same }
 
   pub either_stays : (s u after : LabState) → is_some s.lab ≡ true → Stays name s u → (after ≡ s) ⊎ (after ≡ u) → Stays name s after
   either_stays s u after set moves (inl before) = same_stays s after set before
@@ -227,16 +228,16 @@ module _ (name : List ℕ) where
       both_stay s h.2 after first (settles_stay ps outcomes h.2 after h.1 first.set (rests_on s h.2 first rests) h.4)
 
   pub some_stay : (s after : LabState) (busy : List (List ℕ)) (steps : List Event) → is_some s.lab ≡ true → IsAtRest s name → SettlesSome s busy steps after → Stays name s after
-  some_stay s after busy steps set rests (some past rest outcomes all settles) = settles_stay past outcomes s after steps set rests settles
+  some_stay s after busy steps set rests (some first) = settles_stay first.past first.outcomes s after steps set rests first.settles
   some_stay s after busy steps set rests (within outcome front behind is b starts) =
       let first = settles_stay b.past b.outcomes s b.mid b.front set rests b.settled in
       both_stay s b.mid after first (finish_stays b.mid after b.last b.behind outcome first.set (rests_on s b.mid first rests) b.breaks)
 
   -- A SETTLING OF OTHERS, among them none of that name
-  abbrev AreApart : List Swap → Type 0
+  abbrev pub AreApart : List Swap → Type 0
   AreApart ps = (p : Swap) → Has ps p → p.name ≢ name
 
-  settles_apart : (ps : List Swap) (outcomes : List Outcome) (s after : LabState) (steps : List Event) → is_some s.lab ≡ true → AreApart ps → Settles s ps outcomes steps after → Stays name s after
+  pub settles_apart : (ps : List Swap) (outcomes : List Outcome) (s after : LabState) (steps : List Event) → is_some s.lab ≡ true → AreApart ps → Settles s ps outcomes steps after → Stays name s after
   settles_apart [] [] s after steps set apart h = same_stays s after set h.1
   settles_apart [] (outcome ∷ outcomes) s after steps set apart h = absurd h
   settles_apart (p ∷ ps) [] s after steps set apart h = absurd h
@@ -245,8 +246,8 @@ module _ (name : List ℕ) where
       both_stay s h.2 after first (settles_apart ps outcomes h.2 after h.1 first.set (λ q there. apart q (inr there)) h.4)
 
   some_apart : (s after : LabState) (busy : List (List ℕ)) (steps : List Event) → is_some s.lab ≡ true → AreApart (swaps_of busy s.experiments) → SettlesSome s busy steps after → Stays name s after
-  some_apart s after busy steps set apart (some past rest outcomes all settles) =
-      settles_apart past outcomes s after steps set (λ p there. apart p (subst (λ l. Has l p) (sym all) (Has-left past rest p there))) settles
+  some_apart s after busy steps set apart (some first) =
+      settles_apart first.past first.outcomes s after steps set (λ p there. apart p (subst (λ l. Has l p) (sym first.all) (Has-left first.past first.rest p there))) first.settles
   some_apart s after busy steps set apart (within outcome front behind is b starts) =
       let within : (p : Swap) → Has (b.past ++ b.last ∷ b.rest) p → p.name ≢ name = (λ p there. apart p (subst (λ l. Has l p) (sym b.all) there)) in
       let first = settles_apart b.past b.outcomes s b.mid b.front set (λ p there. within p (Has-left b.past (b.last ∷ b.rest) p there)) b.settled in
@@ -263,7 +264,7 @@ module _ (name : List ℕ) where
   due_if true own phase p there = absurd there
   due_if false own phase p there = (refl, named_if own phase p there)
 
-  busy_apart : (busy : List (List ℕ)) (es : List Experiment) → is_busy busy name ≡ true → AreApart (swaps_of busy es)
+  pub busy_apart : (busy : List (List ℕ)) (es : List Experiment) → is_busy busy name ≡ true → AreApart (swaps_of busy es)
   busy_apart busy es is_busy_now = λ p there.
       let e = Has-flat_map (λ x. listed (due busy x)) es p there in
       let d = due_if (is_busy busy e.0.name) e.0.name e.0.phase p e.2 in
@@ -287,11 +288,13 @@ EndsNone move = Unit {0}
 begin_ends_none : (s : LabState) (exp : List ℕ) (way : Way) (move : Move) → Says the_texts s (records.Begin exp way) move → EndsNone move
 begin_ends_none s exp (ways.In map tags) move says = subst EndsNone (sym says.9) tt
 begin_ends_none s exp ways.Out move says = subst EndsNone (sym says) tt
-begin_ends_none s exp (ways.Change top map tags) move says = subst EndsNone (sym says.9) tt
+begin_ends_none s exp (ways.Change top map tags) move says = subst EndsNone (sym says.8) tt
+begin_ends_none s exp (ways.Change2 top map tags) move says = subst EndsNone (sym says.8) tt
 
 ends_none : (s : LabState) (entry : Record) (move : Move) → EndsNoMove entry → Says the_texts s entry move → EndsNone move
 ends_none s (records.Lab ptop) move no_end says = subst EndsNone (sym says.3) tt
-ends_none s (records.Create exp top) move no_end says = subst EndsNone (sym says.3) tt
+ends_none s (records.Create exp top) move no_end says = subst EndsNone (sym says.2) tt
+ends_none s (records.Create2 exp top) move no_end says = subst EndsNone (sym says.2) tt
 ends_none s (records.Delete exp) move no_end says = subst EndsNone (sym says) tt
 ends_none s (records.Begin exp way) move no_end says = begin_ends_none s exp way move says
 ends_none s (records.Commit exp) move no_end says = absurd no_end

@@ -16,7 +16,7 @@ use Rattle.script_text.specs.declared.reply.Reply.{Reply}
 use Rattle.script_text.specs.declared.reply.Reply.TheVariants as replies
 use Rattle.lab_core.specs.Breaks.{Breaks, stopped, failed, unanswered}
 use Rattle.lab_core.specs.Judge.{Task, Tell, Append, Swap, BeginOnly, Turn, Finish, Recover}
-use Rattle.lab_core.specs.LabSteps.{StepOf, Does, IsDoneBy, does, no_memory, opened, not_opened, AppendEnds, whole, broken, IsAnswered, is_told, unanswered as no_answer, end_reply, turn_reply, done_reply, has_space, IfSpace, Appends, Swaps, Begins, JudgedBeside}
+use Rattle.lab_core.specs.LabSteps.{DoesBy, StepOf, Does, IsDoneBy, does, no_memory, opened, not_opened, AppendEnds, whole, broken, IsAnswered, is_told, end_reply, turn_reply, done_reply, has_space, IfSpace, Appends, Swaps, Begins, JudgedBeside}
 use Rattle.lab_core.specs.Recovery.{Recovers, settled, broken_off}
 use Rattle.lab_core.specs.Sessions.{OpenSwap, Session, Closed, Open, Setting, After, is_among, name_of, names_of, Terms}
 use Rattle.lab_core.proofs.Fits.{IsFit, fits, is_outer}
@@ -66,11 +66,10 @@ module _ (set : Setting) (s : LabState) (opens : List OpenSwap) (own : List Even
 
   ends_so : (state : LabState) (told : Reply) (run : Run) (more : List Event) → is_outer told ≡ false → AppendEnds s opens state told run more own after → of_drill_if after.reply ≡ false
   ends_so state told run more free (whole all none is) = ap (λ (x : After). of_drill_if x.reply) is ∙ no_drill_of told free
-  ends_so state told run more free (broken breaks which session) = breaks_so own after.reply breaks
+  ends_so state told run more free (broken breaks said which session) = breaks_so own after.reply breaks
 
   answered_so : (told : Option Reply) (to : List OpenSwap) (outcome : Outcome) (behind : List Event) → of_drill_if told ≡ false → IsAnswered told to outcome behind after → of_drill_if after.reply ≡ false
   answered_so told to outcome behind free (is_told starts reply session) = ap of_drill_if reply ∙ free
-  answered_so told to outcome behind free (no_answer starts reply session) = ap of_drill_if reply
 
   recover_so : Recovers s opens own after → of_drill_if after.reply ≡ false
   recover_so (settled outcomes settles told session) = ap of_drill_if told
@@ -90,7 +89,7 @@ module _ (set : Setting) (s : LabState) (opens : List OpenSwap) (own : List Even
   by_so rule command (does judgement judged d) = does_so command (is_among (names_of opens) (name_of command)) (length opens) judgement (fits s (is_among (names_of opens) (name_of command)) (length opens) rule command judgement judged) d
   by_so rule command (no_memory wants) = ap (λ (x : After). of_drill_if x.reply) wants.after_is
 
-pub step_so : (terms : Terms) (set : Setting) (s : LabState) (session : Session) (command : Command) (opening own : List Event) (after : After) → StepOf None (JudgedBeside terms.rule command) terms set s session opening own after → of_drill_if after.reply ≡ false
+pub step_so : (terms : Terms) (set : Setting) (s : LabState) (session : Session) (command : Command) (opening own : List Event) (after : After) → StepOf None (DoesBy (JudgedBeside terms.rule command) set) terms s session opening own after → of_drill_if after.reply ≡ false
 step_so terms set s Closed command opening own after (opened mid opens d) = by_so set mid [] own after terms.rule command d
 step_so terms set s Closed command opening own after (not_opened b) = breaks_so opening after.reply b.breaks
 step_so terms set s (Open opens) command opening own after step = by_so set s opens own after terms.rule command step.1

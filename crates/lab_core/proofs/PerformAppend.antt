@@ -8,9 +8,9 @@ use Rattle.plant.specs.Told.{Told}
 use Rattle.plant.specs.Worlds.{world_of}
 use Rattle.journal_rec.specs.Payloads.{IsRecord, IsShort, IsWay, tags_of_way, tags_of, HasFields}
 use Rattle.journal_rec.specs.declared.record.Record.{Record}
-use Rattle.journal_rec.specs.declared.record.Record.TheVariants.{Lab as LabRecord, Create, Delete, Begin, Commit, Abort}
+use Rattle.journal_rec.specs.declared.record.Record.TheVariants.{Lab as LabRecord, Create, Delete, Begin, Commit, Abort, Create2}
 use Rattle.journal_rec.specs.declared.record.Way.{Way}
-use Rattle.journal_rec.specs.declared.record.Way.TheVariants.{In as WayIn, Out as WayOut, Change as WayChange}
+use Rattle.journal_rec.specs.declared.record.Way.TheVariants.{In as WayIn, Out as WayOut, Change as WayChange, Change2 as WayChange2}
 use Rattle.journal_model.specs.Appends.{added}
 use Rattle.journal_model.specs.Journals.{size}
 use Rattle.lab_model.specs.Sound.{is_moving}
@@ -49,7 +49,7 @@ use Rattle.lab_core.specs.Obey.{start_of, IsDone, Obeyed}
 use Rattle.lab_core.specs.Perform.{append_answer}
 use Rattle.lab_core.specs.Sessions.{OpenSwap, Setting, Session, Closed, Open, After}
 use Rattle.lab_core.specs.Tasks.{CanAppend}
-use Rattle.lab_core.proofs.Obey.{RunsOn, closed_by, goes_on, halted, not_both, replied, same_opened}
+use Rattle.lab_core.proofs.Obey.{RunsOn, as_open, closed_by, goes_on, halted, not_both, now_blames, replied, same_open}
 use Rattle.lab_core.proofs.OpenSwaps.{since_later}
 use Rattle.lab_core.proofs.Others.{record_leaves}
 
@@ -58,10 +58,12 @@ few_tags : (way : Way) → IsWay way → length (tags_of_way way) ≤ 65535
 few_tags (WayIn map tags) h = omega (arith, h.count)
 few_tags WayOut h = omega arith
 few_tags (WayChange top map tags) h = omega (arith, h.count)
+few_tags (WayChange2 top map tags) h = omega (arith, h.count)
 
 few_in : (r : Record) → HasFields r → length (tags_of r) ≤ 65535
 few_in (LabRecord ptop) h = omega arith
 few_in (Create exp top) h = omega arith
+few_in (Create2 exp top) h = omega arith
 few_in (Delete exp) h = omega arith
 few_in (Begin exp way) h = few_tags way h.1
 few_in (Commit exp) h = omega arith
@@ -212,7 +214,7 @@ module _ (devices : ℕ) (exp : Option (List ℕ)) (before now : Seen) (c new : 
   part_so : (told : Reply) (behind : List Event) → Behind (side_of c.journal) (writes.appends.more ++ behind) → Breaks (own ++ behind) (Some told) → (lab : LabState) → Either own lab → IsDone Judges (start_of devices c opens) (own ++ behind) (Some told) lab Closed
   part_so told behind last breaks lab either =
       done_so (own ++ behind) (after_it told lab Closed)
-      (append_so (writes.appends.more ++ behind) (own ++ behind) (after_it told lab Closed) (append_assoc (added (side_of c.journal) (gate_of c.journal) entry writes.appends.run) writes.appends.more behind) last (broken breaks either refl))
+      (append_so (writes.appends.more ++ behind) (own ++ behind) (after_it told lab Closed) (append_assoc (added (side_of c.journal) (gate_of c.journal) entry writes.appends.run) writes.appends.more behind) last (broken breaks refl either refl))
 
   quiet : has_restart own ≡ false
   quiet = (ended_quiet (side_of c.journal) (gate_of c.journal) entry writes.appends.run writes.appends.more answer writes.appends.ends).1
@@ -223,14 +225,15 @@ module _ (devices : ℕ) (exp : Option (List ℕ)) (before now : Seen) (c new : 
   -- WHATEVER IT ANSWERED
   pub left : (a : Result (Unit {0}) AppendFault) → answer ≡ a → OnOk a (new.lab ≡ state) → Obeyed devices before now Judges c new opens exp (append_answer reply a)
   left (Ok ok) is lab =
-      goes_on devices before now Judges c new opens opens exp own writes.appends.trace sound later writes.limit (same_opened opens devices) reply can.mild.0 (done ok is lab) (works_in ok is lab) (λ blaming. not_both _ blaming can.mild.1) (runs (Ok ok) is (λ h. cc h))
+      goes_on devices before now Judges c new opens opens exp own writes.appends.trace sound later writes.limit reply can.mild.0 (as_open exp (Some reply) opens opens devices (same_open opens)) (done ok is lab) (works_in ok is lab)
+      (λ blaming. not_both _ blaming can.mild.1) (λ blaming. not_both _ (now_blames reply blaming) can.mild.1) (runs (Ok ok) is (λ h. cc h))
   left (Err appending.Plant) is lab =
       let ends = ends_as (Err appending.Plant) is in
       let all : own ++ [] ≡ own = append-nil own in
       let miss : has_miss own ≡ true = ended_missed (side_of c.journal) (gate_of c.journal) entry writes.appends.run writes.appends.more true (ap has_miss ends) in
-      closed_by devices before now Judges c new opens opens exp own writes.appends.trace sound later writes.limit (same_opened opens devices) replies.Down refl refl Either closes_either
+      closed_by devices before now Judges c new opens opens exp own writes.appends.trace sound later writes.limit (same_open opens) replies.Down refl refl Either closes_either
       (part_so replies.Down [] (missed (append-nil writes.appends.more ∙ ends)) (failed (ap has_restart all ∙ quiet) (ap has_miss all ∙ miss) refl)) (writes.cause is) (runs (Err appending.Plant) is (λ h. cc h))
   left (Err appending.Stopped) is lab =
-      halted devices before now Judges c new opens opens exp own writes.appends.trace sound later writes.limit (same_opened opens devices) Either closes_either
+      halted devices before now Judges c new opens opens exp own writes.appends.trace sound later writes.limit (same_open opens) Either closes_either
       (λ lab either a b. part_so replies.Stopped (Restarted a b ∷ []) (restarted a b (ap (λ l. l ++ Restarted a b ∷ []) (ends_as (Err appending.Stopped) is))) (stopped (record { front = own; a = a; b = b; is = refl; once = quiet }) refl) lab either) (λ _. writes.halts.0 is)
   left (Err (appending.Full long much)) is lab = absurd (writes.fits long much is)

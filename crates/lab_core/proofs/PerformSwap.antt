@@ -8,6 +8,7 @@ use Rattle.plant.specs.Seen.{Seen}
 use Rattle.plant.specs.Told.{with_steps}
 use Rattle.virt_topo.specs.declared.mapping.Mapped.{Mapped}
 use Rattle.journal_disk.specs.Standing.{limit_of}
+use Rattle.lab_base.specs.declared.what.What.{What}
 use Rattle.lab_base.specs.declared.what.What.TheVariants as whats
 use Rattle.lab_model.specs.Courses.{Trouble as AnyTrouble, Device, Late, Unlawful}
 use Rattle.records_model.specs.Labs.{LabState}
@@ -15,7 +16,7 @@ use Rattle.records_model.specs.Works.{IsSound}
 use Rattle.records_model.proofs.Finding.{none_some}
 use Rattle.lab_state.specs.Texts.{the_texts}
 use Rattle.swap_txn.specs.Troubles.{what_of}
-use Rattle.swap_turns.specs.Causes.{IsLater}
+use Rattle.swap_turns.specs.Causes.{IsCaused, IsLater}
 use Rattle.swap_turns.specs.Closing.{Closes}
 use Rattle.swap_turns.specs.Legs.{Forth, Undo, Settling}
 use Rattle.swap_turns.specs.Swaps.{Swap as SwapOf}
@@ -31,9 +32,9 @@ use Rattle.lab_core.specs.Controller.{Control, WorksWith}
 use Rattle.lab_core.specs.Judge.{Task}
 use Rattle.lab_core.specs.LabSteps.{done_reply, end_session, turn_reply, undone_end}
 use Rattle.lab_core.specs.Obey.{start_of, IsDone, Obeyed}
-use Rattle.lab_core.specs.Sessions.{OpenSwap, Session, Closed, Open, AreOpenedBy, HasRisenBy, counted_from}
+use Rattle.lab_core.specs.Sessions.{OpenSwap, Session, Closed, Open, HasRisenBy, WereOpen, blames_now, counted_from}
 use Rattle.lab_core.specs.Tasks.{IsMild}
-use Rattle.lab_core.proofs.Obey.{closed_by, false_true, goes_on, halted, not_both}
+use Rattle.lab_core.proofs.Obey.{as_open, closed_by, false_true, goes_on, halted, not_both, now_blames}
 use Rattle.lab_core.proofs.Told.{IsAnswer, Halts}
 
 -- replies that blame no device, and those that leave the controller open
@@ -66,10 +67,31 @@ IsCausedSince (Stuck why) devices before now = HasRisenBy (Undo why) devices now
 IsCausedSince Unwritten devices before now = Rose before.faults.disk now.faults.disk
 IsCausedSince outcome devices before now = Unit {0}
 
+-- and in this call
+abbrev pub IsCausedNow : Outcome → Seen → Seen → Type 0
+IsCausedNow (TurnsBack why) before now = IsCaused why before now
+IsCausedNow (Stuck why) before now = IsCaused why before now
+IsCausedNow outcome before now = Unit {0}
+
+trouble_now : (exp : List ℕ) (why : AnyTrouble) (before now : Seen) → IsCaused why before now → blames_now (replies.Trouble exp (what_of why)) ≡ true → Rose before.faults.devices now.faults.devices
+trouble_now exp (Device name) before now cause h = cause
+trouble_now exp (Late node) before now cause h = false_true h
+trouble_now exp (Unlawful node from to) before now cause h = false_true h
+
+stuck_now : (exp : List ℕ) (why : AnyTrouble) (before now : Seen) → IsCaused why before now → blames_now (replies.Failed exp ends.Stuck (what_of why)) ≡ true → Rose before.faults.devices now.faults.devices
+stuck_now exp (Device name) before now cause h = cause
+stuck_now exp (Late node) before now cause h = false_true h
+stuck_now exp (Unlawful node from to) before now cause h = false_true h
+
+-- what an undo ends with came before
+undone_not : {X : Type 0} (exp : List ℕ) (old : Option Mapped) (what : What) → blames_now (replies.Failed exp (undone_end old) what) ≡ true → X
+undone_not exp None what h = false_true h
+undone_not exp (Some m) what h = false_true h
+
 -- the steps `Is` of a swap, after which these swaps are open
 module _ (devices : ℕ) (before now : Seen) (IsJudged : Result Task Reply → Type 0) (old new : Control) (opens : List OpenSwap) (to : Outcome → List OpenSwap) (p : SwapOf) (exp : List ℕ) (steps : List Event) (told : now.told ≡ with_steps before.told steps)
     (sound : IfSome before.told (λ w. IsSound the_texts w.trace → IsSound the_texts (w.trace ++ steps))) (later : IsLater before now) (limit : limit_of new.journal ≡ limit_of old.journal)
-    (opened : (outcome : Outcome) → AreOpenedBy opens (to outcome) devices) (Is : Outcome → List Event → LabState → Type 0)
+    (were : (outcome : Outcome) → WereOpen opens (to outcome)) (Is : Outcome → List Event → LabState → Type 0)
     (done : (outcome : Outcome) (lab : LabState) (behind : List Event) (reply : Reply) (session : Session) → Is outcome steps lab → StartsBehind outcome behind → turn_reply p outcome ≡ Some reply → session ≡ end_session (to outcome) outcome
     → IsDone IsJudged (start_of devices old opens) (steps ++ behind) (Some reply) lab session) where
   abbrev Left : Result Reply CoreFault → Type 0
@@ -82,10 +104,10 @@ module _ (devices : ℕ) (before now : Seen) (IsJudged : Result Task Reply → T
   Leads outcome = Is outcome steps new.lab × WorksWith now new (to outcome)
 
   on : (outcome : Outcome) (reply : Reply) → closes reply ≡ false → turn_reply p outcome ≡ Some reply → Open (to outcome) ≡ end_session (to outcome) outcome → StartsBehind outcome [] → (blames_device reply ≡ true → Rose (counted_from opens (Some exp) devices) now.faults.devices)
-      → Is outcome steps new.lab × WorksWith now new (to outcome) → (now.stopped ≡ true → ⊥) → Left (Ok reply)
-  on outcome reply goes reply_is session_is starts blame is running =
-      goes_on devices before now IsJudged old new opens (to outcome) (Some exp) steps told sound later limit (opened outcome) reply goes
-      (subst (λ (l : List Event). IsDone IsJudged (start_of devices old opens) l (Some reply) new.lab (Open (to outcome))) (append-nil steps) (done outcome new.lab [] reply (Open (to outcome)) is.0 starts reply_is session_is)) is.1 blame (λ _. running)
+      → (blames_now reply ≡ true → Rose before.faults.devices now.faults.devices) → Is outcome steps new.lab × WorksWith now new (to outcome) → (now.stopped ≡ true → ⊥) → Left (Ok reply)
+  on outcome reply goes reply_is session_is starts blame here is running =
+      goes_on devices before now IsJudged old new opens (to outcome) (Some exp) steps told sound later limit reply goes (as_open (Some exp) (Some reply) opens (to outcome) devices (were outcome))
+      (subst (λ (l : List Event). IsDone IsJudged (start_of devices old opens) l (Some reply) new.lab (Open (to outcome))) (append-nil steps) (done outcome new.lab [] reply (Open (to outcome)) is.0 starts reply_is session_is)) is.1 blame here (λ _. running)
 
   -- the answer has that reply
   answered : (outcome : Outcome) (reply : Reply) (result : Result Reply CoreFault) → (r : Reply) × (turn_reply p outcome ≡ Some r) × (result ≡ Ok r) → turn_reply p outcome ≡ Some reply → Left (Ok reply) → Left result
@@ -94,26 +116,26 @@ module _ (devices : ℕ) (before now : Seen) (IsJudged : Result Task Reply → T
       subst Left (sym (is.2 ∙ ap (λ (r : Reply). let x : Result Reply CoreFault = Ok r in x) (sym same))) left
 
   -- WHATEVER ITS OUTCOME
-  pub by_outcome : (outcome : Outcome) → Leads outcome → IsCausedSince outcome (counted_from opens (Some exp) devices) before now → (Halts outcome → now.stopped ≡ true) → (now.stopped ≡ true → Halts outcome) → (result : Result Reply CoreFault)
+  pub by_outcome : (outcome : Outcome) → Leads outcome → IsCausedSince outcome (counted_from opens (Some exp) devices) before now → IsCausedNow outcome before now → (Halts outcome → now.stopped ≡ true) → (now.stopped ≡ true → Halts outcome) → (result : Result Reply CoreFault)
       → IsAnswer p outcome result → Left result
-  by_outcome More leads cause stop running result is = answered More (replies.More p.name) result is refl (on More (replies.More p.name) refl refl refl refl (λ blaming. false_true blaming) leads running)
-  by_outcome (TurnsBack why) leads cause stop running result is =
+  by_outcome More leads cause here stop running result is = answered More (replies.More p.name) result is refl (on More (replies.More p.name) refl refl refl refl (λ blaming. false_true blaming) (λ blaming. false_true blaming) leads running)
+  by_outcome (TurnsBack why) leads cause here stop running result is =
       let reply = replies.Trouble p.name (what_of why) in
-      answered (TurnsBack why) reply result is refl (on (TurnsBack why) reply refl refl refl refl (trouble_blames p.name why _ now.faults.devices cause) leads running)
-  by_outcome (Ended Forth) leads cause stop running result is =
+      answered (TurnsBack why) reply result is refl (on (TurnsBack why) reply refl refl refl refl (trouble_blames p.name why _ now.faults.devices cause) (trouble_now p.name why before now here) leads running)
+  by_outcome (Ended Forth) leads cause here stop running result is =
       let mild = done_mild p.name p.new in
-      answered (Ended Forth) (done_reply p.name p.new) result is refl (on (Ended Forth) (done_reply p.name p.new) mild.0 refl refl refl (λ blaming. not_both _ blaming mild.1) leads running)
-  by_outcome (Ended (Undo why)) leads cause stop running result is =
+      answered (Ended Forth) (done_reply p.name p.new) result is refl (on (Ended Forth) (done_reply p.name p.new) mild.0 refl refl refl (λ blaming. not_both _ blaming mild.1) (λ blaming. not_both _ (now_blames (done_reply p.name p.new) blaming) mild.1) leads running)
+  by_outcome (Ended (Undo why)) leads cause here stop running result is =
       let reply = replies.Failed p.name (undone_end p.old) (what_of why) in
-      answered (Ended (Undo why)) reply result is refl (on (Ended (Undo why)) reply (failed_goes p.name (undone_end p.old) why) refl refl refl (failed_blames p.name (undone_end p.old) why _ now.faults.devices cause) leads running)
-  by_outcome (Ended Settling) leads cause stop running result is = none_some is.0 is.1
-  by_outcome (Stuck why) leads cause stop running result is =
+      answered (Ended (Undo why)) reply result is refl (on (Ended (Undo why)) reply (failed_goes p.name (undone_end p.old) why) refl refl refl (failed_blames p.name (undone_end p.old) why _ now.faults.devices cause) (λ blaming. undone_not p.name p.old (what_of why) blaming) leads running)
+  by_outcome (Ended Settling) leads cause here stop running result is = none_some is.0 is.1
+  by_outcome (Stuck why) leads cause here stop running result is =
       let reply = replies.Failed p.name ends.Stuck (what_of why) in
-      answered (Stuck why) reply result is refl (on (Stuck why) reply (failed_goes p.name ends.Stuck why) refl refl refl (failed_blames p.name ends.Stuck why _ now.faults.devices cause) leads running)
-  by_outcome Unwritten leads cause stop running result is =
+      answered (Stuck why) reply result is refl (on (Stuck why) reply (failed_goes p.name ends.Stuck why) refl refl refl (failed_blames p.name ends.Stuck why _ now.faults.devices cause) (stuck_now p.name why before now here) leads running)
+  by_outcome Unwritten leads cause here stop running result is =
       let reply = replies.Failed p.name ends.Stuck whats.Journal in
       answered Unwritten reply result is refl
-      (closed_by devices before now IsJudged old new opens (to Unwritten) (Some exp) steps told sound later limit (opened Unwritten) reply refl refl _ leads (λ lab all. done Unwritten lab [] reply Closed all refl refl refl) cause (λ _. running))
-  by_outcome Stopped leads cause stop running result is =
+      (closed_by devices before now IsJudged old new opens (to Unwritten) (Some exp) steps told sound later limit (were Unwritten) reply refl refl _ leads (λ lab all. done Unwritten lab [] reply Closed all refl refl refl) cause (λ _. running))
+  by_outcome Stopped leads cause here stop running result is =
       subst Left (sym is)
-      (halted devices before now IsJudged old new opens (to Stopped) (Some exp) steps told sound later limit (opened Stopped) _ leads (λ lab all a b. done Stopped lab (Restarted a b ∷ []) replies.Stopped Closed all (a, b, refl) refl refl) (λ _. stop tt))
+      (halted devices before now IsJudged old new opens (to Stopped) (Some exp) steps told sound later limit (were Stopped) _ leads (λ lab all a b. done Stopped lab (Restarted a b ∷ []) replies.Stopped Closed all (a, b, refl) refl refl) (λ _. stop tt))

@@ -35,15 +35,15 @@ use Rattle.recovery.specs.declared.fault.SettleFault.{SettleFault}
 use Rattle.recovery.specs.declared.fault.SettleFault.TheVariants as settling
 use Rattle.recovery.specs.declared.all.Settled.{Settled}
 use Rattle.lab_core.specs.declared.fault.CoreFault.TheVariants as faults
-use Rattle.lab_core.specs.Breaks.{Breaks, StartsBehind, stopped, failed, unanswered}
+use Rattle.lab_core.specs.Breaks.{Breaks, StartsBehind, stopped, failed}
 use Rattle.lab_core.specs.Controller.{Control, WorksWith}
 use Rattle.lab_core.specs.Judge.{Recover, Is}
 use Rattle.lab_core.specs.LabSteps.{does}
-use Rattle.lab_core.specs.Obey.{start_of, IsDone, Obeyed}
+use Rattle.lab_core.specs.Obey.{start_of, IsDone, Obeyed, between}
 use Rattle.lab_core.specs.Perform.{recover_answer}
-use Rattle.lab_core.specs.Recovery.{settled, broken_off, some, within}
+use Rattle.lab_core.specs.Recovery.{settled, broken_off, within}
 use Rattle.lab_core.specs.Sessions.{OpenSwap, Closed, name_in, names_of}
-use Rattle.lab_core.proofs.Obey.{RunsOn, closed_by, false_true, goes_on, halted, not_both, same_opened, wants}
+use Rattle.lab_core.proofs.Obey.{RunsOn, as_open, closed_by, false_true, goes_on, halted, not_both, same_open, wants}
 use Rattle.lab_core.proofs.OpenSwaps.{Pair, running_has, since_later}
 use Rattle.phys_lab.proofs.ForestLaws.{same_test}
 use Rattle.lab_core.proofs.OpenNames.{busy_has, has_busy, has_opens, opens_has}
@@ -109,16 +109,16 @@ module _ (devices : ℕ) (exp : Option (List ℕ)) (before now : Seen) (old new 
       → Obeyed devices before now (Is (Ok Recover)) old new opens exp (Ok (replies.Recovered all.done all.stuck))
   all_recovered all is limit runs =
       let h = is.has in
-      goes_on devices before now (Is (Ok Recover)) old new opens opens exp h.steps h.told h.sound h.later limit (same_opened opens devices) (replies.Recovered all.done all.stuck) refl
+      goes_on devices before now (Is (Ok Recover)) old new opens opens exp h.steps h.told h.sound h.later limit (replies.Recovered all.done all.stuck) refl (as_open exp (Some (replies.Recovered all.done all.stuck)) opens opens devices (same_open opens))
       (does (Ok Recover) refl (settled is.outcomes (subst (λ (l : List Swap). Settles old.lab l is.outcomes h.steps new.lab) all_same h.settled) (λ i. Some (replies.Recovered (is.counts.done i) (is.counts.stuck i))) refl))
-      (works_by (swaps_of busy old.lab.experiments) is.outcomes (λ p has. due_idle busy old.lab.experiments p has) h) (λ blaming. false_true blaming) runs
+      (works_by (swaps_of busy old.lab.experiments) is.outcomes (λ p has. due_idle busy old.lab.experiments p has) h) (λ blaming. false_true blaming) (λ blaming. false_true blaming) runs
 
   -- memory was wanting
   some_recovered : SettledSome the_texts old.lab busy before now new.journal new.lab → limit_of new.journal ≡ limit_of old.journal → RunsOn before now → Obeyed devices before now (Is (Ok Recover)) old new opens exp (Err faults.Memory)
   some_recovered first limit runs =
       let h = first.has in
-      wants devices before now (Is (Ok Recover)) old new opens opens exp h.steps h.told h.sound h.later limit (same_opened opens devices)
-      (does (Ok Recover) refl (broken_off (some first.past first.rest first.outcomes (sym all_same ∙ first.all) h.settled) (unanswered refl) refl))
+      wants devices before now (Is (Ok Recover)) old new opens opens exp h.steps h.told h.sound h.later limit (same_open opens)
+      (between refl (record { past = first.past; rest = first.rest; all = sym all_same ∙ first.all; outcomes = first.outcomes; settles = h.settled }) refl)
       (works_by first.past first.outcomes (λ p has. due_idle busy old.lab.experiments p (subst (λ (l : List Swap). Has l p) (sym first.all) (Has-left first.past first.rest p has))) h) runs
 
   -- it broke off
@@ -126,20 +126,20 @@ module _ (devices : ℕ) (exp : Option (List ℕ)) (before now : Seen) (old new 
       → IsDone (Is (Ok Recover)) (start_of devices old opens) (steps ++ behind) (Some reply) lab Closed
   broken_so outcome steps behind reply starts breaks lab broken = does (Ok Recover) refl (broken_off (within outcome steps behind refl broken starts) breaks refl)
 
-  as_open : (outcome : Outcome) → HasBrokenOff the_texts old.lab (swaps_of busy old.lab.experiments) before now outcome → HasBrokenOff the_texts old.lab ps before now outcome
-  as_open outcome h = subst (λ (l : List Swap). HasBrokenOff the_texts old.lab l before now outcome) all_same h
+  as_due : (outcome : Outcome) → HasBrokenOff the_texts old.lab (swaps_of busy old.lab.experiments) before now outcome → HasBrokenOff the_texts old.lab ps before now outcome
+  as_due outcome h = subst (λ (l : List Swap). HasBrokenOff the_texts old.lab l before now outcome) all_same h
 
   down : HasBrokenOff the_texts old.lab ps before now Unwritten → limit_of new.journal ≡ limit_of old.journal → RunsOn before now → Obeyed devices before now (Is (Ok Recover)) old new opens exp (Ok replies.Down)
   down h limit runs =
       let shows = broken_shows _ _ h.steps Unwritten h.leaves.after h.leaves.is in
       let all : h.steps ++ [] ≡ h.steps = append-nil h.steps in
-      closed_by devices before now (Is (Ok Recover)) old new opens opens exp h.steps h.told h.sound h.later limit (same_opened opens devices) replies.Down refl refl (Broken Unwritten) h.leaves
+      closed_by devices before now (Is (Ok Recover)) old new opens opens exp h.steps h.told h.sound h.later limit (same_open opens) replies.Down refl refl (Broken Unwritten) h.leaves
       (broken_so Unwritten h.steps [] replies.Down (inl refl) (failed (ap has_restart all ∙ shows.restart) (ap has_miss all ∙ shows.miss_is) refl)) h.cause runs
 
   stops : HasBrokenOff the_texts old.lab ps before now Stopped → limit_of new.journal ≡ limit_of old.journal → (before.stopped ≡ false → now.stopped ≡ true) → Obeyed devices before now (Is (Ok Recover)) old new opens exp (Err faults.Stopped)
   stops h limit stop =
       let shows = broken_shows _ _ h.steps Stopped h.leaves.after h.leaves.is in
-      halted devices before now (Is (Ok Recover)) old new opens opens exp h.steps h.told h.sound h.later limit (same_opened opens devices) (Broken Stopped) h.leaves
+      halted devices before now (Is (Ok Recover)) old new opens opens exp h.steps h.told h.sound h.later limit (same_open opens) (Broken Stopped) h.leaves
       (λ lab broken a b. broken_so Stopped h.steps (Restarted a b ∷ []) replies.Stopped (inr (a, b, refl)) (stopped (record { front = h.steps; a = a; b = b; is = refl; once = shows.restart }) refl) lab broken) stop
 
   -- WHATEVER IT ANSWERED
@@ -150,5 +150,5 @@ module _ (devices : ℕ) (exp : Option (List ℕ)) (before now : Seen) (old new 
       → AfterAll the_texts old.lab busy before now new.journal new.lab result → Obeyed devices before now (Is (Ok Recover)) old new opens exp (recover_answer result)
   recovered limit (Ok all) told is = all_recovered all is limit (runs_by (Ok all) (λ h. cc h) told)
   recovered limit (Err settling.Memory) told is = some_recovered is limit (runs_by (Err settling.Memory) (λ h. cc h) told)
-  recovered limit (Err settling.Plant) told is = down (as_open Unwritten is) limit (runs_by (Err settling.Plant) (λ h. cc h) told)
-  recovered limit (Err settling.Stopped) told is = stops (as_open Stopped is) limit (λ ran. (told ran).0 refl)
+  recovered limit (Err settling.Plant) told is = down (as_due Unwritten is) limit (runs_by (Err settling.Plant) (λ h. cc h) told)
+  recovered limit (Err settling.Stopped) told is = stops (as_due Stopped is) limit (λ ran. (told ran).0 refl)

@@ -1,5 +1,5 @@
 -- What beginning a swap leaves, and what a whole swap leaves: its beginning, and turning it to its end.
-use Rattle.std.proofs.Common.{◌≡◌, ◌≢◌, inl, inr, ◌≤◌, ◌+◌, ◌^◌, ◌↔◌, ℕ, Bool, true, false, nat_le, List, [], ◌∷◌, ◌++◌, length, append_assoc, Option, Some, IfSome, IsTrue, Result, Ok, Err, refl, sym, ap, ◌∙◌, subst, arith}
+use Rattle.std.proofs.Common.{◌≡◌, ◌≢◌, inl, inr, ◌≤◌, ◌+◌, ◌*◌, ◌^◌, ◌↔◌, ℕ, Bool, true, false, nat_le, List, [], ◌∷◌, ◌++◌, length, append_assoc, Option, Some, IfSome, IsTrue, Result, Ok, Err, refl, sym, ap, ◌∙◌, subst, arith}
 use Rattle.std.proofs.lemmas.Bool.{leb-true}
 use Rattle.std.proofs.lemmas.List.{append-nil, map-append}
 use Rattle.lab_base.specs.Lists.{Has}
@@ -15,10 +15,14 @@ use Rattle.journal_rec.specs.declared.record.Way.{Way}
 use Rattle.journal_disk.specs.Standing.{length_of, limit_of}
 use Rattle.journal_disk.specs.declared.journal.Journal.{Journal}
 use Rattle.journal_disk.proofs.Parts.{body_size}
-use Rattle.lab_model.specs.Courses.{Plan}
-use Rattle.records_model.specs.Labs.{LabState, Move, Says, Follows, moved}
+use Rattle.lab_model.specs.Courses.{Device, Late, Plan, Trouble, Unlawful}
+use Rattle.records_model.specs.Labs.{LabState, Move, Sane, Says, Follows, moved}
 use Rattle.records_model.specs.Works.{IsSound}
-use Rattle.records_model.proofs.LabLaws.{says_once}
+use Rattle.std.specs.Prelude.{count_by}
+use Rattle.std.proofs.lemmas.List.Sums.{count_by-le-length}
+use Rattle.journal_model.specs.Journals.{size}
+use Rattle.lab_model.specs.Sound.{is_moving}
+use Rattle.records_model.proofs.LabLaws.{follows_sane, says_once}
 use Rattle.lab_state.specs.Texts.{the_texts}
 use Rattle.lab_state.proofs.Canonical.{texts_once}
 use Rattle.swap_txn.specs.States.{Plans, unsent}
@@ -30,7 +34,7 @@ use Rattle.swap_turns.specs.Swaps.{Swap as SwapOf, Moves}
 use Rattle.swap_turns.specs.Turning.{Outcome, More, TurnsBack, Ended, Stuck, Unwritten, Stopped}
 use Rattle.swap_turns.specs.Whole as whole
 use Rattle.swap_turns.specs.Whole.{SwapSteps}
-use Rattle.swap_turns.specs.Causes.{IsLater}
+use Rattle.swap_turns.specs.Causes.{IsCaused, IsLater}
 use Rattle.swap_turns.specs.Closing.{Closes}
 use Rattle.swap_turns.specs.Legs.{Forth, Undo, Settling}
 use Rattle.swap_turns.proofs.Closing.{closes_behind}
@@ -52,21 +56,28 @@ use Rattle.lab_core.specs.Controller.{Control, WorksWith}
 use Rattle.lab_core.specs.Judge.{Swap, BeginOnly, Is, begun_as}
 use Rattle.lab_core.specs.LabSteps.{Begins, BeginSteps, IfSpace, Performs, Replies, Swaps, begun_at, does, end_reply, end_session, has_space, is_told, turn_reply}
 use Rattle.lab_core.specs.Obey.{Start, start_of, IsDone, Obeyed}
-use Rattle.lab_core.specs.Sessions.{OpenSwap, Session, Setting, Closed, After, IsSince, counted_from, devices_if, name_in}
+use Rattle.lab_core.specs.Sessions.{OpenSwap, Session, Setting, Closed, Open, After, IsSince, counted_from, devices_if, name_in}
 use Rattle.lab_core.specs.Swapping.{HasEndedIn, HasTried, IsBegunBy, IsOpened, IsPlanned, progress_answer, unopened_answer}
 use Rattle.lab_core.specs.Tasks.{IsSwapBy}
-use Rattle.lab_core.proofs.EndOne.{cause_since, end_answer, end_halts, end_one, ends_from, end_works, over_reply, place}
-use Rattle.lab_core.proofs.Obey.{closed_by, halted, same_opened, wanted}
+use Rattle.lab_core.proofs.EndOne.{cause_now, cause_since, end_answer, end_halts, end_one, ends_from, end_works, over_reply, place}
+use Rattle.lab_core.proofs.Obey.{closed_by, false_true, goes_on, halted, same_open, wanted}
 use Rattle.lab_core.proofs.OpenSwaps.{IsLast, Pair, Place, none_named, only_last, open_at_none, opened_more, running_has, since_later}
 use Rattle.lab_core.proofs.PerformAppend.{no_space}
-use Rattle.lab_core.proofs.PerformSwap.{IsCausedSince, Leads, by_outcome}
+use Rattle.lab_core.proofs.PerformSwap.{IsCausedNow, IsCausedSince, Leads, by_outcome}
 use Rattle.lab_core.proofs.Told.{IsAnswer}
 
 -- A PLANNED SWAP that was prepared for the lab
 module _ (s u : LabState) (j : Journal) (plans : Plans) (exp : List ℕ) (way : Way) (course back : Plan) (by : IsSwapBy s exp way course back) (is_record : IsRecord (Begin exp way)) (follows : Follows the_texts s (Begin exp way) u)
-    (body : IsBody plans.begin (Begin exp way)) (forth : plans.forth ≡ unsent exp way course back) (space : nat_le (length_of j + length plans.begin + 10240) (limit_of j) ≡ true) (most : limit_of j ≤ 2 ^ 32) where
+    (body : IsBody plans.begin (Begin exp way)) (forth : plans.forth ≡ unsent exp way course back) (space : nat_le (length_of j + length plans.begin + 10240) (limit_of j) ≡ true) (most : limit_of j ≤ 2 ^ 32) (sane : Sane s) where
   gives : moved s by.move ≡ Some u
   gives = ap (λ (m : Move). moved s m) (says_once the_texts s (Begin exp way) by.move follows.move texts_once by.says follows.says) ∙ follows.gives
+
+  -- the last records of at most 256 moves take less than what is kept free
+  room : length_of j + size (Begin exp way) + 39 * count_by is_moving u.experiments ≤ limit_of j
+  room =
+      let kept : length_of j + size (Begin exp way) + 10240 ≤ limit_of j = subst (λ (n : ℕ). length_of j + n + 10240 ≤ limit_of j) (body_size plans.begin (Begin exp way) body) (leb-true _ _ space) in
+      let few : length u.experiments ≤ 256 = (follows_sane the_texts s (Begin exp way) u sane follows).few in
+      omega (arith, kept, few, count_by-le-length is_moving u.experiments)
 
   pub planned : IsPlanned s u j plans by.swap (Begin exp way) by.move
   planned = record {
@@ -75,7 +86,7 @@ module _ (s u : LabState) (j : Journal) (plans : Plans) (exp : List ℕ) (way : 
       says = by.says;
       gives = gives;
       ready = by.ready;
-      room = subst (λ (n : ℕ). length_of j + n + 10240 ≤ limit_of j) (body_size plans.begin (Begin exp way) body) (leb-true _ _ space);
+      room = room;
       limit = most;
     };
     begins = by.begins;
@@ -95,7 +106,6 @@ pub nothing_as : (P Q : Type 0) (result : Result (Unit {0}) Unopened) → (P →
 nothing_as P Q (Ok done) f p = tt
 nothing_as P Q (Err (unopened.Busy name)) f p = f p
 nothing_as P Q (Err (unopened.TooManyOpen most)) f p = f p
-nothing_as P Q (Err unopened.Memory) f p = f p
 nothing_as P Q (Err (unopened.Stuck what)) f p = tt
 nothing_as P Q (Err unopened.Stopped) f p = tt
 
@@ -149,13 +159,13 @@ module _ (devices : ℕ) (before now : Seen) (old new : Control) (opens : List O
       → Obeyed devices before now (Is (Ok (begun_as only (Swap exp way)))) old new opens (Some exp) (Ok (replies.Failed exp ends.Stuck what))
   unwritten h limit runs what is only =
       subst (λ (r : Reply). Obeyed devices before now (Is (Ok (begun_as only (Swap exp way)))) old new opens (Some exp) (Ok r)) (λ i. replies.Failed (by.name i) ends.Stuck (sym is i))
-      (closed_by devices before now (Is (Ok (begun_as only (Swap exp way)))) old new opens opens (Some exp) h.steps h.told h.sound h.later limit (same_opened opens devices) broken_reply refl refl (IsBroken missed old.lab (Begin exp way) by.move)
+      (closed_by devices before now (Is (Ok (begun_as only (Swap exp way)))) old new opens opens (Some exp) h.steps h.told h.sound h.later limit (same_open opens) broken_reply refl refl (IsBroken missed old.lab (Begin exp way) by.move)
       h.leaves (λ lab broken. unwritten_done only h.steps lab broken) h.cause (λ _. runs))
 
   pub broke_off : HasNotBegun the_texts old.lab (Begin exp way) by.move nothing Stopped before now → limit_of new.journal ≡ limit_of old.journal → now.stopped ≡ true → (only : Bool)
       → Obeyed devices before now (Is (Ok (begun_as only (Swap exp way)))) old new opens (Some exp) (Err faults.Stopped)
   broke_off h limit stop only =
-      halted devices before now (Is (Ok (begun_as only (Swap exp way)))) old new opens opens (Some exp) h.steps h.told h.sound h.later limit (same_opened opens devices) (IsBroken nothing old.lab (Begin exp way) by.move) h.leaves
+      halted devices before now (Is (Ok (begun_as only (Swap exp way)))) old new opens opens (Some exp) h.steps h.told h.sound h.later limit (same_open opens) (IsBroken nothing old.lab (Begin exp way) by.move) h.leaves
       (λ lab broken a b. stopped_done only h.steps lab broken a b) (λ _. stop)
 
   -- IT WAS NOT OPENED
@@ -165,9 +175,6 @@ module _ (devices : ℕ) (before now : Seen) (old new : Control) (opens : List O
   not_opened u (unopened.TooManyOpen most) tried after still stops limit = absurd tried
   not_opened u (unopened.Stuck what) tried after still stops limit = λ only. unwritten after.1 limit (λ stopped. absurd (stops.1 stopped)) what after.0 only
   not_opened u unopened.Stopped tried after still stops limit = λ only. broke_off after limit (stops.0 tt) only
-  not_opened u unopened.Memory tried after still stops limit = λ only.
-      subst (λ (x : Control). Obeyed devices before now (Is (Ok (begun_as only (Swap exp way)))) old x opens (Some exp) (Err faults.Memory)) (sym still.1)
-      (subst (λ (x : Seen). Obeyed devices before x (Is (Ok (begun_as only (Swap exp way)))) old old opens (Some exp) (Err faults.Memory)) (sym still.0) (wanted devices before (Is (Ok (begun_as only (Swap exp way)))) old opens (Some exp) works))
 
   -- IT IS OPENED, one more
   since_more : before.faults.devices ≤ now.faults.devices → (o : OpenSwap) → Has (opens ++ begun_one ∷ []) o → IsSince now.faults.devices o
@@ -213,9 +220,12 @@ module _ (devices : ℕ) (before now : Seen) (old new : Control) (opens : List O
 
   pub only_begun : Obeyed devices before now (Is (Ok (BeginOnly exp way))) old new opens (Some exp) (Ok (replies.More exp))
   only_begun =
-      by_outcome devices before now (Is (Ok (BeginOnly exp way))) old new opens begun_to h.swap exp h.begun.steps h.begun.told h.begun.sound h.begun.later h.begun.limit
-      (λ outcome. opened_more opens (begun_at h.swap devices) devices refl) BegunIs begun_done More (h.begun.begins, h.works) tt (λ halted. absurd halted) (λ stopped. h.runs stopped) (Ok (replies.More exp))
-      (replies.More h.swap.name, refl, ap (λ (n : List ℕ). Ok (replies.More n)) (sym h.name))
+      goes_on devices before now (Is (Ok (BeginOnly exp way))) old new opens (begun_to More) (Some exp) h.begun.steps h.begun.told h.begun.sound h.begun.later h.begun.limit (replies.More exp) refl
+      (opened_more exp opens (begun_at h.swap devices) devices h.name refl)
+      (subst (λ (l : List Event). IsDone (Is (Ok (BeginOnly exp way))) (start_of devices old opens) l (Some (replies.More exp)) new.lab (Open (begun_to More))) (append-nil h.begun.steps)
+      (subst (λ (n : List ℕ). IsDone (Is (Ok (BeginOnly exp way))) (start_of devices old opens) (h.begun.steps ++ []) (Some (replies.More n)) new.lab (Open (begun_to More))) h.name
+      (begun_done More new.lab [] (replies.More h.swap.name) (Open (begun_to More)) h.begun.begins refl refl refl)))
+      h.works (λ blaming. false_true blaming) (λ blaming. false_true blaming) (λ _. h.runs)
 
 steps_over : (p : SwapOf) (s : LabState) (begin : Rattle.journal_rec.specs.declared.record.Record.Record) (move : Move) (steps : List Event) (lab : LabState) (outcome : Outcome) → SwapSteps p s begin move steps lab outcome → IsOver outcome
 steps_over p s begin move steps lab outcome (whole.begun b) = b.finishes.over
@@ -298,7 +308,7 @@ module _ (devices : ℕ) (before mid now : Seen) (old between new : Control) (op
   all_limit = limit ∙ h.begun.limit
 
   abbrev WholeLeads : Outcome → Type 0
-  WholeLeads outcome = Leads devices before now (Is (Ok (Swap exp way))) old new opens whole_to h.swap exp all_steps all_told all_sound all_later all_limit (λ _. same_opened opens devices) WholeIs whole_done' outcome
+  WholeLeads outcome = Leads devices before now (Is (Ok (Swap exp way))) old new opens whole_to h.swap exp all_steps all_told all_sound all_later all_limit (λ _. same_open opens) WholeIs whole_done' outcome
 
   leads_by : (outcome : Outcome) → IsOver outcome → Rattle.lab_core.proofs.EndOne.Goes mid now between new more exp h.works told f outcome → FinishLeaves the_texts between.lab f.end.swap mid now new.journal end_steps outcome → WholeLeads outcome
   leads_by More over goes leaves = absurd over
@@ -322,12 +332,28 @@ module _ (devices : ℕ) (before mid now : Seen) (old between new : Control) (op
   caused_here : IsCausedSince end_outcome devices before now
   caused_here = causes end_outcome (subst (λ (o : OpenSwap). IsCausedSince end_outcome o.devices mid now) is_last.one_is (cause_since mid now between new more exp h.works told f))
 
+  later_caused : (why : Trouble) → IsCaused why mid now → IsCaused why before now
+  later_caused (Device name) cause = rose_later before.faults.devices mid.faults.devices now.faults.devices now.faults.devices h.begun.later.devices cause (omega arith)
+  later_caused (Late node) cause = tt
+  later_caused (Unlawful node from to) cause = tt
+
+  now_caused : (outcome : Outcome) → IsCausedNow outcome mid now → IsCausedNow outcome before now
+  now_caused More cause = tt
+  now_caused (TurnsBack why) cause = later_caused why cause
+  now_caused (Ended leg) cause = tt
+  now_caused (Stuck why) cause = later_caused why cause
+  now_caused Unwritten cause = tt
+  now_caused Stopped cause = tt
+
+  caused_now : IsCausedNow end_outcome before now
+  caused_now = now_caused end_outcome (cause_now mid now between new more exp h.works told f)
+
   counted_here : counted_from opens (Some exp) devices ≡ devices
   counted_here = ap (λ (o : Option OpenSwap). devices_if o devices) (open_at_none exp opens apart)
 
   pub whole_swap : Obeyed devices before now (Is (Ok (Swap exp way))) old new opens (Some exp) (progress_answer exp told)
   whole_swap =
       let halts = end_halts mid now between new more exp h.works told f in
-      by_outcome devices before now (Is (Ok (Swap exp way))) old new opens whole_to h.swap exp all_steps all_told all_sound all_later all_limit (λ _. same_opened opens devices) WholeIs whole_done' end_outcome
-      (leads_by end_outcome f.end.finished.over f.goes f.end.finished.leaves) (subst (λ (n : ℕ). IsCausedSince end_outcome n before now) (sym counted_here) caused_here) (λ halted. stops.0 (halts.0 halted)) (λ stopped. halts.1 (stops.1 stopped))
+      by_outcome devices before now (Is (Ok (Swap exp way))) old new opens whole_to h.swap exp all_steps all_told all_sound all_later all_limit (λ _. same_open opens) WholeIs whole_done' end_outcome
+      (leads_by end_outcome f.end.finished.over f.goes f.end.finished.leaves) (subst (λ (n : ℕ). IsCausedSince end_outcome n before now) (sym counted_here) caused_here) caused_now (λ halted. stops.0 (halts.0 halted)) (λ stopped. halts.1 (stops.1 stopped))
       (progress_answer exp told) (subst (λ (o : RunningSwap). IsAnswer o.swap end_outcome (progress_answer exp told)) swap_is (end_answer mid now between new more exp h.works told f end_outcome refl))

@@ -12,7 +12,7 @@ use Rattle.journal_disk.specs.Standing.{side_of, length_of}
 use Rattle.journal_disk.specs.declared.journal.Journal.{Journal}
 use Rattle.journal_disk.specs.declared.fault.OpenFault.{OpenFault}
 use Rattle.journal_disk.specs.declared.fault.OpenFault.TheVariants as faults
-use Rattle.journal_runs.specs.Pieces.{has_miss, has_restart, is_miss, is_restart}
+use Rattle.journal_runs.specs.Pieces.{has_restart, is_miss, is_restart}
 use Rattle.journal_runs.proofs.Quiet.{shows}
 use Rattle.lab_state.specs.Texts.{the_texts}
 use Rattle.swap_txn.specs.Steps.{live_of}
@@ -28,10 +28,8 @@ use Rattle.lab_core.specs.Controller.{Control, Works}
 use Rattle.lab_core.specs.Moments.{AllStandFor, IsLabAt}
 use Rattle.lab_core.specs.Compaction.{AfterCompaction, IsCompacted, IsPlaced, IsToMove, MoveEnds, MoveSteps}
 use Rattle.lab_core.specs.Opening.{ReadSteps, HasRead, HasSettledAll, ReadEnds, ReadTold, SettlesInPart, ShiftsInPart, OpenEnds, OpenSteps, OpenTold, AfterOpening}
-use Rattle.lab_core.specs.Recovery.{some}
 use Rattle.lab_core.proofs.Compacting.{length_at, live_at, live_once}
-use Rattle.lab_core.proofs.Obey.{if_all}
-use Rattle.lab_core.proofs.Openings.{lab_at}
+use Rattle.lab_core.proofs.Openings.{all_at, lab_at}
 
 -- NOTHING WAS SETTLED, since reading failed
 pub not_read : (limit : ℕ) (before now : Option Told) (fault : OpenFault) → ReadTold before now limit (Err fault) → OpenTold before now limit (Err fault)
@@ -79,7 +77,7 @@ module _ (limit : ℕ) (before mid now : Seen) (c : Control) (read : ReadTold be
       let h = first.has in
       put h.steps (Err faults.Memory) h.told (settles_show _ _ _ h.steps lab h.settled).restart h.sound
       (if_some before.told (λ t. Stands the_texts (t.trace ++ (read.0 ++ h.steps)) journal lab) (λ t. HasRead t.trace read.0 limit c.lab → OpenEnds t.trace read.0 h.steps limit (Err faults.Memory))
-      (λ t stands has_read. inr (inl (record { start = c.lab; read = has_read; lab = lab; some = some first.past first.rest first.outcomes first.all h.settled; at = lab_at _ journal stands.records lab stands.at stands.lab_of })))
+      (λ t stands has_read. inr (inl (record { start = c.lab; read = has_read; lab = lab; some = record { past = first.past; rest = first.rest; all = first.all; outcomes = first.outcomes; settles = h.settled }; at = lab_at _ journal stands.records lab stands.at stands.lab_of; images = all_at _ journal stands.records lab stands.at stands.lab_of })))
       (if_back before.told now.told (read.0 ++ h.steps) (λ l. Stands the_texts l journal lab) (h.told ∙ ap (λ o. with_steps o h.steps) read.1 ∙ told_twice before.told read.0 h.steps) h.work.stands))
   then_broken faults.Plant h =
       let shows = broken_shows _ _ h.steps Unwritten h.leaves.after h.leaves.is in
@@ -175,8 +173,15 @@ module _ (limit : ℕ) (before mid now : Seen) (c : Control) (read : ReadTold be
             start = c.lab;
             read = r.1;
             lab = settled.lab;
-            some = some (swaps_of [] c.lab.experiments) [] after.1.outcomes (sym (append-nil (swaps_of [] c.lab.experiments))) (subst (λ l. Settles c.lab (swaps_of [] c.lab.experiments) after.1.outcomes l settled.lab) (sym none) after.1.has.settled);
+            some = record {
+              past = swaps_of [] c.lab.experiments;
+              rest = [];
+              all = sym (append-nil (swaps_of [] c.lab.experiments));
+              outcomes = after.1.outcomes;
+              settles = subst (λ l. Settles c.lab (swaps_of [] c.lab.experiments) after.1.outcomes l settled.lab) (sym none) after.1.has.settled;
+            };
             at = subst (λ l. IsLabAt (t.trace ++ (read.0 ++ l)) settled.lab) (sym none) (lab_at _ j then.records settled.lab then.at then.lab_of);
+            images = subst (λ l. AllStandFor (t.trace ++ (read.0 ++ l)) settled.lab) (sym none) (all_at _ j then.records settled.lab then.at then.lab_of);
           }))
       by_answer (Err (faults.Bad side at)) kept ends = absurd ends
 

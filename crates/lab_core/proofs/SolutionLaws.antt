@@ -5,6 +5,8 @@ use Rattle.std.proofs.lemmas.Option.{same_Some}
 use Rattle.virt_topo.specs.Wirings.{mapped}
 use Rattle.plant.specs.Events.{Event}
 use Rattle.phys_lab.specs.Labs.{Lab}
+use Rattle.lab_base.specs.Lists.{Has}
+use Rattle.lab_base.proofs.Members.{Has-map}
 use Rattle.lab_base.specs.declared.fault.TextFault.{TextFault}
 use Rattle.lab_base.specs.declared.ids.VlanId.{VlanId}
 use Rattle.virt_topo.specs.declared.experiment.Experiment.{Experiment}
@@ -36,12 +38,13 @@ use Rattle.swap_turns.specs.Whole.{SwapSteps, begun, unwritten, stopped as stopp
 use Rattle.lab_core.specs.Breaks.{Breaks, stopped, failed, unanswered}
 use Rattle.lab_core.specs.Counts.{least_tags}
 use Rattle.lab_core.specs.Judge.{◌>>=◌, Task, Swap, begun_as, in_slot, judged_mapping, judged_swapin, need_kept, subject_name}
-use Rattle.lab_core.specs.LabSteps.{Does, IsDoneBy, does, no_memory, opened, not_opened, StepOf, IfSpace, Replies, Swaps, BeginSteps, Begins, begun_at, JudgedBeside, IsAnswered, is_told, unanswered as untold, has_space, done_reply, end_reply, turn_reply, undone_end}
-use Rattle.lab_core.specs.Sessions.{OpenSwap, Session, Closed, Open, Setting, After, is_among, names_of, Terms}
-use Rattle.lab_core.specs.Tells.{BeginsAt, IsFeasibleFor, Hinders, TellsBroken, taken_reply}
+use Rattle.lab_core.specs.LabSteps.{DoesBy, Does, IsDoneBy, does, no_memory, opened, not_opened, StepOf, IfSpace, Replies, Swaps, BeginSteps, Begins, begun_at, JudgedBeside, IsAnswered, is_told, has_space, done_reply, end_reply, turn_reply, undone_end}
+use Rattle.lab_core.specs.Sessions.{OpenSwap, Session, Closed, Open, Setting, After, is_among, name_in, names_of, Terms}
+use Rattle.lab_core.proofs.OpenNames.{busy_has}
+use Rattle.lab_core.specs.Tells.{AllMove, BeginsAt, IsFeasibleFor, Hinders, TellsBroken, opens_of, taken_reply}
 
 -- the reply tells that it was taken
-abbrev is_taking : Reply → Bool
+abbrev pub is_taking : Reply → Bool
 is_taking (replies.In exp) = true
 is_taking (replies.More exp) = true
 is_taking reply = false
@@ -51,7 +54,7 @@ taking true exp = refl
 taking false exp = refl
 
 -- what is judged of it: it can be swapped in, or another reply refuses it
-abbrev judged_for : LabState → Bool → ℕ → Bool → List ℕ → List ℕ → Result Task Reply
+abbrev pub judged_for : LabState → Bool → ℕ → Bool → List ℕ → List ℕ → Result Task Reply
 judged_for s busy count only exp text = in_slot count only (judged_swapin s busy exp text)
 
 abbrev Refused : LabState → Bool → List ℕ → List ℕ → Type 0
@@ -90,47 +93,61 @@ module _ (s : LabState) (exp text : List ℕ) where
   by_lab busy None is = inr (replies.NoLab, rw is refl, refl)
   by_lab busy (Some lab) is = by_found lab busy (find exp s.experiments) is refl
 
-  feasible_judged : (lab : Lab) (e : Experiment) (mapping : Mapping) → s.lab ≡ Some lab → find exp s.experiments ≡ Some e → e.phase ≡ Out → mapping_of_text lab e.wiring text ≡ Ok mapping → violation_beside lab (others e.name s.experiments) e e.wiring mapping ≡ None
+  pub feasible_judged : (lab : Lab) (e : Experiment) (mapping : Mapping) → s.lab ≡ Some lab → find exp s.experiments ≡ Some e → e.phase ≡ Out → mapping_of_text lab e.wiring text ≡ Ok mapping → violation_beside lab (others e.name s.experiments) e e.wiring mapping ≡ None
       → judged_swapin s false exp text ≡ Ok (Swap e.name (WayIn (canonical_solution lab e.wiring mapping) (least_tags lab s.experiments (length e.wiring.segments))))
   feasible_judged lab e mapping is found out reads keeps = idle_reads lab e mapping is found out reads ∙ by_violation lab e mapping None keeps
 
-  busy_judged : (lab : Lab) (e : Experiment) → s.lab ≡ Some lab → find exp s.experiments ≡ Some e → judged_swapin s true exp text ≡ Err (replies.Busy exp)
+  pub busy_judged : (lab : Lab) (e : Experiment) → s.lab ≡ Some lab → find exp s.experiments ≡ Some e → judged_swapin s true exp text ≡ Err (replies.Busy exp)
   busy_judged lab e is found = rw (is, found) refl
 
+-- an experiment that is out has no open swap, where that of each moves
+idle_where : (s : LabState) (exp : List ℕ) (e : Experiment) (opens : List OpenSwap) → AllMove opens s → find exp s.experiments ≡ Some e → e.phase ≡ Out → is_among (names_of opens) (Some exp) ≡ true → ⊥
+idle_where s exp e opens all found out busy =
+    let o = Has-map name_in opens exp (busy_has (names_of opens) exp busy) in
+    let m = all o.0 o.1 in
+    let same : m.exp ≡ e = same_Some m.exp e (sym m.found ∙ ap (λ (n : List ℕ). find n s.experiments) o.2 ∙ found) in
+    let phases : Moving o.0.running.swap.old o.0.running.swap.new ≡ Out = sym m.moving ∙ ap (λ (x : Experiment). x.phase) same ∙ out in
+    cc phases
+
+-- where the command's own part begins they move still
+moving_there : (session : Session) (s mid : LabState) (opening : List Event) (opens : List OpenSwap) → BeginsAt session s opening mid → opens ≡ opens_of session → AllMove (opens_of session) s → AllMove opens mid
+moving_there Closed s mid opening opens begins are all o there = absurd (subst (λ l. Has l o) are there)
+moving_there (Open old) s mid opening opens begins are all o there = subst (λ (u : LabState). Moves o.running.swap u) (sym begins) (all o (subst (λ l. Has l o) are there))
+
 -- room among the open swaps
-in_room : (count : ℕ) (only : Bool) (task : Task) → nat_le 16 count ≡ false → in_slot count only (Ok task) ≡ Ok (begun_as only task)
+pub in_room : (count : ℕ) (only : Bool) (task : Task) → nat_le 16 count ≡ false → in_slot count only (Ok task) ≡ Ok (begun_as only task)
 in_room count only task free = rw free refl
 
-no_room : (count : ℕ) (only : Bool) (task : Task) → nat_le 16 count ≡ true → in_slot count only (Ok task) ≡ Err replies.FullSwaps
+pub no_room : (count : ℕ) (only : Bool) (task : Task) → nat_le 16 count ≡ true → in_slot count only (Ok task) ≡ Err replies.FullSwaps
 no_room count only task full = rw full refl
 
 -- WHAT A STEP TOLD: what is judged in the lab at which its own part begins was done; or nothing; or a stop, or a failure of the disk
-abbrev judged_there : LabState → List OpenSwap → Bool → List ℕ → List ℕ → Result Task Reply
+abbrev pub judged_there : LabState → List OpenSwap → Bool → List ℕ → List ℕ → Result Task Reply
 judged_there s opens only exp text = judged_for s (is_among (names_of opens) (Some exp)) (length opens) only exp text
 
-data Told (set : Setting) (session : Session) (s : LabState) (only : Bool) (exp text : List ℕ) (opening own : List Event) (after : After) : Type 0 where
-  did : (mid : LabState) → BeginsAt session s opening mid → (opens : List OpenSwap) → Does set mid opens (judged_there mid opens only exp text) own after → Told set session s only exp text opening own after
+pub data Told (set : Setting) (session : Session) (s : LabState) (only : Bool) (exp text : List ℕ) (opening own : List Event) (after : After) : Type 0 where
+  did : (mid : LabState) → BeginsAt session s opening mid → (opens : List OpenSwap) → opens ≡ opens_of session → Does set mid opens (judged_there mid opens only exp text) own after → Told set session s only exp text opening own after
   silent : after.reply ≡ None → Told set session s only exp text opening own after
   broke : (reply : Reply) → after.reply ≡ Some reply → TellsBroken reply → Told set session s only exp text opening own after
 
 module _ (terms : Terms) (set : Setting) (session : Session) (s : LabState) (only : Bool) (exp text : List ℕ) (lines : ℕ) (opening own : List Event) (after : After) where
-  told_done : (mid : LabState) → BeginsAt session s opening mid → (opens : List OpenSwap) → IsDoneBy (JudgedBeside terms.rule (commands.SwapinWith only exp lines text) opens mid) set mid opens own after → Told set session s only exp text opening own after
-  told_done mid begins opens (does judgement is d) = did mid begins opens (subst (λ (j : Result Task Reply). Does set mid opens j own after) is d)
-  told_done mid begins opens (no_memory wants) = silent (ap (λ (a : After). a.reply) wants.after_is)
+  told_done : (mid : LabState) → BeginsAt session s opening mid → (opens : List OpenSwap) → opens ≡ opens_of session → IsDoneBy (JudgedBeside terms.rule (commands.SwapinWith only exp lines text) opens mid) set mid opens own after → Told set session s only exp text opening own after
+  told_done mid begins opens are (does judgement is d) = did mid begins opens are (subst (λ (j : Result Task Reply). Does set mid opens j own after) is d)
+  told_done mid begins opens are (no_memory wants) = silent (ap (λ (a : After). a.reply) wants.after_is)
 
   told_broke : (events : List Event) → Breaks events after.reply → Told set session s only exp text opening own after
   told_broke events (stopped ends is) = broke replies.Stopped is tt
   told_broke events (failed no' miss is) = broke replies.Down is tt
   told_broke events (unanswered none) = silent none
 
-told_by : (terms : Terms) (set : Setting) (session : Session) (s : LabState) (only : Bool) (exp text : List ℕ) (lines : ℕ) (opening own : List Event) (after : After) → StepOf None (JudgedBeside terms.rule (commands.SwapinWith only exp lines text)) terms set s session opening own after
+pub told_by : (terms : Terms) (set : Setting) (session : Session) (s : LabState) (only : Bool) (exp text : List ℕ) (lines : ℕ) (opening own : List Event) (after : After) → StepOf None (DoesBy (JudgedBeside terms.rule (commands.SwapinWith only exp lines text)) set) terms s session opening own after
     → Told set session s only exp text opening own after
-told_by terms set Closed s only exp text lines opening own after (opened mid opens d) = told_done terms set Closed s only exp text lines opening own after mid opens [] d
+told_by terms set Closed s only exp text lines opening own after (opened mid opens d) = told_done terms set Closed s only exp text lines opening own after mid opens [] refl d
 told_by terms set Closed s only exp text lines opening own after (not_opened breaks) = told_broke terms set Closed s only exp text lines opening own after opening breaks.breaks
-told_by terms set (Open opens) s only exp text lines opening own after step = told_done terms set (Open opens) s only exp text lines opening own after s refl opens step.1
+told_by terms set (Open opens) s only exp text lines opening own after step = told_done terms set (Open opens) s only exp text lines opening own after s refl opens refl step.1
 
 -- TAKEN ONLY where it is feasible
-only_if : (set : Setting) (s : LabState) (opens : List OpenSwap) (only : Bool) (exp text : List ℕ) (own : List Event) (after : After) → Does set s opens (judged_there s opens only exp text) own after → after.reply ≡ Some (taken_reply only exp) → IsFeasibleFor s exp text
+pub only_if : (set : Setting) (s : LabState) (opens : List OpenSwap) (only : Bool) (exp text : List ℕ) (own : List Event) (after : After) → Does set s opens (judged_there s opens only exp text) own after → after.reply ≡ Some (taken_reply only exp) → IsFeasibleFor s exp text
 only_if set s opens only exp text own after d is = elim (by_lab s exp text (is_among (names_of opens) (Some exp)) s.lab refl) [
   | inl feasible ↦ feasible
   | inr refused ↦
@@ -159,7 +176,7 @@ module _ (s : LabState) (only : Bool) (exp text : List ℕ) (f : IsFeasibleFor s
   named = (found_from exp s.experiments f.experiment f.found).name_is
 
   -- the swap leads into the lab
-  into : (p : SwapOf) (move : Move) (u : LabState) (m : Mapping) → p.name ≡ f.experiment.name → move ≡ BeginsIn f.experiment.name m tags → moved s move ≡ Some u → Moves p u → p.new ≡ Some (mapped f.experiment.wiring m tags)
+  pub into : (p : SwapOf) (move : Move) (u : LabState) (m : Mapping) → p.name ≡ f.experiment.name → move ≡ BeginsIn f.experiment.name m tags → moved s move ≡ Some u → Moves p u → p.new ≡ Some (mapped f.experiment.wiring m tags)
   into p move u m name move_is gives moves =
       let found : find f.experiment.name s.experiments ≡ Some f.experiment = ap (λ (n : List ℕ). find n s.experiments) named ∙ f.found in
       let short : length f.experiment.name ≤ 32 = subst (λ (n : List ℕ). length n ≤ 32) name moves.short in
@@ -195,7 +212,6 @@ module _ (s : LabState) (only : Bool) (exp text : List ℕ) (f : IsFeasibleFor s
 
     swap_fine : IsAnswered (end_reply d.swap d.outcome) opens d.outcome d.behind after → Fine false reply
     swap_fine (is_told starts told session) = by_outcome d.outcome d.ends told
-    swap_fine (untold starts none session) = told_none none
 
   module _ (opens : List OpenSwap) (devices : ℕ) (d : Begins s opens devices f.experiment.name begin own after) where
     by_begin : (outcome : Outcome) → BeginSteps s begin d.move d.steps after.lab outcome → after.reply ≡ turn_reply d.swap outcome → Fine true reply
@@ -208,7 +224,6 @@ module _ (s : LabState) (only : Bool) (exp text : List ℕ) (f : IsFeasibleFor s
 
     begin_fine : IsAnswered (turn_reply d.swap d.outcome) (opens ++ begun_at d.swap devices ∷ []) d.outcome d.behind after → Fine true reply
     begin_fine (is_told starts told session) = by_begin d.outcome d.begins told
-    begin_fine (untold starts none session) = told_none none
 
   by_space : (begins : Bool) (b : Bool) (length : ℕ) (opens : List OpenSwap) (Done : Type 0) → (Done → Fine begins reply) → IfSpace b length s opens Done own after → Fine begins reply
   by_space begins true length opens Done each d = each d
@@ -236,24 +251,23 @@ module _ (s : LabState) (only : Bool) (exp text : List ℕ) (f : IsFeasibleFor s
       by true is = refused_so set opens replies.FullSwaps (judged_for s false count only exp text) (judged ∙ no_room count only task is) tt d
       by false is = by_task only set opens (subst (λ (j : Result Task Reply). Does set s opens j own after) (judged ∙ in_room count only task is) d)
 
-  by_done : (busy : Bool) (count : ℕ) (set : Setting) (opens : List OpenSwap) → Does set s opens (judged_for s busy count only exp text) own after → Fine only reply
-  by_done true count set opens d =
-      refused_so set opens (replies.Busy exp) (judged_for s true count only exp text) (ap (λ (r : Result Task Reply). in_slot count only r) (busy_judged s exp text f.lab f.experiment f.is_lab f.found)) tt d
-  by_done false count set opens d = by_room count (nat_le 16 count) refl set opens d
+  by_done : (busy : Bool) → (busy ≡ true → ⊥) → (count : ℕ) (set : Setting) (opens : List OpenSwap) → Does set s opens (judged_for s busy count only exp text) own after → Fine only reply
+  by_done true never count set opens d = absurd (never refl)
+  by_done false never count set opens d = by_room count (nat_le 16 count) refl set opens d
 
 -- THE ANSWER TO A SUPPLIED SOLUTION, both ways from one lab
 pub in_both : (terms : Terms) (set : Setting) (s : LabState) (session : Session) (only : Bool) (exp text : List ℕ) (lines : ℕ) (opening own : List Event) (after : After) (reply : Reply)
-    → StepOf None (JudgedBeside terms.rule (commands.SwapinWith only exp lines text)) terms set s session opening own after → after.reply ≡ Some reply
-    → TellsBroken reply ⊎ ((mid : LabState) × BeginsAt session s opening mid × (reply ≡ taken_reply only exp → IsFeasibleFor mid exp text) × (IsFeasibleFor mid exp text → (reply ≡ taken_reply only exp) ⊎ Hinders reply))
+    → StepOf None (DoesBy (JudgedBeside terms.rule (commands.SwapinWith only exp lines text)) set) terms s session opening own after → after.reply ≡ Some reply
+    → TellsBroken reply ⊎ ((mid : LabState) × BeginsAt session s opening mid × (reply ≡ taken_reply only exp → IsFeasibleFor mid exp text) × (AllMove (opens_of session) s → IsFeasibleFor mid exp text → (reply ≡ taken_reply only exp) ⊎ Hinders reply))
 in_both terms set s session only exp text lines opening own after reply step is = by (told_by terms set session s only exp text lines opening own after step)
   where
     by : Told set session s only exp text opening own after
-        → TellsBroken reply ⊎ ((mid : LabState) × BeginsAt session s opening mid × (reply ≡ taken_reply only exp → IsFeasibleFor mid exp text) × (IsFeasibleFor mid exp text → (reply ≡ taken_reply only exp) ⊎ Hinders reply))
-    by (did mid begins opens d) = inr (
+        → TellsBroken reply ⊎ ((mid : LabState) × BeginsAt session s opening mid × (reply ≡ taken_reply only exp → IsFeasibleFor mid exp text) × (AllMove (opens_of session) s → IsFeasibleFor mid exp text → (reply ≡ taken_reply only exp) ⊎ Hinders reply))
+    by (did mid begins opens are d) = inr (
       mid,
       begins,
       λ inside. only_if set mid opens only exp text own after d (is ∙ ap (λ (r : Reply). Some r) inside),
-      λ f. by_done mid only exp text f own after reply is (is_among (names_of opens) (Some exp)) (length opens) set opens d,
+      λ all f. by_done mid only exp text f own after reply is (is_among (names_of opens) (Some exp)) (idle_where mid exp f.experiment opens (moving_there session s mid opening opens begins are all) f.found f.out) (length opens) set opens d,
     )
     by (silent none) = let both : None ≡ Some reply = sym none ∙ is in absurd (cc both)
     by (broke told told_is breaks) = inl (subst TellsBroken (same_Some told reply (sym told_is ∙ is)) breaks)
@@ -263,16 +277,16 @@ broken_not true exp breaks = breaks
 broken_not false exp breaks = breaks
 
 pub in_only : (terms : Terms) (set : Setting) (s : LabState) (session : Session) (only : Bool) (exp text : List ℕ) (lines : ℕ) (opening own : List Event) (after : After)
-    → StepOf None (JudgedBeside terms.rule (commands.SwapinWith only exp lines text)) terms set s session opening own after → after.reply ≡ Some (taken_reply only exp) → (mid : LabState) × BeginsAt session s opening mid × IsFeasibleFor mid exp text
+    → StepOf None (DoesBy (JudgedBeside terms.rule (commands.SwapinWith only exp lines text)) set) terms s session opening own after → after.reply ≡ Some (taken_reply only exp) → (mid : LabState) × BeginsAt session s opening mid × IsFeasibleFor mid exp text
 in_only terms set s session only exp text lines opening own after step is = elim (in_both terms set s session only exp text lines opening own after (taken_reply only exp) step is) [
   | inl breaks ↦ absurd (broken_not only exp breaks)
   | inr both ↦ (both.0, both.1, both.2 refl)
 ]
 
 pub in_unless : (terms : Terms) (set : Setting) (s : LabState) (session : Session) (only : Bool) (exp text : List ℕ) (lines : ℕ) (opening own : List Event) (after : After) (reply : Reply)
-    → StepOf None (JudgedBeside terms.rule (commands.SwapinWith only exp lines text)) terms set s session opening own after → after.reply ≡ Some reply
+    → StepOf None (DoesBy (JudgedBeside terms.rule (commands.SwapinWith only exp lines text)) set) terms s session opening own after → AllMove (opens_of session) s → after.reply ≡ Some reply
     → TellsBroken reply ⊎ ((mid : LabState) × BeginsAt session s opening mid × (IsFeasibleFor mid exp text → (reply ≡ taken_reply only exp) ⊎ Hinders reply))
-in_unless terms set s session only exp text lines opening own after reply step is = elim (in_both terms set s session only exp text lines opening own after reply step is) [
+in_unless terms set s session only exp text lines opening own after reply step all is = elim (in_both terms set s session only exp text lines opening own after reply step is) [
   | inl breaks ↦ inl breaks
-  | inr both ↦ inr (both.0, both.1, both.3)
+  | inr both ↦ inr (both.0, both.1, both.3 all)
 ]

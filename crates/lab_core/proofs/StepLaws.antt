@@ -38,7 +38,7 @@ use Rattle.swap_turns.proofs.Finishing.{onward_swap}
 use Rattle.swap_turns.proofs.Showing.{finish_shows, settles_show, swap_shows, turn_shows}
 use Rattle.cost_rule.specs.declared.rule.RuleNumber.{RuleNumber}
 use Rattle.lab_core.specs.Judge.{Task, Tell, Append, Swap, BeginOnly, Turn, Finish, Recover}
-use Rattle.lab_core.specs.LabSteps.{Replies, WantsMemory, AppendEnds, whole, broken, Appends, done_reply, undone_end, end_reply, turn_reply, IsAnswered, is_told, unanswered as untold, Swaps, BeginSteps, Begins as BeginsSwap, Turns, EndsSwap, has_space, IfSpace, Does, IsDoneBy, does, no_memory, FromClosed, opened, not_opened, Drills, is_planned, is_refused, wants_memory, StepOf, IsThis, JudgedBeside}
+use Rattle.lab_core.specs.LabSteps.{DoesBy, Replies, WantsMemory, AppendEnds, whole, broken, Appends, done_reply, undone_end, end_reply, turn_reply, IsAnswered, is_told, Swaps, BeginSteps, Begins as BeginsSwap, Turns, EndsSwap, has_space, IfSpace, Does, IsDoneBy, does, no_memory, FromClosed, opened, not_opened, Drills, is_planned, is_refused, wants_memory, StepOf, IsThis, JudgedBeside}
 use Rattle.lab_core.specs.Breaks.{Breaks, StartsBehind, stopped, failed, unanswered}
 use Rattle.lab_core.specs.Recovery.{BreaksOpening, OpensInPart, reading, settling, shifting, Recovers, settled, broken_off}
 use Rattle.lab_core.specs.Sessions.{OpenSwap, Session, Closed, Open, Setting, After, is_among, name_of, names_of, Terms}
@@ -109,7 +109,7 @@ module _ (judgement : Result Task Reply) (terms : Terms) (set : Setting) (s : La
   was_done session mid opens begins (does other is d) = done mid opens begins (subst (λ (j : Result Task Reply). JudgedBeside terms.rule command opens mid j) is.0 is.1) (subst (λ (j : Result Task Reply). Does set mid opens j own after) is.0 d)
   was_done session mid opens begins (no_memory wants) = wanting mid opens begins wants
 
-  pub was : (drill : Option Drill) (session : Session) → StepOf drill (IsThis judgement terms.rule command) terms set s session opening own after → Was drill judgement terms set s session command opening own after
+  pub was : (drill : Option Drill) (session : Session) → StepOf drill (DoesBy (IsThis judgement terms.rule command) set) terms s session opening own after → Was drill judgement terms set s session command opening own after
   was (Some drill) session step = drilled refl step.0 step.1
   was None Closed (opened mid opens d) = was_done Closed mid [] (record { no_drill = refl; at = opens; quiet = opens.no_restart; are = refl }) d
   was None Closed (not_opened breaks) = broke refl refl breaks
@@ -120,23 +120,23 @@ one_done : (rule : RuleNumber) (set : Setting) (s : LabState) (opens : List Open
 one_done rule set s opens command own after (does judgement is d) = (judgement, does judgement (refl, is) d)
 one_done rule set s opens command own after (no_memory wants) = (Err NoDrill, no_memory wants)
 
-one_opened : (rule : RuleNumber) (set : Setting) (s : LabState) (command : Command) (opening own : List Event) (after : After) → FromClosed (JudgedBeside rule command []) set s opening own after → (judgement : Result Task Reply) × FromClosed (IsThis judgement rule command []) set s opening own after
+one_opened : (rule : RuleNumber) (set : Setting) (s : LabState) (command : Command) (opening own : List Event) (after : After) → FromClosed (DoesBy (JudgedBeside rule command) set []) s opening own after → (judgement : Result Task Reply) × FromClosed (DoesBy (IsThis judgement rule command) set []) s opening own after
 one_opened rule set s command opening own after (opened mid opens d) = let one = one_done rule set mid [] command own after d in (one.0, opened mid opens one.1)
 one_opened rule set s command opening own after (not_opened breaks) = (Err NoDrill, not_opened breaks)
 
-pub by_one : (o : Option Drill) (terms : Terms) (set : Setting) (s : LabState) (session : Session) (command : Command) (opening own : List Event) (after : After) → StepOf o (JudgedBeside terms.rule command) terms set s session opening own after
-    → (judgement : Result Task Reply) × StepOf o (IsThis judgement terms.rule command) terms set s session opening own after
+pub by_one : (o : Option Drill) (terms : Terms) (set : Setting) (s : LabState) (session : Session) (command : Command) (opening own : List Event) (after : After) → StepOf o (DoesBy (JudgedBeside terms.rule command) set) terms s session opening own after
+    → (judgement : Result Task Reply) × StepOf o (DoesBy (IsThis judgement terms.rule command) set) terms s session opening own after
 by_one (Some drill) terms set s session command opening own after step = (Err NoDrill, step)
 by_one None terms set s Closed command opening own after step = one_opened terms.rule set s command opening own after step
 by_one None terms set s (Open opens) command opening own after step = let one = one_done terms.rule set s opens command own after step.1 in (one.0, (step.0, one.1))
 
 -- A DRILL leaves all as it was
-drill_is : (terms : Terms) (s : LabState) (session : Session) (own : List Event) (after : After) → Drills terms.takes s session own after → (own ≡ []) × (after.lab ≡ s)
+pub drill_is : (terms : Terms) (s : LabState) (session : Session) (own : List Event) (after : After) → Drills terms.takes s session own after → (own ≡ []) × (after.lab ≡ s)
 drill_is terms s session own after (is_planned yes' none after_is) = (none, ap (λ (a : After). a.lab) after_is)
 drill_is terms s session own after (is_refused no' none after_is) = (none, ap (λ (a : After). a.lab) after_is)
 drill_is terms s session own after (wants_memory wants) = (wants.nothing, ap (λ (a : After). a.lab) wants.after_is)
 
-pub drills_leave : (o : Option Drill) (terms : Terms) (set : Setting) (s : LabState) (session : Session) (Judges : List OpenSwap → LabState → Result Task Reply → Type 0) (opening own : List Event) (after : After) → is_some o ≡ true → StepOf o Judges terms set s session opening own after → (opening ≡ []) × (own ≡ []) × (after.lab ≡ s)
+pub drills_leave : (o : Option Drill) (terms : Terms) (set : Setting) (s : LabState) (session : Session) (Judges : List OpenSwap → LabState → Result Task Reply → Type 0) (opening own : List Event) (after : After) → is_some o ≡ true → StepOf o (DoesBy Judges set) terms s session opening own after → (opening ≡ []) × (own ≡ []) × (after.lab ≡ s)
 drills_leave None terms set s session Judges opening own after is step = absurd (cc is)
 drills_leave (Some drill) terms set s session Judges opening own after is step = let both = drill_is terms s session own after step.1 in (step.0, both.0, both.1)
 
@@ -183,7 +183,7 @@ module _ (s : LabState) (opens : List OpenSwap) (own : List Event) (reply other 
     where
       by : AppendEnds s opens a.state told a.run a.more own x → (told ≡ y) × (moved s a.move ≡ Some x.lab)
       by (whole all none x_is) = (same_Some told y (sym (ap (λ (v : After). v.reply) x_is) ∙ y_is), a.moves ∙ ap Some (sym (ap (λ (v : After). v.lab) x_is)))
-      by (broken breaks either session) = absurd (did_go own x.reply y went y_is breaks)
+      by (broken breaks said either session) = absurd (did_go own x.reply y went y_is breaks)
 
   appends_once : (entry : Record) (told : Reply) → Went own → Appends s opens entry told own after → Appends s opens entry told own later → (reply ≡ other) × (after.lab ≡ later.lab)
   appends_once entry told went one two =
@@ -229,7 +229,7 @@ module _ (s : LabState) (opens : List OpenSwap) (own : List Event) (reply other 
   done_once rule set command judgement no_swap went (no_memory wants) two = none_told after.reply reply (ap (λ (v : After). v.reply) wants.after_is) is
   done_once rule set command judgement no_swap went (does j p one) (no_memory wants) = none_told later.reply other (ap (λ (v : After). v.reply) wants.after_is) also
 
-  pub step_once : (o : Option Drill) (terms : Terms) (set : Setting) (command : Command) (judgement : Result Task Reply) → IsNoSwap judgement → Went own → StepOf o (IsThis judgement terms.rule command) terms set s (Open opens) [] own after → StepOf o (IsThis judgement terms.rule command) terms set s (Open opens) [] own later
+  pub step_once : (o : Option Drill) (terms : Terms) (set : Setting) (command : Command) (judgement : Result Task Reply) → IsNoSwap judgement → Went own → StepOf o (DoesBy (IsThis judgement terms.rule command) set) terms s (Open opens) [] own after → StepOf o (DoesBy (IsThis judgement terms.rule command) set) terms s (Open opens) [] own later
       → (reply ≡ other) × (after.lab ≡ later.lab)
   step_once None terms set command judgement no_swap went one two = done_once terms.rule set command judgement no_swap went one.1 two.1
   step_once (Some drill) terms set command judgement no_swap went one two = drills_once terms one.1 two.1
@@ -246,9 +246,8 @@ module _ (exp : List ℕ) (way : Way) (own : List Event) (after : After) (reply 
         by : IsAnswered (end_reply d.swap d.outcome) opens d.outcome d.behind after → TellsLab s exp move reply after.lab
         by (is_told starts told session) =
             subst (λ (m : Move). TellsLab s exp m reply after.lab) same (end_tells d.swap s after.lab exp (Begin exp way) d.move d.steps d.outcome reply d.name (sym told ∙ is) d.ends)
-        by (untold starts none session) = none_told after.reply reply none is
 
-    does_tell : (b : Bool) (length : ℕ) (opens : List OpenSwap) → IfSpace b length s opens (Swaps s opens exp (Begin exp way) own after) own after → TellsLab s exp move reply after.lab
+    pub does_tell : (b : Bool) (length : ℕ) (opens : List OpenSwap) → IfSpace b length s opens (Swaps s opens exp (Begin exp way) own after) own after → TellsLab s exp move reply after.lab
     does_tell true length opens d = swaps_tell opens d
     does_tell false length opens d =
         subst (λ (r : Reply). TellsLab s exp move r after.lab) (same_Some (FullJournal length) reply (sym (ap (λ (a : After). a.reply) d.after_is) ∙ is)) (ap (λ (a : After). a.lab) d.after_is)
@@ -321,13 +320,12 @@ module _ (own : List Event) (after : After) (reply : Reply) (is : after.reply �
     where
       by : AppendEnds s opens d.state told d.run d.more own after → has_restart own ≡ is_stopped reply
       by (whole all none after_is) = calm told goes (ap (λ (a : After). a.reply) after_is) (ap has_restart d.steps ∙ (ended_quiet d.side d.gate entry d.run d.more (Ok tt) (all, none)).1)
-      by (broken breaks either session) = breaks_stop own breaks
+      by (broken breaks said either session) = breaks_stop own breaks
 
   -- a swap, or a turn, was answered
   answered_stops : (told : Option Reply) (to : List OpenSwap) (outcome : Outcome) (steps behind : List Event) → own ≡ steps ++ behind → (StartsBehind outcome behind → told ≡ Some reply → has_restart (steps ++ behind) ≡ is_stopped reply)
       → IsAnswered told to outcome behind after → has_restart own ≡ is_stopped reply
   answered_stops told to outcome steps behind own_is each (is_told starts replied session) = ap has_restart own_is ∙ each starts (sym replied ∙ is)
-  answered_stops told to outcome steps behind own_is each (untold starts none session) = none_told after.reply reply none is
 
   swap_stops : (s : LabState) (opens : List OpenSwap) (exp : List ℕ) (entry : Record) → Swaps s opens exp entry own after → has_restart own ≡ is_stopped reply
   swap_stops s opens exp entry d =
@@ -351,7 +349,7 @@ module _ (own : List Event) (after : After) (reply : Reply) (is : after.reply �
   recover_stops s opens (settled outcomes settles told session) = calm _ refl told (settles_show s _ outcomes own after.lab settles).restart
   recover_stops s opens (broken_off part breaks session) = breaks_stop own breaks
 
-  does_stop : (set : Setting) (s : LabState) (opens : List OpenSwap) (command : Command) (busy : Bool) (count : ℕ) (judgement : Result Task Reply) → IsFit s command busy count judgement → Does set s opens judgement own after → has_restart own ≡ is_stopped reply
+  pub does_stop : (set : Setting) (s : LabState) (opens : List OpenSwap) (command : Command) (busy : Bool) (count : ℕ) (judgement : Result Task Reply) → IsFit s command busy count judgement → Does set s opens judgement own after → has_restart own ≡ is_stopped reply
   does_stop set s opens command busy count (Err refusal) inner d = replies_stop s opens refusal (no_stop_of refusal inner) d
   does_stop set s opens command busy count (Ok (Tell told)) inner d = replies_stop s opens told (no_stop_of told inner) d
   does_stop set s opens command busy count (Ok (Append entry told)) inner d = space_stop s opens _ set.length (Appends s opens entry told own after) (append_stops s opens entry told (no_stop_of told inner.0)) d
@@ -384,7 +382,7 @@ module _ (name : List ℕ) (own : List Event) (after : After) where
       where
         by : AppendEnds s opens d.state told d.run d.more own after → (after.lab ≡ s) ⊎ (after.lab ≡ d.state)
         by (whole all none after_is) = inr (ap (λ (a : After). a.lab) after_is)
-        by (broken breaks either session) = either
+        by (broken breaks said either session) = either
 
     space_stays : (b : Bool) (length : ℕ) (Done : Type 0) → (Done → Stays name s after.lab) → IfSpace b length s opens Done own after → Stays name s after.lab
     space_stays true length Done each d = each d
@@ -394,7 +392,7 @@ module _ (name : List ℕ) (own : List Event) (after : After) where
     recover_stays spared (settled outcomes settles told session) = settled_stay name (names_of opens) outcomes s after.lab own there spared settles
     recover_stays spared (broken_off part breaks session) = in_part_stay name (names_of opens) s after.lab own there spared part
 
-    does_stays : (set : Setting) (judgement : Result Task Reply) → ((task : Task) → judgement ≡ Ok task → IsTaskApart name (names_of opens) s task) → Does set s opens judgement own after → Stays name s after.lab
+    pub does_stays : (set : Setting) (judgement : Result Task Reply) → ((task : Task) → judgement ≡ Ok task → IsTaskApart name (names_of opens) s task) → Does set s opens judgement own after → Stays name s after.lab
     does_stays set (Err refusal) apart d = after_stays (ap (λ (a : After). a.lab) d.after_is)
     does_stays set (Ok (Tell told)) apart d = after_stays (ap (λ (a : After). a.lab) d.after_is)
     does_stays set (Ok (Append entry told)) apart d = space_stays _ set.length (Appends s opens entry told own after) (append_stays entry told (apart (Append entry told) refl)) d

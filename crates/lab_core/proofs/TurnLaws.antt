@@ -27,7 +27,7 @@ use Rattle.swap_turns.specs.Turning.{Outcome, More, TurnsBack, Ended, Stuck, Unw
 use Rattle.swap_turns.proofs.Finishing.{onward_swap}
 use Rattle.lab_core.specs.Breaks.{StartsBehind}
 use Rattle.lab_core.specs.Judge.{Turn, Finish}
-use Rattle.lab_core.specs.LabSteps.{IsAnswered, is_told, unanswered as untold, done_reply, undone_end, end_reply, turn_reply, Turns, Drills, is_planned, is_refused, wants_memory}
+use Rattle.lab_core.specs.LabSteps.{IsAnswered, is_told, done_reply, undone_end, end_reply, turn_reply, Turns, Drills, is_planned, is_refused, wants_memory}
 use Rattle.lab_core.specs.Sessions.{OpenSwap, Session, Closed, Open, Setting, After, Terms}
 use Rattle.lab_core.specs.Tells.{IsTurn, sends, appends, SendsOne, TellsEnd, has_journal_step, is_stopped}
 use Rattle.lab_core.proofs.StepLaws.{Was, done, wanting, broke, drilled, none_told}
@@ -58,7 +58,6 @@ module _ (own : List Event) (after : After) (reply : Reply) (is : after.reply �
     where
       by : {to : List OpenSwap} → IsAnswered (turn_reply d.one.swap.running.swap d.outcome) to d.outcome d.behind after → IsTurn own
       by (is_told starts told session) = by_outcome s d.one.swap.running d.steps d.behind d.outcome d.own_is starts told d.turn
-      by (untold starts none session) = none_told after.reply reply none is
 
   pub one_turn : (drill : Option Drill) (terms : Terms) (set : Setting) (s : LabState) (opens : List OpenSwap) (command : Command) (opening : List Event) (exp : List ℕ) → drill ≡ None → Was drill (Ok (Turn exp)) terms set s (Open opens) command opening own after → IsTurn own
   one_turn drill terms set s opens command opening exp no_drill (done mid others begins judged d) = did_turn mid others exp d
@@ -117,8 +116,6 @@ starts_calm Unwritten behind none = none_calm behind none
 
 pub answer_calm : (told : Option Reply) (to : List OpenSwap) (outcome : Outcome) (behind : List Event) (after : After) → IsAnswered told to outcome behind after → (has_command behind ≡ false) × (has_journal_step behind ≡ false)
 answer_calm told to outcome behind after (is_told starts replied session) = starts_calm outcome behind starts
-answer_calm told to outcome behind after (untold (inl none) silent session) = none_calm behind none
-answer_calm told to outcome behind after (untold (inr starts) silent session) = starts_calm outcome behind starts
 
 drills_nothing : (terms : Terms) (s : LabState) (session : Session) (own : List Event) (after : After) → Drills terms.takes s session own after → own ≡ []
 drills_nothing terms s session own after (is_planned yes' none after_is) = none
@@ -191,7 +188,6 @@ module _ (own : List Event) (after : After) (reply : Reply) (is : after.reply �
 
   answer_tells : (told : Option Reply) (to : List OpenSwap) (outcome : Outcome) (behind : List Event) → IsAnswered told to outcome behind after → told ≡ Some reply
   answer_tells told to outcome behind (is_told starts replied session) = sym replied ∙ is
-  answer_tells told to outcome behind (untold starts none session) = none_told after.reply reply none is
 
   pub turn_tells : (drill : Option Drill) (terms : Terms) (set : Setting) (opens : List OpenSwap) (command : Command) (opening : List Event) → Was drill (Ok (Turn exp)) terms set s (Open opens) command opening own after → TellsEnd s exp reply after.lab
   turn_tells drill terms set opens command opening (done mid others begins judged d) =

@@ -25,8 +25,8 @@ use Rattle.lab_core.specs.LabSteps.{IsOneOf, does, end_session, is_told, turn_re
 use Rattle.lab_core.specs.Obey.{start_of, IsDone, Obeyed}
 use Rattle.lab_core.specs.Sessions.{OpenSwap, Session, HasRisenBy, IsSince, counted_from, devices_if, open_at}
 use Rattle.lab_core.specs.Swapping.{HasTurnedIn, progress_answer}
-use Rattle.lab_core.proofs.OpenSwaps.{Pair, Place, has_front, has_one, has_rest, open_at_one, opened_turned, others_before, place_of, risen_by, risen_later, running_of, since_later, since_turned, swaps_in, turned_running}
-use Rattle.lab_core.proofs.PerformSwap.{IsCausedSince, by_outcome}
+use Rattle.lab_core.proofs.OpenSwaps.{Pair, Place, has_front, has_one, has_rest, open_at_one, open_turned, others_before, place_of, risen_by, risen_later, running_of, since_later, since_turned, swaps_in, turned_running}
+use Rattle.lab_core.proofs.PerformSwap.{IsCausedNow, IsCausedSince, by_outcome}
 use Rattle.lab_core.proofs.Told.{Halts, IsAnswer, answered, halts_as}
 
 -- a turn has its causes, and so has a leg that ends, since the swap was opened
@@ -54,7 +54,7 @@ module _ (before now : Seen) (old new : Control) (opens : List OpenSwap) (exp : 
   moves = subst (λ (r : RunningSwap). Moves r.swap old.lab) (sym at.running) (works.working.each x (subst (λ (l : List Pair). Has l x) (sym pairs_are) (Has-right a (x ∷ b) x (inl refl)))).moves
 
   pub since : IsSince before.faults.devices at.one
-  since = works.since at.one (has_one opens at.front at.one at.rest at.are before.faults.devices)
+  since = works.since at.one (has_one opens at.front at.one at.rest at.are)
 
   pub counted : (devices : ℕ) → counted_from opens (Some exp) devices ≡ at.one.devices
   counted devices =
@@ -75,10 +75,10 @@ module _ (before now : Seen) (old new : Control) (opens : List OpenSwap) (exp : 
 
     since_all : (o : OpenSwap) → Has (at.front ++ (turned ++ at.rest)) o → IsSince now.faults.devices o
     since_all o has = elim (Has-append at.front (turned ++ at.rest) o has) [
-      | inl in_front ↦ since_later o before.faults.devices now.faults.devices later.devices (works.since o (has_front opens at.front at.one at.rest at.are before.faults.devices o in_front))
+      | inl in_front ↦ since_later o before.faults.devices now.faults.devices later.devices (works.since o (has_front opens at.front at.one at.rest at.are o in_front))
       | inr behind ↦ elim (Has-append turned at.rest o behind) [
         | inl here ↦ since_then o here
-        | inr in_rest ↦ since_later o before.faults.devices now.faults.devices later.devices (works.since o (has_rest opens at.front at.one at.rest at.are before.faults.devices o in_rest))
+        | inr in_rest ↦ since_later o before.faults.devices now.faults.devices later.devices (works.since o (has_rest opens at.front at.one at.rest at.are o in_rest))
       ]
     ]
 
@@ -145,22 +145,22 @@ module _ (devices : ℕ) (before now : Seen) (old new : Control) (opens : List O
           (answered h.turn.swap exp h.turn.named told h.turn.outcome (λ _. plain before now old new opens exp works h.turn.before h.turn.behind x h.turn.opens_are h.turn.named) h.turn.is_told))
 
       left : (outcome : Outcome) → h.turn.outcome ≡ outcome → Rattle.lab_core.proofs.PerformSwap.Leads devices before now (Is (Ok (Turn exp))) old new opens turn_to place.one.running.swap exp h.turn.steps h.turn.told_is h.turn.sound h.turn.later limit
-          (λ outcome. opened_turned opens place.front place.one place.rest place.are devices h.turn.steps outcome) TurnIs turn_done outcome → IsCausedSince outcome place.one.devices before now → Obeyed devices before now (Is (Ok (Turn exp))) old new opens (Some exp) (progress_answer exp told)
-      left outcome is leads cause =
+          (λ outcome. open_turned opens place.front place.one place.rest place.are h.turn.steps outcome) TurnIs turn_done outcome → IsCausedSince outcome place.one.devices before now → IsCausedNow outcome before now → Obeyed devices before now (Is (Ok (Turn exp))) old new opens (Some exp) (progress_answer exp told)
+      left outcome is leads cause here =
           by_outcome devices before now (Is (Ok (Turn exp))) old new opens turn_to place.one.running.swap exp h.turn.steps h.turn.told_is h.turn.sound h.turn.later limit
-          (λ outcome. opened_turned opens place.front place.one place.rest place.are devices h.turn.steps outcome) TurnIs turn_done outcome leads
-          (subst (λ (n : ℕ). IsCausedSince outcome n before now) (sym count_is) cause) (λ h'. stops.0 (halts.0 (subst Halts (sym is) h'))) (λ h'. subst Halts is (halts.1 (stops.1 h'))) (progress_answer exp told) (answer outcome is)
+          (λ outcome. open_turned opens place.front place.one place.rest place.are h.turn.steps outcome) TurnIs turn_done outcome leads
+          (subst (λ (n : ℕ). IsCausedSince outcome n before now) (sym count_is) cause) here (λ h'. stops.0 (halts.0 (subst Halts (sym is) h'))) (λ h'. subst Halts is (halts.1 (stops.1 h'))) (progress_answer exp told) (answer outcome is)
 
       by : (outcome : Outcome) → h.turn.outcome ≡ outcome → Goes outcome → Leaves the_texts old.lab h.turn.swap before now new.journal h.turn.steps outcome → IsOutcomeCaused outcome before now → Obeyed devices before now (Is (Ok (Turn exp))) old new opens (Some exp) (progress_answer exp told)
-      by More is goes leaves cause = left More is (steps_as More h.turn.steps new.lab goes.0, turn_works More is goes.1) tt
-      by (TurnsBack why) is goes leaves cause = left (TurnsBack why) is (steps_as (TurnsBack why) h.turn.steps new.lab goes.0, turn_works (TurnsBack why) is goes.1) (risen_by why place.one.devices before now turn_since.later cause)
+      by More is goes leaves cause = left More is (steps_as More h.turn.steps new.lab goes.0, turn_works More is goes.1) tt tt
+      by (TurnsBack why) is goes leaves cause = left (TurnsBack why) is (steps_as (TurnsBack why) h.turn.steps new.lab goes.0, turn_works (TurnsBack why) is goes.1) (risen_by why place.one.devices before now turn_since.later cause) cause
       by (Ended leg) is goes leaves cause =
           left (Ended leg) is (steps_as (Ended leg) h.turn.steps new.lab goes.0, turn_works (Ended leg) is goes.1)
-          (turn_caused place.one leg before now h.turn.later.devices turn_since (ap (λ (o : RunningSwap). o.leg) place.running ∙ goes.0.1))
-      by (Stuck why) is goes leaves cause = left (Stuck why) is (steps_as (Stuck why) h.turn.steps new.lab goes.0, turn_works (Stuck why) is goes.1) (risen_by why place.one.devices before now turn_since.later cause)
+          (turn_caused place.one leg before now h.turn.later.devices turn_since (ap (λ (o : RunningSwap). o.leg) place.running ∙ goes.0.1)) tt
+      by (Stuck why) is goes leaves cause = left (Stuck why) is (steps_as (Stuck why) h.turn.steps new.lab goes.0, turn_works (Stuck why) is goes.1) (risen_by why place.one.devices before now turn_since.later cause) cause
       by Unwritten is goes leaves cause =
-          left Unwritten is (Rattle.swap_turns.proofs.Closing.closes_as the_texts before.told h.turn.steps _ _ (λ lab all. steps_as Unwritten h.turn.steps lab all) leaves) cause
-      by Stopped is goes leaves cause = left Stopped is (Rattle.swap_turns.proofs.Closing.closes_as the_texts before.told h.turn.steps _ _ (λ lab all. steps_as Stopped h.turn.steps lab all) leaves) tt
+          left Unwritten is (Rattle.swap_turns.proofs.Closing.closes_as the_texts before.told h.turn.steps _ _ (λ lab all. steps_as Unwritten h.turn.steps lab all) leaves) cause tt
+      by Stopped is goes leaves cause = left Stopped is (Rattle.swap_turns.proofs.Closing.closes_as the_texts before.told h.turn.steps _ _ (λ lab all. steps_as Stopped h.turn.steps lab all) leaves) tt tt
 
   pub turned : Obeyed devices before now (Is (Ok (Turn exp))) old new opens (Some exp) (progress_answer exp told)
   turned = turned_result h.turn.outcome refl h.goes h.turn.leaves h.turn.cause

@@ -11,16 +11,17 @@ use Rattle.virt_topo.specs.declared.violation.Broken.{Broken}
 use Rattle.virt_topo.specs.declared.violation.Subject.{Subject}
 use Rattle.virt_topo.specs.declared.violation.Subject.TheVariants.{Virt, Node as OfNode, End, Trunk as OfTrunk, Segment as OfSegment, Vlans}
 use Rattle.virt_topo.specs.Ends.{end_nodes}
+use Rattle.virt_topo.specs.Sharing.{has_multiplexed}
 use Rattle.virt_topo.specs.declared.wiring.Wiring.{Wiring}
 use Rattle.virt_topo.specs.declared.experiment.Experiment.{Experiment}
 use Rattle.virt_topo.specs.declared.experiment.Phase.{Phase}
 use Rattle.virt_topo.specs.declared.experiment.Phase.TheVariants.{Out, In, Moving}
 use Rattle.journal_rec.specs.declared.record.Record.{Record}
-use Rattle.journal_rec.specs.declared.record.Record.TheVariants.{Lab as LabRecord, Create, Delete}
+use Rattle.journal_rec.specs.declared.record.Record.TheVariants.{Lab as LabRecord, Delete}
 use Rattle.journal_rec.specs.declared.record.Way.{Way}
-use Rattle.journal_rec.specs.declared.record.Way.TheVariants.{In as WayIn, Out as WayOut, Change as WayChange}
+use Rattle.journal_rec.specs.declared.record.Way.TheVariants.{In as WayIn, Out as WayOut}
 use Rattle.lab_model.specs.Beside.{IsLeft, violation_beside}
-use Rattle.records_model.specs.Labs.{LabState, find, others}
+use Rattle.records_model.specs.Labs.{LabState, change_in, create_in, find, others}
 use Rattle.ns_text.specs.Wirings.{WiringOf}
 use Rattle.ptop_text.specs.Adding.{lab_of_text}
 use Rattle.ptop_text.specs.Canonical.{canonical}
@@ -203,7 +204,7 @@ judged_ptop s text = do
 abbrev pub judged_wiring : LabState → List ℕ → Wiring → Result Task Reply
 judged_wiring s exp wiring = do
   room ← need_room s.experiments
-  Ok (Append (Create exp (canonical_top wiring)) (created_reply exp wiring))
+  Ok (Append (create_in (has_multiplexed wiring) exp (canonical_top wiring)) (created_reply exp wiring))
 
 -- a new experiment needs a lab and a new name
 abbrev pub need_place : LabState → List ℕ → Result (Unit {0}) Reply
@@ -253,9 +254,10 @@ judged_swapin s busy exp text = do
 abbrev pub behind_lines : ℕ → TextFault → TextFault
 behind_lines lines fault = record { line = lines + fault.line; kind = fault.kind }
 
--- an experiment changes to that wiring, and goes there
+-- an experiment changes to that wiring, and goes there; the record is of the second format where the wiring has a multiplexed segment
 abbrev pub task_over : LabState → Lab → Experiment → Wiring → Mapping → Task
-task_over s lab e w mapping = Swap e.name (WayChange (canonical_top w) (canonical_solution lab w mapping) (least_tags lab s.experiments (length w.segments)))
+task_over s lab e w mapping =
+    Swap e.name (change_in (has_multiplexed w) (canonical_top w) (canonical_solution lab w mapping) (least_tags lab s.experiments (length w.segments)))
 
 abbrev pub judged_change : LabState → Lab → Experiment → Wiring → Mapping → Result Task Reply
 judged_change s lab e w mapping = do

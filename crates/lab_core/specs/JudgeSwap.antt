@@ -7,14 +7,14 @@ use Rattle.virt_topo.specs.declared.experiment.Phase.TheVariants.{Out, In}
 use Rattle.virt_topo.specs.declared.mapping.Mapped.{Mapped}
 use Rattle.virt_topo.specs.declared.mapping.Mapping.{Mapping}
 use Rattle.virt_topo.specs.declared.wiring.Wiring.{Wiring}
+use Rattle.virt_topo.specs.Sharing.{has_multiplexed}
 use Rattle.journal_rec.specs.Payloads.{IsRecord}
 use Rattle.journal_rec.specs.declared.record.Record.TheVariants.{Begin}
 use Rattle.journal_rec.specs.declared.record.Way.{Way}
-use Rattle.journal_rec.specs.declared.record.Way.TheVariants.{Change as WayChange}
 use Rattle.lab_model.specs.Beside.{violation_beside, are_free_tags}
 use Rattle.lab_model.specs.Courses.{Plan, commands, undo}
 use Rattle.lab_model.specs.Shapes.{IsShaped}
-use Rattle.records_model.specs.Labs.{LabState, Sane, find, others}
+use Rattle.records_model.specs.Labs.{LabState, Sane, change_in, find, others}
 use Rattle.solution_text.specs.CanonicalSolution.{canonical_solution}
 use Rattle.swap_turns.specs.Swaps.{Swap as SwapOf}
 use Rattle.top_text.specs.Canonical.{canonical_top}
@@ -55,7 +55,7 @@ abbrev pub change_of : List ℕ → Mapped → Mapped → SwapOf
 change_of exp old new = record { name = exp; old = Some old; new = Some new }
 
 abbrev pub way_over : Lab → Mapped → Way
-way_over lab new = WayChange (canonical_top new.wiring) (canonical_solution lab new.wiring new.mapping) new.tags
+way_over lab new = change_in (has_multiplexed new.wiring) (canonical_top new.wiring) (canonical_solution lab new.wiring new.mapping) new.tags
 
 -- THE TASK IS THAT SWAP: its record can be written, and its commands are those of the swap
 pub record IsWayOf (lab : Lab) (p : SwapOf) (said way : Way) (course back : Plan) : Type 0 where

@@ -1,5 +1,5 @@
 -- THE LAB STEP: what one command may do, by the steps of its opening and its own.
-use Rattle.std.specs.Prelude.{◌≡◌, ◌⊎◌, ◌+◌, nat_le, ℕ, Bool, true, false, List, [], ◌∷◌, ◌++◌, length, Option, Some, None, Result, Ok, Err}
+use Rattle.std.specs.Prelude.{◌≡◌, ◌⊎◌, ◌+◌, nat_le, is_some, ℕ, Bool, true, false, List, [], ◌∷◌, ◌++◌, length, Option, Some, None, Result, Ok, Err}
 use Rattle.std.specs.Option.{option_map}
 use Rattle.lab_base.specs.Lists.{listed}
 use Rattle.plant.specs.Events.{Event, Missed, Restarted}
@@ -55,7 +55,7 @@ pub data Behind (side : Side) (more : List Event) : Type 0 where
 -- the append is whole, and its reply is told; or the part breaks off, with the lab before the record or after it
 pub data AppendEnds (s : LabState) (opens : List OpenSwap) (state : LabState) (told : Reply) (run : Run) (more own : List Event) (after : After) : Type 0 where
   whole : run ≡ All → more ≡ [] → after ≡ record { reply = Some told; lab = state; session = Open opens } → AppendEnds s opens state told run more own after
-  broken : Breaks own after.reply → (after.lab ≡ s) ⊎ (after.lab ≡ state) → after.session ≡ Closed → AppendEnds s opens state told run more own after
+  broken : Breaks own after.reply → is_some after.reply ≡ true → (after.lab ≡ s) ⊎ (after.lab ≡ state) → after.session ≡ Closed → AppendEnds s opens state told run more own after
 
 -- one append of a record, which says a move of the lab, and no other step
 pub record Appends (s : LabState) (opens : List OpenSwap) (entry : Record) (told : Reply) (own : List Event) (after : After) : Type 0 where
@@ -101,10 +101,9 @@ end_session opens Unwritten = Closed
 end_session opens Halted = Closed
 end_session opens outcome = Open opens
 
--- the reply is told; or there is none, since memory was wanting for it, or for the start of a stopped plant
+-- the reply is told
 pub data IsAnswered (reply : Option Reply) (opens : List OpenSwap) (outcome : Outcome) (behind : List Event) (after : After) : Type 0 where
   is_told : StartsBehind outcome behind → after.reply ≡ reply → after.session ≡ end_session opens outcome → IsAnswered reply opens outcome behind after
-  unanswered : (behind ≡ []) ⊎ StartsBehind outcome behind → after.reply ≡ None → after.session ≡ Closed → IsAnswered reply opens outcome behind after
 
 -- A SWAP: a record that says a move, by which the experiment moves so; the commands of that course and of its undo; and the record that ends
 -- it, as far as it came
@@ -209,10 +208,10 @@ pub data IsDoneBy (IsJudged : Result Task Reply → Type 0) (set : Setting) (s :
   does : (judgement : Result Task Reply) → IsJudged judgement → Does set s opens judgement own after → IsDoneBy IsJudged set s opens own after
   no_memory : WantsMemory s own after → IsDoneBy IsJudged set s opens own after
 
--- what is judged from the lab to which the opening led
-pub data FromClosed (Judges : LabState → Result Task Reply → Type 0) (set : Setting) (s : LabState) (opening own : List Event) (after : After) : Type 0 where
-  opened : (mid : LabState) → Opens s opening mid → IsDoneBy (Judges mid) set mid [] own after → FromClosed Judges set s opening own after
-  not_opened : BreaksOpening s opening own after → FromClosed Judges set s opening own after
+-- what is done from the lab to which the opening led
+pub data FromClosed (Does : LabState → List Event → After → Type 0) (s : LabState) (opening own : List Event) (after : After) : Type 0 where
+  opened : (mid : LabState) → Opens s opening mid → Does mid own after → FromClosed Does s opening own after
+  not_opened : BreaksOpening s opening own after → FromClosed Does s opening own after
 
 -- A DRILL has no steps, and all stays as it was: it is planned where the plant takes drills, and else refused. Or memory is wanting.
 pub data Drills (takes : Bool) (s : LabState) (session : Session) (own : List Event) (after : After) : Type 0 where
@@ -221,22 +220,30 @@ pub data Drills (takes : Bool) (s : LabState) (session : Session) (own : List Ev
   wants_memory : WantsMemory s own after → Drills takes s session own after
 
 -- a drill needs no open controller; every other command opens it where it is closed, and finds no open swap then
-abbrev pub StepOf : Option Drill → (List OpenSwap → LabState → Result Task Reply → Type 0) → Terms → Setting → LabState → Session → List Event → List Event → After → Type 0
-StepOf (Some drill) Judges terms set s session opening own after = (opening ≡ []) × Drills terms.takes s session own after
-StepOf None Judges terms set s Closed opening own after = FromClosed (Judges []) set s opening own after
-StepOf None Judges terms set s (Open opens) opening own after = (opening ≡ []) × IsDoneBy (Judges opens s) set s opens own after
+abbrev pub StepOf : Option Drill → (List OpenSwap → LabState → List Event → After → Type 0) → Terms → LabState → Session → List Event → List Event → After → Type 0
+StepOf (Some drill) Does terms s session opening own after = (opening ≡ []) × Drills terms.takes s session own after
+StepOf None Does terms s Closed opening own after = FromClosed (Does []) s opening own after
+StepOf None Does terms s (Open opens) opening own after = (opening ≡ []) × Does opens s own after
 
 -- what is judged of a command by that cost rule, beside these open swaps
 abbrev pub JudgedBeside : RuleNumber → Command → List OpenSwap → LabState → Result Task Reply → Type 0
 JudgedBeside rule command opens s = Judged rule s (is_among (names_of opens) (name_of command)) (length opens) command
 
--- THE LAB STEP, over a plant that takes drills or not, and with a cost rule
-abbrev pub LabStep : Terms → Setting → LabState → Session → Command → List Event → List Event → After → Type 0
-LabStep terms set s session command opening own after = StepOf (drill_of command) (JudgedBeside terms.rule command) terms set s session opening own after
+-- a judgement by these is done
+abbrev pub DoesBy : (List OpenSwap → LabState → Result Task Reply → Type 0) → Setting → List OpenSwap → LabState → List Event → After → Type 0
+DoesBy Judges set opens s own after = IsDoneBy (Judges opens s) set s opens own after
+
+-- WHAT AN OPEN CONTROLLER DOES of a command, over the trace before that
+abbrev pub DoesCommand : RuleNumber → Command → List Event → Setting → List OpenSwap → LabState → List Event → After → Type 0
+DoesCommand rule command trace set opens s own after = DoesBy (JudgedBeside rule command) set opens s own after
+
+-- THE LAB STEP, over the trace before it, a plant that takes drills or not, and with a cost rule
+abbrev pub LabStep : Terms → List Event → Setting → LabState → Session → Command → List Event → List Event → After → Type 0
+LabStep terms trace set s session command opening own after = StepOf (drill_of command) (DoesCommand terms.rule command (trace ++ opening) set) terms s session opening own after
 
 -- the lab step by one judgement of the command
 abbrev pub IsThis : Result Task Reply → RuleNumber → Command → List OpenSwap → LabState → Result Task Reply → Type 0
 IsThis judgement rule command opens s other = (other ≡ judgement) × JudgedBeside rule command opens s other
 
 abbrev pub LabStepBy : Result Task Reply → Terms → Setting → LabState → Session → Command → List Event → List Event → After → Type 0
-LabStepBy judgement terms set s session command opening own after = StepOf (drill_of command) (IsThis judgement terms.rule command) terms set s session opening own after
+LabStepBy judgement terms set s session command opening own after = StepOf (drill_of command) (DoesBy (IsThis judgement terms.rule command) set) terms s session opening own after

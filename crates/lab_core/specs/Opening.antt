@@ -1,12 +1,13 @@
 -- What a call of `open` adds to a trace, and what it leaves.
-use Rattle.std.specs.Prelude.{◌≡◌, ◌⊎◌, ◌<◌, ◌≤◌, ◌+◌, ◌*◌, ℕ, true, false, count_by, List, [], ◌++◌, take, Option, Result, Ok, Err, IfSome}
+use Rattle.std.specs.Prelude.{Bool, ◌≡◌, ◌⊎◌, ◌<◌, ◌≤◌, ◌+◌, ◌*◌, ℕ, true, false, count_by, List, [], ◌++◌, take, Option, Result, Ok, Err, IfSome}
 use Rattle.plant.specs.Disks.{disk, ArePossible}
-use Rattle.plant.specs.Events.{Event}
+use Rattle.std.specs.List.{list_any}
+use Rattle.plant.specs.Events.{Event, Wrote, Cut, Did}
 use Rattle.plant.specs.Told.{Told, with_steps}
 use Rattle.plant.specs.declared.step.Side.{Side}
 use Rattle.plant.specs.declared.step.Side.TheVariants.{A, B}
 use Rattle.journal_rec.specs.declared.record.Record.{Record}
-use Rattle.journal_model.specs.Journals.{Records, gate_after}
+use Rattle.journal_model.specs.Journals.{Records, New, gate_after, head, live}
 use Rattle.lab_model.specs.Sound.{is_moving}
 use Rattle.records_model.specs.Labs.{LabState, LabOf, StopsAt, at_first}
 use Rattle.records_model.specs.Works.{IsSound}
@@ -27,13 +28,25 @@ use Rattle.swap_turns.specs.Turning.{Outcome, Unwritten, Stopped as Halted}
 use Rattle.lab_core.specs.Compaction.{IsCompacted, IsPlaced, IsToMove}
 use Rattle.lab_core.specs.Controller.{Control}
 use Rattle.lab_core.specs.Moments.{AllStandFor, IsLabAt, IsLiveAt, IsNoJournal, StandForLab}
-use Rattle.lab_core.specs.Recovery.{SettlesSome, Shifts}
+use Rattle.lab_core.specs.Recovery.{SettlesFirst, Shifts}
+
+-- a step that may change what a side reads as, or what the devices have
+abbrev pub is_change : Event → Bool
+is_change (Wrote side at bytes) = true
+is_change (Cut side size) = true
+is_change (Did op applied answer) = true
+is_change event = false
+
+abbrev pub has_change : List Event → Bool
+has_change events = list_any is_change events
 
 -- WHAT THE PART THAT READS ADDED, whatever came of it
 pub record ReadSteps (trace steps : List Event) : Type 0 where
   -- no device command, and no start of a stopped plant
   pub no_command : has_command steps ≡ false
   pub no_restart : has_restart steps ≡ false
+  -- it writes a new journal, and that only where both sides are blank
+  pub changes : has_change steps ≡ true → live (head (disk A trace).reads) (head (disk B trace).reads) ≡ New
   -- at each moment each image has the records, or the bad place, of one that was possible when the call began
   pub before : AreAsBefore trace steps
   -- and once both sides are synced, those of what the sides read as then
@@ -117,13 +130,14 @@ pub record SettlesInPart (trace reading moving : List Event) (limit : ℕ) (outc
   pub breaks : BreaksOff start (swaps_of [] start.experiments) moving outcome lab
   pub images : IsSound the_texts trace → (a b : List ℕ) → ArePossible (trace ++ (reading ++ moving)) a b → (after : LabState) × StandForLab a b after × BreaksOff start (swaps_of [] start.experiments) moving outcome after
 
--- memory was wanting in it: some are settled, and the sides stand for the lab after them
+-- memory was wanting in it: some are settled, and the sides and each possible image stand for the lab after them
 pub record SettlesToMemory (trace reading moving : List Event) (limit : ℕ) : Type 0 where
   pub start : LabState
   pub read : HasRead trace reading limit start
   pub lab : LabState
-  pub some : SettlesSome start [] moving lab
+  pub some : SettlesFirst start [] moving lab
   pub at : IsLabAt (trace ++ (reading ++ moving)) lab
+  pub images : AllStandFor (trace ++ (reading ++ moving)) lab
 
 -- BY ITS ANSWER: a fault comes of reading, before anything is settled; or a call of the journal failed in the settling, or the plant stopped in it, or
 -- memory was wanting

@@ -1,5 +1,5 @@
 -- Settling in the lab step: what an opening does beside reading, and the command `recover`.
-use Rattle.std.specs.Prelude.{◌≡◌, ◌⊎◌, ℕ, false, count_by, List, [], ◌++◌, Some}
+use Rattle.std.specs.Prelude.{◌≡◌, ◌⊎◌, ℕ, true, false, count_by, List, [], ◌∷◌, ◌++◌, Some}
 use Rattle.plant.specs.Events.{Event}
 use Rattle.records_model.specs.Labs.{LabState}
 use Rattle.journal_runs.specs.Pieces.{has_restart, has_miss, has_command}
@@ -12,11 +12,24 @@ use Rattle.recovery.specs.Settle.{is_ended, is_stuck}
 use Rattle.lab_core.specs.Breaks.{Breaks, StartsBehind}
 use Rattle.lab_core.specs.Sessions.{OpenSwap, Closed, Open, After, names_of}
 
+-- of these swaps, each with how its settling ended, that of the name met no trouble
+abbrev pub EndedIn : List Swap → List Outcome → List ℕ → Type 0
+EndedIn [] outcomes name = ⊥
+EndedIn (p ∷ ps) [] name = ⊥
+EndedIn (p ∷ ps) (outcome ∷ outcomes) name = ((p.name ≡ name) × (is_ended outcome ≡ true)) ⊎ EndedIn ps outcomes name
+
+-- THE FIRST OF THEM ARE SETTLED, in order of creation and without the busy ones, and nothing of the next is begun
+pub record SettlesFirst (s : LabState) (busy : List (List ℕ)) (steps : List Event) (after : LabState) : Type 0 where
+  pub past : List Swap
+  pub rest : List Swap
+  pub all : swaps_of busy s.experiments ≡ past ++ rest
+  pub outcomes : List Outcome
+  pub settles : Settles s past outcomes steps after
+
 -- HOW FAR A SETTLING CAME that broke off, in order of creation and without the busy ones: some were settled; or so were some, and in the next a
 -- call of the journal failed, or the plant stopped, and was started again if there was memory
 pub data SettlesSome (s : LabState) (busy : List (List ℕ)) (steps : List Event) (after : LabState) : Type 0 where
-  some : (past rest : List Swap) (outcomes : List Outcome) → swaps_of busy s.experiments ≡ past ++ rest → Settles s past outcomes steps after
-      → SettlesSome s busy steps after
+  some : SettlesFirst s busy steps after → SettlesSome s busy steps after
   within : (outcome : Outcome) (front behind : List Event) → steps ≡ front ++ behind → BreaksOff s (swaps_of busy s.experiments) front outcome after
       → (behind ≡ []) ⊎ StartsBehind outcome behind → SettlesSome s busy steps after
 

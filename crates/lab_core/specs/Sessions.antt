@@ -1,5 +1,5 @@
 -- Whether a controller is open, and how a command leaves it.
-use Rattle.std.specs.Prelude.{◌≡◌, ◌⊎◌, ◌≤◌, ℕ, Bool, false, List, [], ◌∷◌, length, map, Option, Some, None, if◌then◌else◌}
+use Rattle.std.specs.Prelude.{◌≡◌, ◌⊎◌, ◌≤◌, ℕ, Bool, true, false, List, [], ◌∷◌, length, map, Option, Some, None, if◌then◌else◌}
 use Rattle.std.specs.Str.{bytes_eq}
 use Rattle.lab_base.specs.Lists.{Has}
 use Rattle.lab_base.specs.Counts.{Rose}
@@ -8,7 +8,10 @@ use Rattle.lab_model.specs.Courses.{Device}
 use Rattle.recovery.specs.Due.{is_busy}
 use Rattle.script_text.specs.declared.command.Command.{Command}
 use Rattle.script_text.specs.declared.command.Command.TheVariants as commands
+use Rattle.script_text.specs.declared.reply.FailedEnd.TheVariants as ends
 use Rattle.script_text.specs.declared.reply.Reply.{Reply}
+use Rattle.script_text.specs.declared.reply.Reply.TheVariants as replies
+use Rattle.lab_base.specs.declared.what.What.TheVariants as whats
 use Rattle.cost_rule.specs.declared.rule.RuleNumber.{RuleNumber}
 use Rattle.swap_turns.specs.Legs.{Leg, Undo}
 use Rattle.swap_turns.specs.Running.{OpenSwap as RunningSwap}
@@ -73,9 +76,23 @@ abbrev pub counted_from : List OpenSwap → Option (List ℕ) → ℕ → ℕ
 counted_from opens None count = count
 counted_from opens (Some exp) count = devices_if (open_at exp opens) count
 
--- each of these open swaps was opened before, or at this count
-abbrev pub AreOpenedBy : List OpenSwap → List OpenSwap → ℕ → Type 0
-AreOpenedBy old new count = (o : OpenSwap) → Has new o → (o.devices ≡ count) ⊎ ((q : OpenSwap) × Has old q × (name_in q ≡ name_in o) × (q.devices ≡ o.devices))
+-- the open swap was open before, with its count
+abbrev pub WasOpen : List OpenSwap → OpenSwap → Type 0
+WasOpen old o = (q : OpenSwap) × Has old q × (name_in q ≡ name_in o) × (q.devices ≡ o.devices)
+
+abbrev pub WereOpen : List OpenSwap → List OpenSwap → Type 0
+WereOpen old new = (o : OpenSwap) → Has new o → WasOpen old o
+
+-- each of these open swaps was open before; or the command is about its experiment, the reply tells that it has begun, and its count is this one
+abbrev pub AreOpenedBy : Option (List ℕ) → Option Reply → List OpenSwap → List OpenSwap → ℕ → Type 0
+AreOpenedBy exp reply old new count =
+    (o : OpenSwap) → Has new o → ((exp ≡ Some (name_in o)) × (reply ≡ Some (replies.More (name_in o))) × (o.devices ≡ count)) ⊎ WasOpen old o
+
+-- THE REPLY BLAMES A DEVICE for what the command itself sent: that trouble begins the undo, or the experiment is stuck by it
+abbrev pub blames_now : Reply → Bool
+blames_now (replies.Trouble exp (whats.Device name)) = true
+blames_now (replies.Failed exp ends.Stuck (whats.Device name)) = true
+blames_now reply = false
 
 -- A FAILURE that began the undo of an open swap came since it was opened
 abbrev pub HasRisenBy : Leg → ℕ → ℕ → Type 0

@@ -47,7 +47,7 @@ abbrev pub IsBegin : Record → Type 0
 IsBegin (Begin exp way) = Unit {0}
 IsBegin entry = ⊥
 
--- WHY A SWAP IS NOT OPENED that has none open and room: its Begin was not written, the plant stopped, or memory was wanting
+-- WHY A SWAP IS NOT OPENED that has none open and room: its Begin was not written, or the plant stopped
 abbrev pub HasTried : Unopened → Type 0
 HasTried (unopened.Busy exp) = ⊥
 HasTried (unopened.TooManyOpen most) = ⊥

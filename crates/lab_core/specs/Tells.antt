@@ -1,10 +1,15 @@
 -- What the reply to a swap tells of the lab, what a turn does, and whom a command settles.
 use Rattle.std.specs.Prelude.{◌≡◌, ℕ, Bool, true, false, not, is_none, List, [], ◌∷◌, ◌++◌, ◌⊎◌, Option, Some, None, Result, Ok}
 use Rattle.std.specs.List.{list_any}
+use Rattle.lab_base.specs.Lists.{Has}
+use Rattle.lab_base.specs.declared.ids.VlanId.{VlanId}
 use Rattle.phys_lab.specs.Labs.{Lab}
 use Rattle.virt_topo.specs.declared.experiment.Experiment.{Experiment}
-use Rattle.virt_topo.specs.declared.experiment.Phase.TheVariants.{Out}
+use Rattle.virt_topo.specs.declared.experiment.Phase.{Phase}
+use Rattle.virt_topo.specs.declared.experiment.Phase.TheVariants.{Out, In as Inside}
 use Rattle.virt_topo.specs.declared.mapping.Mapping.{Mapping}
+use Rattle.virt_topo.specs.declared.wiring.Wiring.{Wiring}
+use Rattle.virt_topo.specs.Wirings.{mapped}
 use Rattle.lab_model.specs.Beside.{violation_beside}
 use Rattle.lab_model.specs.Sound.{is_moving}
 use Rattle.journal_model.specs.Appends.{All, added}
@@ -15,7 +20,7 @@ use Rattle.plant.specs.declared.device.Answer.{Answer}
 use Rattle.plant.specs.declared.device.DeviceOp.{DeviceOp}
 use Rattle.plant.specs.declared.device.Fault.{Fault}
 use Rattle.plant.specs.declared.step.Side.{Side}
-use Rattle.records_model.specs.Labs.{LabState, Move, Commits, Aborts, find, moved, others}
+use Rattle.records_model.specs.Labs.{LabState, Move, Commits, Aborts, find, is_out, moved, others}
 use Rattle.recovery.specs.Due.{is_busy}
 use Rattle.solution_text.specs.Solutions.{mapping_of_text}
 use Rattle.swap_turns.specs.Swaps.{Swap as SwapOf, Moves}
@@ -25,14 +30,14 @@ use Rattle.script_text.specs.declared.command.Command.{Command}
 use Rattle.script_text.specs.declared.command.Command.TheVariants as commands
 use Rattle.script_text.specs.declared.reply.FailedEnd.TheVariants as ends
 use Rattle.script_text.specs.declared.reply.Reply.{Reply}
-use Rattle.script_text.specs.declared.reply.Reply.TheVariants.{In, Out as IsOutside, More, Trouble, Failed, Busy, FullSwaps, FullJournal, Down, Stopped, Planned, NoDrill}
+use Rattle.script_text.specs.declared.reply.Reply.TheVariants.{In, Out as IsOutside, More, Trouble, Failed, FullSwaps, FullJournal, Down, Stopped, Planned, NoDrill}
 use Rattle.lab_base.specs.declared.what.What.TheVariants as whats
 use Rattle.assign_core.specs.declared.whole.Solved.{Solved}
 use Rattle.assign_core.specs.declared.whole.Solved.TheVariants as solved
 use Rattle.lab_core.specs.Judge.{Task, Swap, BeginOnly, Turn, Finish, Recover}
 use Rattle.lab_core.specs.LabSteps.{begun_at}
 use Rattle.lab_core.specs.Recovery.{Opens}
-use Rattle.lab_core.specs.Sessions.{OpenSwap, Session, Closed, Open, names_of}
+use Rattle.lab_core.specs.Sessions.{OpenSwap, Session, Closed, Open, names_of, open_at}
 
 -- it begins and turns no swap, and settles none
 abbrev pub IsNoSwap : Result Task Reply → Type 0
@@ -71,6 +76,10 @@ opens_of (Open opens) = opens
 
 abbrev pub busy_of : Session → List (List ℕ)
 busy_of session = names_of (opens_of session)
+
+-- THE EXPERIMENT OF EACH OPEN SWAP MOVES so in that lab
+abbrev pub AllMove : List OpenSwap → LabState → Type 0
+AllMove opens s = (o : OpenSwap) → Has opens o → Moves o.running.swap s
 
 -- THE COMMAND SETTLES THE EXPERIMENT of that name, if it moves: each that opens the controller does, and `recover` where it has no open swap
 abbrev pub settles : Session → Command → List ℕ → Bool
@@ -138,6 +147,24 @@ TellsBroken Down = Unit {0}
 TellsBroken Stopped = Unit {0}
 TellsBroken reply = ⊥
 
+-- THE EXPERIMENT IS in that lab, in a phase that is so
+abbrev pub is_in : Phase → Bool
+is_in (Inside mapping tags) = true
+is_in phase = false
+
+pub record IsThere (is : Phase → Bool) (s : LabState) (exp : List ℕ) : Type 0 where
+  pub experiment : Experiment
+  pub found : find exp s.experiments ≡ Some experiment
+  pub is_so : is experiment.phase ≡ true
+
+-- WHERE A REPLY TELLS THAT AN EXPERIMENT IS, in or out, there it is in the lab after it
+abbrev pub TellsPlace : Reply → LabState → Type 0
+TellsPlace (In exp) after = IsThere is_in after exp
+TellsPlace (IsOutside exp) after = IsThere is_out after exp
+TellsPlace (Failed exp ends.In what) after = IsThere is_in after exp
+TellsPlace (Failed exp ends.Out what) after = IsThere is_out after exp
+TellsPlace reply after = Unit {0}
+
 -- the plant stopped
 abbrev pub is_stopped : Reply → Bool
 is_stopped Stopped = true
@@ -164,6 +191,29 @@ pub record IsFeasibleFor (s : LabState) (exp text : List ℕ) : Type 0 where
   pub reads : mapping_of_text lab experiment.wiring text ≡ Ok mapping
   pub keeps : violation_beside lab (others experiment.name s.experiments) experiment experiment.wiring mapping ≡ None
 
+-- THE EXPERIMENT IS IN BY THAT SOLUTION: with the mapping that the text has for its wiring
+pub record IsInBy (s : LabState) (exp text : List ℕ) : Type 0 where
+  pub lab : Lab
+  pub is_lab : s.lab ≡ Some lab
+  pub experiment : Experiment
+  pub found : find exp s.experiments ≡ Some experiment
+  pub mapping : Mapping
+  pub tags : List VlanId
+  pub inside : experiment.phase ≡ Inside mapping tags
+  pub reads : mapping_of_text lab experiment.wiring text ≡ Ok mapping
+
+-- A SWAP THAT GOES IN BY THAT SOLUTION is open: from its experiment's place to the mapping that the text has for a wiring
+pub record GoesIn (opens : List OpenSwap) (s : LabState) (exp text : List ℕ) : Type 0 where
+  pub swap : OpenSwap
+  pub is_open : open_at exp opens ≡ Some swap
+  pub lab : Lab
+  pub is_lab : s.lab ≡ Some lab
+  pub wiring : Wiring
+  pub mapping : Mapping
+  pub tags : List VlanId
+  pub new : swap.running.swap.new ≡ Some (mapped wiring mapping tags)
+  pub reads : mapping_of_text lab wiring text ≡ Ok mapping
+
 -- TWO ANSWERS OF A SEARCH that may differ: locally best mappings, where the candidates are many
 abbrev pub AreLocal : Solved → Solved → Type 0
 AreLocal (solved.Local m c) (solved.Local n d) = Unit {0}
@@ -174,10 +224,9 @@ abbrev pub taken_reply : Bool → List ℕ → Reply
 taken_reply true exp = More exp
 taken_reply false exp = In exp
 
--- the reply tells what hindered it: it has an open swap, so many are open, the journal is full, trouble of a device, a boot or the journal, a failure
+-- the reply tells what hindered it: so many swaps are open, the journal is full, trouble of a device, a boot or the journal, a failure
 -- of the disk in the opening, or a stop
 abbrev pub Hinders : Reply → Type 0
-Hinders (Busy exp) = Unit {0}
 Hinders FullSwaps = Unit {0}
 Hinders (FullJournal length) = Unit {0}
 Hinders (Failed exp end what) = Unit {0}

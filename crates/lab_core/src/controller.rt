@@ -12,11 +12,10 @@ ghost use Rattle.lab_model.specs.Sound.{is_moving};
 ghost use Rattle.script_text.specs.Drills.{drill_of};
 ghost use Rattle.script_text.specs.Blocks.{HasBlocks};
 ghost use Rattle.lab_core.specs.Controller.{CanWork, Works, WorksWith};
-ghost use Rattle.lab_core.specs.LabSteps.{JudgedBeside};
 ghost use Rattle.lab_core.specs.Moments.{IsNoJournal};
-ghost use Rattle.lab_core.specs.Obey.{Obeyed};
+ghost use Rattle.lab_core.specs.Obey.{ObeysCommand};
 ghost use Rattle.lab_core.specs.Opening.{AfterOpening, IsOfJournal, OpenTold, ReadTold};
-ghost use Rattle.lab_core.specs.Sessions.{OpenSwap, name_of};
+ghost use Rattle.lab_core.specs.Sessions.{OpenSwap};
 ghost use Rattle.swap_txn.specs.Steps.{live_of};
 ghost use Rattle.swap_turns.specs.Causes.{IsLater};
 
@@ -220,7 +219,7 @@ impl Controller {
         requires no_drill { drill_of command.now ≡ None }
         requires works { CanWork (P.seen plant.old) self.old }
         ensures obeys { (opens : List OpenSwap) (devices : ℕ) → devices ≤ (P.seen plant.old).faults.devices → WorksWith (P.seen plant.old) self.old opens
-            → Obeyed devices (P.seen plant.old) (P.seen plant.new) (JudgedBeside rule.now.number command.now opens self.old.lab) self.old self.new opens (name_of command.now) result }
+            → ObeysCommand rule.now.number command.now devices (P.seen plant.old) (P.seen plant.new) self.old self.new opens result }
     {
         self.answer(command, rule, plant)
     }
@@ -236,7 +235,7 @@ impl Controller {
         requires no_drill { drill_of command.now ≡ None }
         requires works { CanWork (P.seen plant.old) self.old }
         ensures { (opens : List OpenSwap) (devices : ℕ) → devices ≤ (P.seen plant.old).faults.devices → WorksWith (P.seen plant.old) self.old opens
-            → Obeyed devices (P.seen plant.old) (P.seen plant.new) (JudgedBeside rule.now.number command.now opens self.old.lab) self.old self.new opens (name_of command.now) result }
+            → ObeysCommand rule.now.number command.now devices (P.seen plant.old) (P.seen plant.new) self.old self.new opens result }
     {
         match judge(self.alloc, &self.lab, &self.swaps, command, rule) {
             Ok(task) => perform(

@@ -35,7 +35,7 @@ use std::alloc::Global;
 use swap_mgr::Manager;
 use swap_plan::plan_out;
 use top_text::{print_top, read_top};
-use virt_topo::Wiring;
+use virt_topo::{Wiring, has_multiplexed};
 
 /// A block of that experiment has no meaning.
 pub(crate) fn bad_text(exp: Name, refused: TextRefused) -> Refusal
@@ -88,7 +88,7 @@ fn judge_wiring(state: &LabState, exp: Name, wiring: &Wiring, top: Text) -> Resu
     need_room(state)?;
     let reply = created_reply(exp, wiring);
     Ok(Task::Append {
-        entry: create_record(exp, top),
+        entry: create_record(exp, top, has_multiplexed(wiring)),
         reply,
     })
 }

@@ -32,7 +32,7 @@ use std::alloc::Global;
 use swap_mgr::Manager;
 use swap_plan::{Ops, plan_change};
 use top_text::{print_top, read_top};
-use virt_topo::{Experiment, Mapped, Mapping, Wiring};
+use virt_topo::{Experiment, Mapped, Mapping, Wiring, has_multiplexed};
 
 /// The second block of that experiment has no meaning. Its lines are counted behind those of the first.
 fn bad_behind(exp: Name, lines: u16, refused: TextRefused) -> Refusal
@@ -111,6 +111,7 @@ fn plan_swap_over(
     ensures printable { OnOk result (is_printable new.wiring ≡ true) }
 {
     let over = over_to(alloc, lab, old, &new);
+    let second = has_multiplexed(&new.wiring);
     let Mapped {
         wiring,
         mapping,
@@ -121,7 +122,7 @@ fn plan_swap_over(
     let Over { ops, top, map } = over?;
     Ok(Task::Swap {
         exp,
-        way: way_over(exp, top, map, tags),
+        way: way_over(exp, top, map, tags, second),
         ops,
     })
 }

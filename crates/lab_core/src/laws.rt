@@ -18,8 +18,11 @@ ghost use Rattle.script_text.specs.Replies.{closes};
 ghost use Rattle.script_text.specs.declared.command.Command.{Command};
 ghost use Rattle.script_text.specs.declared.command.Command.TheVariants.{Recover, SwapinWith};
 ghost use Rattle.script_text.specs.declared.reply.Reply.{Reply};
-ghost use Rattle.script_text.specs.declared.reply.Reply.TheVariants.{More, Recovered};
-ghost use Rattle.lab_core.specs.Recovery.{Opens};
+ghost use Rattle.script_text.specs.declared.reply.Reply.TheVariants.{In, More, Recovered};
+ghost use Rattle.lab_core.specs.Recovery.{EndedIn, Opens};
+ghost use Rattle.swap_turns.specs.Settling.{Settles};
+ghost use Rattle.swap_turns.specs.Swaps.{Swap as Swapped};
+ghost use Rattle.swap_turns.specs.Turning.{Outcome};
 ghost use Rattle.recovery.specs.Due.{is_busy};
 ghost use Rattle.recovery.specs.Settle.{is_stuck};
 ghost use Rattle.lab_base.specs.Lists.{AllDiffer, Has};
@@ -31,17 +34,17 @@ ghost use Rattle.lab_core.specs.Moments.{StandForLab};
 ghost use Rattle.lab_core.specs.Said.{IsAsSaid};
 ghost use Rattle.lab_core.specs.Sessions.{OpenSwap, Session, Open, Terms, Setting, After, name_of, names_of, open_at};
 ghost use Rattle.lab_core.specs.Judge.{IsFound, Task, Tell, Swap, BeginOnly, Turn, Finish, Judged, is_searched};
-ghost use Rattle.lab_core.specs.Tells.{AreLocal, BeginsAt, Hinders, IsAtRest, IsFeasibleFor, IsNoSwap, IsOpened, IsTurn, IsTurnOf, TellsBroken, TellsEnd, TellsLab, SendsOne, busy_of, is_stopped, opens_of, settles, taken_reply};
+ghost use Rattle.lab_core.specs.Tells.{AllMove, AreLocal, BeginsAt, GoesIn, Hinders, IsAtRest, IsFeasibleFor, IsInBy, IsNoSwap, IsOpened, IsTurn, IsTurnOf, TellsBroken, TellsEnd, TellsLab, SendsOne, busy_of, is_stopped, opens_of, settles, taken_reply};
 
-/// A command for which no search is made has one judgement, and a lab step is by one of the command's judgements. One that refuses it, or only tells
-/// something, has no steps of its own. Where nothing failed or stopped, a judgement that begins no swap and settles none leads,
-/// where a reply is told, to one reply and one lab. The reply to a swap tells where the lab is. Experiments of other names stay,
-/// whatever the reply; where the command settles what moves, those that don't move and those with an open swap. A drill leaves
-/// all as it was. The plant stopped exactly where the reply is `stopped`.
+/// A command for which no search is made has one judgement, and a lab step is by one of the command's judgements. One that
+/// refuses it, or only tells something, has no steps of its own. Where nothing failed or stopped, a judgement that begins no swap
+/// and settles none leads, where a reply is told, to one reply and one lab. The reply to a swap tells where the lab is.
+/// Experiments of other names stay, whatever the reply; where the command settles what moves, those that don't move and those
+/// with an open swap. A drill leaves all as it was. The plant stopped exactly where the reply is `stopped`.
 pub fn lab_steps()
     ensures judged_once { (rule : RuleNumber) (s : LabState) (busy : Bool) (count : ℕ) (command : Command) (a b : Result Task Reply) → is_searched command ≡ false → Judged rule s busy count command a → Judged rule s busy count command b → a ≡ b }
-    ensures by_one { (terms : Terms) (set : Setting) (s : LabState) (session : Session) (command : Command) (opening own : List Event) (after : After)
-        → LabStep terms set s session command opening own after → (judgement : Result Task Reply) × LabStepBy judgement terms set s session command opening own after }
+    ensures by_one { (terms : Terms) (at : List Event) (set : Setting) (s : LabState) (session : Session) (command : Command) (opening own : List Event) (after : After)
+        → LabStep terms at set s session command opening own after → (judgement : Result Task Reply) × LabStepBy judgement terms set s session command opening own after }
     ensures refused { (terms : Terms) (set : Setting) (s : LabState) (session : Session) (command : Command) (opening own : List Event) (after : After) (reply : Reply)
         → LabStepBy (Err reply) terms set s session command opening own after → own ≡ [] }
     ensures told { (terms : Terms) (set : Setting) (s : LabState) (session : Session) (command : Command) (opening own : List Event) (after : After) (reply : Reply)
@@ -53,28 +56,30 @@ pub fn lab_steps()
     ensures swapped { (terms : Terms) (set : Setting) (s : LabState) (session : Session) (command : Command) (opening own : List Event) (after : After) (exp : List ℕ) (way : Way)
         (reply : Reply) → drill_of command ≡ None → after.reply ≡ Some reply → LabStepBy (Ok (Swap exp way)) terms set s session command opening own after
         → TellsBroken reply ⊎ ((mid : LabState) × BeginsAt session s opening mid × ((move : Move) → Says the_texts mid (Begin exp way) move → TellsLab mid exp move reply after.lab)) }
-    ensures others { (terms : Terms) (set : Setting) (s : LabState) (session : Session) (command : Command) (opening own : List Event) (after : After) (name : List ℕ)
-        → is_some s.lab ≡ true → name_of command ≢ Some name → (settles session command name ≡ true → IsAtRest s name) → LabStep terms set s session command opening own after
+    ensures others { (terms : Terms) (at : List Event) (set : Setting) (s : LabState) (session : Session) (command : Command) (opening own : List Event) (after : After) (name : List ℕ)
+        → is_some s.lab ≡ true → name_of command ≢ Some name → (settles session command name ≡ true → IsAtRest s name) → LabStep terms at set s session command opening own after
         → find name after.lab.experiments ≡ find name s.experiments }
-    ensures drills { (terms : Terms) (set : Setting) (s : LabState) (session : Session) (command : Command) (opening own : List Event) (after : After)
-        → is_some (drill_of command) ≡ true → LabStep terms set s session command opening own after → (opening ≡ []) × (own ≡ []) × (after.lab ≡ s) }
-    ensures stops { (terms : Terms) (set : Setting) (s : LabState) (session : Session) (command : Command) (opening own : List Event) (after : After) (reply : Reply)
-        → LabStep terms set s session command opening own after → after.reply ≡ Some reply → has_restart (opening ++ own) ≡ is_stopped reply }
+    ensures drills { (terms : Terms) (at : List Event) (set : Setting) (s : LabState) (session : Session) (command : Command) (opening own : List Event) (after : After)
+        → is_some (drill_of command) ≡ true → LabStep terms at set s session command opening own after → (opening ≡ []) × (own ≡ []) × (after.lab ≡ s) }
+    ensures stops { (terms : Terms) (at : List Event) (set : Setting) (s : LabState) (session : Session) (command : Command) (opening own : List Event) (after : After) (reply : Reply)
+        → LabStep terms at set s session command opening own after → after.reply ≡ Some reply → has_restart (opening ++ own) ≡ is_stopped reply }
 {}
 
 /// Open swaps, over lab steps that leave the controller open: each of another name than the command's is open as it was, so
 /// `recover` leaves all; their names differ where they did, and no more than sixteen are open. One that is begun by `open` is one
-/// more, of which nothing was sent. A turn sends one device command, or appends one record; one that breaks off sends no more
-/// than one, and nothing of the journal behind it.
-/// The reply to a turn, or to all up to the end, tells where the lab is. Both leave the world of each other experiment as it was, over
-/// any trace and however they end: each row that it wants, and each node that it claims.
+/// more, of which nothing was sent. The experiment of each open swap moves, where it did before the step. A turn sends one device
+/// command, or appends one record; one that breaks off sends no more than one, and nothing of the journal behind it. The reply to
+/// a turn, or to all up to the end, tells where the lab is. Both leave the world of each other experiment as it was, over any
+/// trace and however they end: each row that it wants, and each node that it claims.
 pub fn open_swaps()
-    ensures others { (terms : Terms) (set : Setting) (s : LabState) (opens to : List OpenSwap) (command : Command) (opening own : List Event) (after : After) (name : List ℕ)
-        → name_of command ≢ Some name → LabStep terms set s (Open opens) command opening own after → after.session ≡ Open to → open_at name to ≡ open_at name opens }
-    ensures differ { (terms : Terms) (set : Setting) (s : LabState) (session : Session) (to : List OpenSwap) (command : Command) (opening own : List Event) (after : After)
-        → AllDiffer (busy_of session) → LabStep terms set s session command opening own after → after.session ≡ Open to → AllDiffer (names_of to) }
-    ensures few { (terms : Terms) (set : Setting) (s : LabState) (session : Session) (to : List OpenSwap) (command : Command) (opening own : List Event) (after : After)
-        → length (opens_of session) ≤ 16 → LabStep terms set s session command opening own after → after.session ≡ Open to → length to ≤ 16 }
+    ensures others { (terms : Terms) (at : List Event) (set : Setting) (s : LabState) (opens to : List OpenSwap) (command : Command) (opening own : List Event) (after : After) (name : List ℕ)
+        → name_of command ≢ Some name → LabStep terms at set s (Open opens) command opening own after → after.session ≡ Open to → open_at name to ≡ open_at name opens }
+    ensures differ { (terms : Terms) (at : List Event) (set : Setting) (s : LabState) (session : Session) (to : List OpenSwap) (command : Command) (opening own : List Event) (after : After)
+        → AllDiffer (busy_of session) → LabStep terms at set s session command opening own after → after.session ≡ Open to → AllDiffer (names_of to) }
+    ensures few { (terms : Terms) (at : List Event) (set : Setting) (s : LabState) (session : Session) (to : List OpenSwap) (command : Command) (opening own : List Event) (after : After)
+        → length (opens_of session) ≤ 16 → LabStep terms at set s session command opening own after → after.session ≡ Open to → length to ≤ 16 }
+    ensures moves { (terms : Terms) (at : List Event) (set : Setting) (s : LabState) (session : Session) (to : List OpenSwap) (command : Command) (opening own : List Event) (after : After)
+        → Sane s → AllDiffer (busy_of session) → AllMove (opens_of session) s → LabStep terms at set s session command opening own after → after.session ≡ Open to → AllMove to after.lab }
     ensures begun { (terms : Terms) (set : Setting) (s : LabState) (session : Session) (command : Command) (opening own : List Event) (after : After) (exp name : List ℕ) (way : Way)
         → LabStepBy (Ok (BeginOnly exp way)) terms set s session command opening own after → after.reply ≡ Some (More name)
         → (name ≡ exp) × ((to : List OpenSwap) × (after.session ≡ Open to) × IsOpened exp set.devices after.lab (opens_of session) to) }
@@ -85,32 +90,41 @@ pub fn open_swaps()
         → LabStepBy (Ok (Turn exp)) terms set s (Open opens) command opening own after → (has_command own ≡ false) ⊎ SendsOne own }
     ensures turn_tells { (terms : Terms) (set : Setting) (s : LabState) (opens : List OpenSwap) (command : Command) (opening own : List Event) (after : After) (exp : List ℕ) (reply : Reply)
         → LabStepBy (Ok (Turn exp)) terms set s (Open opens) command opening own after → after.reply ≡ Some reply → TellsEnd s exp reply after.lab }
-    ensures world { (terms : Terms) (set : Setting) (s : LabState) (opens : List OpenSwap) (command : Command) (opening own : List Event) (after : After) (trace : List Event) (exp : List ℕ) (e : Experiment)
-        → Sane s → IsTurnOf exp command → Has s.experiments e → e.name ≢ exp → LabStep terms set s (Open opens) command opening own after
+    ensures world { (terms : Terms) (at : List Event) (set : Setting) (s : LabState) (opens : List OpenSwap) (command : Command) (opening own : List Event) (after : After) (trace : List Event) (exp : List ℕ) (e : Experiment)
+        → Sane s → IsTurnOf exp command → Has s.experiments e → e.name ≢ exp → LabStep terms at set s (Open opens) command opening own after
         → SameFor (lab_in s.lab) e (world_of trace) (world_of (trace ++ own)) }
     ensures finish_tells { (terms : Terms) (set : Setting) (s : LabState) (opens : List OpenSwap) (command : Command) (opening own : List Event) (after : After) (exp : List ℕ) (reply : Reply)
         → LabStepBy (Ok (Finish exp)) terms set s (Open opens) command opening own after → after.reply ≡ Some reply → TellsEnd s exp reply after.lab }
 {}
 
 /// An untroubled recovery leaves no experiment moving but those with an open swap: an opening in which none got stuck, and a
-/// `recover` that tells so.
+/// `recover` that tells so. An experiment whose own settling met no trouble is at rest behind both, also where another's did.
 pub fn recoveries()
     ensures opened { (s mid : LabState) (opening : List Event) → Sane s → (is : Opens s opening mid) → count_by is_stuck is.outcomes ≡ 0
         → (e : Experiment) → Has mid.experiments e → is_moving e ≡ false }
-    ensures recovered { (terms : Terms) (set : Setting) (s : LabState) (session : Session) (opening own : List Event) (after : After) (done : ℕ)
-        → Sane s → LabStep terms set s session Recover opening own after → after.reply ≡ Some (Recovered done 0)
+    ensures beside { (s after : LabState) (swaps : List Swapped) (outcomes : List Outcome) (steps : List Event) (name : List ℕ) → Settles s swaps outcomes steps after → EndedIn swaps outcomes name → IsAtRest after name }
+    ensures recovered { (terms : Terms) (at : List Event) (set : Setting) (s : LabState) (session : Session) (opening own : List Event) (after : After) (done : ℕ)
+        → Sane s → LabStep terms at set s session Recover opening own after → after.reply ≡ Some (Recovered done 0)
         → (e : Experiment) → Has after.lab.experiments e → is_moving e ≡ true → is_busy (busy_of session) e.name ≡ true }
 {}
 
 /// An experiment is swapped in by a supplied solution, or its swap begins where `open` stands before the command, only where that
-/// is feasible on what the other experiments leave free, and there it is, unless the reply tells what hindered it.
+/// is feasible on what the other experiments leave free, and there it is, unless the reply tells what hindered it; an open swap
+/// of its own can't, since the experiment of one moves. One that is answered as in is in by the mapping of that solution, at once
+/// or at the end of the swap that begins.
 pub fn solutions()
-    ensures only { (terms : Terms) (set : Setting) (s : LabState) (session : Session) (only_begin : Bool) (exp text : List ℕ) (lines : ℕ) (opening own : List Event) (after : After)
-        → LabStep terms set s session (SwapinWith only_begin exp lines text) opening own after → after.reply ≡ Some (taken_reply only_begin exp)
+    ensures only { (terms : Terms) (at : List Event) (set : Setting) (s : LabState) (session : Session) (only_begin : Bool) (exp text : List ℕ) (lines : ℕ) (opening own : List Event) (after : After)
+        → LabStep terms at set s session (SwapinWith only_begin exp lines text) opening own after → after.reply ≡ Some (taken_reply only_begin exp)
         → (mid : LabState) × BeginsAt session s opening mid × IsFeasibleFor mid exp text }
-    ensures unless { (terms : Terms) (set : Setting) (s : LabState) (session : Session) (only_begin : Bool) (exp text : List ℕ) (lines : ℕ) (opening own : List Event) (after : After) (reply : Reply)
-        → LabStep terms set s session (SwapinWith only_begin exp lines text) opening own after → after.reply ≡ Some reply
+    ensures unless { (terms : Terms) (at : List Event) (set : Setting) (s : LabState) (session : Session) (only_begin : Bool) (exp text : List ℕ) (lines : ℕ) (opening own : List Event) (after : After) (reply : Reply)
+        → LabStep terms at set s session (SwapinWith only_begin exp lines text) opening own after → AllMove (opens_of session) s → after.reply ≡ Some reply
         → TellsBroken reply ⊎ ((mid : LabState) × BeginsAt session s opening mid × (IsFeasibleFor mid exp text → (reply ≡ taken_reply only_begin exp) ⊎ Hinders reply)) }
+    ensures inside { (terms : Terms) (at : List Event) (set : Setting) (s : LabState) (session : Session) (exp text : List ℕ) (lines : ℕ) (opening own : List Event) (after : After)
+        → LabStep terms at set s session (SwapinWith false exp lines text) opening own after → after.reply ≡ Some (In exp) → IsInBy after.lab exp text }
+    ensures begins { (terms : Terms) (at : List Event) (set : Setting) (s : LabState) (session : Session) (to : List OpenSwap) (exp text : List ℕ) (lines : ℕ) (opening own : List Event) (after : After)
+        → LabStep terms at set s session (SwapinWith true exp lines text) opening own after → after.reply ≡ Some (More exp) → after.session ≡ Open to → GoesIn to after.lab exp text }
+    ensures ends { (terms : Terms) (at : List Event) (set : Setting) (s : LabState) (opens : List OpenSwap) (command : Command) (exp text : List ℕ) (opening own : List Event) (after : After)
+        → AllMove opens s → GoesIn opens s exp text → IsTurnOf exp command → LabStep terms at set s (Open opens) command opening own after → after.reply ≡ Some (In exp) → IsInBy after.lab exp text }
 {}
 
 /// A search has one answer, but where there are more than 65,536 candidates and FirstFit is feasible: there each answer is locally

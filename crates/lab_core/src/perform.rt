@@ -4,7 +4,7 @@ ghost use Rattle.journal_rec.specs.Payloads.{IsBody, IsRecord};
 ghost use Rattle.journal_rec.specs.declared.record.Record.{Record as AnyRecord};
 ghost use Rattle.journal_rec.specs.declared.record.Record.TheVariants as records;
 ghost use Rattle.journal_disk.specs.Standing.{length_of, limit_of};
-ghost use Rattle.records_model.specs.Labs.{Follows};
+ghost use Rattle.records_model.specs.Labs.{Follows, Sane};
 ghost use Rattle.swap_txn.specs.Steps.{Stands, Writes};
 ghost use Rattle.lab_state.specs.Changes.{after, CanEnter};
 ghost use Rattle.lab_state.specs.Texts.{the_texts};
@@ -48,14 +48,17 @@ fn has_space(journal: &Journal, size: u64) -> bool
     needed <= most
 }
 
-/// Prepares a record that can follow.
+/// Prepares a record that can follow. Its clause `sane` is what every lab keeps.
 pub(crate) fn prepare(lab: &mut LabState, entry: &Record) -> Result<Prepared, Memory>
     requires record { IsRecord entry.now }
     requires follows { MayFollow lab.old.state entry.now }
     ensures ok { IfOk result (λ prepared. Follows the_texts lab.old.state entry.now (after lab.old.state prepared)) }
     ensures enters { IfOk result (λ prepared. CanEnter lab.new prepared) }
+    ensures sane { Sane lab.old.state }
     ensures unchanged { lab.new.state ≡ lab.old.state }
 {
+    // for the prover: it tells what every lab keeps
+    let _kept = lab.lab();
     match lab.prepare(entry) {
         Ok(prepared) => Ok(prepared),
         Err(PrepareFault::Memory) => Err(Memory),

@@ -5,6 +5,7 @@ ghost use Rattle.lab_base.specs.declared.ids.VlanId.{VlanId};
 ghost use Rattle.journal_rec.specs.Payloads.{IsRecord};
 ghost use Rattle.journal_rec.specs.declared.record.Record.TheVariants as records;
 ghost use Rattle.journal_rec.specs.declared.record.Way.TheVariants as ways;
+ghost use Rattle.records_model.specs.Labs.{change_in, create_in};
 
 use journal_rec::{Record, Way};
 use lab_base::{Name, Tags, Text};
@@ -17,13 +18,18 @@ pub(crate) fn lab_record(ptop: Text) -> Record
     Record::Lab { ptop }
 }
 
-pub(crate) fn create_record(exp: Name, top: Text) -> Record
+/// The record of a new experiment, of the second format or of the first.
+pub(crate) fn create_record(exp: Name, top: Text, second: bool) -> Record
     requires { length top ≤ 16777216 }
-    ensures entry { result ≡ records.Create exp top }
+    ensures entry { result ≡ create_in second exp top }
     ensures is { IsRecord result }
 {
     let _named = exp.bytes();
-    Record::Create { exp, top }
+    if second {
+        Record::Create2 { exp, top }
+    } else {
+        Record::Create { exp, top }
+    }
 }
 
 pub(crate) fn delete_record(exp: Name) -> Record
@@ -46,17 +52,21 @@ pub(crate) fn way_in(exp: Name, map: Text, tags: Tags) -> Way
     Way::In { map, tags }
 }
 
-/// The way of a change.
-pub(crate) fn way_over(exp: Name, top: Text, map: Text, tags: Tags) -> Way
+/// The way of a change, of the second format or of the first.
+pub(crate) fn way_over(exp: Name, top: Text, map: Text, tags: Tags, second: bool) -> Way
     requires top { length top ≤ 16777216 }
     requires map { length map ≤ 16777216 }
     requires few { length tags ≤ 65535 }
     requires ids { (tag : VlanId) → Has tags tag → tag.0 < 2 ^ 16 }
-    ensures way { result ≡ ways.Change top map tags }
+    ensures way { result ≡ change_in second top map tags }
     ensures is { IsRecord (records.Begin exp result) }
 {
     let _named = exp.bytes();
-    Way::Change { top, map, tags }
+    if second {
+        Way::Change2 { top, map, tags }
+    } else {
+        Way::Change { top, map, tags }
+    }
 }
 
 /// The way of a swap-out.

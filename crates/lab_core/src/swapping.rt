@@ -6,7 +6,7 @@ ghost use Rattle.journal_rec.specs.declared.record.Record.{Record as AnyRecord};
 ghost use Rattle.journal_rec.specs.declared.record.Record.TheVariants as records;
 ghost use Rattle.journal_rec.specs.declared.record.Way.{Way as AnyWay};
 ghost use Rattle.journal_disk.specs.Standing.{limit_of, length_of};
-ghost use Rattle.records_model.specs.Labs.{Follows, Move};
+ghost use Rattle.records_model.specs.Labs.{Follows, Move, Sane};
 ghost use Rattle.swap_txn.specs.States.{unsent};
 ghost use Rattle.swap_txn.specs.Steps.{Stands};
 ghost use Rattle.swap_txn.specs.declared.live.Live.{Live};
@@ -65,6 +65,7 @@ fn ready_swap(
     requires follows { MayFollow lab.old.state begin }
     ensures ok { IfOk result (λ r. Follows the_texts lab.old.state begin (after lab.old.state r.prepared)) }
     ensures enters { IfOk result (λ r. CanEnter lab.new r.prepared) }
+    ensures sane { Sane lab.old.state }
     ensures body { IfOk result (λ r. IsBody r.planned.begin begin) }
     ensures forth { (exp : List ℕ) (way : AnyWay) → begin ≡ records.Begin exp way → IfOk result (λ r. r.planned.forth ≡ unsent exp way ops.commands ops.undo) }
     ensures unchanged { lab.new.state ≡ lab.old.state }
@@ -98,6 +99,7 @@ pub(crate) fn prepare_swap(
     requires follows { MayFollow lab.old.state (records.Begin exp way) }
     ensures follows { IfOk result (λ r. Follows the_texts lab.old.state (records.Begin exp way) (after lab.old.state r.prepared)) }
     ensures enters { IfOk result (λ r. CanEnter lab.new r.prepared) }
+    ensures sane { Sane lab.old.state }
     ensures body { IfOk result (λ r. IsBody r.planned.begin (records.Begin exp way)) }
     ensures forth { IfOk result (λ r. r.planned.forth ≡ unsent exp way ops.commands ops.undo) }
     ensures unchanged { lab.new.state ≡ lab.old.state }
@@ -265,7 +267,6 @@ pub(crate) fn reply_of_unopened(exp: Name, fault: OpenSwap) -> Result<Option<Rep
             what,
         })),
         OpenSwap::Stopped => Err(CoreFault::Stopped),
-        OpenSwap::Memory => Err(CoreFault::Memory),
         // It has none, and there is room for one more.
         OpenSwap::Busy(_) | OpenSwap::TooManyOpen(_) => unreachable!(),
     }

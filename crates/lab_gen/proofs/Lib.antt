@@ -1,7 +1,7 @@
-pub mod Texts
-pub mod Printed
-pub mod LineKinds
-pub mod Heads
-pub mod Grammar
-pub mod Words
-pub mod Counting
+mod Texts
+mod Printed
+mod LineKinds
+mod Heads
+mod Grammar
+mod Words
+mod Counting

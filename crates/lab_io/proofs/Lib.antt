@@ -1,5 +1,5 @@
 pub mod Copied
-pub mod Fronts
+mod Fronts
 pub mod Known
 pub mod LineLaws
 pub mod LongLines

@@ -1,5 +1,5 @@
 // The lines of a source.
-ghost use Rattle.std.specs.Prelude.{◌≡◌, ◌≢◌, ◌≤◌, ◌<◌, ◌+◌, ◌-◌, ◌^◌, ◌⊎◌, ℕ, length, [], take, drop, None, Some, Ok, Err, true, false, IfNone, IsTrue, IsFalse, slice_index, IfOk, IfErr, IfSome, OnErr, OnOk, IsErrOf, IsSome, vec_len};
+ghost use Rattle.std.specs.Prelude.{◌≡◌, ◌≢◌, ◌≤◌, ◌<◌, ◌+◌, ◌-◌, ◌^◌, ◌⊎◌, ℕ, max, length, [], take, drop, None, Some, Ok, Err, true, false, IfNone, IsTrue, IsFalse, slice_index, IfOk, IfErr, IfSome, OnErr, OnOk, IsErrOf, IsSome, vec_len};
 ghost use Rattle.std.specs.Io.KnownBytes.{prepend_known};
 ghost use Rattle.lab_base.specs.Counts.{Rose};
 ghost use Rattle.lab_io.specs.Feeds.{NoFeed, without_return};
@@ -74,6 +74,9 @@ fn fill<S: Source>(pending: &mut Vec<u8>, taken: u64, source: &mut S) -> Result<
     ensures read { IsErrOf result LineFault.ReadFault → Rose (S.faults source.old) (S.faults source.new) × NoFeed pending.new.items }
     ensures later { S.faults source.old ≤ S.faults source.new }
     ensures long { IfErr result (λ e. (n : _) → e ≢ LineFault.TooLong n) }
+    ensures quiet { NoFeed pending.old.items ⊎ ((source.new ≡ source.old) × (pending.new.items ≡ pending.old.items)) }
+    ensures ahead { length pending.new.items ≤ max (length pending.old.items) 8193 }
+    ensures stands { OnOk result (S.faults source.new ≡ S.faults source.old) }
 {
     let mut chunk = [0u8; CHUNK];
     'reads: loop {
@@ -151,6 +154,9 @@ fn next_line<S: Source>(
     ensures read { IsErrOf result LineFault.ReadFault → Rose (S.faults source.old) (S.faults source.new) × NoFeed pending.new.items }
     ensures long { (n : ℕ) → IsErrOf result (LineFault.TooLong n) → (n ≡ number) × IsTooLong taken.old (prepend_known pending.old.items (S.left source.old)) }
     ensures later { S.faults source.old ≤ S.faults source.new }
+    ensures quiet { NoFeed pending.old.items ⊎ (source.new ≡ source.old) }
+    ensures ahead { length pending.new.items ≤ max (length pending.old.items) 8193 }
+    ensures stands { OnOk result (S.faults source.new ≡ S.faults source.old) }
 {
     match fill(pending, *taken, source)? {
         Found::Feed(at) => {
@@ -216,6 +222,9 @@ fn peek_line<S: Source>(
     ensures read { IsErrOf result LineFault.ReadFault → Rose (S.faults source.old) (S.faults source.new) × NoFeed pending.new.items }
     ensures later { S.faults source.old ≤ S.faults source.new }
     ensures err { (n : ℕ) → result ≢ Err (LineFault.TooLong n) }
+    ensures quiet { NoFeed pending.old.items ⊎ (source.new ≡ source.old) }
+    ensures ahead { length pending.new.items ≤ max (length pending.old.items) 8193 }
+    ensures stands { OnOk result (S.faults source.new ≡ S.faults source.old) }
 {
     match fill(pending, taken, source)? {
         Found::Feed(at) => {
@@ -261,7 +270,9 @@ impl LineReader {
         self.lines
     }
 
-    /// The next line. After the end it answers the end, and after a fault the same fault again, and reads nothing.
+    /// The next line. After the end it answers the end, and after a fault the same fault again, and reads nothing. It asks
+    /// the source only while no line feed is pending, so it keeps at most 4,097 bytes and one piece of 4,096, and passes
+    /// over no read that failed.
     pub fn next<S: Source>(&mut self, source: &mut S) -> Result<Line, LineFault>
         ensures took { IsFalse (ended_of self.old) → IfOk result (λ line. Took (rest_of self.old (S.left source.old)) line (rest_of self.new (S.left source.new)) (ended_of self.new) (taken_of self.old) (taken_of self.new)) }
         ensures ended { IsTrue (ended_of self.old) → fault_of self.old ≡ None → (result ≡ Ok Line.End) × IsTrue (ended_of self.new) × (self.new ≡ self.old) × (source.new ≡ source.old) }
@@ -276,6 +287,9 @@ impl LineReader {
         ensures kept { IfErr result (λ fault. fault_of self.new ≡ Some fault) }
         ensures again { IfSome (fault_of self.old) (λ fault. result ≡ Err fault) }
         ensures unread { IsSome (fault_of self.old) → source.new ≡ source.old }
+        ensures quiet { NoFeed (pending_of self.old) ⊎ (source.new ≡ source.old) }
+        ensures ahead { length (pending_of self.new) ≤ max (length (pending_of self.old)) 8193 }
+        ensures stands { OnOk result (S.faults source.new ≡ S.faults source.old) }
     {
         if let Some(fault) = self.fault {
             return Err(fault);
@@ -305,7 +319,7 @@ impl LineReader {
     }
 
     /// The text of the next line, which is left; None at the end, and where the line is too long. After a fault it
-    /// answers the same fault again, and reads nothing.
+    /// answers the same fault again, and reads nothing. It asks the source as `next` does.
     pub fn peek<S: Source>(&mut self, source: &mut S) -> Result<Option<Text>, LineFault>
         ensures text { IfOk result (λ peeked. IfSome peeked (λ text. (ended_of self.old ≡ false) × IsNext (rest_of self.new (S.left source.new)) (taken_of self.new) text)) }
         ensures none { IfOk result (λ peeked. IfNone peeked ((ended_of self.old ≡ true) ⊎ HasNoText (taken_of self.new) (rest_of self.new (S.left source.new)))) }
@@ -320,6 +334,9 @@ impl LineReader {
         ensures kept { IfErr result (λ fault. fault_of self.new ≡ Some fault) }
         ensures again { IfSome (fault_of self.old) (λ fault. result ≡ Err fault) }
         ensures unread { IsSome (fault_of self.old) → source.new ≡ source.old }
+        ensures quiet { NoFeed (pending_of self.old) ⊎ (source.new ≡ source.old) }
+        ensures ahead { length (pending_of self.new) ≤ max (length (pending_of self.old)) 8193 }
+        ensures stands { OnOk result (S.faults source.new ≡ S.faults source.old) }
     {
         if let Some(fault) = self.fault {
             return Err(fault);

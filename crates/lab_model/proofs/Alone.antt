@@ -10,7 +10,7 @@ use Rattle.phys_lab.specs.Kept.{IsLab}
 use Rattle.virt_topo.specs.declared.experiment.Experiment.{Experiment}
 use Rattle.virt_topo.specs.declared.mapping.Mapped.{Mapped}
 use Rattle.plant.specs.Worlds.{Row, World, is_row, world_of, world_after}
-use Rattle.plant.specs.Events.{Event, Wrote, Synced, Cut, Missed, Did, Restarted}
+use Rattle.plant.specs.Events.{Event, Wrote, Synced, Cut, Missed, Did, Restarted, Unread}
 use Rattle.plant.specs.declared.device.Answer.{Answer}
 use Rattle.plant.specs.declared.device.Fault.{Fault}
 use Rattle.plant.specs.declared.device.DeviceOp.{DeviceOp}
@@ -111,6 +111,7 @@ own_events_quiet lab e (Synced side ∷ events) event is = own_events_quiet lab 
 own_events_quiet lab e (Cut side size ∷ events) event is = own_events_quiet lab e events event is
 own_events_quiet lab e (Missed side ∷ events) event is = own_events_quiet lab e events event is
 own_events_quiet lab e (Restarted x y ∷ events) event is = own_events_quiet lab e events event is
+own_events_quiet lab e (Unread device ∷ events) event is = own_events_quiet lab e events event is
 
 pub course_quiet : (lab : Lab) (e : Experiment) (cs : Sent) (start : ℕ) (trace : List Event) (event : Event) → own_events lab e (event ∷ []) ≡ [] → ((w : World) → world_after w event ≡ w) → OnCourse lab e cs start trace → OnCourse lab e cs start (trace ++ event ∷ [])
 course_quiet lab e cs start trace event none same on =
@@ -135,6 +136,7 @@ own_events_append lab e (Synced side ∷ events) more = own_events_append lab e 
 own_events_append lab e (Cut side size ∷ events) more = own_events_append lab e events more
 own_events_append lab e (Missed side ∷ events) more = own_events_append lab e events more
 own_events_append lab e (Restarted x y ∷ events) more = own_events_append lab e events more
+own_events_append lab e (Unread device ∷ events) more = own_events_append lab e events more
 
 -- steps of the journal: none is its own, and the world stays
 pub course_journal : (lab : Lab) (e : Experiment) (cs : Sent) (start : ℕ) (trace more : List Event) → own_events lab e more ≡ [] → world_of (trace ++ more) ≡ world_of trace → OnCourse lab e cs start trace → OnCourse lab e cs start (trace ++ more)

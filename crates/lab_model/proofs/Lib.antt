@@ -1,30 +1,30 @@
-pub mod Alike
+mod Alike
 pub mod Alone
-pub mod Along
+mod Along
 pub mod Begins
 pub mod BesideLaws
-pub mod Built
-pub mod Clearing
-pub mod Commands
+mod Built
+mod Clearing
+mod Commands
 pub mod CourseLaws
 mod CourseLists
 pub mod CutLaws
 pub mod Ending
-pub mod Ends
+mod Ends
 pub mod FeasibleLaws
-pub mod Finished
+mod Finished
 pub mod FirstViolation
 pub mod HoldingLaws
 pub mod Kept
-pub mod LabFacts
+mod LabFacts
 pub mod ListLaws
-pub mod Moves
+mod Moves
 pub mod OneSided
 pub mod OwnCommands
 pub mod OwnEvents
 pub mod PartLaws
 pub mod Records
-pub mod Rows
+mod Rows
 pub mod Safe
 pub mod SafeMoves
 pub mod Steps
@@ -32,4 +32,4 @@ pub mod SuitLaws
 pub mod TraceLaws
 pub mod Whole
 pub mod WiringLaws
-pub mod Worked
+mod Worked

@@ -1,7 +1,7 @@
 -- Rows and pipes of one mapping alone are isolated.
 use Rattle.std.specs.List.{filter_map, cons_option}
 use Rattle.std.specs.Str.{bytes_eq}
-use Rattle.std.proofs.Common.{◌≡◌, ◌≢◌, inl, inr, ℕ, zero, suc, ◌+◌, ◌-◌, ◌<◌, cond, eqb, Some, None, List, [], ◌∷◌, length, map, get_or, slice_get, refl, sym, ap, ◌∙◌, subst, arith}
+use Rattle.std.proofs.Common.{◌≡◌, ◌≢◌, inl, inr, ℕ, zero, suc, ◌+◌, ◌-◌, ◌<◌, cond, eqb, Some, None, List, [], ◌∷◌, false, length, map, get_or, slice_get, refl, sym, ap, ◌∙◌, subst, arith}
 use Rattle.std.proofs.lemmas.Bool.{cases_Bool, eqb-true}
 use Rattle.std.proofs.lemmas.Option.{same_Some}
 use Rattle.std.proofs.lemmas.Slice.Eq.{bytes_eq-Decides}
@@ -9,7 +9,7 @@ use Rattle.lab_base.specs.Lists.{Has, AllDiffer}
 use Rattle.lab_base.proofs.Members.{Apart-left, Apart-right, Apart-across}
 use Rattle.phys_lab.specs.Labs.{Lab}
 use Rattle.phys_lab.specs.Kept.{IsLab}
-use Rattle.virt_topo.specs.Ends.{end_nodes, end_owners, end_number, pipe_from, pipe_to}
+use Rattle.virt_topo.specs.Ends.{end_nodes, end_owners, end_multiplexed, end_number, pipe_from, pipe_to}
 use Rattle.virt_topo.specs.declared.wiring.Pipe.{Pipe}
 use Rattle.virt_topo.specs.declared.mapping.Mapped.{Mapped}
 use Rattle.virt_topo.specs.declared.experiment.Experiment.{Experiment}
@@ -22,7 +22,7 @@ use Rattle.lab_model.specs.Holding.{Suits}
 use Rattle.lab_model.specs.Rules.{plug_at}
 use Rattle.lab_model.specs.Isolated.{IsRow, IsPipe}
 use Rattle.lab_model.proofs.LabFacts.{one_port, no_trunk_port, one_name}
-use Rattle.lab_model.proofs.SuitLaws.{plug_in, plug_node, plug_once}
+use Rattle.lab_model.proofs.SuitLaws.{plug_in, plug_node, plug_alone, flag_at}
 use Rattle.lab_model.proofs.WiringLaws.{sound_pipes}
 use Rattle.lab_model.proofs.Rows.{owned_from, owned_tag, owned_once}
 
@@ -72,16 +72,16 @@ module _ (lab : Lab) (m : Mapped) (name : List ℕ) (row : PipeRow) where
   wanted_pipe h = let r = some_pipe m.wiring.pipes h in record { from = r.0; in_wiring = r.1; placed = r.2; row_is = r.3 }
 
 module _ (lab : Lab) (m : Mapped) (is_lab : IsLab lab) (suits : Suits lab m) where
-  -- a row at the interface of an end is owned by the end's segment's owner
+  -- a row at the interface of an end whose segment isn't multiplexed is owned by that segment's owner
   end_owner : (e : ℕ) (name : List ℕ) (row : Row) (link : List ℕ) → e < length (end_nodes m.wiring.segments) → place_of lab m (get_or (end_nodes m.wiring.segments) e 0) ≡ name
-      → IsAt lab name (plug_name lab m e) row → Has (rows_of lab m) (record { row = row; owner = link }) → get_or (end_owners m.wiring.segments) e [] ≡ link
-  end_owner e name row link end placed at wanted = elim (owned_from lab m.wiring.segments m.mapping.plugs m.tags (record { row = row; owner = link }) wanted) [
+      → get_or (end_multiplexed m.wiring.segments) e false ≡ false → IsAt lab name (plug_name lab m e) row → Has (rows_of lab m) (record { row = row; owner = link }) → get_or (end_owners m.wiring.segments) e [] ≡ link
+  end_owner e name row link end placed alone at wanted = elim (owned_from lab m.wiring.segments m.mapping.plugs m.tags (record { row = row; owner = link }) wanted) [
     | inl r ↦
         let in_plugs : e < length m.mapping.plugs = omega (arith, end, suits.shaped.plugs) in
         let r_in : r.number < length m.mapping.plugs = omega (arith, r.is_end, suits.shaped.plugs) in
         let here : at.number.0 ≡ (plug_at m.mapping e).0 = one_name lab is_lab at.number (plug_at m.mapping e) at.in_lab (plug_in lab m suits e in_plugs) (at.node_is ∙ sym placed ∙ sym (plug_node lab m suits e in_plugs)) at.name_is in
         let there : at.number.0 ≡ (plug_at m.mapping r.number).0 = one_port lab is_lab at.number (plug_at m.mapping r.number) at.in_lab (plug_in lab m suits r.number r_in) (sym at.switch_is ∙ r.switch_is) (sym at.port_is ∙ r.port_is) in
-        let one : e ≡ r.number = plug_once lab m suits e r.number in_plugs r_in (sym here ∙ there) in
+        let one : e ≡ r.number = plug_alone lab m suits e r.number in_plugs r_in (flag_at m.wiring e ∙ alone) (sym here ∙ there) in
         ap (λ n. get_or (end_owners m.wiring.segments) n []) one ∙ r.owner_is
     | inr t ↦
         let apart = no_trunk_port lab is_lab at.number t.trunk at.in_lab t.in_lab in
@@ -101,9 +101,9 @@ module _ (lab : Lab) (m : Mapped) (is_lab : IsLab lab) (suits : Suits lab m) whe
       let placed_to : place_of lab m (get_or (end_nodes m.wiring.segments) (pipe_to m.wiring w.from) 0) ≡ name = ap (λ v. place_of lab m v) (end_number-at (end_nodes m.wiring.segments) w.from.node w.from.to sound.to_end) ∙ w.placed in
       let at_from = subst (λ n. IsAt lab name n p) (sym (ap (λ r. r.from) w.row_is)) at_p in
       let at_to = subst (λ n. IsAt lab name n q) (sym (ap (λ r. r.to) w.row_is)) at_q in
-      sym (end_owner (pipe_from m.wiring w.from) name p a sound.from_end placed_from at_from wants_p)
+      sym (end_owner (pipe_from m.wiring w.from) name p a sound.from_end placed_from sound.from_alone at_from wants_p)
       ∙ sound.one_owner
-      ∙ end_owner (pipe_to m.wiring w.from) name q b sound.to_end placed_to at_to wants_q
+      ∙ end_owner (pipe_to m.wiring w.from) name q b sound.to_end placed_to sound.to_alone at_to wants_q
 
 pub Has-slice_get : {X : Type 0} (xs : List X) (k : ℕ) (x : X) → slice_get xs k ≡ Some x → Has xs x
 Has-slice_get [] k x is = cc

@@ -11,7 +11,7 @@ use Rattle.phys_lab.specs.Kept.{IsLab}
 use Rattle.virt_topo.specs.declared.experiment.Experiment.{Experiment}
 use Rattle.virt_topo.specs.declared.mapping.Mapped.{Mapped}
 use Rattle.plant.specs.Worlds.{Row, is_row, World, world_after, world_of}
-use Rattle.plant.specs.Events.{Event, Did, Wrote, Synced, Cut as CutTo, Missed, Restarted}
+use Rattle.plant.specs.Events.{Event, Did, Wrote, Synced, Cut as CutTo, Missed, Restarted, Unread}
 use Rattle.plant.specs.declared.device.Answer.{Answer}
 use Rattle.plant.specs.declared.device.Fault.{Fault}
 use Rattle.plant.specs.declared.device.DeviceOp.{DeviceOp}
@@ -83,6 +83,7 @@ own_events_other lab e (Synced side ∷ events) op applied answer is = own_event
 own_events_other lab e (CutTo side size ∷ events) op applied answer is = own_events_other lab e events op applied answer is
 own_events_other lab e (Missed side ∷ events) op applied answer is = own_events_other lab e events op applied answer is
 own_events_other lab e (Restarted x y ∷ events) op applied answer is = own_events_other lab e events op applied answer is
+own_events_other lab e (Unread device ∷ events) op applied answer is = own_events_other lab e events op applied answer is
 
 event_push : (b : Bool) (x c : Event) (l : List Event) → cond b (x ∷ (l ++ c ∷ [])) (l ++ c ∷ []) ≡ cond b (x ∷ l) l ++ c ∷ []
 event_push true x c l = refl
@@ -96,6 +97,7 @@ own_events_push lab e (Synced side ∷ events) op applied answer is = own_events
 own_events_push lab e (CutTo side size ∷ events) op applied answer is = own_events_push lab e events op applied answer is
 own_events_push lab e (Missed side ∷ events) op applied answer is = own_events_push lab e events op applied answer is
 own_events_push lab e (Restarted x y ∷ events) op applied answer is = own_events_push lab e events op applied answer is
+own_events_push lab e (Unread device ∷ events) op applied answer is = own_events_push lab e events op applied answer is
 
 after_did : (w : World) (op : DeviceOp) (applied : Bool) (answer : Result Answer Fault) → world_after w (Did op applied answer) ≡ did w op applied answer
 after_did w op true answer = refl

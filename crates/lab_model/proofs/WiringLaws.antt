@@ -67,15 +67,19 @@ sound_ends w sound e h =
     let node = all_has (λ x. knows_node w x.node) of.0.ends here.0 (all_has (λ (s : Segment). list_all (λ x. knows_node w x.node) s.ends) w.segments of.0 each of.1) here.1 in
     subst (λ n. n < length w.nodes) here.2 (ltb-true _ _ node)
 
--- each pipe joins two ends, whose segments have one owner
+-- each pipe joins two ends, whose segments have one owner and are not multiplexed
 pub sound_pipes : (w : Wiring) → IsSound w → (p : Pipe) → Has w.pipes p → IsSoundPipe w p
 sound_pipes w sound p h =
     let names = all_has (knows_pipe w) w.pipes p (and_parts _ _ (and_parts _ _ (known w sound).knows).1).1 h in
     let ends = and_parts _ _ (and_parts _ _ names).1 in
     let good = or_parts _ _ (none_has (is_bad_pipe w) w.pipes p (or_parts _ _ (known w sound).pipes).0 h) in
+    let others = or_parts _ _ good.1 in
+    let alone = or_parts _ _ others.1 in
     record {
       from_end = ltb-true _ _ ends.0;
       to_end = ltb-true _ _ ends.1;
       differ = eqb-false _ _ good.0;
-      one_owner = (bytes_eq-Decides _ _).0 (not-false _ good.1);
+      one_owner = (bytes_eq-Decides _ _).0 (not-false _ others.0);
+      from_alone = alone.0;
+      to_alone = alone.1;
     }

@@ -1,5 +1,6 @@
 -- The definitions on worked examples, by computation.
-use Rattle.std.proofs.Common.{◌≡◌, ℕ, true, false, Some, None, [], ◌∷◌, length, map, refl}
+use Rattle.std.proofs.Common.{◌≡◌, ℕ, Bool, true, false, Some, None, List, [], ◌∷◌, length, map, refl}
+use Rattle.lab_model.specs.Rules.{keeps_f5}
 use Rattle.phys_lab.specs.Sides.{on_first_side}
 use Rattle.phys_lab.specs.Labs.{Lab}
 use Rattle.phys_lab.specs.declared.parts.Node.{Node}
@@ -50,7 +51,7 @@ end' n = record { node = n; address = None }
 -- a link of a and b on two nodes
 abbrev pair : ℕ → ℕ → ℕ → ℕ → Mapped
 pair kbps p q tag = record {
-  wiring = record { classes = []; nodes = virt 0 ∷ virt 1 ∷ []; segments = record { name = 1 ∷ []; owner = 1 ∷ []; kbps = kbps; ends = end' 0 ∷ end' 1 ∷ [] } ∷ []; pipes = [] };
+  wiring = record { classes = []; nodes = virt 0 ∷ virt 1 ∷ []; segments = record { name = 1 ∷ []; owner = 1 ∷ []; kbps = kbps; multiplexed = false; ends = end' 0 ∷ end' 1 ∷ [] } ∷ []; pipes = [] };
   mapping = record { places = (record { 0 = p }, []) ∷ (record { 0 = q }, []) ∷ []; plugs = record { 0 = p } ∷ record { 0 = q } ∷ [] };
   tags = record { 0 = tag } ∷ [];
 }
@@ -58,7 +59,7 @@ pair kbps p q tag = record {
 -- a LAN of four
 abbrev four : Mapped
 four = record {
-  wiring = record { classes = []; nodes = virt 0 ∷ virt 1 ∷ virt 2 ∷ virt 3 ∷ []; segments = record { name = 1 ∷ []; owner = 1 ∷ []; kbps = 50000; ends = end' 0 ∷ end' 1 ∷ end' 2 ∷ end' 3 ∷ [] } ∷ []; pipes = [] };
+  wiring = record { classes = []; nodes = virt 0 ∷ virt 1 ∷ virt 2 ∷ virt 3 ∷ []; segments = record { name = 1 ∷ []; owner = 1 ∷ []; kbps = 50000; multiplexed = false; ends = end' 0 ∷ end' 1 ∷ end' 2 ∷ end' 3 ∷ [] } ∷ []; pipes = [] };
   mapping = record { places = (record { 0 = 0 }, []) ∷ (record { 0 = 1 }, []) ∷ (record { 0 = 2 }, []) ∷ (record { 0 = 3 }, []) ∷ []; plugs = record { 0 = 0 } ∷ record { 0 = 1 } ∷ record { 0 = 2 } ∷ record { 0 = 3 } ∷ [] };
   tags = record { 0 = 100 } ∷ [];
 }
@@ -106,6 +107,36 @@ swap_in_boot = refl
 undone : (undo lab_q None (Some (pair 1 0 1 100))).clear ≡ Leave (21 ∷ []) 1 (record { 0 = 100 }) ∷ Leave (21 ∷ []) 2 (record { 0 = 100 }) ∷ Wipe (0 ∷ []) ∷ Wipe (1 ∷ []) ∷ []
 undone = refl
 
+-- two multiplexed links of a and b over one interface on each side
+abbrev shared : ℕ → Bool → Mapped
+shared kbps flag = record {
+  wiring = record {
+    classes = [];
+    nodes = virt 0 ∷ virt 1 ∷ [];
+    segments = record { name = 1 ∷ []; owner = 1 ∷ []; kbps = 600000; multiplexed = true; ends = end' 0 ∷ end' 1 ∷ [] } ∷ record { name = 2 ∷ []; owner = 2 ∷ []; kbps = kbps; multiplexed = flag; ends = end' 0 ∷ end' 1 ∷ [] } ∷ [];
+    pipes = [];
+  };
+  mapping = record { places = (record { 0 = 0 }, []) ∷ (record { 0 = 1 }, []) ∷ []; plugs = record { 0 = 0 } ∷ record { 0 = 1 } ∷ record { 0 = 0 } ∷ record { 0 = 1 } ∷ [] };
+  tags = record { 0 = 100 } ∷ record { 0 = 101 } ∷ [];
+}
+
+abbrev f5_of : Mapped → List Bool
+f5_of m = map (keeps_f5 lab_q m.wiring m.mapping) (0 ∷ 1 ∷ 2 ∷ 3 ∷ [])
+
+-- 600000 and 400000 are an interface's 1000000; one kbps more, or a segment that isn't multiplexed, breaks the rule at the third end
+shared_full : f5_of (shared 400000 true) ≡ true ∷ true ∷ true ∷ true ∷ []
+shared_full = refl
+
+shared_over : f5_of (shared 400001 true) ≡ true ∷ true ∷ false ∷ false ∷ []
+shared_over = refl
+
+shared_plain : f5_of (shared 400000 false) ≡ true ∷ true ∷ false ∷ false ∷ []
+shared_plain = refl
+
+-- one row for each port and id
+shared_rows : map (λ o. o.row) (rows_of lab_q (shared 400000 true)) ≡ row 21 1 100 ∷ row 21 2 100 ∷ row 21 1 101 ∷ row 21 2 101 ∷ []
+shared_rows = refl
+
 -- WRONG WORLDS AND MAPPINGS, each refused by the word that should refuse it
 abbrev rates : Rates
 rates = record { kbps = 1000; micros = 0; ppm = 0 }
@@ -134,7 +165,7 @@ delayed kbps = record {
   wiring = record {
     classes = [];
     nodes = virt 0 ∷ virt 1 ∷ [];
-    segments = record { name = 1 ∷ []; owner = 1 ∷ []; kbps = 1; ends = end' 0 ∷ end' 1 ∷ [] } ∷ record { name = 2 ∷ []; owner = 1 ∷ []; kbps = 1; ends = end' 0 ∷ end' 1 ∷ [] } ∷ [];
+    segments = record { name = 1 ∷ []; owner = 1 ∷ []; kbps = 1; multiplexed = false; ends = end' 0 ∷ end' 1 ∷ [] } ∷ record { name = 2 ∷ []; owner = 1 ∷ []; kbps = 1; multiplexed = false; ends = end' 0 ∷ end' 1 ∷ [] } ∷ [];
     pipes = record { node = 0; from = 0; to = 1; there = record rates { kbps = kbps }; back = rates } ∷ [];
   };
   mapping = record { places = (record { 0 = 0 }, []) ∷ (record { 0 = 1 }, []) ∷ []; plugs = record { 0 = 0 } ∷ record { 0 = 1 } ∷ record { 0 = 0 } ∷ record { 0 = 1 } ∷ [] };

@@ -1,12 +1,14 @@
 -- The eight rules of mappings, each as a test of one subject.
-use Rattle.std.specs.Prelude.{◌+◌, ℕ, Bool, true, false, not, ◌&&◌, ◌||◌, ◌==◌, nat_lt, nat_le, List, [], ◌∷◌, length, take, replicate, slice_index_or, Option, Some, None, if◌then◌else◌}
-use Rattle.std.specs.List.{flat_map, list_any, list_all}
+use Rattle.std.specs.Prelude.{◌+◌, ℕ, Bool, true, false, not, ◌&&◌, ◌||◌, ◌==◌, nat_lt, nat_le, List, [], ◌∷◌, length, take, zip, sum_by, slice_index_or, Option, Some, None, if◌then◌else◌}
+use Rattle.std.specs.List.{list_any, list_all}
 use Rattle.lab_base.specs.declared.ids.IfaceId.{IfaceId}
 use Rattle.lab_base.specs.Names.{same_name}
 use Rattle.phys_lab.specs.declared.free.Free.{Free}
 use Rattle.phys_lab.specs.Labs.{Lab}
 use Rattle.phys_lab.specs.Sides.{joined}
 use Rattle.virt_topo.specs.Ends.{end_nodes}
+use Rattle.virt_topo.specs.Loads.{loads_of}
+use Rattle.virt_topo.specs.declared.loads.Load.{Load}
 use Rattle.virt_topo.specs.Cables.{Cable}
 use Rattle.virt_topo.specs.declared.wiring.Asks.{Asks}
 use Rattle.virt_topo.specs.declared.wiring.Asks.TheVariants.{Plain, Class as InClass}
@@ -107,26 +109,46 @@ keeps_f4 lab w m v = is_fixed_at (virt_at w v).fixed (node_at lab (place_at m v)
 abbrev pub end_node : Wiring → ℕ → ℕ
 end_node w e = slice_index_or (end_nodes w.segments) e 0
 
--- by end the kbps of its segment
-abbrev pub end_speeds : List Segment → List ℕ
-end_speeds segments = flat_map (λ s. replicate (length s.ends) s.kbps) segments
+-- a load on an interface
+abbrev pub Laid : Type 0
+Laid = Load × IfaceId
 
-abbrev pub end_speed : Wiring → ℕ → ℕ
-end_speed w e = slice_index_or (end_speeds w.segments) e 0
+-- the loads on interface i
+abbrev pub loads_on : ℕ → List Laid → List Load
+loads_on i [] = []
+loads_on i (x ∷ xs) = if x.1.0 == i then x.0 ∷ loads_on i xs else loads_on i xs
 
--- F5: the plug belongs to the node of the end's virtual node, no earlier end has it, and it is fast enough
+-- two loads may be on one interface: they are of two segments, and both are multiplexed
+abbrev pub may_join : Load → Load → Bool
+may_join a b = not (a.segment == b.segment) && (a.multiplexed && b.multiplexed)
+
+-- one more load may come to these on an interface of that many kbps: it may be there with each of them, and all add up to at most these kbps
+abbrev pub may_bear : ℕ → List Load → Load → Bool
+may_bear kbps had x = list_all (λ y. may_join y x) had && nat_le (x.kbps + sum_by (λ y. y.kbps) had) kbps
+
+abbrev pub no_load : Load
+no_load = record { segment = 0; kbps = 0; multiplexed = false }
+
+abbrev pub load_at : Wiring → ℕ → Load
+load_at w e = slice_index_or (loads_of w) e no_load
+
+-- the ends before end e with their plugs
+abbrev pub earlier : Wiring → Mapping → ℕ → List Laid
+earlier w m e = zip (take e (loads_of w)) (take e m.plugs)
+
+-- F5: the plug belongs to the node of the end's virtual node, and the end may come to the earlier ends that have it: none is of
+-- its own segment, all are of multiplexed segments as it is, and the kbps of all are at most the interface's
 abbrev pub keeps_f5 : Lab → Wiring → Mapping → ℕ → Bool
 keeps_f5 lab w m e =
     ((iface_at lab (plug_at m e)).node.0 == (place_at m (end_node w e)).0.0)
-    && (not (list_any (λ i. i.0 == (plug_at m e).0) (take e m.plugs))
-    && nat_le (end_speed w e) (iface_at lab (plug_at m e)).kbps)
+    && may_bear (iface_at lab (plug_at m e)).kbps (loads_on (plug_at m e).0 (earlier w m e)) (load_at w e)
 
 -- F6: the use of trunk t is at most what the others leave of it
 abbrev pub keeps_f6 : Lab → Free → Wiring → Mapping → ℕ → Bool
 keeps_f6 lab free w m t = nat_le (use_of lab w m t) (slice_index_or free.left t 0)
 
 abbrev pub no_segment : Segment
-no_segment = record { name = []; owner = []; kbps = 0; ends = [] }
+no_segment = record { name = []; owner = []; kbps = 0; multiplexed = false; ends = [] }
 
 abbrev pub no_cable : Cable
 no_cable = record { segment = no_segment; plugs = [] }

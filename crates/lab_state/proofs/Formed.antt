@@ -11,9 +11,9 @@ use Rattle.virt_topo.specs.declared.experiment.Experiment.{Experiment}
 use Rattle.virt_topo.specs.declared.experiment.Phase.{Phase}
 use Rattle.virt_topo.specs.declared.experiment.Phase.TheVariants.{Out, In, Moving}
 use Rattle.virt_topo.specs.Wirings.{mapped}
-use Rattle.journal_rec.specs.declared.record.Way.TheVariants.{In as WayIn, Out as WayOut, Change as WayChange}
+use Rattle.journal_rec.specs.declared.record.Way.TheVariants.{In as WayIn, Out as WayOut, Change as WayChange, Change2 as WayChange2}
 use Rattle.journal_rec.specs.declared.record.Record.{Record}
-use Rattle.journal_rec.specs.declared.record.Record.TheVariants.{Lab as LabRecord, Create, Delete, Begin, Commit, Abort}
+use Rattle.journal_rec.specs.declared.record.Record.TheVariants.{Lab as LabRecord, Create, Delete, Begin, Commit, Abort, Create2}
 use Rattle.records_model.specs.Labs.{LabState, Move, SetLab, Creates, Deletes, BeginsIn, BeginsOut, BeginsChange, Commits, Aborts, find, replace, others, in_phase, can_take, becomes, is_out, moved_one, deleted, in_state, moved_of, Texts, HasText, Says, FoldsTo, LabOf, at_first}
 use Rattle.records_model.proofs.Finding.{none_some, found_from}
 use Rattle.records_model.proofs.LabLaws.{in_state-some, with_replaced-some, found_one}
@@ -41,11 +41,13 @@ Worded t move = Unit {0}
 
 says_worded : (t : Texts) (s : LabState) (r : Record) (move : Move) → Says t s r move → Worded t move
 says_worded t s (LabRecord ptop) move h = subst (λ m. Worded t m) (sym h.3) tt
-says_worded t s (Create exp top) move h = subst (λ m. Worded t m) (sym h.3) h.1
+says_worded t s (Create exp top) move h = subst (λ m. Worded t m) (sym h.2) h.1.text
+says_worded t s (Create2 exp top) move h = subst (λ m. Worded t m) (sym h.2) h.1.text
 says_worded t s (Delete exp) move h = subst (λ m. Worded t m) (sym h) tt
 says_worded t s (Begin exp (WayIn map tags)) move h = subst (λ m. Worded t m) (sym h.9) tt
 says_worded t s (Begin exp WayOut) move h = subst (λ m. Worded t m) (sym h) tt
-says_worded t s (Begin exp (WayChange top map tags)) move h = subst (λ m. Worded t m) (sym h.9) h.5
+says_worded t s (Begin exp (WayChange top map tags)) move h = subst (λ m. Worded t m) (sym h.8) h.5.text
+says_worded t s (Begin exp (WayChange2 top map tags)) move h = subst (λ m. Worded t m) (sym h.8) h.5.text
 says_worded t s (Commit exp) move h = subst (λ m. Worded t m) (sym h) tt
 says_worded t s (Abort exp) move h = subst (λ m. Worded t m) (sym h) tt
 

@@ -9,10 +9,10 @@ use Rattle.virt_topo.specs.declared.experiment.Phase.{Phase}
 use Rattle.virt_topo.specs.declared.experiment.Phase.TheVariants.{Out, In, Moving}
 use Rattle.virt_topo.specs.declared.wiring.Wiring.{Wiring}
 use Rattle.journal_rec.specs.declared.record.Record.{Record}
-use Rattle.journal_rec.specs.declared.record.Record.TheVariants.{Lab as LabRecord, Create, Delete}
-use Rattle.records_model.specs.Labs.{LabState, SetLab, Creates, Deletes, HasText, Follows, CannotFollow, find, others, replace, deleted, is_out, moved, moved_of, moved_in, in_state}
+use Rattle.journal_rec.specs.declared.record.Record.TheVariants.{Lab as LabRecord, Delete}
+use Rattle.records_model.specs.Labs.{LabState, SetLab, Creates, Deletes, create_in, SaysTop, Follows, CannotFollow, find, others, replace, deleted, is_out, moved, moved_of, moved_in, in_state}
 use Rattle.records_model.proofs.Finding.{none_some}
-use Rattle.records_model.proofs.LabLaws.{in_state-some}
+use Rattle.records_model.proofs.LabLaws.{in_state-some, says_create, create_says}
 use Rattle.claims.specs.Answered.{none_of}
 use Rattle.lab_state.specs.declared.claimed_lab.ClaimedLab.{ClaimedLab}
 use Rattle.lab_state.specs.declared.fault.PrepareFault.{PrepareFault}
@@ -70,54 +70,56 @@ pub bad_is : (s : LabState) (entry : Record) (fault : PrepareFault) → IsJudged
 bad_is s entry faults.Bad judged = judged
 bad_is s entry faults.Memory judged = tt
 
-pub record Created (o : Option ClaimedLab) (es : List Experiment) (exp : List ℕ) (top : List ℕ) : Type 0 where
+pub record Created (o : Option ClaimedLab) (es : List Experiment) (exp top : List ℕ) (second : Bool) : Type 0 where
   pub place : ClaimedLab
   pub there : o ≡ Some place
   pub new : find exp es ≡ None
   pub few : length es ≤ 255
   pub wiring : Wiring
-  pub text : HasText the_texts wiring
-  pub says : top ≡ the_texts.top wiring
+  pub says : SaysTop the_texts wiring top second
 
-create_says : (o : Option ClaimedLab) (es : List Experiment) (exp top : List ℕ) (u : LabState) → Follows the_texts (state_of o es) (Create exp top) u → Created o es exp top
-create_says None es exp top u f = none_some u (sym (ap (λ m. moved (state_of None es) m) f.says.3) ∙ f.gives)
-create_says (Some place) es exp top u f =
-    let w = f.says.0 in
+create_found : (o : Option ClaimedLab) (es : List Experiment) (exp top : List ℕ) (second : Bool) (u : LabState) → Follows the_texts (state_of o es) (create_in second exp top) u → Created o es exp top second
+create_found None es exp top second u f =
+    let says = says_create the_texts (state_of None es) exp top second f.move f.says in
+    none_some u (sym (ap (λ m. moved (state_of None es) m) says.2) ∙ f.gives)
+create_found (Some place) es exp top second u f =
+    let says = says_create the_texts (state_of (Some place) es) exp top second f.move f.says in
+    let w = says.0 in
     let e : Experiment = record { name = exp; wiring = w; phase = Out } in
-    let gives : moved_of (Some place.lab) es (Creates exp w) ≡ Some u = sym (ap (λ m. moved_of (Some place.lab) es m) f.says.3) ∙ f.gives in
+    let gives : moved_of (Some place.lab) es (Creates exp w) ≡ Some u = sym (ap (λ m. moved_of (Some place.lab) es m) says.2) ∙ f.gives in
     let there = in_state-some place.lab (moved_in place.lab es (Creates exp w)) u gives in
     let both = if_some (is_none (find exp es) && nat_le (length es) 255) (es ++ e ∷ []) there.0 there.1 in
     let tests : (is_none (find exp es) ≡ true) × (nat_le (length es) 255 ≡ true) = and_parts _ _ both.0 in
-    record { place = place; there = refl; new = none_is (find exp es) tests.0; few = leb-true _ _ tests.1; wiring = w; text = f.says.1; says = f.says.2 }
+    record { place = place; there = refl; new = none_is (find exp es) tests.0; few = leb-true _ _ tests.1; wiring = w; says = says.1 }
 
-pub create_nowhere : (o : Option ClaimedLab) (es : List Experiment) (exp top : List ℕ) → is_some o ≡ false → CannotFollow the_texts (state_of o es) (Create exp top)
-create_nowhere o es exp top none u f = let c = create_says o es exp top u f in none_some c.place (sym (not_some o none) ∙ c.there)
+pub create_nowhere : (o : Option ClaimedLab) (es : List Experiment) (exp top : List ℕ) (second : Bool) → is_some o ≡ false → CannotFollow the_texts (state_of o es) (create_in second exp top)
+create_nowhere o es exp top second none u f = let c = create_found o es exp top second u f in none_some c.place (sym (not_some o none) ∙ c.there)
 
-pub create_full : (o : Option ClaimedLab) (es : List Experiment) (exp top : List ℕ) → 256 ≤ length es → CannotFollow the_texts (state_of o es) (Create exp top)
-create_full o es exp top full u f = let c = create_says o es exp top u f in omega (arith, c.few)
+pub create_full : (o : Option ClaimedLab) (es : List Experiment) (exp top : List ℕ) (second : Bool) → 256 ≤ length es → CannotFollow the_texts (state_of o es) (create_in second exp top)
+create_full o es exp top second full u f = let c = create_found o es exp top second u f in omega (arith, c.few)
 
-pub create_twice : (o : Option ClaimedLab) (es : List Experiment) (exp top : List ℕ) → is_some (find exp es) ≡ true → CannotFollow the_texts (state_of o es) (Create exp top)
-create_twice o es exp top some u f =
-    let c = create_says o es exp top u f in
+pub create_twice : (o : Option ClaimedLab) (es : List Experiment) (exp top : List ℕ) (second : Bool) → is_some (find exp es) ≡ true → CannotFollow the_texts (state_of o es) (create_in second exp top)
+create_twice o es exp top second some u f =
+    let c = create_found o es exp top second u f in
     let both : false ≡ true = sym (ap (λ (x : Option Experiment). is_some x) c.new) ∙ some in cc both
 
-pub create_unread : (o : Option ClaimedLab) (es : List Experiment) (exp top : List ℕ) → ((w : Wiring) → HasText the_texts w → top ≡ the_texts.top w → ⊥) → CannotFollow the_texts (state_of o es) (Create exp top)
-create_unread o es exp top none u f = let c = create_says o es exp top u f in none c.wiring c.text c.says
+pub create_unread : (o : Option ClaimedLab) (es : List Experiment) (exp top : List ℕ) (second : Bool) → ((w : Wiring) → SaysTop the_texts w top second → ⊥) → CannotFollow the_texts (state_of o es) (create_in second exp top)
+create_unread o es exp top second none u f = let c = create_found o es exp top second u f in none c.wiring c.says
 
-pub create_follows : (o : Option ClaimedLab) (es : List Experiment) (exp top : List ℕ) (w : Wiring) → is_some o ≡ true → length es < 256 → is_some (find exp es) ≡ false → HasText the_texts w → top ≡ the_texts.top w
-    → CanFollow (state_of o es) (Create exp top) (changes.Add (record { name = exp; wiring = w; phase = Out }))
-create_follows None es exp top w some few new text says = absurd (cc some)
-create_follows (Some place) es exp top w some few new text says =
+pub create_follows : (o : Option ClaimedLab) (es : List Experiment) (exp top : List ℕ) (second : Bool) (w : Wiring) → is_some o ≡ true → length es < 256 → is_some (find exp es) ≡ false → SaysTop the_texts w top second
+    → CanFollow (state_of o es) (create_in second exp top) (changes.Add (record { name = exp; wiring = w; phase = Out }))
+create_follows None es exp top second w some few new says = absurd (cc some)
+create_follows (Some place) es exp top second w some few new says =
     let none : find exp es ≡ None = not_some (find exp es) new in
     let test : (is_none (find exp es) && nat_le (length es) 255) ≡ true = (λ i. is_none (none i) && le-leb (length es) 255 (omega arith) i) in
     let e : Experiment = record { name = exp; wiring = w; phase = Out } in
     record {
       follows = record {
         move = Creates exp w;
-        says = (w, text, says, refl);
+        says = create_says the_texts (state_of (Some place) es) exp top second (Creates exp w) (w, says, refl);
         gives = ap (λ (t : Bool). in_state place.lab (if t then Some (es ++ e ∷ []) else None)) test;
       };
-      fits = (none, refl, record { wiring = text.printable; moving = λ which m h. none_some m h });
+      fits = (none, refl, record { wiring = says.text.printable; moving = λ which m h. none_some m h });
     }
 
 -- ---- an experiment that goes

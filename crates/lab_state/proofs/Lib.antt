@@ -1,14 +1,14 @@
-pub mod BeginLaws
+mod BeginLaws
 pub mod Canonical
-pub mod EnterLaws
-pub mod JudgeLaws
-pub mod MoveLaws
-pub mod Formed
+mod EnterLaws
+mod JudgeLaws
+mod MoveLaws
+mod Formed
 pub mod Named
-pub mod PackLaws
+mod PackLaws
 pub mod PackSteps
-pub mod ReplayLaws
-pub mod SizeLaws
-pub mod SwapLaws
-pub mod Taken
-pub mod TextLaws
+mod ReplayLaws
+mod SizeLaws
+mod SwapLaws
+mod Taken
+mod TextLaws

@@ -15,6 +15,7 @@ use Rattle.virt_topo.specs.declared.mapping.Mapped.{Mapped}
 use Rattle.virt_topo.specs.declared.experiment.Experiment.{Experiment}
 use Rattle.virt_topo.specs.declared.experiment.Phase.{Phase}
 use Rattle.virt_topo.specs.declared.experiment.Phase.TheVariants.{Out, In, Moving}
+use Rattle.virt_topo.specs.Sharing.{has_multiplexed}
 use Rattle.virt_topo.specs.Wirings.{mapped}
 use Rattle.journal_rec.specs.declared.record.Way.TheVariants.{Out as WayOut}
 use Rattle.journal_rec.specs.declared.record.Record.{Record}
@@ -24,7 +25,7 @@ use Rattle.lab_model.specs.Holding.{Holding}
 use Rattle.lab_model.specs.Beside.{claimed_segments, ids_of}
 use Rattle.lab_model.proofs.FeasibleLaws.{TakesOne, takes_claimed}
 use Rattle.records_model.specs.Labs.{LabState, Move, SetLab, Creates, BeginsIn, BeginsOut, BeginsChange, Commits, find, replace, others, can_take, becomes, moved_one, moved_in, with_replaced, in_state, Texts, HasText, Says, Follows, FoldsTo, LabOf, Sane}
-use Rattle.records_model.proofs.LabLaws.{lab_sane}
+use Rattle.records_model.proofs.LabLaws.{lab_sane, create_says, change_says}
 use Rattle.lab_state.specs.Packing.{creation, entry, turn, stand, packed_phase, packed_one, packed_in, packed_of}
 use Rattle.lab_state.proofs.Formed.{IsFormedPhase, AreFormed, lab_formed}
 use Rattle.lab_state.proofs.Taken.{taken, ids_fit, holding_first}
@@ -91,7 +92,7 @@ module _ (t : Texts) (lab : Lab) (is_lab : IsLab lab) (name : List ℕ) (done : 
       let test : (is_none (find name done) && nat_le (length done) 255) ≡ true = (λ i. is_none (not_there name done new i) && le-leb (length done) 255 few i) in
       record {
         move = Creates name wiring;
-        says = (wiring, text, refl, refl);
+        says = create_says t (state lab done) name (t.top wiring) (has_multiplexed wiring) (Creates name wiring) (wiring, record { text = text; says = refl; format = refl }, refl);
         gives = ap (λ (b : Bool). in_state lab (if b then Some (done ++ outside name wiring ∷ []) else None)) test;
       }
 
@@ -119,8 +120,10 @@ module _ (t : Texts) (lab : Lab) (is_lab : IsLab lab) (name : List ℕ) (done : 
       let f : Experiment = record { name = name; wiring = old.wiring; phase = Moving (Some old) (Some m) } in
       let end = at_end name done g new refl in
       let can : can_take lab (done ++ g ∷ []) g m ≡ true = taken lab done g m takes end.rest apart ids in
-      one_follows g f (turn t lab name m) (BeginsChange name m.wiring m.mapping m.tags) refl
-      (lab, m.wiring, m.mapping, refl, is_lab, text, refl, (takes.fits m refl).shaped, refl, refl) refl
+      let move : Move = BeginsChange name m.wiring m.mapping m.tags in
+      let says = change_says t (state lab (done ++ g ∷ [])) name (t.top m.wiring) (t.solution lab m.wiring m.mapping) m.tags (has_multiplexed m.wiring) move
+      (lab, m.wiring, m.mapping, refl, is_lab, record { text = text; says = refl; format = refl }, (takes.fits m refl).shaped, refl, refl) in
+      one_follows g f (turn t lab name m) move refl says refl
       (ap (λ (b : Bool). if b then Some f else None) can)
 
   stands : (m : Mapped) (takes : TakesOne lab done [] (Some m)) → HasText t m.wiring → length done ≤ 255 → length m.wiring.segments + sum_by claimed_segments (outside name m.wiring ∷ done) ≤ ids_of lab

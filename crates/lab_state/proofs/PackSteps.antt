@@ -20,12 +20,12 @@ use Rattle.lab_model.specs.Holding.{Suits}
 use Rattle.virt_topo.proofs.CableLaws.{limits_of}
 use Rattle.journal_rec.specs.Payloads.{IsShort, IsBody, tag_bytes, tags_bytes, text_bytes, way_bytes}
 use Rattle.journal_rec.specs.declared.record.Record.{Record}
-use Rattle.journal_rec.specs.declared.record.Record.TheVariants.{Lab, Create, Begin, Commit}
-use Rattle.journal_rec.specs.declared.record.Way.TheVariants.{In as WayIn, Out as WayOut, Change as WayChange}
+use Rattle.journal_rec.specs.declared.record.Record.TheVariants.{Lab, Begin, Commit}
+use Rattle.journal_rec.specs.declared.record.Way.TheVariants.{In as WayIn, Out as WayOut, Change as WayChange, Change2 as WayChange2}
 use Rattle.journal_packed.specs.Packing.{ArePacked}
 use Rattle.virt_topo.specs.declared.experiment.Experiment.{Experiment}
 use Rattle.virt_topo.specs.declared.experiment.Phase.TheVariants.{Moving}
-use Rattle.records_model.specs.Labs.{Texts}
+use Rattle.records_model.specs.Labs.{Texts, create_in, change_in}
 use Rattle.records_model.proofs.Finding.{none_some}
 use Rattle.lab_state.specs.Packing.{packed_phase, PacksMore}
 
@@ -68,8 +68,9 @@ few_tags lab m suits = omega (arith, suits.tags, (limits_of m.wiring (limits_kep
 pub lab_is_short : (ptop : List ℕ) → length ptop ≤ 16777216 → IsShort (Lab ptop)
 lab_is_short ptop short = record { tags = omega arith; size = omega (arith, short) }
 
-pub creation_short : (name top : List ℕ) → is_name name ≡ true → length top ≤ 16777216 → IsShort (Create name top)
-creation_short name top named short = record { tags = omega arith; size = omega (arith, name_short name named, short, length-append name (text_bytes top)) }
+pub creation_short : (second : Bool) (name top : List ℕ) → is_name name ≡ true → length top ≤ 16777216 → IsShort (create_in second name top)
+creation_short false name top named short = record { tags = omega arith; size = omega (arith, name_short name named, short, length-append name (text_bytes top)) }
+creation_short true name top named short = record { tags = omega arith; size = omega (arith, name_short name named, short, length-append name (text_bytes top)) }
 
 pub entry_short : (name map : List ℕ) (tags : List VlanId) → is_name name ≡ true → length map ≤ 16777216 → length tags ≤ 512 → IsShort (Begin name (WayIn map tags))
 entry_short name map tags named short few = record {
@@ -77,10 +78,14 @@ entry_short name map tags named short few = record {
   size = omega (arith, name_short name named, short, few, length-append name (way_bytes (WayIn map tags)), length-append map (tags_bytes tags), tags_size tags);
 }
 
-pub turn_short : (name top map : List ℕ) (tags : List VlanId) → is_name name ≡ true → length top ≤ 16777216 → length map ≤ 16777216 → length tags ≤ 512 → IsShort (Begin name (WayChange top map tags))
-turn_short name top map tags named top_short short few = record {
+pub turn_short : (second : Bool) (name top map : List ℕ) (tags : List VlanId) → is_name name ≡ true → length top ≤ 16777216 → length map ≤ 16777216 → length tags ≤ 512 → IsShort (Begin name (change_in second top map tags))
+turn_short false name top map tags named top_short short few = record {
   tags = omega (arith, few);
   size = omega (arith, name_short name named, top_short, short, few, length-append name (way_bytes (WayChange top map tags)), length-append top (text_bytes map ++ tags_bytes tags), length-append map (tags_bytes tags), tags_size tags);
+}
+turn_short true name top map tags named top_short short few = record {
+  tags = omega (arith, few);
+  size = omega (arith, name_short name named, top_short, short, few, length-append name (way_bytes (WayChange2 top map tags)), length-append top (text_bytes map ++ tags_bytes tags), length-append map (tags_bytes tags), tags_size tags);
 }
 
 pub exit_short : (name : List ℕ) → is_name name ≡ true → IsShort (Begin name WayOut)

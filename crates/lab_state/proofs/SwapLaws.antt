@@ -9,13 +9,15 @@ use Rattle.virt_topo.specs.declared.experiment.Phase.{Phase}
 use Rattle.virt_topo.specs.declared.experiment.Phase.TheVariants.{Out, In, Moving}
 use Rattle.virt_topo.specs.declared.mapping.Mapping.{Mapping}
 use Rattle.virt_topo.specs.declared.wiring.Wiring.{Wiring}
+use Rattle.virt_topo.specs.Sharing.{has_multiplexed}
 use Rattle.virt_topo.specs.Wirings.{mapped}
 use Rattle.lab_model.specs.Shapes.{IsShaped}
 use Rattle.journal_rec.specs.declared.record.Way.{Way}
-use Rattle.journal_rec.specs.declared.record.Way.TheVariants.{In as WayIn, Out as WayOut, Change as WayChange}
+use Rattle.journal_rec.specs.declared.record.Way.TheVariants.{In as WayIn, Out as WayOut, Change as WayChange, Change2 as WayChange2}
 use Rattle.journal_rec.specs.declared.record.Record.TheVariants.{Begin}
-use Rattle.records_model.specs.Labs.{LabState, BeginsIn, BeginsOut, BeginsChange, HasText, Follows, CannotFollow, find, replace, in_phase, becomes, is_out, can_take, moved}
+use Rattle.records_model.specs.Labs.{LabState, BeginsIn, BeginsOut, BeginsChange, HasText, change_in, SaysTop, Follows, CannotFollow, find, replace, in_phase, becomes, is_out, can_take, moved}
 use Rattle.records_model.proofs.Finding.{none_some, found_from}
+use Rattle.records_model.proofs.LabLaws.{says_change, change_says}
 use Rattle.claims.specs.Holds.{claim_of}
 use Rattle.solution_text.proofs.SolutionAgain.{canonical_again}
 use Rattle.top_text.proofs.TopWhole.{top_again}
@@ -44,6 +46,12 @@ one_solution lab w m n is text a b same =
 pub one_top : (w v : Wiring) → HasText the_texts w → HasText the_texts v → the_texts.top w ≡ the_texts.top v → w ≡ v
 one_top w v a b same =
     let both : Ok w ≡ Ok v = sym (top_again w a.sound a.printable) ∙ ap wiring_of_text same ∙ top_again v b.sound b.printable in cc both
+
+-- a text of a wiring that wants the other format is that of none that wants this one
+pub other_format : (w : Wiring) (top : List ℕ) (second : Bool) → HasText the_texts w → top ≡ the_texts.top w → (has_multiplexed w ≡ second → ⊥) → (v : Wiring) → SaysTop the_texts v top second → ⊥
+other_format w top second text says other v said =
+    let same : v ≡ w = one_top v w said.text text (sym said.says ∙ says) in
+    other (ap has_multiplexed (sym same) ∙ said.format)
 
 -- ---- moves that begin are of one experiment
 of_in : (exp : List ℕ) (m : Mapping) (tags : List VlanId) → IsOfOne exp (BeginsIn exp m tags)
@@ -113,25 +121,25 @@ in_says place es exp map tags u f =
       can = subst (λ l. can_take l es t.before (mapped t.before.wiring m tags) ≡ true) here b.1;
     }
 
-pub record BegunChange (place : ClaimedLab) (es : List Experiment) (exp top map : List ℕ) (tags : List VlanId) : Type 0 where
+pub record BegunChange (place : ClaimedLab) (es : List Experiment) (exp top map : List ℕ) (tags : List VlanId) (second : Bool) : Type 0 where
   pub before : Experiment
   pub found : find exp es ≡ Some before
   pub inside : is_in before.phase ≡ true
   pub wiring : Wiring
-  pub text : HasText the_texts wiring
-  pub says_top : top ≡ the_texts.top wiring
+  pub says_top : SaysTop the_texts wiring top second
   pub mapping : Mapping
   pub shaped : IsShaped place.lab wiring mapping
   pub says : map ≡ the_texts.solution place.lab wiring mapping
   pub can : can_take place.lab es before (mapped wiring mapping tags) ≡ true
 
-change_says : (place : ClaimedLab) (es : List Experiment) (exp top map : List ℕ) (tags : List VlanId) (u : LabState) → Follows the_texts (state_of (Some place) es) (Begin exp (WayChange top map tags)) u
-    → BegunChange place es exp top map tags
-change_says place es exp top map tags u f =
-    let lab : f.says.0 ≡ place.lab = sym (same_Some place.lab f.says.0 f.says.3) in
-    let w = f.says.1 in
-    let m = f.says.2 in
-    let t = turn_of (Some place.lab) es exp (BeginsChange exp w m tags) u (of_change exp w m tags) (sym (ap (λ x. moved (state_of (Some place) es) x) f.says.9) ∙ f.gives) in
+change_found : (place : ClaimedLab) (es : List Experiment) (exp top map : List ℕ) (tags : List VlanId) (second : Bool) (u : LabState) → Follows the_texts (state_of (Some place) es) (Begin exp (change_in second top map tags)) u
+    → BegunChange place es exp top map tags second
+change_found place es exp top map tags second u f =
+    let said = says_change the_texts (state_of (Some place) es) exp top map tags second f.move f.says in
+    let lab : said.0 ≡ place.lab = sym (same_Some place.lab said.0 said.3) in
+    let w = said.1 in
+    let m = said.2 in
+    let t = turn_of (Some place.lab) es exp (BeginsChange exp w m tags) u (of_change exp w m tags) (sym (ap (λ x. moved (state_of (Some place) es) x) said.8) ∙ f.gives) in
     let here : t.lab ≡ place.lab = sym (same_Some place.lab t.lab t.is_lab) in
     let b = becomes_change t.lab es t.before t.now exp w m tags t.before.phase t.becomes in
     record {
@@ -139,11 +147,10 @@ change_says place es exp top map tags u f =
       found = t.found;
       inside = b.0;
       wiring = w;
-      text = f.says.5;
-      says_top = f.says.6;
+      says_top = said.5;
       mapping = m;
-      shaped = subst (λ l. IsShaped l w m) lab f.says.7;
-      says = f.says.8 ∙ ap (λ l. the_texts.solution l w m) lab;
+      shaped = subst (λ l. IsShaped l w m) lab said.6;
+      says = said.7 ∙ ap (λ l. the_texts.solution l w m) lab;
       can = subst (λ l. can_take l es t.before (mapped w m tags) ≡ true) here b.1;
     }
 
@@ -163,11 +170,13 @@ begin_nowhere (Some place) es exp way none u f = absurd (cc none)
 begin_nowhere None es exp (WayIn map tags) none u f = none_some f.says.0 f.says.3
 begin_nowhere None es exp WayOut none u f = none_some u (sym (ap (λ m. moved (state_of None es) m) f.says) ∙ f.gives)
 begin_nowhere None es exp (WayChange top map tags) none u f = none_some f.says.0 f.says.3
+begin_nowhere None es exp (WayChange2 top map tags) none u f = none_some f.says.0 f.says.3
 
 pub begin_nothing : (place : ClaimedLab) (es : List Experiment) (exp : List ℕ) (way : Way) → find exp es ≡ None → CannotFollow the_texts (state_of (Some place) es) (Begin exp way)
 begin_nothing place es exp (WayIn map tags) none u f = let x = in_says place es exp map tags u f in none_some x.before (sym none ∙ x.found)
 begin_nothing place es exp WayOut none u f = let x = out_says place es exp u f in none_some x.before (sym none ∙ x.found)
-begin_nothing place es exp (WayChange top map tags) none u f = let x = change_says place es exp top map tags u f in none_some x.before (sym none ∙ x.found)
+begin_nothing place es exp (WayChange top map tags) none u f = let x = change_found place es exp top map tags false u f in none_some x.before (sym none ∙ x.found)
+begin_nothing place es exp (WayChange2 top map tags) none u f = let x = change_found place es exp top map tags true u f in none_some x.before (sym none ∙ x.found)
 
 -- ---- the experiment that is found
 module _ (place : ClaimedLab) (es : List Experiment) (exp : List ℕ) (e : Experiment) (kept : IsKept (Some place) es) (found : find exp es ≡ Some e) where
@@ -191,9 +200,9 @@ module _ (place : ClaimedLab) (es : List Experiment) (exp : List ℕ) (e : Exper
       let x = out_says place es exp u f in
       let both : false ≡ true = sym outside ∙ ap (λ (y : Experiment). is_in y.phase) (sym (is_before x.before x.found)) ∙ x.inside in cc both
 
-  pub change_outside : (top map : List ℕ) (tags : List VlanId) → is_in e.phase ≡ false → CannotFollow the_texts (state_of (Some place) es) (Begin exp (WayChange top map tags))
-  change_outside top map tags outside u f =
-      let x = change_says place es exp top map tags u f in
+  pub change_outside : (top map : List ℕ) (tags : List VlanId) (second : Bool) → is_in e.phase ≡ false → CannotFollow the_texts (state_of (Some place) es) (Begin exp (change_in second top map tags))
+  change_outside top map tags second outside u f =
+      let x = change_found place es exp top map tags second u f in
       let both : false ≡ true = sym outside ∙ ap (λ (y : Experiment). is_in y.phase) (sym (is_before x.before x.found)) ∙ x.inside in cc both
 
   -- texts that aren't canonical
@@ -203,14 +212,14 @@ module _ (place : ClaimedLab) (es : List Experiment) (exp : List ℕ) (e : Exper
       let same = is_before x.before x.found in
       none x.mapping (subst (λ (y : Experiment). IsShaped place.lab y.wiring x.mapping) same x.shaped) (x.says ∙ ap (λ (y : Experiment). the_texts.solution place.lab y.wiring x.mapping) same)
 
-  pub change_unread_top : (top map : List ℕ) (tags : List VlanId) → ((w : Wiring) → HasText the_texts w → top ≡ the_texts.top w → ⊥) → CannotFollow the_texts (state_of (Some place) es) (Begin exp (WayChange top map tags))
-  change_unread_top top map tags none u f = let x = change_says place es exp top map tags u f in none x.wiring x.text x.says_top
+  pub change_unread_top : (top map : List ℕ) (tags : List VlanId) (second : Bool) → ((w : Wiring) → SaysTop the_texts w top second → ⊥) → CannotFollow the_texts (state_of (Some place) es) (Begin exp (change_in second top map tags))
+  change_unread_top top map tags second none u f = let x = change_found place es exp top map tags second u f in none x.wiring x.says_top
 
-  pub change_unread : (top map : List ℕ) (tags : List VlanId) (w : Wiring) → HasText the_texts w → top ≡ the_texts.top w → ((m : Mapping) → IsShaped place.lab w m → map ≡ the_texts.solution place.lab w m → ⊥)
-      → CannotFollow the_texts (state_of (Some place) es) (Begin exp (WayChange top map tags))
-  change_unread top map tags w text says none u f =
-      let x = change_says place es exp top map tags u f in
-      let same : x.wiring ≡ w = one_top x.wiring w x.text text (sym x.says_top ∙ says) in
+  pub change_unread : (top map : List ℕ) (tags : List VlanId) (second : Bool) (w : Wiring) → SaysTop the_texts w top second → ((m : Mapping) → IsShaped place.lab w m → map ≡ the_texts.solution place.lab w m → ⊥)
+      → CannotFollow the_texts (state_of (Some place) es) (Begin exp (change_in second top map tags))
+  change_unread top map tags second w says none u f =
+      let x = change_found place es exp top map tags second u f in
+      let same : x.wiring ≡ w = one_top x.wiring w x.says_top.text says.text (sym x.says_top.says ∙ says.says) in
       none x.mapping (subst (λ v. IsShaped place.lab v x.mapping) same x.shaped) (x.says ∙ ap (λ v. the_texts.solution place.lab v x.mapping) same)
 
   -- it cannot take the mapping
@@ -225,15 +234,15 @@ module _ (place : ClaimedLab) (es : List Experiment) (exp : List ℕ) (e : Exper
       let can : can_take place.lab es e (mapped e.wiring m tags) ≡ true = subst (λ n. can_take place.lab es e (mapped e.wiring n tags) ≡ true) one (subst (λ (y : Experiment). can_take place.lab es y (mapped y.wiring x.mapping tags) ≡ true) same x.can) in
       let both : false ≡ true = sym cannot ∙ can in cc both
 
-  change_refused : (top map : List ℕ) (tags : List VlanId) (w : Wiring) (m : Mapping) → HasText the_texts w → top ≡ the_texts.top w → IsShaped place.lab w m → map ≡ the_texts.solution place.lab w m
-      → can_take place.lab es e (mapped w m tags) ≡ false → CannotFollow the_texts (state_of (Some place) es) (Begin exp (WayChange top map tags))
-  change_refused top map tags w m text says_top shaped says cannot u f =
-      let x = change_says place es exp top map tags u f in
+  change_refused : (top map : List ℕ) (tags : List VlanId) (second : Bool) (w : Wiring) (m : Mapping) → SaysTop the_texts w top second → IsShaped place.lab w m → map ≡ the_texts.solution place.lab w m
+      → can_take place.lab es e (mapped w m tags) ≡ false → CannotFollow the_texts (state_of (Some place) es) (Begin exp (change_in second top map tags))
+  change_refused top map tags second w m says_top shaped says cannot u f =
+      let x = change_found place es exp top map tags second u f in
       let same = is_before x.before x.found in
-      let wired : x.wiring ≡ w = one_top x.wiring w x.text text (sym x.says_top ∙ says_top) in
+      let wired : x.wiring ≡ w = one_top x.wiring w x.says_top.text says_top.text (sym x.says_top.says ∙ says_top.says) in
       let shaped_x : IsShaped place.lab w x.mapping = subst (λ v. IsShaped place.lab v x.mapping) wired x.shaped in
       let says_x : map ≡ the_texts.solution place.lab w x.mapping = x.says ∙ ap (λ v. the_texts.solution place.lab v x.mapping) wired in
-      let one : x.mapping ≡ m = one_solution place.lab w x.mapping m kept.sane.is_lab text shaped_x shaped (sym says_x ∙ says) in
+      let one : x.mapping ≡ m = one_solution place.lab w x.mapping m kept.sane.is_lab says_top.text shaped_x shaped (sym says_x ∙ says) in
       let can : can_take place.lab es e (mapped w m tags) ≡ true
       = subst (λ n. can_take place.lab es e (mapped w n tags) ≡ true) one (subst (λ v. can_take place.lab es e (mapped v x.mapping tags) ≡ true) wired (subst (λ (y : Experiment). can_take place.lab es y (mapped x.wiring x.mapping tags) ≡ true) same x.can)) in
       let both : false ≡ true = sym cannot ∙ can in cc both
@@ -277,18 +286,18 @@ module _ (place : ClaimedLab) (es : List Experiment) (exp : List ℕ) (e : Exper
         fits = begins_to place es exp e kept found (IsOut out) (mapped e.wiring m tags) own_text shaped can;
       }
 
-  change_follows : (top map : List ℕ) (tags : List VlanId) (w : Wiring) (m : Mapping) → is_in e.phase ≡ true → HasText the_texts w → top ≡ the_texts.top w → IsShaped place.lab w m → map ≡ the_texts.solution place.lab w m
+  change_follows : (top map : List ℕ) (tags : List VlanId) (second : Bool) (w : Wiring) (m : Mapping) → is_in e.phase ≡ true → SaysTop the_texts w top second → IsShaped place.lab w m → map ≡ the_texts.solution place.lab w m
       → can_take place.lab es e (mapped w m tags) ≡ true
-      → CanFollow (state_of (Some place) es) (Begin exp (WayChange top map tags)) (changes.Begin (moving e (Some (mapped w m tags))) (claim_of place.lab (moving e (Some (mapped w m tags)))))
-  change_follows top map tags w m inside text says_top shaped says can =
+      → CanFollow (state_of (Some place) es) (Begin exp (change_in second top map tags)) (changes.Begin (moving e (Some (mapped w m tags))) (claim_of place.lab (moving e (Some (mapped w m tags)))))
+  change_follows top map tags second w m inside says_top shaped says can =
       let f = moving e (Some (mapped w m tags)) in
       record {
         follows = record {
           move = BeginsChange exp w m tags;
-          says = (place.lab, w, m, refl, kept.sane.is_lab, text, says_top, shaped, says, refl);
+          says = change_says the_texts (state_of (Some place) es) exp top map tags second (BeginsChange exp w m tags) (place.lab, w, m, refl, kept.sane.is_lab, says_top, shaped, says, refl);
           gives = turned (Some place.lab) es exp (BeginsChange exp w m tags) place.lab e f (of_change exp w m tags) refl found (turns_change w m tags e.phase inside can) ∙ ap Some (after_is f refl);
         };
-        fits = begins_to place es exp e kept found (IsIn inside) (mapped w m tags) text shaped can;
+        fits = begins_to place es exp e kept found (IsIn inside) (mapped w m tags) says_top.text shaped can;
       }
 
   out_follows : is_in e.phase ≡ true → CanFollow (state_of (Some place) es) (Begin exp WayOut) (changes.Begin (moving e None) (claim_of place.lab (moving e None)))
@@ -311,12 +320,12 @@ module _ (place : ClaimedLab) (es : List Experiment) (exp : List ℕ) (e : Exper
   judged_in map tags m (Err faults.Bad) out shaped says taken = in_refused map tags m shaped says taken
   judged_in map tags m (Err faults.Memory) out shaped says taken = tt
 
-  pub judged_change : (top map : List ℕ) (tags : List VlanId) (w : Wiring) (m : Mapping) (result : Result Change PrepareFault) → is_in e.phase ≡ true → HasText the_texts w → top ≡ the_texts.top w → IsShaped place.lab w m
-      → map ≡ the_texts.solution place.lab w m → IsTaken place.lab es e (mapped w m tags) result → IsJudged (state_of (Some place) es) (Begin exp (WayChange top map tags)) result
-  judged_change top map tags w m (Ok change) inside text says_top shaped says taken =
-      subst (λ c. CanFollow (state_of (Some place) es) (Begin exp (WayChange top map tags)) c) (sym taken.1) (change_follows top map tags w m inside text says_top shaped says taken.0)
-  judged_change top map tags w m (Err faults.Bad) inside text says_top shaped says taken = change_refused top map tags w m text says_top shaped says taken
-  judged_change top map tags w m (Err faults.Memory) inside text says_top shaped says taken = tt
+  pub judged_change : (top map : List ℕ) (tags : List VlanId) (second : Bool) (w : Wiring) (m : Mapping) (result : Result Change PrepareFault) → is_in e.phase ≡ true → SaysTop the_texts w top second → IsShaped place.lab w m
+      → map ≡ the_texts.solution place.lab w m → IsTaken place.lab es e (mapped w m tags) result → IsJudged (state_of (Some place) es) (Begin exp (change_in second top map tags)) result
+  judged_change top map tags second w m (Ok change) inside says_top shaped says taken =
+      subst (λ c. CanFollow (state_of (Some place) es) (Begin exp (change_in second top map tags)) c) (sym taken.1) (change_follows top map tags second w m inside says_top shaped says taken.0)
+  judged_change top map tags second w m (Err faults.Bad) inside says_top shaped says taken = change_refused top map tags second w m says_top shaped says taken
+  judged_change top map tags second w m (Err faults.Memory) inside says_top shaped says taken = tt
 
   pub judged_out : (change : Change) → is_in e.phase ≡ true → change ≡ changes.Begin (moving e None) (claim_of place.lab (moving e None)) → CanFollow (state_of (Some place) es) (Begin exp WayOut) change
   judged_out change inside is = subst (λ c. CanFollow (state_of (Some place) es) (Begin exp WayOut) c) (sym is) (out_follows inside)

@@ -7,22 +7,23 @@ use Rattle.virt_topo.specs.declared.mapping.Mapped.{Mapped}
 use Rattle.virt_topo.specs.declared.experiment.Experiment.{Experiment}
 use Rattle.virt_topo.specs.declared.experiment.Phase.{Phase}
 use Rattle.virt_topo.specs.declared.experiment.Phase.TheVariants.{Out, In, Moving}
+use Rattle.virt_topo.specs.Sharing.{has_multiplexed}
 use Rattle.virt_topo.specs.Wirings.{mapped}
-use Rattle.journal_rec.specs.declared.record.Way.TheVariants.{In as WayIn, Out as WayOut, Change as WayChange}
+use Rattle.journal_rec.specs.declared.record.Way.TheVariants.{In as WayIn, Out as WayOut}
 use Rattle.journal_rec.specs.declared.record.Record.{Record}
-use Rattle.journal_rec.specs.declared.record.Record.TheVariants.{Lab as LabRecord, Create, Begin, Commit}
-use Rattle.records_model.specs.Labs.{LabState, Texts}
+use Rattle.journal_rec.specs.declared.record.Record.TheVariants.{Lab as LabRecord, Begin, Commit}
+use Rattle.records_model.specs.Labs.{LabState, Texts, create_in, change_in}
 use Rattle.journal_packed.specs.Packing.{ArePacked}
 
 -- a new experiment with that wiring; its way into the lab, and to another mapping
 abbrev pub creation : Texts → List ℕ → Wiring → Record
-creation t name wiring = Create name (t.top wiring)
+creation t name wiring = create_in (has_multiplexed wiring) name (t.top wiring)
 
 abbrev pub entry : Texts → Lab → List ℕ → Mapped → Record
 entry t lab name m = Begin name (WayIn (t.solution lab m.wiring m.mapping) m.tags)
 
 abbrev pub turn : Texts → Lab → List ℕ → Mapped → Record
-turn t lab name m = Begin name (WayChange (t.top m.wiring) (t.solution lab m.wiring m.mapping) m.tags)
+turn t lab name m = Begin name (change_in (has_multiplexed m.wiring) (t.top m.wiring) (t.solution lab m.wiring m.mapping) m.tags)
 
 -- the records of an experiment that stands with a mapping
 abbrev pub stand : Texts → Lab → List ℕ → Mapped → List Record

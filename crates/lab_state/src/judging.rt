@@ -3,7 +3,7 @@ ghost use Rattle.std.specs.Prelude.{◌≡◌, ◌<◌, length};
 ghost use Rattle.journal_rec.specs.declared.record.Record.TheVariants as records;
 ghost use Rattle.journal_rec.specs.declared.record.Way.TheVariants as ways;
 ghost use Rattle.journal_rec.specs.Payloads.{IsRecord};
-ghost use Rattle.records_model.specs.Labs.{Sane};
+ghost use Rattle.records_model.specs.Labs.{Sane, change_in, create_in};
 ghost use Rattle.lab_state.specs.Changes.{ending_record};
 ghost use Rattle.lab_state.specs.Judged.{IsJudged};
 
@@ -12,7 +12,7 @@ use crate::claimed_lab::ClaimedLab;
 use crate::ending::{is_in, is_out, may_end};
 use crate::prepared::Change;
 use crate::state::LabState;
-use crate::texts::{lab_of, mapping_of, wiring_of};
+use crate::texts::{lab_of, mapping_of, wiring_in};
 use journal_rec::{Record, Way};
 use lab_base::{Name, Tags};
 use virt_topo::{Experiment, Mapped, Phase};
@@ -34,10 +34,10 @@ impl LabState {
         Ok(Change::Set(place))
     }
 
-    /// A new experiment needs a lab, a new name, and at most 255 experiments there.
-    fn judge_create(&self, exp: Name, text: &[u8]) -> Result<Change, PrepareFault>
+    /// A new experiment needs a lab, a new name, at most 255 experiments there, and a record of the format of its wiring.
+    fn judge_create(&self, exp: Name, text: &[u8], second: bool) -> Result<Change, PrepareFault>
         requires { length text.now < 4294967295 }
-        ensures { IsJudged self.now.state (records.Create exp text.now) result }
+        ensures { IsJudged self.now.state (create_in second exp text.now) result }
     {
         if self.place.is_none() {
             return Err(PrepareFault::Bad);
@@ -48,7 +48,7 @@ impl LabState {
         if self.experiments.named(exp).is_some() {
             return Err(PrepareFault::Bad);
         }
-        let wiring = wiring_of(self.alloc, text)?;
+        let wiring = wiring_in(self.alloc, text, second)?;
         Ok(Change::Add(Experiment {
             name: exp,
             wiring,
@@ -114,17 +114,18 @@ impl LabState {
         Ok(change)
     }
 
-    /// A change begins for an experiment that is in.
+    /// A change begins for an experiment that is in, by a record of the format of its new wiring.
     fn judge_change(
         &self,
         exp: Name,
         top: &[u8],
         map: &[u8],
         tags: &Tags,
+        second: bool,
     ) -> Result<Change, PrepareFault>
         requires top { length top.now < 4294967295 }
         requires map { length map.now < 4294967295 }
-        ensures { IsJudged self.now.state (records.Begin exp (ways.Change top.now map.now tags.now)) result }
+        ensures { IsJudged self.now.state (records.Begin exp (change_in second top.now map.now tags.now)) result }
     {
         let Some(place) = &self.place else {
             return Err(PrepareFault::Bad);
@@ -136,7 +137,7 @@ impl LabState {
             return Err(PrepareFault::Bad);
         }
         let tags = tags.copy(self.alloc)?;
-        let wiring = wiring_of(self.alloc, top)?;
+        let wiring = wiring_in(self.alloc, top, second)?;
         let mapping = mapping_of(self.alloc, &place.lab, &wiring, map)?;
         let new = Mapped {
             wiring,
@@ -154,7 +155,10 @@ impl LabState {
             Way::In { map, tags } => self.judge_in(exp, map.bytes(), tags),
             Way::Out => self.judge_out(exp),
             Way::Change { top, map, tags } => {
-                self.judge_change(exp, top.bytes(), map.bytes(), tags)
+                self.judge_change(exp, top.bytes(), map.bytes(), tags, false)
+            }
+            Way::Change2 { top, map, tags } => {
+                self.judge_change(exp, top.bytes(), map.bytes(), tags, true)
             }
         }
     }
@@ -184,7 +188,8 @@ impl LabState {
         let _kept = &self.experiments;
         match entry {
             Record::Lab { ptop } => self.judge_lab(ptop.bytes()),
-            Record::Create { exp, top } => self.judge_create(*exp, top.bytes()),
+            Record::Create { exp, top } => self.judge_create(*exp, top.bytes(), false),
+            Record::Create2 { exp, top } => self.judge_create(*exp, top.bytes(), true),
             Record::Delete { exp } => self.judge_delete(*exp),
             Record::Begin { exp, way } => self.judge_begin(*exp, way),
             Record::Commit { exp } => self.judge_end(*exp, true),

@@ -8,7 +8,7 @@ ghost use Rattle.journal_rec.specs.Payloads.{IsShort};
 ghost use Rattle.journal_rec.specs.declared.record.Record.{Record as AnyRecord};
 ghost use Rattle.lab_model.specs.Claims.{Which, claimed};
 ghost use Rattle.lab_model.specs.Holding.{Suits};
-ghost use Rattle.records_model.specs.Labs.{LabOf};
+ghost use Rattle.records_model.specs.Labs.{LabOf, change_in, create_in};
 ghost use Rattle.virt_topo.specs.Soundness.{IsSound};
 ghost use Rattle.virt_topo.specs.declared.experiment.Experiment.{Experiment as AnyExperiment};
 ghost use Rattle.virt_topo.specs.declared.experiment.Phase.TheVariants as phases;
@@ -20,13 +20,13 @@ use crate::experiments::Experiments;
 use crate::state::LabState;
 use journal_packed::Packed;
 use journal_rec::{Record, Way, encode};
-use lab_base::{Memory, Name, Tags};
+use lab_base::{Memory, Name, Tags, Text};
 use phys_lab::Lab;
 use ptop_text::print_ptop;
 use solution_text::print_solution;
 use std::alloc::Global;
 use top_text::print_top;
-use virt_topo::{Experiment, Mapped, Mapping, Phase, Wiring};
+use virt_topo::{Experiment, Mapped, Mapping, Phase, Wiring, has_multiplexed};
 
 fn push(alloc: Global, packed: &mut Packed, entry: Record) -> Result<(), Memory>
     requires { IsShort entry }
@@ -51,6 +51,28 @@ fn push_lab(alloc: Global, packed: &mut Packed, lab: &Lab) -> Result<(), Memory>
     push(alloc, packed, Record::Lab { ptop })
 }
 
+/// The record that creates an experiment, of the second format or of the first.
+fn creation(exp: Name, top: Text, second: bool) -> Record
+    ensures { result ≡ create_in second exp top }
+{
+    if second {
+        Record::Create2 { exp, top }
+    } else {
+        Record::Create { exp, top }
+    }
+}
+
+/// The way to another mapping, of the second format or of the first.
+fn change(top: Text, map: Text, tags: Tags, second: bool) -> Way
+    ensures { result ≡ change_in second top map tags }
+{
+    if second {
+        Way::Change2 { top, map, tags }
+    } else {
+        Way::Change { top, map, tags }
+    }
+}
+
 /// A new experiment with that wiring.
 fn push_creation(
     alloc: Global,
@@ -63,7 +85,8 @@ fn push_creation(
 {
     let _named = exp.bytes();
     let top = print_top(alloc, wiring)?;
-    push(alloc, packed, Record::Create { exp, top })
+    let entry = creation(exp, top, has_multiplexed(wiring));
+    push(alloc, packed, entry)
 }
 
 /// Its way into the lab.
@@ -101,7 +124,7 @@ fn push_turn(
     let top = print_top(alloc, &new.wiring)?;
     let map = print_solution(alloc, lab, &new.wiring, &new.mapping)?;
     let tags = new.tags.copy(alloc)?;
-    let way = Way::Change { top, map, tags };
+    let way = change(top, map, tags, has_multiplexed(&new.wiring));
     push(alloc, packed, Record::Begin { exp, way })
 }
 

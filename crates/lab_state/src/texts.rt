@@ -5,7 +5,7 @@ ghost use Rattle.phys_lab.specs.Kept.{IsLab};
 ghost use Rattle.virt_topo.specs.declared.wiring.Wiring.{Wiring as AnyWiring};
 ghost use Rattle.virt_topo.specs.declared.mapping.Mapping.{Mapping as AnyMapping};
 ghost use Rattle.lab_model.specs.Shapes.{IsShaped};
-ghost use Rattle.records_model.specs.Labs.{HasText};
+ghost use Rattle.records_model.specs.Labs.{HasText, SaysTop};
 ghost use Rattle.lab_state.specs.Answers.{OnBad};
 ghost use Rattle.lab_state.specs.Texts.{the_texts};
 
@@ -15,7 +15,7 @@ use ptop_text::{print_ptop, read_ptop};
 use solution_text::{print_solution, read_solution};
 use std::alloc::Global;
 use top_text::{print_top, read_top};
-use virt_topo::{Mapping, Wiring};
+use virt_topo::{Mapping, Wiring, has_multiplexed};
 
 /// The lab whose canonical text this is.
 pub(crate) fn lab_of(alloc: Global, text: &[u8]) -> Result<Lab, PrepareFault>
@@ -55,6 +55,21 @@ pub(crate) fn wiring_of(alloc: Global, text: &[u8]) -> Result<Wiring, PrepareFau
         }
     };
     if printed.bytes() == text {
+        Ok(wiring)
+    } else {
+        drop(wiring);
+        Err(PrepareFault::Bad)
+    }
+}
+
+/// The wiring whose canonical text this is, where a record of that format has such a wiring.
+pub(crate) fn wiring_in(alloc: Global, text: &[u8], second: bool) -> Result<Wiring, PrepareFault>
+    requires { length text.now < 4294967295 }
+    ensures ok { IfOk result (λ wiring. SaysTop the_texts wiring text.now second) }
+    ensures bad { OnBad result ((wiring : AnyWiring) → SaysTop the_texts wiring text.now second → ⊥) }
+{
+    let wiring = wiring_of(alloc, text)?;
+    if has_multiplexed(&wiring) == second {
         Ok(wiring)
     } else {
         drop(wiring);

@@ -13,12 +13,12 @@ use Rattle.plant.specs.Seen.{Seen}
 use Rattle.plant.specs.Told.{with_mark}
 use Rattle.lab_core.specs.Controller.{Control}
 use Rattle.lab_core.specs.Breaks.{unanswered}
-use Rattle.lab_core.specs.Sessions.{Session, Closed, Open, Terms}
+use Rattle.lab_core.specs.Sessions.{Session, Closed, Open, name_of, Terms}
 use Rattle.lab_core.specs.Tells.{opens_of}
 use Rattle.lab_top.specs.declared.command.CommandFault.{CommandFault}
 use Rattle.lab_top.specs.declared.command.CommandFault.TheVariants as faults
 use Rattle.lab_top.specs.Answering.{Moment, Made, Ends, Sent, Answered, marked, piece_of}
-use Rattle.lab_top.specs.Pieces.{Finds, IsPlannedAs, IsPlannedBy, broken_off, opened}
+use Rattle.lab_top.specs.Pieces.{Finds, IsPlannedAs, IsPlannedBy, broken_off, opened, text as but_text}
 use Rattle.lab_top.proofs.Obeyed.{opened_none}
 use Rattle.lab_top.proofs.Stepping.{map_some, silent_done}
 
@@ -40,12 +40,13 @@ silent_finds : (drill : Option Drill) (trace : List Event) (command : Command) (
     → Finds drill from trace (piece_of command mark from Closed opening own None)
 silent_finds (Some drill) trace command mark from to opening own reply finds = (finds.0, finds.1, λ some. absurd (cc some))
 silent_finds None trace command mark Closed to opening own reply (quiet, opened no_miss no_restart journal) = (quiet, opened no_miss no_restart journal)
-silent_finds None trace command mark Closed to opening own reply (quiet, broken_off breaks nothing closed) = (quiet, broken_off (unanswered refl) nothing refl)
+silent_finds None trace command mark Closed to opening own reply (quiet, broken_off breaks nothing closed part) = (quiet, broken_off (unanswered refl) nothing refl part)
 silent_finds None trace command mark (Open opens) to opening own reply finds = finds
 
-silent_made : (terms : Terms) (command : Command) (old new : Moment) (from to : Session) (reply : Option Reply) → Made terms command old new from to reply → Made terms command old new from Closed None
-silent_made terms command old new from to reply made =
+silent_made : (terms : Terms) (command : Command) (old new : Moment) (from to : Session) (told : Reply) → Made terms command old new from to (Some told) → Made terms command old new from Closed None
+silent_made terms command old new from to told made =
     let b = made.begun in
+    let reply = Some told in
     let mark = old.plant.faults in
     record {
       begun = record {
@@ -62,15 +63,17 @@ silent_made terms command old new from to reply made =
           steps = λ none some. absurd (cc some);
           leads = λ none open_now. absurd (cc open_now);
           compact = λ opens. absurd (cc opens.answered);
-          done = λ sound. silent_done terms t.trace command mark from to b.opening b.own reply (is.done sound);
+          done = λ sound. silent_done terms t.trace command mark from to b.opening b.own reply is.readable (is.done sound);
         }) b.is_piece;
       };
       later = made.later;
       disk = λ is. absurd (cc is);
       device = λ is. absurd (cc is);
-      opened = opened_none (opens_of from) mark.devices;
+      here = λ is. absurd (cc is);
+      opened = opened_none (name_of command) None (opens_of from) mark.devices;
       runs = λ some. absurd (cc some);
       goes_on = λ some. absurd (cc some);
+      wants = λ none runs. map_some old.plant.told (λ t is. but_text told to is) b.is_piece;
     }
 
 pub answered_not : (terms : Terms) (command : Command) (old mid new : Moment) (from : Session) (written : Option (List ℕ)) (taken : Reply → Type 0) (fault : CommandFault) → mid ≡ marked old

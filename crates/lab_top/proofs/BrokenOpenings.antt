@@ -1,5 +1,5 @@
 -- Pieces whose opening broke off: nothing of the command's own is done.
-use Rattle.std.proofs.Common.{◌≡◌, inl, inr, ℕ, ◌^◌, Bool, true, false, ◌||◌, ◌&&◌, List, [], ◌∷◌, ◌++◌, Option, Some, None, Err, refl, sym, ◌∙◌, ap, subst, append_assoc}
+use Rattle.std.proofs.Common.{◌≡◌, inl, inr, ℕ, ◌^◌, Bool, true, false, ◌||◌, ◌&&◌, List, [], ◌∷◌, ◌++◌, Option, Some, None, Err, refl, sym, ◌∙◌, ap, subst, append_assoc, arith}
 use Rattle.std.specs.Prelude.{not, is_some}
 use Rattle.std.proofs.lemmas.List.{append-nil}
 use Rattle.std.proofs.lemmas.List.Folds.{list_any-append}
@@ -17,7 +17,7 @@ use Rattle.journal_disk.specs.declared.fault.OpenFault.TheVariants as openings
 use Rattle.journal_runs.specs.Pieces.{is_command, is_miss, is_restart, has_command, has_miss, has_restart}
 use Rattle.journal_runs.proofs.Blank.{restarted_stand}
 use Rattle.journal_runs.proofs.Quiet.{shows}
-use Rattle.journal_runs.proofs.Stood.{sound_stands, stood_alike, stood_before, stood_settled}
+use Rattle.journal_runs.proofs.Stood.{sound_stands, stood_alike, stood_before, stood_once, stood_settled}
 use Rattle.lab_state.specs.Texts.{the_texts}
 use Rattle.recovery.specs.Due.{swaps_of}
 use Rattle.swap_turns.specs.Settling.{Settles}
@@ -29,8 +29,10 @@ use Rattle.script_text.specs.Drills.{drill_of}
 use Rattle.lab_core.specs.Breaks.{Breaks, stopped, failed, unanswered}
 use Rattle.lab_core.specs.LabSteps.{not_opened}
 use Rattle.lab_core.specs.Moments.{StandForLab, IsLabAt, IsLabOfImage, IsLengthAt}
-use Rattle.lab_core.specs.Opening.{HasRead, IsJournal, OpenEnds, OpenSteps, ReadSteps, SettlesInPart, ShiftsInPart}
-use Rattle.lab_core.specs.Recovery.{OpensInPart, SettlesSome, Shifts, reading as in_reading, settling as in_settling, shifting as in_shifting, within}
+use Rattle.lab_core.specs.Opening.{HasRead, IsJournal, OpenEnds, OpenSteps, ReadSteps, SettlesInPart, ShiftsInPart, has_change, is_change}
+use Rattle.lab_core.proofs.Openings.{blank_journal}
+use Rattle.lab_state.proofs.Canonical.{texts_once}
+use Rattle.lab_core.specs.Recovery.{OpensInPart, SettlesSome, Shifts, reading as in_reading, settling as in_settling, shifting as in_shifting, some as settled_some, within}
 use Rattle.lab_core.specs.Sessions.{Closed, Terms}
 use Rattle.lab_top.specs.Pieces.{Finds, FirstLab, IsDone, IsPiece, Piece, StepsFrom, broken_off, is_early, leaves_one, may_shut}
 use Rattle.lab_top.specs.Answering.{piece_of}
@@ -59,6 +61,10 @@ or_none : (x : Bool) → x || (false || false) ≡ x
 or_none true = refl
 or_none false = refl
 
+-- a start changes nothing
+again_changes : (steps : List Event) (a b : List ℕ) → has_change (steps ++ Restarted a b ∷ []) ≡ has_change steps
+again_changes steps a b = list_any-append is_change steps (Restarted a b ∷ []) ∙ or_none (has_change steps)
+
 synced_with : (steps : List Event) (a b : List ℕ) → are_synced (steps ++ Restarted a b ∷ []) ≡ are_synced steps
 synced_with steps a b i =
     (list_any-append (is_sync_of A) steps (Restarted a b ∷ []) ∙ or_none _) i
@@ -80,7 +86,7 @@ module _ (terms : Terms) (trace : List Event) (command : Command) (mark : Faults
     session = Closed;
     behind = [];
     is_told = told_so reply Closed;
-    step = step_of terms _ s Closed command opening [] (after_of reply after Closed) no_drill (not_opened (record { part = part; nothing = refl; breaks = breaks; session = refl }));
+    step = step_of terms trace _ s Closed command opening [] (after_of reply after Closed) no_drill (not_opened (record { part = part; nothing = refl; breaks = breaks; session = refl }));
   }
 
   -- an image after such an opening
@@ -89,16 +95,16 @@ module _ (terms : Terms) (trace : List Event) (command : Command) (mark : Faults
 
   module _ (opening : List Event) (reply : Option Reply) (breaks : Breaks opening reply) (first last : LabState) (from : FirstLab (is_early (of opening reply)) trace first) (at : IsLabAt (trace ++ opening) last) (part : OpensInPart first opening last)
       (sound : IsSound the_texts (trace ++ opening)) where
-    broken_done : (is_some reply ≡ true → ImagesAt terms trace (of opening reply) (leaves_one Closed reply) (trace ++ opening) last) → IsDone terms trace (of opening reply)
+    broken_done : ImagesAt terms trace (of opening reply) (leaves_one Closed reply) (trace ++ opening) last → IsDone terms trace (of opening reply)
     broken_done images =
         done_at terms trace (of opening reply) (trace ++ opening) (ap (λ l. trace ++ l) (append-nil opening)) first last from (broken_steps opening reply first last (lab_length (trace ++ opening) last at) part breaks)
         (λ opens. breaks_not opening reply breaks opens.no_miss opens.no_restart opens.answered) sound at images
 
     -- the controller is closed, and the plant isn't started again
-    closed_done : leaves_one Closed reply ≡ false → (is_some reply ≡ true → Each opening) → IsDone terms trace (of opening reply)
+    closed_done : leaves_one Closed reply ≡ false → Each opening → IsDone terms trace (of opening reply)
     closed_done other each =
-        broken_done (λ some. subst (λ b. ImagesAt terms trace (of opening reply) b (trace ++ opening) last) (sym other)
-        (λ a b there. let x = each some a b there in (x.0, x.1, x.2, x.3, broken_steps opening reply x.0 x.1 (lab_length (trace ++ opening) last at) x.4 breaks)))
+        broken_done (subst (λ b. ImagesAt terms trace (of opening reply) b (trace ++ opening) last) (sym other)
+        (λ a b there. let x = each a b there in (x.0, x.1, x.2, x.3, broken_steps opening reply x.0 x.1 (lab_length (trace ++ opening) last at) x.4 breaks)))
 
   -- a stopped plant is started again with an image
   again_done : (steps : List Event) (a b : List ℕ) → has_restart steps ≡ false → ArePossible (trace ++ steps) a b → IsSound the_texts (trace ++ steps) → (first last : LabState)
@@ -107,16 +113,20 @@ module _ (terms : Terms) (trace : List Event) (command : Command) (mark : Faults
       let opening = steps ++ Restarted a b ∷ [] in
       let join : (trace ++ steps) ++ Restarted a b ∷ [] ≡ trace ++ opening = append_assoc trace steps (Restarted a b ∷ []) in
       broken_done opening (Some replies.Stopped) (again_breaks steps a b none) first last from (subst (λ l. IsLabAt l last) join (restarted_lab (trace ++ steps) a b last stand)) part
-      (subst (λ l. IsSound the_texts l) join (restarted the_texts (trace ++ steps) a b there sound).0) (λ some. subst (λ l. (x y : List ℕ) → ArePossible l x y → StandForLab x y last) join (restarted_stand the_texts (trace ++ steps) a b last stand))
+      (subst (λ l. IsSound the_texts l) join (restarted the_texts (trace ++ steps) a b there sound).0) (subst (λ l. (x y : List ℕ) → ArePossible l x y → StandForLab x y last) join (restarted_stand the_texts (trace ++ steps) a b last stand))
 
   -- OVER ANY TRACE
   abbrev OnlyOfJournal : List Event → Type 0
-  OnlyOfJournal opening = has_command opening ≡ true → IsJournal (disk A trace).reads (disk B trace).reads (2 ^ 32)
+  OnlyOfJournal opening = has_change opening ≡ true → IsJournal (disk A trace).reads (disk B trace).reads (2 ^ 32)
 
-  broken_piece : (opening : List Event) (reply : Option Reply) → AsRead trace → Breaks opening reply → OnlyOfJournal opening → Done opening reply → IsPiece terms trace (of opening reply)
-  broken_piece opening reply readable breaks journal done = record {
+  -- how far it came from a lab that the sides stood for
+  abbrev ComesSoFar : List Event → Type 0
+  ComesSoFar opening = (s : LabState) → IsLabAt trace s → (after : LabState) × OpensInPart s opening after
+
+  broken_piece : (opening : List Event) (reply : Option Reply) → AsRead trace → Breaks opening reply → OnlyOfJournal opening → ComesSoFar opening → Done opening reply → IsPiece terms trace (of opening reply)
+  broken_piece opening reply readable breaks journal part done = record {
     readable = readable;
-    finds = subst (λ (d : Option Drill). Finds d Closed trace (of opening reply)) (sym no_drill) (journal, broken_off breaks refl refl);
+    finds = subst (λ (d : Option Drill). Finds d Closed trace (of opening reply)) (sym no_drill) (journal, broken_off breaks refl refl part);
     leaves = λ shut. refl;
     shuts = λ none shut. breaks_as may_shut true refl refl refl opening reply breaks;
     steps = λ none some miss restart. breaks_not opening reply breaks miss restart some;
@@ -128,14 +138,14 @@ module _ (terms : Terms) (trace : List Event) (command : Command) (mark : Faults
   -- IT BROKE OFF IN READING
   module _ (readable : AsRead trace) (steps : List Event) (o : ReadSteps trace steps) where
     read_quiet : OnlyOfJournal steps
-    read_quiet sent = absurd (cc (o.no_command, sent))
+    read_quiet changed = blank_journal _ _ (2 ^ 32) (omega arith) (o.changes changed)
 
     -- a call of the disk failed, memory was wanting, or the sides are no journal
     read_cut : (reply : Option Reply) → leaves_one Closed reply ≡ false → Breaks steps reply → IsPiece terms trace (of steps reply)
-    read_cut reply other breaks = broken_piece steps reply readable breaks read_quiet (λ sound.
+    read_cut reply other breaks = broken_piece steps reply readable breaks read_quiet (λ s at. (s, in_reading o.no_command refl)) (λ sound.
         let now = sound_stands the_texts trace _ _ readable sound in
         closed_done steps reply breaks now.0 now.0 (subst (λ b. FirstLab b trace now.0) (sym (not_early Closed steps o.no_restart)) now.1) ((stood_alike the_texts _ _ _ _ now.0 o.alike).1 now.1) (in_reading o.no_command refl) (o.sound sound) other
-        (λ some a b at. let x = stood_before the_texts trace steps a b o.before at sound in (x.2, x.2, record { a = x.0; b = x.1; possible = x.3; stand = x.4 }, x.5, in_reading o.no_command refl)))
+        (λ a b at. let x = stood_before the_texts trace steps a b o.before at sound in (x.2, x.2, record { a = x.0; b = x.1; possible = x.3; stand = x.4 }, x.5, in_reading o.no_command refl)))
 
     -- the plant stopped, and is started again
     module _ (a b : List ℕ) (there : ArePossible (trace ++ steps) a b) where
@@ -151,7 +161,7 @@ module _ (terms : Terms) (trace : List Event) (command : Command) (mark : Faults
       which_first sound false both = let x = stood_before the_texts trace steps a b o.before there sound in (x.2, record { a = x.0; b = x.1; possible = x.3; stand = x.4 }, x.5)
 
       read_again : IsPiece terms trace (of (steps ++ Restarted a b ∷ []) (Some replies.Stopped))
-      read_again = broken_piece (steps ++ Restarted a b ∷ []) (Some replies.Stopped) readable (again_breaks steps a b o.no_restart) (λ sent. absurd (cc (again_quiet, sent))) (λ sound.
+      read_again = broken_piece (steps ++ Restarted a b ∷ []) (Some replies.Stopped) readable (again_breaks steps a b o.no_restart) (λ changed. read_quiet (sym (again_changes steps a b) ∙ changed)) (λ s at. (s, in_reading again_quiet refl)) (λ sound.
           let s = which_first sound (are_synced steps) refl in
           again_done steps a b o.no_restart there (o.sound sound) s.0 s.0 (subst (λ e. FirstLab e trace s.0) (sym early) s.1) s.2 (in_reading again_quiet refl))
 
@@ -164,22 +174,26 @@ module _ (terms : Terms) (trace : List Event) (command : Command) (mark : Faults
     first_at : IsLabAt trace start
     first_at = (stood_alike the_texts _ _ _ _ start o.alike).0 read.lab
 
+    -- from whatever lab the sides stood for
+    comes_so : (opening more : List Event) (lab : LabState) → opening ≡ reading ++ more → Part more lab → ComesSoFar opening
+    comes_so opening more lab is part s at = (lab, subst (λ u. OpensInPart u opening lab) (stood_once the_texts _ _ start s texts_once first_at at) (part_of opening more lab is part))
+
     -- it stopped late enough, whatever stands behind
     from_first : (opening more : List Event) (reply : Option Reply) → opening ≡ reading ++ more → FirstLab (is_early (of opening reply)) trace start
     from_first opening more reply is = subst (λ b. FirstLab b trace start) (sym (late_enough opening (ap are_synced is ∙ still_synced reading more read.synced))) first_at
 
-    part_cut : (reply : Option Reply) → leaves_one Closed reply ≡ false → Breaks steps reply → (last : IsSound the_texts trace → (lab : LabState) × IsLabAt (trace ++ steps) lab × Part behind lab)
-        → (is_some reply ≡ true → IsSound the_texts trace → (a b : List ℕ) → ArePossible (trace ++ steps) a b → (lab : LabState) × StandForLab a b lab × Part behind lab) → IsPiece terms trace (of steps reply)
-    part_cut reply other breaks last each = broken_piece steps reply readable breaks (λ sent. read.journal) (λ first.
+    part_cut : (reply : Option Reply) → leaves_one Closed reply ≡ false → Breaks steps reply → (lab : LabState) → Part behind lab → (last : IsSound the_texts trace → (lab : LabState) × IsLabAt (trace ++ steps) lab × Part behind lab)
+        → (IsSound the_texts trace → (a b : List ℕ) → ArePossible (trace ++ steps) a b → (lab : LabState) × StandForLab a b lab × Part behind lab) → IsPiece terms trace (of steps reply)
+    part_cut reply other breaks lab part last each = broken_piece steps reply readable breaks (λ sent. read.journal) (comes_so steps behind lab refl part) (λ first.
         let x = last first in
         closed_done steps reply breaks start x.0 (from_first steps behind reply refl) x.1 (part_of steps behind x.0 refl x.2) (sound first) other
-        (λ some a b at. let y = each some first a b at in (start, y.0, record { a = (disk A trace).reads; b = (disk B trace).reads; possible = readable; stand = first_at }, y.1, part_of steps behind y.0 refl y.2)))
+        (λ a b at. let y = each first a b at in (start, y.0, record { a = (disk A trace).reads; b = (disk B trace).reads; possible = readable; stand = first_at }, y.1, part_of steps behind y.0 refl y.2)))
 
     no_start : has_restart steps ≡ false
     no_start = shows is_restart steps reading behind false false refl o.no_restart no_restart
 
-    part_again : (a b : List ℕ) → ArePossible (trace ++ steps) a b → (IsSound the_texts trace → (lab : LabState) × StandForLab a b lab × Part (behind ++ Restarted a b ∷ []) lab) → IsPiece terms trace (of (steps ++ Restarted a b ∷ []) (Some replies.Stopped))
-    part_again a b there image = broken_piece (steps ++ Restarted a b ∷ []) (Some replies.Stopped) readable (again_breaks steps a b no_start) (λ sent. read.journal) (λ first.
+    part_again : (a b : List ℕ) → ArePossible (trace ++ steps) a b → (lab : LabState) → Part (behind ++ Restarted a b ∷ []) lab → (IsSound the_texts trace → (lab : LabState) × StandForLab a b lab × Part (behind ++ Restarted a b ∷ []) lab) → IsPiece terms trace (of (steps ++ Restarted a b ∷ []) (Some replies.Stopped))
+    part_again a b there lab part image = broken_piece (steps ++ Restarted a b ∷ []) (Some replies.Stopped) readable (again_breaks steps a b no_start) (λ sent. read.journal) (comes_so (steps ++ Restarted a b ∷ []) (behind ++ Restarted a b ∷ []) lab (append_assoc reading behind (Restarted a b ∷ [])) part) (λ first.
         let more = behind ++ Restarted a b ∷ [] in
         let join : steps ++ Restarted a b ∷ [] ≡ reading ++ more = append_assoc reading behind (Restarted a b ∷ []) in
         let x = image first in
@@ -234,8 +248,8 @@ module _ (terms : Terms) (trace : List Event) (command : Command) (mark : Faults
       shifting_cut : (reply : Option Reply) → leaves_one Closed reply ≡ false → Breaks all reply → AsRead (trace ++ all) → IsPiece terms trace (of all reply)
       shifting_cut reply other breaks then =
           let s = p.settled in
-          part_cut readable reading behind o.reads o.no_restart o.sound s.start s.read (Shifting s.start) (shifting_part reading (2 ^ 32) s.start o.reads s.read) reply other breaks
-          (λ first. (p.lab, p.images first _ _ then, shifting_so)) (λ some first a b at. (p.lab, p.images first a b at, shifting_so))
+          part_cut readable reading behind o.reads o.no_restart o.sound s.start s.read (Shifting s.start) (shifting_part reading (2 ^ 32) s.start o.reads s.read) reply other breaks p.lab shifting_so
+          (λ first. (p.lab, p.images first _ _ then, shifting_so)) (λ first a b at. (p.lab, p.images first a b at, shifting_so))
 
       shifting_again : (a b : List ℕ) → ArePossible (trace ++ all) a b → IsPiece terms trace (of (all ++ Restarted a b ∷ []) (Some replies.Stopped))
       shifting_again a b there =
@@ -248,21 +262,21 @@ module _ (terms : Terms) (trace : List Event) (command : Command) (mark : Faults
             settles = s.settles;
             shifts = shows is_command (p.shifting ++ Restarted a b ∷ []) p.shifting (Restarted a b ∷ []) false false refl p.shifts refl;
           } in
-          part_again readable reading behind o.reads o.no_restart o.sound s.start s.read (Shifting s.start) (shifting_part reading (2 ^ 32) s.start o.reads s.read) a b there (λ first. (p.lab, p.images first a b there, again))
+          part_again readable reading behind o.reads o.no_restart o.sound s.start s.read (Shifting s.start) (shifting_part reading (2 ^ 32) s.start o.reads s.read) a b there p.lab again (λ first. (p.lab, p.images first a b there, again))
 
     -- the settling, by what is left where a call of the journal failed, or the plant stopped
     module _ (outcome : Outcome) (p : SettlesInPart trace reading behind (2 ^ 32) outcome) where
       settling_cut : (reply : Option Reply) → leaves_one Closed reply ≡ false → Breaks all reply → AsRead (trace ++ all) → IsPiece terms trace (of all reply)
       settling_cut reply other breaks then =
-          part_cut readable reading behind o.reads o.no_restart o.sound p.start p.read (Settling p.start) (settling_part reading (2 ^ 32) p.start o.reads p.read) reply other breaks
-          (λ first. each_some first _ _ then) (λ some. each_some)
+          part_cut readable reading behind o.reads o.no_restart o.sound p.start p.read (Settling p.start) (settling_part reading (2 ^ 32) p.start o.reads p.read) reply other breaks p.lab (within outcome behind [] (sym (append-nil behind)) p.breaks (inl refl))
+          (λ first. each_some first _ _ then) each_some
         where
           each_some : IsSound the_texts trace → (a b : List ℕ) → ArePossible (trace ++ all) a b → (lab : LabState) × StandForLab a b lab × Settling p.start behind lab
           each_some first a b at = let x = p.images first a b at in (x.0, x.1, within outcome behind [] (sym (append-nil behind)) x.2 (inl refl))
 
     settling_again : SettlesInPart trace reading behind (2 ^ 32) Halted → (a b : List ℕ) → ArePossible (trace ++ all) a b → IsPiece terms trace (of (all ++ Restarted a b ∷ []) (Some replies.Stopped))
     settling_again p a b there =
-        part_again readable reading behind o.reads o.no_restart o.sound p.start p.read (Settling p.start) (settling_part reading (2 ^ 32) p.start o.reads p.read) a b there
+        part_again readable reading behind o.reads o.no_restart o.sound p.start p.read (Settling p.start) (settling_part reading (2 ^ 32) p.start o.reads p.read) a b there p.lab (within Halted behind (Restarted a b ∷ []) refl p.breaks (inr (a, b, refl)))
         (λ first. let x = p.images first a b there in (x.0, x.1, within Halted behind (Restarted a b ∷ []) refl x.2 (inr (a, b, refl))))
 
     pub cut_piece : (reply : Option Reply) → leaves_one Closed reply ≡ false → Breaks all reply → (is_some reply ≡ true → fault ≡ openings.Plant) → AsRead (trace ++ all) → IsPiece terms trace (of all reply)
@@ -278,8 +292,8 @@ module _ (terms : Terms) (trace : List Event) (command : Command) (mark : Faults
         by openings.Stopped (inr (inl p)) only = settling_cut Halted p reply other breaks then
         by openings.Stopped (inr (inr p)) only = shifting_cut p reply other breaks then
         by openings.Memory (inr (inl m)) only =
-            part_cut readable reading behind o.reads o.no_restart o.sound m.start m.read (Settling m.start) (settling_part reading (2 ^ 32) m.start o.reads m.read) reply other breaks (λ first. (m.lab, m.at, m.some))
-            (λ some. let never : openings.Memory ≡ openings.Plant = only some in absurd (cc never))
+            part_cut readable reading behind o.reads o.no_restart o.sound m.start m.read (Settling m.start) (settling_part reading (2 ^ 32) m.start o.reads m.read) reply other breaks m.lab (settled_some m.some) (λ first. (m.lab, m.at, settled_some m.some))
+            (λ first a b at. (m.lab, m.images a b at, settled_some m.some))
         by openings.Memory (inr (inr never)) only = absurd never
         by (openings.Bad side at) (inr (inl never)) only = absurd never
         by (openings.Bad side at) (inr (inr never)) only = absurd never

@@ -18,16 +18,16 @@ use Rattle.script_text.specs.declared.command.Command.{Command}
 use Rattle.script_text.specs.declared.reply.Reply.{Reply}
 use Rattle.script_text.specs.declared.reply.Reply.TheVariants as replies
 use Rattle.lab_core.specs.Controller.{Control, WorksWith}
-use Rattle.lab_core.specs.LabSteps.{Drills, JudgedBeside, StepOf, is_planned, is_refused, wants_memory}
+use Rattle.lab_core.specs.LabSteps.{DoesBy, Drills, JudgedBeside, StepOf, is_planned, is_refused, wants_memory}
 use Rattle.lab_core.specs.Moments.{AllStandFor, IsLabAt, IsLengthAt}
-use Rattle.lab_core.specs.Sessions.{OpenSwap, Session, Closed, Open, AreOpenedBy, IsSince, Terms}
+use Rattle.lab_core.specs.Sessions.{OpenSwap, Session, Closed, Open, AreOpenedBy, IsSince, name_of, Terms}
 use Rattle.lab_core.specs.Tells.{opens_of}
 use Rattle.lab_top.specs.declared.command.CommandFault.{CommandFault}
 use Rattle.lab_top.specs.declared.command.CommandFault.TheVariants as faults
 use Rattle.lab_top.specs.Answering.{Begins, Ends, HasSession, Moment, Plans, StandsAt, piece_of, reply_if}
-use Rattle.lab_top.specs.Pieces.{Finds, FirstLab, IsDone, IsPlannedBy, StepsFrom, blames_if, closes_if, leaves_one, stays_open, with_drill_if}
+use Rattle.lab_top.specs.Pieces.{Finds, FirstLab, IsDone, IsPlannedBy, StepsFrom, WantsOnly, reading as in_reading, blames_if, closes_if, leaves_one, stays_open, with_drill_if}
 use Rattle.journal_disk.proofs.Chains.{nothing_yet}
-use Rattle.lab_top.proofs.Obeyed.{ends_of, later_same, map_both}
+use Rattle.lab_top.proofs.Obeyed.{blames_none, ends_of, later_same, map_both}
 use Rattle.lab_top.proofs.Stepping.{AsRead, ImagesAt, after_of, all_some, done_at, lab_length, map_some, not_early, standing_all, standing_lab, told_so}
 
 -- THE STEP OF A DRILL over one trace: it has no steps, and its reply, if it has one, leaves the session as it was
@@ -49,17 +49,17 @@ module _ (terms : Terms) (trace : List Event) (command : Command) (mark : Faults
         session = to;
         behind = [];
         is_told = told_so reply to;
-        step = subst (λ (d : Option Drill). StepOf d (JudgedBeside terms.rule command) terms (record { length = n.0; limit = 2 ^ 32; devices = mark.devices }) s from [] [] (after_of reply s to)) (sym is) (refl, stays s);
+        step = subst (λ (d : Option Drill). StepOf d (DoesBy (JudgedBeside terms.rule command) (record { length = n.0; limit = 2 ^ 32; devices = mark.devices })) terms s from [] [] (after_of reply s to)) (sym is) (refl, stays s);
       }
 
   images : (one : Bool) (s : LabState) → (one ≡ true → AllStandFor trace s) → ImagesAt terms trace (piece_of command mark from to [] [] reply) one trace s
   images true s all = all refl
   images false s all = λ a b at. let lab = sound_stands the_texts trace a b at sound in (lab.0, lab.0, record { a = a; b = b; possible = at; stand = lab.1 }, lab.1, drill_steps lab.0)
 
-  pub drill_done : (s : LabState) → IsLabAt trace s → (is_some reply ≡ true → leaves_one to reply ≡ true → AllStandFor trace s) → IsDone terms trace (piece_of command mark from to [] [] reply)
+  pub drill_done : (s : LabState) → IsLabAt trace s → (leaves_one to reply ≡ true → AllStandFor trace s) → IsDone terms trace (piece_of command mark from to [] [] reply)
   drill_done s at all =
       done_at terms trace (piece_of command mark from to [] [] reply) trace (append-nil trace) s s (subst (λ b. FirstLab b trace s) (sym (not_early from [] refl)) at) (drill_steps s) (λ opens. absurd (cc (is, opens.no_drill))) sound at
-      (λ some. images (leaves_one to reply) s (all some))
+      (images (leaves_one to reply) s all)
 
 -- with a reply, from a session of either kind
 abbrev StandsOver : List Event → Option Control → Type 0
@@ -69,16 +69,16 @@ module _ (terms : Terms) (command : Command) (mark : Faults) (drill : Drill) (is
   replied_over : (trace : List Event) (plant : Seen) (controller : Option Control) (from : Session) → StandsAt plant controller from → StandsOver trace controller → AsRead trace → IsSound the_texts trace → IsDone terms trace (piece_of command mark from from [] [] (Some reply))
   replied_over trace plant None Closed at stands possible sound =
       let lab = sound_stands the_texts trace _ _ possible sound in
-      drill_done terms trace command mark drill is possible sound Closed Closed (Some reply) (stays Closed) lab.0 lab.1 (λ some one. absurd (cc (other, one)))
+      drill_done terms trace command mark drill is possible sound Closed Closed (Some reply) (stays Closed) lab.0 lab.1 (λ one. absurd (cc (other, one)))
   replied_over trace plant (Some c) (Open swaps) at stands possible sound =
-      drill_done terms trace command mark drill is possible sound (Open swaps) (Open swaps) (Some reply) (stays (Open swaps)) c.lab (standing_lab trace c stands) (λ some one. standing_all trace c stands)
+      drill_done terms trace command mark drill is possible sound (Open swaps) (Open swaps) (Some reply) (stays (Open swaps)) c.lab (standing_lab trace c stands) (λ one. standing_all trace c stands)
   replied_over trace plant None (Open swaps) at stands possible sound = absurd at
   replied_over trace plant (Some c) Closed at stands possible sound = absurd at
 
 silent_over : (terms : Terms) (command : Command) (mark : Faults) (drill : Drill) → drill_of command ≡ Some drill → (trace : List Event) (from : Session) → AsRead trace → IsSound the_texts trace → IsDone terms trace (piece_of command mark from Closed [] [] None)
 silent_over terms command mark drill is trace from possible sound =
     let lab = sound_stands the_texts trace _ _ possible sound in
-    drill_done terms trace command mark drill is possible sound from Closed None (λ s. wants_memory (record { nothing = refl; after_is = refl })) lab.0 lab.1 (λ some one. absurd (cc some))
+    drill_done terms trace command mark drill is possible sound from Closed None (λ s. wants_memory (record { nothing = refl; after_is = refl })) lab.0 lab.1 (λ one. absurd (cc one))
 
 -- AN OPEN CONTROLLER STAYS OPEN
 stands_over : (plant : Seen) (controller : Option Control) (from : Session) → StandsAt plant controller from → IfSome plant.told (λ t. StandsOver t.trace controller)
@@ -189,6 +189,13 @@ module _ (terms : Terms) (command : Command) (mark : Faults) (drill : Drill) (is
       (begun_with replies.NoDrill false refl refl (λ s lab. is_refused refused.1 refl refl) (refl, refused.1) (refused.2 ∙ nothing_yet old.told))
   begun_drill (Err fault) wants = begun_silent wants.1
 
+  -- memory was wanting, and nothing was done
+  pub drill_wants : (result : Result Reply CommandFault) (plans : Plans terms.takes drill old.told new result) → is_some (reply_if result) ≡ false
+      → IfSome old.told (λ t. WantsOnly terms t.trace (piece_of command mark from (kept_by (reply_if result) from) (begun_drill result plans).opening (begun_drill result plans).own (reply_if result)))
+  unfolding begun_drill begun_silent
+  drill_wants (Ok reply) plans none = absurd (cc none)
+  drill_wants (Err fault) plans none = map_some old.told (λ t there. in_reading refl refl) possible
+
 -- what the plant tells is of the same trace
 plans_alike : (terms : Terms) (drill : Drill) (old new : Option Told) (result : Result Reply CommandFault) → Plans terms.takes drill old new result → TellAlike old new
 plans_alike terms drill old new (Ok reply) (inl planned) P h = subst (λ (o : Option Told). IfSome o (λ t. P t.trace)) (sym planned.2) (drill_alike old drill P h)
@@ -209,9 +216,9 @@ kept_so : (reply : Option Reply) (from : Session) → is_some reply ≡ true →
 kept_so None from some = absurd (cc some)
 kept_so (Some reply) from some = refl
 
-opened_kept : (reply : Option Reply) (from : Session) (count : ℕ) → AreOpenedBy (opens_of from) (opens_of (kept_by reply from)) count
-opened_kept None from count o there = absurd there
-opened_kept (Some reply) from count o there = inr (o, there, refl, refl)
+opened_kept : (exp : Option (List ℕ)) (reply : Option Reply) (from : Session) (count : ℕ) → AreOpenedBy exp reply (opens_of from) (opens_of (kept_by reply from)) count
+opened_kept exp None from count o there = absurd there
+opened_kept exp (Some reply) from count o there = inr (o, there, refl, refl)
 
 pub ends_drill : (terms : Terms) (command : Command) (drill : Drill) → drill_of command ≡ Some drill → (old new : Moment) (result : Result Reply CommandFault) → Plans terms.takes drill old.plant.told new.plant.told result → new.plant.faults ≡ old.plant.faults → new.plant.stopped ≡ old.plant.stopped
     → new.controller ≡ old.controller → (from : Session) → HasSession old from → IfSome old.plant.told (λ t. AsRead t.trace) → Ends terms command old new from result
@@ -223,10 +230,12 @@ ends_drill terms command drill is old new result plans count still kept from goe
     (later_same old.plant.faults old.plant.faults new.plant.faults (omega arith) (omega arith) count)
     (λ shut. absurd (cc (mild_so.0, shut)))
     (λ blamed. absurd (cc (mild_so.1, blamed)))
-    (opened_kept (reply_if result) from old.plant.faults.devices)
+    (λ blamed. absurd (cc (blames_none (reply_if result) mild_so.1, blamed)))
+    (opened_kept (name_of command) (reply_if result) from old.plant.faults.devices)
     (λ some was. still ∙ was)
     mild_so.2
     (λ some. subst (HasSession new) (kept_so (reply_if result) from some) (record {
       stands = subst (λ (k : Option Control). StandsAt new.plant k from) (sym kept) (stands_alike old.plant new.plant old.controller from (plans_alike terms drill old.plant.told new.plant.told result plans) count goes_on.stands);
       runs = λ open_now. still ∙ goes_on.runs (ap is_some (sym kept) ∙ open_now);
     }))
+    (λ none going. drill_wants terms command old.plant.faults drill is old.plant new.plant.told old.controller from goes_on.stands possible result plans none)

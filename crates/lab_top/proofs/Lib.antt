@@ -1,12 +1,16 @@
 mod Answering
+mod Answers
 mod BrokenOpenings
 mod Commanding
 mod Compact
 mod Drilling
+mod Ended
+mod Moving
 mod Obeyed
 mod Pieces
 mod RunLaws
+mod Scripts
 mod Stepping
 mod Tellings
-mod TurnLaws
+pub mod TurnLaws
 mod Wording

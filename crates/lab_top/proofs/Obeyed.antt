@@ -1,8 +1,7 @@
 -- What a call of the controller leaves is a command that was done.
-use Rattle.std.proofs.Common.{◌≡◌, ◌↔◌, inl, inr, ℕ, ◌^◌, Bool, true, false, List, [], ◌∷◌, ◌++◌, length, Option, Some, None, Result, Ok, Err, refl, sym, ◌∙◌, ap, subst, append_assoc, arith}
+use Rattle.std.proofs.Common.{◌≡◌, ◌↔◌, inl, inr, ℕ, ◌^◌, Bool, true, false, List, [], ◌∷◌, ◌++◌, length, Option, Some, None, Result, Ok, Err, refl, sym, ◌∙◌, ap, subst, arith}
 use Rattle.std.specs.Prelude.{IfSome, IsErrOf, IsTrue, OnOk, OnErr, ◌≤◌, is_some, not}
 use Rattle.std.proofs.lemmas.List.{append-nil}
-use Rattle.lab_base.specs.Lists.{Has}
 use Rattle.lab_base.specs.Counts.{Rose}
 use Rattle.plant.specs.declared.drill.Drill.{Drill}
 use Rattle.plant.specs.declared.moment.Faults.{Faults}
@@ -27,18 +26,22 @@ use Rattle.lab_core.specs.declared.fault.CoreFault.{CoreFault}
 use Rattle.lab_core.specs.declared.fault.CoreFault.TheVariants as faults
 use Rattle.lab_core.specs.Breaks.{Breaks, failed, unanswered}
 use Rattle.lab_core.specs.Controller.{Control, Works, WorksWith}
-use Rattle.lab_core.specs.Judge.{Task}
+use Rattle.lab_core.specs.Judge.{Task, Recover}
 use Rattle.lab_core.specs.LabSteps.{JudgedBeside}
-use Rattle.lab_core.specs.Obey.{Answers, ObeySteps, Obeyed, start_of}
+use Rattle.lab_core.specs.Obey.{AnswersBy, Doing, ObeysCommand, StepsBy, WantsIn, between, does_command, start_of, undone, wants_of_command}
 use Rattle.lab_core.specs.Opening.{OpenEnds, OpenSteps, OpenTold}
-use Rattle.lab_core.specs.Sessions.{OpenSwap, Session, Closed, Open, AreOpenedBy, counted_from, name_of, Terms}
+use Rattle.lab_core.specs.Sessions.{OpenSwap, Session, Closed, Open, AreOpenedBy, blames_now, counted_from, is_among, name_of, names_of, Terms}
 use Rattle.lab_core.specs.Tells.{opens_of}
 use Rattle.lab_top.specs.declared.command.CommandFault.{CommandFault}
 use Rattle.lab_top.specs.declared.command.CommandFault.TheVariants as command_faults
-use Rattle.lab_top.specs.Pieces.{Finds, FindsNone, IsPiece, IsPlannedBy, Later, blames_if, closes_if, is_closed, leaves_one, may_shut, opened, stays_open}
+use Rattle.lab_core.proofs.Fits.{fits}
+use Rattle.lab_core.proofs.Obey.{now_blames, wants_done}
+use Rattle.journal_runs.specs.Pieces.{has_command}
+use Rattle.journal_runs.proofs.Stood.{stood_alike}
+use Rattle.lab_top.specs.Pieces.{Finds, FindsNone, IsPiece, IsPlannedBy, Later, WantsBehind, WantsOnly, behind as goes_behind, reading as in_reading, settling as in_settling, blames_if, blames_now_if, closes_if, is_closed, leaves_one, may_shut, opened, stays_open}
 use Rattle.lab_top.specs.Answering.{Does, DoesOwn, FoundNone, HasSession, IsMarkAt, IsOpen, Makes, MayGoOn, MayOpen, OwnTold, StandsAt, Starts, Unopened, Begins, Made, Ends, Moment, WasOpened, piece_of, reply_if}
 use Rattle.lab_top.proofs.BrokenOpenings.{again_piece, cut_piece, missed_in, started_nowhere}
-use Rattle.lab_top.proofs.Stepping.{AsRead, map_some, own_answered, own_closed, own_stopped, own_stays, own_unmade, was_open, is_opened}
+use Rattle.lab_top.proofs.Stepping.{AsRead, map_some, own_answered, own_closed, own_stopped, own_stays, own_unmade, standing_lab, was_open, is_opened}
 
 -- WHAT A PLANT TELLS after more steps
 
@@ -77,8 +80,17 @@ starts_blameless : (old new : Option Told) (result : Result Reply CommandFault) 
 starts_blameless old new (Ok reply) starts = ap (λ r. blames_if (Some r)) starts.0
 starts_blameless old new (Err fault) starts = refl
 
-pub opened_none : (swaps : List OpenSwap) (count : ℕ) → AreOpenedBy swaps (opens_of Closed) count
-opened_none swaps count o there = absurd there
+pub opened_none : (exp : Option (List ℕ)) (reply : Option Reply) (swaps : List OpenSwap) (count : ℕ) → AreOpenedBy exp reply swaps (opens_of Closed) count
+opened_none exp reply swaps count o there = absurd there
+
+-- what blames no device blames none for what the command itself sent
+pub blames_none : (reply : Option Reply) → blames_if reply ≡ false → blames_now_if reply ≡ false
+blames_none None mild = refl
+blames_none (Some reply) mild = by (blames_now reply) refl
+  where
+    by : (b : Bool) → blames_now reply ≡ b → blames_now reply ≡ false
+    by false is = is
+    by true is = absurd (cc (now_blames reply is, mild))
 
 pub goes_closed : (plant : Seen) → HasSession (record { plant = plant; controller = None }) Closed
 goes_closed plant = record { stands = tt; runs = λ some. absurd (cc some) }
@@ -88,11 +100,14 @@ module _ (terms : Terms) (mark : Faults) (old mid : Seen) (command : Command) (n
   abbrev Judges : Result Task Reply → Type 0
   Judges = JudgedBeside terms.rule command swaps c.lab
 
+  abbrev Done : Doing
+  Done = does_command terms.rule command mark.devices c swaps
+
   abbrev At : Result Reply CoreFault → Type 0
-  At result = Obeyed mark.devices old mid Judges c d swaps (name_of command) result
+  At result = ObeysCommand terms.rule command mark.devices old mid c d swaps result
 
   abbrev Leaving : List OpenSwap → Result Reply CoreFault → List Event → List Event → Type 0
-  Leaving to result own trace = ObeySteps trace Judges (start_of mark.devices c swaps) own d.lab to result
+  Leaving to result own trace = StepsBy Done (wants_of_command terms.rule command mark.devices c swaps) trace own d.lab to result
 
   abbrev Does_so : (List Event → Type 0) → List OpenSwap → Result Reply CoreFault → List Event → List Event → Session → Option Reply → Type 0
   Does_so Then to result own all session reply = (before : List Event) (from : Session) (opening : List Event) → WasOpened before from opening c swaps → Leaving to result own (before ++ opening) → Then ((before ++ opening) ++ own)
@@ -126,12 +141,14 @@ module _ (terms : Terms) (mark : Faults) (old mid : Seen) (command : Command) (n
         to = Open at.to;
         own = own_alone (Ok reply) at (Open at.to) (Some reply) AtWorkHere works.working.work.stands
             (λ before from opening w o stands.
-            own_answered terms mark before from opening c swaps w command no_drill at.obeys.0 o.sound d at.to reply (subst (λ b. Answers (before ++ opening) Judges (start_of mark.devices c swaps) at.obeys.0 reply d.lab at.to b) goes o.ends) stands);
+            own_answered terms mark before from opening c swaps w command no_drill at.obeys.0 o.sound d at.to reply (subst (λ b. AnswersBy Done (before ++ opening) at.obeys.0 reply d.lab at.to b) goes o.ends) stands);
         shut = λ shut. absurd (cc shut);
         closed = λ shut. let open_now : stays_open (Some reply) ≡ true = ap not goes in absurd (cc (open_now, shut));
         device = at.device;
+        here = at.here;
         opened = at.opened;
         goes_on = record { stands = record { works = works; limit = limit }; runs = λ some. runs };
+        wants = λ none. absurd (cc none);
       }
 
   -- a reply closes it
@@ -140,12 +157,14 @@ module _ (terms : Terms) (mark : Faults) (old mid : Seen) (command : Command) (n
     to = Closed;
     own = own_alone (Ok reply) at Closed (Some reply) AsRead there
         (λ before from opening w o here.
-        own_closed terms mark before from opening c swaps w command no_drill at.obeys.0 o.sound reply (not_one reply shut) (subst (λ b. Answers (before ++ opening) Judges (start_of mark.devices c swaps) at.obeys.0 reply d.lab at.to b) shut o.ends) here);
+        own_closed terms mark before from opening c swaps w command no_drill at.obeys.0 o.sound reply (not_one reply shut) (subst (λ b. AnswersBy Done (before ++ opening) at.obeys.0 reply d.lab at.to b) shut o.ends) here);
     shut = λ closed. shuts_so reply shut;
     closed = λ closed. refl;
     device = at.device;
-    opened = opened_none swaps mark.devices;
+    here = at.here;
+    opened = opened_none (name_of command) (Some reply) swaps mark.devices;
     goes_on = goes_closed mid;
+    wants = λ none. absurd (cc none);
   }
 
   -- the plant stopped
@@ -160,29 +179,38 @@ module _ (terms : Terms) (mark : Faults) (old mid : Seen) (command : Command) (n
       subst (λ n. OwnTold terms old.told n command mark c swaps Closed None) (sym starts.1)
       (own_alone (Err faults.Stopped) at Closed None AsRead there (λ before from opening w o here. own_stays terms mark before from opening c swaps w command no_drill at.obeys.0 o.sound o.ends here))
 
-  pub makes_stopped : (new : Seen) (result : Result Reply CommandFault) → At (Err faults.Stopped) → Starts mid.told new.told result → IfSome mid.told (λ t. AsRead t.trace)
+  pub makes_stopped : (new : Seen) (result : Result Reply CommandFault) → At (Err faults.Stopped) → Starts mid.told new.told result → IfSome mid.told (λ t. AsRead t.trace) → (is_some (reply_if result) ≡ false → new.stopped ≡ true)
       → Makes terms mark command old c swaps (record { plant = new; controller = None }) (reply_if result)
-  makes_stopped new result at starts there = record {
+  makes_stopped new result at starts there halts = record {
     to = Closed;
     own = own_stopped_told new.told result at starts there;
     shut = λ closed. starts_shut mid.told new.told result starts;
     closed = λ closed. refl;
     device = λ blamed. absurd (cc (starts_blameless mid.told new.told result starts, blamed));
-    opened = opened_none swaps mark.devices;
+    here = λ blamed. absurd (cc (blames_none (reply_if result) (starts_blameless mid.told new.told result starts), blamed));
+    opened = opened_none (name_of command) (reply_if result) swaps mark.devices;
     goes_on = goes_closed new;
+    wants = λ none runs. absurd (cc (halts none, runs));
   }
 
   -- memory was wanting
   pub makes_not : At (Err faults.Memory) → Makes terms mark command old c swaps (record { plant = mid; controller = None }) None
+  unfolding own_alone own_by
   makes_not at = record {
     to = Closed;
-    own = own_alone (Err faults.Memory) at Closed None AtWorkHere (at.works refl).working.work.stands (λ before from opening w o stands. own_unmade terms mark before from opening c swaps w command no_drill at.obeys.0 o.sound d o.ends stands);
+    own = own_alone (Err faults.Memory) at Closed None AtWorkHere (at.works refl).working.work.stands (λ before from opening w o stands. own_unmade terms mark before from opening c swaps w command no_drill at.obeys.0 o.sound d (wants_done Judges (start_of mark.devices c swaps) at.obeys.0 d.lab at.to o.ends) stands);
     shut = λ closed. refl;
     closed = λ closed. refl;
     device = λ blamed. absurd (cc blamed);
-    opened = opened_none swaps mark.devices;
+    here = λ blamed. absurd (cc blamed);
+    opened = opened_none (name_of command) None swaps mark.devices;
     goes_on = goes_closed mid;
+    wants = λ none runs. map_some old.told (λ t o. subst (WantsBehind command c.lab (names_of swaps)) (sym (append-nil at.obeys.0)) (by at.obeys.0 o.ends)) at.obeys.2;
   }
+    where
+      by : (own : List Event) → WantsIn Judges (start_of mark.devices c swaps) own d.lab at.to → WantsBehind command c.lab (names_of swaps) own
+      by own (undone none lab_is to_is) = inl none
+      by own (between judged first to_is) = inr (fits c.lab (is_among (names_of swaps) (name_of command)) (length swaps) terms.rule command (Ok Recover) judged, (d.lab, first))
 
 -- WHAT A COMMAND BEGAN
 module _ (terms : Terms) (command : Command) (mark : Faults) (no_drill : drill_of command ≡ None) where
@@ -247,12 +275,35 @@ module _ (terms : Terms) (command : Command) (no_drill : drill_of command ≡ No
       begins_so terms command plant.faults no_drill plant.told new.plant.told Closed Closed steps [] reply (same ∙ opens.2 ∙ ap (λ l. with_steps plant.told l) (sym (append-nil steps)))
       (map_three {P = λ t. OpenSteps t.trace opens.0 opens.1 (2 ^ 32) (Err fault) × Breaks steps reply} plant.told (λ t both readable now. cut_piece terms t.trace command plant.faults no_drill opens.0 opens.1 fault both.0 readable reply other both.1 only now) (map_both plant.told (λ t o b. (o, b)) opens.3 breaks) there then_here)
 
-  abbrev made : (reply : Option Reply) → Begins terms command plant.faults plant.told new.plant.told Closed Closed reply → (closes_if reply ≡ true → Rose plant.faults.disk new.plant.faults.disk) → blames_if reply ≡ false → (is_some reply ≡ true → new.plant.stopped ≡ false)
-      → Made terms command old new Closed Closed reply
-  made reply begun disk blameless runs = record { begun = begun; later = later; disk = disk; device = λ blamed. absurd (cc (blameless, blamed)); opened = opened_none [] plant.faults.devices; runs = λ some was. runs some; goes_on = λ some. goes_on }
+  abbrev WantsAt : Option Reply → List Event → List Event → Type 0
+  WantsAt reply opening own = is_some reply ≡ false → new.plant.stopped ≡ false → IfSome plant.told (λ t. WantsOnly terms t.trace (piece_of command plant.faults Closed Closed opening own reply))
 
-  abbrev silent_end : new.plant.told ≡ mid → Made terms command old new Closed Closed None
-  silent_end same = made None (begins_cut None refl same (λ some. absurd (cc some)) (map_some plant.told (λ t o. unanswered refl) opens.3)) (λ shut. absurd (cc shut)) refl (λ some. absurd (cc some))
+  abbrev made : (reply : Option Reply) (begun : Begins terms command plant.faults plant.told new.plant.told Closed Closed reply) → (closes_if reply ≡ true → Rose plant.faults.disk new.plant.faults.disk) → blames_if reply ≡ false → (is_some reply ≡ true → new.plant.stopped ≡ false)
+      → WantsAt reply begun.opening begun.own → Made terms command old new Closed Closed reply
+  made reply begun disk blameless runs wants = record { begun = begun; later = later; disk = disk; device = λ blamed. absurd (cc (blameless, blamed)); here = λ blamed. absurd (cc (blames_none reply blameless, blamed)); opened = opened_none (name_of command) reply [] plant.faults.devices; runs = λ some was. runs some; goes_on = λ some. goes_on; wants = wants }
+
+  abbrev silent_end : new.plant.told ≡ mid → WantsAt None steps [] → Made terms command old new Closed Closed None
+  silent_end same wants = made None (begins_cut None refl same (λ some. absurd (cc some)) (map_some plant.told (λ t o. unanswered refl) opens.3)) (λ shut. absurd (cc shut)) refl (λ some. absurd (cc some)) wants
+
+  -- memory was wanting, or the sides are no journal
+  only_read : (trace : List Event) → OpenSteps trace opens.0 opens.1 (2 ^ 32) (Err fault) → opens.1 ≡ [] → WantsOnly terms trace (piece_of command plant.faults Closed Closed steps [] None)
+  only_read trace o none = in_reading (ap has_command (ap (λ l. opens.0 ++ l) none ∙ append-nil opens.0) ∙ o.reads.no_command) refl
+
+  wants_memory : fault ≡ openings.Memory → WantsAt None steps []
+  wants_memory is none runs = map_some plant.told (λ t o. by t.trace o (subst (λ f. OpenEnds t.trace opens.0 opens.1 (2 ^ 32) (Err f)) is o.ends)) opens.3
+    where
+      by : (trace : List Event) → OpenSteps trace opens.0 opens.1 (2 ^ 32) (Err fault) → OpenEnds trace opens.0 opens.1 (2 ^ 32) (Err openings.Memory) → WantsOnly terms trace (piece_of command plant.faults Closed Closed steps [] None)
+      by trace o (inl read) = only_read trace o read.0
+      by trace o (inr (inl m)) = in_settling m.start m.lab opens.0 opens.1 ((stood_alike the_texts _ _ _ _ m.start o.reads.alike).0 m.read.lab) refl o.reads.no_command m.read.no_miss o.reads.no_restart m.some refl
+      by trace o (inr (inr never)) = absurd never
+
+  wants_bad : (side : Side) (at : ℕ) → fault ≡ openings.Bad side at → WantsAt None steps []
+  wants_bad side at is none runs = map_some plant.told (λ t o. by t.trace o (subst (λ f. OpenEnds t.trace opens.0 opens.1 (2 ^ 32) (Err f)) is o.ends)) opens.3
+    where
+      by : (trace : List Event) → OpenSteps trace opens.0 opens.1 (2 ^ 32) (Err fault) → OpenEnds trace opens.0 opens.1 (2 ^ 32) (Err (openings.Bad side at)) → WantsOnly terms trace (piece_of command plant.faults Closed Closed steps [] None)
+      by trace o (inl read) = only_read trace o read.0
+      by trace o (inr (inl never)) = absurd never
+      by trace o (inr (inr never)) = absurd never
 
   in_reply : (reply : Reply) → Made terms command old new Closed Closed (Some reply) → Ends terms command old new Closed (Ok reply)
   in_reply reply it = (Closed, it)
@@ -261,7 +312,7 @@ module _ (terms : Terms) (command : Command) (no_drill : drill_of command ≡ No
   down_end is same missed runs =
       in_reply replies.Down (made (Some replies.Down) (begins_cut (Some replies.Down) refl same (λ some. is)
       (map_both plant.told (λ t o readable. failed (started_nowhere terms t.trace command plant.faults no_drill opens.0 opens.1 fault o readable) (missed_in terms t.trace command plant.faults no_drill opens.0 opens.1 fault o readable is) refl) opens.3 there))
-      (λ shut. missed) refl (λ some. runs))
+      (λ shut. missed) refl (λ some. runs) (λ none. absurd (cc none)))
 
   again_end : fault ≡ openings.Stopped → (reply : Reply) → Starts mid new.plant.told (Ok reply) → new.plant.stopped ≡ false → Ends terms command old new Closed (Ok reply)
   again_end is reply (told, (a, b, again, possible)) runs =
@@ -271,12 +322,14 @@ module _ (terms : Terms) (command : Command) (no_drill : drill_of command ≡ No
       (again ∙ ap (λ o. with_steps o (Restarted a b ∷ [])) opens.2 ∙ with_steps-append plant.told steps (Restarted a b ∷ []) ∙ ap (λ l. with_steps plant.told l) (sym (append-nil opening)))
       (map_three plant.told (λ t o readable now. again_piece terms t.trace command plant.faults no_drill opens.0 opens.1 (subst (λ f. OpenSteps t.trace opens.0 opens.1 (2 ^ 32) (Err f)) is o) readable a b now) opens.3 there
       (carried plant.told mid steps opens.2 (λ l. ArePossible l a b) possible)))
-      (λ shut. absurd (cc shut)) refl (λ some. runs)))
+      (λ shut. absurd (cc shut)) refl (λ some. runs) (λ none. absurd (cc none))))
 
   -- the sides are no journal
   none_end : (side : Side) (at : ℕ) → fault ≡ openings.Bad side at → new.plant.told ≡ mid → new.plant.stopped ≡ false → FoundNone terms command old new Closed side at
   none_end side at is same runs = record {
-    made = silent_end same;
+    made = silent_end same (wants_bad side at is);
+    no_drill = no_drill;
+    closed = refl;
     finds = map_some plant.told (λ t o. by t.trace (subst (λ f. OpenEnds t.trace opens.0 opens.1 (2 ^ 32) (Err f)) is o.ends)) opens.3;
     runs = runs;
   }
@@ -297,29 +350,31 @@ module _ (terms : Terms) (command : Command) (no_drill : drill_of command ≡ No
           }
 
   -- by its fault
-  stopped_end : fault ≡ openings.Stopped → (result : Result Reply CommandFault) → Starts mid new.plant.told result → (is_some (reply_if result) ≡ true → new.plant.stopped ≡ false) → Ends terms command old new Closed result
-  stopped_end is (Ok reply) starts runs = again_end is reply starts (runs refl)
-  stopped_end is (Err other) starts runs = subst (λ f. Ends terms command old new Closed (Err f)) (sym starts.0) (silent_end starts.1)
+  stopped_end : fault ≡ openings.Stopped → (result : Result Reply CommandFault) → Starts mid new.plant.told result → (is_some (reply_if result) ≡ true → new.plant.stopped ≡ false) → (is_some (reply_if result) ≡ false → new.plant.stopped ≡ true) → Ends terms command old new Closed result
+  stopped_end is (Ok reply) starts runs halts = again_end is reply starts (runs refl)
+  stopped_end is (Err other) starts runs halts = subst (λ f. Ends terms command old new Closed (Err f)) (sym starts.0) (silent_end starts.1 (λ none going. absurd (cc (halts refl, going))))
 
   pub ends_unopened : (result : Result Reply CommandFault) → Unopened fault mid new.plant.told result → (fault ≡ openings.Plant → Rose plant.faults.disk new.plant.faults.disk) → (is_some (reply_if result) ≡ true → new.plant.stopped ≡ false)
-      → ((side : Side) (at : ℕ) → result ≡ Err (command_faults.JournalBad side at) → new.plant.stopped ≡ false) → Ends terms command old new Closed result
-  ends_unopened result un missed runs bad = by fault refl un
+      → ((side : Side) (at : ℕ) → result ≡ Err (command_faults.JournalBad side at) → new.plant.stopped ≡ false) → (fault ≡ openings.Stopped → is_some (reply_if result) ≡ false → new.plant.stopped ≡ true) → Ends terms command old new Closed result
+  ends_unopened result un missed runs bad halts = by fault refl un
     where
       by : (f : OpenFault) → fault ≡ f → Unopened f mid new.plant.told result → Ends terms command old new Closed result
       by openings.Plant is so = subst (λ r. Ends terms command old new Closed r) (sym so.0) (down_end is so.1 (missed is) (runs (ap (λ r. is_some (reply_if r)) so.0)))
-      by openings.Stopped is so = stopped_end is result so runs
+      by openings.Stopped is so = stopped_end is result so runs (halts is)
       by (openings.Bad side at) is so = subst (λ r. Ends terms command old new Closed r) (sym so.0) (none_end side at is so.1 (bad side at so.0))
-      by openings.Memory is so = subst (λ r. Ends terms command old new Closed r) (sym so.0) (silent_end so.1)
+      by openings.Memory is so = subst (λ r. Ends terms command old new Closed r) (sym so.0) (silent_end so.1 (wants_memory is))
 
 -- WHATEVER AN OPEN CONTROLLER MADE, with the counts of faults and what is kept
-pub ends_of : (terms : Terms) (command : Command) (old new : Moment) (from to : Session) (result : Result Reply CommandFault) → Begins terms command old.plant.faults old.plant.told new.plant.told from to (reply_if result) → (stays_open (reply_if result) ≡ false → to ≡ Closed)
+pub ends_of : (terms : Terms) (command : Command) (old new : Moment) (from to : Session) (result : Result Reply CommandFault) (begun : Begins terms command old.plant.faults old.plant.told new.plant.told from to (reply_if result)) → (stays_open (reply_if result) ≡ false → to ≡ Closed)
     → Later old.plant.faults new.plant.faults → (closes_if (reply_if result) ≡ true → Rose old.plant.faults.disk new.plant.faults.disk)
-    → (blames_if (reply_if result) ≡ true → Rose (counted_from (opens_of from) (name_of command) old.plant.faults.devices) new.plant.faults.devices) → AreOpenedBy (opens_of from) (opens_of to) old.plant.faults.devices
-    → (is_some (reply_if result) ≡ true → old.plant.stopped ≡ false → new.plant.stopped ≡ false) → OnErr result (result ≡ Err command_faults.Memory) → (is_some (reply_if result) ≡ true → HasSession new to) → Ends terms command old new from result
-ends_of terms command old new from to (Ok reply) begun closed later down device since runs memory goes_on = (to, record { begun = begun; later = later; disk = down; device = device; opened = since; runs = runs; goes_on = goes_on })
-ends_of terms command old new from to (Err fault) begun closed later down device since runs memory goes_on =
+    → (blames_if (reply_if result) ≡ true → Rose (counted_from (opens_of from) (name_of command) old.plant.faults.devices) new.plant.faults.devices) → (blames_now_if (reply_if result) ≡ true → Rose old.plant.faults.devices new.plant.faults.devices)
+    → AreOpenedBy (name_of command) (reply_if result) (opens_of from) (opens_of to) old.plant.faults.devices
+    → (is_some (reply_if result) ≡ true → old.plant.stopped ≡ false → new.plant.stopped ≡ false) → OnErr result (result ≡ Err command_faults.Memory) → (is_some (reply_if result) ≡ true → HasSession new to)
+    → (is_some (reply_if result) ≡ false → new.plant.stopped ≡ false → IfSome old.plant.told (λ t. WantsOnly terms t.trace (piece_of command old.plant.faults from to begun.opening begun.own (reply_if result)))) → Ends terms command old new from result
+ends_of terms command old new from to (Ok reply) begun closed later down device here since runs memory goes_on wants = (to, record { begun = begun; later = later; disk = down; device = device; here = here; opened = since; runs = runs; goes_on = goes_on; wants = wants })
+ends_of terms command old new from to (Err fault) begun closed later down device here since runs memory goes_on wants =
     subst (λ r. Ends terms command old new from r) (sym memory)
-    (subst (λ s. Made terms command old new from s None) (closed refl) (record { begun = begun; later = later; disk = down; device = device; opened = since; runs = runs; goes_on = goes_on }))
+    (subst (λ s. Made terms command old new from s None) (closed refl) (record { begun = begun; later = later; disk = down; device = device; here = here; opened = since; runs = runs; goes_on = goes_on; wants = wants }))
 
 -- the session of a controller that is there, and of none
 pub open_session : (plant : Seen) (k : Option Control) (c : Control) (from : Session) → k ≡ Some c → StandsAt plant k from → (swaps : List OpenSwap) × (from ≡ Open swaps) × IsOpen plant c swaps
@@ -347,11 +402,13 @@ pub ends_open : (terms : Terms) (command : Command) → drill_of command ≡ Non
     → ((mark : Faults) (swaps : List OpenSwap) → IsMarkAt mark old.plant → IsOpen old.plant c swaps → Makes terms mark command old.plant c swaps new (reply_if result)) → Later old.plant.faults new.plant.faults
     → (closes_if (reply_if result) ≡ true → Rose old.plant.faults.disk new.plant.faults.disk) → (is_some (reply_if result) ≡ true → old.plant.stopped ≡ false → new.plant.stopped ≡ false) → OnErr result (result ≡ Err command_faults.Memory)
     → Ends terms command old new from result
+unfolding begins_open
 ends_open terms command no_drill old new c result from is goes makes later disk runs memory =
     let s = open_session old.plant old.controller c from is goes.stands in
     let m = makes old.plant.faults s.0 (omega arith) s.2 in
     subst (λ f. Ends terms command old new f result) (sym s.1)
-    (ends_of terms command old new (Open s.0) m.to result (begins_open terms command old.plant.faults no_drill old.plant new c s.0 (reply_if result) s.2 m) m.closed later disk m.device m.opened runs memory (λ some. m.goes_on))
+    (ends_of terms command old new (Open s.0) m.to result (begins_open terms command old.plant.faults no_drill old.plant new c s.0 (reply_if result) s.2 m) m.closed later disk m.device m.here m.opened runs memory (λ some. m.goes_on)
+    (λ none going. map_both old.plant.told (λ t stands own. goes_behind c.lab c.lab (standing_lab t.trace c stands) refl own) s.2.works.working.work.stands (m.wants none going)))
 
 -- or was opened for it
 pub ends_opened : (terms : Terms) (command : Command) → drill_of command ≡ None → (old new : Moment) (mid : Seen) (c : Control) (result : Result Reply CommandFault) (from : Session) → old.controller ≡ None → HasSession old from → OpenTold old.plant.told mid.told (2 ^ 32) (Ok c)
@@ -359,10 +416,15 @@ pub ends_opened : (terms : Terms) (command : Command) → drill_of command ≡ N
     → ((mark : Faults) (swaps : List OpenSwap) → IsMarkAt mark mid → IsOpen mid c swaps → Makes terms mark command mid c swaps new (reply_if result)) → Later old.plant.faults new.plant.faults
     → (closes_if (reply_if result) ≡ true → Rose old.plant.faults.disk new.plant.faults.disk) → (is_some (reply_if result) ≡ true → old.plant.stopped ≡ false → new.plant.stopped ≡ false) → OnErr result (result ≡ Err command_faults.Memory)
     → Ends terms command old new from result
+unfolding begins_opened
 ends_opened terms command no_drill old new mid c result from is goes told there works limit passed makes later disk runs memory =
     let m = makes old.plant.faults [] passed.devices (record { works = works; limit = limit }) in
     closed_from terms command old new from result is goes
-    (ends_of terms command old new Closed m.to result (begins_opened terms command old.plant.faults no_drill old.plant.told mid new c (reply_if result) told there works.working.work limit m) m.closed later disk m.device m.opened runs memory (λ some. m.goes_on))
+    (ends_of terms command old new Closed m.to result (begins_opened terms command old.plant.faults no_drill old.plant.told mid new c (reply_if result) told there works.working.work limit m) m.closed later disk m.device (λ blamed. omega (arith, passed.devices, m.here blamed)) m.opened runs memory (λ some. m.goes_on)
+    (λ none going. map_three old.plant.told (λ t o readable both.
+    let w = is_opened t.trace told.0 told.1 c o both.0 limit readable in
+    goes_behind w.start c.lab w.first (w.opens refl) both.1) told.3 there
+    (carried old.plant.told mid.told (told.0 ++ told.1) told.2 (λ l. Stands the_texts l c.journal c.lab × WantsBehind command c.lab [] m.own.0) (map_both mid.told (λ t stands own. (stands, own)) works.working.work.stands (m.wants none going)))))
 
 -- a count that rose since a later moment rose since an earlier one
 pub rose_since : (a b now : ℕ) → a ≤ b → Rose b now → Rose a now
@@ -371,6 +433,10 @@ rose_since a b now within rose = omega (arith, within, rose)
 pub runs_if : (result : Result Reply CommandFault) (halts : Bool) → OnOk result (halts ≡ false) → is_some (reply_if result) ≡ true → halts ≡ false
 runs_if (Ok reply) halts runs some = runs
 runs_if (Err fault) halts runs some = absurd (cc some)
+
+pub halts_if : (result : Result Reply CommandFault) (halts : Bool) → OnErr result (halts ≡ true) → is_some (reply_if result) ≡ false → halts ≡ true
+halts_if (Ok reply) halts stops none = absurd (cc none)
+halts_if (Err fault) halts stops none = stops
 
 -- where a reply is told, the plant is not stopped
 pub ok_runs : (reply : Reply) (halts : Bool) → (let result : Result Reply CoreFault = Ok reply in IsErrOf result faults.Stopped ↔ IsTrue halts) → halts ≡ false

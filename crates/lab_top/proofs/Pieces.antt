@@ -1,5 +1,5 @@
 -- A run of commands goes on, one piece after another.
-use Rattle.std.proofs.Common.{◌≡◌, ◌⊎◌, inl, inr, ℕ, ◌+◌, ◌^◌, arith, true, false, ◌&&◌, List, [], ◌∷◌, ◌++◌, length, take, Option, Some, None, Ok, Err, refl, sym, ◌∙◌, ap, subst}
+use Rattle.std.proofs.Common.{Bool, ◌≡◌, ◌⊎◌, inl, inr, ℕ, ◌+◌, ◌^◌, arith, true, false, ◌&&◌, List, [], ◌∷◌, ◌++◌, length, take, Option, Some, None, Ok, Err, refl, sym, ◌∙◌, ap, subst}
 use Rattle.std.specs.Prelude.{IfSome, is_some}
 use Rattle.std.specs.Io.KnownBytes.{append_known}
 use Rattle.std.proofs.lemmas.List.{append-nil, map-append}
@@ -29,7 +29,7 @@ use Rattle.lab_top.specs.declared.command.CommandFault.TheVariants as faults
 use Rattle.lab_top.specs.declared.status.Status.TheVariants as statuses
 use Rattle.lab_top.specs.declared.status.Status.{Status}
 use Rattle.lab_top.specs.Answering.{Moment, HasSession, Made, Answered, marked, piece_of}
-use Rattle.lab_top.specs.Pieces.{Begun, steps_of, commands_of, planned_of, trace_after, with_drill_if, with_piece, with_pieces, IsCaused, Counts, FindsNone, IsPiece, AreHandedOn, ArePieces, reply_text, reply_texts, session_after}
+use Rattle.lab_top.specs.Pieces.{Begun, steps_of, commands_of, planned_of, trace_after, with_drill_if, with_piece, with_pieces, IsCaused, Counts, FindsNone, IsPiece, AreHandedOn, ArePieces, reply_text, reply_texts, session_after, WantsOnly}
 use Rattle.lab_top.specs.Ran.{AreAnswered, BegunCommands, EndsSo, GoesOn, LastFindsNone, LastIsNot, Outside, Ran, WroteReplies, Answered as StatusAnswered}
 use Rattle.lab_words.specs.Words.{Choices, Usual}
 use Rattle.lab_top.proofs.Obeyed.{goes_closed, map_both, map_three}
@@ -141,7 +141,7 @@ module _ (terms : Terms) (start before now : Moment) (begun : List Begun) (so : 
   one_more = record {
     told = made.begun.told ∙ ap (λ (o : Option Told). with_piece o next) so.told ∙ sym (told-push start.plant.told begun next);
     counts = counts-push terms start.plant.faults before.plant.faults begun next so.counts refl
-        (record { later = made.later; disk = made.disk; device = made.device; opened = made.opened; planned = made.begun.planned_by });
+        (record { later = made.later; disk = made.disk; device = made.device; here = made.here; opened = made.opened; planned = made.begun.planned_by });
     sessions = sessions-push Closed begun next so.sessions refl;
     are = map_both start.plant.told (λ t are is. pieces-push terms t.trace begun next are is) so.are (at_mark (λ l. IsPiece terms l next.piece) made.begun.is_piece);
   }
@@ -169,7 +169,7 @@ outside now left written = record { left = left; plant = now.plant; written = wr
 
 abbrev pub Ends : Terms → (start now : Moment) → Option (List ℕ) → Option (List ℕ) → Status → List Begun → Type 0
 Ends terms start now first new status made =
-    PiecesSoFar terms start now made × IfSome start.plant.told (λ t. EndsSo t.trace made status) × StatusAnswered status made × WroteReplies first new made status × (start.plant.stopped ≡ false → GoesOn status now.plant.stopped)
+    PiecesSoFar terms start now made × IfSome start.plant.told (λ t. EndsSo terms t.trace made status now.plant.stopped) × StatusAnswered status made × WroteReplies first new made status × (start.plant.stopped ≡ false → GoesOn status now.plant.stopped)
 
 pub begun_ran : (terms : Terms) (start now : Moment) (first new left rest : Option (List ℕ)) (status : Status) (made : List Begun) → Ends terms start now first new status made → ((bytes : List ℕ) → left ≡ Some bytes → BegunCommands bytes rest (commands_of made) status)
     → (status ≡ statuses.Usage → ⊥) → Ran terms (Some Usual) (outside start left first) (outside now rest new) status made
@@ -194,7 +194,7 @@ begun_ran terms start now first new left rest status made ends begun not = recor
     sound (Some t) is are = λ first. to_told (Some t) now.plant.told made is (IsSound the_texts) (sound_after terms t.trace made are first)
 
 -- where all are answered
-pub going_ends : (terms : Terms) (start now : Moment) (first new : Option (List ℕ)) (begun : List Begun) → Going terms start now first new begun → (status : Status) → ((t : Told) → EndsSo t.trace begun status)
+pub going_ends : (terms : Terms) (start now : Moment) (first new : Option (List ℕ)) (begun : List Begun) → Going terms start now first new begun → (status : Status) → ((t : Told) → EndsSo terms t.trace begun status now.plant.stopped)
     → (now.plant.stopped ≡ false → GoesOn status now.plant.stopped) → (AreAnswered begun → StatusAnswered status begun) → (new ≡ append_known first (reply_texts begun) → WroteReplies first new begun status) → Ends terms start now first new status begun
 going_ends terms start now first new begun going status ends goes_on answered wrote = (going.so, all_some start.plant.told ends, answered going.answered, wrote going.wrote, λ was. goes_on (going.runs was))
 
@@ -264,17 +264,30 @@ module _ (terms : Terms) (start before now : Moment) (first old new : Option (Li
     inl refl,
     (
       record { told = ap (λ (p : Seen). p.told) still ∙ going.so.told; counts = subst (λ (p : Seen). Counts terms start.plant.faults begun p.faults) (sym still) going.so.counts; sessions = going.so.sessions; are = going.so.are },
-      all_some start.plant.told (λ t. tt),
+      all_some start.plant.told (λ t runs. inl going.answered),
       inl going.answered,
       wrote ∙ going.wrote,
       λ was. tt,
     ),
   )
   going_memory (inr made, wrote) =
-      (silent made wrote, inr (commands-push begun (one Closed None made)), (so_now Closed None made, all_some start.plant.told (λ t. tt), inr (waits made wrote), wrote_none made wrote, λ was. tt))
+      (silent made wrote, inr (commands-push begun (one Closed None made)), (so_now Closed None made, wanting, inr (waits made wrote), wrote_none made wrote, λ was. tt))
+    where
+      last : Begun
+      last = one Closed None made
+
+      wanting : IfSome start.plant.told (λ t. EndsSo terms t.trace (silent made wrote) statuses.Memory now.plant.stopped)
+      wanting = by now.plant.stopped refl
+        where
+          by : (stopped : Bool) → now.plant.stopped ≡ stopped → IfSome start.plant.told (λ t. EndsSo terms t.trace (silent made wrote) statuses.Memory stopped)
+          by true is = all_some start.plant.told (λ t runs. absurd (cc runs))
+          by false is =
+              map_some start.plant.told (λ t wants runs. inr (record { before = begun; last = last; made_are = refl; answered = going.answered; waits = refl; wants = wants }))
+              (at_mark terms start before now begun going.so command Closed None made (λ l. WantsOnly terms l last.piece) (made.wants refl is))
 
   -- sides that are no journal
   pub going_bad : (side : Side) (at : ℕ) → Answered terms command before now from old new taken (Err (faults.JournalBad side at)) → (made : List Begun) × (commands_of made ≡ commands_of begun ++ command ∷ []) × Ends terms start now first new (statuses.JournalBad side at) made
+  unfolding waits
   going_bad side at (found, wrote) =
       let made = found.made in
       let last = one Closed None made in (
@@ -284,7 +297,7 @@ module _ (terms : Terms) (start before now : Moment) (first old new : Option (Li
           so_now Closed None made,
           map_some start.plant.told (λ t finds. record { before = begun; last = last; made_are = refl; answered = going.answered; finds = finds })
               (at_mark terms start before now begun going.so command Closed None made (λ l. FindsNone l last.piece side at) found.finds),
-          waits made wrote,
+          record { last_is = waits made wrote; no_drill = found.no_drill; closed = found.closed },
           wrote_none made wrote,
           λ was. found.runs,
         ),

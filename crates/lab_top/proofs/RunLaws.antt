@@ -30,10 +30,10 @@ use Rattle.script_text.specs.declared.reply.Reply.{Reply}
 use Rattle.script_text.specs.declared.reply.Reply.TheVariants as replies
 use Rattle.script_text.specs.declared.reply.Reply.TheVariants.{Recovered}
 use Rattle.lab_core.specs.Breaks.{Breaks, stopped, failed, unanswered}
-use Rattle.lab_core.specs.LabSteps.{JudgedBeside, LabStep, StepOf}
+use Rattle.lab_core.specs.LabSteps.{DoesBy, JudgedBeside, LabStep, StepOf}
 use Rattle.lab_core.specs.Moments.{IsLabAt, IsNoJournal, StandForLab, IsLabOfImage, AllStandFor}
 use Rattle.lab_core.specs.Sessions.{Session, Closed, Open, Setting, After, name_of, Terms}
-use Rattle.lab_core.specs.Tells.{BeginsAt, IsFeasibleFor, Hinders, TellsBroken, busy_of, is_of_drill, is_stopped, of_drill_if, settles, taken_reply}
+use Rattle.lab_core.specs.Tells.{AllMove, BeginsAt, IsFeasibleFor, Hinders, TellsBroken, busy_of, is_of_drill, is_stopped, of_drill_if, opens_of, settles, taken_reply}
 use Rattle.lab_core.proofs.OneJournal.{not_both, one_place}
 use Rattle.lab_core.proofs.OuterReplies.{step_so}
 use Rattle.lab_core.proofs.Rested.{opened_rest, recovered_rest}
@@ -47,7 +47,7 @@ use Rattle.lab_top.specs.declared.status.Status.{Status}
 use Rattle.lab_top.specs.declared.status.Status.TheVariants.{Memory, JournalBad}
 use Rattle.lab_top.proofs.BrokenOpenings.{breaks_as, breaks_not}
 use Rattle.lab_top.proofs.Pieces.{trace-push}
-use Rattle.lab_top.proofs.Stepping.{and_left, and_right, has_started}
+use Rattle.lab_top.proofs.Stepping.{and_left, and_right, first_image, has_started}
 
 -- ONE OF THE PIECES
 pub piece_at : (terms : Terms) (trace : List Event) (before after : List Begun) (b : Begun) → ArePieces terms trace (before ++ b ∷ after) → IsPiece terms (trace_after trace before) b.piece
@@ -105,7 +105,7 @@ NoJournal trace side at = IsNoJournal (disk A trace).reads (disk B trace).reads 
 
 no_reply : (trace : List Event) (piece : Piece) (side : Side) (at : ℕ) → IsOpening trace piece → has_miss piece.opening ≡ false → has_restart piece.opening ≡ false → NoJournal trace side at → piece.reply ≡ None
 no_reply trace piece side at (opened no_miss no_restart journal) miss restart missing = absurd (not_both _ _ _ side at journal missing)
-no_reply trace piece side at (broken_off breaks nothing shut) miss restart missing = by piece.reply breaks
+no_reply trace piece side at (broken_off breaks nothing shut part) miss restart missing = by piece.reply breaks
   where
     by : (reply : Option Reply) → Breaks piece.opening reply → reply ≡ None
     by None breaks = refl
@@ -144,19 +144,19 @@ module _ (trace : List Event) (before after : List Begun) (b : Begun) (side : Si
       let same = one_place _ _ (2 ^ 32) s side n at (subst (λ x. NoJournal (trace_after trace x) s n) (sym last.0) l.finds.no_journal) missing in
       (λ i. JournalBad (same.0 i) (same.1 i))
 
-  by : (status : Status) → Answered status made → EndsSo trace made status → (status ≡ Memory) ⊎ (status ≡ JournalBad side at)
-  by Memory all ends = inl refl
-  by (JournalBad s n) all ends = inr (found s n ends)
-  by status all ends = absurd (not_answered before after b none all)
+  by : (terms : Terms) (stopped : Bool) (status : Status) → Answered status made → EndsSo terms trace made status stopped → (status ≡ Memory) ⊎ (status ≡ JournalBad side at)
+  by terms halts Memory all ends = inl refl
+  by terms halts (JournalBad s n) all ends = inr (found s n ends)
+  by terms halts status all ends = absurd (not_answered before after b none all)
 
 pub ends_bad : (terms : Terms) (choices : Option Choices) (old new : Outside) (status : Status) (before after : List Begun) (b : Begun) (t : Told) (side : Side) (at : ℕ) → Ran terms choices old new status (before ++ b ∷ after) → old.plant.told ≡ Some t
     → drill_of b.piece.command ≡ None → b.piece.from ≡ Closed → has_miss b.piece.opening ≡ false → has_restart b.piece.opening ≡ false
     → IsNoJournal (disk A (trace_after t.trace before)).reads (disk B (trace_after t.trace before)).reads (2 ^ 32) side at → (status ≡ Memory) ⊎ (status ≡ JournalBad side at)
 ends_bad terms choices old new status before after b t side at r is no_drill closed miss restart missing =
-    let ends = subst (λ (o : Option Told). IfSome o (λ u. EndsSo u.trace (before ++ b ∷ after) status)) is r.ends in
+    let ends = subst (λ (o : Option Told). IfSome o (λ u. EndsSo terms u.trace (before ++ b ∷ after) status new.plant.stopped)) is r.ends in
     let piece = piece_at terms t.trace before after b (pieces_of terms choices old new status (before ++ b ∷ after) t r is) in
     let none = no_reply (trace_after t.trace before) b.piece side at (opening_of _ _ _ b.piece no_drill closed piece.finds) miss restart missing in
-    by t.trace before after b side at missing none status r.answered ends
+    by t.trace before after b side at missing none terms new.plant.stopped status r.answered ends
 
 -- a lab with an experiment is set
 none_in : (name : List ℕ) (s : LabState) (e : Experiment) → Sane s → (lab : Option Lab) → s.lab ≡ lab → find name s.experiments ≡ Some e → is_some lab ≡ true
@@ -171,9 +171,9 @@ is_set a b s name e stand found = none_in name s e (lab_sane the_texts stand.rec
 some_same : {x y : Experiment} → Some x ≡ Some y → x ≡ y
 some_same same = cc same
 
-stays : (terms : Terms) (set : Setting) (s : LabState) (session : Session) (command : Command) (opening own : List Event) (after : After) (e : Experiment) → is_some s.lab ≡ true → find e.name s.experiments ≡ Some e
-    → (settles session command e.name ≡ true → is_moving e ≡ false) → name_of command ≢ Some e.name → LabStep terms set s session command opening own after → find e.name after.lab.experiments ≡ Some e
-stays terms set s session command opening own after e there found rests other step =
+stays : (terms : Terms) (trace : List Event) (set : Setting) (s : LabState) (session : Session) (command : Command) (opening own : List Event) (after : After) (e : Experiment) → is_some s.lab ≡ true → find e.name s.experiments ≡ Some e
+    → (settles session command e.name ≡ true → is_moving e ≡ false) → name_of command ≢ Some e.name → LabStep terms trace set s session command opening own after → find e.name after.lab.experiments ≡ Some e
+stays terms trace set s session command opening own after e there found rests other step =
     let one = by_one (drill_of command) terms set s session command opening own after step in
     (step_stays e.name own after s there session command (λ settled x is. subst (λ (y : Experiment). is_moving y ≡ false) (some_same (sym found ∙ is)) (rests settled)) opening one.0 terms set other
     (was one.0 terms set s command opening own after (drill_of command) session one.1)).same
@@ -186,37 +186,33 @@ module _ (terms : Terms) (trace : List Event) (piece : Piece) (e : Experiment) (
       let had = have image.a image.b image.possible in
       let same = stood_once the_texts image.a image.b had.0 s texts_once had.1 image.stand in
       let found : find e.name s.experiments ≡ Some e = ap (λ (u : LabState). find e.name u.experiments) (sym same) ∙ had.2 in
-      stays terms _ s piece.from piece.command piece.opening (piece.own ++ steps.behind) _ e (is_set image.a image.b s e.name e image.stand found) found rests other steps.step
-
-  first_image : ArePossible trace (disk A trace).reads (disk B trace).reads → (early : Bool) (s : LabState) → FirstLab early trace s → IsLabOfImage trace s
-  first_image readable true s image = image
-  first_image readable false s at = record { a = (disk A trace).reads; b = (disk B trace).reads; possible = readable; stand = at }
+      stays terms trace _ s piece.from piece.command piece.opening (piece.own ++ steps.behind) _ e (is_set image.a image.b s e.name e image.stand found) found rests other steps.step
 
   after_images : (one : Bool) (last : LabState) → find e.name last.experiments ≡ Some e → ImagesAfter terms one trace piece last → AllHave (trace ++ steps_of piece) e
   after_images true last found all a b possible = (last, all a b possible, found)
   after_images false last found images a b possible = let x = images a b possible in (x.1, x.3, from_image x.0 x.1 x.2 x.4)
 
-  pub piece_keeps : ArePossible trace (disk A trace).reads (disk B trace).reads → IsDone terms trace piece → is_some piece.reply ≡ true → AllHave (trace ++ steps_of piece) e
-  piece_keeps readable done some =
+  pub piece_keeps : ArePossible trace (disk A trace).reads (disk B trace).reads → IsDone terms trace piece → AllHave (trace ++ steps_of piece) e
+  piece_keeps readable done =
       let l = done.leads in
-      after_images (leaves_one piece.to piece.reply) l.last (from_image l.first l.last (first_image readable (is_early piece) l.first l.before) l.steps) (done.images some)
+      after_images (leaves_one piece.to piece.reply) l.last (from_image l.first l.last (first_image trace readable (is_early piece) l.first l.before) l.steps) done.images
 
 -- AND ALL, where none of them settles it while it moves
 abbrev pub AreSparing : Experiment → List Begun → Type 0
 AreSparing e [] = Unit {0}
 AreSparing e (b ∷ begun) = (settles b.piece.from b.piece.command e.name ≡ true → is_moving e ≡ false) × AreSparing e begun
 
-at_rest : (e : Experiment) (begun : List Begun) → is_moving e ≡ false → AreSparing e begun
+pub at_rest : (e : Experiment) (begun : List Begun) → is_moving e ≡ false → AreSparing e begun
 at_rest e [] rests = tt
 at_rest e (b ∷ begun) rests = ((λ settled. rests), at_rest e begun rests)
 
-pub pieces_keep : (terms : Terms) (trace : List Event) (middle after : List Begun) (e : Experiment) → ArePieces terms trace (middle ++ after) → IsSound the_texts trace → AreSparing e middle → AllHave trace e → AreAnswered middle → AreOthers e.name middle
+pub pieces_keep : (terms : Terms) (trace : List Event) (middle after : List Begun) (e : Experiment) → ArePieces terms trace (middle ++ after) → IsSound the_texts trace → AreSparing e middle → AllHave trace e → AreOthers e.name middle
     → AllHave (trace_after trace middle) e
-pieces_keep terms trace [] after e are sound rests have all others = have
-pieces_keep terms trace (b ∷ middle) after e are sound rests have all others =
+pieces_keep terms trace [] after e are sound rests have others = have
+pieces_keep terms trace (b ∷ middle) after e are sound rests have others =
     let done = are.0.done sound in
     pieces_keep terms (trace ++ steps_of b.piece) middle after e are.1 done.sound rests.1
-    (piece_keeps terms trace b.piece e rests.0 have others.0 are.0.readable done (and_left (is_some b.piece.reply) _ all)) (and_right (is_some b.piece.reply) _ all) others.1
+    (piece_keeps terms trace b.piece e rests.0 have others.0 are.0.readable done) others.1
 
 pub traces_join : (trace : List Event) (before middle : List Begun) → trace_after trace (before ++ middle) ≡ trace_after (trace_after trace before) middle
 traces_join trace [] middle = refl
@@ -224,12 +220,12 @@ traces_join trace (b ∷ before) middle = traces_join (trace ++ steps_of b.piece
 
 -- in one run
 module _ (terms : Terms) (choices : Option Choices) (old new : Outside) (status : Status) (before middle after : List Begun) (t : Told) (e : Experiment) (r : Ran terms choices old new status (before ++ (middle ++ after))) (is : old.plant.told ≡ Some t) where
-  pub kept_along : IsSound the_texts t.trace → AreSparing e middle → AllHave (trace_after t.trace before) e → AreAnswered middle → AreOthers e.name middle → AllHave (trace_after t.trace (before ++ middle)) e
-  kept_along sound rests have all others =
+  pub kept_along : IsSound the_texts t.trace → AreSparing e middle → AllHave (trace_after t.trace before) e → AreOthers e.name middle → AllHave (trace_after t.trace (before ++ middle)) e
+  kept_along sound rests have others =
       let here = behind terms t.trace before (middle ++ after) (pieces_of terms choices old new status (before ++ (middle ++ after)) t r is) sound in
-      subst (λ l. AllHave l e) (sym (traces_join t.trace before middle)) (pieces_keep terms (trace_after t.trace before) middle after e here.0 here.1 rests have all others)
+      subst (λ l. AllHave l e) (sym (traces_join t.trace before middle)) (pieces_keep terms (trace_after t.trace before) middle after e here.0 here.1 rests have others)
 
-  pub are_kept : IsSound the_texts t.trace → is_moving e ≡ false → AllHave (trace_after t.trace before) e → AreAnswered middle → AreOthers e.name middle → AllHave (trace_after t.trace (before ++ middle)) e
+  pub are_kept : IsSound the_texts t.trace → is_moving e ≡ false → AllHave (trace_after t.trace before) e → AreOthers e.name middle → AllHave (trace_after t.trace (before ++ middle)) e
   are_kept sound rests = kept_along sound (at_rest e middle rests)
 
 -- A PIECE OF NO DRILL THAT IS ANSWERED: its opening broke off, and nothing else was done; or it is a lab step
@@ -242,7 +238,7 @@ module _ (terms : Terms) (trace : List Event) (piece : Piece) (is : IsPiece term
 
   by_opening : IsOpening trace piece → Was
   by_opening (opened miss restart journal) = from_lab miss restart journal.lab (record { records = journal.records; read = journal.read; lab_of = journal.lab_of })
-  by_opening (broken_off breaks nothing shut) = inl (subst (λ (o : Option Reply). Breaks piece.opening o) replied breaks, nothing)
+  by_opening (broken_off breaks nothing shut part) = inl (subst (λ (o : Option Reply). Breaks piece.opening o) replied breaks, nothing)
 
   was_so : (is_closed piece.from ≡ false → (s : LabState) × IsLabAt trace s) → Was
   was_so here = by piece.from refl (subst (λ (d : Option Drill). Finds d piece.from trace piece) no_drill is.finds)
@@ -257,9 +253,9 @@ breaks_stopped events o reply (stopped ends is) told = let same : replies.Stoppe
 breaks_stopped events o reply (failed once missed is) told = let same : replies.Down ≡ reply = cc (is, told) in once ∙ ap is_stopped same
 breaks_stopped events o reply (unanswered is) told = absurd (cc (is, told))
 
-step_stopped : (terms : Terms) (set : Setting) (s : LabState) (session : Session) (command : Command) (opening own : List Event) (after : After) (reply : Reply) → after.reply ≡ Some reply → LabStep terms set s session command opening own after
+step_stopped : (terms : Terms) (trace : List Event) (set : Setting) (s : LabState) (session : Session) (command : Command) (opening own : List Event) (after : After) (reply : Reply) → after.reply ≡ Some reply → LabStep terms trace set s session command opening own after
     → has_restart (opening ++ own) ≡ is_stopped reply
-step_stopped terms set s session command opening own after reply is step =
+step_stopped terms trace set s session command opening own after reply is step =
     let one = by_one (drill_of command) terms set s session command opening own after step in
     step_stops own after reply is (drill_of command) one.0 terms set s session command opening (was one.0 terms set s command opening own after (drill_of command) session one.1)
 
@@ -270,7 +266,7 @@ drill_replied takes planned replies.NoDrill by = refl
 drill_replied takes planned reply by = absurd by
 
 -- a session that stays open
-left_open : (to : Session) (reply : Reply) → may_shut (Some reply) ≡ false → (is_closed to ≡ true → may_shut (Some reply) ≡ true) → leaves_one to (Some reply) ≡ true
+pub left_open : (to : Session) (reply : Reply) → may_shut (Some reply) ≡ false → (is_closed to ≡ true → may_shut (Some reply) ≡ true) → leaves_one to (Some reply) ≡ true
 left_open Closed reply never shuts = absurd (cc (never, shuts refl))
 left_open (Open opens) reply never shuts = refl
 
@@ -287,7 +283,7 @@ module _ (terms : Terms) (choices : Option Choices) (old new : Outside) (status 
 
   -- OVER A SOUND TRACE
   module _ (sound : IsSound the_texts t.trace) where
-    done : IsDone terms trace b.piece
+    pub done : IsDone terms trace b.piece
     done = piece.done (behind terms t.trace before (b ∷ after) are sound).1
 
     abbrev l : Leads terms trace b.piece
@@ -302,15 +298,15 @@ module _ (terms : Terms) (choices : Option Choices) (old new : Outside) (status 
     abbrev ends : After
     ends = record { reply = l.steps.told; lab = l.last; session = l.steps.session }
 
-    step_by : (command : Command) → b.piece.command ≡ command → LabStep terms set l.first b.piece.from command b.piece.opening own ends
-    step_by command asks = subst (λ (c : Command). LabStep terms set l.first b.piece.from c b.piece.opening own ends) asks l.steps.step
+    step_by : (command : Command) → b.piece.command ≡ command → LabStep terms trace set l.first b.piece.from command b.piece.opening own ends
+    step_by command asks = subst (λ (c : Command). LabStep terms trace set l.first b.piece.from c b.piece.opening own ends) asks l.steps.step
 
     -- a supplied solution
-    pub swapped_in : (only : Bool) (exp text : List ℕ) (lines : ℕ) (reply : Reply) → b.piece.command ≡ SwapinWith only exp lines text → b.piece.reply ≡ Some reply
+    pub swapped_in : AllMove (opens_of b.piece.from) l.first → (only : Bool) (exp text : List ℕ) (lines : ℕ) (reply : Reply) → b.piece.command ≡ SwapinWith only exp lines text → b.piece.reply ≡ Some reply
         → TellsBroken reply ⊎ ((s : LabState) × FirstLab (is_early b.piece) trace s × (mid : LabState) × BeginsAt b.piece.from s b.piece.opening mid
         × (reply ≡ taken_reply only exp → IsFeasibleFor mid exp text) × (IsFeasibleFor mid exp text → (reply ≡ taken_reply only exp) ⊎ Hinders reply))
-    swapped_in only exp text lines reply asks replied =
-        ⊎_elim (λ broken. inl broken) (λ both. inr (l.first, l.before, both.0, both.1, both.2, both.3))
+    swapped_in all only exp text lines reply asks replied =
+        ⊎_elim (λ broken. inl broken) (λ both. inr (l.first, l.before, both.0, both.1, both.2, both.3 all))
         (in_both terms set l.first b.piece.from only exp text lines b.piece.opening own ends reply (step_by (SwapinWith only exp lines text) asks) (told_of terms trace b.piece l.first l.last l.steps reply replied).0)
 
     -- an untroubled recovery
@@ -338,7 +334,7 @@ module _ (terms : Terms) (choices : Option Choices) (old new : Outside) (status 
       one = ap (leaves_one b.piece.to) replied ∙ left_open b.piece.to (Recovered number 0) refl (λ shut. ap may_shut (sym replied) ∙ piece.shuts (ap drill_of asks) shut)
 
       all : AllStandFor (trace ++ steps_of b.piece) l.last
-      all = subst (λ x. ImagesAfter terms x trace b.piece l.last) one (done.images (ap is_some replied))
+      all = subst (λ x. ImagesAfter terms x trace b.piece l.last) one done.images
 
       rest : (e : Experiment) → Has l.last.experiments e → is_moving e ≡ true → is_busy (busy_of b.piece.from) e.name ≡ true
       rest =
@@ -369,7 +365,7 @@ module _ (terms : Terms) (choices : Option Choices) (old new : Outside) (status 
             let steps = x.2 in
             let so = told_of terms trace b.piece x.0 x.1 steps reply replied in
             ap (λ l. has_restart (b.piece.opening ++ l)) (sym (ap (λ l. b.piece.own ++ l) so.2 ∙ append-nil b.piece.own))
-            ∙ step_stopped terms _ x.0 b.piece.from b.piece.command b.piece.opening (b.piece.own ++ steps.behind) _ reply so.0 steps.step)
+            ∙ step_stopped terms trace _ x.0 b.piece.from b.piece.command b.piece.opening (b.piece.own ++ steps.behind) _ reply so.0 steps.step)
             (was_of is)
 
     pub undrilled_told : drill_of b.piece.command ≡ None → is_of_drill reply ≡ false
@@ -380,5 +376,5 @@ module _ (terms : Terms) (choices : Option Choices) (old new : Outside) (status 
         let last : After = record { reply = steps.told; lab = x.1; session = steps.session } in
         ap of_drill_if (sym (told_of terms trace b.piece x.0 x.1 steps reply replied).0)
         ∙ step_so terms now x.0 b.piece.from b.piece.command b.piece.opening (b.piece.own ++ steps.behind) last
-        (subst (λ (d : Option Drill). StepOf d (JudgedBeside terms.rule b.piece.command) terms now x.0 b.piece.from b.piece.opening (b.piece.own ++ steps.behind) last) is steps.step))
+        (subst (λ (d : Option Drill). StepOf d (DoesBy (JudgedBeside terms.rule b.piece.command) now) terms x.0 b.piece.from b.piece.opening (b.piece.own ++ steps.behind) last) is steps.step))
         (was_of is)

@@ -1,6 +1,6 @@
 -- Lab steps of pieces, from what an opening and an open controller leave.
 use Rattle.std.proofs.Common.{◌≡◌, inl, inr, ℕ, ◌+◌, ◌^◌, Bool, true, false, ◌||◌, ◌&&◌, List, [], ◌∷◌, ◌++◌, Option, Some, None, refl, sym, ◌∙◌, ap, subst, append_assoc}
-use Rattle.std.specs.Prelude.{not, is_some, IfSome, Ok, Result}
+use Rattle.std.specs.Prelude.{not, IfSome, Ok}
 use Rattle.std.specs.List.{list_any}
 use Rattle.std.proofs.lemmas.List.{append-nil}
 use Rattle.std.proofs.lemmas.List.Folds.{list_any-append}
@@ -29,10 +29,9 @@ use Rattle.script_text.specs.declared.reply.Reply.{Reply}
 use Rattle.script_text.specs.declared.reply.Reply.TheVariants as replies
 use Rattle.script_text.specs.Drills.{drill_of}
 use Rattle.lab_core.specs.Controller.{Control}
-use Rattle.lab_core.specs.Judge.{Task}
-use Rattle.lab_core.specs.LabSteps.{LabStep, StepOf, IsDoneBy, JudgedBeside, opened}
+use Rattle.lab_core.specs.LabSteps.{DoesCommand, LabStep, StepOf, opened}
 use Rattle.lab_core.specs.Moments.{StandForLab, IsLabAt, IsLabOfImage, AllStandFor, IsLengthAt}
-use Rattle.lab_core.specs.Obey.{Leaves, Start, start_of}
+use Rattle.lab_core.specs.Obey.{Doing, Shuts, Start, start_of}
 use Rattle.lab_core.specs.Opening.{OpenSteps}
 use Rattle.lab_core.specs.Recovery.{Opens}
 use Rattle.lab_core.specs.Sessions.{OpenSwap, Session, Closed, Open, Setting, After, Terms}
@@ -114,23 +113,35 @@ silent_told : (reply told : Option Reply) (to session : Session) (behind : List 
 silent_told None told to session behind is = is
 silent_told (Some reply) told to session behind is = inl is.2
 
-pub silent_done : (terms : Terms) (trace : List Event) (command : Command) (mark : Faults) (from to : Session) (opening own : List Event) (reply : Option Reply) → IsDone terms trace (piece_of command mark from to opening own reply)
-    → IsDone terms trace (piece_of command mark from Closed opening own None)
-silent_done terms trace command mark from to opening own reply done =
-    let l = done.leads in
-    let s = l.steps in
-    record {
-      leads = record {
-        first = l.first;
-        last = l.last;
-        before = l.before;
-        behind = l.behind;
-        steps = record { length = s.length; length_is = s.length_is; told = s.told; session = s.session; behind = s.behind; is_told = silent_told reply s.told to s.session s.behind s.is_told; step = s.step };
-      };
-      opened = λ opens. absurd (cc opens.answered);
-      images = λ some. absurd (cc some);
-      sound = done.sound;
-    }
+-- a first lab is that of an image
+pub first_image : (trace : List Event) → AsRead trace → (early : Bool) (s : LabState) → FirstLab early trace s → IsLabOfImage trace s
+first_image trace readable true s image = image
+first_image trace readable false s at = record { a = (disk A trace).reads; b = (disk B trace).reads; possible = readable; stand = at }
+
+module _ (terms : Terms) (trace : List Event) (command : Command) (mark : Faults) (from to : Session) (opening own : List Event) (reply : Option Reply) (readable : AsRead trace) where
+  abbrev answered_piece : Piece
+  answered_piece = piece_of command mark from to opening own reply
+
+  abbrev silent_piece : Piece
+  silent_piece = piece_of command mark from Closed opening own None
+
+  silent_steps : (s after : LabState) → StepsFrom terms trace answered_piece s after → StepsFrom terms trace silent_piece s after
+  silent_steps s after x =
+      record { length = x.length; length_is = x.length_is; told = x.told; session = x.session; behind = x.behind; is_told = silent_told reply x.told to x.session x.behind x.is_told; step = x.step }
+
+  silent_images : (one : Bool) (first last : LabState) → IsLabOfImage trace first → StepsFrom terms trace answered_piece first last → ImagesAfter terms one trace answered_piece last → ImagesAfter terms false trace silent_piece last
+  silent_images true first last image steps all a b possible = (first, last, image, all a b possible, silent_steps first last steps)
+  silent_images false first last image steps images a b possible = let x = images a b possible in (x.0, x.1, x.2, x.3, silent_steps x.0 x.1 x.4)
+
+  pub silent_done : IsDone terms trace answered_piece → IsDone terms trace silent_piece
+  silent_done done =
+      let l = done.leads in
+      record {
+        leads = record { first = l.first; last = l.last; before = l.before; behind = l.behind; steps = silent_steps l.first l.last l.steps };
+        opened = λ opens. absurd (cc opens.answered);
+        images = silent_images (leaves_one to reply) l.first l.last (first_image trace readable (is_early answered_piece) l.first l.before) l.steps done.images;
+        sound = done.sound;
+      }
 
 -- A PIECE IS DONE, over the trace as it is behind it
 module _ (terms : Terms) (trace : List Event) (piece : Piece) where
@@ -140,7 +151,7 @@ module _ (terms : Terms) (trace : List Event) (piece : Piece) where
 
   abbrev Comes : List Event → Type 0
   Comes now = (first last : LabState) → FirstLab (is_early piece) trace first → StepsFrom terms trace piece first last → (HasOpened piece → (mid : LabState) × OpensTo trace piece first mid) → IsSound the_texts now → IsLabAt now last
-      → (is_some piece.reply ≡ true → ImagesAt (leaves_one piece.to piece.reply) now last) → IsDone terms trace piece
+      → ImagesAt (leaves_one piece.to piece.reply) now last → IsDone terms trace piece
 
   images_after : (one : Bool) (last : LabState) → ImagesAt one (trace ++ steps_of piece) last → ImagesAfter terms one trace piece last
   images_after true last images = images
@@ -150,25 +161,25 @@ module _ (terms : Terms) (trace : List Event) (piece : Piece) where
   done_at now is = subst Comes is (λ first last from steps opens sound at images. record {
     leads = record { first = first; last = last; before = from; behind = at; steps = steps };
     opened = opens;
-    images = λ some. images_after (leaves_one piece.to piece.reply) last (images some);
+    images = images_after (leaves_one piece.to piece.reply) last images;
     sound = sound;
   })
 
 -- A COMMAND THAT IS NO DRILL
-pub step_of : (terms : Terms) (set : Setting) (s : LabState) (from : Session) (command : Command) (opening own : List Event) (after : After) → drill_of command ≡ None → StepOf None (JudgedBeside terms.rule command) terms set s from opening own after
-    → LabStep terms set s from command opening own after
-step_of terms set s from command opening own after no_drill step = subst (λ (d : Option Drill). StepOf d (JudgedBeside terms.rule command) terms set s from opening own after) (sym no_drill) step
+pub step_of : (terms : Terms) (trace : List Event) (set : Setting) (s : LabState) (from : Session) (command : Command) (opening own : List Event) (after : After) → drill_of command ≡ None
+    → StepOf None (DoesCommand terms.rule command (trace ++ opening) set) terms s from opening own after → LabStep terms trace set s from command opening own after
+step_of terms trace set s from command opening own after no_drill step = subst (λ (d : Option Drill). StepOf d (DoesCommand terms.rule command (trace ++ opening) set) terms s from opening own after) (sym no_drill) step
 
 -- WHAT AN OPEN CONTROLLER DOES OF ITS OWN
 module _ (terms : Terms) (mark : Faults) (before : List Event) (from : Session) (opening : List Event) (c : Control) (swaps : List OpenSwap) (w : WasOpened before from opening c swaps) (command : Command) (no_drill : drill_of command ≡ None) where
-  abbrev Judges : Result Task Reply → Type 0
-  Judges = JudgedBeside terms.rule command swaps c.lab
-
   abbrev start : Start
   start = start_of mark.devices c swaps
 
+  abbrev Done : Doing
+  Done trace own after = DoesCommand terms.rule command trace start.set swaps c.lab own after
+
   abbrev IsDoneOf : List Event → Option Reply → LabState → Session → Type 0
-  IsDoneOf own reply lab session = IsDoneBy Judges start.set c.lab swaps own (after_of reply lab session)
+  IsDoneOf own reply lab session = Done (before ++ opening) own (after_of reply lab session)
 
   abbrev of : List Event → Session → Option Reply → Piece
   of own to reply = piece_of command mark from to opening own reply
@@ -186,7 +197,7 @@ module _ (terms : Terms) (mark : Faults) (before : List Event) (from : Session) 
     behind = behind;
     is_told = is;
     step = w.step terms (record { length = length_of c.journal; limit = 2 ^ 32; devices = mark.devices }) command (own ++ behind) (after_of told lab session) no_drill
-        (subst (λ n. IsDoneBy Judges (record { length = length_of c.journal; limit = n; devices = mark.devices }) c.lab swaps (own ++ behind) (after_of told lab session)) w.limit done);
+        (subst (λ n. DoesCommand terms.rule command (before ++ opening) (record { length = length_of c.journal; limit = n; devices = mark.devices }) swaps c.lab (own ++ behind) (after_of told lab session)) w.limit done);
   }
 
   -- as its reply says
@@ -199,9 +210,12 @@ module _ (terms : Terms) (mark : Faults) (before : List Event) (from : Session) 
   first_lab : FirstLab (is_early (of [] Closed None)) before w.start
   first_lab = subst (λ b. FirstLab b before w.start) (sym (not_early from opening w.no_restart)) w.first
 
+  from_there : IsLabOfImage before w.start
+  from_there = record { a = (disk A before).reads; b = (disk B before).reads; possible = w.readable; stand = w.first }
+
   -- behind its steps, over any trace and over a sound one
   done_behind : (own : List Event) (to : Session) (reply : Option Reply) (now : List Event) → before ++ (opening ++ own) ≡ now → (lab : LabState) → Steps own to reply lab → IsSound the_texts now → IsLabAt now lab
-      → (is_some reply ≡ true → ImagesAt terms before (of own to reply) (leaves_one to reply) now lab) → IsSound the_texts before → IsDone terms before (of own to reply)
+      → ImagesAt terms before (of own to reply) (leaves_one to reply) now lab → IsSound the_texts before → IsDone terms before (of own to reply)
   done_behind own to reply now is lab steps sound at images first =
       done_at terms before (of own to reply) now is w.start lab first_lab steps (λ opens. (c.lab, record { opens = w.opens opens.closed; images = standing_all (before ++ opening) c w.stands; sound = w.sound first })) sound at images
 
@@ -210,7 +224,7 @@ module _ (terms : Terms) (mark : Faults) (before : List Event) (from : Session) 
   does_behind own to reply lab steps at done = record {
     steps = λ s there. (lab, subst (λ u. StepsFrom terms before (of own to reply) u lab) (stood_once the_texts _ _ w.start s texts_once w.first there) steps);
     leads = λ open_now. record { first = w.start; last = lab; before = first_lab; behind = at open_now; steps = steps };
-    compact = λ opens. (c.lab, w.compact opens.closed);
+    compact = λ opens s there. (c.lab, subst (λ u. Opens u opening c.lab) (stood_once the_texts _ _ w.start s texts_once w.first there) (w.opens opens.closed), w.compact opens.closed);
     done = done;
   }
 
@@ -226,27 +240,26 @@ module _ (terms : Terms) (mark : Faults) (before : List Event) (from : Session) 
     own_answered new to reply done stands =
         let steps = so_steps own (Open to) (Some reply) new.lab done in
         does_behind own (Open to) (Some reply) new.lab steps (λ open_now. subst (λ l. IsLabAt l new.lab) (sym there) (standing_lab now new stands))
-        (λ first. done_behind own (Open to) (Some reply) now there new.lab steps (sound (w.sound first)) (standing_lab now new stands) (λ some. standing_all now new stands) first)
+        (λ first. done_behind own (Open to) (Some reply) now there new.lab steps (sound (w.sound first)) (standing_lab now new stands) (standing_all now new stands) first)
 
     -- memory was wanting
     pub own_unmade : (new : Control) → IsDoneOf own None new.lab Closed → Stands the_texts now new.journal new.lab → Does terms before (of own Closed None)
     own_unmade new done stands =
         let steps = so_steps own Closed None new.lab done in
         does_behind own Closed None new.lab steps (λ open_now. absurd (cc open_now))
-        (λ first. done_behind own Closed None now there new.lab steps (sound (w.sound first)) (standing_lab now new stands) (λ some. absurd (cc some)) first)
+        (λ first. done_behind own Closed None now there new.lab steps (sound (w.sound first)) (standing_lab now new stands) (λ a b at. (w.start, new.lab, from_there, standing_all now new stands a b at, steps)) first)
 
     -- a reply closes it
-    pub own_closed : (reply : Reply) → leaves_one Closed (Some reply) ≡ false → Leaves (before ++ opening) Judges start own reply (λ a b. []) → AsRead now → Does terms before (of own Closed (Some reply))
+    pub own_closed : (reply : Reply) → leaves_one Closed (Some reply) ≡ false → Shuts Done (before ++ opening) own reply (λ a b. []) → AsRead now → Does terms before (of own Closed (Some reply))
     own_closed reply other leaves readable =
         does_behind own Closed (Some reply) leaves.lab (left_steps own reply leaves.lab (leaves.done [] [])) (λ open_now. absurd (cc open_now))
         (λ first.
         let image = leaves.images (w.sound first) in
         let x = image _ _ readable in
-        let from_there : IsLabOfImage before w.start = record { a = (disk A before).reads; b = (disk B before).reads; possible = w.readable; stand = w.first } in
         done_behind own Closed (Some reply) now there x.0 (left_steps own reply x.0 x.2) (sound (w.sound first)) x.1
-        (λ some. subst (λ b. ImagesAt terms before (of own Closed (Some reply)) b now x.0) (sym other) (λ a b at. let y = image a b at in (w.start, y.0, from_there, y.1, left_steps own reply y.0 y.2))) first)
+        (subst (λ b. ImagesAt terms before (of own Closed (Some reply)) b now x.0) (sym other) (λ a b at. let y = image a b at in (w.start, y.0, from_there, y.1, left_steps own reply y.0 y.2))) first)
 
-    module _ (leaves : Leaves (before ++ opening) Judges start own replies.Stopped (λ a b. Restarted a b ∷ [])) where
+    module _ (leaves : Shuts Done (before ++ opening) own replies.Stopped (λ a b. Restarted a b ∷ [])) where
       -- the plant stopped, and is started again with an image
       pub own_stopped : (a b : List ℕ) → ArePossible now a b → Does terms before (of (own ++ Restarted a b ∷ []) Closed (Some replies.Stopped))
       own_stopped a b possible =
@@ -255,7 +268,7 @@ module _ (terms : Terms) (mark : Faults) (before : List Event) (from : Session) 
           (λ first.
           let x = leaves.images (w.sound first) a b possible in
           done_behind more Closed (Some replies.Stopped) (now ++ Restarted a b ∷ []) (sym (append_assoc (before ++ opening) own (Restarted a b ∷ []) ∙ append_assoc before opening more)) x.0
-          (so_steps more Closed (Some replies.Stopped) x.0 x.2) (restarted the_texts now a b possible (sound (w.sound first))).0 (restarted_lab now a b x.0 x.1) (λ some. restarted_stand the_texts now a b x.0 x.1) first)
+          (so_steps more Closed (Some replies.Stopped) x.0 x.2) (restarted the_texts now a b possible (sound (w.sound first))).0 (restarted_lab now a b x.0 x.1) (restarted_stand the_texts now a b x.0 x.1) first)
 
       -- and isn't
       stays_steps : (a b : List ℕ) (lab : LabState) → IsDoneOf (own ++ Restarted a b ∷ []) (Some replies.Stopped) lab Closed → Steps own Closed None lab
@@ -264,7 +277,10 @@ module _ (terms : Terms) (mark : Faults) (before : List Event) (from : Session) 
       pub own_stays : AsRead now → Does terms before (of own Closed None)
       own_stays readable =
           does_behind own Closed None leaves.lab (stays_steps [] [] leaves.lab (leaves.done [] [])) (λ open_now. absurd (cc open_now))
-          (λ first. let x = leaves.images (w.sound first) _ _ readable in done_behind own Closed None now there x.0 (stays_steps _ _ x.0 x.2) (sound (w.sound first)) x.1 (λ some. absurd (cc some)) first)
+          (λ first.
+          let image = leaves.images (w.sound first) in
+          let x = image _ _ readable in
+          done_behind own Closed None now there x.0 (stays_steps _ _ x.0 x.2) (sound (w.sound first)) x.1 (λ a b at. let y = image a b at in (w.start, y.0, from_there, y.1, stays_steps a b y.0 y.2)) first)
 
 -- A CONTROLLER THAT WAS OPEN, or is opened
 pub was_open : (trace : List Event) (c : Control) (swaps : List OpenSwap) → Stands the_texts trace c.journal c.lab → limit_of c.journal ≡ 2 ^ 32 → WasOpened trace (Open swaps) [] c swaps
@@ -278,7 +294,7 @@ was_open trace c swaps stands limit = record {
   limit = limit;
   opens = λ closed. absurd (cc closed);
   compact = λ closed. absurd (cc closed);
-  step = λ terms set command own after no_drill done. step_of terms set c.lab (Open swaps) command [] own after no_drill (refl, done);
+  step = λ terms set command own after no_drill done. step_of terms trace set c.lab (Open swaps) command [] own after no_drill (refl, done);
 }
 
 pub is_opened : (trace reading behind : List Event) (c : Control) → OpenSteps trace reading behind (2 ^ 32) (Ok c) → Stands the_texts (trace ++ (reading ++ behind)) c.journal c.lab → limit_of c.journal ≡ 2 ^ 32 → AsRead trace
@@ -308,5 +324,5 @@ is_opened trace reading behind c o stands limit readable =
       limit = limit;
       opens = λ closed. opens;
       compact = λ closed. compact_behind trace reading behind c e (standing_lab (trace ++ (reading ++ behind)) c stands);
-      step = λ terms set command own after no_drill done. step_of terms set s.start Closed command (reading ++ behind) own after no_drill (opened c.lab opens done);
+      step = λ terms set command own after no_drill done. step_of terms trace set s.start Closed command (reading ++ behind) own after no_drill (opened c.lab opens done);
     }

@@ -29,17 +29,19 @@ use Rattle.lab_core.specs.Sessions.{OpenSwap, Session, Closed, Open, Setting, Af
 use Rattle.lab_core.specs.Tells.{IsTurn, IsTurnOf, SendsOne, busy_of, is_stopped, opens_of, settles}
 use Rattle.lab_core.proofs.OpenLaws.{Leaves, leaves, names_differ, others_as_they_were, they_are_few}
 use Rattle.lab_core.proofs.OtherWorlds.{others_spared, turn_or_refused}
+use Rattle.lab_core.proofs.SameSwaps.{same_swap}
 use Rattle.lab_core.proofs.StepLaws.{Was, by_one, was}
+use Rattle.std.proofs.lemmas.Option.{same_Some}
 use Rattle.lab_core.proofs.TurnLaws.{one_turn, turn_at_most_one}
 use Rattle.lab_top.specs.Pieces.{Piece, Begun, AllHave, AreHandedOn, AreOthers, ArePieces, ButForReply, Counts, Finds, IsPiece, Leads, StayOpen, StepsFrom, is_closed, session_after, stays_open, steps_of, trace_after}
-use Rattle.lab_top.specs.Ran.{AreAnswered, Outside, Ran}
+use Rattle.lab_top.specs.Ran.{Outside, Ran}
 use Rattle.lab_words.specs.Words.{Choices}
 use Rattle.lab_top.specs.declared.status.Status.{Status}
 use Rattle.lab_top.proofs.Pieces.{trace-push}
 use Rattle.lab_top.proofs.RunLaws.{AreSparing, kept_along, piece_at, pieces_of, told_of, was_of}
 
 -- a piece that leaves the session open is answered
-replied : (terms : Terms) (trace : List Event) (piece : Piece) (reply : Option Reply) → piece.reply ≡ reply → IsPiece terms trace piece → is_closed piece.to ≡ false → is_some piece.reply ≡ true
+pub replied : (terms : Terms) (trace : List Event) (piece : Piece) (reply : Option Reply) → piece.reply ≡ reply → IsPiece terms trace piece → is_closed piece.to ≡ false → is_some piece.reply ≡ true
 replied terms trace piece (Some reply) told is open_now = ap is_some told
 replied terms trace piece None told is open_now = absurd (cc (ap is_closed (is.leaves (ap stays_open told)), open_now))
 
@@ -77,6 +79,12 @@ module _ (terms : Terms) (trace : List Event) (piece : Piece) (is : IsPiece term
   swap_stays name other =
       ⊎_elim (λ same. ap (λ s. open_at name (opens_of s)) same) (λ x. ap (λ s. open_at name (opens_of s)) x.1 ∙ others_as_they_were x.2 piece.from piece.command x.3 x.0 name other x.4) leaves_so
 
+  -- one that stays open is the same swap
+  pub stays_same : (name : List ℕ) (o q : OpenSwap) → AllDiffer (busy_of piece.from) → open_at name (opens_of piece.from) ≡ Some o → open_at name (opens_of piece.to) ≡ Some q → q.running.swap ≡ o.running.swap
+  stays_same name o q differ was_at is_at =
+      ⊎_elim (λ same. ap (λ (y : OpenSwap). y.running.swap) (same_Some q o (sym is_at ∙ ap (λ s. open_at name (opens_of s)) same ∙ was_at)))
+      (λ x. same_swap name x.2 piece.from piece.command x.3 x.0 o q differ was_at (sym (ap (λ s. open_at name (opens_of s)) x.1) ∙ is_at) x.4) leaves_so
+
   -- their names differ, and they are few
   pub are_few : length (opens_of piece.from) ≤ 16 → length (opens_of piece.to) ≤ 16
   are_few few = ⊎_elim (λ same. subst (λ s. length (opens_of s) ≤ 16) (sym same) few) (λ x. subst (λ s. length (opens_of s) ≤ 16) (sym x.1) (they_are_few x.2 piece.from piece.command x.3 x.0 few x.4)) leaves_so
@@ -107,7 +115,7 @@ pub all_marked : (terms : Terms) (entry exit : Faults) (session : Session) (made
 all_marked terms entry exit session [] after o counts handed there = inl (o, there, refl, refl)
 all_marked terms entry exit session (b ∷ made) after o counts handed there =
     ⊎_elim
-    (λ x. ⊎_elim (λ same. inr ([], b, made, refl, sym same ∙ x.3)) (λ q. inl (q.0, subst (λ s. Has (opens_of s) q.0) handed.0 q.1, q.2 ∙ x.2, q.3 ∙ x.3)) (counts.1.opened x.0 x.1))
+    (λ x. ⊎_elim (λ same. inr ([], b, made, refl, sym same.2 ∙ x.3)) (λ q. inl (q.0, subst (λ s. Has (opens_of s) q.0) handed.0 q.1, q.2 ∙ x.2, q.3 ∙ x.3)) (counts.1.opened x.0 x.1))
     (λ x. inr (b ∷ x.0, x.1, x.2, ap (λ l. b ∷ l) x.3, x.4))
     (all_marked terms b.later exit b.piece.to made after o counts.2 handed.1 there)
 
@@ -141,26 +149,16 @@ sparing terms trace session (b ∷ middle) after e o are handed open_now others 
       sparing terms (trace ++ steps_of b.piece) b.piece.to middle after e o are.1 handed.1 open_now.1 others.1 (swap_stays terms trace b.piece are.0 open_now.0 e.name others.0 ∙ here),
     )
 
-both_true : (x y : Bool) → x ≡ true → y ≡ true → x && y ≡ true
-both_true true y is also = also
-both_true false y is also = absurd (cc is)
-
--- an open session is one behind a reply
-all_answered : (terms : Terms) (trace : List Event) (middle after : List Begun) → ArePieces terms trace (middle ++ after) → StayOpen middle → AreAnswered middle
-all_answered terms trace [] after are open_now = refl
-all_answered terms trace (b ∷ middle) after are open_now =
-    both_true (is_some b.piece.reply) _ (replied terms trace b.piece b.piece.reply refl are.0 open_now.0) (all_answered terms (trace ++ steps_of b.piece) middle after are.1 open_now.1)
-
 -- the pieces behind the first, with the session that they are handed
-handed_behind : (session : Session) (before rest : List Begun) → AreHandedOn session (before ++ rest) → AreHandedOn (session_after session before) rest
+pub handed_behind : (session : Session) (before rest : List Begun) → AreHandedOn session (before ++ rest) → AreHandedOn (session_after session before) rest
 handed_behind session [] rest handed = handed
 handed_behind session (b ∷ before) rest handed = handed_behind b.piece.to before rest handed.1
 
-pieces_behind : (terms : Terms) (trace : List Event) (before rest : List Begun) → ArePieces terms trace (before ++ rest) → ArePieces terms (trace_after trace before) rest
+pub pieces_behind : (terms : Terms) (trace : List Event) (before rest : List Begun) → ArePieces terms trace (before ++ rest) → ArePieces terms (trace_after trace before) rest
 pieces_behind terms trace [] rest are = are
 pieces_behind terms trace (b ∷ before) rest are = pieces_behind terms (trace ++ steps_of b.piece) before rest are.1
 
-sessions_join : (session : Session) (before middle : List Begun) → session_after session (before ++ middle) ≡ session_after (session_after session before) middle
+pub sessions_join : (session : Session) (before middle : List Begun) → session_after session (before ++ middle) ≡ session_after (session_after session before) middle
 sessions_join session [] middle = refl
 sessions_join session (b ∷ before) middle = sessions_join b.piece.to before middle
 
@@ -180,7 +178,7 @@ module _ (terms : Terms) (choices : Option Choices) (old new : Outside) (status 
 
   pub moving_kept : (e : Experiment) (o : OpenSwap) → IsSound the_texts t.trace → open_at e.name (opens_of session) ≡ Some o → AllHave (trace_after t.trace before) e → StayOpen middle → AreOthers e.name middle → AllHave (trace_after t.trace (before ++ middle)) e
   moving_kept e o sound there have open_now others =
-      kept_along terms choices old new status before middle after t e r is sound (sparing terms (trace_after t.trace before) session middle after e o are handed open_now others there) have (all_answered terms (trace_after t.trace before) middle after are open_now) others
+      kept_along terms choices old new status before middle after t e r is sound (sparing terms (trace_after t.trace before) session middle after e o are handed open_now others there) have others
 
 -- up to any of its moments
 module _ (terms : Terms) (choices : Option Choices) (old new : Outside) (status : Status) (before after : List Begun) (r : Ran terms choices old new status (before ++ after)) where
@@ -216,17 +214,17 @@ module _ (terms : Terms) (set : Setting) (s : LabState) (opens : List OpenSwap) 
 abbrev TurnsOnly : List Event → Type 0
 TurnsOnly own = (own ≡ []) ⊎ IsTurn own
 
-turn_of : (terms : Terms) (set : Setting) (s : LabState) (from : Session) (exp : List ℕ) (opening own : List Event) (after : After) (reply : Reply) → after.reply ≡ Some reply → closes reply ≡ false → is_stopped reply ≡ false → is_closed from ≡ false
-    → LabStep terms set s from (commands.Turn exp) opening own after → TurnsOnly own
-turn_of terms set s Closed exp opening own after reply is goes runs open_now step = absurd (cc open_now)
-turn_of terms set s (Open opens) exp opening own after reply is goes runs open_now step =
+turn_of : (terms : Terms) (trace : List Event) (set : Setting) (s : LabState) (from : Session) (exp : List ℕ) (opening own : List Event) (after : After) (reply : Reply) → after.reply ≡ Some reply → closes reply ≡ false → is_stopped reply ≡ false → is_closed from ≡ false
+    → LabStep terms trace set s from (commands.Turn exp) opening own after → TurnsOnly own
+turn_of terms trace set s Closed exp opening own after reply is goes runs open_now step = absurd (cc open_now)
+turn_of terms trace set s (Open opens) exp opening own after reply is goes runs open_now step =
     ⊎_elim (λ none. inl none) (λ turn. inr (one_turn own after reply is goes runs None terms set s opens (commands.Turn exp) [] exp refl turn)) (as_judged terms set s opens exp own after step.1)
 
 -- and always
-one_of : (terms : Terms) (set : Setting) (s : LabState) (from : Session) (exp : List ℕ) (opening own : List Event) (after : After) → LabStep terms set s from (commands.Turn exp) opening own after → SendsOneAtMost own
-one_of terms set s Closed exp opening own after (opened mid opens done) = at_most_one terms set mid [] exp own after done
-one_of terms set s Closed exp opening own after (not_opened broke) = inl (ap has_command broke.nothing)
-one_of terms set s (Open opens) exp opening own after step = at_most_one terms set s opens exp own after step.1
+one_of : (terms : Terms) (trace : List Event) (set : Setting) (s : LabState) (from : Session) (exp : List ℕ) (opening own : List Event) (after : After) → LabStep terms trace set s from (commands.Turn exp) opening own after → SendsOneAtMost own
+one_of terms trace set s Closed exp opening own after (opened mid opens done) = at_most_one terms set mid [] exp own after done
+one_of terms trace set s Closed exp opening own after (not_opened broke) = inl (ap has_command broke.nothing)
+one_of terms trace set s (Open opens) exp opening own after step = at_most_one terms set s opens exp own after step.1
 
 -- of a run
 module _ (terms : Terms) (choices : Option Choices) (old new : Outside) (status : Status) (before after : List Begun) (b : Begun) (t : Told) (r : Ran terms choices old new status (before ++ b ∷ after)) (told : old.plant.told ≡ Some t) (exp : List ℕ) (reply : Reply)
@@ -244,8 +242,8 @@ module _ (terms : Terms) (choices : Option Choices) (old new : Outside) (status 
     abbrev all : List Event
     all = b.piece.own ++ steps.behind
 
-    step_by : LabStep terms set_of s b.piece.from (commands.Turn exp) b.piece.opening all ends
-    step_by = subst (λ (c : Command). LabStep terms set_of s b.piece.from c b.piece.opening all ends) asks steps.step
+    step_by : LabStep terms trace set_of s b.piece.from (commands.Turn exp) b.piece.opening all ends
+    step_by = subst (λ (c : Command). LabStep terms trace set_of s b.piece.from c b.piece.opening all ends) asks steps.step
 
   -- by what holds of the steps of a lab step
   by_steps : (P : List Event → Type 0) → P [] → ((s last : LabState) (steps : StepsFrom terms trace b.piece s last) → steps.told ≡ Some reply → P (b.piece.own ++ steps.behind)) → P b.piece.own
@@ -256,11 +254,11 @@ module _ (terms : Terms) (choices : Option Choices) (old new : Outside) (status 
 
   pub turned_alone : closes reply ≡ false → is_stopped reply ≡ false → is_closed b.piece.from ≡ false → TurnsOnly b.piece.own
   turned_alone goes runs open_now =
-      by_steps TurnsOnly (inl refl) (λ s last steps is. turn_of terms (set_of s last steps) s b.piece.from exp b.piece.opening (all s last steps) (ends s last steps) reply is goes runs open_now (step_by s last steps))
+      by_steps TurnsOnly (inl refl) (λ s last steps is. turn_of terms trace (set_of s last steps) s b.piece.from exp b.piece.opening (all s last steps) (ends s last steps) reply is goes runs open_now (step_by s last steps))
 
   pub sends_one : SendsOneAtMost b.piece.own
   sends_one =
-      by_steps SendsOneAtMost (inl refl) (λ s last steps is. one_of terms (set_of s last steps) s b.piece.from exp b.piece.opening (all s last steps) (ends s last steps) (step_by s last steps))
+      by_steps SendsOneAtMost (inl refl) (λ s last steps is. one_of terms trace (set_of s last steps) s b.piece.from exp b.piece.opening (all s last steps) (ends s last steps) (step_by s last steps))
 
 -- THE WORLD of the other experiments, by a turn, or by all up to the end
 module _ (terms : Terms) (choices : Option Choices) (old new : Outside) (status : Status) (before after : List Begun) (b : Begun) (t : Told) (r : Ran terms choices old new status (before ++ b ∷ after)) (told : old.plant.told ≡ Some t) (s : LabState) (exp : List ℕ)
@@ -283,10 +281,10 @@ module _ (terms : Terms) (choices : Option Choices) (old new : Outside) (status 
       let ends : After = record { reply = steps.told; lab = last; session = steps.session } in
       let all : b.piece.own ++ steps.behind ≡ steps_of b.piece =
       ap (λ l. b.piece.own ++ l) (told_of terms past b.piece s last steps reply replied).2 ∙ append-nil b.piece.own ∙ ap (λ l. l ++ b.piece.own) (sym none) in
-      let step : LabStep terms set s (Open opens) b.piece.command b.piece.opening (b.piece.own ++ steps.behind) ends =
-      subst (λ (f : Session). LabStep terms set s f b.piece.command b.piece.opening (b.piece.own ++ steps.behind) ends) from steps.step in
+      let step : LabStep terms past set s (Open opens) b.piece.command b.piece.opening (b.piece.own ++ steps.behind) ends =
+      subst (λ (f : Session). LabStep terms past set s f b.piece.command b.piece.opening (b.piece.own ++ steps.behind) ends) from steps.step in
       subst Spared (ap (λ l. past ++ l) all ∙ sym (trace-push t.trace before b))
-      (others_spared terms set s opens b.piece.command b.piece.opening (b.piece.own ++ steps.behind) ends past exp e (lab_sane the_texts at.records s at.lab_of) turns listed other step)
+      (others_spared terms past set s opens b.piece.command b.piece.opening (b.piece.own ++ steps.behind) ends past exp e (lab_sane the_texts at.records s at.lab_of) turns listed other step)
 
   spared_from : (from : Session) → b.piece.from ≡ from → is_closed from ≡ false → Spared (trace_after t.trace (before ++ b ∷ []))
   spared_from Closed is open_now = absurd (cc open_now)

@@ -43,7 +43,7 @@ unbegun terms choices out = record {
   sessions = tt;
   goes_on = λ runs. tt;
   pieces = all_some out.plant.told (λ t. tt);
-  ends = all_some out.plant.told (λ t. tt);
+  ends = all_some out.plant.told (λ t runs. inl refl);
   sound = still_sound out.plant.told;
   answered = inl refl;
   begun = none_begun (number_of choices) out.left;
@@ -114,7 +114,7 @@ never_read terms seed old new status made r is = subst (λ (s : Status). Generat
 
 -- the script that was obeyed
 module _ (terms : Terms) (seed : ℕ) (a b : Outside) (was : Status) (made : List Begun) (left_is : a.left ≡ Some (generated seed)) (r : Ran terms (Some Usual) a b was made) where
-  rerun : (left written now : Option (List ℕ)) (status : Status) → (status ≡ statuses.Usage → ⊥) → (a.plant.stopped ≡ false → GoesOn status b.plant.stopped) → IfSome a.plant.told (λ t. EndsSo t.trace made status)
+  rerun : (left written now : Option (List ℕ)) (status : Status) → (status ≡ statuses.Usage → ⊥) → (a.plant.stopped ≡ false → GoesOn status b.plant.stopped) → IfSome a.plant.told (λ t. EndsSo terms t.trace made status b.plant.stopped)
       → Answered status made → GeneratedCommands (generated seed) (commands_of made) status → WroteSummary written now (summary seed (replies_of made)) status
       → Ran terms (Some (Numbered (Some seed))) (record { left = left; plant = a.plant; written = written }) (record { left = left; plant = b.plant; written = now }) status made
   rerun left written now status not goes_on ends answered begun wrote = record {
@@ -180,7 +180,7 @@ module _ (terms : Terms) (seed : ℕ) (a b : Outside) (was : Status) (made : Lis
     finished left written now statuses.Done finishes wrote = rerun left written now statuses.Done (λ e. cc e) stays (all_some a.plant.told (λ t. tt)) all_answered all_begun.0 wrote
     finished left written now statuses.WriteFault finishes wrote = rerun left written now statuses.WriteFault (λ e. cc e) stays (all_some a.plant.told (λ t. tt)) all_answered all_begun.0 wrote
     finished left written now statuses.Memory finishes wrote =
-        rerun left written now statuses.Memory (λ e. cc e) (λ runs. tt) (all_some a.plant.told (λ t. tt)) (inl all_answered) (first_of 0 _ (commands_of made) AtEnd all_begun.0) wrote
+        rerun left written now statuses.Memory (λ e. cc e) (λ runs. tt) (all_some a.plant.told (λ t runs. inl all_answered)) (inl all_answered) (first_of 0 _ (commands_of made) AtEnd all_begun.0) wrote
     finished left written now statuses.ReadFault finishes wrote = absurd finishes
     finished left written now statuses.Usage finishes wrote = absurd finishes
     finished left written now (statuses.BadScript line) finishes wrote = absurd finishes

@@ -24,14 +24,14 @@ use Rattle.script_text.specs.declared.reply.Reply.TheVariants.{Down, NoDrill, Pl
 use Rattle.script_text.specs.Drills.{drill_of}
 use Rattle.script_text.specs.Replies.{text_of}
 use Rattle.lab_core.specs.Controller.{Control, WorksWith}
-use Rattle.lab_core.specs.LabSteps.{LabStep, IsDoneBy, JudgedBeside}
+use Rattle.lab_core.specs.LabSteps.{LabStep, DoesCommand}
 use Rattle.lab_core.specs.Moments.{IsLabAt}
 use Rattle.lab_core.specs.Recovery.{Opens}
-use Rattle.lab_core.specs.Sessions.{OpenSwap, Session, Closed, Open, Setting, After, AreOpenedBy, counted_from, name_of, Terms}
+use Rattle.lab_core.specs.Sessions.{OpenSwap, Session, Closed, Open, Setting, After, AreOpenedBy, counted_from, name_of, names_of, Terms}
 use Rattle.lab_core.specs.Tells.{opens_of}
 use Rattle.lab_top.specs.declared.command.CommandFault.{CommandFault}
 use Rattle.lab_top.specs.declared.command.CommandFault.TheVariants.{Memory, WriteFault, JournalBad}
-use Rattle.lab_top.specs.Pieces.{Piece, FindsNone, HasOpened, IsCompact, IsDone, IsPiece, IsPlannedBy, Leads, Later, StepsFrom, blames_if, closes_if, is_closed, may_shut, stays_open, with_drill_if}
+use Rattle.lab_top.specs.Pieces.{Piece, FindsNone, HasOpened, IsCompact, IsDone, IsPiece, IsPlannedBy, Leads, Later, StepsFrom, WantsBehind, WantsOnly, blames_if, blames_now_if, closes_if, is_closed, may_shut, stays_open, with_drill_if}
 
 -- what is seen of the plant between two commands, and the controller where it is open
 pub record Moment : Type 0 where
@@ -76,14 +76,14 @@ pub record WasOpened (trace : List Event) (from : Session) (opening : List Event
   pub limit : limit_of c.journal ≡ 2 ^ 32
   pub opens : from ≡ Closed → Opens start opening c.lab
   pub compact : from ≡ Closed → IsCompact trace opening c.lab
-  pub step : (terms : Terms) (set : Setting) (command : Command) (own : List Event) (after : After) → drill_of command ≡ None → IsDoneBy (JudgedBeside terms.rule command swaps c.lab) set c.lab swaps own after
-      → LabStep terms set start from command opening own after
+  pub step : (terms : Terms) (set : Setting) (command : Command) (own : List Event) (after : After) → drill_of command ≡ None → DoesCommand terms.rule command (trace ++ opening) set swaps c.lab own after
+      → LabStep terms trace set start from command opening own after
 
 -- what an open controller does of a command, however it was opened
 pub record Does (terms : Terms) (trace : List Event) (piece : Piece) : Type 0 where
   pub steps : (s : LabState) → IsLabAt trace s → (after : LabState) × StepsFrom terms trace piece s after
   pub leads : is_closed piece.to ≡ false → Leads terms trace piece
-  pub compact : HasOpened piece → (mid : LabState) × IsCompact trace piece.opening mid
+  pub compact : HasOpened piece → (s : LabState) → IsLabAt trace s → (mid : LabState) × Opens s piece.opening mid × IsCompact trace piece.opening mid
   pub done : IsSound the_texts trace → IsDone terms trace piece
 
 abbrev pub DoesOwn : Terms → List Event → Command → Faults → Control → List OpenSwap → List Event → Session → Option Reply → Type 0
@@ -108,8 +108,10 @@ pub record Makes (terms : Terms) (mark : Faults) (command : Command) (old : Seen
   pub shut : is_closed to ≡ true → may_shut reply ≡ true
   pub closed : stays_open reply ≡ false → to ≡ Closed
   pub device : blames_if reply ≡ true → Rose (counted_from swaps (name_of command) mark.devices) new.plant.faults.devices
-  pub opened : AreOpenedBy swaps (opens_of to) mark.devices
+  pub here : blames_now_if reply ≡ true → Rose old.faults.devices new.plant.faults.devices
+  pub opened : AreOpenedBy (name_of command) reply swaps (opens_of to) mark.devices
   pub goes_on : HasSession new to
+  pub wants : is_some reply ≡ false → new.plant.stopped ≡ false → IfSome old.told (λ t. WantsBehind command c.lab (names_of swaps) own.0)
 
 -- A DRILL IS PLANNED on a plant that takes drills, and else refused; or memory is wanting, and nothing is done
 abbrev pub Plans : Bool → Drill → Option Told → Option Told → Result Reply CommandFault → Type 0
@@ -142,13 +144,18 @@ pub record Made (terms : Terms) (command : Command) (old new : Moment) (from to 
   pub later : Later old.plant.faults new.plant.faults
   pub disk : closes_if reply ≡ true → Rose old.plant.faults.disk new.plant.faults.disk
   pub device : blames_if reply ≡ true → Rose (counted_from (opens_of from) (name_of command) old.plant.faults.devices) new.plant.faults.devices
-  pub opened : AreOpenedBy (opens_of from) (opens_of to) old.plant.faults.devices
+  pub here : blames_now_if reply ≡ true → Rose old.plant.faults.devices new.plant.faults.devices
+  pub opened : AreOpenedBy (name_of command) reply (opens_of from) (opens_of to) old.plant.faults.devices
   pub runs : is_some reply ≡ true → old.plant.stopped ≡ false → new.plant.stopped ≡ false
   pub goes_on : is_some reply ≡ true → HasSession new to
+  pub wants : is_some reply ≡ false → new.plant.stopped ≡ false
+      → IfSome old.plant.told (λ t. WantsOnly terms t.trace (piece_of command old.plant.faults from to begun.opening begun.own reply))
 
 -- the sides are no journal, and the plant is not stopped
 pub record FoundNone (terms : Terms) (command : Command) (old new : Moment) (from : Session) (side : Side) (at : ℕ) : Type 0 where
   pub made : Made terms command old new from Closed None
+  pub no_drill : drill_of command ≡ None
+  pub closed : from ≡ Closed
   pub finds : IfSome old.plant.told (λ t. FindsNone t.trace (piece_of command old.plant.faults from Closed made.begun.opening made.begun.own None) side at)
   pub runs : new.plant.stopped ≡ false
 

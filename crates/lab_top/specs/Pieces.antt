@@ -14,27 +14,30 @@ use Rattle.plant.specs.declared.moment.Faults.{Faults}
 use Rattle.plant.specs.declared.step.Side.{Side}
 use Rattle.plant.specs.declared.step.Side.TheVariants.{A, B}
 use Rattle.virt_topo.specs.declared.experiment.Experiment.{Experiment}
+use Rattle.virt_topo.specs.declared.experiment.Phase.{Phase}
 use Rattle.journal_model.specs.Appends.{other_side}
-use Rattle.records_model.specs.Labs.{LabState, find}
+use Rattle.records_model.specs.Labs.{LabState, find, is_out}
 use Rattle.records_model.specs.Works.{IsSound}
 use Rattle.journal_disk.specs.Before.{are_synced}
 use Rattle.journal_disk.specs.Opening.{both_synced}
-use Rattle.journal_runs.specs.Pieces.{has_command, has_miss, has_restart}
+use Rattle.journal_runs.specs.Pieces.{has_miss, has_restart}
 use Rattle.lab_state.specs.Texts.{the_texts}
 use Rattle.script_text.specs.declared.command.Command.{Command}
+use Rattle.script_text.specs.declared.command.Command.TheVariants.{Recover}
 use Rattle.script_text.specs.declared.reply.Reply.{Reply}
-use Rattle.script_text.specs.declared.reply.Reply.TheVariants.{Planned, NoDrill, Stopped}
+use Rattle.script_text.specs.declared.reply.Reply.TheVariants.{Planned, NoDrill, Stopped, In, Out, Failed}
+use Rattle.script_text.specs.declared.reply.FailedEnd.TheVariants as ends
 use Rattle.script_text.specs.Drills.{drill_of}
 use Rattle.script_text.specs.Replies.{text_of, closes, blames_device}
-use Rattle.lab_core.specs.Recovery.{Opens}
+use Rattle.lab_core.specs.Recovery.{Opens, OpensInPart, Reads, SettlesFirst}
 use Rattle.lab_core.specs.LabSteps.{LabStep}
 use Rattle.lab_core.specs.Compaction.{packed_length}
 use Rattle.lab_core.specs.Moments.{IsNoJournal, IsLabAt, IsLabOfImage, AllStandFor, StandForLab, IsLengthAt, IsLiveAt}
 use Rattle.lab_core.specs.Breaks.{Breaks}
-use Rattle.lab_core.specs.Opening.{IsJournal}
+use Rattle.lab_core.specs.Opening.{IsJournal, has_change}
 use Rattle.lab_core.specs.Said.{IsAsSaid}
-use Rattle.lab_core.specs.Tells.{opens_of}
-use Rattle.lab_core.specs.Sessions.{Session, Closed, Open, AreOpenedBy, counted_from, name_of, Terms}
+use Rattle.lab_core.specs.Tells.{BeginsAt, busy_of, is_in, opens_of}
+use Rattle.lab_core.specs.Sessions.{Session, Closed, Open, AreOpenedBy, blames_now, counted_from, name_of, open_at, Terms}
 
 -- A PIECE: a command, the counts of faults at its mark, the session before and after it, the steps of its opening and its own, and its reply, if it was
 -- answered
@@ -95,6 +98,10 @@ abbrev pub blames_if : Option Reply → Bool
 blames_if None = false
 blames_if (Some reply) = blames_device reply
 
+abbrev pub blames_now_if : Option Reply → Bool
+blames_now_if None = false
+blames_now_if (Some reply) = blames_now reply
+
 -- A DRILL IS PLANNED exactly where its reply tells it, and that only over a plant that takes drills; without a reply it may be. It has no other reply.
 -- No other command plans one.
 abbrev pub IsPlannedAs : Bool → Bool → Option Reply → Type 0
@@ -108,13 +115,15 @@ IsPlannedBy terms None planned reply = planned ≡ false
 IsPlannedBy terms (Some drill) planned reply = IsPlannedAs terms.takes planned reply
 
 -- a reply that closes comes only where the disk's count rose; one that blames a device only where the devices' count rose since the mark of the command
--- that opened the experiment's swap, or where none is open since that of this one; each swap that is open behind the command was opened before it, or
--- at its mark; and a drill is planned as its reply tells
+-- that opened the experiment's swap, or where none is open since that of this one; and since that of this one where it blames it for what the command
+-- itself sent. Each swap that is open behind the command was open before it, with its count; or the reply tells that it has begun, of the command's own
+-- experiment, and its count is that at the mark. A drill is planned as its reply tells.
 pub record IsCaused (terms : Terms) (b : Begun) : Type 0 where
   pub later : Later b.piece.faults b.later
   pub disk : closes_if b.piece.reply ≡ true → Rose b.piece.faults.disk b.later.disk
   pub device : blames_if b.piece.reply ≡ true → Rose (counted_from (opens_of b.piece.from) (name_of b.piece.command) b.piece.faults.devices) b.later.devices
-  pub opened : AreOpenedBy (opens_of b.piece.from) (opens_of b.piece.to) b.piece.faults.devices
+  pub here : blames_now_if b.piece.reply ≡ true → Rose b.piece.faults.devices b.later.devices
+  pub opened : AreOpenedBy (name_of b.piece.command) b.piece.reply (opens_of b.piece.from) (opens_of b.piece.to) b.piece.faults.devices
   pub planned : IsPlannedBy terms (drill_of b.piece.command) b.planned b.piece.reply
 
 -- THE COUNTS OF FAULTS begin with those of the entry and end with those of the exit
@@ -134,16 +143,17 @@ session_after session (b ∷ begun) = session_after b.piece.to begun
 
 -- HOW A COMMAND FINDS THE JOURNAL, over any trace
 
--- it opens the journal: no call failed or stopped, and the sides are a journal; or it breaks off, and nothing of the command's own is done
+-- it opens the journal: no call failed or stopped, and the sides are a journal; or it breaks off, and nothing of the command's own is done, and where the
+-- sides stand for a lab the opening came so far from there
 pub data IsOpening (trace : List Event) (piece : Piece) : Type 0 where
   opened : has_miss piece.opening ≡ false → has_restart piece.opening ≡ false → IsJournal (disk A trace).reads (disk B trace).reads (2 ^ 32) → IsOpening trace piece
-  broken_off : Breaks piece.opening piece.reply → piece.own ≡ [] → piece.to ≡ Closed → IsOpening trace piece
+  broken_off : Breaks piece.opening piece.reply → piece.own ≡ [] → piece.to ≡ Closed → ((s : LabState) → IsLabAt trace s → (after : LabState) × OpensInPart s piece.opening after) → IsOpening trace piece
 
 -- a drill needs no open session: it has no steps, and its reply leaves the session as it was. Every other command opens it where it is closed, and
--- sends a device command in that only where the sides are a journal.
+-- writes, cuts or sends anything in that only where the sides are a journal, whatever comes of it.
 abbrev pub Finds : Option Drill → Session → List Event → Piece → Type 0
 Finds (Some drill) from trace piece = (piece.opening ≡ []) × (piece.own ≡ []) × (is_some piece.reply ≡ true → piece.to ≡ from)
-Finds None Closed trace piece = (has_command piece.opening ≡ true → IsJournal (disk A trace).reads (disk B trace).reads (2 ^ 32)) × IsOpening trace piece
+Finds None Closed trace piece = (has_change piece.opening ≡ true → IsJournal (disk A trace).reads (disk B trace).reads (2 ^ 32)) × IsOpening trace piece
 Finds None (Open opens) trace piece = piece.opening ≡ []
 
 -- the session stays open only behind a reply that doesn't close it, and is closed only behind one that closes it, behind `stopped`, or where there is none
@@ -181,7 +191,7 @@ pub record StepsFrom (terms : Terms) (trace : List Event) (piece : Piece) (s aft
   pub session : Session
   pub behind : List Event
   pub is_told : ButForReply piece.reply piece.to told session behind
-  pub step : LabStep terms (record { length = length; limit = 2 ^ 32; devices = piece.faults.devices }) s piece.from piece.command piece.opening (piece.own ++ behind) (record { reply = told; lab = after; session = session })
+  pub step : LabStep terms trace (record { length = length; limit = 2 ^ 32; devices = piece.faults.devices }) s piece.from piece.command piece.opening (piece.own ++ behind) (record { reply = told; lab = after; session = session })
 
 -- the first lab is that of the moment; where the plant stopped in an opening before both sides were synced, that of an image
 abbrev pub is_closed : Session → Bool
@@ -195,8 +205,8 @@ abbrev pub FirstLab : Bool → List Event → LabState → Type 0
 FirstLab true trace s = IsLabOfImage trace s
 FirstLab false trace s = IsLabAt trace s
 
--- after `stopped`, and after a reply that leaves the session open, all images stand for the last lab; after each other reply each image stands for
--- the lab after a step from an image before it
+-- after `stopped`, and after a reply that leaves the session open, all images stand for the last lab; after each other reply, and without one, each
+-- image stands for the lab after a step from an image before it
 abbrev pub leaves_one : Session → Option Reply → Bool
 leaves_one (Open opens) reply = true
 leaves_one Closed (Some Stopped) = true
@@ -242,15 +252,16 @@ pub record IsCompact (trace opening : List Event) (mid : LabState) : Type 0 wher
   pub small : (length ≤ 1048576) ⊎ ((length < 2 * packed_length mid) ⊎ (2 ^ 64 - 1 ≤ epoch))
   pub moved : (was : Side) (old : ℕ) → IsLiveAt trace was old → ((side ≡ was) × (epoch ≡ old)) ⊎ ((side ≡ other_side was) × (epoch ≡ old + 1))
 
--- over a sound trace it is one, whatever its reply; each image stands for such a lab, and the trace stays sound
+-- over a sound trace it is one, whatever its reply, and without one; each image stands for such a lab, and the trace stays sound
 pub record IsDone (terms : Terms) (trace : List Event) (piece : Piece) : Type 0 where
   pub leads : Leads terms trace piece
   pub opened : HasOpened piece → (mid : LabState) × OpensTo trace piece leads.first mid
-  pub images : is_some piece.reply ≡ true → ImagesAfter terms (leaves_one piece.to piece.reply) trace piece leads.last
+  pub images : ImagesAfter terms (leaves_one piece.to piece.reply) trace piece leads.last
   pub sound : IsSound the_texts (trace ++ steps_of piece)
 
 -- OVER ANY TRACE a piece finds the journal so; where the sides stand for a lab, and no call of its opening failed or stopped, one that is answered is a
--- lab step from there; where it leaves the session open, the sides stand for the lab that it leads to; and behind an opening the journal is compact
+-- lab step from there; where it leaves the session open, the sides stand for the lab that it leads to; and behind an opening that led to a lab the
+-- journal is compact in that one
 pub record IsPiece (terms : Terms) (trace : List Event) (piece : Piece) : Type 0 where
   pub readable : ArePossible trace (disk A trace).reads (disk B trace).reads
   pub finds : Finds (drill_of piece.command) piece.from trace piece
@@ -259,8 +270,21 @@ pub record IsPiece (terms : Terms) (trace : List Event) (piece : Piece) : Type 0
   pub steps : drill_of piece.command ≡ None → is_some piece.reply ≡ true → has_miss piece.opening ≡ false → has_restart piece.opening ≡ false
       → (s : LabState) → IsLabAt trace s → (after : LabState) × StepsFrom terms trace piece s after
   pub leads : drill_of piece.command ≡ None → is_closed piece.to ≡ false → Leads terms trace piece
-  pub compact : HasOpened piece → (mid : LabState) × IsCompact trace piece.opening mid
+  pub compact : HasOpened piece → (s : LabState) → IsLabAt trace s → (mid : LabState) × Opens s piece.opening mid × IsCompact trace piece.opening mid
   pub done : IsSound the_texts trace → IsDone terms trace piece
+
+-- WITHOUT A REPLY, over a plant that is not stopped, memory was wanting: for the text of a reply alone, with which it is a piece; or before anything was
+-- done but reading; or in the settling of its opening, between two experiments; or behind the opening, before anything of its own was done, or in
+-- `recover` between two experiments. No swap and no settling of an experiment is ended by it.
+abbrev pub WantsBehind : Command → LabState → List (List ℕ) → List Event → Type 0
+WantsBehind command s busy own = (own ≡ []) ⊎ ((command ≡ Recover) × ((after : LabState) × SettlesFirst s busy own after))
+
+pub data WantsOnly (terms : Terms) (trace : List Event) (piece : Piece) : Type 0 where
+  text : (reply : Reply) (to : Session) → IsPiece terms trace (record piece { to = to; reply = Some reply }) → WantsOnly terms trace piece
+  reading : Reads piece.opening → piece.own ≡ [] → WantsOnly terms trace piece
+  settling : (s after : LabState) (front moving : List Event) → IsLabAt trace s → piece.opening ≡ front ++ moving → Reads front → has_miss front ≡ false → has_restart front ≡ false → SettlesFirst s [] moving after
+      → piece.own ≡ [] → WantsOnly terms trace piece
+  behind : (s mid : LabState) → IsLabAt trace s → BeginsAt piece.from s piece.opening mid → WantsBehind piece.command mid (busy_of piece.from) piece.own → WantsOnly terms trace piece
 
 -- each image that is possible stands for a lab in which the experiment is so
 abbrev pub AllHave : List Event → Experiment → Type 0
@@ -283,6 +307,26 @@ AreOthers name (b ∷ begun) = (name_of b.piece.command ≢ Some name) × AreOth
 abbrev pub StayOpen : List Begun → Type 0
 StayOpen [] = Unit {0}
 StayOpen (b ∷ begun) = (is_closed b.piece.to ≡ false) × StayOpen begun
+
+-- each leaves the swap of that experiment open
+abbrev pub AreOn : List ℕ → List Begun → Type 0
+AreOn exp [] = Unit {0}
+AreOn exp (b ∷ begun) = (is_some (open_at exp (opens_of b.piece.to)) ≡ true) × AreOn exp begun
+
+-- WHERE A REPLY TELLS THAT AN EXPERIMENT IS, in or out, there it is in each possible image behind later commands that are about others; and it is the same
+-- in all of them
+pub record AreAll (is : Phase → Bool) (trace : List Event) (exp : List ℕ) : Type 0 where
+  pub experiment : Experiment
+  pub named : experiment.name ≡ exp
+  pub is_so : is experiment.phase ≡ true
+  pub all : AllHave trace experiment
+
+abbrev pub TellsAll : Reply → List Begun → List Event → Type 0
+TellsAll (In exp) later trace = AreOthers exp later → AreAll is_in trace exp
+TellsAll (Out exp) later trace = AreOthers exp later → AreAll is_out trace exp
+TellsAll (Failed exp ends.In what) later trace = AreOthers exp later → AreAll is_in trace exp
+TellsAll (Failed exp ends.Out what) later trace = AreOthers exp later → AreAll is_out trace exp
+TellsAll reply later trace = Unit {0}
 
 -- pieces one after another
 abbrev pub ArePieces : Terms → List Event → List Begun → Type 0

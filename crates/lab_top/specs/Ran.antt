@@ -11,11 +11,12 @@ use Rattle.plant.specs.declared.step.Side.{Side}
 use Rattle.records_model.specs.Works.{IsSound}
 use Rattle.lab_state.specs.Texts.{the_texts}
 use Rattle.script_text.specs.declared.command.Command.{Command}
+use Rattle.script_text.specs.Drills.{drill_of}
 use Rattle.script_text.specs.Commands.{Lines, Got, next_of, AtEnd, BadLine, IsScript}
 use Rattle.lab_top.specs.declared.status.Status.{Status}
 use Rattle.lab_top.specs.declared.status.Status.TheVariants.{Done, ReadFault, WriteFault, Usage, BadScript, Memory, JournalBad}
 use Rattle.lab_core.specs.Sessions.{Closed, Terms}
-use Rattle.lab_top.specs.Pieces.{Begun, AreHandedOn, ArePieces, Counts, FindsNone, commands_of, trace_after, with_pieces, reply_text, reply_texts}
+use Rattle.lab_top.specs.Pieces.{Begun, AreHandedOn, ArePieces, Counts, FindsNone, commands_of, trace_after, with_pieces, reply_text, reply_texts, WantsOnly}
 use Rattle.lab_top.specs.Tellers.{replies_of}
 use Rattle.lab_gen.specs.Script.{generated}
 use Rattle.lab_gen.specs.Summary.{summary}
@@ -80,9 +81,15 @@ pub record LastIsNot (made : List Begun) : Type 0 where
   pub answered : AreAnswered before
   pub waits : last.piece.reply ≡ None
 
+-- where the sides are no journal, the last command is no drill and found the session closed, over every plant
+pub record LastOpens (made : List Begun) : Type 0 where
+  pub last_is : LastIsNot made
+  pub no_drill : drill_of last_is.last.piece.command ≡ None
+  pub closed : last_is.last.piece.from ≡ Closed
+
 abbrev pub Answered : Status → List Begun → Type 0
 Answered Memory made = AreAnswered made ⊎ LastIsNot made
-Answered (JournalBad side at) made = LastIsNot made
+Answered (JournalBad side at) made = LastOpens made
 Answered status made = AreAnswered made
 
 -- where the sides are no journal, the last command found them so
@@ -93,9 +100,19 @@ pub record LastFindsNone (trace : List Event) (made : List Begun) (side : Side) 
   pub answered : AreAnswered before
   pub finds : FindsNone (trace_after trace before) last.piece side at
 
-abbrev pub EndsSo : List Event → List Begun → Status → Type 0
-EndsSo trace made (JournalBad side at) = LastFindsNone trace made side at
-EndsSo trace made status = Unit {0}
+-- at want of memory the last command may be unanswered, and where the plant is not stopped memory alone was wanting in it
+pub record LastWants (terms : Terms) (trace : List Event) (made : List Begun) : Type 0 where
+  pub before : List Begun
+  pub last : Begun
+  pub made_are : made ≡ before ++ last ∷ []
+  pub answered : AreAnswered before
+  pub waits : last.piece.reply ≡ None
+  pub wants : WantsOnly terms (trace_after trace before) last.piece
+
+abbrev pub EndsSo : Terms → List Event → List Begun → Status → Bool → Type 0
+EndsSo terms trace made (JournalBad side at) stopped = LastFindsNone trace made side at
+EndsSo terms trace made Memory stopped = stopped ≡ false → AreAnswered made ⊎ LastWants terms trace made
+EndsSo terms trace made status stopped = Unit {0}
 
 -- all replies, or, after a write that failed, the last one cut to a proper prefix
 abbrev pub WroteReplies : Option (List ℕ) → Option (List ℕ) → List Begun → Status → Type 0
@@ -152,8 +169,8 @@ pub record Ran (terms : Terms) (choices : Option Choices) (old new : Outside) (s
   -- over any trace each command finds the journal as its piece says, and is a lab step, from the lab of the moment before it to that of the moment after
   -- it, where it leaves the session open; over one that is sound at the entry each is
   pub pieces : IfSome old.plant.told (λ t. ArePieces terms t.trace made)
-  -- JournalBad comes where the last command found the sides to be no journal, and left them so
-  pub ends : IfSome old.plant.told (λ t. EndsSo t.trace made status)
+  -- JournalBad comes where the last command found the sides to be no journal, and left them so; and want of memory ends no swap
+  pub ends : IfSome old.plant.told (λ t. EndsSo terms t.trace made status new.plant.stopped)
   -- and a trace that is sound at the entry is sound at the exit
   pub sound : IfSome old.plant.told (λ t. IsSound the_texts t.trace → IfSome new.plant.told (λ u. IsSound the_texts u.trace))
   pub answered : Answered status made

@@ -34,6 +34,7 @@ fn start_again<P: Plant>(plant: &mut P) -> Result<Reply, CommandFault>
     requires { IsTrue (P.seen plant.old).stopped }
     ensures starts { Starts (P.seen plant.old).told (P.seen plant.new).told result }
     ensures runs { OnOk result ((P.seen plant.new).stopped ≡ false) }
+    ensures halts { OnErr result ((P.seen plant.new).stopped ≡ true) }
     ensures faults { (P.seen plant.new).faults ≡ (P.seen plant.old).faults }
 {
     match plant.restart() {
@@ -48,6 +49,7 @@ fn unopened<P: Plant>(fault: OpenFault, plant: &mut P) -> Result<Reply, CommandF
     ensures unopened { Unopened fault (P.seen plant.old).told (P.seen plant.new).told result }
     ensures runs { OnOk result ((P.seen plant.new).stopped ≡ false) }
     ensures bad { (side : AnySide) (at : ℕ) → result ≡ Err (CommandFault.JournalBad side at) → (P.seen plant.new).stopped ≡ false }
+    ensures halts { fault ≡ OpenFault.Stopped → OnErr result ((P.seen plant.new).stopped ≡ true) }
     ensures faults { (P.seen plant.new).faults ≡ (P.seen plant.old).faults }
 {
     match fault {

@@ -1,7 +1,7 @@
 // Laws of a run.
-ghost use Rattle.std.specs.Prelude.{◌≡◌, ◌≢◌, ◌⊎◌, ◌≤◌, ◌^◌, count_by, ℕ, Bool, false, List, [], ◌∷◌, ◌++◌, length, Option, Some, None};
+ghost use Rattle.std.specs.Prelude.{◌≡◌, ◌≢◌, ◌⊎◌, ◌≤◌, ◌^◌, count_by, ℕ, Bool, false, true, List, [], ◌∷◌, ◌++◌, length, Option, Some, None};
 ghost use Rattle.lab_base.specs.Lists.{AllDiffer, Has};
-ghost use Rattle.plant.specs.Disks.{disk};
+ghost use Rattle.plant.specs.Disks.{ArePossible, disk};
 ghost use Rattle.plant.specs.Told.{Told};
 ghost use Rattle.plant.specs.Worlds.{world_of};
 ghost use Rattle.plant.specs.declared.step.Side.{Side};
@@ -14,16 +14,22 @@ ghost use Rattle.lab_model.specs.Leavings.{SameFor};
 ghost use Rattle.lab_model.specs.Sound.{is_moving};
 ghost use Rattle.recovery.specs.Settle.{is_stuck};
 ghost use Rattle.lab_state.specs.Texts.{the_texts};
+ghost use Rattle.swap_turns.specs.Swaps.{Moves};
+ghost use Rattle.script_text.specs.Commands.{Ending, IsScript};
+ghost use Rattle.script_text.specs.declared.command.Command.{Command};
 ghost use Rattle.script_text.specs.declared.command.Command.TheVariants.{Recover, SwapinWith, Turn};
 ghost use Rattle.script_text.specs.declared.reply.Reply.{Reply};
-ghost use Rattle.script_text.specs.declared.reply.Reply.TheVariants.{Recovered};
+ghost use Rattle.script_text.specs.declared.reply.Reply.TheVariants.{In, More, Recovered};
 ghost use Rattle.script_text.specs.Drills.{drill_of};
 ghost use Rattle.script_text.specs.Replies.{closes};
-ghost use Rattle.lab_core.specs.Moments.{IsLabAt, IsNoJournal};
+ghost use Rattle.lab_core.specs.Moments.{AllStandFor, IsLabAt, IsNoJournal, StandForLab};
+ghost use Rattle.lab_core.specs.Recovery.{EndedIn};
+ghost use Rattle.recovery.specs.Due.{swaps_of};
 ghost use Rattle.lab_core.specs.Sessions.{OpenSwap, Closed, open_at, Terms};
-ghost use Rattle.lab_core.specs.Tells.{BeginsAt, busy_of, IsFeasibleFor, Hinders, is_of_drill, is_stopped, IsTurn, IsTurnOf, SendsOne, opens_of, taken_reply, TellsBroken};
-ghost use Rattle.lab_top.specs.Pieces.{Begun, AllHave, AllRestBut, AreOthers, FirstLab, HasOpened, OpensTo, StayOpen, is_closed, is_early, session_after, steps_of, trace_after};
-ghost use Rattle.lab_top.specs.Ran.{AreAnswered, Outside, Ran};
+ghost use Rattle.lab_core.specs.Tells.{BeginsAt, IsAtRest, busy_of, IsFeasibleFor, IsInBy, Hinders, is_of_drill, is_stopped, IsTurn, IsTurnOf, SendsOne, opens_of, taken_reply, TellsBroken};
+ghost use Rattle.plant.specs.Events.{Event};
+ghost use Rattle.lab_top.specs.Pieces.{Begun, Piece, TellsAll, AllHave, AllRestBut, AreOn, AreOthers, FirstLab, HasOpened, OpensTo, StayOpen, is_closed, is_early, session_after, steps_of, trace_after};
+ghost use Rattle.lab_top.specs.Ran.{Outside, Ran};
 ghost use Rattle.lab_words.specs.Words.{Choices};
 ghost use Rattle.lab_top.specs.declared.status.Status.{Status};
 ghost use Rattle.lab_top.specs.declared.status.Status.TheVariants.{Memory, JournalBad};
@@ -39,9 +45,10 @@ pub fn bad_journals()
 {}
 
 /// A supplied solution is swapped in, or its swap begins where `open` stands before the command, exactly where it is feasible on
-/// what is free once the controller is open, unless the reply tells what hindered it. An experiment that doesn't move stays as it is, in every image that a later stop may leave, until a
-/// later command on it. The reply is `stopped` exactly where the plant stopped, and a command that is no drill has no reply of a
-/// drill, both whatever the trace was before. A trace in which nothing has happened is sound.
+/// what is free once the controller is open, unless the reply tells what hindered it. An experiment that doesn't move stays as it
+/// is, in every image that a later stop may leave, until a later command on it. The reply is `stopped` exactly where the plant
+/// stopped, and a command that is no drill has no reply of a drill, both whatever the trace was before. A trace in which nothing
+/// has happened is sound.
 pub fn runs()
     ensures solutions { (terms : Terms) (choices : Option Choices) (old new : Outside) (status : Status) (before after : List Begun) (b : Begun) (t : Told) (only_begin : Bool) (exp text : List ℕ) (lines : ℕ) (reply : Reply)
         → Ran terms choices old new status (before ++ b ∷ after) → old.plant.told ≡ Some t → IsSound the_texts t.trace → b.piece.command ≡ SwapinWith only_begin exp lines text → b.piece.reply ≡ Some reply
@@ -49,12 +56,19 @@ pub fn runs()
         × (reply ≡ taken_reply only_begin exp → IsFeasibleFor mid exp text) × (IsFeasibleFor mid exp text → (reply ≡ taken_reply only_begin exp) ⊎ Hinders reply)) }
     ensures kept { (terms : Terms) (choices : Option Choices) (old new : Outside) (status : Status) (before middle after : List Begun) (t : Told) (e : Experiment)
         → Ran terms choices old new status (before ++ (middle ++ after)) → old.plant.told ≡ Some t → IsSound the_texts t.trace → is_moving e ≡ false
-        → AllHave (trace_after t.trace before) e → AreAnswered middle → AreOthers e.name middle → AllHave (trace_after t.trace (before ++ middle)) e }
+        → AllHave (trace_after t.trace before) e → AreOthers e.name middle → AllHave (trace_after t.trace (before ++ middle)) e }
+    ensures answered { (terms : Terms) (choices : Option Choices) (old new : Outside) (status : Status) (before middle after : List Begun) (b : Begun) (t : Told) (reply : Reply)
+        → Ran terms choices old new status (before ++ b ∷ (middle ++ after)) → old.plant.told ≡ Some t → IsSound the_texts t.trace → b.piece.reply ≡ Some reply
+        → TellsAll reply middle (trace_after t.trace (before ++ b ∷ middle)) }
+    ensures inside { (terms : Terms) (choices : Option Choices) (old new : Outside) (status : Status) (before after : List Begun) (b : Begun) (t : Told) (exp text : List ℕ) (lines : ℕ)
+        → Ran terms choices old new status (before ++ b ∷ after) → old.plant.told ≡ Some t → IsSound the_texts t.trace → b.piece.command ≡ SwapinWith false exp lines text → b.piece.reply ≡ Some (In exp)
+        → (s : LabState) × AllStandFor (trace_after t.trace (before ++ b ∷ [])) s × IsInBy s exp text }
     ensures stops { (terms : Terms) (choices : Option Choices) (old new : Outside) (status : Status) (before after : List Begun) (b : Begun) (t : Told) (reply : Reply)
         → Ran terms choices old new status (before ++ b ∷ after) → old.plant.told ≡ Some t → b.piece.reply ≡ Some reply → has_restart (steps_of b.piece) ≡ is_stopped reply }
     ensures undrilled { (terms : Terms) (choices : Option Choices) (old new : Outside) (status : Status) (before after : List Begun) (b : Begun) (t : Told) (reply : Reply)
         → Ran terms choices old new status (before ++ b ∷ after) → old.plant.told ≡ Some t → drill_of b.piece.command ≡ None → b.piece.reply ≡ Some reply → is_of_drill reply ≡ false }
     ensures blank { IsSound the_texts [] }
+    ensures script { (bytes : List ℕ) (a b : List Command) (x y : Ending) → IsScript bytes a x → IsScript bytes b y → (a ≡ b) × (x ≡ y) }
 {}
 
 /// An untroubled recovery, over every sound trace: behind an opening in which none got stuck, and behind a `recover` that tells
@@ -65,18 +79,23 @@ pub fn recoveries()
         → Ran terms choices old new status (before ++ b ∷ after) → old.plant.told ≡ Some t → IsSound the_texts t.trace → HasOpened b.piece
         → (s : LabState) × (mid : LabState) × (to : OpensTo (trace_after t.trace before) b.piece s mid)
         × (count_by is_stuck to.opens.outcomes ≡ 0 → AllRestBut [] (trace_after t.trace before ++ b.piece.opening)) }
+    ensures each { (trace : List Event) (piece : Piece) (s mid : LabState) → IsLabAt trace s → (to : OpensTo trace piece s mid) → count_by is_stuck to.opens.outcomes ≡ 0 → AllRestBut [] (trace ++ piece.opening) }
+    ensures beside { (trace : List Event) (piece : Piece) (s mid : LabState) (name : List ℕ) → (to : OpensTo trace piece s mid) → EndedIn (swaps_of [] s.experiments) to.opens.outcomes name
+        → (a b : List ℕ) → ArePossible (trace ++ piece.opening) a b → (u : LabState) × StandForLab a b u × IsAtRest u name }
     ensures recovered { (terms : Terms) (choices : Option Choices) (old new : Outside) (status : Status) (before after : List Begun) (b : Begun) (t : Told) (done : ℕ)
         → Ran terms choices old new status (before ++ b ∷ after) → old.plant.told ≡ Some t → IsSound the_texts t.trace → b.piece.command ≡ Recover → b.piece.reply ≡ Some (Recovered done 0)
         → AllRestBut (busy_of b.piece.from) (trace_after t.trace (before ++ b ∷ [])) }
 {}
 
-/// Many swaps at once, over commands that are about other experiments, each of which leaves the session open: an experiment's open
-/// swap stays as it is, over any trace; and where it has one, over every sound trace the experiment stays as it is, in every image
-/// that a later stop may leave. A turn sends one device command, or appends one record, over any trace; one that is refused does
-/// neither, and one that breaks off sends no more than one, and nothing of the journal behind it. Where a turn of one, or all up to
-/// its end, find the session open, they leave the world of each other experiment as it was, however they end: each row that it wants,
-/// and each node that it claims. No more than sixteen swaps are open, and no two of one name; and each has the count of device faults
-/// at the mark of a command before, over every plant.
+/// Many swaps at once, over commands that are about other experiments, each of which leaves the session open: an experiment's
+/// open swap stays as it is, over any trace; and where it has one, over every sound trace the experiment stays as it is, in every
+/// image that a later stop may leave. The experiment of each open swap moves, at each moment and over any trace; and where the
+/// swap begins with a supplied solution, and its end is answered as in, there it is in by that one. A turn sends one device
+/// command, or appends one record, over any trace; one that is refused does neither, and one that breaks off sends no more than
+/// one, and nothing of the journal behind it. Where a turn of one, or all up to its end, find the session open, they leave the
+/// world of each other experiment as it was, however they end: each row that it wants, and each node that it claims. No more than
+/// sixteen swaps are open, and no two of one name; and each has the count of device faults at the mark of a command before, over
+/// every plant.
 pub fn turns()
     ensures swaps { (terms : Terms) (choices : Option Choices) (old new : Outside) (status : Status) (before middle after : List Begun) (t : Told) (name : List ℕ)
         → Ran terms choices old new status (before ++ (middle ++ after)) → old.plant.told ≡ Some t → StayOpen middle → AreOthers name middle
@@ -84,6 +103,12 @@ pub fn turns()
     ensures kept { (terms : Terms) (choices : Option Choices) (old new : Outside) (status : Status) (before middle after : List Begun) (t : Told) (e : Experiment) (swap : OpenSwap)
         → Ran terms choices old new status (before ++ (middle ++ after)) → old.plant.told ≡ Some t → IsSound the_texts t.trace → open_at e.name (opens_of (session_after Closed before)) ≡ Some swap
         → AllHave (trace_after t.trace before) e → StayOpen middle → AreOthers e.name middle → AllHave (trace_after t.trace (before ++ middle)) e }
+    ensures moves { (terms : Terms) (choices : Option Choices) (old new : Outside) (status : Status) (before after : List Begun) (t : Told) (s : LabState) (swap : OpenSwap)
+        → Ran terms choices old new status (before ++ after) → old.plant.told ≡ Some t → IsLabAt (trace_after t.trace before) s → Has (opens_of (session_after Closed before)) swap → Moves swap.running.swap s }
+    ensures ended { (terms : Terms) (choices : Option Choices) (old new : Outside) (status : Status) (before middle after : List Begun) (b c : Begun) (t : Told) (exp text : List ℕ) (lines : ℕ)
+        → Ran terms choices old new status ((before ++ b ∷ middle) ++ c ∷ after) → old.plant.told ≡ Some t → IsSound the_texts t.trace
+        → b.piece.command ≡ SwapinWith true exp lines text → b.piece.reply ≡ Some (More exp) → AreOn exp middle → IsTurnOf exp c.piece.command → c.piece.reply ≡ Some (In exp)
+        → (s : LabState) × AllStandFor (trace_after t.trace ((before ++ b ∷ middle) ++ c ∷ [])) s × IsInBy s exp text }
     ensures turned { (terms : Terms) (choices : Option Choices) (old new : Outside) (status : Status) (before after : List Begun) (b : Begun) (t : Told) (exp : List ℕ) (reply : Reply)
         → Ran terms choices old new status (before ++ b ∷ after) → old.plant.told ≡ Some t → b.piece.command ≡ Turn exp → b.piece.reply ≡ Some reply → closes reply ≡ false → is_stopped reply ≡ false
         → is_closed b.piece.from ≡ false → (b.piece.own ≡ []) ⊎ IsTurn b.piece.own }

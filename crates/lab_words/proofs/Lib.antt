@@ -1,2 +1,2 @@
-pub mod Numbers
-pub mod Choosing
+mod Numbers
+mod Choosing

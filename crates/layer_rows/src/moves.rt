@@ -28,6 +28,7 @@ fn push_step(out: &mut String, step: &Step) -> Result<(), AllocError> {
         Step::Cut { .. } => out.push('c'),
         Step::Missed { .. } => out.push('m'),
         Step::Restarted { .. } => out.push('r'),
+        Step::Unread { .. } => out.push('u'),
         Step::Did { op, answer, .. } => {
             out.push(sign_of(op))?;
             out.push_str(if answer.is_err() { "!" } else { "" })

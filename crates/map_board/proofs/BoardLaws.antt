@@ -6,7 +6,7 @@ use Rattle.std.proofs.Math.ListN.{set}
 use Rattle.std.proofs.lemmas.Bool.{and_parts, cases_eq, eq-eqb, eqb-true, ne_eqb}
 use Rattle.std.proofs.lemmas.Bool.Decides.{nat_tests}
 use Rattle.std.proofs.lemmas.List.{length-map, length-set, get_or-map}
-use Rattle.std.proofs.lemmas.List.Elements.{All-cons, All-take, All-drop, All-set, All-append}
+use Rattle.std.proofs.lemmas.List.Elements.{All-cons, All-take, All-drop, All-set, All-append, All-filter}
 use Rattle.std.proofs.lemmas.List.Sums.{sum_by-cons}
 use Rattle.std.proofs.lemmas.Option.{same_Some}
 use Rattle.lab_base.specs.declared.ids.IfaceId.{IfaceId}
@@ -49,6 +49,8 @@ use Rattle.map_board.specs.Seated.{guests_at, placed_at}
 use Rattle.map_board.specs.Boards.{IsPlanned, Was}
 use Rattle.map_board.proofs.SeatLaws.{guest_left}
 use Rattle.map_board.proofs.WhereLaws.{numbers_alike, numbered_ends, with_length, remade_both, remade_where}
+use Rattle.node_maps.specs.Indexed.{AreOrdered}
+use Rattle.node_maps.proofs.OrderLaws.{ordered}
 use Rattle.map_board.proofs.GivenAnew.{count_given, given_anew, filter_placed}
 
 -- F2 where at most one virtual node is on a node
@@ -272,7 +274,7 @@ changes_each On rows (n ∷ numbers) (i ∷ plugs) each =
     (changes_each On rows numbers plugs (λ j l e h j_lt l_lt. each (suc j) (suc l) e h (omega (arith, j_lt)) (omega (arith, l_lt))))
 
 pub own_changes : (x : Setting) (places : List Place) (n : ℕ) (plugs : List IfaceId) → IsSetting x → length places ≡ length x.mapper.wiring.now.nodes
-    → plugs_from x.mapper.lab.now places (filter (is_on places n) x.mapper.ends.now) [] ≡ Some plugs
+    → plugs_from x.mapper.lab.now places (filter (is_on places n) x.mapper.ends.now) ≡ Some plugs
     → AreChanges x.mapper.lab.now x.mapper.wiring.now (changes_of x.table.now.rows.items (numbers_of 0 (is_on places n) x.mapper.ends.now) plugs)
 own_changes x places n plugs is count given =
     let rows = x.table.now.rows.items in
@@ -280,7 +282,7 @@ own_changes x places n plugs is count given =
     let es = x.mapper.ends.now in
     let p = is_on places n in
     let placed = filter_placed p (length places) es (placed_ends x places is count) in
-    let are = plugs_within x.mapper.lab.now places (filter p es) 0 [] plugs placed (record { count = refl; within = λ k d lt. absurd (omega (arith, lt)) }) given in
+    let are = plugs_within x.mapper.lab.now places (filter p es) plugs placed given in
     let ends = ap length is.mapper.ends in
     let all = is.table.rows.one_each in
     record {
@@ -313,13 +315,13 @@ planned_plugs x m a b changes last is shaped plan was =
     let one = count_given lab m.places (filter on_a es) plan.one (filter_placed on_a (length m.places) es placed) plan.first in
     let other = count_given lab m.places (filter on_b es) plan.other (filter_placed on_b (length m.places) es placed) plan.second in
     let whole = mapped_is lab x.mapper.free.now w last (record { places = last; plugs = m.plugs }) was.mapped in
-    let old : plugs_from lab last es [] ≡ Some m.plugs = ap (λ (l : List End). plugs_from lab last l []) is.mapper.ends ∙ whole.given in
+    let old : plugs_from lab last es ≡ Some m.plugs = ap (λ (l : List End). plugs_from lab last l) is.mapper.ends ∙ whole.given in
     let made : remade m.plugs changes ≡ with_plugs on_b es first plan.other =
     ap (λ (l : List Change). remade m.plugs l) plan.noted
     ∙ remade_both m.plugs (changes_of rows (numbers_of 0 on_a es) plan.one) (changes_of rows (numbers_of 0 on_b es) plan.other)
     ∙ ap (λ (l : List IfaceId). remade l (changes_of rows (numbers_of 0 on_b es) plan.other)) (remade_where rows m.plugs plan.one es on_a count one)
     ∙ remade_where rows first plan.other es on_b (with_length on_a es m.plugs plan.one count) other in
-    ap (λ (l : List End). plugs_from lab m.places l []) (sym is.mapper.ends)
+    ap (λ (l : List End). plugs_from lab m.places l) (sym is.mapper.ends)
     ∙ given_anew lab es m.places last m.plugs a b plan.one plan.other (record { alike = was.alike; placed = placed; old = old; first = plan.first; second = plan.second })
     ∙ ap Some (sym made)
 
@@ -382,13 +384,44 @@ own_on n v places es placed lt here one =
 
 -- what the rule gave the ends that are listed
 pub listed_given : (x : Setting) (places : List Place) (n : ℕ) (listed : List ℕ) (o : Option (List IfaceId)) → listed ≡ numbers_of 0 (is_on places n) x.mapper.ends.now
-    → plugs_from x.mapper.lab.now places (map (λ k. get_or x.mapper.ends.now k no_end) listed) [] ≡ o → plugs_from x.mapper.lab.now places (filter (is_on places n) x.mapper.ends.now) [] ≡ o
+    → plugs_from x.mapper.lab.now places (map (λ k. get_or x.mapper.ends.now k no_end) listed) ≡ o → plugs_from x.mapper.lab.now places (filter (is_on places n) x.mapper.ends.now) ≡ o
 listed_given x places n listed o is given =
     let es = x.mapper.ends.now in
-    ap (λ (l : List End). plugs_from x.mapper.lab.now places l []) (sym (ap (λ (l : List ℕ). map (λ k. get_or es k no_end) l) is ∙ numbered_ends es (is_on places n) no_end)) ∙ given
+    ap (λ (l : List End). plugs_from x.mapper.lab.now places l) (sym (ap (λ (l : List ℕ). map (λ k. get_or es k no_end) l) is ∙ numbered_ends es (is_on places n) no_end)) ∙ given
+
+-- ends in order, some of which are taken
+rising_of : (es : List End) → ((j k : ℕ) (d : End) → j ≤ k → k < length es → (get_or es j d).segment ≤ (get_or es k d).segment) → (p : End → Bool)
+    → (j k : ℕ) (d : End) → j ≤ k → k < length (filter p es) → (get_or (filter p es) j d).segment ≤ (get_or (filter p es) k d).segment
+rising_of [] rising p j k d le lt = absurd (omega (arith, lt))
+rising_of (e ∷ es) rising p j k d le lt =
+    by (p e) j k le lt (rising_of es (λ a b c le lt. rising (suc a) (suc b) c (omega (arith, le)) (omega (arith, lt))) p)
+    (All-filter p (λ (x : End). e.segment ≤ x.segment) es (λ a c less. rising 0 (suc a) c (omega arith) (omega (arith, less))))
+  where
+    by : (b : Bool) (j k : ℕ) → j ≤ k → k < length (cond b (e ∷ filter p es) (filter p es))
+        → ((j k : ℕ) (d : End) → j ≤ k → k < length (filter p es) → (get_or (filter p es) j d).segment ≤ (get_or (filter p es) k d).segment) → All (λ (x : End). e.segment ≤ x.segment) (filter p es)
+        → (get_or (cond b (e ∷ filter p es) (filter p es)) j d).segment ≤ (get_or (cond b (e ∷ filter p es) (filter p es)) k d).segment
+    by false j k le lt rest first = rest j k d le lt
+    by true zero zero le lt rest first = omega arith
+    by true zero (suc k) le lt rest first = first k d (omega (arith, lt))
+    by true (suc j) zero le lt rest first = absurd (omega (arith, le))
+    by true (suc j) (suc k) le lt rest first = rest j k d (omega (arith, le)) (omega (arith, lt))
+
+pub ordered_filter : (p : End → Bool) (es : List End) → AreOrdered es → AreOrdered (filter p es)
+ordered_filter p es is = record {
+  some = All-filter p (λ (x : End). 1 ≤ x.kbps) es is.some;
+  few = All-filter p (λ (x : End). x.segment < 512) es is.few;
+  rising = rising_of es is.rising p;
+}
+
+pub listed_ordered : (x : Setting) (places : List Place) (n : ℕ) (listed : List ℕ) → IsSetting x → listed ≡ numbers_of 0 (is_on places n) x.mapper.ends.now
+    → AreOrdered (map (λ k. get_or x.mapper.ends.now k no_end) listed)
+listed_ordered x places n listed set is =
+    let es = x.mapper.ends.now in
+    let all : AreOrdered es = subst (λ (l : List End). AreOrdered l) (sym set.mapper.ends) (ordered x.mapper.wiring.now set.mapper.sound) in
+    subst (λ (l : List End). AreOrdered l) (sym (ap (λ (l : List ℕ). map (λ k. get_or es k no_end) l) is ∙ numbered_ends es (is_on places n) no_end)) (ordered_filter (is_on places n) es all)
 
 pub listed_count : (x : Setting) (places : List Place) (n : ℕ) (listed : List ℕ) (plugs : List IfaceId) → IsSetting x → length places ≡ length x.mapper.wiring.now.nodes → listed ≡ numbers_of 0 (is_on places n) x.mapper.ends.now
-    → plugs_from x.mapper.lab.now places (filter (is_on places n) x.mapper.ends.now) [] ≡ Some plugs → length listed ≡ length plugs
+    → plugs_from x.mapper.lab.now places (filter (is_on places n) x.mapper.ends.now) ≡ Some plugs → length listed ≡ length plugs
 listed_count x places n listed plugs set count is given =
     let es = x.mapper.ends.now in
     let p = is_on places n in

@@ -1,15 +1,16 @@
-pub mod ByNode
-pub mod WhereLaws
-pub mod GivenAnew
-pub mod ListSteps
-pub mod SeatLaws
+mod AloneLaws
+mod ByNode
+mod WhereLaws
+mod GivenAnew
+mod ListSteps
+mod SeatLaws
 pub mod Choices
 pub mod BoardLaws
-pub mod RowLaws
-pub mod PartSums
-pub mod CrowdLaws
+mod RowLaws
+mod PartSums
+mod CrowdLaws
 pub mod PlannedLaws
 pub mod Alikes
 pub mod SettledLaws
-pub mod TieLaws
-pub mod JointLaws
+mod TieLaws
+mod JointLaws

@@ -6,25 +6,26 @@ use Rattle.std.proofs.lemmas.List.{set-get_or, drop_more}
 use Rattle.lab_base.specs.declared.ids.IfaceId.{IfaceId}
 use Rattle.phys_lab.specs.Labs.{Lab}
 use Rattle.lab_model.specs.Shapes.{Place}
+use Rattle.lab_model.specs.Rules.{Laid}
 use Rattle.trunk_sums.specs.declared.made.Change.{Change}
 use Rattle.trunk_sums.specs.declared.sums.EndRow.{EndRow}
 use Rattle.node_maps.specs.declared.ends.End.{End}
-use Rattle.node_maps.specs.NodeMaps.{with_plug, plugs_from}
+use Rattle.node_maps.specs.NodeMaps.{with_plug, laid_from}
 use Rattle.map_board.specs.Nodes.{numbers_of, changes_of, no_row}
 use Rattle.map_board.specs.Unmade.{unmade}
 
 -- one end more that gets its plug, or gets none
-pub served_more : (lab : Lab) (places : List Place) (at : ℕ → End) (numbers : List ℕ) (k d : ℕ) (had more : List IfaceId) → k < length numbers → with_plug lab places (at (get_or numbers k d)) had ≡ Some more
-    → plugs_from lab places (map at (drop k numbers)) had ≡ plugs_from lab places (map at (drop (k + 1) numbers)) more
+pub served_more : (lab : Lab) (places : List Place) (at : ℕ → End) (numbers : List ℕ) (k d : ℕ) (had more : List Laid) → k < length numbers → with_plug lab places (at (get_or numbers k d)) had ≡ Some more
+    → laid_from lab places (map at (drop k numbers)) had ≡ laid_from lab places (map at (drop (k + 1) numbers)) more
 served_more lab places at numbers k d had more lt is =
-    ap (λ (l : List ℕ). plugs_from lab places (map at l) had) (drop_more numbers k d lt)
-    ∙ ap (λ o. option_and_then (λ plugs. plugs_from lab places (map at (drop (k + 1) numbers)) plugs) o) is
+    ap (λ (l : List ℕ). laid_from lab places (map at l) had) (drop_more numbers k d lt)
+    ∙ ap (λ o. option_and_then (λ laid. laid_from lab places (map at (drop (k + 1) numbers)) laid) o) is
 
-pub served_none : (lab : Lab) (places : List Place) (at : ℕ → End) (numbers : List ℕ) (k d : ℕ) (had : List IfaceId) → k < length numbers → with_plug lab places (at (get_or numbers k d)) had ≡ None
-    → plugs_from lab places (map at (drop k numbers)) had ≡ None
+pub served_none : (lab : Lab) (places : List Place) (at : ℕ → End) (numbers : List ℕ) (k d : ℕ) (had : List Laid) → k < length numbers → with_plug lab places (at (get_or numbers k d)) had ≡ None
+    → laid_from lab places (map at (drop k numbers)) had ≡ None
 served_none lab places at numbers k d had lt is =
-    ap (λ (l : List ℕ). plugs_from lab places (map at l) had) (drop_more numbers k d lt)
-    ∙ ap (λ o. option_and_then (λ plugs. plugs_from lab places (map at (drop (k + 1) numbers)) plugs) o) is
+    ap (λ (l : List ℕ). laid_from lab places (map at l) had) (drop_more numbers k d lt)
+    ∙ ap (λ o. option_and_then (λ laid. laid_from lab places (map at (drop (k + 1) numbers)) laid) o) is
 
 -- one end more that is listed, or isn't
 pub listed_more : (p : End → Bool) (es : List End) (k : ℕ) (e : End) (listed : List ℕ) → k < length es → e ≡ get_or es k e → p e ≡ true

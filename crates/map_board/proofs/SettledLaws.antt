@@ -24,8 +24,8 @@ use Rattle.map_board.specs.Seated.{placed_at}
 use Rattle.map_board.specs.Chosen.{IsSettled}
 use Rattle.map_board.proofs.Alikes.{alike_moved}
 use Rattle.map_board.proofs.BoardLaws.{placed_ends}
-use Rattle.map_board.proofs.ByNode.{together}
-use Rattle.map_board.proofs.GivenAnew.{agree_self, apart_on, count_given, filter_placed, given_alike}
+use Rattle.map_board.proofs.ByNode.{all_plugs}
+use Rattle.map_board.proofs.GivenAnew.{apart_on, count_given, filter_placed, given_alike}
 use Rattle.map_board.proofs.WhereLaws.{remade_where, where_new, where_others}
 
 -- no end passes
@@ -48,10 +48,10 @@ guests_off (v ∷ vs) (p ∷ places) n off =
     ∙ guests_off vs places n (λ k d lt. off (suc k) d (omega (arith, lt)))
 
 given_off : (lab : Lab) (places : List Place) (es : List End) (plugs : List IfaceId) (n : ℕ) → All (λ (e : End). e.node < length places) es → All (λ (p : Place). p.0.0 ≢ n) places
-    → plugs_from lab places (filter (is_on places n) es) [] ≡ Some (plugs_where (is_on places n) es plugs)
+    → plugs_from lab places (filter (is_on places n) es) ≡ Some (plugs_where (is_on places n) es plugs)
 given_off lab places es plugs n placed off =
     let none : All (λ (e : End). is_on places n e ≡ false) es = λ k d lt. ne_eqb (get_or places (get_or es k d).node no_place).0.0 n (off (get_or es k d).node no_place (placed k d lt)) in
-    ap (λ (l : List End). plugs_from lab places l []) (filter_off (is_on places n) es none) ∙ ap Some (sym (where_off (is_on places n) es plugs none))
+    ap (λ (l : List End). plugs_from lab places l) (filter_off (is_on places n) es none) ∙ ap Some (sym (where_off (is_on places n) es plugs none))
 
 pub record IsThere (places : List Place) (n : ℕ) : Type 0 where
   pub virt : ℕ
@@ -90,8 +90,8 @@ all_given x m set shaped settled =
     let es = x.mapper.ends.now in
     let placed = placed_ends x m.places set shaped.places in
     let count = all_plugged x m set shaped in
-    ap (λ (l : List End). plugs_from lab m.places l []) (sym set.mapper.ends)
-    ∙ together lab m.places es [] m.plugs (λ n. []) placed count (λ n. agree_self lab n [])
+    ap (λ (l : List End). plugs_from lab m.places l) (sym set.mapper.ends)
+    ∙ all_plugs lab m.places es m.plugs placed count
     (λ n. elim (cases_lt n (length lab.nodes)) [
       | inl lt ↦ (settled n lt).given
       | inr out ↦ given_off lab m.places es m.plugs n placed (λ k d k_lt is. let node = shaped.in_nodes k d k_lt in absurd (omega (arith, node, is, out)))
@@ -125,7 +125,7 @@ settled_others x m a n new ne settled = record {
 pub record Gives (x : Setting) (m : Mapping) (n : ℕ) (new : List IfaceId) : Type 0 where
   pub set : IsSetting x
   pub shaped : IsShaped x.mapper.lab.now x.mapper.wiring.now m
-  pub given : plugs_from x.mapper.lab.now m.places (filter (is_on m.places n) x.mapper.ends.now) [] ≡ Some new
+  pub given : plugs_from x.mapper.lab.now m.places (filter (is_on m.places n) x.mapper.ends.now) ≡ Some new
 
 new_count : (x : Setting) (m : Mapping) (n : ℕ) (new : List IfaceId) → Gives x m n new → length new ≡ length (filter (is_on m.places n) x.mapper.ends.now)
 new_count x m n new g =

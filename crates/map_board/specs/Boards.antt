@@ -2,6 +2,7 @@
 use Rattle.std.specs.Prelude.{◌≡◌, ◌++◌, ℕ, List, [], filter, Some}
 use Rattle.lab_base.specs.declared.ids.IfaceId.{IfaceId}
 use Rattle.phys_lab.specs.Labs.{Lab}
+use Rattle.lab_model.specs.Rules.{Laid}
 use Rattle.lab_model.specs.Shapes.{Place, IsShaped}
 use Rattle.trunk_sums.specs.declared.made.Change.{Change}
 use Rattle.trunk_sums.specs.declared.sums.EndRow.{EndRow}
@@ -18,13 +19,17 @@ use Rattle.map_board.specs.Seated.{IsSeated}
 
 -- nothing is given
 pub record IsIdle (lab : Lab) (x : Given) : Type 0 where
-  pub marks : Marks lab x.taken.items x.plugs
-  pub none : x.plugs ≡ []
+  pub marks : Marks lab x []
+
+-- something is given
+pub record IsGiving (lab : Lab) (x : Given) : Type 0 where
+  pub had : List Laid
+  pub marks : Marks lab x had
 
 -- the ends on node n get these plugs, which are noted as changes behind the earlier ones
 pub record IsNoted (lab : Lab) (rows : List EndRow) (es : List End) (places : List Place) (n : ℕ) (earlier later : List Change) : Type 0 where
   pub plugs : List IfaceId
-  pub given : plugs_from lab places (filter (is_on places n) es) [] ≡ Some plugs
+  pub given : plugs_from lab places (filter (is_on places n) es) ≡ Some plugs
   pub noted : later ≡ earlier ++ changes_of rows (numbers_of 0 (is_on places n) es) plugs
 
 -- a place for each virtual node and a plug for each end, with what is kept of them; a plug's node need not be its end's
@@ -50,6 +55,6 @@ pub record Was (x : Setting) (places : List Place) (plugs : List IfaceId) (a b :
 pub record IsPlanned (x : Setting) (places : List Place) (a b : ℕ) (changes : List Change) : Type 0 where
   pub one : List IfaceId
   pub other : List IfaceId
-  pub first : plugs_from x.mapper.lab.now places (filter (is_on places a) x.mapper.ends.now) [] ≡ Some one
-  pub second : plugs_from x.mapper.lab.now places (filter (is_on places b) x.mapper.ends.now) [] ≡ Some other
+  pub first : plugs_from x.mapper.lab.now places (filter (is_on places a) x.mapper.ends.now) ≡ Some one
+  pub second : plugs_from x.mapper.lab.now places (filter (is_on places b) x.mapper.ends.now) ≡ Some other
   pub noted : changes ≡ changes_of x.table.now.rows.items (numbers_of 0 (is_on places a) x.mapper.ends.now) one ++ changes_of x.table.now.rows.items (numbers_of 0 (is_on places b) x.mapper.ends.now) other

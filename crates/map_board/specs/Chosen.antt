@@ -11,7 +11,7 @@ use Rattle.map_board.specs.Boards.{IsLaid}
 -- the virtual nodes on node n may share it, and the ends there have the plugs that the rule gives them
 pub record IsSettled (x : Setting) (m : Mapping) (n : ℕ) : Type 0 where
   pub shares : may_share x.mapper.lab.now x.mapper.wiring.now m.places n ≡ true
-  pub given : plugs_from x.mapper.lab.now m.places (filter (is_on m.places n) x.mapper.ends.now) [] ≡ Some (plugs_where (is_on m.places n) x.mapper.ends.now m.plugs)
+  pub given : plugs_from x.mapper.lab.now m.places (filter (is_on m.places n) x.mapper.ends.now) ≡ Some (plugs_where (is_on m.places n) x.mapper.ends.now m.plugs)
 
 -- each node that isn't stale is settled
 pub record IsChosen (x : Setting) (c : Chosen) : Type 0 where

@@ -1,5 +1,5 @@
 -- Ends and plugs, node by node.
-use Rattle.std.specs.Prelude.{ℕ, ◌+◌, ◌==◌, List, [], ◌∷◌, Bool, drop, slice_index_or, if◌then◌else◌}
+use Rattle.std.specs.Prelude.{ℕ, ◌+◌, ◌==◌, List, [], ◌∷◌, Bool, false, drop, slice_index_or, if◌then◌else◌}
 use Rattle.lab_base.specs.declared.ids.IfaceId.{IfaceId}
 use Rattle.lab_model.specs.Shapes.{Place}
 use Rattle.lab_model.specs.Rules.{no_place}
@@ -12,7 +12,7 @@ abbrev pub is_on : List Place → ℕ → End → Bool
 is_on places n e = (slice_index_or places e.node no_place).0.0 == n
 
 abbrev pub no_end : End
-no_end = record { node = 0; kbps = 0 }
+no_end = record { node = 0; segment = 0; multiplexed = false; kbps = 0 }
 
 abbrev pub no_row : EndRow
 no_row = record { segment = 0; ends = 0; kbps = 0 }

@@ -1,5 +1,5 @@
 -- What tries look up.
-use Rattle.std.specs.Prelude.{◌≡◌, ◌<◌, ◌==◌, ℕ, true, List, [], length, slice_index_or}
+use Rattle.std.specs.Prelude.{◌≡◌, ◌↔◌, ◌<◌, ◌==◌, ℕ, true, List, [], length, slice_index_or}
 use Rattle.phys_lab.specs.Labs.{Lab}
 use Rattle.phys_lab.specs.Sides.{joined}
 use Rattle.virt_topo.specs.declared.wiring.Wiring.{Wiring}
@@ -38,7 +38,7 @@ pub record IsTableOf (lab : Lab) (w : Wiring) (x : Table) : Type 0 where
   pub firsts : AreFirsts w x.firsts.items
   pub crossings : IsTable lab x.crossings
   pub ties : AreTies w x.ties.items
-  pub joined : x.joined ≡ true → AreAllJoined lab
+  pub joined : (x.joined ≡ true) ↔ AreAllJoined lab
 
 -- what the node maps are made from, and what their tries look up
 pub record IsSetting (x : Setting) : Type 0 where

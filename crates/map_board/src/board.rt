@@ -1,5 +1,5 @@
 // The board.
-ghost use Rattle.std.specs.Prelude.{◌≡◌, ◌↔◌, true, false, ◌<◌, [], List, Some, None, length, slice_index_or, if◌then◌else◌, Contains, IfOk, OnOk, IfSome, IsTrue};
+ghost use Rattle.std.specs.Prelude.{◌≡◌, ◌↔◌, true, false, ◌<◌, [], List, Some, None, length, slice_index_or, if◌then◌else◌, Contains, IfOk, OnOk, IfSome, IsSome, IsTrue};
 ghost use Rattle.lab_model.specs.Shapes.{Place as PlaceSeen, IsShaped};
 ghost use Rattle.node_maps.specs.NodeMaps.{candidates, IsChoice, node_map, plugs_of};
 ghost use Rattle.map_board.specs.Tables.{IsSetting};
@@ -33,6 +33,7 @@ pub struct Board {
 
 impl Board {
     ghost use Rattle.cost_rule.specs.Parts.{parts_of};
+    ghost use Rattle.trunk_sums.specs.Foreseen.{AreRising};
     ghost use Rattle.trunk_sums.specs.Remade.{remade, AreChanges};
     ghost use Rattle.map_board.specs.Seated.{IsCrowded, IsFull, placed_at};
     ghost use Rattle.map_board.specs.Unmade.{unmade};
@@ -90,12 +91,13 @@ impl Board {
         }
     }
 
-    /// The parts of the cost once what is planned is made, where its changes are of segments that rise.
+    /// The parts of the cost once what is planned is made, exactly where its changes are of segments that rise.
     pub fn foreseen(&self, setting: &Setting) -> Option<Parts>
         requires setting { IsSetting setting.now }
         requires laid { IsLaid setting.now self.now }
         requires changes { AreChanges setting.now.mapper.lab.now setting.now.mapper.wiring.now self.now.changes.items }
         ensures parts { IfSome result (λ parts. parts ≡ parts_of setting.now.mapper.lab.now setting.now.mapper.wiring.now (planned self.now)) }
+        ensures told { IsSome result ↔ AreRising self.now.changes.items }
         ensures shaped { IsShaped setting.now.mapper.lab.now setting.now.mapper.wiring.now (planned self.now) }
     {
         if !are_rising(&self.changes) {
@@ -107,11 +109,12 @@ impl Board {
         let uses = self
             .sums
             .total_after(mapper.lab, mapper.wiring, crossings, plugs, &self.changes);
-        Some(Parts {
+        let foreseen = Parts {
             uses,
             nodes: self.seats.nodes,
             soft: self.seats.soft,
-        })
+        };
+        Some(foreseen)
     }
 
     /// Whether more virtual nodes are on the node of one than may have its type there.

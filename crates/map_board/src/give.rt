@@ -3,10 +3,10 @@ ghost use Rattle.std.specs.Prelude.{◌≡◌, true, false, ◌<◌, ◌≤◌, 
 ghost use Rattle.lab_model.specs.Shapes.{IsShaped};
 ghost use Rattle.lab_model.specs.Rules.{no_place};
 ghost use Rattle.node_maps.specs.NodeMaps.{plugs_from};
-ghost use Rattle.node_maps.specs.Indexed.{Marks};
+ghost use Rattle.node_maps.specs.Indexed.{AreOrdered};
 ghost use Rattle.map_board.specs.Nodes.{is_on, numbers_of, changes_of, no_end};
 ghost use Rattle.map_board.specs.Tables.{IsSetting};
-ghost use Rattle.map_board.specs.Boards.{IsIdle, IsNoted};
+ghost use Rattle.map_board.specs.Boards.{IsIdle, IsGiving, IsNoted};
 ghost use Rattle.map_board.specs.Seated.{IsSeated};
 
 use crate::seats::Seats;
@@ -49,8 +49,9 @@ fn serve_listed(
     requires setting { IsSetting setting.now }
     requires idle { IsIdle setting.now.mapper.lab.now given.old }
     requires within { All (λ k. k < length setting.now.mapper.ends.now) listed.now }
-    ensures marks { OnOk result (Marks setting.now.mapper.lab.now given.new.taken.items given.new.plugs) }
-    ensures given { IfOk result (λ yes. plugs_from setting.now.mapper.lab.now places.now (map (λ k. slice_index_or setting.now.mapper.ends.now k no_end) listed.now) [] ≡ (if yes then Some given.new.plugs else None)) }
+    requires ordered { AreOrdered (map (λ k. slice_index_or setting.now.mapper.ends.now k no_end) listed.now) }
+    ensures giving { OnOk result (IsGiving setting.now.mapper.lab.now given.new) }
+    ensures given { IfOk result (λ yes. plugs_from setting.now.mapper.lab.now places.now (map (λ k. slice_index_or setting.now.mapper.ends.now k no_end) listed.now) ≡ (if yes then Some given.new.plugs else None)) }
 {
     let mapper = setting.mapper;
     for number in listed {
@@ -102,9 +103,9 @@ fn serve_noted(
     requires placed { length places.now ≡ length setting.now.mapper.wiring.now.nodes }
     requires listed { listed.now ≡ numbers_of 0 (is_on places.now node.0) setting.now.mapper.ends.now }
     requires idle { IsIdle setting.now.mapper.lab.now given.old }
-    ensures marks { OnOk result (Marks setting.now.mapper.lab.now given.new.taken.items given.new.plugs) }
+    ensures giving { OnOk result (IsGiving setting.now.mapper.lab.now given.new) }
     ensures given { IfOk result (λ yes. yes ≡ true → IsNoted setting.now.mapper.lab.now setting.now.table.now.rows.items setting.now.mapper.ends.now places.now node.0 changes.old.items changes.new.items) }
-    ensures none { IfOk result (λ yes. yes ≡ false → plugs_from setting.now.mapper.lab.now places.now (filter (is_on places.now node.0) setting.now.mapper.ends.now) [] ≡ None) }
+    ensures none { IfOk result (λ yes. yes ≡ false → plugs_from setting.now.mapper.lab.now places.now (filter (is_on places.now node.0) setting.now.mapper.ends.now) ≡ None) }
 {
     let yes = serve_listed(setting, places, listed, given)?;
     if !yes {
@@ -130,7 +131,7 @@ fn give_listed(
     requires idle { IsIdle setting.now.mapper.lab.now given.old }
     ensures idle { OnOk result (IsIdle setting.now.mapper.lab.now given.new) }
     ensures given { IfOk result (λ yes. yes ≡ true → IsNoted setting.now.mapper.lab.now setting.now.table.now.rows.items setting.now.mapper.ends.now places.now node.0 changes.old.items changes.new.items) }
-    ensures none { IfOk result (λ yes. yes ≡ false → plugs_from setting.now.mapper.lab.now places.now (filter (is_on places.now node.0) setting.now.mapper.ends.now) [] ≡ None) }
+    ensures none { IfOk result (λ yes. yes ≡ false → plugs_from setting.now.mapper.lab.now places.now (filter (is_on places.now node.0) setting.now.mapper.ends.now) ≡ None) }
 {
     let yes = serve_noted(setting, places, node, listed, given, changes)?;
     given.clear(alloc, setting.mapper.lab);
@@ -167,7 +168,7 @@ pub(crate) fn give(
     requires idle { IsIdle setting.now.mapper.lab.now given.old }
     ensures idle { OnOk result (IsIdle setting.now.mapper.lab.now given.new) }
     ensures given { IfOk result (λ yes. yes ≡ true → IsNoted setting.now.mapper.lab.now setting.now.table.now.rows.items setting.now.mapper.ends.now mapping.now.places node.0 changes.old.items changes.new.items) }
-    ensures none { IfOk result (λ yes. yes ≡ false → plugs_from setting.now.mapper.lab.now mapping.now.places (filter (is_on mapping.now.places node.0) setting.now.mapper.ends.now) [] ≡ None) }
+    ensures none { IfOk result (λ yes. yes ≡ false → plugs_from setting.now.mapper.lab.now mapping.now.places (filter (is_on mapping.now.places node.0) setting.now.mapper.ends.now) ≡ None) }
 {
     let places = mapping.places.as_slice();
     if seats.guests[node.0 as usize] == 0 {

@@ -1,5 +1,5 @@
 // What tries look up.
-ghost use Rattle.std.specs.Prelude.{◌≡◌, ◌<◌, ◌≤◌, ◌==◌, ◌++◌, ℕ, true, [], length, replicate, IfOk, OnOk, IsTrue};
+ghost use Rattle.std.specs.Prelude.{◌≡◌, ◌<◌, ◌≤◌, ◌==◌, ◌++◌, ℕ, true, false, [], length, replicate, IfOk, OnOk, IsTrue, IsFalse};
 ghost use Rattle.phys_lab.specs.Sides.{joined};
 ghost use Rattle.virt_topo.specs.Soundness.{IsSound};
 ghost use Rattle.node_maps.specs.NodeMaps.{ends_of};
@@ -109,7 +109,8 @@ fn firsts_of(alloc: Global, wiring: &Wiring) -> Result<Vec<u16>, Memory>
 
 fn is_joined_to_all(lab: &Lab, switch: usize) -> bool
     requires { switch < length lab.now.switches }
-    ensures { IsTrue result → (b : ℕ) → b < length lab.now.switches → joined lab.now.trunks switch b ≡ true }
+    ensures joined { IsTrue result → (b : ℕ) → b < length lab.now.switches → joined lab.now.trunks switch b ≡ true }
+    ensures parted { IsFalse result → (b : ℕ) × (b < length lab.now.switches) × (joined lab.now.trunks switch b ≡ false) }
 {
     let _kept = lab.range();
     for other in 0..lab.switches().len() {
@@ -121,7 +122,8 @@ fn is_joined_to_all(lab: &Lab, switch: usize) -> bool
 }
 
 fn are_all_joined(lab: &Lab) -> bool
-    ensures { IsTrue result → AreAllJoined lab.now }
+    ensures joined { IsTrue result → AreAllJoined lab.now }
+    ensures parted { IsFalse result → AreAllJoined lab.now → ⊥ }
 {
     for switch in 0..lab.switches().len() {
         if !is_joined_to_all(lab, switch) {

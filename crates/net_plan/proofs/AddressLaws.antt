@@ -60,7 +60,7 @@ given_more before used next subnet ends i e a given more lt is found step pushed
 -- LINKS
 
 abbrev pub with_ends : AskedLink → List VirtEnd → AskedLink
-with_ends l ends = record { name = l.name; lan = l.lan; rates = l.rates; ends = ends }
+with_ends l ends = record { name = l.name; lan = l.lan; rates = l.rates; multiplexed = l.multiplexed; ends = ends }
 
 pub links_more : (used : ℕ → Bool) (k : ℕ) (links : List AskedLink) (i : ℕ) (l : AskedLink) (ends : List VirtEnd) → i < length links → l ≡ get_or links i l
     → addressed_ends used (subnet_of k (addresses_of l.ends)) l.ends ≡ Some ends

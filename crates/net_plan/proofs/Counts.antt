@@ -1,6 +1,6 @@
 -- How many parts a link or LAN has.
 use Rattle.std.specs.Prelude.{nat_le}
-use Rattle.std.proofs.Common.{◌≡◌, ℕ, ◌+◌, ◌*◌, ◌≤◌, Bool, true, false, cond, List, [], ◌∷◌, ◌++◌, length, map, refl, arith, length-append}
+use Rattle.std.proofs.Common.{◌≡◌, ℕ, ◌+◌, ◌*◌, ◌≤◌, Bool, true, false, cond, List, [], ◌∷◌, ◌++◌, length, map, refl, ◌∙◌, arith, length-append}
 use Rattle.std.specs.List.{enumerate_from, range_with_len}
 use Rattle.std.proofs.lemmas.Bool.{and_parts, leb-true}
 use Rattle.std.proofs.lemmas.List.{length-map}
@@ -10,7 +10,7 @@ use Rattle.virt_topo.specs.declared.wiring.Segment.{Segment}
 use Rattle.virt_topo.specs.declared.topo.AskedLink.{AskedLink}
 use Rattle.virt_topo.specs.Ends.{end_nodes}
 use Rattle.virt_topo.specs.Topos.{most_ends}
-use Rattle.net_plan.specs.Parts.{IsExpandable, is_shaped, delays, part, delay_end, member_segment, lan_segments}
+use Rattle.net_plan.specs.Parts.{IsExpandable, is_shaped, delays, part, delay_end, member_segment, lan_segments, link_segments, segments_of}
 
 -- what the limits say of the ends
 pub record IsMeasured (l : AskedLink) : Type 0 where
@@ -77,3 +77,11 @@ length-lan_ends l first =
     let both = end_nodes-append members (part l l.name ends ∷ []) in
     let hub : length (nodes ++ []) ≡ length l.ends = omega (arith, length-append nodes [], length-map ends (λ e. e.node), length-map-range_with_len delay_end first (length l.ends)) in
     omega (arith, both, length-members l first 0 l.ends, hub)
+
+-- OF A SHAPED LAN
+
+pub lan_count : (l : AskedLink) → is_shaped l.rates ≡ true → l.lan ≡ true → length (segments_of (0, l)) ≡ length l.ends + 1
+lan_count l shaped lan = (λ i. length (cond (shaped i) (cond (lan i) (lan_segments l 0) (link_segments l 0 l.ends)) (part l l.name l.ends ∷ []))) ∙ length-lan l 0
+
+pub lan_count_ends : (l : AskedLink) → is_shaped l.rates ≡ true → l.lan ≡ true → length (end_nodes (segments_of (0, l))) ≡ 3 * length l.ends
+lan_count_ends l shaped lan = (λ i. length (end_nodes (cond (shaped i) (cond (lan i) (lan_segments l 0) (link_segments l 0 l.ends)) (part l l.name l.ends ∷ [])))) ∙ length-lan_ends l 0

@@ -1,14 +1,14 @@
 pub mod ListLaws
-pub mod NameLaws
-pub mod Counts
-pub mod AddressLaws
+mod NameLaws
+mod Counts
+mod AddressLaws
 pub mod LimitLaws
-pub mod Apart
-pub mod Framing
-pub mod Marks
-pub mod PartNames
-pub mod Numbering
-pub mod Ready
-pub mod SoundParts
-pub mod SoundOnce
-pub mod LeastLaws
+mod Apart
+mod Framing
+mod Marks
+mod PartNames
+mod Numbering
+mod Ready
+mod SoundParts
+mod SoundOnce
+mod LeastLaws

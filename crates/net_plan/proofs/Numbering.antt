@@ -1,5 +1,5 @@
 -- The numbers of delay nodes, and what ends and pipes they have.
-use Rattle.std.specs.Prelude.{replicate, slice_index_or}
+use Rattle.std.specs.Prelude.{not, ◌&&◌, replicate, slice_index_or}
 use Rattle.std.proofs.Common.{◌≡◌, ◌≢◌, ◌⊎◌, inl, inr, ℕ, suc, ◌+◌, ◌-◌, ◌<◌, ◌≤◌, Bool, true, false, cond, eqb, List, [], ◌∷◌, ◌++◌, length, map, get_or, sum_by, append_assoc, refl, sym, ap, subst, ◌∙◌, arith}
 use Rattle.std.specs.List.{flat_map, enumerate_from, range_with_len}
 use Rattle.std.proofs.lemmas.Bool.{eqb-true, eq-eqb, ne_eqb, cases_eq}
@@ -13,7 +13,7 @@ use Rattle.virt_topo.specs.declared.wiring.VirtEnd.{VirtEnd}
 use Rattle.virt_topo.specs.declared.wiring.Segment.{Segment}
 use Rattle.virt_topo.specs.declared.wiring.Pipe.{Pipe}
 use Rattle.virt_topo.specs.declared.topo.AskedLink.{AskedLink}
-use Rattle.virt_topo.specs.Ends.{end_nodes, end_owners, end_number}
+use Rattle.virt_topo.specs.Ends.{end_nodes, end_owners, end_multiplexed, end_number}
 use Rattle.net_plan.specs.Parts.{is_shaped, delays, part, delay_end, member_segment, lan_segments, link_segments, segments_of, link_pipe, lan_pipe, pipes_of}
 use Rattle.net_plan.specs.Expansion.{numbered}
 use Rattle.net_plan.proofs.Apart.{Has-range, range-Has, range-append}
@@ -84,30 +84,49 @@ pipe_ends (first, l) pipe h = by (is_shaped l.rates) l.lan h
     by true false (inr g) = absurd g
     by false lan g = absurd g
 
+-- a link or LAN with a pipe is shaped
+pub pipe_shaped : (p : ℕ × AskedLink) (pipe : Pipe) → Has (pipes_of p) pipe → is_shaped p.1.rates ≡ true
+pipe_shaped (first, l) pipe h = by (is_shaped l.rates) refl h
+  where
+    by : (shaped : Bool) → is_shaped l.rates ≡ shaped → Has (cond shaped (cond l.lan (map (lan_pipe l.rates) (range_with_len first (length l.ends))) (link_pipe l.rates first ∷ [])) []) pipe → is_shaped l.rates ≡ true
+    by true is g = is
+    by false is g = absurd g
+
 pub pipe_delay : (p : ℕ × AskedLink) (pipe : Pipe) → Has (pipes_of p) pipe → IsDelayOf p pipe.node
 pipe_delay (first, l) pipe h = Has-range first (delays l) pipe.node (subst (λ ns. Has ns pipe.node) (own_pipes first l) (Has-mapped (λ p. p.node) (pipes_of (first, l)) pipe h))
 
 -- ENDS
 
-pub has_owner : (p : ℕ × AskedLink) (s : Segment) → Has (segments_of p) s → s.owner ≡ p.1.name
-has_owner (first, l) s h = by (is_shaped l.rates) l.lan h
+-- what each segment of a link or LAN is made with, those have that stand for it
+part_has : {X : Type 0} (f : Segment → X) (x : X) (p : ℕ × AskedLink) (s : Segment) → ((name : List ℕ) (ends : List VirtEnd) → f (part p.1 name ends) ≡ x) → Has (segments_of p) s → f s ≡ x
+part_has {X} f x (first, l) s made h = by (is_shaped l.rates) l.lan h
   where
-    two : (ends : List VirtEnd) → Has (link_segments l first ends) s → s.owner ≡ l.name
+    one : (name : List ℕ) (ends : List VirtEnd) → part l name ends ≡ s → f s ≡ x
+    one name ends e = ap f (sym e) ∙ made name ends
+
+    two : (ends : List VirtEnd) → Has (link_segments l first ends) s → f s ≡ x
     two [] g = absurd g
     two (a ∷ []) g = absurd g
-    two (a ∷ b ∷ []) (inl e) = ap (λ (x : Segment). x.owner) (sym e)
-    two (a ∷ b ∷ []) (inr (inl e)) = ap (λ (x : Segment). x.owner) (sym e)
+    two (a ∷ b ∷ []) (inl e) = one _ _ e
+    two (a ∷ b ∷ []) (inr (inl e)) = one _ _ e
     two (a ∷ b ∷ []) (inr (inr g)) = absurd g
     two (a ∷ b ∷ c ∷ ends) g = absurd g
 
-    by : (shaped lan : Bool) → Has (cond shaped (cond lan (lan_segments l first) (link_segments l first l.ends)) (part l l.name l.ends ∷ [])) s → s.owner ≡ l.name
+    by : (shaped lan : Bool) → Has (cond shaped (cond lan (lan_segments l first) (link_segments l first l.ends)) (part l l.name l.ends ∷ [])) s → f s ≡ x
     by true true g = elim (Has-append (map (member_segment l first) (enumerate_from 0 l.ends)) (part l l.name (map delay_end (range_with_len first (length l.ends))) ∷ []) s g) [
-      | inl k ↦ let r = Has-map (member_segment l first) (enumerate_from 0 l.ends) s k in ap (λ (x : Segment). x.owner) (sym r.2)
-      | inr k ↦ elim k [ inl e ↦ ap (λ (x : Segment). x.owner) (sym e) | inr j ↦ absurd j ]
+      | inl k ↦ let r = Has-map (member_segment l first) (enumerate_from 0 l.ends) s k in one _ _ r.2
+      | inr k ↦ elim k [ inl e ↦ one _ _ e | inr j ↦ absurd j ]
     ]
     by true false g = two l.ends g
-    by false lan (inl e) = ap (λ (x : Segment). x.owner) (sym e)
+    by false lan (inl e) = one _ _ e
     by false lan (inr g) = absurd g
+
+pub has_owner : (p : ℕ × AskedLink) (s : Segment) → Has (segments_of p) s → s.owner ≡ p.1.name
+has_owner p s h = part_has (λ (t : Segment). t.owner) p.1.name p s (λ name ends. refl) h
+
+-- a segment of a shaped link or LAN is not multiplexed
+pub has_alone : (p : ℕ × AskedLink) (s : Segment) → is_shaped p.1.rates ≡ true → Has (segments_of p) s → s.multiplexed ≡ false
+has_alone p s shaped h = part_has (λ (t : Segment). t.multiplexed) false p s (λ name ends. ap (λ (b : Bool). not b && p.1.multiplexed) shaped) h
 
 numbered_has : (n : ℕ) (ends : List VirtEnd) (q : ℕ × VirtEnd) → Has (enumerate_from n ends) q → Has ends q.1 × (n ≤ q.0) × (q.0 < n + length ends)
 numbered_has n [] q h = absurd h
@@ -276,60 +295,73 @@ both_ends nodes v t =
     let P : List ℕ → Type 0 = λ l. (end_number l v 0 < length l) × (end_number l v 1 < length l) in
     subst P (sym t.whole) (first_end (t.front ++ t.back) v (Has-left t.front t.back v t.first), second_end t.front t.back v t.first t.second)
 
--- OWNERS
+-- OWNERS AND FLAGS
 
-abbrev pub pairs_of : List Segment → List (ℕ × List ℕ)
-pairs_of segments = flat_map (λ s. map (λ e. (e.node, s.owner)) s.ends) segments
+-- by end what its segment has
+abbrev labels : {X : Type 0} → (Segment → X) → List Segment → List X
+labels f segments = flat_map (λ s. replicate (length s.ends) (f s)) segments
 
-pair_nodes : (segments : List Segment) → map (λ q. q.0) (pairs_of segments) ≡ end_nodes segments
-pair_nodes [] = refl
-pair_nodes (s ∷ segments) = map-append (λ q. q.0) (map (λ e. (e.node, s.owner)) s.ends) (pairs_of segments) ∙ (λ i. one s.ends i ++ pair_nodes segments i)
+abbrev pairs_of : {X : Type 0} → (Segment → X) → List Segment → List (ℕ × X)
+pairs_of f segments = flat_map (λ s. map (λ e. (e.node, f s)) s.ends) segments
+
+module _ {X : Type 0} (f : Segment → X) where
+  pair_nodes : (segments : List Segment) → map (λ q. q.0) (pairs_of f segments) ≡ end_nodes segments
+  pair_nodes [] = refl
+  pair_nodes (s ∷ segments) = map-append (λ q. q.0) (map (λ e. (e.node, f s)) s.ends) (pairs_of f segments) ∙ (λ i. one s.ends i ++ pair_nodes segments i)
+    where
+      one : (ends : List VirtEnd) → map {A = ℕ × X} {B = ℕ} (λ q. q.0) (map (λ e. (e.node, f s)) ends) ≡ map (λ e. e.node) ends
+      one [] = refl
+      one (e ∷ ends) = ap (λ (ns : List ℕ). e.node ∷ ns) (one ends)
+
+  pair_labels : (segments : List Segment) → map (λ q. q.1) (pairs_of f segments) ≡ labels f segments
+  pair_labels [] = refl
+  pair_labels (s ∷ segments) = map-append (λ q. q.1) (map (λ e. (e.node, f s)) s.ends) (pairs_of f segments) ∙ (λ i. one s.ends i ++ pair_labels segments i)
+    where
+      one : (ends : List VirtEnd) → map {A = ℕ × X} {B = X} (λ q. q.1) (map (λ e. (e.node, f s)) ends) ≡ replicate (length ends) (f s)
+      one [] = refl
+      one (e ∷ ends) = ap (λ (xs : List X). f s ∷ xs) (one ends)
+
+-- the label at a number, if it is one of the ends
+abbrev IsLabelAt : {X : Type 0} → List (ℕ × X) → X → X → ℕ → Type 0
+IsLabelAt {X} pairs d x n = n < length (map {A = ℕ × X} {B = ℕ} (λ r. r.0) pairs) → get_or (map {A = ℕ × X} {B = X} (λ r. r.1) pairs) n d ≡ x
+
+label_found : {X : Type 0} (pairs : List (ℕ × X)) (v k : ℕ) (d x : X) → ((q : ℕ × X) → Has pairs q → q.0 ≡ v → q.1 ≡ x)
+    → end_number (map (λ q. q.0) pairs) v k < length (map (λ q. q.0) pairs) → get_or (map (λ q. q.1) pairs) (end_number (map (λ q. q.0) pairs) v k) d ≡ x
+label_found {X} [] v k d x all lt = absurd (omega arith)
+label_found {X} (q ∷ pairs) v k d x all lt =
+    by (eqb q.0 v) (eqb k 0) refl (label_found pairs v (k - 1) d x (λ r h. all r (inr h))) (label_found pairs v k d x (λ r h. all r (inr h))) lt
   where
-    one : (ends : List VirtEnd) → map {A = ℕ × List ℕ} {B = ℕ} (λ q. q.0) (map (λ e. (e.node, s.owner)) ends) ≡ map (λ e. e.node) ends
-    one [] = refl
-    one (e ∷ ends) = ap (λ (ns : List ℕ). e.node ∷ ns) (one ends)
-
-pair_owners : (segments : List Segment) → map (λ q. q.1) (pairs_of segments) ≡ end_owners segments
-pair_owners [] = refl
-pair_owners (s ∷ segments) = map-append (λ q. q.1) (map (λ e. (e.node, s.owner)) s.ends) (pairs_of segments) ∙ (λ i. one s.ends i ++ pair_owners segments i)
-  where
-    one : (ends : List VirtEnd) → map {A = ℕ × List ℕ} {B = List ℕ} (λ q. q.1) (map (λ e. (e.node, s.owner)) ends) ≡ replicate (length ends) s.owner
-    one [] = refl
-    one (e ∷ ends) = ap (λ (ns : List (List ℕ)). s.owner ∷ ns) (one ends)
-
--- the owner at a number, if it is one of the ends
-abbrev IsOwnerAt : List (ℕ × List ℕ) → List ℕ → ℕ → Type 0
-IsOwnerAt pairs name n = n < length (map {A = ℕ × List ℕ} {B = ℕ} (λ r. r.0) pairs) → get_or (map {A = ℕ × List ℕ} {B = List ℕ} (λ r. r.1) pairs) n [] ≡ name
-
-owner_found : (pairs : List (ℕ × List ℕ)) (v k : ℕ) (name : List ℕ) → ((q : ℕ × List ℕ) → Has pairs q → q.0 ≡ v → q.1 ≡ name)
-    → end_number (map (λ q. q.0) pairs) v k < length (map (λ q. q.0) pairs) → get_or (map (λ q. q.1) pairs) (end_number (map (λ q. q.0) pairs) v k) [] ≡ name
-owner_found [] v k name all lt = absurd (omega arith)
-owner_found (q ∷ pairs) v k name all lt =
-    by (eqb q.0 v) (eqb k 0) refl (owner_found pairs v (k - 1) name (λ r h. all r (inr h))) (owner_found pairs v k name (λ r h. all r (inr h))) lt
-  where
-    next : (n : ℕ) → IsOwnerAt pairs name n → n + 1 < suc (length (map {A = ℕ × List ℕ} {B = ℕ} (λ r. r.0) pairs)) → get_or (q.1 ∷ map {A = ℕ × List ℕ} {B = List ℕ} (λ r. r.1) pairs) (n + 1) [] ≡ name
+    next : (n : ℕ) → IsLabelAt pairs d x n → n + 1 < suc (length (map {A = ℕ × X} {B = ℕ} (λ r. r.0) pairs)) → get_or (q.1 ∷ map {A = ℕ × X} {B = X} (λ r. r.1) pairs) (n + 1) d ≡ x
     next n found lt =
         let up : n + 1 ≡ suc n = omega arith in
-        ap (λ (i : ℕ). get_or (q.1 ∷ map {A = ℕ × List ℕ} {B = List ℕ} (λ r. r.1) pairs) i []) up ∙ found (omega (arith, lt))
+        ap (λ (i : ℕ). get_or (q.1 ∷ map {A = ℕ × X} {B = X} (λ r. r.1) pairs) i d) up ∙ found (omega (arith, lt))
 
-    by : (a b : Bool) → eqb q.0 v ≡ a → IsOwnerAt pairs name (end_number (map (λ r. r.0) pairs) v (k - 1)) → IsOwnerAt pairs name (end_number (map (λ r. r.0) pairs) v k)
+    by : (a b : Bool) → eqb q.0 v ≡ a → IsLabelAt pairs d x (end_number (map (λ r. r.0) pairs) v (k - 1)) → IsLabelAt pairs d x (end_number (map (λ r. r.0) pairs) v k)
         → cond a (cond b 0 (end_number (map (λ r. r.0) pairs) v (k - 1) + 1)) (end_number (map (λ r. r.0) pairs) v k + 1) < suc (length (map (λ r. r.0) pairs))
-        → get_or (q.1 ∷ map (λ r. r.1) pairs) (cond a (cond b 0 (end_number (map (λ r. r.0) pairs) v (k - 1) + 1)) (end_number (map (λ r. r.0) pairs) v k + 1)) [] ≡ name
+        → get_or (q.1 ∷ map (λ r. r.1) pairs) (cond a (cond b 0 (end_number (map (λ r. r.0) pairs) v (k - 1) + 1)) (end_number (map (λ r. r.0) pairs) v k + 1)) d ≡ x
     by true true is one same lt = all q (inl refl) (eqb-true q.0 v is)
     by true false is one same lt = next (end_number (map (λ r. r.0) pairs) v (k - 1)) one lt
     by false b is one same lt = next (end_number (map (λ r. r.0) pairs) v k) same lt
 
--- the owner of each end of a node whose segments have one
+-- what each end of a node has, whose segments have it all
+label_is : {X : Type 0} (f : Segment → X) (d : X) (segments : List Segment) (v k : ℕ) (x : X) → ((s : Segment) (e : VirtEnd) → Has segments s → Has s.ends e → e.node ≡ v → f s ≡ x)
+    → end_number (end_nodes segments) v k < length (end_nodes segments) → get_or (labels f segments) (end_number (end_nodes segments) v k) d ≡ x
+label_is {X} f d segments v k x all lt =
+    let P : List ℕ → List X → Type 0 = λ nodes xs. end_number nodes v k < length nodes → get_or xs (end_number nodes v k) d ≡ x in
+    subst (λ xs. P (end_nodes segments) xs) (pair_labels f segments) (subst (λ nodes. P nodes (map (λ q. q.1) (pairs_of f segments))) (pair_nodes f segments) (label_found (pairs_of f segments) v k d x each)) lt
+  where
+    each : (q : ℕ × X) → Has (pairs_of f segments) q → q.0 ≡ v → q.1 ≡ x
+    each q h is =
+        let s = Has-flat_map (λ t. map (λ e. (e.node, f t)) t.ends) segments q h in
+        let e = Has-map (λ d. (d.node, f s.0)) s.0.ends q s.2 in
+        let node : e.0.node ≡ q.0 = ap (λ (r : ℕ × X). r.0) e.2 in
+        let label : f s.0 ≡ q.1 = ap (λ (r : ℕ × X). r.1) e.2 in
+        sym label ∙ all s.0 e.0 s.1 e.1 (node ∙ is)
+
 pub owner_is : (segments : List Segment) (v k : ℕ) (name : List ℕ) → ((s : Segment) (e : VirtEnd) → Has segments s → Has s.ends e → e.node ≡ v → s.owner ≡ name)
     → end_number (end_nodes segments) v k < length (end_nodes segments) → slice_index_or (end_owners segments) (end_number (end_nodes segments) v k) [] ≡ name
-owner_is segments v k name all lt =
-    let P : List ℕ → List (List ℕ) → Type 0 = λ nodes owners. end_number nodes v k < length nodes → get_or owners (end_number nodes v k) [] ≡ name in
-    subst (λ owners. P (end_nodes segments) owners) (pair_owners segments) (subst (λ nodes. P nodes (map (λ q. q.1) (pairs_of segments))) (pair_nodes segments) (owner_found (pairs_of segments) v k name each)) lt
-  where
-    each : (q : ℕ × List ℕ) → Has (pairs_of segments) q → q.0 ≡ v → q.1 ≡ name
-    each q h is =
-        let s = Has-flat_map (λ t. map (λ e. (e.node, t.owner)) t.ends) segments q h in
-        let e = Has-map (λ d. (d.node, s.0.owner)) s.0.ends q s.2 in
-        let node : e.0.node ≡ q.0 = ap (λ (r : ℕ × List ℕ). r.0) e.2 in
-        let owner : s.0.owner ≡ q.1 = ap (λ (r : ℕ × List ℕ). r.1) e.2 in
-        sym owner ∙ all s.0 e.0 s.1 e.1 (node ∙ is)
+owner_is segments v k name all lt = label_is (λ (s : Segment). s.owner) [] segments v k name all lt
+
+pub alone_is : (segments : List Segment) (v k : ℕ) → ((s : Segment) (e : VirtEnd) → Has segments s → Has s.ends e → e.node ≡ v → s.multiplexed ≡ false)
+    → end_number (end_nodes segments) v k < length (end_nodes segments) → slice_index_or (end_multiplexed segments) (end_number (end_nodes segments) v k) false ≡ false
+alone_is segments v k all lt = label_is (λ (s : Segment). s.multiplexed) false segments v k false all lt

@@ -14,9 +14,9 @@ use Rattle.virt_topo.specs.declared.wiring.Segment.{Segment}
 use Rattle.virt_topo.specs.declared.wiring.Pipe.{Pipe}
 use Rattle.virt_topo.specs.declared.topo.AskedNode.{AskedNode}
 use Rattle.virt_topo.specs.declared.topo.AskedLink.{AskedLink}
-use Rattle.virt_topo.specs.Ends.{end_nodes, end_owners, end_number, pipe_from, pipe_to}
+use Rattle.virt_topo.specs.Ends.{end_nodes, end_owners, end_multiplexed, end_number, pipe_from, pipe_to}
 use Rattle.virt_topo.specs.Repeats.{stands_again}
-use Rattle.virt_topo.specs.Soundness.{knows_class, knows_node, is_end, knows_pipe, knows_all, has_same, owner_at, is_bad_pipe, shares_end, has_bad_pipe}
+use Rattle.virt_topo.specs.Soundness.{knows_class, knows_node, is_end, knows_pipe, knows_all, has_same, owner_at, multiplexed_at, is_bad_pipe, shares_end, has_bad_pipe}
 use Rattle.virt_topo.specs.Topos.{Topo, knows_asked}
 use Rattle.net_plan.specs.Parts.{is_shaped, asked_node, delay_node, delay_nodes, member_node_name, delays, part, delay_end, member_segment, lan_segments, link_segments, segments_of, pipes_of}
 use Rattle.net_plan.specs.Expansion.{numbered, wired}
@@ -25,7 +25,7 @@ use Rattle.net_plan.proofs.Counts.{two_ends}
 use Rattle.net_plan.proofs.LimitLaws.{length-nodes}
 use Rattle.net_plan.proofs.ListLaws.{all-has, has-all, has-none}
 use Rattle.net_plan.proofs.Marks.{name-self}
-use Rattle.net_plan.proofs.Numbering.{IsDelayOf, within, one_link, all_pipes, pipe_ends, pipe_delay, has_owner, part_end, all_twice, both_ends, owner_is}
+use Rattle.net_plan.proofs.Numbering.{IsDelayOf, within, one_link, all_pipes, pipe_ends, pipe_shaped, pipe_delay, has_owner, has_alone, part_end, all_twice, both_ends, owner_is, alone_is}
 use Rattle.net_plan.proofs.PartNames.{numbered-link}
 use Rattle.net_plan.proofs.Ready.{IsReady}
 
@@ -74,10 +74,10 @@ record IsPlaced (t : Topo) (links : List AskedLink) (pipe : Pipe) : Type 0 where
   node : pipe.node < length t.nodes + sum_by delays links
   first : end_number (end_nodes (wired t links).segments) pipe.node 0 < length (end_nodes (wired t links).segments)
   second : end_number (end_nodes (wired t links).segments) pipe.node 1 < length (end_nodes (wired t links).segments)
-  owner : (k : ℕ) → end_number (end_nodes (wired t links).segments) pipe.node k < length (end_nodes (wired t links).segments)
-      → (name : List ℕ) × (slice_index_or (end_owners (wired t links).segments) (end_number (end_nodes (wired t links).segments) pipe.node k) [] ≡ name)
   same : slice_index_or (end_owners (wired t links).segments) (end_number (end_nodes (wired t links).segments) pipe.node 0) []
       ≡ slice_index_or (end_owners (wired t links).segments) (end_number (end_nodes (wired t links).segments) pipe.node 1) []
+  alone : (k : ℕ) → end_number (end_nodes (wired t links).segments) pipe.node k < length (end_nodes (wired t links).segments)
+      → slice_index_or (end_multiplexed (wired t links).segments) (end_number (end_nodes (wired t links).segments) pipe.node k) false ≡ false
 
 placed : (t : Topo) (links : List AskedLink) → IsReady t links → (pipe : Pipe) → Has (wired t links).pipes pipe → IsPlaced t links pipe
 placed t links r pipe h =
@@ -88,23 +88,25 @@ placed t links r pipe h =
     let is : IsDelayOf p.0 pipe.node = pipe_delay p.0 pipe p.2 in
     let inside = within n links p.0 p.1 in
     let two = both_ends (end_nodes segments) pipe.node (all_twice n links p.0 pipe.node (λ l g. two_ends l (r.expandable l g)) p.1 is) in
-    let owners : (s : Segment) (e : VirtEnd) → Has segments s → Has s.ends e → e.node ≡ pipe.node → s.owner ≡ p.0.1.name = λ s e g k same.
+    -- each segment with an end on the delay node is of the pipe's link or LAN
+    let own : (s : Segment) (e : VirtEnd) → Has segments s → Has s.ends e → e.node ≡ pipe.node → Has (segments_of p.0) s = λ s e g k same.
     let q = Has-flat_map segments_of (numbered n links) s g in
     elim (part_end q.0 s e q.2 k) [
-      | inl own ↦ absurd (omega (arith, r.ends q.0.1 e (numbered-link n links q.0 q.1) own, same, is.0, inside.0))
+      | inl asked ↦ absurd (omega (arith, r.ends q.0.1 e (numbered-link n links q.0 q.1) asked, same, is.0, inside.0))
       | inr d ↦
           let other : IsDelayOf q.0 pipe.node = (omega (arith, d.0, same), omega (arith, d.1, same)) in
-          let one = one_link n links q.0 p.0 pipe.node q.1 p.1 other is in
-          has_owner q.0 s q.2 ∙ ap (λ (x : ℕ × AskedLink). x.1.name) one
+          subst (λ (x : ℕ × AskedLink). Has (segments_of x) s) (one_link n links q.0 p.0 pipe.node q.1 p.1 other is) q.2
     ] in
+    let owner : (k : ℕ) → end_number (end_nodes segments) pipe.node k < length (end_nodes segments) → slice_index_or (end_owners segments) (end_number (end_nodes segments) pipe.node k) [] ≡ p.0.1.name = λ k lt.
+    owner_is segments pipe.node k p.0.1.name (λ s e g h same. has_owner p.0 s (own s e g h same)) lt in
     record {
       from = ends.0;
       to = ends.1;
       node = omega (arith, is.1, inside.1);
       first = two.0;
       second = two.1;
-      owner = λ k lt. (p.0.1.name, owner_is segments pipe.node k p.0.1.name owners lt);
-      same = owner_is segments pipe.node 0 p.0.1.name owners two.0 ∙ sym (owner_is segments pipe.node 1 p.0.1.name owners two.1);
+      same = owner 0 two.0 ∙ sym (owner 1 two.1);
+      alone = λ k lt. alone_is segments pipe.node k (λ s e g h same. has_alone p.0 s (pipe_shaped p.0 pipe p.2) (own s e g h same)) lt;
     }
 
 pub all_known : (t : Topo) (links : List AskedLink) → IsReady t links → knows_all (wired t links) ≡ true
@@ -134,7 +136,10 @@ no_bad_pipe t links r = λ i. alone i || apart i
         let owners : owner_at w (pipe_from w pipe) ≡ owner_at w (pipe_to w pipe) =
         ap (λ (k : ℕ). owner_at w (end_number (end_nodes w.segments) pipe.node k)) is.from ∙ is.same ∙ ap (λ (k : ℕ). owner_at w (end_number (end_nodes w.segments) pipe.node k)) (sym is.to) in
         let one : same_name (owner_at w (pipe_from w pipe)) (owner_at w (pipe_to w pipe)) ≡ true = ap (λ (o : List ℕ). same_name o (owner_at w (pipe_to w pipe))) owners ∙ name-self (owner_at w (pipe_to w pipe)) in
-        λ i. eqb (is.from i) (is.to i) || not (one i))
+        let at : ℕ → Bool = λ k. multiplexed_at w (end_number (end_nodes w.segments) pipe.node k) in
+        let first : multiplexed_at w (pipe_from w pipe) ≡ false = ap at is.from ∙ is.alone 0 is.first in
+        let second : multiplexed_at w (pipe_to w pipe) ≡ false = ap at is.to ∙ is.alone 1 is.second in
+        λ i. eqb (is.from i) (is.to i) || (not (one i) || (first i || second i)))
 
     apart : stands_again shares_end (wired t links).pipes ≡ false
     apart = by (wired t links).pipes (subst AllDiffer (sym (all_pipes (length t.nodes) links)) (range-differ (length t.nodes) (sum_by delays links)))

@@ -75,7 +75,7 @@ addressed_ends used subnet (e ∷ ends) =
 abbrev pub addressed_from : (ℕ → Bool) → ℕ → List AskedLink → Option (List AskedLink)
 addressed_from used k [] = Some []
 addressed_from used k (l ∷ links) =
-    option_and_then (λ ends. option_map (λ rest. record { name = l.name; lan = l.lan; rates = l.rates; ends = ends } ∷ rest) (addressed_from (all_taken used (addresses_of ends)) (k + 1) links))
+    option_and_then (λ ends. option_map (λ rest. record { name = l.name; lan = l.lan; rates = l.rates; multiplexed = l.multiplexed; ends = ends } ∷ rest) (addressed_from (all_taken used (addresses_of ends)) (k + 1) links))
     (addressed_ends used (subnet_of k (addresses_of l.ends)) l.ends)
 
 -- from the first one on, where all explicit addresses are used

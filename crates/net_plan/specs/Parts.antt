@@ -1,5 +1,5 @@
 -- What one link or LAN becomes: delay nodes, segments and pipes.
-use Rattle.std.specs.Prelude.{◌≡◌, ℕ, ◌+◌, ◌-◌, ◌/◌, ◌≤◌, Bool, true, not, ◌||◌, ◌==◌, nat_lt, nat_le, List, [], ◌∷◌, ◌++◌, length, map, codes, decimal, None, if◌then◌else◌}
+use Rattle.std.specs.Prelude.{◌≡◌, ℕ, ◌+◌, ◌-◌, ◌/◌, ◌≤◌, Bool, true, not, ◌||◌, ◌&&◌, ◌==◌, nat_lt, nat_le, List, [], ◌∷◌, ◌++◌, length, map, codes, decimal, None, if◌then◌else◌}
 use Rattle.std.specs.List.{enumerate_from, range_with_len}
 use Rattle.lab_base.specs.Lists.{Has}
 use Rattle.lab_base.specs.declared.rates.Rates.{Rates}
@@ -53,9 +53,9 @@ delays l = if is_shaped l.rates then (if l.lan then length l.ends else 1) else 0
 
 -- SEGMENTS, WHERE `first` IS THE NUMBER OF THE FIRST OF THESE DELAY NODES
 
--- a segment of a link or LAN
+-- a segment of a link or LAN; those of a shaped one are not multiplexed
 abbrev pub part : AskedLink → List ℕ → List VirtEnd → Segment
-part l name ends = record { name = name; owner = l.name; kbps = l.rates.kbps; ends = ends }
+part l name ends = record { name = name; owner = l.name; kbps = l.rates.kbps; multiplexed = not (is_shaped l.rates) && l.multiplexed; ends = ends }
 
 -- an end of a delay node has no address
 abbrev pub delay_end : ℕ → VirtEnd

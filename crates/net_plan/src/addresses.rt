@@ -111,6 +111,7 @@ fn addressed_from_first(
             name: link.name,
             lan: link.lan,
             rates: link.rates,
+            multiplexed: link.multiplexed,
             ends,
         })?;
         number += 1;

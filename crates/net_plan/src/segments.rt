@@ -17,6 +17,7 @@ fn part(link: &AskedLink, name: Name, ends: Items<VirtEnd>) -> Segment
         name,
         owner: link.name,
         kbps: link.rates.kbps,
+        multiplexed: !is_shaped(link.rates) && link.multiplexed,
         ends,
     }
 }

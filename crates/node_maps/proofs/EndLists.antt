@@ -1,5 +1,5 @@
 -- The ends of a wiring are of its virtual nodes.
-use Rattle.std.proofs.Common.{◌≡◌, ◌<◌, ◌∷◌, [], ◌++◌, ◌∙◌, ℕ, List, length, get_or, map, All, refl, ap, sym, subst, arith}
+use Rattle.std.proofs.Common.{◌≡◌, ◌<◌, ◌+◌, ◌∷◌, [], ◌++◌, ◌∙◌, ℕ, List, length, get_or, map, All, refl, ap, sym, subst, arith}
 use Rattle.std.proofs.lemmas.List.{length-map, get_or-map}
 use Rattle.virt_topo.specs.declared.wiring.VirtEnd.{VirtEnd}
 use Rattle.virt_topo.specs.declared.wiring.Segment.{Segment}
@@ -8,16 +8,19 @@ use Rattle.virt_topo.specs.Ends.{end_nodes}
 use Rattle.virt_topo.specs.Soundness.{IsSound}
 use Rattle.lab_model.proofs.WiringLaws.{sound_ends}
 use Rattle.node_maps.specs.declared.ends.End.{End}
-use Rattle.node_maps.specs.NodeMaps.{end_of, ends_of}
+use Rattle.node_maps.specs.NodeMaps.{end_of, ends_from, ends_of}
 
-nodes_in : (kbps : ℕ) (es : List VirtEnd) (rest : List Segment) → map (λ (e : End). e.node) (ends_of rest) ≡ end_nodes rest
-    → map (λ (e : End). e.node) (map (end_of kbps) es ++ ends_of rest) ≡ map (λ e. e.node) es ++ end_nodes rest
-nodes_in kbps [] rest h = h
-nodes_in kbps (e ∷ es) rest h = ap (λ (l : List ℕ). e.node ∷ l) (nodes_in kbps es rest h)
+nodes_in : (n : ℕ) (s : Segment) (es : List VirtEnd) (rest : List Segment) → map (λ (e : End). e.node) (ends_from (n + 1) rest) ≡ end_nodes rest
+    → map (λ (e : End). e.node) (map (end_of n s) es ++ ends_from (n + 1) rest) ≡ map (λ e. e.node) es ++ end_nodes rest
+nodes_in n s [] rest h = h
+nodes_in n s (e ∷ es) rest h = ap (λ (l : List ℕ). e.node ∷ l) (nodes_in n s es rest h)
+
+nodes_from : (n : ℕ) (segments : List Segment) → map (λ (e : End). e.node) (ends_from n segments) ≡ end_nodes segments
+nodes_from n [] = refl
+nodes_from n (s ∷ segments) = nodes_in n s s.ends segments (nodes_from (n + 1) segments)
 
 pub same_nodes : (segments : List Segment) → map (λ (e : End). e.node) (ends_of segments) ≡ end_nodes segments
-same_nodes [] = refl
-same_nodes (s ∷ segments) = nodes_in s.kbps s.ends segments (same_nodes segments)
+same_nodes segments = nodes_from 0 segments
 
 pub same_length : (segments : List Segment) → length (ends_of segments) ≡ length (end_nodes segments)
 same_length segments = sym (length-map (ends_of segments) (λ (e : End). e.node)) ∙ ap (λ (l : List ℕ). length l) (same_nodes segments)

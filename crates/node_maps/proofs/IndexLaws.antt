@@ -1,9 +1,9 @@
 -- The interface rule by the interfaces of each node.
-use Rattle.std.proofs.Common.{◌≡◌, ◌≤◌, ◌<◌, ◌+◌, ◌∷◌, [], ◌++◌, ◌∙◌, ℕ, suc, List, length, get_or, take, replicate, Bool, true, false, cond, eqb, ◌==◌, not, nat_le, ◌&&◌, ◌||◌, inl, inr, Option, Some, All, refl, ap, sym, subst, arith, get_or-set_other, get_or-set_same}
+use Rattle.std.proofs.Common.{◌≡◌, ◌≤◌, ◌<◌, ◌+◌, ◌∷◌, [], ◌++◌, ◌∙◌, ℕ, suc, List, length, get_or, take, replicate, Bool, true, false, cond, eqb, ◌==◌, not, nat_le, ◌-◌, ◌&&◌, ◌||◌, inl, inr, Option, Some, All, refl, ap, sym, subst, arith, get_or-set_other, get_or-set_same}
 use Rattle.std.proofs.Math.ListN.{set}
-use Rattle.std.specs.List.{find, list_any}
+use Rattle.std.specs.List.{find, list_all}
 use Rattle.std.specs.Option.{option_map}
-use Rattle.std.proofs.lemmas.Bool.{cond_both, cond-false, both_ways, cases_eq, eq-eqb, ne_eqb}
+use Rattle.std.proofs.lemmas.Bool.{cond_both, cond-false, both_ways, cases_eq, eq-eqb, ne_eqb, and_parts, leb-true}
 use Rattle.std.proofs.lemmas.List.{append-nil, take_more, length-take-le, length-set, length-replicate, get_or-replicate}
 use Rattle.std.proofs.lemmas.List.Elements.{All-cons}
 use Rattle.lab_base.specs.declared.ids.IfaceId.{IfaceId}
@@ -11,8 +11,16 @@ use Rattle.lab_base.specs.declared.ids.NodeId.{NodeId}
 use Rattle.phys_lab.specs.declared.parts.Iface.{Iface}
 use Rattle.phys_lab.specs.Labs.{Lab}
 use Rattle.node_maps.specs.declared.index.NodeIface.{NodeIface}
+use Rattle.phys_lab.specs.Kept.{IsLab}
+use Rattle.lab_base.specs.Names.{is_name}
+use Rattle.phys_lab.specs.Faults.{is_iface, is_port_number, is_speed}
+use Rattle.virt_topo.specs.declared.loads.Load.{Load}
+use Rattle.lab_model.specs.Rules.{Laid, loads_on, may_bear}
+use Rattle.lab_model.proofs.WiringLaws.{has_at}
+use Rattle.node_maps.specs.declared.ifaces.Given.{Given}
+use Rattle.node_maps.proofs.Bearing.{some_on}
 use Rattle.node_maps.specs.NodeMaps.{first_iface}
-use Rattle.node_maps.specs.Indexed.{ifaces_of, Marks}
+use Rattle.node_maps.specs.Indexed.{ifaces_of, noted, newest, serves, Marks}
 
 abbrev numbered : ℕ → Iface → NodeIface
 numbered n x = record { id = record { 0 = n }; kbps = x.kbps }
@@ -87,7 +95,7 @@ ifaces_within n m (x ∷ xs) node le =
     cond_both (eqb x.node.0 node) (numbered n x ∷ ifaces_of (n + 1) xs node) (ifaces_of (n + 1) xs node) (λ l. All Below l)
     (λ yes. All-cons Below (numbered n x) (ifaces_of (n + 1) xs node) (omega (arith, le)) rest) (λ no. rest)
 
-abbrev number_of : Option NodeIface → Option IfaceId
+abbrev pub number_of : Option NodeIface → Option IfaceId
 number_of o = option_map (λ x. x.id) o
 
 pick : (a s : Bool) (test : NodeIface → Bool) (r : NodeIface) (rest : List NodeIface) (o : Option IfaceId) → test r ≡ s → number_of (find test rest) ≡ o
@@ -96,72 +104,88 @@ pick true true test r rest o is e = ap (λ b. number_of (cond b (Some r) (find t
 pick true false test r rest o is e = ap (λ b. number_of (cond b (Some r) (find test rest))) is ∙ e
 pick false s test r rest o is e = e
 
-abbrev may_serve : List IfaceId → ℕ → NodeIface → Bool
-may_serve had kbps x = nat_le kbps x.kbps && not (list_any (λ i. i.0 == x.id.0) had)
+abbrev bears : List Laid → Load → NodeIface → Bool
+bears had load x = may_bear x.kbps (loads_on x.id.0 had) load
 
-first_of : (n : ℕ) (xs : List Iface) (had : List IfaceId) (node : NodeId) (kbps : ℕ) → number_of (find (may_serve had kbps) (ifaces_of n xs node.0)) ≡ first_iface n xs had node kbps
-first_of n [] had node kbps = refl
-first_of n (x ∷ xs) had node kbps =
-    pick (eqb x.node.0 node.0) (may_serve had kbps (numbered n x)) (may_serve had kbps) (numbered n x) (ifaces_of (n + 1) xs node.0) (first_iface (n + 1) xs had node kbps)
-    refl (first_of (n + 1) xs had node kbps)
+first_of : (n : ℕ) (xs : List Iface) (had : List Laid) (node : NodeId) (load : Load) → number_of (find (bears had load) (ifaces_of n xs node.0)) ≡ first_iface n xs had node load
+first_of n [] had node load = refl
+first_of n (x ∷ xs) had node load =
+    pick (eqb x.node.0 node.0) (bears had load (numbered n x)) (bears had load) (numbered n x) (ifaces_of (n + 1) xs node.0) (first_iface (n + 1) xs had node load)
+    refl (first_of (n + 1) xs had node load)
 
 find_same : {X : Type 0} (f g : X → Bool) (xs : List X) → All (λ x. f x ≡ g x) xs → find f xs ≡ find g xs
 find_same f g [] same = refl
 find_same f g (x ∷ xs) same =
     ap (λ b. cond b (Some x) (find f xs)) (same 0 x (omega arith)) ∙ ap (λ o. cond (g x) (Some x) o) (find_same f g xs (λ k d lt. same (suc k) d (omega (arith, lt))))
 
--- the first of a node's interfaces that is fast enough and not marked
-pub first_is : (lab : Lab) (lists : List (List NodeIface)) (taken : List Bool) (had : List IfaceId) (node : NodeId) (kbps : ℕ) → get_or lists node.0 [] ≡ ifaces_of 0 lab.ifaces node.0 → Marks lab taken had
-    → number_of (find (λ x. nat_le kbps x.kbps && not (get_or taken x.id.0 false)) (get_or lists node.0 [])) ≡ first_iface 0 lab.ifaces had node kbps
-first_is lab lists taken had node kbps at marks =
-    let marked : NodeIface → Bool = λ x. nat_le kbps x.kbps && not (get_or taken x.id.0 false) in
+-- no interface has more kbps
+slow_ifaces : (n : ℕ) (xs : List Iface) (node : ℕ) → All (λ (x : Iface). x.kbps < 18446744073709551615) xs → All (λ (x : NodeIface). x.kbps < 18446744073709551615) (ifaces_of n xs node)
+slow_ifaces n [] node slow = λ k d lt. absurd (omega (arith, lt))
+slow_ifaces n (x ∷ xs) node slow =
+    let Slow : NodeIface → Type 0 = λ y. y.kbps < 18446744073709551615 in
+    let rest : All Slow (ifaces_of (n + 1) xs node) = slow_ifaces (n + 1) xs node (λ k d lt. slow (suc k) d (omega (arith, lt))) in
+    cond_both (eqb x.node.0 node) (numbered n x ∷ ifaces_of (n + 1) xs node) (ifaces_of (n + 1) xs node) (λ l. All Slow l)
+    (λ yes. All-cons Slow (numbered n x) (ifaces_of (n + 1) xs node) (slow 0 x (omega arith)) rest) (λ no. rest)
+
+slow_of : (iface : Iface) → is_iface iface ≡ true → iface.kbps < 18446744073709551615
+slow_of iface is =
+    let speed = (and_parts (is_port_number iface.port) (is_speed iface.kbps) (and_parts (is_name iface.link && is_name iface.name) (is_port_number iface.port && is_speed iface.kbps) is).1).1 in
+    let both = and_parts (nat_le 1 iface.kbps) (nat_le iface.kbps 1000000000) speed in
+    below iface.kbps both.1
+  where
+    below : (n : ℕ) → nat_le n 1000000000 ≡ true → n < 18446744073709551615
+    below n h = let le = leb-true n 1000000000 h in omega (arith, le)
+
+slow_lab : (lab : Lab) → IsLab lab → All (λ (x : Iface). x.kbps < 18446744073709551615) lab.ifaces
+slow_lab lab is = λ k d lt. slow_of (get_or lab.ifaces k d) (is.ifaces (get_or lab.ifaces k d) (has_at lab.ifaces k d lt))
+
+-- what an end puts on an interface is like what is on it already
+pub record Bearable (had : List Laid) (load : Load) : Type 0 where
+  pub some : All (λ (x : Laid). 1 ≤ x.0.kbps) had
+  pub next : 1 ≤ load.kbps
+  pub rising : All (λ (x : Laid). x.0.segment ≤ load.segment) had
+
+pub on_all : (P : Load → Type 0) (i : ℕ) (had : List Laid) → All (λ (x : Laid). P x.0) had → All P (loads_on i had)
+on_all P i [] all = λ k d lt. absurd (omega (arith, lt))
+on_all P i (x ∷ had) all =
+    let rest = on_all P i had (λ k d lt. all (suc k) d (omega (arith, lt))) in
+    cond_both (eqb x.1.0 i) (x.0 ∷ loads_on i had) (loads_on i had) (λ l. All P l) (λ yes. All-cons P x.0 (loads_on i had) (all 0 x (omega arith)) rest) (λ no. rest)
+
+-- THE TABLES SAY WHAT THE RULE SAYS of one interface
+pub serves_is : (used last kbps : ℕ) (ys : List Load) (x : Load) → kbps < 18446744073709551615 → used ≡ noted ys → (list_all (λ y. y.multiplexed) ys ≡ true → 0 < length ys → last ≡ newest ys)
+    → All (λ (y : Load). 1 ≤ y.kbps) ys → 1 ≤ x.kbps → All (λ (y : Load). y.segment ≤ x.segment) ys → serves used last kbps x ≡ may_bear kbps ys x
+serves_is used last kbps [] x slow is at some next rising =
+    ap (λ (n : ℕ). nat_le x.kbps kbps && ((eqb n 0) || (x.multiplexed && (nat_le n (kbps - x.kbps) && not (eqb last (x.segment + 1)))))) is ∙ by (nat_le x.kbps kbps) ∙ ap (λ (n : ℕ). nat_le n kbps) (none x.kbps)
+  where
+    by : (b : Bool) → (b && true) ≡ b
+    by true = refl
+    by false = refl
+
+    none : (n : ℕ) → n ≡ n + 0
+    none n = omega arith
+serves_is used last kbps (y ∷ ys) x slow is at some next rising =
+    some_on used last kbps y ys x slow is (λ all. at all (omega arith)) some next rising
+
+-- the first of a node's interfaces that may have one more end, by the tables
+pub first_is : (lab : Lab) (lists : List (List NodeIface)) (given : Given) (had : List Laid) (node : NodeId) (load : Load) → IsLab lab → get_or lists node.0 [] ≡ ifaces_of 0 lab.ifaces node.0
+    → Marks lab given had → Bearable had load
+    → number_of (find (λ x. serves (get_or given.used.items x.id.0 0) (get_or given.last.items x.id.0 0) x.kbps load) (get_or lists node.0 [])) ≡ first_iface 0 lab.ifaces had node load
+first_is lab lists given had node load is_lab at marks fits =
+    let told : NodeIface → Bool = λ x. serves (get_or given.used.items x.id.0 0) (get_or given.last.items x.id.0 0) x.kbps load in
     let none : 0 + length lab.ifaces ≤ length lab.ifaces = omega arith in
     let within = ifaces_within 0 (length lab.ifaces) lab.ifaces node.0 none in
-    ap (λ l. number_of (find marked l)) at
-    ∙ ap number_of (find_same marked (may_serve had kbps) (ifaces_of 0 lab.ifaces node.0) (λ k d lt.
+    let slow = slow_ifaces 0 lab.ifaces node.0 (slow_lab lab is_lab) in
+    ap (λ l. number_of (find told l)) at
+    ∙ ap number_of (find_same told (bears had load) (ifaces_of 0 lab.ifaces node.0) (λ k d lt.
     let x = get_or (ifaces_of 0 lab.ifaces node.0) k d in
-    ap (λ b. nat_le kbps x.kbps && not b) (marks.each x.id.0 (within k d lt))))
-    ∙ first_of 0 lab.ifaces had node kbps
+    serves_is (get_or given.used.items x.id.0 0) (get_or given.last.items x.id.0 0) x.kbps (loads_on x.id.0 had) load (slow k d lt)
+    (marks.used x.id.0 (within k d lt)) (marks.last x.id.0 (within k d lt))
+    (on_all (λ y. 1 ≤ y.kbps) x.id.0 had marks.some) fits.next (on_all (λ y. y.segment ≤ load.segment) x.id.0 had fits.rising)))
+    ∙ first_of 0 lab.ifaces had node load
 
--- the interfaces of a node have an entry in the table
-pub list_within : (lab : Lab) (lists : List (List NodeIface)) (taken : List Bool) (had : List IfaceId) (node : ℕ) → get_or lists node [] ≡ ifaces_of 0 lab.ifaces node → Marks lab taken had
-    → All (λ (x : NodeIface). x.id.0 < length taken) (get_or lists node [])
-list_within lab lists taken had node at marks =
-    let none : 0 + length lab.ifaces ≤ length taken = omega (arith, marks.one_each) in
-    subst (λ l. All (λ (x : NodeIface). x.id.0 < length taken) l) (sym at) (ifaces_within 0 (length taken) lab.ifaces node none)
-
-pub marks_nothing : (lab : Lab) → Marks lab (replicate (length lab.ifaces) false) []
-marks_nothing lab = record { one_each = length-replicate (length lab.ifaces) false; each = λ i lt. get_or-replicate (length lab.ifaces) i false false lt }
-
-pub any_push : {X : Type 0} (f : X → Bool) (xs : List X) (y : X) → list_any f (xs ++ y ∷ []) ≡ (list_any f xs || (f y || false))
-any_push f [] y = refl
-any_push f (x ∷ xs) y = either (f x) (list_any f (xs ++ y ∷ [])) (list_any f xs) (f y || false) (any_push f xs y)
-  where
-    either : (a b c d : Bool) → b ≡ (c || d) → (a || b) ≡ ((a || c) || d)
-    either true b c d e = refl
-    either false b c d e = e
-
-or_true : (b : Bool) → (b || (true || false)) ≡ true
-or_true true = refl
-or_true false = refl
-
-or_false : (b : Bool) → (b || (false || false)) ≡ b
-or_false true = refl
-or_false false = refl
-
--- one more plug
-pub marks_push : (lab : Lab) (taken : List Bool) (had : List IfaceId) (iface : IfaceId) → Marks lab taken had → iface.0 < length taken
-    → Marks lab (set taken iface.0 true) (had ++ iface ∷ [])
-marks_push lab taken had iface marks lt = record {
-  one_each = length-set taken iface.0 true ∙ marks.one_each;
-  each = λ k within. elim (cases_eq k iface.0) [
-    | inl here ↦ (
-        let at : get_or (set taken iface.0 true) k false ≡ true = ap (λ (j : ℕ). get_or (set taken iface.0 true) j false) here ∙ get_or-set_same taken iface.0 true false lt in
-        let is : eqb iface.0 k ≡ true = eq-eqb iface.0 k (sym here) in
-        at ∙ sym (any_push (λ (p : IfaceId). eqb p.0 k) had iface ∙ ap (λ b. list_any (λ (p : IfaceId). eqb p.0 k) had || (b || false)) is ∙ or_true (list_any (λ (p : IfaceId). eqb p.0 k) had)))
-    | inr apart ↦ (
-        let is : eqb iface.0 k ≡ false = ne_eqb iface.0 k (λ e. apart (sym e)) in
-        get_or-set_other taken iface.0 k true false apart ∙ marks.each k within
-        ∙ sym (any_push (λ (p : IfaceId). eqb p.0 k) had iface ∙ ap (λ b. list_any (λ (p : IfaceId). eqb p.0 k) had || (b || false)) is ∙ or_false (list_any (λ (p : IfaceId). eqb p.0 k) had)))
-  ];
-}
+-- the interfaces of a node have an entry in the tables
+pub list_within : (lab : Lab) (lists : List (List NodeIface)) (count node : ℕ) → get_or lists node [] ≡ ifaces_of 0 lab.ifaces node → count ≡ length lab.ifaces
+    → All (λ (x : NodeIface). x.id.0 < count) (get_or lists node [])
+list_within lab lists count node at sized =
+    let none : 0 + length lab.ifaces ≤ count = omega (arith, sized) in
+    subst (λ l. All (λ (x : NodeIface). x.id.0 < count) l) (sym at) (ifaces_within 0 count lab.ifaces node none)

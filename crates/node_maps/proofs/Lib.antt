@@ -1,11 +1,15 @@
 pub mod Leasts
 pub mod Places
-pub mod IfaceCount
+mod IfaceCount
 pub mod EndLists
 pub mod Shaped
 pub mod MapLaws
-pub mod IndexLaws
-pub mod CandidateLaws
+mod Bearing
+mod IndexLaws
+mod Worked
+mod TableLaws
+pub mod OrderLaws
+mod CandidateLaws
 pub mod PlugLaws
 pub mod Assembled
 pub mod MovedLaws

@@ -1,6 +1,6 @@
 -- Candidates, the interface rule, and node maps.
-use Rattle.std.specs.Prelude.{◌≡◌, ℕ, ◌+◌, ◌<◌, List, [], ◌∷◌, ◌++◌, length, map, filter, Bool, true, false, not, ◌==◌, ◌&&◌, nat_le, if◌then◌else◌, Option, Some, None, is_none, option_and_then, All, Contains, slice_get, slice_index_or}
-use Rattle.std.specs.List.{list_any, flat_map}
+use Rattle.std.specs.Prelude.{◌≡◌, ℕ, ◌+◌, ◌<◌, List, [], ◌∷◌, ◌++◌, length, map, filter, Bool, true, false, ◌==◌, ◌&&◌, if◌then◌else◌, Option, Some, None, is_none, option_and_then, All, Contains, slice_get, slice_index_or}
+use Rattle.std.specs.List.{list_any}
 use Rattle.std.specs.Option.{option_map_or, option_map}
 use Rattle.lab_base.specs.declared.ids.NodeId.{NodeId}
 use Rattle.lab_base.specs.declared.ids.IfaceId.{IfaceId}
@@ -14,7 +14,8 @@ use Rattle.virt_topo.specs.declared.wiring.Segment.{Segment}
 use Rattle.virt_topo.specs.declared.wiring.Wiring.{Wiring}
 use Rattle.virt_topo.specs.declared.mapping.Mapping.{Mapping}
 use Rattle.lab_model.specs.Shapes.{Place, node_at, has_name}
-use Rattle.lab_model.specs.Rules.{suits, is_fixed_at}
+use Rattle.virt_topo.specs.declared.loads.Load.{Load}
+use Rattle.lab_model.specs.Rules.{suits, is_fixed_at, Laid, loads_on, may_bear}
 use Rattle.lab_model.specs.Feasible.{violation}
 use Rattle.node_maps.specs.declared.ends.End.{End}
 
@@ -56,36 +57,51 @@ pub record IsChoice (cs : List (List Place)) (places : List Place) : Type 0 wher
 
 -- THE INTERFACE RULE
 
--- an end of a segment of that speed
-abbrev pub end_of : ℕ → VirtEnd → End
-end_of kbps e = record { node = e.node; kbps = kbps }
+-- an end of segment n
+abbrev pub end_of : ℕ → Segment → VirtEnd → End
+end_of n s e = record { node = e.node; segment = n; multiplexed = s.multiplexed; kbps = s.kbps }
 
--- the ends of segments in their order
+-- the ends of segments in their order, where the first segment has number n
+abbrev pub ends_from : ℕ → List Segment → List End
+ends_from n [] = []
+ends_from n (s ∷ segments) = map (end_of n s) s.ends ++ ends_from (n + 1) segments
+
 abbrev pub ends_of : List Segment → List End
-ends_of segments = flat_map (λ s. map (end_of s.kbps) s.ends) segments
+ends_of segments = ends_from 0 segments
 
--- interface n may be given to an end: it is of the node, is fast enough, and no earlier end has it
-abbrev pub may_take : ℕ → Iface → List IfaceId → NodeId → ℕ → Bool
-may_take n x had node kbps = (x.node.0 == node.0) && (nat_le kbps x.kbps && not (list_any (λ i. i.0 == n) had))
+-- what an end puts on its interface
+abbrev pub load_of : End → Load
+load_of e = record { segment = e.segment; kbps = e.kbps; multiplexed = e.multiplexed }
+
+-- interface n may be given to an end on that node: it is of the node, and F5 holds of the end there, beside what the earlier ends put on it
+abbrev pub may_take : ℕ → Iface → List Laid → NodeId → Load → Bool
+may_take n x had node load = (x.node.0 == node.0) && may_bear x.kbps (loads_on n had) load
 
 -- the first of interfaces, which are numbered from n on, that may be given
-abbrev pub first_iface : ℕ → List Iface → List IfaceId → NodeId → ℕ → Option IfaceId
-first_iface n [] had node kbps = None
-first_iface n (x ∷ xs) had node kbps = if may_take n x had node kbps then Some (record { 0 = n }) else first_iface (n + 1) xs had node kbps
+abbrev pub first_iface : ℕ → List Iface → List Laid → NodeId → Load → Option IfaceId
+first_iface n [] had node load = None
+first_iface n (x ∷ xs) had node load = if may_take n x had node load then Some (record { 0 = n }) else first_iface (n + 1) xs had node load
 
--- the earlier plugs and that of one more end, where its virtual node is placed; None where no interface may be given
-abbrev pub with_plug : Lab → List Place → End → List IfaceId → Option (List IfaceId)
+-- what the earlier ends put on their interfaces, and one more end, where its virtual node is placed; None where no interface may be given
+abbrev pub with_plug : Lab → List Place → End → List Laid → Option (List Laid)
 with_plug lab places e had =
-    option_map_or (λ p. option_map (λ i. had ++ i ∷ []) (first_iface 0 lab.ifaces had p.0 e.kbps)) (slice_get places e.node) (Some had)
+    option_map_or (λ p. option_map (λ i. had ++ (load_of e, i) ∷ []) (first_iface 0 lab.ifaces had p.0 (load_of e))) (slice_get places e.node) (Some had)
 
--- the plugs of the ends whose virtual nodes are placed, after the earlier ones
-abbrev pub plugs_from : Lab → List Place → List End → List IfaceId → Option (List IfaceId)
-plugs_from lab places [] had = Some had
-plugs_from lab places (e ∷ es) had = option_and_then (λ plugs. plugs_from lab places es plugs) (with_plug lab places e had)
+-- the same of all ends whose virtual nodes are placed, after the earlier ones
+abbrev pub laid_from : Lab → List Place → List End → List Laid → Option (List Laid)
+laid_from lab places [] had = Some had
+laid_from lab places (e ∷ es) had = option_and_then (λ laid. laid_from lab places es laid) (with_plug lab places e had)
+
+abbrev pub plugs_in : List Laid → List IfaceId
+plugs_in laid = map (λ x. x.1) laid
+
+-- the plugs of the ends whose virtual nodes are placed
+abbrev pub plugs_from : Lab → List Place → List End → Option (List IfaceId)
+plugs_from lab places es = option_map (λ laid. plugs_in laid) (laid_from lab places es [])
 
 -- the plugs that the rule gives the ends of a wiring whose virtual nodes are placed
 abbrev pub plugs_of : Lab → Wiring → List Place → Option (List IfaceId)
-plugs_of lab w places = plugs_from lab places (ends_of w.segments) []
+plugs_of lab w places = plugs_from lab places (ends_of w.segments)
 
 -- NODE MAPS
 

@@ -1,5 +1,5 @@
-// The ends of a wiring, each with its speed.
-ghost use Rattle.std.specs.Prelude.{◌≡◌, ◌++◌, map, IfOk, OnOk};
+// The ends of a wiring, each with what it puts on its interface.
+ghost use Rattle.std.specs.Prelude.{◌≡◌, ◌≤◌, ◌++◌, map, length, IfOk, OnOk};
 ghost use Rattle.node_maps.specs.NodeMaps.{end_of, ends_of};
 
 use lab_base::Memory;
@@ -11,16 +11,22 @@ use virt_topo::Segment;
 pub struct End {
     /// The number of its virtual node.
     pub node: u16,
+    /// The number of its segment.
+    pub segment: u16,
+    /// Whether its segment is multiplexed.
+    pub multiplexed: bool,
     /// The bandwidth of its segment.
     pub kbps: u64,
 }
 
-fn push_ends(listed: &mut Vec<End>, segment: &Segment) -> Result<(), Memory>
-    ensures { OnOk result (listed.new.items ≡ listed.old.items ++ map (end_of segment.now.kbps) segment.now.ends) }
+fn push_ends(listed: &mut Vec<End>, number: u16, segment: &Segment) -> Result<(), Memory>
+    ensures { OnOk result (listed.new.items ≡ listed.old.items ++ map (end_of number segment.now) segment.now.ends) }
 {
     for end in segment.ends.as_slice() {
         listed.push(End {
             node: end.node,
+            segment: number,
+            multiplexed: segment.multiplexed,
             kbps: segment.kbps,
         })?;
     }
@@ -29,11 +35,12 @@ fn push_ends(listed: &mut Vec<End>, segment: &Segment) -> Result<(), Memory>
 
 /// The ends of segments, by segment, then by place in the segment.
 pub fn ends_of(alloc: Global, segments: &[Segment]) -> Result<Vec<End>, Memory>
+    requires { length segments.now ≤ 512 }
     ensures { IfOk result (λ listed. listed.items ≡ ends_of segments.now) }
 {
     let mut listed = Vec::new(alloc);
-    for segment in segments {
-        push_ends(&mut listed, segment)?;
+    for number in 0..segments.len() {
+        push_ends(&mut listed, number as u16, &segments[number])?;
     }
     Ok(listed)
 }

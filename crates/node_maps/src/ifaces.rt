@@ -1,9 +1,9 @@
 // The interface rule.
-ghost use Rattle.std.specs.Prelude.{◌≡◌, ◌<◌, ◌&&◌, ◌==◌, ℕ, true, not, nat_le, [], length, All, Some, None, false, if◌then◌else◌, slice_index_or, IfOk, OnOk, IfSome};
+ghost use Rattle.std.specs.Prelude.{◌≡◌, ◌<◌, ◌+◌, ◌++◌, ◌∷◌, ◌==◌, ℕ, List, true, [], if◌then◌else◌, slice_set, length, All, Some, None, slice_index_or, IfOk, OnOk, IfSome};
 ghost use Rattle.std.specs.List.{find, list_any};
-ghost use Rattle.std.specs.Option.{option_map};
-ghost use Rattle.node_maps.specs.NodeMaps.{with_plug, plugs_from};
-ghost use Rattle.node_maps.specs.Indexed.{HasPlaces, Marks};
+ghost use Rattle.lab_model.specs.Rules.{Laid};
+ghost use Rattle.node_maps.specs.NodeMaps.{load_of, plugs_from};
+ghost use Rattle.node_maps.specs.Indexed.{Adds, AreOrdered, HasPlaces, IsNext, IsSized, Marks, serves};
 
 use crate::ends::End;
 use crate::index::{NodeIface, NodeIfaces};
@@ -13,56 +13,73 @@ use phys_lab::Lab;
 use std::alloc::Global;
 use std::mem;
 
-/// Whether an interface is fast enough and not taken.
-fn may_serve(iface: &NodeIface, taken: &[bool], kbps: u64) -> bool
-    requires { iface.now.id.0 < length taken.now }
-    ensures { result ≡ (nat_le kbps iface.now.kbps && not (slice_index_or taken.now iface.now.id.0 false)) }
+/// Noted as used of an interface that no further end may have: more than any interface has.
+const FULL: u64 = 18_446_744_073_709_551_615;
+
+/// Whether an interface, of which this is noted, may have one more end.
+fn serves(used: u64, last: u16, kbps: u64, end: End) -> bool
+    requires { end.segment < 512 }
+    ensures { result ≡ serves used last kbps (load_of end) }
 {
-    kbps <= iface.kbps && !taken[iface.id.0 as usize]
+    if end.kbps > kbps {
+        return false;
+    }
+    if used == 0 {
+        return true;
+    }
+    end.multiplexed && used <= kbps - end.kbps && last != end.segment + 1
 }
 
-/// The first of the interfaces that is fast enough and not taken.
-fn first_free(listed: &[NodeIface], taken: &[bool], kbps: u64) -> Option<IfaceId>
-    requires { All (λ x. x.id.0 < length taken.now) listed.now }
-    ensures first { result ≡ option_map (λ x. x.id) (find (λ x. nat_le kbps x.kbps && not (slice_index_or taken.now x.id.0 false)) listed.now) }
-    ensures within { IfSome result (λ iface. iface.0 < length taken.now) }
+/// The first of the interfaces that may have one more end.
+fn first_free(listed: &[NodeIface], used: &[u64], last: &[u16], end: End) -> Option<NodeIface>
+    requires used { All (λ x. x.id.0 < length used.now) listed.now }
+    requires last { All (λ x. x.id.0 < length last.now) listed.now }
+    requires segment { end.segment < 512 }
+    ensures first { result ≡ find (λ x. serves (slice_index_or used.now x.id.0 0) (slice_index_or last.now x.id.0 0) x.kbps (load_of end)) listed.now }
+    ensures within { IfSome result (λ x. x.id.0 < length used.now) }
+    ensures serves { IfSome result (λ x. serves (slice_index_or used.now x.id.0 0) (slice_index_or last.now x.id.0 0) x.kbps (load_of end) ≡ true) }
 {
     for iface in listed {
-        if may_serve(iface, taken, kbps) {
-            return Some(iface.id);
+        let at = iface.id.0 as usize;
+        if serves(used[at], last[at], iface.kbps, end) {
+            return Some(*iface);
         }
     }
     None
 }
 
-/// No interface is taken any more, where these were.
-fn unmark(taken: &mut Vec<bool>, plugs: &[IfaceId])
-    ensures one_each { length taken.new.items ≡ length taken.old.items }
-    ensures free { (i : ℕ) → (slice_index_or taken.old.items i false ≡ true → list_any (λ p. p.0 == i) plugs.now ≡ true) → slice_index_or taken.new.items i false ≡ false }
+/// Nothing is used of these interfaces any more.
+fn unmark(used: &mut Vec<u64>, plugs: &[IfaceId])
+    ensures one_each { length used.new.items ≡ length used.old.items }
+    ensures free { (i : ℕ) → (list_any (λ p. p.0 == i) plugs.now ≡ true → slice_index_or used.new.items i 0 ≡ 0) }
+    ensures others { (i : ℕ) → slice_index_or used.old.items i 0 ≡ 0 → slice_index_or used.new.items i 0 ≡ 0 }
 {
     for plug in plugs {
-        if (plug.0 as usize) < taken.len() {
-            taken[plug.0 as usize] = false;
+        if (plug.0 as usize) < used.len() {
+            used[plug.0 as usize] = 0;
         }
     }
 }
 
-/// What the interface rule gave so far: the plugs, and by interface whether it is one of them.
+/// The interfaces given so far by the rule: the plugs, and by interface what is on it.
 #[derive(Drop)]
 pub struct Given {
     plugs: Items<IfaceId>,
-    taken: Vec<bool>,
+    /// The kbps of its ends, or `FULL` where one isn't of a multiplexed segment.
+    used: Vec<u64>,
+    /// One more than the segment of the last end that it got, where that one is multiplexed.
+    last: Vec<u16>,
 }
 
 impl Given {
     /// Nothing so far.
     pub fn nothing(alloc: Global, lab: &Lab) -> Result<Given, Memory>
-        ensures marks { IfOk result (λ given. Marks lab.now given.taken.items given.plugs) }
-        ensures none { IfOk result (λ given. given.plugs ≡ []) }
+        ensures { IfOk result (λ given. Marks lab.now given []) }
     {
         Ok(Given {
             plugs: Items::new(alloc),
-            taken: vec![in alloc; false; lab.ifaces().len()]?,
+            used: vec![in alloc; 0; lab.ifaces().len()]?,
+            last: vec![in alloc; 0; lab.ifaces().len()]?,
         })
     }
 
@@ -75,18 +92,37 @@ impl Given {
 
     /// Forgets what it gave.
     pub fn clear(&mut self, alloc: Global, _lab: &Lab)
-        requires marks { Marks _lab.now self.old.taken.items self.old.plugs }
-        ensures marks { Marks _lab.now self.new.taken.items self.new.plugs }
-        ensures none { self.new.plugs ≡ [] }
+        ensures { (had : List Laid) → Marks _lab.now self.old had → Marks _lab.now self.new [] }
     {
-        unmark(&mut self.taken, self.plugs.as_slice());
+        unmark(&mut self.used, self.plugs.as_slice());
         let mut plugs = mem::replace(&mut self.plugs, Items::new(alloc)).into_vec();
         plugs.clear();
         self.plugs = Items::from_vec(plugs);
     }
 
-    /// Gives one more end its interface, where its virtual node is placed: the first one of the node that is fast enough
-    /// and that no earlier end has. False where there is none.
+    /// Notes that an end has got an interface.
+    fn note(&mut self, iface: NodeIface, end: End) -> Result<(), Memory>
+        requires used { iface.id.0 < length self.old.used.items }
+        requires last { iface.id.0 < length self.old.last.items }
+        requires segment { end.segment < 512 }
+        requires serves { serves (slice_index_or self.old.used.items iface.id.0 0) (slice_index_or self.old.last.items iface.id.0 0) iface.kbps (load_of end) ≡ true }
+        ensures plugs { OnOk result (self.new.plugs ≡ self.old.plugs ++ iface.id ∷ []) }
+        ensures used { OnOk result (self.new.used.items ≡ slice_set self.old.used.items iface.id.0 (if end.multiplexed then slice_index_or self.old.used.items iface.id.0 0 + end.kbps else 18446744073709551615)) }
+        ensures last { OnOk result (self.new.last.items ≡ (if end.multiplexed then slice_set self.old.last.items iface.id.0 (end.segment + 1) else self.old.last.items)) }
+    {
+        let at = iface.id.0 as usize;
+        self.plugs.push(iface.id)?;
+        if end.multiplexed {
+            self.used[at] += end.kbps;
+            self.last[at] = end.segment + 1;
+        } else {
+            self.used[at] = FULL;
+        }
+        Ok(())
+    }
+
+    /// Gives one more end its interface, where its virtual node is placed: the first one of the node that may have it
+    /// beside the earlier ends. False where there is none.
     pub fn add(
         &mut self,
         lab: &Lab,
@@ -95,31 +131,33 @@ impl Given {
         end: End,
     ) -> Result<bool, Memory>
         requires index { HasPlaces lab.now places.now index.now }
-        requires marks { Marks lab.now self.old.taken.items self.old.plugs }
-        ensures marks { OnOk result (Marks lab.now self.new.taken.items self.new.plugs) }
-        ensures plugs { IfOk result (λ yes. with_plug lab.now places.now end self.old.plugs ≡ (if yes then Some self.new.plugs else None)) }
+        requires sized { IsSized lab.now self.old }
+        requires segment { end.segment < 512 }
+        ensures sized { OnOk result (IsSized lab.now self.new) }
+        ensures adds { IfOk result (λ yes. (had : List Laid) → Marks lab.now self.old had → IsNext end had → Adds lab.now places.now end had self.new yes) }
     {
+        let _kept = lab.range();
         let Some(place) = places.get(end.node as usize) else {
             return Ok(true);
         };
-        let Some(iface) = first_free(index.of(place.0), &self.taken, end.kbps) else {
+        let Some(iface) = first_free(index.of(place.0), &self.used, &self.last, end) else {
             return Ok(false);
         };
-        self.plugs.push(iface)?;
-        self.taken[iface.0 as usize] = true;
+        self.note(iface, end)?;
         Ok(true)
     }
 }
 
-/// The interface rule for the ends whose virtual nodes are placed: each takes the first interface of its node that is
-/// fast enough and that no earlier end has. None where some end gets none.
+/// The interface rule for the ends whose virtual nodes are placed: each takes the first interface of its node on which it
+/// may be beside the earlier ends. None where some end gets none.
 pub fn serve(
     alloc: Global,
     lab: &Lab,
     places: &[Place],
     ends: &[End],
 ) -> Result<Option<Items<IfaceId>>, Memory>
-    ensures { IfOk result (λ plugs. plugs ≡ plugs_from lab.now places.now ends.now []) }
+    requires { AreOrdered ends.now }
+    ensures { IfOk result (λ plugs. plugs ≡ plugs_from lab.now places.now ends.now) }
 {
     let index = NodeIfaces::of_places(alloc, lab, places)?;
     let mut given = Given::nothing(alloc, lab)?;

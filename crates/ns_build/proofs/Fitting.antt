@@ -59,6 +59,7 @@ FitsNodeChange n change = Unit {0}
 abbrev pub FitsLinkChange : Network → LinkChange → Type 0
 FitsLinkChange n (links.Name name) = FitsName (has_link n name) name
 FitsLinkChange n (links.Loss ppm) = ppm ≤ 1000000
+FitsLinkChange n (links.Multiplexed multiplexed) = Unit {0}
 FitsLinkChange n (links.Address v ip) = is_address (Some ip) ≡ true
 
 abbrev pub Fits : Network → Task → Type 0

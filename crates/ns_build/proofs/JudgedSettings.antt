@@ -17,9 +17,9 @@ use Rattle.ns_build.specs.declared.task.Task.TheVariants as tasks
 use Rattle.ns_build.specs.declared.task.NodeChange.TheVariants as nodes
 use Rattle.ns_build.specs.declared.task.LinkChange.TheVariants as links
 use Rattle.ns_build.specs.Networks.{Network, fresh_class, is_on_at, only_link, asks_of, refuses_class}
-use Rattle.ns_build.specs.Words.{node_of, link_of_kind, elements_of}
-use Rattle.ns_build.specs.Checks.{each, need, refuse, word_at, counted, name_in, loss_in, address_in}
-use Rattle.ns_build.specs.Settings.{judged_os, judged_hardware, judged_fixed, judged_ip, judged_end_ip, judged_loss, with_type, judged_class}
+use Rattle.ns_build.specs.Words.{node_of, link_of, link_of_kind, elements_of}
+use Rattle.ns_build.specs.Checks.{each, need, refuse, word_at, counted, name_in, loss_in, flag_in, address_in}
+use Rattle.ns_build.specs.Settings.{judged_os, judged_hardware, judged_fixed, judged_ip, judged_end_ip, judged_loss, judged_multiplexed, with_type, judged_class}
 use Rattle.ns_build.proofs.Elements.{and_both, or_first, or_second, none_at, none_from}
 use Rattle.ns_build.proofs.NamesDiffer.{again_push, same_turned}
 use Rattle.ns_build.proofs.Fitting.{FitsClass, Fits}
@@ -88,6 +88,14 @@ judged_loss_fits lan n words task h =
     let l = then_ok (need kinds.Link (link_of_kind n lan (word_at words 1))) _ task form.2 in
     let ppm = then_ok (loss_in (word_at words 2)) _ task l.2 in
     subst (Fits n) (ok_is (tasks.ChangeLink l.0 (links.Loss ppm.0)) task ppm.2) (loss_fits (word_at words 2) ppm.0 ppm.1)
+
+pub judged_multiplexed_fits : (n : Network) (words : List (List ℕ)) (task : Task) → judged_multiplexed n words ≡ Ok task → Fits n task
+unfolding judged_multiplexed
+judged_multiplexed_fits n words task h =
+    let form = then_ok (counted 3 words) _ task h in
+    let l = then_ok (need kinds.Link (link_of n (word_at words 1))) _ task form.2 in
+    let multiplexed = then_ok (flag_in (word_at words 2)) _ task l.2 in
+    subst (Fits n) (ok_is (tasks.ChangeLink l.0 (links.Multiplexed multiplexed.0)) task multiplexed.2) tt
 
 with_type_fits : (types : List (List ℕ)) (word : List ℕ) (more : List (List ℕ)) → stands_again same_name types ≡ false → with_type types word ≡ Ok more → stands_again same_name more ≡ false
 unfolding with_type

@@ -23,7 +23,7 @@ use Rattle.ns_build.specs.Kept.{IsKept}
 use Rattle.ns_build.proofs.Fitting.{FitsName, Fits}
 use Rattle.ns_build.proofs.Chains.{fault_of, okay, then_ok, need_ok, refuse_ok, ok_is}
 use Rattle.ns_build.proofs.JudgedObjects.{judged_new_fits, judged_source_fits, judged_simulator_fits}
-use Rattle.ns_build.proofs.JudgedSettings.{judged_os_fits, judged_hardware_fits, judged_fixed_fits, judged_ip_fits, judged_end_ip_fits, judged_loss_fits, judged_class_fits}
+use Rattle.ns_build.proofs.JudgedSettings.{judged_os_fits, judged_hardware_fits, judged_fixed_fits, judged_ip_fits, judged_end_ip_fits, judged_loss_fits, judged_multiplexed_fits, judged_class_fits}
 use Rattle.ns_build.proofs.KeepingNodes.{keeps_node, keeps_node_change}
 use Rattle.ns_build.proofs.KeepingLinks.{keeps_link, keeps_link_change}
 use Rattle.ns_build.proofs.KeepingClasses.{keeps_class}
@@ -43,6 +43,7 @@ judged_keyword_fits n (Some keywords.LinkIp) words task h = judged_end_ip_fits f
 judged_keyword_fits n (Some keywords.LanIp) words task h = judged_end_ip_fits true n words task h
 judged_keyword_fits n (Some keywords.LinkLoss) words task h = judged_loss_fits false n words task h
 judged_keyword_fits n (Some keywords.LanLoss) words task h = judged_loss_fits true n words task h
+judged_keyword_fits n (Some keywords.Multiplexed) words task h = judged_multiplexed_fits n words task h
 judged_keyword_fits n (Some keywords.SoftVtype) words task h = judged_class_fits n words task h
 judged_keyword_fits n (Some keywords.OtherSetting) words task h = absurd (let e : fault_of Task kinds.Unsupported ≡ Ok task = h in cc)
 judged_keyword_fits n None words task h = subst (Fits n) (ok_is tasks.NotMine task h) tt

@@ -147,6 +147,7 @@ loss_limits r ppm le h =
 limits_after : (n : Network) (change : LinkChange) → FitsLinkChange n change → (l : AskedLink) → limits_link l ≡ true → limits_link (link_with change l) ≡ true
 limits_after n (links.Name name) fit l h = h
 limits_after n (links.Loss ppm) fit l h = let p = limits_parts l h in limits_of (link_with (links.Loss ppm) l) (loss_limits l.rates ppm fit p.0) p.1 p.2
+limits_after n (links.Multiplexed multiplexed) fit l h = h
 limits_after n (links.Address v ip) fit l h =
     let p = limits_parts l h in
     limits_of (link_with (links.Address v ip) l) p.0
@@ -156,29 +157,36 @@ limits_after n (links.Address v ip) fit l h =
 ends_after : (n : Network) (change : LinkChange) (l : AskedLink) → list_all (λ e. nat_lt e.node (length n.nodes)) l.ends ≡ true → list_all (λ e. nat_lt e.node (length n.nodes)) (link_with change l).ends ≡ true
 ends_after n (links.Name name) l h = h
 ends_after n (links.Loss ppm) l h = h
+ends_after n (links.Multiplexed multiplexed) l h = h
 ends_after n (links.Address v ip) l h =
     all_ends v ip (λ e. nat_lt e.node (length n.nodes)) (λ e. nat_lt e.node (length n.nodes)) (λ e a. subst (λ (m : ℕ). nat_lt m (length n.nodes) ≡ true) (sym (end_node v ip e)) a) l.ends h
 
 members_after : (change : LinkChange) (l : AskedLink) → stands_again (λ a b. a.node == b.node) l.ends ≡ false → stands_again (λ a b. a.node == b.node) (link_with change l).ends ≡ false
 members_after (links.Name name) l h = h
 members_after (links.Loss ppm) l h = h
+members_after (links.Multiplexed multiplexed) l h = h
 members_after (links.Address v ip) l h = ends_differ v ip l.ends ∙ h
 
 differ_after : (n : Network) (place : ℕ) (change : LinkChange) → FitsLinkChange n change → stands_again (λ a b. same_name a.name b.name) n.links ≡ false
     → stands_again (λ a b. same_name a.name b.name) (changed_at (link_with change) place n.links) ≡ false
 differ_after n place (links.Name name) fit h = again_named (λ (x : AskedLink). x.name) name (link_with (links.Name name)) (λ x. refl) place n.links fit.free h
 differ_after n place (links.Loss ppm) fit h = again_kept (λ (a b : AskedLink). same_name a.name b.name) (link_with (links.Loss ppm)) (λ x y. refl) (λ x y. refl) place n.links ∙ h
+differ_after n place (links.Multiplexed multiplexed) fit h =
+    again_kept (λ (a b : AskedLink). same_name a.name b.name) (link_with (links.Multiplexed multiplexed)) (λ x y. refl) (λ x y. refl) place n.links ∙ h
 differ_after n place (links.Address v ip) fit h = again_kept (λ (a b : AskedLink). same_name a.name b.name) (link_with (links.Address v ip)) (λ x y. refl) (λ x y. refl) place n.links ∙ h
 
 form_after : (n : Network) (change : LinkChange) → FitsLinkChange n change → (x : AskedLink) → HasForm (codes "tb.l") x.name → HasForm (codes "tb.l") (link_with change x).name
 form_after n (links.Name name) fit x h = has_form (codes "tb.l") fit.variable name fit.given
 form_after n (links.Loss ppm) fit x h = h
+form_after n (links.Multiplexed multiplexed) fit x h = h
 form_after n (links.Address v ip) fit x h = h
 
 names_after : (n : Network) (place : ℕ) (change : LinkChange) → FitsLinkChange n change → AreNumbered numbered.Link 1 (map (λ (x : AskedLink). x.name) n.links)
     → AreNumbered numbered.Link 1 (map (λ (x : AskedLink). x.name) (changed_at (link_with change) place n.links))
 names_after n place (links.Name name) fit h = numbered_named numbered.Link (λ (x : AskedLink). x.name) name (link_with (links.Name name)) (λ x. refl) (given_plain fit.variable name fit.given) 1 place n.links h
 names_after n place (links.Loss ppm) fit h = subst (AreNumbered numbered.Link 1) (sym (map-changed (λ (x : AskedLink). x.name) (link_with (links.Loss ppm)) place n.links (λ x. refl))) h
+names_after n place (links.Multiplexed multiplexed) fit h =
+    subst (AreNumbered numbered.Link 1) (sym (map-changed (λ (x : AskedLink). x.name) (link_with (links.Multiplexed multiplexed)) place n.links (λ x. refl))) h
 names_after n place (links.Address v ip) fit h = subst (AreNumbered numbered.Link 1) (sym (map-changed (λ (x : AskedLink). x.name) (link_with (links.Address v ip)) place n.links (λ x. refl))) h
 
 pub keeps_link_change : (n : Network) (place : ℕ) (change : LinkChange) → IsKept n → FitsLinkChange n change → IsKept (change_link n place change)

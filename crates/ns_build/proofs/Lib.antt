@@ -1,19 +1,19 @@
-pub mod Changing
-pub mod PlaceLaws
-pub mod EachWord
-pub mod Elements
-pub mod NamesDiffer
-pub mod Numbering
-pub mod Fitting
-pub mod KeepingNodes
-pub mod KeepingLinks
-pub mod KeepingClasses
-pub mod Chains
-pub mod Quantities
-pub mod JudgedSettings
-pub mod KeepingEvents
-pub mod JudgedObjects
-pub mod Keeping
-pub mod Meanings
+mod Changing
+mod PlaceLaws
+mod EachWord
+mod Elements
+mod NamesDiffer
+mod Numbering
+mod Fitting
+mod KeepingNodes
+mod KeepingLinks
+mod KeepingClasses
+mod Chains
+mod Quantities
+mod JudgedSettings
+mod KeepingEvents
+mod JudgedObjects
+mod Keeping
+mod Meanings
 pub mod OneMeaning
-pub mod ObjectWords
+mod ObjectWords

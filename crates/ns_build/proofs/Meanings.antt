@@ -1,9 +1,9 @@
 -- How a run of the interpreter gives the meaning of a text.
-use Rattle.std.proofs.Common.{◌≡◌, ℕ, ◌<◌, ◌≤◌, List, [], length, None, Result, Ok, Err, sym, ap, subst, ◌∙◌}
+use Rattle.std.proofs.Common.{◌≡◌, ℕ, ◌+◌, ◌<◌, ◌≤◌, List, [], length, take, None, Result, Ok, Err, sym, ap, subst, ◌∙◌, take-take, arith}
 use Rattle.lab_base.specs.declared.fault.Kind.TheVariants as kinds
 use Rattle.lab_base.specs.declared.fault.TextRefused.{TextRefused}
 use Rattle.lab_base.specs.declared.fault.TextRefused.TheVariants as refused
-use Rattle.tcl_words.specs.Words.{line_at}
+use Rattle.tcl_words.specs.Words.{feeds_of, line_at}
 use Rattle.tcl_eval.specs.declared.runs.Ran.{Ran}
 use Rattle.tcl_eval.specs.declared.runs.Ran.TheVariants.{Stopped, Ended}
 use Rattle.tcl_eval.specs.Seen.{Seen}
@@ -43,9 +43,12 @@ module _ (t : List ℕ) (n : Network) (i : Seen Network) (s : State Network) (fr
   failed (refused.Text fault) short run = MeaningOf.faulty short (begun (Err (refused.Text fault)) run)
   failed refused.Memory short run = tt
 
-pub too_long : (t : List ℕ) (line : ℕ) → 65536 < length t → line ≡ line_at t 65536 → HasMeaning t (Err (refused.Text (fault_on line kinds.Long)))
+-- the line is that of the same place in what is read of the text
+pub too_long : (t : List ℕ) (line : ℕ) → 65536 < length t → line ≡ line_at (take 65537 t) 65536 → HasMeaning t (Err (refused.Text (fault_on line kinds.Long)))
 unfolding HasMeaning
-too_long t line long is = subst (λ (l : ℕ). MeaningOf t (Err (fault_on l kinds.Long))) (sym is) (MeaningOf.long long)
+too_long t line long is =
+    let same : take 65536 (take 65537 t) ≡ take 65536 t = take-take 65536 65537 t (omega arith) in
+    subst (λ (l : ℕ). MeaningOf t (Err (fault_on l kinds.Long))) (sym (is ∙ ap (λ (bytes : List ℕ). 1 + feeds_of bytes) same)) (MeaningOf.long long)
 
 pub no_memory : (t : List ℕ) → HasMeaning t (Err refused.Memory)
 unfolding HasMeaning

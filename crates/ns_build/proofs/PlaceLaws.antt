@@ -215,6 +215,7 @@ on_addressed v node ip (e ∷ ends) = by (eqb e.node node) (on_addressed v node 
 on_changed : (v : ℕ) (change : LinkChange) (l : AskedLink) → is_on v (link_with change l) ≡ is_on v l
 on_changed v (links.Name name) l = refl
 on_changed v (links.Loss ppm) l = refl
+on_changed v (links.Multiplexed multiplexed) l = refl
 on_changed v (links.Address node ip) l = on_addressed v node ip l.ends
 
 any_changed : (v : ℕ) (change : LinkChange) (place : ℕ) (ls : List AskedLink) → list_any (is_on v) (changed_at (link_with change) place ls) ≡ list_any (is_on v) ls

@@ -1,6 +1,6 @@
 -- The checks of a command: each gives a value, or the fault of the command.
-use Rattle.std.specs.Prelude.{ℕ, ◌==◌, Bool, not, List, [], ◌∷◌, length, Option, Some, None, Result, Ok, Err, slice_index_or, if◌then◌else◌}
-use Rattle.lab_base.specs.Names.{is_name}
+use Rattle.std.specs.Prelude.{ℕ, ◌==◌, Bool, true, false, not, List, [], ◌∷◌, length, codes, Option, Some, None, Result, Ok, Err, slice_index_or, if◌then◌else◌}
+use Rattle.lab_base.specs.Names.{is_name, same_name}
 use Rattle.lab_base.specs.declared.fault.Kind.{Kind}
 use Rattle.lab_base.specs.declared.fault.Kind.TheVariants as kinds
 use Rattle.ns_words.specs.Values.{bandwidth_of, delay_of, loss_of}
@@ -47,6 +47,10 @@ delay_in word = need kinds.Delay (delay_of word)
 
 unfoldable pub loss_in : List ℕ → Result ℕ Kind
 loss_in word = need kinds.Loss (loss_of word)
+
+-- `0` or `1`
+unfoldable pub flag_in : List ℕ → Result Bool Kind
+flag_in word = if same_name word (codes "0") then Ok false else (if same_name word (codes "1") then Ok true else Err kinds.Number)
 
 unfoldable pub address_in : List ℕ → Result ℕ Kind
 address_in word = need kinds.Ip (address_of word)

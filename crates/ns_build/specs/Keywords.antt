@@ -16,9 +16,10 @@ setting_of word =
     else (if same_name word (codes "tb-set-ip-lan") then Some keywords.LanIp
     else (if same_name word (codes "tb-set-link-loss") then Some keywords.LinkLoss
     else (if same_name word (codes "tb-set-lan-loss") then Some keywords.LanLoss
+    else (if same_name word (codes "tb-set-multiplexed") then Some keywords.Multiplexed
     else (if same_name word (codes "tb-fix-node") then Some keywords.FixNode
     else (if same_name word (codes "tb-make-soft-vtype") then Some keywords.SoftVtype
-    else (if starts_with nat_eq word (codes "tb-") then Some keywords.OtherSetting else None)))))))))
+    else (if starts_with nat_eq word (codes "tb-") then Some keywords.OtherSetting else None))))))))))
 
 abbrev pub keyword_of : List ℕ → Option Keyword
 keyword_of word =

@@ -60,9 +60,9 @@ next_link n = numbered_name_of numbered.Link (length n.links + 1)
 abbrev pub fresh_node : List ℕ → AskedNode
 fresh_node name = record { name = name; asks = Plain (codes "pc"); os = codes "default"; fixed = None }
 
--- a link or LAN
+-- a link or LAN, which is not multiplexed
 abbrev pub fresh_link : List ℕ → Bool → Rates → List VirtEnd → AskedLink
-fresh_link name lan rates ends = record { name = name; lan = lan; rates = rates; ends = ends }
+fresh_link name lan rates ends = record { name = name; lan = lan; rates = rates; multiplexed = false; ends = ends }
 
 -- without loss
 abbrev pub lossless : ℕ → ℕ → Rates
@@ -133,6 +133,7 @@ addressed v ip e = if e.node == v then record e { address = Some ip } else e
 abbrev pub link_with : LinkChange → AskedLink → AskedLink
 link_with (links.Name name) l = record l { name = name }
 link_with (links.Loss ppm) l = record l { rates = record l.rates { ppm = ppm } }
+link_with (links.Multiplexed multiplexed) l = record l { multiplexed = multiplexed }
 link_with (links.Address v ip) l = record l { ends = map (addressed v ip) l.ends }
 
 abbrev pub change_node : Network → ℕ → NodeChange → Network

@@ -9,8 +9,8 @@ use Rattle.ns_build.specs.declared.task.Task.TheVariants as tasks
 use Rattle.ns_build.specs.declared.task.NodeChange.TheVariants as nodes
 use Rattle.ns_build.specs.declared.task.LinkChange.TheVariants as links
 use Rattle.ns_build.specs.Networks.{Network, fresh_class, is_on_at, only_link, asks_of, refuses_class}
-use Rattle.ns_build.specs.Words.{node_of, link_of_kind, elements_of}
-use Rattle.ns_build.specs.Checks.{◌>>=◌, each, need, refuse, word_at, counted, name_in, loss_in, address_in}
+use Rattle.ns_build.specs.Words.{node_of, link_of, link_of_kind, elements_of}
+use Rattle.ns_build.specs.Checks.{◌>>=◌, each, need, refuse, word_at, counted, name_in, loss_in, flag_in, address_in}
 
 -- `tb-set-node-os NODE OS`
 unfoldable pub judged_os : Network → List (List ℕ) → Result Task Kind
@@ -62,6 +62,14 @@ judged_loss lan n words = do
   l ← need kinds.Link (link_of_kind n lan (word_at words 1))
   ppm ← loss_in (word_at words 2)
   Ok (tasks.ChangeLink l (links.Loss ppm))
+
+-- `tb-set-multiplexed LINK N`, of a link or a LAN
+unfoldable pub judged_multiplexed : Network → List (List ℕ) → Result Task Kind
+judged_multiplexed n words = do
+  form ← counted 3 words
+  l ← need kinds.Link (link_of n (word_at words 1))
+  multiplexed ← flag_in (word_at words 2)
+  Ok (tasks.ChangeLink l (links.Multiplexed multiplexed))
 
 -- these types and another
 unfoldable pub with_type : List (List ℕ) → List ℕ → Result (List (List ℕ)) Kind

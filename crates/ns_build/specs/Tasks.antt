@@ -17,7 +17,7 @@ use Rattle.ns_build.specs.Words.{simulator_word, node_of, link_of}
 use Rattle.ns_build.specs.Checks.{◌>>=◌, refuse, object_name_in}
 use Rattle.ns_build.specs.Keywords.{keyword_of}
 use Rattle.ns_build.specs.Commands.{judged_new, judged_source, judged_simulator}
-use Rattle.ns_build.specs.Settings.{judged_os, judged_hardware, judged_fixed, judged_ip, judged_end_ip, judged_loss, judged_class}
+use Rattle.ns_build.specs.Settings.{judged_os, judged_hardware, judged_fixed, judged_ip, judged_end_ip, judged_loss, judged_multiplexed, judged_class}
 
 -- COMMANDS, of which those of the simulator hang on the line
 
@@ -32,6 +32,7 @@ judged_keyword n (Some keywords.LinkIp) words = judged_end_ip false n words
 judged_keyword n (Some keywords.LanIp) words = judged_end_ip true n words
 judged_keyword n (Some keywords.LinkLoss) words = judged_loss false n words
 judged_keyword n (Some keywords.LanLoss) words = judged_loss true n words
+judged_keyword n (Some keywords.Multiplexed) words = judged_multiplexed n words
 judged_keyword n (Some keywords.SoftVtype) words = judged_class n words
 judged_keyword n (Some keywords.OtherSetting) words = Err kinds.Unsupported
 judged_keyword n None words = Ok tasks.NotMine

@@ -1,6 +1,6 @@
 //! The reading of NS texts.
 
-ghost use Rattle.std.specs.Prelude.{◌≡◌, ◌-◌, ◌^◌, ◌<◌, ◌≤◌, IfOk, length};
+ghost use Rattle.std.specs.Prelude.{◌≡◌, ◌≤◌, IfOk, length};
 ghost use Rattle.lab_base.specs.declared.fault.TextRefused.TheVariants as refusals;
 ghost use Rattle.tcl_eval.specs.Runs.{fault_on};
 ghost use Rattle.ns_build.specs.Kept.{AllKeepLimits};
@@ -40,13 +40,12 @@ fn refused(line: u32, kind: Kind) -> TextRefused
 /// the whole text, then one of its evaluation, with the line of the command at the top level, and `not-run` with
 /// the last line where no `$ns run` is reached.
 pub fn read_ns(alloc: Global, text: &[u8]) -> Result<Asked, TextRefused>
-    requires short { length text.now < 2 ^ 32 - 1 }
     ensures meaning { HasMeaning text.now result }
     ensures few { IfOk result (λ asked. length asked.events ≤ 1024) }
     ensures limits { IfOk result (λ asked. AllKeepLimits asked.events) }
 {
     if text.len() > MAX_TEXT {
-        return Err(refused(line_of(text, MAX_TEXT), Kind::Long));
+        return Err(refused(line_of(&text[..MAX_TEXT + 1], MAX_TEXT), Kind::Long));
     }
     let mut interp = Interp::new(alloc, NsHost::new(alloc))?;
     match interp.run(text)? {

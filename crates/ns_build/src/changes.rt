@@ -71,6 +71,7 @@ pub(crate) fn change_link(alloc: Global, link: &mut AskedLink, change: LinkChang
     match change {
         LinkChange::Name(name) => link.name = name,
         LinkChange::Loss(ppm) => link.rates.ppm = ppm,
+        LinkChange::Multiplexed(multiplexed) => link.multiplexed = multiplexed,
         LinkChange::Address { node, address } => address_link(alloc, link, node, address),
     }
 }

@@ -74,6 +74,20 @@ pub(crate) fn loss_in(word: &[u8]) -> Result<u32, Kind>
     need(Kind::Loss, ns_words::loss(word))
 }
 
+/// Whether a word is `1`, of the two that are a flag.
+#[tactic(auto, unfolding(crate::specs::Checks::flag_in))]
+pub(crate) fn flag_in(word: &[u8]) -> Result<bool, Kind>
+    ensures { result ≡ checks.flag_in word.now }
+{
+    if word == b"0".as_slice() {
+        Ok(false)
+    } else if word == b"1".as_slice() {
+        Ok(true)
+    } else {
+        Err(Kind::Number)
+    }
+}
+
 /// The IPv4 address that a word is.
 #[tactic(auto, unfolding(crate::specs::Checks::address_in))]
 pub(crate) fn address_in(word: &[u8]) -> Result<u32, Kind>

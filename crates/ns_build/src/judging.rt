@@ -36,6 +36,7 @@ impl Network {
             Some(Keyword::LanIp) => Ok(self.judge_end_ip(true, words)?),
             Some(Keyword::LinkLoss) => Ok(self.judge_loss(false, words)?),
             Some(Keyword::LanLoss) => Ok(self.judge_loss(true, words)?),
+            Some(Keyword::Multiplexed) => Ok(self.judge_multiplexed(words)?),
             Some(Keyword::SoftVtype) => self.judge_class(alloc, words),
             Some(Keyword::OtherSetting) => Err(Refusal::Kind(Kind::Unsupported)),
             None => Ok(Task::NotMine),

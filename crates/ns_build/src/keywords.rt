@@ -15,6 +15,7 @@ pub(crate) enum Keyword {
     LanIp,
     LinkLoss,
     LanLoss,
+    Multiplexed,
     FixNode,
     SoftVtype,
     /// Another word that begins with `tb-`.
@@ -50,6 +51,8 @@ fn setting_of(word: &[u8]) -> Option<Keyword>
         Some(Keyword::LinkLoss)
     } else if word == b"tb-set-lan-loss".as_slice() {
         Some(Keyword::LanLoss)
+    } else if word == b"tb-set-multiplexed".as_slice() {
+        Some(Keyword::Multiplexed)
     } else if word == b"tb-fix-node".as_slice() {
         Some(Keyword::FixNode)
     } else if word == b"tb-make-soft-vtype".as_slice() {

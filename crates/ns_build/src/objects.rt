@@ -88,6 +88,7 @@ impl Network {
                     micros,
                     ppm: 0,
                 },
+                multiplexed: false,
                 ends,
             },
         }

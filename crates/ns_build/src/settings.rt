@@ -3,7 +3,7 @@
 ghost use Rattle.std.specs.Prelude.{◌≡◌, ◌≤◌, length};
 ghost use Rattle.ns_build.specs.Settings as settings;
 
-use crate::checks::{address_in, counted, loss_in, name_in, need, refuse, word_at};
+use crate::checks::{address_in, counted, flag_in, loss_in, name_in, need, refuse, word_at};
 use crate::network::Network;
 use crate::task::{LinkChange, NodeChange, Task};
 use lab_base::{Kind, Text};
@@ -94,6 +94,20 @@ impl Network {
         Ok(Task::ChangeLink {
             place: link,
             change: LinkChange::Loss(ppm),
+        })
+    }
+
+    /// `tb-set-multiplexed LINK N`, of a link or a LAN
+    #[tactic(auto, unfolding(crate::specs::Settings::judged_multiplexed))]
+    pub(crate) fn judge_multiplexed(&self, words: &[Text]) -> Result<Task, Kind>
+        ensures { result ≡ settings.judged_multiplexed self.now words.now }
+    {
+        counted(3, words)?;
+        let link = need(Kind::Link, self.link_of(word_at(words, 1)))?;
+        let multiplexed = flag_in(word_at(words, 2))?;
+        Ok(Task::ChangeLink {
+            place: link,
+            change: LinkChange::Multiplexed(multiplexed),
         })
     }
 }

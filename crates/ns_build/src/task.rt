@@ -52,6 +52,8 @@ pub(crate) enum LinkChange {
     Name(Name),
     /// In millionths.
     Loss(u32),
+    /// Whether its ends may share interfaces with those of other such links and LANs.
+    Multiplexed(bool),
     /// At the end of a node.
     Address { node: u16, address: u32 },
 }

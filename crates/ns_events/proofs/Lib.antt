@@ -1,7 +1,7 @@
-pub mod Moments
-pub mod Renewing
-pub mod Sounding
-pub mod Applying
-pub mod Shaping
-pub mod OneApplied
-pub mod OneSchedule
+mod Moments
+mod Renewing
+mod Sounding
+mod Applying
+mod Shaping
+mod OneApplied
+mod OneSchedule

@@ -1,4 +1,4 @@
-ghost use Rattle.std.specs.Prelude.{◌≡◌, ◌≤◌, ◌<◌, ◌-◌, ◌^◌, true, length, Ok, IfOk};
+ghost use Rattle.std.specs.Prelude.{◌≡◌, ◌≤◌, true, length, Ok, IfOk};
 ghost use Rattle.lab_base.specs.declared.fault.TextRefused.TheVariants as refusals;
 ghost use Rattle.virt_topo.specs.Soundness.{IsSound};
 ghost use Rattle.top_text.specs.Adding.{wiring_of_text};
@@ -48,7 +48,6 @@ fn wiring_of(alloc: Global, asked: &Asked) -> Result<Wiring, TextRefused>
 /// The error is the first fault of the text, with its line, or that of the expansion, with the line of `$ns run`: a limit,
 /// no node, an address that is given twice or in two subnets, or no subnet or host number for an end.
 pub fn read_network(alloc: Global, text: &[u8]) -> Result<Wiring, TextRefused>
-    requires short { length text.now < 2 ^ 32 - 1 }
     ensures wiring { HasWiring text.now result }
     ensures sound { IfOk result (λ wiring. IsSound wiring) }
 {
@@ -60,7 +59,6 @@ pub fn read_network(alloc: Global, text: &[u8]) -> Result<Wiring, TextRefused>
 
 /// Reads an NS text as `read_network` does, and prints its wiring: what is printed is read back as the wiring.
 pub fn read_and_print(alloc: Global, text: &[u8]) -> Result<Printed, TextRefused>
-    requires short { length text.now < 2 ^ 32 - 1 }
     ensures wiring { HasWiring text.now (wiring_alone result) }
     ensures sound { IfOk result (λ printed. IsSound printed.wiring) }
     ensures text { IfOk result (λ printed. printed.top ≡ canonical_top printed.wiring) }

@@ -1,8 +1,8 @@
-pub mod Leading
-pub mod Amounts
+mod Leading
+mod Amounts
 pub mod Lookups
-pub mod LetterLaws
-pub mod Measures
+mod LetterLaws
+mod Measures
 pub mod AddressLaws
 pub mod NameLaws
 pub mod Exact

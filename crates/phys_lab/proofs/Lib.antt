@@ -1,11 +1,11 @@
 pub mod SideLaws
 pub mod ForestLaws
-pub mod InPlace
-pub mod TableLaws
+mod InPlace
+mod TableLaws
 pub mod FaultLaws
-pub mod BuilderLaws
+mod BuilderLaws
 pub mod NameLaws
-pub mod SideTables
+mod SideTables
 pub mod KeptLaws
 pub mod ForestKept
 pub mod Adding

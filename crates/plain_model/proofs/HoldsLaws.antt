@@ -27,7 +27,7 @@ use Rattle.lab_model.proofs.FirstViolation.{passes, fails}
 use Rattle.plain_model.specs.Holds.{all_pass, is_place, is_plug, is_shaped, suits, fits_in, fits, shares_in, shares, are_apart, has_room, is_in_range, is_holding}
 use Rattle.plain_model.proofs.Neighbours.{any_some, all_from}
 
-none_of : {X : Type 0} (o : Option X) → is_none o ≡ true → o ≡ None
+pub none_of : {X : Type 0} (o : Option X) → is_none o ≡ true → o ≡ None
 none_of None e = refl
 none_of (Some x) e = absurd (cc e)
 

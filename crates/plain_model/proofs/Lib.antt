@@ -1,11 +1,12 @@
-pub mod CabledLaws
-pub mod FirstLaws
-pub mod HoldsLaws
-pub mod IsolationLaws
-pub mod KeptLaws
-pub mod Neighbours
-pub mod NodeLaws
-pub mod ReadLaws
-pub mod RowLaws
-pub mod SeenLaws
-pub mod WantLaws
+mod CabledLaws
+mod FirstLaws
+mod HoldsLaws
+mod IsolationLaws
+mod KeptLaws
+mod LoadSteps
+mod Neighbours
+mod NodeLaws
+mod ReadLaws
+mod RowLaws
+mod SeenLaws
+mod WantLaws

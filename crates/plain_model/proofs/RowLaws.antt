@@ -6,7 +6,7 @@ use Rattle.plant.specs.declared.device.DeviceOp.{DeviceOp}
 use Rattle.plant.specs.declared.device.DeviceOp.TheVariants.{Join, Leave, Shape, Load, Boot as BootIt, Poll, Wipe}
 use Rattle.plant.specs.declared.device.Answer.{Answer}
 use Rattle.plant.specs.declared.device.Fault.{Fault}
-use Rattle.plant.specs.Events.{Event, Wrote, Synced, Cut, Missed, Did, Restarted}
+use Rattle.plant.specs.Events.{Event, Wrote, Synced, Cut, Missed, Did, Restarted, Unread}
 use Rattle.plant.specs.Worlds.{Row, PipeRow, NodeRow, World, wiped, blank, row_after, node_after, node_polled, pipes_with, told, world_after, world_of}
 use Rattle.plain_model.specs.declared.world.Sent.{Sent}
 use Rattle.plain_model.specs.Rows.{commands_of, sent_to, world_sent, row_then, has_row, os_then, boot_then, pipe_then, node_sent}
@@ -20,6 +20,7 @@ world_fold (Synced side ∷ events) w = world_fold events w
 world_fold (Cut side size ∷ events) w = world_fold events w
 world_fold (Missed side ∷ events) w = world_fold events w
 world_fold (Restarted a b ∷ events) w = world_fold events w
+world_fold (Unread device ∷ events) w = world_fold events w
 
 pub world_told : (trace : List Event) → world_of trace ≡ world_sent (commands_of trace)
 world_told trace = world_fold trace blank

@@ -1,5 +1,7 @@
 // The first subject that breaks a rule.
 ghost use Rattle.std.specs.Prelude.{◌≡◌, ◌<◌, ◌≤◌, length, IfSome};
+ghost use Rattle.virt_topo.specs.Ends.{end_nodes};
+ghost use Rattle.virt_topo.specs.Soundness.{IsSound};
 ghost use Rattle.lab_model.specs.Shapes.{IsShaped};
 ghost use Rattle.lab_model.specs.Rules.{keeps_f2, keeps_f3, keeps_f4, keeps_f5, keeps_f7};
 ghost use Rattle.lab_model.specs.Feasible.{first_below};
@@ -51,8 +53,10 @@ pub(crate) fn first_f4(lab: &Lab, wiring: &Wiring, mapping: &Mapping) -> Option<
     None
 }
 
-/// The first end whose plug is on another node, is an earlier end's, or is too slow.
+/// The first end whose plug is on another node, or may not come to the earlier ends that have it.
 pub(crate) fn first_f5(lab: &Lab, wiring: &Wiring, mapping: &Mapping) -> Option<usize>
+    requires sound { IsSound wiring.now }
+    requires plugs { length mapping.now.plugs ≡ length (end_nodes wiring.now.segments) }
     ensures first { result ≡ first_below (length mapping.now.plugs) (keeps_f5 lab.now wiring.now mapping.now) }
     ensures within { IfSome result (λ end. end < length mapping.now.plugs) }
 {

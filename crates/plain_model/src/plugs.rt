@@ -1,17 +1,19 @@
 // The rules on plugs, each as its definition has it.
-ghost use Rattle.std.specs.Prelude.{◌≡◌, ◌<◌, ◌==◌, length, slice_index_or};
-ghost use Rattle.std.specs.List.{list_all, list_any};
+ghost use Rattle.std.specs.Prelude.{◌≡◌, ◌<◌, ◌≤◌, ◌+◌, ◌==◌, nat_le, length, take, drop, zip, sum_by, slice_index_or};
+ghost use Rattle.std.specs.List.{list_all};
 ghost use Rattle.phys_lab.specs.Sides.{joined};
 ghost use Rattle.virt_topo.specs.Ends.{end_nodes};
+ghost use Rattle.virt_topo.specs.Loads.{loads_from};
+ghost use Rattle.virt_topo.specs.Soundness.{IsSound};
 ghost use Rattle.virt_topo.specs.Cables.{cables};
 ghost use Rattle.lab_model.specs.Uses.{switch_of};
-ghost use Rattle.lab_model.specs.Rules.{place_at, plug_at, end_speeds, keeps_f5, no_cable, are_joined, keeps_f7};
+ghost use Rattle.lab_model.specs.Rules.{place_at, plug_at, keeps_f5, loads_on, may_join, may_bear, no_load, no_cable, are_joined, keeps_f7};
 
 use crate::at::{node_of, speed_of, switch_of};
 use crate::sides::is_joined;
 use lab_base::IfaceId;
 use phys_lab::Lab;
-use virt_topo::{Mapping, Segment, Wiring};
+use virt_topo::{Load, Mapping, Segment, Wiring};
 
 /// The virtual node of an end.
 fn end_node(segments: &[Segment], end: usize) -> u16
@@ -26,19 +28,28 @@ fn end_node(segments: &[Segment], end: usize) -> u16
     }
 }
 
-/// The kbps of the segment of an end.
-fn end_speed(segments: &[Segment], end: usize) -> u64
-    ensures { result ≡ slice_index_or (end_speeds segments.now) end 0 }
+/// What an end of these segments, the first of which has that number, puts on its interface.
+fn load_at(segments: &[Segment], number: u16, end: usize) -> Load
+    requires { number + length segments.now ≤ 512 }
+    ensures { result ≡ slice_index_or (loads_from number segments.now) end no_load }
 {
     match segments.split_first() {
         Some((segment, others)) => {
             if end < segment.ends.len() {
-                segment.kbps
+                Load {
+                    segment: number,
+                    kbps: segment.kbps,
+                    multiplexed: segment.multiplexed,
+                }
             } else {
-                end_speed(others, end - segment.ends.len())
+                load_at(others, number + 1, end - segment.ends.len())
             }
         }
-        None => 0,
+        None => Load {
+            segment: 0,
+            kbps: 0,
+            multiplexed: false,
+        },
     }
 }
 
@@ -52,21 +63,97 @@ fn place_of(mapping: &Mapping, virt: u16) -> u16
     }
 }
 
-fn has_plug(plugs: &[IfaceId], plug: IfaceId) -> bool
-    ensures { result ≡ list_any (λ i. i.0 == plug.0) plugs.now }
+fn plug_at(mapping: &Mapping, end: usize) -> IfaceId
+    requires { end < length mapping.now.plugs }
+    ensures { result ≡ plug_at mapping.now end }
 {
-    plugs.iter().any(|other| other.0 == plug.0)
+    mapping.plugs.as_slice()[end]
 }
 
+/// Whether two loads may be on one interface.
+fn may_join(one: &Load, other: &Load) -> bool
+    ensures { result ≡ may_join one.now other.now }
+{
+    one.segment != other.segment && one.multiplexed && other.multiplexed
+}
+
+/// Whether a load may be on an interface with each load that ends have put there, of which these are the plugs from the end of that
+/// number on.
+fn joins_all(
+    segments: &[Segment],
+    end: usize,
+    plugs: &[IfaceId],
+    plug: IfaceId,
+    load: &Load,
+) -> bool
+    requires segments { length segments.now ≤ 512 }
+    requires few { end + length plugs.now ≤ 4096 }
+    requires ends { end + length plugs.now ≤ length (loads_from 0 segments.now) }
+    ensures { result ≡ list_all (λ y. may_join y load.now) (loads_on plug.0 (zip (drop end (loads_from 0 segments.now)) plugs.now)) }
+{
+    match plugs.split_first() {
+        Some((first, others)) => {
+            let later = joins_all(segments, end + 1, others, plug, load);
+            if first.0 == plug.0 {
+                may_join(&load_at(segments, 0, end), load) && later
+            } else {
+                later
+            }
+        }
+        None => true,
+    }
+}
+
+/// Whether the loads on an interface add up to at most so many kbps, which are of ends with these plugs from the end of that number on.
+fn has_room(segments: &[Segment], end: usize, plugs: &[IfaceId], plug: IfaceId, kbps: u64) -> bool
+    requires segments { length segments.now ≤ 512 }
+    requires few { end + length plugs.now ≤ 4096 }
+    requires ends { end + length plugs.now ≤ length (loads_from 0 segments.now) }
+    ensures { result ≡ nat_le (sum_by (λ y. y.kbps) (loads_on plug.0 (zip (drop end (loads_from 0 segments.now)) plugs.now))) kbps }
+{
+    match plugs.split_first() {
+        Some((first, others)) => {
+            if first.0 == plug.0 {
+                let own = load_at(segments, 0, end).kbps;
+                own <= kbps && has_room(segments, end + 1, others, plug, kbps - own)
+            } else {
+                has_room(segments, end + 1, others, plug, kbps)
+            }
+        }
+        None => true,
+    }
+}
+
+/// Whether a load may come to those that ends with these plugs, the first ends, have put on an interface of that many kbps.
+fn may_bear(segments: &[Segment], plugs: &[IfaceId], plug: IfaceId, kbps: u64, load: &Load) -> bool
+    requires segments { length segments.now ≤ 512 }
+    requires few { length plugs.now ≤ 4096 }
+    requires ends { length plugs.now ≤ length (loads_from 0 segments.now) }
+    ensures { result ≡ may_bear kbps (loads_on plug.0 (zip (loads_from 0 segments.now) plugs.now)) load.now }
+{
+    joins_all(segments, 0, plugs, plug, load)
+        && load.kbps <= kbps
+        && has_room(segments, 0, plugs, plug, kbps - load.kbps)
+}
+
+/// Whether the plug of an end is on its virtual node's node, and the earlier ends that have it leave the end room there.
 pub(crate) fn keeps_f5(lab: &Lab, wiring: &Wiring, mapping: &Mapping, end: usize) -> bool
-    requires { end < length mapping.now.plugs }
+    requires sound { IsSound wiring.now }
+    requires plugs { length mapping.now.plugs ≡ length (end_nodes wiring.now.segments) }
+    requires end { end < length mapping.now.plugs }
     ensures { result ≡ keeps_f5 lab.now wiring.now mapping.now end }
 {
     let segments = wiring.segments.as_slice();
     let plugs = mapping.plugs.as_slice();
-    node_of(lab, plugs[end]) == place_of(mapping, end_node(segments, end))
-        && !has_plug(&plugs[..end], plugs[end])
-        && end_speed(segments, end) <= speed_of(lab, plugs[end])
+    let plug = plug_at(mapping, end);
+    node_of(lab, plug) == place_of(mapping, end_node(segments, end))
+        && may_bear(
+            segments,
+            &plugs[..end],
+            plug,
+            speed_of(lab, plug),
+            &load_at(segments, 0, end),
+        )
 }
 
 /// Whether there is a plug for each end of the segments.

@@ -1,5 +1,5 @@
 // Whether a mapping suits a lab.
-ghost use Rattle.std.specs.Prelude.{◌≡◌, IsTrue, length};
+ghost use Rattle.std.specs.Prelude.{◌≡◌, IsTrue, true, length};
 ghost use Rattle.std.specs.List.{list_all};
 ghost use Rattle.virt_topo.specs.Wirings.{mapped};
 ghost use Rattle.lab_model.specs.Shapes.{has_name};
@@ -61,7 +61,8 @@ fn is_shaped(lab: &Lab, wiring: &Wiring, mapping: &Mapping) -> bool
 }
 
 fn keeps_rules(lab: &Lab, wiring: &Wiring, mapping: &Mapping) -> bool
-    requires { length mapping.now.places ≡ length wiring.now.nodes }
+    requires sound { is_sound wiring.now ≡ true }
+    requires shaped { is_shaped lab.now wiring.now mapping.now ≡ true }
     ensures { result ≡ keeps_rules lab.now wiring.now mapping.now }
 {
     first_f2(lab, wiring, mapping).is_none()

@@ -13,3 +13,4 @@ pub data Event : Type 0 where
   Missed : (side : Side) → Event
   Did : (op : DeviceOp) (applied : Bool) (answer : Result Answer Fault) → Event
   Restarted : (a b : List ℕ) → Event
+  Unread : (device : List ℕ) → Event

@@ -11,6 +11,8 @@ pub enum How {
     Hang,
     /// That poll sets and answers `IsUp`.
     Jump,
+    /// The reading of what it holds fails. No command counts for it.
+    Read,
 }
 
 /// What a stop leaves of what is not durable.

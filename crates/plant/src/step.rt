@@ -1,4 +1,5 @@
 use crate::{Answer, DeviceOp, Fault};
+use lab_base::Name;
 
 /// A side of the disk.
 #[derive(Clone, Copy, Debug, PartialEq, Eq)]
@@ -40,5 +41,9 @@ pub enum Step {
     Restarted {
         a: (u64, u64),
         b: (u64, u64),
+    },
+    /// A reading of what a device holds failed.
+    Unread {
+        device: Name,
     },
 }

@@ -67,6 +67,7 @@ free_step bytes w n (steps.Synced side) free = free
 free_step bytes w n (steps.Cut side size) free = free
 free_step bytes w n (steps.Missed side) free = free
 free_step bytes w n (steps.Restarted a b) free = free
+free_step bytes w n (steps.Unread device) free = free
 free_step bytes w n (steps.Did op did answer) free = free_did op did answer bytes w n free
 
 -- one step more

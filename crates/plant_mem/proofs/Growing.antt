@@ -43,6 +43,7 @@ event_grows bytes more (step.Synced side) is = refl
 event_grows bytes more (step.Cut side size) is = refl
 event_grows bytes more (step.Missed side) is = refl
 event_grows bytes more (step.Did op applied answer) is = refl
+event_grows bytes more (step.Unread device) is = refl
 
 trace_grows : (bytes more : List ℕ) (steps : List Step) → are_within (length bytes) steps ≡ true → trace_of (bytes ++ more) steps ≡ trace_of bytes steps
 trace_grows bytes more [] is = refl
@@ -65,6 +66,7 @@ step_in m n (step.Synced side) more is = refl
 step_in m n (step.Cut side size) more is = refl
 step_in m n (step.Missed side) more is = refl
 step_in m n (step.Did op applied answer) more is = refl
+step_in m n (step.Unread device) more is = refl
 
 steps_in : (m n : ℕ) (steps : List Step) (step : Step) → m ≤ n → are_within m steps ≡ true → is_within n step ≡ true → are_within n (steps ++ step ∷ []) ≡ true
 steps_in m n [] step more is last = and (is_within n step) true last refl

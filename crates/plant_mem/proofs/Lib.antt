@@ -1,11 +1,11 @@
-pub mod Alike
-pub mod Calls
-pub mod Commanding
-pub mod Counts
-pub mod Growing
-pub mod Images
-pub mod Knowing
-pub mod Passes
-pub mod Restarting
-pub mod Sides
-pub mod States
+mod Alike
+mod Calls
+mod Commanding
+mod Counts
+mod Growing
+mod Images
+mod Knowing
+mod Passes
+mod Restarting
+mod Sides
+mod States

@@ -10,7 +10,7 @@ use Rattle.plant.specs.declared.device.Fault.TheVariants.{Failed}
 use Rattle.plant.specs.declared.drill.Drill.{Drill}
 use Rattle.plant.specs.declared.drill.Drill.TheVariants.{Device, Disk, Stop}
 use Rattle.plant.specs.declared.drill.How.{How}
-use Rattle.plant.specs.declared.drill.How.TheVariants.{Applied, Hang, Jump}
+use Rattle.plant.specs.declared.drill.How.TheVariants.{Applied, Hang, Jump, Read}
 use Rattle.plant_mem.specs.declared.motion.Motion.{Motion}
 use Rattle.plant_mem.specs.declared.motion.Motion.TheVariants.{Moves, Hangs, Jumps}
 use Rattle.plant_mem.specs.declared.plans.Plan.{Plan}
@@ -37,13 +37,18 @@ abbrev pub is_jump : How → Bool
 is_jump Jump = true
 is_jump how = false
 
--- a hang or a jump waits for a poll, the others for any command
+-- it waits for a reading, which is no command
+abbrev pub is_read : How → Bool
+is_read Read = true
+is_read how = false
+
+-- a hang or a jump waits for a poll, the others but for that for any command
 abbrev pub waits_for_poll : How → Bool
 waits_for_poll how = is_hang how || is_jump how
 
 -- the command counts for the plan
 abbrev pub counts : DeviceOp → Plan → Bool
-counts op plan = bytes_eq plan.device (device_of op) && (is_poll op || not (waits_for_poll plan.how))
+counts op plan = not (is_read plan.how) && (bytes_eq plan.device (device_of op) && (is_poll op || not (waits_for_poll plan.how)))
 
 -- it is the one that the plan waits for
 abbrev pub is_due : DeviceOp → Plan → Bool

@@ -14,6 +14,7 @@ event_of bytes (steps.Cut side size) = events.Cut side size
 event_of bytes (steps.Missed side) = events.Missed side
 event_of bytes (steps.Did op applied answer) = events.Did op applied answer
 event_of bytes (steps.Restarted a b) = events.Restarted (slice_range bytes a.0 a.1) (slice_range bytes b.0 b.1)
+event_of bytes (steps.Unread device) = events.Unread device
 
 abbrev pub trace_of : List ℕ → List Step → List Event
 trace_of bytes steps = map (event_of bytes) steps

@@ -1,7 +1,7 @@
 ghost use Rattle.std.specs.Prelude.{◌≡◌, ◌<◌, ◌++◌, map, option_map, vec_len, vec_capacity};
 ghost use Rattle.std.specs.List.{list_any, find};
 ghost use Rattle.lab_base.specs.Lists.{listed};
-ghost use Rattle.plant_mem.specs.Plans.{is_poll, is_wipe, is_applying, is_hang, is_jump, waits_for_poll, counts, is_due, fails_by, firing, jumps_by, begins_hang, hangs_by, motion_of, counted, plan_of};
+ghost use Rattle.plant_mem.specs.Plans.{is_poll, is_wipe, is_applying, is_hang, is_jump, is_read, waits_for_poll, counts, is_due, fails_by, firing, jumps_by, begins_hang, hangs_by, motion_of, counted, plan_of};
 
 use crate::motion::Motion;
 use lab_base::Name;
@@ -38,6 +38,13 @@ fn is_jump(how: How) -> bool
     matches!(&how, How::Jump)
 }
 
+/// Whether it waits for a reading, which is no command.
+fn is_read(how: How) -> bool
+    ensures { result ≡ is_read how }
+{
+    matches!(&how, How::Read)
+}
+
 /// Whether it waits for a poll, and not for any command.
 fn waits_for_poll(how: How) -> bool
     ensures { result ≡ waits_for_poll how }
@@ -61,7 +68,9 @@ impl Plan {
     fn counts(&self, op: &DeviceOp) -> bool
         ensures { result ≡ counts op.now self.now }
     {
-        self.device == op.device() && (is_poll(op) || !waits_for_poll(self.how))
+        !is_read(self.how)
+            && self.device == op.device()
+            && (is_poll(op) || !waits_for_poll(self.how))
     }
 
     /// Whether the command is the one that it waits for.

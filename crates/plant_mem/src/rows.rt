@@ -52,7 +52,8 @@ impl Row {
             | Step::Synced { .. }
             | Step::Cut { .. }
             | Step::Missed { .. }
-            | Step::Restarted { .. } => had,
+            | Step::Restarted { .. }
+            | Step::Unread { .. } => had,
         }
     }
 }

@@ -1,9 +1,9 @@
-pub mod Arities
-pub mod LinkLaws
-pub mod ReadLaws
-pub mod NoFault
-pub mod DeviceAgain
-pub mod LinkAgain
-pub mod Printed
+mod Arities
+mod LinkLaws
+mod ReadLaws
+mod NoFault
+mod DeviceAgain
+mod LinkAgain
+mod Printed
 pub mod LabAgain
-pub mod Sizes
+mod Sizes

@@ -1,5 +1,5 @@
 -- The definitions on worked examples, by computation.
-use Rattle.std.proofs.Common.{◌≡◌, ℕ, Some, None, List, [], ◌∷◌, ◌++◌, take, refl, lit<, lit≤}
+use Rattle.std.proofs.Common.{◌≡◌, ℕ, false, Some, None, List, [], ◌∷◌, ◌++◌, take, refl, lit<, lit≤}
 use Rattle.phys_lab.specs.Labs.{Lab}
 use Rattle.phys_lab.specs.declared.parts.Node.{Node}
 use Rattle.phys_lab.specs.declared.parts.Iface.{Iface}
@@ -46,7 +46,7 @@ abbrev end' : ℕ → VirtEnd
 end' n = record { node = n; address = None }
 
 abbrev top : ℕ → Wiring
-top kbps = record { classes = []; nodes = virt 0 ∷ virt 1 ∷ []; segments = record { name = 1 ∷ []; owner = 1 ∷ []; kbps = kbps; ends = end' 0 ∷ end' 1 ∷ [] } ∷ []; pipes = [] }
+top kbps = record { classes = []; nodes = virt 0 ∷ virt 1 ∷ []; segments = record { name = 1 ∷ []; owner = 1 ∷ []; kbps = kbps; multiplexed = false; ends = end' 0 ∷ end' 1 ∷ [] } ∷ []; pipes = [] }
 
 abbrev on : ℕ → ℕ → Mapping
 on p q = record { places = (record { 0 = p }, pc) ∷ (record { 0 = q }, pc) ∷ []; plugs = record { 0 = p } ∷ record { 0 = q } ∷ [] }
@@ -59,7 +59,7 @@ out name kbps = record { name = name ∷ []; wiring = top kbps; phase = Out }
 
 -- two segments between two nodes
 abbrev double : Wiring
-double = record { classes = []; nodes = virt 0 ∷ virt 1 ∷ []; segments = record { name = 1 ∷ []; owner = 1 ∷ []; kbps = 10000; ends = end' 0 ∷ end' 1 ∷ [] } ∷ record { name = 2 ∷ []; owner = 2 ∷ []; kbps = 10000; ends = end' 0 ∷ end' 1 ∷ [] } ∷ []; pipes = [] }
+double = record { classes = []; nodes = virt 0 ∷ virt 1 ∷ []; segments = record { name = 1 ∷ []; owner = 1 ∷ []; kbps = 10000; multiplexed = false; ends = end' 0 ∷ end' 1 ∷ [] } ∷ record { name = 2 ∷ []; owner = 2 ∷ []; kbps = 10000; multiplexed = false; ends = end' 0 ∷ end' 1 ∷ [] } ∷ []; pipes = [] }
 
 -- the trunk is exactly full, and then takes no more
 full : violation_beside (lab_q 103) [] (out 65 100000) (top 100000) (on 0 2) ≡ None

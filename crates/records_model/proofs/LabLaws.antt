@@ -6,6 +6,7 @@ use Rattle.std.proofs.lemmas.Option.{same_Some}
 use Rattle.lab_base.specs.Lists.{Has, AllDiffer}
 use Rattle.lab_base.proofs.Members.{Has-append, Has-map, Has-mapped, Has-right}
 use Rattle.lab_base.specs.Names.{is_name}
+use Rattle.lab_base.specs.declared.ids.VlanId.{VlanId}
 use Rattle.phys_lab.specs.Labs.{Lab}
 use Rattle.phys_lab.specs.Kept.{IsLab}
 use Rattle.virt_topo.specs.declared.wiring.Wiring.{Wiring}
@@ -14,9 +15,9 @@ use Rattle.virt_topo.specs.declared.experiment.Phase.{Phase}
 use Rattle.virt_topo.specs.declared.experiment.Phase.TheVariants.{Out, In, Moving}
 use Rattle.virt_topo.specs.Soundness.{IsSound}
 use Rattle.plant.specs.Worlds.{World}
-use Rattle.journal_rec.specs.declared.record.Way.TheVariants.{In as WayIn, Out as WayOut, Change as WayChange}
+use Rattle.journal_rec.specs.declared.record.Way.TheVariants.{In as WayIn, Out as WayOut, Change as WayChange, Change2 as WayChange2}
 use Rattle.journal_rec.specs.declared.record.Record.{Record}
-use Rattle.journal_rec.specs.declared.record.Record.TheVariants.{Lab as LabRecord, Create, Delete, Begin, Commit, Abort}
+use Rattle.journal_rec.specs.declared.record.Record.TheVariants.{Lab as LabRecord, Create, Delete, Begin, Commit, Abort, Create2}
 use Rattle.journal_rec.specs.Payloads.{IsRecord}
 use Rattle.lab_model.specs.Holding.{Holding}
 use Rattle.lab_model.specs.Parts.{Parts}
@@ -24,7 +25,7 @@ use Rattle.lab_model.specs.Shapes.{IsShaped}
 use Rattle.phys_lab.proofs.Adding.{empty_kept}
 use Rattle.lab_model.proofs.Records.{Has_mid, Has_other}
 use Rattle.lab_model.proofs.ListLaws.{holding_drop, holding_add, parts_drop, parts_add}
-use Rattle.records_model.specs.Labs.{LabState, at_first, StopsAt, Move, SetLab, Creates, Deletes, BeginsIn, BeginsOut, BeginsChange, Commits, Aborts, find, replace, others, becomes, is_out, with_replaced, moved_one, deleted, in_state, moved_of, moved, Texts, AreCanonical, Says, Follows, FoldsTo, LabOf, no_lab, Sane, IsRightFor, KeepsParts}
+use Rattle.records_model.specs.Labs.{LabState, at_first, StopsAt, Move, SetLab, Creates, Deletes, BeginsIn, BeginsOut, BeginsChange, Commits, Aborts, find, replace, others, becomes, is_out, with_replaced, moved_one, deleted, in_state, moved_of, moved, Texts, AreCanonical, create_in, change_in, SaysCreate, SaysChange, SaysBegin, Says, Follows, FoldsTo, LabOf, no_lab, Sane, IsRightFor, KeepsParts}
 use Rattle.records_model.proofs.Finding.{none_some, found_from, not_found, names_mid}
 use Rattle.records_model.proofs.Turning.{ShapedFor, ReadyOne, Turned, turned}
 
@@ -36,21 +37,46 @@ Shaped s (BeginsIn name m tags) = (lab : Lab) (e : Experiment) → s.lab ≡ Som
 Shaped s (BeginsChange name w m tags) = IsSound w × ((lab : Lab) → s.lab ≡ Some lab → IsShaped lab w m)
 Shaped s move = Unit {0}
 
+-- a record of either format says what its text does
+pub says_create : (t : Texts) (s : LabState) (exp top : List ℕ) (second : Bool) (move : Move) → Says t s (create_in second exp top) move → SaysCreate t exp top second move
+says_create t s exp top false move h = h
+says_create t s exp top true move h = h
+
+pub create_says : (t : Texts) (s : LabState) (exp top : List ℕ) (second : Bool) (move : Move) → SaysCreate t exp top second move → Says t s (create_in second exp top) move
+create_says t s exp top false move h = h
+create_says t s exp top true move h = h
+
+pub says_change : (t : Texts) (s : LabState) (exp top map : List ℕ) (tags : List VlanId) (second : Bool) (move : Move) → SaysBegin t s exp (change_in second top map tags) move → SaysChange t s exp top map tags second move
+says_change t s exp top map tags false move h = h
+says_change t s exp top map tags true move h = h
+
+pub change_says : (t : Texts) (s : LabState) (exp top map : List ℕ) (tags : List VlanId) (second : Bool) (move : Move) → SaysChange t s exp top map tags second move → SaysBegin t s exp (change_in second top map tags) move
+change_says t s exp top map tags false move h = h
+change_says t s exp top map tags true move h = h
+
+create_shaped : (t : Texts) (s : LabState) (exp top : List ℕ) (second : Bool) (move : Move) → SaysCreate t exp top second move → Shaped s move
+create_shaped t s exp top second move h = subst (λ m. Shaped s m) (sym h.2) h.1.text.sound
+
+change_shaped : (t : Texts) (s : LabState) (exp top map : List ℕ) (tags : List VlanId) (second : Bool) (move : Move) → SaysChange t s exp top map tags second move → Shaped s move
+change_shaped t s exp top map tags second move h = subst (λ m. Shaped s m) (sym h.8) (
+  h.5.text.sound,
+  λ lab is_lab.
+      let one : h.0 ≡ lab = same_Some _ _ (sym h.3 ∙ is_lab) in
+      subst (λ l. IsShaped l h.1 h.2) one h.6,
+)
+
 pub says_shaped : (t : Texts) (s : LabState) (r : Record) (move : Move) → Says t s r move → Shaped s move
 says_shaped t s (LabRecord ptop) move h = subst (λ m. Shaped s m) (sym h.3) h.1
-says_shaped t s (Create exp top) move h = subst (λ m. Shaped s m) (sym h.3) h.1.sound
+says_shaped t s (Create exp top) move h = create_shaped t s exp top false move h
+says_shaped t s (Create2 exp top) move h = create_shaped t s exp top true move h
 says_shaped t s (Delete exp) move h = subst (λ m. Shaped s m) (sym h) tt
 says_shaped t s (Begin exp (WayIn map tags)) move h = subst (λ m. Shaped s m) (sym h.9) (λ lab e is_lab is_e.
     let one : h.0 ≡ lab = same_Some _ _ (sym h.3 ∙ is_lab) in
     let two : h.1 ≡ e = same_Some _ _ (sym h.4 ∙ is_e) in
     subst (λ l. IsShaped l e.wiring h.2) one (subst (λ x. IsShaped h.0 x.wiring h.2) two h.7))
 says_shaped t s (Begin exp WayOut) move h = subst (λ m. Shaped s m) (sym h) tt
-says_shaped t s (Begin exp (WayChange top map tags)) move h = subst (λ m. Shaped s m) (sym h.9) (
-  h.5.sound,
-  λ lab is_lab.
-      let one : h.0 ≡ lab = same_Some _ _ (sym h.3 ∙ is_lab) in
-      subst (λ l. IsShaped l h.1 h.2) one h.7,
-)
+says_shaped t s (Begin exp (WayChange top map tags)) move h = change_shaped t s exp top map tags false move h
+says_shaped t s (Begin exp (WayChange2 top map tags)) move h = change_shaped t s exp top map tags true move h
 says_shaped t s (Commit exp) move h = subst (λ m. Shaped s m) (sym h) tt
 says_shaped t s (Abort exp) move h = subst (λ m. Shaped s m) (sym h) tt
 
@@ -257,11 +283,13 @@ follows_parts t s r u w sane f ready parts = (steps s.lab s.experiments f.move u
 
 move_named : (t : Texts) (s : LabState) (r : Record) (move : Move) → IsRecord r → Says t s r move → IsNamed move
 move_named t s (LabRecord ptop) move is h = subst (λ m. IsNamed m) (sym h.3) tt
-move_named t s (Create exp top) move is h = subst (λ m. IsNamed m) (sym h.3) is.fields
+move_named t s (Create exp top) move is h = subst (λ m. IsNamed m) (sym h.2) is.fields
+move_named t s (Create2 exp top) move is h = subst (λ m. IsNamed m) (sym h.2) is.fields
 move_named t s (Delete exp) move is h = subst (λ m. IsNamed m) (sym h) tt
 move_named t s (Begin exp (WayIn map tags)) move is h = subst (λ m. IsNamed m) (sym h.9) tt
 move_named t s (Begin exp WayOut) move is h = subst (λ m. IsNamed m) (sym h) tt
-move_named t s (Begin exp (WayChange top map tags)) move is h = subst (λ m. IsNamed m) (sym h.9) tt
+move_named t s (Begin exp (WayChange top map tags)) move is h = subst (λ m. IsNamed m) (sym h.8) tt
+move_named t s (Begin exp (WayChange2 top map tags)) move is h = subst (λ m. IsNamed m) (sym h.8) tt
 move_named t s (Commit exp) move is h = subst (λ m. IsNamed m) (sym h) tt
 move_named t s (Abort exp) move is h = subst (λ m. IsNamed m) (sym h) tt
 
@@ -297,10 +325,22 @@ folds_named t s (r ∷ rs) end sane written h named = folds_named t h.0 rs end (
 pub lab_named : (t : Texts) (rs : List Record) (s : LabState) → ((r : Record) → Has rs r → IsRecord r) → LabOf t rs s → AreNamed s
 lab_named t rs s written h = folds_named t at_first rs s first_sane written h (λ e g. absurd g)
 
+create_once : (t : Texts) (exp top : List ℕ) (second : Bool) (m n : Move) → AreCanonical t → SaysCreate t exp top second m → SaysCreate t exp top second n → m ≡ n
+create_once t exp top second m n can p q = p.2 ∙ ap (λ w. Creates exp w) (can.tops p.0 q.0 p.1.text q.1.text (sym p.1.says ∙ q.1.says)) ∙ sym q.2
+
+change_once : (t : Texts) (s : LabState) (exp top map : List ℕ) (tags : List VlanId) (second : Bool) (m n : Move) → AreCanonical t → SaysChange t s exp top map tags second m → SaysChange t s exp top map tags second n → m ≡ n
+change_once t s exp top map tags second m n can p q =
+    let lab : p.0 ≡ q.0 = same_Some _ _ (sym p.3 ∙ q.3) in
+    let w : p.1 ≡ q.1 = can.tops p.1 q.1 p.5.text q.5.text (sym p.5.says ∙ q.5.says) in
+    let shaped : IsShaped q.0 q.1 p.2 = subst (λ l. IsShaped l q.1 p.2) lab (subst (λ x. IsShaped p.0 x p.2) w p.6) in
+    let text : map ≡ t.solution q.0 q.1 p.2 = p.7 ∙ (λ i. t.solution (lab i) (w i) p.2) in
+    p.8 ∙ (λ i. BeginsChange exp (w i) (can.solutions q.0 q.1 p.2 q.2 q.4 q.5.text shaped q.6 (sym text ∙ q.7) i) tags) ∙ sym q.8
+
 -- one record says one move, and so the lab of records is one
 pub says_once : (t : Texts) (s : LabState) (r : Record) (m n : Move) → AreCanonical t → Says t s r m → Says t s r n → m ≡ n
 says_once t s (LabRecord ptop) m n can p q = p.3 ∙ ap (λ l. SetLab l) (can.ptops p.0 q.0 p.1 q.1 (sym p.2 ∙ q.2)) ∙ sym q.3
-says_once t s (Create exp top) m n can p q = p.3 ∙ ap (λ w. Creates exp w) (can.tops p.0 q.0 p.1 q.1 (sym p.2 ∙ q.2)) ∙ sym q.3
+says_once t s (Create exp top) m n can p q = create_once t exp top false m n can p q
+says_once t s (Create2 exp top) m n can p q = create_once t exp top true m n can p q
 says_once t s (Delete exp) m n can p q = p ∙ sym q
 says_once t s (Begin exp (WayIn map tags)) m n can p q =
     let lab : p.0 ≡ q.0 = same_Some _ _ (sym p.3 ∙ q.3) in
@@ -309,12 +349,8 @@ says_once t s (Begin exp (WayIn map tags)) m n can p q =
     let text : map ≡ t.solution q.0 q.1.wiring p.2 = p.8 ∙ (λ i. t.solution (lab i) (e i).wiring p.2) in
     p.9 ∙ ap (λ x. BeginsIn exp x tags) (can.solutions q.0 q.1.wiring p.2 q.2 q.5 q.6 shaped q.7 (sym text ∙ q.8)) ∙ sym q.9
 says_once t s (Begin exp WayOut) m n can p q = p ∙ sym q
-says_once t s (Begin exp (WayChange top map tags)) m n can p q =
-    let lab : p.0 ≡ q.0 = same_Some _ _ (sym p.3 ∙ q.3) in
-    let w : p.1 ≡ q.1 = can.tops p.1 q.1 p.5 q.5 (sym p.6 ∙ q.6) in
-    let shaped : IsShaped q.0 q.1 p.2 = subst (λ l. IsShaped l q.1 p.2) lab (subst (λ x. IsShaped p.0 x p.2) w p.7) in
-    let text : map ≡ t.solution q.0 q.1 p.2 = p.8 ∙ (λ i. t.solution (lab i) (w i) p.2) in
-    p.9 ∙ (λ i. BeginsChange exp (w i) (can.solutions q.0 q.1 p.2 q.2 q.4 q.5 shaped q.7 (sym text ∙ q.8) i) tags) ∙ sym q.9
+says_once t s (Begin exp (WayChange top map tags)) m n can p q = change_once t s exp top map tags false m n can p q
+says_once t s (Begin exp (WayChange2 top map tags)) m n can p q = change_once t s exp top map tags true m n can p q
 says_once t s (Commit exp) m n can p q = p ∙ sym q
 says_once t s (Abort exp) m n can p q = p ∙ sym q
 

@@ -1,10 +1,10 @@
-pub mod Examples
+mod Examples
 pub mod Finding
 pub mod LabLaws
 pub mod Making
 pub mod Stages
 pub mod Starts
 pub mod Swaps
-pub mod TraceLaws
-pub mod Turning
+mod TraceLaws
+mod Turning
 pub mod Work

@@ -16,7 +16,6 @@ use Rattle.journal_rec.specs.declared.record.Record.{Record}
 use Rattle.lab_model.specs.Claims.{Which, claimed, claimed_tags}
 use Rattle.lab_model.specs.Holding.{Suits}
 use Rattle.lab_model.specs.Parts.{Part}
-use Rattle.lab_model.specs.Courses.{whole}
 use Rattle.lab_model.specs.Sound.{is_moving}
 use Rattle.records_model.specs.Labs.{LabState, Texts, lab_in, find, replace, in_phase}
 use Rattle.records_model.specs.Works.{AtWork}

@@ -13,13 +13,14 @@ use Rattle.virt_topo.specs.declared.mapping.Mapped.{Mapped}
 use Rattle.virt_topo.specs.declared.experiment.Experiment.{Experiment}
 use Rattle.virt_topo.specs.declared.experiment.Phase.{Phase}
 use Rattle.virt_topo.specs.declared.experiment.Phase.TheVariants.{Out, In, Moving}
+use Rattle.virt_topo.specs.Sharing.{has_multiplexed}
 use Rattle.virt_topo.specs.Soundness.{IsSound}
 use Rattle.virt_topo.specs.Wirings.{mapped}
 use Rattle.plant.specs.Worlds.{World}
 use Rattle.journal_rec.specs.declared.record.Way.{Way}
-use Rattle.journal_rec.specs.declared.record.Way.TheVariants.{In as WayIn, Out as WayOut, Change as WayChange}
+use Rattle.journal_rec.specs.declared.record.Way.TheVariants.{In as WayIn, Out as WayOut, Change as WayChange, Change2 as WayChange2}
 use Rattle.journal_rec.specs.declared.record.Record.{Record}
-use Rattle.journal_rec.specs.declared.record.Record.TheVariants.{Lab as LabRecord, Create, Delete, Begin, Commit, Abort}
+use Rattle.journal_rec.specs.declared.record.Record.TheVariants.{Lab as LabRecord, Create, Delete, Begin, Commit, Abort, Create2}
 use Rattle.lab_model.specs.Holding.{Holding}
 use Rattle.lab_model.specs.Parts.{Parts}
 use Rattle.lab_model.specs.Leavings.{Ends, Gone}
@@ -148,17 +149,38 @@ pub record AreCanonical (t : Texts) : Type 0 where
   pub tops : (w v : Wiring) → HasText t w → HasText t v → t.top w ≡ t.top v → w ≡ v
   pub solutions : (lab : Lab) (w : Wiring) (m n : Mapping) → IsLab lab → HasText t w → IsShaped lab w m → IsShaped lab w n → t.solution lab w m ≡ t.solution lab w n → m ≡ n
 
+-- the record that creates an experiment, and the way to another mapping, of the second format or of the first
+abbrev pub create_in : Bool → List ℕ → List ℕ → Record
+create_in second exp top = if second then Create2 exp top else Create exp top
+
+abbrev pub change_in : Bool → List ℕ → List ℕ → List VlanId → Way
+change_in second top map tags = if second then WayChange2 top map tags else WayChange top map tags
+
+-- the text of a record is the canonical one of that wiring; the record is of the second format exactly where some segment is multiplexed
+pub record SaysTop (t : Texts) (w : Wiring) (top : List ℕ) (second : Bool) : Type 0 where
+  pub text : HasText t w
+  pub says : top ≡ t.top w
+  pub format : has_multiplexed w ≡ second
+
+abbrev pub SaysCreate : Texts → List ℕ → List ℕ → Bool → Move → Type 0
+SaysCreate t exp top second move = (w : Wiring) × SaysTop t w top second × (move ≡ Creates exp w)
+
+abbrev pub SaysChange : Texts → LabState → List ℕ → List ℕ → List ℕ → List VlanId → Bool → Move → Type 0
+SaysChange t s exp top map tags second move =
+    (lab : Lab) × (w : Wiring) × (m : Mapping) × (s.lab ≡ Some lab) × IsLab lab × SaysTop t w top second × IsShaped lab w m × (map ≡ t.solution lab w m) × (move ≡ BeginsChange exp w m tags)
+
 -- the record's texts are canonical, and say that move
 abbrev pub SaysBegin : Texts → LabState → List ℕ → Way → Move → Type 0
 SaysBegin t s exp (WayIn map tags) move =
     (lab : Lab) × (e : Experiment) × (m : Mapping) × (s.lab ≡ Some lab) × (find exp s.experiments ≡ Some e) × IsLab lab × HasText t e.wiring × IsShaped lab e.wiring m × (map ≡ t.solution lab e.wiring m) × (move ≡ BeginsIn exp m tags)
 SaysBegin t s exp WayOut move = move ≡ BeginsOut exp
-SaysBegin t s exp (WayChange top map tags) move =
-    (lab : Lab) × (w : Wiring) × (m : Mapping) × (s.lab ≡ Some lab) × IsLab lab × HasText t w × (top ≡ t.top w) × IsShaped lab w m × (map ≡ t.solution lab w m) × (move ≡ BeginsChange exp w m tags)
+SaysBegin t s exp (WayChange top map tags) move = SaysChange t s exp top map tags false move
+SaysBegin t s exp (WayChange2 top map tags) move = SaysChange t s exp top map tags true move
 
 abbrev pub Says : Texts → LabState → Record → Move → Type 0
 Says t s (LabRecord ptop) move = (lab : Lab) × IsLab lab × (ptop ≡ t.ptop lab) × (move ≡ SetLab lab)
-Says t s (Create exp top) move = (w : Wiring) × HasText t w × (top ≡ t.top w) × (move ≡ Creates exp w)
+Says t s (Create exp top) move = SaysCreate t exp top false move
+Says t s (Create2 exp top) move = SaysCreate t exp top true move
 Says t s (Delete exp) move = move ≡ Deletes exp
 Says t s (Begin exp way) move = SaysBegin t s exp way move
 Says t s (Commit exp) move = move ≡ Commits exp

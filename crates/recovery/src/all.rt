@@ -106,7 +106,9 @@ fn settle_next<P: Plant>(
 /// Settles all experiments that move, but the busy ones, in order of creation.
 ///
 /// One whose course is cut moves still, and the others go on. A failed call of the journal, a stop, or want of memory between two
-/// breaks it off.
+/// breaks it off. After `Plant` and `Stopped` the state is to be dropped.
+///
+/// Over a plant that is stopped already it answers `Stopped` where an experiment is to be settled, and zero counts where none is.
 pub fn settle<P: Plant>(
     alloc: Global,
     state: &mut LabState,

@@ -1,5 +1,5 @@
 // The settling of one experiment.
-ghost use Rattle.std.specs.Prelude.{◌≡◌, ◌↔◌, IfOk, OnErr, IsErrOf, IsSome, IsTrue, false, is_none, is_some};
+ghost use Rattle.std.specs.Prelude.{◌≡◌, ◌↔◌, ◌⊎◌, IfOk, OnErr, IsErrOf, IsSome, IsTrue, false, is_none, is_some};
 ghost use Rattle.journal_disk.specs.Standing.{limit_of};
 ghost use Rattle.lab_model.specs.Courses.{commands, undo};
 ghost use Rattle.records_model.specs.Labs.{lab_in};
@@ -120,7 +120,7 @@ fn answer(finished: Finished) -> Result<One, SettleFault>
 
 /// Settles one experiment that moves: a swap-out is sent from its beginning, and a swap-in or a change is undone, however far it came.
 ///
-/// Where memory is wanting, nothing was sent or written yet.
+/// Where memory is wanting, nothing was sent or written yet. After `Plant` and `Stopped` the state is to be dropped.
 pub fn settle_one<P: Plant>(
     alloc: Global,
     state: &mut LabState,
@@ -134,6 +134,7 @@ pub fn settle_one<P: Plant>(
         → IsOverAs the_texts state.old.state p (P.seen plant.old) (P.seen plant.new) journal.new state.new.state result }
     ensures memory { IsErrOf result SettleFault.Memory → (state.new.state ≡ state.old.state) × (journal.new ≡ journal.old) × (plant.new ≡ plant.old) }
     ensures stopped { (P.seen plant.old).stopped ≡ false → (IsErrOf result SettleFault.Stopped ↔ IsTrue (P.seen plant.new).stopped) }
+    ensures stops { IsErrOf result SettleFault.Memory ⊎ (IsErrOf result SettleFault.Stopped ↔ IsTrue (P.seen plant.new).stopped) }
     ensures later { IsLater (P.seen plant.old) (P.seen plant.new) }
     ensures limit { limit_of journal.new ≡ limit_of journal.old }
     ensures live { live_of journal.new ≡ live_of journal.old }

@@ -1,4 +1,4 @@
-pub mod CostLaws
-pub mod NodeLaws
-pub mod SoftLaws
-pub mod UseLaws
+mod CostLaws
+mod NodeLaws
+mod SoftLaws
+mod UseLaws

@@ -1,3 +1,3 @@
 pub mod Taken
 pub mod Blocks
-pub mod Wholes
+mod Wholes

@@ -1,7 +1,7 @@
-pub mod EndKeys
-pub mod Places
-pub mod IfaceCount
+mod EndKeys
+mod Places
+mod IfaceCount
 pub mod GivenLaws
-pub mod ZipLaws
+mod ZipLaws
 pub mod SolutionAgain
-pub mod SolutionSizes
+mod SolutionSizes

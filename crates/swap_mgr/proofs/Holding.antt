@@ -1,8 +1,11 @@
 -- What the manager holds, and what its calls make of it.
 use Rattle.std.proofs.Common.{◌≡◌, ◌≢◌, ◌⊎◌, inl, inr, ℕ, List, [], ◌∷◌, ◌++◌, IfSome, length, length-append, Option, Some, None, Result, Ok, Err, refl, sym, ap, ◌∙◌, subst, arith}
+use Rattle.std.specs.Prelude.{IsErrOf}
 use Rattle.std.proofs.lemmas.List.{append-nil}
 use Rattle.std.proofs.lemmas.Option.{same_Some}
+use Rattle.lab_base.specs.Counts.{Rose}
 use Rattle.lab_base.specs.Lists.{Has}
+use Rattle.lab_base.specs.declared.what.What.{What}
 use Rattle.lab_base.proofs.Members.{Has-left, Has-right, Has-append, Apart-across, Apart-right}
 use Rattle.plant.specs.Events.{Event}
 use Rattle.plant.specs.Told.{Told}
@@ -253,6 +256,17 @@ begun_by p (Err (faults.Full length size)) x is = absurd is
 
 pub begun_as : (p : Plans) (r : Record) (was now : Seen) (j k : Journal) (x : Turned Plans) → Begins p was now j k x r → IsBegunAs p x
 begun_as p r was now j k x b = begun_by p b.answer x b.turns
+
+-- not begun: the journal's call failed
+stuck_by : (p : Plans) (was now : Seen) (answer : Result (Unit {0}) AppendFault) (x : Turned Plans) (plans : Plans) (what : What) → (IsErrOf answer faults.Plant → Rose was.faults.disk now.faults.disk) → WrittenBy p (live.Begun p.forth) answer x
+    → x ≡ turned.Stuck plans what → Rose was.faults.disk now.faults.disk
+stuck_by p was now (Ok done) x plans what cause is h = absurd (cc (sym is ∙ h))
+stuck_by p was now (Err faults.Plant) x plans what cause is h = cause refl
+stuck_by p was now (Err faults.Stopped) x plans what cause is h = absurd (cc (sym is ∙ h))
+stuck_by p was now (Err (faults.Full length size)) x plans what cause is h = absurd is
+
+pub stuck_as : (p : Plans) (r : Record) (was now : Seen) (j k : Journal) (x : Turned Plans) (plans : Plans) (what : What) → Begins p was now j k x r → x ≡ turned.Stuck plans what → Rose was.faults.disk now.faults.disk
+stuck_as p r was now j k x plans what b is = stuck_by p was now b.answer x plans what b.writes.cause b.turns is
 
 pub opened_one : (t : Texts) (opens : List Slot) (p : Swap) (s u : LabState) (begin : Record) (move : Move) (was now : Seen) (j k : Journal) (old new : List Live) (state : Live) → Working t was.told j s opens → Holds old opens → (HasOpen old p.name → ⊥)
     → HasBegun t p s u begin move was now j k state → IsWith old state new → HasOpened t opens p s u begin move was now j k new

@@ -105,18 +105,16 @@ pub record HasTurnedToEnd (t : Texts) (s : LabState) (opens : List (OpenSwap × 
   pub holds : Holds new (before ++ behind)
   pub all : IfGoesOn finished.outcome ((after : LabState) × Finishes s swap finished.steps finished.outcome after × Working t now.told k after (before ++ behind))
 
--- WHY A SWAP IS NOT OPENED, each exactly where it holds, but for want of memory
+-- WHY A SWAP IS NOT OPENED, each exactly where it holds
 abbrev pub IsAnsweredBy : List Live → List ℕ → Result (Unit {0}) Refusal → Type 0
 IsAnsweredBy old exp (Err (refusals.Busy name)) = (name ≡ exp) × HasOpen old exp
 IsAnsweredBy old exp (Err (refusals.TooManyOpen n)) = (n ≡ 16) × (n ≤ length old) × (HasOpen old exp → ⊥)
-IsAnsweredBy old exp (Err refusals.Memory) = Unit {0}
 IsAnsweredBy old exp result = (length old < 16) × (HasOpen old exp → ⊥)
 
 -- these refusals send nothing
 abbrev pub IfNothingSent : Result (Unit {0}) Refusal → Type 0 → Type 0
 IfNothingSent (Err (refusals.Busy name)) P = P
 IfNothingSent (Err (refusals.TooManyOpen n)) P = P
-IfNothingSent (Err refusals.Memory) P = P
 IfNothingSent result P = Unit {0}
 
 -- and after the others Begin was sent

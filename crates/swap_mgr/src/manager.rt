@@ -1,6 +1,9 @@
 // The open swaps.
-ghost use Rattle.std.specs.Prelude.{◌≡◌, ◌≢◌, ◌<◌, ◌≤◌, ◌+◌, ◌↔◌, ℕ, List, [], length, true, None, Some, IfOk, IfSome, IfNone, OnOk, OnErr, OnSome, IsTrue};
+ghost use Rattle.std.specs.Prelude.{◌≡◌, ◌≢◌, ◌<◌, ◌≤◌, ◌+◌, ◌↔◌, ℕ, List, [], length, true, None, Some, Err, IfOk, IfSome, IfNone, OnOk, OnErr, OnSome, IsTrue};
+ghost use Rattle.lab_base.specs.Counts.{Rose};
 ghost use Rattle.lab_base.specs.Lists.{Has};
+ghost use Rattle.lab_base.specs.declared.what.What.{What as AnyWhat};
+ghost use Rattle.lab_base.specs.declared.what.What.TheVariants as whats;
 ghost use Rattle.journal_rec.specs.Payloads.{IsBody};
 ghost use Rattle.journal_rec.specs.declared.record.Record.{Record};
 ghost use Rattle.journal_disk.specs.Standing.{length_of, limit_of};
@@ -137,7 +140,7 @@ impl Manager {
         }
     }
 
-    /// Appends the plan's Begin, and holds the swap.
+    /// Appends the plan's Begin, and holds the swap. It takes no memory: the room for 16 swaps is the manager's own.
     pub fn open<P: Plant>(
         &mut self,
         planned: Planned,
@@ -155,6 +158,8 @@ impl Manager {
         ensures refused { OnErr result (self.new ≡ self.old) }
         ensures nothing { IfNothingSent result ((plant.new ≡ plant.old) × (journal.new ≡ journal.old)) }
         ensures stopped { IfSent result (IsStopOpening result ↔ IsTrue (P.seen plant.new).stopped) }
+        ensures stuck { (what : AnyWhat) → result ≡ Err (OpenSwap.Stuck what) → (what ≡ whats.Journal) × Rose (P.seen plant.old).faults.disk (P.seen plant.new).faults.disk }
+        ensures held { OnOk result ((state : State) × IsWith self.old state self.new × (exp_of state ≡ planned.forth.exp)) }
         ensures limit { limit_of journal.new ≡ limit_of journal.old }
     {
         let exp = planned.exp();

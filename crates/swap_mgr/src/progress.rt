@@ -31,5 +31,4 @@ pub enum OpenSwap {
     Stuck(What),
     /// The plant stopped.
     Stopped,
-    Memory,
 }

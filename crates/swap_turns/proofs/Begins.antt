@@ -8,9 +8,14 @@ use Rattle.virt_topo.specs.declared.experiment.Phase.TheVariants.{Out, In, Movin
 use Rattle.virt_topo.specs.declared.mapping.Mapping.{Mapping}
 use Rattle.virt_topo.specs.declared.wiring.Wiring.{Wiring}
 use Rattle.virt_topo.specs.Wirings.{mapped}
+use Rattle.journal_rec.specs.declared.record.Way.{Way}
+use Rattle.journal_rec.specs.declared.record.Way.TheVariants.{In as WayIn, Out as WayOut, Change, Change2}
+use Rattle.lab_model.specs.Courses.{commands, undo, whole}
 use Rattle.records_model.specs.Labs.{LabState, BeginsIn, BeginsOut, BeginsChange, moved, moved_of, moved_one, in_state, with_replaced, becomes, can_take, find, replace, in_phase}
 use Rattle.records_model.proofs.Finding.{none_some}
 use Rattle.records_model.proofs.Swaps.{find_replaced}
+use Rattle.swap_txn.specs.States.{unsent, is_over}
+use Rattle.swap_turns.specs.Legs.{Forth, leg_view, plan_of}
 use Rattle.swap_turns.specs.Swaps.{swap_in, swap_out, swap_over, Moves}
 
 replaced : (lab : Lab) (es : List Experiment) (was g : Experiment) (u : LabState) → find was.name es ≡ Some was → g.name ≡ was.name → in_state lab (with_replaced was.name es (Some g)) ≡ Some u → find was.name u.experiments ≡ Some g
@@ -50,3 +55,12 @@ moves_out s u was mapping tags short found is_in gives = record { is_swap = tt; 
 pub moves_over : (s u : LabState) (was : Experiment) (mapping : Mapping) (tags : List VlanId) (w : Wiring) (other : Mapping) (others : List VlanId) → length was.name ≤ 32 → find was.name s.experiments ≡ Some was → was.phase ≡ In mapping tags
     → moved s (BeginsChange was.name w other others) ≡ Some u → Moves (swap_over was mapping tags w other others) u
 moves_over s u was mapping tags w other others short found is_in gives = record { is_swap = tt; short = short; exp = in_phase was (Moving (Some (mapped was.wiring mapping tags)) (Some (mapped w other others))); found = begun_over s.lab s.experiments was mapping tags w other others u found is_in gives; moving = refl }
+
+-- nothing was sent of a plan whose way leads over
+pub unsent_over : (was : Experiment) (mapping : Mapping) (tags : List VlanId) (w : Wiring) (other : Mapping) (others : List VlanId) (lab : Lab) (way : Way) → is_over way ≡ true
+    → unsent was.name way (commands lab (Some (mapped was.wiring mapping tags)) (Some (mapped w other others))) (undo lab (Some (mapped was.wiring mapping tags)) (Some (mapped w other others)))
+    ≡ leg_view (swap_over was mapping tags w other others) lab Forth (whole (plan_of (swap_over was mapping tags w other others) lab Forth))
+unsent_over was mapping tags w other others lab (Change top map new) over = refl
+unsent_over was mapping tags w other others lab (Change2 top map new) over = refl
+unsent_over was mapping tags w other others lab (WayIn map new) over = absurd (cc over)
+unsent_over was mapping tags w other others lab WayOut over = absurd (cc over)

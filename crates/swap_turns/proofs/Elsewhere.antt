@@ -7,7 +7,7 @@ use Rattle.phys_lab.specs.Kept.{IsLab}
 use Rattle.virt_topo.specs.declared.experiment.Experiment.{Experiment}
 use Rattle.virt_topo.specs.declared.experiment.Phase.TheVariants.{Moving}
 use Rattle.virt_topo.specs.declared.mapping.Mapped.{Mapped}
-use Rattle.plant.specs.Events.{Event, Wrote, Synced, Cut as CutTo, Missed, Did, Restarted}
+use Rattle.plant.specs.Events.{Event, Wrote, Synced, Cut as CutTo, Missed, Did, Restarted, Unread}
 use Rattle.plant.specs.Worlds.{World, world_after}
 use Rattle.plant.specs.declared.device.Answer.{Answer}
 use Rattle.plant.specs.declared.device.DeviceOp.{DeviceOp}
@@ -52,16 +52,17 @@ calm_world (Synced side ∷ steps) w calm = calm_world steps w calm
 calm_world (CutTo side size ∷ steps) w calm = calm_world steps w calm
 calm_world (Missed side ∷ steps) w calm = calm_world steps w calm
 calm_world (Restarted a b ∷ steps) w calm = calm_world steps w calm
+calm_world (Unread device ∷ steps) w calm = calm_world steps w calm
 
 -- THE COMMANDS OF A LEG are the experiment's own
 module _ (lab : Lab) (e : Experiment) where
-  abbrev AreOwn : List Event → Type 0
+  abbrev pub AreOwn : List Event → Type 0
   AreOwn steps = (op : DeviceOp) (applied : Bool) (answer : Result Answer Fault) → Has steps (Did op applied answer) → IsCommandOf lab e op
 
   own_both : (front behind : List Event) → AreOwn front → AreOwn behind → AreOwn (front ++ behind)
   own_both front behind p q op applied answer has = elim (Has-append front behind (Did op applied answer) has) [ inl a ↦ p op applied answer a | inr b ↦ q op applied answer b ]
 
-  own_behind : (front behind : List Event) → AreOwn (front ++ behind) → AreOwn behind
+  pub own_behind : (front behind : List Event) → AreOwn (front ++ behind) → AreOwn behind
   own_behind front behind p op applied answer has = p op applied answer (Has-right front behind (Did op applied answer) has)
 
   own_one : (op : DeviceOp) (applied : Bool) (answer : Result Answer Fault) → IsCommandOf lab e op → AreOwn (Did op applied answer ∷ [])
@@ -100,7 +101,7 @@ module _ (lab : Lab) (e : Experiment) where
     then_own front steps left op applied answer sent comes is =
         subst AreOwn (sym is) (own_both front (Did op applied answer ∷ []) (course_own left front sent) (own_one op applied answer (own_by lab e old new commit moving sent.sent left op sent.goes comes)))
 
-    cut_own : (trouble : Trouble) (steps : List Event) → IsCut (plan_by lab old new commit) trouble steps → AreOwn steps
+    pub cut_own : (trouble : Trouble) (steps : List Event) → IsCut (plan_by lab old new commit) trouble steps → AreOwn steps
     cut_own trouble steps cut = then_own cut.front steps cut.left cut.op cut.applied cut.answer cut.sent cut.comes cut.steps_are
 
     halted_own : (steps : List Event) → IsHalted (plan_by lab old new commit) steps → AreOwn steps
@@ -109,7 +110,7 @@ module _ (lab : Lab) (e : Experiment) where
 
 -- THE STEPS OF TURNS, each behind the course so far
 module _ (s : LabState) (e : Experiment) where
-  abbrev OfIt : List Event → Type 0
+  abbrev pub OfIt : List Event → Type 0
   OfIt steps = AreOwn (lab_in s.lab) e steps
 
   whole_own : (r : Record) (move : Move) (steps : List Event) (after : LabState) → IsWhole s r move steps after → OfIt steps
@@ -122,13 +123,13 @@ module _ (s : LabState) (e : Experiment) where
   part_own r move steps after is = own_calm (lab_in s.lab) e steps (shows is_command steps (added is.side is.gate r is.run) (nothing is.side) false false is.steps_are (append_quiet is.side is.gate r is.run).0 refl)
 
   module _ (o : OpenSwap) (moving : e.phase ≡ Moving o.swap.old o.swap.new) where
-    abbrev commit_of : Bool
+    abbrev pub commit_of : Bool
     commit_of = commits o.swap o.leg
 
     all_own : (course steps : List Event) → IsSent (plan_in s o) nothing_left course → OfIt steps → OfIt (course ++ steps)
     all_own course steps sent own = own_both (lab_in s.lab) e course steps (course_own (lab_in s.lab) e o.swap.old o.swap.new commit_of moving nothing_left course sent) own
 
-    turn_own : (steps : List Event) (outcome : Outcome) (after : LabState) → TurnSteps s o steps outcome after → OfIt (o.course ++ steps)
+    pub turn_own : (steps : List Event) (outcome : Outcome) (after : LabState) → TurnSteps s o steps outcome after → OfIt (o.course ++ steps)
     turn_own steps More after turn = course_own (lab_in s.lab) e o.swap.old o.swap.new commit_of moving turn.1.0 (o.course ++ steps) turn.1.1
     turn_own steps (TurnsBack why) after turn = cut_own (lab_in s.lab) e o.swap.old o.swap.new commit_of moving why (o.course ++ steps) turn.1
     turn_own steps (Ended leg) after turn = all_own o.course steps turn.0.0 (whole_own _ _ steps after turn.0.1)
@@ -144,7 +145,7 @@ module _ (s : LabState) (e : Experiment) where
         subst OfIt (append_assoc o.course sent (course ++ behind) ∙ ap (λ l. o.course ++ l) (sym (append_assoc sent course behind) ∙ ap (λ l. l ++ behind) (sym steps_are)))
         (own_both (lab_in s.lab) e (o.course ++ sent) (course ++ behind) (cut_own (lab_in s.lab) e o.swap.old o.swap.new commit_of moving why (o.course ++ sent) cut) (subst OfIt (ap (λ (x : OpenSwap). x.course ++ behind) is) own))
 
-  finish_own : (o : OpenSwap) (steps : List Event) (outcome : Outcome) (after : LabState) → e.phase ≡ Moving o.swap.old o.swap.new → Finishes s o steps outcome after → OfIt (o.course ++ steps)
+  pub finish_own : (o : OpenSwap) (steps : List Event) (outcome : Outcome) (after : LabState) → e.phase ≡ Moving o.swap.old o.swap.new → Finishes s o steps outcome after → OfIt (o.course ++ steps)
   finish_own o steps outcome after moving f =
       subst (λ l. OfIt (o.course ++ l)) (sym f.steps_are)
       (onward_own o moving f.front f.behind f.at f.onward (turn_own f.at (subst (λ (p : Swap). e.phase ≡ Moving p.old p.new) (sym (onward_swap s o f.front f.at f.onward)) moving) f.behind outcome after f.turn))
@@ -158,6 +159,7 @@ module _ (lab : Lab) (es : List Experiment) (is_lab : IsLab lab) (holding : Hold
   same_after w (CutTo side size) own = same_world lab e w
   same_after w (Missed side) own = same_world lab e w
   same_after w (Restarted a b) own = same_world lab e w
+  same_after w (Unread device) own = same_world lab e w
 
   same_along : (steps : List Event) (w : World) → AreOwn lab f steps → SameFor lab e w (fold world_after w steps)
   same_along [] w own = same_world lab e w

@@ -1,6 +1,6 @@
 -- Steps that are device commands.
 use Rattle.std.proofs.Common.{List, [], ◌∷◌, ◌++◌, Err, sym, subst}
-use Rattle.plant.specs.Events.{Event, Wrote, Synced, Cut as CutTo, Missed, Did, Restarted}
+use Rattle.plant.specs.Events.{Event, Wrote, Synced, Cut as CutTo, Missed, Did, Restarted, Unread}
 use Rattle.plant.specs.declared.device.Fault.TheVariants.{Stopped}
 use Rattle.lab_model.specs.Courses.{Plan, Left, Trouble}
 use Rattle.lab_model.specs.Leavings.{Sent}
@@ -15,6 +15,7 @@ Only (Synced side ∷ steps) = ⊥
 Only (CutTo side size ∷ steps) = ⊥
 Only (Missed side ∷ steps) = ⊥
 Only (Restarted a b ∷ steps) = ⊥
+Only (Unread device ∷ steps) = ⊥
 
 pub only_more : (xs ys : List Event) → Only xs → Only ys → Only (xs ++ ys)
 only_more [] ys p q = q
@@ -24,6 +25,7 @@ only_more (Synced side ∷ xs) ys p q = absurd p
 only_more (CutTo side size ∷ xs) ys p q = absurd p
 only_more (Missed side ∷ xs) ys p q = absurd p
 only_more (Restarted a b ∷ xs) ys p q = absurd p
+only_more (Unread device ∷ xs) ys p q = absurd p
 
 only_acknowledged : (sent : Sent) → Only (acknowledged sent)
 only_acknowledged [] = tt

@@ -4,7 +4,7 @@ use Rattle.lab_base.specs.declared.what.What.{What}
 use Rattle.journal_rec.specs.declared.record.Record.{Record}
 use Rattle.journal_rec.specs.declared.record.Record.TheVariants.{Commit, Abort}
 use Rattle.journal_rec.specs.declared.record.Way.{Way}
-use Rattle.journal_rec.specs.declared.record.Way.TheVariants.{In, Out, Change}
+use Rattle.journal_rec.specs.declared.record.Way.TheVariants.{In, Out, Change, Change2}
 use Rattle.lab_model.specs.Courses.{Plan, Left, Watch, whole}
 use Rattle.swap_txn.specs.declared.stage.Stage.{Stage}
 use Rattle.swap_txn.specs.declared.stage.Stage.TheVariants.{Clear, Cable, Load, Boot, Done}
@@ -51,6 +51,13 @@ abbrev pub undo_by : Way → Plan → Option Undo
 undo_by (In map tags) plan = Some (record { plan = plan; inside = false })
 undo_by Out plan = None
 undo_by (Change top map tags) plan = Some (record { plan = plan; inside = true })
+undo_by (Change2 top map tags) plan = Some (record { plan = plan; inside = true })
+
+-- the way leads from one mapping to another
+abbrev pub is_over : Way → Bool
+is_over (Change top map tags) = true
+is_over (Change2 top map tags) = true
+is_over way = false
 
 -- the record that ends a swap
 abbrev pub last_by : Bool → List ℕ → Record

@@ -65,7 +65,7 @@ pub(crate) fn way_back(
             drop(undo);
             return Ok(None);
         }
-        Way::Change { .. } => true,
+        Way::Change { .. } | Way::Change2 { .. } => true,
     };
     match last_of(alloc, exp, false) {
         Ok(abort) => Ok(Some(WayBack {

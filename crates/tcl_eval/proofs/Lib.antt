@@ -1,19 +1,19 @@
-pub mod Branching
-pub mod Controls
-pub mod Ended
-pub mod Scripts
-pub mod Expressions
-pub mod Digits
-pub mod Evaluating
-pub mod Exits
-pub mod Floor
-pub mod Needs
-pub mod OneMeaning
-pub mod OneNumber
+mod Branching
+mod Controls
+mod Ended
+mod Scripts
+mod Expressions
+mod Digits
+mod Evaluating
+mod Exits
+mod Floor
+mod Needs
+mod OneMeaning
+mod OneNumber
 pub mod OneRun
-pub mod Parts
-pub mod Rules
-pub mod Sums
-pub mod Texts
-pub mod WordLists
-pub mod Elements
+mod Parts
+mod Rules
+mod Sums
+mod Texts
+mod WordLists
+mod Elements

@@ -27,7 +27,7 @@ impl<H> Model for Interp<H> {
 }
 
 impl<H: Host> Interp<H> {
-    ghost use Rattle.std.specs.Prelude.{◌≡◌, [], None, Some, Err, IfOk, IfSome, option_map, nat_eq};
+    ghost use Rattle.std.specs.Prelude.{◌≡◌, [], None, Some, Err, IfOk, OnOk, IfSome, option_map, nat_eq};
     ghost use Rattle.std.specs.Map.{lookup};
     ghost use Rattle.std.specs.Cmp.Lexicographic.{pointwise};
     ghost use Rattle.tcl_eval.specs.Runs.{HasRun};
@@ -68,6 +68,7 @@ impl<H: Host> Interp<H> {
         requires short { length text.now < 2 ^ 32 - 1 }
         ensures runs { self.old.failed ≡ None → HasRun H.calls H.hears text.now (state self.old.variables (H.objects self.old.host) self.old.left)
             (state self.new.variables (H.objects self.new.host) self.new.left) result }
+        ensures ok { OnOk result (self.new.failed ≡ None) }
         ensures again { IfSome self.old.failed (λ refused. result ≡ Err refused) }
         ensures unchanged { IfSome self.old.failed (λ _. self.new ≡ self.old) }
         ensures kept { IfErr result (λ refused. self.new.failed ≡ Some refused) }

@@ -1,7 +1,7 @@
-pub mod Nest
+mod Nest
 pub mod OneSplitting
 pub mod Passing
 pub mod Plans
-pub mod Reading
+mod Reading
 mod Rising
-pub mod Steps
+mod Steps

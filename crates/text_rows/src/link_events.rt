@@ -39,6 +39,7 @@ fn segment(alloc: Global, names: (&[u8], &[u8]), ends: (u16, u16)) -> Result<Seg
         name: named(name)?,
         owner: named(owner)?,
         kbps: 100_000,
+        multiplexed: false,
         ends: both,
     })
 }

@@ -50,13 +50,16 @@ fn push_end(out: &mut Text, end: VirtEnd) -> Result<(), Memory> {
     Ok(())
 }
 
-/// The name, kbps, microseconds, millionths, and the numbers of the nodes with their addresses.
+/// The name, kbps, microseconds, millionths, whether it is multiplexed, and the numbers of the nodes with their addresses.
 fn push_link(out: &mut Text, link: &AskedLink) -> Result<(), Memory> {
     out.push_bytes(if link.lan { b"lan" } else { b"link" })?;
     push_name(out, link.name)?;
     push_number(out, link.rates.kbps)?;
     push_number(out, u64::from(link.rates.micros))?;
     push_number(out, u64::from(link.rates.ppm))?;
+    if link.multiplexed {
+        out.push_bytes(b" multiplexed")?;
+    }
     for end in link.ends.as_slice() {
         push_end(out, *end)?;
     }

@@ -11,6 +11,7 @@ fn how_word(how: How) -> &'static [u8] {
         How::Not => b"not",
         How::Hang => b"hang",
         How::Jump => b"jump",
+        How::Read => b"read",
     }
 }
 

@@ -1,13 +1,15 @@
-pub mod KeptLaws
+mod KeptLaws
 pub mod OwnPlaces
 pub mod SoundTests
-pub mod AddressAgain
-pub mod PartLaws
-pub mod TableLaws
-pub mod AddedLaws
-pub mod TopLines
+mod AddressAgain
+mod PartLaws
+mod SegmentLaws
+mod MarkLaws
+mod TableLaws
+mod AddedLaws
+mod TopLines
 pub mod TopAgain
-pub mod TopPrinted
+mod TopPrinted
 pub mod TopWhole
 pub mod PipeCount
-pub mod TopSizes
+mod TopSizes

@@ -10,9 +10,10 @@ use Rattle.lab_base.specs.Names.{same_name}
 use Rattle.virt_topo.specs.Repeats.{stands_again}
 use Rattle.virt_topo.specs.Soundness.{IsSound}
 use Rattle.virt_topo.specs.declared.wiring.VirtNode.{VirtNode}
+use Rattle.virt_topo.specs.declared.wiring.Segment.{Segment}
 use Rattle.virt_topo.specs.declared.wiring.Wiring.{Wiring}
-use Rattle.top_text.specs.Adding.{virt_named}
-use Rattle.top_text.proofs.SoundTests.{nodes_once}
+use Rattle.top_text.specs.Adding.{virt_named, segment_named}
+use Rattle.top_text.proofs.SoundTests.{nodes_once, segments_once}
 
 pub neither : (a b : Bool) → a ≡ false → b ≡ false → (a || b) ≡ false
 neither a b x y = λ i. x i || y i
@@ -67,3 +68,10 @@ virt_own w sound i v lt is =
     let name : get_or (map (λ (n : VirtNode). n.name) w.nodes) i v.name ≡ v.name = get_or-map (λ (n : VirtNode). n.name) w.nodes i v ∙ sym (ap (λ (n : VirtNode). n.name) is) in
     ap (λ (k : List ℕ). position (λ n. same_name k n.name) w.nodes) (sym name)
     ∙ own_place same_name same_self symm_name (λ (n : VirtNode). n.name) w.nodes i v.name (nodes_once w sound) lt
+
+-- the first segment of a name
+pub segment_own : (w : Wiring) → IsSound w → (i : ℕ) (s : Segment) → i < length w.segments → s ≡ get_or w.segments i s → segment_named w s.name ≡ Some i
+segment_own w sound i s lt is =
+    let name : get_or (map (λ (x : Segment). x.name) w.segments) i s.name ≡ s.name = get_or-map (λ (x : Segment). x.name) w.segments i s ∙ sym (ap (λ (x : Segment). x.name) is) in
+    ap (λ (k : List ℕ). position (λ x. same_name k x.name) w.segments) (sym name)
+    ∙ own_place same_name same_self symm_name (λ (x : Segment). x.name) w.segments i s.name (segments_once w sound) lt

@@ -59,7 +59,7 @@ once_left same (x ∷ front) rest once =
 once_front : {X : Type 0} (same : X → X → Bool) (whole front rest : List X) → whole ≡ front ++ rest → stands_again same whole ≡ false → stands_again same front ≡ false
 once_front same whole front rest is once = once_left same front rest (sym (ap (stands_again same) is) ∙ once)
 
-once_map : {X Y : Type 0} (same : Y → Y → Bool) (f : X → Y) (xs : List X) → stands_again same (map f xs) ≡ stands_again (λ a b. same (f a) (f b)) xs
+pub once_map : {X Y : Type 0} (same : Y → Y → Bool) (f : X → Y) (xs : List X) → stands_again same (map f xs) ≡ stands_again (λ a b. same (f a) (f b)) xs
 once_map same f [] = refl
 once_map same f (x ∷ xs) = λ i. any_map (same (f x)) f xs i || once_map same f xs i
 

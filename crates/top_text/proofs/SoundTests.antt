@@ -28,6 +28,12 @@ nodes_once w sound =
     let classes = or_parts (stands_again (λ a b. same_name a.name b.name) w.classes) _ (sound_tests w sound).twice in
     (or_parts (stands_again (λ a b. same_name a.name b.name) w.nodes) _ classes.1).0
 
+pub segments_once : (w : Wiring) → IsSound w → stands_again (λ a b. same_name a.name b.name) w.segments ≡ false
+segments_once w sound =
+    let classes = or_parts (stands_again (λ a b. same_name a.name b.name) w.classes) _ (sound_tests w sound).twice in
+    let nodes = or_parts (stands_again (λ a b. same_name a.name b.name) w.nodes) _ classes.1 in
+    (or_parts (stands_again (λ a b. same_name a.name b.name) w.segments) _ nodes.1).0
+
 pub classes_once : (w : Wiring) → IsSound w → stands_again (λ a b. same_name a.name b.name) w.classes ≡ false
 classes_once w sound = (or_parts (stands_again (λ a b. same_name a.name b.name) w.classes) _ (sound_tests w sound).twice).0
 

@@ -16,15 +16,15 @@ use Rattle.virt_topo.specs.declared.wiring.VirtEnd.{VirtEnd}
 use Rattle.virt_topo.specs.declared.wiring.Segment.{Segment}
 use Rattle.virt_topo.specs.declared.wiring.Pipe.{Pipe}
 use Rattle.virt_topo.specs.declared.wiring.Wiring.{Wiring}
-use Rattle.virt_topo.specs.Ends.{end_nodes, end_owners}
-use Rattle.virt_topo.specs.Owners.{at_ends, owners_on}
+use Rattle.virt_topo.specs.Ends.{end_nodes}
+use Rattle.virt_topo.specs.Owners.{at_ends}
 use Rattle.virt_topo.specs.Repeats.{stands_again}
 use Rattle.virt_topo.specs.Soundness.{keeps_limits, knows_all, knows_class, has_twice, has_same, has_bad_pipe, shares_end, same_some, same_address, asks_class_name}
 use Rattle.virt_topo.proofs.EndLaws.{nodes_of, item_at}
 use Rattle.virt_topo.proofs.MoreLaws.{again_more, all_alike}
 use Rattle.top_text.specs.declared.judge.Tests.{Tests}
 use Rattle.top_text.specs.Adding.{kept, asks_at, asks_of}
-use Rattle.top_text.specs.Tables.{listed, addresses_of, same_end, ends_of_pipe, judged}
+use Rattle.top_text.specs.Tables.{listed, addresses_of, same_end, ends_of_pipe, numbers_from, segments_on, judged}
 use Rattle.top_text.proofs.OwnPlaces.{symm_name}
 
 -- TESTS
@@ -174,22 +174,18 @@ addresses_once keys new None once none is = ap (λ (l : List ℕ). stands_again 
 addresses_once keys new (Some a) once none is =
     ap (λ (l : List ℕ). stands_again nat_eq l) is ∙ again_more nat_eq symm_number keys a once ∙ (or_parts (list_any (nat_eq a) keys) false none).0
 
--- OWNERS
+-- SEGMENTS BY VIRTUAL NODE
 
-abbrev pub of_owner : List ℕ → List VirtEnd → List (List ℕ)
-of_owner owner ends = map (λ e. owner) ends
+abbrev pub of_one : {X : Type 0} → X → List VirtEnd → List X
+of_one x ends = map (λ e. x) ends
 
-pub owner_count : (owner : List ℕ) (ends : List VirtEnd) → length (nodes_of ends) ≡ length (of_owner owner ends)
-owner_count owner [] = refl
-owner_count owner (e ∷ ends) = ap suc (owner_count owner ends)
-
-at_next : (owner : List ℕ) (ends : List VirtEnd) (e : VirtEnd) (v : ℕ) → at_ends v (nodes_of (ends ++ e ∷ [])) (of_owner owner (ends ++ e ∷ [])) ≡ at_ends v (nodes_of ends) (of_owner owner ends) ++ cond (eqb e.node v) (owner ∷ []) []
-at_next owner [] e v = refl
-at_next owner (f ∷ ends) e v = by (eqb f.node v) (at_next owner ends e v)
+at_next : {X : Type 0} (x : X) (ends : List VirtEnd) (e : VirtEnd) (v : ℕ) → at_ends v (nodes_of (ends ++ e ∷ [])) (of_one x (ends ++ e ∷ [])) ≡ at_ends v (nodes_of ends) (of_one x ends) ++ cond (eqb e.node v) (x ∷ []) []
+at_next x [] e v = refl
+at_next {X} x (f ∷ ends) e v = by (eqb f.node v) (at_next x ends e v)
   where
-    by : (b : Bool) → at_ends v (nodes_of (ends ++ e ∷ [])) (of_owner owner (ends ++ e ∷ [])) ≡ at_ends v (nodes_of ends) (of_owner owner ends) ++ cond (eqb e.node v) (owner ∷ []) []
-        → cond b (owner ∷ at_ends v (nodes_of (ends ++ e ∷ [])) (of_owner owner (ends ++ e ∷ []))) (at_ends v (nodes_of (ends ++ e ∷ [])) (of_owner owner (ends ++ e ∷ []))) ≡ cond b (owner ∷ at_ends v (nodes_of ends) (of_owner owner ends)) (at_ends v (nodes_of ends) (of_owner owner ends)) ++ cond (eqb e.node v) (owner ∷ []) []
-    by true is = ap (λ (l : List (List ℕ)). owner ∷ l) is
+    by : (b : Bool) → at_ends v (nodes_of (ends ++ e ∷ [])) (of_one x (ends ++ e ∷ [])) ≡ at_ends v (nodes_of ends) (of_one x ends) ++ cond (eqb e.node v) (x ∷ []) []
+        → cond b (x ∷ at_ends v (nodes_of (ends ++ e ∷ [])) (of_one x (ends ++ e ∷ []))) (at_ends v (nodes_of (ends ++ e ∷ [])) (of_one x (ends ++ e ∷ []))) ≡ cond b (x ∷ at_ends v (nodes_of ends) (of_one x ends)) (at_ends v (nodes_of ends) (of_one x ends)) ++ cond (eqb e.node v) (x ∷ []) []
+    by true is = ap (λ (l : List X). x ∷ l) is
     by false is = is
 
 not_equal : (x y : ℕ) → x ≢ y → eqb x y ≡ false
@@ -198,31 +194,31 @@ not_equal x y ne = grind (arith, nat_tests)
 equal : (x y : ℕ) → x ≡ y → eqb x y ≡ true
 equal x y e = grind (arith, nat_tests)
 
--- one end's owner more
-pub owners_next : (old so_far new : List (List (List ℕ))) (own : List (List ℕ)) (owner : List ℕ) (ends : List VirtEnd) (i : ℕ) (e : VirtEnd) → i < length ends → e ≡ get_or ends i e
+-- one end more
+pub next_end : {X : Type 0} (old so_far new : List (List X)) (own : List X) (x : X) (ends : List VirtEnd) (i : ℕ) (e : VirtEnd) → i < length ends → e ≡ get_or ends i e
     → length so_far ≡ length old → e.node < length old → own ≡ get_or so_far e.node own
-    → ((v : ℕ) → v < length old → get_or so_far v [] ≡ get_or old v [] ++ at_ends v (nodes_of (take i ends)) (of_owner owner (take i ends)))
-    → new ≡ set so_far e.node (own ++ owner ∷ [])
-    → (v : ℕ) → v < length old → get_or new v [] ≡ get_or old v [] ++ at_ends v (nodes_of (take (i + 1) ends)) (of_owner owner (take (i + 1) ends))
-owners_next old so_far new own owner ends i e lt is count within own_is were now v v_in =
-    ap (λ (l : List (List (List ℕ))). get_or l v []) now
+    → ((v : ℕ) → v < length old → get_or so_far v [] ≡ get_or old v [] ++ at_ends v (nodes_of (take i ends)) (of_one x (take i ends)))
+    → new ≡ set so_far e.node (own ++ x ∷ [])
+    → (v : ℕ) → v < length old → get_or new v [] ≡ get_or old v [] ++ at_ends v (nodes_of (take (i + 1) ends)) (of_one x (take (i + 1) ends))
+next_end {X} old so_far new own x ends i e lt is count within own_is were now v v_in =
+    ap (λ (l : List (List X)). get_or l v []) now
     ∙ changed
-    ∙ sym (ap (λ (l : List (List ℕ)). get_or old v [] ++ l) (ap (λ (l : List VirtEnd). at_ends v (nodes_of l) (of_owner owner l)) (take_next ends i e lt is) ∙ at_next owner (take i ends) e v))
+    ∙ sym (ap (λ (l : List X). get_or old v [] ++ l) (ap (λ (l : List VirtEnd). at_ends v (nodes_of l) (of_one x l)) (take_next ends i e lt is) ∙ at_next x (take i ends) e v))
   where
-    before : List (List ℕ)
-    before = at_ends v (nodes_of (take i ends)) (of_owner owner (take i ends))
+    before : List X
+    before = at_ends v (nodes_of (take i ends)) (of_one x (take i ends))
 
-    changed : get_or (set so_far e.node (own ++ owner ∷ [])) v [] ≡ get_or old v [] ++ (before ++ cond (eqb e.node v) (owner ∷ []) [])
+    changed : get_or (set so_far e.node (own ++ x ∷ [])) v [] ≡ get_or old v [] ++ (before ++ cond (eqb e.node v) (x ∷ []) [])
     changed = elim (cases_eq v e.node) [
       | inl same ↦
-          let here : get_or (set so_far e.node (own ++ owner ∷ [])) v [] ≡ own ++ owner ∷ [] = ap (λ (n : ℕ). get_or (set so_far e.node (own ++ owner ∷ [])) n []) same ∙ get_or-set_same so_far e.node (own ++ owner ∷ []) [] (omega (arith, count, within)) in
+          let here : get_or (set so_far e.node (own ++ x ∷ [])) v [] ≡ own ++ x ∷ [] = ap (λ (n : ℕ). get_or (set so_far e.node (own ++ x ∷ [])) n []) same ∙ get_or-set_same so_far e.node (own ++ x ∷ []) [] (omega (arith, count, within)) in
           let own_was : own ≡ get_or so_far v [] = own_is ∙ get_or_default so_far e.node own [] (omega (arith, count, within)) ∙ ap (λ (n : ℕ). get_or so_far n []) (sym same) in
-          let one : cond (eqb e.node v) (owner ∷ []) [] ≡ owner ∷ [] = ap (λ (b : Bool). cond b (owner ∷ []) []) (equal e.node v (sym same)) in
-          here ∙ ap (λ (l : List (List ℕ)). l ++ owner ∷ []) (own_was ∙ were v v_in) ∙ append_assoc (get_or old v []) before (owner ∷ []) ∙ ap (λ (l : List (List ℕ)). get_or old v [] ++ (before ++ l)) (sym one)
+          let one : cond (eqb e.node v) (x ∷ []) [] ≡ x ∷ [] = ap (λ (b : Bool). cond b (x ∷ []) []) (equal e.node v (sym same)) in
+          here ∙ ap (λ (l : List X). l ++ x ∷ []) (own_was ∙ were v v_in) ∙ append_assoc (get_or old v []) before (x ∷ []) ∙ ap (λ (l : List X). get_or old v [] ++ (before ++ l)) (sym one)
       | inr other ↦
-          let there : get_or (set so_far e.node (own ++ owner ∷ [])) v [] ≡ get_or so_far v [] = get_or-set_other so_far e.node v (own ++ owner ∷ []) [] other in
-          let none : cond (eqb e.node v) (owner ∷ []) [] ≡ [] = ap (λ (b : Bool). cond b (owner ∷ []) []) (not_equal e.node v (λ h. other (sym h))) in
-          there ∙ were v v_in ∙ ap (λ (l : List (List ℕ)). get_or old v [] ++ l) (sym (append-nil before) ∙ ap (λ (l : List (List ℕ)). before ++ l) (sym none))
+          let there : get_or (set so_far e.node (own ++ x ∷ [])) v [] ≡ get_or so_far v [] = get_or-set_other so_far e.node v (own ++ x ∷ []) [] other in
+          let none : cond (eqb e.node v) (x ∷ []) [] ≡ [] = ap (λ (b : Bool). cond b (x ∷ []) []) (not_equal e.node v (λ h. other (sym h))) in
+          there ∙ were v v_in ∙ ap (λ (l : List X). get_or old v [] ++ l) (sym (append-nil before) ∙ ap (λ (l : List X). before ++ l) (sym none))
     ]
 
 at_none : {X : Type 0} (v : ℕ) (xs : List ℕ) (ys : List X) → list_all (λ x. nat_lt x v) xs ≡ true → at_ends v xs ys ≡ []
@@ -236,8 +232,8 @@ at_none {X} v (x ∷ xs) (y ∷ ys) all =
     less a b h = grind (arith, nat_tests)
 
 -- no virtual node past those that are known has an end
-pub none_past : (segments : List Segment) (n v : ℕ) → n ≤ v → list_all (λ s. list_all (λ e. nat_lt e.node n) s.ends) segments ≡ true → owners_on segments v ≡ []
-none_past segments n v le known = at_none v (end_nodes segments) (end_owners segments) (all segments known)
+pub none_past : (segments : List Segment) (n v : ℕ) → n ≤ v → list_all (λ s. list_all (λ e. nat_lt e.node n) s.ends) segments ≡ true → segments_on segments v ≡ []
+none_past segments n v le known = at_none v (end_nodes segments) (numbers_from 0 segments) (all segments known)
   where
     less : (a : ℕ) → nat_lt a n ≡ true → nat_lt a v ≡ true
     less a h = below a n v le h
@@ -253,7 +249,7 @@ none_past segments n v le known = at_none v (end_nodes segments) (end_owners seg
         ∙ and_from _ _ (list_all-map (λ x. nat_lt x v) (λ (e : VirtEnd). e.node) s.ends ∙ all_alike (λ e. nat_lt e.node n) (λ e. nat_lt e.node v) (λ e g. less e.node g) s.ends parts.0) (all segments parts.1)
 
 -- a new virtual node has no end
-pub none_on : (segments : List Segment) (n : ℕ) → list_all (λ s. list_all (λ e. nat_lt e.node n) s.ends) segments ≡ true → owners_on segments n ≡ []
+pub none_on : (segments : List Segment) (n : ℕ) → list_all (λ s. list_all (λ e. nat_lt e.node n) s.ends) segments ≡ true → segments_on segments n ≡ []
 none_on segments n known = none_past segments n n (omega arith) known
 
 -- PIPES

@@ -1,5 +1,5 @@
 -- The canonical text of a wiring is read as the wiring.
-use Rattle.std.proofs.Common.{◌≡◌, ℕ, ◌<◌, true, false, cond, List, [], ◌∷◌, ◌++◌, length, get_or, map, set, Option, Some, None, Result, Ok, Err, refl, sym, ap, subst, ◌∙◌, arith, inl, inr, append_assoc, length-append}
+use Rattle.std.proofs.Common.{◌≡◌, ℕ, ◌<◌, Bool, true, false, cond, List, [], ◌∷◌, ◌++◌, length, get_or, map, set, Option, Some, None, Result, Ok, Err, refl, sym, ap, subst, ◌∙◌, arith, inl, inr, append_assoc, length-append}
 use Rattle.std.specs.Prelude.{codes, is_some, nat_lt}
 use Rattle.std.specs.List.{list_all, position, flat_map}
 use Rattle.std.proofs.lemmas.Bool.{and_parts}
@@ -27,15 +27,17 @@ use Rattle.virt_topo.specs.Ends.{end_nodes, end_number}
 use Rattle.virt_topo.specs.Soundness.{IsSound, are_rates, limits_class, limits_node, limits_segment, limits_pipe, knows_class, knows_node, knows_pipe, asks_class_name}
 use Rattle.virt_topo.proofs.CableLaws.{limits_of, segment_limits, passes_at}
 use Rattle.top_text.specs.Lines.{NodeRead, LinkRead, PipeRead}
-use Rattle.top_text.specs.Adding.{kept, with_class, with_node, virt_named, virt_number, number_or_none, end_at, segment_of, with_segment, pipe_of, with_pipe, placed, added, start}
-use Rattle.top_text.specs.Canonical.{virt_name, class_name, asked_name, class_fields, node_fields, fix_at, fix_lines, link_fields, pipe_fields, wiring_lines}
+use Rattle.top_text.specs.Adding.{kept, with_class, with_node, virt_named, virt_number, number_or_none, end_at, segment_of, with_segment, pipe_of, with_pipe, placed, no_segment, segment_at, segment_named, marked, added, start}
+use Rattle.top_text.specs.Canonical.{virt_name, class_name, asked_name, class_fields, node_fields, fix_at, fix_lines, link_fields, multiplex_if, multiplex_lines, pipe_fields, wiring_lines}
 use Rattle.top_text.specs.Printable.{named_class, named_asks, named_node, named_place, named_segment, is_printable}
-use Rattle.top_text.proofs.SoundTests.{sound_tests, classes_once, types_apart}
+use Rattle.top_text.proofs.SoundTests.{sound_tests, some_nodes, classes_once, types_apart}
+use Rattle.top_text.proofs.KeptLaws.{sound_of}
 use Rattle.top_text.proofs.PartLaws.{unfixed, part_kept}
+use Rattle.top_text.proofs.MarkLaws.{unmarked, AreAlike, kept_alike, names_alike}
 use Rattle.std.proofs.Math.ListN.{get_or-map}
 use Rattle.virt_topo.specs.Wirings.{virt_at, no_virt}
-use Rattle.top_text.proofs.OwnPlaces.{virt_own}
-use Rattle.top_text.proofs.TopLines.{end_read, class_again, node_again, asks_again, fix_again, link_again, pipe_again, number_high, lt_from}
+use Rattle.top_text.proofs.OwnPlaces.{virt_own, segment_own}
+use Rattle.top_text.proofs.TopLines.{end_read, class_again, node_again, asks_again, fix_again, link_again, multiplex_again, pipe_again, number_high, lt_from}
 
 -- what the names of a printable wiring are
 pub record IsNamed (w : Wiring) : Type 0 where
@@ -57,6 +59,10 @@ there front x rest whole e = subst (λ l. Has l x) e (Has-right front (x ∷ res
 map_same : {X : Type 0} (f : X → X) (xs : List X) → ((x : X) → Has xs x → f x ≡ x) → map f xs ≡ xs
 map_same f [] each = refl
 map_same f (x ∷ xs) each = λ i. each x (inl refl) i ∷ map_same f xs (λ y h. each y (inr h)) i
+
+half_alike : (front rest : List Segment) {whole : List Segment} → front ++ rest ≡ whole → AreAlike (front ++ map unmarked rest) whole
+half_alike front rest e =
+    map-append unmarked front (map unmarked rest) ∙ ap (λ (l : List Segment). map unmarked front ++ l) (map-map unmarked unmarked rest) ∙ sym (map-append unmarked front rest) ∙ ap (map unmarked) e
 
 module _ (w : Wiring) (sound : IsSound w) (named : IsNamed w) where
   -- NAMES BY NUMBER
@@ -118,21 +124,6 @@ module _ (w : Wiring) (sound : IsSound w) (named : IsNamed w) where
     piped = inl refl;
   })
 
-  link_part : (front rest : List Segment) → front ++ rest ≡ w.segments → kept (record { classes = w.classes; nodes = w.nodes; segments = front; pipes = [] }) ≡ Ok (record { classes = w.classes; nodes = w.nodes; segments = front; pipes = [] })
-  link_part front rest e = part_kept w (record { classes = w.classes; nodes = w.nodes; segments = front; pipes = [] }) sound (record {
-    more_classes = [];
-    classes = sym (append-nil w.classes);
-    more_nodes = [];
-    nodes = sym (append-nil (map unfixed w.nodes));
-    more_segments = rest;
-    segments = sym e;
-    more_pipes = w.pipes;
-    pipes = refl;
-    asked = inr refl;
-    ended = inr refl;
-    piped = inl refl;
-  })
-
   pipe_part : (front rest : List Pipe) → front ++ rest ≡ w.pipes → kept (record { classes = w.classes; nodes = w.nodes; segments = w.segments; pipes = front }) ≡ Ok (record { classes = w.classes; nodes = w.nodes; segments = w.segments; pipes = front })
   pipe_part front rest e = part_kept w (record { classes = w.classes; nodes = w.nodes; segments = w.segments; pipes = front }) sound (record {
     more_classes = [];
@@ -147,6 +138,29 @@ module _ (w : Wiring) (sound : IsSound w) (named : IsNamed w) where
     ended = inr refl;
     piped = inr (refl, refl);
   })
+
+  -- the virtual nodes alone, and segments that differ from its own alone in which are multiplexed
+  mark_part : (segments : List Segment) → AreAlike segments w.segments → kept (record { classes = w.classes; nodes = w.nodes; segments = segments; pipes = [] }) ≡ Ok (record { classes = w.classes; nodes = w.nodes; segments = segments; pipes = [] })
+  mark_part segments alike = kept_alike (record { classes = w.classes; nodes = w.nodes; segments = w.segments; pipes = [] }) segments (pipe_part [] w.pipes refl) alike
+
+  link_part : (front rest : List Segment) → front ++ rest ≡ w.segments
+      → kept (record { classes = w.classes; nodes = w.nodes; segments = map unmarked front; pipes = [] }) ≡ Ok (record { classes = w.classes; nodes = w.nodes; segments = map unmarked front; pipes = [] })
+  link_part front rest e =
+      let whole : Wiring = record { classes = w.classes; nodes = w.nodes; segments = map unmarked w.segments; pipes = [] } in
+      let all_sound : IsSound whole = sound_of whole (mark_part (map unmarked w.segments) (map-map unmarked unmarked w.segments)) (some_nodes w sound) in
+      part_kept whole (record { classes = w.classes; nodes = w.nodes; segments = map unmarked front; pipes = [] }) all_sound (record {
+        more_classes = [];
+        classes = sym (append-nil w.classes);
+        more_nodes = [];
+        nodes = sym (append-nil (map unfixed w.nodes));
+        more_segments = map unmarked rest;
+        segments = ap (map unmarked) (sym e) ∙ map-append unmarked front rest;
+        more_pipes = [];
+        pipes = refl;
+        asked = inr refl;
+        ended = inr refl;
+        piped = inl refl;
+      })
 
   -- LINES
 
@@ -239,16 +253,61 @@ module _ (w : Wiring) (sound : IsSound w) (named : IsNamed w) where
       lt_from e.node (length w.nodes) (all_has (λ (e : VirtEnd). knows_node w e.node) s.ends (all_has (λ (s : Segment). list_all (λ e. knows_node w e.node) s.ends) w.segments b.0 s h) e g)
 
   link_adds : (front : List Segment) (s : Segment) (rest : List Segment) → front ++ s ∷ rest ≡ [] ++ w.segments
-      → added (record { classes = w.classes; nodes = w.nodes; segments = front; pipes = [] }) (link_fields w s) ≡ Ok (record { classes = w.classes; nodes = w.nodes; segments = front ++ s ∷ []; pipes = [] })
+      → added (record { classes = w.classes; nodes = w.nodes; segments = map unmarked front; pipes = [] }) (link_fields w s) ≡ Ok (record { classes = w.classes; nodes = w.nodes; segments = map unmarked (front ++ s ∷ []); pipes = [] })
   link_adds front s rest e =
       let h = there front s rest w.segments e in
-      let so_far : Wiring = record { classes = w.classes; nodes = w.nodes; segments = front; pipes = [] } in
+      let so_far : Wiring = record { classes = w.classes; nodes = w.nodes; segments = map unmarked front; pipes = [] } in
       let limits = segment_limits s (all_has limits_segment w.segments (limits_of w (sound_tests w sound).limits).each_segment s h) in
       let ends : map (end_at so_far) (map (end_read w) s.ends) ≡ s.ends =
       map-map (end_at so_far) (end_read w) s.ends ∙ map_same (λ (x : VirtEnd). end_at so_far (end_read w x)) s.ends (λ x g. ap (λ (n : ℕ). record { node = n; address = x.address }) (number_again x.node (end_within s h x g))) in
       ap (λ (r : Result LinkRead Kind). and_then r (λ link. kept (with_segment so_far (segment_of so_far link)))) (link_again w s (all_has named_segment w.segments named.segments s h) limits (λ x g. node_named_at x.node (end_within s h x g)))
-      ∙ ap (λ (l : List VirtEnd). kept (with_segment so_far (record { name = s.name; owner = s.owner; kbps = s.kbps; ends = l }))) ends
+      ∙ ap (λ (l : List VirtEnd). kept (with_segment so_far (record { name = s.name; owner = s.owner; kbps = s.kbps; multiplexed = false; ends = l }))) ends
+      ∙ ap (λ (l : List Segment). kept (record { classes = w.classes; nodes = w.nodes; segments = l; pipes = [] })) (sym (map-append unmarked front (s ∷ [])))
       ∙ link_part (front ++ s ∷ []) rest (append_assoc front (s ∷ []) rest ∙ e)
+
+  -- a segment is still named by its number while those that are multiplexed are read
+  mark_number : (front : List Segment) (s : Segment) (rest : List Segment) → front ++ s ∷ rest ≡ w.segments
+      → segment_named (record { classes = w.classes; nodes = w.nodes; segments = front ++ map unmarked (s ∷ rest); pipes = [] }) s.name ≡ Some (length front)
+  mark_number front s rest e =
+      let within : length front < length w.segments = omega (arith, ap length e, length-append front (s ∷ rest)) in
+      let at : s ≡ get_or w.segments (length front) s = sym (ap (λ (l : List Segment). get_or l (length front) s) (sym e) ∙ get_or-append_seam front s rest s) in
+      let names : map (λ (x : Segment). x.name) (front ++ map unmarked (s ∷ rest)) ≡ map (λ (x : Segment). x.name) w.segments = names_alike (front ++ map unmarked (s ∷ rest)) w.segments (half_alike front (s ∷ rest) e) in
+      sym (position-map (same_name s.name) (λ (x : Segment). x.name) (front ++ map unmarked (s ∷ rest)))
+      ∙ ap (λ (l : List (List ℕ)). position (same_name s.name) l) names
+      ∙ position-map (same_name s.name) (λ (x : Segment). x.name) w.segments
+      ∙ segment_own w sound (length front) s within at
+
+  one_mark : (front : List Segment) (s : Segment) (rest : List Segment) → front ++ s ∷ rest ≡ w.segments
+      → Adds added (record { classes = w.classes; nodes = w.nodes; segments = front ++ map unmarked (s ∷ rest); pipes = [] }) (multiplex_lines s) (record { classes = w.classes; nodes = w.nodes; segments = (front ++ s ∷ []) ++ map unmarked rest; pipes = [] })
+  one_mark front s rest e = by s.multiplexed refl
+    where
+      -- the segment with its flag
+      set_to : (multiplexed : Bool) → s.multiplexed ≡ multiplexed → front ++ record s { multiplexed = multiplexed } ∷ map unmarked rest ≡ (front ++ s ∷ []) ++ map unmarked rest
+      set_to multiplexed is = ap (λ (b : Bool). front ++ record s { multiplexed = b } ∷ map unmarked rest) (sym is) ∙ sym (append_assoc front (s ∷ []) (map unmarked rest))
+
+      by : (multiplexed : Bool) → s.multiplexed ≡ multiplexed
+          → Adds added (record { classes = w.classes; nodes = w.nodes; segments = front ++ map unmarked (s ∷ rest); pipes = [] }) (multiplex_if s.name multiplexed) (record { classes = w.classes; nodes = w.nodes; segments = (front ++ s ∷ []) ++ map unmarked rest; pipes = [] })
+      by false is = ap (λ (l : List Segment). record { classes = w.classes; nodes = w.nodes; segments = l; pipes = [] }) (set_to false is)
+      by true is =
+          let h = there front s rest w.segments e in
+          let so_far : Wiring = record { classes = w.classes; nodes = w.nodes; segments = front ++ map unmarked (s ∷ rest); pipes = [] } in
+          let name = (and_parts (is_name s.name) _ (all_has named_segment w.segments named.segments s h)).0 in
+          let seam : segment_at so_far (length front) ≡ unmarked s = get_or-append_seam front (unmarked s) (map unmarked rest) no_segment in
+          let set_is : set so_far.segments (length front) (record s { multiplexed = true }) ≡ (front ++ s ∷ []) ++ map unmarked rest = set-append_seam front (unmarked s) (map unmarked rest) (record s { multiplexed = true }) ∙ set_to true is in
+          let adds : added so_far (codes "multiplex" ∷ s.name ∷ []) ≡ Ok (record { classes = w.classes; nodes = w.nodes; segments = (front ++ s ∷ []) ++ map unmarked rest; pipes = [] }) =
+          ap (λ (r : Result (List ℕ) Kind). and_then r (λ name. marked so_far (segment_named so_far name))) (multiplex_again s.name name)
+          ∙ ap (marked so_far) (mark_number front s rest e)
+          ∙ ap (λ (x : Segment). cond x.multiplexed (Err kinds.Twice) (kept (record so_far { segments = set so_far.segments (length front) (record x { multiplexed = true }) }))) seam
+          ∙ ap (λ (l : List Segment). kept (record { classes = w.classes; nodes = w.nodes; segments = l; pipes = [] })) set_is
+          ∙ mark_part ((front ++ s ∷ []) ++ map unmarked rest) (half_alike (front ++ s ∷ []) rest (append_assoc front (s ∷ []) rest ∙ e)) in
+          (record { classes = w.classes; nodes = w.nodes; segments = (front ++ s ∷ []) ++ map unmarked rest; pipes = [] }, adds, refl)
+
+  marks_add : (front rest : List Segment) → front ++ rest ≡ w.segments
+      → Adds added (record { classes = w.classes; nodes = w.nodes; segments = front ++ map unmarked rest; pipes = [] }) (flat_map multiplex_lines rest) (record { classes = w.classes; nodes = w.nodes; segments = w.segments; pipes = [] })
+  marks_add front [] e = ap (λ (l : List Segment). record { classes = w.classes; nodes = w.nodes; segments = l; pipes = [] }) e
+  marks_add front (s ∷ rest) e =
+      adds_append added (record { classes = w.classes; nodes = w.nodes; segments = front ++ map unmarked (s ∷ rest); pipes = [] }) (record { classes = w.classes; nodes = w.nodes; segments = (front ++ s ∷ []) ++ map unmarked rest; pipes = [] }) (record { classes = w.classes; nodes = w.nodes; segments = w.segments; pipes = [] })
+      (multiplex_lines s) (flat_map multiplex_lines rest) (one_mark front s rest e) (marks_add (front ++ s ∷ []) rest (append_assoc front (s ∷ []) rest ∙ e))
 
   pub record PipeFacts (p : Pipe) : Type 0 where
     pub node : p.node < length w.nodes
@@ -289,11 +348,13 @@ module _ (w : Wiring) (sound : IsSound w) (named : IsNamed w) where
   pub wiring_adds : Adds added start (wiring_lines w) w
   wiring_adds =
       adds_append added start (record { classes = w.classes; nodes = w.nodes; segments = w.segments; pipes = [] }) w _ (map (pipe_fields w) w.pipes)
-      (adds_append added start (record { classes = w.classes; nodes = w.nodes; segments = []; pipes = [] }) (record { classes = w.classes; nodes = w.nodes; segments = w.segments; pipes = [] }) _ (map (link_fields w) w.segments)
+      (adds_append added start (record { classes = w.classes; nodes = w.nodes; segments = map unmarked w.segments; pipes = [] }) (record { classes = w.classes; nodes = w.nodes; segments = w.segments; pipes = [] }) _ (flat_map multiplex_lines w.segments)
+      (adds_append added start (record { classes = w.classes; nodes = w.nodes; segments = []; pipes = [] }) (record { classes = w.classes; nodes = w.nodes; segments = map unmarked w.segments; pipes = [] }) _ (map (link_fields w) w.segments)
       (adds_append added start (record { classes = w.classes; nodes = map unfixed w.nodes; segments = []; pipes = [] }) (record { classes = w.classes; nodes = w.nodes; segments = []; pipes = [] }) _ (flat_map fix_lines w.nodes)
       (adds_append added start (record { classes = w.classes; nodes = []; segments = []; pipes = [] }) (record { classes = w.classes; nodes = map unfixed w.nodes; segments = []; pipes = [] }) (map class_fields w.classes) (map (node_fields w) w.nodes)
       (adds_each added class_fields (λ l. record { classes = l; nodes = []; segments = []; pipes = [] }) [] w.classes class_adds)
       (adds_each added (node_fields w) (λ l. record { classes = w.classes; nodes = map unfixed l; segments = []; pipes = [] }) [] w.nodes node_adds))
       (fixes_add [] w.nodes refl))
-      (adds_each added (link_fields w) (λ l. record { classes = w.classes; nodes = w.nodes; segments = l; pipes = [] }) [] w.segments link_adds))
+      (adds_each added (link_fields w) (λ l. record { classes = w.classes; nodes = w.nodes; segments = map unmarked l; pipes = [] }) [] w.segments link_adds))
+      (marks_add [] w.segments refl))
       (adds_each added (pipe_fields w) (λ l. record { classes = w.classes; nodes = w.nodes; segments = w.segments; pipes = l }) [] w.pipes pipe_adds)

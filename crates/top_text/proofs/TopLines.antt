@@ -31,7 +31,7 @@ use Rattle.virt_topo.specs.Repeats.{stands_again}
 use Rattle.virt_topo.specs.Soundness.{is_speed, are_rates, limits_class, limits_node, knows_class, asks_class_name}
 use Rattle.virt_topo.specs.Soundness as soundness
 use Rattle.virt_topo.proofs.CableLaws.{SegmentLimits}
-use Rattle.top_text.specs.Lines.{End, bare, addressed, end_parts, end_of, weight_of, as_rates, rates_of, as_class, class_line, node_line, fix_line, link_line, pipe_line}
+use Rattle.top_text.specs.Lines.{End, bare, addressed, end_parts, end_of, weight_of, as_rates, rates_of, as_class, class_line, node_line, fix_line, link_line, multiplex_line, pipe_line}
 use Rattle.top_text.specs.Adding.{asks_at}
 use Rattle.top_text.specs.Canonical.{virt_name, class_name, behind_name, address_text, end_field, asked_name, rates_fields}
 use Rattle.top_text.specs.Printable.{named_class, named_asks, named_node, named_segment, is_address}
@@ -139,6 +139,11 @@ link_again w s named limits ends_named =
     let ends = ends_again w s.ends (λ e h. end_again (virt_name w e.node) e.address (ends_named e h) (all_has (λ e. is_address e.address) s.ends b.1 e h) (all_has (λ e. soundness.is_address e.address) s.ends limits.addresses e h)) in
     λ j. both_of (name_again s.name a.0 j) (both_of (name_again s.owner b.0 j) (both_of (number_back 1 1000000000 s.kbps limits.some limits.slow (omega arith) j)
     (behind_again 3 2 256 end_of (s.name ∷ s.owner ∷ decimal s.kbps ∷ map (end_field w) s.ends) (map (end_field w) s.ends) (map (end_read w) s.ends) (omega (arith, limits.two, count)) (omega (arith, limits.few, count)) ends j)))
+
+-- A MULTIPLEXED SEGMENT
+
+pub multiplex_again : (name : List ℕ) → is_name name ≡ true → multiplex_line (name ∷ []) ≡ Ok name
+multiplex_again name n = name_again name n
 
 -- A PIPE
 

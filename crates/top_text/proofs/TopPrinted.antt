@@ -1,5 +1,5 @@
 -- The fields of a printed wiring are plain, and no line is skipped.
-use Rattle.std.proofs.Common.{◌≡◌, ℕ, ◌/◌, ◌%◌, ◌<◌, true, List, [], ◌∷◌, ◌++◌, length, map, Option, Some, None, refl, sym, subst, arith, inl, inr}
+use Rattle.std.proofs.Common.{◌≡◌, ℕ, ◌/◌, ◌%◌, ◌<◌, Bool, true, false, List, [], ◌∷◌, ◌++◌, length, map, Option, Some, None, refl, sym, subst, arith, inl, inr}
 use Rattle.std.specs.Prelude.{codes, decimal, nat_le}
 use Rattle.std.specs.List.{list_all, flat_map}
 use Rattle.std.proofs.lemmas.Bool.{and_parts}
@@ -19,7 +19,7 @@ use Rattle.virt_topo.specs.declared.wiring.Pipe.{Pipe}
 use Rattle.virt_topo.specs.declared.wiring.Wiring.{Wiring}
 use Rattle.virt_topo.specs.Soundness.{IsSound, limits_class, limits_node, limits_segment, are_rates, knows_class}
 use Rattle.virt_topo.proofs.CableLaws.{limits_of, segment_limits}
-use Rattle.top_text.specs.Canonical.{virt_name, asked_name, behind_name, address_text, end_field, rates_fields, class_fields, node_fields, fix_at, fix_lines, link_fields, pipe_fields, wiring_lines}
+use Rattle.top_text.specs.Canonical.{virt_name, asked_name, behind_name, address_text, end_field, rates_fields, class_fields, node_fields, fix_at, fix_lines, link_fields, multiplex_if, multiplex_lines, pipe_fields, wiring_lines}
 use Rattle.top_text.specs.Printable.{named_class, named_asks, named_node, named_place, named_segment, is_address}
 use Rattle.top_text.proofs.SoundTests.{sound_tests}
 use Rattle.top_text.proofs.TopLines.{le_from, lt_from, rate_limits}
@@ -36,6 +36,9 @@ fix = record { filled = refl; no_blank = refl; no_feed = refl }
 
 link : IsPlain (codes "link")
 link = record { filled = refl; no_blank = refl; no_feed = refl }
+
+multiplex : IsPlain (codes "multiplex")
+multiplex = record { filled = refl; no_blank = refl; no_feed = refl }
 
 pipe : IsPlain (codes "pipe")
 pipe = record { filled = refl; no_blank = refl; no_feed = refl }
@@ -101,6 +104,14 @@ module _ (w : Wiring) (sound : IsSound w) (named : IsNamed w) where
       let ends : ArePlain (map (end_field w) s.ends) = record { each = λ f g. let at = Has-map (end_field w) s.ends f g in subst IsPlain at.2 (end_plain (virt_name w at.0.node) at.0.address (node_named_at w sound named at.0.node (end_within w sound named s h at.0 at.1)) (all_has (λ (e : VirtEnd). is_address e.address) s.ends b.1 at.0 at.1)) } in
       record { kept = refl; plain = (more _ _ link (more _ _ (plain_name s.name a.0) (more _ _ (plain_name s.owner b.0) (more _ _ (plain_number s.kbps (omega (arith, limits.slow))) ends)))).each }
 
+  mark_printed : (s : Segment) → Has w.segments s → (line : List (List ℕ)) → Has (multiplex_lines s) line → IsPrinted line
+  mark_printed s h line g = by s.multiplexed g
+    where
+      by : (multiplexed : Bool) → Has (multiplex_if s.name multiplexed) line → IsPrinted line
+      by false g = absurd g
+      by true (inl e) = subst IsPrinted e (record { kept = refl; plain = (more _ _ multiplex (more _ _ (plain_name s.name (and_parts (is_name s.name) _ (all_has named_segment w.segments named.segments s h)).0) none)).each })
+      by true (inr g) = absurd g
+
   pipe_printed : (p : Pipe) → Has w.pipes p → IsPrinted (pipe_fields w p)
   pipe_printed p h =
       let facts = pipe_facts w sound named p h in
@@ -111,16 +122,19 @@ module _ (w : Wiring) (sound : IsSound w) (named : IsNamed w) where
       }
 
   pub wiring_printed : (line : List (List ℕ)) → Has (wiring_lines w) line → IsPrinted line
-  wiring_printed line h = elim (Has-append (((map class_fields w.classes ++ map (node_fields w) w.nodes) ++ flat_map fix_lines w.nodes) ++ map (link_fields w) w.segments) (map (pipe_fields w) w.pipes) line h) [
-    | inl a ↦ elim (Has-append ((map class_fields w.classes ++ map (node_fields w) w.nodes) ++ flat_map fix_lines w.nodes) (map (link_fields w) w.segments) line a) [
-      | inl b ↦ elim (Has-append (map class_fields w.classes ++ map (node_fields w) w.nodes) (flat_map fix_lines w.nodes) line b) [
-        | inl d ↦ elim (Has-append (map class_fields w.classes) (map (node_fields w) w.nodes) line d) [
-          | inl e ↦ let at = Has-map class_fields w.classes line e in subst IsPrinted at.2 (class_printed at.0 at.1)
-          | inr e ↦ let at = Has-map (node_fields w) w.nodes line e in subst IsPrinted at.2 (node_printed at.0 at.1)
+  wiring_printed line h = elim (Has-append ((((map class_fields w.classes ++ map (node_fields w) w.nodes) ++ flat_map fix_lines w.nodes) ++ map (link_fields w) w.segments) ++ flat_map multiplex_lines w.segments) (map (pipe_fields w) w.pipes) line h) [
+    | inl m ↦ elim (Has-append (((map class_fields w.classes ++ map (node_fields w) w.nodes) ++ flat_map fix_lines w.nodes) ++ map (link_fields w) w.segments) (flat_map multiplex_lines w.segments) line m) [
+      | inl a ↦ elim (Has-append ((map class_fields w.classes ++ map (node_fields w) w.nodes) ++ flat_map fix_lines w.nodes) (map (link_fields w) w.segments) line a) [
+        | inl b ↦ elim (Has-append (map class_fields w.classes ++ map (node_fields w) w.nodes) (flat_map fix_lines w.nodes) line b) [
+          | inl d ↦ elim (Has-append (map class_fields w.classes) (map (node_fields w) w.nodes) line d) [
+            | inl e ↦ let at = Has-map class_fields w.classes line e in subst IsPrinted at.2 (class_printed at.0 at.1)
+            | inr e ↦ let at = Has-map (node_fields w) w.nodes line e in subst IsPrinted at.2 (node_printed at.0 at.1)
+          ]
+          | inr d ↦ let at = Has-flat_map fix_lines w.nodes line d in fix_printed at.0 at.1 line at.2
         ]
-        | inr d ↦ let at = Has-flat_map fix_lines w.nodes line d in fix_printed at.0 at.1 line at.2
+        | inr b ↦ let at = Has-map (link_fields w) w.segments line b in subst IsPrinted at.2 (link_printed at.0 at.1)
       ]
-      | inr b ↦ let at = Has-map (link_fields w) w.segments line b in subst IsPrinted at.2 (link_printed at.0 at.1)
+      | inr m ↦ let at = Has-flat_map multiplex_lines w.segments line m in mark_printed at.0 at.1 line at.2
     ]
     | inr a ↦ let at = Has-map (pipe_fields w) w.pipes line a in subst IsPrinted at.2 (pipe_printed at.0 at.1)
   ]

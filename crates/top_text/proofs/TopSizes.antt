@@ -1,5 +1,5 @@
 -- How long the canonical text of a wiring is.
-use Rattle.std.proofs.Common.{◌≡◌, ℕ, ◌+◌, ◌*◌, ◌/◌, ◌%◌, ◌<◌, ◌≤◌, ◌^◌, true, List, [], ◌∷◌, ◌++◌, length, map, Option, Some, None, refl, ap, ◌∙◌, arith, inl, inr, length-append}
+use Rattle.std.proofs.Common.{◌≡◌, ℕ, ◌+◌, ◌*◌, ◌/◌, ◌%◌, ◌<◌, ◌≤◌, ◌^◌, Bool, true, false, List, [], ◌∷◌, ◌++◌, length, map, Option, Some, None, refl, ap, ◌∙◌, arith, inl, inr, length-append}
 use Rattle.std.specs.Prelude.{codes, decimal, nat_le}
 use Rattle.std.specs.List.{list_all, flat_map}
 use Rattle.std.proofs.lemmas.Bool.{and_parts}
@@ -21,7 +21,7 @@ use Rattle.virt_topo.specs.declared.wiring.Wiring.{Wiring}
 use Rattle.virt_topo.specs.Ends.{end_nodes}
 use Rattle.virt_topo.specs.Soundness.{IsSound, limits_class, limits_node, limits_segment, are_rates, knows_class}
 use Rattle.virt_topo.proofs.CableLaws.{limits_of, segment_limits}
-use Rattle.top_text.specs.Canonical.{virt_name, asked_name, behind_name, address_text, end_field, rates_fields, class_fields, node_fields, fix_at, fix_lines, link_fields, pipe_fields, canonical_top}
+use Rattle.top_text.specs.Canonical.{virt_name, asked_name, behind_name, address_text, end_field, rates_fields, class_fields, node_fields, fix_at, fix_lines, link_fields, multiplex_if, multiplex_lines, pipe_fields, canonical_top}
 use Rattle.top_text.specs.Printable.{named_class, named_asks, named_node, named_place, named_segment, is_address, is_printable}
 use Rattle.top_text.proofs.SoundTests.{sound_tests}
 use Rattle.top_text.proofs.TopLines.{le_from, lt_from, rate_limits}
@@ -74,6 +74,10 @@ rates_width r h =
 fix_line_length : (name place : List ℕ) → is_name name ≡ true → is_name place ≡ true → length (line_text (codes "fix-node" ∷ name ∷ place ∷ []) ++ []) ≤ 75
 unfolding width
 fix_line_length name place a b = omega (arith, length-append (line_text (codes "fix-node" ∷ name ∷ place ∷ [])) [], line_length (codes "fix-node") (name ∷ place ∷ []), name_length name a, name_length place b)
+
+multiplex_line_length : (name : List ℕ) → is_name name ≡ true → length (line_text (codes "multiplex" ∷ name ∷ []) ++ []) ≤ 44
+unfolding width
+multiplex_line_length name a = omega (arith, length-append (line_text (codes "multiplex" ∷ name ∷ [])) [], line_length (codes "multiplex") (name ∷ []), name_length name a)
 
 module _ (w : Wiring) (sound : IsSound w) (named : IsNamed w) where
   class_length : (c : Class) → Has w.classes c → length (line_text (class_fields c)) ≤ 317
@@ -138,6 +142,22 @@ module _ (w : Wiring) (sound : IsSound w) (named : IsNamed w) where
       let own : length (map (λ (e : VirtEnd). e.node) s.ends) ≡ length s.ends = length-map s.ends (λ e. e.node) in
       omega (arith, rest, sum, one, ends, own)
 
+  mark_length : (s : Segment) → Has w.segments s → length (text_of (multiplex_lines s)) ≤ 44
+  mark_length s h = by s.multiplexed
+    where
+      by : (multiplexed : Bool) → length (text_of (multiplex_if s.name multiplexed)) ≤ 44
+      by false = omega arith
+      by true = multiplex_line_length s.name (and_parts (is_name s.name) _ (all_has named_segment w.segments named.segments s h)).0
+
+  marks_length : (segments : List Segment) → ((s : Segment) → Has segments s → length (text_of (multiplex_lines s)) ≤ 44) → length (text_of (flat_map multiplex_lines segments)) ≤ 44 * length segments
+  marks_length [] each = omega arith
+  marks_length (s ∷ segments) each =
+      let rest = marks_length segments (λ x h. each x (inr h)) in
+      let both = flat_map-append line_text (multiplex_lines s) (flat_map multiplex_lines segments) in
+      let sum = ap length both ∙ length-append (text_of (multiplex_lines s)) (text_of (flat_map multiplex_lines segments)) in
+      let one : length (text_of (multiplex_lines s)) ≤ 44 = each s (inl refl) in
+      omega (arith, rest, sum, one)
+
   pipe_length : (p : Pipe) → Has w.pipes p → length (line_text (pipe_fields w p)) ≤ 106
   unfolding width
   pipe_length p h =
@@ -158,13 +178,16 @@ top_length w sound printable =
     let nodes = lines_length (node_fields w) 432 w.nodes (node_length w sound named) in
     let fixes = fixes_length w sound named w.nodes (fix_length w sound named) in
     let links = links_length w sound named w.segments (link_length w sound named) in
+    let marks = marks_length w sound named w.segments (mark_length w sound named) in
     let pipes = lines_length (pipe_fields w) 106 w.pipes (pipe_length w sound named) in
     let a = ap length (flat_map-append line_text (map class_fields w.classes) (map (node_fields w) w.nodes)) ∙ length-append (text_of (map class_fields w.classes)) (text_of (map (node_fields w) w.nodes)) in
     let b = ap length (flat_map-append line_text (map class_fields w.classes ++ map (node_fields w) w.nodes) (flat_map fix_lines w.nodes)) ∙ length-append (text_of (map class_fields w.classes ++ map (node_fields w) w.nodes)) (text_of (flat_map fix_lines w.nodes)) in
     let c = ap length (flat_map-append line_text ((map class_fields w.classes ++ map (node_fields w) w.nodes) ++ flat_map fix_lines w.nodes) (map (link_fields w) w.segments)) ∙ length-append (text_of ((map class_fields w.classes ++ map (node_fields w) w.nodes) ++ flat_map fix_lines w.nodes)) (text_of (map (link_fields w) w.segments)) in
-    let d = ap length (flat_map-append line_text (((map class_fields w.classes ++ map (node_fields w) w.nodes) ++ flat_map fix_lines w.nodes) ++ map (link_fields w) w.segments) (map (pipe_fields w) w.pipes)) ∙ length-append (text_of (((map class_fields w.classes ++ map (node_fields w) w.nodes) ++ flat_map fix_lines w.nodes) ++ map (link_fields w) w.segments)) (text_of (map (pipe_fields w) w.pipes)) in
-    bound _ _ _ _ _ _ _ _ _ _ _ _ _ _ d c b a classes nodes fixes links pipes limits.classes limits.nodes limits.segments limits.ends (few_pipes w sound)
+    let front = ((map class_fields w.classes ++ map (node_fields w) w.nodes) ++ flat_map fix_lines w.nodes) ++ map (link_fields w) w.segments in
+    let d = ap length (flat_map-append line_text front (flat_map multiplex_lines w.segments)) ∙ length-append (text_of front) (text_of (flat_map multiplex_lines w.segments)) in
+    let e = ap length (flat_map-append line_text (front ++ flat_map multiplex_lines w.segments) (map (pipe_fields w) w.pipes)) ∙ length-append (text_of (front ++ flat_map multiplex_lines w.segments)) (text_of (map (pipe_fields w) w.pipes)) in
+    bound _ _ _ _ _ _ _ _ _ _ _ _ _ _ _ _ e d c b a classes nodes fixes links marks pipes limits.classes limits.nodes limits.segments limits.ends (few_pipes w sound)
   where
-    bound : (all most more some classes nodes fixes links pipes c n s e p : ℕ) → all ≡ most + pipes → most ≡ more + links → more ≡ some + fixes → some ≡ classes + nodes → classes ≤ 317 * c → nodes ≤ 432 * n → fixes ≤ 75 * n → links ≤ 82 * s + 49 * e → pipes ≤ 106 * p
+    bound : (all last most more some classes nodes fixes links marks pipes c n s e p : ℕ) → all ≡ last + pipes → last ≡ most + marks → most ≡ more + links → more ≡ some + fixes → some ≡ classes + nodes → classes ≤ 317 * c → nodes ≤ 432 * n → fixes ≤ 75 * n → links ≤ 82 * s + 49 * e → marks ≤ 44 * s → pipes ≤ 106 * p
         → c ≤ 64 → n ≤ 256 → s ≤ 512 → e ≤ 4096 → p ≤ e → all ≤ 16777216
-    bound all most more some classes nodes fixes links pipes c n s e p h1 h2 h3 h4 a1 a2 a3 a4 a5 l1 l2 l3 l4 l5 = omega arith
+    bound all last most more some classes nodes fixes links marks pipes c n s e p h1 h2 h3 h4 h5 a1 a2 a3 a4 a5 a6 l1 l2 l3 l4 l5 = omega arith

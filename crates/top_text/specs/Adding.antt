@@ -1,5 +1,5 @@
 -- What a line of a top text adds to the wiring so far, or its fault.
-use Rattle.std.specs.Prelude.{◌+◌, ℕ, not, ◌==◌, List, [], ◌∷◌, ◌++◌, length, map, position, codes, slice_set, Option, Some, None, is_some, Result, Ok, Err, if◌then◌else◌}
+use Rattle.std.specs.Prelude.{◌+◌, ℕ, false, true, not, ◌==◌, List, [], ◌∷◌, ◌++◌, length, map, position, codes, slice_set, slice_index_or, Option, Some, None, is_some, Result, Ok, Err, if◌then◌else◌}
 use Rattle.lab_base.specs.Texts.{lines_of}
 use Rattle.lab_base.specs.declared.fault.Kind.{Kind}
 use Rattle.lab_base.specs.declared.fault.Kind.TheVariants as kinds
@@ -15,7 +15,7 @@ use Rattle.virt_topo.specs.declared.wiring.VirtEnd.{VirtEnd}
 use Rattle.virt_topo.specs.declared.wiring.Segment.{Segment}
 use Rattle.virt_topo.specs.declared.wiring.Pipe.{Pipe}
 use Rattle.virt_topo.specs.declared.wiring.Wiring.{Wiring}
-use Rattle.top_text.specs.Lines.{End, NodeRead, LinkRead, PipeRead, class_line, node_line, fix_line, link_line, pipe_line}
+use Rattle.top_text.specs.Lines.{End, NodeRead, LinkRead, PipeRead, class_line, node_line, fix_line, link_line, pipe_line, multiplex_line}
 
 -- the wiring with a line more, or the first fault that it has with that line
 abbrev pub kept : Wiring → Result Wiring Kind
@@ -56,7 +56,7 @@ abbrev pub end_at : Wiring → End → VirtEnd
 end_at w end = record { node = virt_number w end.0; address = end.1 }
 
 abbrev pub segment_of : Wiring → LinkRead → Segment
-segment_of w (name, (owner, (kbps, ends))) = record { name = name; owner = owner; kbps = kbps; ends = map (end_at w) ends }
+segment_of w (name, (owner, (kbps, ends))) = record { name = name; owner = owner; kbps = kbps; multiplexed = false; ends = map (end_at w) ends }
 
 abbrev pub with_segment : Wiring → Segment → Wiring
 with_segment w segment = record w { segments = w.segments ++ segment ∷ [] }
@@ -75,11 +75,30 @@ abbrev pub placed : Wiring → List ℕ → Option ℕ → Result Wiring Kind
 placed w place None = Err kinds.Unknown
 placed w place (Some v) = if is_some (virt_at w v).fixed then Err kinds.Twice else kept (with_place w v place)
 
+abbrev pub no_segment : Segment
+no_segment = record { name = []; owner = []; kbps = 0; multiplexed = false; ends = [] }
+
+-- the segment of a number
+abbrev pub segment_at : Wiring → ℕ → Segment
+segment_at w s = slice_index_or w.segments s no_segment
+
+abbrev pub segment_named : Wiring → List ℕ → Option ℕ
+segment_named w name = position (λ s. same_name name s.name) w.segments
+
+abbrev pub with_multiplexed : Wiring → ℕ → Wiring
+with_multiplexed w s = record w { segments = slice_set w.segments s (record (segment_at w s) { multiplexed = true }) }
+
+-- a segment that is multiplexed by an earlier line is `twice`; one that a pipe joins is `pipe`
+abbrev pub marked : Wiring → Option ℕ → Result Wiring Kind
+marked w None = Err kinds.Unknown
+marked w (Some s) = if (segment_at w s).multiplexed then Err kinds.Twice else kept (with_multiplexed w s)
+
 -- a line of segments or pipes by its keyword
 abbrev pub wire_added : Wiring → List ℕ → List (List ℕ) → Result Wiring Kind
 wire_added w keyword fields =
     if same_name keyword (codes "link") then and_then (link_line fields) (λ link. kept (with_segment w (segment_of w link)))
     else if same_name keyword (codes "pipe") then and_then (pipe_line fields) (λ pipe. kept (with_pipe w (pipe_of w pipe)))
+    else if same_name keyword (codes "multiplex") then and_then (multiplex_line fields) (λ name. marked w (segment_named w name))
     else Err kinds.Word
 
 -- a line of virtual nodes by its keyword

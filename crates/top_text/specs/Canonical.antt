@@ -1,5 +1,5 @@
 -- The canonical text of a wiring.
-use Rattle.std.specs.Prelude.{ℕ, ◌/◌, ◌%◌, List, [], ◌∷◌, ◌++◌, map, codes, decimal, slice_index_or, Option, Some, None}
+use Rattle.std.specs.Prelude.{ℕ, Bool, ◌/◌, ◌%◌, List, [], ◌∷◌, ◌++◌, map, codes, decimal, slice_index_or, Option, Some, None, if◌then◌else◌}
 use Rattle.std.specs.List.{flat_map}
 use Rattle.lab_base.specs.declared.rates.Rates.{Rates}
 use Rattle.line_text.specs.Printing.{text_of, with_number}
@@ -52,13 +52,20 @@ fix_lines node = fix_at node.name node.fixed
 abbrev pub link_fields : Wiring → Segment → List (List ℕ)
 link_fields w segment = codes "link" ∷ segment.name ∷ segment.owner ∷ decimal segment.kbps ∷ map (end_field w) segment.ends
 
+abbrev pub multiplex_if : List ℕ → Bool → List (List (List ℕ))
+multiplex_if name multiplexed = if multiplexed then (codes "multiplex" ∷ name ∷ []) ∷ [] else []
+
+abbrev pub multiplex_lines : Segment → List (List (List ℕ))
+multiplex_lines segment = multiplex_if segment.name segment.multiplexed
+
 abbrev pub pipe_fields : Wiring → Pipe → List (List ℕ)
 pipe_fields w pipe = codes "pipe" ∷ virt_name w pipe.node ∷ decimal pipe.from ∷ decimal pipe.to ∷ rates_fields pipe.there ++ rates_fields pipe.back
 
--- classes, virtual nodes, fixed places in the order of virtual nodes, segments, pipes
+-- classes, virtual nodes, fixed places in the order of virtual nodes, segments, multiplexed ones in the order of segments, pipes
 abbrev pub wiring_lines : Wiring → List (List (List ℕ))
 wiring_lines w =
-    map class_fields w.classes ++ map (node_fields w) w.nodes ++ flat_map fix_lines w.nodes ++ map (link_fields w) w.segments ++ map (pipe_fields w) w.pipes
+    map class_fields w.classes ++ map (node_fields w) w.nodes ++ flat_map fix_lines w.nodes ++ map (link_fields w) w.segments
+    ++ flat_map multiplex_lines w.segments ++ map (pipe_fields w) w.pipes
 
 abbrev pub canonical_top : Wiring → List ℕ
 canonical_top w = text_of (wiring_lines w)

@@ -82,3 +82,7 @@ pipe_line fields =
     then both_of (name_of (field_at fields 0)) (both_of (both_of (number_from 0 65535 (field_at fields 1)) (number_from 0 65535 (field_at fields 2)))
     (both_of (rates_of (field_at fields 3) (field_at fields 4) (field_at fields 5)) (rates_of (field_at fields 6) (field_at fields 7) (field_at fields 8))))
     else Err kinds.Fields
+
+-- `multiplex SEGMENT`
+abbrev pub multiplex_line : List (List ℕ) → Result (List ℕ) Kind
+multiplex_line fields = if length fields == 1 then name_of (field_at fields 0) else Err kinds.Fields

@@ -15,7 +15,7 @@ pub(crate) struct Tests {
     pub(crate) known: bool,
     /// A segment names a virtual node twice.
     pub(crate) same: bool,
-    /// A pipe has one end twice, ends of two owners, or an end of an earlier pipe.
+    /// A pipe has one end twice, ends of two owners, an end of a multiplexed segment, or an end of an earlier pipe.
     pub(crate) bad_pipe: bool,
     /// The limits are kept.
     pub(crate) within: bool,

@@ -1,7 +1,9 @@
 //! Wirings as top text.
 #![tactic(auto)]
 
+mod adding;
 mod judge;
+mod keyed;
 mod laws;
 mod lines;
 mod print;

@@ -1,11 +1,11 @@
-ghost use Rattle.std.specs.Prelude.{◌≡◌, ◌≤◌, ◌/◌, ◌%◌, ◌++◌, ◌∷◌, [], true, map, length, decimal, Ok, OnOk, IfOk};
+ghost use Rattle.std.specs.Prelude.{◌≡◌, ◌≤◌, ◌/◌, ◌%◌, ◌++◌, ◌∷◌, [], true, map, length, codes, decimal, Ok, OnOk, IfOk};
 ghost use Rattle.std.specs.List.{flat_map, list_all};
 ghost use Rattle.lab_base.specs.Names.{is_name};
 ghost use Rattle.line_text.specs.Printing.{line_text, spaced, text_of, with_number};
 ghost use Rattle.virt_topo.specs.Soundness.{IsSound};
 ghost use Rattle.top_text.specs.Adding.{wiring_of_text};
 ghost use Rattle.top_text.specs.Printable.{named_asks, named_class, named_node, named_place, named_segment, is_address, is_printable};
-ghost use Rattle.top_text.specs.Canonical.{virt_name, class_name, address_text, behind_name, end_field, asked_name, rates_fields, class_fields, node_fields, fix_at, fix_lines, link_fields, pipe_fields, canonical_top};
+ghost use Rattle.top_text.specs.Canonical.{virt_name, class_name, address_text, behind_name, end_field, asked_name, rates_fields, class_fields, node_fields, fix_at, fix_lines, link_fields, multiplex_lines, pipe_fields, canonical_top};
 
 use lab_base::{Memory, Name, Rates, Text};
 use line_text::{push_field, push_numbered};
@@ -216,6 +216,32 @@ fn push_links(text: &mut Text, wiring: &Wiring, segments: &[Segment]) -> Result<
     Ok(())
 }
 
+fn push_multiplex(text: &mut Text, name: &Name) -> Result<(), Memory>
+    ensures { OnOk result (text.new ≡ text.old ++ line_text (codes "multiplex" ∷ name.now ∷ [])) }
+{
+    text.push_bytes(b"multiplex")?;
+    push_field(text, name)?;
+    text.push(b'\n')
+}
+
+fn push_mark(text: &mut Text, segment: &Segment) -> Result<(), Memory>
+    ensures { OnOk result (text.new ≡ text.old ++ text_of (multiplex_lines segment.now)) }
+{
+    if segment.multiplexed {
+        push_multiplex(text, &segment.name)?;
+    }
+    Ok(())
+}
+
+fn push_marks(text: &mut Text, segments: &[Segment]) -> Result<(), Memory>
+    ensures { OnOk result (text.new ≡ text.old ++ text_of (flat_map multiplex_lines segments.now)) }
+{
+    for segment in segments {
+        push_mark(text, segment)?;
+    }
+    Ok(())
+}
+
 fn push_rates(text: &mut Text, rates: Rates) -> Result<(), Memory>
     ensures { OnOk result (text.new ≡ text.old ++ spaced (rates_fields rates)) }
 {
@@ -259,6 +285,7 @@ fn push_all(text: &mut Text, wiring: &Wiring) -> Result<(), Memory>
     push_nodes(text, wiring, wiring.nodes.as_slice())?;
     push_fixes(text, wiring.nodes.as_slice())?;
     push_links(text, wiring, wiring.segments.as_slice())?;
+    push_marks(text, wiring.segments.as_slice())?;
     push_pipes(text, wiring, wiring.pipes.as_slice())
 }
 

@@ -6,7 +6,8 @@ ghost use Rattle.virt_topo.specs.Soundness.{IsSound};
 ghost use Rattle.top_text.specs.Adding.{added, finished, wiring_of_text};
 ghost use Rattle.top_text.specs.Tables.{IsReading};
 
-use crate::so_far::{SoFar, add};
+use crate::keyed::add;
+use crate::so_far::SoFar;
 use lab_base::{Kind, TextFault, TextRefused, fields_in, first_line, is_skipped};
 use line_text::{LineFault, refusal};
 use std::alloc::Global;

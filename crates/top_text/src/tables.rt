@@ -1,5 +1,5 @@
 // What the names, the addresses and the ends of the wiring so far are looked up in.
-ghost use Rattle.std.specs.Prelude.{◌≡◌, ◌<◌, ◌≤◌, ◌++◌, ◌∷◌, ◌&&◌, ◌||◌, ℕ, [], false, true, nat_eq, nat_lt, length, map, position, slice_index_or, IfOk, IfSome, OnOk};
+ghost use Rattle.std.specs.Prelude.{◌≡◌, ◌<◌, ◌≤◌, ◌++◌, ◌∷◌, ◌&&◌, ◌||◌, ℕ, [], false, true, nat_eq, nat_lt, length, map, position, slice_index_or, slice_set, IfOk, IfSome, OnOk};
 ghost use Rattle.std.specs.List.{list_any, list_all};
 ghost use Rattle.lab_base.specs.Names.{same_name};
 ghost use Rattle.indexmap.specs.IndexSet.{contains};
@@ -14,6 +14,9 @@ use std::alloc::Global;
 use std::hash::Hash;
 use virt_topo::{Pipe, VirtEnd};
 
+/// A number that names nothing.
+pub(crate) const NONE: u16 = 65_535;
+
 /// What stands in the wiring so far.
 #[derive(Drop)]
 pub(crate) struct Tables {
@@ -23,8 +26,10 @@ pub(crate) struct Tables {
     pub(crate) addresses: IndexSet<u32>,
     /// The ends of pipes, each by its virtual node, and by how many earlier ends that one has.
     pub(crate) piped: IndexSet<(u16, u16)>,
-    /// By virtual node the owner of each of its ends.
-    pub(crate) owners: Vec<Items<Name>>,
+    /// By virtual node the number of the segment of each of its ends.
+    pub(crate) on_node: Vec<Items<u16>>,
+    /// By segment whether a pipe joins one of its ends.
+    pub(crate) joined: Vec<bool>,
     /// How many ends there are.
     pub(crate) ends: usize,
 }
@@ -71,28 +76,46 @@ pub(crate) fn repeats_addresses(
 }
 
 /// Adds a virtual node that has no end.
-pub(crate) fn put_node(owners: &mut Vec<Items<Name>>, alloc: Global) -> Result<(), Memory>
-    ensures { OnOk result (owners.new.items ≡ owners.old.items ++ [] ∷ []) }
+pub(crate) fn put_node(on_node: &mut Vec<Items<u16>>, alloc: Global) -> Result<(), Memory>
+    ensures { OnOk result (on_node.new.items ≡ on_node.old.items ++ [] ∷ []) }
 {
-    owners.push(Items::new(alloc))?;
+    on_node.push(Items::new(alloc))?;
     Ok(())
 }
 
-/// Adds the owner of some ends to what each of their virtual nodes has.
-pub(crate) fn put_owner(
-    owners: &mut Vec<Items<Name>>,
-    owner: Name,
+/// Adds some ends of a segment to what each of their virtual nodes has.
+pub(crate) fn put_ends(
+    on_node: &mut Vec<Items<u16>>,
+    segment: u16,
     ends: &[VirtEnd],
 ) -> Result<(), Memory>
-    requires { list_all (λ e. nat_lt e.node (length owners.old.items)) ends.now ≡ true }
-    ensures count { OnOk result (length owners.new.items ≡ length owners.old.items) }
-    ensures owners { OnOk result ((v : ℕ) → v < length owners.old.items
-        → slice_index_or owners.new.items v [] ≡ slice_index_or owners.old.items v [] ++ at_ends v (map (λ e. e.node) ends.now) (map (λ e. owner) ends.now)) }
+    requires { list_all (λ e. nat_lt e.node (length on_node.old.items)) ends.now ≡ true }
+    ensures count { OnOk result (length on_node.new.items ≡ length on_node.old.items) }
+    ensures numbers { OnOk result ((v : ℕ) → v < length on_node.old.items
+        → slice_index_or on_node.new.items v [] ≡ slice_index_or on_node.old.items v [] ++ at_ends v (map (λ e. e.node) ends.now) (map (λ e. segment) ends.now)) }
 {
     for end in ends {
-        owners[end.node as usize].push(owner)?;
+        on_node[end.node as usize].push(segment)?;
     }
     Ok(())
+}
+
+/// Adds a segment that no pipe joins.
+pub(crate) fn put_segment(joined: &mut Vec<bool>) -> Result<(), Memory>
+    ensures { OnOk result (joined.new.items ≡ joined.old.items ++ false ∷ []) }
+{
+    joined.push(false)?;
+    Ok(())
+}
+
+/// Notes that a pipe joins ends of two segments, or of one.
+pub(crate) fn join(joined: &mut Vec<bool>, first: u16, second: u16)
+    requires first { first < length joined.old.items }
+    requires second { second < length joined.old.items }
+    ensures { joined.new.items ≡ slice_set (slice_set joined.old.items first true) second true }
+{
+    joined[first as usize] = true;
+    joined[second as usize] = true;
 }
 
 impl Tables {
@@ -105,7 +128,8 @@ impl Tables {
             segments: IndexSet::new(alloc),
             addresses: IndexSet::new(alloc),
             piped: IndexSet::new(alloc),
-            owners: Vec::new(alloc),
+            on_node: Vec::new(alloc),
+            joined: Vec::new(alloc),
             ends: 0,
         }
     }
@@ -126,26 +150,34 @@ impl Tables {
         self.nodes.get_index_of(&name)
     }
 
+    /// The number of the segment of a name.
+    pub(crate) fn segment_named(&self, name: Name) -> Option<usize>
+        ensures place { result ≡ position (same_name name) self.now.segments.keys }
+        ensures within { IfSome result (λ n. n < length self.now.segments.keys) }
+    {
+        self.segments.get_index_of(&name)
+    }
+
     /// Whether a virtual node has so many ends and one more.
     pub(crate) fn has_end(&self, node: u16, k: u16) -> bool
-        ensures { result ≡ (nat_lt node (length self.now.owners.items) && nat_lt k (length (slice_index_or self.now.owners.items node []))) }
+        ensures { result ≡ (nat_lt node (length self.now.on_node.items) && nat_lt k (length (slice_index_or self.now.on_node.items node []))) }
     {
-        match self.owners.get(node as usize) {
-            Some(owners) => (k as usize) < owners.len(),
+        match self.on_node.get(node as usize) {
+            Some(numbers) => (k as usize) < numbers.len(),
             None => false,
         }
     }
 
-    /// The owner of the end of a virtual node that has `k` earlier ones, or no bytes where there is none.
-    pub(crate) fn owner(&self, node: u16, k: u16) -> &[u8]
-        ensures { result.now ≡ slice_index_or (slice_index_or self.now.owners.items node []) k [] }
+    /// The number of the segment of the end of a virtual node that has `k` earlier ones, or 65,535 where there is none.
+    pub(crate) fn segment(&self, node: u16, k: u16) -> u16
+        ensures { result ≡ slice_index_or (slice_index_or self.now.on_node.items node []) k 65535 }
     {
-        match self.owners.get(node as usize) {
-            Some(owners) => match owners.as_slice().get(k as usize) {
-                Some(owner) => owner.bytes(),
-                None => &[],
+        match self.on_node.get(node as usize) {
+            Some(numbers) => match numbers.as_slice().get(k as usize) {
+                Some(number) => *number,
+                None => NONE,
             },
-            None => &[],
+            None => NONE,
         }
     }
 

@@ -1,8 +1,8 @@
 pub mod Replugged
-pub mod CrossLaws
+mod CrossLaws
 pub mod SummedLaws
-pub mod BetweenLaws
-pub mod TotalLaws
+mod BetweenLaws
+mod TotalLaws
 pub mod RemadeLaws
-pub mod StartLaws
+mod StartLaws
 pub mod ShareLaws

@@ -1,5 +1,5 @@
 -- THE RUNNING SUMS ARE WHAT COUNTING ANEW GIVES.
-use Rattle.std.specs.Prelude.{◌≡◌, ◌<◌, ◌≤◌, ◌+◌, ◌*◌, ℕ, zero, suc, List, [], ◌∷◌, length, slice_index_or, sum_by}
+use Rattle.std.specs.Prelude.{false, ◌≡◌, ◌<◌, ◌≤◌, ◌+◌, ◌*◌, ℕ, zero, suc, List, [], ◌∷◌, length, slice_index_or, sum_by}
 use Rattle.lab_base.specs.declared.ids.IfaceId.{IfaceId}
 use Rattle.phys_lab.specs.Labs.{Lab}
 use Rattle.virt_topo.specs.declared.wiring.Segment.{Segment}
@@ -10,7 +10,7 @@ use Rattle.trunk_sums.specs.declared.sums.EndRow.{EndRow}
 use Rattle.trunk_sums.specs.Crossed.{side_of}
 
 abbrev pub no_segment : Segment
-no_segment = record { name = []; owner = []; kbps = 0; ends = [] }
+no_segment = record { name = []; owner = []; kbps = 0; multiplexed = false; ends = [] }
 
 abbrev pub no_cable : Cable
 no_cable = record { segment = no_segment; plugs = [] }

@@ -7,7 +7,7 @@ use Rattle.std.proofs.lemmas.Bool.Decides.{nat_tests}
 use Rattle.std.proofs.lemmas.List.{length-map, drop_all, length-replicate}
 use Rattle.virt_topo.specs.declared.wiring.Segment.{Segment}
 use Rattle.virt_topo.specs.declared.wiring.VirtEnd.{VirtEnd}
-use Rattle.virt_topo.specs.Ends.{end_nodes, end_owners, end_number}
+use Rattle.virt_topo.specs.Ends.{end_nodes, end_owners, end_multiplexed, end_number}
 
 -- the item at i, and those behind it
 pub item_at : {X : Type 0} (xs : List X) (i : ℕ) (x : X) → i < length xs → x ≡ get_or xs i x → drop i xs ≡ x ∷ drop (i + 1) xs
@@ -118,3 +118,20 @@ length-owners (s ∷ segments) =
     let left = length-append (owners_of s) (end_owners segments) in
     let right = length-append (nodes_of s.ends) (end_nodes segments) in
     omega (arith, left, right, rest, length-replicate (length s.ends) s.owner, length-map s.ends (λ e. e.node))
+
+-- WHETHER SEGMENTS ARE MULTIPLEXED
+
+abbrev pub flags_of : Segment → List Bool
+flags_of s = replicate (length s.ends) s.multiplexed
+
+pub flags_from : (segments : List Segment) (i : ℕ) (s : Segment) → i < length segments → s ≡ get_or segments i s
+    → end_multiplexed (drop i segments) ≡ flags_of s ++ end_multiplexed (drop (i + 1) segments)
+flags_from segments i s lt is = ap end_multiplexed (item_at segments i s lt is)
+
+pub length-flags : (segments : List Segment) → length (end_multiplexed segments) ≡ length (end_nodes segments)
+length-flags [] = refl
+length-flags (s ∷ segments) =
+    let rest = length-flags segments in
+    let left = length-append (flags_of s) (end_multiplexed segments) in
+    let right = length-append (nodes_of s.ends) (end_nodes segments) in
+    omega (arith, left, right, rest, length-replicate (length s.ends) s.multiplexed, length-map s.ends (λ e. e.node))

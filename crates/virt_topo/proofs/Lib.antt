@@ -1,5 +1,6 @@
 pub mod EndLaws
-pub mod RepeatLaws
+pub mod LoadLaws
+mod RepeatLaws
 pub mod CableLaws
 pub mod MoreLaws
 pub mod MoreEnds

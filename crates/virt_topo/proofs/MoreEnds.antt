@@ -6,9 +6,9 @@ use Rattle.std.proofs.lemmas.Grind.{flat_map-append}
 use Rattle.std.proofs.lemmas.List.{get_or_append_left, append-nil}
 use Rattle.virt_topo.specs.declared.wiring.Segment.{Segment}
 use Rattle.virt_topo.specs.declared.wiring.VirtEnd.{VirtEnd}
-use Rattle.virt_topo.specs.Ends.{end_nodes, end_owners, end_number}
+use Rattle.virt_topo.specs.Ends.{end_nodes, end_owners, end_multiplexed, end_number}
 use Rattle.virt_topo.specs.Owners.{at_ends, owners_on}
-use Rattle.virt_topo.proofs.EndLaws.{nodes_of, owners_of, length-owners}
+use Rattle.virt_topo.proofs.EndLaws.{nodes_of, owners_of, length-owners, flags_of, length-flags}
 
 -- ONE SEGMENT MORE
 
@@ -17,6 +17,9 @@ nodes_more segments s = flat_map-append (λ (t : Segment). nodes_of t.ends) segm
 
 pub owners_more : (segments : List Segment) (s : Segment) → end_owners (segments ++ s ∷ []) ≡ end_owners segments ++ owners_of s
 owners_more segments s = flat_map-append owners_of segments (s ∷ []) ∙ ap (λ (l : List (List ℕ)). end_owners segments ++ l) (append-nil (owners_of s))
+
+pub flags_more : (segments : List Segment) (s : Segment) → end_multiplexed (segments ++ s ∷ []) ≡ end_multiplexed segments ++ flags_of s
+flags_more segments s = flat_map-append flags_of segments (s ∷ []) ∙ ap (λ (l : List Bool). end_multiplexed segments ++ l) (append-nil (flags_of s))
 
 -- NUMBERS OF ENDS
 
@@ -120,6 +123,15 @@ owner_kept segments s v k is =
     let number : end_number (end_nodes (segments ++ s ∷ [])) v k ≡ end_number (end_nodes segments) v k = ap (λ (l : List ℕ). end_number l v k) (nodes_more segments s) ∙ number_more (end_nodes segments) (nodes_of s.ends) v k there in
     (λ i. get_or (owners_more segments s i) (number i) [])
     ∙ get_or_append_left (end_owners segments) (owners_of s) [] (end_number (end_nodes segments) v k) (omega (arith, there, length-owners segments))
+
+-- whether the segment of an end that is there is multiplexed, where a segment more stands
+pub flag_kept : (segments : List Segment) (s : Segment) (v k : ℕ) → nat_lt (end_number (end_nodes segments) v k) (length (end_nodes segments)) ≡ true
+    → get_or (end_multiplexed (segments ++ s ∷ [])) (end_number (end_nodes (segments ++ s ∷ [])) v k) false ≡ get_or (end_multiplexed segments) (end_number (end_nodes segments) v k) false
+flag_kept segments s v k is =
+    let there = lt_of _ _ is in
+    let number : end_number (end_nodes (segments ++ s ∷ [])) v k ≡ end_number (end_nodes segments) v k = ap (λ (l : List ℕ). end_number l v k) (nodes_more segments s) ∙ number_more (end_nodes segments) (nodes_of s.ends) v k there in
+    (λ i. get_or (flags_more segments s i) (number i) false)
+    ∙ get_or_append_left (end_multiplexed segments) (flags_of s) false (end_number (end_nodes segments) v k) (omega (arith, there, length-flags segments))
 
 -- an end that is there stays one
 pub end_kept : (segments : List Segment) (s : Segment) (v k : ℕ) → nat_lt (end_number (end_nodes segments) v k) (length (end_nodes segments)) ≡ true

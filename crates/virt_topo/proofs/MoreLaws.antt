@@ -22,7 +22,7 @@ use Rattle.virt_topo.specs.Repeats.{stands_again}
 use Rattle.virt_topo.specs.Soundness.{limits_class, limits_node, limits_segment, limits_pipe, keeps_limits, knows_class, knows_node, knows_pipe, is_end, knows_all, same_address, all_ends, asks_class_name, has_twice, has_same, is_bad_pipe, shares_end, has_bad_pipe}
 use Rattle.virt_topo.specs.Topos.{asks_type}
 use Rattle.virt_topo.proofs.EndLaws.{nodes_of, owners_of}
-use Rattle.virt_topo.proofs.MoreEnds.{nodes_more, owner_kept, end_kept}
+use Rattle.virt_topo.proofs.MoreEnds.{nodes_more, owner_kept, flag_kept, end_kept}
 
 -- ONE ELEMENT MORE
 
@@ -204,7 +204,9 @@ bad_with_segment w s known h =
     one p g =
         let a = and_parts (knows_node w p.node) _ g in
         let b = and_parts (is_end w p.node p.from) (is_end w p.node p.to) a.1 in
-        λ i. eqb p.from p.to || not (same_name (owner_kept w.segments s p.node p.from b.0 i) (owner_kept w.segments s p.node p.to b.1 i))
+        λ i. eqb p.from p.to
+        || (not (same_name (owner_kept w.segments s p.node p.from b.0 i) (owner_kept w.segments s p.node p.to b.1 i))
+        || (flag_kept w.segments s p.node p.from b.0 i || flag_kept w.segments s p.node p.to b.1 i))
 
 symm_shares : (p q : Pipe) → shares_end p q ≡ shares_end q p
 symm_shares p q =

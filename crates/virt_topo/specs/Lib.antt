@@ -1,7 +1,9 @@
 pub mod Ends
+pub mod Loads
 pub mod Owners
 pub mod Cables
 pub mod Repeats
+pub mod Sharing
 pub mod Soundness
 pub mod Sought
 pub mod Topos

@@ -13,7 +13,7 @@ use Rattle.virt_topo.specs.declared.wiring.Pipe.{Pipe}
 use Rattle.virt_topo.specs.declared.wiring.Wiring.{Wiring}
 use Rattle.virt_topo.specs.declared.fault.WiringFault.{WiringFault}
 use Rattle.virt_topo.specs.declared.fault.WiringFault.TheVariants as faults
-use Rattle.virt_topo.specs.Ends.{end_nodes, end_owners, end_number, pipe_from, pipe_to}
+use Rattle.virt_topo.specs.Ends.{end_nodes, end_owners, end_multiplexed, end_number, pipe_from, pipe_to}
 use Rattle.virt_topo.specs.Repeats.{stands_again}
 
 abbrev pub is_between : ℕ → ℕ → ℕ → Bool
@@ -122,9 +122,16 @@ has_same w = list_any (λ s. stands_again (λ a b. a.node == b.node) s.ends) w.s
 abbrev pub owner_at : Wiring → ℕ → List ℕ
 owner_at w e = slice_index_or (end_owners w.segments) e []
 
--- the ends of a pipe are one, or their segments have two owners
+-- the segment that an end is of is multiplexed
+abbrev pub multiplexed_at : Wiring → ℕ → Bool
+multiplexed_at w e = slice_index_or (end_multiplexed w.segments) e false
+
+-- the ends of a pipe are one, or their segments have two owners, or one of these is multiplexed
 abbrev pub is_bad_pipe : Wiring → Pipe → Bool
-is_bad_pipe w p = (p.from == p.to) || not (same_name (owner_at w (pipe_from w p)) (owner_at w (pipe_to w p)))
+is_bad_pipe w p =
+    (p.from == p.to)
+    || (not (same_name (owner_at w (pipe_from w p)) (owner_at w (pipe_to w p)))
+    || (multiplexed_at w (pipe_from w p) || multiplexed_at w (pipe_to w p)))
 
 -- two pipes have an end in common
 abbrev pub shares_end : Pipe → Pipe → Bool

@@ -57,6 +57,7 @@ fn copy_segment(alloc: Global, segment: &Segment) -> Result<Segment, Memory>
         name: segment.name,
         owner: segment.owner,
         kbps: segment.kbps,
+        multiplexed: segment.multiplexed,
         ends,
     })
 }

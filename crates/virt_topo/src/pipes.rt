@@ -1,9 +1,9 @@
 // The pipes of a wiring.
-ghost use Rattle.std.specs.Prelude.{◌≡◌, ◌≤◌, [], length, slice_index_or};
+ghost use Rattle.std.specs.Prelude.{◌≡◌, ◌≤◌, false, [], length, slice_index_or};
 ghost use Rattle.std.specs.List.{list_any};
-ghost use Rattle.virt_topo.specs.Ends.{end_nodes, end_owners, end_number};
+ghost use Rattle.virt_topo.specs.Ends.{end_nodes, end_owners, end_multiplexed, end_number};
 ghost use Rattle.virt_topo.specs.Repeats.{stands_again};
-ghost use Rattle.virt_topo.specs.Soundness.{has_bad_pipe, is_bad_pipe, owner_at, shares_end};
+ghost use Rattle.virt_topo.specs.Soundness.{has_bad_pipe, is_bad_pipe, multiplexed_at, owner_at, shares_end};
 
 use crate::{Pipe, Segment, Wiring};
 
@@ -31,12 +31,38 @@ pub fn owner_at(wiring: &Wiring, node: u16, k: u16) -> &[u8]
     }
 }
 
+fn multiplexed_among(segments: &[Segment], end: u16) -> bool
+    ensures { result ≡ slice_index_or (end_multiplexed segments.now) end false }
+{
+    let mut before = end as usize;
+    for segment in segments {
+        if before < segment.ends.len() {
+            return segment.multiplexed;
+        }
+        before -= segment.ends.len();
+    }
+    false
+}
+
+/// Whether the segment of the end of a virtual node that has `k` earlier ones is multiplexed; no where there is none.
+pub fn is_multiplexed_at(wiring: &Wiring, node: u16, k: u16) -> bool
+    requires { length (end_nodes wiring.now.segments) ≤ 65536 }
+    ensures { result ≡ multiplexed_at wiring.now (end_number (end_nodes wiring.now.segments) node k) }
+{
+    match wiring.end(node, k) {
+        Some(end) => multiplexed_among(wiring.segments.as_slice(), end),
+        None => false,
+    }
+}
+
 fn is_bad_pipe(wiring: &Wiring, pipe: &Pipe) -> bool
     requires { length (end_nodes wiring.now.segments) ≤ 65536 }
     ensures { result ≡ is_bad_pipe wiring.now pipe.now }
 {
     pipe.from == pipe.to
         || owner_at(wiring, pipe.node, pipe.from) != owner_at(wiring, pipe.node, pipe.to)
+        || is_multiplexed_at(wiring, pipe.node, pipe.from)
+        || is_multiplexed_at(wiring, pipe.node, pipe.to)
 }
 
 fn have_bad_pipe(wiring: &Wiring, pipes: &[Pipe]) -> bool
@@ -75,7 +101,7 @@ fn repeat_end(pipes: &[Pipe]) -> bool
     false
 }
 
-/// Whether a pipe has one end twice, ends of two owners, or an end of an earlier pipe.
+/// Whether a pipe has one end twice, ends of two owners, an end of a multiplexed segment, or an end of an earlier pipe.
 pub fn has_bad_pipe(wiring: &Wiring) -> bool
     requires { length (end_nodes wiring.now.segments) ≤ 65536 }
     ensures { result ≡ has_bad_pipe wiring.now }

@@ -24,6 +24,8 @@ pub struct AskedLink {
     pub lan: bool,
     /// In each direction.
     pub rates: Rates,
+    /// Whether its ends may share interfaces with those of other such links, where it is not shaped.
+    pub multiplexed: bool,
     /// Two ends of a link, 2 to 254 of a LAN, on different nodes.
     pub ends: Items<VirtEnd>,
 }

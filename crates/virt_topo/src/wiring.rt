@@ -48,11 +48,13 @@ pub struct Segment {
     pub owner: Name,
     /// 1 to 1,000,000,000.
     pub kbps: u64,
+    /// Whether its ends may share interfaces with ends of other such segments.
+    pub multiplexed: bool,
     /// 2 to 256 ends.
     pub ends: Items<VirtEnd>,
 }
 
-/// A pipe of a virtual node, between two of its ends, whose segments have one owner.
+/// A pipe of a virtual node, between two of its ends, whose segments have one owner and are not multiplexed.
 #[derive(Clone, Copy)]
 pub struct Pipe {
     /// The number of its virtual node.

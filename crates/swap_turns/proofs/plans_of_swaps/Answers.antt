@@ -1,7 +1,7 @@
 use Rattle.std.proofs.Common.{◌∙◌}
 use Rattle.journal_rec.specs.declared.record.Way.TheVariants as ways
 use Rattle.swap_txn.specs.States.{unsent}
-use Rattle.swap_turns.proofs.Begins.{moves_in, moves_out, moves_over}
+use Rattle.swap_turns.proofs.Begins.{moves_in, moves_out, moves_over, unsent_over}
 use Rattle.swap_turns.proofs.plans_of_swaps.Goals as goal
 
 pub returns-clause-moves_in : goal.returns-clause-moves_in
@@ -20,4 +20,4 @@ pub returns-clause-plan_out : goal.returns-clause-plan_out
 returns-clause-plan_out c = λ was mapping tags lab plan back forth is plan_is. is ∙ (λ i. unsent was.name ways.Out (plan_is i) back)
 
 pub returns-clause-plan_over : goal.returns-clause-plan_over
-returns-clause-plan_over c = λ was mapping tags wiring other others lab top map plan back forth is plan_is back_is. is ∙ (λ i. unsent was.name (ways.Change top map others) (plan_is i) (back_is i))
+returns-clause-plan_over c = λ was mapping tags wiring other others lab way plan back forth over is plan_is back_is. is ∙ (λ i. unsent was.name way (plan_is i) (back_is i)) ∙ unsent_over was mapping tags wiring other others lab way over

@@ -32,5 +32,5 @@ returns-clause-pours g c =
     let w = c.in_ok-pour_head.ensures.trace in
     let one : (g.P.Plant.seen c.pour_head.new.plant).told ≡ with_steps told (Wrote c.args.side 1 (side_text c.args.epoch (take n c.args.records.now)) ∷ []) =
     w.1 ∙ ap (λ l. with_steps told l) (write_ok c.args.side 1 (side_text c.args.epoch c.split_at.result.0.now) _ _ w.0 w.2 ∙ ap (λ (l : List ℕ). Wrote c.args.side 1 (side_text c.args.epoch l) ∷ []) c.split_at.ensures.front) in
-    pours_joined c.args.side c.args.epoch n c.args.records.now told (g.P.Plant.seen c.pour_head.new.plant).told one c.first_of-size.ensures.within c.first_of-size.ensures.short (g.P.Plant.seen c.pour_rest.new.plant).told (17 + n) c.pour_rest.result refl
+    pours_joined c.args.side c.args.epoch n c.args.records.now told (g.P.Plant.seen c.pour_head.new.plant).told one c.first_of-size.ensures.within c.first_of-size.ensures.short c.first_of-size.ensures.full (g.P.Plant.seen c.pour_rest.new.plant).told (17 + n) c.pour_rest.result refl
     (subst (λ (l : List ℕ). Pours c.args.side (17 + n) l (g.P.Plant.seen c.pour_head.new.plant).told (g.P.Plant.seen c.pour_rest.new.plant).told c.pour_rest.result) c.split_at.ensures.back c.pour_rest.ensures.pours)

@@ -8,7 +8,7 @@ use Rattle.plant.specs.Told.{with_steps}
 use Rattle.journal_disk.specs.Compacting.{poured}
 use Rattle.journal_disk.proofs.Chains.{chain, write_ok}
 use Rattle.journal_disk.proofs.Walking.{slice}
-use Rattle.journal_disk.proofs.PourLaws.{joined, pushed, pieces_push, joined_length, wrote_long, pours_left}
+use Rattle.journal_disk.proofs.PourLaws.{joined, pushed, still_full, pieces_push, filled_push, joined_length, wrote_long, pours_left}
 use Rattle.journal_disk.proofs.pouring.pour_rest.Goals as goal
 
 pub returns-in_err-write-clause-pours : goal.returns-in_err-write-clause-pours
@@ -34,6 +34,7 @@ loop-done-preserved g c =
     let at = c.args.at in
     let long = take (done + size - done) (drop done bytes) in
     let piece = take size (drop done bytes) in
+    let all = still_full bytes done so.0 c.loop-done-test.true so.3 in
     let place : at + done ≡ at + length (joined so.0) = ap (λ n. at + n) (sym (joined_length bytes done so.0 c.loop-done.invariant.within so.1)) in
     let within : done + size ≤ length bytes = omega (arith, c.piece_of-size.ensures.within, c.loop-done-test.true) in
     let steps : w.0 ≡ Wrote side (at + done) piece ∷ [] = write_ok side (at + done) long _ _ w.0 w.2 ∙ ap (λ (l : List ℕ). Wrote side (at + done) l ∷ []) (slice bytes done size) in
@@ -44,8 +45,9 @@ loop-done-preserved g c =
       within = within;
       so_far = (
         so.0 ++ piece ∷ [],
-        pieces_push bytes done size so.0 so.1 within c.piece_of-size.ensures.piece,
+        pieces_push bytes done size so.0 so.1 within c.piece_of-size.ensures.some c.piece_of-size.ensures.piece all,
         chain (g.P.Plant.seen c.args.plant.now).told (g.P.Plant.seen c.loop-done.plant).told (g.P.Plant.seen c.write.new.self).told (poured side at so.0) (Wrote side (at + done) piece ∷ []) (poured side at (so.0 ++ piece ∷ [])) so.2 now (pushed side at (at + done) so.0 piece place),
+        filled_push bytes done size so.0 within c.piece_of-size.ensures.full all,
       );
       room = subst (λ n. IfSome (g.P.Plant.seen c.write.new.self).told (λ t. n ≤ length (disk side t.trace).reads)) (same at done size (length piece) sized) room;
       later = omega (arith, c.loop-done.invariant.later, c.in_ok-write.ensures.cause.later);

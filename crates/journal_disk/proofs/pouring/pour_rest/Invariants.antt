@@ -3,12 +3,13 @@ use Rattle.std.specs.Prelude.{IfSome, IsTrue}
 use Rattle.plant.specs.Disks.{disk}
 use Rattle.plant.specs.Told.{with_steps}
 use Rattle.journal_disk.specs.Compacting.{ArePieces, poured}
+use Rattle.journal_disk.proofs.PourLaws.{IsFilled}
 use Rattle.journal_disk.proofs.pouring.pour_rest.Given as goal
 
 abbrev pub invariant-loop-done : goal.invariant-loop-done
 invariant-loop-done g l = record {
   within : l.done ≤ length l.bytes;
-  so_far : (pieces : List (List ℕ)) × ArePieces (take l.done l.bytes) pieces × ((g.P.Plant.seen l.plant).told ≡ with_steps (g.P.Plant.seen l.fn.plant).told (poured l.side l.at pieces));
+  so_far : (pieces : List (List ℕ)) × ArePieces (take l.done l.bytes) pieces × ((g.P.Plant.seen l.plant).told ≡ with_steps (g.P.Plant.seen l.fn.plant).told (poured l.side l.at pieces)) × IsFilled l.bytes l.done pieces;
   room : IfSome (g.P.Plant.seen l.plant).told (λ t. l.at + l.done ≤ length (disk l.side t.trace).reads);
   later : (g.P.Plant.seen l.fn.plant).faults.disk ≤ (g.P.Plant.seen l.plant).faults.disk;
   devices : (g.P.Plant.seen l.plant).faults.devices ≡ (g.P.Plant.seen l.fn.plant).faults.devices;

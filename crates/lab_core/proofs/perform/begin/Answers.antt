@@ -63,7 +63,7 @@ returns-in-Ok-open_swap g c = λ opens devices within works.
     let begin = Begin c.args.exp c.args.way in
     let same = c.prepare_swap.ensures.unchanged in
     let space : nat_le (length_of j + length ready.planned.begin + 10240) (limit_of j) ≡ true = sym (ap (λ (n : ℕ). nat_le (length_of j + n + 10240) (limit_of j)) c.size.ensures) ∙ (sym c.has_space.ensures.space ∙ c.if-not-has_space.false) in
-    let plans : IsPlanned s (after s ready.prepared) j ready.planned by.swap begin by.move = planned s (after s ready.prepared) j ready.planned c.args.exp c.args.way c.args.ops.commands c.args.ops.undo by c.requires.record e.follows e.body e.forth space c.has_space.ensures.most in
+    let plans : IsPlanned s (after s ready.prepared) j ready.planned by.swap begin by.move = planned s (after s ready.prepared) j ready.planned c.args.exp c.args.way c.args.ops.commands c.args.ops.undo by c.requires.record e.follows e.body e.forth space c.has_space.ensures.most c.prepare_swap.ensures.sane in
     let here = c.in-Ok-open_swap.ensures.begun works.pairs by.swap begin by.move (subst (λ (x : LabState). Working the_texts (g.P.Plant.seen c.args.plant.now).told j x works.pairs) (sym same) works.working) works.holds
     (subst (λ (x : LabState). IsPlanned x (after x ready.prepared) j ready.planned by.swap begin by.move) (sym same) plans) in
     let opened = subst (λ (x : LabState). HasOpened the_texts works.pairs by.swap x (after x ready.prepared) begin by.move (g.P.Plant.seen c.args.plant.now) (g.P.Plant.seen c.open_swap.new.plant) j new.journal new.swaps) same here in
@@ -85,7 +85,7 @@ returns-in-Err g c = λ opens devices within works.
     let same = c.prepare_swap.ensures.unchanged in
     let fault = c.in-Err.fault in
     let space : nat_le (length_of j + length ready.planned.begin + 10240) (limit_of j) ≡ true = sym (ap (λ (n : ℕ). nat_le (length_of j + n + 10240) (limit_of j)) c.size.ensures) ∙ (sym c.has_space.ensures.space ∙ c.if-not-has_space.false) in
-    let plans : IsPlanned s (after s ready.prepared) j ready.planned by.swap begin by.move = planned s (after s ready.prepared) j ready.planned c.args.exp c.args.way c.args.ops.commands c.args.ops.undo by c.requires.record e.follows e.body e.forth space c.has_space.ensures.most in
+    let plans : IsPlanned s (after s ready.prepared) j ready.planned by.swap begin by.move = planned s (after s ready.prepared) j ready.planned c.args.exp c.args.way c.args.ops.commands c.args.ops.undo by c.requires.record e.follows e.body e.forth space c.has_space.ensures.most c.prepare_swap.ensures.sane in
     let here = c.in-Err.ensures.begun works.pairs by.swap begin by.move (subst (λ (x : LabState). Working the_texts (g.P.Plant.seen c.args.plant.now).told j x works.pairs) (sym same) works.working) works.holds
     (subst (λ (x : LabState). IsPlanned x (after x ready.prepared) j ready.planned by.swap begin by.move) (sym same) plans) in
     let unopened = subst (λ (x : LabState). IsAfterOpening the_texts works.pairs by.swap x (after x ready.prepared) begin by.move (g.P.Plant.seen c.args.plant.now) (g.P.Plant.seen c.open_swap.new.plant) j new.journal new.swaps (Err fault)) same here in

@@ -17,4 +17,5 @@ loop-at-preserved g c =
       within = omega (arith, e.bound, ap length rest, length-drop at bytes);
       wrote = e.wrote ∙ ap (λ r. append_known (g.K.Sink.written c.loop-at.sink) (take n r)) rest ∙ ap (λ k. append_known k (take n (drop at bytes))) c.loop-at.invariant.wrote ∙ append_known-append known (take at bytes) (take n (drop at bytes)) ∙ ap (append_known known) (sym (take-add at n bytes));
       later = omega (arith, e.cause.later);
+      stands = e.cause.stands ∙ c.loop-at.invariant.stands;
     }

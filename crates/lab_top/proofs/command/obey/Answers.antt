@@ -1,5 +1,5 @@
 use Rattle.std.proofs.Common.{arith, [], None, sym, ◌∙◌, ◌≡◌, Some, Err}
-use Rattle.lab_top.proofs.Obeyed.{closed_from, ends_open, ends_opened, ends_unopened, goes_closed, later_same, may_open, rose_same, rose_since, runs_if}
+use Rattle.lab_top.proofs.Obeyed.{closed_from, ends_open, ends_opened, ends_unopened, goes_closed, halts_if, later_same, may_open, rose_same, rose_since, runs_if}
 use Rattle.lab_top.proofs.command.obey.Goals as goal
 
 pub obey_open-requires-clause-open : goal.obey_open-requires-clause-open
@@ -32,4 +32,4 @@ returns-in-Err g c = λ from goes.
     let u = c.unopened.ensures in
     closed_from _ c.args.command.now _ _ from _ is goes
     (rw (is, c.take.ensures.after) (ends_unopened _ c.args.command.now c.requires.no_drill (g.P.Plant.seen c.args.plant.now) _ (g.P.Plant.seen c.open.new.plant).told c.in-Err.fault e.steps (g.met.P.Plant.reads_possible c.args.plant.now)
-    (g.met.P.Plant.reads_possible c.open.new.plant) (later_same _ _ _ e.later.disk e.later.devices u.faults) (goes_closed _) c.unopened.result u.unopened (λ it. rose_same _ _ _ (e.plant (λ i. Err (it i))) u.faults) (runs_if _ _ u.runs) u.bad))
+    (g.met.P.Plant.reads_possible c.open.new.plant) (later_same _ _ _ e.later.disk e.later.devices u.faults) (goes_closed _) c.unopened.result u.unopened (λ it. rose_same _ _ _ (e.plant (λ i. Err (it i))) u.faults) (runs_if _ _ u.runs) u.bad (λ is. halts_if c.unopened.result _ (u.halts is))))

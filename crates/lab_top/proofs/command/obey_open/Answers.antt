@@ -1,6 +1,6 @@
 use Rattle.std.proofs.Common.{false, ◌≡◌, ◌∙◌, refl, arith}
 use Rattle.script_text.specs.Replies.{closes}
-use Rattle.lab_top.proofs.Obeyed.{later_same, makes_not, makes_off, makes_on, makes_stopped, ok_runs}
+use Rattle.lab_top.proofs.Obeyed.{later_same, makes_not, makes_off, makes_on, halts_if, makes_stopped, ok_runs}
 use Rattle.lab_top.proofs.command.obey_open.Goals.{then-not-closes, else-not-closes}
 use Rattle.lab_top.proofs.command.obey_open.Goals as goal
 
@@ -26,7 +26,7 @@ returns-in-Err-Stopped-clause-makes g c = λ mark swaps at is.
     let old = g.P.Plant.seen c.args.plant.now in
     let mid = g.P.Plant.seen c.obey.new.plant in
     rw c.requires.taken (makes_stopped _ mark old mid c.args.command.now c.requires.no_drill c.args.opened c.obey.new.self swaps _ c.start_again.result o c.start_again.ensures.starts
-    (g.met.P.Plant.reads_possible c.obey.new.plant))
+    (g.met.P.Plant.reads_possible c.obey.new.plant) (halts_if c.start_again.result _ c.start_again.ensures.halts))
 
 pub returns-clause-makes : goal.returns-clause-makes
 returns-clause-makes g c = λ mark swaps at is.

@@ -70,7 +70,7 @@ pub returns-in-Err-Memory-clause-ran : goal.returns-in-Err-Memory-clause-ran
 returns-in-Err-Memory-clause-ran g c =
     let was = c.commands.invariant.going in
     let now = stand_of c.commands.reader (g.S.Source.left c.commands.source) in
-    (was.0, begun_ran _ _ _ _ _ _ _ Memory was.0 (going_ends _ _ _ _ _ was.0 was.1 Memory (λ t. tt) (λ runs. tt) (λ all. inl all) (λ wrote. wrote)) (λ bytes is. first_begun bytes now (commands_of was.0) (was.2 bytes is)) (λ is. absurd (cc is)), λ is. absurd (cc is))
+    (was.0, begun_ran _ _ _ _ _ _ _ Memory was.0 (going_ends _ _ _ _ _ was.0 was.1 Memory (λ t runs. inl was.1.answered) (λ runs. tt) (λ all. inl all) (λ wrote. wrote)) (λ bytes is. first_begun bytes now (commands_of was.0) (was.2 bytes is)) (λ is. absurd (cc is)), λ is. absurd (cc is))
 
 pub commands-preserved : goal.commands-preserved
 commands-preserved g c =

@@ -1,13 +1,23 @@
 use Rattle.journal_runs.proofs.Blank.{nothing_sound}
 use Rattle.lab_state.specs.Texts.{the_texts}
+use Rattle.lab_top.proofs.Moving.{moves_first}
 use Rattle.lab_top.proofs.RunLaws.{are_kept, stops_told, swapped_in, undrilled_told}
+use Rattle.lab_top.proofs.Answers.{inside_told, stays_told}
+use Rattle.lab_top.proofs.Scripts.{script_once}
 use Rattle.lab_top.proofs.laws.runs.Goals as goal
 
 pub returns-clause-solutions : goal.returns-clause-solutions
-returns-clause-solutions c = λ terms choices old new status before after b t only_begin exp text lines reply r told sound asks replied. swapped_in terms choices old new status before after b t r told sound only_begin exp text lines reply asks replied
+returns-clause-solutions c = λ terms choices old new status before after b t only_begin exp text lines reply r told sound asks replied.
+    swapped_in terms choices old new status before after b t r told sound (moves_first terms choices old new status before after b t r told sound) only_begin exp text lines reply asks replied
 
 pub returns-clause-kept : goal.returns-clause-kept
-returns-clause-kept c = λ terms choices old new status before middle after t e r told sound rests have all others. are_kept terms choices old new status before middle after t e r told sound rests have all others
+returns-clause-kept c = λ terms choices old new status before middle after t e r told sound rests have others. are_kept terms choices old new status before middle after t e r told sound rests have others
+
+pub returns-clause-answered : goal.returns-clause-answered
+returns-clause-answered c = λ terms choices old new status before middle after b t reply r told sound replied. stays_told terms choices old new status before middle after b t r told sound reply replied
+
+pub returns-clause-inside : goal.returns-clause-inside
+returns-clause-inside c = λ terms choices old new status before after b t exp text lines r told sound asks replied. inside_told terms choices old new status before after b t r told sound exp text lines asks replied
 
 pub returns-clause-stops : goal.returns-clause-stops
 returns-clause-stops c = λ terms choices old new status before after b t reply r told replied. stops_told terms choices old new status before after b t r told reply replied
@@ -17,3 +27,6 @@ returns-clause-undrilled c = λ terms choices old new status before after b t re
 
 pub returns-clause-blank : goal.returns-clause-blank
 returns-clause-blank c = nothing_sound the_texts
+
+pub returns-clause-script : goal.returns-clause-script
+returns-clause-script c = λ bytes a b x y p q. script_once bytes a b x y p q

@@ -1,3 +1,5 @@
+use Rattle.lab_top.proofs.Ended.{ended_inside}
+use Rattle.lab_top.proofs.Moving.{moves_at}
 use Rattle.lab_top.proofs.TurnLaws.{few_open, marked_at, moving_kept, sends_one, swaps_kept, turned_alone, world_kept}
 use Rattle.lab_top.proofs.laws.turns.Goals as goal
 
@@ -6,6 +8,13 @@ returns-clause-swaps c = λ terms choices old new status before middle after t n
 
 pub returns-clause-kept : goal.returns-clause-kept
 returns-clause-kept c = λ terms choices old new status before middle after t e swap r told sound there have open_now others. moving_kept terms choices old new status before middle after t r told e swap sound there have open_now others
+
+pub returns-clause-moves : goal.returns-clause-moves
+returns-clause-moves c = λ terms choices old new status before after t s swap r told at there. moves_at terms choices old new status before after t r told s at swap there
+
+pub returns-clause-ended : goal.returns-clause-ended
+returns-clause-ended c = λ terms choices old new status before middle after b c t exp text lines r told sound asks more on turns inside.
+    ended_inside terms choices old new status before middle after b c t r told sound exp text lines asks more on turns inside
 
 pub returns-clause-turned : goal.returns-clause-turned
 returns-clause-turned c = λ terms choices old new status before after b t exp reply r told asks replied goes runs open_now.

@@ -2,8 +2,11 @@ use Rattle.std.proofs.Common.{◌<◌, ◌∙◌, ◌++◌, ℕ, List, length, B
 use Rattle.lab_base.specs.declared.ids.IfaceId.{IfaceId}
 use Rattle.trunk_sums.specs.declared.sums.EndRow.{EndRow}
 use Rattle.map_board.specs.Nodes.{is_on, changes_of}
-use Rattle.map_board.proofs.BoardLaws.{numbers_in, listed_given, listed_count}
+use Rattle.map_board.proofs.BoardLaws.{numbers_in, listed_given, listed_count, listed_ordered}
 use Rattle.map_board.proofs.give.serve_noted.Goals as goal
+
+pub serve_listed-requires-clause-ordered : goal.serve_listed-requires-clause-ordered
+serve_listed-requires-clause-ordered c = listed_ordered c.args.setting.now c.args.places.now c.args.node.0 c.args.listed.now c.requires.setting c.requires.listed
 
 pub serve_listed-requires-clause-within : goal.serve_listed-requires-clause-within
 serve_listed-requires-clause-within c =

@@ -1,10 +1,14 @@
-use Rattle.std.proofs.Common.{◌≡◌, [], drop}
+use Rattle.std.proofs.Common.{◌≡◌, ◌≤◌, ◌<◌, ℕ, List, [], length, drop, get_or, All}
+use Rattle.lab_model.specs.Rules.{Laid}
+use Rattle.node_maps.specs.declared.ends.End.{End}
 use Rattle.node_maps.specs.Indexed.{Marks}
-use Rattle.node_maps.specs.NodeMaps.{plugs_from}
+use Rattle.node_maps.specs.NodeMaps.{laid_from}
 use Rattle.node_maps.proofs.ifaces.serve.Given as goal
 
 abbrev pub invariant-loop-end : goal.invariant-loop-end
 invariant-loop-end l = record {
-  marks : Marks l.lab l.given.taken.items l.given.plugs;
-  rest : plugs_from l.lab l.places (drop l.end-index l.ends) l.given.plugs ≡ plugs_from l.lab l.places l.ends [];
+  had : List Laid;
+  marks : Marks l.lab l.given had;
+  rest : laid_from l.lab l.places (drop l.end-index l.ends) had ≡ laid_from l.lab l.places l.ends [];
+  rising : (k : ℕ) (d : End) → l.end-index ≤ k → k < length l.ends → All (λ (x : Laid). x.0.segment ≤ (get_or l.ends k d).segment) had;
 }

@@ -1,7 +1,10 @@
-use Rattle.std.proofs.Common.{arith}
+use Rattle.std.proofs.Common.{length-take-le, arith}
 use Rattle.std.proofs.lemmas.Result.{err_from_is_err_and}
 use Rattle.ns_build.proofs.Meanings.{stopped, ended, failed, too_long, no_memory}
 use Rattle.ns_build.proofs.asked.read_ns.Goals as goal
+
+pub line_of-requires : goal.line_of-requires
+line_of-requires c = omega (arith, length-take-le 65537 c.args.text.now (omega (arith, c.if-text-gt-MAX_TEXT.true)))
 
 pub returns-then-text-gt-MAX_TEXT-clause-meaning : goal.returns-then-text-gt-MAX_TEXT-clause-meaning
 returns-then-text-gt-MAX_TEXT-clause-meaning c = rw c.refused.ensures (too_long c.args.text.now c.line_of.result c.if-text-gt-MAX_TEXT.true c.line_of.ensures)

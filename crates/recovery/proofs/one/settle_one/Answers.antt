@@ -1,4 +1,4 @@
-use Rattle.std.proofs.Common.{Err, ap, ◌∙◌}
+use Rattle.std.proofs.Common.{Err, inl, inr, ap, ◌∙◌}
 use Rattle.std.proofs.lemmas.Result.{err_from_is_err_and}
 use Rattle.lab_state.specs.Texts.{the_texts}
 use Rattle.recovery.proofs.Settling.{answered_as, answer_stops, answer_of_memory, later_as, later_same, memory_stops}
@@ -37,3 +37,12 @@ returns-clause-later g c =
     later_as the_texts c.args.state.now.state m.swap (g.P.Plant.seen c.args.plant.now) (g.P.Plant.seen c.turned_to_end.new.plant) c.turned_to_end.new.journal c.turned_to_end.new.state.state c.answer.result
     (answered_as the_texts c.args.state.now.state m.swap _ _ c.turned_to_end.new.journal c.turned_to_end.new.state.state c.in_ok-finished.finished c.answer.result (c.in_ok-finished.ensures.over m.swap m.name m.moves) c.answer.ensures)
     (λ h. absurd (answer_of_memory c.in_ok-finished.finished c.answer.result c.answer.ensures h))
+
+pub returns-in_err-finished-clause-stops : goal.returns-in_err-finished-clause-stops
+returns-in_err-finished-clause-stops g c = let p = err_from_is_err_and c.from_residual.result c.from_residual.ensures.1 in inl (p.1 ∙ ap (λ e. Err e) p.2)
+
+pub returns-clause-stops : goal.returns-clause-stops
+returns-clause-stops g c =
+    let told = answer_stops c.in_ok-finished.finished c.answer.result c.answer.ensures in
+    let stops = c.in_ok-finished.ensures.stopped in
+    inr ((λ h. stops.0 (told.1 h)), (λ h. told.0 (stops.1 h)))

@@ -26,7 +26,7 @@ returns-then-not-yes-clause-none c = λ is.
     let x = c.args.setting.now in
     let places = c.args.self.now.mapping.places in
     sym (no_plugs x.mapper.lab.now x.mapper.free.now x.mapper.wiring.now places
-    (ap (λ (l : List End). plugs_from x.mapper.lab.now places l []) (sym c.requires.setting.mapper.ends)
+    (ap (λ (l : List End). plugs_from x.mapper.lab.now places l) (sym c.requires.setting.mapper.ends)
     ∙ none_given x.mapper.lab.now places x.mapper.ends.now c.args.node.0 (placed_ends x places c.requires.setting c.requires.laid.shaped.places) (c.in_ok-yes.ensures.none c.if-not-yes.true)))
 
 pub returns-clause-settled : goal.returns-clause-settled

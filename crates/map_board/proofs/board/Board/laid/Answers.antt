@@ -28,5 +28,5 @@ returns-clause-laid c =
       shaped = subst (λ (y : Mapping). IsShaped x.lab.now x.wiring.now y) same c.requires.shaped;
       seated = c.in_ok-seats.ensures;
       summed = c.in_ok-sums.ensures;
-      idle = record { marks = c.in_ok-given.ensures.marks; none = c.in_ok-given.ensures.none };
+      idle = record { marks = c.in_ok-given.ensures };
     }

@@ -9,12 +9,12 @@ pub returns-then-not-yes-clause-none : goal.returns-then-not-yes-clause-none
 returns-then-not-yes-clause-none c = λ is.
     let x = c.args.setting.now in
     let places = c.args.self.now.mapping.places in
-    ap (λ (l : List End). plugs_from x.mapper.lab.now places l []) (sym c.requires.setting.mapper.ends)
+    ap (λ (l : List End). plugs_from x.mapper.lab.now places l) (sym c.requires.setting.mapper.ends)
     ∙ none_given x.mapper.lab.now places x.mapper.ends.now c.args.first.0.0 (placed_ends x places c.requires.setting c.requires.laid.shaped.places) (c.in_ok-yes.ensures.none c.if-not-yes.true)
 
 pub returns-clause-none : goal.returns-clause-none
 returns-clause-none c = λ is.
     let x = c.args.setting.now in
     let places = c.args.self.now.mapping.places in
-    ap (λ (l : List End). plugs_from x.mapper.lab.now places l []) (sym c.requires.setting.mapper.ends)
+    ap (λ (l : List End). plugs_from x.mapper.lab.now places l) (sym c.requires.setting.mapper.ends)
     ∙ none_given x.mapper.lab.now places x.mapper.ends.now c.args.second.0.0 (placed_ends x places c.requires.setting c.requires.laid.shaped.places) (c.in_ok-both.ensures.none is)

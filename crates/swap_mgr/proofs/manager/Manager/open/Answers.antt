@@ -1,10 +1,12 @@
 use Rattle.std.proofs.Common.{sym, ap, ◌∙◌, subst}
 use Rattle.swap_txn.specs.States.{View}
+use Rattle.swap_txn.specs.Facts.{exp_of}
+use Rattle.swap_txn.specs.declared.live.Live.{Live}
 use Rattle.plant.specs.Seen.{Seen}
 use Rattle.swap_turns.specs.Beginning.{IsAfterBegin}
 use Rattle.swap_turns.proofs.Beginning.{begin_after}
 use Rattle.swap_mgr.specs.Open.{HasOpen}
-use Rattle.swap_mgr.proofs.Holding.{IsBegunAs, begun_as, opened_one}
+use Rattle.swap_mgr.proofs.Holding.{IsBegunAs, begun_as, stuck_as, opened_one}
 use Rattle.swap_mgr.proofs.manager.Manager.open.Goals as goal
 
 pub returns-in-Next-clause-begun : goal.returns-in-Next-clause-begun
@@ -32,3 +34,18 @@ returns-in-Stopped-clause-begun g c = λ t s u opens p begin move working holds 
     let now : Seen = (g.P.Plant.seen c.turn.new.plant) in
     subst (λ x. IsAfterBegin t p s u begin move was now c.args.journal.now c.turn.new.journal x) c.in-Stopped.is
     (begin_after t p s u begin move was now c.args.journal.now c.turn.new.journal c.args.planned c.turn.result working.work may of_it moves plan (c.turn.ensures.begins begin body))
+
+pub returns-in-Next-clause-held : goal.returns-in-Next-clause-held
+returns-in-Next-clause-held g c =
+    let entry = c.exp-exp.ensures.begin in
+    let state = subst (λ x. IsBegunAs c.args.planned x) c.in-Next.is (begun_as c.args.planned entry.0 (g.P.Plant.seen c.args.plant.now) (g.P.Plant.seen c.turn.new.plant) c.args.journal.now c.turn.new.journal c.turn.result (c.turn.ensures.begins entry.0 entry.1)) in
+    (c.in-Next.live, c.put.ensures, ap (λ (x : Live). exp_of x) state)
+
+pub returns-in-Stuck-clause-stuck : goal.returns-in-Stuck-clause-stuck
+returns-in-Stuck-clause-stuck g c = λ what is.
+    let entry = c.exp-exp.ensures.begin in
+    let begins = c.turn.ensures.begins entry.0 entry.1 in
+    let was : Seen = (g.P.Plant.seen c.args.plant.now) in
+    let now : Seen = (g.P.Plant.seen c.turn.new.plant) in
+    let of_journal = subst (λ x. IsBegunAs c.args.planned x) c.in-Stuck.is (begun_as c.args.planned entry.0 was now c.args.journal.now c.turn.new.journal c.turn.result begins) in
+    (cc (is, of_journal), stuck_as c.args.planned entry.0 was now c.args.journal.now c.turn.new.journal c.turn.result _ _ begins c.in-Stuck.is)

@@ -1,0 +1,14 @@
+mod Continued
+mod CutShows
+mod GoingWell
+mod JudgedUncut
+mod OpenUncut
+mod OtherSettlings
+mod OtherSwaps
+mod OwnCommands
+mod Room
+mod RunCourses
+mod Runs
+mod StepUncut
+mod WholeRuns
+mod Worked

@@ -1,0 +1,89 @@
+-- Completeness of a run, from what the run says alone.
+use Rattle.std.specs.Prelude.{IfSome}
+use Rattle.std.proofs.Common.{◌≡◌, ◌⊎◌, ℕ, ◌+◌, ◌^◌, List, [], ◌∷◌, ◌++◌, append_assoc, Option, Some, None, refl, sym, ◌∙◌, ap, subst, arith}
+use Rattle.std.proofs.lemmas.List.{append-nil}
+use Rattle.lab_base.specs.Lists.{Has}
+use Rattle.records_model.specs.Labs.{LabState}
+use Rattle.plant.specs.Disks.{disk, ArePossible}
+use Rattle.plant.specs.Events.{Event}
+use Rattle.plant.specs.Told.{Told}
+use Rattle.plant.specs.declared.drill.Drill.{Drill}
+use Rattle.plant.specs.declared.step.Side.{Side}
+use Rattle.plant.specs.declared.step.Side.TheVariants.{A, B}
+use Rattle.journal_model.specs.Journals.{gate_after, journal_length, size_of}
+use Rattle.journal_runs.proofs.Stood.{sound_follows, sound_not_bad, sound_room, stood_once}
+use Rattle.records_model.specs.Works.{IsSound}
+use Rattle.lab_state.specs.Texts.{the_texts}
+use Rattle.lab_state.proofs.Canonical.{texts_once}
+use Rattle.lab_core.specs.Moments.{IsLabAt, IsNoJournal, bad, cannot_follow, no_room}
+use Rattle.lab_core.specs.Sessions.{OpenSwap, Closed, Terms}
+use Rattle.lab_core.specs.Tells.{opens_of}
+use Rattle.lab_top.specs.declared.status.Status.{Status}
+use Rattle.lab_top.specs.declared.status.Status.TheVariants.{Done, Memory}
+use Rattle.lab_top.specs.Pieces.{Begun, ArePieces, IsPiece, session_after, steps_of, trace_after, with_drill_if, with_pieces, planned_of}
+use Rattle.lab_top.specs.Ran.{EndsSo, LastFindsNone, Outside, Ran}
+use Rattle.lab_words.specs.Words.{Choices}
+use Rattle.complete.specs.Complete.{AllGoesWell, AreStepsOf, IsComplete}
+use Rattle.complete.specs.OpenCourses.{IsCourse, steps_in}
+use Rattle.complete.proofs.Runs.{complete}
+use Rattle.complete.proofs.RunCourses.{StandOnce, all_safe, going_after}
+
+stand_once : StandOnce
+stand_once trace s u x y = stood_once the_texts _ _ s u texts_once x y
+
+-- over a sound trace the sides are a journal
+sides_read : (trace : List Event) (side : Side) (at : ℕ) → ArePossible trace (disk A trace).reads (disk B trace).reads → IsSound the_texts trace → IsNoJournal (disk A trace).reads (disk B trace).reads (2 ^ 32) side at → ⊥
+sides_read trace side at possible sound (bad is) = sound_not_bad the_texts trace _ _ side at possible sound is
+sides_read trace side at possible sound (cannot_follow rs n read on stops is) = sound_follows the_texts trace _ _ rs n possible sound texts_once read stops
+sides_read trace side at possible sound (no_room rs s read on lab less is) =
+    let size : journal_length (disk A trace).reads (disk B trace).reads rs ≡ gate_after rs + 1 = ap (λ l. size_of l rs) on in
+    let room = sound_room the_texts trace _ _ rs s possible sound texts_once read lab in
+    omega (arith, size, room, less)
+
+piece_at : (terms : Terms) (trace : List Event) (before after : List Begun) (b : Begun) → ArePieces terms trace (before ++ b ∷ after) → IsSound the_texts trace → IsPiece terms (trace_after trace before) b.piece × IsSound the_texts (trace_after trace before)
+piece_at terms trace [] after b are sound = (are.0, sound)
+piece_at terms trace (x ∷ before) after b are sound = piece_at terms (trace ++ steps_of x.piece) before after b are.1 (are.0.done sound).sound
+
+not_bad : (terms : Terms) (trace : List Event) (made : List Begun) (side : Side) (at : ℕ) → ArePieces terms trace made → IsSound the_texts trace → LastFindsNone trace made side at → ⊥
+not_bad terms trace made side at are sound l =
+    let here = piece_at terms trace l.before [] l.last (subst (λ m. ArePieces terms trace m) l.made_are are) sound in
+    sides_read (trace_after trace l.before) side at here.0.readable here.1 l.finds.no_journal
+
+-- the trace of what a plant tells grew by the run's steps
+drilled : (t : Told) (o : Option Drill) → (u : Told) × (with_drill_if (Some t) o ≡ Some u) × (u.trace ≡ t.trace)
+drilled t None = (t, refl, refl)
+drilled t (Some drill) = (_, refl, refl)
+
+grown : (t : Told) (made : List Begun) → (u : Told) × (with_pieces (Some t) made ≡ Some u) × (u.trace ≡ t.trace ++ steps_in made)
+grown t [] = (t, refl, sym (append-nil t.trace))
+grown t (b ∷ made) =
+    let d = drilled (record { trace = t.trace ++ steps_of b.piece; marks = _; drills = t.drills }) (planned_of b) in
+    let g = grown d.0 made in
+    (g.0, ap (λ o. with_pieces o made) d.1 ∙ g.1, g.2 ∙ ap (λ l. l ++ steps_in made) d.2 ∙ append_assoc t.trace (steps_of b.piece) (steps_in made))
+
+same_told : (u v : Told) → Some u ≡ Some v → u ≡ v
+same_told u v is = cc is
+
+left_same : (a b c : List Event) → a ++ b ≡ a ++ c → b ≡ c
+left_same [] b c is = is
+left_same (x ∷ a) b c is = left_same a b c (cc is)
+
+pub whole : (terms : Terms) (choices : Option Choices) (old new : Outside) (status : Status) (made : List Begun) (t : Told) (steps : List Event) → Ran terms choices old new status made → old.plant.told ≡ Some t → IsSound the_texts t.trace
+    → AreStepsOf t new.plant.told steps → AllGoesWell choices old status steps → (status ≡ Memory) ⊎ ((status ≡ Done) × IsComplete choices old new t.trace made)
+whole terms choices old new status made t steps ran is sound grew well =
+    let are = subst (λ (o : Option Told). IfSome o (λ u. ArePieces terms u.trace made)) is ran.pieces in
+    let g = grown t made in
+    let now : new.plant.told ≡ Some g.0 = ran.told ∙ ap (λ o. with_pieces o made) is ∙ g.1 in
+    let same : steps ≡ steps_in made = left_same t.trace steps (steps_in made) (sym (grew g.0 now) ∙ g.2) in
+    let goes = subst (λ l. AllGoesWell choices old status l) same well in
+    complete terms choices old new made t is sound
+    (all_safe terms stand_once [] made t.trace Closed are ran.sessions tt goes.plant (λ s at o none. absurd none))
+    status ran goes
+    (λ side at bad_is. not_bad terms t.trace made side at are sound (subst (λ x. EndsSo terms t.trace made x new.plant.stopped) bad_is (subst (λ (o : Option Told). IfSome o (λ u. EndsSo terms u.trace made status new.plant.stopped)) is ran.ends)))
+
+-- the course of an open swap
+pub course_of : (terms : Terms) (choices : Option Choices) (old new : Outside) (status : Status) (before after : List Begun) (t : Told) (s : LabState) (o : OpenSwap) → Ran terms choices old new status (before ++ after) → old.plant.told ≡ Some t
+    → IsLabAt (trace_after t.trace before) s → Has (opens_of (session_after Closed before)) o → IsCourse before s o.running
+course_of terms choices old new status before after t s o ran is at has =
+    let are = subst (λ (x : Option Told). IfSome x (λ u. ArePieces terms u.trace (before ++ after))) is ran.pieces in
+    (going_after terms stand_once [] before after t.trace Closed are ran.sessions tt (λ u there q none. absurd none) s at o has).course

@@ -1,0 +1,4 @@
+pub mod Booted
+pub mod Complete
+pub mod Full
+pub mod OpenCourses

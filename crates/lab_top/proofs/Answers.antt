@@ -1,0 +1,151 @@
+-- What was answered stays so; and what an untroubled opening leaves.
+use Rattle.std.specs.Prelude.{count_by}
+use Rattle.std.proofs.Common.{◌≡◌, ℕ, ◌^◌, Bool, true, false, List, [], ◌∷◌, ◌++◌, Option, Some, None, refl, sym, ◌∙◌, ap, subst}
+use Rattle.plant.specs.Events.{Event}
+use Rattle.plant.specs.Told.{Told}
+use Rattle.virt_topo.specs.declared.experiment.Experiment.{Experiment}
+use Rattle.virt_topo.specs.declared.experiment.Phase.{Phase}
+use Rattle.virt_topo.specs.declared.experiment.Phase.TheVariants as phases
+use Rattle.lab_model.specs.Sound.{is_moving}
+use Rattle.records_model.specs.Labs.{LabState, find, in_phase, is_out}
+use Rattle.records_model.specs.Works.{IsSound}
+use Rattle.records_model.proofs.Finding.{found_from}
+use Rattle.records_model.proofs.LabLaws.{lab_sane}
+use Rattle.lab_state.specs.Texts.{the_texts}
+use Rattle.recovery.specs.Settle.{is_stuck}
+use Rattle.script_text.specs.declared.reply.FailedEnd.TheVariants as ends
+use Rattle.script_text.specs.declared.reply.Reply.{Reply}
+use Rattle.script_text.specs.declared.reply.Reply.TheVariants as replies
+use Rattle.plant.specs.Disks.{ArePossible}
+use Rattle.recovery.specs.Due.{swaps_of}
+use Rattle.lab_core.specs.Recovery.{EndedIn}
+use Rattle.lab_core.proofs.Beside.{beside_rests}
+use Rattle.lab_core.specs.Moments.{IsLabAt, AllStandFor, StandForLab}
+use Rattle.plant.specs.declared.drill.Drill.{Drill}
+use Rattle.script_text.specs.Drills.{drill_of}
+use Rattle.lab_core.specs.Tells.{IsAtRest, IsInBy, IsThere, TellsPlace, is_in, is_of_drill}
+use Rattle.lab_core.proofs.Places.{step_place}
+use Rattle.lab_core.proofs.Rested.{opened_rest}
+use Rattle.lab_core.proofs.Said.{as_said}
+use Rattle.lab_top.specs.Pieces.{Piece, Begun, AllHave, AllRestBut, AreAll, AreOthers, ImagesAfter, IsPlannedAs, IsPlannedBy, OpensTo, TellsAll, leaves_one, may_shut, steps_of, trace_after}
+use Rattle.lab_top.specs.Ran.{Outside, Ran}
+use Rattle.lab_words.specs.Words.{Choices}
+use Rattle.lab_core.specs.LabSteps.{LabStep}
+use Rattle.lab_core.specs.Sessions.{After, Setting, Terms}
+use Rattle.script_text.specs.declared.command.Command.{Command}
+use Rattle.script_text.specs.declared.command.Command.TheVariants.{SwapinWith}
+use Rattle.lab_core.proofs.BySolution.{in_by}
+use Rattle.lab_top.proofs.Pieces.{trace-push}
+use Rattle.lab_top.specs.declared.status.Status.{Status}
+use Rattle.lab_top.proofs.RunLaws.{at_rest, behind, caused_at, done, left_open, piece, pieces_keep, pieces_of, told_of, traces_join}
+
+-- what is in doesn't move, and what is out doesn't
+abbrev Rests : (Phase → Bool) → Type 0
+Rests is = (e : Experiment) → is e.phase ≡ true → is_moving e ≡ false
+
+in_rests : Rests is_in
+in_rests e so = by e.phase refl so
+  where
+    by : (phase : Phase) → e.phase ≡ phase → is_in phase ≡ true → is_moving e ≡ false
+    by phases.Out same so = absurd (cc so)
+    by (phases.In mapping tags) same so = ap (λ p. is_moving (in_phase e p)) same
+    by (phases.Moving old new) same so = absurd (cc so)
+
+out_rests : Rests is_out
+out_rests e so = by e.phase refl so
+  where
+    by : (phase : Phase) → e.phase ≡ phase → is_out phase ≡ true → is_moving e ≡ false
+    by phases.Out same so = ap (λ p. is_moving (in_phase e p)) same
+    by (phases.In mapping tags) same so = absurd (cc so)
+    by (phases.Moving old new) same so = absurd (cc so)
+
+drill_only : (takes planned : Bool) (reply : Reply) → IsPlannedAs takes planned (Some reply) → is_of_drill reply ≡ true
+drill_only takes planned replies.Planned by = refl
+drill_only takes planned replies.NoDrill by = refl
+drill_only takes planned reply by = absurd by
+
+-- ONE PIECE OF A RUN, and later ones that are about others
+module _ (terms : Terms) (choices : Option Choices) (old new : Outside) (status : Status) (before middle after : List Begun) (b : Begun) (t : Told) (r : Ran terms choices old new status (before ++ b ∷ (middle ++ after))) (told : old.plant.told ≡ Some t)
+    (sound : IsSound the_texts t.trace) (reply : Reply) (replied : b.piece.reply ≡ Some reply) where
+  abbrev trace : List Event
+  trace = trace_after t.trace before
+
+  abbrev last : LabState
+  last = (done terms choices old new status before (middle ++ after) b t r told sound).leads.last
+
+  place : TellsPlace reply last
+  place =
+      let l = (done terms choices old new status before (middle ++ after) b t r told sound).leads in
+      step_place terms trace _ l.first b.piece.from b.piece.command b.piece.opening (b.piece.own ++ l.steps.behind) _ reply (told_of terms trace b.piece l.first l.last l.steps reply replied).0 l.steps.step
+
+  -- it is no reply to a drill
+  no_drill : is_of_drill reply ≡ false → drill_of b.piece.command ≡ None
+  no_drill inner = by (drill_of b.piece.command) refl
+    where
+      by : (drill : Option Drill) → drill_of b.piece.command ≡ drill → drill_of b.piece.command ≡ None
+      by None is = is
+      by (Some drill) is =
+          let planned = subst (λ (d : Option Drill). IsPlannedBy terms d b.planned b.piece.reply) is (caused_at terms _ _ before (middle ++ after) b r.counts).planned in
+          absurd (cc (inner, drill_only terms.takes b.planned reply (subst (λ (o : Option Reply). IsPlannedAs terms.takes b.planned o) replied planned)))
+
+  pub all_stand : is_of_drill reply ≡ false → may_shut (Some reply) ≡ false → AllStandFor (trace ++ steps_of b.piece) last
+  all_stand inner never =
+      let one : leaves_one b.piece.to b.piece.reply ≡ true =
+      ap (leaves_one b.piece.to) replied ∙ left_open b.piece.to reply never (λ shut. ap may_shut (sym replied) ∙ (piece terms choices old new status before (middle ++ after) b t r told).shuts (no_drill inner) shut) in
+      subst (λ x. ImagesAfter terms x trace b.piece last) one (done terms choices old new status before (middle ++ after) b t r told sound).images
+
+  later : (is : Phase → Bool) → Rests is → (exp : List ℕ) → is_of_drill reply ≡ false → may_shut (Some reply) ≡ false → IsThere is last exp → AreOthers exp middle → AreAll is (trace_after t.trace (before ++ b ∷ middle)) exp
+  later is rests exp inner never there others =
+      let e = there.experiment in
+      let named : e.name ≡ exp = (found_from exp last.experiments e there.found).name_is in
+      let have : AllHave (trace ++ steps_of b.piece) e = (λ x y possible. (last, all_stand inner never x y possible, ap (λ n. find n last.experiments) named ∙ there.found)) in
+      let here = behind terms t.trace before (b ∷ (middle ++ after)) (pieces_of terms choices old new status (before ++ b ∷ (middle ++ after)) t r told) sound in
+      record {
+        experiment = e;
+        named = named;
+        is_so = there.is_so;
+        all = subst (λ l. AllHave l e) (sym (traces_join t.trace before (b ∷ middle)))
+            (pieces_keep terms (trace ++ steps_of b.piece) middle after e here.0.1 (here.0.0.done here.1).sound (at_rest e middle (rests e there.is_so)) have (subst (λ n. AreOthers n middle) (sym named) others));
+      }
+
+  pub stays_told : TellsAll reply middle (trace_after t.trace (before ++ b ∷ middle))
+  stays_told = by reply refl place
+    where
+      by : (told : Reply) → reply ≡ told → TellsPlace told last → TellsAll told middle (trace_after t.trace (before ++ b ∷ middle))
+      by (replies.In exp) is there = later is_in in_rests exp (ap is_of_drill is) (ap (λ x. may_shut (Some x)) is) there
+      by (replies.Out exp) is there = later is_out out_rests exp (ap is_of_drill is) (ap (λ x. may_shut (Some x)) is) there
+      by (replies.Failed exp ends.In what) is there = later is_in in_rests exp (ap is_of_drill is) (ap (λ x. may_shut (Some x)) is) there
+      by (replies.Failed exp ends.Out what) is there = later is_out out_rests exp (ap is_of_drill is) (ap (λ x. may_shut (Some x)) is) there
+      by other is there = tt
+
+-- ONE THAT IS ANSWERED AS IN by a supplied solution is in by it, in the lab that all images stand for
+pub inside_told : (terms : Terms) (choices : Option Choices) (old new : Outside) (status : Status) (before after : List Begun) (b : Begun) (t : Told) (r : Ran terms choices old new status (before ++ b ∷ after)) (told : old.plant.told ≡ Some t)
+    (sound : IsSound the_texts t.trace) (exp text : List ℕ) (lines : ℕ) → b.piece.command ≡ SwapinWith false exp lines text → (replied : b.piece.reply ≡ Some (replies.In exp))
+    → (s : LabState) × AllStandFor (trace_after t.trace (before ++ b ∷ [])) s × IsInBy s exp text
+inside_told terms choices old new status before after b t r told sound exp text lines asks replied =
+    let l = (done terms choices old new status before after b t r told sound).leads in
+    let own = b.piece.own ++ l.steps.behind in
+    let set : Setting = record { length = l.steps.length; limit = 2 ^ 32; devices = b.piece.faults.devices } in
+    let ends : After = record { reply = l.steps.told; lab = l.last; session = l.steps.session } in
+    let step : LabStep terms (trace_after t.trace before) set l.first b.piece.from (SwapinWith false exp lines text) b.piece.opening own ends
+    = subst (λ (c : Command). LabStep terms (trace_after t.trace before) set l.first b.piece.from c b.piece.opening own ends) asks l.steps.step in (
+      l.last,
+      subst (λ x. AllStandFor x l.last) (sym (trace-push t.trace before b)) (all_stand terms choices old new status before [] after b t r told sound (replies.In exp) replied refl refl),
+      in_by terms set l.first b.piece.from exp text lines b.piece.opening own ends step (told_of terms (trace_after t.trace before) b.piece l.first l.last l.steps (replies.In exp) replied).0,
+    )
+
+-- AN OPENING IN WHICH NONE GOT STUCK, from whatever lab the sides stood for
+pub opening_rests : (trace : List Event) (piece : Piece) (s mid : LabState) → IsLabAt trace s → (to : OpensTo trace piece s mid) → count_by is_stuck to.opens.outcomes ≡ 0 → AllRestBut [] (trace ++ piece.opening)
+opening_rests trace piece s mid at to none x y possible = (
+  mid,
+  to.images x y possible,
+  record {
+    rest = λ e there moving. absurd (cc (opened_rest s mid piece.opening (lab_sane the_texts at.records s at.lab_of) to.opens none e there, moving));
+    as_said = as_said (trace ++ piece.opening) x y mid to.sound possible (to.images x y possible);
+  },
+)
+
+-- AN EXPERIMENT WHOSE OWN SETTLING met no trouble is at rest in each image behind it, whatever became of the others
+pub opening_rests_one : (trace : List Event) (piece : Piece) (s mid : LabState) (name : List ℕ) (to : OpensTo trace piece s mid) → EndedIn (swaps_of [] s.experiments) to.opens.outcomes name
+    → (a b : List ℕ) → ArePossible (trace ++ piece.opening) a b → (u : LabState) × StandForLab a b u × IsAtRest u name
+opening_rests_one trace piece s mid name to ended a b possible = (mid, to.images a b possible, beside_rests (swaps_of [] s.experiments) to.opens.outcomes s mid to.opens.moving name to.opens.settles ended)

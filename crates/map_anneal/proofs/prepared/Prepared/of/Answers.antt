@@ -1,0 +1,6 @@
+use Rattle.std.proofs.Common.{◌≤◌, length, ap, arith}
+use Rattle.cost_rule.proofs.LimitLaws.{sound_limits}
+use Rattle.map_anneal.proofs.prepared.Prepared.of.Goals as goal
+
+pub ends_of-requires : goal.ends_of-requires
+ends_of-requires c = let few = (sound_limits c.args.wiring.now c.requires.sound).segments in let same = ap length c.as_slice.ensures in omega (arith, few, same)
