@@ -65,8 +65,8 @@ enum Call {
     Walk(u64),
 }
 
-/// What a call found: the word of its answer, its cost where it tells it, the node of each virtual node, and how often
-/// the rule was asked for a mapping alone, by a step and by parts.
+/// The outcome of a call: the word of its answer, its cost if it tells it, and the node of each virtual node. The counts are of the questions to the
+/// rule, for a mapping alone, by a step and by parts.
 #[derive(Drop)]
 struct Found {
     word: &'static str,
@@ -206,7 +206,7 @@ const SIX: [Wanted; 6] = [
     (b"f", b""),
 ];
 
-/// Machines with links and a trunk of so many kbps, and what is asked of them: virtual nodes, and a segment with the first so many of them.
+/// A problem: machines with links and a trunk of so many kbps, virtual nodes, and a segment with the first so many of them.
 #[derive(Clone, Copy)]
 struct Problem<'a> {
     machines: &'static [Machine],
@@ -217,14 +217,14 @@ struct Problem<'a> {
     ends: u16,
 }
 
-/// What a call finds of a problem.
+/// The outcome of a call on a problem.
 fn search(alloc: Global, problem: Problem<'_>, call: Call) -> Result<Found, Fail> {
     let lab = lab_of(alloc, problem.machines, problem.links, problem.trunk)?;
     let wiring = wiring_of(alloc, problem.nodes, problem.kbps, problem.ends)?;
     asked(alloc, &lab, &wiring, call)
 }
 
-/// What it finds where the virtual nodes are of a class.
+/// The outcome of a call on a problem whose virtual nodes ask for a class.
 fn search_of_class(alloc: Global, problem: Problem<'_>, call: Call) -> Result<Found, Fail> {
     let lab = lab_of(alloc, problem.machines, problem.links, problem.trunk)?;
     let wiring = class_wiring_of(alloc, problem.nodes, problem.kbps, problem.ends)?;

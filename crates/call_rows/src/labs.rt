@@ -1,4 +1,4 @@
-// Labs, what is free of them, and wirings.
+// // Labs, their free parts, and wirings.
 ghost use Rattle.std.specs.Prelude.{IsTrue};
 ghost use Rattle.lab_model.specs.Shapes.{IsFreeOf};
 
@@ -322,7 +322,7 @@ pub fn wiring_of(
     })
 }
 
-/// The same, whose virtual nodes ask for a class of two types, which all have one of them.
+/// Virtual nodes that ask for a class of two types, where all have one type, and one segment over the first of them.
 pub fn class_wiring_of(
     alloc: Global,
     names: &[(&[u8], &[u8])],

@@ -1,5 +1,7 @@
-//! Calls of the layers below the controller whose rows compare values: of names, numbers, lists and texts, of lines of a source, of boot
-//! states, of generated scripts, of searches by a rule that notes how often it is asked, and of the plant in files, over real ones.
+//! Calls of the layers below the controller whose rows compare values.
+//!
+//! They are calls on names, numbers, lists and texts, on lines of a source, on boot states and on generated scripts. Searches run by a rule that
+//! counts its questions, and the plant in files runs over real ones.
 //!
 //! They stand apart, since a crate with tests is proved twice, and a searcher has nothing that computes costs.
 #![tactic(auto)]

@@ -38,7 +38,7 @@ fn word_of(added: Result<(), LabFault>) -> &'static [u8] {
     }
 }
 
-/// Adds what comes of words, each a switch or a trunk.
+/// Adds the outcome of each word, which is a switch or a trunk.
 fn push_added(
     out: &mut Text,
     alloc: Global,
@@ -57,7 +57,7 @@ fn push_counts(out: &mut Text, lab: &Lab) -> Result<(), Memory> {
     push_number(out, lab.switches().len() as u64)
 }
 
-/// What comes of each word, and how many trunks and switches the lab has then.
+/// Adds the outcome of each word, and the numbers of trunks and switches that the lab then has.
 pub fn tell(out: &mut Text, alloc: Global, words: &[&[u8]]) -> Result<(), Wrong> {
     let Ok(mut builder) = LabBuilder::new(alloc, 2, 4_094) else {
         return Err(Wrong::Memory);

@@ -99,7 +99,8 @@ fn push_taken(out: &mut Text, alloc: Global, claims: &Claims, count: u16) -> Res
     out.push(b'\n')
 }
 
-/// Adds what is free beside the claim of an experiment, what that has, one VLAN id that is free, and two; and what is free without it.
+/// Adds the counts beside the claim of an experiment, those of the claim itself, and those without it. Between them it adds one free VLAN id, and
+/// two.
 fn push_all(out: &mut Text, alloc: Global, claims: &mut Claims, exp: Name) -> Result<(), Memory> {
     push_counts(out, claims.counted())?;
     push_counts(out, claims.counted_of(exp))?;
@@ -109,7 +110,7 @@ fn push_all(out: &mut Text, alloc: Global, claims: &mut Claims, exp: Name) -> Re
     push_counts(out, claims.counted())
 }
 
-/// Adds what is free of a lab, and what with a claim.
+/// Adds the counts of a free lab, and those with a claim.
 fn push_claims(out: &mut Text, alloc: Global, lab: &Lab, exp: Name) -> Result<(), Memory> {
     let none = Claims::empty(alloc, lab)?;
     let counted = none.counted();
@@ -121,7 +122,7 @@ fn push_claims(out: &mut Text, alloc: Global, lab: &Lab, exp: Name) -> Result<()
     told
 }
 
-/// What is free of a lab, and what with a claim.
+/// The counts of a free lab, and those with a claim.
 pub fn tell(out: &mut Text, alloc: Global, texts: &Texts, words: &[&[u8]]) -> Result<(), Wrong> {
     let exp = name_in(b"e")?;
     let lab = lab_of(alloc, texts, field_at(words, 0))?;
@@ -144,7 +145,7 @@ fn push_free(out: &mut Text, claims: &Claims, tags: &Tags) -> Result<(), Memory>
     push_answer(out, claims.are_free(tags))
 }
 
-/// What is free of a lab beside a claim that is noted, and whether VLAN ids are.
+/// The nodes, kbps and VLAN ids left beside a noted claim, and whether VLAN ids are free.
 pub fn tell_free(
     out: &mut Text,
     alloc: Global,

@@ -9,7 +9,7 @@ use line_text::{field_at, fields_behind, name_at};
 use plain_model::{NodePipe, Owner, Row, Wanted, is_isolated};
 use std::alloc::Global;
 
-/// What stands, and what mappings want.
+/// A world by its rows and pipes, with the rows that mappings want.
 #[derive(Drop)]
 struct World {
     wanted: Items<Wanted>,

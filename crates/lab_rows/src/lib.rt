@@ -1,6 +1,6 @@
-//! Rows of the layers of labs, each a line, and what such a layer makes of it. A line `text NAME LETTERS` keeps a text, in which `\n` is the end
-//! of a line, and `bytes NAME WORDS` one of hexadecimal digits and of texts that stand above it. The words of a row, of which the first one says
-//! what is told, name such texts:
+//! Rows of the layers of labs: each is a line, and its output is that of the layer. A line `text NAME LETTERS` keeps a text, in which `\n` is the
+//! end of a line. A line `bytes NAME WORDS` keeps one of hexadecimal digits and of texts above it. The first word of a row says what it tests, and
+//! the others name such texts:
 //!
 //! ```text
 //! build PART..                what comes of switches and trunks that are added to a lab, and how many trunks and switches it has then
@@ -25,7 +25,7 @@
 //! rule LAB TOP MAP TAKEN LEFT the rule that a mapping breaks, with its subject
 //! ```
 //!
-//! The experiments of a world are named with the plans by which they stand, `e:E`, or between which they move, `e:E>F`; a plan is a text of the
+//! The experiments of a world are named with the plans by which they stand, `e:E`, or between which they move, `e:E>F`. A plan is a text: the
 //! name of a wiring, numbers of nodes with types, and numbers of interfaces and VLAN ids.
 #![tactic(auto)]
 
@@ -50,7 +50,7 @@ pub use texts::Texts;
 use texts::keep_line;
 pub use wrong::Wrong;
 
-/// Adds what a row about labs and worlds gives; tells whether it is one.
+/// Adds the output of a row about labs and worlds; true where it is one.
 fn tell_of_worlds(
     out: &mut Text,
     alloc: Global,
@@ -70,7 +70,7 @@ fn tell_of_worlds(
     Ok(true)
 }
 
-/// The same of a row about records.
+/// Adds the output of a row about records; true where it is one.
 fn tell_of_records(
     out: &mut Text,
     alloc: Global,
@@ -89,7 +89,7 @@ fn tell_of_records(
     Ok(true)
 }
 
-/// The same of a row about promises.
+/// Adds the output of a row about promises; true where it is one.
 fn tell_of_promises(
     out: &mut Text,
     alloc: Global,
@@ -107,7 +107,7 @@ fn tell_of_promises(
     Ok(true)
 }
 
-/// The same of a row about mappings.
+/// Adds the output of a row about mappings; true where it is one.
 fn tell_of_mappings(
     out: &mut Text,
     alloc: Global,
@@ -125,7 +125,7 @@ fn tell_of_mappings(
     Ok(true)
 }
 
-/// Adds what a row gives; tells whether it is one.
+/// Adds the output of a row; true where it is one.
 fn tell_row(
     out: &mut Text,
     alloc: Global,
@@ -146,7 +146,7 @@ fn tell_row(
     )
 }
 
-/// What is told of a line, or nothing of one that keeps a text.
+/// The output of a line; None of one that keeps a text.
 pub fn told(alloc: Global, texts: &mut Texts, line: &str) -> Result<Option<Text>, Wrong> {
     if keep_line(alloc, texts, line)? {
         return Ok(None);

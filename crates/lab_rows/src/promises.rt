@@ -117,7 +117,7 @@ fn push_needs(out: &mut Text, needs: &[Need]) -> Result<(), Memory> {
     Ok(())
 }
 
-/// What the promises of a batch need at a moment.
+/// The needs of a batch's promises at a moment.
 pub fn tell_needs(
     out: &mut Text,
     alloc: Global,

@@ -1,4 +1,4 @@
-//! Records that follow one another, and what they give.
+//! Records that follow one another, and the labs that they stand for.
 ghost use Rattle.std.specs.Prelude.{◌≡◌, IfOk};
 ghost use Rattle.journal_rec.specs.Payloads.{IsRecord};
 
@@ -117,7 +117,7 @@ fn replayed(
     }
 }
 
-/// What comes of a record and two payloads.
+/// The outcome of replaying a record and two payloads.
 fn replayed_behind(
     alloc: Global,
     first: Record,
@@ -154,7 +154,7 @@ fn push_replayed(out: &mut Text, replayed: Result<usize, ReplayFault>) -> Result
     }
 }
 
-/// What comes of three records that are replayed.
+/// The outcome of replaying three records.
 pub fn tell_three(
     out: &mut Text,
     alloc: Global,

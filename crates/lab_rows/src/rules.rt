@@ -12,7 +12,7 @@ use phys_lab::{Free, Lab};
 use std::alloc::Global;
 use virt_topo::{Broken, Subject};
 
-/// What others leave, who have the first nodes and all of each trunk but so many thousand kbps.
+/// The rest of a lab where others have its first nodes, and all but so many thousand kbps of each trunk.
 fn free_of(alloc: Global, lab: &Lab, taken: u16, left: u16) -> Result<Free, Memory> {
     let mut nodes = Items::new(alloc);
     for node in 0..lab.nodes().len() {
@@ -86,7 +86,7 @@ fn push_rule(
     Ok(told?)
 }
 
-/// Adds the same. The fourth and fifth word say what others have and leave.
+/// Adds the rule that a mapping breaks first beside others. The fourth and the fifth word say what these have and leave.
 fn push_rule_beside(
     out: &mut Text,
     alloc: Global,
@@ -105,8 +105,9 @@ fn push_rule_beside(
     told
 }
 
-/// The rule that a mapping breaks first, with its subject, or `kept`. The words are the texts of the lab, the wiring and the mapping,
-/// how many of the first nodes others have, and how many thousand kbps they leave of each trunk.
+/// The rule that a mapping breaks first, with its subject, or `kept`.
+/// The words are the texts of the lab, the wiring and the mapping. Two numbers follow: the first nodes that others have, and the thousand kbps that
+/// they leave of each trunk.
 pub fn tell(out: &mut Text, alloc: Global, texts: &Texts, words: &[&[u8]]) -> Result<(), Wrong> {
     let lab = lab_of(alloc, texts, field_at(words, 0))?;
     let told = push_rule_beside(out, alloc, texts, words, &lab);

@@ -68,7 +68,7 @@ fn push_sides(out: &mut Text, sides: &Sides) -> Result<(), Memory> {
     }
 }
 
-/// What two sides are read as, each a word.
+/// The reading of two sides, each a word.
 pub fn tell_two(
     out: &mut Text,
     alloc: Global,

@@ -1,4 +1,4 @@
-//! Commands that were sent to devices, and what they leave.
+//! Commands that were sent to devices, and the rows that they leave.
 use crate::texts::Texts;
 use crate::words::{number_at, pair_of, parts_of, push_answer};
 use crate::wrong::Wrong;
@@ -58,7 +58,7 @@ fn op_of(verb: &str, parts: &[&[u8]]) -> Result<DeviceOp, Wrong> {
     }
 }
 
-/// What such a command was answered.
+/// The answer to such a command.
 fn answer_to(verb: &str) -> Result<Answer, Fault> {
     match verb {
         "up" => Ok(Answer::State(Boot::IsUp)),

@@ -70,7 +70,7 @@ fn wiring_named(alloc: Global, texts: &Texts, name: &[u8]) -> Result<Wiring, Wro
     wiring_in(alloc, texts, texts.of(name)?)
 }
 
-/// What a plan says.
+/// The wiring and the mapping of a plan.
 fn mapped_of(alloc: Global, texts: &Texts, plan: &[u8]) -> Result<Mapped, Wrong> {
     let Placed { mapping, tags } = placed_of(alloc, plan)?;
     match wiring_in(alloc, texts, plan) {
@@ -87,7 +87,7 @@ fn mapped_of(alloc: Global, texts: &Texts, plan: &[u8]) -> Result<Mapped, Wrong>
     }
 }
 
-/// What the plan of a name says, if there is a name.
+/// The wiring and the mapping of the plan of a name, if there is a name.
 fn side_of(alloc: Global, texts: &Texts, name: &[u8]) -> Result<Option<Mapped>, Wrong> {
     if name.is_empty() {
         return Ok(None);
@@ -228,7 +228,7 @@ fn push_found_of(
     told
 }
 
-/// What is found of a lab with experiments after the commands behind the bar.
+/// Whether the world after the commands behind the bar holds its claims, is isolated and is cabled.
 pub fn tell(out: &mut Text, alloc: Global, texts: &Texts, words: &[&[u8]]) -> Result<(), Wrong> {
     let halves = at_bar(words);
     let commands = steps_of(alloc, texts, halves.behind)?;

@@ -36,7 +36,7 @@ pub fn fault_word(fault: Fault) -> &'static str {
     }
 }
 
-/// What a call of the disk answers.
+/// The word of a disk's answer.
 pub fn done_word(done: Result<(), Fault>) -> &'static str {
     match done {
         Ok(()) => "done",
@@ -44,7 +44,7 @@ pub fn done_word(done: Result<(), Fault>) -> &'static str {
     }
 }
 
-/// What a device answers.
+/// The word of a device's answer.
 pub fn answer_word(answer: Result<Answer, Fault>) -> &'static str {
     match answer {
         Ok(Answer::Done) => "done",

@@ -16,7 +16,7 @@ fn push_length(out: &mut String, plant: &mut MemLab, side: Side) -> Result<(), A
     }
 }
 
-/// What a side reads as.
+/// The bytes that a side reads as.
 fn read(alloc: Global, plant: &mut MemLab, side: Side) -> Result<Vec<u8>, Untold> {
     let size = plant.length(side)?;
     let mut bytes = vec![in alloc; 0u8; size as usize]?;
@@ -58,8 +58,8 @@ pub fn told(
     Ok(true)
 }
 
-/// Adds what is told of the plant itself, if the action is one about it: how many steps it has, and how many bytes these name, whether it
-/// takes drills, and whether it is stopped.
+/// Adds the output of an action about the plant itself, if it is one.
+/// It is the number of steps, the number of bytes that these name, whether it takes drills, or whether it is stopped.
 pub fn told_of_plant(out: &mut String, plant: &mut MemLab, kind: &str) -> Result<bool, Untold> {
     match kind {
         "steps" => write!(out, "{}", plant.trace().len())?,

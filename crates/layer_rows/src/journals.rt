@@ -93,7 +93,7 @@ fn push_append(
     }
 }
 
-/// The same with the limit of a row, if it may be one.
+/// Adds the output of an append under the limit of a row, if it may be one.
 fn push_append_to(
     out: &mut String,
     alloc: Global,
@@ -140,7 +140,7 @@ fn push_move(
     }
 }
 
-/// The same with a record alone.
+/// Adds the output of a move of the journal that leaves one record.
 fn push_compact(
     out: &mut String,
     alloc: Global,

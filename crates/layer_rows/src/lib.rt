@@ -1,5 +1,5 @@
-//! Rows of the layers below the controller, each a line, and what comes of it over the plant in memory: commands and drills, the journal and
-//! its records, and swaps. What a row may be stands in `row.rt`.
+//! Rows of the layers below the controller, each a line, over the plant in memory: commands and drills, the journal and its records, and swaps.
+//! The module `row` lists their forms.
 #![tactic(auto)]
 
 mod answers;

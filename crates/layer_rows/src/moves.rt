@@ -1,4 +1,4 @@
-//! What is told of swaps.
+//! Outputs of swaps.
 use crate::answers::{boot_word, letters};
 use crate::plans::ops_of;
 use crate::swaps::{Last, finish, opened, planned_of, swap};
@@ -111,7 +111,7 @@ fn push_run(
     Ok(push_came(out, last, plant.trace(), from)?)
 }
 
-/// The same of a swap-out, or of the undo of a swap-in or of a change, whose Begin is durable already.
+/// Adds the output of a swap whose Begin is durable already: a swap-out, or the undo of a swap-in or of a change.
 fn push_again(
     out: &mut String,
     alloc: Global,

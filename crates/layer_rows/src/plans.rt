@@ -61,7 +61,7 @@ fn commands_of(alloc: Global, text: &str) -> Result<Commands, Untold> {
     }
 }
 
-/// What a swap-out sends.
+/// The commands of a swap-out.
 fn ops_out(alloc: Global) -> Result<Ops, Untold> {
     Ok(Ops {
         commands: commands_of(alloc, CLEARING)?,
@@ -70,7 +70,7 @@ fn ops_out(alloc: Global) -> Result<Ops, Untold> {
     })
 }
 
-/// What a swap-in or a change sends, with its undo.
+/// The commands of a swap-in or a change, with its undo.
 fn ops_in(alloc: Global, inside: bool) -> Result<Ops, Untold> {
     let commands = commands_of(alloc, BUILDING)?;
     match commands_of(alloc, CLEARING) {
@@ -86,7 +86,7 @@ fn ops_in(alloc: Global, inside: bool) -> Result<Ops, Untold> {
     }
 }
 
-/// What a swap-out sends, or a swap-in or a change whose undo leads back into the lab or out of it.
+/// The commands of a swap-out, or of a swap-in or a change whose undo leads back into the lab or out of it.
 pub fn ops_of(alloc: Global, out: bool, inside: bool) -> Result<Ops, Untold> {
     if out {
         ops_out(alloc)

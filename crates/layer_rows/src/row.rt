@@ -1,4 +1,4 @@
-//! A row is a line of actions with `;` between two of them, which are done one after another over a blank plant:
+//! The outputs of rows. A row is a line of actions with `;` between two of them, done one after another over a blank plant:
 //!
 //! ```text
 //! join SWITCH PORT VLAN, leave .., load NODE OS, shape NODE PIPE KBPS, boot NODE, poll NODE, wipe NODE    a command: its answer
@@ -17,8 +17,8 @@
 //! out-again, undo-in, undo-change    the same of one whose Begin is durable already
 //! ```
 //!
-//! A row `each LAST ACTIONS` does the actions LAST times, each time over a blank plant, with the numbers 1, 2, .. in the place of `#`, and
-//! tells of the last action only: once for all numbers in a row of which the same is told.
+//! A row `each LAST ACTIONS` does the actions LAST times, each time over a blank plant, with the numbers 1, 2, .. in the place of `#`. Its
+//! output is that of the last action only, once for all numbers in a row with equal outputs.
 use crate::untold::Untold;
 use crate::words::Words;
 use crate::{devices, disk, drills, journals, moves, records};
@@ -26,7 +26,7 @@ use plant_mem::MemLab;
 use std::alloc::Global;
 use std::fmt::Write;
 
-/// Does an action with devices or drills, and adds what is told of it, if it is one.
+/// Does an action with devices or drills, and adds its output, if it is one.
 fn told_of_devices(
     out: &mut String,
     plant: &mut MemLab,
@@ -36,7 +36,7 @@ fn told_of_devices(
     Ok(devices::told(out, plant, kind, words)? || drills::told(out, plant, kind, words)?)
 }
 
-/// The same of one with the disk, or with the plant itself.
+/// Does an action with the disk, or with the plant itself, and adds its output, if it is one.
 fn told_of_disk(
     out: &mut String,
     alloc: Global,
@@ -47,7 +47,7 @@ fn told_of_disk(
     Ok(disk::told(out, alloc, plant, kind, words)? || disk::told_of_plant(out, plant, kind)?)
 }
 
-/// The same of one with the journal, or of a swap.
+/// Does an action with the journal, or with a swap, and adds its output, if it is one.
 fn told_of_journal(
     out: &mut String,
     alloc: Global,
@@ -58,7 +58,7 @@ fn told_of_journal(
     Ok(journals::told(out, alloc, plant, kind, words)? || moves::told(out, alloc, plant, kind)?)
 }
 
-/// Does an action, and adds what is told of it, if it is one.
+/// Does an action, and adds its output, if it is one.
 fn told_of(
     out: &mut String,
     alloc: Global,
@@ -86,7 +86,7 @@ fn act(alloc: Global, plant: &mut MemLab, action: &str, nth: u32) -> Result<Stri
     Ok(out)
 }
 
-/// What is told of each action over a plant.
+/// The outputs of all actions over a plant.
 fn all_over(alloc: Global, plant: &mut MemLab, actions: &str) -> Result<String, Untold> {
     let mut out = String::new(alloc);
     for action in actions.split(';') {
@@ -95,7 +95,7 @@ fn all_over(alloc: Global, plant: &mut MemLab, actions: &str) -> Result<String, 
     Ok(out)
 }
 
-/// What is told of each action over a blank one.
+/// The outputs of all actions over a blank plant.
 fn all(alloc: Global, actions: &str) -> Result<String, Untold> {
     let mut plant = MemLab::blank(alloc)?;
     let told = all_over(alloc, &mut plant, actions);
@@ -103,7 +103,7 @@ fn all(alloc: Global, actions: &str) -> Result<String, Untold> {
     told
 }
 
-/// What is told of the last action over a plant, where `#` is that number.
+/// The output of the last action over a plant, with that number in the place of `#`.
 fn last_over(alloc: Global, plant: &mut MemLab, actions: &str, nth: u32) -> Result<String, Untold> {
     let mut out = String::new(alloc);
     for action in actions.split(';') {
@@ -112,7 +112,7 @@ fn last_over(alloc: Global, plant: &mut MemLab, actions: &str, nth: u32) -> Resu
     Ok(out)
 }
 
-/// What is told of it over a blank one.
+/// The output of the last action over a blank plant, with that number in the place of `#`.
 fn last(alloc: Global, actions: &str, nth: u32) -> Result<String, Untold> {
     let mut plant = MemLab::blank(alloc)?;
     let told = last_over(alloc, &mut plant, actions, nth);
@@ -120,7 +120,7 @@ fn last(alloc: Global, actions: &str, nth: u32) -> Result<String, Untold> {
     told
 }
 
-/// What is told of the last action where `#` is 1, 2, .. up to a number.
+/// The outputs of the last action with 1, 2, .. up to a number in the place of `#`.
 fn each(alloc: Global, words: &mut Words<'_>) -> Result<String, Untold> {
     let most = words.number()?;
     let actions = words.rest();
@@ -138,7 +138,7 @@ fn each(alloc: Global, words: &mut Words<'_>) -> Result<String, Untold> {
     Ok(out)
 }
 
-/// What is told of a row.
+/// The output of a row.
 pub fn told(alloc: Global, line: &str) -> Result<String, Untold> {
     let mut words = Words::new(line, 0);
     match words.word() {

@@ -3,7 +3,7 @@ use crate::untold::Untold;
 use lab_base::{Name, VlanId};
 use plant::Side;
 
-/// What is left of the words of an action.
+/// The words of an action that are left.
 #[derive(Drop)]
 pub struct Words<'a> {
     rest: &'a str,

@@ -1,12 +1,13 @@
-//! A command that is cut at each of its steps and calls, and where that may lead: by a stop, by a failure of a device, and by one of the
-//! disk.
+//! A command that is cut at each of its steps and calls, by a stop, by a failure of a device, or by one of the disk.
+//! Each cut has to lead to one of some ends.
 use crate::drills::{Drill, FAIL_DISK, STOP_ALL, STOP_NONE, STOP_TORN, drilled};
 use crate::ends::{ends_of, is_at_one, left_by};
 use anyhow::{anyhow, bail};
 use std::alloc::Global;
 use std::fmt::Write;
 
-/// What comes before a drill and behind it, the command first, what is left where none cuts the command, and the ends that it may lead to.
+/// A case: the script before a drill, and the script behind it with the command first. It has the end of a run that isn't cut, and the ends to which
+/// a cut may lead.
 #[derive(Drop)]
 struct Case<'a> {
     before: &'a str,
@@ -33,7 +34,7 @@ fn case_of<'a>(
     })
 }
 
-/// How many numbers of the drill cut the command, from 1 on, where each leads to one of the ends.
+/// The number of drills, by their numbers from 1 on, that cut the command. Each has to lead to one of the ends.
 fn cut_by(alloc: Global, case: &Case<'_>, drill: Drill) -> anyhow::Result<u32> {
     for nth in 1..100u32 {
         let script = drilled(alloc, case.before, drill, nth, case.behind.as_str())?;
@@ -68,7 +69,7 @@ const DEVICES: [&str; 10] = [
 
 const HOWS: [&str; 2] = [" not\n", " applied\n"];
 
-/// How many failures of devices cut the command.
+/// The number of failures of devices that cut the command.
 fn failures(alloc: Global, case: &Case<'_>) -> anyhow::Result<u32> {
     let mut sum = 0u32;
     for before in DEVICES {
@@ -79,8 +80,9 @@ fn failures(alloc: Global, case: &Case<'_>) -> anyhow::Result<u32> {
     Ok(sum)
 }
 
-/// How many stops by each pick cut the command of a script, which stands behind its mark; and, where what is stuck is recovered behind
-/// it, how many failures of devices, and how many of the disk, counted up to some. Each of them leads to one of the ends.
+/// The numbers of drills that cut the command behind a script's mark, each leading to one of the ends.
+/// First come the stops, by each pick. Where `recover` settles stuck experiments, the failures of devices follow, and those of the disk, counted up
+/// to `calls`.
 pub fn cuts(rt: &HostRuntime, script: &str, calls: u32, ends: &[&str]) -> anyhow::Result<String> {
     let alloc = rt.alloc();
     let parts = script.split_once("@\n").ok_or_else(|| anyhow!("no mark"))?;

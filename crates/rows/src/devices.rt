@@ -1,4 +1,4 @@
-//! What the devices did and hold behind a run.
+//! The commands that devices obeyed in a run, and their state behind it.
 use lab_base::{Boot, Name};
 use plant::{Answer, DeviceOp, Fault, Step};
 use plant_mem::MemLab;
@@ -33,7 +33,7 @@ fn node_line(alloc: Global, plant: &MemLab, node: &Name) -> Result<Option<String
     }
 }
 
-/// What stands of what a command named: the row of a port, or the node.
+/// The state of the port or node that a command named.
 fn held_of(alloc: Global, plant: &MemLab, op: &DeviceOp) -> Result<Option<String>, AllocError> {
     match op {
         DeviceOp::Join { switch, port, vlan } | DeviceOp::Leave { switch, port, vlan } => {
@@ -51,7 +51,7 @@ fn held_of(alloc: Global, plant: &MemLab, op: &DeviceOp) -> Result<Option<String
     }
 }
 
-/// What the devices hold, a line each.
+/// The states of the devices, a line each.
 pub fn held(alloc: Global, plant: &MemLab) -> Result<String, AllocError> {
     let mut lines = BTreeSet::new(alloc);
     for step in plant.trace() {
@@ -76,7 +76,7 @@ fn poll_counted(alloc: Global, answer: &Result<Answer, Fault>) -> Result<String,
     }
 }
 
-/// What is counted of a command: the boots of a node, the polls with an answer, and all others.
+/// The count to which a command belongs: the boots of a node, its polls with that answer, or the command itself.
 fn counted(
     alloc: Global,
     op: &DeviceOp,
@@ -89,7 +89,7 @@ fn counted(
     }
 }
 
-/// How often the devices did what, a line each.
+/// The counts of commands, a line each.
 pub fn did(alloc: Global, plant: &MemLab) -> Result<String, AllocError> {
     let mut counts: BTreeMap<String, u32> = BTreeMap::new(alloc);
     for step in plant.trace() {

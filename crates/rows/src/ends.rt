@@ -1,4 +1,4 @@
-//! Where a run may lead: what is told at its end, and what the devices hold then.
+//! Ends of runs: the last replies, and the states of the devices then.
 use crate::devices::held;
 use crate::run::{plainly, run_blank};
 use anyhow::bail;
@@ -6,7 +6,7 @@ use lab_top::Status;
 use std::alloc::Global;
 use std::fs;
 
-/// What a run wrote, and behind that what the devices hold. It reads its script to the end.
+/// The end of a run that reads its script to the end: its output, and behind it the states of the devices.
 pub fn left_by(alloc: Global, script: &str) -> anyhow::Result<String> {
     let (ran, plant) = run_blank(alloc, plainly(script))?;
     if ran.status != Status::Done {
@@ -26,7 +26,7 @@ pub fn ends_of(rt: &HostRuntime, names: &[&str]) -> anyhow::Result<Vec<String>> 
     Ok(ends)
 }
 
-/// Whether it is at one of the ends.
+/// Whether a run is at one of these ends.
 pub fn is_at_one(left: &str, ends: &[String]) -> bool {
     ends.iter().any(|end| left.ends_with(end.as_str()))
 }

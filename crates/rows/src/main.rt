@@ -1,6 +1,6 @@
-//! Runs the rows that standard input lists, one a line, and tells behind each line what came of it. A line in brackets says of what the rows
-//! below it are: `[texts]`, `[labs]` and `[layers]` of the crates of these names, `[searches]` of searches and the outlook over files, and
-//! `[scripts]` of the whole program. What a line of the last may be stands in `row.rt`.
+//! Runs the rows that standard input lists, one a line, and prints behind each line its output. A line in brackets tells the kind of the rows
+//! below it. Rows of `[texts]`, `[labs]` and `[layers]` are of the crates of these names. Rows of `[searches]` are of searches and the outlook over
+//! files, and rows of `[scripts]` of the whole program. The module `row` lists the forms of the last kind.
 //!
 //! The scripts and the other files that lines name lie in the folder where this runs. Those of `demo` must equal the files of the
 //! repository's folder of that name, which users run.
@@ -24,7 +24,7 @@ use layer_rows::Untold;
 use plant_mem::MemLab;
 use std::str;
 
-/// What rows are of.
+/// The kinds of rows.
 #[derive(Clone, Copy)]
 enum Of {
     Texts,
@@ -34,7 +34,7 @@ enum Of {
     Scripts,
 }
 
-/// What rows are of below a line, if it begins them.
+/// The kind of the rows below a line, if it begins some.
 fn begun(line: &str) -> Option<Of> {
     match line {
         "[texts]" => Some(Of::Texts),
@@ -81,7 +81,7 @@ fn tell_script(rt: &HostRuntime, last: &mut Option<MemLab>, line: &str) -> anyho
     Ok(print!(rt; "== {line}\n{told}")?)
 }
 
-/// Tells a row.
+/// Prints a row with its output.
 fn tell(
     rt: &HostRuntime,
     of: Option<Of>,

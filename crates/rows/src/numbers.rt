@@ -1,4 +1,4 @@
-//! Scripts with a drill of each number, and with lines that stand there many times.
+//! Scripts with a drill of each number, and with lines repeated many times.
 use crate::drills::{Drill, drilled};
 use crate::run::{ending, plainly, run_blank};
 use anyhow::anyhow;
@@ -6,14 +6,14 @@ use plant_mem::MemLab;
 use std::alloc::{AllocError, Global};
 use std::fmt::Write;
 
-/// What is told of a script with a drill of that number at its mark.
+/// The output of a script with a drill of that number at its mark.
 fn told_at(alloc: Global, script: &str, drill: Drill, nth: u32) -> anyhow::Result<String> {
     let (before, behind) = script.split_once("@\n").ok_or_else(|| anyhow!("no mark"))?;
     let script = drilled(alloc, before, drill, nth, behind)?;
     Ok(ending(run_blank(alloc, plainly(script.as_str()))?.0)?)
 }
 
-/// What is told of a script with a drill of the numbers 1, 2, .. at its mark: once for all numbers in a row of which the same is told.
+/// The output of a script with a drill of the numbers 1, 2, .. at its mark. Equal outputs in a row are told once.
 pub fn numbers(alloc: Global, script: &str, drill: Drill, last: u32) -> anyhow::Result<String> {
     let mut out = String::new(alloc);
     let mut first = 1;
@@ -29,7 +29,7 @@ pub fn numbers(alloc: Global, script: &str, drill: Drill, last: u32) -> anyhow::
     Ok(out)
 }
 
-/// What stands before marked lines, the lines, and what stands behind them.
+/// The parts of a script: before its marked lines, these lines, and behind them.
 #[derive(Clone, Copy)]
 struct Parts<'a> {
     before: &'a str,
@@ -47,7 +47,7 @@ fn parts_of(script: &str) -> Option<Parts<'_>> {
     })
 }
 
-/// The script in which the marked lines stand so often.
+/// The script with its marked lines so often.
 fn with_many(alloc: Global, parts: &Parts<'_>, count: u32) -> Result<String, AllocError> {
     let mut script = String::from_str(alloc, parts.before)?;
     for _ in 0..count {
@@ -57,7 +57,7 @@ fn with_many(alloc: Global, parts: &Parts<'_>, count: u32) -> Result<String, All
     Ok(script)
 }
 
-/// How many steps there are where the marked lines stand there 0, 1, .. times.
+/// The number of steps with the marked lines 0, 1, .. times.
 pub fn turns(alloc: Global, script: &str, last: u32) -> anyhow::Result<String> {
     let parts = parts_of(script).ok_or_else(|| anyhow!("no marks"))?;
     let mut out = String::from_str(alloc, "steps")?;
@@ -70,7 +70,7 @@ pub fn turns(alloc: Global, script: &str, last: u32) -> anyhow::Result<String> {
     Ok(out)
 }
 
-/// What is written where the marked lines stand there once, with what is behind them left out.
+/// The output of the marked lines where they are there once, without that of the lines behind them.
 fn written_once(alloc: Global, parts: &Parts<'_>, count: u32) -> anyhow::Result<String> {
     let once = Parts {
         behind: "",
@@ -80,7 +80,7 @@ fn written_once(alloc: Global, parts: &Parts<'_>, count: u32) -> anyhow::Result<
     Ok(run_blank(alloc, plainly(script.as_str()))?.0.output)
 }
 
-/// What is told where the marked lines stand there so often, which write the same each time: that once, and how often.
+/// The output of marked lines that are there so often and write the same each time: it is told once, with their number.
 pub fn long(alloc: Global, script: &str, count: u32) -> anyhow::Result<(String, MemLab)> {
     let parts = parts_of(script).ok_or_else(|| anyhow!("no marks"))?;
     let before = written_once(alloc, &parts, 0)?;

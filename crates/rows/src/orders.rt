@@ -15,8 +15,8 @@ fn add_drills(script: &mut String, drills: &[&str]) -> Result<(), AllocError> {
     script.push('\n')
 }
 
-/// The swaps are opened, these drills are planned, each letter has a turn, each swap is finished, and what is stuck is recovered, and once
-/// more what a last failure left stuck.
+/// The script of an order. It opens the swaps, plans these drills, turns a swap for each letter and finishes each swap. Then it recovers what is
+/// stuck, and once more what a last failure left stuck.
 fn script_of(
     alloc: Global,
     opened: &str,

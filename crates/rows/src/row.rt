@@ -1,4 +1,4 @@
-//! A row is a line of words, of which the first one says what is run and what is told of it:
+//! The outputs of rows. A row is a line of words, of which the first one says what is run and what its output has:
 //!
 //! ```text
 //! script FILE [WORDS]    the script by the words, over the folder that they choose or else a blank plant: what it writes, and how it ends
@@ -64,7 +64,7 @@ fn script(
     Ok(ending(ran)?)
 }
 
-/// Runs a script over a blank plant, and tells how many steps that has then.
+/// Runs a script over a blank plant, and tells the number of its steps.
 fn steps(rt: &HostRuntime, file: &str, words: &[&str]) -> anyhow::Result<String> {
     let script = script_of(rt, file)?;
     let given = Given {
@@ -77,7 +77,7 @@ fn steps(rt: &HostRuntime, file: &str, words: &[&str]) -> anyhow::Result<String>
     Ok(out)
 }
 
-/// Runs a script over a blank plant, and tells what its devices did and hold.
+/// Runs a script over a blank plant, and tells the commands and the states of its devices.
 fn devices(rt: &HostRuntime, file: &str) -> anyhow::Result<String> {
     let alloc = rt.alloc();
     let (ran, plant) = run_blank(alloc, plainly(script_of(rt, file)?.as_str()))?;
@@ -87,7 +87,7 @@ fn devices(rt: &HostRuntime, file: &str) -> anyhow::Result<String> {
     Ok(out)
 }
 
-/// Runs a script over the plant, which is the last one then.
+/// Runs a script over the plant, and keeps that as the last one.
 fn over(
     rt: &HostRuntime,
     file: &str,
@@ -100,7 +100,7 @@ fn over(
     Ok(ending(ran)?)
 }
 
-/// Runs a script by words over a blank plant, with numbers of a read, a write and bytes.
+/// Runs a script by words over a blank plant, with the numbers of a failing read and write, and of bytes of room.
 fn faulty(
     rt: &HostRuntime,
     numbers: [u32; 3],
@@ -119,7 +119,7 @@ fn faulty(
     Ok(ending(run_blank(rt.alloc(), given)?.0)?)
 }
 
-/// Runs a script whose marked lines stand many times, over a plant that is the last one then.
+/// Runs a script whose marked lines are there many times, and keeps its plant as the last one.
 fn many(
     rt: &HostRuntime,
     file: &str,
@@ -138,7 +138,7 @@ fn remove(rt: &HostRuntime, folder: &str) -> anyhow::Result<String> {
     Ok(String::new(rt.alloc()))
 }
 
-/// What is told of a row over the plant that the row before left, or that keeps its own for the next one.
+/// The output of a row over the plant that the row before left, or of one that keeps its own for the next row.
 fn told_of_last(
     rt: &HostRuntime,
     words: &[&str],
@@ -163,7 +163,7 @@ fn told_of_last(
     }
 }
 
-/// What is told of any other row.
+/// The output of any other row.
 fn told_alone(rt: &HostRuntime, words: &[&str]) -> anyhow::Result<String> {
     let alloc = rt.alloc();
     match words {
@@ -200,7 +200,7 @@ fn told_alone(rt: &HostRuntime, words: &[&str]) -> anyhow::Result<String> {
     }
 }
 
-/// What is told of a row. Where it ran over a plant of its own, that is left to the next row.
+/// The output of a row. The plant of a row that has its own is left to the next one.
 pub fn told(rt: &HostRuntime, line: &str, last: &mut Option<MemLab>) -> anyhow::Result<String> {
     let words: Vec<&str> = line.split_whitespace().collect(rt.alloc())?;
     match told_of_last(rt, &words, last)? {

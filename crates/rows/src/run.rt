@@ -9,7 +9,7 @@ use std::alloc::{AllocError, Global};
 use std::fmt::Write;
 use std::str;
 
-/// What a run is given.
+/// The inputs of a run.
 #[derive(Clone, Copy)]
 pub struct Given<'a> {
     /// The words of the command line.
@@ -17,7 +17,7 @@ pub struct Given<'a> {
     pub script: &'a str,
     /// The number of the read that fails, or 0.
     pub read: u32,
-    /// That of the write.
+    /// The number of the write that fails, or 0.
     pub write: u32,
     /// How many bytes may be written.
     pub room: usize,
@@ -34,7 +34,7 @@ pub fn plainly(script: &str) -> Given<'_> {
     }
 }
 
-/// What a run wrote, and how it ended.
+/// The output of a run, and its status.
 #[derive(Drop)]
 pub struct Ran {
     pub output: String,
@@ -67,7 +67,7 @@ pub fn run<P: Plant>(alloc: Global, given: Given<'_>, plant: &mut P) -> anyhow::
     Ok(Ran { output, status })
 }
 
-/// The same over a plant in which nothing has happened, which is given back.
+/// Runs a script over a blank plant, and gives that back.
 pub fn run_blank(alloc: Global, given: Given<'_>) -> anyhow::Result<(Ran, MemLab)> {
     let mut plant = MemLab::blank(alloc).map_err(wanting)?;
     let ran = run(alloc, given, &mut plant)?;
@@ -85,7 +85,7 @@ fn add_status(out: &mut String, status: Status) -> Result<(), AllocError> {
     }
 }
 
-/// What was written, and in a line of its own how the run ended.
+/// The output of a run, and in a line of its own its end.
 pub fn ending(ran: Ran) -> Result<String, AllocError> {
     let mut out = ran.output;
     if !out.is_empty() && !out.ends_with('\n') {

@@ -1,5 +1,5 @@
-//! What no command of the program runs by itself. A row is what is run, how many times, and two files, a lab and the text of a batch or of a
-//! wiring; no experiment claims anything of the lab. The benches run such rows of larger files.
+//! Searches, and the outlook, by themselves. A row is the part that is run, the number of times, and two files. They have a lab of
+//! which nothing is claimed, and the text of a batch or of a wiring. The benches run such rows of larger files.
 //!
 //! ```text
 //! ahead   whether the promises of a batch that hold at 0 fit
@@ -17,7 +17,7 @@ use lab_base::number_in;
 use search::What;
 use std::fs;
 
-/// The number of times that a word is.
+/// The number of times in a word.
 fn times_of(word: &str) -> anyhow::Result<u64> {
     number_in(word.as_bytes(), 1, 1_000_000).map_err(|_| anyhow!("not a number of times: {word}"))
 }

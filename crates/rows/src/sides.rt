@@ -15,7 +15,7 @@ pub fn plant_with(alloc: Global, bytes: &[u8]) -> anyhow::Result<MemLab> {
     Ok(plant)
 }
 
-/// What a side reads as.
+/// The bytes that a side reads as.
 fn read_side(alloc: Global, plant: &mut MemLab, side: Side) -> anyhow::Result<Vec<u8>> {
     let size = plant
         .length(side)
@@ -38,7 +38,7 @@ fn add_bytes(out: &mut String, bytes: &[u8]) -> Result<(), AllocError> {
     out.push('\n')
 }
 
-/// How long both sides are, and what is in them where that is little.
+/// The lengths of both sides, and their bytes where these are few.
 pub fn sides(alloc: Global, plant: &mut MemLab) -> anyhow::Result<String> {
     let mut out = String::new(alloc);
     for (name, side) in [("A", Side::A), ("B", Side::B)] {

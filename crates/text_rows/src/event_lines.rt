@@ -40,7 +40,7 @@ fn push_event(out: &mut Text, event: &Event) -> Result<(), Memory> {
     }
 }
 
-/// What a text behind the head is read as.
+/// The reading of a text behind the head.
 fn read(alloc: Global, lines: &[u8]) -> Result<Asked, TextRefused> {
     let mut text = Text::from_slice(alloc, HEAD)?;
     text.push_bytes(lines)?;

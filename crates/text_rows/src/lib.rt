@@ -1,5 +1,5 @@
-//! Rows of the layers of texts, each a line, and what such a layer makes of it: the kind of the row, and then a text, in which `\n`, `\t`,
-//! `\r` and `\0` are one byte each and `\\` is a backslash.
+//! Rows of the layers of texts: each is a line, and its output is that of the layer. A row is its kind, and then a text, in which `\n`, `\t`, `\r`
+//! and `\0` are one byte each and `\\` is a backslash.
 //!
 //! ```text
 //! script    the commands of a script in short, and the line that is no command
@@ -65,7 +65,7 @@ fn text_of(alloc: Global, letters: &[u8]) -> Result<Text, Memory> {
     Ok(text)
 }
 
-/// What is told of a row about scripts, labs, wirings or mappings.
+/// The output of a row about scripts, labs, wirings or mappings.
 fn told_of_lab(alloc: Global, kind: &str, text: &[u8]) -> Result<Option<Text>, Memory> {
     Ok(Some(match kind {
         "script" => scripts::told(alloc, text)?,
@@ -80,7 +80,7 @@ fn told_of_lab(alloc: Global, kind: &str, text: &[u8]) -> Result<Option<Text>, M
     }))
 }
 
-/// What is told of a row about Tcl.
+/// The output of a row about Tcl.
 fn told_of_tcl(alloc: Global, kind: &str, text: &[u8]) -> Result<Option<Text>, Memory> {
     Ok(Some(match kind {
         "words" => words::told(alloc, text)?,
@@ -92,7 +92,7 @@ fn told_of_tcl(alloc: Global, kind: &str, text: &[u8]) -> Result<Option<Text>, M
     }))
 }
 
-/// What is told of a row about NS texts and their events.
+/// The output of a row about NS texts and their events.
 fn told_of_ns(alloc: Global, kind: &str, text: &[u8]) -> Result<Option<Text>, Memory> {
     Ok(Some(match kind {
         "ns" => networks::told(alloc, text)?,
@@ -106,7 +106,7 @@ fn told_of_ns(alloc: Global, kind: &str, text: &[u8]) -> Result<Option<Text>, Me
     }))
 }
 
-/// What is told of a row by its kind, if it is one.
+/// The output of a row by its kind, if it is one.
 fn told_by_kind(alloc: Global, kind: &str, text: &[u8]) -> Result<Option<Text>, Memory> {
     if let Some(told) = told_of_lab(alloc, kind, text)? {
         return Ok(Some(told));
@@ -123,7 +123,7 @@ fn told_by_kind(alloc: Global, kind: &str, text: &[u8]) -> Result<Option<Text>, 
     values::told(alloc, kind, text)
 }
 
-/// What is told of a row, if it is one.
+/// The output of a row, if it is one.
 pub fn told(alloc: Global, line: &str) -> Result<Option<Text>, Memory> {
     let (kind, letters) = line.split_once(' ').unwrap_or((line, ""));
     let text = text_of(alloc, letters.as_bytes())?;

@@ -1,4 +1,4 @@
-//! Events that are due, and what they make of pipes.
+//! Events that are due, and the pipes that they leave.
 ghost use Rattle.std.specs.Prelude.{IfOk};
 ghost use Rattle.virt_topo.specs.Soundness.{IsSound};
 
@@ -134,7 +134,7 @@ fn push_pipes(out: &mut Text, pipes: &[Pipe]) -> Result<(), Memory> {
     Ok(())
 }
 
-/// What an event makes of the pipes of a link `l` and a LAN `m`, whose rates are slow now and were plain in the text.
+/// The pipes that an event leaves of a link `l` and a LAN `m`. Their rates are slow now, and were plain in the text.
 fn push_change(out: &mut Text, alloc: Global, link: &[u8], what: What) -> Result<(), Memory> {
     let plain = rates(100_000, 2_000, 0);
     let slow = rates(5_000, 5_001, 7);
@@ -160,7 +160,7 @@ fn changes(alloc: Global) -> Result<Text, Memory> {
     Ok(out)
 }
 
-/// Whether an event lacks a shape: of an unknown link, and of a LAN that has one or two of its pipes now or in the text.
+/// Whether an event lacks a shape. The events are of an unknown link, and of a LAN that has one or two of its pipes now or in the text.
 fn shapes(alloc: Global) -> Result<Text, Memory> {
     let plain = rates(100_000, 2_000, 0);
     let mut out = Text::new(alloc);
@@ -174,7 +174,7 @@ fn shapes(alloc: Global) -> Result<Text, Memory> {
     Ok(out)
 }
 
-/// What is told of a row about what events do.
+/// The output of a row about the effects of events.
 pub fn told(alloc: Global, kind: &str) -> Result<Option<Text>, Memory> {
     Ok(Some(match kind {
         "due" => due_lines(alloc)?,

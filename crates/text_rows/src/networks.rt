@@ -120,7 +120,7 @@ pub fn told(alloc: Global, text: &[u8]) -> Result<Text, Memory> {
     }
     Ok(out)
 }
-/// The same of two nodes, lines behind them, and the run.
+/// The network of a text of two nodes, with lines behind them, and the run.
 pub fn told_over_two(alloc: Global, lines: &[u8]) -> Result<Text, Memory> {
     let mut text = Text::from_slice(alloc, HEAD)?;
     text.push_bytes(lines)?;
@@ -128,7 +128,7 @@ pub fn told_over_two(alloc: Global, lines: &[u8]) -> Result<Text, Memory> {
     told(alloc, text.bytes())
 }
 
-/// The same of a quote on line 3 that isn't closed, in a text of 65,536 bytes and further ones.
+/// The fault of a text with an open quote on line 3, of 65,536 bytes and further ones.
 pub fn told_long(alloc: Global, further: &[u8]) -> Result<Text, Memory> {
     let mut text = Text::from_slice(alloc, b"\n\n\"")?;
     for _ in 0..65_533 {

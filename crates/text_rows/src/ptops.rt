@@ -37,8 +37,8 @@ fn push_answer(out: &mut Text, answer: bool) -> Result<(), Memory> {
     out.push_bytes(if answer { b"yes\n" } else { b"no\n" })
 }
 
-/// Adds whether the first two switches are on the first side of the first trunk, whether they are joined, and for each switch and then
-/// each node whether it is on that side.
+/// Adds answers about the first trunk's first side.
+/// They tell whether the first two switches are on it, whether they are joined, and for each switch and then each node whether it is on that side.
 fn push_sides(out: &mut Text, lab: &Lab) -> Result<(), Memory> {
     let (trunk, first, second) = (TrunkId(0), SwitchId(0), SwitchId(1));
     if lab.trunks().is_empty() || lab.switches().len() < 2 {
@@ -114,7 +114,7 @@ fn add_trunk(text: &mut Text, trunk: u64) -> Result<(), Memory>
     Ok(())
 }
 
-/// What the largest lab is read and printed as.
+/// The largest lab, as it is read and printed.
 pub fn told_largest(alloc: Global) -> Result<Text, Memory> {
     let text = largest(alloc)?;
     match read(alloc, text.bytes()) {

@@ -12,7 +12,7 @@ const MAX_TEXT: usize = 100_000;
 const HEAD: &[u8] =
     b"set ns [new Simulator]\nset a [$ns node]\nset b [$ns node]\nset c [$ns node]\n";
 
-/// What a text of these rows is read and printed as.
+/// The text of a wiring, as it is read and printed.
 fn printed(alloc: Global, text: &[u8]) -> Result<Text, TextRefused> {
     if text.len() > MAX_TEXT {
         return Err(TextRefused::Memory);
@@ -49,7 +49,7 @@ pub fn told(alloc: Global, text: &[u8]) -> Result<Text, Memory> {
     Ok(out)
 }
 
-/// The same of three nodes and what joins them.
+/// The wiring of three nodes with links or LANs between them.
 pub fn told_over_three(alloc: Global, joins: &[u8]) -> Result<Text, Memory> {
     let mut text = Text::from_slice(alloc, HEAD)?;
     text.push_bytes(joins)?;

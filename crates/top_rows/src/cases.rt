@@ -1,5 +1,5 @@
-//! A command that is cut at each of its steps and calls, and where that may lead: by a stop, by a failure of a device, and by one of the
-//! disk.
+//! A command that is cut at each of its steps and calls, by a stop, by a failure of a device, or by one of the disk.
+//! Each cut has to lead to one of some ends.
 use crate::held::{Held, holds};
 use crate::table::{FAIL_DISK, Ran, STOP_ALL, STOP_NONE, STOP_TORN, Words, drilled, run};
 use lab_top::Status;
@@ -14,14 +14,14 @@ pub const MADE: &[u8] =
 pub const SWAP_IN: &[u8] =
     b"swapin-with A 4\nnode a pc1 pc\nnode b pc4 pc\nplug a:0 pc1:eth0\nplug b:0 pc4:eth0\n";
 
-/// What `status` and `show A` tell at an end, and what is in the plant then.
+/// An end: the replies to `status` and `show A`, and the rows and machines in the plant.
 #[derive(Drop)]
 pub struct End {
     pub told: &'static [u8],
     pub held: &'static [Held],
 }
 
-/// What B holds.
+/// The rows and machines of B.
 pub const OTHER: Held = Held {
     rows: &[
         (b"s1", 3, 100),
@@ -55,8 +55,8 @@ pub const IN: End = End {
     ],
 };
 
-/// What comes before a command, the command, and the ends that it may lead to. Of its steps: how many stops cut it, how many failures of
-/// devices, by two hows, and how many failures of the disk at least.
+/// A case: the script before a command, the command, and the ends to which a cut may lead.
+/// It has the number of its stops, of its failures of devices by two hows, and the least number of its failures of the disk.
 #[derive(Drop)]
 pub struct Case {
     pub before: &'static [&'static [u8]],
@@ -67,12 +67,12 @@ pub struct Case {
     pub calls: u32,
 }
 
-/// Whether the output ends with what is told at that end, and the plant has exactly what is held then.
+/// Whether the output ends with the replies of that end, and the plant has exactly its rows and machines.
 pub fn is_at(ran: &Ran, end: &End) -> Result<bool, Fail> {
     Ok(ran.output.ends_with(end.told) && holds(&ran.plant, end.held)?)
 }
 
-/// Whether it is at one of these ends.
+/// Whether a run is at one of these ends.
 fn is_at_one(ran: &Ran, ends: &[End]) -> Result<bool, Fail> {
     for end in ends {
         if is_at(ran, end)? {
@@ -91,12 +91,12 @@ fn run_case(alloc: Global, case: &Case, drill: Words, nth: u32, then: &[u8]) -> 
     run(alloc, drilled(alloc, &before, drill, nth, &behind)?.bytes())
 }
 
-/// What the case replies where no drill cuts it.
+/// The replies of a case that no drill cuts.
 fn uncut(alloc: Global, case: &Case, then: &[u8]) -> Result<Vec<u8>, Fail> {
     Ok(run_case(alloc, case, STOP_NONE, 1_000_000, then)?.output)
 }
 
-/// How many numbers of the drill cut the command, from 1 on, where each leads to one of the ends.
+/// The number of drills, by their numbers from 1 on, that cut the command. Each has to lead to one of the ends.
 fn cuts(
     alloc: Global,
     case: &Case,

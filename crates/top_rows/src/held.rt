@@ -1,4 +1,4 @@
-//! What stands on the devices: the rows and the machines of the experiments that are in.
+//! The rows and the machines of the experiments that are in, on the devices.
 use lab_base::{Boot, Name, VlanId};
 use plant_mem::MemLab;
 use std::test::Fail;
@@ -29,7 +29,7 @@ fn stands(plant: &MemLab, row: &PortRow) -> Result<bool, Fail> {
     Ok(plant.has_row(Name::read(row.0)?, row.1, VlanId(row.2)))
 }
 
-/// Whether it has all of them.
+/// Whether the plant has all of the rows.
 fn all_stand(plant: &MemLab, rows: &[PortRow]) -> Result<bool, Fail> {
     for row in rows {
         if !stands(plant, row)? {
@@ -77,7 +77,7 @@ fn os_among(machine: &[u8], rows: &[MachineRow]) -> Option<&'static [u8]> {
     rows.iter().find(|row| row.0 == machine).map(|row| row.1)
 }
 
-/// The OS that it has by what these hold.
+/// The OS of a machine by the rows of machines of all experiments.
 fn os_of(machine: &[u8], held: &[Held]) -> Option<&'static [u8]> {
     held.iter().find_map(|one| os_among(machine, one.machines))
 }

@@ -29,7 +29,7 @@ fn lab_of_nothing(alloc: Global) -> Command
     }
 }
 
-/// What a controller of that limit replies to a lab of nothing, over a blank plant. It asks for no cost.
+/// The reply of a controller with that limit to a lab of nothing, over a blank plant. It asks for no cost.
 fn reply_under(alloc: Global, rule: &StepRule, limit: u64) -> Result<Reply, Fail>
     requires least { 18 ≤ limit }
     requires most { limit ≤ 2 ^ 32 }
@@ -45,7 +45,7 @@ fn reply_under(alloc: Global, rule: &StepRule, limit: u64) -> Result<Reply, Fail
     }
 }
 
-/// That, under the rule that stands where none is chosen.
+/// The reply under that limit, by the rule that serves where none is chosen.
 fn reply_within(alloc: Global, limit: u64) -> Result<Reply, Fail>
     requires least { 18 ≤ limit }
     requires most { limit ≤ 2 ^ 32 }

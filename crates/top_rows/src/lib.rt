@@ -1,5 +1,5 @@
-//! What the list of scripts doesn't show: commands that are cut at each of their steps, whose runs take long, the limit of a journal, and
-//! the codes of ends.
+//! Tests beside the list of scripts: commands that are cut at each of their steps, whose runs take long; the limit of a journal; and the codes of
+//! ends.
 #![tactic(auto)]
 
 #[cfg(test)]

@@ -7,11 +7,11 @@ use std::test::Fail;
 const MADE: &[u8] =
     b"ptop 20\nvlans 100 105\nnode s1 switch\nnode s2 switch\nnode pc1 pc:1\nnode pc2 pc:1\nnode pc3 pc:1\nnode pc4 pc:1\nnode pc5 pc:1\nnode pc6 pc:1\nnode pc7 pc:1\nnode pc8 pc:1\nlink i1 pc1:eth0 s1:1 1000000\nlink i2 pc2:eth0 s1:2 1000000\nlink i3 pc3:eth0 s1:3 1000000\nlink i4 pc4:eth0 s1:4 1000000\nlink i5 pc5:eth0 s2:1 1000000\nlink i6 pc6:eth0 s2:2 1000000\nlink i7 pc7:eth0 s2:3 1000000\nlink i8 pc8:eth0 s2:4 1000000\nlink t1 s1:24 s2:24 200000\ncreate-top A 3\nnode a pc linux\nnode b pc linux\nlink ab ab 1000 a b\ncreate-top B 3\nnode a pc linux\nnode b pc linux\nlink ab ab 1000 a b\ncreate-top C 3\nnode a pc linux\nnode b pc linux\nlink ab ab 1000 a b\nswapin-with A 4\nnode a pc1 pc\nnode b pc5 pc\nplug a:0 pc1:eth0\nplug b:0 pc5:eth0\nswapin-with B 4\nnode a pc2 pc\nnode b pc6 pc\nplug a:0 pc2:eth0\nplug b:0 pc6:eth0\n";
 
-/// The first node of A is to move to machine 3, B is to go out, and C is to come in on machines 4 and 8.
+/// Opens three swaps: the first node of A moves to machine 3, B goes out, and C comes in on machines 4 and 8.
 const OPENED: &[u8] =
     b"open modify-with A 3 4\nnode a pc linux\nnode b pc linux\nlink ab ab 1000 a b\nnode a pc3 pc\nnode b pc5 pc\nplug a:0 pc3:eth0\nplug b:0 pc5:eth0\nopen swapout B\nopen swapin-with C 4\nnode a pc4 pc\nnode b pc8 pc\nplug a:0 pc4:eth0\nplug b:0 pc8:eth0\n";
 
-/// What A holds where it was, and where it has moved.
+/// The rows and machines of A, before its change and after it.
 const A_OLD: Held = Held {
     rows: &[
         (b"s1", 1, 100),
@@ -32,7 +32,7 @@ const A_NEW: Held = Held {
     machines: &[(b"pc3", b"linux"), (b"pc5", b"linux")],
 };
 
-/// What C holds where it is in.
+/// The rows and machines of C where it is in.
 const C_IN: Held = Held {
     rows: &[
         (b"s1", 4, 103),
@@ -67,8 +67,8 @@ const BOTH_BACK: End = End {
     held: &[A_OLD],
 };
 
-/// A turn of each after the other: of A 13 commands, of B 6 and of C 12, and a record of each. Further turns are refused, and what is undone
-/// then is finished.
+/// Turns of each swap after the other: 13 commands of A, 6 of B and 12 of C, and a record of each. Further turns are refused, and an undone swap is
+/// finished.
 const ROUNDS: &[u8] =
     b"turn A\nturn B\nturn C\nturn A\nturn B\nturn C\nturn A\nturn B\nturn C\nturn A\nturn B\nturn C\nturn A\nturn B\nturn C\nturn A\nturn B\nturn C\nturn A\nturn B\nturn C\nturn A\nturn B\nturn C\nturn A\nturn B\nturn C\nturn A\nturn B\nturn C\nturn A\nturn B\nturn C\nturn A\nturn B\nturn C\nturn A\nturn B\nturn C\nturn A\nturn B\nturn C\nfinish A\nfinish B\nfinish C\n";
 

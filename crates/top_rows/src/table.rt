@@ -1,4 +1,4 @@
-//! How a row is run: a script, with a drill in it or without one, over the plant in memory.
+//! The run of a row: a script, with a drill in it or without one, over the plant in memory.
 use lab_base::{Memory, Text};
 use lab_io::{MemSink, MemSource};
 use lab_top::{Status, labctl};
@@ -6,7 +6,7 @@ use plant_mem::MemLab;
 use std::alloc::Global;
 use std::test::Fail;
 
-/// What is left behind a run.
+/// The output, the status and the plant behind a run.
 #[derive(Drop)]
 pub struct Ran {
     pub status: Status,

@@ -13,7 +13,7 @@ use phys_lab::Lab;
 use rule_costs::{cost_of, parts_cost, step_cost};
 use virt_topo::{Mapping, Wiring};
 
-/// What is measured of a wiring on a lab.
+/// The part of the search that is measured.
 #[derive(Clone, Copy, PartialEq, Eq)]
 pub(crate) enum What {
     Walk,

@@ -13,7 +13,7 @@ use virt_topo::Wiring;
 /// The most bytes of a text.
 const MAX_TEXT: usize = 16_777_216;
 
-/// A lab of which nothing is claimed, and what is asked of it.
+/// A wiring, and a lab of which nothing is claimed.
 #[derive(Drop)]
 pub(crate) struct Problem {
     pub(crate) lab: Lab,
@@ -32,7 +32,7 @@ fn kbps_of(alloc: Global, lab: &Lab) -> Result<Vec<u64>, Memory>
     Ok(kbps)
 }
 
-/// What is left of a lab of which nothing is claimed.
+/// The free rest of a lab of which nothing is claimed.
 fn all_of(alloc: Global, lab: &Lab) -> Result<Free, Memory>
     ensures { IfOk result (IsFreeOf lab.now) }
 {
