@@ -1,4 +1,4 @@
--- What is left of trunks to an experiment.
+-- The kbps of trunks that are left to an experiment.
 use Rattle.std.specs.Prelude.{IfOk}
 use Rattle.std.proofs.Common.{◌≡◌, ℕ, ◌+◌, ◌<◌, Result, Ok, Err, Some, None, Bool, false, List, length, map, get_or, refl, ap, ◌∙◌, arith}
 use Rattle.claims.specs.declared.claim.Claim.{Claim}

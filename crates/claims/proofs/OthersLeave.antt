@@ -1,4 +1,4 @@
--- What the claims of experiments leave is what the experiments leave.
+-- The rest that the claims of experiments leave is the rest that the experiments leave.
 use Rattle.std.specs.List.{list_any, sum_by, flat_map, count_by}
 use Rattle.std.specs.Str.{bytes_eq}
 use Rattle.std.proofs.Common.{◌≡◌, ◌≢◌, inl, inr, ℕ, zero, suc, ◌+◌, ◌<◌, ◌||◌, ◌==◌, max, not, Option, Some, None, List, [], ◌∷◌, ◌++◌, length, map, get_or, refl, sym, ap, ◌∙◌, arith}

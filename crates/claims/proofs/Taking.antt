@@ -1,4 +1,4 @@
--- What a mapping takes beside the experiments makes a claim that may be added.
+-- A mapping that may stand beside the experiments makes a claim that may be added.
 use Rattle.std.specs.Prelude.{IfSome}
 use Rattle.std.proofs.Common.{◌≡◌, inl, inr, ℕ, ◌<◌, ◌≤◌, max, true, Option, Some, None, List, ◌∷◌, ◌++◌, length, map, get_or, refl, sym, ap, ◌∙◌, subst, arith}
 use Rattle.std.proofs.lemmas.List.{length-map, get_or-map}

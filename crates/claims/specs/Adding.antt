@@ -1,4 +1,4 @@
--- What a claim has to be to be added, and what claims are after each call.
+-- The condition under which a claim may be added, and the claims after each call.
 use Rattle.std.specs.Prelude.{◌≡◌, ◌<◌, ◌≤◌, ◌+◌, ℕ, Bool, List, [], ◌∷◌, ◌++◌, length, slice_index_or, Option, None, Some, IfSome, if◌then◌else◌}
 use Rattle.lab_base.specs.Lists.{Has, AllDiffer}
 use Rattle.claims.specs.declared.claim.Claim.{Claim}

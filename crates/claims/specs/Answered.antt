@@ -1,4 +1,4 @@
--- What the calls on claims answer.
+-- The answers of the calls on claims.
 use Rattle.std.specs.Prelude.{◌≡◌, ◌<◌, ◌≤◌, ℕ, Bool, not, ◌&&◌, nat_le, List, [], length, map, take, Result, Ok, Err}
 use Rattle.std.specs.List.{list_all}
 use Rattle.lab_base.specs.declared.ids.VlanId.{VlanId}

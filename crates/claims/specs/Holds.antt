@@ -1,4 +1,4 @@
--- What one mapping claims, and what an experiment does.
+-- The claim of one mapping, and that of an experiment.
 use Rattle.std.specs.Prelude.{map, length, Option, None, Some}
 use Rattle.std.specs.List.{range_with_len}
 use Rattle.phys_lab.specs.Labs.{Lab}

@@ -1,4 +1,4 @@
--- What claims keep: the claims stand beside one another, and the tables are those of the claims.
+-- The invariant of claims: they stand beside one another, and the tables are theirs.
 use Rattle.std.specs.Prelude.{◌≡◌, ◌≢◌, ◌<◌, ◌≤◌, ◌+◌, ℕ, List, length, slice_index_or, None, vec_capacity}
 use Rattle.lab_base.specs.Lists.{Has, Apart}
 use Rattle.claims.specs.declared.claim.Claim.{Claim}

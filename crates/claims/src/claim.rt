@@ -5,8 +5,7 @@ ghost use Rattle.claims.specs.Adding.{side_of};
 use crate::hold::Hold;
 use lab_base::Name;
 
-/// What an experiment claims. One that stands in the lab has `new` alone, one that leaves it has `old` alone, and one
-/// that changes has both.
+/// The claim of an experiment. One that stands in the lab has `new` alone, one that leaves it `old` alone, and one that changes has both.
 #[derive(Drop)]
 pub struct Claim {
     pub old: Option<Hold>,
@@ -31,7 +30,7 @@ fn use_in(hold: &Option<Hold>, trunk: usize) -> u64
 }
 
 impl Claim {
-    /// What it uses of a trunk: the greater of both uses.
+    /// The kbps that the claim uses of a trunk: the greater of both uses.
     pub(crate) fn use_of(&self, trunk: usize) -> u64
         requires old { IfSome self.now.old (λ h. trunk < length h.uses) }
         requires new { IfSome self.now.new (λ h. trunk < length h.uses) }
@@ -40,7 +39,7 @@ impl Claim {
         std::cmp::max(use_in(&self.old, trunk), use_in(&self.new, trunk))
     }
 
-    /// The claim of an experiment that stands with one side of it.
+    /// One side of the claim, as that of an experiment that stands.
     pub(crate) fn side(self, keep_new: bool) -> Claim
         ensures { result ≡ side_of keep_new self }
     {

@@ -11,14 +11,14 @@ use phys_lab::{Lab, Trunk};
 use std::alloc::Global;
 use std::marker::Model;
 
-/// For how many claims there is room from the start: as many experiments as there may be.
+/// The number of claims for which there is room from the start: as many experiments as a lab may have.
 const MAX_CLAIMS: usize = 256;
 
-/// What the experiments of a lab claim.
+/// The claims of all experiments on a lab, at most one for each.
 #[derive(Drop)]
 pub struct Claims {
     pub(crate) range: (u16, u16),
-    /// By trunk its kbps.
+    /// By trunk, its kbps.
     pub(crate) kbps: Vec<u64>,
     /// The claims, in no order that matters.
     pub(crate) entries: Vec<Entry>,
@@ -36,14 +36,14 @@ impl Model for Claims {
     ghost invariant = { IsKept };
 }
 
-/// The place of an experiment's claim.
+/// The place of an experiment's claim; None where it has none.
 pub(crate) fn place_of(entries: &[Entry], exp: Name) -> Option<usize>
     ensures { result ≡ position (λ e. bytes_eq e.exp exp) entries.now }
 {
     entries.iter().position(|entry| entry.exp == exp)
 }
 
-/// Takes the claim of an experiment off, if it has one.
+/// Removes the claim of an experiment, if it has one.
 fn take_off(
     range: (u16, u16),
     entries: &mut Vec<Entry>,
@@ -69,7 +69,7 @@ fn take_off(
     }
 }
 
-/// Puts the claim of an experiment on that has none.
+/// Adds the claim of an experiment that has none.
 fn put_on(range: (u16, u16), entries: &mut Vec<Entry>, tables: &mut Tables, exp: Name, claim: Claim)
     requires room { vec_len entries.old < vec_capacity entries.old }
     requires kept { (kbps : List ℕ) × Keeps range kbps entries.old.items tables.old × MayStand (held_in range kbps entries.old.items tables.old) exp claim }
@@ -82,7 +82,7 @@ fn put_on(range: (u16, u16), entries: &mut Vec<Entry>, tables: &mut Tables, exp:
     entries.push_reserved(Entry { exp, claim });
 }
 
-/// Puts the claim of an experiment in the place of the one that it may have.
+/// Sets the claim of an experiment, in the place of the one that it may have.
 fn put_in_place(
     range: (u16, u16),
     entries: &mut Vec<Entry>,
@@ -101,7 +101,7 @@ fn put_in_place(
     put_on(range, entries, tables, exp, claim);
 }
 
-/// By trunk its kbps.
+/// By trunk, its kbps.
 fn kbps_of(alloc: Global, trunks: &[Trunk]) -> Result<Vec<u64>, Memory>
     ensures { IfOk result (λ kbps. kbps.items ≡ map (λ t. t.kbps) trunks.now) }
 {
@@ -118,7 +118,7 @@ impl Claims {
     ghost use Rattle.claims.specs.Adding.{MayAdd, with_claim, without, narrowed};
     ghost use Rattle.claims.specs.Answered.{none_of};
 
-    /// No claim on a lab.
+    /// The claims on a lab without experiments: none.
     pub fn empty(alloc: Global, lab: &Lab) -> Result<Claims, Memory>
         ensures { IfOk result (λ claims. claims ≡ none_of lab.now) }
     {
@@ -132,7 +132,7 @@ impl Claims {
         })
     }
 
-    /// Adds the claim of an experiment, in the place of the one that it may have. On `Memory` nothing changes.
+    /// Sets the claim of an experiment, in the place of the one that it may have. On `Memory` nothing changes.
     pub fn add(&mut self, exp: Name, claim: Claim) -> Result<(), Memory>
         requires { MayAdd self.old exp claim }
         ensures ok { OnOk result (self.new ≡ with_claim exp claim self.old) }
@@ -143,8 +143,7 @@ impl Claims {
         Ok(())
     }
 
-    /// Adds the claim of an experiment, in the place of the one that it may have, where few enough others have one. It
-    /// takes no memory.
+    /// Sets the claim of an experiment, as `add` does, where at most 255 others have one. It takes no memory.
     pub fn note(&mut self, exp: Name, claim: Claim)
         requires may { MayAdd self.old exp claim }
         requires few { length (others exp self.old.entries) < 256 }
@@ -153,7 +152,7 @@ impl Claims {
         put_in_place(self.range, &mut self.entries, &mut self.tables, exp, claim);
     }
 
-    /// Keeps one side of the claim of an experiment that moves, as of one that stands in the lab.
+    /// Narrows the claim of an experiment that moves to one of its sides, as of one that stands in the lab.
     pub fn narrow(&mut self, exp: Name, keep_new: bool)
         ensures { self.new ≡ narrowed exp keep_new self.old }
     {
@@ -168,7 +167,7 @@ impl Claims {
         }
     }
 
-    /// Drops the claim of an experiment, if it has one.
+    /// Removes the claim of an experiment, if it has one.
     pub fn drop_claim(&mut self, exp: Name)
         ensures { self.new ≡ without exp self.old }
     {

@@ -3,10 +3,10 @@ ghost use Rattle.claims.specs.declared.fault.TakeFault.TheVariants as faults;
 
 use lab_base::Memory;
 
-/// Why VLAN ids were not taken.
+/// The reason why VLAN ids were not taken.
 #[derive(Clone, Copy, Debug, PartialEq, Eq)]
 pub enum TakeFault {
-    /// Only so many are free.
+    /// Fewer are free than were asked for: that many.
     TooFew(u16),
     Memory,
 }

@@ -10,16 +10,16 @@ use phys_lab::Lab;
 use std::alloc::Global;
 use virt_topo::{Mapped, Mapping};
 
-/// What one mapping claims of a lab.
+/// The claim of one mapping on a lab: its nodes, interfaces, kbps of trunks, and VLAN ids.
 #[derive(Drop)]
 pub struct Hold {
-    /// By virtual node its node.
+    /// By virtual node, its node.
     pub nodes: Items<NodeId>,
-    /// By end its interface.
+    /// By end, its interface.
     pub plugs: Items<IfaceId>,
-    /// By trunk the kbps that it uses.
+    /// By trunk, the kbps that the mapping uses.
     pub uses: Items<u64>,
-    /// By segment its VLAN id.
+    /// By segment, its VLAN id.
     pub tags: Tags,
 }
 
@@ -57,7 +57,7 @@ fn uses_of(alloc: Global, lab: &Lab, mapped: &Mapped) -> Result<Items<u64>, Memo
 }
 
 impl Hold {
-    /// What a mapping with its wiring and VLAN ids claims.
+    /// The claim of a mapping with its wiring and VLAN ids.
     pub fn of(alloc: Global, lab: &Lab, mapped: &Mapped) -> Result<Hold, Memory>
         requires sound { IsSound mapped.now.wiring }
         requires shaped { IsShaped lab.now mapped.now.wiring mapped.now.mapping }

@@ -20,45 +20,45 @@ ghost use Rattle.claims.specs.Held.{Held, IsLeftTo, others};
 ghost use Rattle.claims.specs.Holds.{claim_of};
 ghost use Rattle.claims.specs.Experiments.{ClaimsOf};
 
-/// What the claims of the experiments leave to one of them is what the other experiments leave to it.
+/// The claims of all experiments leave to one of them exactly the rest that the other experiments leave to it.
 pub fn left_by_others()
     ensures left { (lab : Lab) (a b : List Experiment) (own : Experiment) (held : Held) (free : AnyFree) → IsLab lab → Holding lab (a ++ own ∷ b)
         → AllDiffer (map (λ e. e.name) (a ++ own ∷ b)) → ClaimsOf lab (a ++ own ∷ b) held → IsLeftTo held own.name free
         → IsLeft lab (a ++ b) own free }
 {}
 
-/// The claims of a lab without experiments.
+/// A lab without experiments has no claim.
 pub fn none()
     ensures { (lab : Lab) → ClaimsOf lab [] (none_of lab) }
 {}
 
-/// An experiment that is made is out, and changes no claim.
+/// A new experiment is out, and changes no claim.
 pub fn made()
     ensures { (lab : Lab) (es : List Experiment) (e : Experiment) (held : Held) → ClaimsOf lab es held → e.phase ≡ Out
         → ((d : Experiment) → Has es d → d.name ≢ e.name) → ClaimsOf lab (es ++ e ∷ []) held }
 {}
 
-/// Nor does one that is out and goes.
+/// An experiment that is out and is deleted changes no claim.
 pub fn gone()
     ensures { (lab : Lab) (a b : List Experiment) (e : Experiment) (held : Held) → AllDiffer (map (λ e. e.name) (a ++ e ∷ b))
         → ClaimsOf lab (a ++ e ∷ b) held → e.phase ≡ Out → ClaimsOf lab (a ++ b) held }
 {}
 
-/// An experiment claims something else: its claim stands in the place of the one that it may have had.
+/// The new claim of an experiment takes the place of the one that it may have had.
 pub fn put()
     ensures { (lab : Lab) (a b : List Experiment) (e f : Experiment) (held : Held) → AllDiffer (map (λ e. e.name) (a ++ e ∷ b))
         → ClaimsOf lab (a ++ e ∷ b) held → f.name ≡ e.name → f.phase ≢ Out
         → ClaimsOf lab (a ++ f ∷ b) (with_claim e.name (claim_of lab f) held) }
 {}
 
-/// An experiment is out and claims nothing more.
+/// An experiment that is out has no claim any more.
 pub fn dropped()
     ensures { (lab : Lab) (a b : List Experiment) (e f : Experiment) (held : Held) → AllDiffer (map (λ e. e.name) (a ++ e ∷ b))
         → ClaimsOf lab (a ++ e ∷ b) held → f.name ≡ e.name → f.phase ≡ Out
         → ClaimsOf lab (a ++ f ∷ b) (without e.name held) }
 {}
 
-/// A move ends: the experiment stands with its new mapping, or again with its old one.
+/// At the end of a move the experiment stands with its new mapping, or again with its old one.
 pub fn narrowed()
     ensures new { (lab : Lab) (a b : List Experiment) (e f : Experiment) (old : Option Mapped) (m : Mapped) (held : Held)
         → AllDiffer (map (λ e. e.name) (a ++ e ∷ b)) → ClaimsOf lab (a ++ e ∷ b) held → e.phase ≡ Moving old (Some m)
@@ -70,20 +70,20 @@ pub fn narrowed()
         → ClaimsOf lab (a ++ f ∷ b) (narrowed e.name false held) }
 {}
 
-/// The claims of the others are fewer than the experiments.
+/// The others have fewer claims than there are experiments.
 pub fn few()
     ensures { (lab : Lab) (a b : List Experiment) (e : Experiment) (held : Held) → AllDiffer (map (λ e. e.name) (a ++ e ∷ b))
         → ClaimsOf lab (a ++ e ∷ b) held → length (others e.name held.entries) < length (a ++ e ∷ b) }
 {}
 
-/// VLAN ids are free to the experiments where they are free beside the claims, one for each segment.
+/// VLAN ids are free to an experiment exactly where, one for each segment, they are free beside the other claims.
 pub fn free_tags()
     ensures { (lab : Lab) (es : List Experiment) (held : Held) (w : Wiring) (tags : List VlanId) → AllDiffer (map (λ e. e.name) es)
         → ClaimsOf lab es held → are_free_tags lab es w tags ≡ ((length tags == length w.segments) && are_free_ids held tags) }
 {}
 
-/// A move begins from what the experiment claims, if it claims something: to a mapping that has no violation beside the
-/// others and whose VLAN ids are free, or to nothing. The claim of the experiment that moves may be added.
+/// A move begins from the claim of its experiment, if it has one. It leads to nothing, or to a mapping without a violation beside the others, whose
+/// VLAN ids are free. The claim of the experiment that moves may then be added.
 pub fn may_add()
     ensures taken { (lab : Lab) (a b : List Experiment) (e f : Experiment) (m : Mapped) (held : Held) → Holding lab (a ++ e ∷ b)
         → AllDiffer (map (λ e. e.name) (a ++ e ∷ b)) → ClaimsOf lab (a ++ e ∷ b) held → f.phase ≡ Moving (claimed e New) (Some m)

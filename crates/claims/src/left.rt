@@ -1,4 +1,4 @@
-// What claims leave.
+// // The rest of a lab that claims leave.
 ghost use Rattle.std.specs.Prelude.{◌≡◌, ◌+◌, ◌-◌, ◌<◌, ◌≤◌, ℕ, map, take, length, slice_index_or, count_by, is_none, IfOk, IfSome};
 ghost use Rattle.lab_base.specs.Lists.{Has};
 ghost use Rattle.claims.specs.declared.claim.Entry.{Entry as AnyEntry};
@@ -56,7 +56,7 @@ fn free_nodes(alloc: Global, owners: &[Option<Name>], exp: Name) -> Result<Items
     Ok(free)
 }
 
-/// By trunk the kbps that are not used.
+/// By trunk, the kbps that are not used.
 fn left_alone(alloc: Global, kbps: &[u64], used: &[u64]) -> Result<Items<u64>, Memory>
     requires lens { length used.now ≡ length kbps.now }
     requires fits { (t : ℕ) → t < length kbps.now → slice_index_or used.now t 0 ≤ slice_index_or kbps.now t 0 }
@@ -70,7 +70,7 @@ fn left_alone(alloc: Global, kbps: &[u64], used: &[u64]) -> Result<Items<u64>, M
     Ok(left)
 }
 
-/// By trunk the kbps that are not used by other claims than this one.
+/// By trunk, the kbps that no claim but this one uses.
 fn left_beside(
     alloc: Global,
     kbps: &[u64],
@@ -92,7 +92,7 @@ fn left_beside(
     Ok(left)
 }
 
-/// By trunk the kbps that other experiments don't claim.
+/// By trunk, the kbps that other experiments don't claim.
 fn left_to(
     alloc: Global,
     kbps: &[u64],
@@ -131,7 +131,7 @@ fn first_free(
     Ok(tags)
 }
 
-/// What is left of the trunk of that number.
+/// The kbps left of the trunk of that number.
 fn left_of(kbps: &[u64], used: &[u64], number: usize) -> u64
     requires number { number < length kbps.now }
     requires one_each { length used.now ≡ length kbps.now }
@@ -146,7 +146,7 @@ impl Claims {
     ghost use Rattle.claims.specs.Held.{free_nodes, free_ids, nodes_of, ids_of, claim_named, use_by, IsLeftTo};
     ghost use Rattle.claims.specs.Answered.{AreTaken};
 
-    /// How many nodes and how many VLAN ids no claim has.
+    /// The number of nodes and the number of VLAN ids that no claim has.
     pub fn counted(&self) -> (u16, u16)
         ensures nodes { result.0 ≡ free_nodes self.now }
         ensures ids { result.1 ≡ length (free_ids self.now) }
@@ -156,7 +156,7 @@ impl Claims {
         (nodes as u16, ids as u16)
     }
 
-    /// How many nodes and how many VLAN ids an experiment claims.
+    /// The number of nodes and the number of VLAN ids that an experiment claims.
     pub fn counted_of(&self, exp: Name) -> (u16, u16)
         ensures nodes { result.0 ≡ nodes_of self.now.nodes (claim_named exp self.now.entries) }
         ensures ids { result.1 ≡ ids_of self.now.range (claim_named exp self.now.entries) }
@@ -174,7 +174,7 @@ impl Claims {
         left_of(&self.kbps, &self.tables.used, trunk.0 as usize)
     }
 
-    /// What the others leave to an experiment.
+    /// The nodes, kbps and VLAN ids that the others leave to an experiment.
     pub fn free_without(&self, alloc: Global, exp: Name) -> Result<Free, Memory>
         ensures { IfOk result (IsLeftTo self.now exp) }
     {
@@ -184,7 +184,7 @@ impl Claims {
         Ok(Free { nodes, left, vlans })
     }
 
-    /// The least free VLAN ids. `TooFew` comes with how many are free.
+    /// The `n` least free VLAN ids. `TooFew` has the number of those that are free.
     pub fn take_vlans(&self, alloc: Global, n: u16) -> Result<Tags, TakeFault>
         ensures { AreTaken (free_ids self.now) n result }
     {

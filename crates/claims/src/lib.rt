@@ -1,4 +1,4 @@
-//! What the experiments of a lab claim, and what they leave.
+//! The claims of a lab's experiments, and the rest that they leave.
 #![tactic(auto)]
 
 mod claim;

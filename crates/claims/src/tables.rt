@@ -7,12 +7,12 @@ use crate::hold::Hold;
 use lab_base::{Memory, Name, NodeId, VlanId};
 use std::alloc::Global;
 
-/// What all claims take together.
+/// The claims of all experiments together, by node, by trunk and by VLAN id.
 #[derive(Drop)]
 pub(crate) struct Tables {
-    /// By node the experiment that claims it.
+    /// By node, the experiment that claims it.
     pub nodes: Vec<Option<Name>>,
-    /// By trunk the kbps that are used.
+    /// By trunk, the kbps that are used.
     pub used: Vec<u64>,
     /// By VLAN id of the range, from its first on, the experiment that claims it.
     pub ids: Vec<Option<Name>>,
@@ -38,7 +38,7 @@ fn own_ids(owners: &mut Vec<Option<Name>>, first: u16, tags: &[VlanId], owner: &
     }
 }
 
-/// Gives the nodes and the VLAN ids of one side of a claim an owner, or none.
+/// Sets the owner of the nodes and VLAN ids of one side of a claim, or clears it.
 fn own(tables: &mut Tables, first: u16, hold: &Option<Hold>, owner: &Option<Name>)
     requires nodes { IfSome hold.now (λ h. All (λ n. n.0 < vec_len tables.old.nodes) h.nodes) }
     requires ids { IfSome hold.now (λ h. All (λ tag. (first ≤ tag.0) × (tag.0 - first < vec_len tables.old.ids)) h.tags) }
@@ -78,7 +78,7 @@ fn use_less(used: &mut Vec<u64>, claim: &Claim)
     }
 }
 
-/// Notes the claim of an experiment.
+/// Adds the claim of an experiment to the tables.
 pub(crate) fn note(tables: &mut Tables, first: u16, exp: Name, claim: &Claim)
     requires fits { FitsTables first tables.old claim.now }
     requires room { (t : ℕ) → t < length tables.old.used.items → slice_index_or tables.old.used.items t 0 + claim_use t claim.now < 2 ^ 64 }
@@ -95,7 +95,7 @@ pub(crate) fn note(tables: &mut Tables, first: u16, exp: Name, claim: &Claim)
     use_more(&mut tables.used, claim);
 }
 
-/// Takes the claim of an experiment off.
+/// Removes the claim of an experiment from the tables.
 pub(crate) fn forget(tables: &mut Tables, first: u16, claim: &Claim)
     requires fits { FitsTables first tables.old claim.now }
     requires room { (t : ℕ) → t < length tables.old.used.items → claim_use t claim.now ≤ slice_index_or tables.old.used.items t 0 }
@@ -112,7 +112,7 @@ pub(crate) fn forget(tables: &mut Tables, first: u16, claim: &Claim)
     use_less(&mut tables.used, claim);
 }
 
-/// Tables in which nothing is claimed.
+/// Tables of a lab in which nothing is claimed.
 pub(crate) fn no_tables(
     alloc: Global,
     nodes: usize,

@@ -7,7 +7,7 @@ ghost use Rattle.claims.specs.Counts.{is_free_id};
 use crate::claims::Claims;
 use lab_base::{Name, Tags, VlanId};
 
-/// Whether the VLAN id has a place in a table from a first one on, without an owner.
+/// Whether a VLAN id has a place in a table from a first one on, and no owner there.
 fn is_free(first: u16, owners: &[Option<Name>], tag: VlanId) -> bool
     ensures { result ≡ is_free_id first owners.now tag.0 }
 {
@@ -43,7 +43,7 @@ impl Claims {
     ghost use Rattle.std.specs.Prelude.{◌≡◌};
     ghost use Rattle.claims.specs.Answered.{are_free_ids};
 
-    /// Whether these VLAN ids can be taken: no two are one, each lies in the lab's range, and no claim has it.
+    /// Whether these VLAN ids can be taken: no two are equal, each lies in the lab's range, and no claim has it.
     pub fn are_free(&self, tags: &Tags) -> bool
         ensures { result ≡ are_free_ids self.now tags.now }
     {

@@ -1,4 +1,4 @@
--- What goes well among the steps of a swap and of settlings.
+-- Steps of a swap, and of settlings, among which nothing goes wrong.
 use Rattle.std.specs.Prelude.{count_by}
 use Rattle.std.specs.List.{list_any}
 use Rattle.std.proofs.Common.{◌≡◌, ◌⊎◌, inl, inr, ℕ, Bool, true, false, ◌||◌, List, [], ◌∷◌, ◌++◌, append_assoc, Some, Result, refl, sym, ◌∙◌, ap, subst, arith}

@@ -23,9 +23,10 @@ ghost use Rattle.complete.specs.Complete.{AllGoesWell, AreStepsOf, IsComplete};
 ghost use Rattle.complete.specs.Full.{full_if, settles_or_turns};
 ghost use Rattle.complete.specs.OpenCourses.{IsCourse};
 
-/// Where the words are accepted, the script is wholly in the grammar, neither end of the run failed, and nothing goes wrong outside, the
-/// run is done, or memory is wanting: the source is read to its end, each command is answered, no course is cut, and what was written
-/// are the replies. This is over every sound trace.
+/// Completeness, over every sound trace. Its premises: the words are accepted, the script is wholly in the grammar, neither end of the run failed,
+/// and nothing goes wrong outside.
+/// Then the run is done, or memory is wanting. Done, it has read the source to its end, answered each command and cut no course, and has written the
+/// replies.
 pub fn completeness()
     ensures { (terms : Terms) (choices : Option Choices) (old new : Outside) (status : Status) (made : List Begun) (t : Told) (steps : List Event)
         → Ran terms choices old new status made → old.plant.told ≡ Some t → IsSound the_texts t.trace
@@ -33,8 +34,8 @@ pub fn completeness()
         → (status ≡ Memory) ⊎ ((status ≡ Done) × IsComplete choices old new t.trace made) }
 {}
 
-/// The course of each open swap, at any moment of a run and over any trace, with trouble or without: it is its experiment's own commands,
-/// all of them and no other, among the steps since its Begin became durable, or since its undo began.
+/// The course of each open swap, at any moment of a run and over any trace, with trouble or without.
+/// It is the experiment's own commands, all of them and no other, among the steps since its Begin became durable, or since its undo began.
 pub fn courses()
     ensures { (terms : Terms) (choices : Option Choices) (old new : Outside) (status : Status) (before after : List Begun) (t : Told)
         (s : LabState) (o : OpenSwap)
@@ -42,13 +43,13 @@ pub fn courses()
         → Has (opens_of (session_after Closed before)) o → IsCourse before s o.running }
 {}
 
-/// A course is cut by a failure of a device, or by a node that doesn't come up: where neither is among the steps, none is.
+/// Only a failure of a device, or a node that doesn't come up, cuts a course. Where neither is among the steps, no course is cut.
 pub fn cut_courses()
     ensures { (plan : Plan) (trouble : Trouble) (before course behind : List Event)
         → IsCut plan trouble course → GoesWell (before ++ (course ++ behind)) → ⊥ }
 {}
 
-/// A command that turns a swap or settles never tells that the journal is full: there is room for the records that end moves.
+/// A command that turns a swap or settles is never answered `full journal`: there is room for the records that end moves.
 pub fn turns_have_room()
     ensures { (terms : Terms) (at : List Event) (set : Setting) (s : LabState) (session : Session) (command : Command)
         (opening own : List Event) (after : After)

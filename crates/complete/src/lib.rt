@@ -1,5 +1,4 @@
-//! Laws over the whole run: where nothing goes wrong outside it is done and complete, and the course of an open swap is its experiment's
-//! own commands.
+//! Laws over the whole run. Where nothing goes wrong outside, it is done and complete. The course of an open swap is its experiment's own commands.
 #![tactic(auto)]
 
 mod laws;

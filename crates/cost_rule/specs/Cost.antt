@@ -1,4 +1,4 @@
--- What a mapping costs by the number of a rule. All sums are in whole numbers.
+-- The cost of a mapping by the number of a rule. All sums are in whole numbers.
 use Rattle.std.specs.Prelude.{◌+◌, ◌-◌, ◌*◌, ℕ, zero, suc, Bool, not, ◌&&◌, ◌==◌, nat_lt, List, [], ◌∷◌, length, map, sum_by, if◌then◌else◌}
 use Rattle.std.specs.List.{list_any}
 use Rattle.lab_base.specs.Names.{same_name}

@@ -1,4 +1,4 @@
--- What is counted step by step.
+-- Counts, step by step.
 use Rattle.std.specs.Prelude.{ℕ, Bool, ◌&&◌, List, drop}
 use Rattle.lab_base.specs.Names.{same_name}
 use Rattle.virt_topo.specs.declared.wiring.Wiring.{Wiring}

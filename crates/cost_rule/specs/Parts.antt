@@ -1,4 +1,4 @@
--- What a cost is made from.
+-- The parts of a cost.
 use Rattle.std.specs.Prelude.{◌≡◌, ◌+◌, ◌*◌, ℕ}
 use Rattle.phys_lab.specs.Labs.{Lab}
 use Rattle.phys_lab.specs.Kept.{IsLab}

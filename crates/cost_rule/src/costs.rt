@@ -42,7 +42,7 @@ pub fn is_on(node: NodeId, places: &[(NodeId, Name)]) -> bool
     places.iter().any(|place| node.0 == place.0.0)
 }
 
-/// How many nodes are in use.
+/// The number of nodes in use.
 pub(crate) fn nodes_in_use(mapping: &Mapping) -> usize
     ensures number { result ≡ nodes_in_use mapping.now }
     ensures few { result ≤ length mapping.now.places }

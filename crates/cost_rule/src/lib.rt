@@ -1,4 +1,4 @@
-//! The cost rules of mappings: what they count, and a stored rule that answers a mapping's cost.
+//! The cost rules of mappings: the parts that they count, and a stored rule that answers a mapping's cost.
 #![tactic(auto)]
 
 mod at;

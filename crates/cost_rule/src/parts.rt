@@ -1,4 +1,4 @@
-// What the cost of a mapping is made from.
+// // The parts of a mapping's cost.
 ghost use Rattle.std.specs.Prelude.{◌≡◌};
 ghost use Rattle.phys_lab.specs.Labs.{Lab as LabSeen};
 ghost use Rattle.virt_topo.specs.declared.wiring.Wiring.{Wiring as WiringSeen};
@@ -14,18 +14,18 @@ use crate::soft::soft;
 use phys_lab::Lab;
 use virt_topo::{Mapping, Wiring};
 
-/// What the cost of a mapping is made from.
+/// The parts of a mapping's cost.
 #[derive(Clone, Copy)]
 pub struct Parts {
     /// The uses of all trunks, in kbps.
     pub uses: u64,
-    /// How many nodes are in use.
+    /// The number of nodes in use.
     pub nodes: u64,
-    /// What the mapping leaves of desires, features and classes.
+    /// The weights of desires, features and classes that the mapping leaves unmet.
     pub soft: u64,
 }
 
-/// The parts of a mapping, counted anew.
+/// The parts of a mapping's cost, counted anew.
 pub fn parts_of(lab: &Lab, wiring: &Wiring, mapping: &Mapping) -> Parts
     requires sound { IsSound wiring.now }
     requires shaped { IsShaped lab.now wiring.now mapping.now }
@@ -38,7 +38,7 @@ pub fn parts_of(lab: &Lab, wiring: &Wiring, mapping: &Mapping) -> Parts
     }
 }
 
-/// A cost is that of the parts.
+/// The cost of a mapping is that of its parts.
 pub fn law_of_parts()
     ensures { (number : NumberSeen) (lab : LabSeen) (w : WiringSeen) (m : MappingSeen) → cost number lab w m ≡ cost_of_parts number (parts_of lab w m) }
 {}

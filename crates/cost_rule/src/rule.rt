@@ -6,19 +6,19 @@ ghost use Rattle.cost_rule.specs.Cost.{cost};
 use phys_lab::Lab;
 use virt_topo::{Mapping, Wiring};
 
-/// The cost rules by number.
+/// The number of a cost rule.
 #[derive(Clone, Copy, Debug, PartialEq, Eq, Drop)]
 pub enum RuleNumber {
-    /// What the trunks carry, in kbps.
+    /// The load of the trunks, in kbps.
     Trunk,
     /// 1,000,000 for each node in use.
     Pack,
 }
 
-/// What answers the cost of a mapping.
+/// A closure that answers the cost of a mapping.
 pub type CostFn = Box<dyn Fn(&Lab, &Wiring, &Mapping) -> u64>;
 
-/// A rule that answers what a mapping costs by its number, which contracts see and no call gives.
+/// A rule: it answers a mapping's cost by its number, which contracts see and no call gives.
 #[derive(Drop)]
 pub struct Rule {
     pub(crate) number: RuleNumber,
@@ -28,7 +28,7 @@ pub struct Rule {
 }
 
 impl Rule {
-    /// The rule of a closure that answers the cost by that number.
+    /// The rule of a closure that answers costs by that number.
     pub fn new(number: RuleNumber, f: CostFn) -> Rule
         requires callable { (lab : _) (wiring : _) (mapping : _) → IsSound wiring.now → IsShaped lab.now wiring.now mapping.now → CostFn.pre f lab wiring mapping }
         requires answers { (lab : _) (wiring : _) (mapping : _) (r : _) → IsSound wiring.now → IsShaped lab.now wiring.now mapping.now → CostFn.post f lab wiring mapping r → r ≡ cost number lab.now wiring.now mapping.now }

@@ -1,4 +1,4 @@
-// What a mapping leaves of desires, features and classes.
+// // The weights of desires, features and classes that a mapping leaves unmet.
 ghost use Rattle.std.specs.Prelude.{◌≡◌, ◌<◌, ◌≤◌, ◌*◌, ◌+◌, ◌-◌, ◌&&◌, not, if◌then◌else◌, length};
 ghost use Rattle.std.specs.List.{list_any};
 ghost use Rattle.lab_base.specs.Names.{same_name};
@@ -31,7 +31,7 @@ fn missed_weight(wanted: &(Name, u32), given: &[(Name, u32)]) -> u64
     }
 }
 
-/// The weights below 1,000 of the first names that are not among the others.
+/// The sum of the weights below 1,000 of those first names that are not among the others.
 fn missed(wanted: &[(Name, u32)], given: &[(Name, u32)]) -> u64
     requires { length wanted.now ≤ 8 }
     ensures sum { result ≡ missed wanted.now given.now }
@@ -44,7 +44,7 @@ fn missed(wanted: &[(Name, u32)], given: &[(Name, u32)]) -> u64
     total
 }
 
-/// What a virtual node misses of its node, and what it doesn't desire of it.
+/// The unmet weights of a virtual node: its desires that the node doesn't have, and the node's features that it doesn't desire.
 pub fn node_soft(lab: &Lab, wiring: &Wiring, mapping: &Mapping, virt: usize) -> u64
     requires sound { IsSound wiring.now }
     requires shaped { IsShaped lab.now wiring.now mapping.now }
@@ -115,7 +115,7 @@ fn is_last_of_kind(wiring: &Wiring, mapping: &Mapping, class: u16, virt: usize) 
         && !has_kind(wiring, mapping, class, place_at(mapping, virt).1, virt + 1)
 }
 
-/// How many types the members of a class have.
+/// The number of different types that the members of a class have.
 fn kinds_of(wiring: &Wiring, mapping: &Mapping, class: u16) -> usize
     requires few { length wiring.now.nodes ≤ 256 }
     requires placed { length mapping.now.places ≡ length wiring.now.nodes }
@@ -129,7 +129,7 @@ fn kinds_of(wiring: &Wiring, mapping: &Mapping, class: u16) -> usize
     kinds
 }
 
-/// What a class with a weight below 1,000 costs for each type but one.
+/// The cost of a class with a weight below 1,000: that weight for each type of its members but one.
 pub fn class_soft(wiring: &Wiring, mapping: &Mapping, class: usize) -> u64
     requires sound { IsSound wiring.now }
     requires placed { length mapping.now.places ≡ length wiring.now.nodes }
@@ -158,7 +158,7 @@ fn classes_soft(wiring: &Wiring, mapping: &Mapping) -> u64
     total
 }
 
-/// What a mapping leaves of desires, features and classes.
+/// The unmet weights of a mapping: of all virtual nodes, and of all classes.
 pub(crate) fn soft(lab: &Lab, wiring: &Wiring, mapping: &Mapping) -> u64
     requires sound { IsSound wiring.now }
     requires shaped { IsShaped lab.now wiring.now mapping.now }

@@ -9,14 +9,14 @@ use crate::rule::{Rule, RuleNumber};
 use phys_lab::Lab;
 use virt_topo::{Mapping, Wiring};
 
-/// What answers the cost of a second mapping, told that of a first one.
+/// A closure that answers the cost of a second mapping, given that of a first one.
 pub type StepFn = Box<dyn Fn(&Lab, &Wiring, &Mapping, &Mapping, u64) -> u64>;
 
-/// What answers the cost of the parts of a mapping.
+/// A closure that answers a cost from its parts.
 pub type PartsFn = Box<dyn Fn(Parts) -> u64>;
 
-/// A rule that answers what a mapping costs by its number, which contracts see and no call gives: of a mapping alone, of one
-/// beside another whose cost is known, and of its parts.
+/// A rule with three ways to a cost: from a mapping alone, from another mapping and its cost, and from the parts. Contracts see its number, which no
+/// call gives.
 #[derive(Drop)]
 pub struct StepRule {
     number: RuleNumber,
@@ -31,7 +31,7 @@ pub struct StepRule {
 }
 
 impl StepRule {
-    /// The rule, with a closure that answers the cost of a second mapping by that number, and one that answers it of the parts.
+    /// The rule of that number, with a closure for the cost of a second mapping, and one for a cost from its parts.
     pub fn new(rule: Rule, step: StepFn, by_parts: PartsFn) -> StepRule
         requires step_callable { (lab : _) (wiring : _) (from : _) (to : _) (cost : _) → IsSound wiring.now → IsShaped lab.now wiring.now from.now → IsShaped lab.now wiring.now to.now → cost ≡ cost_in rule.number lab.now wiring.now from.now → StepFn.pre step lab wiring from to cost }
         requires step_answers { (lab : _) (wiring : _) (from : _) (to : _) (cost : _) (r : _) → IsSound wiring.now → IsShaped lab.now wiring.now from.now → IsShaped lab.now wiring.now to.now → cost ≡ cost_in rule.number lab.now wiring.now from.now → StepFn.post step lab wiring from to cost r → r ≡ cost_in rule.number lab.now wiring.now to.now }
@@ -56,7 +56,7 @@ impl StepRule {
         self.rule.ask(lab, wiring, mapping)
     }
 
-    /// The cost of a mapping, told that of another one.
+    /// The cost of a mapping, given another mapping and its cost.
     pub fn ask_step(
         &self,
         lab: &Lab,
@@ -74,7 +74,7 @@ impl StepRule {
         (self.step)(lab, wiring, from, to, cost)
     }
 
-    /// The cost of a mapping that has these parts.
+    /// The cost of a mapping with these parts.
     pub fn ask_parts(&self, parts: Parts) -> u64
         requires { AreParts parts }
         ensures { result ≡ cost_of_parts self.now.number parts }

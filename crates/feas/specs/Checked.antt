@@ -1,4 +1,4 @@
--- What a check answers.
+-- The answer of a check.
 use Rattle.std.specs.Prelude.{◌≡◌, Option, Some, None, Result, Ok, Err}
 use Rattle.virt_topo.specs.declared.violation.Broken.{Broken}
 use Rattle.virt_topo.specs.declared.violation.Subject.{Subject}

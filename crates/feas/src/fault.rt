@@ -4,10 +4,10 @@ ghost use Rattle.feas.specs.declared.fault.CheckFault.TheVariants as faults;
 use lab_base::Memory;
 use virt_topo::{Broken, Subject};
 
-/// Why a mapping was not accepted.
+/// The reason why a mapping was not accepted.
 #[derive(Clone, Copy, Debug, PartialEq, Eq)]
 pub enum CheckFault {
-    /// The first rule that is broken, by its first subject that breaks it.
+    /// The first broken rule, with its first subject that breaks it.
     Violation { rule: Broken, subject: Subject },
     Memory,
 }

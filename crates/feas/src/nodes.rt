@@ -26,7 +26,7 @@ fn push_guest(
     Ok(())
 }
 
-/// By virtual node on a node its type there and its OS.
+/// The virtual nodes on a node, each with its type there and its OS.
 fn guests(
     alloc: Global,
     nodes: &[VirtNode],
@@ -71,8 +71,8 @@ fn agree(types: &[(Name, u16)], guests: &[(Name, Name)]) -> bool
     }
 }
 
-/// Whether the first virtual nodes, which have these places, may share a node: those on it have one type and one OS and
-/// are at most as many as that type's count there.
+/// Whether the first virtual nodes, which have these places, may share a node. Those on it have one type and one OS, and are at most as many as that
+/// type's count there.
 pub fn may_share(
     alloc: Global,
     lab: &Lab,

@@ -97,7 +97,7 @@ fn is_member(class: u16, asks: &Asks) -> bool
     }
 }
 
-/// Whether the first member of a class has a type; without a member nothing has one.
+/// Whether the first member of a class has that type; without a member no type is the first.
 fn is_first_type(class: u16, wiring: &Wiring, mapping: &Mapping, name: Name) -> bool
     requires { length mapping.now.places ≡ length wiring.now.nodes }
     ensures { result ≡ same_name (first_type class wiring.now.nodes mapping.now.places) name }
@@ -121,8 +121,8 @@ fn is_of_one_type(wiring: &Wiring, mapping: &Mapping, asks: &Asks, name: Name) -
     }
 }
 
-/// Whether a virtual node suits a node with these features under one of its types: the type is asked for, and desires and
-/// features of weight 1,000 or more meet each other.
+/// Whether a virtual node suits a node with these features under one of its types.
+/// The virtual node asks for that type, and desires and features of weight 1,000 or more meet each other.
 pub fn suits(wiring: &Wiring, node: &VirtNode, features: &[(Name, u32)], name: Name) -> bool
     ensures { result ≡ suits wiring.now node.now features.now name }
 {
@@ -146,7 +146,7 @@ fn keeps_f3(lab: &Lab, wiring: &Wiring, mapping: &Mapping, virt: usize) -> bool
     ) && is_of_one_type(wiring, mapping, &node.asks, place.1)
 }
 
-/// The first virtual node whose type, desires, features or class is not as it has to be.
+/// The first virtual node whose type, desires, features or class break the third rule.
 pub(crate) fn first_unsuited(lab: &Lab, wiring: &Wiring, mapping: &Mapping) -> Option<usize>
     requires { IsShaped lab.now wiring.now mapping.now }
     ensures first { result ≡ first_below (length wiring.now.nodes) (keeps_f3 lab.now wiring.now mapping.now) }
@@ -179,7 +179,7 @@ fn keeps_f4(lab: &Lab, wiring: &Wiring, mapping: &Mapping, virt: usize) -> bool
     is_fixed_at(virt_at(wiring, virt).fixed, node_at(lab, place.0).name)
 }
 
-/// The first fixed virtual node that is elsewhere.
+/// The first fixed virtual node that is on another node than its own.
 pub(crate) fn first_misplaced(lab: &Lab, wiring: &Wiring, mapping: &Mapping) -> Option<usize>
     requires { IsShaped lab.now wiring.now mapping.now }
     ensures first { result ≡ first_below (length wiring.now.nodes) (keeps_f4 lab.now wiring.now mapping.now) }

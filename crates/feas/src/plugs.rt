@@ -30,7 +30,7 @@ fn may_join(one: &Load, other: &Load) -> bool
     one.segment != other.segment && one.multiplexed && other.multiplexed
 }
 
-/// Whether a load may come to those of the earlier ends that have a plug, of that many kbps.
+/// Whether an interface of that many kbps may bear a load beside those of the earlier ends that are plugged there.
 fn may_bear(loads: &[Load], plugs: &[IfaceId], plug: IfaceId, kbps: u64, load: &Load) -> bool
     requires { length loads.now ≡ length plugs.now }
     ensures { result ≡ may_bear kbps (loads_on plug.0 (zip loads.now plugs.now)) load.now }
@@ -52,7 +52,7 @@ fn may_bear(loads: &[Load], plugs: &[IfaceId], plug: IfaceId, kbps: u64, load: &
     true
 }
 
-/// Whether the plug of an end, whose virtual node that is, is as it has to be.
+/// Whether the plug of an end of that virtual node keeps the fifth rule.
 fn keeps_f5(lab: &Lab, mapping: &Mapping, loads: &[Load], end: usize, virt: u16) -> bool
     requires end { end < length mapping.now.plugs }
     requires loads { length loads.now ≡ length mapping.now.plugs }
@@ -66,7 +66,7 @@ fn keeps_f5(lab: &Lab, mapping: &Mapping, loads: &[Load], end: usize, virt: u16)
         && may_bear(&loads[..end], plugs, plug, iface.kbps, &loads[end])
 }
 
-/// The first end whose plug is on another node, or may not come to the earlier ends that have it.
+/// The first end whose plug is on another node, or can't bear its load beside the earlier ends.
 pub(crate) fn first_misplugged(
     alloc: Global,
     lab: &Lab,

@@ -30,8 +30,7 @@ fn is_joined_to_all(lab: &Lab, one: IfaceId, plugs: &[IfaceId]) -> bool
     plugs.iter().all(|plug| is_joined(lab, one, *plug))
 }
 
-/// Whether the switches of all plugs are one or joined by trunks: it suffices that the first one's is joined to the
-/// others'.
+/// Whether the switches of all plugs are one or joined by trunks. It suffices that the first one's is joined to the others'.
 fn are_joined(lab: &Lab, plugs: &[IfaceId]) -> bool
     requires { All (λ i. i.0 < length lab.now.ifaces) plugs.now }
     ensures { result ≡ are_joined lab.now plugs.now }

@@ -21,7 +21,7 @@ fn keeps_f6(lab: &Lab, free: &Free, wiring: &Wiring, mapping: &Mapping, trunk: u
     mapping.cut_use(wiring, first) <= free.left.as_slice()[trunk]
 }
 
-/// The first trunk that has no room for what crosses it.
+/// The first trunk without room for the traffic that crosses it.
 pub(crate) fn first_overfull(
     lab: &Lab,
     free: &Free,

@@ -21,8 +21,8 @@ fn breaks(rule: Broken, subject: Subject) -> Result<(), CheckFault>
     Err(CheckFault::Violation { rule, subject })
 }
 
-/// Whether a mapping keeps the eight rules on what the others leave: else the first rule that is broken, with the first
-/// subject that breaks it.
+/// Checks that a mapping keeps the eight rules on the rest that others leave. Else it answers the first broken rule, with its first subject that
+/// breaks it.
 pub fn check(
     alloc: Global,
     lab: &Lab,

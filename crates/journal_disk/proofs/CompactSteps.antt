@@ -1,4 +1,4 @@
--- What the steps of a move onto a side do to both sides.
+-- Both sides through the steps of a move onto one of them.
 use Rattle.std.proofs.Common.{◌≡◌, ℕ, ◌+◌, Bool, true, false, List, [], ◌∷◌, ◌++◌, fold, length, refl, ap, ◌∙◌}
 use Rattle.std.proofs.lemmas.List.Sums.{fold-append}
 use Rattle.plant.specs.Disks.{Disk, disk_after, wrote, synced, shortened}

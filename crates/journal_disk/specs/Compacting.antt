@@ -1,4 +1,4 @@
--- What a journal's move onto the other side adds to a trace.
+-- The steps that a journal's move onto the other side adds to a trace.
 use Rattle.std.specs.Prelude.{◌≡◌, ◌≤◌, ◌<◌, ◌+◌, ◌==◌, ℕ, Bool, true, false, List, [], ◌∷◌, ◌++◌, length, Option, Result, Ok, Err}
 use Rattle.std.specs.List.{flat_map}
 use Rattle.plant.specs.Disks.{disk}

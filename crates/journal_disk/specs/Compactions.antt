@@ -1,4 +1,4 @@
--- What each image has while a journal moves onto the other side.
+-- The images while a journal moves onto the other side.
 use Rattle.std.specs.Prelude.{◌≡◌, ◌⊎◌, ◌+◌, ℕ, Bool, List, [], ◌∷◌, ◌++◌, Option, Some, None, Result, Ok, Err, OnOk, IfSome}
 use Rattle.plant.specs.Disks.{disk, ArePossible}
 use Rattle.plant.specs.Events.{Event, Missed}

@@ -1,4 +1,4 @@
--- What the head of a side says, with its epoch as a number.
+-- The head of a side, with its epoch as a number.
 use Rattle.std.specs.Prelude.{ℕ, ◌==◌, nat_lt, if◌then◌else◌}
 use Rattle.plant.specs.declared.step.Side.TheVariants.{A, B}
 use Rattle.journal_rec.specs.Payloads.{number}

@@ -1,4 +1,4 @@
--- What an opening adds to a trace.
+-- The steps that an opening adds to a trace.
 use Rattle.std.specs.Prelude.{◌≡◌, ℕ, Bool, true, false, nat_lt, List, [], ◌∷◌, ◌++◌, length, Option, Result, Ok, Err}
 use Rattle.std.specs.Global.{Vec}
 use Rattle.plant.specs.Disks.{disk}

@@ -1,4 +1,4 @@
--- What the bytes of a live side give.
+-- The journal of the bytes of a live side.
 use Rattle.std.specs.Prelude.{◌≡◌, ℕ, List, drop, Result, Ok, Err}
 use Rattle.std.specs.Global.{Vec}
 use Rattle.plant.specs.declared.step.Side.{Side}

@@ -27,7 +27,7 @@ fn other_side(side: Side) -> Side
     }
 }
 
-/// Opens the header gate before a text that was written.
+/// Opens the header gate in front of a text that is written.
 fn raise<P: Plant>(plant: &mut P, side: Side) -> Result<(), Fault>
     ensures ok { OnOk result ((P.seen plant.new).told ≡ with_steps (P.seen plant.old).told (Synced side ∷ Wrote side 0 (165 ∷ []) ∷ Synced side ∷ [])) }
     ensures leaves { (base : Option Told) (unshut : Bool) (text : List ℕ) (pieces : List (List ℕ)) → ArePieces text pieces
@@ -40,7 +40,7 @@ fn raise<P: Plant>(plant: &mut P, side: Side) -> Result<(), Fault>
     plant.sync(side)
 }
 
-/// The steps of a move onto a side: it is emptied, its text is written behind the closed gate, a sync, the open gate, a sync.
+/// Moves a journal onto a side. The side is emptied, and its text is written behind the closed gate. Then come a sync, the open gate, and a sync.
 fn move_over<P: Plant>(plant: &mut P, side: Side, epoch: u64, records: &[u8]) -> Result<(), Fault>
     requires { 17 + length records.now < 2 ^ 64 }
     ensures moves { MovesOver side (side_text epoch records.now) (P.seen plant.old).told (P.seen plant.new).told result }

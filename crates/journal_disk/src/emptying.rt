@@ -9,7 +9,7 @@ ghost use Rattle.journal_disk.specs.Compacting.{is_unshut, shutting, emptying, B
 use crate::front::OPEN;
 use plant::{Fault, Plant, Side};
 
-/// Whether a side has no closed gate at its front.
+/// Whether the front of a side is no closed gate: it is empty, or begins with an open one.
 pub fn is_unshut<P: Plant>(plant: &mut P, side: Side) -> Result<bool, Fault>
     ensures trace { (P.seen plant.new).told ≡ with_steps (P.seen plant.old).told (missed side result) }
     ensures unshut { IfOk result (λ unshut. IfSome (P.seen plant.old).told (λ t. unshut ≡ is_unshut (disk side t.trace).reads)) }
@@ -48,7 +48,7 @@ fn shorten<P: Plant>(plant: &mut P, side: Side) -> Result<(), Fault>
     plant.sync(side)
 }
 
-/// Empties a side but for its header gate, which is closed where it is not.
+/// Empties a side but for its header gate, which it closes where it is open or isn't there.
 pub fn empty<P: Plant>(plant: &mut P, side: Side, unshut: bool) -> Result<(), Fault>
     requires { IfSome (P.seen plant.old).told (λ t. unshut ≡ false → 1 ≤ length (disk side t.trace).reads) }
     ensures ok { OnOk result ((P.seen plant.new).told ≡ with_steps (P.seen plant.old).told (emptying side unshut)) }

@@ -5,22 +5,22 @@ ghost use Rattle.journal_disk.specs.declared.fault.OpenFault.TheVariants as faul
 use plant::{Fault, Side};
 use std::alloc::{AllocError, AllocFailed};
 
-/// Why a journal was not opened. After any of these it may be opened anew.
+/// The reason why a journal was not opened. After each of them it may be opened anew.
 #[derive(Clone, Copy, Debug, PartialEq, Eq)]
 pub enum OpenFault {
     /// The disk failed.
     Plant,
     /// The plant is stopped.
     Stopped,
-    /// The sides hold no journal: the gate of the first record that is none, or 0 for the header.
+    /// The sides hold no journal. `at` is the gate of the first record that is none, or 0 for the header.
     Bad { side: Side, at: u64 },
     Memory,
 }
 
-/// Why a record was not appended. After `Plant` and `Stopped` the journal has to be opened anew.
+/// The reason why a record was not appended. After `Plant` and `Stopped` the journal has to be opened anew.
 #[derive(Clone, Copy, Debug, PartialEq, Eq)]
 pub enum AppendFault {
-    /// The record's size and the journal's length are together above the limit. Nothing was done.
+    /// The record's size and the journal's length sum up to more than the limit. Nothing was done.
     Full { length: u64, size: u64 },
     /// The disk failed.
     Plant,
@@ -28,7 +28,7 @@ pub enum AppendFault {
     Stopped,
 }
 
-/// Why a journal was not moved onto the other side. After any of these it has to be opened anew.
+/// The reason why a journal was not moved onto the other side. After each of them it has to be opened anew.
 #[derive(Clone, Copy, Debug, PartialEq, Eq)]
 pub enum CompactFault {
     /// The disk failed.

@@ -5,23 +5,23 @@ ghost use Rattle.journal_disk.specs.Fronts.{seen, place_of, later};
 
 use plant::Side;
 
-/// An open gate. Every other byte is a closed one.
+/// The open gate. Every other byte is a closed one.
 pub const OPEN: u8 = 0xa5;
 
-/// The bytes behind the header gate.
+/// The eight bytes behind the header gate, by which a side is known as a journal.
 const MAGIC: [u8; 8] = *b"LABJRNL1";
 
-/// The length of a header, with the gate of the first record.
+/// The length of a header, with the gate of the first record behind it.
 pub const HEADER: usize = 18;
 
-/// What the head of a side says.
+/// The head of a side: the bytes up to the first record.
 #[derive(Clone, Copy)]
 pub enum Front {
-    /// There is no journal.
+    /// No journal: the header gate is closed, or the side is shorter than a header.
     Blank,
-    /// The header gate is open, and the bytes behind it are others.
+    /// No header: its gate is open, and the bytes behind it are others.
     Foreign,
-    /// A journal of that epoch.
+    /// The head of a journal of that epoch.
     Headed(u64),
 }
 
@@ -45,7 +45,7 @@ pub fn epoch_in(bytes: &[u8]) -> u64
     ])
 }
 
-/// What the head of a side with these bytes says.
+/// The head of a side with these bytes.
 pub fn front_of(bytes: &[u8]) -> Front
     ensures { result ≡ seen (head bytes.now) }
 {

@@ -5,7 +5,7 @@ use crate::front::OPEN;
 use journal_rec::Encoded;
 use plant::{Plant, Side};
 
-/// A journal that is open: its live side, and its gates up to the first closed one.
+/// An open journal: its live side, and the gates there up to the first closed one.
 #[derive(Drop)]
 pub struct Journal {
     pub(crate) side: Side,
@@ -13,7 +13,7 @@ pub struct Journal {
     pub(crate) gate: u64,
     /// The most bytes of a side.
     pub(crate) limit: u64,
-    /// How often it was moved onto the other side, and 1.
+    /// The number of its moves onto the other side, and 1.
     pub(crate) epoch: u64,
     ghost gate_fits: { gate + 1 < 2 ^ 64 },
     ghost limit_fits: { limit ≤ 2 ^ 32 },
@@ -29,14 +29,14 @@ impl Journal {
     ghost use Rattle.journal_disk.specs.Standing.{side_of, gate_of, length_of, limit_of, IsAt, Appends, Moments};
     ghost use Rattle.journal_disk.specs.Epochs.{epoch_of, HasEpoch};
 
-    /// The side that records are appended to.
+    /// The side to which records are appended.
     pub fn side(&self) -> Side
         ensures { result ≡ side_of self.now }
     {
         self.side
     }
 
-    /// The length that it may not pass.
+    /// The length that the journal may not pass.
     pub fn limit(&self) -> u64
         ensures limit { result ≡ limit_of self.now }
         ensures most { limit_of self.now ≤ 2 ^ 32 }
@@ -51,7 +51,7 @@ impl Journal {
         self.gate + 1
     }
 
-    /// Its epoch: the side with the greater one is live.
+    /// The epoch of the journal: the side with the greater one is live.
     pub fn epoch(&self) -> u64
         ensures { result ≡ epoch_of self.now }
     {
@@ -85,7 +85,7 @@ impl Journal {
         self.append_steps(encoded, plant)
     }
 
-    /// The steps of an append: the body behind the closed gate, a sync, the open gate, a sync.
+    /// The four steps of an append: the body behind the closed gate, a sync, the open gate, a sync.
     fn append_steps<P: Plant>(
         &mut self,
         encoded: &Encoded,

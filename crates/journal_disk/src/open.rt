@@ -59,8 +59,7 @@ fn opened(alloc: Global, side: Side, bytes: &[u8], limit: u64) -> Result<Opened,
 }
 
 impl Journal {
-    /// Opens the journal with its records, in order. A new one is made where both sides are blank.
-    /// The limit is the most bytes of a side.
+    /// Opens the journal with its records, in order. Where both sides are blank it makes a new one. `limit` is the most bytes of a side.
     pub fn open<P: Plant>(alloc: Global, plant: &mut P, limit: u64) -> Result<Opened, OpenFault>
         requires least { 18 ≤ limit }
         requires most { limit ≤ 2 ^ 32 }

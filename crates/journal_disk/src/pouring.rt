@@ -11,10 +11,10 @@ ghost use Rattle.journal_disk.specs.Compacting.{side_text, Pours};
 use crate::sides::{PIECE, piece_of};
 use plant::{Fault, Plant, Side};
 
-/// How many bytes of a header stand between its gate and the gate of the first record.
+/// The number of bytes of a header between its gate and the gate of the first record.
 const HEAD: usize = 16;
 
-/// These bytes of the header of that epoch.
+/// The bytes of a header of that epoch between these gates.
 fn head_of(epoch: u64) -> [u8; HEAD]
     ensures { result ≡ magic ++ le 8 epoch }
 {
@@ -67,7 +67,7 @@ fn pour_rest<P: Plant>(plant: &mut P, side: Side, at: u64, bytes: &[u8]) -> Resu
     Ok(())
 }
 
-/// How many of so many bytes of records stand in the first piece.
+/// The number of bytes of records in the first piece, of so many in all.
 fn first_of(all: usize) -> usize
     ensures within { result ≤ all }
     ensures short { HEAD + result ≤ PIECE }

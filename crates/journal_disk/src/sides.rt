@@ -10,7 +10,7 @@ use crate::OpenFault;
 use plant::{Plant, Side};
 use std::alloc::Global;
 
-/// How many bytes are read or written at a time.
+/// The most bytes that are read or written at a time.
 pub const PIECE: usize = 65_536;
 
 /// Makes both sides durable as they read.
@@ -28,7 +28,7 @@ pub fn sync_sides<P: Plant>(plant: &mut P) -> Result<(), OpenFault>
     Ok(())
 }
 
-/// Reads so many bytes more of a side.
+/// Reads the next bytes of a side, so many of them.
 fn read_piece<P: Plant>(
     plant: &mut P,
     side: Side,
@@ -53,7 +53,7 @@ fn read_piece<P: Plant>(
     Ok(())
 }
 
-/// How much is read or written at once of so many bytes.
+/// The number of bytes that are read or written next, of so many that are left.
 pub fn piece_of(left: usize) -> usize
     requires { 0 < left }
     ensures some { 0 < result }

@@ -16,10 +16,10 @@ pub struct Walked {
     pub gate: u64,
 }
 
-/// Why records were not read.
+/// The reason why records were not read.
 #[derive(Clone, Copy)]
 pub enum WalkFault {
-    /// Behind the open gate at that position is no record.
+    /// No record stands behind the open gate at that position.
     Bad(u64),
     Memory,
 }
@@ -31,7 +31,7 @@ fn length_in(bytes: &[u8]) -> u32
     u32::from_le_bytes([bytes[0], bytes[1], bytes[2], bytes[3]])
 }
 
-/// The record behind the gate at the front, with its size; none where the gate is closed.
+/// The record behind the gate at the front, with its size; None where the gate is closed.
 fn block_at(alloc: Global, bytes: &[u8]) -> Result<Option<(Record, usize)>, RecFault>
     requires { 0 < length bytes.now }
     ensures { IsBlock bytes.now result }

@@ -1,4 +1,4 @@
--- What an append adds to a trace, and the states of the live side and of its images.
+-- The steps that an append adds to a trace, and the states of the live side and of its images.
 use Rattle.std.specs.Prelude.{◌≡◌, ◌≢◌, ◌⊎◌, ◌<◌, ◌≤◌, ◌+◌, ℕ, List, [], ◌∷◌, ◌++◌, length, slice_index}
 use Rattle.std.specs.List.{flat_map}
 use Rattle.lab_base.specs.Lists.{Has}

@@ -28,7 +28,7 @@ impl Model for Packed {
 }
 
 impl Packed {
-    /// No record yet.
+    /// The packed records of an empty journal: a closed gate alone.
     pub fn new(alloc: Global) -> Result<Packed, Memory>
         ensures { IfOk result (λ packed. ArePacked packed []) }
     {
@@ -49,14 +49,14 @@ impl Packed {
         Ok(())
     }
 
-    /// How long a side with these records is.
+    /// The length of a side with these records.
     pub fn length(&self) -> u64
         ensures { result ≡ side_length self.now }
     {
         17 + self.bytes.len() as u64
     }
 
-    /// The bytes behind the header.
+    /// The bytes of the side behind its header.
     pub fn bytes(&self) -> &[u8]
         ensures { result.now ≡ self.now }
     {

@@ -2,8 +2,7 @@ ghost use Rattle.std.specs.Prelude.{◌≡◌, length};
 
 use std::marker::Model;
 
-/// A record as the journal holds it behind its gate: the length of its payload, the payload, and the next gate, closed.
-/// Contracts see these bytes.
+/// A record as the journal holds it behind its gate: the length of its payload, the payload, and the next gate, closed. Contracts see these bytes.
 #[derive(Drop)]
 pub struct Encoded {
     bytes: Vec<u8>,
@@ -24,14 +23,14 @@ impl Encoded {
         Encoded { bytes }
     }
 
-    /// How much longer the record makes the journal: the length of its payload, and 5.
+    /// The number of bytes by which the record makes the journal longer: the length of its payload, and 5.
     pub fn size(&self) -> u64
         ensures { result ≡ length self.now }
     {
         self.bytes.len() as u64
     }
 
-    /// The bytes.
+    /// The bytes of the record, from its length to the next gate.
     pub fn bytes(&self) -> &[u8]
         ensures { result.now ≡ self.now }
     {

@@ -3,10 +3,10 @@ ghost use Rattle.journal_rec.specs.declared.fault.RecFault.TheVariants as faults
 
 use std::alloc::{AllocError, AllocFailed};
 
-/// Why bytes were not decoded.
+/// The reason why bytes were not decoded.
 #[derive(Clone, Copy, Debug, PartialEq, Eq)]
 pub enum RecFault {
-    /// They are the payload of no record.
+    /// The bytes are the payload of no record.
     Bad,
     Memory,
 }

@@ -7,7 +7,7 @@ use crate::{RecFault, Record, Way};
 use lab_base::{Items, Name, Tags, Text, VlanId};
 use std::alloc::Global;
 
-/// A payload is shorter.
+/// A bound above each payload's length.
 const TOO_LONG: usize = 1 << 32;
 
 fn byte_of(bytes: &[u8]) -> Result<(u8, &[u8]), RecFault>
@@ -235,7 +235,7 @@ fn all(alloc: Global, bytes: &[u8]) -> Result<Record, RecFault>
     Ok(entry)
 }
 
-/// The record whose payload the bytes are, all of the bytes.
+/// The record with this payload; `Bad` where the bytes, all of them, are the payload of none.
 pub fn decode(alloc: Global, bytes: &[u8]) -> Result<Record, RecFault>
     ensures ok { IfOk result (λ entry. Decodes bytes.now entry) }
     // It can be encoded.

@@ -1,4 +1,4 @@
--- What the images of a journal that rests have.
+-- The images of a journal at rest.
 use Rattle.std.proofs.Common.{◌≡◌, ℕ, List, sym, subst}
 use Rattle.plant.specs.Disks.{Disk, IsImage, at_once, disk, ArePossible}
 use Rattle.plant.specs.Events.{Event}

@@ -1,4 +1,4 @@
--- What the steps of a command show.
+-- Kinds of steps among those of a command.
 use Rattle.std.specs.Prelude.{◌≡◌, ℕ, Bool, true, false, List, [], ◌∷◌, ◌++◌}
 use Rattle.std.specs.List.{list_any}
 use Rattle.plant.specs.Events.{Event, Missed, Did, Restarted}

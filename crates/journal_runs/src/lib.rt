@@ -1,4 +1,4 @@
-//! What the calls of a journal leave over a whole trace: openings, appends and moves onto the other side, and starts of a stopped plant.
+//! Runs of a journal over a whole trace: openings, appends, moves onto the other side, and starts of a stopped plant.
 #![tactic(auto)]
 
 ghost use Rattle.std.specs.Prelude.{◌≡◌, ◌↔◌, ◌≤◌, ◌+◌, ◌*◌, ◌^◌, ℕ, Bool, true, false, List, [], ◌∷◌, ◌++◌, count_by, Result, Ok, Err};
@@ -32,8 +32,8 @@ ghost use Rattle.journal_disk.specs.declared.journal.Journal.{Journal};
 ghost use Rattle.journal_runs.specs.Pieces.{has_command, has_miss, has_restart};
 ghost use Rattle.journal_runs.specs.Working.{StandForLab, AllStandFor, StandForEither, Works};
 
-/// An opening sends no device command and starts no plant; no call failed after `Ok`, and one did after `Plant`. A sound trace stays sound,
-/// and after `Ok` the journal is at work. Whatever its answer, both sides read alike before it and after it.
+/// An opening sends no device command and starts no plant. No call failed after `Ok`, and one did after `Plant`.
+/// A sound trace stays sound, and after `Ok` the journal is at work. With any answer, both sides read alike before it and after it.
 pub fn openings()
     ensures quiet { (trace steps : List Event) (result : Result (Journal × Vec Found) OpenFault) → IsOpening trace steps result
         → (has_command steps ≡ false) × (has_restart steps ≡ false) }
@@ -50,8 +50,9 @@ pub fn openings()
         → ReadAlike (disk A (trace ++ steps)).reads (disk B (trace ++ steps)).reads (disk A trace).reads (disk B trace).reads }
 {}
 
-/// An append of a record that may follow: after `Ok` the journal is at work with the record, and else each image stands for the lab before it or
-/// after it. It sends no device command and starts no plant; no call failed after `Ok`, and one did after `Plant`.
+/// An append of a record that may follow: after `Ok` the journal is at work with the record. Else each image stands for the lab before it or after
+/// it.
+/// It sends no device command and starts no plant. No call failed after `Ok`, and one did after `Plant`.
 pub fn appends()
     ensures done { (t : Texts) (trace more : List Event) (j : Journal) (rs : List Record) (s u : LabState) (r : Record) (run : Run) (done : Unit {0})
         → Works t trace j rs s → MayAppend t trace rs s r u → Ends (side_of j) (Ok done) run more
@@ -74,9 +75,10 @@ pub fn appends()
         → has_miss (added (side_of j) (gate_of j) r run ++ more) ≡ true }
 {}
 
-/// A journal's move onto the other side, with records of the same lab for which there is room: a sound trace stays sound through each of its
-/// steps, and each image stands for that lab; after `Ok` the journal is at work with these records. It sends no device command and starts no
-/// plant; no call failed after `Ok`, and one did after `Plant`. There is room for records that are no longer than the journal.
+/// A move of the journal onto the other side, with records of the same lab for which there is room.
+/// A sound trace stays sound through each of its steps, and each image stands for that lab. After `Ok` the journal is at work with these records. It
+/// sends no device command and starts no plant. No call failed after `Ok`, and one did after `Plant`. There is room for records that are no longer
+/// than the journal.
 pub fn compactions()
     ensures sound { (t : Texts) (trace steps : List Event) (j : Journal) (rs ps : List Record) (s : LabState) (packed : List ℕ)
         (result : Result (Unit {0}) CompactFault) → Works t trace j rs s → LabOf t ps s → HasRoom ps s → Compacts trace steps j packed result
@@ -96,13 +98,13 @@ pub fn compactions()
         → ArePacked packed ps → side_length packed ≤ length_of j → HasRoom ps s }
 {}
 
-/// A device command leaves the epoch of a journal.
+/// A device command leaves the epoch of a journal as it is.
 pub fn epochs()
     ensures { (trace : List Event) (j : Journal) (op : DeviceOp) (applied : Bool) (answer : Result Answer Fault) → HasEpoch trace j
         → HasEpoch (trace ++ Did op applied answer ∷ []) j }
 {}
 
-/// Both sides as a journal's last call left them: what they read as is one of the possible images, and has its records on its side.
+/// Both sides at rest, as the last call of a journal left them. The bytes that they read as are a possible image, with its records on its side.
 pub fn at_rest()
     ensures possible { (trace : List Event) (j : Journal) (rs : List Record) → IsAt trace j rs
         → ArePossible trace (disk A trace).reads (disk B trace).reads }
@@ -121,8 +123,8 @@ pub fn working()
     ensures at { (t : Texts) (trace : List Event) (j : Journal) (rs : List Record) (s : LabState) → Works t trace j rs s → IsAt trace j rs }
 {}
 
-/// The empty trace is sound. A start of a stopped plant keeps a trace sound; then the images that it was started with are the only ones, and all
-/// images stand for the lab that those stand for.
+/// The empty trace is sound. A start of a stopped plant keeps a trace sound.
+/// Then the images that it was started with are the only ones, and all images stand for the lab that those stand for.
 pub fn starts()
     ensures nothing { (t : Texts) → IsSound t [] }
     ensures sound { (t : Texts) (trace : List Event) (a b : List ℕ) → ArePossible trace a b → IsSound t trace → IsSound t (trace ++ Restarted a b ∷ []) }
@@ -133,8 +135,8 @@ pub fn starts()
     ensures alone { (trace : List Event) (a b c d : List ℕ) → ArePossible (trace ++ Restarted a b ∷ []) c d → (c ≡ a) × (d ≡ b) }
 {}
 
-/// Over a sound trace each possible image is a journal: it stands for a lab, is bad nowhere, each of its records can follow, and there is room
-/// for the last records of the experiments that move.
+/// Over a sound trace each possible image is a journal: it stands for a lab, is bad nowhere, and each of its records can follow. It has room for the
+/// last records of the experiments that move.
 pub fn sound_traces()
     ensures stands { (t : Texts) (trace : List Event) (a b : List ℕ) → ArePossible trace a b → IsSound t trace → (s : LabState) × StandForLab t a b s }
     ensures not_bad { (t : Texts) (trace : List Event) (a b : List ℕ) (side : Side) (at : ℕ) → ArePossible trace a b → IsSound t trace
@@ -145,8 +147,8 @@ pub fn sound_traces()
         → AreCanonical t → Records a b rs → LabOf t rs s → journal_length a b rs + 39 * count_by is_moving s.experiments ≤ 2 ^ 32 }
 {}
 
-/// Two sides stand for one lab, and sides that read alike for the same; so each image in an opening stands for the lab of one before it, and once
-/// both sides are synced for that of what they read as before.
+/// Two sides stand for one lab, and sides that read alike for the same. So each image in an opening stands for the lab of an image before it. Once
+/// both sides are synced, it stands for the lab of the sides as they read before.
 pub fn labs_of_sides()
     ensures once { (t : Texts) (a b : List ℕ) (s u : LabState) → AreCanonical t → StandForLab t a b s → StandForLab t a b u → s ≡ u }
     ensures alike { (t : Texts) (a b x y : List ℕ) (s : LabState) → ReadAlike a b x y → StandForLab t a b s ↔ StandForLab t x y s }

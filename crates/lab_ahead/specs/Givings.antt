@@ -1,4 +1,4 @@
--- What it means that needs fit what is left of a lab.
+-- Needs that fit the rest of a lab.
 use Rattle.std.specs.Prelude.{◌≡◌, ◌<◌, ℕ, Bool, true, ◌==◌, List, [], map, length, count_by, sum_by, slice_index_or, if◌then◌else◌}
 use Rattle.std.specs.List.{list_any}
 use Rattle.std.specs.Ordering.{nat_cmp}

@@ -1,4 +1,4 @@
--- What is promised and what is left at a moment, and the moments that a run has to be tested at.
+-- The promises and the nodes left at a moment, and the moments at which to test a run.
 use Rattle.std.specs.Prelude.{◌≡◌, ◌<◌, ◌≤◌, ◌+◌, ◌⊎◌, ◌&&◌, ℕ, Bool, nat_le, nat_lt, List, [], ◌∷◌, map, filter, if◌then◌else◌}
 use Rattle.lab_base.specs.Lists.{Has}
 use Rattle.lab_base.specs.declared.ids.NodeId.{NodeId}

@@ -1,6 +1,6 @@
 use lab_base::{Items, Name};
 
-/// From `from` up to and without `to`, `count` nodes of a type are promised to others.
+/// A promise: `count` nodes of a type are kept for others, from the moment `from` up to and without `to`.
 #[derive(Clone, Copy, PartialEq, Eq)]
 pub struct Promise {
     pub kind: Name,
@@ -9,7 +9,7 @@ pub struct Promise {
     pub to: u64,
 }
 
-/// An experiment asks to be in for so long, by a search with this seed.
+/// A run: an experiment asks to be in for so long, by a search with this seed.
 #[derive(Clone, Copy, PartialEq, Eq)]
 pub struct Run {
     pub exp: Name,
@@ -17,7 +17,7 @@ pub struct Run {
     pub length: u64,
 }
 
-/// The promises and the runs of a batch, each in the order of its lines.
+/// A batch: its promises and its runs, each in the order of its lines.
 #[derive(Drop)]
 pub struct Batch {
     pub promises: Items<Promise>,

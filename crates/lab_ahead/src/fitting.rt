@@ -15,22 +15,21 @@ use lab_base::{Items, Memory, Name, NodeId};
 use phys_lab::Lab;
 use std::alloc::Global;
 
-/// So many nodes of a type are needed.
+/// A need: so many nodes of a type.
 #[derive(Clone, Copy, PartialEq, Eq)]
 pub struct Need {
     pub kind: Name,
     pub count: u16,
 }
 
-/// Whether needs fit: nodes, each with the number of the need that it is given to; or types of which more nodes are
-/// needed together than are left.
+/// Whether needs fit. Yes has the nodes given, each with the number of its need. No has types of which more nodes are needed together than are left.
 #[derive(Drop)]
 pub enum Fit {
     Yes(Items<(NodeId, u16)>),
     No(Items<Name>),
 }
 
-/// The nodes that are given, with the numbers of their needs.
+/// The nodes given, each with the number of its need.
 fn given_of(
     alloc: Global,
     left: &[NodeId],
@@ -48,7 +47,7 @@ fn given_of(
     Ok(given)
 }
 
-/// The types of the needs that are reached.
+/// The types of the needs that a trail reached.
 fn kinds_reached(alloc: Global, needs: &[Need], steps: &[Step]) -> Result<Items<Name>, Memory>
     requires { All (λ step. step.need < length needs.now) steps.now }
     ensures rising { IfOk result (IsStrictlySortedBy (slice_cmp nat_cmp)) }
@@ -64,8 +63,8 @@ fn kinds_reached(alloc: Global, needs: &[Need], steps: &[Step]) -> Result<Items<
     Ok(Items::from_vec(kinds))
 }
 
-/// Whether the needs can be met from the nodes that are left: each by as many nodes as it counts that have its type, no node
-/// being given twice. Nodes are exchanged between needs along trails.
+/// Whether the nodes left meet the needs: each need gets as many nodes of its type as it counts, and no node is given twice.
+/// Nodes are exchanged between needs along trails. `No` comes exactly where no giving exists.
 pub fn fits(alloc: Global, lab: &Lab, left: &[NodeId], needs: &[Need]) -> Result<Fit, Memory>
     requires differ { AllDiffer left.now }
     requires of_lab { All (λ node. node.0 < length lab.now.nodes) left.now }
@@ -80,7 +79,7 @@ pub fn fits(alloc: Global, lab: &Lab, left: &[NodeId], needs: &[Need]) -> Result
     }
 }
 
-/// Where more nodes of some types are needed together than there are, no giving exists.
+/// Where more nodes of some types are needed together than are left, no giving exists.
 pub fn short_types_never_fit()
     ensures { (lab : Lab) (left : List NodeId) (needs : List Need) (kinds : List (List ℕ)) → IsShort lab left needs kinds → ¬ Fits lab left needs }
 {}

@@ -11,7 +11,7 @@ use lab_base::{Memory, Name, NodeId};
 use phys_lab::Lab;
 use std::alloc::Global;
 
-/// By need which of the nodes have its type, and by node the need that it is given to.
+/// Nodes given to needs: by need, which of the nodes have its type, and by node, the need that has it.
 #[derive(Drop)]
 pub(crate) struct Giving {
     pub(crate) rows: Vec<Vec<bool>>,
@@ -43,7 +43,7 @@ fn row_of(alloc: Global, lab: &Lab, left: &[NodeId], kind: Name) -> Result<Vec<b
 }
 
 impl Giving {
-    /// Nothing is given yet.
+    /// The giving in which no node is given.
     pub(crate) fn new(
         alloc: Global,
         lab: &Lab,
@@ -78,7 +78,7 @@ impl Giving {
         Ok(Trail { steps, seen })
     }
 
-    /// Adds a step, unless its need is reached already.
+    /// Adds a step to a trail, unless its need is reached already.
     fn reach(&self, trail: &mut Trail, step: Step) -> Result<(), Memory>
         requires trail { IsTrail (table_in self.now) (owners_in self.now) trail.old }
         requires back { step.parent < length trail.old.steps.items }
@@ -97,7 +97,7 @@ impl Giving {
         Ok(())
     }
 
-    /// Reaches the needs of all nodes that the need of a step can take; the place of one that is given to none, if there is one.
+    /// Reaches the needs of all nodes that the need of a step can take. Answers the place of one that is free, if there is one.
     fn look(&self, trail: &mut Trail, place: usize) -> Result<Option<usize>, Memory>
         requires whole { IsWhole self.now }
         requires trail { IsTrail (table_in self.now) (owners_in self.now) trail.old }
@@ -149,8 +149,7 @@ impl Giving {
         Ok(Search::Stuck(trail))
     }
 
-    /// Gives the free node to its step's need, and the node over which that need was reached to the need before it, up to the
-    /// first need.
+    /// Gives the free node to its step's need. Each node by which a need was reached goes to the need before it, up to the first one.
     fn exchange(&mut self, start: u16, path: &Path)
         requires whole { IsWhole self.old }
         requires path { IsPath (table_in self.old) (owners_in self.old) start path.now }
@@ -170,7 +169,7 @@ impl Giving {
         self.owners[position] = Some(start);
     }
 
-    /// Gives so many nodes to a need. Where that can't be, a trail that is stuck.
+    /// Gives so many nodes to a need. Where that can't be, it answers the stuck trail.
     fn serve(&mut self, alloc: Global, need: u16, count: u16) -> Result<Option<Trail>, Memory>
         requires whole { IsWhole self.old }
         requires need { need < length (table_in self.old) }
@@ -190,7 +189,7 @@ impl Giving {
         Ok(None)
     }
 
-    /// Gives to each need as many nodes as it counts. Where that can't be, a trail that is stuck.
+    /// Gives each need as many nodes as it counts. Where that can't be, it answers the stuck trail.
     pub(crate) fn serve_all(
         &mut self,
         alloc: Global,

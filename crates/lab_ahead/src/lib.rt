@@ -1,5 +1,4 @@
-//! Promises of nodes made in advance: batches as text, whether needs fit what is left, and the moments at which that
-//! has to be tested.
+//! Promises of nodes made in advance: batches as text, whether needs fit the nodes left, and the moments at which to test that.
 #![tactic(auto)]
 
 mod batch;

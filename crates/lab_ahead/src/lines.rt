@@ -7,10 +7,10 @@ use crate::batch::{Promise, Run};
 use lab_base::{Kind, Name, both, name_in, number_in};
 use line_text::{field_at, short_in};
 
-/// The last moment there is.
+/// The last moment.
 const LAST: u64 = 1_000_000_000_000;
 
-/// A type, how many nodes, from when on and until when.
+/// A type, a number of nodes, the first moment and the one behind the last.
 type PromiseRead = Result<(Name, (u16, (u64, u64))), Kind>;
 
 fn in_order(read: PromiseRead) -> Result<Promise, Kind>
@@ -33,7 +33,7 @@ fn in_order(read: PromiseRead) -> Result<Promise, Kind>
     }
 }
 
-/// Reads the fields behind the word `promise`.
+/// Reads the fields of a `promise` line, behind its keyword.
 pub(crate) fn promise_in(fields: &[&[u8]]) -> Result<Promise, Kind>
     ensures { result ≡ promise_line (views fields.now) }
 {
@@ -55,7 +55,7 @@ fn run_of(read: Result<(Name, (u64, u64)), Kind>) -> Result<Run, Kind>
     }
 }
 
-/// Reads the fields behind the word `run`.
+/// Reads the fields of a `run` line, behind its keyword.
 pub(crate) fn run_in(fields: &[&[u8]]) -> Result<Run, Kind>
     ensures { result ≡ run_line (views fields.now) }
 {

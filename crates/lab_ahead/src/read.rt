@@ -103,9 +103,9 @@ fn start(alloc: Global) -> Batch
     }
 }
 
-/// Reads the lines of a batch: `promise TYPE COUNT FROM TO` and `run EXPERIMENT SEED LENGTH`. A line's faults are tried
-/// in the order `word`, `fields`, `name`, `number`, `range`, `limit`; the first line that has one is told. COUNT is 1 to
-/// 1,024, moments are 0 to 10^12, FROM is below TO, LENGTH is 1 to 10^12; at most 64 lines are promises and 256 runs.
+/// Reads the lines of a batch: `promise TYPE COUNT FROM TO` and `run EXPERIMENT SEED LENGTH`.
+/// COUNT is 1 to 1,024, moments are 0 to 10^12, FROM is below TO, LENGTH is 1 to 10^12. At most 64 lines are promises, and at most 256 runs.
+/// The faults of a line are tried in the order `word`, `fields`, `name`, `number`, `range`, `limit`. The first line with a fault counts.
 pub fn read_batch(alloc: Global, text: &[u8]) -> Result<Batch, TextRefused>
     requires { length text.now < 4294967295 }
     ensures { Reads result (batch_of_text text.now) }

@@ -55,7 +55,7 @@ pub fn left_at(alloc: Global, left: &[Left], at: u64) -> Result<Items<NodeId>, M
     Ok(nodes)
 }
 
-/// The first moment of a run, if it has one.
+/// The first moment of a run, if the run has a length.
 fn first_moment(alloc: Global, now: u64, length: u64) -> Result<Vec<u64>, Memory>
     ensures { IfOk result (λ moments. moments.items ≡ first_moment now length) }
 {
@@ -83,8 +83,8 @@ fn push_starts(
     Ok(())
 }
 
-/// The moments at which it has to be tested whether the needs fit, for a run from `now` up to and without `now + length`: its
-/// first moment, and the starts of promises in it. Nothing need be tested between them.
+/// The moments at which to test whether the needs fit, for a run from `now` up to and without `now + length`.
+/// They are its first moment, and the starts of promises in it. No moment between them has to be tested.
 pub fn moments(
     alloc: Global,
     promises: &[Promise],
@@ -104,9 +104,8 @@ pub fn moments(
     Ok(Items::from_vec(moments))
 }
 
-/// Behind each moment of a run there is one that is tested, itself or an earlier one, where the needs fit only if they fit
-/// at the later one too: promises only end in between, and nodes only come to be left. So the first moment at which they
-/// don't fit is one that is tested.
+/// For each moment of a run, a tested one is equal or earlier. Where the needs fit then, they fit at the later one too.
+/// Between them promises only end, and nodes only come to be left. So the first moment without a fit is a tested one.
 pub fn later_moments()
     ensures { (lab : Lab) (left : List Left) (promises : List Promise) (now t : ℕ) → now ≤ t
         → (s : ℕ) × (s ≤ t) × IsTested promises now s × (FitsAt lab left promises s → FitsAt lab left promises t) }

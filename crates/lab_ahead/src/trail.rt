@@ -1,6 +1,6 @@
-// Needs that are reached from one that wants a node.
+// // Trails of needs, from one that wants a node.
 
-/// A need that is reached, by the place of a node that it has, and that the need of an earlier step can take.
+/// A need on a trail. It is reached by the place of a node that it has, and that the need of an earlier step can take.
 #[derive(Clone, Copy)]
 pub(crate) struct Step {
     pub(crate) need: u16,
@@ -8,14 +8,14 @@ pub(crate) struct Step {
     pub(crate) parent: usize,
 }
 
-/// The needs that are reached, and by need whether it is.
+/// The needs on a trail, and by need whether it is on it.
 #[derive(Drop)]
 pub(crate) struct Trail {
     pub(crate) steps: Vec<Step>,
     pub(crate) seen: Vec<bool>,
 }
 
-/// A node that is given to none, and the step whose need can take it.
+/// A free node, and the step whose need can take it.
 #[derive(Drop)]
 pub(crate) struct Path {
     pub(crate) trail: Trail,
@@ -23,7 +23,7 @@ pub(crate) struct Path {
     pub(crate) position: usize,
 }
 
-/// What a search from a need finds.
+/// The outcome of a search from a need.
 #[derive(Drop)]
 pub(crate) enum Search {
     Free(Path),

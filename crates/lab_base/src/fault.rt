@@ -4,9 +4,9 @@ ghost use Rattle.lab_base.specs.Kinds.{rank, word_of, both_of};
 use crate::Memory;
 use std::alloc::{AllocError, AllocFailed};
 
-/// What is wrong with a line. The kinds of a ptop, top or solution text come first, in the order in which
-/// they are tried; then those of Tcl words and their evaluation, those of NS commands, and those of the expansion
-/// of networks.
+/// The kind of a fault in a line.
+/// The kinds of a ptop, top or solution text come first, in the order in which they are tried. Then come those of Tcl words and their evaluation,
+/// those of NS commands, and those of the expansion of networks.
 #[derive(Clone, Copy, Debug, PartialEq, Eq)]
 pub enum Kind {
     Word,
@@ -56,7 +56,7 @@ pub enum Kind {
 }
 
 impl Kind {
-    /// The word of a reply.
+    /// The word that a `bad` reply has for the kind.
     pub fn word(self) -> &'static str
         ensures { result.now ≡ word_of self }
     {
@@ -109,14 +109,14 @@ impl Kind {
     }
 }
 
-/// What is wrong with a text, and in which line, the first being 1.
+/// A fault of a text, with the number of its line, from 1.
 #[derive(Clone, Copy, Debug, PartialEq, Eq)]
 pub struct TextFault {
     pub line: u32,
     pub kind: Kind,
 }
 
-/// Why a text was not read.
+/// The reason why a text was not read.
 #[derive(Clone, Copy, Debug, PartialEq, Eq)]
 pub enum TextRefused {
     Text(TextFault),
@@ -154,7 +154,7 @@ fn rank(kind: Kind) -> u8
     }
 }
 
-/// Two parts of a line. Of two faults the one that is tried first counts.
+/// The values of two parts of a line. Of two faults the one that is tried first counts.
 pub fn both<A: Drop, B: Drop>(a: Result<A, Kind>, b: Result<B, Kind>) -> Result<(A, B), Kind>
     ensures { result ≡ both_of a b }
 {

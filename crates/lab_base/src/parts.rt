@@ -4,7 +4,7 @@ ghost use Rattle.lab_base.specs.Parts.{name_of, number_from, joined_to};
 
 use crate::{Items, Kind, Memory, Name, both, read_number};
 
-/// What fields give: their values, or the fault that is tried first.
+/// The values of a list of fields, or the fault that is tried first.
 pub type ListRead<T> = Result<Items<T>, Kind>;
 
 /// The name that a field is; `name` where it is none.
@@ -33,7 +33,7 @@ pub fn number_in(field: &[u8], least: u64, most: u64) -> Result<u64, Kind>
     }
 }
 
-/// One field more of a list of fields. Of two faults the one that is tried first counts.
+/// Adds one more field to a list that is read. Of two faults the one that is tried first counts.
 pub fn add_read<T: Drop>(so_far: ListRead<T>, next: Result<T, Kind>) -> Result<ListRead<T>, Memory>
     ensures { IfOk result (λ read. read ≡ joined_to (both_of so_far next)) }
 {

@@ -1,4 +1,4 @@
-/// What a pipe does in one direction.
+/// The rates of a pipe in one direction.
 #[derive(Clone, Copy, Debug, PartialEq, Eq)]
 pub struct Rates {
     /// Bandwidth in kbps, 1 to 1,000,000,000.

@@ -36,14 +36,14 @@ impl Text {
         }
     }
 
-    /// The text of these bytes.
+    /// The text of these bytes. It takes no memory.
     pub fn from_vec(bytes: Vec<u8>) -> Text
         ensures { result ≡ bytes.items }
     {
         Text { bytes }
     }
 
-    /// A text of these bytes.
+    /// The text of a copy of these bytes.
     pub fn from_slice(alloc: Global, bytes: &[u8]) -> Result<Text, Memory>
         ensures { IfOk result (λ text. text ≡ bytes.now) }
     {
@@ -51,7 +51,7 @@ impl Text {
         Ok(Text { bytes })
     }
 
-    /// The bytes of the text.
+    /// The bytes of the text. It takes no memory.
     pub fn into_vec(self) -> Vec<u8>
         ensures { result.items ≡ self }
     {
@@ -65,14 +65,14 @@ impl Text {
         self.bytes.as_slice()
     }
 
-    /// How many bytes there are.
+    /// The number of bytes.
     pub fn len(&self) -> usize
         ensures { result ≡ length self.now }
     {
         self.bytes.len()
     }
 
-    /// An equal text.
+    /// An equal text, in memory of its own.
     pub fn copy(&self) -> Result<Text, Memory>
         ensures { IfOk result (λ text. text ≡ self.now) }
     {
@@ -80,7 +80,7 @@ impl Text {
         Ok(Text { bytes })
     }
 
-    /// Adds a byte at the end.
+    /// Adds a byte at the end. On `Memory` the text is as it was.
     pub fn push(&mut self, byte: u8) -> Result<(), Memory>
         ensures ok { OnOk result (self.new ≡ self.old ++ byte ∷ []) }
         ensures err { OnErr result (self.new ≡ self.old) }
@@ -89,7 +89,7 @@ impl Text {
         Ok(())
     }
 
-    /// Adds bytes at the end.
+    /// Adds bytes at the end. On `Memory` the text is as it was.
     pub fn push_bytes(&mut self, bytes: &[u8]) -> Result<(), Memory>
         ensures ok { OnOk result (self.new ≡ self.old ++ bytes.now) }
         ensures err { OnErr result (self.new ≡ self.old) }
@@ -98,7 +98,7 @@ impl Text {
         Ok(())
     }
 
-    /// Adds the digits of a number at the end.
+    /// Adds the decimal digits of a number at the end.
     pub fn push_number(&mut self, n: u64) -> Result<(), Memory>
         ensures ok { OnOk result (self.new ≡ self.old ++ decimal n) }
         ensures err { OnErr result (self.new ≡ self.old) }

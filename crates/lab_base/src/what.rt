@@ -1,6 +1,6 @@
 use crate::{Boot, Name};
 
-/// What troubles a swap.
+/// The trouble that a swap meets.
 #[derive(Clone, Copy, PartialEq, Eq)]
 pub enum What {
     /// A command to that device failed.

@@ -1,4 +1,4 @@
--- What the lines of the script say of a number.
+-- The lines of the script, by their numbers.
 use Rattle.std.specs.Prelude.{ℕ, List}
 use Rattle.lab_gen.specs.Script.{interface_line, node_line, switch_line, trunk_line, virtual_link_line, virtual_node_line}
 use Rattle.lab_gen.specs.declared.lines.Line.{Line}

@@ -1,4 +1,4 @@
--- What a source of a text has left.
+-- The bytes that a source of a text has left.
 use Rattle.std.specs.Prelude.{ℕ, List, drop}
 use Rattle.lab_gen.specs.declared.source.TextSource.{TextSource}
 

@@ -1,4 +1,4 @@
--- What a generated run writes at its end.
+-- The summary that a generated run writes at its end.
 use Rattle.std.specs.Prelude.{◌≡◌, ℕ, Bool, true, false, ◌||◌, ◌==◌, not, List, [], ◌∷◌, ◌++◌, length, codes, decimal, count_by, sum_by, if◌then◌else◌}
 use Rattle.std.specs.Str.{bytes_eq}
 use Rattle.script_text.specs.Replies.{text_of}

@@ -5,12 +5,12 @@ ghost use Rattle.lab_gen.specs.Script.{interface_line, numbers, text_of, trunk_l
 
 use lab_base::{Memory, Text};
 
-/// What a line says of a number.
+/// A kind of line, made from a number.
 #[derive(Clone, Copy)]
 pub(crate) enum Line {
     Switch,
     Node,
-    /// The interface with that number, of a node.
+    /// The interface of that number, on a node.
     Interface { node: u16 },
     /// The trunk from the first switch to that one.
     Trunk,

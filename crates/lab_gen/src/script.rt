@@ -1,4 +1,4 @@
-// The whole script.
+// // The script of a seed.
 ghost use Rattle.std.specs.Prelude.{◌≡◌, ◌+◌, ◌*◌, ◌-◌, ◌%◌, ◌<◌, ◌≤◌, ◌^◌, ◌++◌, List, length, IfOk, OnOk};
 ghost use Rattle.std.specs.List.{flat_map};
 ghost use Rattle.lab_gen.specs.Script.{drawn_lines, experiment_lines, generated, generator_behind, interface_lines, lab_lines, numbers, swapout_lines, text_of, top_lines};
@@ -88,7 +88,7 @@ fn push_experiments(text: &mut Text, seed: u64) -> Result<(), Memory>
     Ok(())
 }
 
-/// The script of a seed: a lab, 40 experiments that are swapped in and out in turn, and the status.
+/// The script of a seed: a lab, 40 experiments that are swapped in and out by turns, and `status`.
 pub fn generate(alloc: Global, seed: u64) -> Result<Text, Memory>
     ensures text { IfOk result (λ text. text ≡ generated seed) }
     ensures short { IfOk result (λ text. length text < 2 ^ 32) }

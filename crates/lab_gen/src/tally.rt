@@ -18,7 +18,7 @@ pub struct Tally {
     other: u64,
 }
 
-/// A count with more. There is no room for one that 64 bits don't hold.
+/// The count with more added; `Memory` where 64 bits don't hold it.
 fn plus(count: u64, more: u64) -> Result<u64, Memory>
     ensures { IfOk result (λ sum. sum ≡ count + more) }
 {
@@ -28,7 +28,7 @@ fn plus(count: u64, more: u64) -> Result<u64, Memory>
     }
 }
 
-/// A count with one more where that counts.
+/// The count with one added where `counts`.
 fn plus_if(count: u64, counts: bool) -> Result<u64, Memory>
     ensures { IfOk result (λ sum. sum ≡ count + (if counts then 1 else 0)) }
 {
@@ -84,7 +84,7 @@ fn push_count(text: &mut Text, word: &[u8], count: u64) -> Result<(), Memory>
 }
 
 impl Tally {
-    /// No reply.
+    /// The tally before the first reply.
     pub fn new() -> Tally
         ensures { IsTally result [] }
     {

@@ -1,4 +1,4 @@
--- What a reader of lines does to the bytes that are left.
+-- The bytes that a reader of lines takes from those that are left.
 use Rattle.std.specs.Prelude.{◌≡◌, ◌⊎◌, ℕ, ◌+◌, ◌^◌, ◌<◌, ◌≤◌, Bool, true, false, List, [], ◌∷◌, ◌++◌, length, take, Option, slice_index}
 use Rattle.std.specs.Io.KnownBytes.{prepend_known, IsAtEnd}
 use Rattle.lab_io.specs.Feeds.{NoFeed, EndedLine, LastLine, without_return}

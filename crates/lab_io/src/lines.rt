@@ -11,19 +11,19 @@ use crate::reader::{Line, LineFault, LineReader};
 use lab_base::{Memory, Text};
 use std::alloc::Global;
 
-/// The most bytes of a line, without its end.
+/// The most bytes of a line, without its line feed or carriage return.
 const MAX_LINE: usize = 4_096;
 
-/// The most bytes that are asked of a source at once.
+/// The most bytes that one read of a source asks for.
 const CHUNK: usize = 4_096;
 
 /// The most bytes of a script.
 const LIMIT: u64 = 1 << 32;
 
-/// What stands at the front of what is left.
+/// The line at the front of the pending bytes.
 #[derive(Clone, Copy)]
 enum Found {
-    /// A line whose line feed stands there.
+    /// A line that ends at a line feed, at that place.
     Feed(usize),
     /// A last line, perhaps empty.
     Last,
@@ -31,7 +31,7 @@ enum Found {
     Long,
 }
 
-/// Where the first line feed stands, or the length.
+/// The place of the first line feed, or the length where there is none.
 fn find_feed(bytes: &[u8]) -> usize
     ensures within { result ≤ length bytes.now }
     ensures before { NoFeed (take result bytes.now) }
@@ -66,7 +66,7 @@ fn drop_front(bytes: &mut Vec<u8>, n: usize)
     bytes.truncate(left);
 }
 
-/// Reads until a line feed or the end stands in what is pending, or too much.
+/// Reads pieces until the pending bytes have a line feed, are too many for a line, or the source has ended.
 fn fill<S: Source>(pending: &mut Vec<u8>, taken: u64, source: &mut S) -> Result<Found, LineFault>
     requires { taken ≤ 2 ^ 32 }
     ensures rest { prepend_known pending.new.items (S.left source.new) ≡ prepend_known pending.old.items (S.left source.old) }
@@ -98,7 +98,7 @@ fn fill<S: Source>(pending: &mut Vec<u8>, taken: u64, source: &mut S) -> Result<
     }
 }
 
-/// Takes a line of `after` bytes from the front of what is pending, whose text ends at `end`.
+/// Takes a line of `after` bytes from the front of the pending bytes. Its text ends at `end`.
 fn take_text(
     alloc: Global,
     pending: &mut Vec<u8>,
@@ -136,7 +136,7 @@ fn take_text(
     }
 }
 
-/// Takes the line that stands at the front of what is pending, or the last line.
+/// Takes the line at the front of the pending bytes; at the end of the source the last line.
 fn next_line<S: Source>(
     alloc: Global,
     pending: &mut Vec<u8>,
@@ -182,7 +182,7 @@ fn next_line<S: Source>(
     }
 }
 
-/// The text of the line of `after` bytes at the front of what is pending, which ends at `end`, where it is not too long.
+/// The text of the line of `after` bytes at the front, which ends at `end`; None where it is too long.
 fn text_at(
     alloc: Global,
     pending: &[u8],
@@ -207,8 +207,7 @@ fn text_at(
     }
 }
 
-/// The text of the line that stands at the front of what is pending, which is not taken; None where there is none, or
-/// where it is too long.
+/// The text of the line at the front, which stays pending; None where there is none, or where it is too long.
 fn peek_line<S: Source>(
     alloc: Global,
     pending: &mut Vec<u8>,
@@ -245,7 +244,7 @@ fn peek_line<S: Source>(
 }
 
 impl LineReader {
-    /// A reader that has read nothing.
+    /// A reader that has read nothing, with line number 0.
     pub fn new(alloc: Global) -> Result<LineReader, Memory>
         ensures pending { IfOk result (λ reader. pending_of reader ≡ []) }
         ensures fault { IfOk result (λ reader. fault_of reader ≡ None) }
@@ -263,16 +262,16 @@ impl LineReader {
         })
     }
 
-    /// How many lines were taken.
+    /// The number of lines taken.
     pub fn lines(&self) -> u64
         ensures { result ≡ lines_of self.now }
     {
         self.lines
     }
 
-    /// The next line. After the end it answers the end, and after a fault the same fault again, and reads nothing. It asks
-    /// the source only while no line feed is pending, so it keeps at most 4,097 bytes and one piece of 4,096, and passes
-    /// over no read that failed.
+    /// Takes the next line. Behind the end it answers the end again, and after a fault that fault, and reads nothing.
+    /// It asks the source only while no line feed is pending. So it keeps at most 4,097 bytes and one piece of 4,096. It passes over no read that
+    /// failed.
     pub fn next<S: Source>(&mut self, source: &mut S) -> Result<Line, LineFault>
         ensures took { IsFalse (ended_of self.old) → IfOk result (λ line. Took (rest_of self.old (S.left source.old)) line (rest_of self.new (S.left source.new)) (ended_of self.new) (taken_of self.old) (taken_of self.new)) }
         ensures ended { IsTrue (ended_of self.old) → fault_of self.old ≡ None → (result ≡ Ok Line.End) × IsTrue (ended_of self.new) × (self.new ≡ self.old) × (source.new ≡ source.old) }
@@ -318,8 +317,8 @@ impl LineReader {
         }
     }
 
-    /// The text of the next line, which is left; None at the end, and where the line is too long. After a fault it
-    /// answers the same fault again, and reads nothing. It asks the source as `next` does.
+    /// The text of the next line, which isn't taken; None at the end, and where the line is too long.
+    /// After a fault it answers that fault again, and reads nothing. It asks the source as `next` does.
     pub fn peek<S: Source>(&mut self, source: &mut S) -> Result<Option<Text>, LineFault>
         ensures text { IfOk result (λ peeked. IfSome peeked (λ text. (ended_of self.old ≡ false) × IsNext (rest_of self.new (S.left source.new)) (taken_of self.new) text)) }
         ensures none { IfOk result (λ peeked. IfNone peeked ((ended_of self.old ≡ true) ⊎ HasNoText (taken_of self.new) (rest_of self.new (S.left source.new)))) }

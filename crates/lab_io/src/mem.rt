@@ -5,7 +5,7 @@ use crate::outside::{Failed, Sink, Source};
 use lab_base::Memory;
 use std::alloc::Global;
 
-/// Which calls are to fail, by their numbers from 1, and how many there were.
+/// The calls that are to fail, by their numbers from 1, and the number of calls so far.
 #[derive(Drop)]
 struct Calls {
     fails: Vec<u32>,
@@ -16,7 +16,7 @@ struct Calls {
 impl Calls {
     ghost use Rattle.lab_io.specs.Calls.{number_of, fails_of, faults_of};
 
-    /// Counts a call, and tells whether it is to fail.
+    /// Counts a call; true where it is to fail.
     fn count(&mut self) -> bool
         ensures fails { IsTrue result ↔ Contains (fails_of self.old) (number_of self.old) }
         ensures numbers { fails_of self.new ≡ fails_of self.old }
@@ -39,7 +39,7 @@ impl Calls {
     }
 }
 
-/// A source in memory. It tells its bytes, and fails exactly at the calls that it was made to fail at.
+/// A source in memory. It tells its bytes, and fails exactly at the calls whose numbers it was made with.
 #[derive(Drop)]
 pub struct MemSource {
     bytes: Vec<u8>,
@@ -105,8 +105,8 @@ impl Source for MemSource {
     }
 }
 
-/// A sink in memory. It tells what was written, and fails exactly at the calls that it was made to fail at, and where
-/// its room is full. A write takes no memory.
+/// A sink in memory. It tells the bytes written. It fails exactly at the calls whose numbers it was made with, and where its room is full. A write
+/// takes no memory.
 #[derive(Drop)]
 pub struct MemSink {
     bytes: Vec<u8>,
@@ -138,7 +138,7 @@ impl MemSink {
         })
     }
 
-    /// What was written.
+    /// The bytes written so far.
     pub fn bytes(&self) -> &[u8]
         ensures { result.now ≡ sink_bytes self.now }
     {

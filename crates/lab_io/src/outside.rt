@@ -8,12 +8,12 @@ ghost use Rattle.lab_io.specs.Causes.{HasCause};
 #[derive(Clone, Copy, Debug, PartialEq, Eq)]
 pub struct Failed;
 
-/// What gives bytes.
+/// A source of bytes. It may tell the bytes that it has left, and counts its faults.
 pub trait Source {
-    /// The bytes that are left, where the source tells them.
+    /// The bytes left, where the source tells them.
     ghost left: { Self → Option (List ℕ) };
 
-    /// How often it failed; the count stands at its last value.
+    /// The number of its faults; at the type's end it stands still.
     ghost faults: { Self → ℕ };
 
     /// Takes the next 1 to `into.len()` bytes; 0 only where none is left or the buffer is empty. It fails only where
@@ -26,16 +26,15 @@ pub trait Source {
         ensures cause { HasCause (faults self.old) (faults self.new) result };
 }
 
-/// What takes bytes.
+/// A sink for bytes. It may tell the bytes written, and counts its faults.
 pub trait Sink {
-    /// The bytes that were written, where the sink tells them.
+    /// The bytes written, where the sink tells them.
     ghost written: { Self → Option (List ℕ) };
 
-    /// How often it failed; the count stands at its last value.
+    /// The number of its faults; at the type's end it stands still.
     ghost faults: { Self → ℕ };
 
-    /// Takes 1 to all of the bytes, from the front, and answers how many. It fails only where the count of faults
-    /// rises, and then takes nothing.
+    /// Takes 1 to all of the bytes, from the front, and answers their number. It fails only where the count of faults rises, and then takes nothing.
     fn write(&mut self, bytes: &[u8]) -> Result<usize, Failed>
         ensures bound { IfOk result (λ n. n ≤ length bytes.now) }
         ensures some { IfOk result (λ n. 0 < length bytes.now → 0 < n) }

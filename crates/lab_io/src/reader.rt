@@ -6,16 +6,16 @@ use std::alloc::Global;
 /// A line of a source.
 #[derive(Drop)]
 pub enum Line {
-    /// Its bytes without its end.
+    /// The bytes of the line, without its end.
     Text(Text),
-    /// There is no line more.
+    /// The source has no line left.
     End,
 }
 
-/// Why there is no line.
+/// The reason why there is no line.
 #[derive(Clone, Copy, Debug, PartialEq, Eq)]
 pub enum LineFault {
-    /// The line of this number, the first being 1, has more than 4,096 bytes, or ends behind the limit of the script.
+    /// The line of that number, from 1, has more than 4,096 bytes, or ends behind the limit of the script.
     TooLong(u64),
     /// The source failed before the line's end.
     ReadFault,
@@ -26,9 +26,9 @@ pub enum LineFault {
 #[derive(Drop)]
 pub struct LineReader {
     pub(crate) alloc: Global,
-    /// Bytes that were read and are not taken yet.
+    /// Bytes that were read and belong to no line taken.
     pub(crate) pending: Vec<u8>,
-    /// How many lines were taken, and how many bytes they have with their ends.
+    /// The number of lines taken, and of their bytes with their ends.
     pub(crate) lines: u64,
     pub(crate) taken: u64,
     /// The source has nothing more; it is not asked again.

@@ -1,4 +1,4 @@
-// Standard input and output, which tell nothing.
+// // Standard input and output, which tell no bytes.
 use crate::outside::{Failed, Sink, Source};
 use std::io::Read;
 

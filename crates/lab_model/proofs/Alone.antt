@@ -1,4 +1,4 @@
--- What a state keeps of its course while other swaps and the journal go on.
+-- The facts that a state keeps of its course while other swaps and the journal go on.
 use Rattle.std.specs.List.{list_any}
 use Rattle.std.proofs.Common.{◌≡◌, ◌≢◌, inl, inr, ℕ, Bool, true, false, cond, fold, Option, Some, Result, List, [], ◌∷◌, ◌++◌, length, take, drop, refl, sym, ap, ◌∙◌, subst, arith, length-append}
 use Rattle.std.proofs.lemmas.Bool.{or_left, or_right}

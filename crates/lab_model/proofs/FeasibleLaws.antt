@@ -1,4 +1,4 @@
--- What the check of a mapping gives.
+-- The facts that follow from the check of a mapping.
 use Rattle.std.specs.List.{flat_map, list_any, sum_by}
 use Rattle.std.proofs.Common.{◌≡◌, ◌≢◌, ◌⊎◌, inl, inr, ℕ, zero, suc, max, ◌+◌, ◌<◌, ◌≤◌, Bool, true, false, not, ◌&&◌, ◌||◌, ◌==◌, Option, Some, None, List, [], ◌∷◌, ◌++◌, map, length, if◌then◌else◌, refl, sym, ap, ◌∙◌, subst, arith, zero-add, nat_le}
 use Rattle.std.proofs.lemmas.Bool.{cases_Bool, and_parts, not-true, or_left, or_right, leb-true, eqb-true, eq-eqb, both_ways, cases_eq, cond-true, cond-false}

@@ -1,4 +1,4 @@
--- What a lab gives: a port is of one interface or one trunk's end, and an interface has one name on its node.
+-- Facts of labs: a port is of one interface or one trunk's end, and an interface has one name on its node.
 use Rattle.std.specs.List.{flat_map}
 use Rattle.std.proofs.Common.{◌≡◌, ◌≢◌, inl, inr, ℕ, zero, suc, ◌<◌, List, [], ◌∷◌, map, length, get_or, refl, sym, ap, ◌∙◌, arith}
 use Rattle.std.proofs.lemmas.List.{get_or-map, length-map}

@@ -1,4 +1,4 @@
--- What a record of one experiment does to the parts: its experiment stands in another phase, and the world is the same.
+-- A record of one experiment, and the parts: its experiment is in another phase, and the world is the same.
 use Rattle.std.specs.List.{flat_map}
 use Rattle.std.proofs.Common.{◌≡◌, ◌≢◌, ◌⊎◌, inl, inr, ℕ, Option, Some, None, List, [], ◌∷◌, ◌++◌, refl, sym, ◌∙◌, subst}
 use Rattle.std.proofs.lemmas.Bool.{cases_Bool, true≢false}

@@ -1,4 +1,4 @@
--- What a mapping that suits a lab gives.
+-- The facts that follow from a mapping that suits a lab.
 use Rattle.std.specs.List.{list_any}
 use Rattle.std.specs.Prelude.{zip, replicate, map, ◌++◌, ◌+◌}
 use Rattle.std.proofs.Common.{◌≡◌, inl, inr, ℕ, zero, suc, ◌<◌, ◌≤◌, Bool, true, false, cond, eqb, List, [], ◌∷◌, length, take, get_or, refl, sym, ap, ◌∙◌, subst, arith}

@@ -1,4 +1,4 @@
--- What a sound wiring and a shaped mapping give.
+-- The facts that follow from a sound wiring and a shaped mapping.
 use Rattle.std.specs.List.{list_all, list_any}
 use Rattle.std.proofs.Common.{◌≡◌, inl, inr, ℕ, zero, suc, ◌<◌, Bool, true, false, not, Option, Some, None, List, [], ◌∷◌, map, length, get_or, if◌then◌else◌, refl, sym, ap, ◌∙◌, subst, arith, All}
 use Rattle.std.proofs.lemmas.Bool.{and_parts, or_parts, not-false, ltb-true, eqb-false}

@@ -1,4 +1,4 @@
--- What a mapping may take beside the experiments of a lab.
+-- The nodes, trunks and VLAN ids that a mapping may take beside the experiments of a lab.
 use Rattle.std.specs.Prelude.{◌≡◌, ◌<◌, ◌+◌, ◌-◌, ℕ, Bool, not, ◌&&◌, ◌==◌, nat_le, List, [], ◌∷◌, length, map, slice_index_or, sum_by, Option, Some, None, true, false}
 use Rattle.std.specs.List.{flat_map, list_any, list_all}
 use Rattle.lab_base.specs.declared.ids.VlanId.{VlanId}

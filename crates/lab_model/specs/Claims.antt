@@ -1,4 +1,4 @@
--- What an experiment claims.
+-- The claims of experiments.
 use Rattle.std.specs.Prelude.{◌≡◌, ℕ, max, Bool, false, ◌||◌, List, [], ◌++◌, map, Option, Some, None}
 use Rattle.std.specs.List.{list_any}
 use Rattle.std.specs.Str.{bytes_eq}

@@ -1,4 +1,4 @@
--- What commands leave of an experiment.
+-- The rows and nodes that commands leave of an experiment.
 use Rattle.std.specs.Prelude.{◌≡◌, ℕ, Bool, true, List, [], ◌∷◌, slice_get, Some, Result}
 use Rattle.lab_base.specs.Lists.{Has}
 use Rattle.phys_lab.specs.Labs.{Lab}

@@ -1,4 +1,4 @@
--- What a state of an open swap knows of a trace.
+-- The facts that a state of an open swap keeps of a trace.
 use Rattle.std.specs.Prelude.{Result, ◌≤◌, ℕ, Bool, false, ◌||◌, List, [], ◌∷◌, ◌++◌, length, take, drop, map, true, ◌≡◌, Option, Some, None, if◌then◌else◌, fold}
 use Rattle.std.specs.List.{list_any}
 use Rattle.phys_lab.specs.Labs.{Lab}

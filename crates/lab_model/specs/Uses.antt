@@ -1,4 +1,4 @@
--- What the segments of a mapping use of a trunk.
+-- The uses of a trunk by the segments of a mapping.
 use Rattle.std.specs.Prelude.{◌-◌, ◌*◌, ℕ, min, Bool, ◌&&◌, nat_lt, List, [], length, slice_index_or, count_by, sum_by}
 use Rattle.lab_base.specs.declared.ids.IfaceId.{IfaceId}
 use Rattle.phys_lab.specs.declared.parts.Iface.{Iface}

@@ -1,4 +1,4 @@
--- What a mapping wants of the devices.
+-- The rows and nodes that a mapping wants of the devices.
 use Rattle.std.specs.Prelude.{ℕ, List, [], ◌∷◌, ◌++◌, map, slice_index_or, slice_get, Option, Some, None, if◌then◌else◌}
 use Rattle.std.specs.List.{flat_map, filter_map, enumerate_from}
 use Rattle.std.specs.Str.{bytes_eq}

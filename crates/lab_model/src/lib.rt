@@ -1,4 +1,4 @@
-//! The definitions of the model, and its laws.
+//! The definitions of the model, and the laws about them.
 #![tactic(auto)]
 
 ghost use Rattle.std.specs.Prelude.{◌≡◌, ◌≢◌, ◌↔◌, ◌⊎◌, ◌++◌, ◌∷◌, [], ◌<◌, ℕ, List, length, take, Bool, true, false, Option, Some, None, Result, All};
@@ -38,7 +38,7 @@ ghost use Rattle.lab_model.specs.Leavings.{Sent, did, ran, Ends, Gone};
 ghost use Rattle.lab_model.specs.OnCourse.{OnCourse, EveryMoment};
 ghost use Rattle.lab_model.specs.Claims.{Which, claimed, claimed_tags};
 
-/// What is said of the whole is what the parts say together.
+/// Each statement of the whole is that of all its parts together.
 pub fn law_of_parts()
     ensures whole { (lab : Lab) (es : List Experiment) (w : World) → IsLab lab → Holding lab es
         → Parts lab es w → Isolated lab es w × Cabled lab es w }
@@ -46,7 +46,7 @@ pub fn law_of_parts()
         → Isolated lab es w → Cabled lab es w → Parts lab es w }
 {}
 
-/// Isolation is a matter of neighbours: no lists of points have to be looked at.
+/// Isolation is a matter of neighbours: no list of points has to be looked at.
 pub fn isolation_beside()
     ensures from { (lab : Lab) (es : List Experiment) (w : World) → IsolatedBeside lab es w → Isolated lab es w }
     ensures to { (lab : Lab) (es : List Experiment) (w : World) → Isolated lab es w → IsolatedBeside lab es w }
@@ -59,7 +59,7 @@ pub fn other_parts()
         → Part lab w e → Part lab (world_after w (Did op applied answer)) e }
 {}
 
-/// Every moment of a swap-in or a change, of a swap-out, and of the undo of each, begun in any world that keeps the part.
+/// Every moment of a swap-in, of a change, of a swap-out, and of the undo of each, begun in any world that keeps the part.
 pub fn every_moment()
     ensures forward { (lab : Lab) (e : Experiment) (old : Option Mapped) (m : Mapped) (w : World) → e.phase ≡ Moving old (Some m) → IsLab lab
         → AllDiffer (claimed_tags e) → ((which : Which) (n : Mapped) → claimed e which ≡ Some n → Suits lab n) → Part lab w e
@@ -73,7 +73,7 @@ pub fn every_moment()
         → EveryMoment lab e (undo lab None (Some m)) w }
 {}
 
-/// What a done course leaves of its experiment, from any part.
+/// A done course leaves of its experiment exactly the mapping that it keeps, or nothing, from any part.
 pub fn done_courses()
     ensures forward { (lab : Lab) (e : Experiment) (old : Option Mapped) (m : Mapped) (w : World) (cs : Sent)
         → e.phase ≡ Moving old (Some m) → ((which : Which) (n : Mapped) → claimed e which ≡ Some n → Suits lab n) → Part lab w e
@@ -87,8 +87,9 @@ pub fn done_courses()
         → IsDone (undo lab None (Some m)) cs → Gone lab e (ran w cs) }
 {}
 
-/// What a check of a mapping says: no violation where all rules are kept, and else the first rule that a subject breaks with its first such
-/// subject. A mapping without one suits the lab. Beside the other experiments it says what it says on what they leave.
+/// A check of a mapping finds no violation exactly where all rules are kept. Else it finds the first broken rule, with its first subject that breaks
+/// it.
+/// A mapping without a violation suits the lab. Beside the other experiments its check equals its check on the rest that they leave.
 pub fn checks()
     ensures kept { (lab : Lab) (w : Wiring) (m : Mapping) (f1 f6 : ℕ → Bool) (f8 : Bool) → first_violation lab w m f1 f6 f8 ≡ None
         → (rule : Broken) → Kept lab w m f1 f6 f8 rule }
@@ -104,13 +105,14 @@ pub fn checks()
         → IsShaped lab w m → violation lab free w m ≡ violation_beside lab others own w m }
 {}
 
-/// What a mapping uses of a trunk is what it uses of the cut that the trunk's first side makes.
+/// The use that a mapping makes of a trunk is its use of the cut that the trunk's first side makes.
 pub fn uses_of_cuts()
     ensures { (lab : Lab) (w : Wiring) (m : Mapping) (t : ℕ) → All (λ i. i.0 < length lab.ifaces) m.plugs
         → cut_use (first_side_of lab.ifaces lab.trunks t) (cables_of w m) ≡ use_of lab w m t }
 {}
 
-/// What a state keeps of its course: kept by others' commands and by the journal's steps, longer by its own, and enough for the part and the end.
+/// The state's knowledge of its course is kept by others' commands and by the journal's steps. Its own commands make the course longer, and it
+/// suffices for the part and for the end.
 pub fn courses_alone()
     ensures starts { (lab : Lab) (e : Experiment) (trace : List Event) → OnCourse lab e [] (length trace) trace }
     ensures others { (lab : Lab) (es : List Experiment) → IsLab lab → Holding lab es → (e f : Experiment) (cs : Sent) (start : ℕ) (trace : List Event)
@@ -127,9 +129,10 @@ pub fn courses_alone()
         → Gone lab e (ran (world_of (take start trace)) cs) → Gone lab e (world_of trace) }
 {}
 
-/// A course is done exactly where it is the plan's commands in order, each acknowledged, and then for each node its Boot and lawful polls
-/// from BOOTING on, 64 at most, of which the last alone is ISUP. It is cut exactly where the last command is the trouble, and all before are
-/// such a beginning: a command that failed, a poll that answers an unlawful state, or the 64th without ISUP.
+/// A course is done exactly where it is the plan's commands in order, each acknowledged. Then come for each node its Boot and lawful polls from
+/// BOOTING on, at most 64, of which the last alone is ISUP.
+/// It is cut exactly where the last command is the trouble, and all before are the beginning of such a course. Trouble is a command that failed, a
+/// poll that answers an unlawful state, or the 64th without ISUP.
 pub fn courses_are_lists()
     ensures done { (plan : Plan) (cs : Sent) → IsDone plan cs ↔ IsDoneList plan cs }
     ensures cut { (plan : Plan) (cs : Sent) (what : Trouble) → IsCut plan cs what ↔ IsCutList plan cs what }

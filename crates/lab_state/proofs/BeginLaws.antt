@@ -1,4 +1,4 @@
--- What an experiment may begin to move to.
+-- The mappings to which an experiment may begin to move.
 use Rattle.std.proofs.Common.{◌≡◌, ◌==◌, ℕ, true, inl, Option, Some, None, is_none, List, ◌∷◌, ◌++◌, length, refl, sym, ap, subst, ◌∙◌, ◌&&◌}
 use Rattle.std.proofs.lemmas.Bool.{and_parts}
 use Rattle.std.proofs.lemmas.Option.{same_Some}

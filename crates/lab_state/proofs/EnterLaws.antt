@@ -1,4 +1,4 @@
--- What is kept where a change is entered.
+-- A change that is entered keeps the invariant of a lab.
 use Rattle.std.proofs.Common.{◌≡◌, ◌≢◌, ◌<◌, ℕ, Bool, true, false, inl, inr, Option, Some, None, List, [], ◌∷◌, ◌++◌, length, map, refl, sym, ap, subst, ◌∙◌, is_some, IfSome, if◌then◌else◌, arith}
 use Rattle.std.proofs.lemmas.Option.{same_Some}
 use Rattle.lab_base.specs.Lists.{AllDiffer}

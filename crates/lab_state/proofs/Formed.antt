@@ -1,4 +1,4 @@
--- What each experiment of a lab that records give is like: its wirings have texts, and it moves from its own wiring, or to it.
+-- Each experiment of a lab that records give: its wirings have texts, and it moves from its own wiring, or to it.
 use Rattle.std.proofs.Common.{◌≡◌, ◌⊎◌, inl, inr, ℕ, Bool, true, false, ◌&&◌, if◌then◌else◌, is_none, nat_le, Option, Some, None, List, [], ◌∷◌, ◌++◌, length, refl, sym, ap, ◌∙◌, subst}
 use Rattle.std.specs.Str.{bytes_eq}
 use Rattle.std.proofs.lemmas.Bool.{cases_Bool, cond-true, cond-false}

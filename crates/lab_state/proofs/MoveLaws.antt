@@ -1,4 +1,4 @@
--- What a move of one experiment says of it.
+-- Moves of one experiment.
 use Rattle.std.proofs.Common.{◌≡◌, ℕ, Bool, true, false, Option, Some, None, List, refl, sym, ap, ◌∙◌}
 use Rattle.std.proofs.lemmas.Option.{same_Some}
 use Rattle.phys_lab.specs.Labs.{Lab}

@@ -1,4 +1,4 @@
--- What is answered where a record can't follow.
+-- The answers where a record can't follow.
 use Rattle.std.specs.Prelude.{Result, Ok, Err}
 use Rattle.lab_base.specs.declared.fault.TextRefused.{TextRefused}
 use Rattle.lab_base.specs.declared.fault.TextRefused.TheVariants as refusals

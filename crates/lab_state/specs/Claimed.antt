@@ -1,4 +1,4 @@
--- What is claimed of a lab, after a claim is noted and after a move has ended.
+-- The claims on a lab, after one is set and after a move has ended.
 use Rattle.std.specs.Prelude.{ℕ, Bool, List, Option, Some, None, if◌then◌else◌}
 use Rattle.claims.specs.declared.claim.Claim.{Claim}
 use Rattle.claims.specs.Held.{Held}

@@ -1,4 +1,4 @@
--- What the judgement of a record says.
+-- The outcomes of judging a record.
 use Rattle.std.specs.Prelude.{◌≡◌, true, false, List, Some, Result, Ok, Err}
 use Rattle.phys_lab.specs.Labs.{Lab}
 use Rattle.virt_topo.specs.declared.experiment.Experiment.{Experiment}

@@ -1,4 +1,4 @@
--- What is kept of a lab with its experiments.
+-- The invariant of a lab with its experiments.
 use Rattle.std.specs.Prelude.{◌≡◌, true, List, Option, Some, None}
 use Rattle.lab_base.specs.Lists.{Has}
 use Rattle.phys_lab.specs.Labs.{Lab}

@@ -1,4 +1,4 @@
--- What contracts see.
+-- Labs and their experiments, as contracts see them.
 use Rattle.std.specs.Prelude.{ℕ, List}
 use Rattle.virt_topo.specs.declared.experiment.Experiment.{Experiment}
 use Rattle.records_model.specs.Labs.{LabState}

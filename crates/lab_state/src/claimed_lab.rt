@@ -22,14 +22,14 @@ use phys_lab::{Free, Lab};
 use std::alloc::Global;
 use virt_topo::{Experiment, Mapped, Phase, Wiring};
 
-/// A lab, and what its experiments claim.
+/// A lab with the claims of its experiments.
 #[derive(Drop)]
 pub(crate) struct ClaimedLab {
     pub lab: Lab,
     pub claims: Claims,
 }
 
-/// The mapping of an experiment that stands in the lab, with its wiring and VLAN ids.
+/// The mapping of an experiment that stands in the lab, with its wiring and VLAN ids; None where it doesn't stand.
 fn standing_of(alloc: Global, experiment: &Experiment) -> Result<Option<Mapped>, Memory>
     ensures { IfOk result (λ standing. standing ≡ standing_in experiment.now.wiring experiment.now.phase) }
 {
@@ -49,7 +49,7 @@ fn standing_of(alloc: Global, experiment: &Experiment) -> Result<Option<Mapped>,
     }
 }
 
-/// What is made of an experiment that moves, beside its new mapping: its wiring, the mapping with which it stands, and what it claims.
+/// The beginning of a move: the experiment's wiring, the mapping with which it stands, and its claim while it moves.
 #[derive(Drop)]
 struct Begun {
     wiring: Wiring,
@@ -58,7 +58,7 @@ struct Begun {
 }
 
 impl Begun {
-    /// What changes where an experiment of that name begins to move to a new mapping, or out.
+    /// The change by which the experiment of that name begins to move to a new mapping, or out.
     fn change(self, name: Name, new: Option<Mapped>) -> Change
         ensures { result ≡ changes.Begin (record { name = name; wiring = self.wiring; phase = phases.Moving self.old new }) self.claim }
     {
@@ -74,7 +74,7 @@ impl Begun {
 }
 
 impl ClaimedLab {
-    /// A lab of which nothing is claimed.
+    /// A lab with no claim.
     pub(crate) fn new(alloc: Global, lab: Lab) -> Result<ClaimedLab, Memory>
         ensures lab { IfOk result (λ place. place.lab ≡ lab) }
         ensures claims { IfOk result (λ place. place.claims ≡ none_of lab) }
@@ -83,7 +83,7 @@ impl ClaimedLab {
         Ok(ClaimedLab { lab, claims })
     }
 
-    /// Whether a mapping keeps the eight rules on what others leave.
+    /// Whether a mapping keeps the eight rules on the rest that others leave.
     fn is_feasible(&self, alloc: Global, free: &Free, new: &Mapped) -> Result<bool, Memory>
         requires free { IsFreeOf self.now.lab free.now }
         requires sound { IsSound new.now.wiring }
@@ -97,14 +97,14 @@ impl ClaimedLab {
         }
     }
 
-    /// Whether there is a VLAN id for each segment, and they are free.
+    /// Whether each segment has a VLAN id, and these are free.
     fn has_ids(&self, new: &Mapped) -> bool
         ensures { result ≡ ((length new.now.tags == length new.now.wiring.segments) && are_free_ids self.now.claims new.now.tags) }
     {
         new.tags.len() == new.wiring.segments.len() && self.claims.are_free(&new.tags)
     }
 
-    /// Whether an experiment can take a mapping: it is feasible on what the others leave, and its VLAN ids are free.
+    /// Whether an experiment can take a mapping: it is feasible on the rest that the others leave, and its VLAN ids are free.
     fn can_take(&self, alloc: Global, exp: Name, new: &Mapped) -> Result<bool, Memory>
         requires kept { (es : List AnyExperiment) × (e : AnyExperiment) × IsKept (Some self.now) es × (find exp es ≡ Some e) }
         requires sound { IsSound new.now.wiring }
@@ -134,7 +134,7 @@ impl ClaimedLab {
         }
     }
 
-    /// What an experiment claims that moves from one of two mappings to the other.
+    /// The claim of an experiment that moves from one of two mappings to the other.
     fn claim_of(
         &self,
         alloc: Global,
@@ -150,7 +150,7 @@ impl ClaimedLab {
         Ok(Claim { old, new })
     }
 
-    /// What is made of an experiment where it begins to move to a new mapping, or out.
+    /// The beginning of an experiment's move to a new mapping, or out.
     fn begun(
         &self,
         alloc: Global,
@@ -175,7 +175,7 @@ impl ClaimedLab {
         }
     }
 
-    /// What changes where an experiment begins to move from the mapping with which it stands to a new one, or out.
+    /// The change by which an experiment begins to move from the mapping with which it stands to a new one, or out.
     pub(crate) fn begin(
         &self,
         alloc: Global,
@@ -195,7 +195,7 @@ impl ClaimedLab {
         }
     }
 
-    /// What changes where an experiment begins to take a mapping; `Bad` where it can't take it.
+    /// The change by which an experiment begins to take a mapping; `Bad` where it can't take it.
     pub(crate) fn take(
         &self,
         alloc: Global,

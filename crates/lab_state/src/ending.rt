@@ -6,7 +6,7 @@ ghost use Rattle.records_model.specs.Labs.{is_out};
 use std::mem;
 use virt_topo::{Experiment, Mapped, Phase};
 
-/// The mapping that an experiment keeps which moves.
+/// The mapping that a moving experiment keeps: the new one where its move is done, the old one where it is undone.
 fn kept_of(phase: Phase, commit: bool) -> Option<Mapped>
     ensures { result ≡ kept_of commit phase }
 {
@@ -25,7 +25,7 @@ fn kept_of(phase: Phase, commit: bool) -> Option<Mapped>
     }
 }
 
-/// Ends the move of an experiment: it stands with the mapping that it keeps, or is out. Tells whether it stands.
+/// Ends the move of an experiment: it stands with the mapping that it keeps, or is out. Answers whether it stands.
 pub(crate) fn end(experiment: &mut Experiment, commit: bool) -> bool
     ensures ended { experiment.new ≡ ended commit experiment.old }
     ensures stands { result ≡ is_some (kept_of commit experiment.old.phase) }
@@ -46,7 +46,7 @@ pub(crate) fn end(experiment: &mut Experiment, commit: bool) -> bool
     }
 }
 
-/// Whether a move can end so: it moves, and where it is undone it was to stand.
+/// Whether a move can end so. It has begun; and where it is undone, it was no swap-out.
 pub(crate) fn may_end(phase: &Phase, commit: bool) -> bool
     ensures { result ≡ may_end commit phase.now }
 {

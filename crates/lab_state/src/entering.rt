@@ -1,4 +1,4 @@
-// Entering what a record changes.
+// // Entering the changes of records into the lab.
 ghost use Rattle.std.specs.Prelude.{◌≡◌, ◌≤◌, ◌<◌, length, Some, None, IfSome};
 ghost use Rattle.virt_topo.specs.declared.experiment.Experiment.{Experiment as AnyExperiment};
 ghost use Rattle.virt_topo.specs.declared.experiment.Phase.TheVariants as phases;
@@ -17,7 +17,7 @@ use claims::Claim;
 use lab_base::Name;
 use virt_topo::Experiment;
 
-/// Notes what an experiment claims, where there is a lab.
+/// Sets the claim of an experiment, where there is a lab.
 fn note(place: &mut Option<ClaimedLab>, exp: Name, claim: Claim)
     requires may { IfSome place.old (λ p. MayAdd p.claims exp claim) }
     requires few { IfSome place.old (λ p. length (others exp p.claims.entries) < 256) }
@@ -30,7 +30,7 @@ fn note(place: &mut Option<ClaimedLab>, exp: Name, claim: Claim)
     }
 }
 
-/// Keeps one side of what an experiment claims whose move has ended, or drops it where the experiment is out.
+/// Keeps one side of the claim of an experiment whose move has ended, or drops the claim where the experiment is out.
 fn settle(place: &mut Option<ClaimedLab>, exp: Name, commit: bool, stands: bool)
     ensures { place.new ≡ settled stands exp commit place.old }
 {
@@ -81,7 +81,7 @@ impl LabState {
         self.experiments.put(experiment);
     }
 
-    /// Ends the move of an experiment: it is done, or undone where `commit` is false. It takes no memory.
+    /// Ends the move of an experiment as done, or as undone where `commit` is false. It takes no memory.
     pub fn end_move(&mut self, exp: Name, commit: bool)
         requires { CanEnd self.old.state exp commit }
         ensures { moved self.old.state (ending exp commit) ≡ Some self.new.state }

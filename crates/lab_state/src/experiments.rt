@@ -11,7 +11,7 @@ use std::alloc::Global;
 use std::marker::Model;
 use virt_topo::Experiment;
 
-/// Experiments in order of creation. Contracts see them as a list, and for how many more there is room.
+/// Experiments in order of creation. Contracts see them as a list, and the number of further ones for which there is room.
 #[derive(Drop)]
 pub(crate) struct Experiments {
     table: IndexMap<Name, Experiment>,
@@ -77,7 +77,7 @@ impl Experiments {
         drop(self.table.insert(experiment.name, experiment));
     }
 
-    /// Removes the experiment of a name; it is no error if there is none.
+    /// Removes the experiment of a name, if there is one.
     pub(crate) fn remove(&mut self, exp: Name)
         ensures { self.new.list ≡ others exp self.old.list }
     {
@@ -92,7 +92,7 @@ impl Experiments {
         drop(self.table.insert(experiment.name, experiment));
     }
 
-    /// Ends the move of an experiment. Tells whether it stands in the lab then.
+    /// Ends the move of an experiment. Answers whether it stands in the lab then.
     pub(crate) fn end_move(&mut self, exp: Name, commit: bool) -> bool
         requires { (before : AnyExperiment) × (find exp self.old.list ≡ Some before) }
         ensures list { (e : AnyExperiment) → find exp self.old.list ≡ Some e → self.new.list ≡ replace exp (ended commit e) self.old.list }

@@ -3,7 +3,7 @@ ghost use Rattle.lab_state.specs.Answers.{fault_of};
 
 use lab_base::{Memory, TextRefused};
 
-/// Why a record was not prepared.
+/// The reason why a record was not prepared.
 #[derive(Clone, Copy, Debug, PartialEq, Eq)]
 pub enum PrepareFault {
     /// The record can't follow.
@@ -32,7 +32,7 @@ impl From<TextRefused> for PrepareFault {
     }
 }
 
-/// Why records were not replayed.
+/// The reason why records were not replayed.
 #[derive(Clone, Copy, Debug, PartialEq, Eq)]
 pub enum ReplayFault {
     /// The record of that number, from 0, is the first that can't follow.

@@ -21,7 +21,7 @@ use virt_topo::{Experiment, Mapped, Phase};
 const MAX_EXPERIMENTS: usize = 256;
 
 impl LabState {
-    /// A lab comes first, and once.
+    /// Judges the record of a lab, which comes first, and once.
     fn judge_lab(&self, text: &[u8]) -> Result<Change, PrepareFault>
         requires { length text.now < 4294967295 }
         ensures { IsJudged self.now.state (records.Lab text.now) result }
@@ -34,7 +34,8 @@ impl LabState {
         Ok(Change::Set(place))
     }
 
-    /// A new experiment needs a lab, a new name, at most 255 experiments there, and a record of the format of its wiring.
+    /// Judges the record of a new experiment. It needs a lab, a new name, at most 255 experiments there, and the record's format has to be that of
+    /// its wiring.
     fn judge_create(&self, exp: Name, text: &[u8], second: bool) -> Result<Change, PrepareFault>
         requires { length text.now < 4294967295 }
         ensures { IsJudged self.now.state (create_in second exp text.now) result }
@@ -56,7 +57,7 @@ impl LabState {
         }))
     }
 
-    /// An experiment that goes has to be out.
+    /// Judges the record of an experiment that is deleted: it has to be out.
     fn judge_delete(&self, exp: Name) -> Result<Change, PrepareFault>
         ensures { IsJudged self.now.state (records.Delete exp) result }
     {
@@ -72,7 +73,7 @@ impl LabState {
         }
     }
 
-    /// A swap-in begins for an experiment that is out.
+    /// Judges the begin of a swap-in: the experiment has to be out.
     fn judge_in(&self, exp: Name, map: &[u8], tags: &Tags) -> Result<Change, PrepareFault>
         requires { length map.now < 4294967295 }
         ensures { IsJudged self.now.state (records.Begin exp (ways.In map.now tags.now)) result }
@@ -97,7 +98,7 @@ impl LabState {
         place.take(self.alloc, experiment, new)
     }
 
-    /// A swap-out begins for an experiment that is in.
+    /// Judges the begin of a swap-out: the experiment has to be in.
     fn judge_out(&self, exp: Name) -> Result<Change, PrepareFault>
         ensures { IsJudged self.now.state (records.Begin exp ways.Out) result }
     {
@@ -114,7 +115,7 @@ impl LabState {
         Ok(change)
     }
 
-    /// A change begins for an experiment that is in, by a record of the format of its new wiring.
+    /// Judges the begin of a change: the experiment has to be in, and the record's format that of its new wiring.
     fn judge_change(
         &self,
         exp: Name,
@@ -163,7 +164,7 @@ impl LabState {
         }
     }
 
-    /// A move that ends has begun, and one that is undone was not a swap-out.
+    /// Judges the end of a move: it has to have begun, and where it is undone to be no swap-out.
     fn judge_end(&self, exp: Name, commit: bool) -> Result<Change, PrepareFault>
         ensures { IsJudged self.now.state (ending_record exp commit) result }
     {
@@ -179,7 +180,7 @@ impl LabState {
         }
     }
 
-    /// What a record changes; `Bad` exactly where it can't follow. Its clause `sane` is what every lab keeps.
+    /// The change that a record makes; `Bad` exactly where it can't follow. The clause `sane` holds of every lab.
     pub(crate) fn judge(&self, entry: &Record) -> Result<Change, PrepareFault>
         requires { IsRecord entry.now }
         ensures judged { IsJudged self.now.state entry.now result }

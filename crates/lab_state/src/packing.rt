@@ -43,7 +43,7 @@ fn push(alloc: Global, packed: &mut Packed, entry: Record) -> Result<(), Memory>
     packed.add(&encoded)
 }
 
-/// The lab, as the first record.
+/// Adds the lab, as the first record.
 fn push_lab(alloc: Global, packed: &mut Packed, lab: &Lab) -> Result<(), Memory>
     ensures { OnOk result (PacksMore packed.old packed.new (AnyRecord.Lab (the_texts.ptop lab.now) ∷ [])) }
 {
@@ -73,7 +73,7 @@ fn change(top: Text, map: Text, tags: Tags, second: bool) -> Way
     }
 }
 
-/// A new experiment with that wiring.
+/// Adds the record of a new experiment with that wiring.
 fn push_creation(
     alloc: Global,
     packed: &mut Packed,
@@ -89,7 +89,7 @@ fn push_creation(
     push(alloc, packed, entry)
 }
 
-/// Its way into the lab.
+/// Adds the begin of its way into the lab.
 fn push_entry(
     alloc: Global,
     packed: &mut Packed,
@@ -109,7 +109,7 @@ fn push_entry(
     push(alloc, packed, Record::Begin { exp, way })
 }
 
-/// Its way to another mapping.
+/// Adds the begin of its way to another mapping.
 fn push_turn(
     alloc: Global,
     packed: &mut Packed,
@@ -128,7 +128,7 @@ fn push_turn(
     push(alloc, packed, Record::Begin { exp, way })
 }
 
-/// Its way out.
+/// Adds the begin of its way out.
 fn push_exit(alloc: Global, packed: &mut Packed, exp: Name) -> Result<(), Memory>
     ensures { OnOk result (PacksMore packed.old packed.new (AnyRecord.Begin exp Way.Out ∷ [])) }
 {
@@ -137,7 +137,7 @@ fn push_exit(alloc: Global, packed: &mut Packed, exp: Name) -> Result<(), Memory
     push(alloc, packed, Record::Begin { exp, way })
 }
 
-/// The end of its move.
+/// Adds the end of its move.
 fn push_commit(alloc: Global, packed: &mut Packed, exp: Name) -> Result<(), Memory>
     ensures { OnOk result (PacksMore packed.old packed.new (AnyRecord.Commit exp ∷ [])) }
 {
@@ -145,7 +145,7 @@ fn push_commit(alloc: Global, packed: &mut Packed, exp: Name) -> Result<(), Memo
     push(alloc, packed, Record::Commit { exp })
 }
 
-/// An experiment that stands with a mapping.
+/// Adds the records of an experiment that stands with a mapping.
 fn push_stand(
     alloc: Global,
     packed: &mut Packed,
@@ -163,7 +163,7 @@ fn push_stand(
     push_commit(alloc, packed, exp)
 }
 
-/// An experiment on its way into the lab.
+/// Adds the records of an experiment on its way into the lab.
 fn push_entering(
     alloc: Global,
     packed: &mut Packed,
@@ -186,7 +186,7 @@ fn push_entering(
     )
 }
 
-/// An experiment on its way out of the lab, or to another mapping.
+/// Adds the records of an experiment on its way out of the lab, or to another mapping.
 fn push_leaving(
     alloc: Global,
     packed: &mut Packed,
@@ -214,7 +214,7 @@ fn push_leaving(
     }
 }
 
-/// An experiment that was out before its move.
+/// Adds the records of a moving experiment that was out before its move.
 fn push_coming(
     alloc: Global,
     packed: &mut Packed,
@@ -233,7 +233,7 @@ fn push_coming(
     }
 }
 
-/// An experiment that moves.
+/// Adds the records of an experiment that moves.
 fn push_moving(
     alloc: Global,
     packed: &mut Packed,
@@ -254,7 +254,7 @@ fn push_moving(
     }
 }
 
-/// An experiment with the moves that bring it to its phase.
+/// Adds an experiment, with the moves that bring it to its phase.
 fn push_one(
     alloc: Global,
     packed: &mut Packed,
@@ -274,7 +274,7 @@ fn push_one(
     }
 }
 
-/// The experiments in order of creation.
+/// Adds the experiments in order of creation.
 fn push_all(
     alloc: Global,
     packed: &mut Packed,
@@ -296,8 +296,9 @@ fn push_all(
 }
 
 impl LabState {
-    /// The records of this lab in one piece, without its past: the lab, and its experiments in order of creation, each with the moves that
-    /// bring it to its phase. They stand for this lab.
+    /// The records of this lab in one piece, without its past. The lab comes first, then its experiments in order of creation, each with the moves
+    /// that bring it to its phase.
+    /// A journal of these records stands for this lab.
     pub fn pack(&self) -> Result<Packed, Memory>
         ensures packed { IfOk result (λ packed. ArePacked packed (packed_of the_texts self.now.state)) }
         ensures stands { IfOk result (λ packed. (rs : List AnyRecord) → LabOf the_texts rs self.now.state → LabOf the_texts (packed_of the_texts self.now.state) self.now.state) }

@@ -4,28 +4,28 @@ use lab_base::Name;
 use std::marker::Model;
 use virt_topo::Experiment;
 
-/// What a record changes, with the values of its texts.
+/// The change that a record makes, with the values of its texts.
 #[derive(Drop)]
 pub(crate) enum Change {
-    /// The lab is set, and nothing is claimed of it.
+    /// Sets the lab, of which nothing is claimed.
     Set(ClaimedLab),
-    /// An experiment is new; it is out.
+    /// Adds a new experiment, which is out.
     Add(Experiment),
-    /// The experiment of that name is gone.
+    /// Removes the experiment of that name.
     Remove(Name),
-    /// The experiment begins to move so, and claims that.
+    /// Begins the move of that experiment, with its claim.
     Begin {
         experiment: Experiment,
         claim: Claim,
     },
-    /// The move of that experiment ends: it is done, or undone.
+    /// Ends the move of that experiment, as done or as undone.
     End {
         exp: Name,
         commit: bool,
     },
 }
 
-/// A record that can follow, judged and ready to be entered. Contracts see what it changes.
+/// A record that can follow, judged and ready to be entered. Contracts see its change.
 #[derive(Drop)]
 pub struct Prepared {
     pub(crate) change: Change,

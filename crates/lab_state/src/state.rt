@@ -21,7 +21,7 @@ use std::alloc::Global;
 use std::marker::Model;
 use virt_topo::Experiment;
 
-/// A lab with its experiments, as records give it. Contracts see both, and for how many more experiments there is room.
+/// A lab with its experiments, as records give it. Contracts see both, and the number of further experiments for which there is room.
 #[derive(Drop)]
 pub struct LabState {
     pub(crate) alloc: Global,
@@ -41,7 +41,7 @@ impl Model for LabState {
 }
 
 impl LabState {
-    /// No lab yet.
+    /// The state before the first record: no lab, and no experiment.
     pub fn new(alloc: Global) -> LabState
         ensures { result.state ≡ at_first }
     {
@@ -52,7 +52,7 @@ impl LabState {
         }
     }
 
-    /// The lab, if there is one. Its clauses `sane` and `printable` are what holds of every lab that records give.
+    /// The lab, if there is one. The clauses `sane` and `printable` hold of every lab that records give.
     pub fn lab(&self) -> Option<&Lab>
         ensures lab { option_copied result ≡ self.now.state.lab }
         ensures sane { Sane self.now.state }
@@ -65,7 +65,7 @@ impl LabState {
         }
     }
 
-    /// What the experiments claim of the lab, if there is one.
+    /// The claims of the experiments, if there is a lab.
     pub fn claims(&self) -> Option<&Claims>
         ensures some { is_some result ≡ is_some self.now.state.lab }
         ensures claims { IfSome result (λ claims. ClaimsOf (lab_in self.now.state.lab) self.now.state.experiments claims.now) }
@@ -76,7 +76,7 @@ impl LabState {
         }
     }
 
-    /// How many experiments there are.
+    /// The number of experiments.
     pub fn len(&self) -> usize
         ensures { result ≡ length self.now.state.experiments }
     {
@@ -97,7 +97,7 @@ impl LabState {
         self.experiments.nth(n as usize)
     }
 
-    /// Judges a record, and makes room for it. `Bad` comes exactly where it can't follow.
+    /// Judges a record, and makes room for its change. `Bad` comes exactly where it can't follow. On an error the state is as it was.
     pub fn prepare(&mut self, entry: &Record) -> Result<Prepared, PrepareFault>
         requires { IsRecord entry.now }
         ensures ok { IfOk result (λ prepared. Follows the_texts self.old.state entry.now (after self.old.state prepared)) }
@@ -115,7 +115,7 @@ impl LabState {
         }
     }
 
-    /// Makes room for what a change adds.
+    /// Makes room for the experiment that a change adds.
     fn make_room(&mut self, change: &Change) -> Result<(), Memory>
         ensures state { self.new.state ≡ self.old.state }
         ensures room { OnOk result (needs change.now ≤ self.new.room) }
@@ -126,7 +126,7 @@ impl LabState {
         Ok(())
     }
 
-    /// Enters a record that was prepared. It takes no memory.
+    /// Enters a prepared record. It takes no memory.
     pub fn enter(&mut self, prepared: Prepared)
         requires { CanEnter self.old prepared }
         ensures { self.new.state ≡ after self.old.state prepared }

@@ -1,4 +1,4 @@
--- What words choose, by the parse of the command.
+-- The choices of words, by the parse of the command.
 use Rattle.std.proofs.Common.{◌≡◌, ◌≢◌, ◌∙◌, inl, inr, false, List, [], ◌∷◌, Option, None, Err, String, codes, map, length, string_bytes, refl, sym, ap, arith}
 use Rattle.std.specs.Prelude.{if◌then◌else◌}
 use Rattle.std.proofs.lemmas.Bool.{ne_eqb}

@@ -1,4 +1,4 @@
-//! The command line: what the words behind the program's name choose.
+//! The command line of the program: which folder, which cost rule and which script its words choose.
 #![tactic(auto)]
 
 mod place;

@@ -5,19 +5,19 @@ ghost use Rattle.lab_words.specs.Words.{choices_of};
 use crate::words::read_words;
 use std::alloc::{AllocError, Global};
 
-/// Where a lab is kept.
+/// The place where a lab is kept.
 #[derive(Drop)]
 pub enum Place {
-    /// In memory, as long as the run lasts. It begins with a plant in which nothing has happened.
+    /// Memory, as long as the run lasts. It begins with a plant in which nothing has happened.
     Blank,
-    /// In the files of that folder.
+    /// The files of that folder.
     Folder(String),
 }
 
-/// Why words choose nothing.
+/// The reason why words choose nothing.
 #[derive(Clone, Copy, Debug, PartialEq, Eq, Drop)]
 pub enum PlaceFault {
-    /// They are a faulty command line.
+    /// The words are a faulty command line.
     Usage,
     Memory,
 }
@@ -33,7 +33,7 @@ impl From<AllocError> for PlaceFault {
     }
 }
 
-/// The place that words choose: the folder of `--dir DIR`, else none.
+/// The place that words choose: the folder of `--dir DIR`, else memory.
 pub fn place_of(alloc: Global, words: &[String]) -> Result<Place, PlaceFault>
     ensures { IsPlace (choices_of words.now) result }
 {

@@ -9,18 +9,18 @@ use clap::{Arg, ArgMatches, Command, Error, value_parser};
 use cost_rule::RuleNumber;
 use std::alloc::Global;
 
-/// What words choose.
+/// The choices of a command line.
 #[derive(Clone, Copy)]
 pub struct Chosen<'a> {
     /// The folder where the lab is kept, if not in memory.
     pub dir: Option<&'a str>,
     /// The cost rule of the session.
     pub rule: RuleNumber,
-    /// The number of the script that is obeyed in place of the source's.
+    /// The number behind `--gen`: that script is obeyed in place of the source's.
     pub generated: Option<u64>,
 }
 
-/// The command `labctl [--cost COST] [--dir DIR] [--gen N]` on the words.
+/// The matches of the words with the options `[--cost COST] [--dir DIR] [--gen N]`.
 fn matches<'a>(alloc: Global, words: &'a [String]) -> Result<ArgMatches<'a>, Error>
     ensures rows { IfOk result (λ m. rows_of (found_of m) ≡ matches_of command_line (map string_bytes words.now)) }
     ensures faults { FailsBy (fault_of command_line (map string_bytes words.now)) result }
@@ -39,7 +39,7 @@ fn matches<'a>(alloc: Global, words: &'a [String]) -> Result<ArgMatches<'a>, Err
     command.try_get_matches_from(words)
 }
 
-/// The rule of a word.
+/// The cost rule of a word; None where the word names none.
 fn rule_named(word: &str) -> Option<RuleNumber>
     ensures { result ≡ rule_named word.now }
 {
@@ -50,7 +50,7 @@ fn rule_named(word: &str) -> Option<RuleNumber>
     }
 }
 
-/// The number behind `--gen`, if there is one. It has no value where what stands there is no number.
+/// The number behind `--gen`: None where its value is no number, `Some(None)` where the option isn't there.
 fn number_in(matches: &ArgMatches<'_>) -> Option<Option<u64>>
     ensures { result ≡ number_if (one_text (found_of matches.now) (codes "gen")) }
 {
@@ -60,7 +60,7 @@ fn number_in(matches: &ArgMatches<'_>) -> Option<Option<u64>>
     }
 }
 
-/// What the options say, if each has a value of its kind.
+/// The choices of the matched options; None where the word of `--cost` or of `--gen` is no value of its kind.
 fn chosen_in<'a>(matches: &ArgMatches<'a>) -> Option<Chosen<'a>>
     ensures { option_map seen_of result ≡ chosen (first_value (found_of matches.now) (codes "cost")) (first_value (found_of matches.now) (codes "dir")) (one_text (found_of matches.now) (codes "gen")) }
 {
@@ -82,7 +82,7 @@ fn fault_of(error: &Error) -> PlaceFault
     }
 }
 
-/// What words choose, if they are a command line.
+/// The choices of a command line; `Usage` where the words are none.
 pub fn read_words<'a>(alloc: Global, words: &'a [String]) -> Result<Chosen<'a>, PlaceFault>
     ensures { Says (choices_of words.now) result }
 {

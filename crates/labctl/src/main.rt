@@ -1,5 +1,7 @@
-//! Obeys the script of standard input over a plant in memory, or with `--dir DIR` in the files of a folder, and writes the replies to
-//! standard output. With `--cost pack` searches use few nodes; with `--gen N` a script of its own is obeyed, and a summary is written.
+//! The program: it obeys the script of standard input, and writes the replies to standard output.
+//!
+//! The lab is in memory, or with `--dir DIR` in the files of a folder. With `--cost pack` searches use few nodes. With `--gen N` it obeys a script of
+//! its own, and writes a summary.
 #![tactic(auto)]
 
 use lab_io::{StdSink, StdSource};
@@ -52,7 +54,7 @@ fn run(rt: &HostRuntime) -> Status {
     }
 }
 
-/// Says on standard error how the run ended, where that is not its end.
+/// Tells on standard error how the run ended, where it wasn't at the script's end.
 fn tell(rt: &HostRuntime, status: Status) -> io::Result<()> {
     match status {
         Status::Done => Ok(()),

@@ -1,4 +1,4 @@
--- What the readers of lines and texts answer.
+-- The answers of readers of lines and texts.
 use Rattle.std.specs.Prelude.{◌≡◌, ℕ, Result, Ok, Err}
 use Rattle.lab_base.specs.declared.fault.Kind.{Kind}
 use Rattle.lab_base.specs.declared.fault.TextFault.{TextFault}

@@ -14,7 +14,7 @@ fn leads_with_zero(bytes: &[u8]) -> bool
     }
 }
 
-/// One of the numbers of an address.
+/// One number of an address, from its digits; `number` where it isn't from `least` to `most`.
 fn octet_in(bytes: &[u8], least: u8, most: u8) -> Result<u8, Kind>
     ensures { result ≡ octet least most bytes.now }
 {
@@ -89,7 +89,7 @@ fn first(parts: Option<Parts<'_>>) -> Result<u32, Kind>
     }
 }
 
-/// Four numbers joined by dots.
+/// The address of four numbers joined by dots, of which the last is 1 to 254.
 pub fn address_in(bytes: &[u8]) -> Result<u32, Kind>
     ensures { result ≡ address_of bytes.now }
 {

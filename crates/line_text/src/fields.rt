@@ -12,7 +12,7 @@ pub fn field_at<'a>(fields: &[&'a [u8]], n: usize) -> &'a [u8]
     if n < fields.len() { fields[n] } else { &[] }
 }
 
-/// The name that the field of a number is, counted from 0; `name` where it is none, or isn't there.
+/// The name in the field of a number, counted from 0; `name` where it is none, or isn't there.
 pub fn name_at(fields: &[&[u8]], n: usize) -> Result<Name, Kind>
     ensures { result ≡ name_of (field_at (views fields.now) n) }
 {

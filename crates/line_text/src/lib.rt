@@ -1,4 +1,4 @@
-//! What the readers and printers of all texts of lines share.
+//! Fields, addresses and faults of lines, as the readers and printers of all texts of lines share them.
 #![tactic(auto)]
 
 mod address;

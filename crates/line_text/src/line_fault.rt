@@ -4,7 +4,7 @@ ghost use Rattle.line_text.specs.declared.line_fault.LineFault.TheVariants as li
 
 use lab_base::{Kind, Memory, TextFault, TextRefused};
 
-/// Why a line was not taken.
+/// The reason why a line was not taken.
 #[derive(Clone, Copy, Debug, PartialEq, Eq)]
 pub enum LineFault {
     Kind(Kind),
@@ -27,7 +27,7 @@ impl From<Kind> for LineFault {
     }
 }
 
-/// What a text's reader answers for the fault of a line.
+/// The refusal of a text for the fault of the line of that number.
 pub fn refusal(line: u32, fault: LineFault) -> TextRefused
     ensures { result ≡ refused_at line fault }
 {

@@ -4,7 +4,7 @@ ghost use Rattle.lab_base.specs.Parts.{number_from};
 
 use lab_base::{Kind, number_in};
 
-/// A number of at most 65,535.
+/// The number in a field, from `least` to `most`, which is at most 65,535.
 pub fn short_in(field: &[u8], least: u16, most: u16) -> Result<u16, Kind>
     ensures { result ≡ number_from least most field.now }
 {
@@ -14,7 +14,7 @@ pub fn short_in(field: &[u8], least: u16, most: u16) -> Result<u16, Kind>
     }
 }
 
-/// A number of at most 4,294,967,295.
+/// The number in a field, from 0 to `most`, which is at most 4,294,967,295.
 pub fn weight_in(field: &[u8], most: u32) -> Result<u32, Kind>
     ensures { result ≡ number_from 0 most field.now }
 {

@@ -5,14 +5,14 @@ ghost use Rattle.line_text.specs.Pairs.{has_byte, pair_at, numbered};
 use crate::{short_in, weight_in};
 use lab_base::{Kind, Name, Parts, both, name_in, parted};
 
-/// Whether a byte stands in a field.
+/// Whether the field has such a byte.
 pub fn has_byte(field: &[u8], at: u8) -> bool
     ensures { result ≡ has_byte at field.now }
 {
     parted(field, at).is_some()
 }
 
-/// The parts of a field before a byte and behind it, where that byte stands in it once.
+/// The parts of a field around its byte `at`; None where it has none or several.
 pub fn pair_in(field: &[u8], at: u8) -> Option<Parts<'_>>
     ensures { option_map (λ parts. (parts.before.now, parts.behind.now)) result ≡ pair_at at field.now }
 {
@@ -28,8 +28,7 @@ pub fn pair_in(field: &[u8], at: u8) -> Option<Parts<'_>>
     }
 }
 
-/// The name, colon and number of at most 65,535 that a field is; `fields` where it has not one colon, else `name` before
-/// `number`.
+/// A name, a colon and a number of at most 65,535; `fields` where the field has not one colon, else `name` before `number`.
 pub fn numbered_short(field: &[u8], least: u16, most: u16) -> Result<(Name, u16), Kind>
     ensures { result ≡ numbered least most field.now }
 {
@@ -39,7 +38,7 @@ pub fn numbered_short(field: &[u8], least: u16, most: u16) -> Result<(Name, u16)
     }
 }
 
-/// The same, of a number from 0 of at most 4,294,967,295.
+/// A name, a colon and a number from 0 to `most`, of at most 4,294,967,295; its faults are those of `numbered_short`.
 pub fn numbered_weight(field: &[u8], most: u32) -> Result<(Name, u32), Kind>
     ensures { result ≡ numbered 0 most field.now }
 {

@@ -1,4 +1,4 @@
--- What links and LANs keep when their ends get addresses, and that these differ.
+-- Links and LANs stay the same but for the addresses of their ends, and these differ.
 use Rattle.std.specs.Prelude.{◌||◌, not, option_map, option_and_then}
 use Rattle.std.proofs.Common.{◌≡◌, ◌≢◌, ◌⊎◌, inl, inr, ℕ, ◌+◌, ◌*◌, ◌%◌, Bool, true, false, cond, eqb, Option, Some, None, List, [], ◌∷◌, ◌++◌, length, map, refl, sym, ap, subst, ◌∙◌, arith}
 use Rattle.std.specs.List.{list_all, find, cons_option, range_with_len}

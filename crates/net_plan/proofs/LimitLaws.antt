@@ -1,4 +1,4 @@
--- What an expansion keeps of the limits.
+-- An expansion and the limits.
 use Rattle.std.specs.Prelude.{nat_le, ◌&&◌, codes, decimal}
 use Rattle.std.proofs.Common.{◌≡◌, ℕ, ◌+◌, ◌-◌, ◌/◌, ◌≤◌, Bool, true, false, cond, List, [], ◌∷◌, ◌++◌, length, map, sum_by, inl, inr, refl, sym, ◌∙◌, arith, length-append}
 use Rattle.std.specs.List.{flat_map, list_all, enumerate_from, range_with_len}

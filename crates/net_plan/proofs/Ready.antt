@@ -1,4 +1,4 @@
--- What is known of the links and LANs that an expansion is made of.
+-- The facts of the links and LANs from which an expansion is made.
 use Rattle.std.specs.Prelude.{nat_le, nat_eq, codes, ◌&&◌}
 use Rattle.std.proofs.Common.{◌≡◌, inl, inr, ℕ, ◌+◌, ◌*◌, ◌<◌, ◌≤◌, Bool, true, false, cond, eqb, Some, List, [], ◌∷◌, ◌++◌, length, map, sum_by, refl, sym, ap, subst, ◌∙◌, arith}
 use Rattle.std.specs.List.{list_any}

@@ -1,4 +1,4 @@
--- What one link or LAN becomes: delay nodes, segments and pipes.
+-- The parts of one link or LAN: delay nodes, segments and pipes.
 use Rattle.std.specs.Prelude.{◌≡◌, ℕ, ◌+◌, ◌-◌, ◌/◌, ◌≤◌, Bool, true, not, ◌||◌, ◌&&◌, ◌==◌, nat_lt, nat_le, List, [], ◌∷◌, ◌++◌, length, map, codes, decimal, None, if◌then◌else◌}
 use Rattle.std.specs.List.{enumerate_from, range_with_len}
 use Rattle.lab_base.specs.Lists.{Has}

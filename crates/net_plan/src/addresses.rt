@@ -16,7 +16,7 @@ use virt_topo::{AskedLink, VirtEnd};
 /// The greatest number of a link or LAN that has a subnet of its own.
 const MAX_NUMBER: u32 = 254;
 
-/// 10.1.0.0, without its last number.
+/// The first subnet, 10.1.0.0, without its last number.
 const FIRST_SUBNET: u32 = (10 * 256 + 1) * 256;
 
 fn first_address(ends: &[VirtEnd]) -> Option<u32>
@@ -68,7 +68,7 @@ fn address_for(used: &Used, subnet: Option<u32>, own: Option<u32>) -> Option<u32
     free_address(used, subnet?)
 }
 
-/// Ends with the address of each, which are used then.
+/// The ends, each with its address, which counts as used from then on.
 fn addressed_ends(
     alloc: Global,
     used: &mut Used,
@@ -93,7 +93,7 @@ fn addressed_ends(
     Ok(given)
 }
 
-/// Links and LANs with the address of each end, where some addresses are used already.
+/// The links and LANs with an address for each end, beside the addresses used already.
 fn addressed_from_first(
     alloc: Global,
     used: &mut Used,
@@ -119,7 +119,7 @@ fn addressed_from_first(
     Ok(given)
 }
 
-/// Links and LANs with the address of each end.
+/// The links and LANs with an address for each end.
 pub(crate) fn addressed(alloc: Global, links: &[AskedLink]) -> Result<Items<AskedLink>, PlanFault>
     requires { length links.now ≤ 512 }
     ensures { Answers result (if has_bad_address links.now then Err faults.Address else ok_or (addressed links.now) faults.Subnet) }

@@ -34,7 +34,7 @@ fn copy_classes(alloc: Global, classes: &[Class]) -> Result<Items<Class>, Memory
     Ok(copy)
 }
 
-/// The wiring of a network, whose links and LANs are these.
+/// The wiring of a network with these links and LANs.
 fn wired(alloc: Global, topo: &Topo, links: &[AskedLink]) -> Result<Wiring, Memory>
     requires links { AreExpandable links.now }
     requires few { length topo.now.nodes + sum_by delays links.now ≤ 256 }
@@ -54,7 +54,7 @@ fn wired(alloc: Global, topo: &Topo, links: &[AskedLink]) -> Result<Wiring, Memo
     })
 }
 
-/// The wiring of a network, with the address of each end but those of delay nodes, or the first fault that it has.
+/// The wiring of a network, in which each end but those of delay nodes has an address; else the first fault.
 #[tactic(auto, unfolding(crate::specs::Expansion::expansion))]
 pub fn expand(alloc: Global, topo: &Topo) -> Result<Wiring, PlanFault>
     ensures expansion { Answers result (expansion topo.now) }

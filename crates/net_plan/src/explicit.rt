@@ -1,4 +1,4 @@
-// The addresses that ends ask for.
+// // Explicit addresses of ends.
 ghost use Rattle.std.specs.Prelude.{◌≡◌, false, not, nat_eq, IfOk, []};
 ghost use Rattle.std.specs.Bool.{OnTrue};
 ghost use Rattle.std.specs.List.{list_any};
@@ -40,7 +40,7 @@ pub(crate) fn have_two_subnets(links: &[AskedLink]) -> bool
     links.iter().any(|link| has_two_subnets(link))
 }
 
-/// Uses the addresses that ends ask for; false where one of them is used already or given twice.
+/// Marks the explicit addresses of these ends as used; false where one is used already or given twice.
 fn use_explicit(used: &mut Used, ends: &[VirtEnd]) -> Result<bool, Memory>
     ensures free { IfOk result (λ free. free ≡ not (repeats (uses used.old) (addresses_of ends.now))) }
     ensures used { IfOk result (λ free. OnTrue free (uses used.new ≡ all_taken (uses used.old) (addresses_of ends.now))) }
@@ -55,7 +55,7 @@ fn use_explicit(used: &mut Used, ends: &[VirtEnd]) -> Result<bool, Memory>
     Ok(true)
 }
 
-/// Uses the addresses that the ends of links and LANs ask for; false where one is given twice.
+/// Marks the explicit addresses of all ends as used; false where one is given twice.
 pub(crate) fn use_all_explicit(used: &mut Used, links: &[AskedLink]) -> Result<bool, Memory>
     requires { used.old ≡ [] }
     ensures free { IfOk result (λ free. free ≡ not (stands_again nat_eq (addresses_of (ends_of links.now)))) }

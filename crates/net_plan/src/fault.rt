@@ -2,17 +2,17 @@ ghost use Rattle.std.specs.Prelude.{◌≡◌};
 
 use lab_base::Memory;
 
-/// Why a network has no wiring: the first of these, in this order.
+/// The reason why a network has no wiring: the first of these, in this order.
 #[derive(Clone, Copy, Debug, PartialEq, Eq)]
 pub enum PlanFault {
     /// The wiring would have more than 256 virtual nodes, 512 segments or 4,096 ends.
     Limit,
-    /// No node is asked for.
+    /// The network has no node.
     Empty,
     /// An explicit address is given twice, or one link or LAN has explicit addresses in two subnets.
     Address,
-    /// An end without an explicit address gets none: its link or LAN has a number above 254 and no explicit address,
-    /// or no host number is left in its subnet.
+    /// An end without an explicit address gets none. Its link or LAN has a number above 254 and no explicit address, or no host number is left in its
+    /// subnet.
     Subnet,
     Memory,
 }

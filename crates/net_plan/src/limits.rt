@@ -8,7 +8,7 @@ ghost use Rattle.net_plan.specs.Parts.{IsExpandable, AreExpandable, delays, segm
 use crate::nodes::{delays, is_shaped};
 use virt_topo::{AskedLink, Topo};
 
-/// How many segments a link or LAN has.
+/// The number of segments that a link or LAN has.
 fn segments(link: &AskedLink) -> usize
     requires { IsExpandable link.now }
     ensures count { result ≡ length (segments_of (0, link.now)) }
@@ -20,7 +20,7 @@ fn segments(link: &AskedLink) -> usize
     if link.lan { link.ends.len() + 1 } else { 2 }
 }
 
-/// How many ends these segments have.
+/// The number of ends of the segments that a link or LAN has.
 fn ends(link: &AskedLink) -> usize
     requires { IsExpandable link.now }
     ensures count { result ≡ length (end_nodes (segments_of (0, link.now))) }

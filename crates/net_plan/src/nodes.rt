@@ -21,7 +21,7 @@ pub(crate) fn is_shaped(rates: Rates) -> bool
     rates.micros >= 2_000 || rates.ppm > 0 || !is_plain_speed(rates.kbps)
 }
 
-/// How many delay nodes a link or LAN has.
+/// The number of delay nodes that a link or LAN has.
 pub(crate) fn delays(link: &AskedLink) -> usize
     ensures { result ≡ delays link.now }
 {
@@ -91,7 +91,7 @@ fn push_delay_nodes(
     nodes.push(delay_node(alloc, name))
 }
 
-/// The asked nodes.
+/// The virtual nodes of the nodes asked for.
 pub(crate) fn asked_nodes(alloc: Global, asked: &[AskedNode]) -> Result<Items<VirtNode>, Memory>
     ensures { IfOk result (λ nodes. nodes ≡ map asked_node asked.now) }
 {

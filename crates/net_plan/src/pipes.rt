@@ -9,7 +9,7 @@ use lab_base::{Items, Memory, Rates};
 use std::alloc::Global;
 use virt_topo::{AskedLink, Pipe};
 
-/// The pipe of a shaped link: both directions have its rates.
+/// The pipe of a shaped link, with the link's rates in both directions.
 pub fn link_pipe(rates: Rates, node: u16) -> Pipe
     ensures { result ≡ link_pipe rates node }
 {
@@ -22,7 +22,8 @@ pub fn link_pipe(rates: Rates, node: u16) -> Pipe
     }
 }
 
-/// The pipe of a member of a shaped LAN: of the delay the first half, rounded down, is towards the LAN; so is the loss.
+/// The pipe of a member of a shaped LAN. Towards the LAN it has half of the delay, rounded down, and the loss; back from it the rest of the delay,
+/// and no loss.
 pub fn lan_pipe(rates: Rates, node: u16) -> Pipe
     ensures { result ≡ lan_pipe rates node }
 {

@@ -6,7 +6,7 @@ use std::alloc::Global;
 use std::collections::BTreeSet;
 use std::marker::Model;
 
-/// The addresses that are used. Contracts see the list of these.
+/// A set of used addresses. Contracts see their list.
 #[derive(Drop)]
 pub(crate) struct Used {
     addresses: BTreeSet<u32>,
@@ -21,7 +21,7 @@ impl Model for Used {
 }
 
 impl Used {
-    /// No address is used.
+    /// The empty set.
     pub(crate) fn new(alloc: Global) -> Used
         ensures { result ≡ [] }
     {
@@ -36,7 +36,7 @@ impl Used {
         self.addresses.contains(&address)
     }
 
-    /// Uses an address, and tells whether it was free.
+    /// Adds an address to the set; true where it wasn't in it.
     pub(crate) fn insert(&mut self, address: u32) -> Result<bool, Memory>
         ensures free { IfOk result (λ free. free ≡ not (uses self.old address)) }
         ensures used { OnOk result (uses self.new ≡ taken (uses self.old) address) }

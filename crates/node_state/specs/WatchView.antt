@@ -1,4 +1,4 @@
--- What contracts see of a watch.
+-- A watch as contracts see it.
 use Rattle.node_state.specs.Watched.{Watched}
 use Rattle.node_state.specs.declared.watch.Watch.TheInside.{Inside}
 

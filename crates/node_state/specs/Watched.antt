@@ -1,4 +1,4 @@
--- What a watch says of the boot states of a node.
+-- The verdicts of a watch on the boot states of a node.
 use Rattle.std.specs.Prelude.{◌+◌, ◌==◌, ℕ, if◌then◌else◌}
 use Rattle.lab_base.specs.declared.boot.Boot.{Boot}
 use Rattle.lab_base.specs.declared.boot.Boot.TheVariants.{IsUp}

@@ -6,10 +6,10 @@ use crate::lawful;
 use lab_base::Boot;
 use std::marker::Model;
 
-/// The poll after which a node that isn't up has taken too long.
+/// The number of polls after which a node that isn't up has taken too long.
 const MAX_POLLS: u32 = 64;
 
-/// What a watch says of a state: the first of these that holds.
+/// The verdict of a watch on a state: the first of these that holds.
 #[derive(Clone, Copy, Debug, PartialEq, Eq)]
 pub enum Seen {
     /// The second state may not follow the first.
@@ -22,7 +22,7 @@ pub enum Seen {
     Wait,
 }
 
-/// A node that is watched since its boot. Contracts see its last state and the number of polls so far.
+/// A node that is watched since its boot. Contracts see its last state and the number of its polls.
 #[derive(Drop)]
 pub struct Watch {
     last: Boot,
@@ -39,7 +39,7 @@ impl Model for Watch {
 }
 
 impl Watch {
-    /// The watch of a node that was just told to boot.
+    /// The watch of a node that was just told to boot: BOOTING, and no poll.
     pub fn new() -> Watch
         ensures last { result.last ≡ boots.Booting }
         ensures polls { result.polls ≡ 0 }
@@ -50,7 +50,7 @@ impl Watch {
         }
     }
 
-    /// Takes the answer of a poll. The number of polls stands still at the type's end.
+    /// Takes the answer of a poll. At the type's end the number of polls stands still.
     pub fn see(&mut self, state: Boot) -> Seen
         ensures seen { result ≡ seen self.old state }
         ensures last { self.new.last ≡ state }

@@ -1,4 +1,4 @@
--- What a chain of checks passed.
+-- Chains of checks, each of which passed.
 use Rattle.std.proofs.Common.{◌≡◌, ℕ, ◌<◌, Bool, true, false, cond, List, [], ◌∷◌, length, drop, Option, Some, None, Result, Ok, Err, refl, subst, arith}
 use Rattle.std.specs.Prelude.{nat_lt, nat_eq, ◌&&◌, decimal}
 use Rattle.std.specs.List.{starts_with}

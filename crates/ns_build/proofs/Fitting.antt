@@ -1,4 +1,4 @@
--- What holds of each task that a network's commands ask for.
+-- The facts of each task that a network's commands ask for.
 use Rattle.std.proofs.Common.{◌≡◌, ℕ, ◌<◌, ◌≤◌, Bool, true, false, List, length, Some}
 use Rattle.std.specs.Prelude.{nat_lt, ◌==◌}
 use Rattle.std.specs.List.{list_all}

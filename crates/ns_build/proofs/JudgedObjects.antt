@@ -1,4 +1,4 @@
--- What the commands that make objects ask for fits the network.
+-- The tasks of the commands that make objects fit the network.
 use Rattle.std.proofs.Common.{◌≡◌, ℕ, ◌<◌, ◌≤◌, Bool, true, false, List, [], ◌∷◌, ◌++◌, length, Option, Some, None, Ok, refl, subst, arith}
 use Rattle.std.specs.Prelude.{nat_lt, nat_le, not, codes, ◌||◌, ◌&&◌, ◌==◌}
 use Rattle.std.specs.List.{list_all}

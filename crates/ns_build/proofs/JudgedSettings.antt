@@ -1,4 +1,4 @@
--- What the commands that begin with `tb-` ask for fits the network.
+-- The tasks of the commands that begin with `tb-` fit the network.
 use Rattle.std.proofs.Common.{◌≡◌, ℕ, ◌<◌, ◌≤◌, Bool, true, false, List, [], ◌∷◌, ◌++◌, length, Some, Ok, refl, subst, arith}
 use Rattle.std.specs.Prelude.{nat_lt, nat_le, not, ◌||◌}
 use Rattle.std.specs.List.{list_any}

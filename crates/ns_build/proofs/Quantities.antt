@@ -1,4 +1,4 @@
--- What tests and quantities of a command give.
+-- The facts that follow from the tests and quantities of a command.
 use Rattle.std.proofs.Common.{◌≡◌, ℕ, ◌<◌, ◌≤◌, true, false, List, Ok, arith}
 use Rattle.std.specs.Prelude.{nat_lt, nat_le}
 use Rattle.std.proofs.lemmas.Bool.{le-leb}

@@ -1,4 +1,4 @@
--- What the commands `new`, `source` and those of the simulator ask for, or their first fault.
+-- The tasks of the commands `new`, `source` and those of the simulator, or their first fault.
 use Rattle.std.specs.Prelude.{ℕ, ◌==◌, nat_lt, nat_le, Bool, true, false, not, ◌||◌, List, [], ◌∷◌, ◌++◌, length, codes, Option, Some, None, Result, Ok, Err}
 use Rattle.lab_base.specs.declared.fault.Kind.{Kind}
 use Rattle.lab_base.specs.declared.fault.Kind.TheVariants as kinds

@@ -1,4 +1,4 @@
--- What `$ns at` asks for, or its first fault.
+-- The task of `$ns at`, or its first fault.
 use Rattle.std.specs.Prelude.{ℕ, ◌==◌, nat_le, Bool, ◌&&◌, List, length, codes, Result, Ok, Err, if◌then◌else◌}
 use Rattle.lab_base.specs.declared.fault.Kind.{Kind}
 use Rattle.lab_base.specs.declared.fault.Kind.TheVariants as kinds

@@ -1,4 +1,4 @@
--- What was judged, unless memory ran out.
+-- The judgement of a command, unless memory ran out.
 use Rattle.std.specs.Prelude.{◌≡◌, Result, Ok, Err}
 use Rattle.lab_base.specs.declared.fault.Kind.{Kind}
 use Rattle.ns_build.specs.declared.refusal.Refusal.{Refusal}

@@ -1,4 +1,4 @@
--- What every network keeps while a text makes it.
+-- The invariant of a network while a text makes it.
 use Rattle.std.specs.Prelude.{◌≡◌, ◌⊎◌, ℕ, ◌+◌, ◌<◌, ◌≤◌, ◌==◌, false, Bool, List, [], ◌∷◌, length, map, codes}
 use Rattle.std.specs.List.{list_any}
 use Rattle.lab_base.specs.Lists.{Has}

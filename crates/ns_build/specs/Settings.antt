@@ -1,4 +1,4 @@
--- What the commands that begin with `tb-` ask for, or their first fault.
+-- The tasks of the commands that begin with `tb-`, or their first fault.
 use Rattle.std.specs.Prelude.{ℕ, nat_lt, nat_le, Bool, not, ◌||◌, List, [], ◌∷◌, ◌++◌, length, Result, Ok}
 use Rattle.std.specs.List.{list_any}
 use Rattle.lab_base.specs.declared.fault.Kind.{Kind}

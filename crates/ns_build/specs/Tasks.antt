@@ -1,4 +1,4 @@
--- What a command asks for, and what a new value of a variable asks for, or the first fault.
+-- The task of a command, or of a variable's new value; or the first fault.
 use Rattle.std.specs.Prelude.{ℕ, Bool, true, false, ◌&&◌, List, [], ◌∷◌, map, slice_index_or, Option, Some, None, Result, Ok, Err, ◌+◌, if◌then◌else◌}
 use Rattle.std.specs.List.{list_any}
 use Rattle.lab_base.specs.declared.fault.Kind.{Kind}

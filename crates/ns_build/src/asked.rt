@@ -17,7 +17,7 @@ use virt_topo::Topo;
 /// The most bytes of a text.
 const MAX_TEXT: usize = 65_536;
 
-/// What an NS text asks for.
+/// The network and the events that an NS text asks for.
 #[derive(Drop)]
 pub struct Asked {
     pub topo: Topo,
@@ -27,7 +27,7 @@ pub struct Asked {
     pub line: u32,
 }
 
-/// A fault on a line.
+/// The refusal of a text for a fault on a line.
 fn refused(line: u32, kind: Kind) -> TextRefused
     ensures { result ≡ refusals.Text (fault_on line kind) }
 {
@@ -36,9 +36,8 @@ fn refused(line: u32, kind: Kind) -> TextRefused
 
 /// Reads an NS text: the network that its commands make up to `$ns run`, and the events that they schedule.
 ///
-/// The error is the first fault of the text, with its line: `long` above 65,536 bytes, then a fault of the words of
-/// the whole text, then one of its evaluation, with the line of the command at the top level, and `not-run` with
-/// the last line where no `$ns run` is reached.
+/// The error is the first fault of the text, with its line. It is `long` above 65,536 bytes. Then come faults of the words of the whole text. Then
+/// come faults of the evaluation, with the line of the command at the top level. It is `not-run` with the last line where no `$ns run` is reached.
 pub fn read_ns(alloc: Global, text: &[u8]) -> Result<Asked, TextRefused>
     ensures meaning { HasMeaning text.now result }
     ensures few { IfOk result (λ asked. length asked.events ≤ 1024) }

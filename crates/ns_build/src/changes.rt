@@ -1,4 +1,4 @@
-//! How a network changes.
+//! Changes of a network.
 
 ghost use Rattle.std.specs.Prelude.{◌≡◌, ◌++◌, ◌∷◌, [], length, map, IfOk, OnOk, OnErr, true};
 ghost use Rattle.lab_base.specs.Names.{is_name};
@@ -17,7 +17,7 @@ use std::mem::replace;
 use tcl_eval::Called;
 use virt_topo::{AskedLink, AskedNode, Asks, VirtEnd};
 
-/// A name of these bytes.
+/// The name of these bytes.
 fn fixed_name(bytes: &'static [u8]) -> Name
     requires { is_name bytes.now ≡ true }
     ensures { result ≡ bytes.now }
@@ -25,7 +25,7 @@ fn fixed_name(bytes: &'static [u8]) -> Name
     Name::read(bytes).unwrap()
 }
 
-/// An end gets an address, if it is the node's.
+/// Sets the address of an end, if the end is the node's.
 fn address_end(end: &mut VirtEnd, node: u16, address: u32)
     ensures { end.new ≡ addressed node address end.old }
 {
@@ -34,7 +34,7 @@ fn address_end(end: &mut VirtEnd, node: u16, address: u32)
     }
 }
 
-/// The end of a node gets an address.
+/// Sets the address of a node's end.
 fn address_ends(ends: &mut Vec<VirtEnd>, node: u16, address: u32)
     ensures { ends.new.items ≡ map (addressed node address) ends.old.items }
 {
@@ -43,7 +43,7 @@ fn address_ends(ends: &mut Vec<VirtEnd>, node: u16, address: u32)
     }
 }
 
-/// A node gets something.
+/// Changes a node.
 fn change_node(node: &mut AskedNode, change: NodeChange)
     ensures { node.new ≡ node_with change node.old }
 {
@@ -55,7 +55,7 @@ fn change_node(node: &mut AskedNode, change: NodeChange)
     }
 }
 
-/// The end of a node on a link or LAN gets an address.
+/// Sets the address of a node's end on a link or LAN.
 fn address_link(alloc: Global, link: &mut AskedLink, node: u16, address: u32)
     ensures { link.new ≡ link_with (links.Address node address) link.old }
 {
@@ -64,7 +64,7 @@ fn address_link(alloc: Global, link: &mut AskedLink, node: u16, address: u32)
     link.ends = Items::from_vec(ends);
 }
 
-/// A link or LAN gets something.
+/// Changes a link or LAN.
 pub(crate) fn change_link(alloc: Global, link: &mut AskedLink, change: LinkChange)
     ensures { link.new ≡ link_with change link.old }
 {
@@ -102,7 +102,7 @@ impl Network {
         Ok(word)
     }
 
-    /// The node at a place gets something, if there is one.
+    /// Changes the node at a place, if there is one.
     fn change_node_at(&mut self, place: u16, change: NodeChange)
         ensures { self.new ≡ networks.change_node self.old place change }
     {
@@ -112,14 +112,14 @@ impl Network {
         }
     }
 
-    /// The link or LAN at a place gets something, if there is one.
+    /// Changes the link or LAN at a place, if there is one.
     fn change_link_at(&mut self, alloc: Global, place: usize, change: LinkChange)
         ensures { self.new ≡ networks.change_link self.old place change }
     {
         self.links.change(alloc, place, change);
     }
 
-    /// Does what is asked for. Without memory it changes nothing.
+    /// Carries a task out, and answers the command. On `Memory` nothing changes.
     pub(crate) fn obey(&mut self, alloc: Global, task: Task) -> Result<Called, Memory>
         ensures called { IfOk result (λ called. called ≡ hosts.result_of self.old task) }
         ensures ok { OnOk result (self.new ≡ hosts.done self.old task) }

@@ -5,14 +5,14 @@ ghost use Rattle.ns_build.specs.Checks as checks;
 
 use lab_base::{Kind, Name, Text};
 
-/// The fault where this is so.
+/// Refuses by that fault where the test holds.
 pub(crate) fn refuse(kind: Kind, test: bool) -> Result<(), Kind>
     ensures { result ≡ checks.refuse kind test }
 {
     if test { Err(kind) } else { Ok(()) }
 }
 
-/// The fault where there is no value.
+/// The value; the fault where there is none.
 pub(crate) fn need<T: Drop>(kind: Kind, value: Option<T>) -> Result<T, Kind>
     ensures { result ≡ checks.need kind value }
 {
@@ -22,7 +22,7 @@ pub(crate) fn need<T: Drop>(kind: Kind, value: Option<T>) -> Result<T, Kind>
     }
 }
 
-/// The word at a place, the first being 0; the empty word where there is none.
+/// The word at a place, from 0; the empty word where there is none.
 pub(crate) fn word_at(words: &[Text], place: usize) -> &[u8]
     ensures { result.now ≡ checks.word_at words.now place }
 {
@@ -39,7 +39,7 @@ pub(crate) fn counted(count: usize, words: &[Text]) -> Result<(), Kind>
     refuse(Kind::Arity, words.len() != count)
 }
 
-/// The name that a word is.
+/// The name in a word; the fault where it is none.
 #[tactic(auto, unfolding(crate::specs::Checks::name_in))]
 pub(crate) fn name_in(word: &[u8]) -> Result<Name, Kind>
     ensures { result ≡ checks.name_in word.now }
@@ -50,7 +50,7 @@ pub(crate) fn name_in(word: &[u8]) -> Result<Name, Kind>
     }
 }
 
-/// The bandwidth that a word is, in kbps.
+/// The bandwidth in a word, in kbps.
 #[tactic(auto, unfolding(crate::specs::Checks::bandwidth_in))]
 pub(crate) fn bandwidth_in(word: &[u8]) -> Result<u64, Kind>
     ensures { result ≡ checks.bandwidth_in word.now }
@@ -58,7 +58,7 @@ pub(crate) fn bandwidth_in(word: &[u8]) -> Result<u64, Kind>
     need(Kind::Bandwidth, ns_words::bandwidth(word))
 }
 
-/// The delay that a word is, in microseconds.
+/// The delay in a word, in microseconds.
 #[tactic(auto, unfolding(crate::specs::Checks::delay_in))]
 pub(crate) fn delay_in(word: &[u8]) -> Result<u32, Kind>
     ensures { result ≡ checks.delay_in word.now }
@@ -66,7 +66,7 @@ pub(crate) fn delay_in(word: &[u8]) -> Result<u32, Kind>
     need(Kind::Delay, ns_words::delay(word))
 }
 
-/// The loss that a word is, in millionths.
+/// The loss in a word, in millionths.
 #[tactic(auto, unfolding(crate::specs::Checks::loss_in))]
 pub(crate) fn loss_in(word: &[u8]) -> Result<u32, Kind>
     ensures { result ≡ checks.loss_in word.now }
@@ -74,7 +74,7 @@ pub(crate) fn loss_in(word: &[u8]) -> Result<u32, Kind>
     need(Kind::Loss, ns_words::loss(word))
 }
 
-/// Whether a word is `1`, of the two that are a flag.
+/// The flag in a word, which is `0` or `1`.
 #[tactic(auto, unfolding(crate::specs::Checks::flag_in))]
 pub(crate) fn flag_in(word: &[u8]) -> Result<bool, Kind>
     ensures { result ≡ checks.flag_in word.now }
@@ -88,7 +88,7 @@ pub(crate) fn flag_in(word: &[u8]) -> Result<bool, Kind>
     }
 }
 
-/// The IPv4 address that a word is.
+/// The IPv4 address in a word.
 #[tactic(auto, unfolding(crate::specs::Checks::address_in))]
 pub(crate) fn address_in(word: &[u8]) -> Result<u32, Kind>
     ensures { result ≡ checks.address_in word.now }

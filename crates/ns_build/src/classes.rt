@@ -45,7 +45,7 @@ fn has_name(name: Name, types: &[Name]) -> bool
     types.iter().any(|other| name == *other)
 }
 
-/// These types and another.
+/// The types with one more.
 #[tactic(auto, unfolding(crate::specs::Settings::with_type))]
 fn with_type(mut types: Items<Name>, word: &[u8]) -> Result<Items<Name>, Refusal>
     ensures { Gives result (settings.with_type types word.now) }
@@ -82,7 +82,7 @@ impl Network {
         self.classes.iter().any(|class| class.name == name)
     }
 
-    /// Whether a class of so many types is one too many, or has too many types.
+    /// Whether another class, of so many types, is one too many, or has too many types.
     fn has_no_room(&self, types: usize) -> bool
         ensures { result ≡ (nat_lt 8 types || nat_le 64 (length self.now.classes)) }
     {

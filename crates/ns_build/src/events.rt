@@ -1,4 +1,4 @@
-//! The command that schedules events, and the events that are asked for.
+//! The command that schedules events, and the scheduled events.
 
 ghost use Rattle.std.specs.Prelude.{◌≡◌, ◌<◌, IfOk, length};
 ghost use Rattle.lab_base.specs.Texts.{views};
@@ -29,7 +29,7 @@ fn time_in(word: &[u8]) -> Result<u64, Kind>
     need(Kind::Time, ns_words::time(word))
 }
 
-/// The part at a place, the first being 0; the empty word where there is none.
+/// The part at a place, from 0; the empty word where there is none.
 fn part_at<'a>(parts: &[&'a [u8]], place: usize) -> &'a [u8]
     ensures { result.now ≡ word_at (views parts.now) place }
 {
@@ -74,7 +74,7 @@ fn what_in(parts: &[&[u8]]) -> Result<What, Kind>
 }
 
 impl Network {
-    /// The event of a list at a time, on a line.
+    /// The event of these parts, at a time, from a line.
     #[tactic(auto, unfolding(crate::specs::Events::event_in))]
     fn event_in(&self, line: u32, at: u64, parts: &[&[u8]]) -> Result<Planned, Kind>
         ensures { result ≡ events.event_in line self.now at (views parts.now) }
@@ -103,7 +103,7 @@ impl Network {
         Ok(Task::AddEvent { event })
     }
 
-    /// An event by the name of its link or LAN.
+    /// The event with the name of its link or LAN.
     fn named_event(&self, event: &Planned) -> Event
         requires { event.now.place < length self.now.links }
         ensures { result ≡ networks.named_event self.now event.now }
@@ -116,7 +116,7 @@ impl Network {
         }
     }
 
-    /// The events that are asked for, in text order.
+    /// The scheduled events, in text order.
     pub(crate) fn named_events(&self, alloc: Global) -> Result<Items<Event>, Memory>
         requires { (e : Planned) → Has self.now.events e → e.place < length self.now.links }
         ensures { IfOk result (λ events. events ≡ networks.events_of self.now) }

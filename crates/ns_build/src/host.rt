@@ -14,7 +14,7 @@ use std::marker::Model;
 use tcl_eval::{Called, Host, HostFault};
 use virt_topo::Topo;
 
-/// What NS texts speak to: a network, which their commands make. Contracts see the network.
+/// The host of NS texts: a network, which their commands make. Contracts see the network.
 #[derive(Drop)]
 pub(crate) struct NsHost {
     alloc: Global,
@@ -33,7 +33,7 @@ impl Model for NsHost {
 }
 
 impl NsHost {
-    /// A host for which nothing is made.
+    /// The host before the first command.
     pub fn new(alloc: Global) -> NsHost
         ensures { result ≡ empty }
     {
@@ -43,7 +43,7 @@ impl NsHost {
         }
     }
 
-    /// The events that are asked for, in text order.
+    /// The scheduled events, in text order.
     pub fn events(&self) -> Result<Items<Event>, Memory>
         ensures events { IfOk result (λ events. events ≡ events_of self.now) }
         ensures few { IfOk result (λ events. length events ≤ 1024) }
@@ -52,7 +52,7 @@ impl NsHost {
         self.network.named_events(self.alloc)
     }
 
-    /// The network that is asked for.
+    /// The network as it was made.
     pub fn into_topo(self) -> Topo
         ensures { result ≡ topo_of self }
     {

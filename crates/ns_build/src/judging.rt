@@ -1,4 +1,4 @@
-//! What commands ask for.
+//! Judging commands.
 
 ghost use Rattle.std.specs.Prelude.{◌≡◌, ◌≤◌, length};
 ghost use Rattle.ns_build.specs.Gives.{Gives};
@@ -14,7 +14,7 @@ use lab_base::{Kind, Text};
 use std::alloc::Global;
 
 impl Network {
-    /// What a command with this first word asks for.
+    /// Judges a command with this first word: the task that it asks for.
     #[tactic(auto, unfolding(crate::specs::Tasks::judged_keyword))]
     fn judge_keyword(
         &self,
@@ -43,7 +43,7 @@ impl Network {
         }
     }
 
-    /// What a command asks for, on a line.
+    /// Judges a command on a line: the task that it asks for.
     #[tactic(auto, unfolding(crate::specs::Tasks::judged))]
     pub(crate) fn judge(&self, alloc: Global, line: u32, words: &[Text]) -> Result<Task, Refusal>
         requires { length self.now.classes ≤ 64 }

@@ -18,7 +18,7 @@ pub(crate) enum Keyword {
     Multiplexed,
     FixNode,
     SoftVtype,
-    /// Another word that begins with `tb-`.
+    /// A word that begins with `tb-` and is no setting here.
     OtherSetting,
 }
 
@@ -33,7 +33,7 @@ pub(crate) enum Verb {
     Run,
 }
 
-/// The setting of the testbed that a word begins.
+/// The setting of the testbed that the first word names.
 fn setting_of(word: &[u8]) -> Option<Keyword>
     ensures { result ≡ setting_of word.now }
 {
@@ -64,7 +64,7 @@ fn setting_of(word: &[u8]) -> Option<Keyword>
     }
 }
 
-/// The command that a word begins.
+/// The command that the first word names; None where it is none of the testbed.
 pub(crate) fn keyword_of(word: &[u8]) -> Option<Keyword>
     ensures { result ≡ keyword_of word.now }
 {
@@ -77,7 +77,7 @@ pub(crate) fn keyword_of(word: &[u8]) -> Option<Keyword>
     }
 }
 
-/// What a word asks the simulator for.
+/// The verb that a word is behind the simulator's word.
 pub(crate) fn verb_of(word: &[u8]) -> Option<Verb>
     ensures { result ≡ verb_of word.now }
 {

@@ -13,11 +13,11 @@ use std::alloc::Global;
 use std::marker::Model;
 use virt_topo::{AskedLink, VirtEnd};
 
-/// Links and LANs, with what each node is on. Contracts see them as a list.
+/// The links and LANs of a network, with a table by node. Contracts see them as a list.
 #[derive(Drop)]
 pub(crate) struct Links {
     list: Vec<AskedLink>,
-    /// By node that is on one the place of the only one, or None where it is on several.
+    /// By node on a link or LAN, the place of its only one; None where it is on several.
     places: IndexMap<u16, Option<usize>>,
 }
 
@@ -33,7 +33,7 @@ impl Model for Links {
     ghost invariant = { λ links. ArePlaces links.list.items links.places };
 }
 
-/// A node is on the link or LAN at a place.
+/// Notes a node as on the link or LAN at a place.
 fn note_end(places: &mut IndexMap<u16, Option<usize>>, place: usize, node: u16)
     requires { 0 < spare places.old }
     ensures noted { (v : ℕ) → get nat_eq places.new v ≡ (if node == v then Some (noted place (get nat_eq places.old node)) else get nat_eq places.old v) }
@@ -47,7 +47,7 @@ fn note_end(places: &mut IndexMap<u16, Option<usize>>, place: usize, node: u16)
     places.insert(node, noted).unwrap();
 }
 
-/// The nodes of these ends are on the link or LAN at a place.
+/// Notes the nodes of these ends as on the link or LAN at a place.
 fn note_ends(places: &mut IndexMap<u16, Option<usize>>, place: usize, ends: &[VirtEnd])
     requires { length ends.now ≤ spare places.old }
     ensures { (v : ℕ) → get nat_eq places.new v ≡ (if has_end v ends.now then Some (noted place (get nat_eq places.old v)) else get nat_eq places.old v) }
@@ -100,7 +100,7 @@ impl Links {
         Ok(())
     }
 
-    /// The link or LAN at a place gets something, if there is one.
+    /// Changes the link or LAN at a place, if there is one.
     pub(crate) fn change(&mut self, alloc: Global, place: usize, change: LinkChange)
         ensures { self.new ≡ changed_at (link_with change) place self.old }
     {

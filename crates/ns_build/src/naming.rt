@@ -28,7 +28,7 @@ fn has_link(name: Name, links: &[AskedLink]) -> bool
     links.iter().any(|link| name == link.name)
 }
 
-/// The name of an object's number.
+/// The name of an object by its number.
 fn number_name(of: Numbered, place: usize) -> Name
     requires { place < 65535 }
     ensures { result ≡ numbered_name_of of (place + 1) }
@@ -37,7 +37,7 @@ fn number_name(of: Numbered, place: usize) -> Name
 }
 
 impl Network {
-    /// Whether the node at a place has the name of its number.
+    /// Whether the node at a place still has the name by its number.
     fn is_bare_node(&self, place: u16) -> bool
         requires { place < 65535 }
         ensures { result ≡ judges.is_numbered (numbered_name_of numbered.Node (place + 1)) (map (λ x. x.name) self.now.nodes) place }
@@ -48,7 +48,7 @@ impl Network {
         }
     }
 
-    /// Whether the link or LAN at a place has the name of its number.
+    /// Whether the link or LAN at a place still has the name by its number.
     fn is_bare_link(&self, place: usize) -> bool
         requires { place < 65535 }
         ensures { result ≡ judges.is_numbered (numbered_name_of numbered.Link (place + 1)) (map (λ x. x.name) self.now.links) place }
@@ -59,7 +59,7 @@ impl Network {
         }
     }
 
-    /// The node at a place gets the name of a variable, if it has the name of its number.
+    /// Names the node at a place by a variable, if it still has the name by its number.
     #[tactic(auto, unfolding(crate::specs::Tasks::named_node))]
     fn name_node(&self, place: u16, variable: &[u8]) -> Result<Task, Kind>
         requires { place < 65535 }
@@ -76,7 +76,7 @@ impl Network {
         })
     }
 
-    /// The link or LAN at a place gets the name of a variable, if it has the name of its number.
+    /// Names the link or LAN at a place by a variable, if it still has the name by its number.
     #[tactic(auto, unfolding(crate::specs::Tasks::named_link))]
     fn name_link(&self, place: usize, variable: &[u8]) -> Result<Task, Kind>
         requires { place < 65535 }
@@ -93,7 +93,7 @@ impl Network {
         })
     }
 
-    /// What a variable's new value asks for.
+    /// Judges a variable's new value: the task that it asks for.
     #[tactic(auto, unfolding(crate::specs::Tasks::judged_name, crate::specs::Tasks::named_by))]
     pub(crate) fn judge_name(&self, variable: &[u8], value: &[u8]) -> Result<Task, Kind>
         ensures { result ≡ judges.judged_name self.now variable.now value.now }

@@ -14,8 +14,9 @@ use std::alloc::Global;
 use std::marker::Model;
 use virt_topo::{AskedLink, AskedNode, Asks, Class, Topo, VirtEnd};
 
-/// The network that a text has made so far: perhaps a simulator, and nodes, links and LANs, classes, and events, each in
-/// order of creation. Until a variable names a node, or a link or LAN, it has the name of its number.
+/// The network that a text has made so far, with or without a simulator. It has nodes, links and LANs, classes, and events, each in order of
+/// creation.
+/// Until a variable names it, a node, a link or a LAN has the name by its number.
 #[derive(Drop)]
 pub(crate) struct Network {
     pub(crate) simulator: bool,
@@ -33,7 +34,7 @@ impl Model for Network {
     ghost view = { λ n. record { simulator = n.simulator; nodes = n.nodes.items; links = n.links; classes = n.classes.items; events = n.events.items } };
 }
 
-/// Whether a node is an end.
+/// Whether an end is on that node.
 pub(crate) fn has_end(node: u16, ends: &[VirtEnd]) -> bool
     ensures { result ≡ networks.has_end node ends.now }
 {
@@ -56,7 +57,7 @@ fn class_named(name: Name, classes: &[Class]) -> Option<usize>
 }
 
 impl Network {
-    /// A network in which nothing is made.
+    /// The network before the first command.
     pub fn new(alloc: Global) -> Network
         ensures { result ≡ networks.empty }
     {
@@ -69,7 +70,7 @@ impl Network {
         }
     }
 
-    /// The network that is asked for.
+    /// The network as it was made.
     pub fn into_topo(self) -> Topo
         requires { IsTopo (networks.topo_of self) }
         ensures { result ≡ networks.topo_of self }
@@ -150,7 +151,7 @@ impl Network {
         self.links.only(node)
     }
 
-    /// What the name of a type asks for: the class of that name where one is made.
+    /// The class of that name where one is made, else the type of that name.
     pub fn asks_of(&self, name: Name) -> Asks
         requires { length self.now.classes ≤ 64 }
         ensures { result ≡ networks.asks_of self.now name }

@@ -72,7 +72,7 @@ impl Network {
         refuse(Kind::Limit, self.links.len() >= MAX_LINKS)
     }
 
-    /// A link or LAN without loss.
+    /// The task of a new link or LAN, without loss.
     #[tactic(auto, unfolding(crate::specs::Commands::new_link))]
     fn new_link(&self, lan: bool, kbps: u64, micros: u32, ends: Items<VirtEnd>) -> Task
         requires { length self.now.links < 512 }
@@ -112,7 +112,7 @@ impl Network {
         Ok(self.new_link(false, kbps, micros, Items::from_vec(ends)))
     }
 
-    /// These ends and that of a node, which is another than theirs.
+    /// The ends with one more, on a node that they don't have.
     #[tactic(auto, unfolding(crate::specs::Commands::with_end))]
     fn with_end(&self, mut ends: Items<VirtEnd>, word: &[u8]) -> Result<Items<VirtEnd>, Refusal>
         ensures { Gives result (commands.with_end self.now ends word.now) }
@@ -123,7 +123,7 @@ impl Network {
         Ok(ends)
     }
 
-    /// The ends of the nodes of a list, each another than those before.
+    /// The ends on the nodes of a list, each another than those before.
     fn joined_ends(&self, alloc: Global, elements: &[&[u8]]) -> Result<Items<VirtEnd>, Refusal>
         ensures { Gives result (each (commands.with_end self.now) [] (views elements.now)) }
     {
@@ -150,7 +150,7 @@ impl Network {
         Ok(self.new_link(true, kbps, micros, ends))
     }
 
-    /// The simulator's word, and words behind it, on a line.
+    /// Judges the simulator's word, with the words behind it, on a line.
     #[tactic(auto, unfolding(crate::specs::Commands::judged_simulator, crate::specs::Commands::judged_verb))]
     pub(crate) fn judge_simulator(
         &self,

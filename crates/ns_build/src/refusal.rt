@@ -1,9 +1,9 @@
-//! Why a command is refused.
+//! The reasons why a command is refused.
 
 use lab_base::{Kind, Memory};
 use std::alloc::{AllocError, AllocFailed};
 
-/// Why a command is refused.
+/// The reason why a command is refused.
 #[derive(Clone, Copy, PartialEq, Eq, Debug, Drop)]
 pub(crate) enum Refusal {
     Kind(Kind),

@@ -1,4 +1,4 @@
-//! The commands that set something of a node, link or LAN.
+//! The commands that set a property of a node, link or LAN.
 
 ghost use Rattle.std.specs.Prelude.{◌≡◌, ◌≤◌, length};
 ghost use Rattle.ns_build.specs.Settings as settings;

@@ -1,21 +1,20 @@
-//! What a command, or a variable's new value, asks for.
+//! The tasks that commands, and new values of variables, ask for.
 
 use lab_base::Name;
 use ns_events::What;
 use virt_topo::{AskedLink, Asks, Class};
 
-/// What a command, or a variable's new value, asks for. Nodes, and links and LANs, go by their places in the order of
-/// creation.
+/// The task that a command, or a variable's new value, asks for. Nodes go by their places in the order of creation; so do links and LANs.
 #[derive(Drop)]
 pub(crate) enum Task {
-    /// It is no command of the testbed.
+    /// The command is none of the testbed's.
     NotMine,
-    /// It does nothing, and its result is empty.
+    /// The command changes nothing, and its result is empty.
     Nothing,
-    /// The evaluation ends.
+    /// The command ends the evaluation.
     Stop,
     MakeSimulator,
-    /// Of type `pc`, with the OS `default`.
+    /// A node of type `pc`, with the OS `default`.
     AddNode { name: Name },
     AddLink { link: AskedLink },
     AddClass { class: Class },
@@ -27,33 +26,33 @@ pub(crate) enum Task {
 /// A scheduled event of a link or LAN.
 #[derive(Clone, Copy)]
 pub(crate) struct Planned {
-    /// In microseconds.
+    /// The time in microseconds.
     pub at: u64,
     /// The place of the link or LAN.
     pub place: usize,
     pub what: What,
-    /// The line of the command of the whole text that schedules it.
+    /// The line of the command at the top level that schedules it.
     pub line: u32,
 }
 
-/// What a node gets.
+/// A change of a node.
 #[derive(Clone, Copy)]
 pub(crate) enum NodeChange {
     Name(Name),
     Asks(Asks),
     Os(Name),
-    /// The node that it has to be on.
+    /// The node of the lab that it has to be on.
     Fixed(Name),
 }
 
-/// What a link or LAN gets.
+/// A change of a link or LAN.
 #[derive(Clone, Copy)]
 pub(crate) enum LinkChange {
     Name(Name),
-    /// In millionths.
+    /// The loss in millionths.
     Loss(u32),
-    /// Whether its ends may share interfaces with those of other such links and LANs.
+    /// Whether its ends may share interfaces with those of other multiplexed links and LANs.
     Multiplexed(bool),
-    /// At the end of a node.
+    /// The address of a node's end.
     Address { node: u16, address: u32 },
 }

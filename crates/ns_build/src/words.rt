@@ -10,13 +10,13 @@ ghost use Rattle.ns_build.specs.Words.{place_below, place_in, is_parting, elemen
 use lab_base::{Memory, Text, read_number};
 use std::alloc::{AllocError, Global};
 
-/// The simulator's word. Words of objects begin with a colon, so that they are no names, and can be elements of lists.
+/// The simulator's word. Words of objects begin with a colon: so they are no names, and can be elements of lists.
 pub(crate) const SIMULATOR: &[u8] = b":ns";
 
-/// What the words of nodes begin with; the place of the node follows.
+/// The mark of the words of nodes. The place of the node follows it.
 pub(crate) const NODE: &[u8] = b":n";
 
-/// What the words of links and LANs begin with; the place of the link or LAN follows.
+/// The mark of the words of links and LANs. The place of the link or LAN follows it.
 pub(crate) const LINK: &[u8] = b":l";
 
 /// The word of the object at a place.
@@ -36,7 +36,7 @@ fn is_printed(number: u16, digits: &[u8]) -> bool
     digits == buffer.format(number).as_bytes()
 }
 
-/// The place that digits stand for as they are printed, where it is below `count`.
+/// The place of these digits, if they are the printed form of a number below `count`.
 fn place_below(count: usize, digits: &[u8]) -> Option<u16>
     ensures place { result ≡ place_below count digits.now (number_of 65534 digits.now) }
     ensures fits { IfSome result (λ place. place < 65535) }
@@ -54,7 +54,7 @@ fn place_below(count: usize, digits: &[u8]) -> Option<u16>
     }
 }
 
-/// The place that a word has behind a mark, where it is below `count`.
+/// The place behind a mark in a word, if it is below `count`.
 pub(crate) fn place_in(mark: &[u8], count: usize, word: &[u8]) -> Option<u16>
     ensures place { result ≡ place_in mark.now count word.now }
     ensures fits { IfSome result (λ place. place < 65535) }
@@ -78,7 +78,7 @@ fn split_at_partings(alloc: Global, list: &[u8]) -> Result<Vec<&[u8]>, AllocErro
     list.split(|byte| is_parting(*byte)).collect(alloc)
 }
 
-/// The elements of a list: what stands between its blanks and line feeds.
+/// The elements of a list, which blanks and line feeds separate.
 pub(crate) fn elements_in(alloc: Global, list: &[u8]) -> Result<Vec<&[u8]>, Memory>
     ensures { IfOk result (λ elements. views elements.items ≡ elements_of list.now) }
 {

@@ -13,7 +13,7 @@ use lab_base::{Name, Parts, parted};
 /// The most bytes of an object's name.
 const MAX_NAME: usize = 26;
 
-/// What is numbered, if no variable names it.
+/// The kind of an object that is named by its number, if no variable names it.
 #[derive(Clone, Copy, Debug, PartialEq, Eq)]
 pub enum Numbered {
     Node,
@@ -57,7 +57,7 @@ fn is_index(bytes: &[u8]) -> bool
     !bytes.is_empty() && has_index_bytes(bytes)
 }
 
-/// The name of these bytes, if it is one and short.
+/// The name of these bytes, if they are one of at most 26 bytes.
 fn name_in(bytes: &[u8]) -> Option<Name>
     ensures { result ≡ named_if bytes.now }
 {
@@ -74,7 +74,7 @@ fn extend(bytes: &mut ArrayVec<u8, MAX_NAME>, more: &[u8])
     bytes.try_extend_from_slice(more).unwrap()
 }
 
-/// The name of three pieces, if it is one and short.
+/// The name of three pieces, if they make one of at most 26 bytes.
 fn joined(first: &[u8], second: &[u8], third: &[u8]) -> Option<Name>
     ensures { result ≡ named_if (first.now ++ second.now ++ third.now) }
 {
@@ -127,8 +127,7 @@ fn named(variable: &[u8], parts: Option<Parts<'_>>) -> Option<Name>
     }
 }
 
-/// The name that its first variable gives an object: `v` for `v`, `v-i` for `v(i)`, at most 26 bytes. None where the
-/// variable gives no name.
+/// The name that its first variable gives an object: `v` for `v`, and `v-i` for `v(i)`, at most 26 bytes. None where the variable gives no name.
 pub fn object_name(variable: &[u8]) -> Option<Name>
     ensures value { result ≡ object_name_of variable.now }
     ensures exact { (name : List ℕ) → (result ≡ Some name) ↔ IsObjectName variable.now name }

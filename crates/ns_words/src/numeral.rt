@@ -7,13 +7,13 @@ ghost use Rattle.std.specs.Str.Parse.{digits_value};
 ghost use Rattle.ns_words.specs.Values.{is_no_digit, numeral_from, numeral_of, quotient_of, parts_of, measured};
 ghost use Rattle.ns_words.specs.Seen.{numeral_seen, IsNumeral, capped};
 
-/// From this whole part on a number is too large in every unit.
+/// The whole part from which on a number is too large in every unit.
 const LARGE: u64 = 10_000_000_000_000;
 
 /// The most digits behind a point.
 const MAX_PLACES: usize = 9;
 
-/// The parts of a word: the digits before and behind the point, and what is left.
+/// A numeral at the front of a word: its digits before and behind the point, and the bytes left.
 #[derive(Clone, Copy)]
 pub(crate) struct Numeral<'a> {
     pub whole: &'a [u8],
@@ -21,14 +21,14 @@ pub(crate) struct Numeral<'a> {
     pub unit: &'a [u8],
 }
 
-/// Where the first byte that is no digit stands.
+/// The place of the first byte that is no digit.
 fn first_other(bytes: &[u8]) -> Option<usize>
     ensures { result ≡ position is_no_digit bytes.now }
 {
     bytes.iter().position(|byte| !byte.is_ascii_digit())
 }
 
-/// How many digits lead.
+/// The number of leading digits.
 fn digits_len(bytes: &[u8]) -> usize
     ensures value { result ≡ position_or_len is_no_digit bytes.now }
     ensures within { result ≤ length bytes.now }
@@ -36,7 +36,7 @@ fn digits_len(bytes: &[u8]) -> usize
     first_other(bytes).unwrap_or(bytes.len())
 }
 
-/// The numeral of these digits and what stands behind them.
+/// The numeral of these digits and the bytes behind them.
 fn numeral_from<'a>(whole: &'a [u8], rest: &'a [u8]) -> Numeral<'a>
     ensures { numeral_seen result ≡ numeral_from whole.now rest.now }
 {
@@ -66,7 +66,7 @@ pub(crate) fn numeral_in(word: &[u8]) -> Numeral<'_>
     numeral_from(&word[..at], &word[at..])
 }
 
-/// The number that digits write, or `LARGE` where it is larger.
+/// The number of the digits, or `LARGE` where it is larger.
 fn capped_value(digits: &[u8]) -> u64
     requires { list_all is_ascii_digit digits.now ≡ true }
     ensures { result ≡ capped (digits_value 10 digits.now) }
@@ -91,7 +91,7 @@ fn quotient(n: u128, d: u128, least: u64, most: u64) -> Option<u64>
 }
 
 impl Numeral<'_> {
-    /// Its digits as one number, or a larger one than any quantity has where the whole part is large.
+    /// The digits as one number. Where the whole part is large, a number larger than any quantity.
     fn number(&self, power: u64) -> u128
         requires numeral { IsNumeral (numeral_seen self.now) }
         requires power { power ≡ 10 ^ length self.now.fraction.now }
@@ -102,7 +102,7 @@ impl Numeral<'_> {
         whole + u128::from(capped_value(self.fraction))
     }
 
-    /// So many units of `scale` as parts of `part`, if that is a whole number within the limits.
+    /// The numeral in units of `scale`, counted in parts of `part`; None where that is no whole number within the limits.
     pub fn parts(&self, scale: u64, part: u64, least: u64, most: u64) -> Option<u64>
         requires numeral { IsNumeral (numeral_seen self.now) }
         requires scale { (1 ≤ scale) × (scale ≤ 1000000000) }
@@ -118,7 +118,7 @@ impl Numeral<'_> {
         quotient(number, u128::from(part * power), least, most)
     }
 
-    /// The same where the unit is one.
+    /// The numeral in units of `scale`, as `parts` counts it; None where the unit is none.
     pub fn measured(&self, scale: Option<u64>, part: u64, least: u64, most: u64) -> Option<u64>
         requires numeral { IsNumeral (numeral_seen self.now) }
         requires scale { ForSome scale (λ scale. (1 ≤ scale) × (scale ≤ 1000000000)) }

@@ -21,7 +21,7 @@ fn narrow(value: Option<u64>) -> Option<u32>
     }
 }
 
-/// Reads a bandwidth: kbps, 1 to 1,000,000,000. None where the word is malformed, or no whole number in this range.
+/// Reads a bandwidth in kbps, 1 to 1,000,000,000. None where the word is malformed, or no whole number in this range.
 pub fn bandwidth(word: &[u8]) -> Option<u64>
     ensures value { result ≡ bandwidth_of word.now }
     ensures exact { (kbps : ℕ) → (result ≡ Some kbps) ↔ IsBandwidth word.now kbps }
@@ -31,7 +31,7 @@ pub fn bandwidth(word: &[u8]) -> Option<u64>
     numeral.measured(rate_scale(numeral.unit), 1_000, 1, 1_000_000_000)
 }
 
-/// Reads a delay: microseconds, at most 10,000,000. None where the word is malformed, or no whole number in this range.
+/// Reads a delay in microseconds, at most 10,000,000. None where the word is malformed, or no whole number in this range.
 pub fn delay(word: &[u8]) -> Option<u32>
     ensures value { result ≡ delay_of word.now }
     ensures exact { (micros : ℕ) → (result ≡ Some micros) ↔ IsDelay word.now micros }
@@ -41,7 +41,7 @@ pub fn delay(word: &[u8]) -> Option<u32>
     narrow(numeral.measured(time_scale(numeral.unit), 1, 0, 10_000_000))
 }
 
-/// Reads a loss: millionths, at most 1,000,000. None where the word is malformed, or no whole number in this range.
+/// Reads a loss in millionths, at most 1,000,000. None where the word is malformed, or no whole number in this range.
 pub fn loss(word: &[u8]) -> Option<u32>
     ensures value { result ≡ loss_of word.now }
     ensures exact { (ppm : ℕ) → (result ≡ Some ppm) ↔ IsLoss word.now ppm }
@@ -51,8 +51,8 @@ pub fn loss(word: &[u8]) -> Option<u32>
     narrow(numeral.measured(loss_scale(numeral.unit), 1, 0, 1_000_000))
 }
 
-/// Reads a time: microseconds, at most 1,000,000,000,000. None where the word is malformed, has more than six digits
-/// behind the point, or is no number in this range.
+/// Reads a time in microseconds, at most 1,000,000,000,000. None where the word is malformed, has more than six digits behind the point, or is no
+/// number in this range.
 pub fn time(word: &[u8]) -> Option<u64>
     ensures value { result ≡ time_of word.now }
     ensures exact { (micros : ℕ) → (result ≡ Some micros) ↔ IsTime word.now micros }

@@ -5,7 +5,7 @@ ghost use Rattle.ns_words.specs.Quantities.{rate_units, time_units, loss_units, 
 ghost use Rattle.ns_words.specs.Values.{scale_of};
 ghost use Rattle.ns_words.specs.Letters.{letter_scale, is_ending, ended};
 
-/// What a letter before `b` or `bps` stands for.
+/// The factor of a letter before `b` or `bps`.
 fn letter_scale(letter: u8) -> Option<u64>
     ensures { result ≡ letter_scale letter }
 {
@@ -29,7 +29,7 @@ fn ended(ending: &[u8], scale: u64) -> Option<u64>
     if is_ending(ending) { Some(scale) } else { None }
 }
 
-/// How many bits per second a unit of bandwidth is.
+/// The bits per second of a unit of bandwidth.
 pub(crate) fn rate_scale(unit: &[u8]) -> Option<u64>
     ensures value { result ≡ scale_of rate_units unit.now }
     ensures limits { ForSome result (λ scale. (1 ≤ scale) × (scale ≤ 1000000000)) }
@@ -43,7 +43,7 @@ pub(crate) fn rate_scale(unit: &[u8]) -> Option<u64>
     }
 }
 
-/// How many microseconds a unit of time is.
+/// The microseconds of a unit of time.
 pub(crate) fn time_scale(unit: &[u8]) -> Option<u64>
     ensures value { result ≡ scale_of time_units unit.now }
     ensures limits { ForSome result (λ scale. (1 ≤ scale) × (scale ≤ 1000000000)) }
@@ -59,7 +59,7 @@ pub(crate) fn time_scale(unit: &[u8]) -> Option<u64>
     }
 }
 
-/// A loss has no unit.
+/// The unit of a loss, which is the empty word.
 pub(crate) fn loss_scale(unit: &[u8]) -> Option<u64>
     ensures value { result ≡ scale_of loss_units unit.now }
     ensures limits { ForSome result (λ scale. (1 ≤ scale) × (scale ≤ 1000000000)) }
@@ -71,7 +71,7 @@ pub(crate) fn loss_scale(unit: &[u8]) -> Option<u64>
     }
 }
 
-/// How many microseconds a unit of a time is, which is always in seconds.
+/// The microseconds of a time's unit, which is always the second.
 pub(crate) fn second_scale(unit: &[u8]) -> Option<u64>
     ensures value { result ≡ scale_of second_units unit.now }
     ensures limits { ForSome result (λ scale. (1 ≤ scale) × (scale ≤ 1000000000)) }

@@ -1,4 +1,4 @@
--- What every lab keeps, in whatever order it was built.
+-- The facts that hold of every lab, in whatever order it was built.
 use Rattle.std.specs.Prelude.{◌≡◌, ◌≤◌, ℕ, true, false, List, ◌++◌, length, map, None}
 use Rattle.std.specs.List.{flat_map}
 use Rattle.lab_base.specs.Names.{is_name}

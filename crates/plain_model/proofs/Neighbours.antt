@@ -1,4 +1,4 @@
--- What the tests of rows, owners and neighbours say.
+-- The tests of rows, owners and neighbours, and the facts that they decide.
 use Rattle.std.specs.List.{list_any, list_all}
 use Rattle.std.specs.Str.{bytes_eq}
 use Rattle.std.proofs.Common.{◌≡◌, ◌⊎◌, inl, inr, ℕ, Bool, true, List, [], ◌∷◌, refl, sym, ap, ◌∙◌, subst}

@@ -1,4 +1,4 @@
--- What contracts see of an owner.
+-- An owner as contracts see it.
 use Rattle.std.specs.Prelude.{Bool, true, false}
 use Rattle.lab_model.specs.Claims.{Which, Old, New}
 use Rattle.lab_model.specs.Isolated.{Owner}

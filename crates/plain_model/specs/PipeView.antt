@@ -1,4 +1,4 @@
--- What contracts see of a pipe.
+-- A pipe as contracts see it.
 use Rattle.plain_model.specs.Isolation.{NodePipe}
 use Rattle.plain_model.specs.declared.node_pipe.NodePipe.TheInside.{Inside}
 

@@ -1,4 +1,4 @@
--- What was read from a gate on.
+-- The records read from a gate on.
 use Rattle.std.specs.Prelude.{◌≡◌, ◌≤◌, ◌+◌, ℕ, true, false, List, [], length, take, drop, sum_by}
 use Rattle.journal_rec.specs.Payloads.{number}
 use Rattle.plant.specs.declared.step.Side.{Side}

@@ -1,4 +1,4 @@
--- What contracts see of a row, and of a pipe with its rates.
+-- A row, and a pipe with its rates, as contracts see them.
 use Rattle.plant.specs.Worlds.{Row, PipeRow}
 use Rattle.plain_model.specs.declared.row.Row.TheInside.{Inside}
 use Rattle.plain_model.specs.declared.pipe.Pipe.TheInside.{Inside as PipeInside}

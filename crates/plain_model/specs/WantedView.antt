@@ -1,4 +1,4 @@
--- What contracts see of a wanted row.
+-- A wanted row as contracts see it.
 use Rattle.plain_model.specs.Isolation.{Wanted}
 use Rattle.plain_model.specs.declared.wanted.Wanted.TheInside.{Inside}
 

@@ -1,4 +1,4 @@
-// What numbers of a mapping name; what names nothing has nothing.
+// // The parts that the numbers of a mapping name. A number that names nothing stands for an empty part.
 ghost use Rattle.std.specs.Prelude.{◌≡◌};
 ghost use Rattle.std.specs.Str.{bytes_eq};
 ghost use Rattle.lab_base.specs.Names.{same_name};
@@ -36,7 +36,7 @@ pub(crate) fn node_name(lab: &Lab, node: NodeId) -> &[u8]
     }
 }
 
-/// Whether the node has that name; one that isn't there has none.
+/// Whether the node of that number has that name; false where there is no such node.
 pub(crate) fn is_node_named(lab: &Lab, node: NodeId, name: Name) -> bool
     ensures { result ≡ same_name name (node_name lab.now node) }
 {

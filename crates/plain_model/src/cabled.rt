@@ -124,7 +124,7 @@ fn are_sets_right(
     }
 }
 
-/// Whether a node has exactly what a mapping wants of it.
+/// Whether a node is exactly as a mapping wants it.
 fn is_node_right(
     commands: &[Sent],
     lab: &Lab,
@@ -186,7 +186,7 @@ fn is_wiped(commands: &[Sent], name: &[u8]) -> bool
         && (is_off(boot_of(commands, name)) && are_sets_wiped(commands, name, commands))
 }
 
-/// Whether all nodes of these places are right.
+/// Whether the nodes of all these places are right.
 fn are_nodes_right(
     commands: &[Sent],
     lab: &Lab,
@@ -207,7 +207,7 @@ fn are_nodes_right(
     }
 }
 
-/// Whether a node is right, if the move keeps it.
+/// Whether a node is right, where the move keeps it.
 fn is_kept_right(
     commands: &[Sent],
     lab: &Lab,
@@ -260,7 +260,7 @@ fn are_kept_right(commands: &[Sent], lab: &Lab, old: &Option<Mapped>, new: &Opti
     }
 }
 
-/// Whether a pipe, if there is one, is one that the old or the new mapping wants there.
+/// Whether a pipe is one that the old or the new mapping wants there; true where there is none.
 fn is_wanted_pipe(
     lab: &Lab,
     old: &Option<Mapped>,
@@ -367,7 +367,7 @@ fn is_in_right(
         && are_nodes_right(commands, lab, wiring, mapping, mapping.places.as_slice())
 }
 
-/// Whether of an experiment that stands what its phase says.
+/// Whether the rows and nodes of an experiment are as its phase wants them.
 fn is_cabled_by(
     alloc: Global,
     commands: &[Sent],
@@ -447,7 +447,7 @@ fn is_free_wiped(
     }
 }
 
-/// Whether each node that a command went to and that no claim has is wiped.
+/// Whether each node without a claim that a command went to is wiped.
 fn are_free_wiped(commands: &[Sent], lab: &Lab, experiments: &[Experiment], rest: &[Sent]) -> bool
     ensures { result ≡ list_all (λ sent. is_free_wiped commands.now lab.now experiments.now (op_node sent.op)) rest.now }
 {
@@ -476,8 +476,8 @@ fn holds(
     are_wanted(wanted, rows) && (phases && are_free_wiped(commands, lab, experiments, commands))
 }
 
-/// Whether after these commands rows and nodes are as the claimed mappings want them: each row is wanted, each experiment
-/// has what its phase says, and each node that no claim has is wiped.
+/// Whether after these commands rows and nodes are as the claimed mappings want them.
+/// Each row is wanted, each experiment has the rows and nodes of its phase, and each node without a claim is wiped.
 pub fn is_cabled(
     alloc: Global,
     lab: &Lab,

@@ -1,4 +1,4 @@
-// What experiments claim.
+// // The claims of experiments.
 ghost use Rattle.std.specs.Prelude.{◌≡◌, ◌++◌, not, map, length, IfOk, OnOk};
 ghost use Rattle.std.specs.List.{flat_map, list_any, list_all};
 ghost use Rattle.std.specs.Str.{bytes_eq};
@@ -18,7 +18,7 @@ fn is_on(lab: &Lab, places: &[(NodeId, Name)], name: &[u8]) -> bool
     places.iter().any(|place| node_name(lab, place.0) == name)
 }
 
-/// Whether the mapping, if there is one, places a virtual node on the node of that name.
+/// Whether a mapping places a virtual node on the node of that name; false where there is no mapping.
 pub(crate) fn is_placed(lab: &Lab, mapped: &Option<Mapped>, name: &[u8]) -> bool
     ensures { result ≡ is_placed lab.now mapped.now name.now }
 {

@@ -25,7 +25,7 @@ pub(crate) fn first_f2(lab: &Lab, wiring: &Wiring, mapping: &Mapping) -> Option<
     None
 }
 
-/// The first virtual node whose type, desires, features or class is not as it has to be.
+/// The first virtual node whose type, desires, features or class break the third rule.
 pub(crate) fn first_f3(lab: &Lab, wiring: &Wiring, mapping: &Mapping) -> Option<usize>
     requires { length mapping.now.places ≡ length wiring.now.nodes }
     ensures first { result ≡ first_below (length wiring.now.nodes) (keeps_f3 lab.now wiring.now mapping.now) }
@@ -39,7 +39,7 @@ pub(crate) fn first_f3(lab: &Lab, wiring: &Wiring, mapping: &Mapping) -> Option<
     None
 }
 
-/// The first fixed virtual node that is elsewhere.
+/// The first fixed virtual node that is on another node than its own.
 pub(crate) fn first_f4(lab: &Lab, wiring: &Wiring, mapping: &Mapping) -> Option<usize>
     requires { length mapping.now.places ≡ length wiring.now.nodes }
     ensures first { result ≡ first_below (length wiring.now.nodes) (keeps_f4 lab.now wiring.now mapping.now) }
@@ -53,7 +53,7 @@ pub(crate) fn first_f4(lab: &Lab, wiring: &Wiring, mapping: &Mapping) -> Option<
     None
 }
 
-/// The first end whose plug is on another node, or may not come to the earlier ends that have it.
+/// The first end whose plug is on another node, or can't bear its load beside the earlier ends.
 pub(crate) fn first_f5(lab: &Lab, wiring: &Wiring, mapping: &Mapping) -> Option<usize>
     requires sound { IsSound wiring.now }
     requires plugs { length mapping.now.plugs ≡ length (end_nodes wiring.now.segments) }

@@ -1,4 +1,4 @@
-// Whether trunks, nodes and VLAN ids hold what is claimed.
+// // Whether trunks, nodes and VLAN ids hold the claims.
 ghost use Rattle.std.specs.Prelude.{◌≡◌, ◌↔◌, ◌==◌, IsTrue, IfOk};
 ghost use Rattle.std.specs.List.{flat_map, list_all, list_any};
 ghost use Rattle.lab_model.specs.Beside.{all_differ};
@@ -56,8 +56,8 @@ fn holds(lab: &Lab, experiments: &[Experiment], tags: &[u16]) -> bool
         && (are_apart(lab, experiments) && (have_room(lab, experiments) && are_tags(lab, tags)))
 }
 
-/// Whether trunks, nodes and VLAN ids hold what the experiments claim: each claimed mapping suits the lab, no node is
-/// claimed twice, each trunk has room for all, and all ids differ and are in the lab's range.
+/// Whether trunks, nodes and VLAN ids hold the claims of the experiments.
+/// Each claimed mapping suits the lab, and no node is claimed twice. Each trunk has room for all. All ids differ and are in the lab's range.
 pub fn is_holding(alloc: Global, lab: &Lab, experiments: &[Experiment]) -> Result<bool, Memory>
     ensures { IfOk result (λ holds. IsTrue holds ↔ Holding lab.now experiments.now) }
 {

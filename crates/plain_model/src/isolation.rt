@@ -147,7 +147,7 @@ fn agree_together(lab: &Lab, wanted: &[Wanted], rows: &[Row], pipes: &[NodePipe]
         .all(|a| all_agree(lab, wanted, rows, pipes, a))
 }
 
-/// Whether each row that stands is wanted, and rows that stand and are one or next to each other have one owner.
+/// Whether each present row is wanted, and present rows that are one or next to each other have one owner.
 pub fn is_isolated(lab: &Lab, wanted: &[Wanted], rows: &[Row], pipes: &[NodePipe]) -> bool
     ensures { result ≡ is_isolated lab.now wanted.now rows.now pipes.now }
 {

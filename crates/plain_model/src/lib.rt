@@ -62,7 +62,7 @@ pub fn isolation_tested()
         → Isolated lab es w → is_isolated lab (wanted_in lab es) rows pipes ≡ true }
 {}
 
-/// The world of a trace is what its commands leave: its rows, and of each node the OS, the boot state and the pipes.
+/// The world of a trace is the one that its commands leave: its rows, and for each node its OS, boot state and pipes.
 pub fn worlds_told()
     ensures world { (trace : List Event) → world_of trace ≡ world_sent (commands_of trace) }
     ensures rows { (row : RowSeen) (commands : List Sent) → (world_sent commands).rows row ≡ has_row commands row }

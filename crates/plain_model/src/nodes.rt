@@ -1,4 +1,4 @@
-// What mappings want of nodes.
+// // The OS and pipes that mappings want on nodes.
 ghost use Rattle.std.specs.Prelude.{◌≡◌, ◌<◌, [], true, length, slice_get, Some};
 ghost use Rattle.std.specs.List.{list_all};
 ghost use Rattle.std.specs.Str.{bytes_eq};
@@ -173,7 +173,7 @@ pub(crate) fn pipe_on(
     pipe_in(lab, wiring, mapping, wiring.pipes.as_slice(), name, number)
 }
 
-/// The pipe of that number that a mapping, if there is one, wants on a node.
+/// The pipe of that number that a mapping wants on a node; None where there is no mapping.
 pub(crate) fn pipe_wanted(
     lab: &Lab,
     mapped: &Option<Mapped>,
@@ -206,7 +206,7 @@ fn same_at(
     )
 }
 
-/// Whether both mappings want the same pipes below that number on a node.
+/// Whether both mappings want the same pipes on a node, below that number.
 fn same_below(
     lab: &Lab,
     old: &Option<Mapped>,
@@ -260,7 +260,7 @@ fn keeps(lab: &Lab, old: &Option<Mapped>, new: &Option<Mapped>, name: &[u8]) -> 
         && same_below(lab, old, new, name, count_of(old).max(count_of(new)))
 }
 
-/// Whether a move keeps a node: both mappings place something on it and want the same of it.
+/// Whether a move keeps a node: both mappings place a virtual node on it, and want it alike.
 pub(crate) fn is_kept(lab: &Lab, old: &Option<Mapped>, new: &Option<Mapped>, name: &[u8]) -> bool
     requires old { fits_in lab.now old.now ≡ true }
     requires new { fits_in lab.now new.now ≡ true }

@@ -1,7 +1,7 @@
 use lab_base::{Name, Rates};
 use std::marker::Model;
 
-/// A pipe between two interfaces of a node, with what it does in both directions.
+/// A pipe between two interfaces of a node, with its rates in both directions.
 #[derive(Drop)]
 pub struct Pipe {
     pub from: Name,

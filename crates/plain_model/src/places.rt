@@ -1,4 +1,4 @@
-// The rules on what is placed on nodes, each as its definition has it.
+// // The rules on the virtual nodes of a node, each as its definition has it.
 ghost use Rattle.std.specs.Prelude.{◌≡◌, ◌<◌, ◌≤◌, ◌&&◌, nat_lt, length};
 ghost use Rattle.std.specs.List.{list_all, list_any};
 ghost use Rattle.lab_base.specs.Names.{same_name};
@@ -16,7 +16,7 @@ fn is_guest(place: &(NodeId, Name), virt: &VirtNode, kind: Name, os: Name) -> bo
     place.1 == kind && virt.os == os
 }
 
-/// Whether all that is on a node has that type and that OS.
+/// Whether all virtual nodes on a node have that type and that OS.
 fn are_alike(nodes: &[VirtNode], places: &[(NodeId, Name)], node: u16, kind: Name, os: Name) -> bool
     ensures { result ≡ list_all (λ h. same_name h.0 kind && same_name h.1 os) (guests nodes.now places.now node) }
 {
@@ -32,7 +32,7 @@ fn are_alike(nodes: &[VirtNode], places: &[(NodeId, Name)], node: u16, kind: Nam
     }
 }
 
-/// How many virtual nodes are on a node.
+/// The number of virtual nodes on a node.
 fn count_of(nodes: &[VirtNode], places: &[(NodeId, Name)], node: u16) -> usize
     ensures count { result ≡ length (guests nodes.now places.now node) }
     ensures most { result ≤ length nodes.now }
@@ -150,7 +150,7 @@ fn is_member(class: u16, asks: &Asks) -> bool
     }
 }
 
-/// Whether the first member of a class has a type; without a member nothing has one.
+/// Whether the first member of a class has that type; without a member no type is the first.
 fn is_first_type(class: u16, nodes: &[VirtNode], places: &[(NodeId, Name)], name: Name) -> bool
     ensures { result ≡ same_name (first_type class nodes.now places.now) name }
 {

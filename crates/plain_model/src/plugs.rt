@@ -28,7 +28,7 @@ fn end_node(segments: &[Segment], end: usize) -> u16
     }
 }
 
-/// What an end of these segments, the first of which has that number, puts on its interface.
+/// The load of an end on its interface. The first of these segments has that number.
 fn load_at(segments: &[Segment], number: u16, end: usize) -> Load
     requires { number + length segments.now ≤ 512 }
     ensures { result ≡ slice_index_or (loads_from number segments.now) end no_load }
@@ -77,8 +77,7 @@ fn may_join(one: &Load, other: &Load) -> bool
     one.segment != other.segment && one.multiplexed && other.multiplexed
 }
 
-/// Whether a load may be on an interface with each load that ends have put there, of which these are the plugs from the end of that
-/// number on.
+/// Whether a load may share an interface with each load there. `plugs` are those of the ends from that number on.
 fn joins_all(
     segments: &[Segment],
     end: usize,
@@ -104,7 +103,7 @@ fn joins_all(
     }
 }
 
-/// Whether the loads on an interface add up to at most so many kbps, which are of ends with these plugs from the end of that number on.
+/// Whether the loads on an interface sum up to at most so many kbps. `plugs` are those of the ends from that number on.
 fn has_room(segments: &[Segment], end: usize, plugs: &[IfaceId], plug: IfaceId, kbps: u64) -> bool
     requires segments { length segments.now ≤ 512 }
     requires few { end + length plugs.now ≤ 4096 }
@@ -124,7 +123,7 @@ fn has_room(segments: &[Segment], end: usize, plugs: &[IfaceId], plug: IfaceId, 
     }
 }
 
-/// Whether a load may come to those that ends with these plugs, the first ends, have put on an interface of that many kbps.
+/// Whether an interface of that many kbps may bear a load beside those of the first ends, which have these plugs.
 fn may_bear(segments: &[Segment], plugs: &[IfaceId], plug: IfaceId, kbps: u64, load: &Load) -> bool
     requires segments { length segments.now ≤ 512 }
     requires few { length plugs.now ≤ 4096 }
@@ -136,7 +135,7 @@ fn may_bear(segments: &[Segment], plugs: &[IfaceId], plug: IfaceId, kbps: u64, l
         && has_room(segments, 0, plugs, plug, kbps - load.kbps)
 }
 
-/// Whether the plug of an end is on its virtual node's node, and the earlier ends that have it leave the end room there.
+/// Whether the plug of an end is on its virtual node's node, and the earlier ends there leave it room.
 pub(crate) fn keeps_f5(lab: &Lab, wiring: &Wiring, mapping: &Mapping, end: usize) -> bool
     requires sound { IsSound wiring.now }
     requires plugs { length mapping.now.plugs ≡ length (end_nodes wiring.now.segments) }
@@ -156,7 +155,7 @@ pub(crate) fn keeps_f5(lab: &Lab, wiring: &Wiring, mapping: &Mapping, end: usize
         )
 }
 
-/// Whether there is a plug for each end of the segments.
+/// Whether each end of the segments has a plug.
 pub(crate) fn are_enough(segments: &[Segment], plugs: &[IfaceId]) -> bool
     ensures { result ≡ (length plugs.now == length (end_nodes segments.now)) }
 {

@@ -6,13 +6,13 @@ use journal_rec::{RecFault, Record, decode};
 use lab_base::Memory;
 use std::alloc::Global;
 
-/// The records from a gate on, up to a closed gate, or up to an open one with something broken behind it.
+/// The records from a gate on, up to a closed gate, or up to an open one without a whole record behind it.
 #[derive(Drop)]
 pub struct Read {
     pub records: Vec<Record>,
-    /// Whether a closed gate ends them.
+    /// Whether a closed gate ends the records.
     pub whole: bool,
-    /// How many bytes there are from the gate on that ends them.
+    /// The number of bytes from that last gate on.
     pub left: usize,
 }
 

@@ -1,7 +1,7 @@
 use lab_base::Name;
 use std::marker::Model;
 
-/// A port of a switch is in a VLAN. Contracts see it as a row of the world.
+/// A row: a port of a switch in a VLAN. Contracts see it as a row of the world.
 #[derive(Drop)]
 pub struct Row {
     pub switch: Name,

@@ -1,4 +1,4 @@
-// What stands after commands.
+// // The rows and pipes that commands leave.
 ghost use Rattle.std.specs.Prelude.{◌≡◌, ◌++◌, fold, None, IfOk, OnOk};
 ghost use Rattle.plain_model.specs.Rows.{row_seen, rows_by, rows_of, pipe_then, pipe_seen, pipes_by, pipes_of};
 
@@ -16,7 +16,7 @@ fn push_row(listed: &mut Vec<Row>, commands: &[Sent], row: Row) -> Result<(), Me
     Ok(())
 }
 
-/// Adds the row that a command joins, if it stands after all commands.
+/// Adds the row that a command joins, if it is there after all commands.
 fn push_joined(listed: &mut Vec<Row>, commands: &[Sent], op: DeviceOp) -> Result<(), Memory>
     ensures { OnOk result (listed.new.items ≡ listed.old.items ++ rows_by commands.now op) }
 {
@@ -45,7 +45,7 @@ fn push_rows(listed: &mut Vec<Row>, commands: &[Sent], rest: &[Sent]) -> Result<
     }
 }
 
-/// The rows that stand after these commands, as often as commands joined them.
+/// The rows that are there after these commands, each as often as commands joined it.
 pub fn rows_after(alloc: Global, commands: &[Sent]) -> Result<Vec<Row>, Memory>
     ensures { IfOk result (λ listed. listed.items ≡ rows_of commands.now commands.now) }
 {
@@ -72,7 +72,7 @@ fn push_pipe(
     Ok(())
 }
 
-/// Adds the pipe that a command sets, as it stands after all commands.
+/// Adds the pipe that a command sets, as it is after all commands.
 fn push_set(listed: &mut Vec<NodePipe>, commands: &[Sent], op: DeviceOp) -> Result<(), Memory>
     ensures { OnOk result (listed.new.items ≡ listed.old.items ++ pipes_by commands.now op) }
 {
@@ -94,7 +94,7 @@ fn push_pipes(listed: &mut Vec<NodePipe>, commands: &[Sent], rest: &[Sent]) -> R
     }
 }
 
-/// The pipes that stand on nodes after these commands, as often as commands set them.
+/// The pipes of nodes after these commands, each as often as commands set it.
 pub fn pipes_after(alloc: Global, commands: &[Sent]) -> Result<Vec<NodePipe>, Memory>
     ensures { IfOk result (λ listed. listed.items ≡ pipes_of commands.now commands.now) }
 {

@@ -72,8 +72,8 @@ fn keeps_rules(lab: &Lab, wiring: &Wiring, mapping: &Mapping) -> bool
                     && first_f7(lab, wiring, mapping).is_none())))
 }
 
-/// Whether a mapping with these VLAN ids suits a lab: it is shaped for the lab and its sound wiring, has one id per
-/// segment, and keeps the rules in which others have no part.
+/// Whether a mapping with these VLAN ids suits a lab.
+/// It has the lab's shape and a sound wiring, one id for each segment, and keeps the rules in which others have no part.
 fn suits(lab: &Lab, wiring: &Wiring, mapping: &Mapping, tags: &[VlanId]) -> bool
     ensures { result ≡ suits lab.now (mapped wiring.now mapping.now tags.now) }
 {
@@ -101,7 +101,7 @@ fn fits(lab: &Lab, experiment: &Experiment) -> bool
     }
 }
 
-/// Whether each mapping that is claimed suits the lab.
+/// Whether each claimed mapping suits the lab.
 pub fn all_fit(lab: &Lab, experiments: &[Experiment]) -> bool
     ensures { result ≡ all_fit lab.now experiments.now }
 {

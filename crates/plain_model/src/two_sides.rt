@@ -11,13 +11,13 @@ use std::alloc::Global;
 /// The name of the journal's format.
 const MAGIC: &[u8] = b"LABJRNL1";
 
-/// What a side's header says.
+/// The header of a side.
 #[derive(Clone, Copy)]
 pub enum Header {
     Blank,
-    /// It is open, with another name.
+    /// The header gate is open, with another name behind it.
     Foreign,
-    /// It has this epoch.
+    /// The header has this epoch.
     Epoch(u64),
 }
 
@@ -45,17 +45,17 @@ pub fn header_of(bytes: &[u8]) -> Header
     }
 }
 
-/// Where the journal stands.
+/// The place of the journal of two sides.
 #[derive(Clone, Copy)]
 pub enum Live {
     /// Both sides are blank.
     New,
     On(Side),
-    /// This side makes it none.
+    /// No journal is on both sides, because of that side.
     Wrong(Side),
 }
 
-/// Where the journal of two sides stands.
+/// The place of the journal of two sides.
 pub fn live_of(a: &[u8], b: &[u8]) -> Live
     ensures { IsLiveOf a.now b.now result }
 {
@@ -77,14 +77,14 @@ pub fn live_of(a: &[u8], b: &[u8]) -> Live
     }
 }
 
-/// What two sides read as.
+/// The reading of two sides.
 #[derive(Drop)]
 pub enum Sides {
-    /// Both are blank.
+    /// Both sides are blank.
     New,
     /// The live side, with its records.
     Found { side: Side, records: Vec<Record> },
-    /// This side makes them no journal, at this position.
+    /// No journal is on both sides: that side is wrong at this position.
     Bad { side: Side, at: usize },
 }
 

@@ -1,4 +1,4 @@
-// What is used of trunks.
+// // The uses of trunks.
 ghost use Rattle.std.specs.Prelude.{◌≡◌, ◌<◌, true, nat_le, length, sum_by};
 ghost use Rattle.virt_topo.specs.Soundness.{keeps_limits};
 ghost use Rattle.lab_model.specs.Shapes.{IsShaped};
@@ -10,7 +10,7 @@ use lab_base::TrunkId;
 use phys_lab::Lab;
 use virt_topo::{Experiment, Mapped, Mapping, Phase, Wiring};
 
-/// What a mapping that suits the lab uses of a trunk.
+/// The kbps that a mapping uses of a trunk, where it suits the lab.
 pub fn use_of(lab: &Lab, wiring: &Wiring, mapping: &Mapping, trunk: usize) -> u64
     requires limits { keeps_limits wiring.now ≡ true }
     requires shaped { IsShaped lab.now wiring.now mapping.now }
@@ -44,7 +44,7 @@ fn claimed_use(lab: &Lab, experiment: &Experiment, trunk: usize) -> u64
     }
 }
 
-/// Whether so many kbps of a trunk are enough for the claims of all.
+/// Whether so many kbps of a trunk suffice for the claims of all.
 pub(crate) fn are_enough(lab: &Lab, experiments: &[Experiment], trunk: usize, kbps: u64) -> bool
     requires fit { all_fit lab.now experiments.now ≡ true }
     requires trunk { trunk < length lab.now.trunks }

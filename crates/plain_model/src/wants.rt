@@ -65,7 +65,7 @@ fn push_plugs(
     }
 }
 
-/// How many plugs are on the first side of a trunk.
+/// The number of plugs on the first side of a trunk.
 fn on_first(lab: &Lab, trunk: usize, plugs: &[IfaceId]) -> usize
     requires { trunk < length lab.now.trunks }
     ensures { result ≡ count_by (λ i. on_first_side lab.now.trunks trunk (switch_of lab.now i)) plugs.now }

@@ -42,7 +42,7 @@ fn row_then(sent: &Sent, row: &Row, had: bool) -> bool
     }
 }
 
-/// Whether a row stands after these commands.
+/// Whether a row is there after these commands.
 pub fn has_row(commands: &[Sent], row: &Row) -> bool
     ensures { result ≡ has_row commands.now row.now }
 {
@@ -124,7 +124,7 @@ fn boot_then(sent: &Sent, name: &[u8], had: Option<Boot>) -> Option<Boot>
     }
 }
 
-/// The boot state of a node after these commands; none where it is open.
+/// The boot state of a node after these commands; None where it is open.
 pub fn boot_of(commands: &[Sent], name: &[u8]) -> Option<Boot>
     ensures { result ≡ fold (boot_then name.now) (Some Off) commands.now }
 {

@@ -1,4 +1,4 @@
--- What the calls of a plant do.
+-- The calls of a plant.
 use Rattle.std.specs.Prelude.{◌≡◌, ◌⊎◌, ℕ, ◌≤◌, Bool, true, false, List, [], ◌∷◌, Result, Ok, Err, IsErrOf}
 use Rattle.lab_base.specs.declared.boot.Boot.{Boot}
 use Rattle.lab_base.specs.Counts.{Rose}

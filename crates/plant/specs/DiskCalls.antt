@@ -1,4 +1,4 @@
--- What the calls of the disk do.
+-- The calls of the disk.
 use Rattle.std.specs.Prelude.{◌≡◌, ◌⊎◌, ℕ, ◌≤◌, Bool, true, false, List, [], ◌∷◌, length, Result, Ok, Err, IsErrOf}
 use Rattle.lab_base.specs.Counts.{Rose}
 use Rattle.plant.specs.declared.device.Fault.{Fault}

@@ -30,7 +30,7 @@ abbrev pub furthest : List (ℕ × ℕ) → ℕ
 furthest [] = 0
 furthest (r ∷ rs) = max r.1 (furthest rs)
 
--- What a stop may leave: each byte that was durable and that no write touched is as it was.
+-- AN IMAGE that a stop may leave: each byte that was durable and that no write touched is as it was.
 pub record IsImage (d : Disk) (image : List ℕ) : Type 0 where
   pub no_shorter : min (length d.durable) (length d.reads) ≤ length image
   pub no_longer : length image ≤ max (max (length d.durable) (length d.reads)) (furthest d.written)

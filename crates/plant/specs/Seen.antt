@@ -1,4 +1,4 @@
--- What is seen of a plant.
+-- A plant as contracts see it.
 use Rattle.std.specs.Prelude.{Bool, Option}
 use Rattle.plant.specs.declared.moment.Faults.{Faults}
 use Rattle.plant.specs.Told.{Told}

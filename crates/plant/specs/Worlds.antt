@@ -1,4 +1,4 @@
--- What the devices hold after the steps of a trace.
+-- The rows and nodes of the devices after the steps of a trace.
 use Rattle.std.specs.Prelude.{ℕ, Bool, true, false, ◌&&◌, ◌||◌, not, ◌==◌, List, fold, Option, Some, None, Result, Ok, if◌then◌else◌}
 use Rattle.std.specs.Str.{bytes_eq}
 use Rattle.lab_base.specs.declared.boot.Boot.{Boot}

@@ -46,7 +46,7 @@ pub enum DeviceOp {
     },
 }
 
-/// What a device answers.
+/// The answer of a device.
 #[derive(Clone, Copy, Debug, PartialEq, Eq)]
 pub enum Answer {
     /// The command was done.
@@ -55,7 +55,7 @@ pub enum Answer {
     State(Boot),
 }
 
-/// Why a call was not answered.
+/// The reason why a call was not answered.
 #[derive(Clone, Copy, Debug, PartialEq, Eq)]
 pub enum Fault {
     /// The disk or the device failed.
@@ -64,17 +64,17 @@ pub enum Fault {
     Stopped,
 }
 
-/// What a node holds.
+/// The state of a node: its OS, its boot state and its pipes.
 #[derive(Clone, Copy, PartialEq, Eq)]
 pub struct NodeRow {
     pub os: Option<Name>,
     pub state: Boot,
-    /// How many pipes are set.
+    /// The number of pipes that are set.
     pub pipes: u32,
 }
 
 impl DeviceOp {
-    /// The device that it goes to.
+    /// The device that the command goes to.
     pub fn device(&self) -> Name
         ensures { result ≡ device_of self.now }
     {

@@ -7,18 +7,18 @@ pub enum How {
     Applied,
     /// The command is not applied.
     Not,
-    /// From that poll on, the boot state stays, until a Wipe.
+    /// From that poll on the boot state stays as it is, until a Wipe.
     Hang,
-    /// That poll sets and answers `IsUp`.
+    /// The boot state becomes `IsUp` at that poll, which answers it.
     Jump,
-    /// The reading of what it holds fails. No command counts for it.
+    /// The reading of the device's state fails. No command counts for it.
     Read,
 }
 
-/// What a stop leaves of what is not durable.
+/// The part of the bytes that aren't durable which a stop leaves.
 #[derive(Clone, Copy, Debug, PartialEq, Eq)]
 pub enum Pick {
-    /// Nothing; nor has the stopped call an effect.
+    /// Nothing; and the stopped call has no effect.
     Nothing,
     /// All of it.
     All,
@@ -26,10 +26,10 @@ pub enum Pick {
     Torn,
 }
 
-/// A failure that is planned. It counts from the moment it is planned, from 1, and is used once.
+/// A planned failure. It counts from the moment of the plan, from 1, and is used once.
 #[derive(Clone, Copy, PartialEq, Eq)]
 pub enum Drill {
-    /// The nth next command to that device, or for `Hang` and `Jump` the nth next poll of it.
+    /// The nth next command to that device; for `Hang` and `Jump` the nth next poll of it.
     Device { name: Name, nth: u32, how: How },
     /// The nth next call of the disk.
     Disk { nth: u32 },
@@ -37,7 +37,7 @@ pub enum Drill {
     Stop { nth: u32, pick: Pick },
 }
 
-/// Why a failure was not planned.
+/// The reason why a failure was not planned.
 #[derive(Clone, Copy, Debug, PartialEq, Eq)]
 pub enum DrillFault {
     /// The plant takes no drills.

@@ -1,4 +1,4 @@
-//! What stands outside the controller: the disk with its two sides, the devices, and the drills that make them fail.
+//! The plant: the disk with its two sides, the devices, and the drills that make them fail.
 #![tactic(auto)]
 
 mod device;

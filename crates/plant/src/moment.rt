@@ -1,13 +1,13 @@
 use crate::Drill;
 
-/// How often the disk and the devices failed. A count stands still at its last value.
+/// The number of faults of the disk, and that of the devices. At its last value a count stands still.
 #[derive(Clone, Copy, Debug, PartialEq, Eq)]
 pub struct Faults {
     pub disk: u64,
     pub devices: u64,
 }
 
-/// A moment: the length of the trace, with both counts of faults.
+/// A moment: the length of the trace, and both counts of faults.
 #[derive(Clone, Copy, Debug, PartialEq, Eq)]
 pub struct Moment {
     pub at: usize,

@@ -42,7 +42,7 @@ pub enum Step {
         a: (u64, u64),
         b: (u64, u64),
     },
-    /// A reading of what a device holds failed.
+    /// A reading of a device's state failed.
     Unread {
         device: Name,
     },

@@ -1,4 +1,4 @@
--- What the calls of the disk leave, as the trait says it.
+-- The state behind the calls of the disk, as the trait has it.
 use Rattle.std.proofs.Common.{◌≡◌, inl, inr, ℕ, Bool, true, false, List, [], ◌∷◌, ◌++◌, Option, Some, None, Result, refl, sym, ap, ◌∙◌, subst, if◌then◌else◌}
 use Rattle.std.proofs.lemmas.List.{append-nil}
 use Rattle.plant.specs.DiskCalls.{MayStop, WriteSteps, SyncSteps, CutSteps}

@@ -1,4 +1,4 @@
--- What the table of boot states has after a step more.
+-- The table of boot states after one step more.
 use Rattle.std.proofs.Common.{◌≡◌, ℕ, Bool, true, false, List, Option, Some, None, Result, Ok, Err, refl, sym, ap, ◌∙◌, subst, if◌then◌else◌}
 use Rattle.std.specs.Prelude.{unwrap_or, ⊤}
 use Rattle.std.specs.Str.{bytes_eq}

@@ -1,4 +1,4 @@
--- What the other calls of a plant in memory leave: commands, drills, marks and starts.
+-- The state behind the other calls of a plant in memory: commands, drills, marks and starts.
 use Rattle.std.specs.Prelude.{ℕ, Bool, true, false, List, [], ◌∷◌, ◌++◌, map, length, Option, Some, None, is_some, Result, Err, if◌then◌else◌}
 use Rattle.lab_base.specs.Lists.{listed}
 use Rattle.plant.specs.Disks.{disk}

@@ -1,4 +1,4 @@
--- What the calls of the disk leave.
+-- The state behind the calls of the disk.
 use Rattle.std.specs.Prelude.{ℕ, ◌&&◌, Bool, true, false, List, [], ◌∷◌, ◌++◌, Option, Some, None, Result, Ok, Err, if◌then◌else◌}
 use Rattle.plant.specs.Events.{Event, Missed}
 use Rattle.plant.specs.declared.device.Fault.{Fault}

@@ -1,4 +1,4 @@
--- What a plant in memory knows of its nodes.
+-- The table of boot states of a plant in memory.
 use Rattle.std.specs.Prelude.{◌≡◌, ◌≤◌, ℕ, zero, suc, ◌+◌, max, List, Option, Some, None, is_some, if◌then◌else◌}
 use Rattle.lab_base.specs.declared.boot.Boot.{Boot}
 use Rattle.plant.specs.declared.device.DeviceOp.{DeviceOp}

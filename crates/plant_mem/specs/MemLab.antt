@@ -1,4 +1,4 @@
--- What a plant in memory shows.
+-- A plant in memory, as contracts see it.
 use Rattle.std.specs.Prelude.{ℕ, Bool, List, Some}
 use Rattle.lab_base.specs.declared.boot.Boot.{Boot}
 use Rattle.plant.specs.Sides.{of_side}

@@ -1,4 +1,4 @@
--- What a stop leaves, by its pick.
+-- The bytes that a stop leaves, by its pick.
 use Rattle.std.specs.Prelude.{ℕ, ◌+◌, ◌-◌, ◌/◌, min, max, List, [], ◌∷◌, ◌++◌, length, take, drop, replicate}
 use Rattle.plant.specs.Disks.{Disk}
 use Rattle.plant.specs.declared.drill.Pick.{Pick}

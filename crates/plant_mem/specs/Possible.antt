@@ -1,4 +1,4 @@
--- What the sides of a plant in memory read as is possible.
+-- The bytes that the sides of a plant in memory read as are possible.
 use Rattle.std.proofs.Common.{subst}
 use Rattle.plant.specs.Disks.{Disk, disk, IsImage, ArePossible}
 use Rattle.plant_mem.specs.MemLab.{told_of}

@@ -6,14 +6,14 @@ use lab_base::Memory;
 use plant::Pick;
 use std::alloc::Global;
 
-/// A side of the disk in memory: its bytes as they are durable and as they read.
+/// A side of the disk in memory: its bytes as they are durable, and as they read.
 #[derive(Drop)]
 pub struct Face {
     pub durable: Vec<u8>,
     pub reads: Vec<u8>,
-    /// The ranges written since the last sync, in order, each with its end.
+    /// The ranges written since the last sync, each with its end, in order.
     pub written: Vec<(usize, usize)>,
-    /// So many bytes at the front are durable as they read.
+    /// The number of bytes at the front that are durable as they read.
     pub same: usize,
     ghost within: { same ≤ vec_len reads },
     ghost alike: { take same durable.items ≡ take same reads.items },
@@ -26,7 +26,7 @@ fn least(a: usize, b: usize) -> usize
     std::cmp::min(a, b)
 }
 
-/// Writes over what is there, and past the end.
+/// Writes bytes over those from a place on, and past the end.
 fn put(bytes: &mut Vec<u8>, at: usize, new: &[u8])
     requires at { at ≤ vec_len bytes.old }
     requires room { at + length new.now ≤ vec_capacity bytes.old }
@@ -43,7 +43,7 @@ fn put(bytes: &mut Vec<u8>, at: usize, new: &[u8])
     }
 }
 
-/// Makes the bytes of that range, as far as there are, garbage.
+/// Garbles the bytes of a range, as far as there are any.
 fn garble(bytes: &mut Vec<u8>, from: usize, end: usize)
     ensures garbled { bytes.new.items ≡ garbled bytes.old.items from end }
     ensures len { vec_len bytes.new ≡ vec_len bytes.old }
@@ -55,7 +55,7 @@ fn garble(bytes: &mut Vec<u8>, from: usize, end: usize)
     }
 }
 
-/// Makes the last half of each range garbage.
+/// Garbles the last half of each range.
 fn tear(bytes: &mut Vec<u8>, written: &[(usize, usize)])
     ensures torn { bytes.new.items ≡ torn (reverse written.now) bytes.old.items }
     ensures len { vec_len bytes.new ≡ vec_len bytes.old }
@@ -74,7 +74,7 @@ pub(crate) fn most(a: usize, b: usize) -> usize
     std::cmp::max(a, b)
 }
 
-/// Makes room for `most` bytes, which it doesn't pass, and so many more.
+/// Makes room for `most` bytes and so many more.
 fn make_room(bytes: &mut Vec<u8>, most: usize, more: usize) -> Result<(), Memory>
     requires { vec_len bytes.old ≤ most }
     ensures items { bytes.new.items ≡ bytes.old.items }
@@ -107,7 +107,7 @@ impl Face {
         })
     }
 
-    /// Writes over what is there, and past the end.
+    /// Writes bytes over those from a place on, and past the end.
     pub fn put(&mut self, at: usize, bytes: &[u8])
         requires at { at ≤ vec_len self.old.reads }
         requires room { at + length bytes.now ≤ vec_capacity self.old.reads }
@@ -152,7 +152,7 @@ impl Face {
         self.same = least(self.same, size);
     }
 
-    /// Makes room for so many bytes more than either has, as it is durable and as it reads, and for so many writes more.
+    /// Makes room for so many writes more, and for so many bytes more than the side has as it is durable or as it reads.
     pub fn make_room(&mut self, writes: usize, bytes: usize) -> Result<(), Memory>
         ensures disk { disk_of self.new ≡ disk_of self.old }
         ensures more { OnOk result (HasMore writes bytes self.new) }
@@ -164,7 +164,7 @@ impl Face {
         Ok(())
     }
 
-    /// Leaves of the side what a stop leaves by its pick.
+    /// Leaves the part of the side that a stop leaves by its pick.
     pub fn restore(&mut self, pick: Pick)
         requires reads { vec_len self.old.durable ≤ vec_capacity self.old.reads }
         requires durable { vec_len self.old.reads ≤ vec_capacity self.old.durable }
@@ -181,7 +181,7 @@ impl Face {
         }
     }
 
-    /// Makes the last half of each write since the last sync garbage.
+    /// Garbles the last half of each write since the last sync.
     fn shred(&mut self)
         ensures torn { disk_of self.new ≡ record (disk_of self.old) { reads = torn (reverse self.old.written.items) self.old.reads.items } }
         ensures reads { vec_capacity self.new.reads ≡ vec_capacity self.old.reads }

@@ -5,14 +5,14 @@ ghost use Rattle.plant_mem.specs.Fates.{met, has_effect};
 use crate::stops::{StopPlan, count_disk, count_stop, is_done};
 use plant::Pick;
 
-/// How a call of the disk ends.
+/// The end of a call of the disk.
 #[derive(Clone, Copy)]
 pub enum Fate {
     Done,
     Fails,
-    /// The plant stops at it.
+    /// The plant stops at the call.
     Stops(Pick),
-    /// The plant is stopped already.
+    /// The plant is already stopped.
     Rests,
 }
 
@@ -29,7 +29,7 @@ impl Fate {
     }
 }
 
-/// Counts a call in what waits, and tells how it ends.
+/// Counts a call in the drills that wait, and answers its end.
 pub(crate) fn meet(stop: &mut Option<StopPlan>, plans: &mut Vec<u32>) -> Fate
     ensures met { result ≡ met (stops_next stop.old) (fails_next plans.old.items) }
     ensures stop { stop.new ≡ stop_counted stop.old }

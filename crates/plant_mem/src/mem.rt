@@ -18,28 +18,29 @@ use lab_base::{Memory, Name, VlanId};
 use plant::{Answer, DeviceOp, Fault, Faults, Moment, Pick, Step, Taken};
 use std::alloc::Global;
 
-/// For how many steps there is room from the start.
+/// The number of steps for which there is room from the start.
 pub(crate) const ROOM: usize = 262_144;
 
-/// For how many written bytes there is room from the start, and for how many on each side.
+/// The number of written bytes for which there is room from the start, and the number of bytes of each side.
 pub(crate) const BYTES: usize = 16_777_216;
 
 /// A plant in memory, which tells its trace and takes drills.
 ///
-/// From the start and after each restart it has room for 262,144 steps more, each with an entry of its table of nodes,
-/// for 16 MiB more of written bytes, and on each side for 16 MiB more of it as it reads and as it is durable. So none of
-/// its six calls to the disk and the devices takes memory. At the write, sync, cut or command that would pass the room
-/// it stops, without effect, and a restart then leaves what is durable.
+/// From the start and after each restart it has room for 262,144 steps more, each with an entry of its table of nodes. It has room for 16 MiB more of
+/// written bytes. On each side it has room for 16 MiB more as it reads, and as it is durable. So none of its six calls to the disk and the devices
+/// takes memory.
+///
+/// At the write, sync, cut or command that would pass the room it stops, without effect. A restart then leaves the durable bytes.
 #[derive(Drop)]
 pub struct MemLab {
     pub(crate) past: Past,
     pub(crate) marks: Vec<Moment>,
     pub(crate) taken: Vec<Taken>,
     pub(crate) plans: Vec<Plan>,
-    /// In how many calls of the disk one fails.
+    /// For each planned failure of the disk, in how many calls it comes.
     pub(crate) disk_plans: Vec<u32>,
     pub(crate) stop: Option<StopPlan>,
-    /// By which pick it stopped.
+    /// The pick of the stop.
     pub(crate) pick: Pick,
     pub(crate) faults: Faults,
     pub(crate) stopped: bool,
@@ -114,7 +115,7 @@ impl MemLab {
         }
     }
 
-    /// Stops at a command for which there is room. The command is applied, or not, by the pick.
+    /// Stops at a command for which there is room. The pick tells whether the command is applied.
     pub(crate) fn stop_at(&mut self, op: &DeviceOp, pick: Pick)
         requires { can_command self.old ≡ true }
         ensures held { held_of self.new ≡ stopped_at op.now pick (held_of self.old) }
@@ -126,7 +127,7 @@ impl MemLab {
         self.halt(pick);
     }
 
-    /// A command at which the plant stops, which is applied or not.
+    /// Notes a command at which the plant stops, applied or not.
     fn apply_if(&mut self, applied: bool, op: &DeviceOp, motion: Motion)
         requires { can_command self.old ≡ true }
         ensures held { held_of self.new ≡ record (with_events (effect_if applied (Did op.now true (Err Fault.Stopped))) (held_of self.old)) { state = λ node. state_sent op.now motion applied node (state_of self.old node) } }
@@ -137,7 +138,7 @@ impl MemLab {
         }
     }
 
-    /// Starts again, with what the pick of the stop leaves of each side, and with the rooms of a blank plant.
+    /// Starts again, with the part of each side that the stop's pick leaves, and with the rooms of a blank plant.
     pub(crate) fn start_again(&mut self) -> Result<(), Memory>
         ensures ok { OnOk result (held_of self.new ≡ restarted (held_of self.old)) }
         ensures err { OnErr result (held_of self.new ≡ held_of self.old) }

@@ -63,7 +63,7 @@ impl MemLab {
         self.can_step() && size <= self.face(side).reads.len() as u64
     }
 
-    /// Counts a write, a sync or a cut, and tells how it ends.
+    /// Counts a write, a sync or a cut, and answers its end.
     pub(crate) fn meet(&mut self, has_room: bool) -> Fate
         ensures fate { result ≡ fate has_room (held_of self.old) }
         ensures held { held_of self.new ≡ counted_call has_room (held_of self.old) }
@@ -78,7 +78,7 @@ impl MemLab {
         }
     }
 
-    /// Counts a call that reads, and tells how it ends.
+    /// Counts a call that reads, and answers its end.
     pub(crate) fn meet_read(&mut self) -> Fate
         ensures fate { result ≡ read_fate (can_step self.old) (held_of self.old) }
         ensures held { held_of self.new ≡ counted_read (held_of self.old) }
@@ -95,7 +95,7 @@ impl MemLab {
         }
     }
 
-    /// Ends a call that ends so.
+    /// Ends a call as its fate says.
     pub(crate) fn end<T: Copy>(&mut self, fate: Fate, side: Side, value: T) -> Result<T, Fault>
         requires { fate ≡ Fails → can_step self.old ≡ true }
         ensures answer { result ≡ answered fate value }
@@ -127,7 +127,7 @@ impl MemLab {
         self.pick = pick;
     }
 
-    /// Reads a part of a side, or not.
+    /// Reads a part of a side, where the call is applied.
     pub(crate) fn read_if(&self, applied: bool, side: Side, at: u64, into: &mut [u8])
         requires { at + length into.old ≤ length (disk side (told_of self.now).trace).reads }
         ensures { IsTrue applied → into.new ≡ take (length into.old) (drop at (disk side (told_of self.now).trace).reads) }
@@ -137,7 +137,7 @@ impl MemLab {
         }
     }
 
-    /// A write, which is applied or not.
+    /// Notes a write, applied or not.
     pub(crate) fn write_if(&mut self, applied: bool, side: Side, at: u64, bytes: &[u8])
         requires { IsTrue applied → can_write self.old side at (length bytes.now) ≡ true }
         ensures held { held_of self.new ≡ with_events (effect_if applied (Wrote side at bytes.now)) (held_of self.old) }
@@ -149,7 +149,7 @@ impl MemLab {
         }
     }
 
-    /// A sync, which is applied or not.
+    /// Notes a sync, applied or not.
     pub(crate) fn sync_if(&mut self, applied: bool, side: Side)
         requires { IsTrue applied → can_sync self.old side ≡ true }
         ensures held { held_of self.new ≡ with_events (effect_if applied (Synced side)) (held_of self.old) }
@@ -161,7 +161,7 @@ impl MemLab {
         }
     }
 
-    /// A cut, which is applied or not.
+    /// Notes a cut, applied or not.
     pub(crate) fn cut_if(&mut self, applied: bool, side: Side, size: u64)
         requires { IsTrue applied → can_cut self.old side size ≡ true }
         ensures held { held_of self.new ≡ with_events (effect_if applied (Cut side size)) (held_of self.old) }

@@ -102,7 +102,7 @@ impl Plant for MemLab {
         self.end(fate, side, ())
     }
 
-    /// Leaves of each side what the pick of the stop says. It makes the rooms of a blank plant anew.
+    /// Leaves of each side the part that the stop's pick says, and makes the rooms of a blank plant anew.
     fn restart(&mut self) -> Result<(), Memory>
         ensures ok { OnOk result ((a b : List ℕ) × (Some (told_of self.new) ≡ with_steps (Some (told_of self.old)) (Restarted a b ∷ [])) × ArePossible (told_of self.old).trace a b) }
         ensures goes_on { OnOk result (IsFalse (stopped_of self.new)) }

@@ -3,7 +3,7 @@ ghost use Rattle.plant_mem.specs.Boots.{moved, moved_by};
 
 use lab_base::Boot;
 
-/// How a poll moves the boot state.
+/// The motion of a boot state by a poll.
 #[derive(Clone, Copy)]
 pub enum Motion {
     /// To the next state of a boot.
@@ -26,7 +26,7 @@ fn moved(state: Boot) -> Boot
 }
 
 impl Motion {
-    /// What a poll makes of a boot state.
+    /// The boot state after a poll.
     pub(crate) fn of(self, state: Boot) -> Boot
         ensures { result ≡ moved_by self state }
     {

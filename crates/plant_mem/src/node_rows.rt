@@ -52,7 +52,7 @@ fn pipe_after(node: &Name, pipe: u16, step: &Step, had: bool) -> bool
     }
 }
 
-/// From which number on no pipe is set after a step, where before it that was so from `end` on.
+/// The number from which on no pipe is set after a step, where before it that number was `end`.
 fn end_after(step: &Step, end: u32) -> u32
     ensures end { result ≡ end_after step.now end }
     ensures bound { end ≤ 65536 → result ≤ 65536 }
@@ -100,7 +100,7 @@ impl MemLab {
         count
     }
 
-    /// From which number on no node has a pipe.
+    /// The number from which on no node has a pipe.
     fn pipes_end(&self) -> u32
         ensures free { Free result (world_of (told_of self.now).trace) }
         ensures bound { result ≤ 65536 }
@@ -118,7 +118,7 @@ impl MemLab {
         self.pipes_below(node, self.pipes_end())
     }
 
-    /// What a node holds.
+    /// The state of a node: its OS, its boot state and its pipes.
     pub fn node_row(&self, node: Name) -> NodeRow
         ensures os { result.os ≡ ((world_of (told_of self.now).trace).node node).os }
         ensures pipes { result.pipes ≡ pipe_count ((world_of (told_of self.now).trace).node node).pipes }

@@ -41,14 +41,14 @@ fn add_step(steps: &mut Vec<Step>, step: &Step)
     steps.push_reserved(*step);
 }
 
-/// How many bytes a stop may leave of a side at most.
+/// The most bytes that a stop may leave of a side.
 fn most_of(face: &Face) -> usize
     ensures { (pick : Pick) → length (left_by pick (disk_of face.now)) ≤ result }
 {
     most(face.durable.len(), face.reads.len())
 }
 
-/// Writes on one of both sides.
+/// Writes on that one of both sides.
 fn put_on(a: &mut Face, b: &mut Face, side: Side, at: usize, bytes: &[u8])
     requires at { at ≤ vec_len (of_side side a.old b.old).reads }
     requires room { at + length bytes.now ≤ vec_capacity (of_side side a.old b.old).reads }
@@ -64,7 +64,7 @@ fn put_on(a: &mut Face, b: &mut Face, side: Side, at: usize, bytes: &[u8])
     }
 }
 
-/// Makes one of both sides durable.
+/// Makes that one of both sides durable.
 fn sync_on(a: &mut Face, b: &mut Face, side: Side)
     requires { vec_len (of_side side a.old b.old).reads ≤ vec_capacity (of_side side a.old b.old).durable }
     ensures a { disk_of a.new ≡ on_side (same_side side A) synced (disk_of a.old) }
@@ -78,7 +78,7 @@ fn sync_on(a: &mut Face, b: &mut Face, side: Side)
     }
 }
 
-/// Cuts one of both sides.
+/// Cuts that one of both sides.
 fn shorten_on(a: &mut Face, b: &mut Face, side: Side, size: usize)
     requires { size ≤ vec_len (of_side side a.old b.old).reads }
     ensures a { disk_of a.new ≡ on_side (same_side side A) (λ d. shortened d size) (disk_of a.old) }
@@ -103,7 +103,7 @@ impl Past {
     ghost use Rattle.plant_mem.specs.Steps.{trace_of};
     ghost use Rattle.plant.specs.declared.drill.Pick.{Pick};
 
-    /// No steps, with room for so many steps, each with a node, and so many bytes, and for so many bytes on each side.
+    /// The past of a blank plant, with room for so many steps, each with a node. It has room for so many bytes, and for so many on each side.
     pub fn new(alloc: Global, steps: usize, bytes: usize) -> Result<Past, Memory>
         ensures trace { IfOk result (λ past. trace_of past.bytes.items past.steps.items ≡ []) }
         ensures bytes { IfOk result (λ past. past.bytes.items ≡ []) }
@@ -123,7 +123,7 @@ impl Past {
         })
     }
 
-    /// A command that is applied and answered.
+    /// Notes a command that is applied, and answers it.
     pub fn done(&mut self, op: &DeviceOp, motion: Motion) -> Answer
         requires steps { vec_len self.old.steps < vec_capacity self.old.steps }
         requires nodes { vec_len self.old.nodes < vec_capacity self.old.nodes }
@@ -150,7 +150,7 @@ impl Past {
         answer
     }
 
-    /// A command that fails so, applied or not.
+    /// Notes a command with that fault, applied or not.
     pub fn failed(&mut self, op: &DeviceOp, motion: Motion, applied: bool, fault: Fault)
         requires steps { vec_len self.old.steps < vec_capacity self.old.steps }
         requires nodes { vec_len self.old.nodes < vec_capacity self.old.nodes }
@@ -175,7 +175,7 @@ impl Past {
         );
     }
 
-    /// A call on a side that failed.
+    /// Notes a call on a side that failed.
     pub fn missed(&mut self, side: Side)
         requires { vec_len self.old.steps < vec_capacity self.old.steps }
         ensures trace { trace_of self.new.bytes.items self.new.steps.items ≡ trace_of self.old.bytes.items self.old.steps.items ++ events.Missed side ∷ [] }
@@ -189,7 +189,7 @@ impl Past {
         add_step(&mut self.steps, &Step::Missed { side });
     }
 
-    /// A write, which is applied.
+    /// Notes and applies a write.
     pub fn wrote(&mut self, side: Side, at: usize, bytes: &[u8])
         requires steps { vec_len self.old.steps < vec_capacity self.old.steps }
         requires bytes { vec_len self.old.bytes + length bytes.now ≤ vec_capacity self.old.bytes }
@@ -220,7 +220,7 @@ impl Past {
         );
     }
 
-    /// A sync, which is applied.
+    /// Notes and applies a sync.
     pub fn synced(&mut self, side: Side)
         requires steps { vec_len self.old.steps < vec_capacity self.old.steps }
         requires room { vec_len (of_side side self.old.a self.old.b).reads ≤ vec_capacity (of_side side self.old.a self.old.b).durable }
@@ -236,7 +236,7 @@ impl Past {
         add_step(&mut self.steps, &Step::Synced { side });
     }
 
-    /// A cut, which is applied.
+    /// Notes and applies a cut.
     pub fn cut(&mut self, side: Side, size: usize)
         requires steps { vec_len self.old.steps < vec_capacity self.old.steps }
         requires size { size ≤ vec_len (of_side side self.old.a self.old.b).reads }
@@ -253,7 +253,7 @@ impl Past {
         add_step(&mut self.steps, &Step::Cut { side, length });
     }
 
-    /// Makes room for so many steps, each with a node, and so many bytes more, after a restart that leaves any of both sides.
+    /// Makes room for so many steps more, each with a node, and for so many bytes more. It follows a restart.
     pub fn make_room(&mut self, steps: usize, bytes: usize) -> Result<(), Memory>
         requires { steps < 1000000 }
         ensures trace { trace_of self.new.bytes.items self.new.steps.items ≡ trace_of self.old.bytes.items self.old.steps.items }
@@ -275,7 +275,7 @@ impl Past {
         Ok(())
     }
 
-    /// Starts again, with what a stop leaves by its pick.
+    /// Starts again, with the part of each side that the stop's pick leaves.
     pub fn restarted(&mut self, pick: Pick)
         requires steps { vec_len self.old.steps < vec_capacity self.old.steps }
         requires bytes { (vec_len self.old.bytes + length (left_by pick (disk_of self.old.a))) + length (left_by pick (disk_of self.old.b)) ≤ vec_capacity self.old.bytes }
@@ -306,7 +306,7 @@ impl Past {
         );
     }
 
-    /// How long a side is, as it reads.
+    /// The length of a side, as it reads.
     pub fn length(&self, side: Side) -> usize
         ensures { result ≡ length (disk side (trace_of self.now.bytes.items self.now.steps.items)).reads }
     {

@@ -19,7 +19,7 @@ fn is_wipe(op: &DeviceOp) -> bool
     matches!(op, DeviceOp::Wipe { .. })
 }
 
-/// Whether a command that fails so is applied.
+/// Whether a command with this failure is applied.
 fn is_applying(how: How) -> bool
     ensures { result ≡ is_applying how }
 {
@@ -38,33 +38,33 @@ fn is_jump(how: How) -> bool
     matches!(&how, How::Jump)
 }
 
-/// Whether it waits for a reading, which is no command.
+/// Whether the drill waits for a reading, which is no command.
 fn is_read(how: How) -> bool
     ensures { result ≡ is_read how }
 {
     matches!(&how, How::Read)
 }
 
-/// Whether it waits for a poll, and not for any command.
+/// Whether the drill waits for a poll, and not for any command.
 fn waits_for_poll(how: How) -> bool
     ensures { result ≡ waits_for_poll how }
 {
     is_hang(how) || is_jump(how)
 }
 
-/// A drill of a device that waits, or a hang that lasts.
+/// A device's drill that waits, or a hang that lasts.
 #[derive(Clone, Copy)]
 pub struct Plan {
     pub device: Name,
     pub how: How,
-    /// In how many commands to the device, or polls of it, from 1. It is used up at 0.
+    /// The number of commands to the device, or of its polls, up to the one that fails, from 1. At 0 the plan is used up.
     pub left: u32,
-    /// Whether the node hangs by it.
+    /// Whether the node hangs by this plan.
     pub hangs: bool,
 }
 
 impl Plan {
-    /// Whether the command counts for it.
+    /// Whether the command counts for the plan.
     fn counts(&self, op: &DeviceOp) -> bool
         ensures { result ≡ counts op.now self.now }
     {
@@ -73,35 +73,35 @@ impl Plan {
             && (is_poll(op) || !waits_for_poll(self.how))
     }
 
-    /// Whether the command is the one that it waits for.
+    /// Whether the plan waits for exactly this command.
     fn is_due(&self, op: &DeviceOp) -> bool
         ensures { result ≡ is_due op.now self.now }
     {
         self.counts(op) && self.left == 1
     }
 
-    /// Whether the command fails by it.
+    /// Whether the command fails by the plan.
     fn fails(&self, op: &DeviceOp) -> bool
         ensures { result ≡ fails_by op.now self.now }
     {
         self.is_due(op) && !waits_for_poll(self.how)
     }
 
-    /// Whether the poll jumps by it.
+    /// Whether the poll jumps by the plan.
     fn jumps(&self, op: &DeviceOp) -> bool
         ensures { result ≡ jumps_by op.now self.now }
     {
         self.is_due(op) && is_jump(self.how)
     }
 
-    /// Whether the node begins to hang by it.
+    /// Whether the node begins to hang by the plan.
     fn begins_hang(&self, op: &DeviceOp) -> bool
         ensures { result ≡ begins_hang op.now self.now }
     {
         self.is_due(op) && is_hang(self.how)
     }
 
-    /// Whether the poll hangs by it.
+    /// Whether the poll hangs by the plan.
     fn hangs(&self, op: &DeviceOp) -> bool
         ensures { result ≡ hangs_by op.now self.now }
     {
@@ -120,7 +120,7 @@ impl Plan {
     }
 }
 
-/// What waits by a drill for a command.
+/// The plan that a drill makes for a command; None where it makes none.
 fn plan_of(drill: &Drill) -> Option<Plan>
     ensures { result ≡ plan_of drill.now }
 {
@@ -135,7 +135,7 @@ fn plan_of(drill: &Drill) -> Option<Plan>
     }
 }
 
-/// Adds what a drill plans for a device, where it plans that.
+/// Adds the plan that a drill makes for a device, if it makes one.
 pub(crate) fn add_plan(plans: &mut Vec<Plan>, drill: &Drill)
     requires { vec_len plans.old < vec_capacity plans.old }
     ensures { plans.new.items ≡ plans.old.items ++ listed (plan_of drill.now) }
@@ -151,7 +151,7 @@ fn failing<'a>(plans: &'a [Plan], op: &DeviceOp) -> Option<&'a Plan>
     plans.iter().find(|plan| plan.fails(op))
 }
 
-/// Whether the command is applied, where it fails.
+/// Whether the failing command is applied; None where it doesn't fail.
 pub(crate) fn failure_of(plans: &[Plan], op: &DeviceOp) -> Option<bool>
     ensures { result ≡ firing op.now plans.now }
 {
@@ -173,7 +173,7 @@ fn hangs(plans: &[Plan], op: &DeviceOp) -> bool
     plans.iter().any(|plan| plan.hangs(op))
 }
 
-/// How the command moves the boot state, where it is a poll.
+/// The motion of the boot state by the command, where it is a poll.
 pub(crate) fn motion_of(plans: &[Plan], op: &DeviceOp) -> Motion
     ensures { result ≡ motion_of op.now plans.now }
 {

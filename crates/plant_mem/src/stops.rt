@@ -6,12 +6,12 @@ use plant::{Drill, Pick};
 /// A stop that waits.
 #[derive(Clone, Copy)]
 pub struct StopPlan {
-    /// In how many writes, syncs, cuts and commands, from 1.
+    /// The number of writes, syncs, cuts and commands up to the stop, from 1.
     pub left: u32,
     pub pick: Pick,
 }
 
-/// Whether the call has its effect at which the plant stops so.
+/// Whether the call at which the plant stops has its effect.
 pub(crate) fn is_done(pick: Pick) -> bool
     ensures { result ≡ is_done pick }
 {
@@ -36,7 +36,7 @@ fn count_all(plans: &mut Vec<u32>)
     }
 }
 
-/// Counts a call of the disk in each plan. Tells whether the call fails by one.
+/// Counts a call of the disk in each plan. True where the call fails by one.
 pub(crate) fn count_disk(plans: &mut Vec<u32>) -> bool
     ensures fires { result ≡ fails_next plans.old.items }
     ensures counted { plans.new.items ≡ counted_all plans.old.items }
@@ -46,7 +46,7 @@ pub(crate) fn count_disk(plans: &mut Vec<u32>) -> bool
     fires
 }
 
-/// Counts a call in the stop that waits. Tells the pick where the plant stops at this call.
+/// Counts a call in the stop that waits. Answers the pick where the plant stops at this call.
 pub(crate) fn count_stop(stop: &mut Option<StopPlan>) -> Option<Pick>
     ensures stops { result ≡ stops_next stop.old }
     ensures counted { stop.new ≡ stop_counted stop.old }
@@ -72,7 +72,7 @@ pub(crate) fn add_disk_plan(plans: &mut Vec<u32>, drill: &Drill)
     }
 }
 
-/// Puts the stop that a drill plans in the place of the one that waits.
+/// Sets the stop that a drill plans, in the place of the one that waits.
 pub(crate) fn add_stop(stop: &mut Option<StopPlan>, drill: &Drill)
     ensures { stop.new ≡ stop_planned drill.now stop.old }
 {

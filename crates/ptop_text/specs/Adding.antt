@@ -1,4 +1,4 @@
--- What a line of a ptop text adds to the lab so far, or its fault.
+-- The lab so far with a line of a ptop text added, or the line's fault.
 use Rattle.std.specs.Prelude.{ℕ, true, false, ◌&&◌, ◌||◌, List, [], ◌∷◌, map, position, codes, Option, Some, None, is_some, Result, Ok, Err, if◌then◌else◌}
 use Rattle.lab_base.specs.Texts.{lines_of}
 use Rattle.lab_base.specs.declared.fault.Kind.{Kind}

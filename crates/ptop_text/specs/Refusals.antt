@@ -1,4 +1,4 @@
--- What a line's reader answers for a fault of the builder of labs.
+-- The fault of a line, for a fault of the builder of labs.
 use Rattle.std.specs.Prelude.{ℕ, List}
 use Rattle.line_text.specs.declared.line_fault.LineFault.{LineFault}
 use Rattle.line_text.specs.declared.line_fault.LineFault.TheVariants as line_faults

@@ -11,14 +11,14 @@ use line_text::{has_byte, numbered_weight, pair_in, short_in};
 use phys_lab::Node;
 use std::alloc::Global;
 
-/// What a `node` line defines.
+/// A switch or a node, as a `node` line defines it.
 #[derive(Drop)]
 pub(crate) enum Device {
     Switch(Name),
     Node(Node),
 }
 
-/// What a line gives, or its fault.
+/// The device of a line, or the fault of that line.
 pub(crate) type DeviceRead = Result<Device, Kind>;
 
 fn is_switch_word(word: &[u8]) -> bool
@@ -27,7 +27,7 @@ fn is_switch_word(word: &[u8]) -> bool
     word == b"switch".as_slice()
 }
 
-/// A type by its name alone, which is count 1.
+/// A type by its name alone, with count 1.
 fn bare_type(field: &[u8]) -> Result<(Name, u16), Kind>
     ensures { result ≡ bare_type field.now }
 {
@@ -115,14 +115,14 @@ fn dash_at(fields: &[&[u8]]) -> Option<usize>
     fields.iter().position(|field| *field == b"-".as_slice())
 }
 
-/// Where a field `-` stands alone.
+/// The number of the field that is `-` alone.
 fn dash_in(fields: &[&[u8]]) -> Option<usize>
     ensures { result ≡ dash_in (views fields.now) }
 {
     dash_at(fields)
 }
 
-/// A name, types and features.
+/// A node's name, its types and its features, or the first fault of them.
 type NodeRead = Result<(Name, (Items<(Name, u16)>, Items<(Name, u32)>)), Kind>;
 
 fn as_node(read: NodeRead) -> DeviceRead
@@ -190,7 +190,7 @@ fn as_switch(read: Result<Name, Kind>) -> DeviceRead
     }
 }
 
-/// Reads the fields behind the word `node`.
+/// Reads the fields of a `node` line, behind its keyword.
 pub(crate) fn device_in(alloc: Global, fields: &[&[u8]]) -> Result<DeviceRead, Memory>
     ensures { IfOk result (λ read. read ≡ device_line (views fields.now)) }
 {

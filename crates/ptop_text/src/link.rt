@@ -7,7 +7,7 @@ use lab_base::{Kind, Name, Parts, both, name_in, number_in};
 use line_text::{numbered_short, pair_in, short_in};
 use phys_lab::LabBuilder;
 
-/// What stands behind the colon of a link's first end.
+/// The first end of a link, behind its colon: an interface of a node, or a port of a switch.
 #[derive(Clone, Copy, Drop)]
 pub(crate) enum FirstEnd {
     Port(u16),
@@ -74,7 +74,7 @@ fn link_of(
     both(name_in(link), both(first_field(lab, first), ends))
 }
 
-/// Reads the fields behind the word `link`, over the lab so far.
+/// Reads the fields of a `link` line, behind its keyword, over the lab so far.
 pub(crate) fn link_in(lab: &LabBuilder, fields: &[&[u8]]) -> Result<Link, Kind>
     ensures { result ≡ link_line lab.now (views fields.now) }
 {
@@ -88,7 +88,7 @@ pub(crate) fn link_in(lab: &LabBuilder, fields: &[&[u8]]) -> Result<Link, Kind>
     }
 }
 
-/// Reads the fields behind the word `vlans`.
+/// Reads the fields of a `vlans` line, behind its keyword.
 pub(crate) fn vlans_in(fields: &[&[u8]]) -> Result<(u16, u16), Kind>
     ensures { result ≡ vlans_line (views fields.now) }
 {

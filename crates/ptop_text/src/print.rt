@@ -158,7 +158,7 @@ fn push_trunks(text: &mut Text, lab: &Lab) -> Result<(), Memory>
     Ok(())
 }
 
-/// Prints the canonical text of a lab.
+/// The canonical ptop text of a lab.
 pub fn print_ptop(alloc: Global, lab: &Lab) -> Result<Text, Memory>
     ensures text { IfOk result (λ text. text ≡ canonical lab.now) }
     ensures again { IfOk result (λ text. lab_of_text text ≡ Ok lab.now) }

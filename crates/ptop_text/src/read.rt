@@ -49,7 +49,7 @@ fn add_lines(so_far: &mut LabSoFar, alloc: Global, text: &[u8]) -> Result<(), Te
     Ok(())
 }
 
-/// Reads the lab of a ptop text.
+/// Reads the lab of a ptop text; a refusal has the kind and the line of the first fault.
 pub fn read_ptop(alloc: Global, text: &[u8]) -> Result<Lab, TextRefused>
     requires { length text.now < 4294967295 }
     ensures { Reads result (lab_of_text text.now) }

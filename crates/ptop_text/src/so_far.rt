@@ -54,7 +54,7 @@ fn is_node(lab: &LabBuilder, name: Name) -> bool
     lab.node_named(name).is_some()
 }
 
-/// The kind where an end of a link names no switch or node that may stand there.
+/// The kind of the fault where an end of a link names no switch or node that may stand there.
 fn unknown_kind(lab: &LabBuilder, first: Name, second: Name) -> Kind
     ensures { result ≡ unknown_kind lab.now first second }
 {
@@ -65,7 +65,7 @@ fn unknown_kind(lab: &LabBuilder, first: Name, second: Name) -> Kind
     }
 }
 
-/// What is answered where the builder refuses a part.
+/// The fault of a line whose part the builder refuses.
 fn refusal_of(fault: LabFault) -> LineFault
     ensures { result ≡ refusal_of fault }
 {

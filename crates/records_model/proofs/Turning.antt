@@ -1,4 +1,4 @@
--- What one experiment's move keeps.
+-- A move of one experiment, and the facts that it keeps.
 use Rattle.std.proofs.Common.{◌≡◌, ◌≢◌, inl, ℕ, Bool, true, false, if◌then◌else◌, is_none, Option, Some, None, List, ◌∷◌, ◌++◌, refl, sym, ap, subst}
 use Rattle.std.proofs.lemmas.Bool.{and_parts}
 use Rattle.std.proofs.lemmas.Option.{same_Some}

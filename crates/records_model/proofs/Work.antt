@@ -1,4 +1,4 @@
--- What keeps the controller at work, and its trace sound.
+-- Steps that keep the controller at work, and its trace sound.
 use Rattle.std.proofs.Common.{◌≡◌, ◌+◌, Bool, map, Result, List, [], ◌∷◌, ◌++◌, sym, ◌∙◌, subst}
 use Rattle.lab_base.specs.Lists.{Has, AllDiffer}
 use Rattle.phys_lab.specs.Kept.{IsLab}

@@ -1,4 +1,4 @@
--- What an append adds to a trace, and what the images of a trace stand for.
+-- The steps that an append adds to a trace, and the labs that the images of a trace stand for.
 use Rattle.std.specs.Prelude.{◌≡◌, ℕ, List}
 use Rattle.journal_rec.specs.declared.record.Record.{Record}
 use Rattle.lab_model.specs.Sound.{Standing}

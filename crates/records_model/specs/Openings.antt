@@ -1,4 +1,4 @@
--- What an opening finds, and the states of side A while a new journal is made.
+-- The journal that an opening finds, and the states of side A while a new journal is made.
 use Rattle.std.specs.Prelude.{ℕ, ◌≡◌, List}
 use Rattle.plant.specs.Disks.{at_once, disk}
 use Rattle.plant.specs.Events.{Event}

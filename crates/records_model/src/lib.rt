@@ -1,4 +1,4 @@
-//! The lab that the records of a journal stand for, and what holds of it at every moment.
+//! The lab that the records of a journal stand for, and the facts that hold of it at every moment.
 #![tactic(auto)]
 
 ghost use Rattle.std.specs.Prelude.{ℕ, ◌≡◌, ◌≤◌, ◌+◌, ◌^◌, Bool, List, [], ◌∷◌, ◌++◌, Result};
@@ -26,7 +26,7 @@ ghost use Rattle.records_model.specs.Appends.{StandFor};
 ghost use Rattle.records_model.specs.Openings.{Blanks, Finds};
 ghost use Rattle.records_model.specs.Works.{IsSound, AtWork, HasRoom, MayAppend};
 
-/// The lab of records: one more record is one step more, the lab is one, and what it claims is held.
+/// The lab of records: one record more is one step more, the lab is unique, and its claims are held.
 pub fn lab_of_records()
     ensures pushed { (t : Texts) (s mid end : LabState) (rs : List Record) (r : Record) → FoldsTo t s rs mid → Follows t mid r end
         → FoldsTo t s (rs ++ r ∷ []) end }
@@ -44,7 +44,7 @@ pub fn lab_of_records()
         → HasRoom (rs ++ r ∷ []) u }
 {}
 
-/// An append: the trace stays sound in each part of it, also one that failed or stopped, and the whole is the next lab's.
+/// An append keeps the trace sound in each part of it, also where it failed or stopped. Done whole, it leads to the next lab.
 pub fn appends()
     ensures sound { (t : Texts) (trace : List Event) (side : Side) (rs : List Record) (s u : LabState) (r : Record) → AtWork t trace side rs s
         → MayAppend t trace rs s r u → (run : Run) → IsSound t (trace ++ added side (gate_after rs) r run) }
@@ -53,7 +53,7 @@ pub fn appends()
     ensures missed { (t : Texts) (trace : List Event) (side : Side) → IsSound t trace → IsSound t (trace ++ Missed side ∷ []) }
 {}
 
-/// A device command of one experiment, applied or not, whatever it answers, where that experiment's part stays.
+/// A device command of one experiment, applied or not, with any answer, where that experiment's part stays.
 pub fn commands_sent()
     ensures { (t : Texts) (trace : List Event) (side : Side) (rs : List Record) (s : LabState) (e : Experiment) (op : DeviceOp) (applied : Bool)
         (answer : Result Answer Fault) → AtWork t trace side rs s → Has s.experiments e → IsCommandOf (lab_in s.lab) e op
@@ -61,7 +61,7 @@ pub fn commands_sent()
         → AtWork t (trace ++ Did op applied answer ∷ []) side rs s }
 {}
 
-/// An opening: both syncs leave fewer images and keep the trace sound, and then the live side rests, or there is no journal yet.
+/// An opening: both syncs leave fewer images and keep the trace sound. Then the live side is at rest, or there is no journal yet.
 pub fn openings()
     ensures synced { (t : Texts) (trace : List Event) → IsReadable (disk A trace) → IsReadable (disk B trace) → IsSound t trace
         → IsSound t (trace ++ Synced A ∷ []) × IsSound t ((trace ++ Synced A ∷ []) ++ Synced B ∷ []) }

@@ -18,7 +18,7 @@ use plant::Plant;
 use std::alloc::Global;
 use virt_topo::{Experiment, Phase};
 
-/// How many experiments were settled, and how many move still.
+/// The number of experiments that were settled, and of those that still move.
 #[derive(Clone, Copy, Debug, PartialEq, Eq)]
 pub struct Settled {
     pub done: u32,
@@ -60,7 +60,7 @@ fn due_at(state: &LabState, busy: &[Name], n: u16) -> Option<Name>
     }
 }
 
-/// Counts one more.
+/// The counts with one experiment more.
 fn counted(settled: Settled, one: &One) -> Settled
     requires done { settled.done < 2 ^ 31 }
     requires stuck { settled.stuck < 2 ^ 31 }
@@ -105,10 +105,10 @@ fn settle_next<P: Plant>(
 
 /// Settles all experiments that move, but the busy ones, in order of creation.
 ///
-/// One whose course is cut moves still, and the others go on. A failed call of the journal, a stop, or want of memory between two
-/// breaks it off. After `Plant` and `Stopped` the state is to be dropped.
+/// One whose course is cut still moves, and the others go on. A failed call of the journal, a stop, or want of memory between two of them breaks it
+/// off. After `Plant` and `Stopped` the state is to be dropped.
 ///
-/// Over a plant that is stopped already it answers `Stopped` where an experiment is to be settled, and zero counts where none is.
+/// Over a plant that is already stopped it answers `Stopped` where an experiment is to be settled, and zero counts where none is.
 pub fn settle<P: Plant>(
     alloc: Global,
     state: &mut LabState,

@@ -2,7 +2,7 @@ ghost use Rattle.std.specs.Prelude.{◌≡◌};
 
 use lab_base::Memory;
 
-/// Why a settling broke off.
+/// The reason why a settling broke off.
 #[derive(Clone, Copy, Debug, PartialEq, Eq)]
 pub enum SettleFault {
     /// A call of the journal failed: a last record was not written.

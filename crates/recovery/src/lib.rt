@@ -20,7 +20,7 @@ pub use all::{Settled, settle};
 pub use fault::SettleFault;
 pub use one::{One, settle_one};
 
-/// Where none is stuck, no experiment moves afterwards but the busy ones.
+/// Where none is stuck, no experiment but a busy one moves afterwards.
 pub fn all_rest()
     ensures { (t : Texts) (s : LabState) (busy : List (List ℕ)) (before now : Seen) (j : Journal) (after : LabState) (settled : Counted)
         → Sane s → SettledAll t s busy before now j after settled → settled.stuck ≡ 0 → (e : Experiment) → Has after.experiments e → is_moving e ≡ true

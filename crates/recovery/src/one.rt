@@ -24,14 +24,14 @@ use swap_turns::{Finished, finish};
 use swap_txn::Live;
 use virt_topo::{Mapped, Phase};
 
-/// How the settling of one experiment ended.
+/// The end of one experiment's settling.
 #[derive(Clone, Copy, PartialEq, Eq)]
 pub enum One {
-    /// It is settled, and out.
+    /// The experiment is settled, and out.
     Out,
-    /// It is settled, and in where it was before.
+    /// The experiment is settled, and in as before.
     In,
-    /// Its course was cut by that trouble, and it moves still.
+    /// The course was cut by that trouble, and the experiment still moves.
     Stuck(What),
 }
 
@@ -118,7 +118,7 @@ fn answer(finished: Finished) -> Result<One, SettleFault>
     }
 }
 
-/// Settles one experiment that moves: a swap-out is sent from its beginning, and a swap-in or a change is undone, however far it came.
+/// Settles one experiment that moves. A swap-out is sent from its beginning. A swap-in or a change is undone, however far it came.
 ///
 /// Where memory is wanting, nothing was sent or written yet. After `Plant` and `Stopped` the state is to be dropped.
 pub fn settle_one<P: Plant>(

@@ -1,4 +1,4 @@
--- What cables use of all trunks, one after another.
+-- The uses of all trunks by cables, one after another.
 use Rattle.std.proofs.Common.{◌≡◌, ◌+◌, ◌<◌, ◌∙◌, ℕ, List, Bool, length, take, drop, get_or, true, eqb, All, sym, ap}
 use Rattle.std.specs.Bool.{Decides}
 use Rattle.std.specs.Cmp.Lexicographic.{pointwise}

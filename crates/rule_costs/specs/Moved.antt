@@ -1,4 +1,4 @@
--- What the moved parts of two mappings cost.
+-- The costs of the moved parts of two mappings.
 use Rattle.std.specs.Prelude.{◌≡◌, ◌+◌, ℕ}
 use Rattle.rule_costs.specs.declared.moved.Moved.{Moved}
 

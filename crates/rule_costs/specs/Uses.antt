@@ -1,4 +1,4 @@
--- What cables use of all trunks.
+-- The uses of all trunks by cables.
 use Rattle.std.specs.Prelude.{ℕ, List, length}
 use Rattle.phys_lab.specs.Labs.{Lab}
 use Rattle.phys_lab.specs.Forests.{first_side_of}

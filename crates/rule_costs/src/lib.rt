@@ -1,4 +1,4 @@
-//! What mappings cost by the number of a rule.
+//! The costs of mappings by the number of a rule.
 //!
 //! It stands apart, since a searcher learns costs from the rule alone: no crate of a searcher lists it.
 #![tactic(auto)]
@@ -20,7 +20,7 @@ use phys_lab::Lab;
 pub use step::step_cost;
 use virt_topo::{Mapping, Wiring};
 
-/// What a mapping of these parts costs by the number of a rule.
+/// The cost of a mapping with these parts, by the number of a rule.
 #[tactic(auto, unfolding(cost_rule::specs::Parts::cost_of_parts))]
 pub fn parts_cost(number: RuleNumber, parts: Parts) -> u64
     requires { AreParts parts }
@@ -32,7 +32,7 @@ pub fn parts_cost(number: RuleNumber, parts: Parts) -> u64
     }
 }
 
-/// What a mapping costs by the number of a rule.
+/// The cost of a mapping by the number of a rule.
 pub fn cost_of(number: RuleNumber, lab: &Lab, wiring: &Wiring, mapping: &Mapping) -> u64
     requires sound { IsSound wiring.now }
     requires shaped { IsShaped lab.now wiring.now mapping.now }

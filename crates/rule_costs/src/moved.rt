@@ -1,6 +1,6 @@
 ghost use Rattle.std.specs.Prelude.{◌≡◌};
 
-/// What the moved parts of one mapping cost, and what those of another one cost.
+/// The cost of the moved parts, before in the one mapping and after in the other.
 #[derive(Clone, Copy)]
 pub(crate) struct Moved {
     pub(crate) before: u64,
@@ -8,7 +8,7 @@ pub(crate) struct Moved {
 }
 
 impl Moved {
-    /// Where nothing moved.
+    /// The costs where nothing moved.
     pub(crate) fn nothing() -> Moved
         ensures { result ≡ record { before = 0; after = 0 } }
     {

@@ -11,7 +11,7 @@ use cost_rule::is_on;
 use lab_base::{Name, NodeId};
 use virt_topo::Mapping;
 
-/// Whether a virtual node is the last of the first places on a node that none of the others is on.
+/// Whether a virtual node is the last of the first places on its node, and none of the others is on that node.
 fn is_left(first: &[(NodeId, Name)], others: &[(NodeId, Name)], virt: usize) -> bool
     requires virt { virt < length first.now }
     requires alike { length first.now ≡ length others.now }
@@ -28,7 +28,7 @@ fn is_left(first: &[(NodeId, Name)], others: &[(NodeId, Name)], virt: usize) -> 
     !is_on(place.0, later)
 }
 
-/// How many nodes are in use by the first places, and not by the others: nodes of virtual nodes that moved.
+/// The number of nodes that the first places use, and the others don't. They are nodes of virtual nodes that moved.
 fn nodes_beyond(first: &[(NodeId, Name)], others: &[(NodeId, Name)]) -> u64
     requires alike { length first.now ≡ length others.now }
     ensures number { result ≡ beyond (nodes_of first.now) (nodes_of others.now) }
@@ -41,7 +41,7 @@ fn nodes_beyond(first: &[(NodeId, Name)], others: &[(NodeId, Name)]) -> u64
     nodes
 }
 
-/// How many nodes are in use by one mapping alone, and how many by the other alone.
+/// The number of nodes that only one of two mappings uses, for each of them.
 pub(crate) fn moved_nodes(from: &Mapping, to: &Mapping) -> Moved
     requires alike { length from.now.places ≡ length to.now.places }
     ensures difference { IsDifference (nodes_in_use from.now) (nodes_in_use to.now) result }

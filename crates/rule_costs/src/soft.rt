@@ -1,4 +1,4 @@
-// What the virtual nodes that moved leave of desires and features, and their classes.
+// // The unmet weights of the virtual nodes that moved, and of their classes.
 ghost use Rattle.std.specs.Prelude.{◌≡◌, ◌<◌, ◌≤◌, ◌*◌, ◌↔◌, ℕ, true, false, length};
 ghost use Rattle.virt_topo.specs.Soundness.{IsSound};
 ghost use Rattle.virt_topo.specs.Wirings.{virt_at};
@@ -21,7 +21,7 @@ fn has_moved(from: &Mapping, to: &Mapping, virt: usize) -> bool
     from.places.as_slice()[virt] != to.places.as_slice()[virt]
 }
 
-/// What a virtual node leaves of desires and features at one place and at another one.
+/// The unmet weights of a virtual node at one place and at another one.
 fn moved_node_soft(lab: &Lab, wiring: &Wiring, from: &Mapping, to: &Mapping, virt: usize) -> Moved
     requires sound { IsSound wiring.now }
     requires from { IsShaped lab.now wiring.now from.now }
@@ -40,7 +40,7 @@ fn moved_node_soft(lab: &Lab, wiring: &Wiring, from: &Mapping, to: &Mapping, vir
     }
 }
 
-/// What the virtual nodes that moved leave of desires and features.
+/// The unmet weights of the virtual nodes that moved.
 fn moved_nodes_soft(lab: &Lab, wiring: &Wiring, from: &Mapping, to: &Mapping) -> Moved
     requires sound { IsSound wiring.now }
     requires from { IsShaped lab.now wiring.now from.now }
@@ -83,7 +83,7 @@ fn has_moved_member(wiring: &Wiring, from: &Mapping, to: &Mapping, class: u16) -
     false
 }
 
-/// What a class costs before and after a member moved.
+/// The cost of a class before and after a member moved.
 fn moved_class_soft(wiring: &Wiring, from: &Mapping, to: &Mapping, class: usize) -> Moved
     requires sound { IsSound wiring.now }
     requires from { length from.now.places ≡ length wiring.now.nodes }
@@ -102,7 +102,7 @@ fn moved_class_soft(wiring: &Wiring, from: &Mapping, to: &Mapping, class: usize)
     }
 }
 
-/// What the classes with a member that moved cost.
+/// The costs of the classes with a member that moved.
 fn moved_classes_soft(wiring: &Wiring, from: &Mapping, to: &Mapping) -> Moved
     requires sound { IsSound wiring.now }
     requires from { length from.now.places ≡ length wiring.now.nodes }
@@ -121,7 +121,7 @@ fn moved_classes_soft(wiring: &Wiring, from: &Mapping, to: &Mapping) -> Moved
     Moved { before, after }
 }
 
-/// What is soft of the virtual nodes that moved, and of their classes.
+/// The unmet weights of the virtual nodes that moved, and of their classes.
 pub(crate) fn moved_soft(lab: &Lab, wiring: &Wiring, from: &Mapping, to: &Mapping) -> Moved
     requires sound { IsSound wiring.now }
     requires from { IsShaped lab.now wiring.now from.now }

@@ -1,4 +1,4 @@
-// The cost of a second mapping by what moved.
+// // The cost of a second mapping, from the parts that moved.
 ghost use Rattle.std.specs.Prelude.{◌≡◌, ◌≤◌, ◌*◌};
 ghost use Rattle.virt_topo.specs.Soundness.{IsSound};
 ghost use Rattle.lab_model.specs.Shapes.{IsShaped};
@@ -13,7 +13,7 @@ use cost_rule::RuleNumber;
 use phys_lab::Lab;
 use virt_topo::{Mapping, Wiring};
 
-/// What moved of two mappings costs by the number of a rule.
+/// The cost of the parts that moved, by the number of a rule.
 fn moved_cost(number: RuleNumber, lab: &Lab, wiring: &Wiring, from: &Mapping, to: &Mapping) -> Moved
     requires sound { IsSound wiring.now }
     requires from { IsShaped lab.now wiring.now from.now }
@@ -42,8 +42,8 @@ fn moved_cost(number: RuleNumber, lab: &Lab, wiring: &Wiring, from: &Mapping, to
     }
 }
 
-/// What a mapping costs by the number of a rule, told what another one costs: counted are the segments with another plug,
-/// the virtual nodes at another place, with their nodes and classes, and nothing else.
+/// The cost of a mapping by the number of a rule, given that of another one.
+/// It counts the segments with another plug, and the virtual nodes at another place with their nodes and classes, and nothing else.
 pub fn step_cost(
     number: RuleNumber,
     lab: &Lab,

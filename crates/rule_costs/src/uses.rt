@@ -1,4 +1,4 @@
-// What the segments with a moved plug use of the trunks.
+// // The uses of trunks by the segments with a moved plug.
 ghost use Rattle.std.specs.Prelude.{◌≡◌, ◌<◌, ◌≤◌, ◌*◌, length, All};
 ghost use Rattle.virt_topo.specs.Cables.{plugs_on, cable_use};
 ghost use Rattle.virt_topo.specs.Soundness.{IsSound};
@@ -12,7 +12,7 @@ use lab_base::{IfaceId, TrunkId};
 use phys_lab::Lab;
 use virt_topo::{Mapping, Segment, Wiring};
 
-/// How many plugs are on a side.
+/// The number of plugs on a side.
 fn plugs_on(side: &[bool], plugs: &[IfaceId]) -> usize
     requires { All (λ i. i.0 < length side.now) plugs.now }
     ensures is { result ≡ plugs_on side.now plugs.now }
@@ -21,7 +21,7 @@ fn plugs_on(side: &[bool], plugs: &[IfaceId]) -> usize
     plugs.iter().filter(|plug| side[plug.0 as usize]).count()
 }
 
-/// What a segment with these plugs uses of the cut that parts a side from the rest.
+/// The kbps that a segment with these plugs uses of the cut between a side and the rest.
 fn segment_use(side: &[bool], segment: &Segment, plugs: &[IfaceId]) -> u64
     requires within { All (λ i. i.0 < length side.now) plugs.now }
     requires few { length plugs.now ≤ 256 }
@@ -33,7 +33,7 @@ fn segment_use(side: &[bool], segment: &Segment, plugs: &[IfaceId]) -> u64
     on_side.min(plugs.len() - on_side) as u64 * segment.kbps
 }
 
-/// What a segment with these plugs uses of all trunks.
+/// The kbps that a segment with these plugs uses of all trunks.
 fn segment_uses(lab: &Lab, segment: &Segment, plugs: &[IfaceId]) -> u64
     requires in_lab { All (λ i. i.0 < length lab.now.ifaces) plugs.now }
     requires few { length plugs.now ≤ 256 }
@@ -49,7 +49,7 @@ fn segment_uses(lab: &Lab, segment: &Segment, plugs: &[IfaceId]) -> u64
     total
 }
 
-/// What a segment uses of all trunks with one list of plugs and with another one, where they differ.
+/// The kbps that a segment uses of all trunks with either list of plugs; nothing where the lists are equal.
 fn moved_segment(lab: &Lab, segment: &Segment, old: &[IfaceId], new: &[IfaceId]) -> Moved
     requires old { All (λ i. i.0 < length lab.now.ifaces) old.now }
     requires new { All (λ i. i.0 < length lab.now.ifaces) new.now }
@@ -69,7 +69,7 @@ fn moved_segment(lab: &Lab, segment: &Segment, old: &[IfaceId], new: &[IfaceId])
     }
 }
 
-/// What the segments use of all trunks of which an end has another plug.
+/// The kbps that the segments with a moved plug use of all trunks.
 pub(crate) fn moved_uses(lab: &Lab, wiring: &Wiring, from: &Mapping, to: &Mapping) -> Moved
     requires sound { IsSound wiring.now }
     requires from { IsShaped lab.now wiring.now from.now }

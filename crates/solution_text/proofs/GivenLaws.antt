@@ -1,4 +1,4 @@
--- What a solution text gives names something of the lab, line after line.
+-- The places and plugs of a solution text, line after line, are of the lab.
 use Rattle.std.proofs.Common.{◌≡◌, ℕ, zero, suc, ◌+◌, ◌<◌, Bool, true, false, cond, List, [], ◌∷◌, length, map, All, Option, Some, None, Result, Ok, Err, refl, sym, ap, subst, ◌∙◌, arith}
 use Rattle.std.specs.Prelude.{IfOk, IfSome, option_map, replicate, codes}
 use Rattle.std.proofs.lemmas.List.{length-set, length-map, length-replicate}

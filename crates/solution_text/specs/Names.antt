@@ -1,4 +1,4 @@
--- What the names of a solution text are looked up in.
+-- The names of a solution text, and their numbers.
 use Rattle.std.specs.Prelude.{◌≡◌, ◌==◌, ◌&&◌, ℕ, Bool, List}
 use Rattle.lab_base.specs.Names.{same_name}
 use Rattle.indexmap.specs.IndexMap.{get}

@@ -1,4 +1,4 @@
--- What a line of a solution text gives, and the mapping of a whole text.
+-- The place or plug of a line, and the mapping of a whole solution text.
 use Rattle.std.specs.Prelude.{◌+◌, ℕ, Bool, false, ◌==◌, ◌&&◌, List, [], ◌∷◌, length, position, codes, replicate, slice_index_or, slice_set, Option, Some, None, is_some, option_map, Result, Ok, Err, if◌then◌else◌}
 use Rattle.lab_base.specs.Texts.{lines_of}
 use Rattle.lab_base.specs.Parts.{name_of}

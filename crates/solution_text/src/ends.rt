@@ -18,7 +18,7 @@ fn push_nodes(listed: &mut Items<usize>, ends: &[VirtEnd]) -> Result<(), Memory>
     Ok(())
 }
 
-/// The virtual node of each end.
+/// By end, its virtual node.
 pub(crate) fn end_nodes(alloc: Global, segments: &[Segment]) -> Result<Items<usize>, Memory>
     ensures { IfOk result (λ listed. listed ≡ end_nodes segments.now) }
 {
@@ -29,7 +29,7 @@ pub(crate) fn end_nodes(alloc: Global, segments: &[Segment]) -> Result<Items<usi
     Ok(listed)
 }
 
-/// How many ends a virtual node has so far.
+/// The number of ends that a virtual node has so far.
 fn counted(counts: &IndexMap<usize, usize>, node: usize) -> usize
     ensures { result ≡ unwrap_or (get nat_eq counts.now node) 0 }
 {
@@ -52,7 +52,7 @@ fn keys_of(alloc: Global, nodes: &[usize]) -> Result<Items<(usize, usize)>, Memo
     Ok(keys)
 }
 
-/// By end its virtual node, and how many earlier ends that one has.
+/// By end, its virtual node, and the number of earlier ends that this one has.
 pub(crate) fn end_keys(alloc: Global, segments: &[Segment]) -> Result<Items<(usize, usize)>, Memory>
     ensures { IfOk result (λ keys. keys ≡ end_keys [] (end_nodes segments.now)) }
 {

@@ -1,4 +1,4 @@
-// What the lines of a solution text give.
+// // The places and plugs that the lines of a solution text give.
 ghost use Rattle.std.specs.Prelude.{◌≡◌, ◌<◌, is_some, slice_index_or, replicate, length, None, IfSome, IfOk};
 ghost use Rattle.line_text.specs.Refusals.{Takes};
 ghost use Rattle.lab_model.specs.Shapes.{has_name};
@@ -10,14 +10,14 @@ use phys_lab::Lab;
 use std::alloc::Global;
 use std::mem::replace;
 
-/// By virtual node the place, and by end the plug, that a line gave.
+/// By virtual node its place, and by end its plug, where a line gave it.
 #[derive(Drop)]
 pub(crate) struct Given {
     pub(crate) places: Items<Option<(NodeId, Name)>>,
     pub(crate) plugs: Items<Option<IfaceId>>,
 }
 
-/// Entries that no line gave yet.
+/// A list of so many entries, none of which a line gave yet.
 pub(crate) fn none_given<T: Drop>(alloc: Global, count: usize) -> Result<Items<Option<T>>, Memory>
     ensures { IfOk result (λ entries. entries ≡ replicate count None) }
 {
@@ -28,7 +28,7 @@ pub(crate) fn none_given<T: Drop>(alloc: Global, count: usize) -> Result<Items<O
     Ok(entries)
 }
 
-/// The entries, if each one is given.
+/// The entries, where each one is given; else None.
 pub(crate) fn all_given<T: Copy + Drop>(
     alloc: Global,
     entries: &[Option<T>],
@@ -133,7 +133,7 @@ impl Given {
         }
     }
 
-    /// Adds the place of a virtual node, which is on a node of the lab.
+    /// Adds the place of a virtual node, which is on a node of the lab; `twice` where it has one.
     pub(crate) fn add_place(
         &mut self,
         alloc: Global,
@@ -170,7 +170,7 @@ impl Given {
         }
     }
 
-    /// Adds the plug of an end.
+    /// Adds the plug of an end; `twice` where it has one.
     pub(crate) fn add_plug(
         &mut self,
         alloc: Global,

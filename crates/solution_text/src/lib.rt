@@ -1,4 +1,4 @@
-//! Mappings as solution text.
+//! Mappings as solution text: reading one, with the first fault and its line, and printing the canonical one.
 #![tactic(auto)]
 
 mod ends;

@@ -1,4 +1,4 @@
-// What the names of a solution text are looked up in.
+// // Tables of the names in a solution text.
 ghost use Rattle.std.specs.Prelude.{◌≡◌, ◌<◌, ℕ, List, map, position, length, None, IfOk, IfSome};
 ghost use Rattle.lab_base.specs.Names.{same_name};
 ghost use Rattle.indexmap.specs.IndexMap.{get};
@@ -15,20 +15,20 @@ use std::alloc::Global;
 use std::hash::Hash;
 use virt_topo::{VirtNode, Wiring};
 
-/// A lab and a wiring, with the numbers of what has a name there.
+/// A lab and a wiring, with tables of the numbers of their named parts.
 #[derive(Drop)]
 pub(crate) struct Names<'a> {
     pub(crate) lab: &'a Lab,
     pub(crate) wiring: &'a Wiring,
     pub(crate) virts: IndexMap<Name, usize>,
-    /// By virtual node, and how many earlier ends of it there are.
+    /// By virtual node and number among its ends, the number of an end.
     pub(crate) ends: IndexMap<(usize, usize), usize>,
     pub(crate) nodes: IndexMap<Name, usize>,
-    /// By node and name on it.
+    /// By node and name on it, the number of an interface.
     pub(crate) ifaces: IndexMap<(usize, Name), usize>,
 }
 
-/// By key the number of the first one that equals it.
+/// By key, the number of the first item with that key.
 fn numbered<K: Copy + Eq + Hash + Drop>(
     alloc: Global,
     keys: &[K],
@@ -100,7 +100,7 @@ fn iface_table(alloc: Global, lab: &Lab) -> Result<IndexMap<(usize, Name), usize
     numbered(alloc, names.as_slice())
 }
 
-/// The names of a lab and a wiring.
+/// The tables of a lab and a wiring.
 pub(crate) fn names_of<'a>(
     alloc: Global,
     lab: &'a Lab,

@@ -149,7 +149,7 @@ pub fn print_solution(
     Ok(text)
 }
 
-/// The key of the end of that number.
+/// The virtual node of the end of that number, and the end's number there.
 fn key_at(keys: &[(usize, usize)], end: u16) -> (usize, usize)
     ensures { result ≡ slice_index_or keys.now end (0, 0) }
 {
@@ -159,8 +159,7 @@ fn key_at(keys: &[(usize, usize)], end: u16) -> (usize, usize)
     }
 }
 
-/// The name of an end, `V:K`: its virtual node, and its number among the ends of that one. `end` is its number among all
-/// ends.
+/// The name of an end, `V:K`: its virtual node, and its number among the ends of that one. `end` is its number among all ends.
 pub fn print_end(alloc: Global, wiring: &Wiring, end: u16) -> Result<Text, Memory>
     ensures { IfOk result (λ text. text ≡ end_name wiring.now (slice_index_or (end_keys [] (end_nodes wiring.now.segments)) end (0, 0))) }
 {

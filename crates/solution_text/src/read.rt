@@ -97,7 +97,7 @@ fn add_line(
     add(given, alloc, names, &fields)
 }
 
-/// Adds the lines of a text; the answer is the number behind its last line.
+/// Adds the lines of a text. Answers the number behind its last line.
 fn add_lines(
     given: &mut Given,
     alloc: Global,
@@ -139,7 +139,7 @@ fn missing_at(line: u32) -> TextRefused
     })
 }
 
-/// The mapping of what is given; `line` is the number behind the text's last line.
+/// The mapping of the given places and plugs, if none is missing. `line` is the number behind the text's last line.
 fn mapping_of(alloc: Global, line: u32, given: &Given) -> Result<Mapping, TextRefused>
     ensures { Reads result (mapped line (all_given given.now.places) (all_given given.now.plugs)) }
 {
@@ -152,7 +152,7 @@ fn mapping_of(alloc: Global, line: u32, given: &Given) -> Result<Mapping, TextRe
     }
 }
 
-/// Reads the mapping of a solution text, with the names of its lab and wiring.
+/// Reads the mapping of a solution text, with the tables of its lab and wiring.
 fn read_named(alloc: Global, names: &Names<'_>, text: &[u8]) -> Result<Mapping, TextRefused>
     requires short { length text.now < 4294967295 }
     requires names { AreNames names.now }
@@ -163,7 +163,7 @@ fn read_named(alloc: Global, names: &Names<'_>, text: &[u8]) -> Result<Mapping, 
     mapping_of(alloc, line, &given)
 }
 
-/// Reads the mapping of a solution text.
+/// Reads the mapping of a solution text for a lab and a wiring; a refusal has the kind and the line of the first fault.
 pub fn read_solution(
     alloc: Global,
     text: &[u8],

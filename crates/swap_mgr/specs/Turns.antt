@@ -1,4 +1,4 @@
--- What a turn of one state leaves and tells.
+-- The outcome of one turn of a state.
 use Rattle.std.specs.Prelude.{◌≡◌, Option, Some, None}
 use Rattle.plant.specs.Told.{Told}
 use Rattle.journal_disk.specs.declared.journal.Journal.{Journal}

@@ -5,27 +5,27 @@ use swap_txn::Ended;
 #[derive(Clone, Copy, PartialEq, Eq)]
 pub struct NotOpen;
 
-/// What a turn led to.
+/// The outcome of a turn.
 #[derive(Clone, Copy, PartialEq, Eq)]
 pub enum Progress {
-    /// The swap is open still.
+    /// The swap is still open.
     More,
-    /// The trouble that began its undo.
+    /// The swap met that trouble, and its undo begins.
     Trouble(What),
-    /// Its last record is durable.
+    /// The swap has ended: its last record is durable.
     Ended(Ended),
-    /// It moves still, and is open no longer; or a call of the journal failed.
+    /// The experiment still moves, and its swap is closed; or a call of the journal failed.
     Stuck(What),
     /// The plant stopped.
     Stopped,
 }
 
-/// Why a swap was not opened.
+/// The reason why a swap was not opened.
 #[derive(Clone, Copy, PartialEq, Eq)]
 pub enum OpenSwap {
     /// The experiment has an open swap.
     Busy(Name),
-    /// That many are open.
+    /// So many swaps are open that there is no room for another.
     TooManyOpen(u16),
     /// Begin could not be written.
     Stuck(What),

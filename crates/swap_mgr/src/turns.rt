@@ -1,4 +1,4 @@
-// What a turn of one state leaves and tells.
+// // The outcome of one turn of an open swap.
 ghost use Rattle.std.specs.Prelude.{◌≡◌, ◌↔◌, IsTrue, IfSome};
 ghost use Rattle.journal_disk.specs.Standing.{limit_of};
 ghost use Rattle.swap_txn.specs.Facts.{exp_of};
@@ -11,7 +11,7 @@ use plant::Plant;
 use swap_turns::Finished;
 use swap_txn::{Live, Turned};
 
-/// The state that is open after a turn, and what the turn led to.
+/// The swap as it is open after a turn, and the outcome for its caller.
 #[derive(Drop)]
 pub(crate) struct Turn {
     pub next: Option<Live>,
@@ -68,7 +68,7 @@ pub(crate) fn one_turn<P: Plant>(live: Live, journal: &mut Journal, plant: &mut 
     turn_of(live.turn(journal, plant))
 }
 
-/// What a swap that was turned to its end led to.
+/// The outcome of a swap that was turned to its end.
 pub(crate) fn progress_of(finished: Finished) -> Progress
     ensures is { IsEndOf finished result }
     ensures stopped { IsStop result ↔ IsStopEnd finished }

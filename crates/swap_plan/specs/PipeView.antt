@@ -1,4 +1,4 @@
--- What contracts see of a pipe of a node.
+-- A node's pipe, as contracts see it.
 use Rattle.plant.specs.Worlds.{PipeRow}
 use Rattle.swap_plan.specs.declared.nodes.NodePipe.TheInside.{Inside}
 

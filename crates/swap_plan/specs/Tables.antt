@@ -1,4 +1,4 @@
--- What a mapping wants, in tables by node of the lab.
+-- Tables of the OS and pipes that a mapping wants, by node of the lab.
 use Rattle.std.specs.Prelude.{◌≡◌, map}
 use Rattle.phys_lab.specs.Labs.{Lab}
 use Rattle.virt_topo.specs.declared.wiring.Wiring.{Wiring}

@@ -37,7 +37,7 @@ fn same_pipe(lab: &Lab, old: &Mapped, new: &Mapped, one: &Pipe, other: &Pipe) ->
         && one.back == other.back
 }
 
-/// Whether these pipes are the same, one by one.
+/// Whether these pipes are equal, one by one.
 fn same_pipes(lab: &Lab, old: &Mapped, new: &Mapped, ones: &[Pipe], others: &[Pipe]) -> bool
     requires old_fit { IsFit lab.now old.now }
     requires new_fit { IsFit lab.now new.now }
@@ -65,7 +65,7 @@ fn same_os(one: Option<Name>, other: Option<Name>) -> bool
     }
 }
 
-/// Two mappings, with the table of each.
+/// A change between two mappings, with the node table of each.
 #[derive(Clone, Copy)]
 struct Change<'a> {
     lab: &'a Lab,
@@ -75,14 +75,14 @@ struct Change<'a> {
     after: &'a NodeTable,
 }
 
-/// By node of the lab the OS that is wanted of one that isn't kept.
+/// By node of the lab, the OS that the change sends for it; None where the node is kept, or has none.
 #[derive(Drop)]
 struct Fresh {
-    /// By the old mapping.
+    /// The OS under the old mapping.
     leaving: Vec<Option<Name>>,
-    /// By the new one.
+    /// The OS under the new mapping.
     coming: Vec<Option<Name>>,
-    /// By either, first the old one.
+    /// The OS under the old mapping, else under the new one.
     wiped: Vec<Option<Name>>,
 }
 
@@ -100,21 +100,21 @@ fn is_kept(change: &Change, node: usize) -> bool
     same_pipes(change.lab, change.old, change.new, ones, others)
 }
 
-/// The OS of a node that isn't kept.
+/// The OS of a node; None where the node is kept.
 fn fresh_os(kept: bool, os: Option<Name>) -> Option<Name>
     ensures { result ≡ (if kept then None else os) }
 {
     if kept { None } else { os }
 }
 
-/// The first OS that there is, of a node that isn't kept.
+/// The first OS that there is of the two; None where the node is kept.
 fn wiped_os(kept: bool, one: Option<Name>, other: Option<Name>) -> Option<Name>
     ensures { result ≡ (if kept then None else option_or one other) }
 {
     fresh_os(kept, if one.is_some() { one } else { other })
 }
 
-/// What is wanted of a node that isn't kept.
+/// One node's entries of `Fresh`.
 #[derive(Clone, Copy)]
 struct FreshNode {
     leaving: Option<Name>,
@@ -171,7 +171,7 @@ fn fresh_nodes(alloc: Global, change: &Change) -> Result<Fresh, Memory>
     Ok(fresh)
 }
 
-/// The commands that clear these rows and nodes away, and then build a mapping on those.
+/// The commands that clear these rows and nodes away, and then build a mapping on them.
 fn changing(
     alloc: Global,
     lab: &Lab,

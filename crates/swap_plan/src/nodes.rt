@@ -1,4 +1,4 @@
-// What a mapping wants of a node.
+// // The rows of nodes that a mapping wants.
 ghost use Rattle.std.specs.Prelude.{◌≡◌, ◌<◌, ◌++◌, All, length, IfOk, OnOk, Some, None, if◌then◌else◌};
 ghost use Rattle.std.specs.List.{filter_map};
 ghost use Rattle.std.specs.Str.{bytes_eq};
@@ -15,7 +15,7 @@ use std::alloc::Global;
 use std::marker::Model;
 use virt_topo::{Mapping, Pipe, VirtNode, Wiring};
 
-/// A pipe between two interfaces of a node, which are named as on that node, with its rates in both directions.
+/// A pipe between two interfaces of a node, by their names there, with its rates in both directions.
 #[derive(Drop)]
 pub struct NodePipe {
     pub from: Name,
@@ -33,10 +33,10 @@ impl Model for NodePipe {
     ghost view = { pipe_of };
 }
 
-/// A node as a mapping wants it, to be up where an OS is wanted of it.
+/// A node as a mapping wants it: with an OS it has to be up.
 #[derive(Drop)]
 pub struct NodeWants {
-    /// The OS of the first virtual node on it; None where it has none.
+    /// The OS of the first virtual node on it; None where no virtual node is on it.
     pub os: Option<Name>,
     /// Its pipes, numbered from 0 in wiring order.
     pub pipes: Vec<NodePipe>,
@@ -116,7 +116,7 @@ fn push_pipes(
     }
 }
 
-/// The OS and the pipes that a mapping wants of a node of the lab.
+/// The OS and the pipes that a mapping wants on a node of the lab.
 pub fn node_row_of(
     alloc: Global,
     lab: &Lab,

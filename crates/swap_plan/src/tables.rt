@@ -1,4 +1,4 @@
-// What a mapping wants of nodes, by the lab's numbers of these.
+// // The OS and pipes that a mapping wants, by the number of the node in its lab.
 ghost use Rattle.std.specs.Prelude.{◌≡◌, ◌<◌, ◌++◌, ◌∷◌, [], length, map, replicate, slice_index_or, slice_set, Some, IfOk, OnOk};
 ghost use Rattle.virt_topo.specs.Soundness.{IsSound};
 ghost use Rattle.virt_topo.specs.Wirings.{virt_at};
@@ -14,12 +14,12 @@ use phys_lab::Lab;
 use std::alloc::Global;
 use virt_topo::{Mapping, Pipe, Wiring};
 
-/// What a mapping wants, by node of the lab.
+/// The OS and the pipes that a mapping wants, by node of the lab.
 #[derive(Drop)]
 pub(crate) struct NodeTable {
-    /// The OS of the first virtual node that is placed on it.
+    /// The OS of the first virtual node that is placed on the node.
     pub(crate) oses: Vec<Option<Name>>,
-    /// The pipes on it, in wiring order.
+    /// The pipes on the node, in wiring order.
     pub(crate) pipes: Vec<Items<Pipe>>,
 }
 
@@ -34,7 +34,7 @@ fn set_os(oses: &mut Vec<Option<Name>>, wiring: &Wiring, mapping: &Mapping, virt
     oses[node.0 as usize] = Some(wiring.nodes.as_slice()[virt].os);
 }
 
-/// The OS of each node, which the first of its virtual nodes sets last.
+/// The OS of each node. The first of its virtual nodes sets it last.
 pub(crate) fn oses_of(
     alloc: Global,
     lab: &Lab,

@@ -1,4 +1,4 @@
--- What the steps of turns leave of other experiments in the world.
+-- The steps of turns leave the parts of other experiments in the world.
 use Rattle.std.proofs.Common.{◌≡◌, ◌≢◌, inl, inr, Bool, true, false, fold, List, [], ◌∷◌, ◌++◌, append_assoc, Option, Some, Result, Err, refl, sym, ap, ◌∙◌, subst}
 use Rattle.lab_base.specs.Lists.{Has}
 use Rattle.lab_base.proofs.Members.{Has-append, Has-map, Has-right, none_has}

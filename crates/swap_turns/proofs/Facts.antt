@@ -1,4 +1,4 @@
--- What a typed state knows, where its swap is open.
+-- The facts that a typed state keeps, where its swap is open.
 use Rattle.std.proofs.Common.{ℕ, ◌≡◌, Bool, false, Option, Some, None, IsSome, IfSome, refl, sym, ◌∙◌, subst}
 use Rattle.std.proofs.lemmas.Option.{same_Some}
 use Rattle.lab_base.specs.Lists.{AllDiffer}

@@ -1,4 +1,4 @@
--- What counts of faults say.
+-- Causes by counts of faults.
 use Rattle.std.specs.Prelude.{◌≤◌}
 use Rattle.lab_base.specs.Counts.{Rose}
 use Rattle.lab_model.specs.Courses.{Trouble, Device, Late, Unlawful}

@@ -1,4 +1,4 @@
--- What is left where the controller is closed: by a call of the journal that failed, or by a stop of the plant.
+-- The state of the plant where the controller closes: after a call of the journal that failed, or a stop of the plant.
 use Rattle.std.specs.Prelude.{ℕ, List, ◌++◌, Option, IfSome}
 use Rattle.plant.specs.Disks.{ArePossible}
 use Rattle.plant.specs.Events.{Event}

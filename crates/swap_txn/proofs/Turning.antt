@@ -1,4 +1,4 @@
--- What a command and a record make of a swap.
+-- A command and a record, and the swap behind each.
 use Rattle.std.proofs.Common.{◌≡◌, Bool, true, false, cond, List, [], ◌∷◌, Option, Some, None, Result, Ok, Err, refl, sym, ap, ◌∙◌, subst, arith}
 use Rattle.std.proofs.lemmas.Bool.Decides.{nat_tests}
 use Rattle.lab_base.specs.declared.what.What.{What}

@@ -1,4 +1,4 @@
--- What a state of a swap knows of a trace. It is kept by the turns of other experiments.
+-- The facts that a state of a swap keeps of a trace. The turns of other experiments keep them.
 use Rattle.std.specs.Prelude.{ℕ, ◌≡◌, List, [], length, take, Option, Some, None, IfSome}
 use Rattle.phys_lab.specs.Labs.{Lab}
 use Rattle.virt_topo.specs.declared.experiment.Experiment.{Experiment}

@@ -1,4 +1,4 @@
--- What a command makes of a swap with work left.
+-- A command of a swap with work left, and the swap behind it.
 use Rattle.std.specs.Prelude.{◌≡◌, Option, Some, None}
 use Rattle.lab_base.specs.declared.what.What.{What}
 use Rattle.swap_txn.specs.declared.went.Went.{Went}

@@ -1,4 +1,4 @@
--- What contracts see of the states of a swap.
+-- The states of a swap, as contracts see them.
 use Rattle.std.specs.Prelude.{ℕ, Bool, ◌+◌, nat_lt, true, false, if◌then◌else◌, List, [], length, Option, Some, None, is_some}
 use Rattle.lab_base.specs.declared.what.What.{What}
 use Rattle.journal_rec.specs.declared.record.Record.{Record}

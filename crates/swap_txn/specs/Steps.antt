@@ -1,4 +1,4 @@
--- What one turn does outside: a command or a record.
+-- The effect of one turn outside: a command or a record.
 use Rattle.std.specs.Prelude.{◌≡◌, ◌↔◌, ◌≤◌, ◌+◌, ℕ, List, [], ◌∷◌, ◌++◌, Option, Some, Result, Err, IsErrOf, IsTrue, IfSome, OnOk, OnErr}
 use Rattle.lab_base.specs.Counts.{Rose}
 use Rattle.plant.specs.Events.{Event}

@@ -1,4 +1,4 @@
--- What the turns of a swap's states do.
+-- The turns of a swap's states.
 use Rattle.std.specs.Prelude.{ℕ, ◌≡◌, ◌≤◌, ◌+◌, Bool, true, false, if◌then◌else◌, List, Option, Some, None, IsSome, Result, Ok, Err}
 use Rattle.lab_base.specs.declared.what.What.{What}
 use Rattle.lab_base.specs.declared.what.What.TheVariants.{Journal as OfJournal}

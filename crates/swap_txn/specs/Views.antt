@@ -1,4 +1,4 @@
--- What contracts see of a course that is sent, and of what holds it.
+-- A course on its way, and the values that have it, as contracts see them.
 use Rattle.std.specs.Prelude.{◌≡◌, ◌<◌, ◌++◌, ℕ, Bool, true, false, List, [], drop, length, Option, Some, None, Result, Ok, Err}
 use Rattle.plant.specs.declared.device.DeviceOp.{DeviceOp}
 use Rattle.plant.specs.declared.device.Answer.{Answer}

@@ -1,4 +1,4 @@
--- What contracts see of a swap with work left, and of its way back.
+-- A swap with work left, and its way back, as contracts see them.
 use Rattle.std.specs.Prelude.{ℕ, List, Option, Some, None}
 use Rattle.journal_rec.specs.declared.record.Record.TheVariants.{Abort}
 use Rattle.journal_rec.specs.Payloads.{IsBody}

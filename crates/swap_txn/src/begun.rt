@@ -5,7 +5,7 @@ use journal_disk::Journal;
 use plant::Plant;
 use std::marker::Model;
 
-/// Begin is durable, and no command was sent.
+/// The state of a swap whose Begin is durable, before its first command.
 #[derive(Drop)]
 pub struct Begun {
     pub(crate) work: Work,
@@ -28,7 +28,7 @@ impl Begun {
     ghost use Rattle.swap_txn.specs.Steps.{Stands};
     ghost use Rattle.swap_txn.specs.Turns.{Turns, Fits, held, IsStopped, IfStanding};
 
-    /// Sends the first command of the first list that has one; where none has, appends Commit.
+    /// Sends the first command of the first list that has one. Where none has, it appends Commit.
     pub fn turn<P: Plant>(self, journal: &mut Journal, plant: &mut P) -> Turned<Self>
         requires stands { Stands (P.seen plant.old).told journal.old }
         requires fits { Fits (Live.Begun self) journal.old }

@@ -5,7 +5,7 @@ use journal_disk::Journal;
 use plant::Plant;
 use std::marker::Model;
 
-/// Nodes are booted, and polled until they are up, one after another.
+/// The state in which nodes are booted and polled until they are up, one after another.
 #[derive(Drop)]
 pub struct Booting {
     pub(crate) work: Work,

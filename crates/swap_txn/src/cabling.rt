@@ -5,7 +5,7 @@ use journal_disk::Journal;
 use plant::Plant;
 use std::marker::Model;
 
-/// Rows are joined.
+/// The state in which rows are joined.
 #[derive(Drop)]
 pub struct Cabling {
     pub(crate) work: Work,

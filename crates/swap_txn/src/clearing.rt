@@ -5,7 +5,7 @@ use journal_disk::Journal;
 use plant::Plant;
 use std::marker::Model;
 
-/// Rows are left and nodes are wiped.
+/// The state in which rows are left and nodes are wiped.
 #[derive(Drop)]
 pub struct Clearing {
     pub(crate) work: Work,

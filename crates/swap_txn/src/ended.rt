@@ -6,7 +6,7 @@ pub struct Ended {
     pub exp: Name,
     /// Whether the experiment is in the lab now.
     pub inside: bool,
-    /// Whether its last record was Commit, and else Abort.
+    /// Whether its last record is Commit; else it is Abort.
     pub committed: bool,
     /// The trouble that began the undo, where there was one.
     pub why: Option<What>,

@@ -1,6 +1,6 @@
 use lab_base::What;
 
-/// Why a command or a record was not acknowledged.
+/// The reason why a command or a record was not acknowledged.
 #[derive(Clone, Copy, PartialEq, Eq)]
 pub(crate) enum Halt {
     Trouble(What),

@@ -49,7 +49,7 @@ pub(crate) fn begin_and_commit(
     Ok((begin, commit))
 }
 
-/// The way back of a move, which a move out has not.
+/// The way back of a move; a swap-out has none.
 pub(crate) fn way_back(
     alloc: Global,
     exp: Name,

@@ -1,4 +1,4 @@
-// What states know, kept by others.
+// // Laws on the facts that the states of a swap keep.
 ghost use Rattle.std.specs.Prelude.{◌≢◌, ◌++◌, [], ◌∷◌, ℕ, List, length, Bool, Result, IfSome};
 ghost use Rattle.lab_base.specs.Lists.{Has};
 ghost use Rattle.phys_lab.specs.Labs.{Lab};
@@ -19,8 +19,9 @@ ghost use Rattle.plant.specs.Seen.{Seen};
 ghost use Rattle.swap_txn.specs.Turns.{Turns, Begins};
 ghost use Rattle.swap_txn.specs.Facts.{IsUnderWay, Knows, IsOf};
 
-/// What a state knows of its experiment holds of a course of which nothing was sent, over every trace, and is kept by the commands and
-/// by the turns of each other experiment, none of whose rows and nodes are its own where the lab holds what is mapped on it.
+/// The facts of an open swap hold, over every trace, where nothing of its course was sent.
+/// They are kept by the commands and turns of each other experiment. None of the other's rows and nodes are its own, where the lab holds all that is
+/// mapped on it.
 pub fn facts_alone()
     ensures starts { (lab : Lab) (e : Experiment) (plan : Plan) (trace : List Event) → IsUnderWay lab e (length trace) plan (whole plan) trace }
     ensures commands { (lab : Lab) (es : List Experiment) → IsLab lab → Holding lab es → (e f : Experiment) → Has es e → Has es f → e ≢ f

@@ -9,7 +9,7 @@ use plant::Plant;
 use std::alloc::Global;
 use swap_plan::Ops;
 
-/// A swap whose Begin is durable, in the state in which it is.
+/// A swap whose Begin is durable, in its present state.
 #[derive(Drop)]
 pub enum Live {
     Begun(Begun),
@@ -32,7 +32,7 @@ impl Live {
     ghost use Rattle.swap_txn.specs.Steps.{Stands, live_of};
     ghost use Rattle.swap_txn.specs.Turns.{Turns, Fits, HasWork, IsStopped, IfStanding, begun_again};
 
-    /// The experiment. The record that ends its swap makes the journal at most 39 bytes longer.
+    /// The experiment of the swap. The last record of a swap makes the journal at most 39 bytes longer.
     pub fn exp(&self) -> Name
         ensures exp { result ≡ exp_of self.now }
         ensures room { (j : AnyJournal) → length_of j + 39 ≤ limit_of j → Fits self.now j }
@@ -59,8 +59,8 @@ impl Live {
         }
     }
 
-    /// A swap whose Begin is durable already: a swap-out where `out`, which goes on from its beginning, and else a swap-in or a
-    /// change, whose undo begins.
+    /// A swap whose Begin is durable already, as it is begun again. A swap-out, where `out`, goes on from its beginning. A swap-in or a change begins
+    /// its undo.
     pub fn again(alloc: Global, exp: Name, ops: Ops, out: bool) -> Result<Live, Memory>
         ensures live { IfOk result (λ live. live ≡ begun_again exp ops.commands ops.undo ops.inside out) }
         ensures facts { IfOk result (λ live. (trace : List Event) → StartsAt trace live) }
@@ -103,7 +103,7 @@ impl Live {
         Ok(work.live())
     }
 
-    /// One turn of the state that it is in. A swap that ended stays as it is.
+    /// Makes one turn of the present state. A swap that ended stays as it is.
     pub fn turn<P: Plant>(self, journal: &mut Journal, plant: &mut P) -> Turned<Live>
         requires stands { Stands (P.seen plant.old).told journal.old }
         requires fits { Fits self journal.old }

@@ -5,7 +5,7 @@ use journal_disk::Journal;
 use plant::Plant;
 use std::marker::Model;
 
-/// Nodes are loaded and their pipes are set.
+/// The state in which nodes are loaded and their pipes are set.
 #[derive(Drop)]
 pub struct Loading {
     pub(crate) work: Work,

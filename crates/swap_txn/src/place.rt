@@ -7,7 +7,7 @@ use lab_base::Name;
 use plant::DeviceOp;
 use swap_plan::Commands;
 
-/// The first stage in which something is to be done, behind the listed commands.
+/// The first stage with a command behind the listed ones.
 fn from_boot(commands: &Commands) -> Stage
     ensures { IsPlace commands.now [] result 0 }
 {
@@ -38,7 +38,7 @@ fn from_cable(commands: &Commands) -> Stage
     }
 }
 
-/// The first stage in which something is to be done.
+/// The first stage with a command.
 pub(crate) fn from_clear(commands: &Commands) -> Stage
     ensures { IsPlace commands.now (commands.now.clear ++ commands.now.cable ++ commands.now.load) result 0 }
 {
@@ -49,7 +49,7 @@ pub(crate) fn from_clear(commands: &Commands) -> Stage
     }
 }
 
-/// How many commands a stage lists.
+/// The number of commands that a stage lists.
 fn count(commands: &Commands, stage: Stage) -> usize
     ensures { result ≡ count_of commands.now stage }
 {
@@ -61,7 +61,7 @@ fn count(commands: &Commands, stage: Stage) -> usize
     }
 }
 
-/// The first stage behind a list in which something is to be done.
+/// The first later stage with a command.
 fn behind(commands: &Commands, stage: Stage) -> Stage
     requires { 0 < count_of commands.now stage }
     ensures { IsPlace commands.now (rest commands.now stage (count_of commands.now stage)) result 0 }
@@ -108,7 +108,7 @@ pub(crate) fn node_at(commands: &Commands, at: usize) -> (Name, usize)
     (commands.boot.as_slice()[at], at + 1)
 }
 
-/// Where nothing is listed, whether a node is left to boot.
+/// The stage behind the lists: booting, where a node is left to boot, and else the end.
 pub(crate) fn from_node(commands: &Commands, at: usize) -> Stage
     ensures left { left_of commands.now result at None ≡ record { todo = []; boot = drop at commands.now.boot; watch = None } }
     ensures place { IsAt commands.now result at None }

@@ -13,7 +13,7 @@ use std::alloc::Global;
 use std::marker::Model;
 use swap_plan::Ops;
 
-/// A swap that isn't begun.
+/// A swap before its Begin.
 #[derive(Drop)]
 pub struct Planned {
     /// The record Begin.

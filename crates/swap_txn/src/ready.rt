@@ -5,7 +5,7 @@ use journal_disk::Journal;
 use plant::Plant;
 use std::marker::Model;
 
-/// All commands were acknowledged.
+/// The state in which all commands are acknowledged, and Commit is still to be appended.
 #[derive(Drop)]
 pub struct Ready {
     pub(crate) work: Work,

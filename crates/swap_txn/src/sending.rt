@@ -1,4 +1,4 @@
-// A course as it is sent: its place, and one step of it.
+// // A course on its way: its place, and one step of it.
 use crate::halt::Halt;
 use crate::place::{after, from_clear, from_node, listed, node_at};
 use crate::sent::send;
@@ -9,12 +9,12 @@ use plant::{DeviceOp, Plant};
 use std::marker::Model;
 use swap_plan::Commands;
 
-/// A course that is being sent. Contracts see all its commands and what is left of them.
+/// A course on its way. Contracts see all its commands, and those that are left.
 #[derive(Drop)]
 pub(crate) struct Sending {
     commands: Commands,
     stage: Stage,
-    /// How many items of the stage's list were sent.
+    /// The number of items of the stage's list that were sent.
     at: usize,
     watched: Option<Watched>,
 }
@@ -38,7 +38,7 @@ impl Sending {
     ghost use Rattle.swap_txn.specs.Steps.{Sends};
     ghost use Rattle.swap_txn.specs.Troubles.{StepBy};
 
-    /// The course of these commands, of which nothing was sent.
+    /// The course of these commands, before the first one.
     pub(crate) fn new(commands: Commands) -> Sending
         ensures plan { result.plan ≡ commands }
         ensures left { result.left ≡ whole commands }
@@ -90,7 +90,7 @@ impl Sending {
         Ok(())
     }
 
-    /// Boots the next node, which is watched from then on.
+    /// Boots the next node, and watches it from then on.
     fn send_boot<P: Plant>(&mut self, plant: &mut P) -> Result<(), Halt>
         requires boots { stage_of self.old.plan self.old.left ≡ Booting }
         requires unwatched { self.old.left.watch ≡ None }

@@ -12,7 +12,7 @@ use crate::went::Went;
 use crate::work::Work;
 use crate::{Begun, Booting, Cabling, Clearing, Live, Loading, Ready, Turned, Undoing, Undone};
 
-/// A state that is one of those of a swap: a name for the work that is left.
+/// A state of a swap: a name for the work that is left.
 pub(crate) trait State {
     ghost held: { Self → AnyState };
 
@@ -211,7 +211,7 @@ pub(crate) fn any<S: State>(turned: Turned<S>) -> Turned<Live>
     }
 }
 
-/// Work that goes on: under this name, or under that of the first later state with work left.
+/// The answer for work that goes on. The state keeps its name, or takes that of the first later state with work left.
 fn on<S: State>(work: Work) -> Turned<S>
     ensures { held S.held result ≡ turned_by S.named (wents.On work) }
 {
@@ -222,7 +222,7 @@ fn on<S: State>(work: Work) -> Turned<S>
     }
 }
 
-/// What a turn made of a swap, as the answer of a state of this name.
+/// The answer of a state of this name, for the outcome of a turn.
 pub(crate) fn turned<S: State>(went: Went) -> Turned<S>
     requires { IfStuck went S.Suits }
     ensures { held S.held result ≡ turned_by S.named went }

@@ -5,7 +5,7 @@ use journal_disk::Journal;
 use plant::Plant;
 use std::marker::Model;
 
-/// The undo is sent.
+/// The state in which the undo is sent.
 #[derive(Drop)]
 pub struct Undoing {
     pub(crate) work: Work,
@@ -28,7 +28,7 @@ impl Undoing {
     ghost use Rattle.swap_txn.specs.Steps.{Stands};
     ghost use Rattle.swap_txn.specs.Turns.{Turns, Fits, held, IsStopped, IfStanding};
 
-    /// Sends one command of the undo; where it has none, appends Abort.
+    /// Sends one command of the undo. Where it has none, it appends Abort.
     pub fn turn<P: Plant>(self, journal: &mut Journal, plant: &mut P) -> Turned<Self>
         requires stands { Stands (P.seen plant.old).told journal.old }
         requires fits { Fits (Live.Undoing self) journal.old }

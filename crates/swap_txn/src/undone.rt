@@ -5,7 +5,7 @@ use journal_disk::Journal;
 use plant::Plant;
 use std::marker::Model;
 
-/// All commands of the undo were acknowledged.
+/// The state in which all commands of the undo are acknowledged, and Abort is still to be appended.
 #[derive(Drop)]
 pub struct Undone {
     pub(crate) work: Work,

@@ -10,7 +10,7 @@ use journal_rec::Encoded;
 use lab_base::{Name, What};
 use swap_plan::Commands;
 
-/// The way back of a swap.
+/// The way back of a swap: its undo, and the record Abort.
 #[derive(Drop)]
 pub(crate) struct WayBack {
     pub(crate) commands: Commands,
@@ -21,7 +21,7 @@ pub(crate) struct WayBack {
 }
 
 impl WayBack {
-    /// The undo of that experiment from its beginning, after that trouble.
+    /// The undo of that experiment from its beginning, behind that trouble.
     pub(crate) fn undoing(self, exp: Name, what: &What) -> Undoing
         requires { IsBody self.abort (records.Abort exp) }
         ensures { result ≡ undone exp (record { plan = self.commands; inside = self.inside }) what.now }

@@ -2,7 +2,7 @@ use crate::work::Work;
 use crate::{Ended, Undoing};
 use lab_base::What;
 
-/// What a turn made of a swap with work left.
+/// The outcome of a turn of a swap with work left.
 #[derive(Drop)]
 pub(crate) enum Went {
     /// A command was acknowledged.

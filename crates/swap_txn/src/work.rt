@@ -16,9 +16,9 @@ use std::marker::Model;
 pub(crate) struct Work {
     pub(crate) exp: Name,
     pub(crate) sending: Sending,
-    /// The record that ends it.
+    /// The record that ends the swap.
     pub(crate) last: Encoded,
-    /// Whether that is Commit, or else Abort.
+    /// Whether that record is Commit; else it is Abort.
     pub(crate) commit: bool,
     /// Whether the experiment is in the lab afterwards.
     pub(crate) inside: bool,
@@ -98,7 +98,7 @@ impl Work {
         }
     }
 
-    /// The state that it is in, by what is left.
+    /// The state of the swap, by the work that is left.
     pub(crate) fn live(self) -> Live
         ensures { result ≡ state_of self }
     {
@@ -151,7 +151,7 @@ impl Work {
         }
     }
 
-    /// Sends the next command; where none is left, appends the last record.
+    /// Sends the next command. Where none is left, it appends the last record.
     pub(crate) fn turn<P: Plant>(self, journal: &mut Journal, plant: &mut P) -> Went
         requires stands { Stands (P.seen plant.old).told journal.old }
         requires fits { self.left ≡ nothing_left → HasRoom journal.old (last_of self) }

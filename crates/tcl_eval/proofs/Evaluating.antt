@@ -1,4 +1,4 @@
--- What comes next in each job of an evaluation.
+-- The next step of each job of an evaluation.
 use Rattle.std.proofs.Common.{◌≡◌, ◌≢◌, ℕ, ◌+◌, ◌-◌, ◌<◌, Bool, true, false, arith, List, [], ◌∷◌, ◌++◌, Option, Some, None, Result, Ok, Err, length, drop, take, refl, ap, ℤ, pos, neg_ℤ}
 use Rattle.std.specs.Prelude.{slice_range, if◌then◌else◌}
 use Rattle.std.specs.Fmt.{signed_decimal}

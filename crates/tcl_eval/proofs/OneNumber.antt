@@ -1,4 +1,4 @@
--- What numbers make is one.
+-- Each operation on numbers has one result.
 use Rattle.std.proofs.Common.{◌≡◌, ◌≢◌, ℕ, ◌-◌, ◌⊎◌, inl, inr, Bool, true, false, List, Result, Ok, Err, subst, ℤ, pos, negsuc, ◌+ℤ◌, ◌-ℤ◌, ◌*ℤ◌, ◌<ℤ◌, ◌≤ℤ◌, arith, sym, ◌∙◌, ap, refl, zero, suc, unsigned_abs}
 use Rattle.std.specs.Prelude.{MatchBool}
 use Rattle.std.proofs.lemmas.Int.{ints, by_lt_z}

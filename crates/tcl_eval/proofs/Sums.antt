@@ -1,4 +1,4 @@
--- What `incr` adds.
+-- The sums of `incr`.
 use Rattle.std.proofs.Common.{◌≡◌, ℕ, ℤ, List, Result, Ok, Err, refl, subst}
 use Rattle.lab_base.specs.declared.fault.Kind.{Kind}
 use Rattle.tcl_eval.specs.Numbers.{number_of}

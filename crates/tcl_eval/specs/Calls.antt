@@ -1,4 +1,4 @@
--- What a host's answers say, by the functions of its calls.
+-- The answers of a host, by the functions of its calls.
 use Rattle.std.specs.Prelude.{◌≡◌, ℕ, List, Result, Ok, Err}
 use Rattle.lab_base.specs.declared.fault.Kind.{Kind}
 use Rattle.tcl_eval.specs.declared.hosts.Called.{Called}

@@ -1,4 +1,4 @@
--- What the faults of splitting make of an evaluation.
+-- Faults of splitting, as the ends of an evaluation.
 use Rattle.lab_base.specs.declared.fault.TextRefused.{TextRefused}
 use Rattle.lab_base.specs.declared.fault.TextRefused.TheVariants as refused
 use Rattle.tcl_words.specs.declared.flaw.Broken.{Broken}

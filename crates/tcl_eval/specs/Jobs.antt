@@ -1,4 +1,4 @@
--- What is evaluated, and what comes of it.
+-- The jobs of an evaluation, and their results.
 use Rattle.std.specs.Prelude.{ℕ, ℤ, Bool, List, Result, Ok, Err}
 use Rattle.lab_base.specs.declared.fault.Kind.{Kind}
 use Rattle.tcl_words.specs.declared.word.Part.{Part}

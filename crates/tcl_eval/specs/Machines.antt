@@ -1,4 +1,4 @@
--- What contracts see of a machine, and how its jobs end there.
+-- A machine as contracts see it, and the ends of its jobs.
 use Rattle.std.specs.Prelude.{ℕ, List, Result}
 use Rattle.lab_base.specs.declared.fault.Kind.{Kind}
 use Rattle.tcl_eval.specs.declared.hosts.Called.{Called}

@@ -1,4 +1,4 @@
--- What contracts see of an interpreter.
+-- An interpreter as contracts see it.
 use Rattle.std.specs.Prelude.{ℕ, List, Option}
 use Rattle.lab_base.specs.declared.fault.TextRefused.{TextRefused}
 

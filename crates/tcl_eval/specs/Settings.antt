@@ -1,4 +1,4 @@
--- What commands compute of the values of variables.
+-- The values that commands compute from those of variables.
 use Rattle.std.specs.Prelude.{◌≡◌, ℕ, ℤ, pos, ◌+ℤ◌, List, [], ◌∷◌, ◌++◌, Result, Ok, Err}
 use Rattle.lab_base.specs.declared.fault.Kind.{Kind}
 use Rattle.tcl_eval.specs.Numbers.{number_of, IsValue}

@@ -1,4 +1,4 @@
--- What keeps the interpreter's limits.
+-- The limits of the interpreter.
 use Rattle.std.specs.Prelude.{ℕ, ◌<◌, ◌≤◌, List, [], length, All, option_map, slice_index_or}
 use Rattle.std.specs.Option.{ForSome}
 use Rattle.tcl_eval.specs.Forms.{Branching}

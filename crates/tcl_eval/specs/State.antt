@@ -1,4 +1,4 @@
--- What a script changes: its variables, the host's objects, and how much it may still do.
+-- The state that a script changes: its variables, the host's objects, and the rest of its budget.
 use Rattle.std.specs.Prelude.{ℕ, ◌-◌, List, [], Option, None, Some, Result, Ok, Err, nat_eq, unwrap_or}
 use Rattle.std.specs.Map.{lookup}
 use Rattle.std.specs.Cmp.Lexicographic.{pointwise}

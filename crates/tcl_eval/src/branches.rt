@@ -8,14 +8,14 @@ ghost use Rattle.tcl_eval.specs.Short.{BranchLies, branching_of};
 use lab_base::{Memory, Text};
 use std::alloc::Global;
 
-/// A branch of an `if`: the places of its condition, if it has one, and its body among the words.
+/// A branch of an `if`: the place of its condition among the words, if it has one, and that of its body.
 #[derive(Clone, Copy, Drop)]
 pub struct Branch {
     pub condition: Option<usize>,
     pub body: usize,
 }
 
-/// A word is this text.
+/// Whether a word is this text.
 fn is_word(word: &Text, text: &[u8]) -> bool
     ensures { result ≡ is_text word.now text.now }
 {
@@ -73,7 +73,7 @@ fn branch_at(words: &[Text], at: usize) -> Option<Branch>
     }
 }
 
-/// The branches of an `if`, or none where it isn't of the form.
+/// The branches of an `if`, in order; None where the words aren't of its form.
 pub fn branches(alloc: Global, words: &[Text]) -> Result<Option<Vec<Branch>>, Memory>
     ensures branches { IfOk result (λ found. option_map (λ v. map (branching_of words.now) v.items) found ≡ branches_of words.now) }
     ensures lie { IfOk result (λ found. ForSome found (λ v. All (BranchLies (length words.now)) v.items)) }

@@ -18,7 +18,7 @@ pub enum Own {
     Foreach,
 }
 
-/// The command of this name.
+/// The own command of that name, if there is one.
 fn named_command(name: &[u8]) -> Option<Own>
     ensures { result ≡ own_of name.now }
 {
@@ -43,7 +43,7 @@ fn named_command(name: &[u8]) -> Option<Own>
     }
 }
 
-/// The command that these words begin with.
+/// The own command that these words begin with, if there is one.
 pub fn own_command(words: &[Text]) -> Option<Own>
     ensures { result ≡ own words.now }
 {

@@ -27,7 +27,7 @@ impl<H: Host> Machine<H> {
     ghost use Rattle.tcl_eval.specs.Machines.{Ended, seen};
     ghost use Rattle.tcl_eval.specs.Jobs.{Value, ValueAt, Truth, Integer, IntegerAt, Whole, Nested, One, Parts, Named, Call, Condition, Expression, Pass, Tier, Operand};
 
-    /// The result of a script: that of its last command.
+    /// Runs a script. The result is that of its last command.
     #[cycle(eval)]
     fn script(&mut self, text: &[u8], levels: u32, line: u32) -> Result<Text, Halt>
         requires short { length text.now < 2 ^ 32 - 1 }
@@ -42,7 +42,7 @@ impl<H: Host> Machine<H> {
         Ok(value)
     }
 
-    /// The result of a script one level deeper.
+    /// Runs a script one level deeper.
     #[cycle(eval)]
     fn nested(&mut self, text: &[u8], levels: u32, line: u32) -> Result<Text, Halt>
         requires short { length text.now < 2 ^ 32 - 1 }
@@ -53,7 +53,7 @@ impl<H: Host> Machine<H> {
         self.script(text, levels, line)
     }
 
-    /// The result of a command.
+    /// Runs a command, and gives its result.
     #[cycle(eval)]
     pub fn command(
         &mut self,
@@ -79,7 +79,7 @@ impl<H: Host> Machine<H> {
         short(value)
     }
 
-    /// The text of parts.
+    /// The text of parts, with their variables and scripts substituted.
     #[cycle(eval)]
     fn substitute(
         &mut self,
@@ -145,7 +145,7 @@ impl<H: Host> Machine<H> {
         Ok((self.read(&name)?, found.end))
     }
 
-    /// The result of words.
+    /// Runs the command of these words, and gives its result.
     #[cycle(eval)]
     fn invoke(&mut self, words: &[Text], levels: u32, line: u32) -> Result<Text, Halt>
         requires words { AllShort words.now }
@@ -266,7 +266,7 @@ impl<H: Host> Machine<H> {
         Ok(holds(value))
     }
 
-    /// The value of an expression. One that is malformed is refused before anything in it is evaluated.
+    /// The value of an expression. A malformed one is refused before anything in it is evaluated.
     #[cycle(eval)]
     fn expression(&mut self, text: &[u8], levels: u32, line: u32) -> Result<i64, Halt>
         requires short { length text.now ≤ 65536 }
@@ -277,7 +277,7 @@ impl<H: Host> Machine<H> {
         self.whole(text, levels, line, true)
     }
 
-    /// The value of a text that is one expression.
+    /// The value of a text that is one expression. Where it isn't live nothing is evaluated, and the value is 0.
     #[cycle(eval)]
     fn whole(&mut self, text: &[u8], levels: u32, line: u32, live: bool) -> Result<i64, Halt>
         requires short { length text.now ≤ 65536 }
@@ -291,8 +291,8 @@ impl<H: Host> Machine<H> {
         Ok(value)
     }
 
-    /// The value of operands joined by operators of this tier and tighter ones, and the place behind
-    /// them. Where it isn't live nothing is evaluated, and the value is 0.
+    /// The value of operands joined by operators of this tier and tighter ones, and the place behind them. Where it isn't live nothing is evaluated,
+    /// and the value is 0.
     #[cycle(eval)]
     fn tier(
         &mut self,
@@ -325,7 +325,7 @@ impl<H: Host> Machine<H> {
         Ok((left, at))
     }
 
-    /// The value of the operand that begins here, and the place behind it.
+    /// The value of the operand at a place, and the place behind it.
     #[cycle(eval)]
     fn operand(
         &mut self,
@@ -352,7 +352,7 @@ impl<H: Host> Machine<H> {
         }
     }
 
-    /// The value of the operand behind a `!`: 1 where that is 0, else 0.
+    /// The value of `!` and its operand: 1 where the operand is 0, else 0.
     #[cycle(eval)]
     fn not_operand(
         &mut self,
@@ -374,7 +374,7 @@ impl<H: Host> Machine<H> {
         Ok((alive(turned(value), live), end))
     }
 
-    /// The negative of the operand behind a `-`.
+    /// The value of `-` and its operand.
     #[cycle(eval)]
     fn minus_operand(
         &mut self,
@@ -422,7 +422,7 @@ impl<H: Host> Machine<H> {
         Ok((value, end + 1))
     }
 
-    /// The number that a variable has.
+    /// The number that a variable holds.
     #[cycle(eval)]
     fn dollar_operand(
         &mut self,
@@ -449,7 +449,7 @@ impl<H: Host> Machine<H> {
         }
     }
 
-    /// The number that the script in a bracket gives.
+    /// The number that the script in a bracket results in.
     #[cycle(eval)]
     fn bracket_operand(
         &mut self,

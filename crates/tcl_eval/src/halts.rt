@@ -1,10 +1,10 @@
-//! Why an evaluation ends early.
+//! The reasons why an evaluation ends early.
 
 use lab_base::{Kind, Memory, TextRefused};
 use std::alloc::{AllocError, AllocFailed};
 use tcl_words::Broken;
 
-/// Why an evaluation ends early.
+/// The reason why an evaluation ends early.
 #[derive(Clone, Copy, PartialEq, Eq, Debug, Drop)]
 pub enum Halt {
     Fault(Kind),

@@ -1,4 +1,4 @@
-//! What a script speaks to.
+//! Hosts of scripts.
 
 ghost use Rattle.std.specs.Prelude.{ℕ, List, Result};
 ghost use Rattle.lab_base.specs.declared.fault.Kind.{Kind};
@@ -7,10 +7,10 @@ ghost use Rattle.tcl_eval.specs.Calls.{AnswersBy, HearsBy};
 
 use lab_base::{Kind, Text};
 
-/// An answer of a host.
+/// The answer of a host to a command.
 #[derive(Drop)]
 pub enum Called {
-    /// It knows no such command.
+    /// The host knows no such command.
     NotMine,
     /// The result of the command.
     Value(Text),
@@ -18,33 +18,33 @@ pub enum Called {
     Stop,
 }
 
-/// Why a host gives no answer.
+/// The reason why a host gives no answer.
 #[derive(Clone, Copy, PartialEq, Eq, Debug, Drop)]
 pub enum HostFault {
     Kind(Kind),
     Memory,
 }
 
-/// What a script speaks to. It has objects, which are plain data, and each call is a function of them.
+/// A host of scripts: it obeys the commands that aren't the interpreter's own, and hears of new values of variables.
+/// It has objects, which are plain data, and each call is a function of them.
 pub trait Host {
-    /// Its objects, as plain data.
+    /// The objects of the host, as plain data.
     type Objects;
 
-    /// The objects that it has.
+    /// The present objects of the host.
     ghost objects: { Self → Self.Objects };
 
-    /// What it answers on a line to the words of a command, and its objects afterwards.
+    /// The answer on a line to the words of a command, and the objects afterwards.
     ghost calls: { ℕ → Self.Objects → List (List ℕ) → Result Called Kind × Self.Objects };
 
-    /// What it answers to a variable's new value, and its objects afterwards.
+    /// The answer to a variable's new value, and the objects afterwards.
     ghost hears: { Self.Objects → List ℕ → List ℕ → Result (Unit {0}) Kind × Self.Objects };
 
-    /// Obeys a command that isn't the interpreter's own. The line is that of the command of the whole text that is
-    /// under way.
+    /// Obeys a command that isn't the interpreter's own. `line` is that of the present command at the top level.
     fn call(&mut self, words: &[Text], line: u32) -> Result<Called, HostFault>
         ensures { AnswersBy (calls line) (objects self.old) words.now result (objects self.new) };
 
-    /// Is told that `set` gave a variable a value.
+    /// Hears that `set` gave a variable a value.
     fn assigned(&mut self, name: &Text, value: &Text) -> Result<(), HostFault>
         ensures { HearsBy hears (objects self.old) name.now value.now result (objects self.new) };
 }

@@ -48,7 +48,7 @@ impl<H: Host> Interp<H> {
         })
     }
 
-    /// The host.
+    /// The host, with the objects that scripts left.
     pub fn into_host(self) -> H
         ensures { result ≡ self.host }
     {
@@ -56,14 +56,14 @@ impl<H: Host> Interp<H> {
         machine.into_host()
     }
 
-    /// The value of a variable.
+    /// The value of a variable, if it is set.
     pub fn value(&self, name: &Text) -> Option<&Text>
         ensures { option_map (λ value. value.now) result ≡ lookup (pointwise nat_eq name.now) self.now.variables }
     {
         self.machine.variables.get(name)
     }
 
-    /// Runs a text. After a fault the same fault is answered again.
+    /// Runs a text on top of those before. After a fault it answers that fault again.
     pub fn run(&mut self, text: &[u8]) -> Result<Ran, TextRefused>
         requires short { length text.now < 2 ^ 32 - 1 }
         ensures runs { self.old.failed ≡ None → HasRun H.calls H.hears text.now (state self.old.variables (H.objects self.old.host) self.old.left)

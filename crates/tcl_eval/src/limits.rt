@@ -1,4 +1,4 @@
-//! How much a script may do.
+//! The limits of a script.
 
 ghost use Rattle.std.specs.Prelude.{◌≡◌, ℕ, ◌+◌, ◌<◌, ◌≤◌, length, true, IfOk, IfErr, if◌then◌else◌};
 ghost use Rattle.lab_base.specs.declared.fault.Kind.TheVariants as kinds;
@@ -9,16 +9,16 @@ use crate::halts::Halt;
 use lab_base::{Kind, Memory, Text};
 use std::alloc::Global;
 
-/// How many commands and conditions may be evaluated.
+/// The most commands and conditions that are evaluated.
 pub const BUDGET: u32 = 20_000;
 
-/// How many levels may be open at once.
+/// The most levels that are open at once.
 pub const LEVELS: u32 = 32;
 
-/// How many bytes a value may have.
+/// The most bytes of a value.
 const LONGEST: usize = 65_536;
 
-/// A value, unless it is too long.
+/// A value that isn't too long; else the fault.
 pub fn short(value: Text) -> Result<Text, Halt>
     ensures value { IfOk result (λ short. (short ≡ value) × (length value ≤ 65536)) }
     ensures long { IfErr result (λ halt. (halt ≡ halts.Fault kinds.Long) × (65536 < length value)) }
@@ -29,7 +29,7 @@ pub fn short(value: Text) -> Result<Text, Halt>
     Ok(value)
 }
 
-/// The levels that are left in one more.
+/// The levels left inside one more level.
 pub fn deeper(levels: u32) -> Result<u32, Halt>
     ensures deeper { IfOk result (λ less. less + 1 ≡ levels) }
     ensures deep { IfErr result (λ halt. (halt ≡ halts.Fault kinds.Deep) × (levels ≡ 0)) }
@@ -40,7 +40,7 @@ pub fn deeper(levels: u32) -> Result<u32, Halt>
     Ok(levels - 1)
 }
 
-/// The levels that are left in an index. One inside an index is one more.
+/// The levels left inside an index. An index inside an index is one more level.
 pub fn index_levels(levels: u32, in_index: bool) -> Result<u32, Halt>
     ensures deeper { IfOk result (λ less. less + (if in_index then 1 else 0) ≡ levels) }
     ensures deep { IfErr result (λ halt. (halt ≡ halts.Fault kinds.Deep) × (levels ≡ 0) × (in_index ≡ true)) }

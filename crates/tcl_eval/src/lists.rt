@@ -10,21 +10,21 @@ use crate::limits::short;
 use lab_base::{Kind, Memory, Text};
 use std::alloc::Global;
 
-/// A byte between the elements of a list.
+/// Whether a byte separates the elements of a list.
 fn is_between(byte: u8) -> bool
     ensures { result ≡ is_between byte }
 {
     byte == b' ' || byte == b'\t' || byte == b'\n'
 }
 
-/// A byte of an element.
+/// Whether a byte belongs to an element.
 fn is_inside(byte: u8) -> bool
     ensures { result ≡ is_inside byte }
 {
     !is_between(byte)
 }
 
-/// How many bytes at the front stand between elements.
+/// The number of bytes at the front that separate elements.
 fn between_size(rest: &[u8]) -> usize
     ensures size { result ≡ prefix_len is_between rest.now }
     ensures fits { result ≤ length rest.now }
@@ -32,7 +32,7 @@ fn between_size(rest: &[u8]) -> usize
     rest.iter().take_while(|b| is_between(**b)).count()
 }
 
-/// How many bytes at the front are of an element.
+/// The number of bytes at the front that belong to an element.
 fn inside_size(rest: &[u8]) -> usize
     ensures size { result ≡ prefix_len is_inside rest.now }
     ensures fits { result ≤ length rest.now }
@@ -40,7 +40,7 @@ fn inside_size(rest: &[u8]) -> usize
     rest.iter().take_while(|b| is_inside(**b)).count()
 }
 
-/// The place of the first byte from a place on that is of an element.
+/// The place of the first byte of an element, from a place on.
 fn element_start(list: &[u8], at: usize) -> usize
     requires { at ≤ length list.now }
     ensures start { result ≡ at + prefix_len is_between (drop at list.now) }
@@ -49,7 +49,7 @@ fn element_start(list: &[u8], at: usize) -> usize
     at + between_size(&list[at..])
 }
 
-/// The place behind the bytes of an element at a place.
+/// The place behind the element at a place.
 fn element_end(list: &[u8], at: usize) -> usize
     requires { at ≤ length list.now }
     ensures end { result ≡ at + prefix_len is_inside (drop at list.now) }
@@ -58,7 +58,7 @@ fn element_end(list: &[u8], at: usize) -> usize
     at + inside_size(&list[at..])
 }
 
-/// The first element of a list from a place on, by its places.
+/// The first element of a list from a place on, by its first place and the place behind it.
 pub fn element_at(list: &[u8], at: usize) -> Option<(usize, usize)>
     requires { at ≤ length list.now }
     ensures element { result ≡ element_from list.now at }
@@ -73,7 +73,7 @@ pub fn element_at(list: &[u8], at: usize) -> Option<(usize, usize)>
     }
 }
 
-/// A byte that no element of a list may have.
+/// Whether a byte may stand in no element of a list, as Tcl gives it a meaning.
 fn is_special(byte: u8) -> bool
     ensures { result ≡ is_special byte }
 {
@@ -89,7 +89,7 @@ fn is_special(byte: u8) -> bool
         || byte == b'\\'
 }
 
-/// A byte that an element may have.
+/// Whether a byte may stand in an element.
 fn is_plain(byte: u8) -> bool
     ensures { result ≡ is_plain byte }
 {
@@ -102,7 +102,7 @@ fn has_plain_bytes(word: &[u8]) -> bool
     word.iter().all(|b| is_plain(*b))
 }
 
-/// A word that `lappend` takes: it isn't empty, and has no blank, brace, quote, bracket, `$`, `;` or backslash.
+/// Whether `lappend` takes a word: it isn't empty, and has no blank, brace, quote, bracket, `$`, `;` or backslash.
 pub fn is_element(word: &[u8]) -> bool
     ensures { result ≡ is_element word.now }
 {
@@ -117,7 +117,7 @@ pub fn words_from(words: &[Text], from: usize) -> &[Text]
     &words[from..]
 }
 
-/// The words joined by this.
+/// The words, joined by these bytes.
 pub fn joined(alloc: Global, words: &[Text], between: &[u8]) -> Result<Text, Memory>
     ensures { IfOk result (λ text. text ≡ joined_by between.now words.now) }
 {
@@ -132,7 +132,7 @@ pub fn joined(alloc: Global, words: &[Text], between: &[u8]) -> Result<Text, Mem
     Ok(text)
 }
 
-/// The list with a word behind it.
+/// The list with one word more.
 fn with_element(list: Text, word: &[u8]) -> Result<Text, Halt>
     ensures { Gives (λ r. r ≡ with_element list word.now) result }
 {

@@ -1,4 +1,4 @@
-//! Numbers that are written in an expression.
+//! Numerals of expressions.
 
 ghost use Rattle.std.specs.Prelude.{◌≡◌, ℕ, ◌+◌, ◌<◌, ◌≤◌, length, take, drop, IfOk, IfErr, Ok, Err};
 ghost use Rattle.tcl_eval.specs.Numbers.{Writes};
@@ -8,7 +8,7 @@ ghost use Rattle.tcl_eval.specs.declared.openings.Opening.TheVariants.{Digits};
 use crate::numbers::{has_no_zero, read_number};
 use lab_base::Kind;
 
-/// How many digits stand at the front.
+/// The number of digits at the front.
 fn digits_size(rest: &[u8]) -> usize
     ensures size { result ≡ digits_of rest.now }
     ensures fits { result ≤ length rest.now }
@@ -41,7 +41,7 @@ fn digits_at(text: &[u8], at: usize) -> &[u8]
     front_digits(&text[at..])
 }
 
-/// The number that digits in an expression write. Where it isn't live it is 0.
+/// The number of a numeral. Where it isn't live it is 0.
 fn written(digits: &[u8], live: bool) -> Result<i64, Kind>
     ensures { Writes live digits.now result }
 {
@@ -51,7 +51,7 @@ fn written(digits: &[u8], live: bool) -> Result<i64, Kind>
     if live { read_number(digits) } else { Ok(0) }
 }
 
-/// The number that digits at a place write, and the place behind them.
+/// The number of the numeral at a place, and the place behind it.
 pub fn literal(text: &[u8], at: usize, live: bool) -> Result<(i64, usize), Kind>
     requires here { at ≤ length text.now }
     requires digits { opening_of (drop at text.now) ≡ Digits }

@@ -1,4 +1,4 @@
-//! What an interpreter holds, and the commands that evaluate nothing.
+//! The machine of an interpreter, and the commands that evaluate nothing.
 
 ghost use Rattle.std.specs.Prelude.{◌≡◌, ℕ, ◌≤◌, List, length, OnOk, IfOk, IfErr};
 ghost use Rattle.tcl_eval.specs.declared.commands.Own.TheVariants as owns;
@@ -13,13 +13,13 @@ use indexmap::IndexMap;
 use lab_base::{Kind, Memory, Text};
 use std::alloc::Global;
 
-/// What an interpreter holds.
+/// The machine of an interpreter: its host, its variables, and the rest of its budget.
 #[derive(Drop)]
 pub struct Machine<H> {
     pub alloc: Global,
     pub host: H,
     pub variables: IndexMap<Text, Text>,
-    /// How many commands and conditions may still be evaluated.
+    /// The number of commands and conditions that may still be evaluated.
     pub left: u32,
 }
 
@@ -31,7 +31,7 @@ impl<H: Host> Machine<H> {
     ghost use Rattle.tcl_eval.specs.State.{state, read_of, old_or_empty, with_value};
     ghost use Rattle.tcl_eval.specs.Ends.{Ends, Gives};
 
-    /// The host.
+    /// The host, with the objects that scripts left.
     pub fn into_host(self) -> H
         ensures { result ≡ self.host }
     {
@@ -177,7 +177,7 @@ impl<H: Host> Machine<H> {
         Ok(value)
     }
 
-    /// A command of the host's, on the line of the command of the whole text that is under way.
+    /// Has the host obey a command. `line` is that of the present command at the top level.
     pub fn run_host(&mut self, words: &[Text], line: u32) -> Result<Text, Halt>
         requires own { own words.now ≡ None }
         ensures evals { (l : ℕ) → Ends (H.calls line) H.hears Value l (Call words.now)

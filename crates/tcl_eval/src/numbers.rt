@@ -9,7 +9,7 @@ ghost use Rattle.tcl_eval.specs.Numbers.{value_from, has_no_zero, is_digits, sig
 use lab_base::{Kind, Memory, Text};
 use std::alloc::Global;
 
-/// The number that these digits write, if it fits.
+/// The number of these digits, if it fits.
 fn magnitude(digits: &[u8]) -> Option<u64>
     ensures { MatchOption result (2 ^ 64 ≤ value_from 0 digits.now) (λ n. n ≡ value_from 0 digits.now) }
 {
@@ -26,7 +26,7 @@ fn magnitude(digits: &[u8]) -> Option<u64>
     Some(number)
 }
 
-/// Some bytes, and more than one only without a leading `0`.
+/// Whether there are bytes, and no `0` before others.
 pub fn has_no_zero(bytes: &[u8]) -> bool
     ensures { result ≡ has_no_zero bytes.now }
 {
@@ -37,21 +37,21 @@ pub fn has_no_zero(bytes: &[u8]) -> bool
     }
 }
 
-/// Each byte is a digit.
+/// Whether each byte is a digit.
 fn all_digits(bytes: &[u8]) -> bool
     ensures { result ≡ list_all is_ascii_digit bytes.now }
 {
     bytes.iter().all(|b| b.is_ascii_digit())
 }
 
-/// `0`, or digits without a leading zero.
+/// Whether the bytes are `0`, or digits without a leading zero.
 fn are_digits(bytes: &[u8]) -> bool
     ensures { result ≡ is_digits bytes.now }
 {
     has_no_zero(bytes) && all_digits(bytes)
 }
 
-/// Reads digits, with a sign before them or not.
+/// The number of these digits, negative or not.
 fn read_signed(negative: bool, digits: &[u8]) -> Result<i64, Kind>
     ensures { result ≡ signed_of negative digits.now }
 {

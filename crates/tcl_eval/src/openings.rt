@@ -1,10 +1,10 @@
-//! What an operand of an expression begins with.
+//! Openings of operands.
 
 ghost use Rattle.std.specs.Prelude.{◌≡◌, ◌<◌, ◌≤◌, true, length, drop};
 ghost use Rattle.tcl_words.specs.Tokens.{begins_with};
 ghost use Rattle.tcl_eval.specs.Operators.{opening_of};
 
-/// What an operand begins with.
+/// The opening of an operand in an expression.
 #[derive(Clone, Copy, Drop)]
 pub enum Opening {
     /// A `!` that isn't the start of `!=`.
@@ -35,7 +35,7 @@ fn first_opening(rest: &[u8]) -> Opening
     }
 }
 
-/// What the operand at a place begins with.
+/// The opening of the operand at a place.
 pub fn opening_at(text: &[u8], at: usize) -> Opening
     requires { at ≤ length text.now }
     ensures opening { result ≡ opening_of (drop at text.now) }

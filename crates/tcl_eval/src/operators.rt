@@ -29,11 +29,11 @@ pub enum Operator {
     Modulo,
 }
 
-/// How many tiers of operators there are.
+/// The number of tiers of operators.
 pub const TIERS: u32 = 6;
 
 impl Operator {
-    /// How tight it binds, from 0 on.
+    /// The tier of the operator; 0 is the loosest.
     pub fn tier(self) -> u32
         ensures { result ≡ tier_of self }
     {
@@ -47,7 +47,7 @@ impl Operator {
         }
     }
 
-    /// The left side decides, so that the right side isn't evaluated.
+    /// Whether the left side decides, so that the right side isn't evaluated.
     pub fn is_decided(self, left: i64) -> bool
         ensures { IsTrue result ↔ IsDecided self left }
     {
@@ -58,14 +58,14 @@ impl Operator {
         }
     }
 
-    /// The right side is evaluated: where this is live, and the left side doesn't decide.
+    /// Whether the right side is evaluated: the expression is live, and the left side doesn't decide.
     pub fn is_needed(self, left: i64, live: bool) -> bool
         ensures { IsNeeded live self left result }
     {
         if live { !self.is_decided(left) } else { false }
     }
 
-    /// The value of both sides. A side that isn't evaluated is 0.
+    /// The result of both sides. A side that isn't evaluated counts as 0.
     pub fn apply(self, left: i64, right: i64) -> Result<i64, Kind>
         ensures { Applies self left right result }
     {
@@ -87,7 +87,7 @@ impl Operator {
     }
 }
 
-/// A value that may not fit.
+/// The value, or the fault where it doesn't fit in 64 bits.
 fn in_range(value: Option<i64>) -> Result<i64, Kind>
     ensures { MatchOption value (result ≡ Err kinds.Overflow) (λ z. result ≡ Ok z) }
 {
@@ -115,28 +115,28 @@ pub fn negated(value: i64) -> Result<i64, Kind>
     in_range(value.checked_neg())
 }
 
-/// 1 for 0, else 0.
+/// The negation of a condition: 1 for 0, else 0.
 pub fn turned(value: i64) -> i64
     ensures { IsNot value result }
 {
     i64::from(value == 0)
 }
 
-/// A condition of this value holds.
+/// Whether a condition of this value holds.
 pub fn holds(value: i64) -> bool
     ensures { MatchBool result (value ≢ pos 0) (value ≡ pos 0) }
 {
     value != 0
 }
 
-/// A number, 0 where it isn't live.
+/// The number, or 0 where it isn't live.
 pub fn alive(value: i64, live: bool) -> i64
     ensures { result ≡ alive live value }
 {
     if live { value } else { 0 }
 }
 
-/// What is left has another sign than the divisor.
+/// Whether a remainder has another sign than the divisor.
 fn is_against(rest: i64, right: i64) -> bool
     requires { right ≢ pos 0 }
     ensures { MatchBool result (IsAgainst rest right) (IsAlong rest right) }
@@ -153,7 +153,7 @@ fn cut(left: i64, right: i64) -> i64
     left / right
 }
 
-/// One less.
+/// The number before this one.
 fn less_one(value: i64) -> Result<i64, Kind>
     ensures { IsValue (value -ℤ pos 1) result }
 {
@@ -178,7 +178,7 @@ fn quotient(left: i64, right: i64) -> Result<i64, Kind>
     }
 }
 
-/// What is left, with the divisor's sign.
+/// The remainder with the divisor's sign.
 fn with_sign(rest: i64, right: i64) -> i64
     requires { IsAgainst rest right }
     ensures { result ≡ rest +ℤ right }
@@ -186,7 +186,7 @@ fn with_sign(rest: i64, right: i64) -> i64
     rest + right
 }
 
-/// What the quotient leaves. It has the sign of the divisor.
+/// The remainder of the rounded quotient, which has the divisor's sign.
 fn remainder(left: i64, right: i64) -> Result<i64, Kind>
     ensures { Applies Modulo left right result }
 {
@@ -201,7 +201,7 @@ fn remainder(left: i64, right: i64) -> Result<i64, Kind>
     }
 }
 
-/// How many blanks stand at the front.
+/// The number of blanks at the front.
 fn blanks_size(rest: &[u8]) -> usize
     ensures size { result ≡ prefix_len in_blank rest.now }
     ensures fits { result ≤ length rest.now }
@@ -211,7 +211,7 @@ fn blanks_size(rest: &[u8]) -> usize
         .count()
 }
 
-/// The place behind the blanks here.
+/// The place behind the blanks at a place.
 pub fn behind_blanks(text: &[u8], at: usize) -> usize
     requires { at ≤ length text.now }
     ensures place { result ≡ place text.now at }
@@ -221,7 +221,7 @@ pub fn behind_blanks(text: &[u8], at: usize) -> usize
     at + blanks_size(&text[at..])
 }
 
-/// The operator at the front, the longest one, and how many bytes it has.
+/// The longest operator at the front, and the number of its bytes.
 fn front_operator(rest: &[u8]) -> Option<(Operator, usize)>
     ensures front { result ≡ front_of rest.now }
     ensures some { IfSome result (λ found. 0 < found.1) }
@@ -245,7 +245,7 @@ fn front_operator(rest: &[u8]) -> Option<(Operator, usize)>
     }
 }
 
-/// The operator at a place, and how many bytes it has.
+/// The operator at a place, and the number of its bytes.
 fn front_operator_at(text: &[u8], at: usize) -> Option<(Operator, usize)>
     requires { at ≤ length text.now }
     ensures front { result ≡ front_of (drop at text.now) }
@@ -255,7 +255,7 @@ fn front_operator_at(text: &[u8], at: usize) -> Option<(Operator, usize)>
     front_operator(&text[at..])
 }
 
-/// The operator of this tier that stands here behind blanks, and the place behind it.
+/// The operator of this tier behind the blanks at a place, and the place behind it.
 pub fn operator_at(text: &[u8], at: usize, tier: u32) -> Option<(Operator, usize)>
     requires { at ≤ length text.now }
     ensures operator { result ≡ operator_from text.now at tier }

@@ -10,12 +10,12 @@ use crate::machine::Machine;
 use lab_base::{TextFault, TextRefused};
 use tcl_words::{line_of, split};
 
-/// How a script ran.
+/// The end of a run.
 #[derive(Clone, Copy, PartialEq, Eq, Debug, Drop)]
 pub enum Ran {
-    /// The host stopped it, in the command that begins on this line.
+    /// The host stopped the script, in the command that begins on this line.
     Stopped { line: u32 },
-    /// It ended, and this is its last line.
+    /// The script ran to its end, which is on this line.
     Ended { line: u32 },
 }
 

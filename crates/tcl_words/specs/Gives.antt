@@ -1,4 +1,4 @@
--- What a function returned, by a relation that says what may be found.
+-- The return of a function, by a relation on its results.
 use Rattle.std.specs.Prelude.{Result, Ok, Err}
 use Rattle.tcl_words.specs.declared.flaw.Flaw.{Flaw}
 use Rattle.tcl_words.specs.declared.flaw.Broken.{Broken}

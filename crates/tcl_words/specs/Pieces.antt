@@ -1,4 +1,4 @@
--- What the pieces of the code say of what follows from them.
+-- Pieces of the code, and the facts that follow from them.
 use Rattle.std.specs.Prelude.{ℕ, List, [], ◌∷◌, ◌++◌, Option, Some, None, Result, Ok, Err}
 use Rattle.tcl_words.specs.declared.flaw.Flaw.{Flaw}
 use Rattle.tcl_words.specs.declared.word.Part.{Part}

@@ -1,4 +1,4 @@
-//! Why a text can't be read.
+//! The reasons why a text can't be read.
 
 use lab_base::{Kind, Memory};
 use std::alloc::{AllocError, AllocFailed};
@@ -10,7 +10,7 @@ pub struct Flaw {
     pub at: usize,
 }
 
-/// Why a text can't be read.
+/// The reason why a text can't be read.
 #[derive(Clone, Copy, PartialEq, Eq, Debug, Drop)]
 pub enum Broken {
     Flaw(Flaw),

@@ -1,4 +1,4 @@
-//! What is open inside a word, and the steps through it.
+//! Open quotes, braces, brackets and indexes inside a word, and the steps through them.
 
 ghost use Rattle.std.specs.Prelude.{◌≡◌};
 ghost use Rattle.tcl_words.specs.Passes.{flaw_of};
@@ -6,18 +6,18 @@ ghost use Rattle.tcl_words.specs.Passes.{flaw_of};
 use crate::flaw::Flaw;
 use lab_base::Kind;
 
-/// Where in a bracket.
+/// A place inside a bracket.
 #[derive(Clone, Copy, Drop)]
 pub enum Place {
-    /// Where a command would begin.
+    /// The place where a command would begin.
     Start,
-    /// Where a word of a command would begin.
+    /// The place where a word of a command would begin.
     Between,
-    /// In a bare word.
+    /// The inside of a bare word.
     Inside,
-    /// Behind the closing quote of a word.
+    /// The place behind the closing quote of a word.
     AfterQuote,
-    /// Behind the closing brace of a word.
+    /// The place behind the closing brace of a word.
     AfterBrace,
 }
 
@@ -25,7 +25,7 @@ impl Place {
     ghost use Rattle.std.specs.Prelude.{◌≡◌};
     ghost use Rattle.tcl_words.specs.Passes.{behind_blank};
 
-    /// Where one is behind a blank.
+    /// The place behind a blank.
     pub fn behind_blank(self) -> Place
         ensures { result ≡ behind_blank self }
     {
@@ -36,7 +36,7 @@ impl Place {
     }
 }
 
-/// What is open, and where it was opened.
+/// An open construct, with the place of its first byte.
 #[derive(Clone, Copy, Drop)]
 pub enum Frame {
     Bracket { opened: usize, place: Place },
@@ -44,29 +44,29 @@ pub enum Frame {
     Index { opened: usize },
 }
 
-/// What comes next in what is open.
+/// The next step in an open construct.
 #[derive(Clone, Copy, Drop)]
 pub enum Step {
-    /// It goes on.
+    /// The construct goes on.
     Goes {
         frame: Frame,
         at: usize,
     },
-    /// Another one is opened inside it, and it goes on afterwards.
+    /// Another one opens inside it, and it goes on afterwards.
     Opens {
         inner: Frame,
         at: usize,
         frame: Frame,
     },
-    /// It is closed.
+    /// The construct closes.
     Closes {
         at: usize,
     },
-    /// It has a fault.
+    /// The construct has a fault.
     Fails(Flaw),
 }
 
-/// The fault of what isn't closed.
+/// The fault of a construct that isn't closed.
 pub fn unclosed(frame: Frame) -> Flaw
     ensures { result ≡ flaw_of frame }
 {

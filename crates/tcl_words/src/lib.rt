@@ -1,7 +1,6 @@
 //! The commands and words of a Tcl text.
 //!
-//! `split` reads a text into its commands. Brackets and indexes inside words are passed over; whoever
-//! evaluates a word splits them in their turn.
+//! `split` reads a text into its commands. It passes over brackets and indexes inside words. The evaluation of a word splits them in their turn.
 #![tactic(auto)]
 
 mod flaw;

@@ -12,7 +12,7 @@ use crate::tokens::{Token, blank_at, braces_at, comment_at, ends_command_at, tok
 use lab_base::Kind;
 use std::alloc::Global;
 
-/// The step at a byte that doesn't close what is open.
+/// The step at a byte that doesn't close the open construct.
 fn inner_step(text: &[u8], from: Frame, frame: Frame, at: usize) -> Step
     requires here { at < length text.now }
     requires goes_on { GoesOn text.now from at frame }
@@ -140,7 +140,7 @@ fn bracket_step(text: &[u8], opened: usize, place: Place, at: usize) -> Step
     }
 }
 
-/// What comes next in what is open.
+/// The next step in the open construct, at a place.
 fn step_at(text: &[u8], frame: Frame, at: usize) -> Step
     requires { at < length text.now }
     ensures leads { Leads text.now frame at result }
@@ -165,7 +165,7 @@ fn step_at(text: &[u8], frame: Frame, at: usize) -> Step
     }
 }
 
-/// The place behind what closes this, from a place inside it.
+/// The place behind the end of an open construct, from a place inside it.
 pub fn pass(alloc: Global, text: &[u8], frame: Frame, at: usize) -> Result<usize, Broken>
     requires { at ≤ length text.now }
     ensures passes { Finds (λ o. Passes text.now frame at o) result }

@@ -35,7 +35,7 @@ fn push_bytes(parts: &mut Items<Part>, start: usize, end: usize) -> Result<(), B
     Ok(())
 }
 
-/// What ends the parts.
+/// The end of a list of parts.
 #[derive(Clone, Copy, Drop)]
 pub enum Closing {
     /// The end of a bare word.
@@ -46,18 +46,18 @@ pub enum Closing {
     Index { opened: usize },
 }
 
-/// What comes next among parts.
+/// The outcome at a place among parts.
 #[derive(Clone, Copy, Drop)]
 pub enum Next {
-    /// They are closed, and this is the place behind what closes them.
+    /// The parts end here, and `end` is the place behind their end.
     Closed { end: usize },
-    /// They aren't closed.
+    /// The text ends before the parts do.
     Unclosed(Flaw),
-    /// They go on.
+    /// The parts go on.
     More,
 }
 
-/// What comes next among parts.
+/// The outcome at a place among parts: their end, their missing end, or more of them.
 fn next_at(text: &[u8], closing: Closing, at: usize) -> Next
     requires { at ≤ length text.now }
     ensures next { ComesNext text.now closing at result }
@@ -110,7 +110,7 @@ pub fn script_end(alloc: Global, text: &[u8], at: usize) -> Result<usize, Broken
     pass(alloc, text, frame, at + 1)
 }
 
-/// The place behind an index, with its `)`.
+/// The place behind an index, with its closing parenthesis.
 fn index_end(alloc: Global, text: &[u8], opened: usize) -> Result<usize, Broken>
     requires { opened < length text.now }
     ensures passes { Finds (λ o. Passes text.now (frames.Index opened) (opened + 1) o) result }
@@ -131,7 +131,7 @@ fn variable_part(start: usize, end: usize) -> Part
     }
 }
 
-/// The part here and the place behind it. No part is a byte that stands for itself.
+/// The part at a place, and the place behind it. A byte that stands for itself is no part.
 fn piece_at(alloc: Global, text: &[u8], at: usize) -> Result<(Option<Part>, usize), Broken>
     requires here { at < length text.now }
     requires short { length text.now < 2 ^ 32 - 1 }
@@ -163,7 +163,7 @@ fn piece_at(alloc: Global, text: &[u8], at: usize) -> Result<(Option<Part>, usiz
     }
 }
 
-/// The parts from a place up to what closes them, and the place behind that.
+/// The parts from a place up to their end, and the place behind that.
 pub(crate) fn parts_at(
     alloc: Global,
     text: &[u8],
@@ -232,7 +232,7 @@ pub(crate) fn braced_parts(
     Ok(parts)
 }
 
-/// The variable at a place, if one stands there.
+/// The variable at a place, if there is one.
 pub fn reference_at(alloc: Global, text: &[u8], at: usize) -> Result<Option<Reference>, Broken>
     requires here { at < length text.now }
     requires short { length text.now < 2 ^ 32 - 1 }

@@ -11,7 +11,7 @@ use crate::words::words_at;
 use lab_base::{Items, TextFault, TextRefused};
 use std::alloc::Global;
 
-/// How many line feeds there are.
+/// The number of line feeds in these bytes.
 fn feeds(bytes: &[u8]) -> usize
     ensures feeds { result ≡ feeds_of bytes.now }
     ensures few { result ≤ length bytes.now }
@@ -19,7 +19,7 @@ fn feeds(bytes: &[u8]) -> usize
     bytes.iter().filter(|b| **b == b'\n').count()
 }
 
-/// The line of a place, the first being 1.
+/// The line of a place, from 1.
 pub fn line_of(text: &[u8], at: usize) -> u32
     requires { length text.now < 2 ^ 32 - 1 }
     ensures { result ≡ line_at text.now at }
@@ -28,7 +28,7 @@ pub fn line_of(text: &[u8], at: usize) -> u32
     1 + feeds(&text[..end]) as u32
 }
 
-/// How many bytes at a place belong to no command. 0 where a command begins.
+/// The number of bytes at a place that belong to no command; 0 where a command begins.
 fn gap_at(text: &[u8], at: usize) -> usize
     requires { at < length text.now }
     ensures size { result ≡ gap_of (drop at text.now) }
@@ -76,7 +76,7 @@ fn commands(alloc: Global, text: &[u8]) -> Result<Items<Command>, Broken>
     Ok(commands)
 }
 
-/// The commands of a text, or its first fault.
+/// The commands of a text, in order, or its first fault with its line.
 pub fn split(alloc: Global, text: &[u8]) -> Result<Vec<Command>, TextRefused>
     requires { length text.now < 2 ^ 32 - 1 }
     ensures commands { IfOk result (λ v. CommandsOf text.now 0 (Ok v.items)) }

@@ -1,8 +1,8 @@
-//! Commands, their words and the parts of these.
+//! Commands, their words, and the parts of words.
 
 use lab_base::Items;
 
-/// How a word is written.
+/// The form in which a word is written.
 #[derive(Clone, Copy, Drop)]
 pub enum WordKind {
     Bare,
@@ -13,9 +13,9 @@ pub enum WordKind {
 /// A part of a word.
 #[derive(Clone, Copy, Drop)]
 pub enum Part {
-    /// Bytes that stand for themselves.
+    /// The bytes from `start` to `end`, which stand for themselves.
     Plain { start: u32, end: u32 },
-    /// A byte that a backslash stands before, or the blank of a line that goes on.
+    /// A byte by its escape, or the blank of a joined line.
     Escape { byte: u8 },
     /// A variable, from its `$` to behind its name, its `}` or its index.
     Variable { start: u32, end: u32 },
@@ -32,14 +32,14 @@ pub struct Word {
     pub parts: Items<Part>,
 }
 
-/// A command, and the line on which its first word begins.
+/// A command, with the line of its first word, from 1.
 #[derive(Drop)]
 pub struct Command {
     pub words: Items<Word>,
     pub line: u32,
 }
 
-/// A variable where it stands: its name, its index if it has one, and the place behind it.
+/// A variable in a text: its name, its index if it has one, and the place behind it.
 #[derive(Drop)]
 pub struct Reference {
     pub name_start: usize,

@@ -26,7 +26,7 @@ fn make_word(kind: WordKind, start: usize, end: usize, parts: Items<Part>) -> Wo
     }
 }
 
-/// The word in quotes here.
+/// The word in quotes at a place.
 fn quoted_word(alloc: Global, text: &[u8], at: usize) -> Result<Word, Broken>
     requires here { at < length text.now }
     requires short { length text.now < 2 ^ 32 - 1 }
@@ -44,7 +44,7 @@ fn quoted_word(alloc: Global, text: &[u8], at: usize) -> Result<Word, Broken>
     Ok(make_word(WordKind::Quoted, at, end, parts))
 }
 
-/// The word in braces here.
+/// The word in braces at a place.
 fn braced_word(alloc: Global, text: &[u8], at: usize) -> Result<Word, Broken>
     requires here { at < length text.now }
     requires short { length text.now < 2 ^ 32 - 1 }
@@ -69,7 +69,7 @@ fn braced_word(alloc: Global, text: &[u8], at: usize) -> Result<Word, Broken>
     Ok(make_word(WordKind::Braced, at, end, parts))
 }
 
-/// The bare word here.
+/// The bare word at a place.
 fn bare_word(alloc: Global, text: &[u8], at: usize) -> Result<Word, Broken>
     requires here { at < length text.now }
     requires short { length text.now < 2 ^ 32 - 1 }
@@ -83,7 +83,7 @@ fn bare_word(alloc: Global, text: &[u8], at: usize) -> Result<Word, Broken>
     Ok(make_word(WordKind::Bare, at, end, parts))
 }
 
-/// The word here.
+/// The word at a place.
 fn word_at(alloc: Global, text: &[u8], at: usize) -> Result<Word, Broken>
     requires here { at < length text.now }
     requires short { length text.now < 2 ^ 32 - 1 }
@@ -98,7 +98,7 @@ fn word_at(alloc: Global, text: &[u8], at: usize) -> Result<Word, Broken>
     }
 }
 
-/// The words of the command here, and the place where it ends.
+/// The words of the command at a place, and the place where it ends.
 pub fn words_at(alloc: Global, text: &[u8], start: usize) -> Result<(Items<Word>, usize), Broken>
     requires here { start ≤ length text.now }
     requires short { length text.now < 2 ^ 32 - 1 }

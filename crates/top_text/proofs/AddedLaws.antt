@@ -1,4 +1,4 @@
--- What a line adds to a wiring without a fault, and to its tables.
+-- A line added to a wiring without a fault, and to its tables.
 use Rattle.std.specs.Prelude.{nat_lt, nat_le, nat_eq, replicate}
 use Rattle.std.proofs.Common.{◌≡◌, ℕ, zero, suc, ◌+◌, ◌<◌, ◌≤◌, Bool, true, false, not, cond, eqb, ◌&&◌, ◌||◌, List, [], ◌∷◌, ◌++◌, length, map, get_or, Option, Some, Ok, Err, refl, sym, ap, subst, ◌∙◌, arith, inl, inr, length-append}
 use Rattle.std.specs.List.{list_all, list_any, flat_map}

@@ -1,4 +1,4 @@
--- What is printed of a wiring is read as the wiring.
+-- The printed text of a wiring is read as that wiring.
 use Rattle.std.proofs.Common.{◌≡◌, ◌+◌, Bool, true, cond, length, Ok, Err, ap, ◌∙◌}
 use Rattle.lab_base.specs.Texts.{lines_of}
 use Rattle.lab_base.specs.declared.fault.Kind.TheVariants as kinds

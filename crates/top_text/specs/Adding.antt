@@ -1,4 +1,4 @@
--- What a line of a top text adds to the wiring so far, or its fault.
+-- The wiring so far with a line of a top text added, or the line's fault.
 use Rattle.std.specs.Prelude.{◌+◌, ℕ, false, true, not, ◌==◌, List, [], ◌∷◌, ◌++◌, length, map, position, codes, slice_set, slice_index_or, Option, Some, None, is_some, Result, Ok, Err, if◌then◌else◌}
 use Rattle.lab_base.specs.Texts.{lines_of}
 use Rattle.lab_base.specs.declared.fault.Kind.{Kind}

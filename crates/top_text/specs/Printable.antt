@@ -1,4 +1,4 @@
--- What the parts of a wiring have by their types: names are names, and addresses have 32 bits.
+-- The facts that types give of the parts of a wiring: names are names, and addresses have 32 bits.
 use Rattle.std.specs.Prelude.{ℕ, Bool, true, ◌&&◌, nat_lt, List, Option, Some, None}
 use Rattle.std.specs.List.{list_all}
 use Rattle.lab_base.specs.Names.{is_name}

@@ -1,4 +1,4 @@
--- What the reader of a top text keeps beside the wiring so far, and how it judges a line.
+-- The tables that the reader of a top text keeps beside the wiring so far, and its judgement of a line.
 use Rattle.std.specs.Prelude.{◌≡◌, ◌<◌, ◌==◌, ◌&&◌, ◌||◌, ◌+◌, ◌++◌, ℕ, Bool, false, not, List, [], ◌∷◌, length, map, replicate, slice_index_or, Option, Some, None, Result, Ok, Err, if◌then◌else◌}
 use Rattle.std.specs.List.{flat_map, list_any}
 use Rattle.lab_base.specs.Names.{same_name}

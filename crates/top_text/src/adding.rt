@@ -1,4 +1,4 @@
-// What a line adds to the wiring so far, and to its tables.
+// // Adding the parts of a line to the wiring so far, and to its tables.
 ghost use Rattle.std.specs.Prelude.{◌≡◌, ◌≤◌, ◌<◌, Ok, OnOk, IfOk, IfSome, map, length, is_some};
 ghost use Rattle.virt_topo.specs.Wirings.{virt_at};
 ghost use Rattle.line_text.specs.Refusals.{Takes};
@@ -159,7 +159,7 @@ pub(crate) fn add_place(
     }
 }
 
-/// Sets that a segment is multiplexed.
+/// Marks a segment as multiplexed.
 fn set_multiplexed(wiring: &mut Wiring, alloc: Global, segment: usize)
     requires { segment < length wiring.old.segments }
     ensures { wiring.new ≡ with_multiplexed wiring.old segment }

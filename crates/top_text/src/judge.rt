@@ -1,4 +1,4 @@
-// What the tests of a line say.
+// // The fault of a line, from the tests of the wiring with it.
 ghost use Rattle.line_text.specs.Refusals.{Takes};
 ghost use Rattle.virt_topo.specs.declared.wiring.Wiring.{Wiring as AnyWiring};
 ghost use Rattle.top_text.specs.Tables.{judged};
@@ -6,23 +6,23 @@ ghost use Rattle.top_text.specs.Tables.{judged};
 use lab_base::Kind;
 use line_text::LineFault;
 
-/// What the tests of a wiring with a line more say.
+/// The tests of the wiring with one more line.
 #[derive(Clone, Copy)]
 pub(crate) struct Tests {
-    /// Something is given twice.
+    /// Whether something is given twice.
     pub(crate) twice: bool,
-    /// Each number names something.
+    /// Whether each number names something.
     pub(crate) known: bool,
-    /// A segment names a virtual node twice.
+    /// Whether a segment names a virtual node twice.
     pub(crate) same: bool,
-    /// A pipe has one end twice, ends of two owners, an end of a multiplexed segment, or an end of an earlier pipe.
+    /// Whether a pipe has one end twice, ends of two owners, an end of a multiplexed segment, or an end of an earlier pipe.
     pub(crate) bad_pipe: bool,
-    /// The limits are kept.
+    /// Whether the limits are kept.
     pub(crate) within: bool,
 }
 
 impl Tests {
-    /// The first fault, in the order of kinds.
+    /// The first fault that the tests show, in the order of kinds.
     pub(crate) fn judge(self) -> Result<(), LineFault>
         ensures { (w : AnyWiring) → Takes result w (judged self w) }
     {

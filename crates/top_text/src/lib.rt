@@ -1,4 +1,4 @@
-//! Wirings as top text.
+//! Wirings as top text: reading one, with the first fault and its line, and printing the canonical one.
 #![tactic(auto)]
 
 mod adding;

@@ -51,7 +51,7 @@ fn addressed(read: Result<(Name, u32), Kind>) -> Result<End, Kind>
     }
 }
 
-/// An end with an address, by the parts of its field.
+/// An end with an address, from the parts of its field.
 fn end_parts(parts: Option<Parts<'_>>) -> Result<End, Kind>
     ensures { result ≡ end_parts (option_map (λ parts. (parts.before.now, parts.behind.now)) parts.entry) }
 {
@@ -144,7 +144,7 @@ fn as_class(read: Result<(Name, (u32, Items<Name>)), Kind>) -> Result<Class, Kin
     }
 }
 
-/// Reads the fields behind the word `make-vclass`.
+/// Reads the fields of a `make-vclass` line, behind its keyword.
 pub(crate) fn class_in(alloc: Global, fields: &[&[u8]]) -> Result<Result<Class, Kind>, Memory>
     ensures { IfOk result (λ read. read ≡ class_line (views fields.now)) }
 {
@@ -159,7 +159,7 @@ pub(crate) fn class_in(alloc: Global, fields: &[&[u8]]) -> Result<Result<Class, 
 /// A virtual node's name, its type or class, its OS and its desires.
 pub(crate) type NodeRead = (Name, (Name, (Name, Items<(Name, u32)>)));
 
-/// Reads the fields behind the word `node`.
+/// Reads the fields of a `node` line, behind its keyword.
 pub(crate) fn node_in(alloc: Global, fields: &[&[u8]]) -> Result<Result<NodeRead, Kind>, Memory>
     ensures { IfOk result (λ read. read ≡ node_line (views fields.now)) }
 {
@@ -172,7 +172,7 @@ pub(crate) fn node_in(alloc: Global, fields: &[&[u8]]) -> Result<Result<NodeRead
     Ok(both(name, behind))
 }
 
-/// Reads the fields behind the word `fix-node`.
+/// Reads the fields of a `fix-node` line, behind its keyword.
 pub(crate) fn fix_in(fields: &[&[u8]]) -> Result<(Name, Name), Kind>
     ensures { result ≡ fix_line (views fields.now) }
 {
@@ -186,7 +186,7 @@ pub(crate) fn fix_in(fields: &[&[u8]]) -> Result<(Name, Name), Kind>
 /// A segment's name, its owner, its kbps and its ends.
 pub(crate) type LinkRead = (Name, (Name, (u64, Items<End>)));
 
-/// Reads the fields behind the word `link`.
+/// Reads the fields of a `link` line, behind its keyword.
 pub(crate) fn link_in(alloc: Global, fields: &[&[u8]]) -> Result<Result<LinkRead, Kind>, Memory>
     ensures { IfOk result (λ read. read ≡ link_line (views fields.now)) }
 {
@@ -236,7 +236,7 @@ fn pipe_ends_at(fields: &[&[u8]]) -> Result<(u16, u16), Kind>
     pipe_ends_in(from, to)
 }
 
-/// The rates of three fields.
+/// The rates of a pipe in one direction, from three fields.
 fn rates_at(fields: &[&[u8]], n: usize) -> Result<Rates, Kind>
     requires { n < 10 }
     ensures { result ≡ rates_of (field_at (views fields.now) n) (field_at (views fields.now) (n + 1)) (field_at (views fields.now) (n + 2)) }
@@ -247,7 +247,7 @@ fn rates_at(fields: &[&[u8]], n: usize) -> Result<Rates, Kind>
     rates_in(kbps, micros, ppm)
 }
 
-/// Reads the fields behind the word `pipe`.
+/// Reads the fields of a `pipe` line, behind its keyword.
 pub(crate) fn pipe_in(fields: &[&[u8]]) -> Result<PipeRead, Kind>
     ensures { result ≡ pipe_line (views fields.now) }
 {
@@ -263,7 +263,7 @@ pub(crate) fn pipe_in(fields: &[&[u8]]) -> Result<PipeRead, Kind>
     both(name, behind)
 }
 
-/// Reads the fields behind the word `multiplex`.
+/// Reads the fields of a `multiplex` line, behind its keyword.
 pub(crate) fn multiplex_in(fields: &[&[u8]]) -> Result<Name, Kind>
     ensures { result ≡ multiplex_line (views fields.now) }
 {

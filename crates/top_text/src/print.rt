@@ -289,7 +289,7 @@ fn push_all(text: &mut Text, wiring: &Wiring) -> Result<(), Memory>
     push_pipes(text, wiring, wiring.pipes.as_slice())
 }
 
-/// The canonical text of a wiring.
+/// The canonical top text of a wiring.
 pub fn print_top(alloc: Global, wiring: &Wiring) -> Result<Text, Memory>
     ensures text { IfOk result (λ text. text ≡ canonical_top wiring.now) }
     ensures again { IsSound wiring.now → IfOk result (λ text. wiring_of_text text ≡ Ok wiring.now) }

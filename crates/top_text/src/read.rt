@@ -25,7 +25,7 @@ fn add_line(so_far: &mut SoFar, alloc: Global, line: &[u8]) -> Result<(), LineFa
     add(so_far, alloc, &fields)
 }
 
-/// Adds the lines of a text; the answer is the number behind its last line.
+/// Adds the lines of a text. Answers the number behind its last line.
 fn add_lines(so_far: &mut SoFar, alloc: Global, text: &[u8]) -> Result<u32, TextRefused>
     requires short { length text.now < 4294967295 }
     requires reading { IsReading so_far.old }
@@ -54,7 +54,7 @@ fn empty_at(line: u32) -> TextRefused
     })
 }
 
-/// The wiring that was read; `line` is the number behind the text's last line.
+/// The wiring as read, if it has a virtual node. `line` is the number behind the text's last line.
 fn finish(so_far: SoFar, line: u32) -> Result<Wiring, TextRefused>
     requires { IsReading so_far }
     ensures reads { Reads result (finished line (Ok so_far.wiring)) }
@@ -67,7 +67,7 @@ fn finish(so_far: SoFar, line: u32) -> Result<Wiring, TextRefused>
     Ok(so_far.into_wiring())
 }
 
-/// Reads the wiring of a top text.
+/// Reads the wiring of a top text; a refusal has the kind and the line of the first fault.
 pub fn read_top(alloc: Global, text: &[u8]) -> Result<Wiring, TextRefused>
     requires { length text.now < 4294967295 }
     ensures reads { Reads result (wiring_of_text text.now) }

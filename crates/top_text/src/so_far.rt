@@ -1,4 +1,4 @@
-// The wiring of the lines read so far, and the tests of a line more.
+// // The wiring of the lines read so far, and the tests with one more line.
 ghost use Rattle.std.specs.Prelude.{◌≡◌, ◌≤◌, ◌<◌, ◌++◌, ◌∷◌, ◌||◌, ◌&&◌, ◌+◌, ◌==◌, [], true, not, List, ℕ, Ok, IfSome, map, length, nat_lt, nat_le, slice_index_or};
 ghost use Rattle.std.specs.List.{list_all, list_any};
 ghost use Rattle.lab_base.specs.Names.{same_name};
@@ -20,7 +20,7 @@ use virt_topo::{
     limits_segment, repeat_desire, repeat_node_of, repeat_type,
 };
 
-/// The wiring so far, and what is looked up in it.
+/// The wiring so far, with the tables of its names, addresses and ends.
 #[derive(Drop)]
 pub(crate) struct SoFar {
     pub(crate) wiring: Wiring,
@@ -37,7 +37,7 @@ fn owner_of(wiring: &Wiring, segment: u16) -> &[u8]
     }
 }
 
-/// Whether the segment of that number is multiplexed; no where there is none.
+/// Whether the segment of that number is multiplexed; false where there is none.
 pub(crate) fn is_multiplexed(wiring: &Wiring, segment: usize) -> bool
     ensures { result ≡ (segment_at wiring.now segment).multiplexed }
 {
@@ -63,7 +63,7 @@ fn ask_type(nodes: &[VirtNode], name: Name) -> bool
     nodes.iter().any(|node| asks_type(&node.asks, name))
 }
 
-/// Whether each end is on one of the first so many virtual nodes.
+/// Whether each end is on one of the first `count` virtual nodes.
 fn knows_ends(count: usize, ends: &[VirtEnd]) -> bool
     ensures { result ≡ list_all (λ e. nat_lt e.node count) ends.now }
 {
@@ -169,7 +169,7 @@ impl SoFar {
         self.wiring.nodes.len() < 256 && limits_node(node)
     }
 
-    /// The node asks for what a name stands for.
+    /// Tests the wiring with one more virtual node, which asks for the type or class of some name.
     pub(crate) fn check_node(&self, node: &VirtNode) -> Result<(), LineFault>
         requires reading { IsReading self.now }
         requires asks { (name : List ℕ) × (node.now.asks ≡ asks_of self.now.wiring name) }
@@ -201,7 +201,7 @@ impl SoFar {
         self.tables.segments.contains(&segment.name) || again
     }
 
-    /// `again` tells whether an address of the segment was there, or stands twice.
+    /// Tests the wiring with one more segment. `again` tells whether an address of it was there, or is in it twice.
     pub(crate) fn check_segment(&self, segment: &Segment, again: bool) -> Result<(), LineFault>
         requires kept { kept self.now.wiring ≡ Ok self.now.wiring }
         requires names { self.now.tables.segments.keys ≡ map (λ s. s.name) self.now.wiring.segments }
@@ -227,7 +227,7 @@ impl SoFar {
         self.tables.has_end(pipe.node, pipe.from) && self.tables.has_end(pipe.node, pipe.to)
     }
 
-    /// Whether the pipe may not join ends of these two segments.
+    /// Whether a pipe may not join ends of these two segments: they have two owners, or one of them is multiplexed.
     fn parts_segments(&self, from: u16, to: u16) -> bool
         ensures { let w = self.now.wiring in result ≡ (not (same_name (segment_at w from).owner (segment_at w to).owner) || ((segment_at w from).multiplexed || (segment_at w to).multiplexed)) }
     {

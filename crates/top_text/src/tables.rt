@@ -1,4 +1,4 @@
-// What the names, the addresses and the ends of the wiring so far are looked up in.
+// // Tables of the names, the addresses and the ends of the wiring so far.
 ghost use Rattle.std.specs.Prelude.{◌≡◌, ◌<◌, ◌≤◌, ◌++◌, ◌∷◌, ◌&&◌, ◌||◌, ℕ, [], false, true, nat_eq, nat_lt, length, map, position, slice_index_or, slice_set, IfOk, IfSome, OnOk};
 ghost use Rattle.std.specs.List.{list_any, list_all};
 ghost use Rattle.lab_base.specs.Names.{same_name};
@@ -17,14 +17,14 @@ use virt_topo::{Pipe, VirtEnd};
 /// A number that names nothing.
 pub(crate) const NONE: u16 = 65_535;
 
-/// What stands in the wiring so far.
+/// The tables of the wiring so far.
 #[derive(Drop)]
 pub(crate) struct Tables {
     pub(crate) classes: IndexSet<Name>,
     pub(crate) nodes: IndexSet<Name>,
     pub(crate) segments: IndexSet<Name>,
     pub(crate) addresses: IndexSet<u32>,
-    /// The ends of pipes, each by its virtual node, and by how many earlier ends that one has.
+    /// The ends of pipes: each is a virtual node, and the number of earlier ends that it has.
     pub(crate) piped: IndexSet<(u16, u16)>,
     /// By virtual node the number of the segment of each of its ends.
     pub(crate) on_node: Vec<Items<u16>>,
@@ -83,7 +83,7 @@ pub(crate) fn put_node(on_node: &mut Vec<Items<u16>>, alloc: Global) -> Result<(
     Ok(())
 }
 
-/// Adds some ends of a segment to what each of their virtual nodes has.
+/// Adds the ends of a segment to those of their virtual nodes.
 pub(crate) fn put_ends(
     on_node: &mut Vec<Items<u16>>,
     segment: u16,
@@ -158,7 +158,7 @@ impl Tables {
         self.segments.get_index_of(&name)
     }
 
-    /// Whether a virtual node has so many ends and one more.
+    /// Whether a virtual node has more than `k` ends.
     pub(crate) fn has_end(&self, node: u16, k: u16) -> bool
         ensures { result ≡ (nat_lt node (length self.now.on_node.items) && nat_lt k (length (slice_index_or self.now.on_node.items node []))) }
     {
@@ -168,7 +168,7 @@ impl Tables {
         }
     }
 
-    /// The number of the segment of the end of a virtual node that has `k` earlier ones, or 65,535 where there is none.
+    /// The number of the segment of a virtual node's end that has `k` earlier ones; 65,535 where there is none.
     pub(crate) fn segment(&self, node: u16, k: u16) -> u16
         ensures { result ≡ slice_index_or (slice_index_or self.now.on_node.items node []) k 65535 }
     {
@@ -181,7 +181,7 @@ impl Tables {
         }
     }
 
-    /// Whether a pipe has an end of that one.
+    /// Whether an end of this pipe is in an earlier pipe.
     pub(crate) fn is_piped(&self, pipe: &Pipe) -> bool
         ensures { result ≡ (list_any (same_end (pipe.now.node, pipe.now.from)) self.now.piped.keys || list_any (same_end (pipe.now.node, pipe.now.to)) self.now.piped.keys) }
     {

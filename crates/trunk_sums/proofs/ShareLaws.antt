@@ -1,4 +1,4 @@
--- What one change makes of the sum of the uses.
+-- One change, and the sum of the uses.
 use Rattle.std.proofs.Common.{◌≡◌, ◌≢◌, ◌<◌, ◌≤◌, ◌+◌, ◌-◌, ◌*◌, ◌∙◌, ◌∷◌, [], inl, inr, ℕ, zero, suc, Bool, true, false, cond, not, List, length, get_or, All, refl, ap, sym, arith}
 use Rattle.std.proofs.Math.ListN.{set}
 use Rattle.std.specs.List.{sum_by}

@@ -1,4 +1,4 @@
--- What a change adds to the uses of trunks, and what it takes from them.
+-- The uses of trunks that a change adds, and those that it takes away.
 use Rattle.std.specs.Prelude.{◌<◌, ◌+◌, ◌*◌, ℕ, List, length, slice_index_or, sum_by}
 use Rattle.trunk_sums.specs.declared.crossing.Crossing.{Crossing}
 use Rattle.trunk_sums.specs.declared.made.Change.{Change}

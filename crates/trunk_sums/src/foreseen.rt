@@ -34,7 +34,7 @@ pub fn are_rising(changes: &[Change]) -> bool
     true
 }
 
-/// What a segment uses of trunks before a plug crosses them, and after.
+/// The kbps that a segment uses of some trunks before a plug crosses them, and after.
 #[derive(Clone, Copy)]
 struct Shares {
     before: u64,
@@ -42,7 +42,7 @@ struct Shares {
 }
 
 impl Sums {
-    /// What a segment uses of a trunk before a plug of it crosses it, and after.
+    /// The kbps that a segment uses of a trunk before a plug of it crosses it, and after.
     #[inline(always)]
     fn shares_of(&self, row: EndRow, crossing: Crossing) -> Shares
         requires place { 64 * row.segment + crossing.trunk < length self.now.counts.items }
@@ -64,7 +64,7 @@ impl Sums {
         }
     }
 
-    /// What a segment uses of the trunks that a plug of it crosses, before and after.
+    /// The kbps that a segment uses of the trunks that a plug of it crosses, before and after.
     fn shares(&self, row: EndRow, crossed: &[Crossing]) -> Shares
         requires room { 64 * row.segment + 64 ≤ length self.now.counts.items }
         requires one_each { length self.now.uses.items ≤ 64 }
@@ -88,7 +88,7 @@ impl Sums {
         Shares { before, after }
     }
 
-    /// The same, where an end goes to another plug.
+    /// The kbps that a segment uses of the trunks that one of its ends crosses to another plug, before and after.
     fn replug_shares(
         &self,
         lab: &Lab,
@@ -113,7 +113,7 @@ impl Sums {
         self.shares(row, crossed)
     }
 
-    /// The sum of the uses of all trunks after changes, each of a later segment than those before it. None is made.
+    /// The sum of the uses of all trunks after changes that aren't made, each of a later segment than those before it.
     pub fn total_after(
         &self,
         lab: &Lab,

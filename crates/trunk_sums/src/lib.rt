@@ -1,4 +1,4 @@
-//! What a mapping uses of trunks, kept by running sums as plugs change.
+//! The uses of trunks by a mapping, kept as running sums while plugs change.
 #![tactic(auto)]
 
 mod crossing;

@@ -1,4 +1,4 @@
-// Ends that go to other plugs, one after another.
+// // Changes of plugs, one after another.
 ghost use Rattle.std.specs.Prelude.{◌≡◌, ◌<◌, true, All, List, length};
 ghost use Rattle.lab_base.specs.declared.ids.IfaceId.{IfaceId as IfaceSeen};
 ghost use Rattle.trunk_sums.specs.declared.made.Change.{Change as ChangeSeen};
@@ -15,7 +15,7 @@ use lab_base::IfaceId;
 use phys_lab::Lab;
 use virt_topo::Wiring;
 
-/// An end that goes to another plug.
+/// A change of plug: an end goes to another interface.
 #[derive(Clone, Copy)]
 pub struct Change {
     pub end: u16,
@@ -37,14 +37,14 @@ impl Sums {
         self.total
     }
 
-    /// By trunk what the segments use of it.
+    /// By trunk, the kbps that the segments use of it.
     pub fn uses(&self) -> &[u64]
         ensures { result.now ≡ self.now.uses.items }
     {
         &self.uses
     }
 
-    /// Makes changes, one after another: the sums are what counting anew gives of the plugs then.
+    /// Makes changes, one after another. The sums are then those of counting the plugs anew.
     pub fn make(
         &mut self,
         lab: &Lab,

@@ -8,7 +8,7 @@ use lab_base::IfaceId;
 use phys_lab::Lab;
 use virt_topo::Wiring;
 
-/// Of an end its segment, how many ends that has, and its speed.
+/// The segment of an end, the number of ends there, and its kbps.
 #[derive(Clone, Copy)]
 pub struct EndRow {
     pub segment: u16,
@@ -16,8 +16,9 @@ pub struct EndRow {
     pub kbps: u64,
 }
 
-/// By segment and trunk how many plugs are on the trunk's first side, those of segment s from `64 * s` on; by trunk what the
-/// segments use of it; and the sum of these uses.
+/// Running sums of a mapping.
+/// `counts` has by segment and trunk the number of plugs on the trunk's first side, those of segment s from `64 * s` on. `uses` has by trunk the kbps
+/// that the segments use, and `total` their sum.
 #[derive(Drop)]
 pub struct Sums {
     pub(crate) counts: Vec<u16>,
@@ -25,7 +26,7 @@ pub struct Sums {
     pub(crate) total: u64,
 }
 
-/// What a segment uses of a trunk with so many plugs on one side.
+/// The kbps that a segment uses of a trunk with so many plugs on one side.
 #[inline(always)]
 pub(crate) fn share_of(ends: u16, on: u16, kbps: u64) -> u64
     requires within { on ≤ ends }
@@ -38,7 +39,7 @@ pub(crate) fn share_of(ends: u16, on: u16, kbps: u64) -> u64
 }
 
 impl Sums {
-    /// A plug of a segment crosses a trunk, whose count stands at a place.
+    /// Takes a plug of a segment over a trunk, whose count is at that place.
     #[inline(always)]
     fn cross_one(&mut self, place: usize, crossing: Crossing, row: EndRow)
         requires place { place < length self.old.counts.items }
@@ -67,7 +68,7 @@ impl Sums {
         self.total = self.total - before + behind;
     }
 
-    /// A plug of a segment crosses trunks.
+    /// Takes a plug of a segment over trunks.
     pub fn cross(&mut self, row: EndRow, crossed: &[Crossing])
         requires room { 64 * row.segment + 64 ≤ length self.old.counts.items }
         requires one_each { length self.old.uses.items ≤ 64 }
@@ -99,8 +100,7 @@ impl Sums {
     ghost use Rattle.trunk_sums.specs.Crossed.{AreCrossed};
     ghost use Rattle.trunk_sums.specs.Summed.{IsRow, IsSummed};
 
-    /// An end goes to another plug: the sums are again what counting anew gives. Taking it back is the same with the plugs
-    /// exchanged.
+    /// Takes an end to another plug. The sums are then those of counting anew. Taking it back is a call with the plugs exchanged.
     pub fn replug(
         &mut self,
         lab: &Lab,

@@ -45,7 +45,7 @@ fn between(
     Ok(listed)
 }
 
-/// By pair of switches the trunks that part them: those of a and b stand at `64 * a + b`.
+/// By pair of switches, the trunks between them. The pair a and b is at `64 * a + b`.
 #[derive(Drop)]
 pub struct Crossings {
     lists: Vec<Items<Crossing>>,
@@ -60,7 +60,7 @@ impl Model for Crossings {
     ghost view = { λ a. a.lists.items };
 }
 
-/// Adds what is crossed from one number to another, where both are switches.
+/// Adds the trunks between the switches of two numbers, where both numbers name one.
 fn push_pair(
     alloc: Global,
     lists: &mut Vec<Items<Crossing>>,
@@ -83,7 +83,7 @@ fn push_pair(
     Ok(())
 }
 
-/// What is crossed by pair of switches.
+/// By pair of switches, the trunks between them.
 fn table_of(alloc: Global, lab: &Lab) -> Result<Vec<Items<Crossing>>, Memory>
     ensures { IfOk result (λ lists. IsTable lab.now lists.items) }
 {
@@ -104,7 +104,7 @@ fn switch_of(lab: &Lab, plug: IfaceId) -> SwitchId
 }
 
 impl Crossings {
-    /// Those of a lab.
+    /// The crossings of a lab.
     pub fn of_lab(alloc: Global, lab: &Lab) -> Result<Crossings, Memory>
         ensures { IfOk result (IsTable lab.now) }
     {
@@ -124,7 +124,7 @@ impl Crossings {
         }
     }
 
-    /// What a plug crosses that goes from one interface to another.
+    /// The trunks that a plug crosses on its way from one interface to another.
     #[inline(always)]
     pub fn between(&self, lab: &Lab, from: IfaceId, to: IfaceId) -> &[Crossing]
         requires table { IsTable lab.now self.now }

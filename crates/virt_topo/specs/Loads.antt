@@ -1,4 +1,4 @@
--- What the ends of a wiring put on their interfaces.
+-- The loads of a wiring's ends on their interfaces.
 use Rattle.std.specs.Prelude.{ℕ, ◌+◌, List, [], ◌∷◌, ◌++◌, length, replicate}
 use Rattle.virt_topo.specs.declared.loads.Load.{Load}
 use Rattle.virt_topo.specs.declared.wiring.Segment.{Segment}

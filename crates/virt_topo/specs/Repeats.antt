@@ -1,4 +1,4 @@
--- What stands again in a list.
+-- Elements that a list has twice.
 use Rattle.std.specs.Prelude.{Bool, false, ◌||◌, List, [], ◌∷◌}
 use Rattle.std.specs.List.{list_any}
 

@@ -7,7 +7,7 @@ use crate::repeats::{has_same, has_twice};
 use crate::{Wiring, WiringFault};
 
 impl Wiring {
-    /// Whether the wiring is sound: the first of its faults, if it has one.
+    /// Checks that the wiring is sound; else its first fault.
     pub fn check(&self) -> Result<(), WiringFault>
         ensures { Answers result (wiring_fault self.now) }
     {

@@ -1,4 +1,4 @@
-// Equal copies of wirings.
+// // Copies of wirings.
 ghost use Rattle.std.specs.Prelude.{◌≡◌, IfOk};
 
 use crate::{Class, Segment, VirtNode, Wiring};
@@ -73,7 +73,7 @@ fn copy_segments(alloc: Global, segments: &[Segment]) -> Result<Items<Segment>, 
 }
 
 impl Wiring {
-    /// An equal wiring.
+    /// An equal wiring, in memory of its own.
     pub fn copy(&self, alloc: Global) -> Result<Wiring, Memory>
         ensures { IfOk result (λ copy. copy ≡ self.now) }
     {

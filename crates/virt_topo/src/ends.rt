@@ -6,12 +6,12 @@ ghost use Rattle.virt_topo.specs.Sought.{IsSought};
 
 use crate::{VirtEnd, Wiring};
 
-/// Where an end was sought.
+/// The outcome of a search for an end in one segment.
 #[derive(Clone, Copy)]
 pub(crate) enum Sought {
-    /// Its place.
+    /// The end is here, at that place.
     At(usize),
-    /// Not here, and how many ends of the virtual node are still to be passed.
+    /// The end isn't here, and so many ends of the virtual node are still to be passed.
     Later(u16),
 }
 

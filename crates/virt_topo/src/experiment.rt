@@ -1,28 +1,28 @@
 use crate::{Mapped, Mapping, Wiring};
 use lab_base::{Name, Tags};
 
-/// Whether an experiment stands in the lab.
+/// The phase of an experiment.
 #[derive(Drop)]
 pub enum Phase {
-    /// It claims nothing.
+    /// The experiment claims nothing.
     Out,
-    /// Its wiring is mapped so.
+    /// The experiment stands in the lab with that mapping.
     In {
         mapping: Mapping,
         tags: Tags,
     },
-    /// It moves from one mapping to another, where one of the two may be nothing.
+    /// The experiment moves from one mapping to another, where one of the two may be nothing.
     Moving {
         old: Option<Mapped>,
         new: Option<Mapped>,
     },
 }
 
-/// An experiment.
+/// An experiment: its name, its wiring and its phase.
 #[derive(Drop)]
 pub struct Experiment {
     pub name: Name,
-    /// While it moves, the wiring that it had before.
+    /// The wiring; while a change is on its way, the one that the experiment had before.
     pub wiring: Wiring,
     pub phase: Phase,
 }

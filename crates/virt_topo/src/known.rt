@@ -1,4 +1,4 @@
-// Whether the numbers of a wiring name something.
+// // Whether each number of a wiring names something.
 ghost use Rattle.std.specs.Prelude.{◌≡◌, ◌≤◌, length, true};
 ghost use Rattle.std.specs.List.{list_all};
 ghost use Rattle.virt_topo.specs.Ends.{end_nodes};
@@ -64,7 +64,7 @@ fn knows_pipes(wiring: &Wiring, pipes: &[Pipe]) -> bool
     pipes.iter().all(|pipe| knows_pipe(wiring, pipe))
 }
 
-/// Whether each number names something.
+/// Whether each number of the wiring names something.
 pub fn knows_all(wiring: &Wiring) -> bool
     requires { length (end_nodes wiring.now.segments) ≤ 65536 }
     ensures { result ≡ knows_all wiring.now }

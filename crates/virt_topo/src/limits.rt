@@ -100,7 +100,7 @@ fn limits_pipes(pipes: &[Pipe]) -> bool
     pipes.iter().all(|pipe| limits_pipe(pipe))
 }
 
-/// Whether segments have at most so many ends.
+/// Whether these segments have at most so many ends in all.
 fn has_at_most(segments: &[Segment], most: usize) -> bool
     ensures { result ≡ nat_le (length (end_nodes segments.now)) most }
 {
@@ -114,7 +114,7 @@ fn has_at_most(segments: &[Segment], most: usize) -> bool
     true
 }
 
-/// Whether the limits are kept.
+/// Whether the wiring keeps its limits.
 pub fn keeps_limits(wiring: &Wiring) -> bool
     ensures { result ≡ keeps_limits wiring.now }
 {

@@ -1,4 +1,4 @@
-// What ends put on their interfaces.
+// // The loads of ends on their interfaces.
 ghost use Rattle.std.specs.Prelude.{◌≡◌, ◌<◌, ◌≤◌, ◌++◌, length, replicate, IfOk, OnOk};
 ghost use Rattle.virt_topo.specs.Loads.{load_of, loads_from};
 
@@ -6,7 +6,7 @@ use crate::Segment;
 use lab_base::Memory;
 use std::alloc::Global;
 
-/// The load of an end on its interface: the kbps of its segment, whose number tells which are of one.
+/// The load of an end on its interface: the kbps of its segment. The segment's number tells which loads are of one.
 #[derive(Clone, Copy)]
 pub struct Load {
     pub segment: u16,
@@ -27,7 +27,7 @@ fn push_loads(listed: &mut Vec<Load>, number: u16, segment: &Segment) -> Result<
     Ok(())
 }
 
-/// By end what it puts on its interface.
+/// By end, its load on its interface.
 pub fn loads_of(alloc: Global, segments: &[Segment]) -> Result<Vec<Load>, Memory>
     requires { length segments.now ≤ 512 }
     ensures { IfOk result (λ listed. listed.items ≡ loads_from 0 segments.now) }

@@ -7,12 +7,12 @@ use crate::{Segment, Wiring};
 use lab_base::{IfaceId, Items, Memory, Name, NodeId, Tags};
 use std::alloc::Global;
 
-/// Where a wiring stands in a lab.
+/// A mapping of a wiring onto a lab.
 #[derive(Drop)]
 pub struct Mapping {
-    /// By virtual node its node, and one of that node's types.
+    /// By virtual node, its node, and one of that node's types.
     pub places: Items<(NodeId, Name)>,
-    /// By end its interface. The ends are ordered by segment, then by place in the segment.
+    /// By end, its interface. The ends are ordered by segment, then by place in the segment.
     pub plugs: Items<IfaceId>,
 }
 
@@ -24,7 +24,7 @@ pub struct Mapped {
     pub tags: Tags,
 }
 
-/// How many plugs are on a side.
+/// The number of plugs on a side, which is given by interface.
 fn plugs_on(side: &[bool], plugs: &[IfaceId]) -> usize
     requires { All (λ i. i.0 < length side.now) plugs.now }
     ensures { result ≡ plugs_on side.now plugs.now }
@@ -32,7 +32,7 @@ fn plugs_on(side: &[bool], plugs: &[IfaceId]) -> usize
     plugs.iter().filter(|plug| side[plug.0 as usize]).count()
 }
 
-/// What a segment with these plugs uses of the cut that parts a side from the rest.
+/// The kbps that a segment with these plugs uses of the cut between a side and the rest.
 fn segment_use(side: &[bool], segment: &Segment, plugs: &[IfaceId]) -> u64
     requires within { All (λ i. i.0 < length side.now) plugs.now }
     requires few { length plugs.now ≤ 256 }
@@ -44,7 +44,7 @@ fn segment_use(side: &[bool], segment: &Segment, plugs: &[IfaceId]) -> u64
 }
 
 impl Mapping {
-    /// An equal mapping.
+    /// An equal mapping, in memory of its own.
     pub fn copy(&self, alloc: Global) -> Result<Mapping, Memory>
         ensures { IfOk result (λ copy. copy ≡ self.now) }
     {
@@ -53,8 +53,8 @@ impl Mapping {
         Ok(Mapping { places, plugs })
     }
 
-    /// What the segments use of the cut that parts the interfaces of a side, which `first` tells, from the rest: of
-    /// each segment the kbps for each plug on that side or for each other plug, whichever are fewer.
+    /// The kbps that the segments use of the cut between a side and the rest. `first` tells by interface whether it is on that side.
+    /// Each segment uses its kbps once for each plug on that side, or for each other plug, whichever are fewer.
     pub fn cut_use(&self, wiring: &Wiring, first: &[bool]) -> u64
         requires limits { keeps_limits wiring.now ≡ true }
         requires plugged { length self.now.plugs ≡ length (end_nodes wiring.now.segments) }

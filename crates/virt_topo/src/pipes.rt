@@ -20,7 +20,7 @@ fn owner_among(segments: &[Segment], end: u16) -> &[u8]
     &[]
 }
 
-/// The owner of the segment of the end of a virtual node that has `k` earlier ones, or no bytes where there is none.
+/// The owner of the segment of a virtual node's end that has `k` earlier ones; no bytes where there is none.
 pub fn owner_at(wiring: &Wiring, node: u16, k: u16) -> &[u8]
     requires { length (end_nodes wiring.now.segments) ≤ 65536 }
     ensures { result.now ≡ owner_at wiring.now (end_number (end_nodes wiring.now.segments) node k) }
@@ -44,7 +44,7 @@ fn multiplexed_among(segments: &[Segment], end: u16) -> bool
     false
 }
 
-/// Whether the segment of the end of a virtual node that has `k` earlier ones is multiplexed; no where there is none.
+/// Whether the segment of a virtual node's end that has `k` earlier ones is multiplexed; false where there is none.
 pub fn is_multiplexed_at(wiring: &Wiring, node: u16, k: u16) -> bool
     requires { length (end_nodes wiring.now.segments) ≤ 65536 }
     ensures { result ≡ multiplexed_at wiring.now (end_number (end_nodes wiring.now.segments) node k) }

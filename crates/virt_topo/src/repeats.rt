@@ -1,4 +1,4 @@
-// What is given again in a wiring.
+// // Whether a name, a type, a desire or an address of a wiring is given twice.
 ghost use Rattle.std.specs.Prelude.{◌≡◌, ◌++◌, ◌||◌, ◌==◌};
 ghost use Rattle.std.specs.List.{list_any};
 ghost use Rattle.lab_base.specs.Names.{same_name};
@@ -199,7 +199,7 @@ fn ask_class_name(classes: &[Class], nodes: &[VirtNode]) -> bool
         .any(|node| asks_class_name(classes, &node.asks))
 }
 
-/// Whether something is given twice.
+/// Whether the wiring gives a name, a type, a desire or an address twice.
 pub fn has_twice(wiring: &Wiring) -> bool
     ensures { result ≡ has_twice wiring.now }
 {

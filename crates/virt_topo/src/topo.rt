@@ -8,30 +8,29 @@ use std::marker::Model;
 /// A node that an NS file asks for.
 #[derive(Drop)]
 pub struct AskedNode {
-    /// A variable's name, `v` or `v-i`, or `tb.nK` for the K-th node.
+    /// The name of its variable, `v` or `v-i`, or `tb.nK` for the K-th node.
     pub name: Name,
     pub asks: Asks,
     pub os: Name,
-    /// The node that it has to be on.
+    /// The node of the lab that it has to be on, if one is set.
     pub fixed: Option<Name>,
 }
 
 /// A link or a LAN that an NS file asks for.
 #[derive(Drop)]
 pub struct AskedLink {
-    /// A variable's name, `v` or `v-i`, or `tb.lK` for the K-th link or LAN.
+    /// The name of its variable, `v` or `v-i`, or `tb.lK` for the K-th link or LAN.
     pub name: Name,
     pub lan: bool,
-    /// In each direction.
+    /// The rates in each direction.
     pub rates: Rates,
-    /// Whether its ends may share interfaces with those of other such links, where it is not shaped.
+    /// Whether its ends may share interfaces with ends of other multiplexed links, where it is not shaped.
     pub multiplexed: bool,
-    /// Two ends of a link, 2 to 254 of a LAN, on different nodes.
+    /// Its ends: two of a link, 2 to 254 of a LAN, on different nodes.
     pub ends: Items<VirtEnd>,
 }
 
-/// The network that an NS file asks for: nodes, links and LANs, and classes, each in order of creation. Contracts see
-/// these lists.
+/// The network that an NS file asks for: nodes, links and LANs, and classes, each in order of creation. Contracts see these lists.
 #[derive(Drop)]
 pub struct Topo {
     nodes: Items<AskedNode>,
@@ -62,7 +61,7 @@ impl Topo {
         }
     }
 
-    /// The nodes. Its clause `topo` is what every network keeps.
+    /// The nodes. The clause `topo` holds of every network.
     pub fn nodes(&self) -> &[AskedNode]
         ensures nodes { result.now ≡ self.now.nodes }
         ensures topo { IsTopo self.now }

@@ -5,7 +5,7 @@ use lab_base::{NodeId, TrunkId};
 pub enum Broken {
     /// A virtual node is on a node that nobody else claims.
     F1,
-    /// What is on one node has one type and one OS, and is at most that type's count.
+    /// The virtual nodes of one node have one type and one OS, and are at most as many as that type's count.
     F2,
     /// Types, desires, features and classes agree.
     F3,
@@ -21,7 +21,7 @@ pub enum Broken {
     F8,
 }
 
-/// What breaks a rule.
+/// The subject that breaks a rule.
 #[derive(Clone, Copy, Debug, PartialEq, Eq)]
 pub enum Subject {
     /// A virtual node: `F1`, `F3` and `F4`.

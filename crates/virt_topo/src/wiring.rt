@@ -4,13 +4,13 @@ use lab_base::{Items, Name, Rates};
 #[derive(Drop)]
 pub struct Class {
     pub name: Name,
-    /// In thousandths, at most 1,000,000; from 1,000 on the members have one type.
+    /// The weight in thousandths, at most 1,000,000. From 1,000 on the members have one type.
     pub weight: u32,
-    /// 1 to 8 types.
+    /// Its types, 1 to 8.
     pub types: Items<Name>,
 }
 
-/// What a virtual node asks for.
+/// The type or class that a virtual node asks for.
 #[derive(Clone, Copy)]
 pub enum Asks {
     /// A type.
@@ -24,10 +24,10 @@ pub enum Asks {
 pub struct VirtNode {
     pub name: Name,
     pub asks: Asks,
-    /// At most 8 features, each with a weight in thousandths; from 1,000 on the node must have it.
+    /// At most 8 features, each with a weight in thousandths. From 1,000 on the node must have the feature.
     pub desires: Items<(Name, u32)>,
     pub os: Name,
-    /// The node that it has to be on.
+    /// The node of the lab that it has to be on, if one is set.
     pub fixed: Option<Name>,
 }
 
@@ -44,13 +44,13 @@ pub struct VirtEnd {
 #[derive(Drop)]
 pub struct Segment {
     pub name: Name,
-    /// The link or LAN that it is part of.
+    /// The link or LAN to which the segment belongs.
     pub owner: Name,
-    /// 1 to 1,000,000,000.
+    /// The speed in kbps, 1 to 1,000,000,000.
     pub kbps: u64,
-    /// Whether its ends may share interfaces with ends of other such segments.
+    /// Whether its ends may share interfaces with ends of other multiplexed segments.
     pub multiplexed: bool,
-    /// 2 to 256 ends.
+    /// Its ends, 2 to 256.
     pub ends: Items<VirtEnd>,
 }
 
@@ -59,18 +59,17 @@ pub struct Segment {
 pub struct Pipe {
     /// The number of its virtual node.
     pub node: u16,
-    /// How many earlier ends of the virtual node its first end has.
+    /// The number of earlier ends that the virtual node has before the pipe's first end.
     pub from: u16,
-    /// How many earlier ends of the virtual node its second end has.
+    /// The number of earlier ends that the virtual node has before the pipe's second end.
     pub to: u16,
-    /// From the first end to the second.
+    /// The rates from the first end to the second.
     pub there: Rates,
-    /// From the second end to the first.
+    /// The rates from the second end to the first.
     pub back: Rates,
 }
 
-/// What is mapped: at most 64 classes, 1 to 256 virtual nodes, at most 512 segments with at most 4,096 ends, and
-/// pipes.
+/// A wiring: at most 64 classes, 1 to 256 virtual nodes, at most 512 segments with at most 4,096 ends in all, and pipes.
 #[derive(Drop)]
 pub struct Wiring {
     pub classes: Items<Class>,
