@@ -1,4 +1,4 @@
--- What `rates` gives is what an expansion gives a shaped link or LAN.
+-- The rates of an event are those that an expansion gives a shaped link or LAN.
 use Rattle.std.proofs.Common.{◌≡◌, ℕ, ◌≤◌, Bool, true, false, List, [], ◌∷◌, length, map, refl, sym, arith}
 use Rattle.std.specs.Prelude.{◌==◌, nat_le, if◌then◌else◌}
 use Rattle.std.specs.List.{range_with_len}

@@ -1,4 +1,4 @@
--- What is due, and what an event leaves, is one; what `rates` gives is what an expansion gives.
+-- The due events, and the wiring that an event leaves, are unique; and its rates are those that an expansion gives.
 use Rattle.std.specs.Prelude.{◌≡◌, ℕ, true, List, length, map}
 use Rattle.virt_topo.specs.declared.topo.AskedLink.{AskedLink}
 use Rattle.virt_topo.specs.declared.wiring.Wiring.{Wiring}

@@ -39,11 +39,10 @@ fn renewed_pipes(
     Ok(pipes)
 }
 
-/// The wiring that an event leaves of the present one: the pipes of its link or LAN have other rates. `text` is the
-/// wiring of the text that schedules it.
+/// The wiring that an event leaves of the present one: the pipes of its link or LAN have other rates. `text` is the wiring of the text that schedules
+/// it.
 ///
-/// The error is `Shape` where the link has no pipe in the present wiring, or another number of pipes than in the
-/// text's.
+/// The error is `Shape` where the link has no pipe in the present wiring, or another number of pipes than in the text's.
 pub fn apply(
     alloc: Global,
     event: &Event,

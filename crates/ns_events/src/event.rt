@@ -1,24 +1,24 @@
 use lab_base::{Name, Rates};
 
-/// What happens to a link or LAN.
+/// The kind of a link's or LAN's event.
 #[derive(Clone, Copy)]
 pub enum What {
-    /// Everything is lost.
+    /// The link loses everything from then on.
     Down,
-    /// It has the rates of its text again.
+    /// The link has the rates of its text again.
     Up,
-    /// It has these rates.
+    /// The link has these rates.
     Rates(Rates),
 }
 
 /// A scheduled event of a link or LAN.
 #[derive(Clone, Copy)]
 pub struct Event {
-    /// In microseconds, at most 1,000,000,000,000.
+    /// The time in microseconds, at most 1,000,000,000,000.
     pub at: u64,
     /// The link or LAN.
     pub link: Name,
     pub what: What,
-    /// The line of the text, the first being 1.
+    /// The line of the text, from 1.
     pub line: u32,
 }

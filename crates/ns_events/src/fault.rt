@@ -3,7 +3,7 @@ ghost use Rattle.std.specs.Prelude.{◌≡◌};
 use lab_base::Memory;
 use std::alloc::{AllocError, AllocFailed};
 
-/// Why an event isn't applied.
+/// The reason why an event isn't applied.
 #[derive(Clone, Copy, Debug, PartialEq, Eq)]
 pub enum ApplyFault {
     /// The link has no pipe in the present wiring, or another number of pipes than in the text's.

@@ -1,4 +1,4 @@
-//! Scheduled link events: which are due in a span of time, and the wiring that each leaves.
+//! Scheduled link events: those that are due in a span of time, and the wiring that each leaves.
 #![tactic(auto)]
 
 mod applied;

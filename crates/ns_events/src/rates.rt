@@ -12,7 +12,7 @@ use virt_topo::Pipe;
 /// A loss that nothing passes, in millionths.
 const EVERYTHING: u32 = 1_000_000;
 
-/// The same rates, but everything is lost.
+/// These rates with everything lost.
 fn lost(rates: Rates) -> Rates
     ensures { result ≡ changes.lost rates }
 {
@@ -47,7 +47,7 @@ fn with_rates(pipe: &Pipe, there: Rates, back: Rates) -> Pipe
     }
 }
 
-/// A pipe of a link or LAN behind an event; in the text's wiring it is `text`, one of `count`.
+/// A pipe of a link or LAN behind an event. In the text's wiring it is `text`, one of `count`.
 pub(crate) fn renewed_pipe(what: What, count: usize, pipe: &Pipe, text: &Pipe) -> Pipe
     ensures { result ≡ renewed_pipe what count pipe.now text.now }
 {

@@ -42,11 +42,10 @@ fn wiring_of(alloc: Global, asked: &Asked) -> Result<Wiring, TextRefused>
     }
 }
 
-/// Reads an NS text: the wiring of the network that its commands make up to `$ns run`. The events that they schedule are
-/// read, and not kept.
+/// Reads an NS text: the wiring of the network that its commands make up to `$ns run`. The events that they schedule are read, and not kept.
 ///
-/// The error is the first fault of the text, with its line, or that of the expansion, with the line of `$ns run`: a limit,
-/// no node, an address that is given twice or in two subnets, or no subnet or host number for an end.
+/// The error is the first fault of the text, with its line, or that of the expansion, with the line of `$ns run`.
+/// Faults of the expansion are a limit, no node, an address given twice or in two subnets, and an end without a subnet or host number.
 pub fn read_network(alloc: Global, text: &[u8]) -> Result<Wiring, TextRefused>
     ensures wiring { HasWiring text.now result }
     ensures sound { IfOk result (λ wiring. IsSound wiring) }
@@ -57,7 +56,7 @@ pub fn read_network(alloc: Global, text: &[u8]) -> Result<Wiring, TextRefused>
     }
 }
 
-/// Reads an NS text as `read_network` does, and prints its wiring: what is printed is read back as the wiring.
+/// Reads an NS text as `read_network` does, and prints its wiring. The printed text is read back as that wiring.
 pub fn read_and_print(alloc: Global, text: &[u8]) -> Result<Printed, TextRefused>
     ensures wiring { HasWiring text.now (wiring_alone result) }
     ensures sound { IfOk result (λ printed. IsSound printed.wiring) }

@@ -1,4 +1,4 @@
--- What a reader's call says of the lines that are left.
+-- The lines that are left behind a reader's call.
 use Rattle.std.proofs.Common.{◌≡◌, inl, inr, ℕ, ◌^◌, ◌≤◌, Bool, true, false, Some, None, List, [], ◌∷◌, ◌++◌, ◌+◌, append_assoc, arith, Option, Result, Ok, Err, IfSome, refl, sym, subst, ap, ◌∙◌}
 use Rattle.std.proofs.lemmas.Bool.{true≢false}
 use Rattle.std.proofs.lemmas.List.{append-nil, map-append}

@@ -4,22 +4,22 @@ ghost use Rattle.script_text.specs.Drills.{drill_of};
 use lab_base::{Name, Text};
 use plant::{Drill, How, Pick};
 
-/// A command of a script. A block is its lines, each followed by a line feed. A swap with `only_begin` has the word
-/// `open` before it: it is begun, and turned by later commands.
+/// A command of a script. A block is its lines, each followed by a line feed.
+/// A swap with `only_begin` has the word `open` before it: it is begun, and later commands turn it.
 #[derive(Drop)]
 pub enum Command {
-    /// `ptop N`: sets the lab, once, by the next N lines.
+    /// `ptop N`: sets the lab, once, by the ptop text of the next N lines.
     Ptop {
         lines: u16,
         ptop: Text,
     },
-    /// `create E N`: makes an experiment, which is out, by the NS file of the next N lines.
+    /// `create E N`: makes an experiment, which is then out, by the NS file of the next N lines.
     Create {
         exp: Name,
         lines: u16,
         ns: Text,
     },
-    /// `create-top E N`: makes an experiment, which is out, by the next N lines.
+    /// `create-top E N`: makes an experiment, which is then out, by the top text of the next N lines.
     CreateTop {
         exp: Name,
         lines: u16,
@@ -29,26 +29,26 @@ pub enum Command {
     Show {
         exp: Name,
     },
-    /// `solve E SEED`: searches a solution on what is free for an experiment, which is out.
+    /// `solve E SEED`: searches a solution for an experiment, which has to be out, on the free rest of the lab.
     Solve {
         exp: Name,
         seed: u64,
     },
-    /// `swapin E SEED`: swaps in an experiment, which is out, by the solution that `solve` finds.
+    /// `swapin E SEED`: swaps in an experiment, which has to be out, by the solution that `solve` finds.
     Swapin {
         only_begin: bool,
         exp: Name,
         seed: u64,
     },
-    /// `swapin-with E N`: swaps in an experiment, which is out, by the solution text of the next N lines.
+    /// `swapin-with E N`: swaps in an experiment, which has to be out, by the solution text of the next N lines.
     SwapinWith {
         only_begin: bool,
         exp: Name,
         lines: u16,
         map: Text,
     },
-    /// `modify E SEED N`: gives an experiment, which is in, the wiring of the NS file of the next N lines, by a solution
-    /// that is searched on what the other experiments leave.
+    /// `modify E SEED N`: gives an experiment, which has to be in, the wiring of the NS file of the next N lines.
+    /// It searches a solution on the rest that the other experiments leave.
     Modify {
         only_begin: bool,
         exp: Name,
@@ -56,8 +56,8 @@ pub enum Command {
         lines: u16,
         ns: Text,
     },
-    /// `modify-with E N M`: gives an experiment, which is in, the wiring of the top text of the next N lines, by the
-    /// solution text of the M lines behind them.
+    /// `modify-with E N M`: gives an experiment, which has to be in, the wiring of the top text of the next N lines.
+    /// The solution text is the M lines behind them.
     ModifyWith {
         only_begin: bool,
         exp: Name,
@@ -66,7 +66,7 @@ pub enum Command {
         map_lines: u16,
         map: Text,
     },
-    /// `swapout E`: swaps out an experiment, which is in.
+    /// `swapout E`: swaps out an experiment, which has to be in.
     Swapout {
         only_begin: bool,
         exp: Name,
@@ -94,7 +94,7 @@ pub enum Command {
         nth: u32,
         pick: Pick,
     },
-    /// `delete E`: removes an experiment, which is out.
+    /// `delete E`: removes an experiment, which has to be out.
     Delete {
         exp: Name,
     },
@@ -105,7 +105,7 @@ pub enum Command {
 }
 
 impl Command {
-    /// The failure that it plans, if it is a drill. Drills are planned on the plant; every other command is the controller's.
+    /// The failure that a drill plans; None of another command. Drills are planned on the plant; every other command is the controller's.
     pub fn drill(&self) -> Option<Drill>
         ensures { result ≡ drill_of self.now }
     {

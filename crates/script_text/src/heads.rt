@@ -1,4 +1,4 @@
-// What the first line of a command says.
+// // The first line of a command.
 ghost use Rattle.std.specs.Prelude.{◌≡◌, ◌≤◌, IfOk, IfSome};
 ghost use Rattle.std.specs.Str.{bytes_eq};
 ghost use Rattle.lab_base.specs.Texts.{views};
@@ -43,7 +43,7 @@ pub(crate) enum TwoBlocks {
     ModifyWith { only_begin: bool, exp: Name },
 }
 
-/// The first line of a command: the command, or what it is once the lines of its blocks are there.
+/// The first line of a command: the whole command, or one that its blocks complete.
 #[derive(Drop)]
 pub(crate) enum Head {
     Whole(Command),
@@ -51,7 +51,7 @@ pub(crate) enum Head {
         what: OneBlock,
         lines: u16,
     },
-    /// So many lines for the first block, and so many behind them for the second.
+    /// The first block has `first` lines, and the second so many behind them.
     Blocks {
         what: TwoBlocks,
         first: u16,
@@ -59,12 +59,12 @@ pub(crate) enum Head {
     },
 }
 
-/// What a line says where a command may begin.
+/// The reading of a line where a command may begin.
 #[derive(Drop)]
 pub(crate) enum Said {
-    /// It has no field, or its first one begins with `#`.
+    /// The line has no field, or its first one begins with `#`.
     Skipped,
-    /// It is no command's first line.
+    /// The line is no command's first line.
     Unknown,
     Begins(Head),
 }
@@ -127,7 +127,7 @@ impl TwoBlocks {
     }
 }
 
-/// The number of lines that a field gives.
+/// The number of lines in a field.
 fn count_in(field: &[u8]) -> Option<u16>
     ensures count { result ≡ counted field.now }
     ensures few { IfSome result (λ lines. lines ≤ 16384) }
@@ -138,7 +138,7 @@ fn count_in(field: &[u8]) -> Option<u16>
     }
 }
 
-/// The name that a field gives.
+/// The name in a field.
 fn name_in(field: &[u8]) -> Option<Name>
     ensures { result ≡ named field.now }
 {
@@ -148,7 +148,7 @@ fn name_in(field: &[u8]) -> Option<Name>
     }
 }
 
-/// Whether there is no field.
+/// Some where there is no field.
 fn no_field(fields: &[&[u8]]) -> Option<()>
     ensures { result ≡ no_field (views fields.now) }
 {
@@ -158,7 +158,7 @@ fn no_field(fields: &[&[u8]]) -> Option<()>
     }
 }
 
-/// The name that the only field gives.
+/// The name in the only field.
 fn only_name(fields: &[&[u8]]) -> Option<Name>
     ensures { result ≡ only_name (views fields.now) }
 {
@@ -168,7 +168,7 @@ fn only_name(fields: &[&[u8]]) -> Option<Name>
     }
 }
 
-/// The number of lines that the only field gives.
+/// The number of lines in the only field.
 fn only_count(fields: &[&[u8]]) -> Option<u16>
     ensures count { result ≡ only_count (views fields.now) }
     ensures few { IfSome result (λ lines. lines ≤ 16384) }
@@ -179,7 +179,7 @@ fn only_count(fields: &[&[u8]]) -> Option<u16>
     }
 }
 
-/// The name and the number of lines that two fields give.
+/// The name and the number of lines in two fields.
 fn name_and_count(fields: &[&[u8]]) -> Option<(Name, u16)>
     ensures pair { result ≡ name_and_count (views fields.now) }
     ensures few { IfSome result (λ given. given.1 ≤ 16384) }
@@ -194,7 +194,7 @@ fn name_and_count(fields: &[&[u8]]) -> Option<(Name, u16)>
     }
 }
 
-/// The name and the two numbers of lines that three fields give.
+/// The name and the two numbers of lines in three fields.
 fn name_and_counts(fields: &[&[u8]]) -> Option<(Name, u16, u16)>
     ensures triple { result ≡ name_and_counts (views fields.now) }
     ensures first { IfSome result (λ given. given.1 ≤ 16384) }
@@ -211,7 +211,7 @@ fn name_and_counts(fields: &[&[u8]]) -> Option<(Name, u16, u16)>
     }
 }
 
-/// The seed that a field gives.
+/// The seed in a field.
 fn seed_in(field: &[u8]) -> Option<u64>
     ensures { result ≡ seed_of field.now }
 {
@@ -221,7 +221,7 @@ fn seed_in(field: &[u8]) -> Option<u64>
     }
 }
 
-/// The name and the seed that two fields give.
+/// The name and the seed in two fields.
 fn name_and_seed(fields: &[&[u8]]) -> Option<(Name, u64)>
     ensures { result ≡ name_and_seed (views fields.now) }
 {
@@ -235,7 +235,7 @@ fn name_and_seed(fields: &[&[u8]]) -> Option<(Name, u64)>
     }
 }
 
-/// The name, the seed and the number of lines that three fields give.
+/// The name, the seed and the number of lines in three fields.
 fn name_seed_and_count(fields: &[&[u8]]) -> Option<(Name, u64, u16)>
     ensures triple { result ≡ name_seed_and_count (views fields.now) }
     ensures few { IfSome result (λ given. given.2 ≤ 16384) }
@@ -258,7 +258,7 @@ fn is_word(field: &[u8], word: &[u8]) -> bool
     field == word
 }
 
-/// How a device fails, by a field.
+/// The way in which a device fails, by its word.
 fn how_in(field: &[u8]) -> Option<How>
     ensures { result ≡ how_of field.now }
 {
@@ -275,7 +275,7 @@ fn how_in(field: &[u8]) -> Option<How>
     }
 }
 
-/// What a stop leaves, by a field.
+/// The pick of a stop, by its word.
 fn pick_in(field: &[u8]) -> Option<Pick>
     ensures { result ≡ pick_of field.now }
 {
@@ -290,7 +290,7 @@ fn pick_in(field: &[u8]) -> Option<Pick>
     }
 }
 
-/// The number of a call that a field gives.
+/// The number of a call in a field.
 fn nth_in(field: &[u8]) -> Option<u32>
     ensures { result ≡ nth_of field.now }
 {
@@ -300,7 +300,7 @@ fn nth_in(field: &[u8]) -> Option<u32>
     }
 }
 
-/// The failure that fields give: of the disk by two, of a device by three.
+/// The planned failure in some fields: of the disk by two, of a device by three.
 fn fail_head(fields: &[&[u8]]) -> Option<Head>
     ensures head { result ≡ fail_head (views fields.now) }
     ensures range { IfSome result IsInRange }
@@ -320,7 +320,7 @@ fn fail_head(fields: &[&[u8]]) -> Option<Head>
     }
 }
 
-/// The stop that two fields give.
+/// The planned stop in two fields.
 fn stop_head(fields: &[&[u8]]) -> Option<Head>
     ensures head { result ≡ stop_head (views fields.now) }
     ensures range { IfSome result IsInRange }
@@ -335,7 +335,7 @@ fn stop_head(fields: &[&[u8]]) -> Option<Head>
     }
 }
 
-/// The head that the word of a swap and the fields behind it are.
+/// The head of a swap, from its word and the fields behind it.
 fn swap_by(only_begin: bool, word: &[u8], fields: &[&[u8]]) -> Option<Head>
     ensures head { result ≡ swap_by only_begin word.now (views fields.now) }
     ensures range { IfSome result IsInRange }
@@ -378,7 +378,7 @@ fn swap_by(only_begin: bool, word: &[u8], fields: &[&[u8]]) -> Option<Head>
     }
 }
 
-/// The head of a swap that is opened only, by the fields behind `open`.
+/// The head of a swap that is only begun, from the fields behind `open`.
 fn opened_by(fields: &[&[u8]]) -> Option<Head>
     ensures head { result ≡ opened_by (views fields.now) }
     ensures range { IfSome result IsInRange }
@@ -389,7 +389,7 @@ fn opened_by(fields: &[&[u8]]) -> Option<Head>
     }
 }
 
-/// The head that a word and the fields behind it are: the words of all commands.
+/// The head of a command, from its word and the fields behind it. This is the table of all words.
 fn head_by(word: &[u8], fields: &[&[u8]]) -> Option<Head>
     ensures head { result ≡ head_by word.now (views fields.now) }
     ensures range { IfSome result IsInRange }
@@ -444,7 +444,7 @@ fn head_by(word: &[u8], fields: &[&[u8]]) -> Option<Head>
     }
 }
 
-/// What a line says where a command may begin.
+/// Reads a line where a command may begin.
 pub(crate) fn said_in(alloc: Global, line: &Text) -> Result<Said, Memory>
     ensures said { IfOk result (λ said. said ≡ said_of line.now) }
     ensures range { IfOk result SaysInRange }

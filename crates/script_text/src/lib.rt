@@ -1,8 +1,8 @@
 //! Scripts and replies: the commands of a script's lines, and the text of each reply.
 //!
-//! A command joins by a variant of `Command` and a row of the table of words, `head_by`, or `swap_by` for a swap, which
-//! may have `open` before it; one with a block also by a variant of `OneBlock`, one with two by one of `TwoBlocks`. A
-//! reply joins by a variant of `Reply` and its text.
+//! A command joins by a variant of `Command` and a row of the table of words, `head_by`. A swap, which may have `open` before it, joins by `swap_by`.
+//! A command with a block also joins by a variant of `OneBlock`, and one with two by one of `TwoBlocks`. A reply joins by a variant of `Reply` and
+//! its text.
 #![tactic(auto)]
 
 mod command;

@@ -13,19 +13,19 @@ use lab_base::{Memory, Text};
 use lab_io::{Line, LineFault, LineReader, Source};
 use std::alloc::Global;
 
-/// What stands next in a script.
+/// The next part of a script.
 #[derive(Drop)]
 pub enum Next {
     Command(Command),
-    /// There is no command more.
+    /// The end: there is no further command.
     End,
 }
 
-/// Why there is no next command.
+/// The reason why there is no next command.
 #[derive(Clone, Copy, Debug, PartialEq, Eq)]
 pub enum ScriptFault {
-    /// The line of this number is the first that is not in the grammar: it is no command, it is too long, or it is
-    /// missing in a block.
+    /// The line of this number is the first that is not in the grammar.
+    /// It is no command, it is too long, or it is missing in a block.
     Bad { line: u64 },
     ReadFault,
     Memory,
@@ -41,7 +41,7 @@ impl From<Memory> for ScriptFault {
     }
 }
 
-/// Takes a line.
+/// Takes a line; None at the end.
 fn take_line<S: Source>(lines: &mut LineReader, source: &mut S) -> Result<Option<Text>, ScriptFault>
     ensures some { IfOk result (λ line. IfSome line (λ text. Passed (stand_of lines.old (S.left source.old)) (stand_of lines.new (S.left source.new)) (text ∷ []))) }
     ensures short { IfOk result (λ line. IfSome line (λ text. length text ≤ 4096)) }
@@ -128,7 +128,7 @@ fn take_block<S: Source>(
     Ok(block)
 }
 
-/// Takes the blocks of the command that begins so, as many as its head has.
+/// Takes as many blocks as the head of a command has.
 fn with_blocks<S: Source>(
     alloc: Global,
     head: Head,
@@ -164,7 +164,7 @@ fn with_blocks<S: Source>(
 
 /// Reads the next command of a script, with its blocks; its words are by the forms of `Command`.
 ///
-/// A reader that has met a fault answers it again, and nothing else is said of it.
+/// A reader that has met a fault answers that fault again, and nothing else is said of it.
 pub fn read_command<S: Source>(
     alloc: Global,
     lines: &mut LineReader,

@@ -125,7 +125,7 @@ fn shown(
     Ok(text)
 }
 
-/// What a search found, behind `least` or `local`.
+/// The text of a search's solution, behind the words `least` or `local`.
 fn solved(
     alloc: Global,
     words: &[u8],

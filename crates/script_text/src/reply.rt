@@ -28,21 +28,21 @@ pub struct TagLine {
     pub vlan: VlanId,
 }
 
-/// Where an experiment stands that is in: its canonical solution text, and a line for each segment.
+/// The placement of an experiment that is in: its canonical solution text, and a line for each segment.
 #[derive(Drop)]
 pub struct Placed {
     pub solution: Text,
     pub tags: Items<TagLine>,
 }
 
-/// How a swap ended that failed.
+/// The end of a swap that failed.
 #[derive(Clone, Copy, Debug, PartialEq, Eq)]
 pub enum FailedEnd {
     /// The experiment is out.
     Out,
-    /// It is in, as it was.
+    /// The experiment is in, as it was.
     In,
-    /// It is stuck: it moves, and its swap doesn't go on.
+    /// The experiment is stuck: it moves, and its swap doesn't go on.
     Stuck,
 }
 
@@ -61,33 +61,32 @@ pub enum Reply {
         nodes: u16,
         segments: u16,
     },
-    /// `show E PHASE`, the canonical top text, of an experiment that is in its canonical solution text and a line
-    /// `tag SEGMENT VLAN` for each segment, and `end E`.
+    /// `show E PHASE`, the canonical top text, and `end E`.
+    /// For an experiment that is in, its canonical solution text and a line `tag SEGMENT VLAN` for each segment stand before `end`.
     Shown {
         exp: Name,
         phase: PhaseWord,
         top: Text,
         placed: Option<Placed>,
     },
-    /// `least E COST`, the canonical solution text, and `end E`: to `solve`. All candidates were tried, and none that fits
-    /// costs less.
+    /// `least E COST`, the canonical solution text, and `end E`: to `solve`. All candidates were tried, and none that fits costs less.
     Least {
         exp: Name,
         cost: u64,
         solution: Text,
     },
-    /// `local E COST`, the canonical solution text, and `end E`: to `solve`. There are too many candidates to try all, and
-    /// no single change of this one fits and costs less.
+    /// `local E COST`, the canonical solution text, and `end E`: to `solve`. There are too many candidates to try all. No single change of this one
+    /// fits and costs less.
     Local {
         exp: Name,
         cost: u64,
         solution: Text,
     },
-    /// `none E`: all candidates were tried, and none fits what is free.
+    /// `none E`: all candidates were tried, and none fits the free rest of the lab.
     NoneFits {
         exp: Name,
     },
-    /// `gave up E`: there are too many candidates to try all, and the first to start from doesn't fit.
+    /// `gave up E`: there are too many candidates to try all, and the first one to start from doesn't fit.
     GaveUp {
         exp: Name,
     },
@@ -95,7 +94,7 @@ pub enum Reply {
     Deleted {
         exp: Name,
     },
-    /// A line `exp E PHASE N V` for each experiment, then `free N V`, the numbers that are free.
+    /// A line `exp E PHASE N V` for each experiment, then `free N V` with the numbers of free nodes and VLAN ids.
     Listed {
         experiments: Items<StatusLine>,
         nodes: u16,
@@ -113,31 +112,31 @@ pub enum Reply {
     Unknown {
         exp: Name,
     },
-    /// `in E`: it is swapped in.
+    /// `in E`: the experiment is swapped in.
     In {
         exp: Name,
     },
-    /// `out E`: it is swapped out.
+    /// `out E`: the experiment is swapped out.
     Out {
         exp: Name,
     },
-    /// `more E`: its swap has not ended.
+    /// `more E`: the experiment's swap has not ended.
     More {
         exp: Name,
     },
-    /// `trouble E WHAT`: this turn of its swap met trouble, and the undo begins.
+    /// `trouble E WHAT`: this turn of the swap met trouble, and the undo begins.
     Trouble {
         exp: Name,
         what: What,
     },
-    /// `failed E out WHAT`, `failed E in WHAT`, `failed E stuck WHAT`. What troubled it is `device NAME`,
-    /// `boot NODE` where the node was late, `boot NODE FROM TO`, or `journal`.
+    /// `failed E out WHAT`, `failed E in WHAT`, `failed E stuck WHAT`.
+    /// The trouble is `device NAME`, `boot NODE` where the node was late, `boot NODE FROM TO`, or `journal`.
     Failed {
         exp: Name,
         end: FailedEnd,
         what: What,
     },
-    /// `recovered D S`: to `recover`, how many experiments were settled, and how many are stuck.
+    /// `recovered D S`: to `recover`, the numbers of experiments that were settled, and of those that are stuck.
     Recovered {
         done: u32,
         stuck: u32,
@@ -168,7 +167,7 @@ pub enum Reply {
     Busy {
         exp: Name,
     },
-    /// `not open E`: it has none.
+    /// `not open E`: the experiment has no open swap.
     NotOpen {
         exp: Name,
     },
@@ -185,7 +184,7 @@ pub enum Reply {
     FullExperiments,
     /// `full swaps 16`: so many swaps are open.
     FullSwaps,
-    /// `full journal LENGTH`: the journal has that length, and no room for a record more.
+    /// `full journal LENGTH`: the journal has that length, and no room for one more record.
     FullJournal {
         length: u64,
     },
@@ -196,7 +195,7 @@ pub enum Reply {
 }
 
 impl Reply {
-    /// Whether it tells that the journal failed. The controller that gave it is of no use then.
+    /// Whether the reply tells that the journal failed. The controller that gave it is of no use then.
     pub fn closes(&self) -> bool
         ensures { result ≡ closes self.now }
     {
