@@ -39,6 +39,7 @@ fn use_of(lab: &Lab, mapped: &Mapped, trunk: usize) -> u64
     requires trunk { trunk < length lab.now.trunks }
     ensures { result ≡ use_of lab.now mapped.now.wiring mapped.now.mapping trunk }
 {
+    // for the prover: it tells what every lab keeps
     let _kept = lab.range();
     let first = lab.first_side(TrunkId(trunk as u16));
     mapped.mapping.cut_use(&mapped.wiring, first)

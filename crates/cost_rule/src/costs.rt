@@ -17,6 +17,7 @@ fn trunk_use(lab: &Lab, wiring: &Wiring, mapping: &Mapping, trunk: usize) -> u64
     ensures used { result ≡ use_of lab.now wiring.now mapping.now trunk }
     ensures bound { result ≤ 4096 * 1000000000 }
 {
+    // for the prover: it tells what every lab keeps
     let _kept = lab.range();
     mapping.cut_use(wiring, lab.first_side(TrunkId(trunk as u16)))
 }
@@ -27,6 +28,7 @@ pub(crate) fn trunk_uses(lab: &Lab, wiring: &Wiring, mapping: &Mapping) -> u64
     ensures sum { result ≡ trunk_uses lab.now wiring.now mapping.now }
     ensures bound { result ≤ 64 * (4096 * 1000000000) }
 {
+    // for the prover: it tells what every lab keeps
     let _kept = lab.range();
     let mut total = 0;
     for trunk in 0..lab.trunks().len() {

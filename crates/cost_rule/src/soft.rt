@@ -52,6 +52,7 @@ pub fn node_soft(lab: &Lab, wiring: &Wiring, mapping: &Mapping, virt: usize) -> 
     ensures sum { result ≡ node_soft lab.now wiring.now mapping.now virt }
     ensures small { result ≤ 16 * 999 }
 {
+    // for the prover: it tells what every lab keeps
     let _kept = lab.range();
     let place = place_at(mapping, virt);
     let desires = virt_at(wiring, virt).desires.as_slice();

@@ -100,6 +100,7 @@ fn keeps_f2(
     requires node { node < length lab.now.nodes }
     ensures { IfOk result (λ kept. kept ≡ keeps_f2 lab.now wiring.now mapping.now node) }
 {
+    // for the prover: it tells what every lab keeps
     let _kept = lab.range();
     let kept = may_share(
         alloc,

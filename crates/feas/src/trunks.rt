@@ -16,6 +16,7 @@ fn keeps_f6(lab: &Lab, free: &Free, wiring: &Wiring, mapping: &Mapping, trunk: u
     requires trunk { trunk < length lab.now.trunks }
     ensures { result ≡ keeps_f6 lab.now free.now wiring.now mapping.now trunk }
 {
+    // for the prover: it tells what every lab keeps
     let _kept = lab.range();
     let first = lab.first_side(TrunkId(trunk as u16));
     mapping.cut_use(wiring, first) <= free.left.as_slice()[trunk]

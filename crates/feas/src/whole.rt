@@ -35,6 +35,7 @@ pub fn check(
     requires shaped { IsShaped lab.now wiring.now mapping.now }
     ensures { IsChecked result (violation lab.now free.now wiring.now mapping.now) }
 {
+    // for the prover: it tells what every lab keeps
     let _kept = lab.range();
     if let Some(virt) = first_claimed(lab, free, wiring, mapping) {
         return breaks(Broken::F1, Subject::Virt(virt as u16));

@@ -186,6 +186,7 @@ impl LabState {
         ensures judged { IsJudged self.now.state entry.now result }
         ensures sane { Sane self.now.state }
     {
+        // for the prover: it tells what the experiments keep
         let _kept = &self.experiments;
         match entry {
             Record::Lab { ptop } => self.judge_lab(ptop.bytes()),

@@ -58,6 +58,7 @@ impl LabState {
         ensures sane { Sane self.now.state }
         ensures printable { (e : AnyExperiment) → Has self.now.state.experiments e → is_printable e.wiring ≡ true }
     {
+        // for the prover: it tells what the experiments keep
         let _kept = &self.experiments;
         match &self.place {
             Some(place) => Some(&place.lab),

@@ -24,6 +24,7 @@ pub(crate) fn lab_of(alloc: Global, text: &[u8]) -> Result<Lab, PrepareFault>
     ensures bad { OnBad result ((lab : AnyLab) → IsLab lab → text.now ≡ the_texts.ptop lab → ⊥) }
 {
     let lab = read_ptop(alloc, text)?;
+    // for the prover: it tells what every lab keeps
     let _kept = lab.range();
     let printed = match print_ptop(alloc, &lab) {
         Ok(printed) => printed,
@@ -89,6 +90,7 @@ pub(crate) fn mapping_of(
     ensures ok { IfOk result (λ mapping. IsShaped lab.now wiring.now mapping × (text.now ≡ the_texts.solution lab.now wiring.now mapping)) }
     ensures bad { OnBad result ((mapping : AnyMapping) → IsShaped lab.now wiring.now mapping → text.now ≡ the_texts.solution lab.now wiring.now mapping → ⊥) }
 {
+    // for the prover: it tells what every lab keeps
     let _kept = lab.range();
     let mapping = read_solution(alloc, text, lab, wiring)?;
     let printed = print_solution(alloc, lab, wiring, &mapping)?;

@@ -16,6 +16,7 @@ pub(crate) fn first_f2(lab: &Lab, wiring: &Wiring, mapping: &Mapping) -> Option<
     ensures first { result ≡ first_below (length lab.now.nodes) (keeps_f2 lab.now wiring.now mapping.now) }
     ensures within { IfSome result (λ node. node < length lab.now.nodes) }
 {
+    // for the prover: it tells what every lab keeps
     let _kept = lab.range();
     for node in 0..lab.nodes().len() {
         if !keeps_f2(lab, wiring, mapping, node as u16) {

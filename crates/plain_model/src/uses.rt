@@ -17,6 +17,7 @@ pub fn use_of(lab: &Lab, wiring: &Wiring, mapping: &Mapping, trunk: usize) -> u6
     requires trunk { trunk < length lab.now.trunks }
     ensures { result ≡ use_of lab.now wiring.now mapping.now trunk }
 {
+    // for the prover: it tells what every lab keeps
     let _kept = lab.range();
     mapping.cut_use(wiring, lab.first_side(TrunkId(trunk as u16)))
 }

@@ -38,6 +38,7 @@ pub fn cost_of(number: RuleNumber, lab: &Lab, wiring: &Wiring, mapping: &Mapping
     requires shaped { IsShaped lab.now wiring.now mapping.now }
     ensures { result ≡ cost number lab.now wiring.now mapping.now }
 {
+    // for the prover: it tells what every lab keeps
     let _kept = lab.range();
     parts_cost(number, parts_of(lab, wiring, mapping))
 }

@@ -22,6 +22,7 @@ fn moved_cost(number: RuleNumber, lab: &Lab, wiring: &Wiring, from: &Mapping, to
     ensures before { result.before ≤ 1000000000000000 }
     ensures after { result.after ≤ 1000000000000000 }
 {
+    // for the prover: it tells what every lab keeps
     let _kept = lab.range();
     let soft = moved_soft(lab, wiring, from, to);
     match number {
@@ -58,6 +59,7 @@ pub fn step_cost(
     requires cost { cost ≡ cost_in number lab.now wiring.now from.now }
     ensures { result ≡ cost_in number lab.now wiring.now to.now }
 {
+    // for the prover: it tells what every lab keeps
     let _kept = lab.range();
     let moved = moved_cost(number, lab, wiring, from, to);
     cost + moved.after - moved.before

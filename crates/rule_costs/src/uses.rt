@@ -40,6 +40,7 @@ fn segment_uses(lab: &Lab, segment: &Segment, plugs: &[IfaceId]) -> u64
     requires slow { segment.now.kbps ≤ 1000000000 }
     ensures { result ≡ uses_of lab.now (record { segment = segment.now; plugs = plugs.now }) }
 {
+    // for the prover: it tells what every lab keeps
     let _kept = lab.range();
     let mut total = 0;
     for trunk in 0..lab.trunks().len() {
@@ -78,6 +79,7 @@ pub(crate) fn moved_uses(lab: &Lab, wiring: &Wiring, from: &Mapping, to: &Mappin
     ensures before { result.before ≤ trunk_uses lab.now wiring.now from.now }
     ensures after { result.after ≤ trunk_uses lab.now wiring.now to.now }
 {
+    // for the prover: it tells what every lab keeps
     let _kept = lab.range();
     let mut before = 0;
     let mut after = 0;

@@ -119,6 +119,7 @@ impl Given {
         requires { IfSome node (λ n. n < length lab.now.nodes) }
         ensures { Takes result self.new (placed_on lab.now self.old virt node kind) }
     {
+        // for the prover: it tells what every lab keeps
         let _kept = lab.range();
         match (virt, node) {
             (Some(virt), Some(node)) => self.place_typed(

@@ -177,6 +177,7 @@ impl Names<'_> {
         ensures named { result ≡ iface_named self.now.lab.now (node, name) }
         ensures within { IfSome result (λ i. i < 65536) }
     {
+        // for the prover: it tells what every lab keeps
         let _kept = self.lab.range();
         let node = self.node(node);
         self.iface_by(node, name)

@@ -143,6 +143,7 @@ pub fn print_solution(
     ensures again { IsSound wiring.now → IfOk result (λ text. mapping_of_text lab.now wiring.now text ≡ Ok mapping.now) }
     ensures size { IsSound wiring.now → IfOk result (λ text. length text ≤ 16777216) }
 {
+    // for the prover: it tells what every lab keeps
     let _kept = lab.range();
     let mut text = Text::new(alloc);
     push_mapping(&mut text, alloc, lab, wiring, mapping)?;

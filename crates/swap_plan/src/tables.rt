@@ -44,6 +44,7 @@ pub(crate) fn oses_of(
     requires { IsShaped lab.now wiring.now mapping.now }
     ensures { IfOk result (λ oses. oses.items ≡ map (os_on lab.now wiring.now.nodes mapping.now.places) (node_names lab.now)) }
 {
+    // for the prover: it tells what every lab keeps
     let _kept = lab.range();
     let virts = wiring.nodes.as_slice();
     let mut oses = vec![in alloc; None; lab.nodes().len()]?;
@@ -85,6 +86,7 @@ fn pipes_of(
     requires shaped { IsShaped lab.now wiring.now mapping.now }
     ensures { IfOk result (λ lists. lists.items ≡ map (pipes_at lab.now wiring.now mapping.now) (node_names lab.now)) }
 {
+    // for the prover: it tells what every lab keeps
     let _kept = lab.range();
     let mut lists = no_pipes(alloc, lab.nodes().len())?;
     for pipe in wiring.pipes.as_slice() {

@@ -108,7 +108,9 @@ impl Sums {
         ensures after { result.after ≡ once_crossed self.now row crossed.now }
         ensures small { result.after ≤ 64 * (256 * 1000000000) }
     {
+        // for the prover: it tells what every lab keeps
         let _kept = lab.range();
+        // for the prover: it tells that the number of segments fits
         let _count = wiring.segments.len();
         self.shares(row, crossed)
     }
@@ -131,6 +133,7 @@ impl Sums {
         requires summed { IsSummed lab.now wiring.now plugs.now self.now }
         ensures { result ≡ used_of_all lab.now wiring.now (remade plugs.now changes.now) }
     {
+        // for the prover: it tells what every lab keeps
         let _kept = lab.range();
         let mut total = self.total;
         for change in changes {

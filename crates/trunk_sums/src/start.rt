@@ -29,6 +29,7 @@ fn count_row(lab: &Lab, place: usize, plugs: &[IfaceId], counts: &mut Vec<u16>)
     ensures row { (t : ℕ) → t < length lab.now.trunks → slice_index_or counts.new.items (place + t) 0 ≡ plugs_on (side_of lab.now t) plugs.now }
     ensures earlier { (k : ℕ) → k < place → slice_index_or counts.new.items k 0 ≡ slice_index_or counts.old.items k 0 }
 {
+    // for the prover: it tells what every lab keeps
     let _kept = lab.range();
     for trunk in 0..lab.trunks().len() {
         let side = lab.first_side(TrunkId(trunk as u16));
@@ -48,6 +49,7 @@ fn counts_of(
     ensures room { IfOk result (λ counts. length counts.items ≡ 64 * length wiring.now.segments) }
     ensures each { IfOk result (λ counts. (s t : ℕ) → s < length wiring.now.segments → t < length lab.now.trunks → slice_index_or counts.items (64 * s + t) 0 ≡ plugs_on (side_of lab.now t) (own_plugs wiring.now.segments plugs.now s)) }
 {
+    // for the prover: it tells what every lab keeps
     let _kept = lab.range();
     let mut counts = vec![in alloc; 0u16; 64 * wiring.segments.len()]?;
     let mut rest = plugs;
@@ -68,6 +70,7 @@ fn use_of(lab: &Lab, wiring: &Wiring, mapping: &Mapping, trunk: usize) -> u64
     requires trunk { trunk < length lab.now.trunks }
     ensures { result ≡ used lab.now wiring.now mapping.now.plugs trunk }
 {
+    // for the prover: it tells what every lab keeps
     let _kept = lab.range();
     mapping.cut_use(wiring, lab.first_side(TrunkId(trunk as u16)))
 }
@@ -106,6 +109,7 @@ impl Sums {
         requires in_lab { All (λ i. i.0 < length lab.now.ifaces) mapping.now.plugs }
         ensures { IfOk result (λ sums. IsSummed lab.now wiring.now mapping.now.plugs sums) }
     {
+        // for the prover: it tells what every lab keeps
         let _kept = lab.range();
         let counts = counts_of(alloc, lab, wiring, mapping.plugs.as_slice())?;
         let uses = uses_of(alloc, lab, wiring, mapping)?;

@@ -119,7 +119,9 @@ impl Sums {
         ensures plugs { plugs.new.items ≡ slice_set plugs.old.items end to }
         ensures summed { IsSummed lab.now wiring.now plugs.new.items self.new }
     {
+        // for the prover: it tells what every lab keeps
         let _kept = lab.range();
+        // for the prover: it tells that the number of segments fits
         let _count = wiring.segments.len();
         self.cross(row, crossed);
         plugs[end] = to;

@@ -34,6 +34,7 @@ fn between(
     requires to { to.0 < length lab.now.switches }
     ensures { IfOk result (λ cs. AreBetween lab.now from.0 to.0 (length lab.now.trunks) cs) }
 {
+    // for the prover: it tells what every lab keeps
     let _kept = lab.range();
     let mut listed = Items::new(alloc);
     for number in 0..lab.trunks().len() {
@@ -72,6 +73,7 @@ fn push_pair(
     ensures kept { OnOk result ((k : ℕ) → k < length lists.old.items → slice_index_or lists.new.items k [] ≡ slice_index_or lists.old.items k []) }
     ensures pair { OnOk result (from < length lab.now.switches → to < length lab.now.switches → AreBetween lab.now from to (length lab.now.trunks) (slice_index_or lists.new.items (length lists.old.items) [])) }
 {
+    // for the prover: it tells what every lab keeps
     let _kept = lab.range();
     let switches = lab.switches().len();
     if from < switches && to < switches {
@@ -87,6 +89,7 @@ fn push_pair(
 fn table_of(alloc: Global, lab: &Lab) -> Result<Vec<Items<Crossing>>, Memory>
     ensures { IfOk result (λ lists. IsTable lab.now lists.items) }
 {
+    // for the prover: it tells what every lab keeps
     let _kept = lab.range();
     let mut lists = Vec::new(alloc);
     for number in 0..4_096usize {
