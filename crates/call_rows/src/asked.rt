@@ -167,7 +167,8 @@ fn asked(alloc: Global, lab: &Lab, wiring: &Wiring, call: Call) -> Result<Found,
     };
     let stepped = Rc::clone(&steps)?;
     let by_step = move |lab: &Lab, wiring: &Wiring, from: &Mapping, to: &Mapping, told: u64| -> u64
-        requires { IsSound wiring.now × IsShaped lab.now wiring.now from.now × IsShaped lab.now wiring.now to.now × (told ≡ cost number lab.now wiring.now from.now) }
+        requires { IsSound wiring.now × IsShaped lab.now wiring.now from.now × IsShaped lab.now wiring.now to.now
+            × (told ≡ cost number lab.now wiring.now from.now) }
         ensures { result ≡ cost number lab.now wiring.now to.now }
     {
         note(&stepped);

@@ -74,7 +74,8 @@ fn put_on(range: (u16, u16), entries: &mut Vec<Entry>, tables: &mut Tables, exp:
     requires room { vec_len entries.old < vec_capacity entries.old }
     requires kept { (kbps : List ℕ) × Keeps range kbps entries.old.items tables.old × MayStand (held_in range kbps entries.old.items tables.old) exp claim }
     ensures entries { entries.new.items ≡ entries.old.items ++ record { exp = exp; claim = claim } ∷ [] }
-    ensures kept { (kbps : List ℕ) → Keeps range kbps entries.old.items tables.old → MayStand (held_in range kbps entries.old.items tables.old) exp claim → Keeps range kbps entries.new.items tables.new }
+    ensures kept { (kbps : List ℕ) → Keeps range kbps entries.old.items tables.old → MayStand (held_in range kbps entries.old.items tables.old) exp claim
+        → Keeps range kbps entries.new.items tables.new }
     ensures nodes { length tables.new.nodes.items ≡ length tables.old.nodes.items }
     ensures capacity { vec_capacity entries.new ≡ vec_capacity entries.old }
 {
@@ -93,7 +94,8 @@ fn put_in_place(
     requires room { length (others exp entries.old.items) < vec_capacity entries.old }
     requires kept { (kbps : List ℕ) × Keeps range kbps entries.old.items tables.old × MayAdd (held_in range kbps entries.old.items tables.old) exp claim }
     ensures entries { entries.new.items ≡ others exp entries.old.items ++ record { exp = exp; claim = claim } ∷ [] }
-    ensures kept { (kbps : List ℕ) → Keeps range kbps entries.old.items tables.old → MayAdd (held_in range kbps entries.old.items tables.old) exp claim → Keeps range kbps entries.new.items tables.new }
+    ensures kept { (kbps : List ℕ) → Keeps range kbps entries.old.items tables.old → MayAdd (held_in range kbps entries.old.items tables.old) exp claim
+        → Keeps range kbps entries.new.items tables.new }
     ensures nodes { length tables.new.nodes.items ≡ length tables.old.nodes.items }
     ensures capacity { vec_capacity entries.new ≡ vec_capacity entries.old }
 {

@@ -83,7 +83,8 @@ fn left_beside(
     requires fits { (t : ℕ) → t < length kbps.now → slice_index_or used.now t 0 ≤ slice_index_or kbps.now t 0 }
     requires among { (t : ℕ) → t < length kbps.now → claim_use t claim.now ≤ slice_index_or used.now t 0 }
     ensures len { IfOk result (λ left. length left ≡ length kbps.now) }
-    ensures left { IfOk result (λ left. (t : ℕ) → t < length kbps.now → slice_index_or left t 0 + slice_index_or used.now t 0 ≡ slice_index_or kbps.now t 0 + claim_use t claim.now) }
+    ensures left { IfOk result (λ left. (t : ℕ) → t < length kbps.now
+        → slice_index_or left t 0 + slice_index_or used.now t 0 ≡ slice_index_or kbps.now t 0 + claim_use t claim.now) }
 {
     let mut left = Items::new(alloc);
     for trunk in 0..kbps.len() {
@@ -105,7 +106,8 @@ fn left_to(
     requires fits { (t : ℕ) → t < length kbps.now → slice_index_or used.now t 0 ≤ slice_index_or kbps.now t 0 }
     requires used { (t : ℕ) → t < length kbps.now → slice_index_or used.now t 0 ≡ use_by t entries.now }
     ensures len { IfOk result (λ left. length left ≡ length kbps.now) }
-    ensures left { IfOk result (λ left. (t : ℕ) → t < length kbps.now → slice_index_or left t 0 + use_by t (others exp entries.now) ≡ slice_index_or kbps.now t 0) }
+    ensures left { IfOk result (λ left. (t : ℕ) → t < length kbps.now
+        → slice_index_or left t 0 + use_by t (others exp entries.now) ≡ slice_index_or kbps.now t 0) }
 {
     match place_of(entries, exp) {
         Some(at) => left_beside(alloc, kbps, used, &entries[at].claim),

@@ -84,7 +84,8 @@ pub(crate) fn note(tables: &mut Tables, first: u16, exp: Name, claim: &Claim)
     requires room { (t : ℕ) → t < length tables.old.used.items → slice_index_or tables.old.used.items t 0 + claim_use t claim.now < 2 ^ 64 }
     ensures nodes { tables.new.nodes.items ≡ marked (Some exp) tables.old.nodes.items (claim_nodes claim.now) }
     ensures ids { tables.new.ids.items ≡ marked (Some exp) tables.old.ids.items (claim_places first claim.now) }
-    ensures used { (t : ℕ) → t < length tables.old.used.items → slice_index_or tables.new.used.items t 0 ≡ slice_index_or tables.old.used.items t 0 + claim_use t claim.now }
+    ensures used { (t : ℕ) → t < length tables.old.used.items
+        → slice_index_or tables.new.used.items t 0 ≡ slice_index_or tables.old.used.items t 0 + claim_use t claim.now }
     ensures nodes_len { length tables.new.nodes.items ≡ length tables.old.nodes.items }
     ensures ids_len { length tables.new.ids.items ≡ length tables.old.ids.items }
     ensures used_len { length tables.new.used.items ≡ length tables.old.used.items }
@@ -101,7 +102,8 @@ pub(crate) fn forget(tables: &mut Tables, first: u16, claim: &Claim)
     requires room { (t : ℕ) → t < length tables.old.used.items → claim_use t claim.now ≤ slice_index_or tables.old.used.items t 0 }
     ensures nodes { tables.new.nodes.items ≡ marked None tables.old.nodes.items (claim_nodes claim.now) }
     ensures ids { tables.new.ids.items ≡ marked None tables.old.ids.items (claim_places first claim.now) }
-    ensures used { (t : ℕ) → t < length tables.old.used.items → slice_index_or tables.new.used.items t 0 + claim_use t claim.now ≡ slice_index_or tables.old.used.items t 0 }
+    ensures used { (t : ℕ) → t < length tables.old.used.items
+        → slice_index_or tables.new.used.items t 0 + claim_use t claim.now ≡ slice_index_or tables.old.used.items t 0 }
     ensures nodes_len { length tables.new.nodes.items ≡ length tables.old.nodes.items }
     ensures ids_len { length tables.new.ids.items ≡ length tables.old.ids.items }
     ensures used_len { length tables.new.used.items ≡ length tables.old.used.items }

@@ -24,14 +24,17 @@ pub struct Rule {
     pub(crate) number: RuleNumber,
     f: CostFn,
     ghost callable: { (lab : _) (wiring : _) (mapping : _) → IsSound wiring.now → IsShaped lab.now wiring.now mapping.now → CostFn.pre f lab wiring mapping },
-    ghost answers: { (lab : _) (wiring : _) (mapping : _) (r : _) → IsSound wiring.now → IsShaped lab.now wiring.now mapping.now → CostFn.post f lab wiring mapping r → r ≡ cost number lab.now wiring.now mapping.now },
+    ghost answers: { (lab : _) (wiring : _) (mapping : _) (r : _) → IsSound wiring.now → IsShaped lab.now wiring.now mapping.now
+        → CostFn.post f lab wiring mapping r → r ≡ cost number lab.now wiring.now mapping.now },
 }
 
 impl Rule {
     /// The rule of a closure that answers costs by that number.
     pub fn new(number: RuleNumber, f: CostFn) -> Rule
-        requires callable { (lab : _) (wiring : _) (mapping : _) → IsSound wiring.now → IsShaped lab.now wiring.now mapping.now → CostFn.pre f lab wiring mapping }
-        requires answers { (lab : _) (wiring : _) (mapping : _) (r : _) → IsSound wiring.now → IsShaped lab.now wiring.now mapping.now → CostFn.post f lab wiring mapping r → r ≡ cost number lab.now wiring.now mapping.now }
+        requires callable { (lab : _) (wiring : _) (mapping : _) → IsSound wiring.now → IsShaped lab.now wiring.now mapping.now
+            → CostFn.pre f lab wiring mapping }
+        requires answers { (lab : _) (wiring : _) (mapping : _) (r : _) → IsSound wiring.now → IsShaped lab.now wiring.now mapping.now
+            → CostFn.post f lab wiring mapping r → r ≡ cost number lab.now wiring.now mapping.now }
         ensures { result.number ≡ number }
     {
         Rule { number, f }

@@ -110,7 +110,8 @@ fn is_last_of_kind(wiring: &Wiring, mapping: &Mapping, class: u16, virt: usize) 
     requires few { length wiring.now.nodes ≤ 256 }
     requires virt { virt < length wiring.now.nodes }
     requires placed { length mapping.now.places ≡ length wiring.now.nodes }
-    ensures { result ≡ (is_member class (virt_at wiring.now virt).asks && not (list_any (same_name (place_at mapping.now virt).1) (types_from wiring.now mapping.now class (virt + 1)))) }
+    ensures { result ≡ (is_member class (virt_at wiring.now virt).asks
+        && not (list_any (same_name (place_at mapping.now virt).1) (types_from wiring.now mapping.now class (virt + 1)))) }
 {
     is_member(class, &virt_at(wiring, virt).asks)
         && !has_kind(wiring, mapping, class, place_at(mapping, virt).1, virt + 1)

@@ -24,8 +24,11 @@ pub struct StepRule {
     step: StepFn,
     by_parts: PartsFn,
     ghost same: { rule.number ≡ number },
-    ghost step_callable: { (lab : _) (wiring : _) (from : _) (to : _) (cost : _) → IsSound wiring.now → IsShaped lab.now wiring.now from.now → IsShaped lab.now wiring.now to.now → cost ≡ cost_in number lab.now wiring.now from.now → StepFn.pre step lab wiring from to cost },
-    ghost step_answers: { (lab : _) (wiring : _) (from : _) (to : _) (cost : _) (r : _) → IsSound wiring.now → IsShaped lab.now wiring.now from.now → IsShaped lab.now wiring.now to.now → cost ≡ cost_in number lab.now wiring.now from.now → StepFn.post step lab wiring from to cost r → r ≡ cost_in number lab.now wiring.now to.now },
+    ghost step_callable: { (lab : _) (wiring : _) (from : _) (to : _) (cost : _) → IsSound wiring.now → IsShaped lab.now wiring.now from.now
+        → IsShaped lab.now wiring.now to.now → cost ≡ cost_in number lab.now wiring.now from.now → StepFn.pre step lab wiring from to cost },
+    ghost step_answers: { (lab : _) (wiring : _) (from : _) (to : _) (cost : _) (r : _) → IsSound wiring.now → IsShaped lab.now wiring.now from.now
+        → IsShaped lab.now wiring.now to.now → cost ≡ cost_in number lab.now wiring.now from.now → StepFn.post step lab wiring from to cost r
+        → r ≡ cost_in number lab.now wiring.now to.now },
     ghost parts_callable: { (parts : _) → AreParts parts → PartsFn.pre by_parts parts },
     ghost parts_answer: { (parts : _) (r : _) → AreParts parts → PartsFn.post by_parts parts r → r ≡ cost_of_parts number parts },
 }
@@ -33,8 +36,11 @@ pub struct StepRule {
 impl StepRule {
     /// The rule of that number, with a closure for the cost of a second mapping, and one for a cost from its parts.
     pub fn new(rule: Rule, step: StepFn, by_parts: PartsFn) -> StepRule
-        requires step_callable { (lab : _) (wiring : _) (from : _) (to : _) (cost : _) → IsSound wiring.now → IsShaped lab.now wiring.now from.now → IsShaped lab.now wiring.now to.now → cost ≡ cost_in rule.number lab.now wiring.now from.now → StepFn.pre step lab wiring from to cost }
-        requires step_answers { (lab : _) (wiring : _) (from : _) (to : _) (cost : _) (r : _) → IsSound wiring.now → IsShaped lab.now wiring.now from.now → IsShaped lab.now wiring.now to.now → cost ≡ cost_in rule.number lab.now wiring.now from.now → StepFn.post step lab wiring from to cost r → r ≡ cost_in rule.number lab.now wiring.now to.now }
+        requires step_callable { (lab : _) (wiring : _) (from : _) (to : _) (cost : _) → IsSound wiring.now → IsShaped lab.now wiring.now from.now
+            → IsShaped lab.now wiring.now to.now → cost ≡ cost_in rule.number lab.now wiring.now from.now → StepFn.pre step lab wiring from to cost }
+        requires step_answers { (lab : _) (wiring : _) (from : _) (to : _) (cost : _) (r : _) → IsSound wiring.now → IsShaped lab.now wiring.now from.now
+            → IsShaped lab.now wiring.now to.now → cost ≡ cost_in rule.number lab.now wiring.now from.now → StepFn.post step lab wiring from to cost r
+            → r ≡ cost_in rule.number lab.now wiring.now to.now }
         requires parts_callable { (parts : _) → AreParts parts → PartsFn.pre by_parts parts }
         requires parts_answer { (parts : _) (r : _) → AreParts parts → PartsFn.post by_parts parts r → r ≡ cost_of_parts rule.number parts }
         ensures { result.number ≡ rule.number }

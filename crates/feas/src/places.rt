@@ -4,7 +4,8 @@ ghost use Rattle.std.specs.List.{list_all, list_any};
 ghost use Rattle.lab_base.specs.Names.{same_name};
 ghost use Rattle.virt_topo.specs.Wirings.{virt_at};
 ghost use Rattle.lab_model.specs.Shapes.{has_name, IsFreeOf, IsShaped, node_at};
-ghost use Rattle.lab_model.specs.Rules.{place_at, class_at, is_asked, are_met, is_member, first_type, is_of_one_type, suits, keeps_f1, keeps_f3, is_fixed_at, keeps_f4};
+ghost use Rattle.lab_model.specs.Rules.{place_at, class_at, is_asked, are_met, is_member, first_type};
+ghost use Rattle.lab_model.specs.Rules.{is_of_one_type, suits, keeps_f1, keeps_f3, is_fixed_at, keeps_f4};
 ghost use Rattle.lab_model.specs.Feasible.{first_below};
 
 use crate::at::{node_at, place_at, virt_at};

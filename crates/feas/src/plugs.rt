@@ -57,7 +57,9 @@ fn keeps_f5(lab: &Lab, mapping: &Mapping, loads: &[Load], end: usize, virt: u16)
     requires end { end < length mapping.now.plugs }
     requires loads { length loads.now ≡ length mapping.now.plugs }
     requires plug { (plug_at mapping.now end).0 < length lab.now.ifaces }
-    ensures { (d : _) → result ≡ (((iface_at lab.now (plug_at mapping.now end)).node.0 == (place_at mapping.now virt).0.0) && may_bear (iface_at lab.now (plug_at mapping.now end)).kbps (loads_on (plug_at mapping.now end).0 (zip (take end loads.now) (take end mapping.now.plugs))) (slice_index_or loads.now end d)) }
+    ensures { (d : _) → result ≡ (((iface_at lab.now (plug_at mapping.now end)).node.0 == (place_at mapping.now virt).0.0)
+        && may_bear (iface_at lab.now (plug_at mapping.now end)).kbps
+        (loads_on (plug_at mapping.now end).0 (zip (take end loads.now) (take end mapping.now.plugs))) (slice_index_or loads.now end d)) }
 {
     let plug = plug_at(mapping, end);
     let iface = iface_at(lab, plug);

@@ -1,4 +1,5 @@
-ghost use Rattle.std.specs.Prelude.{◌≡◌, ◌↔◌, ◌≤◌, ◌<◌, ◌+◌, ◌-◌, ◌^◌, ◌++◌, ◌∷◌, [], ℕ, Bool, List, true, length, Option, Result, IfSome, IsErrOf, IsTrue, OnOk, OnErr};
+ghost use Rattle.std.specs.Prelude.{◌≡◌, ◌↔◌, ◌≤◌, ◌<◌, ◌+◌, ◌-◌, ◌^◌, ◌++◌, ◌∷◌, [], ℕ};
+ghost use Rattle.std.specs.Prelude.{Bool, List, true, length, Option, Result, IfSome, IsErrOf, IsTrue, OnOk, OnErr};
 ghost use Rattle.lab_base.specs.Counts.{Rose};
 ghost use Rattle.plant.specs.DiskCalls.{DiskCause};
 ghost use Rattle.plant.specs.Events.{Event, Wrote, Synced};
@@ -65,9 +66,12 @@ impl Journal {
         ensures stopped { IsErrOf result CompactFault.Stopped ↔ IsTrue (P.seen plant.new).stopped }
         ensures compacts { (steps : List Event) × ((P.seen plant.new).told ≡ with_steps (P.seen plant.old).told steps)
             × IfSome (P.seen plant.old).told (λ t. Compacts t.trace steps self.old packed.now result) }
-        ensures moments { (rs ps : List Record) → ArePacked packed.now ps → IfSome (P.seen plant.old).told (λ t. IsAt t.trace self.old rs → HasEpoch t.trace self.old
-            → (steps : List Event) × ((P.seen plant.new).told ≡ with_steps (P.seen plant.old).told steps) × Shifts t.trace steps (side_of self.old) rs ps result) }
-        ensures stands { OnOk result ((rs ps : List Record) → ArePacked packed.now ps → IfSome (P.seen plant.old).told (λ t. IsAt t.trace self.old rs → HasEpoch t.trace self.old
+        ensures moments { (rs ps : List Record) → ArePacked packed.now ps
+            → IfSome (P.seen plant.old).told (λ t. IsAt t.trace self.old rs → HasEpoch t.trace self.old
+            → (steps : List Event) × ((P.seen plant.new).told ≡ with_steps (P.seen plant.old).told steps)
+            × Shifts t.trace steps (side_of self.old) rs ps result) }
+        ensures stands { OnOk result ((rs ps : List Record) → ArePacked packed.now ps
+            → IfSome (P.seen plant.old).told (λ t. IsAt t.trace self.old rs → HasEpoch t.trace self.old
             → IfSome (P.seen plant.new).told (λ u. IsAt u.trace self.new ps × HasEpoch u.trace self.new))) }
         ensures length { OnOk result (length_of self.new ≡ side_length packed.now) }
         ensures side { OnOk result (side_of self.new ≡ other_side (side_of self.old)) }

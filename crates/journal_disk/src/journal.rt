@@ -71,14 +71,16 @@ impl Journal {
         ensures stopped { length_of self.old + length encoded.now ≤ limit_of self.old → IsErrOf result AppendFault.Stopped ↔ IsTrue (P.seen plant.new).stopped }
         ensures appends { (r : Record) → IsBody encoded.now r → Appends (P.seen plant.old).told (P.seen plant.new).told self.old r result }
         ensures moments { (r : Record) (rs : List Record) → IsBody encoded.now r → IfSome (P.seen plant.old).told (λ t. IsAt t.trace self.old rs
-            → (steps : List Event) × ((P.seen plant.new).told ≡ with_steps (P.seen plant.old).told steps) × Moments t.trace steps (side_of self.old) rs r result) }
+            → (steps : List Event) × ((P.seen plant.new).told ≡ with_steps (P.seen plant.old).told steps)
+            × Moments t.trace steps (side_of self.old) rs r result) }
         ensures stands { OnOk result ((r : Record) (rs : List Record) → IsBody encoded.now r → IfSome (P.seen plant.old).told (λ t. IsAt t.trace self.old rs
             → IfSome (P.seen plant.new).told (λ u. IsAt u.trace self.new (rs ++ r ∷ [])))) }
         ensures length { OnOk result (length_of self.new ≡ length_of self.old + length encoded.now) }
         ensures side { side_of self.new ≡ side_of self.old }
         ensures limit { limit_of self.new ≡ limit_of self.old }
         ensures epoch { epoch_of self.new ≡ epoch_of self.old }
-        ensures of_epoch { OnOk result ((r : Record) (rs : List Record) → IsBody encoded.now r → IfSome (P.seen plant.old).told (λ t. IsAt t.trace self.old rs → HasEpoch t.trace self.old
+        ensures of_epoch { OnOk result ((r : Record) (rs : List Record) → IsBody encoded.now r
+            → IfSome (P.seen plant.old).told (λ t. IsAt t.trace self.old rs → HasEpoch t.trace self.old
             → IfSome (P.seen plant.new).told (λ u. HasEpoch u.trace self.new))) }
         ensures err { OnErr result (self.new ≡ self.old) }
     {

@@ -63,17 +63,21 @@ impl Journal {
     pub fn open<P: Plant>(alloc: Global, plant: &mut P, limit: u64) -> Result<Opened, OpenFault>
         requires least { 18 ≤ limit }
         requires most { limit ≤ 2 ^ 32 }
-        ensures ok { IfOk result (λ opened. (rs : List Record) × (opened.1.items ≡ placed 17 rs) × IfSome (P.seen plant.new).told (λ t. IsAt t.trace opened.0 rs × HasAll t.trace rs)) }
+        ensures ok { IfOk result (λ opened. (rs : List Record) × (opened.1.items ≡ placed 17 rs)
+            × IfSome (P.seen plant.new).told (λ t. IsAt t.trace opened.0 rs × HasAll t.trace rs)) }
         ensures holds { IfOk result (λ opened. (rs : List Record) × Holds rs opened.0 opened.1.items) }
-        ensures bad { (side : AnySide) (at : ℕ) → result ≡ Err (OpenFault.Bad side at) → IfSome (P.seen plant.new).told (λ t. Bad (disk A t.trace).reads (disk B t.trace).reads side at) }
+        ensures bad { (side : AnySide) (at : ℕ) → result ≡ Err (OpenFault.Bad side at)
+            → IfSome (P.seen plant.new).told (λ t. Bad (disk A t.trace).reads (disk B t.trace).reads side at) }
         ensures plant { IsErrOf result OpenFault.Plant → Rose (P.seen plant.old).faults.disk (P.seen plant.new).faults.disk }
         ensures later { (P.seen plant.old).faults.disk ≤ (P.seen plant.new).faults.disk }
         ensures devices { (P.seen plant.new).faults.devices ≡ (P.seen plant.old).faults.devices }
         ensures stopped { IsErrOf result OpenFault.Stopped ↔ IsTrue (P.seen plant.new).stopped }
         ensures limit { IfOk result (λ opened. limit_of opened.0 ≡ limit) }
         ensures epoch { IfOk result (λ opened. IfSome (P.seen plant.new).told (λ t. HasEpoch t.trace opened.0)) }
-        ensures opens { (steps : List Event) × ((P.seen plant.new).told ≡ with_steps (P.seen plant.old).told steps) × IfSome (P.seen plant.old).told (λ t. Opens t.trace steps result) }
-        ensures moments { (steps : List Event) × ((P.seen plant.new).told ≡ with_steps (P.seen plant.old).told steps) × IfSome (P.seen plant.old).told (λ t. IsOpening t.trace steps result) }
+        ensures opens { (steps : List Event) × ((P.seen plant.new).told ≡ with_steps (P.seen plant.old).told steps)
+            × IfSome (P.seen plant.old).told (λ t. Opens t.trace steps result) }
+        ensures moments { (steps : List Event) × ((P.seen plant.new).told ≡ with_steps (P.seen plant.old).told steps)
+            × IfSome (P.seen plant.old).told (λ t. IsOpening t.trace steps result) }
     {
         sync_sides(plant)?;
         let a = read_side(alloc, plant, Side::A)?;

@@ -1,4 +1,5 @@
-ghost use Rattle.std.specs.Prelude.{◌≡◌, ◌↔◌, ◌≤◌, ◌<◌, ℕ, Option, Err, length, take, drop, vec_len, ◌+◌, IfOk, IfSome, OnOk, OnErr, IsErrOf, IsTrue, List, ◌++◌};
+ghost use Rattle.std.specs.Prelude.{◌≡◌, ◌↔◌, ◌≤◌, ◌<◌, ℕ, Option, Err, length, take, drop};
+ghost use Rattle.std.specs.Prelude.{vec_len, ◌+◌, IfOk, IfSome, OnOk, OnErr, IsErrOf, IsTrue, List, ◌++◌};
 ghost use Rattle.plant.specs.Disks.{disk};
 ghost use Rattle.plant.specs.Told.{with_steps};
 ghost use Rattle.plant.specs.Events.{Event};
@@ -38,7 +39,8 @@ fn read_piece<P: Plant>(
     requires piece { size ≤ PIECE }
     requires within { IfSome (P.seen plant.old).told (λ t. vec_len bytes.old + size ≤ length (disk side t.trace).reads) }
     ensures trace { MayMiss side (P.seen plant.old).told (P.seen plant.new).told result }
-    ensures read { IfSome (P.seen plant.old).told (λ t. OnOk result (bytes.new.items ≡ bytes.old.items ++ take size (drop (vec_len bytes.old) (disk side t.trace).reads))) }
+    ensures read { IfSome (P.seen plant.old).told
+        (λ t. OnOk result (bytes.new.items ≡ bytes.old.items ++ take size (drop (vec_len bytes.old) (disk side t.trace).reads))) }
     ensures len { OnOk result (vec_len bytes.new ≡ vec_len bytes.old + size) }
     ensures plant { IsErrOf result OpenFault.Plant → Rose (P.seen plant.old).faults.disk (P.seen plant.new).faults.disk }
     ensures later { (P.seen plant.old).faults.disk ≤ (P.seen plant.new).faults.disk }

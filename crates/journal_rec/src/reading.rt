@@ -1,6 +1,7 @@
 ghost use Rattle.std.specs.Prelude.{IfOk, IsErrOf};
 ghost use Rattle.journal_rec.specs.Payloads.{Decodes, IsReadAs, IsShort};
-ghost use Rattle.journal_rec.specs.Reading.{Gives, byte_at, number_at, part_at, name_of, field_at, text_at, each_at, tags_at, in_at, change_at, change2_at, way_at, lab_at, create_at, create2_at, begin_at, delete_at, commit_at, abort_at, record_at, all_of};
+ghost use Rattle.journal_rec.specs.Reading.{Gives, byte_at, number_at, part_at, name_of, field_at, text_at, each_at, tags_at, in_at, change_at};
+ghost use Rattle.journal_rec.specs.Reading.{change2_at, way_at, lab_at, create_at, create2_at, begin_at, delete_at, commit_at, abort_at, record_at, all_of};
 ghost use Rattle.journal_rec.specs.declared.record.Record.{Record as AnyRecord};
 
 use crate::{RecFault, Record, Way};

@@ -1,6 +1,7 @@
 ghost use Rattle.std.specs.Prelude.{◌≡◌, ◌<◌, ◌+◌, ◌^◌, ◌++◌, [], ◌∷◌, length, true, IfOk, OnOk};
 ghost use Rattle.lab_base.specs.Names.{is_name};
-ghost use Rattle.journal_rec.specs.Payloads.{le, name_bytes, text_bytes, tags_bytes, way_bytes, payload, AreTags, IsWay, tags_of_way, HasFields, IsShort, IsBody};
+ghost use Rattle.journal_rec.specs.Payloads.{le, name_bytes, text_bytes, tags_bytes, way_bytes, payload};
+ghost use Rattle.journal_rec.specs.Payloads.{AreTags, IsWay, tags_of_way, HasFields, IsShort, IsBody};
 
 use crate::{Encoded, Record, Way};
 use lab_base::{Memory, Name, Tags, Text};

@@ -1,5 +1,6 @@
 // The lines of a source.
-ghost use Rattle.std.specs.Prelude.{◌≡◌, ◌≢◌, ◌≤◌, ◌<◌, ◌+◌, ◌-◌, ◌^◌, ◌⊎◌, ℕ, max, length, [], take, drop, None, Some, Ok, Err, true, false, IfNone, IsTrue, IsFalse, slice_index, IfOk, IfErr, IfSome, OnErr, OnOk, IsErrOf, IsSome, vec_len};
+ghost use Rattle.std.specs.Prelude.{◌≡◌, ◌≢◌, ◌≤◌, ◌<◌, ◌+◌, ◌-◌, ◌^◌, ◌⊎◌, ℕ, max, length, [], take, drop, None, Some};
+ghost use Rattle.std.specs.Prelude.{Ok, Err, true, false, IfNone, IsTrue, IsFalse, slice_index, IfOk, IfErr, IfSome, OnErr, OnOk, IsErrOf, IsSome, vec_len};
 ghost use Rattle.std.specs.Io.KnownBytes.{prepend_known};
 ghost use Rattle.lab_base.specs.Counts.{Rose};
 ghost use Rattle.lab_io.specs.Feeds.{NoFeed, without_return};
@@ -147,7 +148,8 @@ fn next_line<S: Source>(
 ) -> Result<Line, LineFault>
     requires open { IsFalse ended.old }
     requires taken { taken.old ≤ 2 ^ 32 }
-    ensures took { IfOk result (λ line. Took (prepend_known pending.old.items (S.left source.old)) line (prepend_known pending.new.items (S.left source.new)) ended.new taken.old taken.new) }
+    ensures took { IfOk result (λ line. Took (prepend_known pending.old.items (S.left source.old)) line (prepend_known pending.new.items (S.left source.new))
+        ended.new taken.old taken.new) }
     ensures err { OnErr result (prepend_known pending.new.items (S.left source.new) ≡ prepend_known pending.old.items (S.left source.old)) }
     ensures uncounted { OnErr result (taken.new ≡ taken.old) }
     ensures within { taken.new ≤ 2 ^ 32 }
@@ -273,13 +275,18 @@ impl LineReader {
     /// It asks the source only while no line feed is pending. So it keeps at most 4,097 bytes and one piece of 4,096. It passes over no read that
     /// failed.
     pub fn next<S: Source>(&mut self, source: &mut S) -> Result<Line, LineFault>
-        ensures took { IsFalse (ended_of self.old) → IfOk result (λ line. Took (rest_of self.old (S.left source.old)) line (rest_of self.new (S.left source.new)) (ended_of self.new) (taken_of self.old) (taken_of self.new)) }
-        ensures ended { IsTrue (ended_of self.old) → fault_of self.old ≡ None → (result ≡ Ok Line.End) × IsTrue (ended_of self.new) × (self.new ≡ self.old) × (source.new ≡ source.old) }
+        ensures took { IsFalse (ended_of self.old)
+            → IfOk result (λ line. Took (rest_of self.old (S.left source.old)) line (rest_of self.new (S.left source.new)) (ended_of self.new)
+            (taken_of self.old) (taken_of self.new)) }
+        ensures ended { IsTrue (ended_of self.old) → fault_of self.old ≡ None
+            → (result ≡ Ok Line.End) × IsTrue (ended_of self.new) × (self.new ≡ self.old) × (source.new ≡ source.old) }
         ensures number { IfOk result (λ line. Counted (lines_of self.old) line (lines_of self.new)) }
         ensures err { OnErr result (rest_of self.new (S.left source.new) ≡ rest_of self.old (S.left source.old)) }
         ensures uncounted { OnErr result ((lines_of self.new ≡ lines_of self.old) × (taken_of self.new ≡ taken_of self.old)) }
-        ensures read { IsErrOf result LineFault.ReadFault → fault_of self.old ≡ None → IsFalse (ended_of self.old) × Rose (S.faults source.old) (S.faults source.new) × NoFeed (pending_of self.new) }
-        ensures long { (n : ℕ) → IsErrOf result (LineFault.TooLong n) → fault_of self.old ≡ None → (n ≡ lines_of self.old + 1) × IsFalse (ended_of self.old) × IsTooLong (taken_of self.old) (rest_of self.old (S.left source.old)) }
+        ensures read { IsErrOf result LineFault.ReadFault → fault_of self.old ≡ None
+            → IsFalse (ended_of self.old) × Rose (S.faults source.old) (S.faults source.new) × NoFeed (pending_of self.new) }
+        ensures long { (n : ℕ) → IsErrOf result (LineFault.TooLong n) → fault_of self.old ≡ None
+            → (n ≡ lines_of self.old + 1) × IsFalse (ended_of self.old) × IsTooLong (taken_of self.old) (rest_of self.old (S.left source.old)) }
         ensures later { S.faults source.old ≤ S.faults source.new }
         ensures within { taken_of self.new ≤ 2 ^ 32 }
         ensures ok { OnOk result (fault_of self.new ≡ None) }
@@ -320,13 +327,15 @@ impl LineReader {
     /// The text of the next line, which isn't taken; None at the end, and where the line is too long.
     /// After a fault it answers that fault again, and reads nothing. It asks the source as `next` does.
     pub fn peek<S: Source>(&mut self, source: &mut S) -> Result<Option<Text>, LineFault>
-        ensures text { IfOk result (λ peeked. IfSome peeked (λ text. (ended_of self.old ≡ false) × IsNext (rest_of self.new (S.left source.new)) (taken_of self.new) text)) }
+        ensures text { IfOk result (λ peeked. IfSome peeked
+            (λ text. (ended_of self.old ≡ false) × IsNext (rest_of self.new (S.left source.new)) (taken_of self.new) text)) }
         ensures none { IfOk result (λ peeked. IfNone peeked ((ended_of self.old ≡ true) ⊎ HasNoText (taken_of self.new) (rest_of self.new (S.left source.new)))) }
         ensures rest { rest_of self.new (S.left source.new) ≡ rest_of self.old (S.left source.old) }
         ensures lines { lines_of self.new ≡ lines_of self.old }
         ensures taken { taken_of self.new ≡ taken_of self.old }
         ensures ended { ended_of self.new ≡ ended_of self.old }
-        ensures read { IsErrOf result LineFault.ReadFault → fault_of self.old ≡ None → (ended_of self.old ≡ false) × Rose (S.faults source.old) (S.faults source.new) × NoFeed (pending_of self.new) }
+        ensures read { IsErrOf result LineFault.ReadFault → fault_of self.old ≡ None
+            → (ended_of self.old ≡ false) × Rose (S.faults source.old) (S.faults source.new) × NoFeed (pending_of self.new) }
         ensures short { fault_of self.old ≡ None → (n : ℕ) → result ≢ Err (LineFault.TooLong n) }
         ensures later { S.faults source.old ≤ S.faults source.new }
         ensures ok { OnOk result (fault_of self.new ≡ None) }

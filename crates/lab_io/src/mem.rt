@@ -163,7 +163,8 @@ impl Sink for MemSink {
         ensures wrote { IfOk result (λ n. Some (sink_bytes self.new) ≡ append_known (Some (sink_bytes self.old)) (take n bytes.now)) }
         ensures err { OnErr result (Some (sink_bytes self.new) ≡ Some (sink_bytes self.old)) }
         ensures cause { HasCause (faults_of (sink_calls self.old)) (faults_of (sink_calls self.new)) result }
-        ensures exact { IsErr result ↔ Contains (fails_of (sink_calls self.old)) (number_of (sink_calls self.old)) ⊎ sink_room self.old ≤ length (sink_bytes self.old) }
+        ensures exact { IsErr result ↔ Contains (fails_of (sink_calls self.old)) (number_of (sink_calls self.old))
+            ⊎ sink_room self.old ≤ length (sink_bytes self.old) }
         ensures numbers { fails_of (sink_calls self.new) ≡ fails_of (sink_calls self.old) }
         ensures counted { number_of (sink_calls self.new) ≡ next_number (number_of (sink_calls self.old)) }
         ensures stands { OnOk result (faults_of (sink_calls self.new) ≡ faults_of (sink_calls self.old)) }

@@ -157,11 +157,13 @@ impl ClaimedLab {
         experiment: &Experiment,
         new: &Option<Mapped>,
     ) -> Result<Begun, Memory>
-        requires old { (m : AnyMapped) → standing_in experiment.now.wiring experiment.now.phase ≡ Some m → IsSound m.wiring × IsShaped self.now.lab m.wiring m.mapping }
+        requires old { (m : AnyMapped) → standing_in experiment.now.wiring experiment.now.phase ≡ Some m
+            → IsSound m.wiring × IsShaped self.now.lab m.wiring m.mapping }
         requires new { (m : AnyMapped) → new.now ≡ Some m → IsSound m.wiring × IsShaped self.now.lab m.wiring m.mapping }
         ensures wiring { IfOk result (λ begun. begun.wiring ≡ experiment.now.wiring) }
         ensures old { IfOk result (λ begun. begun.old ≡ standing_in experiment.now.wiring experiment.now.phase) }
-        ensures claim { IfOk result (λ begun. begun.claim ≡ record { old = hold_in self.now.lab (standing_in experiment.now.wiring experiment.now.phase); new = hold_in self.now.lab new.now }) }
+        ensures claim { IfOk result (λ begun. begun.claim
+            ≡ record { old = hold_in self.now.lab (standing_in experiment.now.wiring experiment.now.phase); new = hold_in self.now.lab new.now }) }
     {
         let wiring = experiment.wiring.copy(alloc)?;
         let old = standing_of(alloc, experiment)?;
@@ -182,7 +184,8 @@ impl ClaimedLab {
         experiment: &Experiment,
         new: Option<Mapped>,
     ) -> Result<Change, Memory>
-        requires old { (m : AnyMapped) → standing_in experiment.now.wiring experiment.now.phase ≡ Some m → IsSound m.wiring × IsShaped self.now.lab m.wiring m.mapping }
+        requires old { (m : AnyMapped) → standing_in experiment.now.wiring experiment.now.phase ≡ Some m
+            → IsSound m.wiring × IsShaped self.now.lab m.wiring m.mapping }
         requires new { (m : AnyMapped) → new ≡ Some m → IsSound m.wiring × IsShaped self.now.lab m.wiring m.mapping }
         ensures { IfOk result (λ change. let f = moving experiment.now new in change ≡ changes.Begin f (claim_of self.now.lab f)) }
     {

@@ -18,6 +18,7 @@ pub fn endings()
         → may_end commit e.phase ≡ true → CanEnd s exp commit }
     ensures gives { (s : LabState) (lab : Lab) (e : Experiment) (exp : List ℕ) (commit : Bool) → s.lab ≡ Some lab → find exp s.experiments ≡ Some e
         → may_end commit e.phase ≡ true → moved s (ending exp commit) ≡ Some (with_experiments s (replace exp (ended commit e) s.experiments)) }
-    ensures follows { (s u : LabState) (exp : List ℕ) (commit : Bool) → moved s (ending exp commit) ≡ Some u → Follows the_texts s (ending_record exp commit) u }
+    ensures follows { (s u : LabState) (exp : List ℕ) (commit : Bool) → moved s (ending exp commit) ≡ Some u
+        → Follows the_texts s (ending_record exp commit) u }
     ensures says { (s u : LabState) (exp : List ℕ) (commit : Bool) → Follows the_texts s (ending_record exp commit) u → moved s (ending exp commit) ≡ Some u }
 {}

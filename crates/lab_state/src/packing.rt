@@ -301,7 +301,8 @@ impl LabState {
     /// A journal of these records stands for this lab.
     pub fn pack(&self) -> Result<Packed, Memory>
         ensures packed { IfOk result (λ packed. ArePacked packed (packed_of the_texts self.now.state)) }
-        ensures stands { IfOk result (λ packed. (rs : List AnyRecord) → LabOf the_texts rs self.now.state → LabOf the_texts (packed_of the_texts self.now.state) self.now.state) }
+        ensures stands { IfOk result (λ packed. (rs : List AnyRecord) → LabOf the_texts rs self.now.state
+            → LabOf the_texts (packed_of the_texts self.now.state) self.now.state) }
     {
         let mut packed = Packed::new(self.alloc)?;
         let experiments = &self.experiments;

@@ -62,7 +62,9 @@ fn number_in(matches: &ArgMatches<'_>) -> Option<Option<u64>>
 
 /// The choices of the matched options; None where the word of `--cost` or of `--gen` is no value of its kind.
 fn chosen_in<'a>(matches: &ArgMatches<'a>) -> Option<Chosen<'a>>
-    ensures { option_map seen_of result ≡ chosen (first_value (found_of matches.now) (codes "cost")) (first_value (found_of matches.now) (codes "dir")) (one_text (found_of matches.now) (codes "gen")) }
+    ensures { option_map seen_of result
+        ≡ chosen (first_value (found_of matches.now) (codes "cost")) (first_value (found_of matches.now) (codes "dir"))
+        (one_text (found_of matches.now) (codes "gen")) }
 {
     let rule = rule_named(matches.get_str("cost")?)?;
     let generated = number_in(matches)?;

@@ -2,7 +2,8 @@
 ghost use Rattle.std.specs.Prelude.{◌≡◌, ◌≤◌, ◌<◌, ◌^◌, not, find, length, IfOk, IfSome, if◌then◌else◌};
 ghost use Rattle.std.specs.List.{slice_get};
 ghost use Rattle.std.specs.Option.{ForSome, ok_or};
-ghost use Rattle.net_plan.specs.Addresses.{addresses_of, subnet_of, hosts, address_for, uses, all_taken, addressed_ends, addressed_from, addressed, has_bad_address};
+ghost use Rattle.net_plan.specs.Addresses.{addresses_of, subnet_of, hosts, address_for, uses};
+ghost use Rattle.net_plan.specs.Addresses.{all_taken, addressed_ends, addressed_from, addressed, has_bad_address};
 ghost use Rattle.net_plan.specs.Expansion.{Answers};
 ghost use Rattle.net_plan.specs.declared.fault.PlanFault.TheVariants as faults;
 

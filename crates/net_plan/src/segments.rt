@@ -2,7 +2,8 @@
 ghost use Rattle.std.specs.Prelude.{◌≡◌, ◌≤◌, ◌+◌, ◌++◌, ◌∷◌, [], OnOk, IfOk, map, length, sum_by, true, false};
 ghost use Rattle.std.specs.List.{flat_map, range_with_len, enumerate_from};
 ghost use Rattle.net_plan.specs.Expansion.{numbered};
-ghost use Rattle.net_plan.specs.Parts.{is_shaped, IsExpandable, AreExpandable, delays, part, delay_end, member_segment, lan_segments, link_segments, segments_of};
+ghost use Rattle.net_plan.specs.Parts.{is_shaped, IsExpandable, AreExpandable, delays, part};
+ghost use Rattle.net_plan.specs.Parts.{delay_end, member_segment, lan_segments, link_segments, segments_of};
 
 use crate::names;
 use crate::nodes::{delays, is_shaped};

@@ -4,7 +4,8 @@ ghost use Rattle.std.specs.Prelude.{◌≡◌, ◌↔◌, ◌≤◌, ◌+◌, �
 ghost use Rattle.std.specs.List.{list_all};
 ghost use Rattle.arrayvec.specs.ArrayVec.{array_vec_len};
 ghost use Rattle.virt_topo.specs.Topos.{is_word_byte, HasForm};
-ghost use Rattle.ns_words.specs.Objects.{is_index_byte, is_word, is_index, plain_of, indexed_of, closed_of, named_of, object_name_of, IsObjectName, numbered_prefix, numbered_name_of};
+ghost use Rattle.ns_words.specs.Objects.{is_index_byte, is_word, is_index, plain_of, indexed_of};
+ghost use Rattle.ns_words.specs.Objects.{closed_of, named_of, object_name_of, IsObjectName, numbered_prefix, numbered_name_of};
 ghost use Rattle.ns_words.specs.Seen.{named_if, numbered_letter};
 
 use arrayvec::ArrayVec;

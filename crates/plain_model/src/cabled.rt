@@ -361,7 +361,8 @@ fn is_in_right(
 ) -> bool
     requires sound { IsSound wiring.now }
     requires shaped { IsShaped lab.now wiring.now mapping.now }
-    ensures { result ≡ (list_all (λ a. has_row commands.now a.row) wanted.now && are_nodes_right commands.now lab.now (mapped wiring.now mapping.now []) mapping.now.places) }
+    ensures { result ≡ (list_all (λ a. has_row commands.now a.row) wanted.now
+        && are_nodes_right commands.now lab.now (mapped wiring.now mapping.now []) mapping.now.places) }
 {
     all_stand(commands, wanted)
         && are_nodes_right(commands, lab, wiring, mapping, mapping.places.as_slice())

@@ -2,7 +2,8 @@ ghost use Rattle.std.specs.Prelude.{◌≡◌, ◌&&◌, ◌||◌, not};
 ghost use Rattle.std.specs.List.{list_any, list_all};
 ghost use Rattle.std.specs.Str.{bytes_eq};
 ghost use Rattle.lab_model.specs.Wants.{switch_name, node_name};
-ghost use Rattle.plain_model.specs.Isolation.{same_row, same_owner, is_at_port, is_at, is_over_trunk, is_over_pipe, is_next, stands, agree, all_agree, is_isolated};
+ghost use Rattle.plain_model.specs.Isolation.{same_row, same_owner, is_at_port, is_at, is_over_trunk};
+ghost use Rattle.plain_model.specs.Isolation.{is_over_pipe, is_next, stands, agree, all_agree, is_isolated};
 
 use crate::{NodePipe, Owner, Row, Wanted};
 use lab_base::{Name, NodeId, SwitchId};
@@ -45,7 +46,8 @@ fn is_at_port(lab: &Lab, switch: SwitchId, port: u16, row: &Row) -> bool
 }
 
 fn is_iface_at(lab: &Lab, node: Name, name: Name, row: &Row, iface: &Iface) -> bool
-    ensures { result ≡ (bytes_eq (node_name lab.now iface.now.node) node && (bytes_eq iface.now.name name && is_at_port lab.now iface.now.switch.0 iface.now.port row.now)) }
+    ensures { result ≡ (bytes_eq (node_name lab.now iface.now.node) node
+        && (bytes_eq iface.now.name name && is_at_port lab.now iface.now.switch.0 iface.now.port row.now)) }
 {
     is_node_named(lab, iface.node, node)
         && (iface.name == name && is_at_port(lab, iface.switch, iface.port, row))

@@ -3,7 +3,8 @@ ghost use Rattle.std.specs.Prelude.{◌≡◌, ◌<◌, ◌≤◌, ◌&&◌, nat
 ghost use Rattle.std.specs.List.{list_all, list_any};
 ghost use Rattle.lab_base.specs.Names.{same_name};
 ghost use Rattle.lab_model.specs.Shapes.{has_name};
-ghost use Rattle.lab_model.specs.Rules.{guests, number_of, agree, keeps_f2, class_at, is_asked, are_met, is_member, first_type, is_of_one_type, suits, keeps_f3, keeps_f4};
+ghost use Rattle.lab_model.specs.Rules.{guests, number_of, agree, keeps_f2, class_at, is_asked};
+ghost use Rattle.lab_model.specs.Rules.{are_met, is_member, first_type, is_of_one_type, suits, keeps_f3, keeps_f4};
 
 use crate::at::{features_of, is_node_named, types_of};
 use lab_base::{Name, NodeId};

@@ -119,7 +119,8 @@ fn push_trunk(
     plugs: &[IfaceId],
 ) -> Result<(), Memory>
     requires { trunk < length lab.now.trunks }
-    ensures { OnOk result (listed.new.items ≡ listed.old.items ++ map (with_owner owner.now) (trunk_rows lab.now vlan.0 (cable segment.now plugs.now) (trunk, trunk_at lab.now.trunks trunk))) }
+    ensures { OnOk result (listed.new.items
+        ≡ listed.old.items ++ map (with_owner owner.now) (trunk_rows lab.now vlan.0 (cable segment.now plugs.now) (trunk, trunk_at lab.now.trunks trunk))) }
 {
     if is_carried(lab, trunk, segment, plugs) {
         let (first, second) = ends_of(lab, trunk);
@@ -139,7 +140,8 @@ fn push_trunks(
     segment: &Segment,
     plugs: &[IfaceId],
 ) -> Result<(), Memory>
-    ensures { OnOk result (listed.new.items ≡ listed.old.items ++ map (with_owner owner.now) (trunk_rows_from lab.now vlan.0 (cable segment.now plugs.now) from)) }
+    ensures { OnOk result (listed.new.items
+        ≡ listed.old.items ++ map (with_owner owner.now) (trunk_rows_from lab.now vlan.0 (cable segment.now plugs.now) from)) }
 {
     if from < lab.trunks().len() {
         push_trunk(listed, lab, owner, vlan, from, segment, plugs)?;
@@ -160,7 +162,9 @@ fn push_cable(
     plugs: &[IfaceId],
 ) -> Result<(), Memory>
     requires { list_all (is_plug lab.now) plugs.now ≡ true }
-    ensures { OnOk result (listed.new.items ≡ listed.old.items ++ map (with_owner (record { exp = exp; which = half_of new; link = segment.now.owner })) (cable_rows lab.now vlan.0 (cable segment.now plugs.now))) }
+    ensures { OnOk result (listed.new.items
+        ≡ listed.old.items ++ map (with_owner (record { exp = exp; which = half_of new; link = segment.now.owner }))
+        (cable_rows lab.now vlan.0 (cable segment.now plugs.now))) }
 {
     let owner = Owner {
         exp,
@@ -194,7 +198,8 @@ fn push_cables(
     tags: &[VlanId],
 ) -> Result<(), Memory>
     requires { list_all (is_plug lab.now) plugs.now ≡ true }
-    ensures { OnOk result (listed.new.items ≡ listed.old.items ++ map (owned_as exp (half_of new)) (owned_rows lab.now (cables segments.now plugs.now) tags.now)) }
+    ensures { OnOk result (listed.new.items
+        ≡ listed.old.items ++ map (owned_as exp (half_of new)) (owned_rows lab.now (cables segments.now plugs.now) tags.now)) }
 {
     match (segments.split_first(), tags.split_first()) {
         (Some((segment, others)), Some((tag, rest))) => {

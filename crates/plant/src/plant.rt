@@ -39,34 +39,39 @@ pub trait Plant {
     /// Writes bytes over those of a side from that place on, and past its end.
     fn write(&mut self, side: Side, at: u64, bytes: &[u8]) -> Result<(), Fault>
         requires { IfSome (seen self.old).told (λ t. at ≤ length (disk side t.trace).reads) }
-        ensures trace { (steps : List Event) × ((seen self.new).told ≡ with_steps (seen self.old).told steps) × WriteSteps side at bytes.now (seen self.old).stopped result steps }
+        ensures trace { (steps : List Event) × ((seen self.new).told ≡ with_steps (seen self.old).told steps)
+            × WriteSteps side at bytes.now (seen self.old).stopped result steps }
         ensures cause { DiskCause (seen self.old).faults (seen self.new).faults result }
         ensures stopped { IsErrOf result Fault.Stopped ↔ IsTrue (seen self.new).stopped };
 
     /// Makes a side durable as it reads.
     fn sync(&mut self, side: Side) -> Result<(), Fault>
-        ensures trace { (steps : List Event) × ((seen self.new).told ≡ with_steps (seen self.old).told steps) × SyncSteps side (seen self.old).stopped result steps }
+        ensures trace { (steps : List Event) × ((seen self.new).told ≡ with_steps (seen self.old).told steps)
+            × SyncSteps side (seen self.old).stopped result steps }
         ensures cause { DiskCause (seen self.old).faults (seen self.new).faults result }
         ensures stopped { IsErrOf result Fault.Stopped ↔ IsTrue (seen self.new).stopped };
 
     /// Cuts a side to a length.
     fn cut(&mut self, side: Side, size: u64) -> Result<(), Fault>
         requires { IfSome (seen self.old).told (λ t. size ≤ length (disk side t.trace).reads) }
-        ensures trace { (steps : List Event) × ((seen self.new).told ≡ with_steps (seen self.old).told steps) × CutSteps side size (seen self.old).stopped result steps }
+        ensures trace { (steps : List Event) × ((seen self.new).told ≡ with_steps (seen self.old).told steps)
+            × CutSteps side size (seen self.old).stopped result steps }
         ensures cause { DiskCause (seen self.old).faults (seen self.new).faults result }
         ensures stopped { IsErrOf result Fault.Stopped ↔ IsTrue (seen self.new).stopped };
 
     /// Starts a stopped plant again. Its devices are as they were, and each side has an image that was possible.
     fn restart(&mut self) -> Result<(), Memory>
         requires { IsTrue (seen self.old).stopped }
-        ensures ok { OnOk result ((a b : List ℕ) × ((seen self.new).told ≡ with_steps (seen self.old).told (Restarted a b ∷ [])) × IfSome (seen self.old).told (λ t. ArePossible t.trace a b)) }
+        ensures ok { OnOk result ((a b : List ℕ) × ((seen self.new).told ≡ with_steps (seen self.old).told (Restarted a b ∷ []))
+            × IfSome (seen self.old).told (λ t. ArePossible t.trace a b)) }
         ensures goes_on { OnOk result (IsFalse (seen self.new).stopped) }
         ensures faults { (seen self.new).faults ≡ (seen self.old).faults }
         ensures err { OnErr result (seen self.new ≡ seen self.old) };
 
     /// Sends a command to its device. After `Failed` and `Stopped` it is open whether it was applied.
     fn command(&mut self, op: DeviceOp) -> Result<Answer, Fault>
-        ensures trace { (steps : List Event) × ((seen self.new).told ≡ with_steps (seen self.old).told steps) × CommandSteps op (seen self.old).stopped result steps }
+        ensures trace { (steps : List Event) × ((seen self.new).told ≡ with_steps (seen self.old).told steps)
+            × CommandSteps op (seen self.old).stopped result steps }
         ensures cause { DeviceCause (seen self.old).faults (seen self.new).faults result }
         ensures stopped { IsErrOf result Fault.Stopped ↔ IsTrue (seen self.new).stopped };
 

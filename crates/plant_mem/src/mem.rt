@@ -130,7 +130,9 @@ impl MemLab {
     /// Notes a command at which the plant stops, applied or not.
     fn apply_if(&mut self, applied: bool, op: &DeviceOp, motion: Motion)
         requires { can_command self.old ≡ true }
-        ensures held { held_of self.new ≡ record (with_events (effect_if applied (Did op.now true (Err Fault.Stopped))) (held_of self.old)) { state = λ node. state_sent op.now motion applied node (state_of self.old node) } }
+        ensures held { held_of self.new
+            ≡ record (with_events (effect_if applied (Did op.now true (Err Fault.Stopped))) (held_of self.old))
+            { state = λ node. state_sent op.now motion applied node (state_of self.old node) } }
         ensures rooms { KeepsRooms 1 0 (rooms_of self.old) (rooms_of self.new) }
     {
         if applied {

@@ -59,7 +59,8 @@ impl Plant for MemLab {
 
     /// Fails or stops exactly where a drill says so, while there is room; else it stops, without effect.
     fn write(&mut self, side: Side, at: u64, bytes: &[u8]) -> Result<(), Fault>
-        ensures trace { (steps : List Event) × (Some (told_of self.new) ≡ with_steps (Some (told_of self.old)) steps) × WriteSteps side at bytes.now (stopped_of self.old) result steps }
+        ensures trace { (steps : List Event) × (Some (told_of self.new) ≡ with_steps (Some (told_of self.old)) steps)
+            × WriteSteps side at bytes.now (stopped_of self.old) result steps }
         ensures cause { DiskCause (faults_of self.old) (faults_of self.new) result }
         ensures stopped { IsErrOf result Fault.Stopped ↔ IsTrue (stopped_of self.new) }
         ensures answer { result ≡ answered (fate (can_write self.old side at (length bytes.now)) (held_of self.old)) tt }
@@ -74,7 +75,8 @@ impl Plant for MemLab {
 
     /// Fails or stops exactly where a drill says so, while there is room; else it stops, without effect.
     fn sync(&mut self, side: Side) -> Result<(), Fault>
-        ensures trace { (steps : List Event) × (Some (told_of self.new) ≡ with_steps (Some (told_of self.old)) steps) × SyncSteps side (stopped_of self.old) result steps }
+        ensures trace { (steps : List Event) × (Some (told_of self.new) ≡ with_steps (Some (told_of self.old)) steps)
+            × SyncSteps side (stopped_of self.old) result steps }
         ensures cause { DiskCause (faults_of self.old) (faults_of self.new) result }
         ensures stopped { IsErrOf result Fault.Stopped ↔ IsTrue (stopped_of self.new) }
         ensures answer { result ≡ answered (fate (can_sync self.old side) (held_of self.old)) tt }
@@ -89,7 +91,8 @@ impl Plant for MemLab {
 
     /// Fails or stops exactly where a drill says so, while there is room; else it stops, without effect.
     fn cut(&mut self, side: Side, size: u64) -> Result<(), Fault>
-        ensures trace { (steps : List Event) × (Some (told_of self.new) ≡ with_steps (Some (told_of self.old)) steps) × CutSteps side size (stopped_of self.old) result steps }
+        ensures trace { (steps : List Event) × (Some (told_of self.new) ≡ with_steps (Some (told_of self.old)) steps)
+            × CutSteps side size (stopped_of self.old) result steps }
         ensures cause { DiskCause (faults_of self.old) (faults_of self.new) result }
         ensures stopped { IsErrOf result Fault.Stopped ↔ IsTrue (stopped_of self.new) }
         ensures answer { result ≡ answered (fate (can_cut self.old side size) (held_of self.old)) tt }
@@ -104,7 +107,8 @@ impl Plant for MemLab {
 
     /// Leaves of each side the part that the stop's pick says, and makes the rooms of a blank plant anew.
     fn restart(&mut self) -> Result<(), Memory>
-        ensures ok { OnOk result ((a b : List ℕ) × (Some (told_of self.new) ≡ with_steps (Some (told_of self.old)) (Restarted a b ∷ [])) × ArePossible (told_of self.old).trace a b) }
+        ensures ok { OnOk result ((a b : List ℕ) × (Some (told_of self.new) ≡ with_steps (Some (told_of self.old)) (Restarted a b ∷ []))
+            × ArePossible (told_of self.old).trace a b) }
         ensures goes_on { OnOk result (IsFalse (stopped_of self.new)) }
         ensures faults { faults_of self.new ≡ faults_of self.old }
         ensures err { OnErr result (seen_of self.new ≡ seen_of self.old) }
@@ -117,7 +121,8 @@ impl Plant for MemLab {
 
     /// Fails, hangs, jumps or stops exactly where a drill says so, while there is room; else it stops, without effect.
     fn command(&mut self, op: DeviceOp) -> Result<Answer, Fault>
-        ensures trace { (steps : List Event) × (Some (told_of self.new) ≡ with_steps (Some (told_of self.old)) steps) × CommandSteps op (stopped_of self.old) result steps }
+        ensures trace { (steps : List Event) × (Some (told_of self.new) ≡ with_steps (Some (told_of self.old)) steps)
+            × CommandSteps op (stopped_of self.old) result steps }
         ensures cause { DeviceCause (faults_of self.old) (faults_of self.new) result }
         ensures stopped { IsErrOf result Fault.Stopped ↔ IsTrue (stopped_of self.new) }
         ensures answer { result ≡ answer_command (can_command self.old) op (held_of self.old) }

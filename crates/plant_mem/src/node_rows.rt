@@ -31,7 +31,8 @@ fn os_after(node: &Name, step: &Step, had: Option<Name>) -> Option<Name>
 
 /// Whether a pipe of a node is set after a step.
 fn pipe_after(node: &Name, pipe: u16, step: &Step, had: bool) -> bool
-    ensures { (bytes : List ℕ) (world : World) → had ≡ is_some ((world.node node.now).pipes pipe) → result ≡ is_some (((world_after world (event_of bytes step.now)).node node.now).pipes pipe) }
+    ensures { (bytes : List ℕ) (world : World) → had ≡ is_some ((world.node node.now).pipes pipe)
+        → result ≡ is_some (((world_after world (event_of bytes step.now)).node node.now).pipes pipe) }
 {
     match step {
         Step::Did {

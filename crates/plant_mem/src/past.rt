@@ -93,7 +93,8 @@ fn shorten_on(a: &mut Face, b: &mut Face, side: Side, size: usize)
 }
 
 impl Past {
-    ghost use Rattle.std.specs.Prelude.{◌≡◌, ◌≤◌, ◌<◌, ◌+◌, ◌++◌, ℕ, List, [], ◌∷◌, length, take, drop, true, Ok, Err, IfOk, OnOk, OnErr, vec_len, vec_capacity};
+    ghost use Rattle.std.specs.Prelude.{◌≡◌, ◌≤◌, ◌<◌, ◌+◌, ◌++◌, ℕ, List, [], ◌∷◌, length};
+    ghost use Rattle.std.specs.Prelude.{take, drop, true, Ok, Err, IfOk, OnOk, OnErr, vec_len, vec_capacity};
     ghost use Rattle.plant_mem.specs.Boots.{state_in, state_after, state_sent, answer_of};
     ghost use Rattle.plant.specs.Events as events;
     ghost use Rattle.plant.specs.Disks.{disk};
@@ -128,7 +129,8 @@ impl Past {
         requires steps { vec_len self.old.steps < vec_capacity self.old.steps }
         requires nodes { vec_len self.old.nodes < vec_capacity self.old.nodes }
         ensures answer { result ≡ answer_of op.now motion (λ name. state_in name self.old.nodes.items) }
-        ensures trace { trace_of self.new.bytes.items self.new.steps.items ≡ trace_of self.old.bytes.items self.old.steps.items ++ events.Did op.now true (Ok result) ∷ [] }
+        ensures trace { trace_of self.new.bytes.items self.new.steps.items
+            ≡ trace_of self.old.bytes.items self.old.steps.items ++ events.Did op.now true (Ok result) ∷ [] }
         ensures states { (name : List ℕ) → state_in name self.new.nodes.items ≡ state_after op.now motion name (state_in name self.old.nodes.items) }
         ensures steps { vec_len self.new.steps ≡ vec_len self.old.steps + 1 }
         ensures capacity { vec_capacity self.new.steps ≡ vec_capacity self.old.steps }
@@ -154,7 +156,8 @@ impl Past {
     pub fn failed(&mut self, op: &DeviceOp, motion: Motion, applied: bool, fault: Fault)
         requires steps { vec_len self.old.steps < vec_capacity self.old.steps }
         requires nodes { vec_len self.old.nodes < vec_capacity self.old.nodes }
-        ensures trace { trace_of self.new.bytes.items self.new.steps.items ≡ trace_of self.old.bytes.items self.old.steps.items ++ events.Did op.now applied (Err fault) ∷ [] }
+        ensures trace { trace_of self.new.bytes.items self.new.steps.items
+            ≡ trace_of self.old.bytes.items self.old.steps.items ++ events.Did op.now applied (Err fault) ∷ [] }
         ensures states { (name : List ℕ) → state_in name self.new.nodes.items ≡ state_sent op.now motion applied name (state_in name self.old.nodes.items) }
         ensures steps { vec_len self.new.steps ≡ vec_len self.old.steps + 1 }
         ensures capacity { vec_capacity self.new.steps ≡ vec_capacity self.old.steps }
@@ -196,7 +199,8 @@ impl Past {
         requires at { at ≤ vec_len (of_side side self.old.a self.old.b).reads }
         requires room { at + length bytes.now ≤ vec_capacity (of_side side self.old.a self.old.b).reads }
         requires table { vec_len (of_side side self.old.a self.old.b).written < vec_capacity (of_side side self.old.a self.old.b).written }
-        ensures trace { trace_of self.new.bytes.items self.new.steps.items ≡ trace_of self.old.bytes.items self.old.steps.items ++ events.Wrote side at bytes.now ∷ [] }
+        ensures trace { trace_of self.new.bytes.items self.new.steps.items
+            ≡ trace_of self.old.bytes.items self.old.steps.items ++ events.Wrote side at bytes.now ∷ [] }
         ensures steps { vec_len self.new.steps ≡ vec_len self.old.steps + 1 }
         ensures capacity { vec_capacity self.new.steps ≡ vec_capacity self.old.steps }
         ensures bytes { vec_len self.new.bytes ≡ vec_len self.old.bytes + length bytes.now }
@@ -261,7 +265,9 @@ impl Past {
         ensures a_is { disk_of self.new.a ≡ disk_of self.old.a }
         ensures b_is { disk_of self.new.b ≡ disk_of self.old.b }
         ensures steps { OnOk result (vec_len self.new.steps + (steps + 1) ≤ vec_capacity self.new.steps) }
-        ensures bytes { OnOk result ((pick : Pick) → (vec_len self.new.bytes + length (left_by pick (disk_of self.new.a))) + length (left_by pick (disk_of self.new.b)) + bytes ≤ vec_capacity self.new.bytes) }
+        ensures bytes { OnOk result ((pick : Pick)
+            → (vec_len self.new.bytes + length (left_by pick (disk_of self.new.a))) + length (left_by pick (disk_of self.new.b)) + bytes ≤ vec_capacity
+            self.new.bytes) }
         ensures nodes { OnOk result (vec_len self.new.nodes + steps ≤ vec_capacity self.new.nodes) }
         ensures a { OnOk result (HasMore steps bytes self.new.a) }
         ensures b { OnOk result (HasMore steps bytes self.new.b) }
@@ -278,13 +284,17 @@ impl Past {
     /// Starts again, with the part of each side that the stop's pick leaves.
     pub fn restarted(&mut self, pick: Pick)
         requires steps { vec_len self.old.steps < vec_capacity self.old.steps }
-        requires bytes { (vec_len self.old.bytes + length (left_by pick (disk_of self.old.a))) + length (left_by pick (disk_of self.old.b)) ≤ vec_capacity self.old.bytes }
+        requires bytes { (vec_len self.old.bytes + length (left_by pick (disk_of self.old.a))) + length (left_by pick (disk_of self.old.b)) ≤ vec_capacity
+            self.old.bytes }
         requires a { HasMore 0 0 self.old.a }
         requires b { HasMore 0 0 self.old.b }
-        ensures trace { trace_of self.new.bytes.items self.new.steps.items ≡ trace_of self.old.bytes.items self.old.steps.items ++ events.Restarted (left_by pick (disk_of self.old.a)) (left_by pick (disk_of self.old.b)) ∷ [] }
+        ensures trace { trace_of self.new.bytes.items self.new.steps.items
+            ≡ trace_of self.old.bytes.items self.old.steps.items
+            ++ events.Restarted (left_by pick (disk_of self.old.a)) (left_by pick (disk_of self.old.b)) ∷ [] }
         ensures steps { vec_len self.new.steps ≡ vec_len self.old.steps + 1 }
         ensures capacity { vec_capacity self.new.steps ≡ vec_capacity self.old.steps }
-        ensures bytes { vec_len self.new.bytes ≡ (vec_len self.old.bytes + length (left_by pick (disk_of self.old.a))) + length (left_by pick (disk_of self.old.b)) }
+        ensures bytes { vec_len self.new.bytes
+            ≡ (vec_len self.old.bytes + length (left_by pick (disk_of self.old.a))) + length (left_by pick (disk_of self.old.b)) }
         ensures room { vec_capacity self.old.bytes ≤ vec_capacity self.new.bytes }
         ensures a { (writes bytes : ℕ) → HasMore writes bytes self.old.a → HasMore writes bytes self.new.a }
         ensures b { (writes bytes : ℕ) → HasMore writes bytes self.old.b → HasMore writes bytes self.new.b }

@@ -1,7 +1,8 @@
 ghost use Rattle.std.specs.Prelude.{◌≡◌, ◌<◌, ◌++◌, map, option_map, vec_len, vec_capacity};
 ghost use Rattle.std.specs.List.{list_any, find};
 ghost use Rattle.lab_base.specs.Lists.{listed};
-ghost use Rattle.plant_mem.specs.Plans.{is_poll, is_wipe, is_applying, is_hang, is_jump, is_read, waits_for_poll, counts, is_due, fails_by, firing, jumps_by, begins_hang, hangs_by, motion_of, counted, plan_of};
+ghost use Rattle.plant_mem.specs.Plans.{is_poll, is_wipe, is_applying, is_hang, is_jump, is_read, waits_for_poll, counts};
+ghost use Rattle.plant_mem.specs.Plans.{is_due, fails_by, firing, jumps_by, begins_hang, hangs_by, motion_of, counted, plan_of};
 
 use crate::motion::Motion;
 use lab_base::Name;

@@ -39,7 +39,8 @@ impl Row {
 
     /// Whether the row is there after a step.
     pub(crate) fn after(&self, step: &Step, had: bool) -> bool
-        ensures { (bytes : List ℕ) (world : World) → had ≡ world.rows (row_of self.now) → result ≡ (world_after world (event_of bytes step.now)).rows (row_of self.now) }
+        ensures { (bytes : List ℕ) (world : World) → had ≡ world.rows (row_of self.now)
+            → result ≡ (world_after world (event_of bytes step.now)).rows (row_of self.now) }
     {
         match step {
             Step::Did {

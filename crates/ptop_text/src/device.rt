@@ -4,7 +4,8 @@ ghost use Rattle.lab_base.specs.Texts.{views};
 ghost use Rattle.lab_base.specs.Parts.{all_of, name_of};
 ghost use Rattle.lab_base.specs.Kinds.{both_of};
 ghost use Rattle.lab_base.specs.Names.{same_name};
-ghost use Rattle.ptop_text.specs.Lines.{bare_type, counted_type, type_of, feature_of, is_list, types_of, features_of, dash_in, node_parts, switch_parts, is_switch_word, is_switch_field, is_switch_line, device_line, as_node, as_switch};
+ghost use Rattle.ptop_text.specs.Lines.{bare_type, counted_type, type_of, feature_of, is_list, types_of, features_of, dash_in};
+ghost use Rattle.ptop_text.specs.Lines.{node_parts, switch_parts, is_switch_word, is_switch_field, is_switch_line, device_line, as_node, as_switch};
 
 use lab_base::{Items, Kind, ListRead, Memory, Name, Parts, add_read, both, name_in};
 use line_text::{has_byte, numbered_weight, pair_in, short_in};

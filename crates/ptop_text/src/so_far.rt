@@ -3,7 +3,8 @@ ghost use Rattle.std.specs.Prelude.{◌≡◌, is_some};
 ghost use Rattle.lab_base.specs.Texts.{views};
 ghost use Rattle.line_text.specs.Reading.{and_then};
 ghost use Rattle.ptop_text.specs.Lines.{vlans_line, device_line, link_line};
-ghost use Rattle.ptop_text.specs.Adding.{with_range, with_device, with_link, with_trunk_line, with_iface_line, switch_number, node_number, switch_at, node_at, unknown_kind, added};
+ghost use Rattle.ptop_text.specs.Adding.{with_range, with_device, with_link, with_trunk_line, with_iface_line};
+ghost use Rattle.ptop_text.specs.Adding.{switch_number, node_number, switch_at, node_at, unknown_kind, added};
 ghost use Rattle.line_text.specs.Refusals.{Takes};
 ghost use Rattle.ptop_text.specs.Refusals.{refusal_of, link_refusal};
 

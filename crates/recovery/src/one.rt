@@ -61,7 +61,8 @@ fn settling_ops(
 fn again(alloc: Global, state: &LabState, exp: Name) -> Result<Live, Memory>
     requires { IsMoving state.now.state exp }
     ensures { IfOk result (λ live. (p : Swap) → p.name ≡ exp → Moves p state.now.state
-        → live ≡ begun_again p.name (commands (lab_in state.now.state.lab) p.old p.new) (undo (lab_in state.now.state.lab) p.old p.new) (is_some p.old) (is_none p.new)) }
+        → live ≡ begun_again p.name (commands (lab_in state.now.state.lab) p.old p.new) (undo (lab_in state.now.state.lab) p.old p.new) (is_some p.old)
+        (is_none p.new)) }
 {
     let (Some(lab), Some(experiment)) = (state.lab(), state.experiment(exp)) else {
         unreachable!()

@@ -45,7 +45,8 @@ fn moved_nodes_soft(lab: &Lab, wiring: &Wiring, from: &Mapping, to: &Mapping) ->
     requires sound { IsSound wiring.now }
     requires from { IsShaped lab.now wiring.now from.now }
     requires to { IsShaped lab.now wiring.now to.now }
-    ensures difference { IsDifference (sum_below (length wiring.now.nodes) (node_soft lab.now wiring.now from.now)) (sum_below (length wiring.now.nodes) (node_soft lab.now wiring.now to.now)) result }
+    ensures difference { IsDifference (sum_below (length wiring.now.nodes) (node_soft lab.now wiring.now from.now))
+        (sum_below (length wiring.now.nodes) (node_soft lab.now wiring.now to.now)) result }
     ensures before { result.before ≤ 256 * (16 * 999) }
     ensures after { result.after ≤ 256 * (16 * 999) }
 {
@@ -73,7 +74,8 @@ fn is_moved_member(wiring: &Wiring, from: &Mapping, to: &Mapping, class: u16, vi
 fn has_moved_member(wiring: &Wiring, from: &Mapping, to: &Mapping, class: u16) -> bool
     requires from { length from.now.places ≡ length wiring.now.nodes }
     requires to { length to.now.places ≡ length wiring.now.nodes }
-    ensures { result ≡ false → (v : ℕ) → v < length wiring.now.nodes → is_member class (virt_at wiring.now v).asks ≡ true → place_at from.now v ≡ place_at to.now v }
+    ensures { result ≡ false → (v : ℕ) → v < length wiring.now.nodes → is_member class (virt_at wiring.now v).asks ≡ true
+        → place_at from.now v ≡ place_at to.now v }
 {
     for virt in 0..wiring.nodes.len() {
         if is_moved_member(wiring, from, to, class, virt) {
@@ -107,7 +109,8 @@ fn moved_classes_soft(wiring: &Wiring, from: &Mapping, to: &Mapping) -> Moved
     requires sound { IsSound wiring.now }
     requires from { length from.now.places ≡ length wiring.now.nodes }
     requires to { length to.now.places ≡ length wiring.now.nodes }
-    ensures difference { IsDifference (sum_below (length wiring.now.classes) (class_soft wiring.now from.now)) (sum_below (length wiring.now.classes) (class_soft wiring.now to.now)) result }
+    ensures difference { IsDifference (sum_below (length wiring.now.classes) (class_soft wiring.now from.now))
+        (sum_below (length wiring.now.classes) (class_soft wiring.now to.now)) result }
     ensures before { result.before ≤ 64 * (999 * 256) }
     ensures after { result.after ≤ 64 * (999 * 256) }
 {

@@ -57,7 +57,8 @@ fn moved_segment(lab: &Lab, segment: &Segment, old: &[IfaceId], new: &[IfaceId])
     requires few_old { length old.now ≤ 256 }
     requires few_new { length new.now ≤ 256 }
     requires slow { segment.now.kbps ≤ 1000000000 }
-    ensures difference { IsDifference (uses_of lab.now (record { segment = segment.now; plugs = old.now })) (uses_of lab.now (record { segment = segment.now; plugs = new.now })) result }
+    ensures difference { IsDifference (uses_of lab.now (record { segment = segment.now; plugs = old.now }))
+        (uses_of lab.now (record { segment = segment.now; plugs = new.now })) result }
     ensures before { result.before ≤ uses_of lab.now (record { segment = segment.now; plugs = old.now }) }
     ensures after { result.after ≤ uses_of lab.now (record { segment = segment.now; plugs = new.now }) }
 {

@@ -3,7 +3,8 @@ ghost use Rattle.lab_base.specs.Texts.{lines_of, views};
 ghost use Rattle.line_text.specs.Reading.{and_then, line_added, read_from};
 ghost use Rattle.line_text.specs.Refusals.{Reads, ReadsInto, Takes};
 ghost use Rattle.lab_model.specs.Shapes.{IsShaped};
-ghost use Rattle.solution_text.specs.Solutions.{all_given, line_given, line_keyed, mapped, mapping_of_text, nothing, place_line, plug_line, with_place_line, with_plug_line};
+ghost use Rattle.solution_text.specs.Solutions.{all_given, line_given, line_keyed, mapped, mapping_of_text};
+ghost use Rattle.solution_text.specs.Solutions.{nothing, place_line, plug_line, with_place_line, with_plug_line};
 ghost use Rattle.solution_text.specs.Names.{AreNames};
 
 use crate::ends::end_nodes;

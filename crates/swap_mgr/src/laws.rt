@@ -26,6 +26,7 @@ pub fn opens_of_managers()
 /// Where another command goes on and leaves each open swap as it was, all stay open.
 pub fn open_swaps_stay()
     ensures { (t : Texts) (s u : LabState) (opens : List (OpenSwap × Live)) (was now : Seen) (j k : Journal) → Working t was.told j s opens
-        → AtWork t now.told k u → ((q : OpenSwap) (x : Live) → Has opens (q, x) → IsOpen s q x → IsRunning t was.told s q → IsOpen u q x × IsRunning t now.told u q)
+        → AtWork t now.told k u → ((q : OpenSwap) (x : Live) → Has opens (q, x) → IsOpen s q x → IsRunning t was.told s q
+        → IsOpen u q x × IsRunning t now.told u q)
         → Working t now.told k u opens }
 {}

@@ -1,5 +1,6 @@
 // The open swaps.
-ghost use Rattle.std.specs.Prelude.{◌≡◌, ◌≢◌, ◌<◌, ◌≤◌, ◌+◌, ◌↔◌, ℕ, List, [], length, true, None, Some, Err, IfOk, IfSome, IfNone, OnOk, OnErr, OnSome, IsTrue};
+ghost use Rattle.std.specs.Prelude.{◌≡◌, ◌≢◌, ◌<◌, ◌≤◌, ◌+◌, ◌↔◌, ℕ, List, [], length};
+ghost use Rattle.std.specs.Prelude.{true, None, Some, Err, IfOk, IfSome, IfNone, OnOk, OnErr, OnSome, IsTrue};
 ghost use Rattle.lab_base.specs.Counts.{Rose};
 ghost use Rattle.lab_base.specs.Lists.{Has};
 ghost use Rattle.lab_base.specs.declared.what.What.{What as AnyWhat};
@@ -15,7 +16,8 @@ ghost use Rattle.swap_txn.specs.Steps.{Stands};
 ghost use Rattle.swap_turns.specs.Swaps.{Swap, Moves};
 ghost use Rattle.swap_turns.specs.Beginning.{BeginsOf, MayBegin, IsPlanOf};
 ghost use Rattle.swap_turns.specs.Running.{OpenSwap as AnyOpen, Working};
-ghost use Rattle.swap_mgr.specs.Managing.{Holds, IsManaging, GoesOnBy, HasTurned, HasTurnedToEnd, IsAnsweredBy, IfNothingSent, IfSent, IsStopOpening, IsAfterOpening};
+ghost use Rattle.swap_mgr.specs.Managing.{Holds, IsManaging, GoesOnBy, HasTurned, HasTurnedToEnd};
+ghost use Rattle.swap_mgr.specs.Managing.{IsAnsweredBy, IfNothingSent, IfSent, IsStopOpening, IsAfterOpening};
 ghost use Rattle.swap_mgr.specs.Open.{AreNames, AreWithin, HasOpen, IsWith, IsWithout, PutBy, states};
 ghost use Rattle.swap_mgr.specs.Turns.{IsStop};
 
@@ -158,7 +160,8 @@ impl Manager {
         ensures refused { OnErr result (self.new ≡ self.old) }
         ensures nothing { IfNothingSent result ((plant.new ≡ plant.old) × (journal.new ≡ journal.old)) }
         ensures stopped { IfSent result (IsStopOpening result ↔ IsTrue (P.seen plant.new).stopped) }
-        ensures stuck { (what : AnyWhat) → result ≡ Err (OpenSwap.Stuck what) → (what ≡ whats.Journal) × Rose (P.seen plant.old).faults.disk (P.seen plant.new).faults.disk }
+        ensures stuck { (what : AnyWhat) → result ≡ Err (OpenSwap.Stuck what)
+            → (what ≡ whats.Journal) × Rose (P.seen plant.old).faults.disk (P.seen plant.new).faults.disk }
         ensures held { OnOk result ((state : State) × IsWith self.old state self.new × (exp_of state ≡ planned.forth.exp)) }
         ensures limit { limit_of journal.new ≡ limit_of journal.old }
     {
@@ -193,7 +196,8 @@ impl Manager {
         ensures same { OnErr result (self.new ≡ self.old) }
         ensures nothing { OnErr result ((plant.new ≡ plant.old) × (journal.new ≡ journal.old)) }
         ensures turned { IfOk result (λ progress. (t : Texts) (s : LabState) (opens : List (AnyOpen × State))
-            → Working t (P.seen plant.old).told journal.old s opens → Holds self.old opens → HasTurned t s opens exp (P.seen plant.old) (P.seen plant.new) journal.new progress self.new) }
+            → Working t (P.seen plant.old).told journal.old s opens → Holds self.old opens
+            → HasTurned t s opens exp (P.seen plant.old) (P.seen plant.new) journal.new progress self.new) }
         ensures goes_on { IfOk result (λ progress. GoesOnBy progress (IsManaging (P.seen plant.new).told journal.new self.new)) }
         ensures stopped { IfOk result (λ progress. IsStop progress ↔ IsTrue (P.seen plant.new).stopped) }
         ensures limit { limit_of journal.new ≡ limit_of journal.old }
@@ -219,7 +223,8 @@ impl Manager {
         ensures same { OnErr result (self.new ≡ self.old) }
         ensures nothing { OnErr result ((plant.new ≡ plant.old) × (journal.new ≡ journal.old)) }
         ensures finished { IfOk result (λ progress. (t : Texts) (s : LabState) (opens : List (AnyOpen × State))
-            → Working t (P.seen plant.old).told journal.old s opens → Holds self.old opens → HasTurnedToEnd t s opens exp (P.seen plant.old) (P.seen plant.new) journal.new progress self.new) }
+            → Working t (P.seen plant.old).told journal.old s opens → Holds self.old opens
+            → HasTurnedToEnd t s opens exp (P.seen plant.old) (P.seen plant.new) journal.new progress self.new) }
         ensures goes_on { IfOk result (λ progress. GoesOnBy progress (IsManaging (P.seen plant.new).told journal.new self.new)) }
         ensures stopped { IfOk result (λ progress. IsStop progress ↔ IsTrue (P.seen plant.new).stopped) }
         ensures limit { limit_of journal.new ≡ limit_of journal.old }

@@ -90,7 +90,8 @@ struct Fresh {
 fn is_kept(change: &Change, node: usize) -> bool
     requires change { IsChange change.now }
     requires node { node < length (change.now).lab.now.nodes }
-    ensures { result ≡ is_kept (change.now).lab.now (Some (change.now).old.now) (Some (change.now).new.now) (slice_index_or (node_names (change.now).lab.now) node []) }
+    ensures { result ≡ is_kept (change.now).lab.now (Some (change.now).old.now) (Some (change.now).new.now)
+        (slice_index_or (node_names (change.now).lab.now) node []) }
 {
     if !same_os(change.before.oses[node], change.after.oses[node]) {
         return false;
@@ -125,9 +126,13 @@ struct FreshNode {
 fn fresh_node(change: &Change, node: usize) -> FreshNode
     requires change { IsChange change.now }
     requires node { node < length (change.now).lab.now.nodes }
-    ensures leaving { result.leaving ≡ fresh_os (change.now).lab.now (change.now).old.now (change.now).new.now (change.now).old.now (slice_index_or (node_names (change.now).lab.now) node []) }
-    ensures coming { result.coming ≡ fresh_os (change.now).lab.now (change.now).old.now (change.now).new.now (change.now).new.now (slice_index_or (node_names (change.now).lab.now) node []) }
-    ensures wiped { result.wiped ≡ wiped_os (change.now).lab.now (change.now).old.now (change.now).new.now (slice_index_or (node_names (change.now).lab.now) node []) }
+    ensures leaving { result.leaving
+        ≡ fresh_os (change.now).lab.now (change.now).old.now (change.now).new.now (change.now).old.now
+        (slice_index_or (node_names (change.now).lab.now) node []) }
+    ensures coming { result.coming ≡ fresh_os (change.now).lab.now (change.now).old.now (change.now).new.now (change.now).new.now
+        (slice_index_or (node_names (change.now).lab.now) node []) }
+    ensures wiped { result.wiped ≡ wiped_os (change.now).lab.now (change.now).old.now (change.now).new.now
+        (slice_index_or (node_names (change.now).lab.now) node []) }
 {
     let kept = is_kept(change, node);
     let one = &change.before.oses[node];
@@ -155,9 +160,12 @@ fn push_node(fresh: &mut Fresh, node: FreshNode) -> Result<(), Memory>
 
 fn fresh_nodes(alloc: Global, change: &Change) -> Result<Fresh, Memory>
     requires { IsChange change.now }
-    ensures leaving { IfOk result (λ fresh. fresh.leaving.items ≡ map (fresh_os (change.now).lab.now (change.now).old.now (change.now).new.now (change.now).old.now) (node_names (change.now).lab.now)) }
-    ensures coming { IfOk result (λ fresh. fresh.coming.items ≡ map (fresh_os (change.now).lab.now (change.now).old.now (change.now).new.now (change.now).new.now) (node_names (change.now).lab.now)) }
-    ensures wiped { IfOk result (λ fresh. fresh.wiped.items ≡ map (wiped_os (change.now).lab.now (change.now).old.now (change.now).new.now) (node_names (change.now).lab.now)) }
+    ensures leaving { IfOk result (λ fresh. fresh.leaving.items
+        ≡ map (fresh_os (change.now).lab.now (change.now).old.now (change.now).new.now (change.now).old.now) (node_names (change.now).lab.now)) }
+    ensures coming { IfOk result (λ fresh. fresh.coming.items
+        ≡ map (fresh_os (change.now).lab.now (change.now).old.now (change.now).new.now (change.now).new.now) (node_names (change.now).lab.now)) }
+    ensures wiped { IfOk result (λ fresh. fresh.wiped.items
+        ≡ map (wiped_os (change.now).lab.now (change.now).old.now (change.now).new.now) (node_names (change.now).lab.now)) }
 {
     let mut fresh = Fresh {
         leaving: Vec::new(alloc),
@@ -186,7 +194,8 @@ fn changing(
     requires table { IsTable lab.now (mapped.now).wiring (mapped.now).mapping table.now }
     requires wiped { length wiped.now ≡ length lab.now.nodes }
     requires oses { length oses.now ≡ length lab.now.nodes }
-    ensures { IfOk result (λ commands. commands ≡ changed lab.now mapped.now left.now (hosts_at (node_names lab.now) wiped.now) rows.now (hosts_at (node_names lab.now) oses.now)) }
+    ensures { IfOk result (λ commands. commands
+        ≡ changed lab.now mapped.now left.now (hosts_at (node_names lab.now) wiped.now) rows.now (hosts_at (node_names lab.now) oses.now)) }
 {
     let mut clear = leaves(alloc, left)?;
     push_wipes(&mut clear, lab, wiped)?;

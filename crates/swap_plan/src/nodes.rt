@@ -103,7 +103,8 @@ fn push_pipes(
     requires shaped { IsShaped lab.now wiring.now mapping.now }
     requires pipes { (pipe : _) → Has pipes.now pipe → Has wiring.now.pipes pipe }
     ensures { OnOk result (listed.new.items ≡ listed.old.items
-        ++ filter_map (λ p. if bytes_eq (place_of lab.now (untagged wiring.now mapping.now) p.node) node then Some (pipe_row lab.now (untagged wiring.now mapping.now) p) else None) pipes.now) }
+        ++ filter_map (λ p. if bytes_eq (place_of lab.now (untagged wiring.now mapping.now) p.node) node then Some
+        (pipe_row lab.now (untagged wiring.now mapping.now) p) else None) pipes.now) }
 {
     match pipes.split_first() {
         Some((pipe, others)) => {

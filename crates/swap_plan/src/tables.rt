@@ -68,7 +68,8 @@ fn no_pipes(alloc: Global, nodes: usize) -> Result<Vec<Items<Pipe>>, Memory>
 fn add_pipe(lists: &mut Vec<Items<Pipe>>, mapping: &Mapping, pipe: Pipe) -> Result<(), Memory>
     requires place { pipe.node < length mapping.now.places }
     requires node { (place_at mapping.now pipe.node).0.0 < length lists.old.items }
-    ensures { OnOk result (lists.new.items ≡ slice_set lists.old.items (place_at mapping.now pipe.node).0.0 (slice_index_or lists.old.items (place_at mapping.now pipe.node).0.0 [] ++ pipe ∷ [])) }
+    ensures { OnOk result (lists.new.items
+        ≡ slice_set lists.old.items (place_at mapping.now pipe.node).0.0 (slice_index_or lists.old.items (place_at mapping.now pipe.node).0.0 [] ++ pipe ∷ [])) }
 {
     let node = mapping.places.as_slice()[pipe.node as usize].0;
     lists[node.0 as usize].push(pipe)?;

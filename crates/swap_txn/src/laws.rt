@@ -28,8 +28,10 @@ pub fn facts_alone()
         → (start : ℕ) (live : AnyState) (trace : List Event) (op : DeviceOp) (applied : Bool) (answer : Result Answer Fault)
         → IsCommandOf lab f op → Knows lab e start live trace → Knows lab e start live (trace ++ Did op applied answer ∷ []) }
     ensures turns { (lab : Lab) (es : List Experiment) → IsLab lab → Holding lab es → (e f : Experiment) → Has es e → Has es f → e ≢ f
-        → (start begin : ℕ) (live other : AnyState) (was now : Seen) (j k : Journal) (turned : Answered AnyState) → Turns other was now j k turned → IsOf lab f other
+        → (start begin : ℕ) (live other : AnyState) (was now : Seen) (j k : Journal) (turned : Answered AnyState) → Turns other was now j k turned
+        → IsOf lab f other
         → IfSome was.told (λ t. Knows lab f begin other t.trace × Knows lab e start live t.trace) → IfSome now.told (λ u. Knows lab e start live u.trace) }
-    ensures begins { (lab : Lab) (e : Experiment) (start : ℕ) (live : AnyState) (p : Plans) (r : Record) (was now : Seen) (j k : Journal) (turned : Answered Plans)
+    ensures begins { (lab : Lab) (e : Experiment) (start : ℕ) (live : AnyState) (p : Plans) (r : Record) (was now : Seen) (j k : Journal)
+        (turned : Answered Plans)
         → Begins p was now j k turned r → IfSome was.told (λ t. Knows lab e start live t.trace) → IfSome now.told (λ u. Knows lab e start live u.trace) }
 {}

@@ -64,7 +64,8 @@ impl Sending {
         requires { stage_of self.old.plan self.old.left ≡ Done → ⊥ }
         ensures plan { self.new.plan ≡ self.old.plan }
         ensures stays { OnErr result (stage_of self.new.plan self.new.left ≡ stage_of self.old.plan self.old.left) }
-        ensures sends { (course : Course) × Sends self.old.left (P.seen plant.old) (P.seen plant.new) course × StepBy self.old.left course result self.new.left }
+        ensures sends { (course : Course) × Sends self.old.left (P.seen plant.old) (P.seen plant.new) course
+            × StepBy self.old.left course result self.new.left }
     {
         if self.stage != Stage::Boot {
             self.send_listed(plant)
@@ -80,7 +81,8 @@ impl Sending {
         requires { 0 < length self.old.left.todo }
         ensures plan { self.new.plan ≡ self.old.plan }
         ensures stays { OnErr result (stage_of self.new.plan self.new.left ≡ stage_of self.old.plan self.old.left) }
-        ensures sends { (course : Course) × Sends self.old.left (P.seen plant.old) (P.seen plant.new) course × StepBy self.old.left course result self.new.left }
+        ensures sends { (course : Course) × Sends self.old.left (P.seen plant.old) (P.seen plant.new) course
+            × StepBy self.old.left course result self.new.left }
     {
         let op = listed(&self.commands, self.stage, self.at);
         send(plant, &op)?;
@@ -96,7 +98,8 @@ impl Sending {
         requires unwatched { self.old.left.watch ≡ None }
         ensures plan { self.new.plan ≡ self.old.plan }
         ensures stays { OnErr result (stage_of self.new.plan self.new.left ≡ stage_of self.old.plan self.old.left) }
-        ensures sends { (course : Course) × Sends self.old.left (P.seen plant.old) (P.seen plant.new) course × StepBy self.old.left course result self.new.left }
+        ensures sends { (course : Course) × Sends self.old.left (P.seen plant.old) (P.seen plant.new) course
+            × StepBy self.old.left course result self.new.left }
     {
         let (node, at) = node_at(&self.commands, self.at);
         send(plant, &DeviceOp::Boot { node })?;
@@ -114,7 +117,8 @@ impl Sending {
         requires watched { IsSome self.old.left.watch }
         ensures plan { self.new.plan ≡ self.old.plan }
         ensures stays { OnErr result (stage_of self.new.plan self.new.left ≡ stage_of self.old.plan self.old.left) }
-        ensures sends { (course : Course) × Sends self.old.left (P.seen plant.old) (P.seen plant.new) course × StepBy self.old.left course result self.new.left }
+        ensures sends { (course : Course) × Sends self.old.left (P.seen plant.old) (P.seen plant.new) course
+            × StepBy self.old.left course result self.new.left }
     {
         let Some(mut watched) = self.watched.take() else {
             unreachable!()

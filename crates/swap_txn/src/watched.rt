@@ -49,7 +49,8 @@ impl Watched {
     /// Polls the node; `Ok` tells whether it is up. After trouble the watch begins anew.
     pub(crate) fn poll<P: Plant>(&mut self, plant: &mut P) -> Result<bool, Halt>
         requires { self.old.watch.polls < 64 }
-        ensures { (answer : Result Answered Faulted) × Commanded (ops.Poll self.old.node) (P.seen plant.old) (P.seen plant.new) answer × IsPolledBy self.old answer result self.new }
+        ensures { (answer : Result Answered Faulted) × Commanded (ops.Poll self.old.node) (P.seen plant.old) (P.seen plant.new) answer
+            × IsPolledBy self.old answer result self.new }
     {
         let state = poll(plant, self.node)?;
         match self.see(state) {

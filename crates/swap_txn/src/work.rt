@@ -136,7 +136,8 @@ impl Work {
     fn end<P: Plant>(self, journal: &mut Journal, plant: &mut P) -> Went
         requires stands { Stands (P.seen plant.old).told journal.old }
         requires fits { HasRoom journal.old (last_of self) }
-        ensures writes { (answer : Result (Unit {0}) Unwritten) × Writes (last_of self) (P.seen plant.old) (P.seen plant.new) journal.old journal.new answer × EndedBy self answer result }
+        ensures writes { (answer : Result (Unit {0}) Unwritten) × Writes (last_of self) (P.seen plant.old) (P.seen plant.new) journal.old journal.new answer
+            × EndedBy self answer result }
         ensures stays { StaysAt self result }
     {
         match write(&self.last, journal, plant) {

@@ -21,7 +21,8 @@ pub(crate) fn write<P: Plant>(
 ) -> Result<(), Halt>
     requires stands { Stands (P.seen plant.old).told journal.old }
     requires fits { length_of journal.old + length encoded.now ≤ limit_of journal.old }
-    ensures { (r : Record) → IsBody encoded.now r → (answer : Result (Unit {0}) Unwritten) × Writes r (P.seen plant.old) (P.seen plant.new) journal.old journal.new answer × IsWritten tt answer result }
+    ensures { (r : Record) → IsBody encoded.now r
+        → (answer : Result (Unit {0}) Unwritten) × Writes r (P.seen plant.old) (P.seen plant.new) journal.old journal.new answer × IsWritten tt answer result }
 {
     match journal.append(encoded, plant) {
         Ok(()) => Ok(()),

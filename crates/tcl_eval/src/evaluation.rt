@@ -25,7 +25,8 @@ use tcl_words::{Command, Part, reference_at, script_end, split};
 impl<H: Host> Machine<H> {
     ghost use Rattle.std.specs.Prelude.{◌≡◌, ◌≤◌, []};
     ghost use Rattle.tcl_eval.specs.Machines.{Ended, seen};
-    ghost use Rattle.tcl_eval.specs.Jobs.{Value, ValueAt, Truth, Integer, IntegerAt, Whole, Nested, One, Parts, Named, Call, Condition, Expression, Pass, Tier, Operand};
+    ghost use Rattle.tcl_eval.specs.Jobs.{Value, ValueAt, Truth, Integer, IntegerAt, Whole, Nested, One};
+    ghost use Rattle.tcl_eval.specs.Jobs.{Parts, Named, Call, Condition, Expression, Pass, Tier, Operand};
 
     /// Runs a script. The result is that of its last command.
     #[cycle(eval)]
@@ -91,7 +92,8 @@ impl<H: Host> Machine<H> {
     ) -> Result<Text, Halt>
         requires short { length text.now < 2 ^ 32 - 1 }
         requires lie { All (LiesIn (length text.now)) parts.now }
-        ensures evals { Ended (H.calls line) H.hears Value levels (Parts text.now in_index parts.now []) (seen H.objects self.old) (seen H.objects self.new) result }
+        ensures evals { Ended (H.calls line) H.hears Value levels (Parts text.now in_index parts.now []) (seen H.objects self.old) (seen H.objects self.new)
+            result }
         ensures left { self.new.left ≤ self.old.left }
         ensures value { IfOk result (λ value. length value ≤ 65536) }
     {
@@ -127,7 +129,8 @@ impl<H: Host> Machine<H> {
     ) -> Result<(Text, usize), Halt>
         requires short { length text.now < 2 ^ 32 - 1 }
         requires here { at < length text.now }
-        ensures evals { Ended (H.calls line) H.hears (λ x. ValueAt x.0 x.1) levels (Named text.now at in_index) (seen H.objects self.old) (seen H.objects self.new) result }
+        ensures evals { Ended (H.calls line) H.hears (λ x. ValueAt x.0 x.1) levels (Named text.now at in_index) (seen H.objects self.old)
+            (seen H.objects self.new) result }
         ensures left { self.new.left ≤ self.old.left }
         ensures forward { IfOk result (λ found. (at < found.1) × (found.1 ≤ length text.now)) }
     {
@@ -306,7 +309,8 @@ impl<H: Host> Machine<H> {
         requires short { length text.now ≤ 65536 }
         requires here { at ≤ length text.now }
         requires tiers { tier ≤ 6 }
-        ensures evals { Ended (H.calls line) H.hears (λ x. IntegerAt x.0 x.1) levels (Tier text.now at tier live) (seen H.objects self.old) (seen H.objects self.new) result }
+        ensures evals { Ended (H.calls line) H.hears (λ x. IntegerAt x.0 x.1) levels (Tier text.now at tier live) (seen H.objects self.old)
+            (seen H.objects self.new) result }
         ensures left { self.new.left ≤ self.old.left }
         ensures forward { IfOk result (λ found. (at < found.1) × (found.1 ≤ length text.now)) }
     {
@@ -337,7 +341,8 @@ impl<H: Host> Machine<H> {
     ) -> Result<(i64, usize), Halt>
         requires short { length text.now ≤ 65536 }
         requires here { at ≤ length text.now }
-        ensures evals { Ended (H.calls line) H.hears (λ x. IntegerAt x.0 x.1) levels (Operand text.now at live) (seen H.objects self.old) (seen H.objects self.new) result }
+        ensures evals { Ended (H.calls line) H.hears (λ x. IntegerAt x.0 x.1) levels (Operand text.now at live) (seen H.objects self.old)
+            (seen H.objects self.new) result }
         ensures left { self.new.left ≤ self.old.left }
         ensures forward { IfOk result (λ found. (at < found.1) × (found.1 ≤ length text.now)) }
     {
@@ -365,7 +370,8 @@ impl<H: Host> Machine<H> {
         requires short { length text.now ≤ 65536 }
         requires here { at < length text.now }
         requires opening { opening_of (drop at text.now) ≡ openings.Not }
-        ensures evals { Ended (H.calls line) H.hears (λ x. IntegerAt x.0 x.1) levels (Operand text.now at live) (seen H.objects self.old) (seen H.objects self.new) result }
+        ensures evals { Ended (H.calls line) H.hears (λ x. IntegerAt x.0 x.1) levels (Operand text.now at live) (seen H.objects self.old)
+            (seen H.objects self.new) result }
         ensures left { self.new.left ≤ self.old.left }
         ensures forward { IfOk result (λ found. (at < found.1) × (found.1 ≤ length text.now)) }
     {
@@ -387,7 +393,8 @@ impl<H: Host> Machine<H> {
         requires short { length text.now ≤ 65536 }
         requires here { at < length text.now }
         requires opening { opening_of (drop at text.now) ≡ openings.Minus }
-        ensures evals { Ended (H.calls line) H.hears (λ x. IntegerAt x.0 x.1) levels (Operand text.now at live) (seen H.objects self.old) (seen H.objects self.new) result }
+        ensures evals { Ended (H.calls line) H.hears (λ x. IntegerAt x.0 x.1) levels (Operand text.now at live) (seen H.objects self.old)
+            (seen H.objects self.new) result }
         ensures left { self.new.left ≤ self.old.left }
         ensures forward { IfOk result (λ found. (at < found.1) × (found.1 ≤ length text.now)) }
     {
@@ -409,7 +416,8 @@ impl<H: Host> Machine<H> {
         requires short { length text.now ≤ 65536 }
         requires here { at < length text.now }
         requires opening { opening_of (drop at text.now) ≡ openings.Parenthesis }
-        ensures evals { Ended (H.calls line) H.hears (λ x. IntegerAt x.0 x.1) levels (Operand text.now at live) (seen H.objects self.old) (seen H.objects self.new) result }
+        ensures evals { Ended (H.calls line) H.hears (λ x. IntegerAt x.0 x.1) levels (Operand text.now at live) (seen H.objects self.old)
+            (seen H.objects self.new) result }
         ensures left { self.new.left ≤ self.old.left }
         ensures forward { IfOk result (λ found. (at < found.1) × (found.1 ≤ length text.now)) }
     {
@@ -435,7 +443,8 @@ impl<H: Host> Machine<H> {
         requires short { length text.now ≤ 65536 }
         requires here { at < length text.now }
         requires opening { opening_of (drop at text.now) ≡ openings.Dollar }
-        ensures evals { Ended (H.calls line) H.hears (λ x. IntegerAt x.0 x.1) levels (Operand text.now at live) (seen H.objects self.old) (seen H.objects self.new) result }
+        ensures evals { Ended (H.calls line) H.hears (λ x. IntegerAt x.0 x.1) levels (Operand text.now at live) (seen H.objects self.old)
+            (seen H.objects self.new) result }
         ensures left { self.new.left ≤ self.old.left }
         ensures forward { IfOk result (λ found. (at < found.1) × (found.1 ≤ length text.now)) }
     {
@@ -462,7 +471,8 @@ impl<H: Host> Machine<H> {
         requires short { length text.now ≤ 65536 }
         requires here { at < length text.now }
         requires opening { opening_of (drop at text.now) ≡ openings.Bracket }
-        ensures evals { Ended (H.calls line) H.hears (λ x. IntegerAt x.0 x.1) levels (Operand text.now at live) (seen H.objects self.old) (seen H.objects self.new) result }
+        ensures evals { Ended (H.calls line) H.hears (λ x. IntegerAt x.0 x.1) levels (Operand text.now at live) (seen H.objects self.old)
+            (seen H.objects self.new) result }
         ensures left { self.new.left ≤ self.old.left }
         ensures forward { IfOk result (λ found. (at < found.1) × (found.1 ≤ length text.now)) }
     {

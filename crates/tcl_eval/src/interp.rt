@@ -23,7 +23,8 @@ impl<H> Model for Interp<H> {
 
     ghost Value = { Seen H };
 
-    ghost view = { λ interp. record { host = interp.machine.host; variables = interp.machine.variables.entries; left = interp.machine.left; failed = interp.failed } };
+    ghost view = { λ interp. record
+        { host = interp.machine.host; variables = interp.machine.variables.entries; left = interp.machine.left; failed = interp.failed } };
 }
 
 impl<H: Host> Interp<H> {

@@ -2,7 +2,8 @@
 ghost use Rattle.std.specs.Prelude.{◌≡◌, ◌≤◌, ◌<◌, Ok, OnOk, IfOk, IfSome, map, length, is_some};
 ghost use Rattle.virt_topo.specs.Wirings.{virt_at};
 ghost use Rattle.line_text.specs.Refusals.{Takes};
-ghost use Rattle.top_text.specs.Adding.{kept, with_class, with_node, end_at, segment_of, with_segment, pipe_of, with_pipe, with_place, placed, with_multiplexed, marked};
+ghost use Rattle.top_text.specs.Adding.{kept, with_class, with_node, end_at, segment_of, with_segment};
+ghost use Rattle.top_text.specs.Adding.{pipe_of, with_pipe, with_place, placed, with_multiplexed, marked};
 ghost use Rattle.top_text.specs.Tables.{IsReading};
 
 use crate::lines::{End, LinkRead, NodeRead, PipeRead};

@@ -5,7 +5,8 @@ ghost use Rattle.lab_base.specs.Names.{same_name};
 ghost use Rattle.line_text.specs.Reading.{and_then};
 ghost use Rattle.line_text.specs.Refusals.{Takes};
 ghost use Rattle.top_text.specs.Lines.{class_line, node_line, fix_line, link_line, pipe_line, multiplex_line};
-ghost use Rattle.top_text.specs.Adding.{kept, with_class, with_node, virt_named, segment_of, with_segment, pipe_of, with_pipe, placed, segment_named, marked, wire_added, node_added, keyed, added};
+ghost use Rattle.top_text.specs.Adding.{kept, with_class, with_node, virt_named, segment_of, with_segment, pipe_of};
+ghost use Rattle.top_text.specs.Adding.{with_pipe, placed, segment_named, marked, wire_added, node_added, keyed, added};
 ghost use Rattle.top_text.specs.Tables.{IsReading};
 
 use crate::adding::{add_class, add_link, add_mark, add_node, add_pipe, add_place};
@@ -35,7 +36,8 @@ fn add_node_line(so_far: &mut SoFar, alloc: Global, fields: &[&[u8]]) -> Result<
 
 fn add_fix_line(so_far: &mut SoFar, alloc: Global, fields: &[&[u8]]) -> Result<(), LineFault>
     requires { IsReading so_far.old }
-    ensures takes { Takes result so_far.new.wiring (and_then (fix_line (views fields.now)) (λ fix. placed so_far.old.wiring fix.1 (virt_named so_far.old.wiring fix.0))) }
+    ensures takes { Takes result so_far.new.wiring
+        (and_then (fix_line (views fields.now)) (λ fix. placed so_far.old.wiring fix.1 (virt_named so_far.old.wiring fix.0))) }
     ensures keeps { OnOk result (IsReading so_far.new) }
 {
     let fix = fix_in(fields)?;
@@ -45,7 +47,8 @@ fn add_fix_line(so_far: &mut SoFar, alloc: Global, fields: &[&[u8]]) -> Result<(
 
 fn add_link_line(so_far: &mut SoFar, alloc: Global, fields: &[&[u8]]) -> Result<(), LineFault>
     requires { IsReading so_far.old }
-    ensures takes { Takes result so_far.new.wiring (and_then (link_line (views fields.now)) (λ link. kept (with_segment so_far.old.wiring (segment_of so_far.old.wiring link)))) }
+    ensures takes { Takes result so_far.new.wiring
+        (and_then (link_line (views fields.now)) (λ link. kept (with_segment so_far.old.wiring (segment_of so_far.old.wiring link)))) }
     ensures keeps { OnOk result (IsReading so_far.new) }
 {
     let link = link_in(alloc, fields)??;
@@ -54,7 +57,8 @@ fn add_link_line(so_far: &mut SoFar, alloc: Global, fields: &[&[u8]]) -> Result<
 
 fn add_pipe_line(so_far: &mut SoFar, fields: &[&[u8]]) -> Result<(), LineFault>
     requires { IsReading so_far.old }
-    ensures takes { Takes result so_far.new.wiring (and_then (pipe_line (views fields.now)) (λ pipe. kept (with_pipe so_far.old.wiring (pipe_of so_far.old.wiring pipe)))) }
+    ensures takes { Takes result so_far.new.wiring
+        (and_then (pipe_line (views fields.now)) (λ pipe. kept (with_pipe so_far.old.wiring (pipe_of so_far.old.wiring pipe)))) }
     ensures keeps { OnOk result (IsReading so_far.new) }
 {
     let pipe = pipe_in(fields)?;
@@ -63,7 +67,8 @@ fn add_pipe_line(so_far: &mut SoFar, fields: &[&[u8]]) -> Result<(), LineFault>
 
 fn add_multiplex_line(so_far: &mut SoFar, alloc: Global, fields: &[&[u8]]) -> Result<(), LineFault>
     requires { IsReading so_far.old }
-    ensures takes { Takes result so_far.new.wiring (and_then (multiplex_line (views fields.now)) (λ name. marked so_far.old.wiring (segment_named so_far.old.wiring name))) }
+    ensures takes { Takes result so_far.new.wiring
+        (and_then (multiplex_line (views fields.now)) (λ name. marked so_far.old.wiring (segment_named so_far.old.wiring name))) }
     ensures keeps { OnOk result (IsReading so_far.new) }
 {
     let name = multiplex_in(fields)?;

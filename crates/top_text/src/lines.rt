@@ -4,7 +4,8 @@ ghost use Rattle.lab_base.specs.Texts.{views};
 ghost use Rattle.lab_base.specs.Parts.{all_of, name_of, number_from};
 ghost use Rattle.lab_base.specs.Kinds.{both_of};
 ghost use Rattle.line_text.specs.Fields.{field_at, list_behind};
-ghost use Rattle.top_text.specs.Lines.{bare, addressed, end_parts, end_of, weight_of, as_rates, rates_of, as_class, class_line, node_line, fix_line, link_line, pipe_line, multiplex_line};
+ghost use Rattle.top_text.specs.Lines.{bare, addressed, end_parts, end_of, weight_of, as_rates, rates_of};
+ghost use Rattle.top_text.specs.Lines.{as_class, class_line, node_line, fix_line, link_line, pipe_line, multiplex_line};
 
 use lab_base::{
     Items, Kind, ListRead, Memory, Name, Parts, Rates, add_read, both, name_in, number_in,

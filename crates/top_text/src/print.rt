@@ -5,7 +5,8 @@ ghost use Rattle.line_text.specs.Printing.{line_text, spaced, text_of, with_numb
 ghost use Rattle.virt_topo.specs.Soundness.{IsSound};
 ghost use Rattle.top_text.specs.Adding.{wiring_of_text};
 ghost use Rattle.top_text.specs.Printable.{named_asks, named_class, named_node, named_place, named_segment, is_address, is_printable};
-ghost use Rattle.top_text.specs.Canonical.{virt_name, class_name, address_text, behind_name, end_field, asked_name, rates_fields, class_fields, node_fields, fix_at, fix_lines, link_fields, multiplex_lines, pipe_fields, canonical_top};
+ghost use Rattle.top_text.specs.Canonical.{virt_name, class_name, address_text, behind_name, end_field, asked_name, rates_fields};
+ghost use Rattle.top_text.specs.Canonical.{class_fields, node_fields, fix_at, fix_lines, link_fields, multiplex_lines, pipe_fields, canonical_top};
 
 use lab_base::{Memory, Name, Rates, Text};
 use line_text::{push_field, push_numbered};

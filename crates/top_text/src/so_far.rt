@@ -1,5 +1,6 @@
 // // The wiring of the lines read so far, and the tests with one more line.
-ghost use Rattle.std.specs.Prelude.{◌≡◌, ◌≤◌, ◌<◌, ◌++◌, ◌∷◌, ◌||◌, ◌&&◌, ◌+◌, ◌==◌, [], true, not, List, ℕ, Ok, IfSome, map, length, nat_lt, nat_le, slice_index_or};
+ghost use Rattle.std.specs.Prelude.{◌≡◌, ◌≤◌, ◌<◌, ◌++◌, ◌∷◌, ◌||◌, ◌&&◌, ◌+◌, ◌==◌, []};
+ghost use Rattle.std.specs.Prelude.{true, not, List, ℕ, Ok, IfSome, map, length, nat_lt, nat_le, slice_index_or};
 ghost use Rattle.std.specs.List.{list_all, list_any};
 ghost use Rattle.lab_base.specs.Names.{same_name};
 ghost use Rattle.line_text.specs.Refusals.{Takes};
@@ -130,7 +131,8 @@ impl SoFar {
     }
 
     fn class_repeats(&self, class: &Class) -> bool
-        ensures { result ≡ (list_any (same_name class.now.name) self.now.tables.classes.keys || (stands_again same_name class.now.types || list_any (λ v. asks_type class.now.name v.asks) self.now.wiring.nodes)) }
+        ensures { result ≡ (list_any (same_name class.now.name) self.now.tables.classes.keys
+            || (stands_again same_name class.now.types || list_any (λ v. asks_type class.now.name v.asks) self.now.wiring.nodes)) }
     {
         self.tables.classes.contains(&class.name)
             || repeat_type(class.types.as_slice())
@@ -188,7 +190,8 @@ impl SoFar {
     fn segment_fits(&self, segment: &Segment) -> bool
         requires ends { self.now.tables.ends ≤ 4096 }
         requires few { length segment.now.ends ≤ 256 }
-        ensures { result ≡ (nat_lt (length self.now.wiring.segments) 512 && (nat_le (self.now.tables.ends + length segment.now.ends) 4096 && limits_segment segment.now)) }
+        ensures { result ≡ (nat_lt (length self.now.wiring.segments) 512
+            && (nat_le (self.now.tables.ends + length segment.now.ends) 4096 && limits_segment segment.now)) }
     {
         self.wiring.segments.len() < 512
             && self.tables.ends + segment.ends.len() <= 4_096
@@ -221,7 +224,8 @@ impl SoFar {
     }
 
     fn knows_pipe(&self, pipe: &Pipe) -> bool
-        ensures { let on = slice_index_or self.now.tables.on_node.items pipe.now.node [] in let node = nat_lt pipe.now.node (length self.now.tables.on_node.items) in
+        ensures { let on = slice_index_or self.now.tables.on_node.items pipe.now.node [] in let node = nat_lt pipe.now.node
+            (length self.now.tables.on_node.items) in
             result ≡ ((node && nat_lt pipe.now.from (length on)) && (node && nat_lt pipe.now.to (length on))) }
     {
         self.tables.has_end(pipe.node, pipe.from) && self.tables.has_end(pipe.node, pipe.to)
@@ -229,7 +233,8 @@ impl SoFar {
 
     /// Whether a pipe may not join ends of these two segments: they have two owners, or one of them is multiplexed.
     fn parts_segments(&self, from: u16, to: u16) -> bool
-        ensures { let w = self.now.wiring in result ≡ (not (same_name (segment_at w from).owner (segment_at w to).owner) || ((segment_at w from).multiplexed || (segment_at w to).multiplexed)) }
+        ensures { let w = self.now.wiring in result
+            ≡ (not (same_name (segment_at w from).owner (segment_at w to).owner) || ((segment_at w from).multiplexed || (segment_at w to).multiplexed)) }
     {
         owner_of(&self.wiring, from) != owner_of(&self.wiring, to)
             || is_multiplexed(&self.wiring, from as usize)

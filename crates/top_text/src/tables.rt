@@ -1,5 +1,6 @@
 // // Tables of the names, the addresses and the ends of the wiring so far.
-ghost use Rattle.std.specs.Prelude.{◌≡◌, ◌<◌, ◌≤◌, ◌++◌, ◌∷◌, ◌&&◌, ◌||◌, ℕ, [], false, true, nat_eq, nat_lt, length, map, position, slice_index_or, slice_set, IfOk, IfSome, OnOk};
+ghost use Rattle.std.specs.Prelude.{◌≡◌, ◌<◌, ◌≤◌, ◌++◌, ◌∷◌, ◌&&◌, ◌||◌, ℕ, [], false};
+ghost use Rattle.std.specs.Prelude.{true, nat_eq, nat_lt, length, map, position, slice_index_or, slice_set, IfOk, IfSome, OnOk};
 ghost use Rattle.std.specs.List.{list_any, list_all};
 ghost use Rattle.lab_base.specs.Names.{same_name};
 ghost use Rattle.indexmap.specs.IndexSet.{contains};
@@ -183,7 +184,8 @@ impl Tables {
 
     /// Whether an end of this pipe is in an earlier pipe.
     pub(crate) fn is_piped(&self, pipe: &Pipe) -> bool
-        ensures { result ≡ (list_any (same_end (pipe.now.node, pipe.now.from)) self.now.piped.keys || list_any (same_end (pipe.now.node, pipe.now.to)) self.now.piped.keys) }
+        ensures { result ≡ (list_any (same_end (pipe.now.node, pipe.now.from)) self.now.piped.keys
+            || list_any (same_end (pipe.now.node, pipe.now.to)) self.now.piped.keys) }
     {
         self.piped.contains(&(pipe.node, pipe.from)) || self.piped.contains(&(pipe.node, pipe.to))
     }
