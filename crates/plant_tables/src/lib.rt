@@ -1,0 +1,10 @@
+//! What the devices of a plant tell of what they hold.
+#![tactic(auto)]
+
+mod laws;
+mod pipe_row;
+mod tables;
+
+pub use laws::answers_are_one;
+pub use pipe_row::{PipeRow, ReadFailed};
+pub use tables::Tables;
