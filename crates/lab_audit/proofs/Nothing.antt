@@ -1,7 +1,6 @@
 -- A cabled lab differs in nothing.
-use Rattle.std.proofs.Common.{◌≡◌, ◌⊎◌, inl, inr, ℕ, Bool, true, false, List, [], ◌∷◌, ◌++◌, Option, Some, None, refl, sym, ap, ◌∙◌, subst}
+use Rattle.std.proofs.Common.{◌≡◌, inl, inr, ℕ, true, List, [], ◌∷◌, ◌++◌, Option, Some, None, refl, ap, ◌∙◌, subst}
 use Rattle.std.specs.Prelude.{is_some}
-use Rattle.lab_base.specs.declared.boot.Boot.TheVariants.{Off, IsUp}
 use Rattle.lab_base.specs.Lists.{Has}
 use Rattle.phys_lab.specs.Labs.{Lab}
 use Rattle.virt_topo.specs.declared.experiment.Experiment.{Experiment}
@@ -15,7 +14,7 @@ use Rattle.lab_model.specs.Courses.{node_names}
 use Rattle.lab_model.specs.Wants.{rows_of, node_row_of}
 use Rattle.lab_audit.specs.declared.report.Line.{Line}
 use Rattle.lab_audit.specs.declared.report.Line.TheVariants.{Lacks, Strange, Node}
-use Rattle.lab_audit.specs.Diff.{standing, standing_in, Tells, AreLines, AreLinesOf, Differs, Held, Free, AreDiffering, IsDiff, IsKnown}
+use Rattle.lab_audit.specs.Diff.{standing_in, Tells, AreLines, AreLinesOf, Differs, Held, Free, AreDiffering, IsDiff, IsKnown}
 
 -- what stands of an experiment that is in
 stands : (lab : Lab) (w : World) (e : Experiment) (phase : Phase) (m : Mapped) → CabledPhase lab w e phase → standing_in e.wiring phase ≡ Some m
