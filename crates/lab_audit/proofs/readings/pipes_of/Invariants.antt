@@ -1,0 +1,17 @@
+use Rattle.std.proofs.Common.{◌≡◌, ◌<◌, Some, None, map}
+use Rattle.std.specs.Prelude.{IfSome, length}
+use Rattle.lab_base.specs.Lists.{Has}
+use Rattle.plant.specs.Worlds.{world_of}
+use Rattle.plant_tables.specs.Readings.{HasPipe, pipe_of}
+use Rattle.plant_tables.specs.declared.pipe_row.PipeRow.{PipeRow}
+use Rattle.plant_tables.proofs.Fronts.{IsFront}
+use Rattle.lab_audit.specs.Reads.{Reads}
+use Rattle.lab_audit.proofs.readings.pipes_of.Given as goal
+
+abbrev pub invariant-loop-nth : goal.invariant-loop-nth
+invariant-loop-nth g l = record {
+  so_far : Reads (g.P.Plant.seen l.fn.plant) (g.P.Plant.seen l.plant) None;
+  front : IfSome (g.P.Plant.seen l.fn.plant).told (λ t. IsFront ◌<◌ (HasPipe ((world_of t.trace).node l.node)) (map (λ p. p.pipe) l.pipes));
+  each : IfSome (g.P.Plant.seen l.fn.plant).told (λ t. (p : PipeRow) → Has l.pipes p → ((world_of t.trace).node l.node).pipes p.pipe ≡ Some (pipe_of p));
+  count : length l.pipes ≡ l.nth;
+}
