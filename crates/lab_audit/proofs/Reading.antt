@@ -70,7 +70,7 @@ pub row_read : (w : World) (switch : List ℕ) (rows : List (ℕ × VlanId)) (ro
 row_read w switch rows row nth same front tells =
     let size : nth ≡ length (map entry_of rows) = omega (arith, same, size_of entry_of rows) in
     subst (λ (l : List (ℕ × ℕ)). IsFront IsBefore (IsEntry w switch) l) (sym (map-append entry_of rows (row ∷ [])))
-      (one_more IsBefore entries (IsEntry w switch) (map entry_of rows) (entry_of row) front (subst (λ (n : ℕ). IsNth IsBefore (IsEntry w switch) n (Some (entry_of row))) size tells))
+    (one_more IsBefore entries (IsEntry w switch) (map entry_of rows) (entry_of row) front (subst (λ (n : ℕ). IsNth IsBefore (IsEntry w switch) n (Some (entry_of row))) size tells))
 
 pub rows_end : (w : World) (switch : List ℕ) (rows : List (ℕ × VlanId)) (nth : ℕ) → length rows ≡ nth → IsFront IsBefore (IsEntry w switch) (map entry_of rows)
     → TellsRow w switch nth None → (e : ℕ × ℕ) → Has (map entry_of rows) e ↔ IsEntry w switch e
@@ -87,7 +87,7 @@ pub pipe_read : (row : NodeRow) (pipes : List PipeRow) (p : PipeRow) (nth : ℕ)
 pipe_read row pipes p nth same front tells =
     let size : nth ≡ length (map number_of pipes) = omega (arith, same, size_of number_of pipes) in
     subst (λ (l : List ℕ). IsFront ◌<◌ (HasPipe row) l) (sym (map-append number_of pipes (p ∷ [])))
-      (one_more ◌<◌ numbers (HasPipe row) (map number_of pipes) p.pipe front (subst (λ (n : ℕ). IsNth ◌<◌ (HasPipe row) n (Some p.pipe)) size tells.0))
+    (one_more ◌<◌ numbers (HasPipe row) (map number_of pipes) p.pipe front (subst (λ (n : ℕ). IsNth ◌<◌ (HasPipe row) n (Some p.pipe)) size tells.0))
 
 pub each_more : (row : NodeRow) (pipes : List PipeRow) (p : PipeRow) (nth : ℕ) → ((q : PipeRow) → Has pipes q → row.pipes q.pipe ≡ Some (pipe_of q))
     → TellsPipe row nth (Some p) → (q : PipeRow) → Has (pipes ++ p ∷ []) q → row.pipes q.pipe ≡ Some (pipe_of q)

@@ -18,11 +18,11 @@ loop-nth-preserved g c =
     let Tells : Told → Type 0 = λ t. TellsPipe ((world_of t.trace).node c.args.node) c.loop-nth.nth (Some pipe) in
     let tells = told_before a b Tells so_far.so_far (rw c.in-Some.is at c.in_ok-pipe.ensures.pipe) in
     let front = both_told a.told (λ (t : Told). IsFront ◌<◌ (HasPipe ((world_of t.trace).node c.args.node)) (map number_of old)) Tells
-        (λ (t : Told). IsFront ◌<◌ (HasPipe ((world_of t.trace).node c.args.node)) (map number_of (old ++ pipe ∷ [])))
-        (λ t f h. pipe_read ((world_of t.trace).node c.args.node) old pipe c.loop-nth.nth so_far.count f h) so_far.front tells in
+    (λ (t : Told). IsFront ◌<◌ (HasPipe ((world_of t.trace).node c.args.node)) (map number_of (old ++ pipe ∷ [])))
+    (λ t f h. pipe_read ((world_of t.trace).node c.args.node) old pipe c.loop-nth.nth so_far.count f h) so_far.front tells in
     let each = both_told a.told (λ (t : Told). (p : PipeRow) → Has old p → ((world_of t.trace).node c.args.node).pipes p.pipe ≡ Some (pipe_of p)) Tells
-        (λ (t : Told). (p : PipeRow) → Has (old ++ pipe ∷ []) p → ((world_of t.trace).node c.args.node).pipes p.pipe ≡ Some (pipe_of p))
-        (λ t e h. each_more ((world_of t.trace).node c.args.node) old pipe c.loop-nth.nth e h) so_far.each tells in
+    (λ (t : Told). (p : PipeRow) → Has (old ++ pipe ∷ []) p → ((world_of t.trace).node c.args.node).pipes p.pipe ≡ Some (pipe_of p))
+    (λ t e h. each_more ((world_of t.trace).node c.args.node) old pipe c.loop-nth.nth e h) so_far.each tells in
     record {
       so_far = read_on a b (g.P.Plant.seen c.pipe_at.new.plant) None so_far.so_far c.in_ok-pipe.ensures.reads;
       front = rw c.in_ok-push-in-Some.ensures.ok front;
@@ -39,5 +39,5 @@ returns-in-None-clause-exact g c =
     let Tells : Told → Type 0 = λ t. TellsPipe ((world_of t.trace).node c.args.node) c.loop-nth.nth None in
     let tells = told_before a b Tells so_far.so_far (rw c.in-None.is at c.in_ok-pipe.ensures.pipe) in
     three_told a.told (λ (t : Told). IsFront ◌<◌ (HasPipe ((world_of t.trace).node c.args.node)) (map number_of old))
-      (λ (t : Told). (p : PipeRow) → Has old p → ((world_of t.trace).node c.args.node).pipes p.pipe ≡ Some (pipe_of p)) Tells _
-      (λ t f e h. pipes_end ((world_of t.trace).node c.args.node) old c.loop-nth.nth so_far.count f e h) so_far.front so_far.each tells
+    (λ (t : Told). (p : PipeRow) → Has old p → ((world_of t.trace).node c.args.node).pipes p.pipe ≡ Some (pipe_of p)) Tells _
+    (λ t f e h. pipes_end ((world_of t.trace).node c.args.node) old c.loop-nth.nth so_far.count f e h) so_far.front so_far.each tells

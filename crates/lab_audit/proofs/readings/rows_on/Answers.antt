@@ -14,8 +14,8 @@ loop-nth-preserved g c =
     let row = c.in-Some.row in
     let tells = told_before a b (λ (t : Told). TellsRow (world_of t.trace) c.args.switch c.loop-nth.nth (Some row)) so_far.so_far (rw c.in-Some.is at c.in_ok-row.ensures.row) in
     let front = both_told a.told (λ (t : Told). IsFront IsBefore (IsEntry (world_of t.trace) c.args.switch) (map entry_of c.loop-nth.rows)) (λ (t : Told). TellsRow (world_of t.trace) c.args.switch c.loop-nth.nth (Some row))
-        (λ (t : Told). IsFront IsBefore (IsEntry (world_of t.trace) c.args.switch) (map entry_of (c.loop-nth.rows ++ row ∷ [])))
-        (λ t f h. row_read (world_of t.trace) c.args.switch c.loop-nth.rows row c.loop-nth.nth so_far.count f h) so_far.front tells in
+    (λ (t : Told). IsFront IsBefore (IsEntry (world_of t.trace) c.args.switch) (map entry_of (c.loop-nth.rows ++ row ∷ [])))
+    (λ t f h. row_read (world_of t.trace) c.args.switch c.loop-nth.rows row c.loop-nth.nth so_far.count f h) so_far.front tells in
     record {
       so_far = read_on a b (g.P.Plant.seen c.row_at.new.plant) None so_far.so_far c.in_ok-row.ensures.reads;
       front = rw c.in_ok-push-in-Some.ensures.ok front;
@@ -29,4 +29,4 @@ returns-in-None-clause-exact g c =
     let so_far = c.loop-nth.invariant in
     let tells = told_before a b (λ (t : Told). TellsRow (world_of t.trace) c.args.switch c.loop-nth.nth None) so_far.so_far (rw c.in-None.is at c.in_ok-row.ensures.row) in
     both_told a.told (λ (t : Told). IsFront IsBefore (IsEntry (world_of t.trace) c.args.switch) (map entry_of c.loop-nth.rows)) (λ (t : Told). TellsRow (world_of t.trace) c.args.switch c.loop-nth.nth None) _
-      (λ t f h. rows_end (world_of t.trace) c.args.switch c.loop-nth.rows c.loop-nth.nth so_far.count f h) so_far.front tells
+    (λ t f h. rows_end (world_of t.trace) c.args.switch c.loop-nth.rows c.loop-nth.nth so_far.count f h) so_far.front tells
