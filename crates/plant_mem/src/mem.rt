@@ -24,9 +24,15 @@ pub(crate) const ROOM: usize = 262_144;
 /// The number of written bytes for which there is room from the start, and the number of bytes of each side.
 pub(crate) const BYTES: usize = 16_777_216;
 
+/// The number of steps for which there is more room from the start, so that the first restarts of a short run move nothing that is kept.
+const MORE_ROOM: usize = 16_384;
+
+/// The number of written bytes for which there is more room from the start.
+const MORE_BYTES: usize = 1_048_576;
+
 /// A plant in memory, which tells its trace and takes drills.
 ///
-/// From the start and after each restart it has room for 262,144 steps more, each with an entry of its table of nodes. It has room for 16 MiB more of
+/// From the start and after each restart it has room for at least 262,144 steps more, each with an entry of its table of nodes. It has room for 16 MiB more of
 /// written bytes. On each side it has room for 16 MiB more as it reads, and as it is durable. So none of its six calls to the disk and the devices
 /// takes memory.
 ///
@@ -53,7 +59,7 @@ impl MemLab {
         ensures rooms { IfOk result (λ lab. HasRooms (told_of lab).trace (rooms_of lab)) }
     {
         Ok(MemLab {
-            past: Past::new(alloc, ROOM, BYTES)?,
+            past: Past::new(alloc, ROOM + MORE_ROOM, BYTES + MORE_BYTES)?,
             marks: Vec::new(alloc),
             taken: Vec::new(alloc),
             plans: Vec::new(alloc),
