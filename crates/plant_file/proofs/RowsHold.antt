@@ -17,7 +17,7 @@ use Rattle.plant_file.specs.Entries.{is_row, is_node, is_pipe, is_of, state_in, 
 use Rattle.plant_file.specs.Holding.{has_row}
 use Rattle.plant_file.proofs.Finds.{Test, Apart, Within, any_apart, any_within, same, itself}
 
-row_itself : (switch : List ℕ) (port vlan : ℕ) (row : worlds.Row) → worlds.is_row switch port vlan row ≡ true → row ≡ record { switch = switch; port = port; vlan = vlan }
+pub row_itself : (switch : List ℕ) (port vlan : ℕ) (row : worlds.Row) → worlds.is_row switch port vlan row ≡ true → row ≡ record { switch = switch; port = port; vlan = vlan }
 row_itself switch port vlan row h =
     let a = and_parts (bytes_eq row.switch switch && eqb row.port port) (eqb row.vlan vlan) h in
     let b = and_parts (bytes_eq row.switch switch) (eqb row.port port) a.0 in

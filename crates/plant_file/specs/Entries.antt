@@ -11,6 +11,8 @@ use Rattle.plant.specs.declared.device.Answer.TheVariants.{Done, State}
 use Rattle.plant.specs.Worlds as worlds
 use Rattle.plant_file.specs.declared.entry.Entry.{Entry}
 use Rattle.plant_file.specs.declared.entry.Entry.TheVariants.{Row, Bare, Node, Pipe}
+use Rattle.plant_file.specs.declared.entry.Key.{Key}
+use Rattle.plant_file.specs.declared.entry.Key.TheVariants as keys
 
 -- the entry is the row of that port and that VLAN
 abbrev pub is_row : List ℕ → ℕ → ℕ → Entry → Bool
@@ -34,6 +36,13 @@ is_of name (Row switch port vlan) = false
 is_of name (Bare node state) = bytes_eq node name
 is_of name (Node node state os) = bytes_eq node name
 is_of name (Pipe node number from to there back) = bytes_eq node name
+
+-- the entry has that key
+abbrev pub is_keyed : Key → Entry → Bool
+is_keyed (keys.Row switch port vlan) entry = is_row switch port vlan.0 entry
+is_keyed (keys.Node node) entry = is_node node entry
+is_keyed (keys.Pipe node number) entry = is_pipe node number entry
+is_keyed (keys.Of node) entry = is_of node entry
 
 abbrev pub state_or_off : Option Entry → Boot
 state_or_off (Some (Bare node state)) = state

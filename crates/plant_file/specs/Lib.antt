@@ -1,8 +1,9 @@
 pub mod Again
-pub mod Changed
 pub mod Entries
 pub mod Holding
+pub mod Kept
 pub mod Lab
 pub mod Lines
+pub mod Marks
 pub mod Names
 pub mod Printable

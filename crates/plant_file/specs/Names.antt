@@ -13,6 +13,8 @@ pub record Names : Type 0 where
   pub tables : List ℕ
   -- where the tables are written, before they take the place of the old ones
   pub beside : List ℕ
+  -- a durable text of the tables, while a newer one isn't
+  pub old : List ℕ
 
 -- a name behind the folder's and a `/`
 abbrev pub inside : List ℕ → List ℕ → List ℕ
@@ -27,6 +29,7 @@ names_in folder = record {
   b = inside folder (codes "journal.b");
   tables = inside folder (codes "tables");
   beside = inside folder (codes "tables.new");
+  old = inside folder (codes "tables.old");
 }
 
 -- the file of a side

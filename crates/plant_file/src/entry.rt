@@ -1,5 +1,6 @@
 ghost use Rattle.std.specs.Prelude.{◌≡◌};
-ghost use Rattle.plant_file.specs.Entries.{is_row, is_node, is_pipe, is_of};
+ghost use Rattle.plant_file.specs.Entries.{is_row, is_node, is_pipe, is_of, is_keyed};
+ghost use Rattle.plant_file.specs.Marks.{key_of};
 
 use lab_base::{Boot, Name, Rates, VlanId};
 
@@ -34,7 +35,61 @@ pub enum Entry {
     },
 }
 
+/// What a command is about.
+#[derive(Clone, Copy)]
+pub enum Key {
+    /// The row of that port and that VLAN.
+    Row {
+        switch: Name,
+        port: u16,
+        vlan: VlanId,
+    },
+    /// The boot state of that node.
+    Node {
+        node: Name,
+    },
+    /// The node's pipe of that number.
+    Pipe {
+        node: Name,
+        number: u16,
+    },
+    /// All that is said of that node.
+    Of {
+        node: Name,
+    },
+}
+
 impl Entry {
+    /// The key that it has and no other entry.
+    pub(crate) fn key(&self) -> Key
+        ensures { result ≡ key_of self.now }
+    {
+        match self {
+            Entry::Row { switch, port, vlan } => Key::Row {
+                switch: *switch,
+                port: *port,
+                vlan: *vlan,
+            },
+            Entry::Bare { node, .. } | Entry::Node { node, .. } => Key::Node { node: *node },
+            Entry::Pipe { node, number, .. } => Key::Pipe {
+                node: *node,
+                number: *number,
+            },
+        }
+    }
+
+    /// Whether it has that key.
+    pub(crate) fn is_keyed(&self, key: &Key) -> bool
+        ensures { result ≡ is_keyed key.now self.now }
+    {
+        match key {
+            Key::Row { switch, port, vlan } => self.is_row(switch, *port, *vlan),
+            Key::Node { node } => self.is_node(node),
+            Key::Pipe { node, number } => self.is_pipe(node, *number),
+            Key::Of { node } => self.is_of(node),
+        }
+    }
+
     /// Whether it is that row.
     pub(crate) fn is_row(&self, switch: &Name, port: u16, vlan: VlanId) -> bool
         ensures { result ≡ is_row switch.now port vlan.0 self.now }
@@ -44,7 +99,7 @@ impl Entry {
                 switch: own,
                 port: at,
                 vlan: id,
-            } => *own == *switch && *at == port && id.0 == vlan.0,
+            } => *at == port && id.0 == vlan.0 && *own == *switch,
             Entry::Bare { .. } | Entry::Node { .. } | Entry::Pipe { .. } => false,
         }
     }

@@ -3,7 +3,7 @@
 
 mod answers;
 mod boots;
-mod changed;
+mod commands;
 mod entry;
 mod files;
 mod folder;
@@ -11,15 +11,18 @@ mod lab;
 mod lab_plant;
 mod laws;
 mod lines;
+mod lines_kept;
 mod list;
+mod marks;
 mod obey;
 mod paths;
 mod print;
 mod read;
+mod tables;
+mod texts;
 
-pub use changed::{Changed, change_tables};
-pub use entry::Entry;
+pub use entry::{Entry, Key};
 pub use lab::FileLab;
 pub use laws::{tables_are_read_back, tables_hold_a_world};
-pub use print::print_tables;
-pub use read::read_tables;
+pub use lines_kept::{Line, Spot};
+pub use tables::{Obeyed, Tables};

@@ -17,6 +17,8 @@ pub(crate) struct Paths {
     pub(crate) tables: String,
     /// Where the tables are written, before they take the place of the old ones.
     pub(crate) beside: String,
+    /// Where a durable text of the tables is kept, while a newer one isn't.
+    pub(crate) old: String,
 }
 
 impl Model for Paths {
@@ -32,6 +34,7 @@ impl Model for Paths {
       b = string_bytes paths.b;
       tables = string_bytes paths.tables;
       beside = string_bytes paths.beside;
+      old = string_bytes paths.old;
     } };
 }
 
@@ -56,6 +59,7 @@ impl Paths {
             b: joined(alloc, folder, "journal.b")?,
             tables: joined(alloc, folder, "tables")?,
             beside: joined(alloc, folder, "tables.new")?,
+            old: joined(alloc, folder, "tables.old")?,
         })
     }
 

@@ -1,8 +1,7 @@
-ghost use Rattle.std.specs.Prelude.{◌≡◌, ◌++◌, ◌∷◌, true, decimal, Ok, OnOk, IfOk};
-ghost use Rattle.std.specs.List.{list_all};
+ghost use Rattle.std.specs.Prelude.{◌≡◌, ◌++◌, ◌∷◌, true, decimal, OnOk, IfOk};
 ghost use Rattle.lab_base.specs.Names.{is_name};
 ghost use Rattle.line_text.specs.Printing.{line_text, spaced};
-ghost use Rattle.plant_file.specs.Lines.{rates_fields, entry_fields, tables_text, tables_of_text};
+ghost use Rattle.plant_file.specs.Lines.{rates_fields, entry_fields};
 ghost use Rattle.plant_file.specs.Printable.{are_rates, is_printable};
 
 use crate::boots::boot_word;
@@ -104,22 +103,12 @@ fn push_entry(text: &mut Text, entry: &Entry) -> Result<(), Memory>
     }
 }
 
-fn push_entries(text: &mut Text, entries: &[Entry]) -> Result<(), Memory>
-    ensures text { OnOk result (text.new ≡ text.old ++ tables_text entries.now) }
-    ensures printable { OnOk result (list_all is_printable entries.now ≡ true) }
-{
-    for entry in entries {
-        push_entry(text, entry)?;
-    }
-    Ok(())
-}
-
-/// The text of tables.
-pub fn print_tables(alloc: Global, entries: &[Entry]) -> Result<Text, Memory>
-    ensures text { IfOk result (λ text. text ≡ tables_text entries.now) }
-    ensures again { IfOk result (λ text. tables_of_text text ≡ Ok entries.now) }
+/// The line of an entry.
+pub(crate) fn print_entry(alloc: Global, entry: &Entry) -> Result<Text, Memory>
+    ensures text { IfOk result (λ text. text ≡ line_text (entry_fields entry.now)) }
+    ensures printable { OnOk result (is_printable entry.now ≡ true) }
 {
     let mut text = Text::new(alloc);
-    push_entries(&mut text, entries)?;
+    push_entry(&mut text, entry)?;
     Ok(text)
 }

@@ -46,7 +46,7 @@ fn add_lines(so_far: &mut Vec<Entry>, alloc: Global, text: &[u8]) -> Result<(), 
 }
 
 /// Reads the tables of a text.
-pub fn read_tables(alloc: Global, text: &[u8]) -> Result<Items<Entry>, TextRefused>
+pub(crate) fn read_tables(alloc: Global, text: &[u8]) -> Result<Items<Entry>, TextRefused>
     requires { length text.now < 4294967295 }
     ensures { Reads result (tables_of_text text.now) }
 {

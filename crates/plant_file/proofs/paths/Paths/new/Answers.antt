@@ -8,4 +8,5 @@ returns c = λ i. record {
   b = c.in_ok-joined-3.ensures i;
   tables = c.in_ok-joined-4.ensures i;
   beside = c.in_ok-joined-5.ensures i;
+  old = c.in_ok-joined-6.ensures i;
 }

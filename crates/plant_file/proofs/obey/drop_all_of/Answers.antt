@@ -1,7 +1,0 @@
-use Rattle.std.proofs.Common.{not, rules}
-use Rattle.std.proofs.lemmas.Fn.{filter_same}
-use Rattle.plant_file.specs.Entries.{is_of}
-use Rattle.plant_file.proofs.obey.drop_all_of.Goals as goal
-
-pub returns : goal.returns
-returns c = filter_same _ (λ entry. not (is_of c.args.node.now entry)) _ (λ x b q k. search rules) _ _ c.retain.ensures.filtered

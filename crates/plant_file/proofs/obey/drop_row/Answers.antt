@@ -1,7 +1,0 @@
-use Rattle.std.proofs.Common.{not, rules}
-use Rattle.std.proofs.lemmas.Fn.{filter_same}
-use Rattle.plant_file.specs.Entries.{is_row}
-use Rattle.plant_file.proofs.obey.drop_row.Goals as goal
-
-pub returns : goal.returns
-returns c = filter_same _ (λ entry. not (is_row c.args.switch.now c.args.port c.args.vlan.0 entry)) _ (λ x b q k. search rules) _ _ c.retain.ensures.filtered
