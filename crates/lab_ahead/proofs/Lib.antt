@@ -8,3 +8,6 @@ mod SortLaws
 mod Shown
 mod NeedLaws
 mod Spans
+mod Limits
+mod WaitLaws
+mod EndLaws

@@ -1,5 +1,6 @@
 -- The grammar of a batch: what a line adds to what is read so far, or its fault, and the batch of a whole text.
-use Rattle.std.specs.Prelude.{ℕ, ◌==◌, nat_lt, List, [], ◌∷◌, ◌++◌, length, codes, Result, Ok, Err, if◌then◌else◌}
+use Rattle.std.specs.Prelude.{ℕ, ◌<◌, ◌≤◌, ◌==◌, nat_lt, List, [], ◌∷◌, ◌++◌, length, codes, Result, Ok, Err, if◌then◌else◌}
+use Rattle.lab_base.specs.Lists.{Has}
 use Rattle.lab_base.specs.Texts.{lines_of}
 use Rattle.lab_base.specs.Parts.{name_of, number_from}
 use Rattle.lab_base.specs.Kinds.{both_of}
@@ -64,3 +65,22 @@ start = record { promises = []; runs = [] }
 -- the batch of a text, or the fault of its first line that has one
 abbrev pub batch_of_text : List ℕ → Result Batch TextFault
 batch_of_text text = read_from added 1 (Ok start) (lines_of text)
+
+-- LIMITS
+
+pub record IsPromise (promise : Promise) : Type 0 where
+  pub some : 1 ≤ promise.count
+  pub few : promise.count ≤ 1024
+  pub order : promise.from < promise.to
+  pub end : promise.to ≤ 1000000000000
+
+pub record IsRun (run : Run) : Type 0 where
+  pub some : 1 ≤ run.length
+  pub short : run.length ≤ 1000000000000
+
+-- a batch keeps the limits of its lines
+pub record KeepsLimits (batch : Batch) : Type 0 where
+  pub few_promises : length batch.promises ≤ 64
+  pub few_runs : length batch.runs ≤ 256
+  pub promises : (promise : Promise) → Has batch.promises promise → IsPromise promise
+  pub runs : (run : Run) → Has batch.runs run → IsRun run

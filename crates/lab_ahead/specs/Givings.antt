@@ -40,8 +40,11 @@ abbrev pub need_of : List Need → List (List ℕ) → ℕ
 need_of needs kinds = sum_by (λ need. if has_name kinds need.kind then need.count else 0) needs
 
 -- how many of the nodes have one of these types
+abbrev pub has_one : Lab → List (List ℕ) → NodeId → Bool
+has_one lab kinds node = list_any (λ kind. has_type lab kind node) kinds
+
 abbrev pub have_of : Lab → List NodeId → List (List ℕ) → ℕ
-have_of lab left kinds = count_by (λ node. list_any (λ kind. has_type lab kind node) kinds) left
+have_of lab left kinds = count_by (has_one lab kinds) left
 
 -- types, rising and without repeats, of which more nodes are needed together than there are
 pub record IsShort (lab : Lab) (left : List NodeId) (needs : List Need) (kinds : List (List ℕ)) : Type 0 where

@@ -2,3 +2,5 @@ pub mod Batches
 pub mod Givings
 pub mod Trails
 pub mod Moments
+pub mod Waits
+pub mod Ends

@@ -24,7 +24,7 @@ fn is_among(types: &[(Name, u16)], kind: &Name) -> bool
     types.iter().any(|t| *kind == t.0)
 }
 
-fn has_type(lab: &Lab, kind: &Name, node: NodeId) -> bool
+pub(crate) fn has_type(lab: &Lab, kind: &Name, node: NodeId) -> bool
     requires { node.0 < length lab.now.nodes }
     ensures { result ≡ has_type lab.now kind.now node }
 {

@@ -1,8 +1,8 @@
-ghost use Rattle.std.specs.Prelude.{◌≡◌, ◌<◌, Ok, length};
+ghost use Rattle.std.specs.Prelude.{◌≡◌, ◌<◌, Ok, IfOk, length};
 ghost use Rattle.lab_base.specs.Texts.{lines_of, views};
 ghost use Rattle.line_text.specs.Reading.{and_then, line_added, read_from};
 ghost use Rattle.line_text.specs.Refusals.{Reads, ReadsInto, Takes};
-ghost use Rattle.lab_ahead.specs.Batches.{added, batch_of_text, promise_line, run_line, start, with_promise, with_run};
+ghost use Rattle.lab_ahead.specs.Batches.{KeepsLimits, added, batch_of_text, promise_line, run_line, start, with_promise, with_run};
 
 use crate::batch::{Batch, Promise, Run};
 use crate::lines::{promise_in, run_in};
@@ -108,7 +108,8 @@ fn start(alloc: Global) -> Batch
 /// The faults of a line are tried in the order `word`, `fields`, `name`, `number`, `range`, `limit`. The first line with a fault counts.
 pub fn read_batch(alloc: Global, text: &[u8]) -> Result<Batch, TextRefused>
     requires { length text.now < 4294967295 }
-    ensures { Reads result (batch_of_text text.now) }
+    ensures batch { Reads result (batch_of_text text.now) }
+    ensures limits { IfOk result KeepsLimits }
 {
     let mut batch = start(alloc);
     add_lines(&mut batch, alloc, text)?;
