@@ -19,6 +19,8 @@
 //! moments BATCH NOW LENGTH    when a run is tested
 //! needs BATCH AT              what promises need
 //! left AT NODE:FROM..         which nodes are left
+//! wait LAB BATCH NOW LENGTH WORD..   whether a run fits, or how it waits: its places `place:2:pc`, the ends of runs before it `end:A:110`, and
+//!                             who claims a node, `claim:0:A`
 //! plan LAB TOP MAP OLD NEW    the plan of a swap from one VLAN id to another, 0 for none, and that of its undo
 //! claims LAB                  what is counted of claims
 //! free LAB VLAN..             what is left beside a claim, and whether VLAN ids are
@@ -40,6 +42,7 @@ mod rules;
 mod sides;
 mod steps;
 mod texts;
+mod waits;
 mod words;
 mod worlds;
 mod wrong;
@@ -102,6 +105,7 @@ fn tell_of_promises(
         "moments" => promises::tell_moments(out, alloc, texts, words)?,
         "needs" => promises::tell_needs(out, alloc, texts, words)?,
         "left" => promises::tell_left(out, alloc, words)?,
+        "wait" => waits::tell(out, alloc, texts, words)?,
         _ => return Ok(false),
     }
     Ok(true)

@@ -39,7 +39,7 @@ fn push_given(out: &mut Text, given: &[(NodeId, u16)]) -> Result<(), Memory> {
     Ok(())
 }
 
-fn push_names(out: &mut Text, names: &[Name]) -> Result<(), Memory> {
+pub(crate) fn push_names(out: &mut Text, names: &[Name]) -> Result<(), Memory> {
     for name in names {
         push_field(out, name)?;
     }
@@ -71,7 +71,7 @@ pub fn tell_fit(
 }
 
 /// The batch of a text.
-fn batch_of(alloc: Global, text: &[u8]) -> Result<Batch, Wrong> {
+pub(crate) fn batch_of(alloc: Global, text: &[u8]) -> Result<Batch, Wrong> {
     if text.len() > MAX_TEXT {
         return Err(Wrong::Memory);
     }
