@@ -5,3 +5,4 @@ mod Applying
 mod Shaping
 mod OneApplied
 mod OneSchedule
+mod Counting

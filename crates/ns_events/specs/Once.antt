@@ -7,6 +7,7 @@ use Rattle.net_plan.specs.Parts.{is_shaped, pipes_of}
 use Rattle.ns_events.specs.declared.event.Event.{Event}
 use Rattle.ns_events.specs.Schedules.{IsSchedule}
 use Rattle.ns_events.specs.Changes.{IsApplied, shaped_pipe}
+use Rattle.ns_events.specs.Pipes.{own_pipes}
 
 abbrev pub ScheduleIsOne : Type 0
 ScheduleIsOne = (from to : ℕ) (events one other : List Event) → IsSchedule from to events one → IsSchedule from to events other → one ≡ other
@@ -18,3 +19,7 @@ AppliedIsOne = (e : Event) (text now one other : Wiring) → IsApplied e text no
 abbrev pub GivenAreShaped : Type 0
 GivenAreShaped = (first : ℕ) (l : AskedLink) → limits_link l ≡ true → is_shaped l.rates ≡ true
     → pipes_of (first, l) ≡ map (λ p. shaped_pipe (length (pipes_of (first, l))) l.rates p.node) (pipes_of (first, l))
+
+-- an event leaves each link and LAN as many pipes as it has
+abbrev pub ShapesStay : Type 0
+ShapesStay = (e : Event) (text now new : Wiring) → IsApplied e text now new → (link : List ℕ) → length (own_pipes new link) ≡ length (own_pipes now link)

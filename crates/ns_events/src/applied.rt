@@ -11,7 +11,7 @@ ghost use Rattle.ns_events.specs.Renewed as renewals;
 use crate::pipes::{is_of, own_pipes};
 use crate::rates::renewed_pipe;
 use crate::{ApplyFault, Event};
-use lab_base::{Items, Memory};
+use lab_base::{Items, Memory, Name};
 use std::alloc::Global;
 use virt_topo::{Pipe, Wiring};
 
@@ -39,8 +39,19 @@ fn renewed_pipes(
     Ok(pipes)
 }
 
-/// The wiring that an event leaves of the present one: the pipes of its link or LAN have other rates. `text` is the wiring of the text that schedules
-/// it.
+/// Whether a link or LAN has no pipe in the present wiring, or another number of pipes than in the text's.
+pub fn lacks_shape(alloc: Global, link: Name, text: &Wiring, now: &Wiring) -> Result<bool, Memory>
+    requires text { IsSound text.now }
+    requires now { IsSound now.now }
+    ensures lacks { IfOk result (λ lacks. lacks ≡ lacks_shape link text.now now.now) }
+{
+    let old = own_pipes(alloc, text, link)?;
+    let own = own_pipes(alloc, now, link)?;
+    Ok(own.is_empty() || own.len() != old.len())
+}
+
+/// The wiring that an event leaves of the present one: the pipes of its link or LAN have other rates. `text` is the
+/// wiring of the text that schedules it.
 ///
 /// The error is `Shape` where the link has no pipe in the present wiring, or another number of pipes than in the text's.
 pub fn apply(

@@ -1,5 +1,5 @@
 // Laws of the definitions.
-ghost use Rattle.ns_events.specs.Once.{ScheduleIsOne, AppliedIsOne, GivenAreShaped};
+ghost use Rattle.ns_events.specs.Once.{ScheduleIsOne, AppliedIsOne, GivenAreShaped, ShapesStay};
 
 /// A span of time has one schedule of a list of events.
 pub fn schedule_is_one()
@@ -14,4 +14,9 @@ pub fn applied_is_one()
 /// The rates that an event gives to a link or LAN are those that an expansion gives it where it is shaped.
 pub fn given_rates_are_shaped()
     ensures { GivenAreShaped }
+{}
+
+/// An event leaves each link and LAN as many pipes as it has.
+pub fn shapes_stay()
+    ensures { ShapesStay }
 {}

@@ -9,8 +9,8 @@ mod pipes;
 mod rates;
 mod schedules;
 
-pub use applied::apply;
+pub use applied::{apply, lacks_shape};
 pub use event::{Event, What};
 pub use fault::ApplyFault;
-pub use laws::{applied_is_one, given_rates_are_shaped, schedule_is_one};
+pub use laws::{applied_is_one, given_rates_are_shaped, schedule_is_one, shapes_stay};
 pub use schedules::schedule;

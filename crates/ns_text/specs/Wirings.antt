@@ -12,6 +12,7 @@ use Rattle.net_plan.specs.Expansion.{expansion}
 use Rattle.net_plan.specs.declared.fault.PlanFault.{PlanFault}
 use Rattle.net_plan.specs.declared.fault.PlanFault.TheVariants as faults
 use Rattle.ns_text.specs.declared.read.Printed.{Printed}
+use Rattle.ns_text.specs.declared.read.Script.{Script}
 
 -- the kind of a refusal of the expansion
 abbrev pub IsKind : PlanFault → Kind → Type 0
@@ -48,3 +49,23 @@ wiring_alone (Err why) = Err why
 -- a text has one wiring, or one fault
 abbrev pub WiringIsOne : Type 0
 WiringIsOne = (t : List ℕ) (a b : Result Wiring TextFault) → WiringOf t a → WiringOf t b → a ≡ b
+
+-- THE WIRING WITH THE EVENTS that the text schedules, or the fault that it has without them
+pub data ScriptOf (t : List ℕ) : Result Script TextFault → Type 0 where
+  scheduled : {asked : Asked} {w : Wiring} → MeaningOf t (Ok asked) → expansion asked.topo ≡ Ok w → ScriptOf t (Ok (record { wiring = w; events = asked.events }))
+  unscheduled : {fault : TextFault} → WiringOf t (Err fault) → ScriptOf t (Err fault)
+
+-- what becomes of an asked network with its events
+abbrev pub BecomesScript : Asked → Result Script TextRefused → Type 0
+BecomesScript asked (Ok script) = (expansion asked.topo ≡ Ok script.wiring) × (script.events ≡ asked.events)
+BecomesScript asked (Err why) = Becomes asked (Err why)
+
+-- it is read so, unless memory ran out
+unfoldable pub HasScript : List ℕ → Result Script TextRefused → Type 0
+HasScript t (Ok script) = ScriptOf t (Ok script)
+HasScript t (Err (refusals.Text fault)) = ScriptOf t (Err fault)
+HasScript t (Err refusals.Memory) = Unit {0}
+
+-- a text has one wiring with its events, or one fault
+abbrev pub ScriptIsOne : Type 0
+ScriptIsOne = (t : List ℕ) (a b : Result Script TextFault) → ScriptOf t a → ScriptOf t b → a ≡ b

@@ -4,5 +4,5 @@
 mod laws;
 mod read;
 
-pub use laws::wiring_is_one;
-pub use read::{Printed, read_and_print, read_network};
+pub use laws::{script_is_one, wiring_is_one};
+pub use read::{Printed, Script, read_and_print, read_network, read_script};

@@ -4,11 +4,13 @@ ghost use Rattle.virt_topo.specs.Soundness.{IsSound};
 ghost use Rattle.top_text.specs.Adding.{wiring_of_text};
 ghost use Rattle.top_text.specs.Canonical.{canonical_top};
 ghost use Rattle.top_text.specs.Printable.{is_printable};
-ghost use Rattle.ns_text.specs.Wirings.{Becomes, HasWiring, wiring_alone};
+ghost use Rattle.ns_build.specs.Kept.{AllKeepLimits};
+ghost use Rattle.ns_text.specs.Wirings.{Becomes, BecomesScript, HasScript, HasWiring, wiring_alone};
 
-use lab_base::{Kind, Text, TextFault, TextRefused};
+use lab_base::{Items, Kind, Text, TextFault, TextRefused};
 use net_plan::{PlanFault, expand};
 use ns_build::{Asked, read_ns};
+use ns_events::Event;
 use std::alloc::Global;
 use top_text::print_top;
 use virt_topo::Wiring;
@@ -56,7 +58,42 @@ pub fn read_network(alloc: Global, text: &[u8]) -> Result<Wiring, TextRefused>
     }
 }
 
-/// Reads an NS text as `read_network` does, and prints its wiring. The printed text is read back as that wiring.
+/// The wiring of an NS text, and the link events that it schedules.
+#[derive(Drop)]
+pub struct Script {
+    pub wiring: Wiring,
+    /// At most 1,024, in text order.
+    pub events: Items<Event>,
+}
+
+/// The wiring of an asked network, with its events.
+fn script_of(alloc: Global, asked: Asked) -> Result<Script, TextRefused>
+    ensures becomes { BecomesScript asked result }
+    ensures sound { IfOk result (λ script. IsSound script.wiring) }
+{
+    match wiring_of(alloc, &asked) {
+        Ok(wiring) => {
+            let Asked { events, .. } = asked;
+            Ok(Script { wiring, events })
+        }
+        Err(refused) => Err(refused),
+    }
+}
+
+/// Reads an NS text as `read_network` does, with the events that it schedules.
+pub fn read_script(alloc: Global, text: &[u8]) -> Result<Script, TextRefused>
+    ensures script { HasScript text.now result }
+    ensures sound { IfOk result (λ script. IsSound script.wiring) }
+    ensures few { IfOk result (λ script. length script.events ≤ 1024) }
+    ensures limits { IfOk result (λ script. AllKeepLimits script.events) }
+{
+    match read_ns(alloc, text) {
+        Ok(asked) => script_of(alloc, asked),
+        Err(refused) => Err(refused),
+    }
+}
+
+/// Reads an NS text as `read_network` does, and prints its wiring: what is printed is read back as the wiring.
 pub fn read_and_print(alloc: Global, text: &[u8]) -> Result<Printed, TextRefused>
     ensures wiring { HasWiring text.now (wiring_alone result) }
     ensures sound { IfOk result (λ printed. IsSound printed.wiring) }
