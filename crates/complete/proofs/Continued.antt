@@ -27,13 +27,15 @@ use Rattle.records_model.specs.Labs.{LabState, Move, Sane, Says, Creates, Delete
 use Rattle.cost_rule.specs.declared.rule.RuleNumber.{RuleNumber}
 use Rattle.lab_state.specs.Texts.{the_texts}
 use Rattle.swap_turns.specs.Beginning.{opened as opened_swap}
-use Rattle.swap_turns.specs.Legs.{Forth, Undo}
+use Rattle.swap_turns.specs.Legs.{Forth, Undo, commits, last, last_move}
+use Rattle.records_model.proofs.LabLaws.{follows_sane}
 use Rattle.swap_turns.specs.Courses.{IsCut}
 use Rattle.swap_turns.specs.Swaps.{Swap as SwapOf, Moves}
 use Rattle.swap_txn.specs.Troubles.{what_of}
 use Rattle.swap_turns.specs.Running.{OpenSwap as RunningSwap}
 use Rattle.swap_turns.specs.Turning.{Outcome, More, TurnsBack, Ended, Stuck, Unwritten, Stopped as Halted, TurnSteps, IsOneCommand, plan_in}
 use Rattle.swap_turns.specs.Whole.{SwapSteps, begun, unwritten, stopped as halted}
+use Rattle.swap_turns.specs.Finishing.{Finishes, IsOver}
 use Rattle.swap_turns.proofs.Only.{only_sent}
 use Rattle.script_text.specs.declared.command.Command.{Command}
 use Rattle.script_text.specs.declared.reply.Reply.{Reply}
@@ -44,10 +46,11 @@ use Rattle.lab_core.specs.LabSteps.{AppendEnds, Appends, BeginSteps, Begins, Doe
 use Rattle.lab_core.specs.Recovery.{Recovers, broken_off, settled}
 use Rattle.lab_core.specs.Sessions.{OpenSwap, Open, Setting, After, is_among, name_in, name_of, names_of}
 use Rattle.recovery.specs.Due.{is_busy}
+use Rattle.lab_core.proofs.Events.{IsOneSwap}
 use Rattle.lab_core.proofs.Fits.{IsFit, IsOwn, fits}
 use Rattle.complete.proofs.OwnCommands.{all_its, only_last}
 use Rattle.swap_turns.proofs.Elsewhere.{own_behind, turn_own}
-use Rattle.complete.proofs.OtherSettlings.{due_apart, due_move, settles_quiet}
+use Rattle.complete.proofs.OtherSettlings.{due_apart, due_move, last_says, settles_quiet}
 use Rattle.complete.proofs.OtherSwaps.{begins_apart, begun_quiet, calm_quiet, finish_quiet, turn_quiet}
 use Rattle.lab_core.proofs.Others.{IsApart, Stays, busy_apart, ended_stays, move_stays, same_stays, settled_stay, swap_stays, turned_stays}
 
@@ -149,6 +152,18 @@ told_open reply opens to outcome behind after (is_told starts told session) open
     by Unwritten starts is = absurd (cc is)
     by Halted starts is = absurd (cc is)
 
+-- a swap that is over leaves a sane lab, where the session stays open
+finished_sane : (u : LabState) (o : RunningSwap) (steps : List Event) (outcome : Outcome) (after : LabState) → Sane u → GoesOn outcome → Finishes u o steps outcome after → Sane after
+finished_sane u o steps outcome after sane goes f = by outcome goes f.over f.turn
+  where
+    by : (outcome : Outcome) → GoesOn outcome → IsOver outcome → TurnSteps u f.at f.behind outcome after → Sane after
+    by (Ended leg) goes over turn = follows_sane the_texts u (last f.at.swap leg) after sane (record { move = last_move f.at.swap leg; says = last_says u (commits f.at.swap leg) f.at.swap.name; gives = turn.0.1.moves })
+    by (Stuck trouble) goes over turn = subst Sane (sym turn.3) sane
+    by More goes over turn = absurd over
+    by (TurnsBack why) goes over turn = absurd over
+    by Unwritten goes over turn = absurd goes
+    by Halted goes over turn = absurd goes
+
 -- A COMMAND with these open swaps, which leaves the session open
 module _ (own : List Event) (set : Setting) (s : LabState) (opens : List OpenSwap) (ok : (o : OpenSwap) → Has opens o → Sane s × (is_some s.lab ≡ true)) (moves : (o : OpenSwap) → Has opens o → Moves o.running.swap s)
     (differ : AllDiffer (names_of opens)) (after : After) (to : List OpenSwap) (open_now : after.session ≡ Open to) where
@@ -190,19 +205,37 @@ module _ (own : List Event) (set : Setting) (s : LabState) (opens : List OpenSwa
   own_is_steps : (steps behind : List Event) → own ≡ steps ++ behind → behind ≡ [] → own ≡ steps
   own_is_steps steps behind is none = is ∙ ap (λ l. steps ++ l) none ∙ append-nil steps
 
-  swap_continue : (exp : List ℕ) (way : Way) → is_busy (names_of opens) exp ≡ false → Swaps s opens exp (Begin exp way) own after → AllContinue
-  swap_continue exp way idle w = by w.ends (told_open _ opens to w.outcome w.behind after w.answered open_now)
+  -- all are as they were, and none of their commands is among the steps
+  abbrev pub AllKept : Type 0
+  AllKept = (to ≡ opens) × ((o : OpenSwap) (has : Has opens o) → (own_events (lab_in s.lab) (moves o has).exp own ≡ []) × Stays (name_in o) s after.lab × Sane after.lab)
+
+  replies_kept : (reply : Reply) → Replies s opens reply own after → AllKept
+  replies_kept reply d =
+      let lab = ap (λ (x : After). x.lab) d.after_is in (
+        same_opens opens to (sym (ap (λ (x : After). x.session) d.after_is) ∙ open_now),
+        λ o has. (calm_quiet (lab_in s.lab) (moves o has).exp own (ap has_command d.nothing), same_stays (name_in o) s after.lab (ok o has).1 lab, subst Sane (sym lab) (ok o has).0),
+      )
+
+  swap_kept : (exp : List ℕ) (way : Way) → is_busy (names_of opens) exp ≡ false → Swaps s opens exp (Begin exp way) own after → AllKept
+  swap_kept exp way idle w = by w.ends (told_open _ opens to w.outcome w.behind after w.answered open_now)
     where
-      by : SwapSteps w.swap s (Begin exp way) w.move w.steps after.lab w.outcome → GoesOn w.outcome × (w.behind ≡ []) × (to ≡ opens) × (after.reply ≡ end_reply w.swap w.outcome) → AllContinue
+      by : SwapSteps w.swap s (Begin exp way) w.move w.steps after.lab w.outcome → GoesOn w.outcome × (w.behind ≡ []) × (to ≡ opens) × (after.reply ≡ end_reply w.swap w.outcome) → AllKept
       by (unwritten is told) at = absurd (subst GoesOn told at.0)
       by (halted is told) at = absurd (subst GoesOn told at.0)
-      by (begun b) at = all_keep at.2 (λ o has.
-          let g = moves o has in
-          let other = not_named opens exp idle o has in (
-            ap (λ l. own_events (lab_in s.lab) g.exp l) (own_is_steps w.steps w.behind w.own_is at.1)
-                ∙ begun_quiet (name_in o) s (ok o has).0 (ok o has).1 g.exp g.found w.swap exp way w.move w.steps after.lab w.outcome w.name other w.says w.moves b,
-            swap_stays (name_in o) w.swap s after.lab (Begin exp way) w.move w.steps w.outcome (ok o has).1 (begins_apart (name_in o) s exp way w.move w.says other) (λ same. other (sym w.name ∙ same)) (begun b),
-          ))
+      by (begun b) at = (
+        at.2,
+        λ o has.
+            let g = moves o has in
+            let other = not_named opens exp idle o has in (
+              ap (λ l. own_events (lab_in s.lab) g.exp l) (own_is_steps w.steps w.behind w.own_is at.1)
+                  ∙ begun_quiet (name_in o) s (ok o has).0 (ok o has).1 g.exp g.found w.swap exp way w.move w.steps after.lab w.outcome w.name other w.says w.moves b,
+              swap_stays (name_in o) w.swap s after.lab (Begin exp way) w.move w.steps w.outcome (ok o has).1 (begins_apart (name_in o) s exp way w.move w.says other) (λ same. other (sym w.name ∙ same)) (begun b),
+              finished_sane b.state (opened_swap w.swap) b.behind w.outcome after.lab (follows_sane the_texts s (Begin exp way) b.state (ok o has).0 (record { move = w.move; says = w.says; gives = b.begins.moves })) at.0 b.finishes,
+            ),
+      )
+
+  swap_continue : (exp : List ℕ) (way : Way) → is_busy (names_of opens) exp ≡ false → Swaps s opens exp (Begin exp way) own after → AllContinue
+  swap_continue exp way idle w = let k = swap_kept exp way idle w in all_keep k.0 (λ o has. let each = k.1 o has in (each.0, each.1))
 
   begin_continue : (exp : List ℕ) (way : Way) → is_busy (names_of opens) exp ≡ false → Begins s opens set.devices exp (Begin exp way) own after → AllContinue
   begin_continue exp way idle w = by w.outcome refl w.begins (told_open _ _ to w.outcome w.behind after w.answered open_now)
@@ -323,6 +356,16 @@ module _ (own : List Event) (set : Setting) (s : LabState) (opens : List OpenSwa
 
   idle_of : (command : Command) (exp : List ℕ) → name_of command ≡ Some exp → is_among (names_of opens) (name_of command) ≡ false → is_busy (names_of opens) exp ≡ false
   idle_of command exp named idle = subst (λ n. is_among (names_of opens) n ≡ false) named idle
+
+  kept_space : (b : Bool) (Of : Type 0) (n : ℕ) → IfSpace b n s opens Of own after → (Of → AllKept) → AllKept
+  kept_space true Of n d by = by d
+  kept_space false Of n d by = replies_kept _ d
+
+  -- a refusal, or a swap
+  pub does_keep : (command : Command) (j : Result Task Reply) → IsFit s command (is_among (names_of opens) (name_of command)) (length opens) j → IsOneSwap j → Does set s opens j own after → AllKept
+  does_keep command (Err refusal) fit one d = replies_kept refusal d
+  does_keep command (Ok (Swap exp way)) fit one d = kept_space (has_space set (Begin exp way)) (Swaps s opens exp (Begin exp way) own after) set.length d (swap_kept exp way (idle_of command exp fit.0 fit.1))
+  does_keep command (Ok task) fit one d = absurd one
 
   does_continue : (command : Command) (j : Result Task Reply) → IsFit s command (is_among (names_of opens) (name_of command)) (length opens) j → Does set s opens j own after → AllContinue
   does_continue command (Err refusal) fit d = replies_continue refusal d

@@ -1,11 +1,18 @@
 -- No judgement has a reply that tells of a cut course, a failed call of the journal or a stop.
 use Rattle.std.proofs.Common.{◌≡◌, ℕ, Bool, true, false, List, Result, Ok, Err, sym, subst, arith}
+use Rattle.phys_lab.specs.Labs.{Lab}
+use Rattle.virt_topo.specs.declared.experiment.Experiment.{Experiment}
+use Rattle.virt_topo.specs.declared.mapping.Mapping.{Mapping}
+use Rattle.virt_topo.specs.declared.wiring.Wiring.{Wiring}
+use Rattle.ns_events.specs.declared.event.Event.{Event as LinkEvent}
 use Rattle.records_model.specs.Labs.{LabState}
 use Rattle.script_text.specs.declared.command.Command.{Command}
 use Rattle.script_text.specs.declared.command.Command.TheVariants as commands
 use Rattle.script_text.specs.declared.reply.Reply.{Reply}
 use Rattle.cost_rule.specs.declared.rule.RuleNumber.{RuleNumber}
-use Rattle.lab_core.specs.Judge.{Task, Tell, Append, Swap, Turn, Finish, Judged, in_slot, judged_create, judged_delete, judged_ptop, judged_swapin}
+use Rattle.lab_core.specs.Judge.{OrRefused, Task, Tell, Append, Swap, Turn, Finish, Judged, asked, in_slot, judged_change, judged_create, judged_delete, judged_ptop, judged_swapin, need_idle_in, refused}
+use Rattle.lab_core.specs.Playing.{JudgedChange, JudgedEventAt, mapping_in, need_shape}
+use Rattle.lab_core.proofs.Events.{stand_in}
 use Rattle.complete.specs.Complete.{is_cut, turns_open}
 
 -- and only `turn` and `finish` turn a swap that was open before
@@ -49,3 +56,25 @@ module _ (s : LabState) (busy : Bool) (count : ℕ) where
   judged_uncut rule (commands.Modify only exp seed lines text) j is = grind arith
   judged_uncut rule (commands.ModifyWith only exp lines top others map) j is = grind arith
   judged_uncut rule command j is = grind arith
+
+-- OF AN EVENT OF `play`, which stands for a change
+module _ (s : LabState) (busy : Bool) (count : ℕ) (exp : List ℕ) where
+  abbrev Uncut : Result Task Reply → Type 0
+  Uncut j = IsJudgedUncut (stand_in exp) j
+
+  pub idle_uncut : (reply : Reply) → need_idle_in s busy exp ≡ Err reply → is_cut reply ≡ false
+  idle_uncut reply is = grind arith
+
+  change_uncut : (lab : Lab) (e : Experiment) (w : Wiring) (m : Mapping) → Uncut (in_slot count false (judged_change s lab e w m))
+  change_uncut lab e w m = grind arith
+
+  shape_uncut : (text : Wiring) (event : LinkEvent) (now : Wiring) (reply : Reply) → need_shape exp text event now ≡ Err reply → is_cut reply ≡ false
+  shape_uncut text event now reply is = grind arith
+
+  pub event_uncut : (text : Wiring) (event : LinkEvent) (j : Result Task Reply) → JudgedEventAt exp text event s busy count j → Uncut j
+  event_uncut text event j (refused reply needed is) = subst Uncut (sym is) (idle_uncut reply needed)
+  event_uncut text event j (asked p needed judged) = by judged
+    where
+      by : OrRefused (need_shape exp text event p.1.wiring) (λ shaped. JudgedChange exp text event s count p.0 p.1) j → Uncut j
+      by (refused reply lacks is) = subst Uncut (sym is) (shape_uncut text event p.1.wiring reply lacks)
+      by (asked shaped has change) = subst Uncut (sym change.is) (change_uncut p.0 p.1 change.wiring (mapping_in p.1.phase))

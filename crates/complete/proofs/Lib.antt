@@ -1,11 +1,14 @@
 mod Continued
 mod CutShows
+mod DoneUncut
 mod GoingWell
 mod JudgedUncut
 mod OpenUncut
 mod OtherSettlings
 mod OtherSwaps
 mod OwnCommands
+mod PlayedOn
+mod PlayUncut
 mod Room
 mod RunCourses
 mod Runs

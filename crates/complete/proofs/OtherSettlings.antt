@@ -89,7 +89,7 @@ due_apart busy (e ∷ es) differ =
     named_behind busy es e (listed (due busy e)) (λ p has. (due_if (is_busy busy e.name) e.name e.phase p has).0) differ.0 (one_listed busy e (due busy e)) (due_apart busy es differ.1)
 
 -- THE LAST RECORD of a settling leaves a sane lab
-last_says : (u : LabState) (b : Bool) (name : List ℕ) → Says the_texts u (last_by b name) (last_move_by b name)
+pub last_says : (u : LabState) (b : Bool) (name : List ℕ) → Says the_texts u (last_by b name) (last_move_by b name)
 last_says u true name = refl
 last_says u false name = refl
 

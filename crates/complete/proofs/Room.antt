@@ -10,12 +10,15 @@ use Rattle.swap_turns.specs.Swaps.{Swap as SwapOf}
 use Rattle.swap_turns.specs.Turning.{Outcome, More, TurnsBack, Ended, Stuck, Unwritten, Stopped as Halted}
 use Rattle.script_text.specs.Drills.{drill_of}
 use Rattle.script_text.specs.declared.command.Command.{Command}
+use Rattle.script_text.specs.declared.command.Command.TheVariants.{Play}
 use Rattle.script_text.specs.declared.reply.Reply.{Reply}
 use Rattle.lab_core.specs.Breaks.{Breaks, stopped, failed, unanswered}
 use Rattle.lab_core.specs.Judge.{Task, Tell, Append, Swap, BeginOnly, Turn, Finish, Recover, Judged}
-use Rattle.lab_core.specs.LabSteps.{Does, DoesCommand, Drills, IsAnswered, IsDoneBy, JudgedBeside, LabStep, StepOf, does, done_reply, end_reply, is_planned, is_refused, is_told, no_memory, not_opened, opened, turn_reply, wants_memory}
+use Rattle.lab_core.specs.Commands.{LabStep, is_list}
+use Rattle.lab_core.specs.LabSteps.{Does, DoesBy, Drills, IsAnswered, IsDoneBy, JudgedBeside, StepOf, does, done_reply, end_reply, is_planned, is_refused, is_told, no_memory, not_opened, opened, turn_reply, wants_memory}
 use Rattle.lab_core.specs.Recovery.{Recovers, broken_off, settled}
 use Rattle.lab_core.specs.Sessions.{OpenSwap, Session, Closed, Open, Setting, After, Terms, is_among, name_of, names_of}
+use Rattle.lab_core.proofs.ListSteps.{plain_step}
 use Rattle.complete.specs.Full.{is_full, full_if, settles_or_turns}
 
 -- what is judged of such a command: a refusal, or to turn or to settle
@@ -82,10 +85,15 @@ drill_not takes s session own after (is_planned t none is) = ap (λ (x : After).
 drill_not takes s session own after (is_refused t none is) = ap (λ (x : After). full_if x.reply) is
 drill_not takes s session own after (wants_memory wants) = ap (λ (x : After). full_if x.reply) wants.after_is
 
+-- it is no list
+no_list : (command : Command) → settles_or_turns command ≡ true → is_list command ≡ false
+no_list (Play exp from to lines text) is = absurd (cc is)
+no_list command is = refl
+
 pub step_not : (terms : Terms) (at : List Event) (set : Setting) (s : LabState) (session : Session) (command : Command) (opening own : List Event) (after : After) → settles_or_turns command ≡ true → LabStep terms at set s session command opening own after → full_if after.reply ≡ false
-step_not terms at set s session command opening own after turns step = by (drill_of command) session step
+step_not terms at set s session command opening own after turns step = by (drill_of command) session (plain_step terms at set s session command opening own after (no_list command turns) step)
   where
-    by : (drill : Option _) (session : Session) → StepOf drill (DoesCommand terms.rule command (at ++ opening) set) terms s session opening own after → full_if after.reply ≡ false
+    by : (drill : Option _) (session : Session) → StepOf drill (DoesBy (JudgedBeside terms.rule command) set) terms s session opening own after → full_if after.reply ≡ false
     by (Some drill) session step = drill_not terms.takes s session own after step.1
     by None Closed (opened mid opens d) = done_by_not set mid [] terms.rule command own after turns d
     by None Closed (not_opened b) = breaks_not opening after.reply b.breaks

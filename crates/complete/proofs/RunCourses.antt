@@ -12,11 +12,13 @@ use Rattle.records_model.proofs.LabLaws.{lab_sane}
 use Rattle.lab_state.specs.Texts.{the_texts}
 use Rattle.script_text.specs.Drills.{drill_of}
 use Rattle.script_text.specs.declared.command.Command.{Command}
+use Rattle.script_text.specs.declared.command.Command.TheVariants.{Play}
 use Rattle.script_text.specs.declared.reply.Reply.{Reply}
 use Rattle.swap_turns.specs.Legs.{Leg, Forth, Undo}
 use Rattle.swap_turns.specs.Running.{OpenSwap as RunningSwap}
 use Rattle.swap_turns.specs.Swaps.{Swap, Moves}
-use Rattle.lab_core.specs.LabSteps.{DoesCommand, StepOf, not_opened, opened}
+use Rattle.lab_core.specs.Commands.{LabStep, is_list}
+use Rattle.lab_core.specs.LabSteps.{DoesBy, JudgedBeside, StepOf, not_opened, opened}
 use Rattle.lab_core.specs.Moments.{IsLabAt}
 use Rattle.lab_core.specs.Sessions.{OpenSwap, Session, Closed, Open, Setting, After, Terms, name_in}
 use Rattle.lab_core.specs.Tells.{busy_of, opens_of}
@@ -25,6 +27,8 @@ use Rattle.lab_top.specs.Pieces.{Piece, Begun, AreHandedOn, ArePieces, ButForRep
 use Rattle.lab_top.proofs.TurnLaws.{they_differ}
 use Rattle.complete.specs.Booted.{GoesWell}
 use Rattle.complete.specs.OpenCourses.{AreOnLeg, IsCourse, IsOnLeg, forth, steps_in, undo}
+use Rattle.lab_core.proofs.ListSteps.{plain_step}
+use Rattle.complete.proofs.PlayedOn.{plays_continue}
 use Rattle.complete.proofs.Continued.{Continues, along, begun_now, done_continue, undone}
 use Rattle.complete.proofs.GoingWell.{IsSafe}
 use Rattle.complete.proofs.OpenUncut.{open_safe}
@@ -106,18 +110,37 @@ module _ (made : List Begun) (b : Begun) (s u : LabState) (here : (q : OpenSwap)
   })
 
 -- A LAB STEP of a command that is no drill: the lab at which its own part begins, and how it leaves each open swap
-module _ (terms : Terms) (before : List Event) (set : Setting) (s : LabState) (command : Command) (opening own : List Event) (after : After) (to : List OpenSwap) (open_now : after.session ≡ Open to) where
+module _ (terms : Terms) (before : List Event) (set : Setting) (s : LabState) (opening own : List Event) (after : After) (to : List OpenSwap) (open_now : after.session ≡ Open to) where
   abbrev StepContinues : Session → Type 0
   StepContinues session =
       (mid : LabState) × ((o : OpenSwap) → Has to o → Continues mid after.lab (opens_of session) own after.reply o.running) × ((o : OpenSwap) → Has (opens_of session) o → (mid ≡ s) × (opening ≡ []))
 
-  step_continues : (drill : Option Drill) → drill ≡ None → (session : Session) → ((o : OpenSwap) → Has (opens_of session) o → Sane s × (is_some s.lab ≡ true)) → ((o : OpenSwap) → Has (opens_of session) o → Moves o.running.swap s)
-      → AllDiffer (busy_of session) → StepOf drill (DoesCommand terms.rule command (before ++ opening) set) terms s session opening own after → StepContinues session
-  step_continues (Some drill) none session ok moves differ step = absurd (cc none)
-  step_continues None none Closed ok moves differ (not_opened b) = absurd (cc (sym b.session ∙ open_now))
-  step_continues None none Closed ok moves differ (opened mid opens d) =
+  abbrev AreOk : Session → Type 0
+  AreOk session = (o : OpenSwap) → Has (opens_of session) o → Sane s × (is_some s.lab ≡ true)
+
+  abbrev AllMoveIn : Session → Type 0
+  AllMoveIn session = (o : OpenSwap) → Has (opens_of session) o → Moves o.running.swap s
+
+  step_continues : (command : Command) (drill : Option Drill) → drill ≡ None → (session : Session) → AreOk session → AllMoveIn session → AllDiffer (busy_of session)
+      → StepOf drill (DoesBy (JudgedBeside terms.rule command) set) terms s session opening own after → StepContinues session
+  step_continues command (Some drill) none session ok moves differ step = absurd (cc none)
+  step_continues command None none Closed ok moves differ (not_opened b) = absurd (cc (sym b.session ∙ open_now))
+  step_continues command None none Closed ok moves differ (opened mid opens d) =
       (mid, done_continue own set mid [] (λ o none. absurd none) (λ o none. absurd none) tt after to open_now terms.rule command d, λ o none. absurd none)
-  step_continues None none (Open opens) ok moves differ step = (s, done_continue own set s opens ok moves differ after to open_now terms.rule command step.1, λ o has. (refl, step.0))
+  step_continues command None none (Open opens) ok moves differ step = (s, done_continue own set s opens ok moves differ after to open_now terms.rule command step.1, λ o has. (refl, step.0))
+
+  list_continues : (exp : List ℕ) (from until lines : ℕ) (text : List ℕ) (session : Session) → AreOk session → AllMoveIn session → AllDiffer (busy_of session) → LabStep terms before set s session (Play exp from until lines text) opening own after → StepContinues session
+  list_continues exp from until lines text Closed ok moves differ (not_opened b) = absurd (cc (sym b.session ∙ open_now))
+  list_continues exp from until lines text Closed ok moves differ (opened mid opens d) =
+      (mid, plays_continue exp [] tt from until text (before ++ opening) set mid (λ o none. absurd none) (λ o none. absurd none) own after to open_now d, λ o none. absurd none)
+  list_continues exp from until lines text (Open opens) ok moves differ step = (s, plays_continue exp opens differ from until text (before ++ opening) set s ok moves own after to open_now step.1, λ o has. (refl, step.0))
+
+  plain_continues : (command : Command) → is_list command ≡ false → drill_of command ≡ None → (session : Session) → AreOk session → AllMoveIn session → AllDiffer (busy_of session) → LabStep terms before set s session command opening own after → StepContinues session
+  plain_continues command no' none session ok moves differ step = step_continues command (drill_of command) none session ok moves differ (plain_step terms before set s session command opening own after no' step)
+
+  all_continue : (command : Command) → drill_of command ≡ None → (session : Session) → AreOk session → AllMoveIn session → AllDiffer (busy_of session) → LabStep terms before set s session command opening own after → StepContinues session
+  all_continue (Play exp from until lines text) none session ok moves differ step = list_continues exp from until lines text session ok moves differ step
+  all_continue command none session ok moves differ step = plain_continues command refl none session ok moves differ step
 
 -- a lab with an experiment is set
 set_with : (name : List ℕ) (s : LabState) (e : Experiment) → Sane s → (lab : Option Lab) → s.lab ≡ lab → find name s.experiments ≡ Some e → is_some lab ≡ true
@@ -162,7 +185,7 @@ module _ (terms : Terms) (once : StandOnce) (made : List Begun) (trace : List Ev
       let told : (steps.told ≡ Some r.0) × (steps.session ≡ b.piece.to) × (steps.behind ≡ []) = subst (λ (x : Option Reply). ButForReply x b.piece.to steps.told steps.session steps.behind) r.1 steps.is_told in
       let first_at : (q : OpenSwap) → Has (opens_of b.piece.from) q → IsLabAt trace l.first = (λ q there. at_open b.piece.from _ trace l.first q there l.before) in
       let x =
-      step_continues terms trace _ l.first b.piece.command b.piece.opening (b.piece.own ++ steps.behind) _ opens (told.1 ∙ open_now) (drill_of b.piece.command) none b.piece.from
+      all_continue terms trace _ l.first b.piece.opening (b.piece.own ++ steps.behind) _ opens (told.1 ∙ open_now) b.piece.command none b.piece.from
       (λ q there. sane_set l.first (first_at q there) q there) (λ q there. (here l.first (first_at q there) q there).course.moves) differ steps.step in
       let own_is : b.piece.own ++ steps.behind ≡ b.piece.own = ap (λ m. b.piece.own ++ m) told.2 ∙ append-nil b.piece.own in
       let so = subst (λ m. Continues x.0 l.last (opens_of b.piece.from) m steps.told o.running) own_is (x.1 o has) in

@@ -1,5 +1,5 @@
 -- COMPLETENESS: where nothing goes wrong outside, the run is done, with no course cut, or memory was wanting.
-use Rattle.std.specs.Prelude.{◌≡◌, ◌==◌, not, ℕ, Bool, true, false, count_by, is_some, List, [], ◌∷◌, ◌++◌, Option, Some, None}
+use Rattle.std.specs.Prelude.{◌≡◌, ◌==◌, ◌&&◌, not, ℕ, Bool, true, false, codes, count_by, is_some, List, [], ◌∷◌, ◌++◌, Option, Some, None}
 use Rattle.plant.specs.Events.{Event}
 use Rattle.plant.specs.Told.{Told}
 use Rattle.records_model.specs.Labs.{LabState}
@@ -8,7 +8,7 @@ use Rattle.script_text.specs.Commands.{AtEnd, IsScript}
 use Rattle.script_text.specs.declared.command.Command.{Command}
 use Rattle.script_text.specs.declared.command.Command.TheVariants as commands
 use Rattle.script_text.specs.declared.reply.Reply.{Reply}
-use Rattle.script_text.specs.declared.reply.Reply.TheVariants.{Trouble, Failed, Recovered, Down, Stopped}
+use Rattle.script_text.specs.declared.reply.Reply.TheVariants.{Trouble, Failed, Recovered, Played, Down, Stopped}
 use Rattle.lab_top.specs.declared.status.Status.{Status}
 use Rattle.lab_top.specs.declared.status.Status.TheVariants.{Done, ReadFault, WriteFault}
 use Rattle.lab_top.specs.Pieces.{Begun, Piece, FirstLab, HasOpened, OpensTo, commands_of, is_early, steps_of}
@@ -17,11 +17,18 @@ use Rattle.lab_gen.specs.Script.{generated}
 use Rattle.lab_words.specs.Words.{Choices}
 use Rattle.complete.specs.Booted.{GoesWell}
 
--- the reply tells of a course that was cut, of a call of the journal that failed or of a stop
+-- the text begins with these bytes
+abbrev pub begins_with : List ℕ → List ℕ → Bool
+begins_with [] text = true
+begins_with (byte ∷ bytes) [] = false
+begins_with (byte ∷ bytes) (first ∷ text) = (byte == first) && begins_with bytes text
+
+-- the reply tells of a course that was cut, of a call of the journal that failed or of a stop; or the reply that ended `play` does
 abbrev pub is_cut : Reply → Bool
 is_cut (Trouble exp what) = true
 is_cut (Failed exp end what) = true
 is_cut (Recovered done stuck) = not (stuck == 0)
+is_cut (Played exp played last closing blaming) = begins_with (codes "failed ") last
 is_cut Down = true
 is_cut Stopped = true
 is_cut reply = false

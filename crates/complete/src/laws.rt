@@ -9,7 +9,7 @@ ghost use Rattle.records_model.specs.Works.{IsSound};
 ghost use Rattle.lab_state.specs.Texts.{the_texts};
 ghost use Rattle.swap_turns.specs.Courses.{IsCut};
 ghost use Rattle.script_text.specs.declared.command.Command.{Command};
-ghost use Rattle.lab_core.specs.LabSteps.{LabStep};
+ghost use Rattle.lab_core.specs.Commands.{LabStep};
 ghost use Rattle.lab_core.specs.Moments.{IsLabAt};
 ghost use Rattle.lab_core.specs.Sessions.{OpenSwap, After, Closed, Session, Setting, Terms};
 ghost use Rattle.lab_core.specs.Tells.{opens_of};

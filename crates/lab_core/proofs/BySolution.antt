@@ -40,7 +40,8 @@ use Rattle.swap_turns.specs.Turning.{Outcome, More, TurnsBack, Ended, Stuck, Unw
 use Rattle.swap_turns.specs.Whole.{Begun, SwapSteps, begun, unwritten, stopped as stopped_so}
 use Rattle.lab_core.specs.Counts.{least_tags}
 use Rattle.lab_core.specs.Judge.{Task, Swap, Turn, Finish, in_slot}
-use Rattle.lab_core.specs.LabSteps.{DoesBy, Does, LabStep, IsDoneBy, does, no_memory, StepOf, IfSpace, Replies, Swaps, BeginSteps, Begins, begun_at, JudgedBeside, IsAnswered, is_told, has_space, end_reply, turn_reply, undone_end}
+use Rattle.lab_core.specs.LabSteps.{DoesBy, Does, IsDoneBy, does, no_memory, StepOf, IfSpace, Replies, Swaps, BeginSteps, Begins, begun_at, JudgedBeside, IsAnswered, is_told, has_space, end_reply, turn_reply, undone_end}
+use Rattle.lab_core.specs.Commands.{LabStep}
 use Rattle.lab_core.specs.Sessions.{OpenSwap, Session, Open, Setting, After, is_among, name_in, names_of, open_at, Terms}
 use Rattle.lab_core.proofs.Fits.{IsFit, fits, is_outer}
 use Rattle.lab_core.proofs.OpenLaws.{answered_next}

@@ -70,6 +70,7 @@ judged_once rule s busy count commands.Recover a b alone p q = p ∙ sym q
 judged_once rule s busy count (commands.Fail device nth how) a b alone p q = absurd p
 judged_once rule s busy count (commands.FailDisk nth) a b alone p q = absurd p
 judged_once rule s busy count (commands.Stop nth pick) a b alone p q = absurd p
+judged_once rule s busy count (commands.Play exp from to lines text) a b alone p q = absurd p
 judged_once rule s busy count (commands.Delete exp) a b alone p q = p ∙ sym q
 judged_once rule s busy count commands.Status a b alone p q = p ∙ sym q
 

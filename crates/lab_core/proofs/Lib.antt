@@ -42,3 +42,12 @@ pub mod TurnLaws
 mod TurnLabs
 mod TurnOne
 mod WaysIn
+mod Keeping
+pub mod Listings
+mod Composing
+mod InTurn
+mod Plays
+mod SwapReplies
+pub mod Events
+pub mod ListSteps
+pub mod Wanting

@@ -28,11 +28,11 @@ use Rattle.lab_core.proofs.Others.{record_leaves}
 use Rattle.lab_core.proofs.StepLaws.{Was, done, wanting, broke, drilled, does_stays, drill_is}
 
 -- it moves so where its experiment is as it was
-moves_on : (p : SwapOf) (s u : LabState) → find p.name u.experiments ≡ find p.name s.experiments → Moves p s → Moves p u
+pub moves_on : (p : SwapOf) (s u : LabState) → find p.name u.experiments ≡ find p.name s.experiments → Moves p s → Moves p u
 moves_on p s u same m = record { is_swap = m.is_swap; short = m.short; exp = m.exp; found = same ∙ m.found; moving = m.moving }
 
 -- where one moves the lab is set
-set_by : (p : SwapOf) (s : LabState) → (s.lab ≡ None → s.experiments ≡ []) → Moves p s → is_some s.lab ≡ true
+pub set_by : (p : SwapOf) (s : LabState) → (s.lab ≡ None → s.experiments ≡ []) → Moves p s → is_some s.lab ≡ true
 set_by p s empty m = by s.lab refl
   where
     by : (o : Option Lab) → s.lab ≡ o → is_some s.lab ≡ true

@@ -15,7 +15,8 @@ use Rattle.script_text.specs.declared.reply.Reply.{Reply}
 use Rattle.script_text.specs.declared.reply.Reply.TheVariants.{NoLab, NotOpen, Unknown}
 use Rattle.swap_turns.proofs.Elsewhere.{calm_world, finish_elsewhere, same_world, turn_elsewhere}
 use Rattle.lab_core.specs.Judge.{Task, Turn, Finish, judged_turn, judged_finish, need_found, need_lab, need_open, ◌>>=◌}
-use Rattle.lab_core.specs.LabSteps.{Does, EndsSwap, IsDoneBy, JudgedBeside, LabStep, Turns, does, no_memory}
+use Rattle.lab_core.specs.LabSteps.{Does, EndsSwap, IsDoneBy, JudgedBeside, Turns, does, no_memory}
+use Rattle.lab_core.specs.Commands.{LabStep}
 use Rattle.cost_rule.specs.declared.rule.RuleNumber.{RuleNumber}
 use Rattle.lab_core.specs.Sessions.{OpenSwap, Open, Setting, After, is_among, names_of, Terms}
 use Rattle.lab_core.specs.Tells.{IsTurnOf}

@@ -26,13 +26,13 @@ pub no_stop_of : (reply : Reply) → is_outer reply ≡ false → is_stopped rep
 no_stop_of replies.Stopped inner = absurd (cc inner)
 no_stop_of reply inner = refl
 
-no_drill_of : (reply : Reply) → is_outer reply ≡ false → is_of_drill reply ≡ false
+pub no_drill_of : (reply : Reply) → is_outer reply ≡ false → is_of_drill reply ≡ false
 no_drill_of replies.Planned free = absurd (cc free)
 no_drill_of replies.NoDrill free = absurd (cc free)
 no_drill_of reply free = refl
 
 -- WHAT IS DONE
-breaks_so : (events : List Event) (reply : Option Reply) → Breaks events reply → of_drill_if reply ≡ false
+pub breaks_so : (events : List Event) (reply : Option Reply) → Breaks events reply → of_drill_if reply ≡ false
 breaks_so events reply (stopped ends is) = ap of_drill_if is
 breaks_so events reply (failed once missed is) = ap of_drill_if is
 breaks_so events reply (unanswered is) = ap of_drill_if is

@@ -28,7 +28,7 @@ use Rattle.swap_turns.specs.Turning.{Outcome, More, TurnsBack, Ended, Stuck, Unw
 use Rattle.swap_turns.specs.Whole.{SwapSteps, begun, unwritten, stopped as stopped_so}
 use Rattle.lab_core.specs.Breaks.{Breaks, stopped, failed, unanswered}
 use Rattle.lab_core.specs.Judge.{Task, Tell, Append, Swap, BeginOnly, Turn, Finish, Recover}
-use Rattle.lab_core.specs.LabSteps.{LabStep, Replies, AppendEnds, whole, broken, Appends, done_reply, undone_end, end_reply, turn_reply, IsAnswered, is_told, Swaps, BeginSteps, Begins as BeginsSwap, IfSpace, Does, Drills, is_planned, is_refused, wants_memory}
+use Rattle.lab_core.specs.LabSteps.{DoesBy, JudgedBeside, StepOf, Replies, AppendEnds, whole, broken, Appends, done_reply, undone_end, end_reply, turn_reply, IsAnswered, is_told, Swaps, BeginSteps, Begins as BeginsSwap, IfSpace, Does, Drills, is_planned, is_refused, wants_memory}
 use Rattle.lab_core.specs.Recovery.{Recovers, settled, broken_off}
 use Rattle.lab_core.specs.Sessions.{OpenSwap, Session, Setting, After, Terms, is_among, name_of, names_of}
 use Rattle.lab_core.specs.Tells.{IsThere, TellsPlace, is_in}
@@ -37,7 +37,7 @@ use Rattle.lab_core.proofs.StepLaws.{Was, by_one, was, done, wanting, broke, dri
 use Rattle.swap_turns.proofs.Finishing.{onward_swap}
 
 -- no reply but those to a swap tells it
-no_place : (u : LabState) (reply : Reply) → is_outer reply ≡ false → TellsPlace reply u
+pub no_place : (u : LabState) (reply : Reply) → is_outer reply ≡ false → TellsPlace reply u
 no_place u (replies.In exp) inner = absurd (cc inner)
 no_place u (replies.Out exp) inner = absurd (cc inner)
 no_place u (replies.Failed exp end what) inner = absurd (cc inner)
@@ -73,7 +73,7 @@ aborted_by (Some lab) es name e old new what after found moving gives =
     (sym (ap (λ (o : Option Experiment). in_state lab (moved_one lab es name o (Aborts name))) found ∙ ap (λ (p : Phase). in_state lab (with_replaced name es (becomes lab es e p (Aborts name)))) moving) ∙ gives)
 
 -- THE REPLY TO A SWAP that is over, and to a turn
-place_as : (u : LabState) (told reply : Reply) → Some told ≡ Some reply → TellsPlace told u → TellsPlace reply u
+pub place_as : (u : LabState) (told reply : Reply) → Some told ≡ Some reply → TellsPlace told u → TellsPlace reply u
 place_as u told reply is place = subst (λ (r : Reply). TellsPlace r u) (same_Some told reply is) place
 
 end_place : (s after : LabState) (at : RunningSwap) (steps : List Event) (outcome : Outcome) (reply : Reply) → Moves at.swap s → end_reply at.swap outcome ≡ Some reply → TurnSteps s at steps outcome after → TellsPlace reply after
@@ -121,7 +121,7 @@ module _ (own : List Event) (after : After) (reply : Reply) (is : after.reply �
   so : (told : Reply) → after.reply ≡ Some told → TellsPlace told after.lab → TellsPlace reply after.lab
   so told told_is place = place_as after.lab told reply (sym told_is ∙ is) place
 
-  breaks_place : (events : List Event) → Breaks events after.reply → TellsPlace reply after.lab
+  pub breaks_place : (events : List Event) → Breaks events after.reply → TellsPlace reply after.lab
   breaks_place events (stopped ended told) = so replies.Stopped told tt
   breaks_place events (failed once miss told) = so replies.Down told tt
   breaks_place events (unanswered none) = none_left none
@@ -171,8 +171,9 @@ module _ (own : List Event) (after : After) (reply : Reply) (is : after.reply �
   was_place drill judgement terms set s session command opening (broke no' closed breaks) = breaks_place opening breaks.breaks
   was_place drill judgement terms set s session command opening (drilled some none drills) = drill_place terms s session drills
 
--- A LAB STEP
-pub step_place : (terms : Terms) (at : List Event) (set : Setting) (s : LabState) (session : Session) (command : Command) (opening own : List Event) (after : After) (reply : Reply) → after.reply ≡ Some reply → LabStep terms at set s session command opening own after → TellsPlace reply after.lab
-step_place terms at set s session command opening own after reply is step =
+-- A LAB STEP by one judgement
+pub step_place : (terms : Terms) (set : Setting) (s : LabState) (session : Session) (command : Command) (opening own : List Event) (after : After) (reply : Reply) → after.reply ≡ Some reply → StepOf (drill_of command) (DoesBy (JudgedBeside terms.rule command) set) terms s session opening own after
+    → TellsPlace reply after.lab
+step_place terms set s session command opening own after reply is step =
     let one = by_one (drill_of command) terms set s session command opening own after step in
     was_place own after reply is (drill_of command) one.0 terms set s session command opening (was one.0 terms set s command opening own after (drill_of command) session one.1)

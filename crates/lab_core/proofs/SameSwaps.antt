@@ -15,14 +15,15 @@ use Rattle.script_text.specs.declared.command.Command.TheVariants as commands
 use Rattle.script_text.specs.declared.reply.Reply.{Reply}
 use Rattle.swap_turns.specs.Turning.{Outcome, More, TurnsBack, Ended, Stuck, Unwritten, Stopped as Halted}
 use Rattle.lab_core.specs.Judge.{Task, Tell, Append, Swap, BeginOnly, Turn, Finish, Recover}
-use Rattle.lab_core.specs.LabSteps.{LabStep, begun_at, turned_on}
+use Rattle.lab_core.specs.LabSteps.{begun_at, turned_on}
+use Rattle.lab_core.specs.Commands.{LabStep}
 use Rattle.lab_core.specs.Sessions.{OpenSwap, Session, Open, Setting, After, name_in, name_of, names_of, open_at, Terms}
 use Rattle.lab_core.specs.Tells.{busy_of, opens_of, settles}
 use Rattle.lab_core.proofs.OpenLaws.{IsNext, Leaves, at_turned, at_without, goes, stands}
 use Rattle.lab_core.proofs.OpenMoves.{beside_one}
 use Rattle.lab_core.proofs.OpenNames.{has_busy}
 use Rattle.lab_core.proofs.OpenSwaps.{open_at_none, open_at_one}
-use Rattle.lab_core.proofs.StepLaws.{by_one, step_stays, was}
+use Rattle.lab_core.proofs.ListSteps.{all_stay}
 
 -- THE OPEN SWAP of a name is one of them, of that name
 by_test : (b : Bool) (exp : List ℕ) (x o : OpenSwap) (rest : List OpenSwap) → bytes_eq (name_in x) exp ≡ b → (if b then Some x else open_at exp rest) ≡ Some o → (open_at exp rest ≡ Some o → Has rest o × (name_in o ≡ exp)) → Has (x ∷ rest) o × (name_in o ≡ exp)
@@ -138,8 +139,7 @@ lab_same terms at set s opens command opening own after exp o there is step = by
 
     by_name : (name : List ℕ) → name_of command ≢ Some name → (settles (Open opens) command name ≡ true → ⊥) → after.lab.lab ≡ s.lab
     by_name name other never =
-        let one = by_one (drill_of command) terms set s (Open opens) command opening own after step in
-        (step_stays name own after s there (Open opens) command (λ settled. absurd (never settled)) opening one.0 terms set other (was one.0 terms set s command opening own after (drill_of command) (Open opens) one.1)).lab
+        (all_stay terms at set s (Open opens) opening own after command name there other (λ settled. absurd (never settled)) step).lab
 
     by : (name : Option (List ℕ)) → name_of command ≡ name → after.lab.lab ≡ s.lab
     by None named = by_name exp (λ same. (let both : None ≡ Some exp = sym named ∙ same in cc both)) (λ settled. settles_busy opens command exp busy settled)

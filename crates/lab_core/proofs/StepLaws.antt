@@ -407,7 +407,7 @@ module _ (name : List ℕ) (own : List Event) (after : After) where
     does_stays set (Ok Recover) apart d = recover_stays (apart Recover refl) d
 
   module _ (s : LabState) (there : is_some s.lab ≡ true) (session : Session) (command : Command) (rests : settles session command name ≡ true → IsAtRest s name) (opening : List Event) where
-    begins_stay : (session : Session) → (settles session command name ≡ true → IsAtRest s name) → (mid : LabState) (opens : List OpenSwap) → Begins (drill_of command) session s opening mid opens → Stays name s mid
+    pub begins_stay : (session : Session) → (settles session command name ≡ true → IsAtRest s name) → (mid : LabState) (opens : List OpenSwap) → Begins (drill_of command) session s opening mid opens → Stays name s mid
     begins_stay Closed rests mid opens begins = settles_stay name _ begins.at.outcomes s mid begins.at.moving there (rests (ap is_none begins.no_drill)) begins.at.settles
     begins_stay (Open old) rests mid opens begins = same_stays name s mid there begins.at
 

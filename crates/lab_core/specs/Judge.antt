@@ -324,7 +324,7 @@ Is judgement other = other ≡ judgement
 -- WHERE SEVERAL ANSWERS ARE ALLOWED, a judgement is one of these
 
 -- a check refuses; or it gives a value, of which this is judged
-pub data OrRefused {A : Type 0} (needed : Result A Reply) (Judges : A → Result Task Reply → Type 0) (judgement : Result Task Reply) : Type 0 where
+pub data OrRefused {A B : Type 0} (needed : Result A Reply) (Judges : A → Result B Reply → Type 0) (judgement : Result B Reply) : Type 0 where
   refused : (reply : Reply) → needed ≡ Err reply → judgement ≡ Err reply → OrRefused needed Judges judgement
   asked : (x : A) → needed ≡ Ok x → Judges x judgement → OrRefused needed Judges judgement
 
@@ -404,7 +404,7 @@ is_searched (commands.Modify only exp seed lines text) = true
 is_searched command = false
 
 -- WHAT IS JUDGED of a command by that cost rule, whatever the journal's length, by whether its experiment has an open swap and how many are open. No
--- drill comes.
+-- drill comes, and no list of commands.
 abbrev pub Judged : RuleNumber → LabState → Bool → ℕ → Command → Result Task Reply → Type 0
 Judged rule s busy count (commands.Ptop lines text) = Is (judged_ptop s text)
 Judged rule s busy count (commands.Create exp lines text) = JudgedNetwork s exp text
@@ -422,5 +422,6 @@ Judged rule s busy count commands.Recover = Is (judged_recover s)
 Judged rule s busy count (commands.Fail device nth how) = λ judgement. ⊥
 Judged rule s busy count (commands.FailDisk nth) = λ judgement. ⊥
 Judged rule s busy count (commands.Stop nth pick) = λ judgement. ⊥
+Judged rule s busy count (commands.Play exp from to lines text) = λ judgement. ⊥
 Judged rule s busy count (commands.Delete exp) = Is (judged_delete s busy exp)
 Judged rule s busy count commands.Status = Is (judged_status s)

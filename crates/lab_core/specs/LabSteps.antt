@@ -233,14 +233,6 @@ JudgedBeside rule command opens s = Judged rule s (is_among (names_of opens) (na
 abbrev pub DoesBy : (List OpenSwap → LabState → Result Task Reply → Type 0) → Setting → List OpenSwap → LabState → List Event → After → Type 0
 DoesBy Judges set opens s own after = IsDoneBy (Judges opens s) set s opens own after
 
--- WHAT AN OPEN CONTROLLER DOES of a command, over the trace before that
-abbrev pub DoesCommand : RuleNumber → Command → List Event → Setting → List OpenSwap → LabState → List Event → After → Type 0
-DoesCommand rule command trace set opens s own after = DoesBy (JudgedBeside rule command) set opens s own after
-
--- THE LAB STEP, over the trace before it, a plant that takes drills or not, and with a cost rule
-abbrev pub LabStep : Terms → List Event → Setting → LabState → Session → Command → List Event → List Event → After → Type 0
-LabStep terms trace set s session command opening own after = StepOf (drill_of command) (DoesCommand terms.rule command (trace ++ opening) set) terms s session opening own after
-
 -- the lab step by one judgement of the command
 abbrev pub IsThis : Result Task Reply → RuleNumber → Command → List OpenSwap → LabState → Result Task Reply → Type 0
 IsThis judgement rule command opens s other = (other ≡ judgement) × JudgedBeside rule command opens s other

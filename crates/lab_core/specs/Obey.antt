@@ -12,16 +12,20 @@ use Rattle.journal_disk.specs.Standing.{length_of, limit_of}
 use Rattle.plant.specs.Seen.{Seen}
 use Rattle.script_text.specs.Replies.{blames_device, closes}
 use Rattle.script_text.specs.declared.command.Command.{Command}
+use Rattle.script_text.specs.declared.command.Command.TheVariants as commands
 use Rattle.script_text.specs.declared.reply.Reply.{Reply}
 use Rattle.script_text.specs.declared.reply.Reply.TheVariants as replies
 use Rattle.lab_core.specs.declared.fault.CoreFault.{CoreFault}
 use Rattle.lab_core.specs.declared.fault.CoreFault.TheVariants as faults
 use Rattle.lab_core.specs.Controller.{Control, WorksWith}
 use Rattle.lab_core.specs.Judge.{Task, Recover}
-use Rattle.lab_core.specs.LabSteps.{DoesCommand, IsDoneBy, JudgedBeside}
+use Rattle.lab_core.specs.Commands.{DoesCommand, ground_by}
+use Rattle.lab_core.specs.LabSteps.{IsDoneBy, JudgedBeside}
+use Rattle.lab_core.specs.Lists.{WantsInList}
 use Rattle.lab_core.specs.Moments.{StandForLab}
+use Rattle.lab_core.specs.Playing.{JudgedPlay, events_in_turn}
 use Rattle.lab_core.specs.Recovery.{SettlesFirst}
-use Rattle.lab_core.specs.Sessions.{OpenSwap, Session, Closed, Open, Setting, After, AreOpenedBy, blames_now, counted_from, name_of, names_of}
+use Rattle.lab_core.specs.Sessions.{OpenSwap, Session, Closed, Open, Setting, After, AreOpenedBy, blames_now, counted_from, name_of, names_of, open_by, shut_by}
 
 -- WHERE A COMMAND BEGINS: what its journal is judged by, the count of device faults at which a swap of it is opened, the lab, and the open swaps
 pub record Start : Type 0 where
@@ -39,12 +43,6 @@ Doing = List Event → List Event → After → Type 0
 -- HOW MEMORY WAS WANTING, over the trace before it, by its own steps, the lab and the swaps that stay open
 abbrev pub Wanting : Type 1
 Wanting = List Event → List Event → LabState → List OpenSwap → Type 0
-
-abbrev pub shut_by : Option Reply → LabState → After
-shut_by reply lab = record { reply = reply; lab = lab; session = Closed }
-
-abbrev pub open_by : Reply → LabState → List OpenSwap → After
-open_by reply lab to = record { reply = Some reply; lab = lab; session = Open to }
 
 -- THE CONTROLLER IS CLOSED: it is so by these steps, whatever image a stopped plant is started again with; and over a sound trace each possible image
 -- stands for a lab that the command leads to by them
@@ -139,6 +137,8 @@ abbrev pub does_command : RuleNumber → Command → ℕ → Control → List Op
 does_command rule command devices c opens = λ trace own after. DoesCommand rule command trace (start_of devices c opens).set opens c.lab own after
 
 abbrev pub wants_of_command : RuleNumber → Command → ℕ → Control → List OpenSwap → Wanting
+wants_of_command rule (commands.Play exp from until lines text) devices c opens =
+    λ trace own lab to. WantsInList (events_in_turn exp) (JudgedPlay c.lab opens exp from until text) (ground_by (start_of devices c opens).set) trace c.lab opens own lab to
 wants_of_command rule command devices c opens = wants_as (JudgedBeside rule command opens c.lab) (start_of devices c opens)
 
 abbrev pub ObeysCommand : RuleNumber → Command → ℕ → Seen → Seen → Control → Control → List OpenSwap → Result Reply CoreFault → Type 0

@@ -59,6 +59,7 @@ name_of commands.Recover = None
 name_of (commands.Fail device nth how) = None
 name_of (commands.FailDisk nth) = None
 name_of (commands.Stop nth pick) = None
+name_of (commands.Play exp from to lines text) = Some exp
 name_of (commands.Delete exp) = Some exp
 name_of commands.Status = None
 
@@ -88,10 +89,12 @@ abbrev pub AreOpenedBy : Option (List ℕ) → Option Reply → List OpenSwap �
 AreOpenedBy exp reply old new count =
     (o : OpenSwap) → Has new o → ((exp ≡ Some (name_in o)) × (reply ≡ Some (replies.More (name_in o))) × (o.devices ≡ count)) ⊎ WasOpen old o
 
--- THE REPLY BLAMES A DEVICE for what the command itself sent: that trouble begins the undo, or the experiment is stuck by it
+-- THE REPLY BLAMES A DEVICE for what the command itself sent: that trouble begins the undo, or the experiment is stuck by it; or the reply that ended
+-- `play` blames one, since the swaps of a list are its own
 abbrev pub blames_now : Reply → Bool
 blames_now (replies.Trouble exp (whats.Device name)) = true
 blames_now (replies.Failed exp ends.Stuck (whats.Device name)) = true
+blames_now (replies.Played exp played last closing blaming) = blaming
 blames_now reply = false
 
 -- A FAILURE that began the undo of an open swap came since it was opened
@@ -133,3 +136,10 @@ pub record After : Type 0 where
   pub reply : Option Reply
   pub lab : LabState
   pub session : Session
+
+-- it answers, and the controller is closed behind it; or open, with these open swaps
+abbrev pub shut_by : Option Reply → LabState → After
+shut_by reply lab = record { reply = reply; lab = lab; session = Closed }
+
+abbrev pub open_by : Reply → LabState → List OpenSwap → After
+open_by reply lab to = record { reply = Some reply; lab = lab; session = Open to }

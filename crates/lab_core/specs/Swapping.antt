@@ -25,11 +25,11 @@ use Rattle.swap_mgr.specs.declared.progress.Progress.TheVariants as progress
 use Rattle.script_text.specs.declared.reply.FailedEnd.{FailedEnd}
 use Rattle.script_text.specs.declared.reply.FailedEnd.TheVariants as ends
 use Rattle.script_text.specs.declared.reply.Reply.{Reply}
-use Rattle.script_text.specs.declared.reply.Reply.TheVariants.{In, Out, More, Trouble, Failed}
+use Rattle.script_text.specs.declared.reply.Reply.TheVariants.{In, Out, More, Trouble, Failed, FullJournal}
 use Rattle.lab_core.specs.declared.fault.CoreFault.{CoreFault}
 use Rattle.lab_core.specs.declared.fault.CoreFault.TheVariants as faults
 use Rattle.lab_core.specs.Controller.{Control, WorksWith}
-use Rattle.lab_core.specs.Judge.{Swap, Is, begun_as}
+use Rattle.lab_core.specs.Judge.{Task, Swap, Is, begun_as}
 use Rattle.lab_core.specs.LabSteps.{begun_at, has_space}
 use Rattle.lab_core.specs.Obey.{Obeyed, start_of}
 use Rattle.lab_core.specs.Sessions.{OpenSwap}
@@ -102,6 +102,18 @@ undone_by false = ends.Out
 abbrev pub reply_of_over : List ℕ → Bool → Option What → Reply
 reply_of_over exp inside None = reply_of_done exp inside
 reply_of_over exp inside (Some what) = Failed exp (undone_by inside) what
+
+-- WHAT A WHOLE SWAP TELLS: where the experiment is, or that there is no space for it
+abbrev pub IsSwapReply : List ℕ → Reply → Type 0
+IsSwapReply exp (In name) = name ≡ exp
+IsSwapReply exp (Out name) = name ≡ exp
+IsSwapReply exp (Failed name end what) = name ≡ exp
+IsSwapReply exp (FullJournal length) = Unit {0}
+IsSwapReply exp reply = ⊥
+
+abbrev pub TellsTask : Task → Reply → Type 0
+TellsTask (Swap exp way) reply = IsSwapReply exp reply
+TellsTask task reply = Unit {0}
 
 -- of a turn
 abbrev pub progress_answer : List ℕ → Progress → Result Reply CoreFault

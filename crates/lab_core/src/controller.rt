@@ -11,6 +11,7 @@ ghost use Rattle.journal_disk.specs.Standing.{limit_of, length_of, Holds};
 ghost use Rattle.lab_model.specs.Sound.{is_moving};
 ghost use Rattle.script_text.specs.Drills.{drill_of};
 ghost use Rattle.script_text.specs.Blocks.{HasBlocks};
+ghost use Rattle.lab_core.specs.Commands.{is_list};
 ghost use Rattle.lab_core.specs.Controller.{CanWork, Works, WorksWith};
 ghost use Rattle.lab_core.specs.Moments.{IsNoJournal};
 ghost use Rattle.lab_core.specs.Obey.{ObeysCommand};
@@ -22,6 +23,7 @@ ghost use Rattle.swap_turns.specs.Causes.{IsLater};
 use crate::CoreFault;
 use crate::compaction::compact;
 use crate::judge::judge;
+use crate::judge_play::Span;
 use crate::perform::perform;
 use crate::task::Refusal;
 use cost_rule::StepRule;
@@ -221,10 +223,25 @@ impl Controller {
         ensures obeys { (opens : List OpenSwap) (devices : ℕ) → devices ≤ (P.seen plant.old).faults.devices → WorksWith (P.seen plant.old) self.old opens
             → ObeysCommand rule.now.number command.now devices (P.seen plant.old) (P.seen plant.new) self.old self.new opens result }
     {
-        self.answer(command, rule, plant)
+        match command {
+            Command::Play {
+                exp,
+                from,
+                to,
+                ns,
+                ..
+            } => {
+                let span = Span {
+                    from: *from,
+                    to: *to,
+                };
+                self.play(*exp, span, ns.bytes(), plant)
+            }
+            command => self.answer(command, rule, plant),
+        }
     }
 
-    /// Judges a command, and does its task.
+    /// Judges a command that is no list of commands, and does its task.
     fn answer<P: Plant>(
         &mut self,
         command: &Command,
@@ -233,6 +250,7 @@ impl Controller {
     ) -> Result<Reply, CoreFault>
         requires blocks { HasBlocks command.now }
         requires no_drill { drill_of command.now ≡ None }
+        requires alone { is_list command.now ≡ false }
         requires works { CanWork (P.seen plant.old) self.old }
         ensures { (opens : List OpenSwap) (devices : ℕ) → devices ≤ (P.seen plant.old).faults.devices → WorksWith (P.seen plant.old) self.old opens
             → ObeysCommand rule.now.number command.now devices (P.seen plant.old) (P.seen plant.new) self.old self.new opens result }

@@ -1,5 +1,5 @@
 // What is judged of a command.
-ghost use Rattle.std.specs.Prelude.{◌≡◌, ◌<◌, ◌≤◌, None, IfOk, OnErr, Result, length, true};
+ghost use Rattle.std.specs.Prelude.{◌≡◌, ◌<◌, ◌≤◌, None, IfOk, OnErr, Result, false, length, true};
 ghost use Rattle.lab_base.specs.declared.fault.TextFault.{TextFault as AnyTextFault};
 ghost use Rattle.lab_base.specs.declared.fault.TextRefused.TheVariants as refusals;
 ghost use Rattle.script_text.specs.Drills.{drill_of};
@@ -10,6 +10,7 @@ ghost use Rattle.virt_topo.specs.Soundness.{IsSound};
 ghost use Rattle.script_text.specs.Blocks.{HasBlocks};
 ghost use Rattle.records_model.specs.Labs.{LabState as AnyLabState};
 ghost use Rattle.script_text.specs.declared.reply.Reply.{Reply as AnyReply};
+ghost use Rattle.lab_core.specs.Commands.{is_list};
 ghost use Rattle.lab_core.specs.Controller.{has_open, has_open_for};
 ghost use Rattle.lab_core.specs.Judge.{Task as AnyTask, Judged, JudgedNetwork, in_slot, judged_create, judged_delete, judged_finish, judged_ptop, judged_recover, judged_show, judged_status, judged_swapout, judged_turn, judged_wiring, need_place};
 ghost use Rattle.lab_core.specs.Tasks.{CanDo, Gives, IsJudged, IsMild, Refuses, IsRefusedBy};
@@ -166,7 +167,7 @@ fn judge_swapout(
 }
 
 /// A swap that nothing refuses needs room among the open swaps, and is only begun where its command says so.
-fn in_slot(
+pub(crate) fn in_slot(
     swaps: &Manager,
     only_begin: bool,
     judged: Result<Task, Refusal>,
@@ -230,8 +231,8 @@ fn judge_recover(state: &LabState) -> Result<Task, Refusal>
     Ok(Task::Recover)
 }
 
-/// The task of a command whose blocks have the lines that its words say, or why it has none. A drill has none. The rule is that
-/// by which searches count costs.
+/// The task of a command whose blocks have the lines that its words say, or why it has none. A drill has none, and
+/// neither has a list of commands. The rule is that by which searches count costs.
 pub(crate) fn judge(
     alloc: Global,
     state: &LabState,
@@ -241,6 +242,7 @@ pub(crate) fn judge(
 ) -> Result<Task, Refusal>
     requires blocks { HasBlocks command.now }
     requires no_drill { drill_of command.now ≡ None }
+    requires alone { is_list command.now ≡ false }
     ensures judged { IsJudged (Judged rule.now.number state.now.state (has_open_for swaps.now command.now) (length swaps.now) command.now) result }
     ensures can { IfOk result (CanDo state.now.state) }
 {
@@ -295,6 +297,7 @@ pub(crate) fn judge(
         Command::Turn { exp } => judge_turn(state, swaps, *exp),
         Command::Finish { exp } => judge_finish(state, swaps, *exp),
         Command::Fail { .. } | Command::FailDisk { .. } | Command::Stop { .. } => unreachable!(),
+        Command::Play { .. } => unreachable!(),
         Command::Delete { exp } => judge_delete(state, swaps, *exp),
         Command::Recover => judge_recover(state),
         Command::Status => judge_status(alloc, state),

@@ -78,7 +78,7 @@ fn need_idle_out<'a>(
 }
 
 /// An experiment that is in and has no open swap, and where it is.
-fn need_idle_in<'a>(
+pub(crate) fn need_idle_in<'a>(
     state: &'a LabState,
     swaps: &Manager,
     exp: Name,

@@ -29,22 +29,23 @@ ghost use Rattle.lab_base.specs.Lists.{AllDiffer, Has};
 ghost use Rattle.lab_model.specs.Leavings.{SameFor};
 ghost use Rattle.lab_model.specs.Sound.{is_moving};
 ghost use Rattle.virt_topo.specs.declared.experiment.Experiment.{Experiment};
-ghost use Rattle.lab_core.specs.LabSteps.{LabStep, LabStepBy};
+ghost use Rattle.lab_core.specs.LabSteps.{LabStepBy};
+ghost use Rattle.lab_core.specs.Commands.{LabStep, is_list};
 ghost use Rattle.lab_core.specs.Moments.{StandForLab};
 ghost use Rattle.lab_core.specs.Said.{IsAsSaid};
 ghost use Rattle.lab_core.specs.Sessions.{OpenSwap, Session, Open, Terms, Setting, After, name_of, names_of, open_at};
 ghost use Rattle.lab_core.specs.Judge.{IsFound, Task, Tell, Swap, BeginOnly, Turn, Finish, Judged, is_searched};
 ghost use Rattle.lab_core.specs.Tells.{AllMove, AreLocal, BeginsAt, GoesIn, Hinders, IsAtRest, IsFeasibleFor, IsInBy, IsNoSwap, IsOpened, IsTurn, IsTurnOf, TellsBroken, TellsEnd, TellsLab, SendsOne, busy_of, is_stopped, opens_of, settles, taken_reply};
 
-/// A command for which no search is made has one judgement, and a lab step is by one of the command's judgements. One that
-/// refuses it, or only tells something, has no steps of its own. Where nothing failed or stopped, a judgement that begins no swap
+/// A command for which no search is made has one judgement, and a lab step of a command that is no list is by one of
+/// its judgements. One that refuses it, or only tells something, has no steps of its own. Where nothing failed or stopped, a judgement that begins no swap
 /// and settles none leads, where a reply is told, to one reply and one lab. The reply to a swap tells where the lab is.
 /// Experiments of other names stay, whatever the reply; where the command settles what moves, those that don't move and those
 /// with an open swap. A drill leaves all as it was. The plant stopped exactly where the reply is `stopped`.
 pub fn lab_steps()
     ensures judged_once { (rule : RuleNumber) (s : LabState) (busy : Bool) (count : ℕ) (command : Command) (a b : Result Task Reply) → is_searched command ≡ false → Judged rule s busy count command a → Judged rule s busy count command b → a ≡ b }
     ensures by_one { (terms : Terms) (at : List Event) (set : Setting) (s : LabState) (session : Session) (command : Command) (opening own : List Event) (after : After)
-        → LabStep terms at set s session command opening own after → (judgement : Result Task Reply) × LabStepBy judgement terms set s session command opening own after }
+        → is_list command ≡ false → LabStep terms at set s session command opening own after → (judgement : Result Task Reply) × LabStepBy judgement terms set s session command opening own after }
     ensures refused { (terms : Terms) (set : Setting) (s : LabState) (session : Session) (command : Command) (opening own : List Event) (after : After) (reply : Reply)
         → LabStepBy (Err reply) terms set s session command opening own after → own ≡ [] }
     ensures told { (terms : Terms) (set : Setting) (s : LabState) (session : Session) (command : Command) (opening own : List Event) (after : After) (reply : Reply)

@@ -1,6 +1,7 @@
 //! The controller of a lab: it obeys the commands of a script one after another.
 //!
-//! A command is judged, and then done. It joins by a case of `Judged` in `specs/Judge.antt`, and one of `judge`.
+//! A command is judged, and then done. It joins by a case of `Judged` in `specs/Judge.antt`, and one of `judge`. One that
+//! is a list of commands joins by a case of `DoesCommand` in `specs/Commands.antt`, and one of `Controller::obey`.
 #![tactic(auto)]
 
 mod compaction;
@@ -8,11 +9,13 @@ mod controller;
 mod fault;
 mod judge;
 mod judge_change;
+mod judge_play;
 mod judge_search;
 mod judge_swap;
 mod laws;
 mod needs;
 mod perform;
+mod play;
 mod records;
 mod replies;
 mod sides;

@@ -1,5 +1,5 @@
 // A task is done: over the plant, where the journal has room for it.
-ghost use Rattle.std.specs.Prelude.{◌≡◌, ◌≤◌, ◌+◌, ◌^◌, ℕ, Err, IfOk, List, Ok, OnOk, Option, Some, length, nat_le};
+ghost use Rattle.std.specs.Prelude.{◌≡◌, ◌≤◌, ◌+◌, ◌^◌, ℕ, Err, IfOk, IfSome, List, Ok, OnOk, Option, Some, length, nat_le};
 ghost use Rattle.journal_rec.specs.Payloads.{IsBody, IsRecord};
 ghost use Rattle.journal_rec.specs.declared.record.Record.{Record as AnyRecord};
 ghost use Rattle.journal_rec.specs.declared.record.Record.TheVariants as records;
@@ -13,7 +13,7 @@ ghost use Rattle.lab_core.specs.Judge.{Append, BeginOnly, Finish, Is, Recover, S
 ghost use Rattle.lab_core.specs.Obey.{Obeyed};
 ghost use Rattle.lab_core.specs.Perform.{append_answer, recover_answer};
 ghost use Rattle.lab_core.specs.Sessions.{OpenSwap};
-ghost use Rattle.lab_core.specs.Swapping.{IsBegunBy};
+ghost use Rattle.lab_core.specs.Swapping.{IsBegunBy, IsSwapReply, TellsTask};
 ghost use Rattle.lab_core.specs.Tasks.{CanAppend, CanDo, IsReady, IsSwapBy, MayFollow, or_any, swapped_by, task_of};
 
 use crate::CoreFault;
@@ -149,8 +149,9 @@ fn begin<P: Plant>(
     requires by { IsSwapBy lab.old.state exp way ops.commands ops.undo }
     requires ready { IsReady swaps.old (Swap exp way) }
     requires works { CanWork (P.seen plant.old) (control lab.old.state journal.old swaps.old) }
-    ensures { (opens : List OpenSwap) (devices : ℕ) → devices ≤ (P.seen plant.old).faults.devices → WorksWith (P.seen plant.old) (control lab.old.state journal.old swaps.old) opens
+    ensures begun { (opens : List OpenSwap) (devices : ℕ) → devices ≤ (P.seen plant.old).faults.devices → WorksWith (P.seen plant.old) (control lab.old.state journal.old swaps.old) opens
         → IsBegunBy devices (P.seen plant.old) (P.seen plant.new) (control lab.old.state journal.old swaps.old) (control lab.new.state journal.new swaps.new) opens exp way result }
+    ensures told { IfOk result (λ told. IfSome told (IsSwapReply exp)) }
 {
     let Ok(ready) = prepare_swap(alloc, lab, exp, way, ops) else {
         return Err(CoreFault::Memory);
@@ -242,8 +243,9 @@ fn swap<P: Plant>(
     requires by { IsSwapBy lab.old.state exp way ops.commands ops.undo }
     requires ready { IsReady swaps.old (Swap exp way) }
     requires works { CanWork (P.seen plant.old) (control lab.old.state journal.old swaps.old) }
-    ensures { (opens : List OpenSwap) (devices : ℕ) → devices ≤ (P.seen plant.old).faults.devices → WorksWith (P.seen plant.old) (control lab.old.state journal.old swaps.old) opens
+    ensures obeyed { (opens : List OpenSwap) (devices : ℕ) → devices ≤ (P.seen plant.old).faults.devices → WorksWith (P.seen plant.old) (control lab.old.state journal.old swaps.old) opens
         → Obeyed devices (P.seen plant.old) (P.seen plant.new) (Is (Ok (Swap exp way))) (control lab.old.state journal.old swaps.old) (control lab.new.state journal.new swaps.new) opens (Some exp) result }
+    ensures told { IfOk result (IsSwapReply exp) }
 {
     match begin(alloc, lab, journal, swaps, exp, way, ops, plant)? {
         None => {
@@ -295,8 +297,9 @@ pub(crate) fn perform<P: Plant>(
     requires can { CanDo lab.old.state task }
     requires ready { IsReady swaps.old (task_of task) }
     requires works { CanWork (P.seen plant.old) (control lab.old.state journal.old swaps.old) }
-    ensures { (opens : List OpenSwap) (devices : ℕ) (exp : Option (List ℕ)) → devices ≤ (P.seen plant.old).faults.devices → WorksWith (P.seen plant.old) (control lab.old.state journal.old swaps.old) opens
+    ensures obeyed { (opens : List OpenSwap) (devices : ℕ) (exp : Option (List ℕ)) → devices ≤ (P.seen plant.old).faults.devices → WorksWith (P.seen plant.old) (control lab.old.state journal.old swaps.old) opens
         → Obeyed devices (P.seen plant.old) (P.seen plant.new) (Is (Ok (task_of task))) (control lab.old.state journal.old swaps.old) (control lab.new.state journal.new swaps.new) opens (or_any (swapped_by (task_of task)) exp) result }
+    ensures told { IfOk result (TellsTask (task_of task)) }
 {
     match task {
         Task::Tell(reply) => Ok(reply),

@@ -25,6 +25,7 @@ words (replies.More exp) = record { lab = refl; created = refl; inside = refl; o
 words (replies.Trouble exp what) = record { lab = refl; created = refl; inside = refl; outside = refl }
 words (replies.Failed exp end what) = record { lab = refl; created = refl; inside = refl; outside = refl }
 words (replies.Recovered done stuck) = record { lab = refl; created = refl; inside = refl; outside = refl }
+words (replies.Played exp played last closing blaming) = record { lab = refl; created = refl; inside = refl; outside = refl }
 words replies.Planned = record { lab = refl; created = refl; inside = refl; outside = refl }
 words replies.NoDrill = record { lab = refl; created = refl; inside = refl; outside = refl }
 words (replies.Infeasible exp rule subject) = record { lab = refl; created = refl; inside = refl; outside = refl }

@@ -24,13 +24,13 @@ use Rattle.lab_core.specs.Moments.{IsLabAt, AllStandFor, StandForLab}
 use Rattle.plant.specs.declared.drill.Drill.{Drill}
 use Rattle.script_text.specs.Drills.{drill_of}
 use Rattle.lab_core.specs.Tells.{IsAtRest, IsInBy, IsThere, TellsPlace, is_in, is_of_drill}
-use Rattle.lab_core.proofs.Places.{step_place}
+use Rattle.lab_core.proofs.ListSteps.{all_place}
 use Rattle.lab_core.proofs.Rested.{opened_rest}
 use Rattle.lab_core.proofs.Said.{as_said}
 use Rattle.lab_top.specs.Pieces.{Piece, Begun, AllHave, AllRestBut, AreAll, AreOthers, ImagesAfter, IsPlannedAs, IsPlannedBy, OpensTo, TellsAll, leaves_one, may_shut, steps_of, trace_after}
 use Rattle.lab_top.specs.Ran.{Outside, Ran}
 use Rattle.lab_words.specs.Words.{Choices}
-use Rattle.lab_core.specs.LabSteps.{LabStep}
+use Rattle.lab_core.specs.Commands.{LabStep}
 use Rattle.lab_core.specs.Sessions.{After, Setting, Terms}
 use Rattle.script_text.specs.declared.command.Command.{Command}
 use Rattle.script_text.specs.declared.command.Command.TheVariants.{SwapinWith}
@@ -76,7 +76,7 @@ module _ (terms : Terms) (choices : Option Choices) (old new : Outside) (status 
   place : TellsPlace reply last
   place =
       let l = (done terms choices old new status before (middle ++ after) b t r told sound).leads in
-      step_place terms trace _ l.first b.piece.from b.piece.command b.piece.opening (b.piece.own ++ l.steps.behind) _ reply (told_of terms trace b.piece l.first l.last l.steps reply replied).0 l.steps.step
+      all_place terms trace _ l.first b.piece.from b.piece.opening (b.piece.own ++ l.steps.behind) _ b.piece.command reply (told_of terms trace b.piece l.first l.last l.steps reply replied).0 l.steps.step
 
   -- it is no reply to a drill
   no_drill : is_of_drill reply ≡ false → drill_of b.piece.command ≡ None

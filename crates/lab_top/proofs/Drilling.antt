@@ -18,7 +18,8 @@ use Rattle.script_text.specs.declared.command.Command.{Command}
 use Rattle.script_text.specs.declared.reply.Reply.{Reply}
 use Rattle.script_text.specs.declared.reply.Reply.TheVariants as replies
 use Rattle.lab_core.specs.Controller.{Control, WorksWith}
-use Rattle.lab_core.specs.LabSteps.{DoesBy, Drills, JudgedBeside, StepOf, is_planned, is_refused, wants_memory}
+use Rattle.lab_core.specs.Commands.{DoesCommand}
+use Rattle.lab_core.specs.LabSteps.{Drills, StepOf, is_planned, is_refused, wants_memory}
 use Rattle.lab_core.specs.Moments.{AllStandFor, IsLabAt, IsLengthAt}
 use Rattle.lab_core.specs.Sessions.{OpenSwap, Session, Closed, Open, AreOpenedBy, IsSince, name_of, Terms}
 use Rattle.lab_core.specs.Tells.{opens_of}
@@ -49,7 +50,7 @@ module _ (terms : Terms) (trace : List Event) (command : Command) (mark : Faults
         session = to;
         behind = [];
         is_told = told_so reply to;
-        step = subst (λ (d : Option Drill). StepOf d (DoesBy (JudgedBeside terms.rule command) (record { length = n.0; limit = 2 ^ 32; devices = mark.devices })) terms s from [] [] (after_of reply s to)) (sym is) (refl, stays s);
+        step = subst (λ (d : Option Drill). StepOf d (DoesCommand terms.rule command (trace ++ []) (record { length = n.0; limit = 2 ^ 32; devices = mark.devices })) terms s from [] [] (after_of reply s to)) (sym is) (refl, stays s);
       }
 
   images : (one : Bool) (s : LabState) → (one ≡ true → AllStandFor trace s) → ImagesAt terms trace (piece_of command mark from to [] [] reply) one trace s

@@ -16,7 +16,7 @@ use Rattle.script_text.specs.Drills.{drill_of}
 use Rattle.script_text.specs.declared.command.Command.{Command}
 use Rattle.script_text.specs.declared.command.Command.TheVariants.{SwapinWith}
 use Rattle.script_text.specs.declared.reply.Reply.TheVariants.{In, More}
-use Rattle.lab_core.specs.LabSteps.{LabStep}
+use Rattle.lab_core.specs.Commands.{LabStep}
 use Rattle.lab_core.specs.Moments.{AllStandFor, IsLabAt}
 use Rattle.lab_core.specs.Sessions.{OpenSwap, Session, Closed, Open, Setting, After, open_at, Terms}
 use Rattle.lab_core.specs.Tells.{AllMove, GoesIn, IsInBy, IsTurnOf, busy_of, opens_of}

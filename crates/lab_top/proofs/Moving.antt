@@ -18,8 +18,7 @@ use Rattle.script_text.specs.declared.reply.Reply.{Reply}
 use Rattle.lab_core.specs.Moments.{IsLabAt}
 use Rattle.lab_core.specs.Sessions.{OpenSwap, Session, Closed, Open, Setting, After, Terms}
 use Rattle.lab_core.specs.Tells.{AllMove, busy_of, opens_of}
-use Rattle.lab_core.proofs.OpenMoves.{step_moves}
-use Rattle.lab_core.proofs.StepLaws.{by_one, was}
+use Rattle.lab_core.proofs.ListSteps.{all_move}
 use Rattle.lab_top.specs.Pieces.{Piece, Begun, AreHandedOn, ArePieces, Finds, FirstLab, IsPiece, Leads, is_closed, is_early, session_after, steps_of, trace_after}
 use Rattle.lab_top.specs.Ran.{Outside, Ran}
 use Rattle.lab_words.specs.Words.{Choices}
@@ -64,9 +63,7 @@ module _ (terms : Terms) (trace : List Event) (piece : Piece) (is : IsPiece term
 
       here : AllMove opens l.last
       here =
-          let one = by_one (drill_of piece.command) terms set l.first piece.from piece.command piece.opening own after l.steps.step in
-          step_moves (drill_of piece.command) one.0 terms set l.first piece.from piece.command piece.opening own after opens (ended piece.reply refl answered ∙ to_is) (first_sane (is_early piece) trace l.first l.before).none differ
-          (first_moves terms trace piece l moves) (was one.0 terms set l.first piece.command piece.opening own after (drill_of piece.command) piece.from one.1)
+          all_move terms trace set l.first piece.from piece.opening own after piece.command opens (ended piece.reply refl answered ∙ to_is) (first_sane (is_early piece) trace l.first l.before).none differ (first_moves terms trace piece l moves) l.steps.step
 
   pub piece_moves : MoveAt (trace ++ steps_of piece) piece.to
   piece_moves = by piece.to refl

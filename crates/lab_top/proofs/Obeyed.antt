@@ -18,6 +18,7 @@ use Rattle.lab_state.specs.Texts.{the_texts}
 use Rattle.swap_turns.specs.Causes.{IsLater}
 use Rattle.swap_turns.specs.Running.{Stands}
 use Rattle.script_text.specs.declared.command.Command.{Command}
+use Rattle.script_text.specs.declared.command.Command.TheVariants as commands
 use Rattle.script_text.specs.declared.reply.Reply.{Reply}
 use Rattle.script_text.specs.declared.reply.Reply.TheVariants as replies
 use Rattle.script_text.specs.Drills.{drill_of}
@@ -28,6 +29,7 @@ use Rattle.lab_core.specs.Breaks.{Breaks, failed, unanswered}
 use Rattle.lab_core.specs.Controller.{Control, Works, WorksWith}
 use Rattle.lab_core.specs.Judge.{Task, Recover}
 use Rattle.lab_core.specs.LabSteps.{JudgedBeside}
+use Rattle.lab_core.specs.Lists.{Ground, between as playing, undone as nothing_played}
 use Rattle.lab_core.specs.Obey.{AnswersBy, Doing, ObeysCommand, StepsBy, WantsIn, between, does_command, start_of, undone, wants_of_command}
 use Rattle.lab_core.specs.Opening.{OpenEnds, OpenSteps, OpenTold}
 use Rattle.lab_core.specs.Sessions.{OpenSwap, Session, Closed, Open, AreOpenedBy, blames_now, counted_from, is_among, name_of, names_of, Terms}
@@ -35,7 +37,8 @@ use Rattle.lab_core.specs.Tells.{opens_of}
 use Rattle.lab_top.specs.declared.command.CommandFault.{CommandFault}
 use Rattle.lab_top.specs.declared.command.CommandFault.TheVariants as command_faults
 use Rattle.lab_core.proofs.Fits.{fits}
-use Rattle.lab_core.proofs.Obey.{now_blames, wants_done}
+use Rattle.lab_core.proofs.Obey.{now_blames}
+use Rattle.lab_core.proofs.Wanting.{command_wants, plain_wants}
 use Rattle.journal_runs.specs.Pieces.{has_command}
 use Rattle.journal_runs.proofs.Stood.{stood_alike}
 use Rattle.lab_top.specs.Pieces.{Finds, FindsNone, IsPiece, IsPlannedBy, Later, WantsBehind, WantsOnly, behind as goes_behind, reading as in_reading, settling as in_settling, blames_if, blames_now_if, closes_if, is_closed, leaves_one, may_shut, opened, stays_open}
@@ -193,24 +196,32 @@ module _ (terms : Terms) (mark : Faults) (old mid : Seen) (command : Command) (n
     wants = λ none runs. absurd (cc (halts none, runs));
   }
 
+  abbrev here_ground : Ground
+  here_ground = record { limit = limit_of c.journal; devices = mark.devices }
+
   -- memory was wanting
   pub makes_not : At (Err faults.Memory) → Makes terms mark command old c swaps (record { plant = mid; controller = None }) None
   unfolding own_alone own_by
   makes_not at = record {
     to = Closed;
-    own = own_alone (Err faults.Memory) at Closed None AtWorkHere (at.works refl).working.work.stands (λ before from opening w o stands. own_unmade terms mark before from opening c swaps w command no_drill at.obeys.0 o.sound d (wants_done Judges (start_of mark.devices c swaps) at.obeys.0 d.lab at.to o.ends) stands);
+    own = own_alone (Err faults.Memory) at Closed None AtWorkHere (at.works refl).working.work.stands (λ before from opening w o stands. own_unmade terms mark before from opening c swaps w command no_drill at.obeys.0 o.sound d (command_wants terms.rule mark.devices c swaps (before ++ opening) at.obeys.0 d.lab at.to command o.ends) stands);
     shut = λ closed. refl;
     closed = λ closed. refl;
     device = λ blamed. absurd (cc blamed);
     here = λ blamed. absurd (cc blamed);
     opened = opened_none (name_of command) None swaps mark.devices;
     goes_on = goes_closed mid;
-    wants = λ none runs. map_some old.told (λ t o. subst (WantsBehind command c.lab (names_of swaps)) (sym (append-nil at.obeys.0)) (by at.obeys.0 o.ends)) at.obeys.2;
+    wants = λ none runs. map_some old.told (λ t o. subst (WantsBehind command t.trace here_ground c.lab swaps) (sym (append-nil at.obeys.0)) (by t.trace at.obeys.0 command refl o.ends)) at.obeys.2;
   }
     where
-      by : (own : List Event) → WantsIn Judges (start_of mark.devices c swaps) own d.lab at.to → WantsBehind command c.lab (names_of swaps) own
-      by own (undone none lab_is to_is) = inl none
-      by own (between judged first to_is) = inr (fits c.lab (is_among (names_of swaps) (name_of command)) (length swaps) terms.rule command (Ok Recover) judged, (d.lab, first))
+      plain : (trace own : List Event) (asked : Command) → WantsIn (JudgedBeside terms.rule asked swaps c.lab) (start_of mark.devices c swaps) own d.lab at.to → WantsBehind asked trace here_ground c.lab swaps own
+      plain trace own asked (undone nothing lab_is to_is) = inl nothing
+      plain trace own asked (between judged first to_is) = inr (inl (fits c.lab (is_among (names_of swaps) (name_of asked)) (length swaps) terms.rule asked (Ok Recover) judged, (d.lab, first)))
+
+      by : (trace own : List Event) (asked : Command) → command ≡ asked → wants_of_command terms.rule asked mark.devices c swaps trace own d.lab at.to → WantsBehind asked trace here_ground c.lab swaps own
+      by trace own (commands.Play exp from until lines text) is (nothing_played nothing lab_is to_is) = inl nothing
+      by trace own (commands.Play exp from until lines text) is (playing start place judged past) = inr (inr (start, place, judged, (d.lab, at.to, past)))
+      by trace own asked is wants = plain trace own asked (plain_wants terms.rule mark.devices c swaps trace own d.lab at.to asked refl wants)
 
 -- WHAT A COMMAND BEGAN
 module _ (terms : Terms) (command : Command) (mark : Faults) (no_drill : drill_of command ≡ None) where
@@ -408,7 +419,9 @@ ends_open terms command no_drill old new c result from is goes makes later disk 
     let m = makes old.plant.faults s.0 (omega arith) s.2 in
     subst (λ f. Ends terms command old new f result) (sym s.1)
     (ends_of terms command old new (Open s.0) m.to result (begins_open terms command old.plant.faults no_drill old.plant new c s.0 (reply_if result) s.2 m) m.closed later disk m.device m.here m.opened runs memory (λ some. m.goes_on)
-    (λ none going. map_both old.plant.told (λ t stands own. goes_behind c.lab c.lab (standing_lab t.trace c stands) refl own) s.2.works.working.work.stands (m.wants none going)))
+    (λ none going. map_both old.plant.told (λ t stands own. goes_behind c.lab c.lab (standing_lab t.trace c stands) refl
+    (subst (λ l. WantsBehind command l (record { limit = 2 ^ 32; devices = old.plant.faults.devices }) c.lab s.0 m.own.0) (sym (append-nil t.trace))
+    (subst (λ n. WantsBehind command t.trace (record { limit = n; devices = old.plant.faults.devices }) c.lab s.0 m.own.0) s.2.limit own))) s.2.works.working.work.stands (m.wants none going)))
 
 -- or was opened for it
 pub ends_opened : (terms : Terms) (command : Command) → drill_of command ≡ None → (old new : Moment) (mid : Seen) (c : Control) (result : Result Reply CommandFault) (from : Session) → old.controller ≡ None → HasSession old from → OpenTold old.plant.told mid.told (2 ^ 32) (Ok c)
@@ -424,7 +437,8 @@ ends_opened terms command no_drill old new mid c result from is goes told there 
     (λ none going. map_three old.plant.told (λ t o readable both.
     let w = is_opened t.trace told.0 told.1 c o both.0 limit readable in
     goes_behind w.start c.lab w.first (w.opens refl) both.1) told.3 there
-    (carried old.plant.told mid.told (told.0 ++ told.1) told.2 (λ l. Stands the_texts l c.journal c.lab × WantsBehind command c.lab [] m.own.0) (map_both mid.told (λ t stands own. (stands, own)) works.working.work.stands (m.wants none going)))))
+    (carried old.plant.told mid.told (told.0 ++ told.1) told.2 (λ l. Stands the_texts l c.journal c.lab × WantsBehind command l (record { limit = 2 ^ 32; devices = old.plant.faults.devices }) c.lab [] m.own.0)
+    (map_both mid.told (λ t stands own. (stands, subst (λ n. WantsBehind command t.trace (record { limit = n; devices = old.plant.faults.devices }) c.lab [] m.own.0) limit own)) works.working.work.stands (m.wants none going)))))
 
 -- a count that rose since a later moment rose since an earlier one
 pub rose_since : (a b now : ℕ) → a ≤ b → Rose b now → Rose a now

@@ -30,16 +30,16 @@ use Rattle.script_text.specs.declared.reply.Reply.{Reply}
 use Rattle.script_text.specs.declared.reply.Reply.TheVariants as replies
 use Rattle.script_text.specs.declared.reply.Reply.TheVariants.{Recovered}
 use Rattle.lab_core.specs.Breaks.{Breaks, stopped, failed, unanswered}
-use Rattle.lab_core.specs.LabSteps.{DoesBy, JudgedBeside, LabStep, StepOf}
+use Rattle.lab_core.specs.Commands.{LabStep}
 use Rattle.lab_core.specs.Moments.{IsLabAt, IsNoJournal, StandForLab, IsLabOfImage, AllStandFor}
 use Rattle.lab_core.specs.Sessions.{Session, Closed, Open, Setting, After, name_of, Terms}
 use Rattle.lab_core.specs.Tells.{AllMove, BeginsAt, IsFeasibleFor, Hinders, TellsBroken, busy_of, is_of_drill, is_stopped, of_drill_if, opens_of, settles, taken_reply}
+use Rattle.lab_core.proofs.ListSteps.{all_no_drill, all_stay, all_stop}
 use Rattle.lab_core.proofs.OneJournal.{not_both, one_place}
-use Rattle.lab_core.proofs.OuterReplies.{step_so}
 use Rattle.lab_core.proofs.Rested.{opened_rest, recovered_rest}
 use Rattle.lab_core.proofs.Said.{as_said}
 use Rattle.lab_core.proofs.SolutionLaws.{in_both}
-use Rattle.lab_core.proofs.StepLaws.{by_one, step_stays, was, step_stops}
+use Rattle.lab_core.proofs.StepLaws.{by_one, was}
 use Rattle.lab_top.specs.Pieces.{Piece, Begun, AreHandedOn, ArePieces, ButForReply, Counts, Finds, FirstLab, IsCaused, IsPiece, StepsFrom, is_closed, stays_open, steps_of, trace_after, IsOpening, broken_off, opened, AllHave, AreOthers, ImagesAfter, IsDone, is_early, leaves_one, AllRestBut, HasOpened, Leads, OpensTo, may_shut, IsPlannedAs, IsPlannedBy}
 use Rattle.lab_top.specs.Ran.{Outside, Ran, AreAnswered, Answered, EndsSo, LastFindsNone}
 use Rattle.lab_words.specs.Words.{Choices}
@@ -174,9 +174,7 @@ some_same same = cc same
 stays : (terms : Terms) (trace : List Event) (set : Setting) (s : LabState) (session : Session) (command : Command) (opening own : List Event) (after : After) (e : Experiment) → is_some s.lab ≡ true → find e.name s.experiments ≡ Some e
     → (settles session command e.name ≡ true → is_moving e ≡ false) → name_of command ≢ Some e.name → LabStep terms trace set s session command opening own after → find e.name after.lab.experiments ≡ Some e
 stays terms trace set s session command opening own after e there found rests other step =
-    let one = by_one (drill_of command) terms set s session command opening own after step in
-    (step_stays e.name own after s there session command (λ settled x is. subst (λ (y : Experiment). is_moving y ≡ false) (some_same (sym found ∙ is)) (rests settled)) opening one.0 terms set other
-    (was one.0 terms set s command opening own after (drill_of command) session one.1)).same
+    (all_stay terms trace set s session opening own after command e.name there other (λ settled x is. subst (λ (y : Experiment). is_moving y ≡ false) (some_same (sym found ∙ is)) (rests settled)) step).same
     ∙ found
 
 -- ONE PIECE
@@ -255,9 +253,7 @@ breaks_stopped events o reply (unanswered is) told = absurd (cc (is, told))
 
 step_stopped : (terms : Terms) (trace : List Event) (set : Setting) (s : LabState) (session : Session) (command : Command) (opening own : List Event) (after : After) (reply : Reply) → after.reply ≡ Some reply → LabStep terms trace set s session command opening own after
     → has_restart (opening ++ own) ≡ is_stopped reply
-step_stopped terms trace set s session command opening own after reply is step =
-    let one = by_one (drill_of command) terms set s session command opening own after step in
-    step_stops own after reply is (drill_of command) one.0 terms set s session command opening (was one.0 terms set s command opening own after (drill_of command) session one.1)
+step_stopped terms trace set s session command opening own after reply is step = all_stop terms trace set s session opening own after command reply is step
 
 -- the reply to a drill
 drill_replied : (takes planned : Bool) (reply : Reply) → IsPlannedAs takes planned (Some reply) → is_stopped reply ≡ false
@@ -375,6 +371,5 @@ module _ (terms : Terms) (choices : Option Choices) (old new : Outside) (status 
         let now : Setting = record { length = steps.length; limit = 2 ^ 32; devices = b.piece.faults.devices } in
         let last : After = record { reply = steps.told; lab = x.1; session = steps.session } in
         ap of_drill_if (sym (told_of terms trace b.piece x.0 x.1 steps reply replied).0)
-        ∙ step_so terms now x.0 b.piece.from b.piece.command b.piece.opening (b.piece.own ++ steps.behind) last
-        (subst (λ (d : Option Drill). StepOf d (DoesBy (JudgedBeside terms.rule b.piece.command) now) terms x.0 b.piece.from b.piece.opening (b.piece.own ++ steps.behind) last) is steps.step))
+        ∙ all_no_drill terms trace now x.0 b.piece.from b.piece.command b.piece.opening (b.piece.own ++ steps.behind) last is steps.step)
         (was_of is)

@@ -29,7 +29,8 @@ use Rattle.script_text.specs.declared.reply.Reply.{Reply}
 use Rattle.script_text.specs.declared.reply.Reply.TheVariants as replies
 use Rattle.script_text.specs.Drills.{drill_of}
 use Rattle.lab_core.specs.Controller.{Control}
-use Rattle.lab_core.specs.LabSteps.{DoesCommand, LabStep, StepOf, opened}
+use Rattle.lab_core.specs.LabSteps.{StepOf, opened}
+use Rattle.lab_core.specs.Commands.{DoesCommand, LabStep}
 use Rattle.lab_core.specs.Moments.{StandForLab, IsLabAt, IsLabOfImage, AllStandFor, IsLengthAt}
 use Rattle.lab_core.specs.Obey.{Doing, Shuts, Start, start_of}
 use Rattle.lab_core.specs.Opening.{OpenSteps}

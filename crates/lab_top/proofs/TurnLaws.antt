@@ -24,10 +24,12 @@ use Rattle.script_text.specs.Replies.{closes}
 use Rattle.lab_core.specs.Judge.{Task, Turn}
 use Rattle.lab_model.specs.Leavings.{SameFor}
 use Rattle.lab_core.specs.Moments.{IsLabAt}
-use Rattle.lab_core.specs.LabSteps.{Does, IsDoneBy, JudgedBeside, LabStep, does, no_memory, not_opened, opened}
+use Rattle.lab_core.specs.LabSteps.{Does, IsDoneBy, JudgedBeside, does, no_memory, not_opened, opened}
+use Rattle.lab_core.specs.Commands.{LabStep}
 use Rattle.lab_core.specs.Sessions.{OpenSwap, Session, Closed, Open, Setting, After, is_among, name_in, name_of, names_of, open_at, Terms}
 use Rattle.lab_core.specs.Tells.{IsTurn, IsTurnOf, SendsOne, busy_of, is_stopped, opens_of, settles}
-use Rattle.lab_core.proofs.OpenLaws.{Leaves, leaves, names_differ, others_as_they_were, they_are_few}
+use Rattle.lab_core.proofs.OpenLaws.{Leaves, names_differ, others_as_they_were, they_are_few}
+use Rattle.lab_core.proofs.ListSteps.{all_leave}
 use Rattle.lab_core.proofs.OtherWorlds.{others_spared, turn_or_refused}
 use Rattle.lab_core.proofs.SameSwaps.{same_swap}
 use Rattle.lab_core.proofs.StepLaws.{Was, by_one, was}
@@ -48,7 +50,7 @@ replied terms trace piece None told is open_now = absurd (cc (ap is_closed (is.l
 -- ONE PIECE that leaves the session open: what it left open, by its judgement; or it was a drill, and the session is as it was
 module _ (terms : Terms) (trace : List Event) (piece : Piece) (is : IsPiece terms trace piece) (open_now : is_closed piece.to ≡ false) where
   abbrev LeavesSo : Type 0
-  LeavesSo = (piece.to ≡ piece.from) ⊎ ((to : List OpenSwap) × (piece.to ≡ Open to) × (set : Setting) × (judgement : Result Task Reply) × Leaves set piece.from piece.command judgement to)
+  LeavesSo = (opens_of piece.to ≡ opens_of piece.from) ⊎ ((to : List OpenSwap) × (piece.to ≡ Open to) × (set : Setting) × (judgement : Result Task Reply) × Leaves set piece.from piece.command judgement to)
 
   answered : is_some piece.reply ≡ true
   answered = replied terms trace piece piece.reply refl is open_now
@@ -60,8 +62,7 @@ module _ (terms : Terms) (trace : List Event) (piece : Piece) (is : IsPiece term
       let at : Setting = record { length = s.length; limit = 2 ^ 32; devices = piece.faults.devices } in
       let own = piece.own ++ s.behind in
       let after : After = record { reply = s.told; lab = l.last; session = s.session } in
-      let one = by_one (drill_of piece.command) terms at l.first piece.from piece.command piece.opening own after s.step in
-      inr (others, is_to, at, one.0, leaves (drill_of piece.command) one.0 terms at l.first piece.from piece.command piece.opening own after others ended (was one.0 terms at l.first piece.command piece.opening own after (drill_of piece.command) piece.from one.1))
+      ⊎_elim (λ same. inl (ap opens_of is_to ∙ same)) (λ one. inr (others, is_to, at, one.0, one.1)) (all_leave terms trace at l.first piece.from piece.opening own after piece.command others ended s.step)
 
   told_to : (l : Leads terms trace piece) (reply : Option Reply) → piece.reply ≡ reply → is_some reply ≡ true → l.steps.session ≡ piece.to
   told_to l None told there = absurd (cc there)
@@ -71,26 +72,26 @@ module _ (terms : Terms) (trace : List Event) (piece : Piece) (is : IsPiece term
   leaves_so = by (drill_of piece.command) refl
     where
       by : (drill : Option Drill) → drill_of piece.command ≡ drill → LeavesSo
-      by (Some drill) it = let finds = subst (λ (d : Option Drill). Finds d piece.from trace piece) it is.finds in inl (finds.2 answered)
+      by (Some drill) it = let finds = subst (λ (d : Option Drill). Finds d piece.from trace piece) it is.finds in inl (ap opens_of (finds.2 answered))
       by None it = let l = is.leads it open_now in by_step l piece.to refl (told_to l piece.reply refl answered) open_now
 
   -- an open swap of another name than the command's
   pub swap_stays : (name : List ℕ) → name_of piece.command ≢ Some name → open_at name (opens_of piece.to) ≡ open_at name (opens_of piece.from)
   swap_stays name other =
-      ⊎_elim (λ same. ap (λ s. open_at name (opens_of s)) same) (λ x. ap (λ s. open_at name (opens_of s)) x.1 ∙ others_as_they_were x.2 piece.from piece.command x.3 x.0 name other x.4) leaves_so
+      ⊎_elim (λ same. ap (open_at name) same) (λ x. ap (λ s. open_at name (opens_of s)) x.1 ∙ others_as_they_were x.2 piece.from piece.command x.3 x.0 name other x.4) leaves_so
 
   -- one that stays open is the same swap
   pub stays_same : (name : List ℕ) (o q : OpenSwap) → AllDiffer (busy_of piece.from) → open_at name (opens_of piece.from) ≡ Some o → open_at name (opens_of piece.to) ≡ Some q → q.running.swap ≡ o.running.swap
   stays_same name o q differ was_at is_at =
-      ⊎_elim (λ same. ap (λ (y : OpenSwap). y.running.swap) (same_Some q o (sym is_at ∙ ap (λ s. open_at name (opens_of s)) same ∙ was_at)))
+      ⊎_elim (λ same. ap (λ (y : OpenSwap). y.running.swap) (same_Some q o (sym is_at ∙ ap (open_at name) same ∙ was_at)))
       (λ x. same_swap name x.2 piece.from piece.command x.3 x.0 o q differ was_at (sym (ap (λ s. open_at name (opens_of s)) x.1) ∙ is_at) x.4) leaves_so
 
   -- their names differ, and they are few
   pub are_few : length (opens_of piece.from) ≤ 16 → length (opens_of piece.to) ≤ 16
-  are_few few = ⊎_elim (λ same. subst (λ s. length (opens_of s) ≤ 16) (sym same) few) (λ x. subst (λ s. length (opens_of s) ≤ 16) (sym x.1) (they_are_few x.2 piece.from piece.command x.3 x.0 few x.4)) leaves_so
+  are_few few = ⊎_elim (λ same. subst (λ l. length l ≤ 16) (sym same) few) (λ x. subst (λ s. length (opens_of s) ≤ 16) (sym x.1) (they_are_few x.2 piece.from piece.command x.3 x.0 few x.4)) leaves_so
 
   pub they_differ : AllDiffer (busy_of piece.from) → AllDiffer (busy_of piece.to)
-  they_differ differ = ⊎_elim (λ same. subst (λ s. AllDiffer (busy_of s)) (sym same) differ) (λ x. subst (λ s. AllDiffer (busy_of s)) (sym x.1) (names_differ x.2 piece.from piece.command x.3 x.0 differ x.4)) leaves_so
+  they_differ differ = ⊎_elim (λ same. subst (λ l. AllDiffer (names_of l)) (sym same) differ) (λ x. subst (λ s. AllDiffer (busy_of s)) (sym x.1) (names_differ x.2 piece.from piece.command x.3 x.0 differ x.4)) leaves_so
 
 -- OVER ALL PIECES
 pub all_few : (terms : Terms) (trace : List Event) (session : Session) (made after : List Begun) → ArePieces terms trace (made ++ after) → AreHandedOn session (made ++ after) → length (opens_of session) ≤ 16 → AllDiffer (busy_of session)

@@ -3,7 +3,7 @@ use Rattle.std.specs.Prelude.{◌≡◌, ◌≤◌, ℕ, List, length}
 use Rattle.lab_base.specs.Lists.{Has}
 use Rattle.script_text.specs.Taking.{joined}
 use Rattle.script_text.specs.declared.command.Command.{Command}
-use Rattle.script_text.specs.declared.command.Command.TheVariants.{Ptop, Create, CreateTop, SwapinWith, Modify, ModifyWith}
+use Rattle.script_text.specs.declared.command.Command.TheVariants.{Ptop, Create, CreateTop, SwapinWith, Modify, ModifyWith, Play}
 use Rattle.script_text.specs.declared.heads.Head.{Head}
 use Rattle.script_text.specs.declared.heads.Head.TheVariants.{Whole, Block, Blocks}
 use Rattle.script_text.specs.declared.heads.Said.{Said}
@@ -26,6 +26,7 @@ HasBlocks (Create exp lines ns) = IsBlock lines ns
 HasBlocks (CreateTop exp lines top) = IsBlock lines top
 HasBlocks (SwapinWith only exp lines map) = IsBlock lines map
 HasBlocks (Modify only exp seed lines ns) = IsBlock lines ns
+HasBlocks (Play exp from to lines ns) = IsBlock lines ns
 HasBlocks (ModifyWith only exp top_lines top map_lines map) = IsBlock top_lines top × IsBlock map_lines map
 HasBlocks command = Unit {0}
 

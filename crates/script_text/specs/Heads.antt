@@ -8,7 +8,7 @@ use Rattle.lab_base.specs.Texts.{fields_of, is_skipped}
 use Rattle.script_text.specs.declared.command.Command.{Command}
 use Rattle.script_text.specs.declared.command.Command.TheVariants as commands
 use Rattle.script_text.specs.declared.heads.OneBlock.{OneBlock}
-use Rattle.script_text.specs.declared.heads.OneBlock.TheVariants.{Ptop, Create, CreateTop, SwapinWith, Modify}
+use Rattle.script_text.specs.declared.heads.OneBlock.TheVariants.{Ptop, Create, CreateTop, SwapinWith, Modify, Play}
 use Rattle.script_text.specs.declared.heads.TwoBlocks.{TwoBlocks}
 use Rattle.script_text.specs.declared.heads.TwoBlocks.TheVariants.{ModifyWith}
 use Rattle.script_text.specs.declared.heads.Head.{Head}
@@ -27,6 +27,7 @@ completed (Create exp) k text = commands.Create exp k text
 completed (CreateTop exp) k text = commands.CreateTop exp k text
 completed (SwapinWith only exp) k text = commands.SwapinWith only exp k text
 completed (Modify only exp seed) k text = commands.Modify only exp seed k text
+completed (Play exp from to) k text = commands.Play exp from to k text
 
 -- the command that two blocks complete
 abbrev pub both_completed : TwoBlocks → ℕ → List ℕ → ℕ → List ℕ → Command
@@ -73,6 +74,15 @@ name_and_seed fields = None
 abbrev pub name_seed_and_count : List (List ℕ) → Option (List ℕ × ℕ × ℕ)
 name_seed_and_count (exp ∷ seed ∷ lines ∷ []) = option_and_then (λ name. option_and_then (λ s. option_map (λ k. (name, s, k)) (counted lines)) (seed_of seed)) (named exp)
 name_seed_and_count fields = None
+
+-- a moment in microseconds, and a name, a span of two of them and a number of lines
+abbrev pub moment_of : List ℕ → Option ℕ
+moment_of field = number_of 1000000000000 field
+
+abbrev pub name_span_and_count : List (List ℕ) → Option (List ℕ × ℕ × ℕ × ℕ)
+name_span_and_count (exp ∷ from ∷ to ∷ lines ∷ []) =
+    option_and_then (λ name. option_and_then (λ a. option_and_then (λ b. option_map (λ k. (name, a, b, k)) (counted lines)) (moment_of to)) (moment_of from)) (named exp)
+name_span_and_count fields = None
 
 -- how a device fails, what a stop leaves, and which call a drill is for, from 1
 abbrev pub how_of : List ℕ → Option How
@@ -139,6 +149,7 @@ head_by word fields =
     else if bytes_eq word (codes "delete") then option_map (λ exp. Whole (commands.Delete exp)) (only_name fields)
     else if bytes_eq word (codes "recover") then option_map (λ none. Whole commands.Recover) (no_field fields)
     else if bytes_eq word (codes "status") then option_map (λ none. Whole commands.Status) (no_field fields)
+    else if bytes_eq word (codes "play") then option_map (λ given. Block (Play given.0 given.1 given.2) given.3) (name_span_and_count fields)
     else if bytes_eq word (codes "fail") then fail_head fields
     else if bytes_eq word (codes "stop") then stop_head fields
     else swap_by false word fields

@@ -98,6 +98,10 @@ trouble_line exp what = codes "trouble " ++ exp ++ 32 ∷ [] ++ what_words what 
 abbrev pub infeasible_line : List ℕ → Broken → List ℕ → List ℕ
 infeasible_line exp rule subject = codes "infeasible " ++ exp ++ 32 ∷ [] ++ rule_word rule ++ 32 ∷ [] ++ subject ++ 10 ∷ []
 
+-- how many events were played, and the text of the reply that ended it
+abbrev pub played_lines : List ℕ → ℕ → List ℕ → List ℕ
+played_lines exp played last = codes "played " ++ exp ++ 32 ∷ [] ++ decimal played ++ 10 ∷ [] ++ last
+
 -- THE TEXT OF A REPLY
 abbrev pub text_of : Reply → List ℕ
 text_of (replies.Lab switches nodes trunks) = lab_line switches nodes trunks
@@ -119,6 +123,7 @@ text_of (replies.More exp) = named_line (codes "more ") exp
 text_of (replies.Trouble exp what) = trouble_line exp what
 text_of (replies.Failed exp end what) = failed_line exp end what
 text_of (replies.Recovered done stuck) = two_line (codes "recovered ") done stuck
+text_of (replies.Played exp played last closing blaming) = played_lines exp played last
 text_of replies.Planned = codes "planned\n"
 text_of replies.NoDrill = codes "no drill\n"
 text_of (replies.Infeasible exp rule subject) = infeasible_line exp rule subject
@@ -139,10 +144,28 @@ text_of replies.Stopped = codes "stopped\n"
 abbrev pub closes : Reply → Bool
 closes replies.Down = true
 closes (replies.Failed exp ends.Stuck Journal) = true
+closes (replies.Played exp played last closing blaming) = closing
 closes reply = false
 
 -- THE REPLY BLAMES A DEVICE: a command to it failed in the swap
 abbrev pub blames_device : Reply → Bool
 blames_device (replies.Failed exp end (Device name)) = true
 blames_device (replies.Trouble exp (Device name)) = true
+blames_device (replies.Played exp played last closing blaming) = blaming
 blames_device reply = false
+
+-- THE REPLY TO `play`: how many events were answered `in`, and the reply that ended it, if one did
+abbrev pub last_text : Option Reply → List ℕ
+last_text None = []
+last_text (Some reply) = text_of reply
+
+abbrev pub last_closes : Option Reply → Bool
+last_closes None = false
+last_closes (Some reply) = closes reply
+
+abbrev pub last_blames : Option Reply → Bool
+last_blames None = false
+last_blames (Some reply) = blames_device reply
+
+abbrev pub played_of : List ℕ → ℕ → Option Reply → Reply
+played_of exp played ended = replies.Played exp played (last_text ended) (last_closes ended) (last_blames ended)

@@ -94,7 +94,16 @@ pub enum Command {
         nth: u32,
         pick: Pick,
     },
-    /// `delete E`: removes an experiment, which has to be out.
+    /// `play E FROM TO N`: plays the link events of the NS file of the next N lines that are due from FROM on and before TO, in
+    /// microseconds from 0 to 10^12.
+    Play {
+        exp: Name,
+        from: u64,
+        to: u64,
+        lines: u16,
+        ns: Text,
+    },
+    /// `delete E`: removes an experiment, which is out.
     Delete {
         exp: Name,
     },

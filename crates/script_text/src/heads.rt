@@ -3,18 +3,18 @@ ghost use Rattle.std.specs.Prelude.{◌≡◌, ◌≤◌, IfOk, IfSome};
 ghost use Rattle.std.specs.Str.{bytes_eq};
 ghost use Rattle.lab_base.specs.Texts.{views};
 ghost use Rattle.script_text.specs.Blocks.{IsBlock, HasBlocks, IsInRange, SaysInRange};
-ghost use Rattle.script_text.specs.Heads.{completed, both_completed, counted, named, no_field, only_name, only_count, name_and_count, name_and_counts, seed_of, name_and_seed, name_seed_and_count, how_of, pick_of, nth_of, fail_head, stop_head, swap_by, opened_by, head_by, said_of};
+ghost use Rattle.script_text.specs.Heads.{completed, both_completed, counted, named, no_field, only_name, only_count, name_and_count, name_and_counts, seed_of, name_and_seed, name_seed_and_count, moment_of, name_span_and_count, swap_by, opened_by, head_by, said_of};
 
 use crate::Command;
+use crate::drill_heads::{fail_head, stop_head};
 use lab_base::{Memory, Name, Text, fields_in, is_skipped, read_number};
-use plant::{How, Pick};
 use std::alloc::Global;
 
 /// The most lines of a block.
 const MAX_LINES: u64 = 16_384;
 
-/// The last call that a drill can make fail.
-const MAX_NTH: u64 = 1_000_000;
+/// The last moment of a span, in microseconds.
+const MAX_MOMENT: u64 = 1_000_000_000_000;
 
 /// A command that one block completes.
 #[derive(Clone, Copy)]
@@ -34,6 +34,11 @@ pub(crate) enum OneBlock {
         only_begin: bool,
         exp: Name,
         seed: u64,
+    },
+    Play {
+        exp: Name,
+        from: u64,
+        to: u64,
     },
 }
 
@@ -104,6 +109,13 @@ impl OneBlock {
                 lines,
                 ns: text,
             },
+            OneBlock::Play { exp, from, to } => Command::Play {
+                exp,
+                from,
+                to,
+                lines,
+                ns: text,
+            },
         }
     }
 }
@@ -138,8 +150,8 @@ fn count_in(field: &[u8]) -> Option<u16>
     }
 }
 
-/// The name in a field.
-fn name_in(field: &[u8]) -> Option<Name>
+/// The name that a field gives.
+pub(crate) fn name_in(field: &[u8]) -> Option<Name>
     ensures { result ≡ named field.now }
 {
     match Name::read(field) {
@@ -251,91 +263,41 @@ fn name_seed_and_count(fields: &[&[u8]]) -> Option<(Name, u64, u16)>
     }
 }
 
+/// The moment that a field gives.
+fn moment_in(field: &[u8]) -> Option<u64>
+    ensures { result ≡ moment_of field.now }
+{
+    match read_number(field, MAX_MOMENT) {
+        Ok(moment) => Some(moment),
+        Err(_) => None,
+    }
+}
+
+/// The name, the two moments and the number of lines that four fields give.
+fn name_span_and_count(fields: &[&[u8]]) -> Option<(Name, u64, u64, u16)>
+    ensures given { result ≡ name_span_and_count (views fields.now) }
+    ensures few { IfSome result (λ given. given.3 ≤ 16384) }
+{
+    match fields {
+        [exp, from, to, lines] => {
+            let exp = name_in(exp)?;
+            let from = moment_in(from)?;
+            let to = moment_in(to)?;
+            let lines = count_in(lines)?;
+            Some((exp, from, to, lines))
+        }
+        _ => None,
+    }
+}
+
 /// Whether a field is that word.
-fn is_word(field: &[u8], word: &[u8]) -> bool
+pub(crate) fn is_word(field: &[u8], word: &[u8]) -> bool
     ensures { result ≡ bytes_eq field.now word.now }
 {
     field == word
 }
 
-/// The way in which a device fails, by its word.
-fn how_in(field: &[u8]) -> Option<How>
-    ensures { result ≡ how_of field.now }
-{
-    if is_word(field, b"applied") {
-        Some(How::Applied)
-    } else if is_word(field, b"not") {
-        Some(How::Not)
-    } else if is_word(field, b"hang") {
-        Some(How::Hang)
-    } else if is_word(field, b"jump") {
-        Some(How::Jump)
-    } else {
-        None
-    }
-}
-
-/// The pick of a stop, by its word.
-fn pick_in(field: &[u8]) -> Option<Pick>
-    ensures { result ≡ pick_of field.now }
-{
-    if is_word(field, b"none") {
-        Some(Pick::Nothing)
-    } else if is_word(field, b"all") {
-        Some(Pick::All)
-    } else if is_word(field, b"torn") {
-        Some(Pick::Torn)
-    } else {
-        None
-    }
-}
-
-/// The number of a call in a field.
-fn nth_in(field: &[u8]) -> Option<u32>
-    ensures { result ≡ nth_of field.now }
-{
-    match read_number(field, MAX_NTH) {
-        Ok(0) | Err(_) => None,
-        Ok(nth) => Some(nth as u32),
-    }
-}
-
-/// The planned failure in some fields: of the disk by two, of a device by three.
-fn fail_head(fields: &[&[u8]]) -> Option<Head>
-    ensures head { result ≡ fail_head (views fields.now) }
-    ensures range { IfSome result IsInRange }
-{
-    match fields {
-        [disk, nth] if is_word(disk, b"disk") => {
-            let nth = nth_in(nth)?;
-            Some(Head::Whole(Command::FailDisk { nth }))
-        }
-        [device, nth, how] => {
-            let device = name_in(device)?;
-            let nth = nth_in(nth)?;
-            let how = how_in(how)?;
-            Some(Head::Whole(Command::Fail { device, nth, how }))
-        }
-        _ => None,
-    }
-}
-
-/// The planned stop in two fields.
-fn stop_head(fields: &[&[u8]]) -> Option<Head>
-    ensures head { result ≡ stop_head (views fields.now) }
-    ensures range { IfSome result IsInRange }
-{
-    match fields {
-        [nth, pick] => {
-            let nth = nth_in(nth)?;
-            let pick = pick_in(pick)?;
-            Some(Head::Whole(Command::Stop { nth, pick }))
-        }
-        _ => None,
-    }
-}
-
-/// The head of a swap, from its word and the fields behind it.
+/// The head that the word of a swap and the fields behind it are.
 fn swap_by(only_begin: bool, word: &[u8], fields: &[&[u8]]) -> Option<Head>
     ensures head { result ≡ swap_by only_begin word.now (views fields.now) }
     ensures range { IfSome result IsInRange }
@@ -435,6 +397,12 @@ fn head_by(word: &[u8], fields: &[&[u8]]) -> Option<Head>
     } else if is_word(word, b"status") {
         no_field(fields)?;
         Some(Head::Whole(Command::Status))
+    } else if is_word(word, b"play") {
+        let (exp, from, to, lines) = name_span_and_count(fields)?;
+        Some(Head::Block {
+            what: OneBlock::Play { exp, from, to },
+            lines,
+        })
     } else if is_word(word, b"fail") {
         fail_head(fields)
     } else if is_word(word, b"stop") {

@@ -6,12 +6,15 @@
 #![tactic(auto)]
 
 mod command;
+mod drill_heads;
 mod heads;
 mod next;
+mod played;
 mod replies;
 mod reply;
 
 pub use command::Command;
 pub use next::{Next, ScriptFault, read_command};
+pub use played::{played_all, played_until};
 pub use replies::reply_text;
 pub use reply::{FailedEnd, PhaseWord, Placed, Reply, StatusLine, TagLine};

@@ -1,7 +1,7 @@
 ghost use Rattle.std.specs.Prelude.{◌≡◌, ◌++◌, ◌∷◌, [], codes, decimal, IfOk, OnOk};
 ghost use Rattle.std.specs.List.{flat_map};
 ghost use Rattle.lab_base.specs.declared.what.What.TheVariants as whats;
-ghost use Rattle.script_text.specs.Replies.{phase_word, named_line, fault_line, two_line, lab_line, exp_line, boot_word, rule_word, end_word, what_words, trouble_line, failed_line, infeasible_line, tag_line, placed_lines, shown_lines, solved_lines, text_of};
+ghost use Rattle.script_text.specs.Replies.{phase_word, named_line, fault_line, two_line, lab_line, exp_line, boot_word, rule_word, end_word, what_words, trouble_line, failed_line, infeasible_line, tag_line, placed_lines, shown_lines, solved_lines, played_lines, text_of};
 
 use crate::{FailedEnd, PhaseWord, Placed, Reply, StatusLine, TagLine};
 use lab_base::{Boot, Memory, Name, Text, TextFault, What};
@@ -299,6 +299,16 @@ fn listed(alloc: Global, experiments: &[StatusLine], nodes: u16, vlans: u16) -> 
     Ok(text)
 }
 
+fn played(alloc: Global, exp: &Name, played: u64, last: &Text) -> Result<Text, Memory>
+    ensures { IfOk result (λ text. text ≡ played_lines exp.now played last.now) }
+{
+    let mut text = named_head(alloc, b"played ", exp)?;
+    text.push_number(played)?;
+    text.push(b'\n')?;
+    text.push_bytes(last.bytes())?;
+    Ok(text)
+}
+
 /// The text of a reply: its lines, each with a line feed.
 pub fn reply_text(alloc: Global, reply: &Reply) -> Result<Text, Memory>
     ensures { IfOk result (λ text. text ≡ text_of reply.now) }
@@ -348,6 +358,12 @@ pub fn reply_text(alloc: Global, reply: &Reply) -> Result<Text, Memory>
         Reply::Trouble { exp, what } => trouble(alloc, exp, what),
         Reply::Failed { exp, end, what } => failed(alloc, exp, *end, what),
         Reply::Recovered { done, stuck } => recovered(alloc, *done, *stuck),
+        Reply::Played {
+            exp,
+            played: count,
+            last,
+            ..
+        } => played(alloc, exp, *count, last),
         Reply::Planned => Text::from_slice(alloc, b"planned\n"),
         Reply::NoDrill => Text::from_slice(alloc, b"no drill\n"),
         Reply::Infeasible { exp, rule, subject } => infeasible(alloc, exp, *rule, subject),

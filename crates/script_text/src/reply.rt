@@ -1,5 +1,5 @@
 ghost use Rattle.std.specs.Prelude.{◌≡◌};
-ghost use Rattle.script_text.specs.Replies.{closes};
+ghost use Rattle.script_text.specs.Replies.{blames_device, closes};
 
 use lab_base::{Items, Name, Text, TextFault, VlanId, What};
 use virt_topo::Broken;
@@ -141,6 +141,15 @@ pub enum Reply {
         done: u32,
         stuck: u32,
     },
+    /// `played E K`: to `play`, how many events were answered `in E`; and the text of the reply that ended it, if one did, with
+    /// whether that closes, and whether it blames a device.
+    Played {
+        exp: Name,
+        played: u64,
+        last: Text,
+        closes: bool,
+        blames: bool,
+    },
     /// `planned`: to a drill.
     Planned,
     /// `no drill`: the plant takes no drills.
@@ -201,9 +210,22 @@ impl Reply {
     {
         match self {
             Reply::Down => true,
+            Reply::Played { closes, .. } => *closes,
             Reply::Failed { end, what, .. } => {
                 matches!(end, FailedEnd::Stuck) && matches!(what, What::Journal)
             }
+            _ => false,
+        }
+    }
+    /// Whether it tells that a command to a device failed.
+    pub fn blames_device(&self) -> bool
+        ensures { result ≡ blames_device self.now }
+    {
+        match self {
+            Reply::Failed { what, .. } | Reply::Trouble { what, .. } => {
+                matches!(what, What::Device(_))
+            }
+            Reply::Played { blames, .. } => *blames,
             _ => false,
         }
     }

@@ -55,6 +55,9 @@ fn in_short(command: &Command) -> (u8, &[u8], u32, &[u8]) {
         Command::Fail { device, nth, how } => (b'f', device.bytes(), *nth, how_word(*how)),
         Command::FailDisk { nth } => (b'k', b"", *nth, b""),
         Command::Stop { nth, pick } => (b'x', b"", *nth, pick_word(*pick)),
+        Command::Play { exp, lines, ns, .. } => {
+            (b'p', exp.bytes(), u32::from(*lines), ns.bytes())
+        }
         Command::Delete { exp } => (b'd', exp.bytes(), 0, b""),
         Command::Recover => (b'r', b"", 0, b""),
         Command::Status => (b'?', b"", 0, b""),

@@ -1,16 +1,16 @@
 use Rattle.std.proofs.Common.{Err, Ok}
 use Rattle.script_text.specs.Drills.{drill_of}
 use Rattle.lab_core.specs.Judge.{Tell, Swap}
-use Rattle.lab_core.specs.LabSteps.{JudgedBeside}
 use Rattle.lab_core.proofs.Judgements.{judged_once}
-use Rattle.lab_core.proofs.StepLaws.{was, by_one, drills_leave, no_steps_refused, no_steps_told, step_once, swap_tells, step_stays, step_stops}
+use Rattle.lab_core.proofs.StepLaws.{was, by_one, no_steps_refused, no_steps_told, step_once, swap_tells}
+use Rattle.lab_core.proofs.ListSteps.{all_drills, all_stay, all_stop, plain_step}
 use Rattle.lab_core.proofs.laws.lab_steps.Goals as goal
 
 pub returns-clause-judged_once : goal.returns-clause-judged_once
 returns-clause-judged_once c = λ rule s busy count command a b alone is also. judged_once rule s busy count command a b alone is also
 
 pub returns-clause-by_one : goal.returns-clause-by_one
-returns-clause-by_one c = λ terms at set s session command opening own after step. by_one (drill_of command) terms set s session command opening own after step
+returns-clause-by_one c = λ terms at set s session command opening own after no' step. by_one (drill_of command) terms set s session command opening own after (plain_step terms at set s session command opening own after no' step)
 
 pub returns-clause-refused : goal.returns-clause-refused
 returns-clause-refused c = λ terms set s session command opening own after reply step.
@@ -29,14 +29,10 @@ returns-clause-swapped c = λ terms set s session command opening own after exp 
     swap_tells exp way own after reply is (drill_of command) terms set s session command opening no_drill (was (Ok (Swap exp way)) terms set s command opening own after (drill_of command) session step)
 
 pub returns-clause-others : goal.returns-clause-others
-returns-clause-others c = λ terms at set s session command opening own after name there other rests step.
-    let one = by_one (drill_of command) terms set s session command opening own after step in
-    (step_stays name own after s there session command rests opening one.0 terms set other (was one.0 terms set s command opening own after (drill_of command) session one.1)).same
+returns-clause-others c = λ terms at set s session command opening own after name there other rests step. (all_stay terms at set s session opening own after command name there other rests step).same
 
 pub returns-clause-drills : goal.returns-clause-drills
-returns-clause-drills c = λ terms at set s session command opening own after is step. drills_leave (drill_of command) terms set s session (JudgedBeside terms.rule command) opening own after is step
+returns-clause-drills c = λ terms at set s session command opening own after is step. all_drills terms at set s session opening own after command is step
 
 pub returns-clause-stops : goal.returns-clause-stops
-returns-clause-stops c = λ terms at set s session command opening own after reply step is.
-    let one = by_one (drill_of command) terms set s session command opening own after step in
-    step_stops own after reply is (drill_of command) one.0 terms set s session command opening (was one.0 terms set s command opening own after (drill_of command) session one.1)
+returns-clause-stops c = λ terms at set s session command opening own after reply step is. all_stop terms at set s session opening own after command reply is step

@@ -1,34 +1,29 @@
-use Rattle.std.proofs.Common.{Ok}
+use Rattle.std.proofs.Common.{Ok, ◌≤◌, ⊎_elim, ap, length, subst, sym}
+use Rattle.lab_base.specs.Lists.{AllDiffer}
 use Rattle.script_text.specs.Drills.{drill_of}
 use Rattle.lab_core.specs.Judge.{BeginOnly, Turn, Finish}
-use Rattle.lab_core.specs.Sessions.{Open}
+use Rattle.lab_core.specs.Sessions.{Open, names_of, open_at}
 use Rattle.lab_core.proofs.OtherWorlds.{others_spared}
-use Rattle.lab_core.proofs.OpenLaws.{leaves, names_differ, one_begun, others_as_they_were, they_are_few}
-use Rattle.lab_core.proofs.OpenMoves.{step_moves}
-use Rattle.lab_core.proofs.StepLaws.{by_one, was}
+use Rattle.lab_core.proofs.ListSteps.{all_leave, all_move}
+use Rattle.lab_core.proofs.OpenLaws.{names_differ, one_begun, others_as_they_were, they_are_few}
+use Rattle.lab_core.proofs.StepLaws.{was}
 use Rattle.lab_core.proofs.TurnLaws.{finish_tells, one_turn, turn_at_most_one, turn_tells}
 use Rattle.lab_core.proofs.laws.open_swaps.Goals as goal
 
 pub returns-clause-others : goal.returns-clause-others
 returns-clause-others c = λ terms at set s opens to command opening own after name other step is.
-    let one = by_one (drill_of command) terms set s (Open opens) command opening own after step in
-    others_as_they_were set (Open opens) command one.0 to name other
-    (leaves (drill_of command) one.0 terms set s (Open opens) command opening own after to is (was one.0 terms set s command opening own after (drill_of command) (Open opens) one.1))
+    ⊎_elim (λ same. ap (open_at name) same) (λ one. others_as_they_were set (Open opens) command one.0 to name other one.1) (all_leave terms at set s (Open opens) opening own after command to is step)
 
 pub returns-clause-differ : goal.returns-clause-differ
 returns-clause-differ c = λ terms at set s session to command opening own after differ step is.
-    let one = by_one (drill_of command) terms set s session command opening own after step in
-    names_differ set session command one.0 to differ (leaves (drill_of command) one.0 terms set s session command opening own after to is (was one.0 terms set s command opening own after (drill_of command) session one.1))
+    ⊎_elim (λ same. subst (λ l. AllDiffer (names_of l)) (sym same) differ) (λ one. names_differ set session command one.0 to differ one.1) (all_leave terms at set s session opening own after command to is step)
 
 pub returns-clause-few : goal.returns-clause-few
 returns-clause-few c = λ terms at set s session to command opening own after few step is.
-    let one = by_one (drill_of command) terms set s session command opening own after step in
-    they_are_few set session command one.0 to few (leaves (drill_of command) one.0 terms set s session command opening own after to is (was one.0 terms set s command opening own after (drill_of command) session one.1))
+    ⊎_elim (λ same. subst (λ l. length l ≤ 16) (sym same) few) (λ one. they_are_few set session command one.0 to few one.1) (all_leave terms at set s session opening own after command to is step)
 
 pub returns-clause-moves : goal.returns-clause-moves
-returns-clause-moves c = λ terms at set s session to command opening own after sane differ all step is.
-    let one = by_one (drill_of command) terms set s session command opening own after step in
-    step_moves (drill_of command) one.0 terms set s session command opening own after to is sane.none differ all (was one.0 terms set s command opening own after (drill_of command) session one.1)
+returns-clause-moves c = λ terms at set s session to command opening own after sane differ all step is. all_move terms at set s session opening own after command to is sane.none differ all step
 
 pub returns-clause-begun : goal.returns-clause-begun
 returns-clause-begun c = λ terms set s session command opening own after exp name way step is.

@@ -16,13 +16,14 @@ use Rattle.lab_core.specs.Swapping.{IsPlanned}
 use Rattle.lab_core.proofs.Obey.{wanted}
 use Rattle.lab_core.proofs.PerformAppend.{full, stands_of}
 use Rattle.lab_core.proofs.RunSwap.{is_opened, no_space_for, not_opened, nothing_as, planned}
+use Rattle.lab_core.proofs.SwapReplies.{unopened_told}
 use Rattle.lab_core.proofs.perform.begin.Goals as goal
 
-pub returns-in_default : goal.returns-in_default
-returns-in_default g c = rw c.prepare_swap.ensures.unchanged (λ opens devices within works only. wanted devices _ _ (control c.args.lab.now.state c.args.journal.now c.args.swaps.now) opens (Some c.args.exp) works)
+pub returns-in_default-clause-begun : goal.returns-in_default-clause-begun
+returns-in_default-clause-begun g c = rw c.prepare_swap.ensures.unchanged (λ opens devices within works only. wanted devices _ _ (control c.args.lab.now.state c.args.journal.now c.args.swaps.now) opens (Some c.args.exp) works)
 
-pub returns-then-not-has_space : goal.returns-then-not-has_space
-returns-then-not-has_space g c =
+pub returns-then-not-has_space-clause-begun : goal.returns-then-not-has_space-clause-begun
+returns-then-not-has_space-clause-begun g c =
     let old : Control = control c.args.lab.now.state c.args.journal.now c.args.swaps.now in
     rw c.prepare_swap.ensures.unchanged
     (λ opens devices within works only. full devices _ old opens (Some c.args.exp) (begun_as only (Swap c.args.exp c.args.way)) (Begin c.args.exp c.args.way) c.in-Ok.ready.planned.begin c.length.result works
@@ -51,8 +52,8 @@ pub reply_of_unopened-requires : goal.reply_of_unopened-requires
 reply_of_unopened-requires g c = c.in-Err.ensures.tried
 
 -- the swap is planned, with space
-pub returns-in-Ok-open_swap : goal.returns-in-Ok-open_swap
-returns-in-Ok-open_swap g c = λ opens devices within works.
+pub returns-in-Ok-open_swap-clause-begun : goal.returns-in-Ok-open_swap-clause-begun
+returns-in-Ok-open_swap-clause-begun g c = λ opens devices within works.
     let s = c.args.lab.now.state in
     let j = c.args.journal.now in
     let old : Control = control s j c.args.swaps.now in
@@ -72,8 +73,8 @@ returns-in-Ok-open_swap g c = λ opens devices within works.
     (sym (ap (λ (n : ℕ). nat_le (length_of j + n + 10240) (limit_of j)) (body_size ready.planned.begin begin e.body)) ∙ space)
     (subst (λ (x : LabState). HasOpened the_texts works.pairs by.swap s x begin by.move (g.P.Plant.seen c.args.plant.now) (g.P.Plant.seen c.open_swap.new.plant) j new.journal new.swaps) (sym lab) opened) (λ stopped. c.in-Ok-open_swap.ensures.stopped.1 stopped)
 
-pub returns-in-Err : goal.returns-in-Err
-returns-in-Err g c = λ opens devices within works.
+pub returns-in-Err-clause-begun : goal.returns-in-Err-clause-begun
+returns-in-Err-clause-begun g c = λ opens devices within works.
     let s = c.args.lab.now.state in
     let j = c.args.journal.now in
     let old : Control = control s j c.args.swaps.now in
@@ -94,3 +95,6 @@ returns-in-Err g c = λ opens devices within works.
     rw c.reply_of_unopened.ensures
     (not_opened devices _ _ old new opens c.args.exp c.args.way c.args.ops.commands c.args.ops.undo by works within (sym (ap (λ (n : ℕ). nat_le (length_of j + n + 10240) (limit_of j)) (body_size ready.planned.begin begin e.body)) ∙ space)
     (after s ready.prepared) fault c.in-Err.ensures.tried unopened still c.in-Err.ensures.stopped c.in-Err.ensures.limit)
+
+pub returns-in-Err-clause-told : goal.returns-in-Err-clause-told
+returns-in-Err-clause-told g c = rw c.reply_of_unopened.ensures (unopened_told c.args.exp c.in-Err.fault)

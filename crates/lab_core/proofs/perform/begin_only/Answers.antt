@@ -7,11 +7,11 @@ use Rattle.lab_core.proofs.perform.begin_only.Goals as goal
 pub returns-in_err-begin : goal.returns-in_err-begin
 returns-in_err-begin g c =
     let p = err_from_is_err_and c.from_residual.result c.from_residual.ensures.1 in
-    rw (p.1, p.2) (λ opens devices within works. c.in_err-begin.ensures opens devices within works true)
+    rw (p.1, p.2) (λ opens devices within works. c.in_err-begin.ensures.begun opens devices within works true)
 
 pub returns-in-None : goal.returns-in-None
 returns-in-None g c = λ opens devices within works.
-    only_begun devices _ _ (control c.args.lab.now.state c.args.journal.now c.args.swaps.now) (control c.begin.new.lab.state c.begin.new.journal c.begin.new.swaps) opens c.args.exp c.args.way ((rw c.in-None.is at c.in_ok-begin.ensures) opens devices within works)
+    only_begun devices _ _ (control c.args.lab.now.state c.args.journal.now c.args.swaps.now) (control c.begin.new.lab.state c.begin.new.journal c.begin.new.swaps) opens c.args.exp c.args.way ((rw c.in-None.is at c.in_ok-begin.ensures.begun) opens devices within works)
 
 pub returns-in-Some : goal.returns-in-Some
-returns-in-Some g c = λ opens devices within works. (rw c.in-Some.is at c.in_ok-begin.ensures) opens devices within works true
+returns-in-Some g c = λ opens devices within works. (rw c.in-Some.is at c.in_ok-begin.ensures.begun) opens devices within works true

@@ -4,34 +4,44 @@ use Rattle.lab_base.proofs.Members.{Has-right}
 use Rattle.lab_core.specs.Controller.{Control, control}
 use Rattle.lab_core.specs.LabSteps.{begun_at}
 use Rattle.lab_core.proofs.RunSwap.{has_open, whole_swap}
+use Rattle.lab_core.proofs.SwapReplies.{over_told}
 use Rattle.lab_core.proofs.perform.swap.Goals as goal
 
-pub returns-in_err-begin : goal.returns-in_err-begin
-returns-in_err-begin g c =
+pub returns-in_err-begin-clause-obeyed : goal.returns-in_err-begin-clause-obeyed
+returns-in_err-begin-clause-obeyed g c =
     let p = err_from_is_err_and c.from_residual.result c.from_residual.ensures.1 in
-    rw (p.1, p.2) (λ opens devices within works. c.in_err-begin.ensures opens devices within works false)
+    rw (p.1, p.2) (λ opens devices within works. c.in_err-begin.ensures.begun opens devices within works false)
 
 pub finish_swap-progress-requires-clause-managed : goal.finish_swap-progress-requires-clause-managed
 finish_swap-progress-requires-clause-managed g c =
-    let h = (rw c.in-None.is at c.in_ok-begin.ensures) c.requires.works.0 (g.P.Plant.seen c.args.plant.now).faults.devices (omega arith) c.requires.works.1 in
+    let h = (rw c.in-None.is at c.in_ok-begin.ensures.begun) c.requires.works.0 (g.P.Plant.seen c.args.plant.now).faults.devices (omega arith) c.requires.works.1 in
     record { opens = h.works.pairs; working = h.works.working; holds = h.works.holds }
 
 pub finish_swap-progress-requires-clause-is_open : goal.finish_swap-progress-requires-clause-is_open
 finish_swap-progress-requires-clause-is_open g c =
     let opens = c.requires.works.0 in
-    let h = (rw c.in-None.is at c.in_ok-begin.ensures) opens (g.P.Plant.seen c.args.plant.now).faults.devices (omega arith) c.requires.works.1 in
+    let h = (rw c.in-None.is at c.in_ok-begin.ensures.begun) opens (g.P.Plant.seen c.args.plant.now).faults.devices (omega arith) c.requires.works.1 in
     let last = begun_at h.swap (g.P.Plant.seen c.args.plant.now).faults.devices in
     has_open (g.P.Plant.seen c.begin.new.plant) (control c.begin.new.lab.state c.begin.new.journal c.begin.new.swaps) (opens ++ last ∷ []) c.args.exp h.works last (Has-right opens (last ∷ []) last (inl refl)) h.name
 
-pub returns-in-None : goal.returns-in-None
-returns-in-None g c = λ opens devices within works.
+pub returns-in-None-clause-obeyed : goal.returns-in-None-clause-obeyed
+returns-in-None-clause-obeyed g c = λ opens devices within works.
     let old : Control = control c.args.lab.now.state c.args.journal.now c.args.swaps.now in
     let between : Control = control c.begin.new.lab.state c.begin.new.journal c.begin.new.swaps in
     let new : Control = control c.finish_swap-progress.new.lab.state c.finish_swap-progress.new.journal c.finish_swap-progress.new.swaps in
-    let h = (rw c.in-None.is at c.in_ok-begin.ensures) opens devices within works in
+    let h = (rw c.in-None.is at c.in_ok-begin.ensures.begun) opens devices within works in
     let e = c.finish_swap-progress.ensures in
     rw c.reply_of_progress.ensures
     (whole_swap devices _ _ _ old between new opens c.args.exp c.args.way works c.requires.ready.0 h c.finish_swap-progress.result (e.ended h.works.pairs h.works.working h.works.holds) e.limit e.stopped)
 
-pub returns-in-Some : goal.returns-in-Some
-returns-in-Some g c = λ opens devices within works. (rw c.in-Some.is at c.in_ok-begin.ensures) opens devices within works false
+pub returns-in-Some-clause-obeyed : goal.returns-in-Some-clause-obeyed
+returns-in-Some-clause-obeyed g c = λ opens devices within works. (rw c.in-Some.is at c.in_ok-begin.ensures.begun) opens devices within works false
+
+pub returns-in-None-clause-told : goal.returns-in-None-clause-told
+returns-in-None-clause-told g c =
+    let h = (rw c.in-None.is at c.in_ok-begin.ensures.begun) c.requires.works.0 (g.P.Plant.seen c.args.plant.now).faults.devices (omega arith) c.requires.works.1 in
+    let e = c.finish_swap-progress.ensures.ended h.works.pairs h.works.working h.works.holds in
+    rw c.reply_of_progress.ensures (over_told c.args.exp e.end.finished.at c.finish_swap-progress.result e.end.finished.outcome e.end.finished.over e.end.finished.is_told)
+
+pub returns-in-Some-clause-told : goal.returns-in-Some-clause-told
+returns-in-Some-clause-told g c = rw c.in-Some.is at c.in_ok-begin.ensures.told

@@ -1,0 +1,289 @@
+-- A list of commands, one after another.
+use Rattle.std.proofs.Common.{◌≡◌, ◌⊎◌, inl, inr, ◌≤◌, ◌+◌, ◌↔◌, ℕ, IfOk, Bool, true, false, not, List, [], ◌∷◌, ◌++◌, Option, Some, None, IfSome, IsTrue, IsErrOf, Result, Ok, Err, refl, sym, ap, ◌∙◌, subst, arith, append_assoc}
+use Rattle.std.proofs.lemmas.List.{append-nil}
+use Rattle.std.proofs.lemmas.Option.{same_Some}
+use Rattle.lab_base.specs.Counts.{Rose}
+use Rattle.plant.specs.Disks.{ArePossible}
+use Rattle.plant.specs.Events.{Event, Restarted}
+use Rattle.plant.specs.Seen.{Seen}
+use Rattle.plant.specs.Told.{Told, with_steps}
+use Rattle.records_model.specs.Labs.{LabState}
+use Rattle.records_model.specs.Works.{IsSound}
+use Rattle.lab_state.specs.Texts.{the_texts}
+use Rattle.journal_disk.specs.Standing.{length_of, limit_of, side_of}
+use Rattle.journal_disk.proofs.Chains.{nothing_yet}
+use Rattle.journal_runs.proofs.Images.{reads_on}
+use Rattle.swap_turns.specs.Running.{Stands}
+use Rattle.swap_turns.proofs.Telling.{if_some, if_both, if_back, told_twice}
+use Rattle.script_text.specs.Replies.{blames_device, closes}
+use Rattle.script_text.specs.declared.reply.Reply.{Reply}
+use Rattle.script_text.specs.declared.reply.Reply.TheVariants as replies
+use Rattle.lab_core.specs.declared.fault.CoreFault.{CoreFault}
+use Rattle.lab_core.specs.declared.fault.CoreFault.TheVariants as faults
+use Rattle.lab_core.specs.Controller.{Control, WorksWith}
+use Rattle.lab_core.specs.Judge.{Task, Recover}
+use Rattle.lab_core.specs.LabSteps.{IsDoneBy}
+use Rattle.lab_core.specs.Moments.{IsLengthAt, StandForLab}
+use Rattle.lab_core.specs.Obey.{AnswersBy, EndsBy, Obeys, Shuts, StepsBy, Start, start_of, IsDone, Leaves, Answers, ObeySteps, Obeyed, WantsIn, reply_of, stays_at_work, undone, between as recovering}
+use Rattle.lab_core.specs.Sessions.{OpenSwap, Closed, After, Setting, AreOpenedBy, WereOpen, blames_now, counted_from, open_by, shut_by}
+use Rattle.lab_core.specs.Lists.{DoesNext, Ground, Listing, Lists, Past, broken, last_reply, more, none, over, set_at}
+use Rattle.lab_core.specs.Coming.{AllDone, AllWants, HasComeTo, Origin, TellsAll, ground_of}
+
+if_all : {X : Type 0} (o : Option X) (P : X → Type 0) → ((x : X) → P x) → IfSome o P
+if_all None P each = tt
+if_all (Some x) P each = each x
+
+-- THE LENGTH as the sides read, of a controller that stands
+standing_length : (trace : List Event) (c : Control) → Stands the_texts trace c.journal c.lab → IsLengthAt trace (length_of c.journal)
+standing_length trace c s =
+    let on = reads_on trace (side_of c.journal) s.records s.at.opened in
+    record { records = s.records; read = on.reads; is = sym (on.size ∙ ap (λ n. n + 1) (sym s.at.gate)) }
+
+pub works_length : (now : Seen) (c : Control) (opens : List OpenSwap) → WorksWith now c opens → IfSome now.told (λ w. IsLengthAt w.trace (length_of c.journal))
+works_length now c opens works = if_some now.told (λ w. Stands the_texts w.trace c.journal c.lab) (λ w. IsLengthAt w.trace (length_of c.journal)) (λ w s. standing_length w.trace c s) works.working.work.stands
+
+-- a count that rose
+rose_on : (a b c : ℕ) → Rose a b → b ≤ c → Rose a c
+rose_on a b c rose le = omega (arith, rose, le)
+
+rose_from : (a b c : ℕ) → a ≤ b → Rose b c → Rose a c
+rose_from a b c le rose = omega (arith, le, rose)
+
+-- swaps that were open before the last command, and before the list
+opened_on : (old mid new : List OpenSwap) → WereOpen old mid → WereOpen mid new → WereOpen old new
+opened_on old mid new first second o has = let q = second o has in let x = first q.0 q.1 in (x.0, x.1, x.2 ∙ q.2, x.3 ∙ q.3)
+
+-- a reply that tells of no swap that has begun
+none_opened : (named : Option (List ℕ)) (reply : Option Reply) (old new : List OpenSwap) (count : ℕ) → ((name : List ℕ) → reply ≡ Some (replies.More name) → ⊥) → AreOpenedBy named reply old new count → WereOpen old new
+none_opened named reply old new count plain opened o has = elim (opened o has) [ inl begun ↦ absurd (plain _ begun.1) | inr was ↦ was ]
+
+were_opened : (exp : Option (List ℕ)) (reply : Option Reply) (old new : List OpenSwap) (count : ℕ) → WereOpen old new → AreOpenedBy exp reply old new count
+were_opened exp reply old new count were o has = inr (were o has)
+
+-- a list, from where it began
+module _ {X : Type 0} (l : Listing X) (o : Origin X) (exp : Option (List ℕ)) where
+  abbrev Came : Told → List Event → X → LabState → List OpenSwap → Type 0
+  Came t own at lab to = Past l (ground_of o) t.trace o.start o.old.lab o.opens own at lab to
+
+  abbrev Sound : Told → List Event → Type 0
+  Sound t own = IsSound the_texts t.trace → IsSound the_texts (t.trace ++ own)
+
+  -- NOTHING WAS DONE YET
+  pub begins : WorksWith o.before o.old o.opens → blames_device (l.whole o.start) ≡ false → blames_now (l.whole o.start) ≡ false → HasComeTo l o exp o.before o.old o.start
+  begins works mild calm = record {
+    to = o.opens;
+    own = [];
+    told = nothing_yet o.before.told;
+    past = if_all o.before.told _ (λ t. none);
+    sound = if_all o.before.told _ (λ t sound. subst (λ trace. IsSound the_texts trace) (sym (append-nil t.trace)) sound);
+    works = works;
+    limit = refl;
+    opened = λ swap has. (swap, has, refl, refl);
+    device = λ blames. let both : true ≡ false = sym blames ∙ mild in absurd (cc both);
+    here = λ blames. let both : true ≡ false = sym blames ∙ calm in absurd (cc both);
+    disk = omega arith;
+    devices = omega arith;
+    runs = λ runs. runs;
+  }
+
+  -- IT IS OVER
+  pub finished : (now : Seen) (new : Control) (at : X) → HasComeTo l o exp now new at → l.is_over at ≡ true → closes (l.whole at) ≡ false → Obeys (AllDone l o) (AllWants l o) o.devices o.before now o.old new o.opens exp (Ok (l.whole at))
+  finished now new at h over_here goes = record {
+    to = h.to;
+    obeys = (
+      h.own,
+      h.told,
+      if_both o.before.told (λ t. Came t h.own at new.lab h.to) (λ t. Sound t h.own) (λ t. StepsBy (AllDone l o) (AllWants l o) t.trace h.own new.lab h.to (Ok (l.whole at)))
+          (λ t past sound. record { ends = subst (λ b. AnswersBy (AllDone l o) t.trace h.own (l.whole at) new.lab h.to b) (sym goes) (over at new.lab h.to past over_here refl); sound = sound }) h.past h.sound,
+    );
+    works = λ _. h.works;
+    limit = h.limit;
+    opened = were_opened exp (Some (l.whole at)) o.opens h.to o.devices h.opened;
+    down = λ shuts. let both : true ≡ false = sym shuts ∙ goes in absurd (cc both);
+    device = h.device;
+    here = h.here;
+    later = h.disk;
+    still = h.devices;
+    stopped = λ ran. (λ is. let none' : Ok (l.whole at) ≡ Err faults.Stopped = is in absurd (cc none'), λ stop. let both : true ≡ false = sym stop ∙ h.runs ran in absurd (cc both));
+  }
+
+  -- MEMORY IS WANTING between two
+  pub wants : (now : Seen) (new : Control) (at : X) → HasComeTo l o exp now new at → Obeys (AllDone l o) (AllWants l o) o.devices o.before now o.old new o.opens exp (Err faults.Memory)
+  wants now new at h = record {
+    to = h.to;
+    obeys = (
+      h.own,
+      h.told,
+      if_both o.before.told (λ t. Came t h.own at new.lab h.to) (λ t. Sound t h.own) (λ t. StepsBy (AllDone l o) (AllWants l o) t.trace h.own new.lab h.to (Err faults.Memory)) (λ t past sound. record { ends = (at, past); sound = sound }) h.past h.sound,
+    );
+    works = λ _. h.works;
+    limit = h.limit;
+    opened = were_opened exp None o.opens h.to o.devices h.opened;
+    down = tt;
+    device = tt;
+    here = tt;
+    later = h.disk;
+    still = h.devices;
+    stopped = λ ran. (λ is. absurd (cc is), λ stop. let both : true ≡ false = sym stop ∙ h.runs ran in absurd (cc both));
+  }
+
+  -- ONE COMMAND MORE, judged where it came to
+  module _ (now : Seen) (new : Control) (at : X) (h : HasComeTo l o exp now new at) (going : l.is_over at ≡ false) (then' : Seen) (newer : Control) (named : Option (List ℕ)) where
+    abbrev J : Result Task Reply → Type 0
+    J = l.Judges at (start_of o.devices new h.to).set new.lab h.to
+
+    abbrev Sub : Result Reply CoreFault → Type 0
+    Sub result = Obeyed o.devices now then' J new newer h.to named result
+
+    abbrev start : Start
+    start = start_of o.devices new h.to
+
+    abbrev Length : Told → Type 0
+    Length t = IsLengthAt (t.trace ++ h.own) (length_of new.journal)
+
+    length_there : IfSome o.before.told Length
+    length_there = if_back o.before.told now.told h.own (λ trace. IsLengthAt trace (length_of new.journal)) h.told (works_length now new h.to h.works)
+
+    next : (t : Told) → Length t → (steps : List Event) (after : After) → IsDoneBy J start.set new.lab h.to steps after → DoesNext l (ground_of o) t.trace h.own at new.lab h.to steps after
+    next t length steps after done = record {
+      more = going;
+      length = length_of new.journal;
+      length_is = length;
+      done = subst (λ (n : ℕ). let set : Setting = record { length = length_of new.journal; limit = n; devices = o.devices } in IsDoneBy (l.Judges at set new.lab h.to) set new.lab h.to steps after) h.limit done;
+    }
+
+    module _ (result : Result Reply CoreFault) (b : Sub result) where
+      abbrev own : List Event
+      own = h.own ++ b.obeys.0
+
+      told_on : then'.told ≡ with_steps o.before.told own
+      told_on = b.obeys.1 ∙ ap (λ told. with_steps told b.obeys.0) h.told ∙ told_twice o.before.told h.own b.obeys.0
+
+      -- what is said of the next, over the trace before the list
+      abbrev Ends : Told → Type 0
+      Ends t = ObeySteps (t.trace ++ h.own) J start b.obeys.0 newer.lab b.to result
+
+      ends_there : IfSome o.before.told Ends
+      ends_there = if_back o.before.told now.told h.own (λ trace. ObeySteps trace J start b.obeys.0 newer.lab b.to result) h.told b.obeys.2
+
+      -- all of them together
+      each : (Q : Told → Type 0) → ((t : Told) → Came t h.own at new.lab h.to → Sound t h.own → Length t → Ends t → Q t) → IfSome o.before.told Q
+      each Q f =
+          if_both o.before.told (λ t. Came t h.own at new.lab h.to × Sound t h.own) (λ t. Length t × Ends t) Q (λ t first second. f t first.0 first.1 second.0 second.1)
+          (if_both o.before.told (λ t. Came t h.own at new.lab h.to) (λ t. Sound t h.own) (λ t. Came t h.own at new.lab h.to × Sound t h.own) (λ t past sound. (past, sound)) h.past h.sound)
+          (if_both o.before.told Length Ends (λ t. Length t × Ends t) (λ t length ends. (length, ends)) length_there ends_there)
+
+      sound_on : IfSome o.before.told (λ t. Sound t own)
+      sound_on = if_both o.before.told (λ t. Sound t h.own) Ends (λ t. Sound t own) (λ t sound ends first. subst (λ trace. IsSound the_texts trace) (append_assoc t.trace h.own b.obeys.0) (ends.sound (sound first))) h.sound ends_there
+
+      limit_on : limit_of newer.journal ≡ limit_of o.old.journal
+      limit_on = b.limit ∙ h.limit
+
+      opened_now : ((name : List ℕ) → reply_of result ≡ Some (replies.More name) → ⊥) → WereOpen o.opens b.to
+      opened_now plain = opened_on o.opens h.to b.to h.opened (none_opened named (reply_of result) h.to b.to o.devices plain b.opened)
+
+      -- the whole, by how it ends over each trace
+      leaves_all : (answer : Result Reply CoreFault) → ((name : List ℕ) → reply_of result ≡ Some (replies.More name) → ⊥) → ((t : Told) → Came t h.own at new.lab h.to → Sound t h.own → Length t → Ends t → EndsBy (AllDone l o) (AllWants l o) t.trace own newer.lab b.to answer) → (stays_at_work answer ≡ true → WorksWith then' newer b.to)
+          → IfOk answer (λ reply. closes reply ≡ true → Rose o.before.faults.disk then'.faults.disk) → IfOk answer (λ reply. blames_device reply ≡ true → Rose (counted_from o.opens exp o.devices) then'.faults.devices)
+          → IfOk answer (λ reply. blames_now reply ≡ true → Rose o.before.faults.devices then'.faults.devices) → (o.before.stopped ≡ false → IsErrOf answer faults.Stopped ↔ IsTrue then'.stopped) → Obeys (AllDone l o) (AllWants l o) o.devices o.before then' o.old newer o.opens exp answer
+      leaves_all answer plain ends works down device here stops = record {
+        to = b.to;
+        obeys = (
+          own,
+          told_on,
+          if_both o.before.told (λ t. EndsBy (AllDone l o) (AllWants l o) t.trace own newer.lab b.to answer) (λ t. Sound t own) (λ t. StepsBy (AllDone l o) (AllWants l o) t.trace own newer.lab b.to answer) (λ t e s. record { ends = e; sound = s })
+              (each (λ t. EndsBy (AllDone l o) (AllWants l o) t.trace own newer.lab b.to answer) ends) sound_on,
+        );
+        works = works;
+        limit = limit_on;
+        opened = were_opened exp (reply_of answer) o.opens b.to o.devices (opened_now plain);
+        down = down;
+        device = device;
+        here = here;
+        later = omega (arith, h.disk, b.later);
+        still = omega (arith, h.devices, b.still);
+        stopped = stops;
+      }
+
+      -- it is closed by this one
+      shuts_all : (t : Told) → Came t h.own at new.lab h.to → Sound t h.own → Length t → (reply : Reply) (behind : List ℕ → List ℕ → List Event) (answer : Reply) → last_reply l at (Some reply) ≡ Some answer
+          → Leaves (t.trace ++ h.own) J start b.obeys.0 reply behind → Shuts (AllDone l o) t.trace own answer behind
+      shuts_all t past sound length reply behind answer is leaves = record {
+        lab = leaves.lab;
+        done = λ a c. whole leaves.lab a c (leaves.done a c);
+        images = λ first a c possible.
+            let i = leaves.images (sound first) a c (subst (λ trace. ArePossible trace a c) (sym (append_assoc t.trace h.own b.obeys.0)) possible) in
+            (i.0, i.1, whole i.0 a c i.2);
+      }
+        where
+          whole : (lab : LabState) (a c : List ℕ) → IsDone J start (b.obeys.0 ++ behind a c) (Some reply) lab Closed → (AllDone l o) t.trace (own ++ behind a c) (shut_by (Some answer) lab)
+          whole lab a c done =
+              broken h.own (b.obeys.0 ++ behind a c) at new.lab h.to (Some reply) lab (append_assoc h.own b.obeys.0 (behind a c)) past (next t length (b.obeys.0 ++ behind a c) (shut_by (Some reply) lab) done)
+              (ap (λ r. shut_by r lab) (sym is))
+
+    -- THE PLANT RUNS ON behind a reply
+    runs_on : (reply : Reply) → (now.stopped ≡ false → IsErrOf (Ok reply) faults.Stopped ↔ IsTrue then'.stopped) → now.stopped ≡ false → then'.stopped ≡ false
+    runs_on reply stops ran = by then'.stopped (stops ran)
+      where
+        by : (stopped : Bool) → IsErrOf (Ok reply) faults.Stopped ↔ IsTrue stopped → stopped ≡ false
+        by false is = refl
+        by true is = let none' : Ok reply ≡ Err faults.Stopped = is.1 refl in absurd (cc none')
+
+    -- IT IS ANSWERED, and the controller goes on
+    pub comes_on : TellsAll l → (reply : Reply) → closes reply ≡ false → ((name : List ℕ) → reply ≡ replies.More name → ⊥) → (b : Sub (Ok reply)) → (blames_device reply ≡ true → Rose (counted_from o.opens exp o.devices) then'.faults.devices)
+        → (blames_device reply ≡ true → Rose now.faults.devices then'.faults.devices) → HasComeTo l o exp then' newer (l.behind at reply)
+    comes_on tells reply goes plain b blames blames_here = record {
+      to = b.to;
+      own = own (Ok reply) b;
+      told = told_on (Ok reply) b;
+      past = each (Ok reply) b (λ t. Came t (own (Ok reply) b) (l.behind at reply) newer.lab b.to)
+          (λ t past sound length ends. more h.own at new.lab h.to past b.obeys.0 reply newer.lab b.to (next t length b.obeys.0 (open_by reply newer.lab b.to) (subst (λ x. Answers (t.trace ++ h.own) J start b.obeys.0 reply newer.lab b.to x) goes ends.ends)));
+      sound = sound_on (Ok reply) b;
+      works = b.works (ap not goes);
+      limit = limit_on (Ok reply) b;
+      opened = opened_now (Ok reply) b (λ name is. plain name (same_Some reply (replies.More name) is));
+      device = λ blaming. elim (tells.blames at reply blaming) [ inl before ↦ rose_on (counted_from o.opens exp o.devices) now.faults.devices then'.faults.devices (h.device before) b.still | inr this ↦ blames this ];
+      here = λ blaming. elim (tells.here at reply blaming) [ inl before ↦ rose_on o.before.faults.devices now.faults.devices then'.faults.devices (h.here before) b.still | inr this ↦ rose_from o.before.faults.devices now.faults.devices then'.faults.devices h.devices (blames_here this) ];
+      disk = omega (arith, h.disk, b.later);
+      devices = omega (arith, h.devices, b.still);
+      runs = λ ran. runs_on reply b.stopped (h.runs ran);
+    }
+
+    -- a reply that closes tells of no swap that has begun, and is no stop
+    shut_is_none : (reply : Reply) → closes reply ≡ true → (name : List ℕ) → reply ≡ replies.More name → ⊥
+    shut_is_none reply shut name is = let both : false ≡ true = sym (ap closes is) ∙ shut in absurd (cc both)
+
+    last_is : (reply : Reply) → closes reply ≡ true → last_reply l at (Some reply) ≡ Some (l.whole (l.behind at reply))
+    last_is replies.Stopped is = absurd (cc is)
+    last_is reply is = refl
+
+    -- IT IS ANSWERED, and that closes the controller
+    pub comes_shut : TellsAll l → (reply : Reply) → closes reply ≡ true → (b : Sub (Ok reply)) → (blames_device reply ≡ true → Rose (counted_from o.opens exp o.devices) then'.faults.devices)
+        → (blames_device reply ≡ true → Rose now.faults.devices then'.faults.devices) → Obeys (AllDone l o) (AllWants l o) o.devices o.before then' o.old newer o.opens exp (Ok (l.whole (l.behind at reply)))
+    comes_shut tells reply shut b blames blames_here =
+        let answer : Reply = l.whole (l.behind at reply) in
+        let shut_too : closes answer ≡ true = tells.shuts at reply shut in
+        leaves_all (Ok reply) b (Ok answer) (λ name is. shut_is_none reply shut name (same_Some reply (replies.More name) is))
+        (λ t past sound length ends. subst (λ x. AnswersBy (AllDone l o) t.trace (own (Ok reply) b) answer newer.lab b.to x) (sym shut_too)
+        (shuts_all (Ok reply) b t past sound length reply (λ a c. []) answer (last_is reply shut) (subst (λ x. Answers (t.trace ++ h.own) J start b.obeys.0 reply newer.lab b.to x) shut ends.ends)))
+        (λ going_on. let both : false ≡ true = sym (ap not shut_too) ∙ going_on in absurd (cc both)) (λ is. rose_from o.before.faults.disk now.faults.disk then'.faults.disk h.disk (b.down shut))
+        (λ blaming. elim (tells.blames at reply blaming) [ inl before ↦ rose_on (counted_from o.opens exp o.devices) now.faults.devices then'.faults.devices (h.device before) b.still | inr this ↦ blames this ])
+        (λ blaming. elim (tells.here at reply blaming) [ inl before ↦ rose_on o.before.faults.devices now.faults.devices then'.faults.devices (h.here before) b.still | inr this ↦ rose_from o.before.faults.devices now.faults.devices then'.faults.devices h.devices (blames_here this) ])
+        (λ ran. (λ is. let none' : Ok answer ≡ Err faults.Stopped = is in absurd (cc none'), λ stop. let both : true ≡ false = sym stop ∙ runs_on reply b.stopped (h.runs ran) in absurd (cc both)))
+
+    -- THE PLANT STOPPED in it
+    pub comes_to_stop : (b : Sub (Err faults.Stopped)) → Obeys (AllDone l o) (AllWants l o) o.devices o.before then' o.old newer o.opens exp (Err faults.Stopped)
+    comes_to_stop b =
+        leaves_all (Err faults.Stopped) b (Err faults.Stopped) (λ name is. absurd (cc is)) (λ t past sound length ends. shuts_all (Err faults.Stopped) b t past sound length replies.Stopped (λ a c. Restarted a c ∷ []) replies.Stopped refl ends.ends)
+        (λ going_on. absurd (cc going_on)) tt tt tt (λ ran. b.stopped (h.runs ran))
+
+    -- MEMORY WAS WANTING in it, which is undone
+    pub comes_to_want : (J (Ok Recover) → ⊥) → (b : Sub (Err faults.Memory)) → Obeys (AllDone l o) (AllWants l o) o.devices o.before then' o.old newer o.opens exp (Err faults.Memory)
+    comes_to_want no_recover b =
+        leaves_all (Err faults.Memory) b (Err faults.Memory) (λ name is. absurd (cc is)) (λ t past sound length ends. (at, stays t past ends.ends)) (λ going_on. b.works going_on) tt tt tt (λ ran. b.stopped (h.runs ran))
+      where
+        stays : (t : Told) → Came t h.own at new.lab h.to → WantsIn J start b.obeys.0 newer.lab b.to → Came t (own (Err faults.Memory) b) at newer.lab b.to
+        stays t past (undone nothing lab_is to_is) =
+            subst (λ (w : List Event × LabState × List OpenSwap). Came t w.0 at w.1 w.2)
+            (let steps : own (Err faults.Memory) b ≡ h.own = ap (λ l. h.own ++ l) nothing ∙ append-nil h.own in let all : (h.own, new.lab, h.to) ≡ (own (Err faults.Memory) b, newer.lab, b.to) = cc (steps, lab_is, to_is) in all) past
+        stays t past (recovering judged first to_is) = absurd (no_recover judged)
