@@ -1,13 +1,12 @@
 //! A command that is cut at each of its steps and calls, by a stop, by a failure of a device, or by one of the disk.
 //! Each cut has to lead to one of some ends.
 use crate::drills::{Drill, FAIL_DISK, STOP_ALL, STOP_NONE, STOP_TORN, drilled};
-use crate::ends::{ends_of, is_at_one, left_by};
-use anyhow::{anyhow, bail};
+use crate::ends::{is_at_one, left_by, script_of};
+use anyhow::bail;
 use std::alloc::Global;
 use std::fmt::Write;
 
-/// A case: the script before a drill, and the script behind it with the command first. It has the end of a run that isn't cut, and the ends to which
-/// a cut may lead.
+/// What comes before a drill and behind it, the command first, what is left where none cuts the command, and the ends that it may lead to.
 #[derive(Drop)]
 struct Case<'a> {
     before: &'a str,
@@ -16,14 +15,42 @@ struct Case<'a> {
     ends: &'a [String],
 }
 
+/// What commands behind a failure do: they recover what is stuck, or are told of it twice before.
+pub const RECOVERS: &str = "recover\n";
+
+pub const TELLS: &str = "status\nstatus\nrecover\n";
+
+/// A command that is cut, and what stands before it.
+#[derive(Drop)]
+pub struct Cut {
+    pub before: String,
+    pub command: String,
+}
+
+/// The command of the last of these files, behind the others.
+pub fn cut_of(rt: &HostRuntime, files: &[&str]) -> anyhow::Result<Cut> {
+    let [others @ .., last] = files else {
+        bail!("no command");
+    };
+    let mut before = String::new(rt.alloc());
+    for file in others {
+        before.push_str(script_of(rt, file)?.as_str())?;
+    }
+    Ok(Cut {
+        before,
+        command: script_of(rt, last)?,
+    })
+}
+
 /// The case of a command, and of these commands behind it.
 fn case_of<'a>(
     alloc: Global,
-    (before, command): (&'a str, &str),
+    cut: &'a Cut,
     then: &str,
     ends: &'a [String],
 ) -> anyhow::Result<Case<'a>> {
-    let behind = format!(in alloc; "{command}{then}status\nshow A\n")?;
+    let before = cut.before.as_str();
+    let behind = format!(in alloc; "{}{then}status\nshow A\n", cut.command)?;
     let script = drilled(alloc, before, STOP_NONE, 1_000_000, behind.as_str())?;
     let whole = left_by(alloc, script.as_str())?;
     Ok(Case {
@@ -34,7 +61,7 @@ fn case_of<'a>(
     })
 }
 
-/// The number of drills, by their numbers from 1 on, that cut the command. Each has to lead to one of the ends.
+/// How many numbers of the drill cut the command, from 1 on, where each leads to one of the ends.
 fn cut_by(alloc: Global, case: &Case<'_>, drill: Drill) -> anyhow::Result<u32> {
     for nth in 1..100u32 {
         let script = drilled(alloc, case.before, drill, nth, case.behind.as_str())?;
@@ -69,7 +96,7 @@ const DEVICES: [&str; 10] = [
 
 const HOWS: [&str; 2] = [" not\n", " applied\n"];
 
-/// The number of failures of devices that cut the command.
+/// How many failures of devices cut the command.
 fn failures(alloc: Global, case: &Case<'_>) -> anyhow::Result<u32> {
     let mut sum = 0u32;
     for before in DEVICES {
@@ -80,21 +107,28 @@ fn failures(alloc: Global, case: &Case<'_>) -> anyhow::Result<u32> {
     Ok(sum)
 }
 
-/// The numbers of drills that cut the command behind a script's mark, each leading to one of the ends.
-/// First come the stops, by each pick. Where `recover` settles stuck experiments, the failures of devices follow, and those of the disk, counted up
-/// to `calls`.
-pub fn cuts(rt: &HostRuntime, script: &str, calls: u32, ends: &[&str]) -> anyhow::Result<String> {
-    let alloc = rt.alloc();
-    let parts = script.split_once("@\n").ok_or_else(|| anyhow!("no mark"))?;
-    let ends = ends_of(rt, ends)?;
-    let stopped = case_of(alloc, parts, "", &ends)?;
+/// How many stops by each pick cut the command. Each of them leads to one of the ends.
+pub fn stops(alloc: Global, cut: &Cut, ends: &[String]) -> anyhow::Result<String> {
+    let case = case_of(alloc, cut, "", ends)?;
     let mut out = String::from_str(alloc, "stops")?;
     for stop in [STOP_NONE, STOP_ALL, STOP_TORN] {
-        write!(out, " {}", cut_by(alloc, &stopped, stop)?)?;
+        write!(out, " {}", cut_by(alloc, &case, stop)?)?;
     }
-    let failed = case_of(alloc, parts, "recover\n", &ends)?;
-    writeln!(out, "\nfailures {}", failures(alloc, &failed)?)?;
-    let count = cut_by(alloc, &failed, FAIL_DISK)?;
-    writeln!(out, "calls {} or more", count.min(calls))?;
+    out.push('\n')?;
     Ok(out)
+}
+
+/// How many failures of devices cut the command, and how many of the disk, counted up to some. Each of them leads to one of the ends,
+/// behind these commands.
+pub fn faults(
+    alloc: Global,
+    cut: &Cut,
+    then: &str,
+    calls: u32,
+    ends: &[String],
+) -> anyhow::Result<String> {
+    let case = case_of(alloc, cut, then, ends)?;
+    let failures = failures(alloc, &case)?;
+    let count = cut_by(alloc, &case, FAIL_DISK)?;
+    Ok(format!(in alloc; "failures {failures}\ncalls {} or more\n", count.min(calls))?)
 }

@@ -17,6 +17,11 @@ pub fn left_by(alloc: Global, script: &str) -> anyhow::Result<String> {
     Ok(left)
 }
 
+/// The script of a file.
+pub fn script_of(rt: &HostRuntime, file: &str) -> anyhow::Result<String> {
+    Ok(fs::read_to_string(rt, format!(in rt.alloc(); "{file}.lab")?)?)
+}
+
 /// The ends of these names.
 pub fn ends_of(rt: &HostRuntime, names: &[&str]) -> anyhow::Result<Vec<String>> {
     let mut ends = Vec::new(rt.alloc());

@@ -6,37 +6,35 @@
 //! devices FILE           the same, with what the devices did, and what they hold then
 //! again FILE             over the plant that the row before left
 //! faulty R W ROOM FILE [WORDS]   the R-th read or the W-th write fails (0: none), and there is room for so many bytes
-//! side SIDE FILE         over a plant whose side A has the bytes of a file
+//! side A [B] FILE        over a plant whose side A has the bytes of a file, and side B those of another
 //! sides                  how long both sides are that the row before left, and what is in them where that is little
+//! like FILE              whether its side A has the bytes of the file, and its side B none
 //! place WORDS            where the words keep the lab
 //! file FILE              what is in the file
 //! remove FOLDER          nothing, and the folder is gone
 //! turns LAST FILE        the steps where the marked lines of the script stand 0, 1, .. LAST times
 //! long COUNT FILE        what is written where they stand so often
 //! numbers LAST DRILL FILE        where the drill of number 1, 2, .. LAST stands at the mark
-//! cuts NAME CALLS END..  how many numbers of each drill cut a command, each leading to one of the ends
+//! cuts CALLS ENDS FILE.. how many numbers of each drill cut the command of the last file, behind the others, each leading to one of the ends
+//! told CALLS ENDS FILE.. the same of failures, where `status` stands twice behind the command, and then `recover`
 //! order LETTERS END [DRILL , ..]         whether swaps that are turned in that order lead to the end
 //! ```
 //!
 //! A blank plant is one in which nothing has happened. Lines are marked by a line `@` before and one behind them, and a place by one.
-use crate::cuts::cuts;
+use crate::cuts::{RECOVERS, TELLS, cut_of, faults, stops};
 use crate::devices::{did, held};
 use crate::drills::drill_named;
+use crate::ends::{ends_of, script_of};
 use crate::folders::{folder_of, place, run_in};
 use crate::numbers::{long, numbers, turns};
 use crate::orders::order;
 use crate::run::{Given, Ran, ending, plainly, run, run_blank};
-use crate::sides::{plant_with, sides};
+use crate::sides::{like, plant_with, sides};
 use anyhow::{anyhow, bail};
 use plant_mem::MemLab;
 use std::alloc::Global;
 use std::fmt::Write;
 use std::fs;
-
-/// The script of a file.
-fn script_of(rt: &HostRuntime, file: &str) -> anyhow::Result<String> {
-    Ok(fs::read_to_string(rt, format!(in rt.alloc(); "{file}.lab")?)?)
-}
 
 /// Runs a script over a blank plant, and keeps that as the last one.
 fn run_kept(alloc: Global, given: Given<'_>, last: &mut Option<MemLab>) -> anyhow::Result<Ran> {
@@ -131,6 +129,37 @@ fn many(
     Ok(told)
 }
 
+/// The names between commas.
+fn names_in<'a>(alloc: Global, words: &'a str) -> anyhow::Result<Vec<&'a str>> {
+    Ok(words.split(',').collect(alloc)?)
+}
+
+/// Cuts the command of the last file by stops and failures, behind which what is stuck is recovered.
+fn cuts(rt: &HostRuntime, calls: u32, ends: &str, files: &[&str]) -> anyhow::Result<String> {
+    let alloc = rt.alloc();
+    let ends = ends_of(rt, &names_in(alloc, ends)?)?;
+    let cut = cut_of(rt, files)?;
+    let mut out = stops(alloc, &cut, &ends)?;
+    out.push_str(faults(alloc, &cut, RECOVERS, calls, &ends)?.as_str())?;
+    Ok(out)
+}
+
+/// Cuts it by failures, of which is told twice before.
+fn told_twice(rt: &HostRuntime, calls: u32, ends: &str, files: &[&str]) -> anyhow::Result<String> {
+    let ends = ends_of(rt, &names_in(rt.alloc(), ends)?)?;
+    faults(rt.alloc(), &cut_of(rt, files)?, TELLS, calls, &ends)
+}
+
+/// A plant whose sides have the bytes of these files: side A those of the first, and side B those of the second, if there is one.
+fn plant_of(rt: &HostRuntime, files: &[&str]) -> anyhow::Result<MemLab> {
+    let none = Vec::new(rt.alloc());
+    match files {
+        [a] => plant_with(rt.alloc(), &fs::read(rt, *a)?, &none),
+        [a, b] => plant_with(rt.alloc(), &fs::read(rt, *a)?, &fs::read(rt, *b)?),
+        _ => bail!("one side, or two"),
+    }
+}
+
 fn remove(rt: &HostRuntime, folder: &str) -> anyhow::Result<String> {
     if fs::exists(rt, folder)? {
         fs::remove_dir_all(rt, folder)?;
@@ -150,13 +179,17 @@ fn told_of_last(
             let plant = last.take().ok_or_else(|| anyhow!("no plant is left"))?;
             Ok(Some(over(rt, file, plant, last)?))
         }
-        ["side", side, file] => {
-            let plant = plant_with(rt.alloc(), &fs::read(rt, *side)?)?;
+        ["side", sides @ .., file] => {
+            let plant = plant_of(rt, sides)?;
             Ok(Some(over(rt, file, plant, last)?))
         }
         ["sides"] => {
             let plant = last.as_mut().ok_or_else(|| anyhow!("no plant is left"))?;
             Ok(Some(sides(rt.alloc(), plant)?))
+        }
+        ["like", file] => {
+            let plant = last.as_mut().ok_or_else(|| anyhow!("no plant is left"))?;
+            Ok(Some(like(rt.alloc(), plant, &fs::read(rt, *file)?)?))
         }
         ["long", count, file] => Ok(Some(many(rt, file, count.parse()?, last)?)),
         _ => Ok(None),
@@ -189,12 +222,8 @@ fn told_alone(rt: &HostRuntime, words: &[&str]) -> anyhow::Result<String> {
                 last.parse()?,
             )
         }
-        ["cuts", file, calls, ends @ ..] => cuts(
-            rt,
-            script_of(rt, file)?.as_str(),
-            calls.parse()?,
-            ends,
-        ),
+        ["cuts", calls, ends, files @ ..] => cuts(rt, calls.parse()?, ends, files),
+        ["told", calls, ends, files @ ..] => told_twice(rt, calls.parse()?, ends, files),
         ["order", letters, end, drills @ ..] => order(rt, letters, end, drills),
         _ => bail!("no such row"),
     }

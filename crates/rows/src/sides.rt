@@ -6,12 +6,21 @@ use plant_mem::MemLab;
 use std::alloc::{AllocError, Global};
 use std::fmt::Write;
 
-/// A plant whose side A has these bytes, and in which nothing else has happened.
-pub fn plant_with(alloc: Global, bytes: &[u8]) -> anyhow::Result<MemLab> {
-    let mut plant = MemLab::blank(alloc).map_err(wanting)?;
+/// Writes bytes at the beginning of a side, if there are any.
+fn fill(plant: &mut MemLab, side: Side, bytes: &[u8]) -> anyhow::Result<()> {
+    if bytes.is_empty() {
+        return Ok(());
+    }
     plant
-        .write(Side::A, 0, bytes)
-        .map_err(|_fault| anyhow!("a write failed"))?;
+        .write(side, 0, bytes)
+        .map_err(|_fault| anyhow!("a write failed"))
+}
+
+/// A plant whose sides have these bytes, and in which nothing else has happened.
+pub fn plant_with(alloc: Global, a: &[u8], b: &[u8]) -> anyhow::Result<MemLab> {
+    let mut plant = MemLab::blank(alloc).map_err(wanting)?;
+    fill(&mut plant, Side::A, a)?;
+    fill(&mut plant, Side::B, b)?;
     Ok(plant)
 }
 
@@ -49,4 +58,16 @@ pub fn sides(alloc: Global, plant: &mut MemLab) -> anyhow::Result<String> {
         }
     }
     Ok(out)
+}
+
+/// Whether side A has these bytes, and side B none.
+pub fn like(alloc: Global, plant: &mut MemLab, bytes: &[u8]) -> anyhow::Result<String> {
+    let a = read_side(alloc, plant, Side::A)?;
+    let b = read_side(alloc, plant, Side::B)?;
+    let word = if a.as_slice() == bytes && b.is_empty() {
+        "alike\n"
+    } else {
+        "not alike\n"
+    };
+    Ok(word.to_string(alloc)?)
 }
