@@ -1,9 +1,9 @@
 -- Lines beside the text that they make up: one is taken out, or one more is put behind them.
-use Rattle.std.proofs.Common.{◌≡◌, ◌≤◌, ◌<◌, ◌+◌, ◌-◌, ◌⊎◌, ℕ, Bool, true, false, not, cond, ◌&&◌, ◌||◌, List, [], ◌∷◌, ◌++◌, length, take, drop, map, get_or, refl, sym, ap, subst, ◌∙◌, arith, append_assoc, length-append, length-drop, length-take-le, drop_at, take_all, Option, Some, None, inl, inr}
+use Rattle.std.proofs.Common.{◌≡◌, ◌≤◌, ◌<◌, ◌+◌, ◌-◌, ◌⊎◌, ℕ, Bool, true, false, not, cond, ◌&&◌, ◌||◌, List, [], ◌∷◌, ◌++◌, length, take, drop, map, get_or, refl, sym, ap, subst, ◌∙◌, arith, append_assoc, length-append, length-take-le, drop_at, Some, None, inl, inr}
 use Rattle.std.specs.Prelude.{remove, filter}
-use Rattle.std.specs.List.{list_all, list_any, find, copy_within}
+use Rattle.std.specs.List.{list_all, list_any, find}
 use Rattle.std.proofs.lemmas.List.{take_more, map-append, append-nil, take-append-drop}
-use Rattle.std.proofs.lemmas.List.Edits.{take-paste, remove-append_right}
+use Rattle.std.proofs.lemmas.List.Edits.{remove-append_right}
 use Rattle.std.proofs.lemmas.List.Elements.{filter-append}
 use Rattle.std.proofs.lemmas.List.Folds.{list_all-append}
 use Rattle.std.proofs.lemmas.Bool.{and_from, and_parts}
@@ -25,10 +25,10 @@ abbrev pub text_of_lines : List Line → List ℕ
 text_of_lines lines = tables_text (entries_of lines)
 
 abbrev pub own_text : Line → List ℕ
-own_text line = line_text (entry_fields line.entry)
+own_text line = line_text (entry_fields line.entry.value)
 
 pub entries_joined : (xs ys : List Line) → entries_of (xs ++ ys) ≡ entries_of xs ++ entries_of ys
-entries_joined xs ys = map-append (λ (line : Line). line.entry) xs ys
+entries_joined xs ys = map-append (λ (line : Line). line.entry.value) xs ys
 
 pub text_joined : (xs ys : List Line) → text_of_lines (xs ++ ys) ≡ text_of_lines xs ++ text_of_lines ys
 text_joined xs ys =
@@ -96,8 +96,8 @@ kept_without front behind here text at kept is_at =
     let size : here.size ≡ length (own_text here) = (kept.each here (Has-right front (here ∷ behind) here (inl refl))).size in
     let front_all : Bool = list_all is_printable (entries_of front) in
     let behind_all : Bool = list_all is_printable (entries_of behind) in
-    let parts = and_parts front_all (is_printable here.entry && behind_all) (sym (ap (list_all is_printable) (entries_joined front (here ∷ behind)) ∙ list_all-append is_printable (entries_of front) (entries_of (here ∷ behind))) ∙ kept.printable) in
-    let later = and_parts (is_printable here.entry) behind_all parts.1 in
+    let parts = and_parts front_all (is_printable here.entry.value && behind_all) (sym (ap (list_all is_printable) (entries_joined front (here ∷ behind)) ∙ list_all-append is_printable (entries_of front) (entries_of (here ∷ behind))) ∙ kept.printable) in
+    let later = and_parts (is_printable here.entry.value) behind_all parts.1 in
     record {
       is = ap (λ (t : List ℕ). take at t ++ drop (at + here.size) t) own ∙ cut_out (text_of_lines front) (own_text here) (text_of_lines behind) at here.size is_at size ∙ sym (text_joined front behind);
       each = λ line has. by line (Has-append front behind line has);
@@ -109,12 +109,12 @@ kept_without front behind here text at kept is_at =
     by line (inr has) = kept.each line (Has-right front (here ∷ behind) line (inr has))
 
 -- one that passes the test is left out of those that don't
-pub without_one : (key : Key) (front behind : List Line) (here : Line) → is_keyed key here.entry ≡ true
+pub without_one : (key : Key) (front behind : List Line) (here : Line) → is_keyed key here.entry.value ≡ true
     → without (is_keyed key) (entries_of (front ++ behind)) ≡ without (is_keyed key) (entries_of (front ++ here ∷ behind))
 without_one key front behind here is =
     let test : Entry → Bool = λ entry. not (is_keyed key entry) in
     let gone : filter test (entries_of (here ∷ behind)) ≡ filter test (entries_of behind) =
-    ap (λ (b : Bool). cond (not b) (here.entry ∷ filter test (entries_of behind)) (filter test (entries_of behind))) is in
+    ap (λ (b : Bool). cond (not b) (here.entry.value ∷ filter test (entries_of behind)) (filter test (entries_of behind))) is in
     ap (filter test) (entries_joined front behind) ∙ filter-append test (entries_of front) (entries_of behind)
     ∙ sym (ap (filter test) (entries_joined front (here ∷ behind)) ∙ filter-append test (entries_of front) (entries_of (here ∷ behind))
     ∙ ap (λ (l : List Entry). filter test (entries_of front) ++ l) gone)
@@ -154,18 +154,18 @@ taken_others key lines spot at =
     ∙ sym (ap (λ (l : List Line). without (is_keyed key) (entries_of l)) at.is)
 
 -- it is the first one that is found
-pub found_at : (key : Key) (lines : List Line) (spot : Spot) (at : IsAt key lines spot) (here : Line) → here ≡ get_or lines spot.line here → Some here.entry ≡ find (is_keyed key) (entries_of lines)
+pub found_at : (key : Key) (lines : List Line) (spot : Spot) (at : IsAt key lines spot) (here : Line) → here ≡ get_or lines spot.line here → Some here.entry.value ≡ find (is_keyed key) (entries_of lines)
 found_at key lines spot at here is =
     let one : here ≡ at.here = stands_at lines at.front at.behind at.here here spot.line at.is at.line is in
-    let parts : entries_of lines ≡ entries_of at.front ++ at.here.entry ∷ entries_of at.behind = ap entries_of at.is ∙ entries_joined at.front (at.here ∷ at.behind) in
-    ap (λ (l : Line). Some l.entry) one ∙ sym (ap (find (is_keyed key)) parts ∙ found_behind (is_keyed key) (entries_of at.front) (entries_of at.behind) at.here.entry at.first at.keyed)
+    let parts : entries_of lines ≡ entries_of at.front ++ at.here.entry.value ∷ entries_of at.behind = ap entries_of at.is ∙ entries_joined at.front (at.here ∷ at.behind) in
+    ap (λ (l : Line). Some l.entry.value) one ∙ sym (ap (find (is_keyed key)) parts ∙ found_behind (is_keyed key) (entries_of at.front) (entries_of at.behind) at.here.entry.value at.first at.keyed)
 
 -- one line more, behind the others
-pub kept_with : (lines : List Line) (here : Line) (text : List ℕ) → AreKept lines text → IsLine here → is_printable here.entry ≡ true → AreKept (lines ++ here ∷ []) (text ++ own_text here)
+pub kept_with : (lines : List Line) (here : Line) (text : List ℕ) → AreKept lines text → IsLine here → is_printable here.entry.value ≡ true → AreKept (lines ++ here ∷ []) (text ++ own_text here)
 kept_with lines here text kept own printable = record {
   is = ap (λ (t : List ℕ). t ++ own_text here) kept.is ∙ ap (λ (t : List ℕ). text_of_lines lines ++ t) (sym (append-nil (own_text here))) ∙ sym (text_joined lines (here ∷ []));
   each = λ line has. by line (Has-append lines (here ∷ []) line has);
-  printable = ap (list_all is_printable) (entries_joined lines (here ∷ [])) ∙ list_all-append is_printable (entries_of lines) (here.entry ∷ []) ∙ and_from (list_all is_printable (entries_of lines)) (is_printable here.entry && true) kept.printable (and_from (is_printable here.entry) true printable refl);
+  printable = ap (list_all is_printable) (entries_joined lines (here ∷ [])) ∙ list_all-append is_printable (entries_of lines) (here.entry.value ∷ []) ∙ and_from (list_all is_printable (entries_of lines)) (is_printable here.entry.value && true) kept.printable (and_from (is_printable here.entry.value) true printable refl);
 }
   where
     by : (line : Line) → Has lines line ⊎ Has (here ∷ []) line → IsLine line
@@ -184,12 +184,12 @@ size_more lines i here lt is own_line =
     sum ∙ ap (λ (k : ℕ). length (text_of_lines (take i lines)) + k) own
 
 -- one line more that doesn't have the key
-pub none_more : (key : Key) (lines : List Line) (i : ℕ) (here : Line) → i < length lines → here ≡ get_or lines i here → is_keyed key here.entry ≡ false
+pub none_more : (key : Key) (lines : List Line) (i : ℕ) (here : Line) → i < length lines → here ≡ get_or lines i here → is_keyed key here.entry.value ≡ false
     → list_any (is_keyed key) (entries_of (take i lines)) ≡ false → list_any (is_keyed key) (entries_of (take (i + 1) lines)) ≡ false
 none_more key lines i here lt is differs so_far =
     let next : take (i + 1) lines ≡ take i lines ++ here ∷ [] = take_more lines i here lt ∙ ap (λ (y : Line). take i lines ++ y ∷ []) (sym is) in
-    let parts : entries_of (take (i + 1) lines) ≡ entries_of (take i lines) ++ here.entry ∷ [] = ap entries_of next ∙ entries_joined (take i lines) (here ∷ []) in
-    ap (list_any (is_keyed key)) parts ∙ none_behind (is_keyed key) (entries_of (take i lines)) here.entry so_far differs
+    let parts : entries_of (take (i + 1) lines) ≡ entries_of (take i lines) ++ here.entry.value ∷ [] = ap entries_of next ∙ entries_joined (take i lines) (here ∷ []) in
+    ap (list_any (is_keyed key)) parts ∙ none_behind (is_keyed key) (entries_of (take i lines)) here.entry.value so_far differs
 
 -- the line at a place, between those before it and those behind it
 pub line_at : (lines : List Line) (i : ℕ) (here : Line) → i < length lines → here ≡ get_or lines i here → lines ≡ take i lines ++ here ∷ drop (i + 1) lines
@@ -218,13 +218,3 @@ rest_behind lines i here rest lt is own so_far =
 pub each_at : (lines : List Line) (text : List ℕ) → AreKept lines text → (i : ℕ) (here : Line) → i < length lines → here ≡ get_or lines i here → IsLine here
 each_at lines text kept i here lt is =
     kept.each here (subst (λ (l : List Line). Has l here) (sym (line_at lines i here lt is)) (Has-right (take i lines) (here ∷ drop (i + 1) lines) here (inl refl)))
-
--- bytes that come after others move over those that are cut
-pub cut_over : (old : List ℕ) (at size : ℕ) → at + size ≤ length old → take (length old - size) (copy_within old (at + size) (length old) at) ≡ take at old ++ drop (at + size) old
-cut_over old at size fits =
-    let left : ℕ = length old - (at + size) in
-    let ends : length old - size ≡ at + left = omega (arith, fits) in
-    let rest : length (drop (at + size) old) ≡ left = length-drop (at + size) old in
-    ap (λ (k : ℕ). take k (copy_within old (at + size) (length old) at)) ends
-    ∙ take-paste old at (drop (at + size) old) left (omega (arith, fits)) (omega (arith, rest))
-    ∙ ap (λ (l : List ℕ). take at old ++ l) (take_all left (drop (at + size) old) (omega (arith, rest)))

@@ -44,9 +44,9 @@ marked (keys.Of name) (Node node state os) is = sym (ap name_mark (same node nam
 marked (keys.Of name) (Pipe node number from to there back) is = sym (ap name_mark (same node name is))
 
 -- a line of another mark has not that key
-pub unmarked : (key : Key) (line : Line) (mark : ℕ) → IsLine line → mark ≡ key_mark key → line.mark ≢ mark → is_keyed key line.entry ≡ false
-unmarked key line mark own is other = by (is_keyed key line.entry) refl
+pub unmarked : (key : Key) (line : Line) (mark : ℕ) → IsLine line → mark ≡ key_mark key → line.mark ≢ mark → is_keyed key line.entry.value ≡ false
+unmarked key line mark own is other = by (is_keyed key line.entry.value) refl
   where
-    by : (b : Bool) → is_keyed key line.entry ≡ b → b ≡ false
+    by : (b : Bool) → is_keyed key line.entry.value ≡ b → b ≡ false
     by false e = refl
-    by true e = absurd (other (own.mark ∙ sym (marked key line.entry e) ∙ sym is))
+    by true e = absurd (other (own.mark ∙ sym (marked key line.entry.value e) ∙ sym is))

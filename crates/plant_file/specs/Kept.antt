@@ -13,12 +13,12 @@ use Rattle.plant_file.specs.Marks.{key_mark, key_of}
 use Rattle.plant_file.specs.Printable.{is_printable}
 
 abbrev pub entries_of : List Line → List Entry
-entries_of lines = map (λ line. line.entry) lines
+entries_of lines = map (λ line. line.entry.value) lines
 
 -- the line's size is that of its text, and its mark that of its key
 pub record IsLine (line : Line) : Type 0 where
-  pub size : line.size ≡ length (line_text (entry_fields line.entry))
-  pub mark : line.mark ≡ key_mark (key_of line.entry)
+  pub size : line.size ≡ length (line_text (entry_fields line.entry.value))
+  pub mark : line.mark ≡ key_mark (key_of line.entry.value)
 
 -- the text is that of the lines
 pub record AreKept (lines : List Line) (text : List ℕ) : Type 0 where
@@ -33,7 +33,7 @@ pub record IsAt (key : Key) (lines : List Line) (spot : Spot) : Type 0 where
   pub behind : List Line
   pub is : lines ≡ front ++ here ∷ behind
   pub first : list_any (is_keyed key) (entries_of front) ≡ false
-  pub keyed : is_keyed key here.entry ≡ true
+  pub keyed : is_keyed key here.entry.value ≡ true
   pub line : spot.line ≡ length front
   pub at : spot.at ≡ length (tables_text (entries_of front))
 

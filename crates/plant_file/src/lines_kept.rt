@@ -1,19 +1,22 @@
 // Lines beside the text that they make up.
-ghost use Rattle.std.specs.Prelude.{◌≡◌, ◌<◌, ◌≤◌, ◌+◌, ◌++◌, ◌∷◌, [], OnOk, OnErr, IsTrue, IsFalse, length, take, drop, vec_len};
+ghost use Rattle.std.specs.Prelude.{◌≡◌, ◌<◌, ◌≤◌, ◌+◌, ◌++◌, ◌∷◌, [], IfOk, OnOk, OnErr, IsTrue, IsFalse, length, take, drop, vec_len};
 ghost use Rattle.std.specs.List.{find};
+ghost use Rattle.line_text.specs.Printing.{line_text};
 ghost use Rattle.plant_file.specs.Entries.{is_keyed, without};
+ghost use Rattle.plant_file.specs.Lines.{entry_fields};
 ghost use Rattle.plant_file.specs.Kept.{entries_of, IsLine, AreKept, IsSpot};
 ghost use Rattle.plant_file.specs.Marks.{key_mark};
 
 use crate::entry::{Entry, Key};
 use crate::print::print_entry;
-use lab_base::Memory;
+use lab_base::{Memory, Text};
 use std::alloc::Global;
 
-/// A line of the tables: what it says, how many bytes it has in the text, and the mark of its key.
-#[derive(Clone, Copy)]
+/// A line of the tables: what it says, how many bytes it has in the text, and the mark of its key. It is small, since a search goes
+/// over all.
+#[derive(Drop)]
 pub struct Line {
-    pub(crate) entry: Entry,
+    pub(crate) entry: Box<Entry>,
     pub(crate) size: usize,
     pub(crate) mark: u64,
 }
@@ -39,7 +42,7 @@ fn cut(text: &mut Vec<u8>, at: usize, size: usize)
 fn has_key(line: &Line, key: &Key, mark: u64) -> bool
     requires line { IsLine line.now }
     requires mark { mark ≡ key_mark key.now }
-    ensures { result ≡ is_keyed key.now line.now.entry }
+    ensures { result ≡ is_keyed key.now line.now.entry.value }
 {
     line.mark == mark && line.entry.is_keyed(key)
 }
@@ -98,6 +101,21 @@ pub(crate) fn take_out(lines: &mut Vec<Line>, text: &mut Vec<u8>, key: &Key)
     while take_one(lines, text, key) {}
 }
 
+/// The line of an entry that has this text.
+fn line_of(alloc: Global, entry: Entry, own: &Text) -> Result<Line, Memory>
+    requires { own.now ≡ line_text (entry_fields entry) }
+    ensures line { IfOk result IsLine }
+    ensures entry { IfOk result (λ line. line.entry.value ≡ entry) }
+{
+    let mark = entry.key().mark();
+    let entry = Box::new(alloc, entry)?;
+    Ok(Line {
+        entry,
+        size: own.len(),
+        mark,
+    })
+}
+
 /// Adds a line at the end.
 pub(crate) fn put_line(
     lines: &mut Vec<Line>,
@@ -111,13 +129,9 @@ pub(crate) fn put_line(
     ensures err { OnErr result (entries_of lines.new.items ≡ entries_of lines.old.items) }
 {
     let own = print_entry(alloc, &entry)?;
+    let line = line_of(alloc, entry, &own)?;
     let before = text.len();
     text.extend_from_slice(own.bytes())?;
-    let line = Line {
-        entry,
-        size: own.len(),
-        mark: entry.key().mark(),
-    };
     match lines.push(line) {
         Ok(()) => Ok(()),
         Err(_) => {
@@ -133,7 +147,7 @@ pub(crate) fn find_line(lines: &[Line], text: &[u8], key: &Key) -> Option<Entry>
     ensures { result ≡ find (is_keyed key.now) (entries_of lines.now) }
 {
     match spot_of(lines, text, key) {
-        Some(spot) => Some(lines[spot.line].entry),
+        Some(spot) => Some(*lines[spot.line].entry),
         None => None,
     }
 }

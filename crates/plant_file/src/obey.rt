@@ -46,12 +46,6 @@ impl Tables {
         self.put(alloc, entry)
     }
 
-    fn state_of(&self, node: Name) -> Boot
-        ensures { result ≡ state_in node self.now }
-    {
-        state_or_off(&self.find(&Key::Node { node }))
-    }
-
     fn os_of(&self, node: Name) -> Option<Name>
         ensures { result ≡ os_in node self.now }
     {
@@ -74,9 +68,9 @@ impl Tables {
         ensures after { OnOk result (self.new ≡ after (DeviceOp.Poll node) self.old) }
         ensures answer { IfOk result (λ answer. answer ≡ answer_of (DeviceOp.Poll node) self.old) }
     {
-        let state = moved(self.state_of(node));
-        let os = self.os_of(node);
-        self.set_node(alloc, node, state, os)?;
+        let found = self.find(&Key::Node { node });
+        let state = moved(state_or_off(&found));
+        self.set_node(alloc, node, state, os_or_none(&found))?;
         Ok(Answer::State(state))
     }
 

@@ -1,4 +1,5 @@
 use Rattle.std.proofs.Common.{Some, sym, ap, ◌∙◌}
+use Rattle.plant_file.specs.declared.entry.Entry.{Entry}
 use Rattle.plant_file.specs.declared.lines_kept.Line.{Line}
 use Rattle.plant_file.specs.Entries.{is_keyed}
 use Rattle.plant_file.specs.Kept.{entries_of}
@@ -7,7 +8,8 @@ use Rattle.plant_file.proofs.lines_kept.find_line.Goals as goal
 
 pub returns-in-Some : goal.returns-in-Some
 returns-in-Some c =
-    sym (ap (λ (l : Line). Some l.entry) c.index-lines-spot.is)
+    ap (λ (e : Entry). Some e) c.deref.ensures
+    ∙ sym (ap (λ (l : Line). Some l.entry.value) c.index-lines-spot.is)
     ∙ found_at c.args.key.now c.args.lines.now c.in-Some.spot c.in-Some.ensures c.index-lines-spot.result c.index-lines-spot.is
 
 pub returns-in-None : goal.returns-in-None

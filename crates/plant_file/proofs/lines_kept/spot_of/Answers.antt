@@ -1,4 +1,4 @@
-use Rattle.std.proofs.Common.{◌≡◌, ◌≤◌, ◌+◌, length, take, drop, length-take-le, sym, ap, ◌∙◌, arith}
+use Rattle.std.proofs.Common.{◌≡◌, ◌+◌, length, take, drop, length-take-le, sym, ap, ◌∙◌, arith}
 use Rattle.plant_file.proofs.KeptLaws.{rest_behind, size_more, none_more, line_at, each_at}
 use Rattle.plant_file.proofs.lines_kept.spot_of.Goals as goal
 
