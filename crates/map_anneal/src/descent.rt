@@ -3,11 +3,13 @@ ghost use Rattle.std.specs.Prelude.{◌≡◌, ◌≤◌, ◌<◌, ℕ, true, fa
 ghost use Rattle.virt_topo.specs.Soundness.{IsSound};
 ghost use Rattle.lab_model.specs.Shapes.{IsFreeOf};
 ghost use Rattle.map_anneal.specs.Sought.{sought, choices, price, IsNodeMap, NoMove, NoExchange, LocallyBest};
-ghost use Rattle.map_anneal.specs.Searches.{sought_of, IsMoves, IsTried};
+ghost use Rattle.map_anneal.specs.Searches.{sought_of, priced_by, IsMoves, IsTried};
+ghost use Rattle.map_anneal.specs.Weighed.{AreRows, IsRow};
 
+use crate::known::{Known, Row};
 use crate::moves::Moves;
 use crate::prepared::Prepared;
-use crate::search::place_of;
+use crate::search::{Priced, place_of};
 use crate::tried::Tried;
 use cost_rule::StepRule;
 use lab_base::Memory;
@@ -16,27 +18,34 @@ use phys_lab::{Free, Lab};
 use std::alloc::Global;
 use virt_topo::{Mapping, Wiring};
 
-/// Makes the first cheaper move of a virtual node, if there is one.
+/// Makes the first cheaper move of a virtual node, if there is one; those that are known are not tried.
 fn cheaper_move_of(
     alloc: Global,
     moves: &Moves,
     rule: &StepRule,
     at: &mut Tried,
     node: usize,
+    row: &mut Row,
 ) -> Result<bool, Memory>
     requires moves { IsMoves moves.now }
     requires at { IsTried moves.now rule.now.number at.old }
     requires within { node < length (choices (sought_of moves.now rule.now.number)) }
+    requires row { IsRow (sought_of moves.now rule.now.number) at.old.board.mapping node row.old }
     ensures tried { OnOk result (IsTried moves.now rule.now.number at.new) }
     ensures cheaper { IfOk result (λ yes. yes ≡ true → at.new.cost < at.old.cost) }
     ensures same { IfOk result (λ yes. yes ≡ false → at.new.board.mapping ≡ at.old.board.mapping) }
     ensures same_cost { IfOk result (λ yes. yes ≡ false → at.new.cost ≡ at.old.cost) }
     ensures none { IfOk result (λ yes. yes ≡ false → NoMove (sought_of moves.now rule.now.number) at.old.board.mapping node) }
+    ensures row { OnOk result (IsRow (sought_of moves.now rule.now.number) at.old.board.mapping node row.new) }
 {
-    for place in moves.candidates.of(node) {
-        let below = u128::from(at.cost);
-        if at.move_if(alloc, moves, rule, node, *place, below)? {
-            return Ok(true);
+    let listed = moves.candidates.of(node);
+    let below = u128::from(at.cost);
+    for number in 0..listed.len() {
+        if !row.is_known(number) {
+            if at.move_if(alloc, moves, rule, node, listed[number], below)? {
+                return Ok(true);
+            }
+            row.note(number, at.weighed);
         }
     }
     Ok(false)
@@ -48,17 +57,20 @@ fn any_cheaper_move(
     moves: &Moves,
     rule: &StepRule,
     at: &mut Tried,
+    known: &mut Known,
 ) -> Result<bool, Memory>
     requires moves { IsMoves moves.now }
     requires at { IsTried moves.now rule.now.number at.old }
+    requires known { AreRows (sought_of moves.now rule.now.number) at.old.board.mapping known.old.rows.items }
     ensures tried { OnOk result (IsTried moves.now rule.now.number at.new) }
     ensures cheaper { IfOk result (λ yes. yes ≡ true → at.new.cost < at.old.cost) }
     ensures same { IfOk result (λ yes. yes ≡ false → at.new.board.mapping ≡ at.old.board.mapping) }
     ensures same_cost { IfOk result (λ yes. yes ≡ false → at.new.cost ≡ at.old.cost) }
     ensures none { IfOk result (λ yes. yes ≡ false → (v : ℕ) → v < length (choices (sought_of moves.now rule.now.number)) → NoMove (sought_of moves.now rule.now.number) at.old.board.mapping v) }
+    ensures known { OnOk result (AreRows (sought_of moves.now rule.now.number) at.old.board.mapping known.new.rows.items) }
 {
-    for node in 0..moves.candidates.len() {
-        if cheaper_move_of(alloc, moves, rule, at, node)? {
+    for node in 0..known.rows.len() {
+        if cheaper_move_of(alloc, moves, rule, at, node, &mut known.rows[node])? {
             return Ok(true);
         }
     }
@@ -157,20 +169,52 @@ fn cheaper_neighbour(
     moves: &Moves,
     rule: &StepRule,
     at: &mut Tried,
+    known: &mut Known,
 ) -> Result<bool, Memory>
     requires moves { IsMoves moves.now }
     requires at { IsTried moves.now rule.now.number at.old }
+    requires known { AreRows (sought_of moves.now rule.now.number) at.old.board.mapping known.old.rows.items }
     ensures tried { OnOk result (IsTried moves.now rule.now.number at.new) }
     ensures cheaper { IfOk result (λ yes. yes ≡ true → at.new.cost < at.old.cost) }
     ensures same { IfOk result (λ yes. yes ≡ false → at.new.board.mapping ≡ at.old.board.mapping) }
     ensures same_cost { IfOk result (λ yes. yes ≡ false → at.new.cost ≡ at.old.cost) }
     ensures none { IfOk result (λ yes. yes ≡ false → LocallyBest (sought_of moves.now rule.now.number) at.old.board.mapping) }
+    ensures known { OnOk result (AreRows (sought_of moves.now rule.now.number) at.old.board.mapping known.new.rows.items) }
 {
-    if any_cheaper_move(alloc, moves, rule, at)? {
+    if any_cheaper_move(alloc, moves, rule, at, known)? {
         return Ok(true);
     }
     let yes = any_cheaper_exchange(alloc, moves, rule, at)?;
     Ok(yes)
+}
+
+/// Makes the first cheaper move or exchange, if there is one, and follows it with what is known.
+fn step(
+    alloc: Global,
+    moves: &Moves,
+    rule: &StepRule,
+    at: &mut Tried,
+    lowest: &mut Priced,
+    known: &mut Known,
+) -> Result<bool, Memory>
+    requires moves { IsMoves moves.now }
+    requires at { IsTried moves.now rule.now.number at.old }
+    requires lowest { lowest.old ≡ priced_by at.old }
+    requires known { AreRows (sought_of moves.now rule.now.number) at.old.board.mapping known.old.rows.items }
+    ensures tried { OnOk result (IsTried moves.now rule.now.number at.new) }
+    ensures lowest { OnOk result (lowest.new ≡ priced_by at.new) }
+    ensures known { OnOk result (AreRows (sought_of moves.now rule.now.number) at.new.board.mapping known.new.rows.items) }
+    ensures cheaper { IfOk result (λ yes. yes ≡ true → at.new.cost < at.old.cost) }
+    ensures same { IfOk result (λ yes. yes ≡ false → at.new.cost ≡ at.old.cost) }
+    ensures none { IfOk result (λ yes. yes ≡ false → LocallyBest (sought_of moves.now rule.now.number) at.new.board.mapping) }
+{
+    if !cheaper_neighbour(alloc, moves, rule, at, known)? {
+        return Ok(false);
+    }
+    let next = at.taken(alloc, moves, rule, lowest)?;
+    known.follow(alloc, moves, rule, &lowest.mapping, &next.mapping)?;
+    *lowest = next;
+    Ok(true)
 }
 
 /// A locally best map that costs at most the start, by what is prepared.
@@ -187,12 +231,10 @@ pub fn descend_by(
 {
     let mut at = moves.started(alloc, rule, start)?;
     let mut lowest = at.priced(alloc)?;
+    let mut known = Known::of(alloc, moves, rule, start)?;
     let mut better = true;
     while better {
-        better = cheaper_neighbour(alloc, moves, rule, &mut at)?;
-        if better {
-            lowest = at.taken(alloc, moves, rule, &lowest)?;
-        }
+        better = step(alloc, moves, rule, &mut at, &mut lowest, &mut known)?;
     }
     Ok(lowest.mapping)
 }

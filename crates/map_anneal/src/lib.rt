@@ -2,9 +2,11 @@
 #![tactic(auto)]
 
 mod descent;
+mod known;
 mod moves;
 mod prepared;
 mod search;
+mod step;
 mod tried;
 mod walk;
 

@@ -1,13 +1,15 @@
 // Moves and exchanges of virtual nodes in the map at hand.
-ghost use Rattle.std.specs.Prelude.{◌≡◌, ◌<◌, ◌≤◌, ◌%◌, IfOk, OnOk, IsTrue, true, false, List, [], Some, Contains, length, slice_index_or};
+ghost use Rattle.std.specs.Prelude.{◌≡◌, ◌<◌, ◌≤◌, ◌%◌, IfOk, OnOk, IsTrue, true, false, List, [], Some, Contains, length, slice_index_or, slice_set};
+ghost use Rattle.lab_base.specs.declared.ids.IfaceId.{IfaceId as IfaceIdSeen};
 ghost use Rattle.virt_topo.specs.declared.mapping.Mapping.{Mapping as MappingSeen};
 ghost use Rattle.lab_model.specs.Shapes.{Place as PlaceSeen};
 ghost use Rattle.lab_model.specs.Rules.{no_place, place_at};
-ghost use Rattle.node_maps.specs.NodeMaps.{candidates, node_map};
+ghost use Rattle.node_maps.specs.NodeMaps.{candidates, node_map, plugs_of};
 ghost use Rattle.map_board.specs.Boards.{IsLaid, IsPlanned, Was};
 ghost use Rattle.map_board.specs.Seated.{placed_at};
 ghost use Rattle.map_anneal.specs.Sought.{choices, candidates_at, moved, exchanged, price, IsNodeMap};
 ghost use Rattle.map_anneal.specs.Walk.{named};
+ghost use Rattle.map_anneal.specs.Weighed.{IsNoLess};
 ghost use Rattle.map_anneal.specs.Searches.{sought_of, IsMoves, IsTried};
 
 use crate::search::place_of;
@@ -56,7 +58,11 @@ impl Moves<'_> {
         let mapper = self.setting.mapper;
         let board = Board::of(alloc, &self.setting, start)?;
         let cost = rule.ask(mapper.lab, mapper.wiring, start);
-        Ok(Tried { board, cost })
+        Ok(Tried {
+            board,
+            cost,
+            weighed: false,
+        })
     }
 
     /// The cost of what is laid.
@@ -83,7 +89,8 @@ impl Tried {
         requires moves { IsMoves moves.now }
         requires laid { IsLaid moves.now.setting self.now.board }
         requires planned { IsPlanned moves.now.setting self.now.board.mapping.places _first.0 _second.0 self.now.board.changes.items }
-        ensures { IsTrue result → (last : List PlaceSeen) → Was moves.now.setting self.now.board.mapping.places self.now.board.mapping.plugs _first.0 _second.0 last → (m : MappingSeen) → node_map moves.now.setting.mapper.lab.now moves.now.setting.mapper.free.now moves.now.setting.mapper.wiring.now self.now.board.mapping.places ≡ Some m → below ≤ price (sought_of moves.now rule.now.number) m }
+        ensures map { IsTrue result → (last : List PlaceSeen) → Was moves.now.setting self.now.board.mapping.places self.now.board.mapping.plugs _first.0 _second.0 last → (m : MappingSeen) → node_map moves.now.setting.mapper.lab.now moves.now.setting.mapper.free.now moves.now.setting.mapper.wiring.now self.now.board.mapping.places ≡ Some m → below ≤ price (sought_of moves.now rule.now.number) m }
+        ensures plugs { IsTrue result → (last : List PlaceSeen) → Was moves.now.setting self.now.board.mapping.places self.now.board.mapping.plugs _first.0 _second.0 last → (plugs : List IfaceIdSeen) → plugs_of moves.now.setting.mapper.lab.now moves.now.setting.mapper.wiring.now self.now.board.mapping.places ≡ Some plugs → below ≤ price (sought_of moves.now rule.now.number) (record { places = self.now.board.mapping.places; plugs = plugs }) }
     {
         let _kept = moves.setting.mapper.lab.range();
         match self.board.foreseen(&moves.setting) {
@@ -119,15 +126,19 @@ impl Tried {
         ensures plugs { IfOk result (λ yes. yes ≡ false → self.new.board.mapping.plugs ≡ self.old.board.mapping.plugs) }
         ensures same_cost { IfOk result (λ yes. yes ≡ false → self.new.cost ≡ self.old.cost) }
         ensures dear { IfOk result (λ yes. yes ≡ false → (last : List PlaceSeen) → Was moves.now.setting self.old.board.mapping.places self.old.board.mapping.plugs first.0.0 second.0.0 last → (m : MappingSeen) → node_map moves.now.setting.mapper.lab.now moves.now.setting.mapper.free.now moves.now.setting.mapper.wiring.now self.old.board.mapping.places ≡ Some m → below ≤ price (sought_of moves.now rule.now.number) m) }
+        ensures weighed { IfOk result (λ yes. yes ≡ false → self.new.weighed ≡ true → (last : List PlaceSeen) → Was moves.now.setting self.old.board.mapping.places self.old.board.mapping.plugs first.0.0 second.0.0 last → IsNoLess (sought_of moves.now rule.now.number) below self.old.board.mapping.places) }
     {
         let setting = moves.setting;
+        self.weighed = false;
         if self.board.is_crowded(&setting, first.1) {
             return Ok(false);
         }
         if !self.board.plan(alloc, &setting, first, second)? {
+            self.weighed = true;
             return Ok(false);
         }
         if self.is_dear(moves, rule, first.0, second.0, below) {
+            self.weighed = true;
             return Ok(false);
         }
         if !self.board.settle(alloc, &setting, first.0, second.0)? {
@@ -137,6 +148,7 @@ impl Tried {
         let cost = moves.cost(rule, &self.board);
         if u128::from(cost) >= below {
             self.board.take_back(alloc, &setting);
+            self.weighed = true;
             return Ok(false);
         }
         self.board.forget();
@@ -165,6 +177,7 @@ impl Tried {
         ensures same { IfOk result (λ yes. yes ≡ false → self.new.board.mapping ≡ self.old.board.mapping) }
         ensures same_cost { IfOk result (λ yes. yes ≡ false → self.new.cost ≡ self.old.cost) }
         ensures dear { IfOk result (λ yes. yes ≡ false → (m : MappingSeen) → moved (sought_of moves.now rule.now.number) self.old.board.mapping node place ≡ Some m → below ≤ price (sought_of moves.now rule.now.number) m) }
+        ensures weighed { IfOk result (λ yes. yes ≡ false → self.new.weighed ≡ true → IsNoLess (sought_of moves.now rule.now.number) below (slice_set self.old.board.mapping.places node place)) }
     {
         let setting = moves.setting;
         let to = place.0;
@@ -199,13 +212,16 @@ impl Tried {
         ensures same { IfOk result (λ yes. yes ≡ false → self.new.board.mapping ≡ self.old.board.mapping) }
         ensures same_cost { IfOk result (λ yes. yes ≡ false → self.new.cost ≡ self.old.cost) }
         ensures dear { IfOk result (λ yes. yes ≡ false → (m : MappingSeen) → moved (sought_of moves.now rule.now.number) self.old.board.mapping node place ≡ Some m → below ≤ price (sought_of moves.now rule.now.number) m) }
+        ensures weighed { IfOk result (λ yes. yes ≡ false → self.new.weighed ≡ true → IsNoLess (sought_of moves.now rule.now.number) below (slice_set self.old.board.mapping.places node place)) }
     {
         let setting = moves.setting;
         let from = place_of(self.board.mapping.places.as_slice(), node);
+        self.weighed = false;
         if place == from {
             return Ok(u128::from(self.cost) < below);
         }
         if self.board.is_full(&setting, node, place) {
+            self.weighed = true;
             return Ok(false);
         }
         let yes = self.go_if(alloc, moves, rule, node, place, below)?;

@@ -13,6 +13,8 @@ use std::alloc::Global;
 pub struct Tried {
     pub board: Board,
     pub cost: u64,
+    /// Of the last move that came to nothing, whether it makes no cheaper map whatever is left of the trunks.
+    pub(crate) weighed: bool,
 }
 
 impl Tried {

@@ -14,6 +14,7 @@ use Rattle.virt_topo.specs.declared.mapping.Mapping.{Mapping}
 use Rattle.lab_model.specs.Shapes.{Place, IsShaped, node_at}
 use Rattle.lab_model.specs.Rules.{agree, guests, Guest, number_of, no_place}
 use Rattle.node_maps.specs.NodeMaps.{node_map}
+use Rattle.node_maps.specs.Moved.{may_share}
 use Rattle.node_maps.proofs.Assembled.{no_map}
 use Rattle.map_board.specs.Seated.{guests_at}
 
@@ -74,18 +75,22 @@ guest_in On (x ∷ vs) (p ∷ places) n (suc v) d lt le here all =
     by true all = λ k e k_lt. all (suc k) e (omega (arith, k_lt))
     by false all = all
 
--- more than may have the type of one of them: that is no node map
-pub crowded : (lab : Lab) (free : Free) (w : Wiring) (m : Mapping) (v : ℕ) → IsShaped lab w m → v < length m.places
+-- where more are there than may have the type of one of them, they may not share the node
+pub overfull : (lab : Lab) (w : Wiring) (m : Mapping) (v : ℕ) → IsShaped lab w m → v < length m.places
     → number_of (node_at lab (get_or m.places v no_place).0).types (get_or m.places v no_place).1 < guests_at m.places (get_or m.places v no_place).0.0
-    → node_map lab free w m.places ≡ None
-crowded lab free w m v shaped lt more =
+    → may_share lab w m.places (get_or m.places v no_place).0.0 ≡ true → ⊥
+overfull lab w m v shaped lt more agreed =
     let n = (get_or m.places v no_place).0.0 in
     let types = (node_at lab (record { 0 = n })).types in
     let count = shaped.places in
-    no_map lab free w m.places (λ plugs all.
-    let agreed = all.shared n (shaped.in_nodes v no_place lt) in
     let few = agree_few types (guests w.nodes m.places n) agreed in
     let le : length (guests w.nodes m.places n) ≤ number_of types (get_or m.places v no_place).1 =
     guest_in (λ t. length (guests w.nodes m.places n) ≤ number_of types t) w.nodes m.places n v no_place lt (omega (arith, count)) refl few in
     let whole = guests_all w.nodes m.places n (omega (arith, count)) in
-    absurd (omega (arith, le, whole, more)))
+    absurd (omega (arith, le, whole, more))
+
+-- that is no node map
+pub crowded : (lab : Lab) (free : Free) (w : Wiring) (m : Mapping) (v : ℕ) → IsShaped lab w m → v < length m.places
+    → number_of (node_at lab (get_or m.places v no_place).0).types (get_or m.places v no_place).1 < guests_at m.places (get_or m.places v no_place).0.0
+    → node_map lab free w m.places ≡ None
+crowded lab free w m v shaped lt more = no_map lab free w m.places (λ plugs all. overfull lab w m v shaped lt more (all.shared (get_or m.places v no_place).0.0 (shaped.in_nodes v no_place lt)))

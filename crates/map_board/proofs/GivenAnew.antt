@@ -40,13 +40,13 @@ same_laid lab places last (e ∷ es) had here there same =
     later None each = refl
     later (Some laid) each = each laid
 
-same_from : (lab : Lab) (places last : List Place) (es : List End) → All (λ (e : End). e.node < length places) es → All (λ (e : End). e.node < length last) es
+pub same_from : (lab : Lab) (places last : List Place) (es : List End) → All (λ (e : End). e.node < length places) es → All (λ (e : End). e.node < length last) es
     → ((k : ℕ) (d : End) → k < length es → get_or places (get_or es k d).node no_place ≡ get_or last (get_or es k d).node no_place)
     → plugs_from lab places es ≡ plugs_from lab last es
 same_from lab places last es here there same = ap (option_map (λ laid. plugs_in laid)) (same_laid lab places last es [] here there same)
 
 -- what holds of the ends that pass holds of the ends that were taken
-all_passed : (On : End → Type 0) (p : End → Bool) (es : List End) → ((k : ℕ) (d : End) → k < length es → p (get_or es k d) ≡ true → On (get_or es k d)) → All On (filter p es)
+pub all_passed : (On : End → Type 0) (p : End → Bool) (es : List End) → ((k : ℕ) (d : End) → k < length es → p (get_or es k d) ≡ true → On (get_or es k d)) → All On (filter p es)
 all_passed On p [] each = λ k d lt. absurd (omega (arith, lt))
 all_passed On p (e ∷ es) each =
     by_test (p e) refl (all_passed On p es (λ k d lt passes. each (suc k) d (omega (arith, lt)) passes))

@@ -1,14 +1,14 @@
 mod AloneLaws
-mod ByNode
-mod WhereLaws
-mod GivenAnew
+pub mod ByNode
+pub mod WhereLaws
+pub mod GivenAnew
 mod ListSteps
-mod SeatLaws
+pub mod SeatLaws
 pub mod Choices
 pub mod BoardLaws
 mod RowLaws
 mod PartSums
-mod CrowdLaws
+pub mod CrowdLaws
 pub mod PlannedLaws
 pub mod Alikes
 pub mod SettledLaws

@@ -8,6 +8,7 @@ use Rattle.map_board.proofs.Choices.{choice_moved}
 use Rattle.map_board.specs.Seated.{placed_at}
 use Rattle.map_anneal.specs.Sought.{choices, price}
 use Rattle.map_anneal.specs.Searches.{sought_of}
+use Rattle.map_anneal.specs.Weighed.{IsNoLess}
 use Rattle.map_board.proofs.Alikes.{place_within}
 use Rattle.map_anneal.proofs.Undone.{mapping_is, moved_back, was_moved}
 use Rattle.map_anneal.proofs.tried.Tried.go_if.Goals as goal
@@ -102,3 +103,15 @@ returns-clause-dear g c = λ is other found.
     let from = c.node_of-from.ensures ∙ ap (λ (l : List Place). (get_or l v no_place).0.0) c.as_slice.ensures in
     let was = was_moved x c.args.self.now.board c.seat.new.self.mapping v c.args.place c.node_of-from.result.0 c.requires.tried.board lt c.seat.ensures.mapping from in
     c.in_ok-settle_if.ensures.dear c.if-branch.false m.places was other (ap (λ (y : Mapping). node_map x.mapper.lab.now x.mapper.free.now x.mapper.wiring.now y.places) c.seat.ensures.mapping ∙ found)
+
+pub returns-clause-weighed : goal.returns-clause-weighed
+returns-clause-weighed g c = λ is yes.
+    let x = c.args.moves.now.setting in
+    let s = sought_of c.args.moves.now c.args.rule.now.number in
+    let m = c.args.self.now.board.mapping in
+    let v = c.args.node in
+    let choice = c.requires.tried.board.laid.choice in
+    let lt : v < length m.places = omega (arith, c.requires.within, choice.one_each) in
+    let from = c.node_of-from.ensures ∙ ap (λ (l : List Place). (get_or l v no_place).0.0) c.as_slice.ensures in
+    let was = was_moved x c.args.self.now.board c.seat.new.self.mapping v c.args.place c.node_of-from.result.0 c.requires.tried.board lt c.seat.ensures.mapping from in
+    subst (λ (y : Mapping). IsNoLess s c.args.below y.places) c.seat.ensures.mapping (c.in_ok-settle_if.ensures.weighed c.if-branch.false yes m.places was)

@@ -1,8 +1,17 @@
-use Rattle.std.proofs.Common.{◌≡◌, ◌∙◌, Option, Some, None, ap, sym}
+use Rattle.std.proofs.Common.{◌≡◌, ◌≤◌, ◌∙◌, ℕ, List, Option, Some, None, ap, sym, subst, arith}
+use Rattle.lab_base.specs.declared.ids.IfaceId.{IfaceId}
 use Rattle.virt_topo.specs.declared.mapping.Mapping.{Mapping}
-use Rattle.node_maps.specs.NodeMaps.{plugs_of}
+use Rattle.node_maps.specs.NodeMaps.{node_map, plugs_of}
 use Rattle.node_maps.proofs.MovedLaws.{no_plugs}
+use Rattle.map_board.specs.Boards.{Was}
+use Rattle.map_anneal.specs.Sought.{price}
+use Rattle.map_anneal.specs.Searches.{sought_of}
+use Rattle.map_anneal.specs.Weighed.{IsNoLess}
+use Rattle.map_anneal.proofs.TriedMoves.{settled_is, settled_no_less}
 use Rattle.map_anneal.proofs.tried.Tried.settle_if.Goals as goal
+
+no_plugs_given : (plugs : List IfaceId) → ◌≡◌ {A = Option (List IfaceId)} None (Some plugs) → ⊥
+no_plugs_given plugs e = absurd (cc e)
 
 never : (m : Mapping) → ◌≡◌ {A = Option Mapping} None (Some m) → ⊥
 never m e = absurd (cc e)
@@ -14,3 +23,22 @@ returns-then-not-branch-clause-dear g c = λ is last was m found.
     let none = c.in_ok-plan.ensures.none c.if-not-branch.true in
     let no_map = no_plugs x.lab.now x.free.now x.wiring.now places (ap (λ (y : Mapping). plugs_of x.lab.now x.wiring.now y.places) (sym c.plan.ensures.mapping) ∙ none) in
     absurd (never m (no_map ∙ found))
+
+pub returns-then-not-branch-clause-weighed : goal.returns-then-not-branch-clause-weighed
+returns-then-not-branch-clause-weighed g c = λ is yes last was plugs kept.
+    let x = c.args.moves.now.setting.mapper in
+    let none = c.in_ok-plan.ensures.none c.if-not-branch.true in
+    absurd (no_plugs_given plugs (sym (ap (λ (y : Mapping). plugs_of x.lab.now x.wiring.now y.places) (sym c.plan.ensures.mapping) ∙ none) ∙ kept.given))
+
+pub returns-then-from-below-clause-weighed : goal.returns-then-from-below-clause-weighed
+returns-then-from-below-clause-weighed g c = λ is yes last was.
+    let x = c.args.moves.now.setting in
+    let s = sought_of c.args.moves.now c.args.rule.now.number in
+    let old = c.plan.new.self.mapping in
+    let new = c.settle.new.self.mapping in
+    let before = subst (λ (y : Mapping). Was x y.places y.plugs c.args.first.0.0 c.args.second.0.0 last) (sym c.plan.ensures.mapping) was in
+    let map = settled_is c.in_ok-settle.field-0 (node_map x.mapper.lab.now x.mapper.free.now x.mapper.wiring.now old.places) new c.if-not-branch-2.false (c.in_ok-settle.ensures.map last before) in
+    let wide = c.from.ensures in
+    let cost : ◌≡◌ {A = ℕ} c.cost-cost.result (price s new) = c.cost-cost.ensures in
+    let le : c.args.below ≤ c.from.result = c.if-from-below.true in
+    subst (λ (y : Mapping). IsNoLess s c.args.below y.places) c.plan.ensures.mapping (settled_no_less s c.args.below old.places new map (omega (arith, le, wide, cost)))

@@ -1,0 +1,169 @@
+// What is known of moves from one map to the next.
+ghost use Rattle.std.specs.Prelude.{◌≡◌, ◌<◌, ℕ, true, false, List, [], map, length, slice_index_or, slice_set, IfOk, OnOk};
+ghost use Rattle.lab_model.specs.Rules.{is_member, place_at};
+ghost use Rattle.virt_topo.specs.Wirings.{virt_at};
+ghost use Rattle.map_anneal.specs.Sought.{IsNodeMap};
+ghost use Rattle.map_anneal.specs.Searches.{sought_of, IsMoves};
+ghost use Rattle.map_anneal.specs.Steps.{KeepsTypes};
+ghost use Rattle.map_anneal.specs.Weighed.{AreRows, not_weighed};
+
+use crate::moves::Moves;
+use crate::step::{is_marked, touched_classes, touched_nodes};
+use cost_rule::StepRule;
+use lab_base::{Memory, NodeId};
+use node_maps::Place;
+use std::alloc::Global;
+use std::marker::Model;
+use virt_topo::{Asks, Mapping, Wiring};
+
+/// A candidate's node, and whether a move there is known to make no cheaper map, whatever is left of the trunks.
+#[derive(Clone, Copy)]
+pub(crate) struct Weighed {
+    node: NodeId,
+    known: bool,
+}
+
+/// By candidate of a virtual node what is known of a move there.
+#[derive(Drop)]
+pub(crate) struct Row {
+    tries: Vec<Weighed>,
+}
+
+impl Model for Row {
+    ghost use Rattle.std.specs.Prelude.{List};
+    ghost use Rattle.map_anneal.specs.declared.known.Weighed.{Weighed as WeighedSeen};
+
+    ghost Value = { List WeighedSeen };
+
+    ghost view = { λ row. row.tries.items };
+}
+
+impl Row {
+    /// Nothing is known of these candidates.
+    fn of(alloc: Global, listed: &[Place]) -> Result<Row, Memory>
+        ensures { IfOk result (λ row. row ≡ map (λ p. record { node = p.0; known = false }) listed.now) }
+    {
+        let mut tries = Vec::new(alloc);
+        for place in listed {
+            tries.push(Weighed {
+                node: place.0,
+                known: false,
+            })?;
+        }
+        Ok(Row { tries })
+    }
+
+    /// Whether the move to a candidate is known.
+    pub(crate) fn is_known(&self, number: usize) -> bool
+        requires { number < length self.now }
+        ensures { result ≡ (slice_index_or self.now number not_weighed).known }
+    {
+        self.tries[number].known
+    }
+
+    /// Notes whether the move to a candidate is known.
+    pub(crate) fn note(&mut self, number: usize, known: bool)
+        requires { number < length self.old }
+        ensures { self.new ≡ slice_set self.old number (record { node = (slice_index_or self.old number not_weighed).node; known = known }) }
+    {
+        let node = self.tries[number].node;
+        self.tries[number] = Weighed { node, known };
+    }
+
+    /// Forgets what is known of all candidates, or of those on nodes that are marked.
+    fn forget(&mut self, all: bool, nodes: &[bool])
+        ensures one_each { length self.new ≡ length self.old }
+        ensures nodes { (k : ℕ) → k < length self.old → (slice_index_or self.new k not_weighed).node ≡ (slice_index_or self.old k not_weighed).node }
+        ensures known { (k : ℕ) → k < length self.old → (slice_index_or self.new k not_weighed).known ≡ true → (slice_index_or self.old k not_weighed).known ≡ true }
+        ensures unmarked { (k : ℕ) → k < length self.old → (slice_index_or self.new k not_weighed).known ≡ true → slice_index_or nodes.now (slice_index_or self.old k not_weighed).node.0 true ≡ false }
+        ensures some { (k : ℕ) → k < length self.old → (slice_index_or self.new k not_weighed).known ≡ true → all ≡ false }
+    {
+        for number in 0..self.tries.len() {
+            let is = self.tries[number];
+            let gone = all || is_marked(nodes, is.node.0);
+            self.note(number, is.known && !gone);
+        }
+    }
+}
+
+/// Whether the class of a virtual node is marked, if it asks for one.
+fn is_class_marked(wiring: &Wiring, classes: &[bool], virt: usize) -> bool
+    requires { virt < length wiring.now.nodes }
+    ensures { result ≡ false → (c : ℕ) → is_member c (virt_at wiring.now virt).asks ≡ true → slice_index_or classes.now c true ≡ false }
+{
+    match wiring.nodes.as_slice()[virt].asks {
+        Asks::Plain(_) => false,
+        Asks::Class(class) => is_marked(classes, class),
+    }
+}
+
+/// Whether the node of a virtual node is marked, or its class.
+fn is_touched(
+    wiring: &Wiring,
+    nodes: &[bool],
+    classes: &[bool],
+    last: &Mapping,
+    virt: usize,
+) -> bool
+    requires virt { virt < length wiring.now.nodes }
+    requires last { length last.now.places ≡ length wiring.now.nodes }
+    ensures node { result ≡ false → slice_index_or nodes.now (place_at last.now virt).0.0 true ≡ false }
+    ensures class { result ≡ false → (c : ℕ) → is_member c (virt_at wiring.now virt).asks ≡ true → slice_index_or classes.now c true ≡ false }
+{
+    let own = last.places.as_slice()[virt].0;
+    if is_marked(nodes, own.0) {
+        return true;
+    }
+    is_class_marked(wiring, classes, virt)
+}
+
+/// By virtual node what is known of its moves.
+#[derive(Drop)]
+pub(crate) struct Known {
+    pub(crate) rows: Vec<Row>,
+}
+
+impl Known {
+    /// Nothing is known.
+    pub(crate) fn of(
+        alloc: Global,
+        moves: &Moves,
+        _rule: &StepRule,
+        _start: &Mapping,
+    ) -> Result<Known, Memory>
+        requires { IsMoves moves.now }
+        ensures { IfOk result (λ known. AreRows (sought_of moves.now _rule.now.number) _start.now known.rows.items) }
+    {
+        let mut rows = Vec::new(alloc);
+        for virt in 0..moves.candidates.len() {
+            let row = Row::of(alloc, moves.candidates.of(virt))?;
+            rows.push(row)?;
+        }
+        Ok(Known { rows })
+    }
+
+    /// Forgets what a step from one map to another may have changed.
+    pub(crate) fn follow(
+        &mut self,
+        alloc: Global,
+        moves: &Moves,
+        _rule: &StepRule,
+        last: &Mapping,
+        next: &Mapping,
+    ) -> Result<(), Memory>
+        requires moves { IsMoves moves.now }
+        requires last { IsNodeMap (sought_of moves.now _rule.now.number) last.now }
+        requires next { IsNodeMap (sought_of moves.now _rule.now.number) next.now }
+        requires rows { AreRows (sought_of moves.now _rule.now.number) last.now self.old.rows.items }
+        ensures { OnOk result (AreRows (sought_of moves.now _rule.now.number) next.now self.new.rows.items) }
+    {
+        let wiring = moves.setting.mapper.wiring;
+        let nodes = touched_nodes(alloc, moves, _rule, last, next)?;
+        let classes = touched_classes(alloc, wiring, last, next)?;
+        for virt in 0..self.rows.len() {
+            let all = is_touched(wiring, &nodes, &classes, last, virt);
+            self.rows[virt].forget(all, &nodes);
+        }
+        Ok(())
+    }
+}
