@@ -13,8 +13,8 @@ _lab() {
     elif [[ -z $command && $word == -* ]]; then
         mapfile -t COMPREPLY < <(compgen -W '-d -m -n -v --help' -- "$word")
     elif [[ -z $command ]]; then
-        mapfile -t COMPREPLY < <(compgen -W 'set create solve in modify out delete show status recover map dump run' -- "$word")
-    elif [[ $command == @(set|run) ]] || { ((COMP_CWORD > k + 1)) && [[ $command == @(create|in|modify) ]]; }; then
+        mapfile -t COMPREPLY < <(compgen -W 'set create solve in modify play out delete show status recover map dump run' -- "$word")
+    elif [[ $command == @(set|run) ]] || { ((COMP_CWORD > k + 1)) && [[ $command == @(create|in|modify|play) ]]; }; then
         mapfile -t COMPREPLY < <(compgen -f -- "$word")
     fi
 }
