@@ -1,4 +1,4 @@
--- What FirstFit has at hand.
+-- The setting of FirstFit.
 use Rattle.std.specs.Prelude.{◌≡◌}
 use Rattle.virt_topo.specs.Soundness.{IsSound}
 use Rattle.lab_model.specs.Shapes.{IsFreeOf}

@@ -15,7 +15,7 @@ use phys_lab::{Free, Lab};
 use std::alloc::Global;
 use virt_topo::{Mapping, Wiring};
 
-/// What FirstFit has at hand.
+/// The setting of FirstFit.
 #[derive(Clone, Copy)]
 pub(crate) struct Placing<'a> {
     pub(crate) lab: &'a Lab,

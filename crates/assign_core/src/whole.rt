@@ -17,7 +17,7 @@ use phys_lab::{Free, Lab};
 use std::alloc::Global;
 use virt_topo::{Mapping, Wiring};
 
-/// What a search answers.
+/// The answer of a search.
 #[derive(Drop)]
 pub enum Solved {
     /// The cheapest mapping, the first in candidate order among equals, with its cost.
@@ -88,8 +88,9 @@ fn solve_by(
     Ok(Solved::Local(lowest, cost))
 }
 
-/// The whole search: with at most 65,536 candidates the cheapest feasible node map or None; with more a locally best one
-/// that is at most as dear as every map of the walk of FirstFit and the seed, or GaveUp where FirstFit isn't feasible.
+/// The whole search. With at most 65,536 candidates it answers the cheapest feasible node map, or None.
+/// With more it answers a locally best map that costs at most every map of the walk from FirstFit by the seed; or GaveUp where FirstFit isn't
+/// feasible.
 pub fn solve(
     alloc: Global,
     lab: &Lab,

@@ -1,4 +1,4 @@
--- What turning an open swap to its end leaves.
+-- The state behind an open swap that was turned to its end.
 use Rattle.std.proofs.Common.{◌≡◌, ◌↔◌, ℕ, List, [], ◌++◌, Some, IsTrue, Ok, refl, sym, ap, ◌∙◌, subst}
 use Rattle.plant.specs.Events.{Event}
 use Rattle.plant.specs.Seen.{Seen}

@@ -1,4 +1,4 @@
--- What a judgement may be: it has no reply of a drill or of a stop, and its task is the command's own, as the open swaps allow it.
+-- Judgements: none has a reply of a drill or of a stop, and each task is the command's own, as the open swaps allow it.
 use Rattle.std.specs.Prelude.{nat_le}
 use Rattle.std.proofs.Common.{◌≡◌, ℕ, Bool, true, false, List, Option, Some, None, Result, Ok, Err, refl, sym, subst, arith}
 use Rattle.journal_rec.specs.declared.record.Record.{Record}

@@ -1,4 +1,4 @@
--- What a call leaves, by the steps that it added, and what is said of it in other words.
+-- The state behind a call, by the steps that it added, in two wordings.
 use Rattle.std.proofs.Common.{◌≡◌, inr, ℕ, Bool, true, false, not, List, [], ◌∷◌, ◌++◌, Option, Some, None, IfSome, Result, Ok, Err, refl, sym, ap, ◌∙◌, subst, arith}
 use Rattle.std.proofs.lemmas.List.{append-nil}
 use Rattle.lab_base.specs.Counts.{Rose}

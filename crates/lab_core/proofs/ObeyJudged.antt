@@ -1,4 +1,4 @@
--- What was judged of a command is done beside the session's open swaps, or refused.
+-- A judged command is done beside the session's open swaps, or refused.
 use Rattle.std.proofs.Common.{◌≡◌, ◌⊎◌, inl, inr, ◌≤◌, ℕ, true, false, List, [], ◌∷◌, length, Option, Some, None, Result, Ok, Err, IfOk, refl, sym, ◌∙◌, subst, arith}
 use Rattle.plant.specs.Seen.{Seen}
 use Rattle.script_text.specs.declared.command.Command.{Command}

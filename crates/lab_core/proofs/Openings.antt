@@ -1,4 +1,4 @@
--- What reading the journal adds, and what it leaves, by what the journal's opening says and what the records made of it.
+-- The steps of reading the journal, and the state behind them, by the journal's opening and by its records.
 use Rattle.std.proofs.Common.{◌≡◌, ◌⊎◌, inl, inr, true, false, ◌∷◌, ℕ, ◌+◌, ◌*◌, ◌<◌, ◌≤◌, ◌^◌, Bool, List, [], ◌++◌, count_by, Option, Some, None, Result, Ok, Err, IfSome, IfOk, refl, sym, ap, subst, ◌∙◌, arith}
 use Rattle.std.specs.Prelude.{length, nat_lt}
 use Rattle.std.proofs.lemmas.List.Sums.{fold-append}

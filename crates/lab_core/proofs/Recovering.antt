@@ -1,4 +1,4 @@
--- What `recover` leaves, by what the settling of all that moves and has no open swap left.
+-- The state behind `recover`, by that behind the settling of all that moves and has no open swap.
 use Rattle.std.proofs.Common.{◌≡◌, ◌≢◌, ◌↔◌, ◌⊎◌, inl, inr, IsErrOf, IsTrue, Result, ℕ, Bool, true, false, ◌||◌, List, [], ◌∷◌, ◌++◌, map, Option, Some, None, Ok, Err, refl, sym, ap, ◌∙◌, subst}
 use Rattle.std.specs.Prelude.{if◌then◌else◌}
 use Rattle.std.specs.Str.{bytes_eq}

@@ -1,4 +1,4 @@
--- What the world keeps of the lab that an image stands for.
+-- The world, and the lab that an image stands for.
 use Rattle.std.proofs.Common.{◌≡◌, List, ℕ, subst}
 use Rattle.plant.specs.Disks.{ArePossible}
 use Rattle.plant.specs.Events.{Event}

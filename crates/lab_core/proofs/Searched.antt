@@ -1,4 +1,4 @@
--- What a search finds for an experiment of the lab.
+-- The answer of a search for an experiment of the lab.
 use Rattle.std.specs.Prelude.{IfOk}
 use Rattle.std.proofs.Common.{ℕ, Result, Ok, Err, sym, ◌∙◌, subst}
 use Rattle.lab_base.specs.declared.memory.Memory.{Memory}

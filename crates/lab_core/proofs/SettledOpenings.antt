@@ -1,4 +1,4 @@
--- What a call of `open` leaves, by what reading left, and behind it the settling of all that moves and the move of the journal.
+-- The state behind `open`: behind reading, the settling of all that moves, and the move of the journal.
 use Rattle.std.proofs.Common.{◌≡◌, ◌⊎◌, inl, inr, ℕ, true, false, List, [], ◌∷◌, ◌++◌, Option, Some, None, Result, Ok, Err, IfOk, IfSome, refl, sym, ap, subst, ◌∙◌, append_assoc}
 use Rattle.std.proofs.lemmas.List.{append-nil}
 use Rattle.plant.specs.Events.{Event}

@@ -1,4 +1,4 @@
--- What is shown of experiments.
+-- Experiments as they are shown.
 use Rattle.std.specs.List.{zip}
 use Rattle.std.proofs.Common.{◌≡◌, ◌<◌, ◌≤◌, ℕ, zero, suc, ◌+◌, Result, Ok, List, [], ◌∷◌, ◌++◌, length, map, take, get_or, Some, None, slice_get, sym, ap, ◌∙◌, arith}
 use Rattle.std.proofs.lemmas.List.{map-append, take_more, take_all}

@@ -1,4 +1,4 @@
--- What is told of a turn, beside how it ended; and the lab after it.
+-- The reply to a turn, beside its end; and the lab after it.
 use Rattle.std.proofs.Common.{◌≡◌, ℕ, Bool, true, false, List, Option, Some, None, is_some, Result, Ok, Err, refl, sym, ap, ◌∙◌, subst}
 use Rattle.std.proofs.lemmas.Option.{same_Some}
 use Rattle.lab_base.specs.declared.what.What.{What}

@@ -1,4 +1,4 @@
--- What a turn of an open swap leaves, and what turning it to its end leaves.
+-- The state behind a turn of an open swap, and behind turning it to its end.
 use Rattle.std.proofs.Common.{◌≡◌, ◌↔◌, inl, inr, ◌≤◌, ℕ, List, ◌∷◌, ◌++◌, Option, Some, IsTrue, Ok, refl, sym, ap, ◌∙◌, subst}
 use Rattle.std.proofs.lemmas.List.{map-append}
 use Rattle.lab_base.specs.Lists.{Has, listed}

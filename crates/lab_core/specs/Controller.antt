@@ -1,4 +1,4 @@
--- What contracts see of a controller, and when it is at work.
+-- A controller as contracts see it, and when it is at work.
 use Rattle.std.specs.Prelude.{◌≡◌, ℕ, Bool, List, map, Option}
 use Rattle.lab_base.specs.Lists.{Has}
 use Rattle.plant.specs.Seen.{Seen}

@@ -1,4 +1,4 @@
--- What is judged of a command: the first refusal in order, or its task.
+-- The judgement of a command: the first refusal in order, or its task.
 use Rattle.std.specs.Prelude.{◌≡◌, ◌+◌, ℕ, Bool, true, false, nat_le, List, [], length, map, codes, slice_index_or, Option, Some, None, Result, Ok, Err, if◌then◌else◌}
 use Rattle.std.specs.List.{zip}
 use Rattle.lab_base.specs.declared.fault.TextFault.{TextFault}

@@ -1,4 +1,4 @@
--- What a call of `obey` leaves, over a trace.
+-- The state behind a call of `obey`, over a trace.
 use Rattle.std.specs.Prelude.{◌≡◌, ◌↔◌, ◌≤◌, ℕ, Bool, true, false, List, [], ◌∷◌, ◌++◌, not, Option, Some, None, Result, Ok, Err, IfOk, IfSome, IsErrOf, IsTrue}
 use Rattle.lab_base.specs.Counts.{Rose}
 use Rattle.plant.specs.Disks.{ArePossible}

@@ -1,4 +1,4 @@
--- What a call of `open` adds to a trace, and what it leaves.
+-- The steps that a call of `open` adds to a trace, and the state behind them.
 use Rattle.std.specs.Prelude.{Bool, ◌≡◌, ◌⊎◌, ◌<◌, ◌≤◌, ◌+◌, ◌*◌, ℕ, true, false, count_by, List, [], ◌++◌, take, Option, Result, Ok, Err, IfSome}
 use Rattle.plant.specs.Disks.{disk, ArePossible}
 use Rattle.std.specs.List.{list_any}

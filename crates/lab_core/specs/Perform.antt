@@ -1,4 +1,4 @@
--- What is told of an append, and of the settling of all that moves.
+-- The replies behind an append, and behind the settling of all that moves.
 use Rattle.std.specs.Prelude.{Result, Ok, Err}
 use Rattle.journal_disk.specs.declared.fault.AppendFault.{AppendFault}
 use Rattle.journal_disk.specs.declared.fault.AppendFault.TheVariants as appending

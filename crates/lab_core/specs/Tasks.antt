@@ -1,4 +1,4 @@
--- What a judgement of the code gives: a task, or a refusal.
+-- Judgements of the code: a task, or a refusal.
 use Rattle.std.specs.Prelude.{◌≡◌, ◌<◌, false, ℕ, List, length, Option, Some, None, Result, Ok, Err}
 use Rattle.plant.specs.Worlds.{World}
 use Rattle.journal_rec.specs.Payloads.{IsRecord}

@@ -1,4 +1,4 @@
--- What the reply to a swap tells of the lab, what a turn does, and whom a command settles.
+-- The lab that the reply to a swap tells, the steps of a turn, and those whom a command settles.
 use Rattle.std.specs.Prelude.{◌≡◌, ℕ, Bool, true, false, not, is_none, List, [], ◌∷◌, ◌++◌, ◌⊎◌, Option, Some, None, Result, Ok}
 use Rattle.std.specs.List.{list_any}
 use Rattle.lab_base.specs.Lists.{Has}

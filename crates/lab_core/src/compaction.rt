@@ -85,8 +85,8 @@ fn move_journal<P: Plant>(
     move_over(journal, &packed, plant)
 }
 
-/// Moves the journal onto its other side without the lab's past, where it is longer than a mebibyte, at most half of that is
-/// needed, and it has a next epoch.
+/// Moves the journal onto its other side without the lab's past.
+/// It does so where the journal is longer than a mebibyte, at most half of that is needed, and it has a next epoch.
 pub(crate) fn compact<P: Plant>(
     mut controller: Controller,
     plant: &mut P,

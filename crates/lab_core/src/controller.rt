@@ -183,13 +183,13 @@ fn settle_all<P: Plant>(mut controller: Controller, plant: &mut P) -> Result<Con
 }
 
 impl Controller {
-    /// Opens the journal, whose sides may have any length up to the limit, finds the lab that its records stand for, and settles
-    /// all experiments that move in it. One that gets stuck moves still, and the others go on. Then the journal moves onto its
-    /// other side without the lab's past, where it is longer than a mebibyte, at most half of that is needed, and it has a next
-    /// epoch.
+    /// Opens the journal, whose sides may have any length up to the limit, and finds the lab of its records. Then it settles all experiments that
+    /// move in that lab. One that gets stuck still moves, and the others go on.
+    /// At last the journal moves onto its other side without the lab's past, where it is longer than a mebibyte, at most half of that is needed, and
+    /// it has a next epoch.
     ///
-    /// `Bad` tells the side and the position of the first record that can't be read or can't follow, or of the last gate
-    /// where there is no room for the last records of the experiments that move. Then nothing was settled. No swap is open yet.
+    /// `Bad` has the side and the position of the first record that can't be read or can't follow. Where there is no room for the last records of the
+    /// experiments that move, it has the last gate. Then nothing was settled. No swap is open yet.
     pub fn open<P: Plant>(alloc: Global, limit: u64, plant: &mut P) -> Result<Controller, OpenFault>
         requires least { 18 ≤ limit }
         requires most { limit ≤ 2 ^ 32 }

@@ -1,4 +1,4 @@
-// What is judged of a command.
+// Judging a command.
 ghost use Rattle.std.specs.Prelude.{◌≡◌, ◌<◌, ◌≤◌, None, IfOk, OnErr, Result, false, length, true};
 ghost use Rattle.lab_base.specs.declared.fault.TextFault.{TextFault as AnyTextFault};
 ghost use Rattle.lab_base.specs.declared.fault.TextRefused.TheVariants as refusals;

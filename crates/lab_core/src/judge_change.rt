@@ -1,4 +1,4 @@
-// What is judged of a change of an experiment that is in.
+// Judging a change of an experiment that is in.
 ghost use Rattle.std.specs.Prelude.{◌≡◌, ◌+◌, ◌<◌, ◌≤◌, ◌^◌, IfOk, OnOk, Some, length, true};
 ghost use Rattle.lab_base.specs.Lists.{Has};
 ghost use Rattle.lab_base.specs.declared.fault.TextFault.{TextFault as AnyTextFault};

@@ -1,4 +1,4 @@
-// What is judged of a search.
+// Judging a search.
 ghost use Rattle.std.specs.Prelude.{◌≡◌, ◌<◌, IfOk, Ok, length};
 ghost use Rattle.assign_core.specs.Exact.{IfFound};
 ghost use Rattle.lab_model.specs.Shapes.{IsShaped};
@@ -25,7 +25,7 @@ use std::alloc::Global;
 use swap_mgr::Manager;
 use virt_topo::{Experiment, Mapping, Wiring};
 
-/// What a search finds for an experiment with that wiring, on what the other experiments leave free.
+/// Searches a mapping of that wiring for an experiment, on the rest that the other experiments leave.
 fn search(
     alloc: Global,
     state: &LabState,

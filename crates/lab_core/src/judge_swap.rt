@@ -1,4 +1,4 @@
-// What is judged of a swap into the lab.
+// Judging a swap into the lab.
 ghost use Rattle.std.specs.Prelude.{◌≡◌, ◌<◌, ◌≤◌, ◌^◌, IfOk, length, Ok, Some};
 ghost use Rattle.lab_base.specs.Lists.{Has};
 ghost use Rattle.lab_base.specs.declared.ids.VlanId.{VlanId as AnyVlanId};

@@ -37,11 +37,11 @@ ghost use Rattle.lab_core.specs.Sessions.{OpenSwap, Session, Open, Terms, Settin
 ghost use Rattle.lab_core.specs.Judge.{IsFound, Task, Tell, Swap, BeginOnly, Turn, Finish, Judged, is_searched};
 ghost use Rattle.lab_core.specs.Tells.{AllMove, AreLocal, BeginsAt, GoesIn, Hinders, IsAtRest, IsFeasibleFor, IsInBy, IsNoSwap, IsOpened, IsTurn, IsTurnOf, TellsBroken, TellsEnd, TellsLab, SendsOne, busy_of, is_stopped, opens_of, settles, taken_reply};
 
-/// A command for which no search is made has one judgement, and a lab step of a command that is no list is by one of
-/// its judgements. One that refuses it, or only tells something, has no steps of its own. Where nothing failed or stopped, a judgement that begins no swap
-/// and settles none leads, where a reply is told, to one reply and one lab. The reply to a swap tells where the lab is.
-/// Experiments of other names stay, whatever the reply; where the command settles what moves, those that don't move and those
-/// with an open swap. A drill leaves all as it was. The plant stopped exactly where the reply is `stopped`.
+/// A command without a search has one judgement, and a lab step is by one of its command's judgements.
+/// One that refuses the command, or only tells something, has no steps of its own. One that begins no swap and settles none leads, where nothing
+/// failed or stopped and a reply is told, to one reply and one lab. The reply to a swap tells where its experiment is.
+/// Experiments of other names stay, whatever the reply. Where the command settles what moves, those that don't move stay, and those with an open
+/// swap. A drill leaves all as it was. The plant stopped exactly where the reply is `stopped`.
 pub fn lab_steps()
     ensures judged_once { (rule : RuleNumber) (s : LabState) (busy : Bool) (count : ℕ) (command : Command) (a b : Result Task Reply) → is_searched command ≡ false → Judged rule s busy count command a → Judged rule s busy count command b → a ≡ b }
     ensures by_one { (terms : Terms) (at : List Event) (set : Setting) (s : LabState) (session : Session) (command : Command) (opening own : List Event) (after : After)
@@ -66,12 +66,13 @@ pub fn lab_steps()
         → LabStep terms at set s session command opening own after → after.reply ≡ Some reply → has_restart (opening ++ own) ≡ is_stopped reply }
 {}
 
-/// Open swaps, over lab steps that leave the controller open: each of another name than the command's is open as it was, so
-/// `recover` leaves all; their names differ where they did, and no more than sixteen are open. One that is begun by `open` is one
-/// more, of which nothing was sent. The experiment of each open swap moves, where it did before the step. A turn sends one device
-/// command, or appends one record; one that breaks off sends no more than one, and nothing of the journal behind it. The reply to
-/// a turn, or to all up to the end, tells where the lab is. Both leave the world of each other experiment as it was, over any
-/// trace and however they end: each row that it wants, and each node that it claims.
+/// Open swaps, over lab steps that leave the controller open.
+/// Each of another name than the command's is open as it was, so `recover` leaves all. Their names differ where they did, and no more than sixteen
+/// are open. One that `open` begins is one more, of which nothing was sent. The experiment of each open swap moves, where it did before the step.
+/// A turn sends one device command, or appends one record. One that breaks off sends no more than one, and nothing of the journal behind it. The
+/// reply to a turn, or to all up to the end, tells where the experiment is.
+/// Both leave the world of each other experiment as it was, over any trace and however they end: each row that it wants, and each node that it
+/// claims.
 pub fn open_swaps()
     ensures others { (terms : Terms) (at : List Event) (set : Setting) (s : LabState) (opens to : List OpenSwap) (command : Command) (opening own : List Event) (after : After) (name : List ℕ)
         → name_of command ≢ Some name → LabStep terms at set s (Open opens) command opening own after → after.session ≡ Open to → open_at name to ≡ open_at name opens }
@@ -98,8 +99,8 @@ pub fn open_swaps()
         → LabStepBy (Ok (Finish exp)) terms set s (Open opens) command opening own after → after.reply ≡ Some reply → TellsEnd s exp reply after.lab }
 {}
 
-/// An untroubled recovery leaves no experiment moving but those with an open swap: an opening in which none got stuck, and a
-/// `recover` that tells so. An experiment whose own settling met no trouble is at rest behind both, also where another's did.
+/// Recoveries: behind an opening in which none got stuck, and behind a `recover` that tells so, no experiment moves but those with an open swap.
+/// An experiment whose own settling met no trouble is at rest behind both, also where another's did.
 pub fn recoveries()
     ensures opened { (s mid : LabState) (opening : List Event) → Sane s → (is : Opens s opening mid) → count_by is_stuck is.outcomes ≡ 0
         → (e : Experiment) → Has mid.experiments e → is_moving e ≡ false }
@@ -109,10 +110,10 @@ pub fn recoveries()
         → (e : Experiment) → Has after.lab.experiments e → is_moving e ≡ true → is_busy (busy_of session) e.name ≡ true }
 {}
 
-/// An experiment is swapped in by a supplied solution, or its swap begins where `open` stands before the command, only where that
-/// is feasible on what the other experiments leave free, and there it is, unless the reply tells what hindered it; an open swap
-/// of its own can't, since the experiment of one moves. One that is answered as in is in by the mapping of that solution, at once
-/// or at the end of the swap that begins.
+/// Supplied solutions: an experiment is swapped in, or its swap begins where `open` stands before the command, only where the solution is feasible on
+/// the rest that the others leave.
+/// Where it is feasible it goes in, unless the reply tells what hindered it. An open swap of its own can't, since the experiment of one moves. One
+/// that is answered as in is in by the mapping of that solution, at once or at the end of the swap that begins.
 pub fn solutions()
     ensures only { (terms : Terms) (at : List Event) (set : Setting) (s : LabState) (session : Session) (only_begin : Bool) (exp text : List ℕ) (lines : ℕ) (opening own : List Event) (after : After)
         → LabStep terms at set s session (SwapinWith only_begin exp lines text) opening own after → after.reply ≡ Some (taken_reply only_begin exp)
@@ -128,15 +129,15 @@ pub fn solutions()
         → AllMove opens s → GoesIn opens s exp text → IsTurnOf exp command → LabStep terms at set s (Open opens) command opening own after → after.reply ≡ Some (In exp) → IsInBy after.lab exp text }
 {}
 
-/// A search has one answer, but where there are more than 65,536 candidates and FirstFit is feasible: there each answer is locally
-/// best, and costs at most every map of the walk of the seed.
+/// A search has one answer, unless there are more than 65,536 candidates and FirstFit is feasible. Then each answer is locally best, and costs at
+/// most every map of the walk of the seed.
 pub fn searches()
     ensures { (rule : RuleNumber) (lab : Lab) (es : List Experiment) (e : Experiment) (w : Wiring) (seed : ℕ) (a b : Solved) → IsFound rule lab es e w seed a → IsFound rule lab es e w seed b
         → (a ≡ b) ⊎ AreLocal a b }
 {}
 
-/// Over a sound trace the devices are as the lab of each image says, so of an experiment that is in each wanted row stands, and
-/// its nodes are as they are wanted, and of one that is out nothing does.
+/// Over a sound trace the devices are as the lab of each image says.
+/// Each row that an experiment wants which is in is there, and its nodes are as they are wanted. Of one that is out there is nothing.
 pub fn labs_are_kept()
     ensures { (trace : List Event) (a b : List ℕ) (s : LabState) → IsSound the_texts trace → ArePossible trace a b → StandForLab a b s → IsAsSaid (world_of trace) s }
 {}

@@ -1,4 +1,4 @@
-// What a command needs: each check gives a value, or the reply that refuses the command.
+// The needs of commands: each check gives a value, or the reply that refuses the command.
 ghost use Rattle.std.specs.Prelude.{◌≡◌, ◌<◌, Ok, IfOk, OnOk, length, true, false, None, Some};
 ghost use Rattle.lab_base.specs.Lists.{Has};
 ghost use Rattle.virt_topo.specs.declared.experiment.Experiment.{Experiment as AnyExperiment};

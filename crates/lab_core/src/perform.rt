@@ -92,7 +92,7 @@ fn enter_written(lab: &mut LabState, prepared: Prepared, written: &Result<(), Ap
     }
 }
 
-/// What is told of an append for which there was room.
+/// The reply behind an append for which there was room.
 fn reply_of_append(reply: Reply, written: Result<(), AppendFault>) -> Result<Reply, CoreFault>
     requires { (length size : ℕ) → written ≡ Err (AppendFault.Full length size) → ⊥ }
     ensures { result ≡ append_answer reply written }
@@ -256,7 +256,7 @@ fn swap<P: Plant>(
     }
 }
 
-/// What is told of the settling of all experiments that move.
+/// The reply behind the settling of all experiments that move.
 fn reply_of_settling(settled: Result<Settled, SettleFault>) -> Result<Reply, CoreFault>
     ensures { result ≡ recover_answer settled }
 {

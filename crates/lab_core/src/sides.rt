@@ -1,4 +1,4 @@
-// What two sides are.
+// The journal of two sides, or none.
 ghost use Rattle.std.specs.Prelude.{◌≡◌, ℕ, List};
 ghost use Rattle.plant.specs.declared.step.Side.{Side};
 ghost use Rattle.lab_core.specs.Moments.{IsNoJournal};

@@ -1,4 +1,4 @@
-// What breaks a rule, as replies name it.
+// The names that replies have for the subjects of rules.
 ghost use Rattle.std.specs.Prelude.{◌≡◌, map, IfOk};
 ghost use Rattle.top_text.specs.Canonical.{virt_name};
 ghost use Rattle.lab_core.specs.Judge.{name_at, subject_name};

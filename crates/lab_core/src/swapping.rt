@@ -223,7 +223,7 @@ fn undone_by(inside: bool) -> FailedEnd
     }
 }
 
-/// What is told of a swap that is over: where the experiment is, or the trouble that began the undo.
+/// The reply behind a swap that is over: the side on which the experiment is, or the trouble that began the undo.
 fn reply_of_over(exp: Name, ended: Ended) -> Reply
     ensures { result ≡ reply_of_over exp ended.inside ended.why }
 {
@@ -238,7 +238,7 @@ fn reply_of_over(exp: Name, ended: Ended) -> Reply
     }
 }
 
-/// What is told of a turn.
+/// The reply behind a turn.
 pub(crate) fn reply_of_progress(exp: Name, progress: Progress) -> Result<Reply, CoreFault>
     ensures { result ≡ progress_answer exp progress }
 {
@@ -255,7 +255,7 @@ pub(crate) fn reply_of_progress(exp: Name, progress: Progress) -> Result<Reply, 
     }
 }
 
-/// What is told of a swap that was not opened.
+/// The reply where a swap was not opened.
 pub(crate) fn reply_of_unopened(exp: Name, fault: OpenSwap) -> Result<Option<Reply>, CoreFault>
     requires { HasTried fault }
     ensures { result ≡ unopened_answer exp fault }

@@ -8,7 +8,7 @@ use lab_base::{Memory, Name};
 use script_text::Reply;
 use swap_plan::Ops;
 
-/// What a command does that nothing refuses.
+/// The task of a command that nothing refuses.
 #[derive(Drop)]
 pub(crate) enum Task {
     /// It tells something.

@@ -1,4 +1,4 @@
-// What replies show of experiments.
+// Experiments as replies show them.
 ghost use Rattle.std.specs.Prelude.{◌≡◌, List, map, IfOk};
 ghost use Rattle.lab_base.specs.Lists.{Has};
 ghost use Rattle.lab_base.specs.declared.ids.VlanId.{VlanId as AnyVlanId};

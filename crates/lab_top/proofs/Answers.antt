@@ -1,4 +1,4 @@
--- What was answered stays so; and what an untroubled opening leaves.
+-- Answered experiments stay so; and the state behind an opening without trouble.
 use Rattle.std.specs.Prelude.{count_by}
 use Rattle.std.proofs.Common.{◌≡◌, ℕ, ◌^◌, Bool, true, false, List, [], ◌∷◌, ◌++◌, Option, Some, None, refl, sym, ◌∙◌, ap, subst}
 use Rattle.plant.specs.Events.{Event}

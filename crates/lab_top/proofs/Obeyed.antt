@@ -1,4 +1,4 @@
--- What a call of the controller leaves is a command that was done.
+-- A call of the controller as a command that was done.
 use Rattle.std.proofs.Common.{◌≡◌, ◌↔◌, inl, inr, ℕ, ◌^◌, Bool, true, false, List, [], ◌∷◌, ◌++◌, length, Option, Some, None, Result, Ok, Err, refl, sym, ◌∙◌, ap, subst, arith}
 use Rattle.std.specs.Prelude.{IfSome, IsErrOf, IsTrue, OnOk, OnErr, ◌≤◌, is_some, not}
 use Rattle.std.proofs.lemmas.List.{append-nil}

@@ -1,4 +1,4 @@
--- What takes the reply to each command.
+-- Tellers, which take the reply to each command.
 use Rattle.std.specs.Prelude.{◌≡◌, List, [], ◌∷◌, ◌++◌}
 use Rattle.std.specs.List.{filter_map}
 use Rattle.script_text.specs.declared.reply.Reply.{Reply}

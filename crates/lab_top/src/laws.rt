@@ -34,8 +34,8 @@ ghost use Rattle.lab_words.specs.Words.{Choices};
 ghost use Rattle.lab_top.specs.declared.status.Status.{Status};
 ghost use Rattle.lab_top.specs.declared.status.Status.TheVariants.{Memory, JournalBad};
 
-/// Where a command that is no drill finds the session closed and the sides to be no journal, and no call of its opening failed or
-/// stopped, the run ends with `JournalBad` at that very place, or memory is wanting. No premise is on what the trace was before.
+/// A command that is no drill finds the session closed and the sides to be no journal, and no call of its opening fails or stops.
+/// Then the run ends with `JournalBad` at that very place, or memory is wanting, whatever the trace was before.
 pub fn bad_journals()
     ensures { (terms : Terms) (choices : Option Choices) (old new : Outside) (status : Status) (before after : List Begun) (b : Begun) (t : Told) (side : Side) (at : ℕ)
         → Ran terms choices old new status (before ++ b ∷ after) → old.plant.told ≡ Some t → drill_of b.piece.command ≡ None → b.piece.from ≡ Closed
@@ -44,11 +44,11 @@ pub fn bad_journals()
         → (status ≡ Memory) ⊎ (status ≡ JournalBad side at) }
 {}
 
-/// A supplied solution is swapped in, or its swap begins where `open` stands before the command, exactly where it is feasible on
-/// what is free once the controller is open, unless the reply tells what hindered it. An experiment that doesn't move stays as it
-/// is, in every image that a later stop may leave, until a later command on it. The reply is `stopped` exactly where the plant
-/// stopped, and a command that is no drill has no reply of a drill, both whatever the trace was before. A trace in which nothing
-/// has happened is sound.
+/// A supplied solution is swapped in, or its swap begins where `open` stands before the command, exactly where it is feasible on the free rest of the
+/// lab behind the opening. Else the reply tells what hindered it.
+/// An experiment that doesn't move stays as it is, in every image that a later stop may leave, until a later command on it.
+/// The reply is `stopped` exactly where the plant stopped, and a command that is no drill has no reply of a drill, both whatever the trace was
+/// before. The empty trace is sound.
 pub fn runs()
     ensures solutions { (terms : Terms) (choices : Option Choices) (old new : Outside) (status : Status) (before after : List Begun) (b : Begun) (t : Told) (only_begin : Bool) (exp text : List ℕ) (lines : ℕ) (reply : Reply)
         → Ran terms choices old new status (before ++ b ∷ after) → old.plant.told ≡ Some t → IsSound the_texts t.trace → b.piece.command ≡ SwapinWith only_begin exp lines text → b.piece.reply ≡ Some reply
@@ -71,9 +71,9 @@ pub fn runs()
     ensures script { (bytes : List ℕ) (a b : List Command) (x y : Ending) → IsScript bytes a x → IsScript bytes b y → (a ≡ b) × (x ≡ y) }
 {}
 
-/// An untroubled recovery, over every sound trace: behind an opening in which none got stuck, and behind a `recover` that tells
-/// that none did, no experiment moves in any image that a stop may leave but those with an open swap, and besides what these
-/// claim the devices have exactly what the experiments that are in want.
+/// Recoveries, over every sound trace: behind an opening in which none got stuck, and behind a `recover` that tells so, no experiment moves but those
+/// with an open swap.
+/// So it is in any image that a stop may leave. Besides what these claim, the devices have exactly what the experiments that are in want.
 pub fn recoveries()
     ensures opened { (terms : Terms) (choices : Option Choices) (old new : Outside) (status : Status) (before after : List Begun) (b : Begun) (t : Told)
         → Ran terms choices old new status (before ++ b ∷ after) → old.plant.told ≡ Some t → IsSound the_texts t.trace → HasOpened b.piece
@@ -87,15 +87,17 @@ pub fn recoveries()
         → AllRestBut (busy_of b.piece.from) (trace_after t.trace (before ++ b ∷ [])) }
 {}
 
-/// Many swaps at once, over commands that are about other experiments, each of which leaves the session open: an experiment's
-/// open swap stays as it is, over any trace; and where it has one, over every sound trace the experiment stays as it is, in every
-/// image that a later stop may leave. The experiment of each open swap moves, at each moment and over any trace; and where the
-/// swap begins with a supplied solution, and its end is answered as in, there it is in by that one. A turn sends one device
-/// command, or appends one record, over any trace; one that is refused does neither, and one that breaks off sends no more than
-/// one, and nothing of the journal behind it. Where a turn of one, or all up to its end, find the session open, they leave the
-/// world of each other experiment as it was, however they end: each row that it wants, and each node that it claims. No more than
-/// sixteen swaps are open, and no two of one name; and each has the count of device faults at the mark of a command before, over
-/// every plant.
+/// Many swaps at once.
+/// Commands about other experiments, each of which leaves the session open, leave an experiment's open swap as it is, over any trace. Where it has
+/// one, over every sound trace the experiment stays as it is, in every image that a later stop may leave.
+/// The experiment of each open swap moves, at each moment and over any trace. Where the swap begins with a supplied solution, and its end is answered
+/// as in, the experiment is in by that solution.
+/// A turn sends one device command, or appends one record, over any trace. One that is refused does neither. One that breaks off sends no more than
+/// one, and nothing of the journal behind it.
+/// Where a turn of one, or all up to its end, find the session open, they leave the world of each other experiment as it was, however they end: each
+/// row that it wants, and each node that it claims.
+/// No more than sixteen swaps are open, and no two of one name. Each has the count of device faults at the mark of a command before, over every
+/// plant.
 pub fn turns()
     ensures swaps { (terms : Terms) (choices : Option Choices) (old new : Outside) (status : Status) (before middle after : List Begun) (t : Told) (name : List ℕ)
         → Ran terms choices old new status (before ++ (middle ++ after)) → old.plant.told ≡ Some t → StayOpen middle → AreOthers name middle

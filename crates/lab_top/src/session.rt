@@ -43,7 +43,7 @@ fn run_script<S: Source, K: Sink, P: Plant>(
     obey_commands(alloc, &mut reader, rule, source, sink, plant)
 }
 
-/// Obeys a script under the cost rule of that number, which is made once: the script of a seed, if there is one, else the source's.
+/// Obeys a script under the cost rule of that number, which is made once. The script is that of a seed, if there is one, else the source's.
 pub(crate) fn run_under<S: Source, K: Sink, P: Plant>(
     alloc: Global,
     number: RuleNumber,

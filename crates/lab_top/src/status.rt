@@ -18,8 +18,9 @@ pub enum Status {
     BadScript { line: u64 },
     /// Memory was wanting.
     Memory,
-    /// The sides of the disk are no journal: the side, and the position of the record that can't be read or can't follow, or of
-    /// the last gate where there is no room for the last records of the experiments that move.
+    /// The sides of the disk are no journal.
+    /// It has the side, and the position of the record that can't be read or can't follow. Where there is no room for the last records of the
+    /// experiments that move, it has the last gate.
     JournalBad { side: Side, at: u64 },
 }
 

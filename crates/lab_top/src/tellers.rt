@@ -1,4 +1,4 @@
-// What takes the reply to each command.
+// Tellers, which take the reply to each command.
 ghost use Rattle.std.specs.Prelude.{◌≡◌, ◌≤◌, ℕ, List, Option, IsErrOf, OnOk};
 ghost use Rattle.lab_base.specs.Counts.{Rose};
 ghost use Rattle.script_text.specs.Replies.{text_of};
@@ -11,7 +11,7 @@ use lab_io::{Sink, write_all};
 use script_text::{Reply, reply_text};
 use std::alloc::Global;
 
-/// What takes the reply to each command: it writes the reply, or counts it.
+/// A teller takes the reply to each command: it writes the reply, or counts it.
 pub(crate) trait Teller {
     /// The bytes that were written, where they are told.
     ghost written: { Self → Option (List ℕ) };

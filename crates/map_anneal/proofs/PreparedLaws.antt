@@ -1,4 +1,4 @@
--- What is sought by what is prepared.
+-- The maps to be searched, by the prepared tables.
 use Rattle.std.proofs.Common.{◌≡◌}
 use Rattle.phys_lab.specs.Labs.{Lab}
 use Rattle.phys_lab.specs.declared.free.Free.{Free}

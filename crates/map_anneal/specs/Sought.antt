@@ -1,4 +1,4 @@
--- What is sought: the maps of a wiring, and what each costs.
+-- The maps of a wiring, among which is searched, and the cost of each.
 use Rattle.std.specs.Prelude.{◌≡◌, ℕ, ◌<◌, ◌≤◌, List, [], length, Option, Some, Contains, slice_index_or, slice_set}
 use Rattle.phys_lab.specs.Labs.{Lab}
 use Rattle.phys_lab.specs.declared.free.Free.{Free}

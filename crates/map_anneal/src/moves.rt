@@ -21,7 +21,7 @@ use node_maps::{Candidates, Place};
 use std::alloc::Global;
 use virt_topo::Mapping;
 
-/// What moves are tried in.
+/// The setting in which moves are tried.
 #[derive(Clone, Copy)]
 pub struct Moves<'a> {
     pub setting: Setting<'a>,

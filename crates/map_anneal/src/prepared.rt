@@ -1,4 +1,4 @@
-// What is made of a lab and a wiring before their maps are searched.
+// Tables of a lab and a wiring, made before their maps are searched.
 ghost use Rattle.std.specs.Prelude.{◌≡◌, IfOk};
 ghost use Rattle.virt_topo.specs.Soundness.{IsSound};
 ghost use Rattle.lab_model.specs.Shapes.{IsFreeOf};
@@ -12,7 +12,7 @@ use phys_lab::{Free, Lab};
 use std::alloc::Global;
 use virt_topo::Wiring;
 
-/// What searches look up of a wiring on what is free of a lab.
+/// The tables of a wiring on the free rest of a lab, which searches use.
 #[derive(Drop)]
 pub struct Prepared {
     pub candidates: Candidates,
@@ -23,7 +23,7 @@ pub struct Prepared {
 }
 
 impl Prepared {
-    /// That of a wiring on what is free of a lab.
+    /// The tables of a wiring on the free rest of a lab.
     pub fn of(alloc: Global, lab: &Lab, free: &Free, wiring: &Wiring) -> Result<Prepared, Memory>
         requires free { IsFreeOf lab.now free.now }
         requires sound { IsSound wiring.now }
@@ -41,7 +41,7 @@ impl Prepared {
         })
     }
 
-    /// What moves are tried in.
+    /// The setting in which moves are tried.
     pub fn moves<'a>(&'a self, lab: &'a Lab, free: &'a Free, wiring: &'a Wiring) -> Moves<'a>
         requires free { IsFreeOf lab.now free.now }
         requires sound { IsSound wiring.now }

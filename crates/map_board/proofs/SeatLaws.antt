@@ -1,4 +1,4 @@
--- What changes where a virtual node goes to another place.
+-- The counts where a virtual node goes to another place.
 use Rattle.std.proofs.Common.{◌≡◌, ◌≢◌, ◌<◌, ◌≤◌, ◌+◌, ◌-◌, ◌*◌, ◌∙◌, ◌∷◌, ◌++◌, [], inl, inr, ℕ, zero, suc, List, length, map, take, drop, get_or, Bool, true, false, cond, eqb, ◌==◌, ◌||◌, refl, ap, sym, arith, get_or-set_other, get_or-set_same}
 use Rattle.std.specs.Prelude.{nat_lt, count_by, not, ◌&&◌}
 use Rattle.std.specs.List.{list_any, remove}

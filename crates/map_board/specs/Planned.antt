@@ -1,4 +1,4 @@
--- What the mapping is once what is planned is made.
+-- The mapping with its planned changes made.
 use Rattle.virt_topo.specs.declared.mapping.Mapping.{Mapping}
 use Rattle.trunk_sums.specs.Remade.{remade}
 use Rattle.map_board.specs.declared.board.Board.{Board}

@@ -1,4 +1,4 @@
--- What is kept of the places of a mapping.
+-- The counts kept by place of a mapping.
 use Rattle.std.specs.Prelude.{◌≡◌, ◌<◌, ◌≤◌, ◌==◌, ◌&&◌, not, ℕ, List, length, nat_lt, count_by, slice_index_or, slice_set, if◌then◌else◌}
 use Rattle.std.specs.List.{list_any}
 use Rattle.lab_base.specs.Names.{same_name}

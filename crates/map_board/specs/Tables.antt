@@ -1,4 +1,4 @@
--- What tries look up.
+-- The tables that tries use.
 use Rattle.std.specs.Prelude.{◌≡◌, ◌↔◌, ◌<◌, ◌==◌, ℕ, true, List, [], length, slice_index_or}
 use Rattle.phys_lab.specs.Labs.{Lab}
 use Rattle.phys_lab.specs.Sides.{joined}

@@ -27,7 +27,7 @@ pub struct Board {
     pub(crate) given: Given,
     pub(crate) listed: Vec<u16>,
     pub(crate) changes: Vec<Change>,
-    /// What takes the last try back.
+    /// The changes that undo the last try.
     pub(crate) back: Vec<Change>,
 }
 
@@ -275,8 +275,8 @@ impl Board {
         self.back.clear();
     }
 
-    /// Whether a mapping keeps the eight rules, whose plugs the interface rule gave, and which before the last try was a node
-    /// map whose places differ on two nodes alone.
+    /// Whether a mapping keeps the eight rules. Its plugs are those of the interface rule. Before the last try it was a node map, and the places
+    /// differ from that one's on two nodes alone.
     fn is_kept(
         &self,
         alloc: Global,
@@ -305,8 +305,8 @@ impl Board {
         Ok(has_room(mapper.free, self.sums.uses()))
     }
 
-    /// Makes what is planned of the ends on two nodes, where virtual nodes of a node map went from one of them to the other;
-    /// false where that is no node map.
+    /// Makes the planned changes of the ends on two nodes, where virtual nodes of a node map went from one of them to the other. False where the
+    /// outcome is no node map.
     pub fn settle(
         &mut self,
         alloc: Global,

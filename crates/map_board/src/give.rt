@@ -115,7 +115,7 @@ fn serve_noted(
     Ok(true)
 }
 
-/// The same, which then forgets what was given.
+/// Gives the listed ends their interfaces, and then forgets which were given.
 fn give_listed(
     alloc: Global,
     setting: &Setting,

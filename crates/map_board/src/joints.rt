@@ -77,7 +77,7 @@ pub(crate) fn all_keep_f7(setting: &Setting, mapping: &Mapping) -> bool
     true
 }
 
-/// The same of each segment with an end that changed.
+/// Whether each segment with a changed end keeps the seventh rule.
 pub(crate) fn changed_keep_f7(setting: &Setting, mapping: &Mapping, changes: &[Change]) -> bool
     requires setting { IsSetting setting.now }
     requires shaped { IsShaped setting.now.mapper.lab.now setting.now.mapper.wiring.now mapping.now }

@@ -1,5 +1,5 @@
-//! A node map whose tries change it in place, and what is kept of it: by node how many virtual nodes are on it, by trunk
-//! what is used of it, and the parts of its cost.
+//! A node map that tries change in place.
+//! It keeps by node the number of its virtual nodes, by trunk the use, and the parts of its cost.
 #![tactic(auto)]
 
 mod board;

@@ -1,4 +1,4 @@
-// What is kept of the places of a mapping.
+// The counts kept by place of a mapping.
 ghost use Rattle.std.specs.Prelude.{◌≡◌, ◌<◌, ◌≤◌, ◌+◌, ◌-◌, ◌==◌, ℕ, length, slice_index_or, slice_set, if◌then◌else◌, IfOk, OnOk, All, true};
 ghost use Rattle.virt_topo.specs.Soundness.{IsSound};
 ghost use Rattle.lab_model.specs.Shapes.{IsShaped, node_at, has_name};
@@ -22,7 +22,7 @@ pub struct Seats {
     pub(crate) soft: u64,
 }
 
-/// What a class would cost more if one of its members had a type too.
+/// The cost that a class would have more if one of its members had a type too.
 fn kind_soft(wiring: &Wiring, mapping: &Mapping, class: usize, kind: Name) -> u64
     requires placed { length mapping.now.places ≡ length wiring.now.nodes }
     requires class { class < length wiring.now.classes }
@@ -38,7 +38,7 @@ fn kind_soft(wiring: &Wiring, mapping: &Mapping, class: usize, kind: Name) -> u6
     }
 }
 
-/// The same of the class that a virtual node asks for, if it asks for one.
+/// The cost that the class asked for, if there is one, would have more by that type.
 fn asked_soft(wiring: &Wiring, mapping: &Mapping, asks: &Asks, kind: Name) -> u64
     requires sound { IsSound wiring.now }
     requires placed { length mapping.now.places ≡ length wiring.now.nodes }
@@ -57,7 +57,7 @@ fn asked_soft(wiring: &Wiring, mapping: &Mapping, asks: &Asks, kind: Name) -> u6
     }
 }
 
-/// The same of the class that a virtual node of that number asks for.
+/// The cost that the class of a virtual node would have more by that type.
 fn type_soft(wiring: &Wiring, mapping: &Mapping, virt: usize, kind: Name) -> u64
     requires sound { IsSound wiring.now }
     requires placed { length mapping.now.places ≡ length wiring.now.nodes }
@@ -117,7 +117,7 @@ fn count_guests(alloc: Global, lab: &Lab, mapping: &Mapping) -> Result<Vec<u16>,
 }
 
 impl Seats {
-    /// Those of a mapping.
+    /// The counts of a mapping.
     pub fn of(alloc: Global, lab: &Lab, wiring: &Wiring, mapping: &Mapping) -> Result<Seats, Memory>
         requires sound { IsSound wiring.now }
         requires shaped { IsShaped lab.now wiring.now mapping.now }

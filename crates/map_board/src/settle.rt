@@ -94,7 +94,7 @@ impl Board {
         all_keep_f7(setting, &self.mapping)
     }
 
-    /// The same where it was so before the last try.
+    /// Whether all segments are joined, where they were before the last try.
     pub(crate) fn is_still_joined(&self, setting: &Setting) -> bool
         requires setting { IsSetting setting.now }
         requires laid { IsLaid setting.now self.now }

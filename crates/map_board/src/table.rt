@@ -1,4 +1,4 @@
-// What tries look up.
+// Tables for tries.
 ghost use Rattle.std.specs.Prelude.{◌≡◌, ◌<◌, ◌≤◌, ◌==◌, ◌++◌, ℕ, true, false, [], length, replicate, IfOk, OnOk, IsTrue, IsFalse};
 ghost use Rattle.phys_lab.specs.Sides.{joined};
 ghost use Rattle.virt_topo.specs.Soundness.{IsSound};
@@ -14,7 +14,7 @@ use std::alloc::Global;
 use trunk_sums::{Crossings, EndRow};
 use virt_topo::{Segment, Wiring};
 
-/// What tries look up of a lab and a wiring.
+/// The tables of a lab and a wiring that tries use.
 #[derive(Drop)]
 pub struct Table {
     /// By end its segment, how many ends that has, and its speed.
@@ -30,7 +30,7 @@ pub struct Table {
     pub(crate) joined: bool,
 }
 
-/// What the node maps of a wiring are made from, and what their tries look up.
+/// The mapper of a wiring, with the tables that tries use.
 #[derive(Clone, Copy)]
 pub struct Setting<'a> {
     pub mapper: Mapper<'a>,
@@ -134,7 +134,7 @@ fn are_all_joined(lab: &Lab) -> bool
 }
 
 impl Table {
-    /// What the tries of a wiring on a lab look up.
+    /// The tables of a wiring on a lab.
     pub fn of(alloc: Global, lab: &Lab, wiring: &Wiring, ends: &[End]) -> Result<Table, Memory>
         requires sound { IsSound wiring.now }
         requires ends { ends.now ≡ ends_of wiring.now.segments }

@@ -1,4 +1,4 @@
--- What is noted of the loads on an interface, and what may come to them.
+-- The loads noted on an interface, and those that it may still bear.
 use Rattle.std.proofs.Common.{◌≡◌, ◌≢◌, ◌≤◌, ◌<◌, ◌+◌, ◌-◌, ◌∷◌, [], ◌++◌, ◌∙◌, inl, inr, ℕ, suc, zero, List, length, get_or, Bool, true, false, cond, eqb, not, nat_le, ◌&&◌, ◌||◌, All, refl, ap, sym, subst, arith}
 use Rattle.std.specs.Prelude.{max, sum_by}
 use Rattle.std.specs.List.{list_all}

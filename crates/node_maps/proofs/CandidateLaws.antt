@@ -1,4 +1,4 @@
--- What the candidates of a choice keep.
+-- The candidates of a choice.
 use Rattle.std.proofs.Common.{◌≡◌, ◌<◌, ◌∷◌, [], ℕ, List, length, map, filter, get_or, true, Bool, All, Contains, subst, arith}
 use Rattle.std.proofs.lemmas.Bool.{cond_both}
 use Rattle.std.proofs.lemmas.List.{length-map, get_or-map}

@@ -1,4 +1,4 @@
--- What the mapping of a node map is.
+-- The mapping of a node map.
 use Rattle.std.proofs.Common.{◌≡◌, ◌<◌, ◌∙◌, List, [], length, map, get_or, true, Option, Some, None, All, refl, sym, subst, arith}
 use Rattle.std.specs.Prelude.{is_none}
 use Rattle.std.proofs.lemmas.Option.{option_and_then_some, cond_some}

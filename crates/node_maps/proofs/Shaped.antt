@@ -1,4 +1,4 @@
--- What the interface rule gives is shaped.
+-- The plugs of the interface rule are shaped.
 use Rattle.std.proofs.Common.{◌≡◌, ◌<◌, ◌+◌, ◌∷◌, [], ◌++◌, ◌∙◌, ℕ, List, length, get_or, Option, Some, None, All, refl, ap, sym, suc, subst, length-append, arith}
 use Rattle.std.specs.Option.{option_map, option_map_or}
 use Rattle.std.specs.List.{slice_get}

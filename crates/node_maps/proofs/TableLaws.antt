@@ -1,4 +1,4 @@
--- What is noted of loads, with one more, and with none.
+-- The table of loads, with one more, and with none.
 use Rattle.std.proofs.Common.{◌≡◌, ◌≤◌, ◌<◌, ◌+◌, ◌∷◌, [], ◌++◌, ◌∙◌, inl, inr, ℕ, suc, zero, List, length, get_or, map, Bool, true, false, cond, eqb, ◌&&◌, Some, None, All, refl, ap, sym, subst, arith, get_or-set_other, get_or-set_same}
 use Rattle.std.specs.Prelude.{max, sum_by, replicate, ◌==◌, if◌then◌else◌}
 use Rattle.std.specs.List.{list_all, list_any}

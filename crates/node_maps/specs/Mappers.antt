@@ -1,4 +1,4 @@
--- What node maps are made from.
+-- Mappers, from which node maps are made.
 use Rattle.std.specs.Prelude.{◌≡◌}
 use Rattle.virt_topo.specs.Soundness.{IsSound}
 use Rattle.lab_model.specs.Shapes.{IsFreeOf}

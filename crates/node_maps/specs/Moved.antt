@@ -1,4 +1,4 @@
--- What a node map keeps, part by part, and places that differ on two nodes alone.
+-- The facts of a node map, part by part, and places that differ on two nodes alone.
 use Rattle.std.specs.Prelude.{◌≡◌, ◌⊎◌, ◌<◌, ℕ, Bool, true, List, [], length, Some, slice_index_or}
 use Rattle.lab_base.specs.declared.ids.IfaceId.{IfaceId}
 use Rattle.phys_lab.specs.declared.free.Free.{Free}

@@ -121,8 +121,8 @@ impl Given {
         Ok(())
     }
 
-    /// Gives one more end its interface, where its virtual node is placed: the first one of the node that may have it
-    /// beside the earlier ends. False where there is none.
+    /// Gives one more end its interface, where its virtual node is placed. It is the first one of the node that may bear the end beside the earlier
+    /// ends. False where there is none.
     pub fn add(
         &mut self,
         lab: &Lab,
@@ -148,8 +148,8 @@ impl Given {
     }
 }
 
-/// The interface rule for the ends whose virtual nodes are placed: each takes the first interface of its node on which it
-/// may be beside the earlier ends. None where some end gets none.
+/// The interface rule for the ends whose virtual nodes are placed.
+/// Each takes the first interface of its node that may bear it beside the earlier ends. None where some end gets none.
 pub fn serve(
     alloc: Global,
     lab: &Lab,

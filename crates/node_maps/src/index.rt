@@ -106,7 +106,7 @@ fn used_nodes(alloc: Global, nodes: usize, places: &[Place]) -> Result<Vec<bool>
 }
 
 impl NodeIfaces {
-    /// Those of a lab.
+    /// The interfaces of all nodes of a lab.
     pub fn of_lab(alloc: Global, lab: &Lab) -> Result<NodeIfaces, Memory>
         ensures { IfOk result (λ index. IsIndex lab.now index) }
     {
@@ -116,7 +116,7 @@ impl NodeIfaces {
         Ok(NodeIfaces { lists })
     }
 
-    /// Those of the nodes that have one of these places.
+    /// The interfaces of the nodes that have one of these places.
     pub(crate) fn of_places(
         alloc: Global,
         lab: &Lab,

@@ -1,4 +1,4 @@
-// What node maps are made from, and the room of trunks.
+// Mappers, from which node maps are made, and the room of trunks.
 ghost use Rattle.std.specs.Prelude.{◌≡◌, ◌↔◌, nat_le, length, IsTrue, slice_index_or};
 ghost use Rattle.lab_model.specs.Feasible.{AllPass};
 
@@ -7,7 +7,7 @@ use crate::index::NodeIfaces;
 use phys_lab::{Free, Lab};
 use virt_topo::Wiring;
 
-/// What the node maps of a wiring are made from.
+/// A mapper: a lab, its free rest and a wiring, from which node maps are made.
 #[derive(Clone, Copy)]
 pub struct Mapper<'a> {
     pub lab: &'a Lab,

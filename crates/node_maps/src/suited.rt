@@ -79,8 +79,7 @@ fn candidates_of(
     Ok(listed)
 }
 
-/// By virtual node its candidates, in the lab's order: the free places that it suits and where it may be, whatever the
-/// other members of its class are.
+/// By virtual node, its candidates in the lab's order: the free places that it suits and where it may be. The other members of its class don't count.
 #[tactic(auto, unfolding(crate::specs::NodeMaps::candidates))]
 pub fn candidates(
     alloc: Global,

@@ -1,4 +1,4 @@
--- What is printed of tables is read as them.
+-- Printed tables are read as they were.
 use Rattle.std.proofs.Common.{◌≡◌, ℕ, true, List, [], ◌∷◌, ◌++◌, map, Result, Ok, refl, ap, subst, inl}
 use Rattle.std.specs.List.{list_all}
 use Rattle.lab_base.specs.Lists.{Has}

@@ -1,4 +1,4 @@
--- What tables say of the devices.
+-- The devices that tables stand for.
 use Rattle.std.specs.Prelude.{◌≡◌, ℕ, Bool, List, Option, Some, None, Ok, true}
 use Rattle.std.specs.List.{find, list_any}
 use Rattle.plant.specs.declared.device.DeviceOp.{DeviceOp}

@@ -1,4 +1,4 @@
--- What is seen of a plant in files: it tells nothing, and never stops; and the names of its files.
+-- A plant in files as contracts see it: it tells nothing, and never stops; and the names of its files.
 use Rattle.std.specs.Prelude.{false, None}
 use Rattle.plant.specs.Seen.{Seen}
 use Rattle.plant_file.specs.declared.lab.FileLab.{FileLab}

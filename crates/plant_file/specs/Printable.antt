@@ -1,4 +1,4 @@
--- What the printer can print: names that are names, and numbers that the program can hold.
+-- Entries that the printer can print: names that are names, and numbers that the program can hold.
 use Rattle.std.specs.Prelude.{ℕ, ◌-◌, ◌^◌, Bool, ◌&&◌, nat_le, List}
 use Rattle.lab_base.specs.Names.{is_name}
 use Rattle.lab_base.specs.declared.rates.Rates.{Rates}

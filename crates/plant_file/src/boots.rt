@@ -37,7 +37,7 @@ pub(crate) fn boot_in(word: &[u8]) -> Result<Boot, Kind>
     }
 }
 
-/// What a poll makes of a boot state.
+/// The boot state after a poll.
 pub(crate) fn moved(state: Boot) -> Boot
     ensures { result ≡ moved state }
 {

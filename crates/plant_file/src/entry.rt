@@ -4,7 +4,7 @@ ghost use Rattle.plant_file.specs.Marks.{key_of};
 
 use lab_base::{Boot, Name, Rates, VlanId};
 
-/// What a line of the tables says.
+/// An entry of the tables, a line each.
 #[derive(Clone, Copy, PartialEq, Eq)]
 pub enum Entry {
     /// The port of the switch is in the VLAN.
