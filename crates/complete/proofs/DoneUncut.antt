@@ -1,4 +1,4 @@
--- What is done of a judgement among steps that go well: no course of it is cut.
+-- A judgement done among steps that go well: no course of it is cut.
 use Rattle.std.specs.Prelude.{count_by, length}
 use Rattle.std.specs.List.{list_any}
 use Rattle.std.proofs.Common.{◌≡◌, ◌⊎◌, inl, inr, ℕ, ◌==◌, Bool, true, false, not, ◌||◌, List, [], ◌∷◌, ◌++◌, append_assoc, Option, Some, None, Result, Ok, Err, refl, sym, ◌∙◌, ap, subst}

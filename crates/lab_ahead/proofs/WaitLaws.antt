@@ -1,4 +1,4 @@
--- What is needed and left at a moment, and the first moment at which needs don't fit.
+-- Needs and nodes left at a moment, and the first moment at which the needs don't fit.
 use Rattle.std.proofs.Common.{◌≡◌, ◌<◌, ◌≤◌, ◌+◌, ℕ, Bool, true, false, cond, List, [], ◌∷◌, length, map, filter, get_or, Option, Some, None, refl, subst, inl, inr, arith}
 use Rattle.std.specs.Prelude.{All, nat_le}
 use Rattle.std.specs.Ordering.{nat_cmp}

@@ -1,4 +1,4 @@
-// What is left for a run, from the ends of the runs before it on.
+// Nodes left for a run, from the ends of the runs before it on.
 ghost use Rattle.std.specs.Prelude.{◌≡◌, ◌<◌, ◌≤◌, ◌↔◌, ℕ, List, [], length, map, slice_index_or, All, IfOk, false};
 ghost use Rattle.lab_base.specs.Lists.{Has, AllDiffer};
 ghost use Rattle.lab_base.specs.declared.ids.NodeId.{NodeId as AnyNode};

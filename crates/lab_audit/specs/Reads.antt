@@ -1,4 +1,4 @@
--- What readings leave of a plant.
+-- Readings, and how each leaves a plant.
 use Rattle.std.specs.Prelude.{◌≡◌, ◌≤◌, ◌<◌, ℕ, List, [], ◌∷◌, map, Option, Some, None, IfSome, Result, Ok, Err}
 use Rattle.lab_base.specs.Counts.{Rose}
 use Rattle.lab_base.specs.Lists.{Has}

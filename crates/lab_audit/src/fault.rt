@@ -5,7 +5,7 @@ use lab_base::{Memory, Name};
 /// Why there is no report.
 #[derive(Clone, Copy, PartialEq, Eq)]
 pub enum AuditFault {
-    /// That device did not tell what it holds.
+    /// The named device did not tell what it holds.
     Unread(Name),
     Memory,
 }

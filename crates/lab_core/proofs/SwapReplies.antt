@@ -1,4 +1,4 @@
--- What is told of a whole swap.
+-- Replies to a whole swap.
 use Rattle.std.proofs.Common.{◌≡◌, ℕ, List, Option, Some, None, IfSome, Bool, true, false, Result, Ok, Err, IfOk, refl, sym, ◌∙◌, subst}
 use Rattle.lab_base.specs.declared.what.What.{What}
 use Rattle.swap_mgr.specs.Managing.{IsProgress}

@@ -1,4 +1,4 @@
-// What is judged of link events that are played.
+// The judgement of link events that are played.
 ghost use Rattle.std.specs.Prelude.{◌≡◌, Ok, IfOk, OnOk, length};
 ghost use Rattle.virt_topo.specs.Soundness.{IsSound};
 ghost use Rattle.ns_build.specs.Kept.{AllKeepLimits};

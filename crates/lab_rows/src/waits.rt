@@ -15,7 +15,7 @@ const MAX_NODES: usize = 1_024;
 
 const MAX_PROMISES: usize = 64;
 
-/// What a row tells of a run: by node the experiments that claim it, the ends of the runs before it, and its own places.
+/// A row of a run: by node the experiments that claim it, the ends of the runs before it, and its own places.
 #[derive(Drop)]
 struct Queued {
     claimers: Vec<Items<Name>>,

@@ -1,4 +1,4 @@
--- What the rules say after the try on the second map they say after the try on the first.
+-- Rules that hold after the try on the first map, and so after the try on the second.
 use Rattle.std.proofs.Common.{◌≡◌, ◌⊎◌, ◌∙◌, ◌∷◌, [], inl, inr, ℕ, suc, List, length, cond, eqb, refl, ap, sym, arith}
 use Rattle.std.proofs.lemmas.Bool.{cond-false, ne_eqb}
 use Rattle.phys_lab.specs.Labs.{Lab}

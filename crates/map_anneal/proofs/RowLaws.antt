@@ -1,4 +1,4 @@
--- What is known of a virtual node's moves, before and after a step.
+-- Known moves of a virtual node, before and after a step.
 use Rattle.std.proofs.Common.{◌≡◌, ◌⊎◌, ◌<◌, ◌≤◌, ◌∙◌, inl, inr, ℕ, List, [], length, map, get_or, Bool, true, false, Contains, Option, Some, refl, ap, sym, subst, arith, get_or-set_same, get_or-set_other}
 use Rattle.std.proofs.Math.ListN.{set}
 use Rattle.std.proofs.lemmas.Bool.{cases_eq}

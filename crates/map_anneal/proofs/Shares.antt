@@ -1,4 +1,4 @@
--- What one segment uses of a trunk, and two mappings with what a try makes of each.
+-- Uses of a trunk by one segment, and two mappings with the try made of each.
 use Rattle.std.specs.Prelude.{◌<◌, ◌⊎◌, ◌-◌, ◌*◌, ℕ, min, length}
 use Rattle.phys_lab.specs.Labs.{Lab}
 use Rattle.virt_topo.specs.Cables.{Cable}

@@ -1,4 +1,4 @@
--- What a move reads stays where a step leaves its two nodes aside.
+-- A move between two nodes that a step leaves aside reads what it read before.
 use Rattle.std.proofs.Common.{◌≡◌, ◌≢◌, ◌⊎◌, ◌<◌, ◌+◌, ◌-◌, ◌∙◌, ◌∷◌, ◌++◌, [], inl, inr, ℕ, zero, suc, List, length, map, get_or, Bool, true, false, None, Contains, refl, ap, sym, subst, arith}
 use Rattle.std.proofs.Math.ListN.{set, get_or-append}
 use Rattle.std.proofs.Math.Seq.{get_or-append_right}

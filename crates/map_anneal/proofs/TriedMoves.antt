@@ -1,4 +1,4 @@
--- What is known of the candidates of a virtual node that were tried.
+-- Known candidates of a virtual node that were tried.
 use Rattle.std.proofs.Common.{◌≡◌, ◌<◌, ◌≤◌, ◌∙◌, inl, inr, ℕ, Bool, List, [], length, get_or, true, cond, Option, Some, None, ap, sym, subst, get_or-set_same, get_or-set_other}
 use Rattle.std.proofs.Math.ListN.{set}
 use Rattle.std.proofs.lemmas.Bool.{cases_eq}

@@ -1,4 +1,4 @@
--- What a step from one map to another leaves as it was.
+-- Steps from one map to another, by the nodes, segments and classes that they leave as they were.
 use Rattle.std.specs.Prelude.{◌≡◌, ◌≢◌, ◌<◌, ◌⊎◌, ℕ, Bool, true, false, List, length, slice_index_or}
 use Rattle.lab_base.specs.declared.ids.IfaceId.{IfaceId}
 use Rattle.phys_lab.specs.Labs.{Lab}

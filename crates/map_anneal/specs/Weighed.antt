@@ -1,4 +1,4 @@
--- What is known of tries, whatever is left of the trunks.
+-- Tries that are known, whatever is left of the trunks.
 use Rattle.std.specs.Prelude.{◌≡◌, ◌<◌, ◌≤◌, ◌⊎◌, ℕ, true, false, List, [], length, Some, slice_index_or, slice_set}
 use Rattle.lab_base.specs.declared.ids.IfaceId.{IfaceId}
 use Rattle.phys_lab.specs.declared.free.Free.{Free}

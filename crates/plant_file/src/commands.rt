@@ -21,12 +21,12 @@ pub(crate) struct Kept {
     stamp: Stamp,
 }
 
-/// What an error is where memory was wanting.
+/// The error where memory was wanting.
 fn no_memory() -> io::Error {
     io::Error::from(io::ErrorKind::OutOfMemory)
 }
 
-/// What an error is where a file isn't of its form.
+/// The error where a file isn't of its form.
 fn bad_form() -> io::Error {
     io::Error::from(io::ErrorKind::InvalidData)
 }

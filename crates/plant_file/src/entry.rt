@@ -35,7 +35,7 @@ pub enum Entry {
     },
 }
 
-/// What a command is about.
+/// The entries that a command is about.
 #[derive(Clone, Copy)]
 pub enum Key {
     /// The row of that port and that VLAN.

@@ -23,7 +23,7 @@ pub(crate) enum Durable {
     Old,
 }
 
-/// What tells whether a file is as it was left.
+/// The length and time of a file, by which it is known to be as it was left.
 #[derive(Clone, Copy, PartialEq)]
 pub(crate) struct Stamp {
     length: u64,

@@ -1,4 +1,4 @@
--- What readings of devices answer.
+-- Readings of devices, and their answers.
 use Rattle.std.specs.Prelude.{◌≡◌, ◌⊎◌, ◌↔◌, ◌<◌, ◌≤◌, ℕ, true, List, [], ◌∷◌, length, Option, Some, None, is_some, option_map, IfSome, Result, Ok, Err, OnErr}
 use Rattle.lab_base.specs.declared.boot.Boot.{Boot}
 use Rattle.lab_base.specs.declared.ids.VlanId.{VlanId}

@@ -1,4 +1,4 @@
-//! What the devices of a plant tell of what they hold.
+//! Plants whose devices tell what they hold.
 #![tactic(auto)]
 
 mod laws;

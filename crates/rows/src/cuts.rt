@@ -6,7 +6,7 @@ use anyhow::bail;
 use std::alloc::Global;
 use std::fmt::Write;
 
-/// What comes before a drill and behind it, the command first, what is left where none cuts the command, and the ends that it may lead to.
+/// A case: the scripts before a drill and behind it, the command first, the end where none cuts the command, and the ends that it may lead to.
 #[derive(Drop)]
 struct Case<'a> {
     before: &'a str,
@@ -15,7 +15,7 @@ struct Case<'a> {
     ends: &'a [String],
 }
 
-/// What commands behind a failure do: they recover what is stuck, or are told of it twice before.
+/// Commands behind a failure: they recover what is stuck, or are told of it twice before.
 pub const RECOVERS: &str = "recover\n";
 
 pub const TELLS: &str = "status\nstatus\nrecover\n";

@@ -29,7 +29,7 @@ fn how_in(field: &[u8]) -> Option<How>
     }
 }
 
-/// What a stop leaves, by a field.
+/// The pick of a stop, by a field.
 fn pick_in(field: &[u8]) -> Option<Pick>
     ensures { result ≡ pick_of field.now }
 {

@@ -1,4 +1,4 @@
-//! What no script shows: the limit of a journal, and the codes of ends.
+//! Tests beside the rows: the limit of a journal, and the codes of ends.
 #![tactic(auto)]
 
 #[cfg(test)]
