@@ -9,7 +9,7 @@ ghost use Rattle.claims.specs.Counts.{is_owned_by, is_free_to, free_from};
 use crate::claim::{Claim, Entry};
 use crate::claims::{Claims, place_of};
 use crate::fault::TakeFault;
-use lab_base::{Items, Memory, Name, Tags, TrunkId, VlanId};
+use lab_base::{Items, Memory, Name, NodeId, Tags, TrunkId, VlanId};
 use phys_lab::Free;
 use std::alloc::Global;
 
@@ -145,7 +145,7 @@ fn left_of(kbps: &[u64], used: &[u64], number: usize) -> u64
 
 impl Claims {
     ghost use Rattle.std.specs.Prelude.{◌≡◌, ◌+◌, ◌<◌, length, slice_index_or, IfOk};
-    ghost use Rattle.claims.specs.Held.{free_nodes, free_ids, nodes_of, ids_of, claim_named, use_by, IsLeftTo};
+    ghost use Rattle.claims.specs.Held.{free_nodes, free_ids, nodes_of, ids_of, claim_named, claim_nodes, owner_of, use_by, IsLeftTo};
     ghost use Rattle.claims.specs.Answered.{AreTaken};
 
     /// The number of nodes and the number of VLAN ids that no claim has.
@@ -166,6 +166,14 @@ impl Claims {
         let nodes = owned_in(&self.tables.nodes, exp);
         let ids = owned_in(&self.tables.ids, exp);
         (nodes as u16, ids as u16)
+    }
+
+    /// The experiment that claims a node, if one does. It takes no memory.
+    pub fn owner_of(&self, node: NodeId) -> Option<Name>
+        requires { node.0 < self.now.nodes }
+        ensures { result ≡ owner_of claim_nodes self.now.entries node.0 }
+    {
+        self.tables.nodes[node.0 as usize]
     }
 
     /// The kbps that all claims leave of a trunk. It takes no memory.
