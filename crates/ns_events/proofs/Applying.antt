@@ -17,7 +17,7 @@ use Rattle.ns_events.proofs.Sounding.{sound_pipes, some_pass, one_keeps, all_kee
 pub same_owner : (w : Wiring) (link : List ℕ) (p q : Pipe) → ends_of p ≡ ends_of q → is_of w link p ≡ is_of w link q
 same_owner w link p q e = ap (λ (x : ℕ × ℕ × ℕ). same_name (owner_at w (end_number (end_nodes w.segments) x.0 x.1)) link) e
 
-leaves : (e : Event) (text now : Wiring) → length (own_pipes now e.link) ≡ length (own_pipes text e.link)
+pub leaves : (e : Event) (text now : Wiring) → length (own_pipes now e.link) ≡ length (own_pipes text e.link)
     → IsApplied e text now (record now { pipes = renewed (is_of now e.link) (renewed_pipe e.what (length (own_pipes text e.link))) now.pipes (own_pipes text e.link) })
 leaves e text now same =
     let ts = own_pipes text e.link in

@@ -6,3 +6,4 @@ mod Shaping
 mod OneApplied
 mod OneSchedule
 mod Counting
+pub mod Behind

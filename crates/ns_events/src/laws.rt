@@ -1,5 +1,5 @@
 // Laws of the definitions.
-ghost use Rattle.ns_events.specs.Once.{ScheduleIsOne, AppliedIsOne, GivenAreShaped, ShapesStay};
+ghost use Rattle.ns_events.specs.Once.{ScheduleIsOne, AppliedIsOne, GivenAreShaped, ShapesStay, StaysSound};
 
 /// A span of time has one schedule of a list of events.
 pub fn schedule_is_one()
@@ -19,4 +19,9 @@ pub fn given_rates_are_shaped()
 /// An event leaves each link and LAN as many pipes as it has.
 pub fn shapes_stay()
     ensures { ShapesStay }
+{}
+
+/// A sound wiring is sound behind an event of a sound text, whose rates keep the limits, where the link has the shape that it has in the text.
+pub fn wirings_stay_sound()
+    ensures { StaysSound }
 {}

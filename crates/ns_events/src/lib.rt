@@ -12,5 +12,7 @@ mod schedules;
 pub use applied::{apply, lacks_shape};
 pub use event::{Event, What};
 pub use fault::ApplyFault;
-pub use laws::{applied_is_one, given_rates_are_shaped, schedule_is_one, shapes_stay};
+pub use laws::{
+    applied_is_one, given_rates_are_shaped, schedule_is_one, shapes_stay, wirings_stay_sound,
+};
 pub use schedules::schedule;
