@@ -23,7 +23,7 @@ use plant::Plant;
 use script_text::{FailedEnd, Reply, Served};
 use std::alloc::Global;
 
-/// What is told where the last record of a run's swap can't be written. It is made before that swap begins, since nothing may be
+/// The replies so far, where the last record of a run's swap can't be written. They are made before that swap begins, since nothing may be
 /// wanting behind it.
 fn told_if_stuck(alloc: Global, told: &Served, exp: Name) -> Result<Served, Memory>
     ensures { IfOk result (IsToldBehind told.now (stuck_by_journal exp)) }
@@ -36,7 +36,7 @@ fn told_if_stuck(alloc: Global, told: &Served, exp: Name) -> Result<Served, Memo
     told.followed_by(alloc, &stuck)
 }
 
-/// What is told behind that reply to a run. `stuck` is told where the controller is closed.
+/// The replies so far and that one to a run. `stuck` is told where the controller is closed.
 fn told_behind(
     alloc: Global,
     told: &Served,

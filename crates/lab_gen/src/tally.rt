@@ -48,7 +48,7 @@ fn word_end(text: &[u8]) -> Option<usize>
     text.iter().position(|byte| ends_word(*byte))
 }
 
-/// What stands before the first space or line feed of a text.
+/// The bytes before the first space or line feed of a text.
 fn first_word(text: &[u8]) -> &[u8]
     ensures { result.now ≡ first_word text.now }
 {
