@@ -1,7 +1,7 @@
 -- A command continues the course of each open swap by its experiment's own commands among the command's steps, or begins its leg.
 use Rattle.std.specs.Prelude.{length, nat_le, is_none}
 use Rattle.std.specs.Str.{bytes_eq}
-use Rattle.std.proofs.Common.{◌≡◌, ◌≢◌, ◌⊎◌, inl, inr, ℕ, Bool, true, false, cond, ◌&&◌, ◌||◌, is_some, List, [], ◌∷◌, ◌++◌, append_assoc, Option, Some, None, Result, Ok, Err, refl, sym, ◌∙◌, ap, subst}
+use Rattle.std.proofs.Common.{◌≡◌, ◌≢◌, ◌⊎◌, inl, inr, ℕ, Bool, true, false, cond, ◌&&◌, ◌||◌, is_some, List, [], ◌∷◌, ◌++◌, Option, Some, None, Result, Ok, Err, refl, sym, ◌∙◌, ap, subst}
 use Rattle.std.proofs.lemmas.List.{append-nil}
 use Rattle.std.proofs.lemmas.Slice.Eq.{bytes_eq-Decides}
 use Rattle.lab_base.specs.Lists.{AllDiffer, Has}
@@ -46,7 +46,7 @@ use Rattle.lab_core.specs.LabSteps.{AppendEnds, Appends, BeginSteps, Begins, Doe
 use Rattle.lab_core.specs.Recovery.{Recovers, broken_off, settled}
 use Rattle.lab_core.specs.Sessions.{OpenSwap, Open, Setting, After, is_among, name_in, name_of, names_of}
 use Rattle.recovery.specs.Due.{is_busy}
-use Rattle.lab_core.proofs.Events.{IsOneSwap}
+use Rattle.lab_core.proofs.Listings.{IsPlain}
 use Rattle.lab_core.proofs.Fits.{IsFit, IsOwn, fits}
 use Rattle.complete.proofs.OwnCommands.{all_its, only_last}
 use Rattle.swap_turns.proofs.Elsewhere.{own_behind, turn_own}
@@ -361,9 +361,10 @@ module _ (own : List Event) (set : Setting) (s : LabState) (opens : List OpenSwa
   kept_space true Of n d by = by d
   kept_space false Of n d by = replies_kept _ d
 
-  -- a refusal, or a swap
-  pub does_keep : (command : Command) (j : Result Task Reply) → IsFit s command (is_among (names_of opens) (name_of command)) (length opens) j → IsOneSwap j → Does set s opens j own after → AllKept
+  -- a refusal, what only tells, or a swap
+  pub does_keep : (command : Command) (j : Result Task Reply) → IsFit s command (is_among (names_of opens) (name_of command)) (length opens) j → IsPlain j → Does set s opens j own after → AllKept
   does_keep command (Err refusal) fit one d = replies_kept refusal d
+  does_keep command (Ok (Tell told)) fit one d = replies_kept told d
   does_keep command (Ok (Swap exp way)) fit one d = kept_space (has_space set (Begin exp way)) (Swaps s opens exp (Begin exp way) own after) set.length d (swap_kept exp way (idle_of command exp fit.0 fit.1))
   does_keep command (Ok task) fit one d = absurd one
 

@@ -28,8 +28,8 @@ use Rattle.lab_core.specs.LabSteps.{AppendEnds, Appends, BeginSteps, Begins, Doe
 use Rattle.lab_core.specs.Recovery.{Recovers, broken_off, settled}
 use Rattle.lab_core.specs.Sessions.{OpenSwap, Setting, After, is_among, name_of, names_of}
 use Rattle.complete.specs.Booted.{GoesWell}
-use Rattle.complete.specs.Complete.{is_cut, turns_open}
-use Rattle.complete.proofs.JudgedUncut.{IsJudgedUncut, judged_uncut}
+use Rattle.complete.specs.Complete.{turns_open}
+use Rattle.complete.proofs.JudgedUncut.{cuts, IsJudgedUncut, judged_uncut}
 use Rattle.complete.proofs.GoingWell.{EndsWell, IsSafe, any_front, finish_well, new_safe, settles_well, turn_well, well_behind}
 
 -- each swap that is open before a command that turns one went forth alone, and can't be cut by steps that go well
@@ -38,7 +38,7 @@ AreSafe past command s opens = turns_open command ≡ true → (o : OpenSwap) �
 
 abbrev pub cut_if : Option Reply → Bool
 cut_if None = false
-cut_if (Some reply) = is_cut reply
+cut_if (Some reply) = cuts reply
 
 or_behind : (f : Event → Bool) (front behind : List Event) → list_any f behind ≡ true → list_any f (front ++ behind) ≡ true
 or_behind f [] behind is = is
@@ -60,7 +60,7 @@ no_start : (steps behind own more : List Event) → own ≡ steps ++ behind → 
 no_start steps behind own more is starts well =
     cc (sym (any_front is_restart own more well.no_restart) ∙ ap has_restart is ∙ or_behind is_restart steps behind (ap has_restart starts.2))
 
-done_uncut : (exp : List ℕ) (m : Option Mapped) → is_cut (done_reply exp m) ≡ false
+done_uncut : (exp : List ℕ) (m : Option Mapped) → cuts (done_reply exp m) ≡ false
 done_uncut exp None = refl
 done_uncut exp (Some m) = refl
 
@@ -107,7 +107,7 @@ module _ (own more : List Event) (well : GoesWell (own ++ more)) where
     if_space true Of n d by = by d
     if_space false Of n d by = ap (λ (x : After). cut_if x.reply) d.after_is
 
-    append_uncut : (state : LabState) (told : Reply) (run : Run) (behind : List Event) → is_cut told ≡ false → AppendEnds s opens state told run behind own after → cut_if after.reply ≡ false
+    append_uncut : (state : LabState) (told : Reply) (run : Run) (behind : List Event) → cuts told ≡ false → AppendEnds s opens state told run behind own after → cut_if after.reply ≡ false
     append_uncut state told run behind free (whole all none is) = ap (λ (x : After). cut_if x.reply) is ∙ free
     append_uncut state told run behind free (broken breaks answered which session) = no_break own more after.reply breaks well
 

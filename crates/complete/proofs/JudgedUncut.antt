@@ -1,5 +1,5 @@
 -- No judgement has a reply that tells of a cut course, a failed call of the journal or a stop.
-use Rattle.std.proofs.Common.{◌≡◌, ℕ, Bool, true, false, List, Result, Ok, Err, sym, subst, arith}
+use Rattle.std.proofs.Common.{◌≡◌, ℕ, Bool, true, false, List, length, Result, Ok, Err, refl, sym, subst, arith}
 use Rattle.phys_lab.specs.Labs.{Lab}
 use Rattle.virt_topo.specs.declared.experiment.Experiment.{Experiment}
 use Rattle.virt_topo.specs.declared.mapping.Mapping.{Mapping}
@@ -9,17 +9,34 @@ use Rattle.records_model.specs.Labs.{LabState}
 use Rattle.script_text.specs.declared.command.Command.{Command}
 use Rattle.script_text.specs.declared.command.Command.TheVariants as commands
 use Rattle.script_text.specs.declared.reply.Reply.{Reply}
+use Rattle.script_text.specs.declared.reply.Reply.TheVariants as replies
 use Rattle.cost_rule.specs.declared.rule.RuleNumber.{RuleNumber}
-use Rattle.lab_core.specs.Judge.{OrRefused, Task, Tell, Append, Swap, Turn, Finish, Judged, asked, in_slot, judged_change, judged_create, judged_delete, judged_ptop, judged_swapin, need_idle_in, refused}
+use Rattle.lab_core.specs.Judge.{OrRefused, Task, Tell, Append, Swap, Turn, Finish, Judged, asked, in_slot, judged_change, judged_create, judged_delete, judged_ptop, judged_swapin, need_idle_in, need_idle_out, need_mapping, refused, task_in}
 use Rattle.lab_core.specs.Playing.{JudgedChange, JudgedEventAt, mapping_in, need_shape}
+use Rattle.lab_core.specs.Serving.{IsTested, IsTestedAs, JudgedPlace, JudgedRunAt, claimers_of, fits, full, span_of, waits}
 use Rattle.lab_core.proofs.Events.{stand_in}
+use Rattle.lab_core.proofs.Runs.{stand_in as stand_in_run}
+use Rattle.lab_ahead.specs.declared.batch.Promise.{Promise}
+use Rattle.lab_ahead.specs.declared.batch.Run.{Run}
+use Rattle.lab_ahead.specs.declared.ends.End.{End}
+use Rattle.lab_ahead.specs.declared.times.Left.{Left}
+use Rattle.lab_ahead.specs.declared.waits.Span.{Span}
+use Rattle.lab_ahead.specs.Ends.{left_for}
+use Rattle.assign_core.specs.declared.whole.Solved.{Solved}
+use Rattle.journal_rec.specs.declared.record.Record.{Record}
+use Rattle.journal_rec.specs.declared.record.Way.{Way}
 use Rattle.complete.specs.Complete.{is_cut, turns_open}
+
+-- the reply to one command alone: it tells of no cut course, and isn't that to a batch
+abbrev pub cuts : Reply → Bool
+cuts (replies.Served served) = true
+cuts reply = is_cut reply
 
 -- and only `turn` and `finish` turn a swap that was open before
 abbrev pub IsJudgedUncut : Command → Result Task Reply → Type 0
-IsJudgedUncut command (Err refusal) = is_cut refusal ≡ false
-IsJudgedUncut command (Ok (Tell told)) = is_cut told ≡ false
-IsJudgedUncut command (Ok (Append entry told)) = is_cut told ≡ false
+IsJudgedUncut command (Err refusal) = cuts refusal ≡ false
+IsJudgedUncut command (Ok (Tell told)) = cuts told ≡ false
+IsJudgedUncut command (Ok (Append entry told)) = cuts told ≡ false
 IsJudgedUncut command (Ok (Turn exp)) = turns_open command ≡ true
 IsJudgedUncut command (Ok (Finish exp)) = turns_open command ≡ true
 IsJudgedUncut command (Ok task) = Unit {0}
@@ -33,7 +50,7 @@ module _ (s : LabState) (busy : Bool) (count : ℕ) where
 
   -- a swap, before its room is asked for
   abbrev IsSwapOnly : Result Task Reply → Type 0
-  IsSwapOnly (Err refusal) = is_cut refusal ≡ false
+  IsSwapOnly (Err refusal) = cuts refusal ≡ false
   IsSwapOnly (Ok (Swap exp way)) = Unit {0}
   IsSwapOnly (Ok task) = ⊥
 
@@ -62,13 +79,13 @@ module _ (s : LabState) (busy : Bool) (count : ℕ) (exp : List ℕ) where
   abbrev Uncut : Result Task Reply → Type 0
   Uncut j = IsJudgedUncut (stand_in exp) j
 
-  pub idle_uncut : (reply : Reply) → need_idle_in s busy exp ≡ Err reply → is_cut reply ≡ false
+  pub idle_uncut : (reply : Reply) → need_idle_in s busy exp ≡ Err reply → cuts reply ≡ false
   idle_uncut reply is = grind arith
 
   change_uncut : (lab : Lab) (e : Experiment) (w : Wiring) (m : Mapping) → Uncut (in_slot count false (judged_change s lab e w m))
   change_uncut lab e w m = grind arith
 
-  shape_uncut : (text : Wiring) (event : LinkEvent) (now : Wiring) (reply : Reply) → need_shape exp text event now ≡ Err reply → is_cut reply ≡ false
+  shape_uncut : (text : Wiring) (event : LinkEvent) (now : Wiring) (reply : Reply) → need_shape exp text event now ≡ Err reply → cuts reply ≡ false
   shape_uncut text event now reply is = grind arith
 
   pub event_uncut : (text : Wiring) (event : LinkEvent) (j : Result Task Reply) → JudgedEventAt exp text event s busy count j → Uncut j
@@ -78,3 +95,46 @@ module _ (s : LabState) (busy : Bool) (count : ℕ) (exp : List ℕ) where
       by : OrRefused (need_shape exp text event p.1.wiring) (λ shaped. JudgedChange exp text event s count p.0 p.1) j → Uncut j
       by (refused reply lacks is) = subst Uncut (sym is) (shape_uncut text event p.1.wiring reply lacks)
       by (asked shaped has change) = subst Uncut (sym change.is) (change_uncut p.0 p.1 change.wiring (mapping_in p.1.phase))
+
+-- OF A RUN OF A BATCH, which stands for a swap-in
+module _ (s : LabState) (busy : Bool) (count : ℕ) (exp : List ℕ) where
+  -- before its room is asked for
+  abbrev IsToldUncut : Result Task Reply → Type 0
+  IsToldUncut (Err refusal) = cuts refusal ≡ false
+  IsToldUncut (Ok (Tell told)) = cuts told ≡ false
+  IsToldUncut (Ok (Swap own way)) = Unit {0}
+  IsToldUncut (Ok task) = ⊥
+
+  abbrev RunUncut : Result Task Reply → Type 0
+  RunUncut j = IsJudgedUncut (stand_in_run exp) j
+
+  room_uncut : (j : Result Task Reply) → IsToldUncut j → RunUncut (in_slot count false j)
+  room_uncut j is = grind arith
+
+  out_uncut : (reply : Reply) → need_idle_out s busy exp ≡ Err reply → cuts reply ≡ false
+  out_uncut reply is = grind arith
+
+  found_uncut : (name : List ℕ) (found : Solved) (reply : Reply) → need_mapping name found ≡ Err reply → cuts reply ≡ false
+  found_uncut name found reply is = grind arith
+
+  tested_uncut : (space : Bool) (lab : Lab) (left : List Left) (promises : List Promise) (span : Span) (own : List ℕ) (way : Way) (j : Result Task Reply) → IsTested space lab left promises span own way j → IsToldUncut j
+  tested_uncut space lab left promises span own way j (full none is) = subst IsToldUncut (sym is) tt
+  tested_uncut space lab left promises span own way j (fits room all is) = subst IsToldUncut (sym is) tt
+  tested_uncut space lab left promises span own way j (waits room wait short is) = subst IsToldUncut (sym is) refl
+
+  module _ (rule : RuleNumber) (moment : ℕ) (promises : List Promise) (ends : List End) (run : Run) (space : Record → Bool) where
+    place_uncut : (lab : Lab) (e : Experiment) (j : Result Task Reply) → JudgedPlace rule moment promises ends run space s lab e j → IsToldUncut j
+    place_uncut lab e j placed = by placed.tested
+      where
+        by : OrRefused (need_mapping e.name placed.found) (λ m. IsTestedAs space lab (left_for (claimers_of (length lab.nodes) s.experiments) ends m.places) promises (span_of moment run) (task_in s lab e m)) j → IsToldUncut j
+        by (refused reply needed is) = subst IsToldUncut (sym is) (found_uncut e.name placed.found reply needed)
+        by (asked m some tested) = tested_uncut _ lab _ promises (span_of moment run) e.name _ j tested
+
+    test_uncut : (j : Result Task Reply) → OrRefused (need_idle_out s busy exp) (λ p. JudgedPlace rule moment promises ends run space s p.0 p.1) j → IsToldUncut j
+    test_uncut j (refused reply needed is) = subst IsToldUncut (sym is) (out_uncut reply needed)
+    test_uncut j (asked p needed placed) = place_uncut p.0 p.1 j placed
+
+pub run_uncut : (s : LabState) (busy : Bool) (count : ℕ) (rule : RuleNumber) (moment : ℕ) (promises : List Promise) (ends : List End) (run : Run) (space : Record → Bool) (j : Result Task Reply) → JudgedRunAt rule moment promises ends run space s busy count j
+    → IsJudgedUncut (stand_in_run run.exp) j
+run_uncut s busy count rule moment promises ends run space j judged =
+    subst (IsJudgedUncut (stand_in_run run.exp)) (sym judged.is) (room_uncut s busy count run.exp judged.before (test_uncut s busy count run.exp rule moment promises ends run space judged.before judged.judged))

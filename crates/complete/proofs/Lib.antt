@@ -8,6 +8,7 @@ mod OtherSettlings
 mod OtherSwaps
 mod OwnCommands
 mod PlayedOn
+mod BatchUncut
 mod PlayUncut
 mod Room
 mod RunCourses

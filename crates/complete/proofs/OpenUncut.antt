@@ -1,5 +1,5 @@
 -- An open swap whose course is its experiment's own commands isn't cut by steps that go well.
-use Rattle.std.proofs.Common.{◌≡◌, List, [], ◌∷◌, ◌++◌, append_assoc, refl, sym, ◌∙◌, ap, subst}
+use Rattle.std.proofs.Common.{◌≡◌, List, [], ◌∷◌, ◌++◌, append_assoc, sym, ◌∙◌, ap, subst}
 use Rattle.plant.specs.Events.{Event, Did}
 use Rattle.lab_model.specs.Courses.{whole}
 use Rattle.lab_model.specs.OnCourse.{acknowledged, is_of, own_events}

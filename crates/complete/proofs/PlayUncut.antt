@@ -1,5 +1,5 @@
 -- `play` among steps that go well: each event is answered `in`, or refused, so that no course of it is cut.
-use Rattle.std.proofs.Common.{◌≡◌, ℕ, Bool, true, false, codes, List, [], ◌∷◌, ◌++◌, append_assoc, Option, Some, None, Result, Ok, Err, length, refl, sym, ◌∙◌, ap, subst}
+use Rattle.std.proofs.Common.{◌≡◌, ℕ, false, codes, List, [], ◌∷◌, ◌++◌, append_assoc, Option, Some, None, length, refl, ◌∙◌, ap, subst}
 use Rattle.plant.specs.Events.{Event}
 use Rattle.records_model.specs.Labs.{LabState}
 use Rattle.virt_topo.specs.declared.wiring.Wiring.{Wiring}
@@ -15,14 +15,15 @@ use Rattle.lab_core.specs.Playing.{JudgedNext, Playing, behind_event, events_in_
 use Rattle.lab_core.specs.Sessions.{OpenSwap, Setting, After, names_of}
 use Rattle.lab_core.proofs.Events.{plays_first, refuse_so, stand_in}
 use Rattle.complete.specs.Booted.{GoesWell}
-use Rattle.complete.specs.Complete.{begins_with, is_cut}
+use Rattle.complete.specs.Complete.{begins_with}
 use Rattle.complete.proofs.DoneUncut.{cut_if, does_uncut}
 use Rattle.complete.proofs.GoingWell.{well_behind}
-use Rattle.complete.proofs.JudgedUncut.{event_uncut, idle_uncut}
+use Rattle.complete.proofs.JudgedUncut.{cuts, event_uncut, idle_uncut}
 
 -- THE TEXT of a reply that tells of no cut course
-calm_text : (reply : Reply) → is_cut reply ≡ false → begins_with (codes "failed ") (text_of reply) ≡ false
+calm_text : (reply : Reply) → cuts reply ≡ false → begins_with (codes "failed ") (text_of reply) ≡ false
 calm_text (replies.Failed exp end what) calm = absurd (cc calm)
+calm_text (replies.Served served) calm = absurd (cc calm)
 calm_text (replies.Listed [] nodes vlans) calm = refl
 calm_text (replies.Listed (e ∷ experiments) nodes vlans) calm = refl
 calm_text reply calm = refl
@@ -40,7 +41,7 @@ module _ (exp : List ℕ) where
   next_uncut set s opens text left own rest after well (no_memory wants) = ap (λ (x : After). cut_if x.reply) wants.after_is
 
   -- the place behind a reply
-  behind_calm : (at : Playing) (reply : Reply) → cut_if at.ended ≡ false → is_cut reply ≡ false → cut_if (behind_event exp at reply).ended ≡ false
+  behind_calm : (at : Playing) (reply : Reply) → cut_if at.ended ≡ false → cuts reply ≡ false → cut_if (behind_event exp at reply).ended ≡ false
   behind_calm at (replies.In name) before calm = before
   behind_calm at reply before calm = calm
 
@@ -58,7 +59,7 @@ module _ (exp : List ℕ) where
 
   pub plays_uncut : (from until : ℕ) (text : List ℕ) (trace : List Event) (set : Setting) (s : LabState) (opens : List OpenSwap) (own rest : List Event) (after : After) → GoesWell (own ++ rest) → Plays exp from until text trace set opens s own after → cut_if after.reply ≡ false
   plays_uncut from until text trace set s opens own rest after well (refused reply judged d) =
-      ap (λ (x : After). cut_if x.reply) d.after_is ∙ refuse_so is_cut (λ s busy exp reply is. idle_uncut s busy 0 exp reply is) (λ exp fault. refl) s opens exp from until text reply judged
+      ap (λ (x : After). cut_if x.reply) d.after_is ∙ refuse_so cuts (λ s busy exp reply is. idle_uncut s busy 0 exp reply is) (λ exp fault. refl) s opens exp from until text reply judged
   plays_uncut from until text trace set s opens own rest after well (list_no_memory wants) = ap (λ (x : After). cut_if x.reply) wants.after_is
   plays_uncut from until text trace set s opens own rest after well (listed start judged (over at lab to past over_here after_is)) =
       ap (λ (x : After). cut_if x.reply) after_is ∙ calm_last at.ended (past_calm (ground_by set) trace s opens start (plays_first s opens exp from until text start judged) own at lab to past rest well)

@@ -1,6 +1,6 @@
 -- A command that turns a swap or settles never tells that the journal is full.
 use Rattle.std.specs.Prelude.{length}
-use Rattle.std.proofs.Common.{◌≡◌, ℕ, Bool, true, false, List, [], ◌++◌, Option, Some, None, Result, Ok, Err, refl, ◌∙◌, ap, arith}
+use Rattle.std.proofs.Common.{◌≡◌, ℕ, Bool, true, false, List, [], Option, Some, None, Result, Ok, Err, refl, ◌∙◌, ap, arith}
 use Rattle.plant.specs.Events.{Event}
 use Rattle.virt_topo.specs.declared.mapping.Mapped.{Mapped}
 use Rattle.cost_rule.specs.declared.rule.RuleNumber.{RuleNumber}
@@ -10,7 +10,7 @@ use Rattle.swap_turns.specs.Swaps.{Swap as SwapOf}
 use Rattle.swap_turns.specs.Turning.{Outcome, More, TurnsBack, Ended, Stuck, Unwritten, Stopped as Halted}
 use Rattle.script_text.specs.Drills.{drill_of}
 use Rattle.script_text.specs.declared.command.Command.{Command}
-use Rattle.script_text.specs.declared.command.Command.TheVariants.{Play}
+use Rattle.script_text.specs.declared.command.Command.TheVariants.{Play, Batch}
 use Rattle.script_text.specs.declared.reply.Reply.{Reply}
 use Rattle.lab_core.specs.Breaks.{Breaks, stopped, failed, unanswered}
 use Rattle.lab_core.specs.Judge.{Task, Tell, Append, Swap, BeginOnly, Turn, Finish, Recover, Judged}
@@ -88,6 +88,7 @@ drill_not takes s session own after (wants_memory wants) = ap (λ (x : After). f
 -- it is no list
 no_list : (command : Command) → settles_or_turns command ≡ true → is_list command ≡ false
 no_list (Play exp from to lines text) is = absurd (cc is)
+no_list (Batch moment lines text) is = absurd (cc is)
 no_list command is = refl
 
 pub step_not : (terms : Terms) (at : List Event) (set : Setting) (s : LabState) (session : Session) (command : Command) (opening own : List Event) (after : After) → settles_or_turns command ≡ true → LabStep terms at set s session command opening own after → full_if after.reply ≡ false

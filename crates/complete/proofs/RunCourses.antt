@@ -1,5 +1,5 @@
 -- Over a whole run the course of each open swap is its experiment's own commands since its leg began.
-use Rattle.std.proofs.Common.{◌≡◌, ℕ, Bool, true, false, ◌&&◌, is_some, List, [], ◌∷◌, ◌++◌, append_assoc, Option, Some, None, refl, sym, ◌∙◌, ap, subst}
+use Rattle.std.proofs.Common.{Result, Ok, ◌≡◌, ℕ, Bool, true, false, ◌&&◌, is_some, List, [], ◌∷◌, ◌++◌, append_assoc, Option, Some, None, refl, sym, ◌∙◌, ap, subst}
 use Rattle.std.proofs.lemmas.List.{append-nil}
 use Rattle.lab_base.specs.Lists.{AllDiffer, Has}
 use Rattle.phys_lab.specs.Labs.{Lab}
@@ -12,9 +12,9 @@ use Rattle.records_model.proofs.LabLaws.{lab_sane}
 use Rattle.lab_state.specs.Texts.{the_texts}
 use Rattle.script_text.specs.Drills.{drill_of}
 use Rattle.script_text.specs.declared.command.Command.{Command}
-use Rattle.script_text.specs.declared.command.Command.TheVariants.{Play}
+use Rattle.script_text.specs.declared.command.Command.TheVariants.{Play, Batch}
 use Rattle.script_text.specs.declared.reply.Reply.{Reply}
-use Rattle.swap_turns.specs.Legs.{Leg, Forth, Undo}
+use Rattle.swap_turns.specs.Legs.{Leg, Forth}
 use Rattle.swap_turns.specs.Running.{OpenSwap as RunningSwap}
 use Rattle.swap_turns.specs.Swaps.{Swap, Moves}
 use Rattle.lab_core.specs.Commands.{LabStep, is_list}
@@ -23,12 +23,19 @@ use Rattle.lab_core.specs.Moments.{IsLabAt}
 use Rattle.lab_core.specs.Sessions.{OpenSwap, Session, Closed, Open, Setting, After, Terms, name_in}
 use Rattle.lab_core.specs.Tells.{busy_of, opens_of}
 use Rattle.lab_core.proofs.Others.{Stays, same_stays}
-use Rattle.lab_top.specs.Pieces.{Piece, Begun, AreHandedOn, ArePieces, ButForReply, Finds, FirstLab, IsPiece, Leads, StepsFrom, is_closed, session_after, stays_open, steps_of, trace_after}
+use Rattle.lab_top.specs.Pieces.{Begun, AreHandedOn, ArePieces, ButForReply, Finds, FirstLab, IsPiece, Leads, StepsFrom, is_closed, session_after, stays_open, steps_of, trace_after}
 use Rattle.lab_top.proofs.TurnLaws.{they_differ}
 use Rattle.complete.specs.Booted.{GoesWell}
 use Rattle.complete.specs.OpenCourses.{AreOnLeg, IsCourse, IsOnLeg, forth, steps_in, undo}
 use Rattle.lab_core.proofs.ListSteps.{plain_step}
-use Rattle.complete.proofs.PlayedOn.{plays_continue}
+use Rattle.complete.proofs.PlayedOn.{list_continues}
+use Rattle.lab_core.specs.Commands.{ground_by}
+use Rattle.lab_core.specs.Lists.{DoesList, Listing}
+use Rattle.lab_core.specs.Playing.{JudgedPlay, events_in_turn}
+use Rattle.lab_core.specs.Serving.{JudgedBatch, runs_in_turn}
+use Rattle.lab_core.proofs.Events.{events_are}
+use Rattle.lab_core.proofs.Listings.{IsAboutThese}
+use Rattle.lab_core.proofs.Runs.{AreOf, runs_are}
 use Rattle.complete.proofs.Continued.{Continues, along, begun_now, done_continue, undone}
 use Rattle.complete.proofs.GoingWell.{IsSafe}
 use Rattle.complete.proofs.OpenUncut.{open_safe}
@@ -129,17 +136,23 @@ module _ (terms : Terms) (before : List Event) (set : Setting) (s : LabState) (o
       (mid, done_continue own set mid [] (λ o none. absurd none) (λ o none. absurd none) tt after to open_now terms.rule command d, λ o none. absurd none)
   step_continues command None none (Open opens) ok moves differ step = (s, done_continue own set s opens ok moves differ after to open_now terms.rule command step.1, λ o has. (refl, step.0))
 
-  list_continues : (exp : List ℕ) (from until lines : ℕ) (text : List ℕ) (session : Session) → AreOk session → AllMoveIn session → AllDiffer (busy_of session) → LabStep terms before set s session (Play exp from until lines text) opening own after → StepContinues session
-  list_continues exp from until lines text Closed ok moves differ (not_opened b) = absurd (cc (sym b.session ∙ open_now))
-  list_continues exp from until lines text Closed ok moves differ (opened mid opens d) =
-      (mid, plays_continue exp [] tt from until text (before ++ opening) set mid (λ o none. absurd none) (λ o none. absurd none) own after to open_now d, λ o none. absurd none)
-  list_continues exp from until lines text (Open opens) ok moves differ step = (s, plays_continue exp opens differ from until text (before ++ opening) set s ok moves own after to open_now step.1, λ o has. (refl, step.0))
+  -- a list of commands, by what is judged of it
+  lists_continue : {X : Type 0} (l : Listing X) (Judged : List OpenSwap → LabState → Result X Reply → Type 0) (Holds : X → Type 0) (about : List ℕ → Bool) → IsAboutThese l Holds about → ((opens : List OpenSwap) (s : LabState) (start : X) → Judged opens s (Ok start) → Holds start)
+      → (session : Session) → AreOk session → AllMoveIn session → AllDiffer (busy_of session) → StepOf None (λ opens s own after. DoesList l (Judged opens s) (ground_by set) (before ++ opening) s opens own after) terms s session opening own after → StepContinues session
+  lists_continue l Judged Holds about are starts Closed ok moves differ (not_opened b) = absurd (cc (sym b.session ∙ open_now))
+  lists_continue l Judged Holds about are starts Closed ok moves differ (opened mid opens d) =
+      (mid, list_continues l Holds about are [] tt (Judged [] mid) (starts [] mid) (ground_by set) (before ++ opening) mid (λ o none. absurd none) (λ o none. absurd none) own after to open_now d, λ o none. absurd none)
+  lists_continue l Judged Holds about are starts (Open opens) ok moves differ step =
+      (s, list_continues l Holds about are opens differ (Judged opens s) (starts opens s) (ground_by set) (before ++ opening) s ok moves own after to open_now step.1, λ o has. (refl, step.0))
 
   plain_continues : (command : Command) → is_list command ≡ false → drill_of command ≡ None → (session : Session) → AreOk session → AllMoveIn session → AllDiffer (busy_of session) → LabStep terms before set s session command opening own after → StepContinues session
   plain_continues command no' none session ok moves differ step = step_continues command (drill_of command) none session ok moves differ (plain_step terms before set s session command opening own after no' step)
 
   all_continue : (command : Command) → drill_of command ≡ None → (session : Session) → AreOk session → AllMoveIn session → AllDiffer (busy_of session) → LabStep terms before set s session command opening own after → StepContinues session
-  all_continue (Play exp from until lines text) none session ok moves differ step = list_continues exp from until lines text session ok moves differ step
+  all_continue (Play exp from until lines text) none session ok moves differ step =
+      lists_continue (events_in_turn exp) (λ opens s. JudgedPlay s opens exp from until text) (λ at. Unit {0}) (λ n. true) (events_are exp (λ n. true) refl) (λ opens s start judged. tt) session ok moves differ step
+  all_continue (Batch moment lines text) none session ok moves differ step =
+      lists_continue (runs_in_turn terms.rule moment) (λ opens s. JudgedBatch s text) (λ at. AreOf (λ n. true) at.left) (λ n. true) (runs_are terms.rule moment (λ n. true)) (λ opens s start judged run has. refl) session ok moves differ step
   all_continue command none session ok moves differ step = plain_continues command refl none session ok moves differ step
 
 -- a lab with an experiment is set

@@ -22,7 +22,8 @@ use Rattle.complete.specs.Booted.{GoesWell}
 use Rattle.complete.specs.Complete.{AllGoesWell, AreUncut, IsComplete, IsReadOut, IsUncut, IsWholeScript, OpensWell, is_cut}
 use Rattle.complete.specs.OpenCourses.{steps_in}
 use Rattle.complete.proofs.GoingWell.{settles_well, well_behind}
-use Rattle.complete.proofs.DoneUncut.{AreSafe, cut_if}
+use Rattle.complete.proofs.BatchUncut.{told_cut}
+use Rattle.complete.proofs.DoneUncut.{AreSafe}
 use Rattle.complete.proofs.StepUncut.{lab_step_uncut}
 
 -- ONE PIECE
@@ -39,7 +40,7 @@ module _ (terms : Terms) (past trace : List Event) (piece : Piece) (more : List 
       let told = told_so done.leads.first done.leads.last steps reply is in
       let as_was : piece.own ++ steps.behind ≡ piece.own = ap (λ b. piece.own ++ b) told.2 ∙ append-nil piece.own in
       let goes = subst (λ o. GoesWell (past ++ ((piece.opening ++ o) ++ more))) (sym as_was) well in
-      sym (ap cut_if told.0) ∙ lab_step_uncut terms trace _ done.leads.first past piece.opening (piece.own ++ steps.behind) more _ goes piece.command piece.from (safe done.leads.first done.leads.before) steps.step
+      sym (ap told_cut told.0) ∙ lab_step_uncut terms trace _ done.leads.first past piece.opening (piece.own ++ steps.behind) more _ goes piece.command piece.from (safe done.leads.first done.leads.before) steps.step
 
   opens_well : OpensWell trace piece
   opens_well has =

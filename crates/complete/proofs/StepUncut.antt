@@ -1,16 +1,17 @@
 -- A lab step among steps that go well: no course of it is cut.
-use Rattle.std.proofs.Common.{◌≡◌, ℕ, Bool, true, false, List, [], ◌∷◌, ◌++◌, append_assoc, Option, Some, None, refl, ap, subst}
+use Rattle.std.proofs.Common.{◌≡◌, ℕ, false, List, [], ◌++◌, append_assoc, Option, Some, None, refl, ap, subst}
 use Rattle.plant.specs.Events.{Event}
 use Rattle.records_model.specs.Labs.{LabState}
 use Rattle.script_text.specs.Drills.{drill_of}
 use Rattle.script_text.specs.declared.command.Command.{Command}
-use Rattle.script_text.specs.declared.command.Command.TheVariants.{Play}
+use Rattle.script_text.specs.declared.command.Command.TheVariants.{Play, Batch}
 use Rattle.lab_core.specs.Commands.{LabStep, is_list}
 use Rattle.lab_core.specs.LabSteps.{DoesBy, Drills, JudgedBeside, StepOf, is_planned, is_refused, not_opened, opened, wants_memory}
 use Rattle.lab_core.specs.Sessions.{Session, Closed, Open, Setting, After, Terms}
 use Rattle.lab_core.specs.Tells.{opens_of}
 use Rattle.lab_core.proofs.ListSteps.{plain_step}
 use Rattle.complete.specs.Booted.{GoesWell}
+use Rattle.complete.proofs.BatchUncut.{batch_uncut, cut_told, told_cut}
 use Rattle.complete.proofs.DoneUncut.{AreSafe, cut_if, done_by_uncut, no_break}
 use Rattle.complete.proofs.GoingWell.{well_behind}
 use Rattle.complete.proofs.PlayUncut.{plays_uncut}
@@ -41,9 +42,15 @@ module _ (terms : Terms) (at : List Event) (set : Setting) (s : LabState) (past 
   list_uncut exp from until lines text Closed (not_opened b) = no_break opening (own ++ more) after.reply b.breaks all_well
   list_uncut exp from until lines text (Open opens) step = plays_uncut exp from until text (at ++ opening) set s opens own more after own_well step.1
 
+  runs_uncut : (moment lines : ℕ) (text : List ℕ) (session : Session) → LabStep terms at set s session (Batch moment lines text) opening own after → told_cut after.reply ≡ false
+  runs_uncut moment lines text Closed (opened mid opens d) = batch_uncut terms.rule moment text (at ++ opening) set mid [] own more after own_well d
+  runs_uncut moment lines text Closed (not_opened b) = cut_told after.reply (no_break opening (own ++ more) after.reply b.breaks all_well)
+  runs_uncut moment lines text (Open opens) step = batch_uncut terms.rule moment text (at ++ opening) set s opens own more after own_well step.1
+
   plain_uncut : (command : Command) → is_list command ≡ false → (session : Session) → AreSafe past command s (opens_of session) → LabStep terms at set s session command opening own after → cut_if after.reply ≡ false
   plain_uncut command no' session safe step = step_uncut command (drill_of command) session safe (plain_step terms at set s session command opening own after no' step)
 
-  pub lab_step_uncut : (command : Command) (session : Session) → AreSafe past command s (opens_of session) → LabStep terms at set s session command opening own after → cut_if after.reply ≡ false
-  lab_step_uncut (Play exp from until lines text) session safe step = list_uncut exp from until lines text session step
-  lab_step_uncut command session safe step = plain_uncut command refl session safe step
+  pub lab_step_uncut : (command : Command) (session : Session) → AreSafe past command s (opens_of session) → LabStep terms at set s session command opening own after → told_cut after.reply ≡ false
+  lab_step_uncut (Play exp from until lines text) session safe step = cut_told after.reply (list_uncut exp from until lines text session step)
+  lab_step_uncut (Batch moment lines text) session safe step = runs_uncut moment lines text session step
+  lab_step_uncut command session safe step = cut_told after.reply (plain_uncut command refl session safe step)

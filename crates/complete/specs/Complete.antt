@@ -8,7 +8,7 @@ use Rattle.script_text.specs.Commands.{AtEnd, IsScript}
 use Rattle.script_text.specs.declared.command.Command.{Command}
 use Rattle.script_text.specs.declared.command.Command.TheVariants as commands
 use Rattle.script_text.specs.declared.reply.Reply.{Reply}
-use Rattle.script_text.specs.declared.reply.Reply.TheVariants.{Trouble, Failed, Recovered, Played, Down, Stopped}
+use Rattle.script_text.specs.declared.reply.Reply.TheVariants.{Trouble, Failed, Recovered, Played, Served, Down, Stopped}
 use Rattle.lab_top.specs.declared.status.Status.{Status}
 use Rattle.lab_top.specs.declared.status.Status.TheVariants.{Done, ReadFault, WriteFault}
 use Rattle.lab_top.specs.Pieces.{Begun, Piece, FirstLab, HasOpened, OpensTo, commands_of, is_early, steps_of}
@@ -23,12 +23,14 @@ begins_with [] text = true
 begins_with (byte ∷ bytes) [] = false
 begins_with (byte ∷ bytes) (first ∷ text) = (byte == first) && begins_with bytes text
 
--- the reply tells of a course that was cut, of a call of the journal that failed or of a stop; or the reply that ended `play` does
+-- the reply tells of a course that was cut, of a call of the journal that failed or of a stop; or the reply that ended `play` does, or that to a run of
+-- `batch`
 abbrev pub is_cut : Reply → Bool
 is_cut (Trouble exp what) = true
 is_cut (Failed exp end what) = true
 is_cut (Recovered done stuck) = not (stuck == 0)
 is_cut (Played exp played last closing blaming) = begins_with (codes "failed ") last
+is_cut (Served served) = served.fails
 is_cut Down = true
 is_cut Stopped = true
 is_cut reply = false

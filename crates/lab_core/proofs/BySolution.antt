@@ -1,6 +1,6 @@
 -- A solution is of one mapping, and an experiment that is answered as in by it is in with that one, at once or at the end of the swap that begins.
 use Rattle.std.specs.Prelude.{nat_le}
-use Rattle.std.proofs.Common.{◌≡◌, ◌≢◌, ◌⊎◌, ⊎_elim, inl, inr, ℕ, Bool, true, false, List, length, Option, Some, None, Result, Ok, Err, refl, sym, ap, ◌∙◌, subst, [], ◌∷◌, ◌++◌}
+use Rattle.std.proofs.Common.{◌≡◌, ◌≢◌, ⊎_elim, inl, inr, ℕ, Bool, true, false, List, length, Option, Some, None, Result, Ok, Err, refl, sym, ap, ◌∙◌, subst, [], ◌∷◌, ◌++◌}
 use Rattle.std.proofs.lemmas.Option.{same_Some}
 use Rattle.virt_topo.specs.Wirings.{mapped}
 use Rattle.plant.specs.Events.{Event}

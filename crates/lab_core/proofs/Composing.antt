@@ -1,5 +1,5 @@
 -- A list of commands, one after another.
-use Rattle.std.proofs.Common.{◌≡◌, ◌⊎◌, inl, inr, ◌≤◌, ◌+◌, ◌↔◌, ℕ, IfOk, Bool, true, false, not, List, [], ◌∷◌, ◌++◌, Option, Some, None, IfSome, IsTrue, IsErrOf, Result, Ok, Err, refl, sym, ap, ◌∙◌, subst, arith, append_assoc}
+use Rattle.std.proofs.Common.{◌≡◌, inl, inr, ◌≤◌, ◌+◌, ◌↔◌, ℕ, IfOk, Bool, true, false, not, List, [], ◌∷◌, ◌++◌, Option, Some, None, IfSome, IsTrue, IsErrOf, Result, Ok, Err, refl, sym, ap, ◌∙◌, subst, arith, append_assoc}
 use Rattle.std.proofs.lemmas.List.{append-nil}
 use Rattle.std.proofs.lemmas.Option.{same_Some}
 use Rattle.lab_base.specs.Counts.{Rose}
@@ -23,10 +23,10 @@ use Rattle.lab_core.specs.declared.fault.CoreFault.TheVariants as faults
 use Rattle.lab_core.specs.Controller.{Control, WorksWith}
 use Rattle.lab_core.specs.Judge.{Task, Recover}
 use Rattle.lab_core.specs.LabSteps.{IsDoneBy}
-use Rattle.lab_core.specs.Moments.{IsLengthAt, StandForLab}
+use Rattle.lab_core.specs.Moments.{IsLengthAt}
 use Rattle.lab_core.specs.Obey.{AnswersBy, EndsBy, Obeys, Shuts, StepsBy, Start, start_of, IsDone, Leaves, Answers, ObeySteps, Obeyed, WantsIn, reply_of, stays_at_work, undone, between as recovering}
 use Rattle.lab_core.specs.Sessions.{OpenSwap, Closed, After, Setting, AreOpenedBy, WereOpen, blames_now, counted_from, open_by, shut_by}
-use Rattle.lab_core.specs.Lists.{DoesNext, Ground, Listing, Lists, Past, broken, last_reply, more, none, over, set_at}
+use Rattle.lab_core.specs.Lists.{DoesNext, Listing, Past, broken, last_reply, more, none, over}
 use Rattle.lab_core.specs.Coming.{AllDone, AllWants, HasComeTo, Origin, TellsAll, ground_of}
 
 if_all : {X : Type 0} (o : Option X) (P : X → Type 0) → ((x : X) → P x) → IfSome o P

@@ -1,12 +1,11 @@
 -- Link events are a listing about their experiment.
-use Rattle.std.specs.Prelude.{nat_le, if◌then◌else◌}
-use Rattle.std.proofs.Common.{◌≡◌, ◌≢◌, ◌⊎◌, inl, inr, ℕ, Bool, true, false, List, [], ◌∷◌, length, Option, Some, None, Result, Ok, Err, refl, sym, ap, ◌∙◌, subst, arith}
-use Rattle.std.proofs.lemmas.Bool.{cases_Bool}
+use Rattle.std.specs.Prelude.{if◌then◌else◌}
+use Rattle.std.proofs.Common.{◌≡◌, ℕ, Bool, true, false, List, [], ◌∷◌, length, None, Result, Ok, Err, refl, sym, ap, ◌∙◌, subst, arith}
 use Rattle.phys_lab.specs.Labs.{Lab}
 use Rattle.virt_topo.specs.declared.experiment.Experiment.{Experiment}
 use Rattle.virt_topo.specs.declared.mapping.Mapping.{Mapping}
 use Rattle.virt_topo.specs.declared.wiring.Wiring.{Wiring}
-use Rattle.records_model.specs.Labs.{LabState, find}
+use Rattle.records_model.specs.Labs.{LabState}
 use Rattle.recovery.specs.Due.{is_busy}
 use Rattle.lab_state.proofs.Named.{name_is}
 use Rattle.ns_events.specs.declared.event.Event.{Event as LinkEvent}
@@ -18,20 +17,17 @@ use Rattle.lab_base.specs.declared.fault.TextFault.{TextFault}
 use Rattle.ns_text.specs.declared.read.Script.{Script}
 use Rattle.script_text.specs.declared.reply.Reply.TheVariants as replies
 use Rattle.lab_core.specs.Judge.{OrRefused, Swap, Task, asked, in_slot, judged_change, need_idle_in, need_meaning, refused}
-use Rattle.lab_core.specs.Sessions.{OpenSwap, Setting, is_among, name_of, names_of}
+use Rattle.lab_core.specs.Sessions.{OpenSwap, Setting, names_of}
 use Rattle.lab_core.proofs.Fits.{IsFit, is_outer}
 use Rattle.lab_core.specs.Playing.{AreDue, JudgedChange, JudgedEvent, JudgedEventAt, JudgedNext, JudgedPlay, Playing, bad_shape, events_in_turn, first_place, mapping_in, need_shape, need_shapes}
 use Rattle.lab_core.proofs.Listings.{IsAboutThese, IsFitFor, IsPlain}
+use Rattle.lab_core.proofs.Parts.{is_more}
 
 -- what stands for an event
 abbrev pub stand_in : List ℕ → Command
 stand_in exp = commands.ModifyWith false exp 0 [] 0 []
 
 -- a refusal that tells of no swap that has begun, or a swap
-abbrev pub is_more : Reply → Bool
-is_more (replies.More exp) = true
-is_more reply = false
-
 abbrev pub IsOneSwap : Result Task Reply → Type 0
 IsOneSwap (Err reply) = is_more reply ≡ false
 IsOneSwap (Ok (Swap exp way)) = Unit {0}

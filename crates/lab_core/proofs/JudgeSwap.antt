@@ -51,10 +51,10 @@ use Rattle.lab_core.specs.declared.task.Task.TheVariants as tasks
 use Rattle.lab_core.specs.declared.task.Refusal.{Refusal}
 use Rattle.lab_core.specs.declared.task.Refusal.TheVariants.{Refused, Memory}
 use Rattle.lab_core.specs.Counts.{least_tags}
-use Rattle.lab_core.specs.Judge.{Is, Task, Swap as SwapTask, begun_as, in_slot, judged_change, judged_mapping, judged_modify, judged_swapin, need_feasible, need_kept, need_slot, ◌>>=◌}
+use Rattle.lab_core.specs.Judge.{Task, Swap as SwapTask, begun_as, in_slot, judged_change, judged_mapping, judged_modify, judged_swapin, need_feasible, need_kept, need_slot, ◌>>=◌}
 use Rattle.lab_core.specs.JudgeSwap.{CanTake, IsInIn, IsOutIn, IsTaskOf, IsThere, IsWayOf, change_of, way_over}
 use Rattle.lab_state.proofs.Named.{name_is}
-use Rattle.lab_core.specs.Tasks.{CanDo, Gives, IsJudged, IsRefusal, Refuses, task_of}
+use Rattle.lab_core.specs.Tasks.{CanDo, Gives, IsRefusal, Refuses, task_of}
 use Rattle.lab_core.proofs.JudgeTasks.{Leads, can_swap, stands_sound}
 use Rattle.lab_core.proofs.Tags.{least_are}
 use Rattle.lab_core.proofs.Taken.{free_of_all, each_fits}

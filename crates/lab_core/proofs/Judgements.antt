@@ -1,6 +1,5 @@
 -- A command has one judgement, and its task is of its own experiment.
-use Rattle.std.specs.Prelude.{IfOk}
-use Rattle.std.proofs.Common.{◌≡◌, ◌≢◌, ℕ, Bool, true, false, is_some, List, Option, Some, None, Result, Ok, Err, refl, sym, ap, ◌∙◌, subst}
+use Rattle.std.proofs.Common.{◌≡◌, ◌≢◌, ℕ, Bool, true, false, is_some, List, Option, Some, Result, Ok, Err, refl, sym, ap, ◌∙◌, subst}
 use Rattle.lab_base.specs.declared.fault.TextFault.{TextFault}
 use Rattle.phys_lab.specs.Labs.{Lab}
 use Rattle.virt_topo.specs.declared.wiring.Wiring.{Wiring}
@@ -9,19 +8,16 @@ use Rattle.journal_rec.specs.declared.record.Record.TheVariants as records
 use Rattle.journal_rec.specs.declared.record.Way.{Way}
 use Rattle.journal_rec.specs.declared.record.Way.TheVariants.{In as WayIn, Out as WayOut, Change as WayChange, Change2 as WayChange2}
 use Rattle.assign_core.specs.declared.whole.Solved.{Solved}
-use Rattle.assign_core.specs.declared.whole.Solved.TheVariants as solved
 use Rattle.virt_topo.specs.declared.experiment.Experiment.{Experiment}
-use Rattle.records_model.specs.Labs.{LabState, Move, Says, Creates, Deletes, BeginsIn, BeginsOut, BeginsChange, find}
+use Rattle.records_model.specs.Labs.{LabState, Move, Says}
 use Rattle.lab_state.specs.Texts.{the_texts}
 use Rattle.ns_text.proofs.Reading.{wiring_once}
-use Rattle.top_text.specs.Adding.{wiring_of_text}
-use Rattle.top_text.specs.Canonical.{canonical_top}
 use Rattle.script_text.specs.declared.command.Command.{Command}
 use Rattle.script_text.specs.declared.command.Command.TheVariants as commands
 use Rattle.script_text.specs.declared.reply.Reply.{Reply}
-use Rattle.script_text.specs.declared.reply.Reply.TheVariants.{Bad, Deleted, NoLab, LabIsSet}
+use Rattle.script_text.specs.declared.reply.Reply.TheVariants.{Bad, NoLab, LabIsSet}
 use Rattle.cost_rule.specs.declared.rule.RuleNumber.{RuleNumber}
-use Rattle.lab_core.specs.Judge.{◌>>=◌, need_lab, need_none, need_found, need_meaning, need_room, need_out, need_idle, need_open, need_place, created_reply, shown_reply, status_reply, Task, Tell, Append, Swap, BeginOnly, Turn, Finish, Recover, begun_as, in_slot, judged_modify, judged_recover, judged_ptop, judged_wiring, judged_create, judged_show, judged_delete, judged_swapin, judged_swapout, judged_status, JudgedNetwork, refused, asked, Judged, need_idle_out, judged_solved, JudgedSolve, JudgedText, JudgedFound, OrRefused, InSlot, Is, IsFound, is_searched}
+use Rattle.lab_core.specs.Judge.{need_meaning, need_place, Task, Tell, Append, Swap, BeginOnly, Turn, Finish, Recover, in_slot, judged_wiring, JudgedNetwork, refused, asked, Judged, JudgedText, JudgedFound, OrRefused, InSlot, Is, IsFound, is_searched}
 use Rattle.lab_base.specs.declared.fault.TextRefused.{TextRefused}
 use Rattle.lab_base.specs.declared.fault.TextRefused.TheVariants as texts
 use Rattle.ns_text.specs.Wirings.{WiringOf, HasWiring}
@@ -71,8 +67,10 @@ judged_once rule s busy count (commands.Fail device nth how) a b alone p q = abs
 judged_once rule s busy count (commands.FailDisk nth) a b alone p q = absurd p
 judged_once rule s busy count (commands.Stop nth pick) a b alone p q = absurd p
 judged_once rule s busy count (commands.Play exp from to lines text) a b alone p q = absurd p
+judged_once rule s busy count (commands.Batch moment lines text) a b alone p q = absurd p
 judged_once rule s busy count (commands.Delete exp) a b alone p q = p ∙ sym q
 judged_once rule s busy count commands.Status a b alone p q = p ∙ sym q
+judged_once rule s busy count commands.Audit a b alone p q = p ∙ sym q
 
 -- ---- `create`, by what the code gave
 read_so : (t : List ℕ) (w : Wiring) → HasWiring t (Ok w) → WiringOf t (Ok w)

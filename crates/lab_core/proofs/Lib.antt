@@ -46,8 +46,13 @@ mod Keeping
 pub mod Listings
 mod Composing
 mod InTurn
+mod ListCommands
+pub mod Parts
 mod Plays
 mod SwapReplies
 pub mod Events
+pub mod Runs
+mod RunsInTurn
+mod Served
 pub mod ListSteps
 pub mod Wanting

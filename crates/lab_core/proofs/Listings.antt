@@ -1,5 +1,5 @@
 -- Laws of the lab step hold of a list of commands: experiments of other names stay, the same swaps are open, and the plant stopped where it tells so.
-use Rattle.std.proofs.Common.{◌≡◌, ◌≢◌, ℕ, Bool, true, false, is_some, List, length, Option, Some, None, Result, Ok, Err, refl, sym, ap, ◌∙◌, subst}
+use Rattle.std.proofs.Common.{◌≡◌, ◌≢◌, inl, ℕ, Bool, true, false, is_some, List, length, Option, Some, None, Result, Ok, Err, refl, sym, ap, ◌∙◌, subst}
 use Rattle.std.proofs.lemmas.Option.{same_Some}
 use Rattle.plant.specs.Events.{Event}
 use Rattle.records_model.specs.Labs.{LabState}
@@ -7,6 +7,7 @@ use Rattle.journal_runs.specs.Pieces.{has_restart}
 use Rattle.journal_rec.specs.declared.record.Record.{Record}
 use Rattle.journal_rec.specs.declared.record.Record.TheVariants.{Begin}
 use Rattle.virt_topo.specs.declared.mapping.Mapped.{Mapped}
+use Rattle.recovery.specs.Due.{is_busy}
 use Rattle.script_text.specs.declared.command.Command.{Command}
 use Rattle.script_text.specs.declared.command.Command.TheVariants as commands
 use Rattle.script_text.specs.declared.reply.Reply.{Reply}
@@ -16,15 +17,15 @@ use Rattle.swap_turns.specs.Swaps.{Swap as SwapOf}
 use Rattle.swap_turns.specs.Turning.{Outcome, More, TurnsBack, Ended, Stuck, Unwritten, Stopped as Halted}
 use Rattle.lab_core.specs.Judge.{Task, Tell, Swap}
 use Rattle.lab_core.specs.LabSteps.{Does, IfSpace, IsAnswered, IsDoneBy, Replies, Swaps, does, done_reply, end_reply, end_session, has_space, is_told, no_memory}
-use Rattle.lab_core.specs.Sessions.{OpenSwap, Session, Setting, After, Closed, Open, is_among, name_of, names_of, open_by, shut_by}
+use Rattle.lab_core.specs.Sessions.{OpenSwap, Setting, After, Closed, Open, is_among, name_of, names_of, open_by, shut_by}
 use Rattle.lab_core.specs.Tells.{is_stopped}
 use Rattle.lab_core.proofs.Fits.{IsFit, is_outer}
-use Rattle.lab_core.proofs.Judgements.{task_apart}
+use Rattle.lab_core.proofs.Judgements.{IsTaskApart, task_apart}
 use Rattle.lab_core.proofs.OpenLaws.{does_next}
 use Rattle.lab_core.proofs.Others.{Stays, both_stay, same_stays}
 use Rattle.lab_core.proofs.StepLaws.{does_stays, does_stop}
-use Rattle.lab_core.specs.Lists.{DoesNext, Ground, Listing, Lists, Past, set_at}
-use Rattle.lab_core.proofs.Keeping.{lists_keep, lists_stop, past_keeps}
+use Rattle.lab_core.specs.Lists.{DoesNext, Ground, Listing, Lists, Past, broken, over, set_at, wanting}
+use Rattle.lab_core.proofs.Keeping.{lists_keep, lists_stop, past_holds, past_keeps}
 
 -- a judgement that refuses, tells, or swaps
 abbrev pub IsPlain : Result Task Reply → Type 0
@@ -125,6 +126,41 @@ module _ {X : Type 0} (l : Listing X) (ground : Ground) (trace : List Event) (Ho
         lists_keep l ground trace Holds is.on (λ s a t b. is_some s.lab ≡ true → Stays name s t) (λ s opens there. same_stays name s s there refl) (λ s t u a b c first second there. let f = first there in both_stay name s t u f (second f.set))
         (λ front at holds s opens steps reply lab to next. done_stays at holds (set_at ground next.length) s opens steps (open_by reply lab to) next.done) (λ s t. is_some s.lab ≡ true → Stays name s t) (λ s u a b h. h)
         (λ s t u first second there. let f = first there in both_stay name s t u f (second f.set)) (λ front at holds s opens steps reply lab next. done_stays at holds (set_at ground next.length) s opens steps (shut_by reply lab) next.done)
+
+  -- AN EXPERIMENT WITH AN OPEN SWAP STAYS, whatever comes
+  module _ (name : List ℕ) where
+    busy_apart : (s : LabState) (opens : List OpenSwap) (command : Command) (task : Task) → IsFit s command (is_among (names_of opens) (name_of command)) (length opens) (Ok task) → IsPlain (Ok task) → is_some s.lab ≡ true → is_busy (names_of opens) name ≡ true
+        → IsTaskApart name (names_of opens) s task
+    busy_apart s opens command (Tell reply) fit plain there busy = tt
+    busy_apart s opens command (Swap exp way) fit plain there busy =
+        task_apart name (names_of opens) s command (is_among (names_of opens) (name_of command)) (length opens) (Swap exp way) fit (λ recovers. inl busy) there
+        (λ named. let both : true ≡ false = sym busy ∙ sym (ap (λ (o : Option (List ℕ)). is_among (names_of opens) o) named) ∙ fit.1 in cc both)
+    busy_apart s opens command task fit plain there busy = absurd plain
+
+    busy_stays : (at : X) → Holds at → (set : Setting) (s : LabState) (opens : List OpenSwap) (steps : List Event) (after : After) → IsDoneBy (l.Judges at set s opens) set s opens steps after → is_some s.lab ≡ true → is_busy (names_of opens) name ≡ true → Stays name s after.lab
+    busy_stays at holds set s opens steps after (no_memory wants) there busy = same_stays name s after.lab there (ap (λ (a : After). a.lab) wants.after_is)
+    busy_stays at holds set s opens steps after (does j judged d) there busy =
+        let f = is.each at holds set s opens j judged in
+        does_stays name steps after s there opens set j
+        (λ task same. busy_apart s opens f.command task (subst (λ (x : Result Task Reply). IsFit s f.command (is_among (names_of opens) (name_of f.command)) (length opens) x) same f.fit) (subst IsPlain same f.plain) there busy) d
+
+    pub past_stays : (start : X) (s : LabState) (opens : List OpenSwap) (own : List Event) (at : X) (lab : LabState) (to : List OpenSwap) → Holds start → Past l ground trace start s opens own at lab to → is_some s.lab ≡ true → is_busy (names_of opens) name ≡ true
+        → Stays name s lab × (is_busy (names_of to) name ≡ true)
+    past_stays start s opens own at lab to holds past there busy =
+        past_keeps l ground trace Holds is.on (λ s a t b. is_some s.lab ≡ true → is_busy (names_of a) name ≡ true → Stays name s t × (is_busy (names_of b) name ≡ true)) (λ s opens there busy. (same_stays name s s there refl, busy))
+        (λ s t u a b c first second there busy. let f = first there busy in let g = second f.0.set f.1 in (both_stay name s t u f.0 g.0, g.1))
+        (λ front at holds s opens steps reply lab to next there busy. (
+          busy_stays at holds (set_at ground next.length) s opens steps (open_by reply lab to) next.done there busy,
+          subst (λ (o : List OpenSwap). is_busy (names_of o) name ≡ true) (sym (open_each front at holds s opens steps reply lab to next)) busy,
+        )) start s opens own at lab to holds past there busy
+
+    pub lists_stay : (start : X) (s : LabState) (opens : List OpenSwap) (own : List Event) (after : After) → Holds start → Lists l ground trace start s opens own after → is_some s.lab ≡ true → is_busy (names_of opens) name ≡ true → Stays name s after.lab
+    lists_stay start s opens own after holds (over at lab to past is_over after_is) there busy = subst (λ (a : After). Stays name s a.lab) (sym after_is) (past_stays start s opens own at lab to holds past there busy).0
+    lists_stay start s opens own after holds (broken front steps at mid between reply lab own_is past next after_is) there busy =
+        let p = past_stays start s opens front at mid between holds past there busy in
+        let q = busy_stays at (past_holds l ground trace Holds is.on start s opens front at mid between holds past) (set_at ground next.length) mid between steps (shut_by reply lab) next.done p.0.set p.1 in
+        subst (λ (a : After). Stays name s a.lab) (sym after_is) (both_stay name s mid lab p.0 q)
+    lists_stay start s opens own after holds (wanting at lab to past after_is) there busy = subst (λ (a : After). Stays name s a.lab) (sym after_is) (past_stays start s opens own at lab to holds past there busy).0
 
   -- THE PLANT STOPPED exactly where `stopped` is told
   stop_by : (at : X) → Holds at → (set : Setting) (s : LabState) (opens : List OpenSwap) (steps : List Event) (after : After) (reply : Reply) → after.reply ≡ Some reply → IsDoneBy (l.Judges at set s opens) set s opens steps after → has_restart steps ≡ is_stopped reply

@@ -1,9 +1,9 @@
 -- Two sides are a journal or not, and not both.
-use Rattle.std.proofs.Common.{◌≡◌, ℕ, ◌+◌, ◌*◌, ◌≤◌, List, count_by, take, refl, sym, ap, subst, ◌∙◌, arith}
+use Rattle.std.proofs.Common.{◌≡◌, ℕ, ◌+◌, ◌*◌, ◌≤◌, List, count_by, take, sym, ap, subst, ◌∙◌, arith}
 use Rattle.plant.specs.declared.step.Side.{Side}
 use Rattle.journal_rec.specs.declared.record.Record.{Record}
 use Rattle.lab_model.specs.Sound.{is_moving}
-use Rattle.journal_model.specs.Journals.{Records, Live, On, live, head, gate_after}
+use Rattle.journal_model.specs.Journals.{Records, Live, On, gate_after}
 use Rattle.journal_model.proofs.Readings.{records_once, records_or_bad, bad_once}
 use Rattle.records_model.specs.Labs.{LabState, LabOf, StopsAt, at_first}
 use Rattle.records_model.proofs.LabLaws.{folds_once, folds_or_stops, stops_once}

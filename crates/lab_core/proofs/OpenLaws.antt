@@ -1,7 +1,7 @@
 -- Laws of open swaps: which are open after a lab step.
 use Rattle.std.specs.Prelude.{nat_le}
 use Rattle.std.specs.Str.{bytes_eq}
-use Rattle.std.proofs.Common.{◌≡◌, ◌≢◌, ◌⊎◌, inl, inr, ◌≤◌, ℕ, ◌||◌, Bool, true, false, cond, List, [], ◌∷◌, ◌++◌, length, Option, Some, Result, Ok, Err, refl, sym, ap, ◌∙◌, subst, arith}
+use Rattle.std.proofs.Common.{◌≡◌, ◌≢◌, ◌⊎◌, inl, inr, ◌≤◌, ℕ, Bool, true, false, cond, List, [], ◌∷◌, ◌++◌, length, Option, Some, Result, Ok, Err, refl, sym, ap, ◌∙◌, subst, arith}
 use Rattle.std.proofs.lemmas.Bool.{cond-false, leb-false, false_from_ne_true}
 use Rattle.std.proofs.lemmas.List.{append-nil, length-append, map-append}
 use Rattle.std.proofs.lemmas.Slice.Eq.{bytes_eq-Decides}
@@ -27,7 +27,6 @@ use Rattle.lab_core.specs.Breaks.{Breaks, stopped, failed, unanswered}
 use Rattle.lab_core.specs.Judge.{Task, Tell, Append, Swap, BeginOnly, Turn, Finish, Recover}
 use Rattle.lab_core.specs.LabSteps.{AppendEnds, whole, broken, Appends, IsAnswered, is_told, end_session, turn_reply, Swaps, BeginSteps, Begins as BeginsSwap, begun_at, IsOneOf, turned_on, has_space, IfSpace, Does, Drills, is_planned, is_refused, wants_memory, JudgedBeside}
 use Rattle.lab_core.specs.Recovery.{Recovers, settled, broken_off}
-use Rattle.cost_rule.specs.declared.rule.RuleNumber.{RuleNumber}
 use Rattle.lab_core.specs.Sessions.{OpenSwap, Session, Closed, Open, Setting, After, is_among, name_in, name_of, names_of, open_at, Terms}
 use Rattle.lab_core.specs.Tells.{IsOpened, busy_of, opens_of}
 use Rattle.lab_core.proofs.Fits.{IsFit, fits}

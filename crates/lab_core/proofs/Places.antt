@@ -1,5 +1,5 @@
 -- Where the reply to a command tells that an experiment is, there it is in the lab after it.
-use Rattle.std.proofs.Common.{◌≡◌, ◌⊎◌, ℕ, Bool, true, false, List, [], ◌∷◌, ◌++◌, length, Option, Some, None, Result, Ok, Err, refl, sym, ap, ◌∙◌, subst}
+use Rattle.std.proofs.Common.{◌≡◌, ℕ, Bool, true, false, List, length, Option, Some, None, Result, Ok, Err, refl, sym, ap, ◌∙◌, subst}
 use Rattle.std.proofs.lemmas.Option.{same_Some}
 use Rattle.plant.specs.Events.{Event}
 use Rattle.plant.specs.declared.drill.Drill.{Drill}
@@ -9,14 +9,13 @@ use Rattle.journal_rec.specs.declared.record.Record.TheVariants.{Begin}
 use Rattle.lab_base.specs.declared.what.What.{What}
 use Rattle.virt_topo.specs.declared.experiment.Experiment.{Experiment}
 use Rattle.virt_topo.specs.declared.experiment.Phase.{Phase}
-use Rattle.virt_topo.specs.declared.experiment.Phase.TheVariants.{Out, In, Moving}
+use Rattle.virt_topo.specs.declared.experiment.Phase.TheVariants.{Out, Moving}
 use Rattle.virt_topo.specs.declared.mapping.Mapped.{Mapped}
 use Rattle.records_model.specs.Labs.{LabState, Move, Commits, Aborts, becomes, find, in_phase, in_state, inside, is_out, moved, moved_of, moved_one, replace, with_replaced}
 use Rattle.records_model.proofs.Finding.{none_some, found_from}
 use Rattle.records_model.proofs.Swaps.{find_replaced}
 use Rattle.script_text.specs.Drills.{drill_of}
 use Rattle.script_text.specs.declared.command.Command.{Command}
-use Rattle.script_text.specs.declared.reply.FailedEnd.TheVariants as ends
 use Rattle.script_text.specs.declared.reply.Reply.{Reply}
 use Rattle.script_text.specs.declared.reply.Reply.TheVariants as replies
 use Rattle.swap_txn.specs.Troubles.{what_of}

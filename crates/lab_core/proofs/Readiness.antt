@@ -1,5 +1,5 @@
 -- The open swaps allow the task of a command, which swaps no other experiment than the command's.
-use Rattle.std.proofs.Common.{◌≡◌, ◌⊎◌, inl, inr, ◌<◌, ℕ, Bool, true, false, nat_le, List, length, Option, Some, None, Ok, refl, sym, ◌∙◌, subst, arith}
+use Rattle.std.proofs.Common.{◌≡◌, ◌⊎◌, ◌<◌, ℕ, Bool, true, false, nat_le, List, length, Option, Some, None, Ok, sym, ◌∙◌, subst, arith}
 use Rattle.std.proofs.lemmas.Bool.{leb-false}
 use Rattle.records_model.specs.Labs.{LabState}
 use Rattle.script_text.specs.declared.command.Command.{Command}

@@ -1,13 +1,10 @@
 -- The state behind `recover`, by that behind the settling of all that moves and has no open swap.
-use Rattle.std.proofs.Common.{◌≡◌, ◌≢◌, ◌↔◌, ◌⊎◌, inl, inr, IsErrOf, IsTrue, Result, ℕ, Bool, true, false, ◌||◌, List, [], ◌∷◌, ◌++◌, map, Option, Some, None, Ok, Err, refl, sym, ap, ◌∙◌, subst}
+use Rattle.std.proofs.Common.{◌≡◌, ◌≢◌, ◌↔◌, ◌⊎◌, inl, inr, IsErrOf, IsTrue, Result, ℕ, Bool, true, false, List, [], ◌∷◌, ◌++◌, Option, Some, None, Ok, Err, refl, sym, ap, ◌∙◌, subst}
 use Rattle.std.specs.Prelude.{if◌then◌else◌}
-use Rattle.std.specs.Str.{bytes_eq}
-use Rattle.std.proofs.lemmas.Bool.{cases_Bool}
 use Rattle.std.proofs.lemmas.List.{append-nil}
-use Rattle.std.proofs.lemmas.Slice.Eq.{bytes_eq-Decides}
 use Rattle.std.proofs.lemmas.Option.{same_Some}
 use Rattle.lab_base.specs.Lists.{Has, listed}
-use Rattle.lab_base.proofs.Members.{Has-flat_map, Has-left, Has-map, Has-mapped}
+use Rattle.lab_base.proofs.Members.{Has-flat_map, Has-left}
 use Rattle.plant.specs.Events.{Event, Restarted}
 use Rattle.plant.specs.Seen.{Seen}
 use Rattle.virt_topo.specs.declared.experiment.Experiment.{Experiment}
@@ -24,7 +21,6 @@ use Rattle.swap_mgr.specs.Open.{AreNames}
 use Rattle.swap_mgr.proofs.GoingOn.{all_stay}
 use Rattle.swap_mgr.proofs.Holding.{named_open}
 use Rattle.swap_txn.specs.declared.live.Live.{Live}
-use Rattle.swap_turns.specs.Running.{OpenSwap as RunningSwap}
 use Rattle.swap_turns.specs.Settling.{BreaksOff, HasBrokenOff, HasSettled, Settles}
 use Rattle.swap_turns.specs.Swaps.{Swap}
 use Rattle.swap_turns.specs.Turning.{Outcome, Unwritten, Stopped}
@@ -42,9 +38,9 @@ use Rattle.lab_core.specs.LabSteps.{does}
 use Rattle.lab_core.specs.Obey.{start_of, IsDone, Obeyed, between}
 use Rattle.lab_core.specs.Perform.{recover_answer}
 use Rattle.lab_core.specs.Recovery.{settled, broken_off, within}
-use Rattle.lab_core.specs.Sessions.{OpenSwap, Closed, name_in, names_of}
+use Rattle.lab_core.specs.Sessions.{OpenSwap, Closed, names_of}
 use Rattle.lab_core.proofs.Obey.{RunsOn, as_open, closed_by, false_true, goes_on, halted, not_both, same_open, wants}
-use Rattle.lab_core.proofs.OpenSwaps.{Pair, running_has, since_later}
+use Rattle.lab_core.proofs.OpenSwaps.{Pair, since_later}
 use Rattle.phys_lab.proofs.ForestLaws.{same_test}
 use Rattle.lab_core.proofs.OpenNames.{busy_has, has_busy, has_opens, opens_has}
 

@@ -1,5 +1,5 @@
 -- Recoveries without trouble: none moves but those with an open swap.
-use Rattle.std.proofs.Common.{◌≡◌, inl, inr, ℕ, Bool, true, false, count_by, List, [], ◌∷◌, map, Option, Some, None, Result, Ok, refl, sym, ap, ◌∙◌, subst}
+use Rattle.std.proofs.Common.{◌≡◌, inl, inr, ℕ, true, false, count_by, List, [], ◌∷◌, map, Option, Some, None, Result, Ok, refl, sym, ap, ◌∙◌, subst}
 use Rattle.std.proofs.lemmas.Bool.{cases_Bool}
 use Rattle.lab_base.specs.Lists.{Has, AllDiffer}
 use Rattle.phys_lab.specs.Labs.{Lab}

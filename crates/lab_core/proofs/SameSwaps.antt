@@ -1,5 +1,5 @@
 -- A swap that stays open is the same one, and a command that finds the controller open leaves the lab itself as it was.
-use Rattle.std.proofs.Common.{◌≡◌, ◌≢◌, ◌⊎◌, inl, inr, ℕ, Bool, true, false, if◌then◌else◌, is_some, not, List, [], ◌∷◌, ◌++◌, Option, Some, None, Result, Ok, Err, refl, sym, ap, ◌∙◌, subst}
+use Rattle.std.proofs.Common.{◌≡◌, ◌≢◌, inl, inr, ℕ, Bool, true, false, if◌then◌else◌, is_some, not, List, [], ◌∷◌, ◌++◌, Option, Some, None, Result, Ok, Err, refl, sym, ap, ◌∙◌, subst}
 use Rattle.std.specs.Str.{bytes_eq}
 use Rattle.std.proofs.lemmas.Bool.{cases_Bool}
 use Rattle.std.proofs.lemmas.Option.{same_Some}
@@ -9,21 +9,20 @@ use Rattle.lab_base.proofs.Members.{Has-append, Has-mapped}
 use Rattle.plant.specs.Events.{Event}
 use Rattle.records_model.specs.Labs.{LabState}
 use Rattle.recovery.specs.Due.{is_busy}
-use Rattle.script_text.specs.Drills.{drill_of}
 use Rattle.script_text.specs.declared.command.Command.{Command}
 use Rattle.script_text.specs.declared.command.Command.TheVariants as commands
 use Rattle.script_text.specs.declared.reply.Reply.{Reply}
 use Rattle.swap_turns.specs.Turning.{Outcome, More, TurnsBack, Ended, Stuck, Unwritten, Stopped as Halted}
 use Rattle.lab_core.specs.Judge.{Task, Tell, Append, Swap, BeginOnly, Turn, Finish, Recover}
 use Rattle.lab_core.specs.LabSteps.{begun_at, turned_on}
-use Rattle.lab_core.specs.Commands.{LabStep}
+use Rattle.lab_core.specs.Commands.{is_about, LabStep}
 use Rattle.lab_core.specs.Sessions.{OpenSwap, Session, Open, Setting, After, name_in, name_of, names_of, open_at, Terms}
 use Rattle.lab_core.specs.Tells.{busy_of, opens_of, settles}
 use Rattle.lab_core.proofs.OpenLaws.{IsNext, Leaves, at_turned, at_without, goes, stands}
 use Rattle.lab_core.proofs.OpenMoves.{beside_one}
 use Rattle.lab_core.proofs.OpenNames.{has_busy}
 use Rattle.lab_core.proofs.OpenSwaps.{open_at_none, open_at_one}
-use Rattle.lab_core.proofs.ListSteps.{all_stay}
+use Rattle.lab_core.proofs.ListSteps.{batch_stays, named_so, all_stay}
 
 -- THE OPEN SWAP of a name is one of them, of that name
 by_test : (b : Bool) (exp : List ℕ) (x o : OpenSwap) (rest : List OpenSwap) → bytes_eq (name_in x) exp ≡ b → (if b then Some x else open_at exp rest) ≡ Some o → (open_at exp rest ≡ Some o → Has rest o × (name_in o ≡ exp)) → Has (x ∷ rest) o × (name_in o ≡ exp)
@@ -130,17 +129,24 @@ longer : (exp : List ℕ) → exp ≢ 0 ∷ exp
 longer [] = λ same. cc same
 longer (x ∷ exp) = λ same. (let rest : exp ≡ x ∷ exp = cc same in let first : x ≡ 0 = cc same in longer exp (rest ∙ ap (λ n. n ∷ exp) first))
 
-pub lab_same : (terms : Terms) (at : List Event) (set : Setting) (s : LabState) (opens : List OpenSwap) (command : Command) (opening own : List Event) (after : After) (exp : List ℕ) (o : OpenSwap) → is_some s.lab ≡ true → open_at exp opens ≡ Some o
+plain_same : (terms : Terms) (at : List Event) (set : Setting) (s : LabState) (opens : List OpenSwap) (command : Command) → ((name : List ℕ) → name_of command ≢ Some name → is_about command name ≡ false) → (opening own : List Event) (after : After) (exp : List ℕ) (o : OpenSwap) → is_some s.lab ≡ true → open_at exp opens ≡ Some o
     → LabStep terms at set s (Open opens) command opening own after → after.lab.lab ≡ s.lab
-lab_same terms at set s opens command opening own after exp o there is step = by (name_of command) refl
+plain_same terms at set s opens command others opening own after exp o there is step = by (name_of command) refl
   where
     busy : is_busy (names_of opens) exp ≡ true
     busy = let h = has_at exp opens o is in has_busy (names_of opens) exp (subst (λ (n : List ℕ). Has (names_of opens) n) h.1 (Has-mapped name_in opens o h.0))
 
     by_name : (name : List ℕ) → name_of command ≢ Some name → (settles (Open opens) command name ≡ true → ⊥) → after.lab.lab ≡ s.lab
     by_name name other never =
-        (all_stay terms at set s (Open opens) opening own after command name there other (λ settled. absurd (never settled)) step).lab
+        (all_stay terms at set s (Open opens) opening own after command name there (others name other) (λ settled. absurd (never settled)) step).lab
 
     by : (name : Option (List ℕ)) → name_of command ≡ name → after.lab.lab ≡ s.lab
     by None named = by_name exp (λ same. (let both : None ≡ Some exp = sym named ∙ same in cc both)) (λ settled. settles_busy opens command exp busy settled)
     by (Some name) named = by_name (0 ∷ name) (λ same. longer name (same_Some name (0 ∷ name) (sym named ∙ same))) (λ settled. settles_not opens command name (0 ∷ name) named settled)
+
+pub lab_same : (terms : Terms) (at : List Event) (set : Setting) (s : LabState) (opens : List OpenSwap) (command : Command) (opening own : List Event) (after : After) (exp : List ℕ) (o : OpenSwap) → is_some s.lab ≡ true → open_at exp opens ≡ Some o
+    → LabStep terms at set s (Open opens) command opening own after → after.lab.lab ≡ s.lab
+lab_same terms at set s opens (commands.Batch moment lines text) opening own after exp o there is step =
+    let h = has_at exp opens o is in
+    (batch_stays terms at set s opens moment lines text opening own after exp there (has_busy (names_of opens) exp (subst (λ (n : List ℕ). Has (names_of opens) n) h.1 (Has-mapped name_in opens o h.0))) step).lab
+lab_same terms at set s opens command opening own after exp o there is step = plain_same terms at set s opens command (λ name other. named_so (name_of command) name other) opening own after exp o there is step

@@ -1,6 +1,6 @@
 -- The answers of a search.
 use Rattle.std.specs.Prelude.{nat_le, slice_get}
-use Rattle.std.proofs.Common.{◌≡◌, ◌≤◌, ◌<◌, ◌+◌, ◌⊎◌, inl, inr, ℕ, Bool, true, false, List, [], length, get_or, Option, Some, None, refl, sym, ap, ◌∙◌, subst, arith}
+use Rattle.std.proofs.Common.{◌≡◌, ◌<◌, ◌+◌, ◌⊎◌, inl, inr, ℕ, false, List, [], length, Some, None, refl, sym, ap, ◌∙◌, subst, arith}
 use Rattle.std.proofs.lemmas.Bool.{cases_Bool, leb-true, leb-false}
 use Rattle.std.proofs.lemmas.Option.{slice_get_within, same_Some}
 use Rattle.std.proofs.lemmas.List.{get_or_default, same_lists}
@@ -8,7 +8,6 @@ use Rattle.std.proofs.lemmas.Grind.{same_number_lists}
 use Rattle.phys_lab.specs.Labs.{Lab}
 use Rattle.phys_lab.specs.declared.free.Free.{Free}
 use Rattle.virt_topo.specs.declared.experiment.Experiment.{Experiment}
-use Rattle.virt_topo.specs.declared.mapping.Mapping.{Mapping}
 use Rattle.virt_topo.specs.declared.wiring.Wiring.{Wiring}
 use Rattle.lab_model.specs.Beside.{IsLeft}
 use Rattle.node_maps.specs.Least.{IsFirstLeast}

@@ -1,5 +1,5 @@
 -- Replies to a whole swap.
-use Rattle.std.proofs.Common.{◌≡◌, ℕ, List, Option, Some, None, IfSome, Bool, true, false, Result, Ok, Err, IfOk, refl, sym, ◌∙◌, subst}
+use Rattle.std.proofs.Common.{ℕ, List, Option, Some, None, IfSome, Bool, true, false, IfOk, refl, subst}
 use Rattle.lab_base.specs.declared.what.What.{What}
 use Rattle.swap_mgr.specs.Managing.{IsProgress}
 use Rattle.swap_mgr.specs.declared.progress.OpenSwap.{OpenSwap as Unopened}

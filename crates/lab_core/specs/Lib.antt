@@ -14,8 +14,10 @@ pub mod Obey
 pub mod Opening
 pub mod Perform
 pub mod Playing
+pub mod Queues
 pub mod Recovery
 pub mod Said
+pub mod Serving
 pub mod Sessions
 pub mod Swapping
 pub mod Tasks

@@ -25,7 +25,8 @@ use Rattle.lab_core.specs.Lists.{WantsInList}
 use Rattle.lab_core.specs.Moments.{StandForLab}
 use Rattle.lab_core.specs.Playing.{JudgedPlay, events_in_turn}
 use Rattle.lab_core.specs.Recovery.{SettlesFirst}
-use Rattle.lab_core.specs.Sessions.{OpenSwap, Session, Closed, Open, Setting, After, AreOpenedBy, blames_now, counted_from, name_of, names_of, open_by, shut_by}
+use Rattle.lab_core.specs.Serving.{JudgedBatch, runs_in_turn}
+use Rattle.lab_core.specs.Sessions.{OpenSwap, Session, Setting, After, AreOpenedBy, blames_now, counted_from, name_of, names_of, open_by, shut_by}
 
 -- WHERE A COMMAND BEGINS: what its journal is judged by, the count of device faults at which a swap of it is opened, the lab, and the open swaps
 pub record Start : Type 0 where
@@ -139,6 +140,8 @@ does_command rule command devices c opens = λ trace own after. DoesCommand rule
 abbrev pub wants_of_command : RuleNumber → Command → ℕ → Control → List OpenSwap → Wanting
 wants_of_command rule (commands.Play exp from until lines text) devices c opens =
     λ trace own lab to. WantsInList (events_in_turn exp) (JudgedPlay c.lab opens exp from until text) (ground_by (start_of devices c opens).set) trace c.lab opens own lab to
+wants_of_command rule (commands.Batch moment lines text) devices c opens =
+    λ trace own lab to. WantsInList (runs_in_turn rule moment) (JudgedBatch c.lab text) (ground_by (start_of devices c opens).set) trace c.lab opens own lab to
 wants_of_command rule command devices c opens = wants_as (JudgedBeside rule command opens c.lab) (start_of devices c opens)
 
 abbrev pub ObeysCommand : RuleNumber → Command → ℕ → Seen → Seen → Control → Control → List OpenSwap → Result Reply CoreFault → Type 0

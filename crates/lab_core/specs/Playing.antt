@@ -20,7 +20,7 @@ use Rattle.script_text.specs.Replies.{played_of}
 use Rattle.script_text.specs.declared.reply.Reply.{Reply}
 use Rattle.script_text.specs.declared.reply.Reply.TheVariants as replies
 use Rattle.lab_core.specs.Judge.{Task, OrRefused, in_slot, judged_change, need_idle_in, need_meaning}
-use Rattle.lab_core.specs.Sessions.{OpenSwap, Setting, names_of}
+use Rattle.lab_core.specs.Sessions.{OpenSwap, names_of}
 use Rattle.lab_core.specs.Lists.{Listing}
 
 -- A PLACE among them: the wiring of their text, the events that are left, how many were answered `in`, and the reply that ended it

@@ -60,8 +60,10 @@ name_of (commands.Fail device nth how) = None
 name_of (commands.FailDisk nth) = None
 name_of (commands.Stop nth pick) = None
 name_of (commands.Play exp from to lines text) = Some exp
+name_of (commands.Batch moment lines text) = None
 name_of (commands.Delete exp) = Some exp
 name_of commands.Status = None
+name_of commands.Audit = None
 
 -- the experiment, if there is one, has one of these open swaps
 abbrev pub is_among : List (List ℕ) → Option (List ℕ) → Bool
@@ -90,11 +92,12 @@ AreOpenedBy exp reply old new count =
     (o : OpenSwap) → Has new o → ((exp ≡ Some (name_in o)) × (reply ≡ Some (replies.More (name_in o))) × (o.devices ≡ count)) ⊎ WasOpen old o
 
 -- THE REPLY BLAMES A DEVICE for what the command itself sent: that trouble begins the undo, or the experiment is stuck by it; or the reply that ended
--- `play` blames one, since the swaps of a list are its own
+-- `play` or to a run of `batch` blames one, since the swaps of a list are its own
 abbrev pub blames_now : Reply → Bool
 blames_now (replies.Trouble exp (whats.Device name)) = true
 blames_now (replies.Failed exp ends.Stuck (whats.Device name)) = true
 blames_now (replies.Played exp played last closing blaming) = blaming
+blames_now (replies.Served served) = served.blames
 blames_now reply = false
 
 -- A FAILURE that began the undo of an open swap came since it was opened

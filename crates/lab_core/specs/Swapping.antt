@@ -29,7 +29,7 @@ use Rattle.script_text.specs.declared.reply.Reply.TheVariants.{In, Out, More, Tr
 use Rattle.lab_core.specs.declared.fault.CoreFault.{CoreFault}
 use Rattle.lab_core.specs.declared.fault.CoreFault.TheVariants as faults
 use Rattle.lab_core.specs.Controller.{Control, WorksWith}
-use Rattle.lab_core.specs.Judge.{Task, Swap, Is, begun_as}
+use Rattle.lab_core.specs.Judge.{Task, Swap, Tell, Is, begun_as}
 use Rattle.lab_core.specs.LabSteps.{begun_at, has_space}
 use Rattle.lab_core.specs.Obey.{Obeyed, start_of}
 use Rattle.lab_core.specs.Sessions.{OpenSwap}
@@ -103,7 +103,7 @@ abbrev pub reply_of_over : List ℕ → Bool → Option What → Reply
 reply_of_over exp inside None = reply_of_done exp inside
 reply_of_over exp inside (Some what) = Failed exp (undone_by inside) what
 
--- WHAT A WHOLE SWAP TELLS: where the experiment is, or that there is no space for it
+-- WHAT A WHOLE SWAP TELLS: where the experiment is, or that there is no space for it; what only tells tells that
 abbrev pub IsSwapReply : List ℕ → Reply → Type 0
 IsSwapReply exp (In name) = name ≡ exp
 IsSwapReply exp (Out name) = name ≡ exp
@@ -112,6 +112,7 @@ IsSwapReply exp (FullJournal length) = Unit {0}
 IsSwapReply exp reply = ⊥
 
 abbrev pub TellsTask : Task → Reply → Type 0
+TellsTask (Tell told) reply = reply ≡ told
 TellsTask (Swap exp way) reply = IsSwapReply exp reply
 TellsTask task reply = Unit {0}
 

@@ -237,6 +237,7 @@ impl Controller {
                 };
                 self.play(*exp, span, ns.bytes(), plant)
             }
+            Command::Batch { moment, text, .. } => self.serve(*moment, text.bytes(), rule, plant),
             command => self.answer(command, rule, plant),
         }
     }

@@ -26,7 +26,7 @@ use swap_mgr::Manager;
 use virt_topo::{Experiment, Mapping, Wiring};
 
 /// Searches a mapping of that wiring for an experiment, on the rest that the other experiments leave.
-fn search(
+pub(crate) fn search(
     alloc: Global,
     state: &LabState,
     lab: &Lab,
@@ -49,7 +49,7 @@ fn search(
 }
 
 /// The mapping that a search found.
-fn need_mapping(exp: Name, found: Solved) -> Result<Mapping, Refusal>
+pub(crate) fn need_mapping(exp: Name, found: Solved) -> Result<Mapping, Refusal>
     ensures mapping { IfOk result (λ mapping. need_mapping exp found ≡ Ok mapping) }
     ensures refuses { Refuses (need_mapping exp found) result }
 {
@@ -61,7 +61,7 @@ fn need_mapping(exp: Name, found: Solved) -> Result<Mapping, Refusal>
 }
 
 /// An experiment that is out and has no open swap.
-fn need_idle_out<'a>(
+pub(crate) fn need_idle_out<'a>(
     state: &'a LabState,
     swaps: &Manager,
     exp: Name,

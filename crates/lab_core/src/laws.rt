@@ -30,10 +30,10 @@ ghost use Rattle.lab_model.specs.Leavings.{SameFor};
 ghost use Rattle.lab_model.specs.Sound.{is_moving};
 ghost use Rattle.virt_topo.specs.declared.experiment.Experiment.{Experiment};
 ghost use Rattle.lab_core.specs.LabSteps.{LabStepBy};
-ghost use Rattle.lab_core.specs.Commands.{LabStep, is_list};
+ghost use Rattle.lab_core.specs.Commands.{LabStep, is_about, is_list};
 ghost use Rattle.lab_core.specs.Moments.{StandForLab};
 ghost use Rattle.lab_core.specs.Said.{IsAsSaid};
-ghost use Rattle.lab_core.specs.Sessions.{OpenSwap, Session, Open, Terms, Setting, After, name_of, names_of, open_at};
+ghost use Rattle.lab_core.specs.Sessions.{OpenSwap, Session, Open, Terms, Setting, After, names_of, open_at};
 ghost use Rattle.lab_core.specs.Judge.{IsFound, Task, Tell, Swap, BeginOnly, Turn, Finish, Judged, is_searched};
 ghost use Rattle.lab_core.specs.Tells.{AllMove, AreLocal, BeginsAt, GoesIn, Hinders, IsAtRest, IsFeasibleFor, IsInBy, IsNoSwap, IsOpened, IsTurn, IsTurnOf, TellsBroken, TellsEnd, TellsLab, SendsOne, busy_of, is_stopped, opens_of, settles, taken_reply};
 
@@ -58,7 +58,7 @@ pub fn lab_steps()
         (reply : Reply) → drill_of command ≡ None → after.reply ≡ Some reply → LabStepBy (Ok (Swap exp way)) terms set s session command opening own after
         → TellsBroken reply ⊎ ((mid : LabState) × BeginsAt session s opening mid × ((move : Move) → Says the_texts mid (Begin exp way) move → TellsLab mid exp move reply after.lab)) }
     ensures others { (terms : Terms) (at : List Event) (set : Setting) (s : LabState) (session : Session) (command : Command) (opening own : List Event) (after : After) (name : List ℕ)
-        → is_some s.lab ≡ true → name_of command ≢ Some name → (settles session command name ≡ true → IsAtRest s name) → LabStep terms at set s session command opening own after
+        → is_some s.lab ≡ true → is_about command name ≡ false → (settles session command name ≡ true → IsAtRest s name) → LabStep terms at set s session command opening own after
         → find name after.lab.experiments ≡ find name s.experiments }
     ensures drills { (terms : Terms) (at : List Event) (set : Setting) (s : LabState) (session : Session) (command : Command) (opening own : List Event) (after : After)
         → is_some (drill_of command) ≡ true → LabStep terms at set s session command opening own after → (opening ≡ []) × (own ≡ []) × (after.lab ≡ s) }
@@ -75,7 +75,7 @@ pub fn lab_steps()
 /// claims.
 pub fn open_swaps()
     ensures others { (terms : Terms) (at : List Event) (set : Setting) (s : LabState) (opens to : List OpenSwap) (command : Command) (opening own : List Event) (after : After) (name : List ℕ)
-        → name_of command ≢ Some name → LabStep terms at set s (Open opens) command opening own after → after.session ≡ Open to → open_at name to ≡ open_at name opens }
+        → is_about command name ≡ false → LabStep terms at set s (Open opens) command opening own after → after.session ≡ Open to → open_at name to ≡ open_at name opens }
     ensures differ { (terms : Terms) (at : List Event) (set : Setting) (s : LabState) (session : Session) (to : List OpenSwap) (command : Command) (opening own : List Event) (after : After)
         → AllDiffer (busy_of session) → LabStep terms at set s session command opening own after → after.session ≡ Open to → AllDiffer (names_of to) }
     ensures few { (terms : Terms) (at : List Event) (set : Setting) (s : LabState) (session : Session) (to : List OpenSwap) (command : Command) (opening own : List Event) (after : After)

@@ -36,7 +36,7 @@ use swap_plan::Ops;
 const LAST_RECORDS: u64 = 10_240;
 
 /// Whether a record of a size leaves room for the last records of moves.
-fn has_space(journal: &Journal, size: u64) -> bool
+pub(crate) fn has_space(journal: &Journal, size: u64) -> bool
     ensures space { result ≡ nat_le (length_of journal.now + size + 10240) (limit_of journal.now) }
     ensures most { limit_of journal.now ≤ 2 ^ 32 }
 {

@@ -24,7 +24,7 @@ use std::alloc::Global;
 use virt_topo::Wiring;
 
 /// Whether an experiment is in.
-fn is_in(reply: &Reply) -> bool
+pub(crate) fn is_in(reply: &Reply) -> bool
     ensures { result ≡ is_in reply.now }
 {
     matches!(reply, Reply::In { .. })

@@ -5,3 +5,4 @@ mod Heads
 mod Grammar
 mod Words
 mod Counting
+mod FirstWords

@@ -26,6 +26,10 @@ words (replies.Trouble exp what) = record { lab = refl; created = refl; inside =
 words (replies.Failed exp end what) = record { lab = refl; created = refl; inside = refl; outside = refl }
 words (replies.Recovered done stuck) = record { lab = refl; created = refl; inside = refl; outside = refl }
 words (replies.Played exp played last closing blaming) = record { lab = refl; created = refl; inside = refl; outside = refl }
+words (replies.Wait exp at need have kinds) = record { lab = refl; created = refl; inside = refl; outside = refl }
+words (replies.Served served) = record { lab = refl; created = refl; inside = refl; outside = refl }
+words (replies.Audit lines) = record { lab = refl; created = refl; inside = refl; outside = refl }
+words (replies.Unread name) = record { lab = refl; created = refl; inside = refl; outside = refl }
 words replies.Planned = record { lab = refl; created = refl; inside = refl; outside = refl }
 words replies.NoDrill = record { lab = refl; created = refl; inside = refl; outside = refl }
 words (replies.Infeasible exp rule subject) = record { lab = refl; created = refl; inside = refl; outside = refl }
@@ -36,6 +40,7 @@ words (replies.Busy exp) = record { lab = refl; created = refl; inside = refl; o
 words (replies.NotOpen exp) = record { lab = refl; created = refl; inside = refl; outside = refl }
 words (replies.Bad exp fault) = record { lab = refl; created = refl; inside = refl; outside = refl }
 words (replies.BadPtop fault) = record { lab = refl; created = refl; inside = refl; outside = refl }
+words (replies.BadBatch fault) = record { lab = refl; created = refl; inside = refl; outside = refl }
 words replies.FullExperiments = record { lab = refl; created = refl; inside = refl; outside = refl }
 words replies.FullSwaps = record { lab = refl; created = refl; inside = refl; outside = refl }
 words (replies.FullJournal length) = record { lab = refl; created = refl; inside = refl; outside = refl }

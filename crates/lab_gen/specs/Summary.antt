@@ -3,30 +3,37 @@ use Rattle.std.specs.Prelude.{◌≡◌, ℕ, Bool, true, false, ◌||◌, ◌==
 use Rattle.std.specs.Str.{bytes_eq}
 use Rattle.script_text.specs.Replies.{text_of}
 use Rattle.script_text.specs.declared.reply.Reply.{Reply}
-use Rattle.script_text.specs.declared.reply.Reply.TheVariants.{Lab, LabIsSet, Created, In, Out}
+use Rattle.script_text.specs.declared.reply.Reply.TheVariants.{Lab, LabIsSet, Created, In, Out, Served}
 use Rattle.lab_gen.specs.declared.tally.Tally.{Tally}
 
 -- the first word of a text: what stands before its first space or line feed
+abbrev pub ends_word : ℕ → Bool
+ends_word b = b == 32 || b == 10
+
 abbrev pub first_word : List ℕ → List ℕ
 first_word [] = []
-first_word (b ∷ text) = if b == 32 || b == 10 then [] else b ∷ first_word text
+first_word (b ∷ text) = if ends_word b then [] else b ∷ first_word text
 
--- the reply's first word is `lab`, `created`, `in` or `out`
+-- the reply's first word is `lab`, `created`, `in` or `out`; that of a reply with a line for each run of a batch is that of its text
 abbrev pub is_lab : Reply → Bool
 is_lab (Lab switches nodes trunks) = true
 is_lab LabIsSet = true
+is_lab (Served served) = bytes_eq (first_word served.lines) (codes "lab")
 is_lab reply = false
 
 abbrev pub is_created : Reply → Bool
 is_created (Created exp nodes segments) = true
+is_created (Served served) = bytes_eq (first_word served.lines) (codes "created")
 is_created reply = false
 
 abbrev pub is_in : Reply → Bool
 is_in (In exp) = true
+is_in (Served served) = bytes_eq (first_word served.lines) (codes "in")
 is_in reply = false
 
 abbrev pub is_out : Reply → Bool
 is_out (Out exp) = true
+is_out (Served served) = bytes_eq (first_word served.lines) (codes "out")
 is_out reply = false
 
 abbrev pub is_other : Reply → Bool

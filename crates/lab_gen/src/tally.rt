@@ -1,6 +1,7 @@
-ghost use Rattle.std.specs.Prelude.{◌≡◌, ◌+◌, ◌++◌, ◌∷◌, [], List, IfOk, OnErr, OnOk, if◌then◌else◌};
+ghost use Rattle.std.specs.Prelude.{◌≡◌, ◌+◌, ◌++◌, ◌∷◌, [], List, IfOk, OnErr, OnOk, if◌then◌else◌, position};
+ghost use Rattle.std.specs.Str.{bytes_eq};
 ghost use Rattle.script_text.specs.declared.reply.Reply.{Reply as AnyReply};
-ghost use Rattle.lab_gen.specs.Summary.{count_line, is_created, is_in, is_lab, is_other, is_out, nodes_in, summary, HasWords, IsTally};
+ghost use Rattle.lab_gen.specs.Summary.{count_line, ends_word, first_word, is_created, is_in, is_lab, is_other, is_out, nodes_in, summary, HasWords, IsTally};
 
 use lab_base::{Memory, Text};
 use script_text::Reply;
@@ -35,28 +36,72 @@ fn plus_if(count: u64, counts: bool) -> Result<u64, Memory>
     plus(count, u64::from(counts))
 }
 
+fn ends_word(byte: u8) -> bool
+    ensures { result ≡ ends_word byte }
+{
+    byte == b' ' || byte == b'\n'
+}
+
+fn word_end(text: &[u8]) -> Option<usize>
+    ensures { result ≡ position ends_word text.now }
+{
+    text.iter().position(|byte| ends_word(*byte))
+}
+
+/// The bytes before the first space or line feed of a text.
+fn first_word(text: &[u8]) -> &[u8]
+    ensures { result.now ≡ first_word text.now }
+{
+    match word_end(text) {
+        Some(at) => &text[..at],
+        None => text,
+    }
+}
+
+fn has_first_word(text: &Text, word: &[u8]) -> bool
+    ensures { result ≡ bytes_eq (first_word text.now) word.now }
+{
+    first_word(text.bytes()) == word
+}
+
 fn is_lab(reply: &Reply) -> bool
     ensures { result ≡ is_lab reply.now }
 {
-    matches!(reply, Reply::Lab { .. } | Reply::LabIsSet)
+    match reply {
+        Reply::Lab { .. } | Reply::LabIsSet => true,
+        Reply::Served(served) => has_first_word(&served.lines, b"lab"),
+        _ => false,
+    }
 }
 
 fn is_created(reply: &Reply) -> bool
     ensures { result ≡ is_created reply.now }
 {
-    matches!(reply, Reply::Created { .. })
+    match reply {
+        Reply::Created { .. } => true,
+        Reply::Served(served) => has_first_word(&served.lines, b"created"),
+        _ => false,
+    }
 }
 
 fn is_in(reply: &Reply) -> bool
     ensures { result ≡ is_in reply.now }
 {
-    matches!(reply, Reply::In { .. })
+    match reply {
+        Reply::In { .. } => true,
+        Reply::Served(served) => has_first_word(&served.lines, b"in"),
+        _ => false,
+    }
 }
 
 fn is_out(reply: &Reply) -> bool
     ensures { result ≡ is_out reply.now }
 {
-    matches!(reply, Reply::Out { .. })
+    match reply {
+        Reply::Out { .. } => true,
+        Reply::Served(served) => has_first_word(&served.lines, b"out"),
+        _ => false,
+    }
 }
 
 fn is_other(reply: &Reply) -> bool

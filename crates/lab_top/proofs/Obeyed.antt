@@ -211,16 +211,18 @@ module _ (terms : Terms) (mark : Faults) (old mid : Seen) (command : Command) (n
     here = λ blamed. absurd (cc blamed);
     opened = opened_none (name_of command) None swaps mark.devices;
     goes_on = goes_closed mid;
-    wants = λ none runs. map_some old.told (λ t o. subst (WantsBehind command t.trace here_ground c.lab swaps) (sym (append-nil at.obeys.0)) (by t.trace at.obeys.0 command refl o.ends)) at.obeys.2;
+    wants = λ none runs. map_some old.told (λ t o. subst (WantsBehind terms.rule command t.trace here_ground c.lab swaps) (sym (append-nil at.obeys.0)) (by t.trace at.obeys.0 command refl o.ends)) at.obeys.2;
   }
     where
-      plain : (trace own : List Event) (asked : Command) → WantsIn (JudgedBeside terms.rule asked swaps c.lab) (start_of mark.devices c swaps) own d.lab at.to → WantsBehind asked trace here_ground c.lab swaps own
+      plain : (trace own : List Event) (asked : Command) → WantsIn (JudgedBeside terms.rule asked swaps c.lab) (start_of mark.devices c swaps) own d.lab at.to → WantsBehind terms.rule asked trace here_ground c.lab swaps own
       plain trace own asked (undone nothing lab_is to_is) = inl nothing
       plain trace own asked (between judged first to_is) = inr (inl (fits c.lab (is_among (names_of swaps) (name_of asked)) (length swaps) terms.rule asked (Ok Recover) judged, (d.lab, first)))
 
-      by : (trace own : List Event) (asked : Command) → command ≡ asked → wants_of_command terms.rule asked mark.devices c swaps trace own d.lab at.to → WantsBehind asked trace here_ground c.lab swaps own
+      by : (trace own : List Event) (asked : Command) → command ≡ asked → wants_of_command terms.rule asked mark.devices c swaps trace own d.lab at.to → WantsBehind terms.rule asked trace here_ground c.lab swaps own
       by trace own (commands.Play exp from until lines text) is (nothing_played nothing lab_is to_is) = inl nothing
       by trace own (commands.Play exp from until lines text) is (playing start place judged past) = inr (inr (start, place, judged, (d.lab, at.to, past)))
+      by trace own (commands.Batch moment lines text) is (nothing_played nothing lab_is to_is) = inl nothing
+      by trace own (commands.Batch moment lines text) is (playing start place judged past) = inr (inr (start, place, judged, (d.lab, at.to, past)))
       by trace own asked is wants = plain trace own asked (plain_wants terms.rule mark.devices c swaps trace own d.lab at.to asked refl wants)
 
 -- WHAT A COMMAND BEGAN
@@ -420,8 +422,8 @@ ends_open terms command no_drill old new c result from is goes makes later disk 
     subst (λ f. Ends terms command old new f result) (sym s.1)
     (ends_of terms command old new (Open s.0) m.to result (begins_open terms command old.plant.faults no_drill old.plant new c s.0 (reply_if result) s.2 m) m.closed later disk m.device m.here m.opened runs memory (λ some. m.goes_on)
     (λ none going. map_both old.plant.told (λ t stands own. goes_behind c.lab c.lab (standing_lab t.trace c stands) refl
-    (subst (λ l. WantsBehind command l (record { limit = 2 ^ 32; devices = old.plant.faults.devices }) c.lab s.0 m.own.0) (sym (append-nil t.trace))
-    (subst (λ n. WantsBehind command t.trace (record { limit = n; devices = old.plant.faults.devices }) c.lab s.0 m.own.0) s.2.limit own))) s.2.works.working.work.stands (m.wants none going)))
+    (subst (λ l. WantsBehind terms.rule command l (record { limit = 2 ^ 32; devices = old.plant.faults.devices }) c.lab s.0 m.own.0) (sym (append-nil t.trace))
+    (subst (λ n. WantsBehind terms.rule command t.trace (record { limit = n; devices = old.plant.faults.devices }) c.lab s.0 m.own.0) s.2.limit own))) s.2.works.working.work.stands (m.wants none going)))
 
 -- or was opened for it
 pub ends_opened : (terms : Terms) (command : Command) → drill_of command ≡ None → (old new : Moment) (mid : Seen) (c : Control) (result : Result Reply CommandFault) (from : Session) → old.controller ≡ None → HasSession old from → OpenTold old.plant.told mid.told (2 ^ 32) (Ok c)
@@ -437,8 +439,8 @@ ends_opened terms command no_drill old new mid c result from is goes told there 
     (λ none going. map_three old.plant.told (λ t o readable both.
     let w = is_opened t.trace told.0 told.1 c o both.0 limit readable in
     goes_behind w.start c.lab w.first (w.opens refl) both.1) told.3 there
-    (carried old.plant.told mid.told (told.0 ++ told.1) told.2 (λ l. Stands the_texts l c.journal c.lab × WantsBehind command l (record { limit = 2 ^ 32; devices = old.plant.faults.devices }) c.lab [] m.own.0)
-    (map_both mid.told (λ t stands own. (stands, subst (λ n. WantsBehind command t.trace (record { limit = n; devices = old.plant.faults.devices }) c.lab [] m.own.0) limit own)) works.working.work.stands (m.wants none going)))))
+    (carried old.plant.told mid.told (told.0 ++ told.1) told.2 (λ l. Stands the_texts l c.journal c.lab × WantsBehind terms.rule command l (record { limit = 2 ^ 32; devices = old.plant.faults.devices }) c.lab [] m.own.0)
+    (map_both mid.told (λ t stands own. (stands, subst (λ n. WantsBehind terms.rule command t.trace (record { limit = n; devices = old.plant.faults.devices }) c.lab [] m.own.0) limit own)) works.working.work.stands (m.wants none going)))))
 
 -- a count that rose since a later moment rose since an earlier one
 pub rose_since : (a b now : ℕ) → a ≤ b → Rose b now → Rose a now

@@ -1,7 +1,7 @@
 -- Laws of a run: over sides that are no journal; an experiment is kept by the commands that are about others; a supplied solution; an untroubled
 -- recovery; and what a reply tells.
 use Rattle.std.specs.Prelude.{IfSome, is_some, count_by}
-use Rattle.std.proofs.Common.{◌≡◌, Bool, true, false, List, [], ◌∷◌, ◌++◌, Option, Some, None, refl, sym, ◌∙◌, ap, subst, ◌⊎◌, inl, inr, ℕ, ◌^◌, ◌≢◌, ⊎_elim}
+use Rattle.std.proofs.Common.{◌≡◌, Bool, true, false, List, [], ◌∷◌, ◌++◌, Option, Some, None, refl, sym, ◌∙◌, ap, subst, ◌⊎◌, inl, inr, ℕ, ◌^◌, ⊎_elim}
 use Rattle.std.proofs.lemmas.List.{append-nil}
 use Rattle.lab_base.specs.Lists.{Has}
 use Rattle.plant.specs.Disks.{disk, ArePossible}
@@ -30,9 +30,9 @@ use Rattle.script_text.specs.declared.reply.Reply.{Reply}
 use Rattle.script_text.specs.declared.reply.Reply.TheVariants as replies
 use Rattle.script_text.specs.declared.reply.Reply.TheVariants.{Recovered}
 use Rattle.lab_core.specs.Breaks.{Breaks, stopped, failed, unanswered}
-use Rattle.lab_core.specs.Commands.{LabStep}
+use Rattle.lab_core.specs.Commands.{is_about, LabStep}
 use Rattle.lab_core.specs.Moments.{IsLabAt, IsNoJournal, StandForLab, IsLabOfImage, AllStandFor}
-use Rattle.lab_core.specs.Sessions.{Session, Closed, Open, Setting, After, name_of, Terms}
+use Rattle.lab_core.specs.Sessions.{Session, Closed, Open, Setting, After, Terms}
 use Rattle.lab_core.specs.Tells.{AllMove, BeginsAt, IsFeasibleFor, Hinders, TellsBroken, busy_of, is_of_drill, is_stopped, of_drill_if, opens_of, settles, taken_reply}
 use Rattle.lab_core.proofs.ListSteps.{all_no_drill, all_stay, all_stop}
 use Rattle.lab_core.proofs.OneJournal.{not_both, one_place}
@@ -172,13 +172,13 @@ some_same : {x y : Experiment} → Some x ≡ Some y → x ≡ y
 some_same same = cc same
 
 stays : (terms : Terms) (trace : List Event) (set : Setting) (s : LabState) (session : Session) (command : Command) (opening own : List Event) (after : After) (e : Experiment) → is_some s.lab ≡ true → find e.name s.experiments ≡ Some e
-    → (settles session command e.name ≡ true → is_moving e ≡ false) → name_of command ≢ Some e.name → LabStep terms trace set s session command opening own after → find e.name after.lab.experiments ≡ Some e
+    → (settles session command e.name ≡ true → is_moving e ≡ false) → is_about command e.name ≡ false → LabStep terms trace set s session command opening own after → find e.name after.lab.experiments ≡ Some e
 stays terms trace set s session command opening own after e there found rests other step =
     (all_stay terms trace set s session opening own after command e.name there other (λ settled x is. subst (λ (y : Experiment). is_moving y ≡ false) (some_same (sym found ∙ is)) (rests settled)) step).same
     ∙ found
 
 -- ONE PIECE
-module _ (terms : Terms) (trace : List Event) (piece : Piece) (e : Experiment) (rests : settles piece.from piece.command e.name ≡ true → is_moving e ≡ false) (have : AllHave trace e) (other : name_of piece.command ≢ Some e.name) where
+module _ (terms : Terms) (trace : List Event) (piece : Piece) (e : Experiment) (rests : settles piece.from piece.command e.name ≡ true → is_moving e ≡ false) (have : AllHave trace e) (other : is_about piece.command e.name ≡ false) where
   from_image : (s after : LabState) → IsLabOfImage trace s → StepsFrom terms trace piece s after → find e.name after.experiments ≡ Some e
   from_image s after image steps =
       let had = have image.a image.b image.possible in

@@ -1,5 +1,5 @@
 -- Laws of a run in which many swaps are open: commands that are about others leave an open swap as it is, and the experiment with it.
-use Rattle.std.proofs.Common.{◌≡◌, ◌≢◌, ◌⊎◌, inl, inr, ⊎_elim, ℕ, ◌^◌, Bool, true, false, ◌||◌, ◌&&◌, List, [], ◌∷◌, ◌++◌, length, arith, Option, Some, None, Result, Ok, Err, refl, sym, ◌∙◌, ap, subst, if◌then◌else◌}
+use Rattle.std.proofs.Common.{◌≡◌, ◌≢◌, ◌⊎◌, inl, inr, ⊎_elim, ℕ, ◌^◌, Bool, true, false, ◌||◌, List, [], ◌∷◌, ◌++◌, length, arith, Option, Some, None, Result, Ok, Err, refl, sym, ◌∙◌, ap, subst, if◌then◌else◌}
 use Rattle.std.specs.Prelude.{is_some, not, ◌≤◌}
 use Rattle.std.specs.Str.{bytes_eq}
 use Rattle.std.proofs.lemmas.List.{append-nil}
@@ -25,14 +25,15 @@ use Rattle.lab_core.specs.Judge.{Task, Turn}
 use Rattle.lab_model.specs.Leavings.{SameFor}
 use Rattle.lab_core.specs.Moments.{IsLabAt}
 use Rattle.lab_core.specs.LabSteps.{Does, IsDoneBy, JudgedBeside, does, no_memory, not_opened, opened}
-use Rattle.lab_core.specs.Commands.{LabStep}
-use Rattle.lab_core.specs.Sessions.{OpenSwap, Session, Closed, Open, Setting, After, is_among, name_in, name_of, names_of, open_at, Terms}
+use Rattle.lab_core.specs.Commands.{LabStep, is_about}
+use Rattle.lab_core.specs.Sessions.{OpenSwap, Session, Closed, Open, Setting, After, is_among, name_in, names_of, open_at, Terms}
 use Rattle.lab_core.specs.Tells.{IsTurn, IsTurnOf, SendsOne, busy_of, is_stopped, opens_of, settles}
 use Rattle.lab_core.proofs.OpenLaws.{Leaves, names_differ, others_as_they_were, they_are_few}
-use Rattle.lab_core.proofs.ListSteps.{all_leave}
+
+use Rattle.lab_core.proofs.ListSteps.{about_not, all_leave}
 use Rattle.lab_core.proofs.OtherWorlds.{others_spared, turn_or_refused}
 use Rattle.lab_core.proofs.SameSwaps.{same_swap}
-use Rattle.lab_core.proofs.StepLaws.{Was, by_one, was}
+use Rattle.lab_core.proofs.StepLaws.{Was, was}
 use Rattle.std.proofs.lemmas.Option.{same_Some}
 use Rattle.lab_core.proofs.TurnLaws.{one_turn, turn_at_most_one}
 use Rattle.lab_top.specs.Pieces.{Piece, Begun, AllHave, AreHandedOn, AreOthers, ArePieces, ButForReply, Counts, Finds, IsPiece, Leads, StayOpen, StepsFrom, is_closed, session_after, stays_open, steps_of, trace_after}
@@ -76,9 +77,9 @@ module _ (terms : Terms) (trace : List Event) (piece : Piece) (is : IsPiece term
       by None it = let l = is.leads it open_now in by_step l piece.to refl (told_to l piece.reply refl answered) open_now
 
   -- an open swap of another name than the command's
-  pub swap_stays : (name : List ℕ) → name_of piece.command ≢ Some name → open_at name (opens_of piece.to) ≡ open_at name (opens_of piece.from)
+  pub swap_stays : (name : List ℕ) → is_about piece.command name ≡ false → open_at name (opens_of piece.to) ≡ open_at name (opens_of piece.from)
   swap_stays name other =
-      ⊎_elim (λ same. ap (open_at name) same) (λ x. ap (λ s. open_at name (opens_of s)) x.1 ∙ others_as_they_were x.2 piece.from piece.command x.3 x.0 name other x.4) leaves_so
+      ⊎_elim (λ same. ap (open_at name) same) (λ x. ap (λ s. open_at name (opens_of s)) x.1 ∙ others_as_they_were x.2 piece.from piece.command x.3 x.0 name (about_not piece.command name other) x.4) leaves_so
 
   -- one that stays open is the same swap
   pub stays_same : (name : List ℕ) (o q : OpenSwap) → AllDiffer (busy_of piece.from) → open_at name (opens_of piece.from) ≡ Some o → open_at name (opens_of piece.to) ≡ Some q → q.running.swap ≡ o.running.swap

@@ -27,7 +27,7 @@ use Rattle.lab_core.specs.Controller.{Control, WorksWith}
 use Rattle.lab_core.specs.Commands.{DoesCommand, LabStep}
 use Rattle.lab_core.specs.Moments.{IsLabAt}
 use Rattle.lab_core.specs.Recovery.{Opens}
-use Rattle.lab_core.specs.Sessions.{OpenSwap, Session, Closed, Open, Setting, After, AreOpenedBy, counted_from, name_of, names_of, Terms}
+use Rattle.lab_core.specs.Sessions.{OpenSwap, Session, Closed, Open, Setting, After, AreOpenedBy, counted_from, name_of, Terms}
 use Rattle.lab_core.specs.Tells.{opens_of}
 use Rattle.lab_top.specs.declared.command.CommandFault.{CommandFault}
 use Rattle.lab_top.specs.declared.command.CommandFault.TheVariants.{Memory, WriteFault, JournalBad}
@@ -111,7 +111,7 @@ pub record Makes (terms : Terms) (mark : Faults) (command : Command) (old : Seen
   pub here : blames_now_if reply ≡ true → Rose old.faults.devices new.plant.faults.devices
   pub opened : AreOpenedBy (name_of command) reply swaps (opens_of to) mark.devices
   pub goes_on : HasSession new to
-  pub wants : is_some reply ≡ false → new.plant.stopped ≡ false → IfSome old.told (λ t. WantsBehind command t.trace (record { limit = limit_of c.journal; devices = mark.devices }) c.lab swaps own.0)
+  pub wants : is_some reply ≡ false → new.plant.stopped ≡ false → IfSome old.told (λ t. WantsBehind terms.rule command t.trace (record { limit = limit_of c.journal; devices = mark.devices }) c.lab swaps own.0)
 
 -- A DRILL IS PLANNED on a plant that takes drills, and else refused; or memory is wanting, and nothing is done
 abbrev pub Plans : Bool → Drill → Option Told → Option Told → Result Reply CommandFault → Type 0

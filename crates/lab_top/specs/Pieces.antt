@@ -1,5 +1,5 @@
 -- Pieces: what a command does, from its mark to its reply.
-use Rattle.std.specs.Prelude.{◌≡◌, ◌≢◌, ◌⊎◌, ◌<◌, ◌≤◌, ◌+◌, ◌-◌, ◌*◌, ◌^◌, ℕ, Bool, true, false, ◌&&◌, not, is_some, List, [], ◌∷◌, ◌++◌, map, Option, Some, None, Ok, if◌then◌else◌}
+use Rattle.std.specs.Prelude.{◌≡◌, ◌⊎◌, ◌<◌, ◌≤◌, ◌+◌, ◌-◌, ◌*◌, ◌^◌, ℕ, Bool, true, false, ◌&&◌, not, is_some, List, [], ◌∷◌, ◌++◌, map, Option, Some, None, Ok, if◌then◌else◌}
 use Rattle.std.specs.List.{flat_map}
 use Rattle.lab_base.specs.Lists.{Has}
 use Rattle.lab_base.specs.Counts.{Rose}
@@ -23,22 +23,24 @@ use Rattle.journal_disk.specs.Opening.{both_synced}
 use Rattle.journal_runs.specs.Pieces.{has_miss, has_restart}
 use Rattle.lab_state.specs.Texts.{the_texts}
 use Rattle.script_text.specs.declared.command.Command.{Command}
-use Rattle.script_text.specs.declared.command.Command.TheVariants.{Play, Recover}
+use Rattle.script_text.specs.declared.command.Command.TheVariants.{Batch, Play, Recover}
 use Rattle.script_text.specs.declared.reply.Reply.{Reply}
 use Rattle.script_text.specs.declared.reply.Reply.TheVariants.{Planned, NoDrill, Stopped, In, Out, Failed}
 use Rattle.script_text.specs.declared.reply.FailedEnd.TheVariants as ends
 use Rattle.script_text.specs.Drills.{drill_of}
 use Rattle.script_text.specs.Replies.{text_of, closes, blames_device}
 use Rattle.lab_core.specs.Recovery.{Opens, OpensInPart, Reads, SettlesFirst}
-use Rattle.lab_core.specs.Commands.{LabStep}
+use Rattle.lab_core.specs.Commands.{LabStep, is_about}
+use Rattle.cost_rule.specs.declared.rule.RuleNumber.{RuleNumber}
 use Rattle.lab_core.specs.Compaction.{packed_length}
 use Rattle.lab_core.specs.Moments.{IsNoJournal, IsLabAt, IsLabOfImage, AllStandFor, StandForLab, IsLengthAt, IsLiveAt}
 use Rattle.lab_core.specs.Breaks.{Breaks}
 use Rattle.lab_core.specs.Opening.{IsJournal, has_change}
 use Rattle.lab_core.specs.Said.{IsAsSaid}
-use Rattle.lab_core.specs.Tells.{BeginsAt, busy_of, is_in, opens_of}
+use Rattle.lab_core.specs.Tells.{BeginsAt, is_in, opens_of}
 use Rattle.lab_core.specs.Lists.{Ground, Past}
 use Rattle.lab_core.specs.Playing.{JudgedPlay, Playing, events_in_turn}
+use Rattle.lab_core.specs.Serving.{JudgedBatch, Serving, runs_in_turn}
 use Rattle.lab_core.specs.Sessions.{OpenSwap, Session, Closed, Open, AreOpenedBy, blames_now, counted_from, name_of, names_of, open_at, Terms}
 
 -- A PIECE: a command, the counts of faults at its mark, the session before and after it, the steps of its opening and its own, and its reply, if it was
@@ -277,16 +279,18 @@ pub record IsPiece (terms : Terms) (trace : List Event) (piece : Piece) : Type 0
 
 -- WITHOUT A REPLY, over a plant that is not stopped, memory was wanting: for the text of a reply alone, with which it is a piece; or before anything was
 -- done but reading; or in the settling of its opening, between two experiments; or behind the opening, before anything of its own was done, or in
--- `recover` between two experiments; or in `play` between two events, behind the changes of the first. No swap and no settling of an experiment is ended
--- by it.
-abbrev pub PlaysFirst : Command → List Event → Ground → LabState → List OpenSwap → List Event → Type 0
-PlaysFirst (Play exp from until lines text) trace base s opens own =
+-- `recover` between two experiments; or in `play` between two events or in `batch` between two runs, behind the first of them. No swap and no settling of
+-- an experiment is ended by it.
+abbrev pub ListsFirst : RuleNumber → Command → List Event → Ground → LabState → List OpenSwap → List Event → Type 0
+ListsFirst rule (Play exp from until lines text) trace base s opens own =
     (start at : Playing) × JudgedPlay s opens exp from until text (Ok start) × ((after : LabState) × (to : List OpenSwap) × Past (events_in_turn exp) base trace start s opens own at after to)
-PlaysFirst command trace base s opens own = ⊥
+ListsFirst rule (Batch moment lines text) trace base s opens own =
+    (start at : Serving) × JudgedBatch s text (Ok start) × ((after : LabState) × (to : List OpenSwap) × Past (runs_in_turn rule moment) base trace start s opens own at after to)
+ListsFirst rule command trace base s opens own = ⊥
 
-abbrev pub WantsBehind : Command → List Event → Ground → LabState → List OpenSwap → List Event → Type 0
-WantsBehind command trace base s opens own =
-    (own ≡ []) ⊎ (((command ≡ Recover) × ((after : LabState) × SettlesFirst s (names_of opens) own after)) ⊎ PlaysFirst command trace base s opens own)
+abbrev pub WantsBehind : RuleNumber → Command → List Event → Ground → LabState → List OpenSwap → List Event → Type 0
+WantsBehind rule command trace base s opens own =
+    (own ≡ []) ⊎ (((command ≡ Recover) × ((after : LabState) × SettlesFirst s (names_of opens) own after)) ⊎ ListsFirst rule command trace base s opens own)
 
 pub data WantsOnly (terms : Terms) (trace : List Event) (piece : Piece) : Type 0 where
   text : (reply : Reply) (to : Session) → IsPiece terms trace (record piece { to = to; reply = Some reply }) → WantsOnly terms trace piece
@@ -294,7 +298,7 @@ pub data WantsOnly (terms : Terms) (trace : List Event) (piece : Piece) : Type 0
   settling : (s after : LabState) (front moving : List Event) → IsLabAt trace s → piece.opening ≡ front ++ moving → Reads front → has_miss front ≡ false → has_restart front ≡ false → SettlesFirst s [] moving after
       → piece.own ≡ [] → WantsOnly terms trace piece
   behind : (s mid : LabState) → IsLabAt trace s → BeginsAt piece.from s piece.opening mid
-      → WantsBehind piece.command (trace ++ piece.opening) (record { limit = 2 ^ 32; devices = piece.faults.devices }) mid (opens_of piece.from) piece.own → WantsOnly terms trace piece
+      → WantsBehind terms.rule piece.command (trace ++ piece.opening) (record { limit = 2 ^ 32; devices = piece.faults.devices }) mid (opens_of piece.from) piece.own → WantsOnly terms trace piece
 
 -- each image that is possible stands for a lab in which the experiment is so
 abbrev pub AllHave : List Event → Experiment → Type 0
@@ -311,7 +315,7 @@ AllRestBut busy trace = (a b : List ℕ) → ArePossible trace a b → (u : LabS
 -- none of the commands is about the experiment of that name
 abbrev pub AreOthers : List ℕ → List Begun → Type 0
 AreOthers name [] = Unit {0}
-AreOthers name (b ∷ begun) = (name_of b.piece.command ≢ Some name) × AreOthers name begun
+AreOthers name (b ∷ begun) = (is_about b.piece.command name ≡ false) × AreOthers name begun
 
 -- each leaves the session open
 abbrev pub StayOpen : List Begun → Type 0

@@ -1,3 +1,4 @@
 pub mod Taken
 pub mod Blocks
 mod Wholes
+pub mod ToldRuns

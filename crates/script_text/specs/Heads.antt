@@ -8,13 +8,13 @@ use Rattle.lab_base.specs.Texts.{fields_of, is_skipped}
 use Rattle.script_text.specs.declared.command.Command.{Command}
 use Rattle.script_text.specs.declared.command.Command.TheVariants as commands
 use Rattle.script_text.specs.declared.heads.OneBlock.{OneBlock}
-use Rattle.script_text.specs.declared.heads.OneBlock.TheVariants.{Ptop, Create, CreateTop, SwapinWith, Modify, Play}
+use Rattle.script_text.specs.declared.heads.OneBlock.TheVariants.{Ptop, Create, CreateTop, SwapinWith, Modify, Play, Batch}
 use Rattle.script_text.specs.declared.heads.TwoBlocks.{TwoBlocks}
 use Rattle.script_text.specs.declared.heads.TwoBlocks.TheVariants.{ModifyWith}
 use Rattle.script_text.specs.declared.heads.Head.{Head}
 use Rattle.script_text.specs.declared.heads.Head.TheVariants.{Whole, Block, Blocks}
 use Rattle.plant.specs.declared.drill.How.{How}
-use Rattle.plant.specs.declared.drill.How.TheVariants.{Applied, Not, Hang, Jump}
+use Rattle.plant.specs.declared.drill.How.TheVariants.{Applied, Not, Hang, Jump, Read}
 use Rattle.plant.specs.declared.drill.Pick.{Pick}
 use Rattle.plant.specs.declared.drill.Pick.TheVariants.{Nothing, All, Torn}
 use Rattle.script_text.specs.declared.heads.Said.{Said}
@@ -28,6 +28,7 @@ completed (CreateTop exp) k text = commands.CreateTop exp k text
 completed (SwapinWith only exp) k text = commands.SwapinWith only exp k text
 completed (Modify only exp seed) k text = commands.Modify only exp seed k text
 completed (Play exp from to) k text = commands.Play exp from to k text
+completed (Batch moment) k text = commands.Batch moment k text
 
 -- the command that two blocks complete
 abbrev pub both_completed : TwoBlocks → ℕ → List ℕ → ℕ → List ℕ → Command
@@ -75,9 +76,13 @@ abbrev pub name_seed_and_count : List (List ℕ) → Option (List ℕ × ℕ × 
 name_seed_and_count (exp ∷ seed ∷ lines ∷ []) = option_and_then (λ name. option_and_then (λ s. option_map (λ k. (name, s, k)) (counted lines)) (seed_of seed)) (named exp)
 name_seed_and_count fields = None
 
--- a moment in microseconds, and a name, a span of two of them and a number of lines
+-- a moment, alone or with a number of lines; and a name, a span of two moments and a number of lines
 abbrev pub moment_of : List ℕ → Option ℕ
 moment_of field = number_of 1000000000000 field
+
+abbrev pub moment_and_count : List (List ℕ) → Option (ℕ × ℕ)
+moment_and_count (moment ∷ lines ∷ []) = option_and_then (λ t. option_map (λ k. (t, k)) (counted lines)) (moment_of moment)
+moment_and_count fields = None
 
 abbrev pub name_span_and_count : List (List ℕ) → Option (List ℕ × ℕ × ℕ × ℕ)
 name_span_and_count (exp ∷ from ∷ to ∷ lines ∷ []) =
@@ -91,6 +96,7 @@ how_of field =
     else if bytes_eq field (codes "not") then Some Not
     else if bytes_eq field (codes "hang") then Some Hang
     else if bytes_eq field (codes "jump") then Some Jump
+    else if bytes_eq field (codes "read") then Some Read
     else None
 
 abbrev pub pick_of : List ℕ → Option Pick
@@ -149,6 +155,7 @@ head_by word fields =
     else if bytes_eq word (codes "delete") then option_map (λ exp. Whole (commands.Delete exp)) (only_name fields)
     else if bytes_eq word (codes "recover") then option_map (λ none. Whole commands.Recover) (no_field fields)
     else if bytes_eq word (codes "status") then option_map (λ none. Whole commands.Status) (no_field fields)
+    else if bytes_eq word (codes "batch") then option_map (λ given. Block (Batch given.0) given.1) (moment_and_count fields)
     else if bytes_eq word (codes "play") then option_map (λ given. Block (Play given.0 given.1 given.2) given.3) (name_span_and_count fields)
     else if bytes_eq word (codes "fail") then fail_head fields
     else if bytes_eq word (codes "stop") then stop_head fields

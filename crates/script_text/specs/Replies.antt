@@ -1,14 +1,17 @@
 -- The texts of replies.
-use Rattle.std.specs.Prelude.{ℕ, Bool, true, false, List, [], ◌∷◌, ◌++◌, codes, Option, Some, None}
-use Rattle.std.specs.List.{flat_map}
+use Rattle.std.specs.Prelude.{ℕ, Bool, true, false, List, [], ◌∷◌, ◌++◌, length, codes, Option, Some, None}
+use Rattle.std.specs.List.{flat_map, list_any}
 use Rattle.std.specs.Fmt.{decimal}
 use Rattle.lab_base.specs.Kinds.{word_of}
 use Rattle.lab_base.specs.declared.fault.TextFault.{TextFault}
 use Rattle.script_text.specs.declared.reply.PhaseWord.{PhaseWord}
 use Rattle.script_text.specs.declared.reply.PhaseWord.TheVariants.{Out, In, Moving}
 use Rattle.script_text.specs.declared.reply.StatusLine.{StatusLine}
+use Rattle.script_text.specs.declared.reply.AuditLine.{AuditLine}
+use Rattle.script_text.specs.declared.reply.AuditLine.TheVariants as lines
 use Rattle.script_text.specs.declared.reply.TagLine.{TagLine}
 use Rattle.script_text.specs.declared.reply.Placed.{Placed}
+use Rattle.script_text.specs.declared.reply.Served.{Served}
 use Rattle.script_text.specs.declared.reply.FailedEnd.{FailedEnd}
 use Rattle.script_text.specs.declared.reply.FailedEnd.TheVariants as ends
 use Rattle.lab_base.specs.declared.what.What.{What}
@@ -102,6 +105,26 @@ infeasible_line exp rule subject = codes "infeasible " ++ exp ++ 32 ∷ [] ++ ru
 abbrev pub played_lines : List ℕ → ℕ → List ℕ → List ℕ
 played_lines exp played last = codes "played " ++ exp ++ 32 ∷ [] ++ decimal played ++ 10 ∷ [] ++ last
 
+-- a run that waits: the moment, how many nodes are needed and how many are left, and the types
+abbrev pub kind_word : List ℕ → List ℕ
+kind_word kind = 32 ∷ kind
+
+abbrev pub wait_line : List ℕ → ℕ → ℕ → ℕ → List (List ℕ) → List ℕ
+wait_line exp at need have kinds =
+    codes "wait " ++ exp ++ 32 ∷ [] ++ decimal at ++ 32 ∷ [] ++ decimal need ++ 32 ∷ [] ++ decimal have ++ flat_map kind_word kinds ++ 10 ∷ []
+
+-- a line of an audit, and all of them
+abbrev pub row_line : List ℕ → List ℕ → ℕ → ℕ → List ℕ
+row_line words switch port vlan = words ++ switch ++ 32 ∷ [] ++ decimal port ++ 32 ∷ [] ++ decimal vlan ++ 10 ∷ []
+
+abbrev pub audit_line : AuditLine → List ℕ
+audit_line (lines.Lacks switch port vlan) = row_line (codes "lacks ") switch port vlan.0
+audit_line (lines.Strange switch port vlan) = row_line (codes "strange ") switch port vlan.0
+audit_line (lines.Node node) = named_line (codes "node ") node
+
+abbrev pub audit_lines : List AuditLine → List ℕ
+audit_lines told = codes "audit " ++ decimal (length told) ++ 10 ∷ [] ++ flat_map audit_line told
+
 -- THE TEXT OF A REPLY
 abbrev pub text_of : Reply → List ℕ
 text_of (replies.Lab switches nodes trunks) = lab_line switches nodes trunks
@@ -124,6 +147,10 @@ text_of (replies.Trouble exp what) = trouble_line exp what
 text_of (replies.Failed exp end what) = failed_line exp end what
 text_of (replies.Recovered done stuck) = two_line (codes "recovered ") done stuck
 text_of (replies.Played exp played last closing blaming) = played_lines exp played last
+text_of (replies.Wait exp at need have kinds) = wait_line exp at need have kinds
+text_of (replies.Served served) = served.lines
+text_of (replies.Audit told) = audit_lines told
+text_of (replies.Unread name) = named_line (codes "unread ") name
 text_of replies.Planned = codes "planned\n"
 text_of replies.NoDrill = codes "no drill\n"
 text_of (replies.Infeasible exp rule subject) = infeasible_line exp rule subject
@@ -134,6 +161,7 @@ text_of (replies.Busy exp) = named_line (codes "busy ") exp
 text_of (replies.NotOpen exp) = named_line (codes "not open ") exp
 text_of (replies.Bad exp fault) = fault_line (codes "bad " ++ exp ++ 32 ∷ []) fault
 text_of (replies.BadPtop fault) = fault_line (codes "bad ptop ") fault
+text_of (replies.BadBatch fault) = fault_line (codes "bad batch ") fault
 text_of replies.FullExperiments = codes "full experiments 256\n"
 text_of replies.FullSwaps = codes "full swaps 16\n"
 text_of (replies.FullJournal size) = codes "full journal " ++ decimal size ++ 10 ∷ []
@@ -145,6 +173,7 @@ abbrev pub closes : Reply → Bool
 closes replies.Down = true
 closes (replies.Failed exp ends.Stuck Journal) = true
 closes (replies.Played exp played last closing blaming) = closing
+closes (replies.Served served) = served.closes
 closes reply = false
 
 -- THE REPLY BLAMES A DEVICE: a command to it failed in the swap
@@ -152,6 +181,7 @@ abbrev pub blames_device : Reply → Bool
 blames_device (replies.Failed exp end (Device name)) = true
 blames_device (replies.Trouble exp (Device name)) = true
 blames_device (replies.Played exp played last closing blaming) = blaming
+blames_device (replies.Served served) = served.blames
 blames_device reply = false
 
 -- THE REPLY TO `play`: how many events were answered `in`, and the reply that ended it, if one did
@@ -169,3 +199,17 @@ last_blames (Some reply) = blames_device reply
 
 abbrev pub played_of : List ℕ → ℕ → Option Reply → Reply
 played_of exp played ended = replies.Played exp played (last_text ended) (last_closes ended) (last_blames ended)
+
+-- the reply tells of a swap that failed
+abbrev pub tells_failed : Reply → Bool
+tells_failed (replies.Failed exp end what) = true
+tells_failed reply = false
+
+-- THE REPLY TO `batch`: a line for each run, in order; whether one closes, whether one blames a device, and whether one tells of a swap that failed
+abbrev pub served_of : List Reply → Served
+served_of told = record { lines = flat_map text_of told; closes = list_any closes told; blames = list_any blames_device told; fails = list_any tells_failed told }
+
+-- THE REPLY TELLS that a device did not tell what it holds
+abbrev pub tells_unread : Reply → Option (List ℕ)
+tells_unread (replies.Unread name) = Some name
+tells_unread reply = None

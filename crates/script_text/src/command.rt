@@ -103,6 +103,12 @@ pub enum Command {
         lines: u16,
         ns: Text,
     },
+    /// `batch NOW N`: serves the runs of the batch text of the next N lines, one after another. The moment NOW is from 0 to 10^12.
+    Batch {
+        moment: u64,
+        lines: u16,
+        text: Text,
+    },
     /// `delete E`: removes an experiment, which is out.
     Delete {
         exp: Name,
@@ -111,6 +117,8 @@ pub enum Command {
     Recover,
     /// `status`.
     Status,
+    /// `audit`: compares what the devices hold with what the experiments want of them.
+    Audit,
 }
 
 impl Command {

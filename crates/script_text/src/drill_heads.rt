@@ -24,6 +24,8 @@ fn how_in(field: &[u8]) -> Option<How>
         Some(How::Hang)
     } else if is_word(field, b"jump") {
         Some(How::Jump)
+    } else if is_word(field, b"read") {
+        Some(How::Read)
     } else {
         None
     }

@@ -2,8 +2,8 @@
 ghost use Rattle.std.specs.Prelude.{◌≡◌, ◌≤◌, IfOk, IfSome};
 ghost use Rattle.std.specs.Str.{bytes_eq};
 ghost use Rattle.lab_base.specs.Texts.{views};
-ghost use Rattle.script_text.specs.Blocks.{IsBlock, HasBlocks, IsInRange, SaysInRange};
-ghost use Rattle.script_text.specs.Heads.{completed, both_completed, counted, named, no_field, only_name, only_count, name_and_count, name_and_counts, seed_of, name_and_seed, name_seed_and_count, moment_of, name_span_and_count, swap_by, opened_by, head_by, said_of};
+ghost use Rattle.script_text.specs.Blocks.{IsBlock, HasBlocks, IsInRange, IsTimely, SaysInRange};
+ghost use Rattle.script_text.specs.Heads.{completed, both_completed, counted, named, no_field, only_name, only_count, name_and_count, name_and_counts, seed_of, name_and_seed, name_seed_and_count, moment_of, moment_and_count, name_span_and_count, swap_by, opened_by, head_by, said_of};
 
 use crate::Command;
 use crate::drill_heads::{fail_head, stop_head};
@@ -13,7 +13,7 @@ use std::alloc::Global;
 /// The most lines of a block.
 const MAX_LINES: u64 = 16_384;
 
-/// The last moment of a span, in microseconds.
+/// The last moment that a script names: of link events in microseconds.
 const MAX_MOMENT: u64 = 1_000_000_000_000;
 
 /// A command that one block completes.
@@ -39,6 +39,9 @@ pub(crate) enum OneBlock {
         exp: Name,
         from: u64,
         to: u64,
+    },
+    Batch {
+        moment: u64,
     },
 }
 
@@ -78,7 +81,7 @@ impl OneBlock {
     /// The command with its block.
     pub(crate) fn completed(self, lines: u16, text: Text) -> Command
         ensures command { result ≡ completed self lines text }
-        ensures blocks { IsBlock lines text → HasBlocks result }
+        ensures blocks { IsTimely self → IsBlock lines text → HasBlocks result }
     {
         match self {
             OneBlock::Ptop => Command::Ptop { lines, ptop: text },
@@ -115,6 +118,11 @@ impl OneBlock {
                 to,
                 lines,
                 ns: text,
+            },
+            OneBlock::Batch { moment } => Command::Batch {
+                moment,
+                lines,
+                text,
             },
         }
     }
@@ -265,11 +273,28 @@ fn name_seed_and_count(fields: &[&[u8]]) -> Option<(Name, u64, u16)>
 
 /// The moment that a field gives.
 fn moment_in(field: &[u8]) -> Option<u64>
-    ensures { result ≡ moment_of field.now }
+    ensures moment { result ≡ moment_of field.now }
+    ensures range { IfSome result (λ moment. moment ≤ 1000000000000) }
 {
     match read_number(field, MAX_MOMENT) {
         Ok(moment) => Some(moment),
         Err(_) => None,
+    }
+}
+
+/// The moment and the number of lines that two fields give.
+fn moment_and_count(fields: &[&[u8]]) -> Option<(u64, u16)>
+    ensures given { result ≡ moment_and_count (views fields.now) }
+    ensures range { IfSome result (λ given. given.0 ≤ 1000000000000) }
+    ensures few { IfSome result (λ given. given.1 ≤ 16384) }
+{
+    match fields {
+        [moment, lines] => {
+            let moment = moment_in(moment)?;
+            let lines = count_in(lines)?;
+            Some((moment, lines))
+        }
+        _ => None,
     }
 }
 
@@ -397,6 +422,12 @@ fn head_by(word: &[u8], fields: &[&[u8]]) -> Option<Head>
     } else if is_word(word, b"status") {
         no_field(fields)?;
         Some(Head::Whole(Command::Status))
+    } else if is_word(word, b"batch") {
+        let (moment, lines) = moment_and_count(fields)?;
+        Some(Head::Block {
+            what: OneBlock::Batch { moment },
+            lines,
+        })
     } else if is_word(word, b"play") {
         let (exp, from, to, lines) = name_span_and_count(fields)?;
         Some(Head::Block {

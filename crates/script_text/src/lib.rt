@@ -12,9 +12,10 @@ mod next;
 mod played;
 mod replies;
 mod reply;
+mod served;
 
 pub use command::Command;
 pub use next::{Next, ScriptFault, read_command};
 pub use played::{played_all, played_until};
 pub use replies::reply_text;
-pub use reply::{FailedEnd, PhaseWord, Placed, Reply, StatusLine, TagLine};
+pub use reply::{AuditLine, FailedEnd, PhaseWord, Placed, Reply, Served, StatusLine, TagLine};

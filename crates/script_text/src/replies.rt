@@ -2,9 +2,10 @@ ghost use Rattle.std.specs.Prelude.{◌≡◌, ◌++◌, ◌∷◌, [], codes, d
 ghost use Rattle.std.specs.List.{flat_map};
 ghost use Rattle.lab_base.specs.declared.what.What.TheVariants as whats;
 ghost use Rattle.script_text.specs.Replies.{phase_word, named_line, fault_line, two_line, lab_line, exp_line, boot_word, rule_word, end_word, what_words, trouble_line, failed_line, infeasible_line, tag_line, placed_lines, shown_lines, solved_lines, played_lines, text_of};
+ghost use Rattle.script_text.specs.Replies.{kind_word, wait_line, row_line, audit_line, audit_lines};
 
-use crate::{FailedEnd, PhaseWord, Placed, Reply, StatusLine, TagLine};
-use lab_base::{Boot, Memory, Name, Text, TextFault, What};
+use crate::{AuditLine, FailedEnd, PhaseWord, Placed, Reply, StatusLine, TagLine};
+use lab_base::{Boot, Memory, Name, Text, TextFault, VlanId, What};
 use std::alloc::Global;
 use virt_topo::Broken;
 
@@ -275,6 +276,14 @@ fn bad_ptop(alloc: Global, fault: TextFault) -> Result<Text, Memory>
     Ok(text)
 }
 
+fn bad_batch(alloc: Global, fault: TextFault) -> Result<Text, Memory>
+    ensures { IfOk result (λ text. text ≡ fault_line (codes "bad batch ") fault) }
+{
+    let mut text = Text::from_slice(alloc, b"bad batch ")?;
+    add_fault(&mut text, fault)?;
+    Ok(text)
+}
+
 fn line_of(alloc: Global, line: &StatusLine) -> Result<Text, Memory>
     ensures { IfOk result (λ text. text ≡ exp_line line.now) }
 {
@@ -306,6 +315,71 @@ fn played(alloc: Global, exp: &Name, played: u64, last: &Text) -> Result<Text, M
     text.push_number(played)?;
     text.push(b'\n')?;
     text.push_bytes(last.bytes())?;
+    Ok(text)
+}
+
+fn add_kinds(text: &mut Text, kinds: &[Name]) -> Result<(), Memory>
+    ensures { OnOk result (text.new ≡ text.old ++ flat_map kind_word kinds.now) }
+{
+    for kind in kinds {
+        text.push(b' ')?;
+        text.push_bytes(kind.bytes())?;
+    }
+    Ok(())
+}
+
+fn wait(
+    alloc: Global,
+    exp: &Name,
+    at: u64,
+    need: u32,
+    have: u32,
+    kinds: &[Name],
+) -> Result<Text, Memory>
+    ensures { IfOk result (λ text. text ≡ wait_line exp.now at need have kinds.now) }
+{
+    let mut text = named_head(alloc, b"wait ", exp)?;
+    text.push_number(at)?;
+    text.push(b' ')?;
+    text.push_number(need.into())?;
+    text.push(b' ')?;
+    text.push_number(have.into())?;
+    add_kinds(&mut text, kinds)?;
+    text.push(b'\n')?;
+    Ok(text)
+}
+
+fn row(alloc: Global, words: &[u8], switch: &Name, port: u16, vlan: VlanId) -> Result<Text, Memory>
+    ensures { IfOk result (λ text. text ≡ row_line words.now switch.now port vlan.0) }
+{
+    let mut text = named_head(alloc, words, switch)?;
+    text.push_number(port.into())?;
+    text.push(b' ')?;
+    text.push_number(vlan.0.into())?;
+    text.push(b'\n')?;
+    Ok(text)
+}
+
+fn audited(alloc: Global, line: &AuditLine) -> Result<Text, Memory>
+    ensures { IfOk result (λ text. text ≡ audit_line line.now) }
+{
+    match line {
+        AuditLine::Lacks { switch, port, vlan } => row(alloc, b"lacks ", switch, *port, *vlan),
+        AuditLine::Strange { switch, port, vlan } => row(alloc, b"strange ", switch, *port, *vlan),
+        AuditLine::Node { node } => named(alloc, b"node ", node),
+    }
+}
+
+fn audit(alloc: Global, lines: &[AuditLine]) -> Result<Text, Memory>
+    ensures { IfOk result (λ text. text ≡ audit_lines lines.now) }
+{
+    let mut text = Text::from_slice(alloc, b"audit ")?;
+    text.push_number(lines.len() as u64)?;
+    text.push(b'\n')?;
+    for line in lines {
+        let line = audited(alloc, line)?;
+        text.push_bytes(line.bytes())?;
+    }
     Ok(text)
 }
 
@@ -364,6 +438,16 @@ pub fn reply_text(alloc: Global, reply: &Reply) -> Result<Text, Memory>
             last,
             ..
         } => played(alloc, exp, *count, last),
+        Reply::Wait {
+            exp,
+            at,
+            need,
+            have,
+            kinds,
+        } => wait(alloc, exp, *at, *need, *have, kinds.as_slice()),
+        Reply::Served(served) => served.lines.copy(),
+        Reply::Audit { lines } => audit(alloc, lines.as_slice()),
+        Reply::Unread { name } => named(alloc, b"unread ", name),
         Reply::Planned => Text::from_slice(alloc, b"planned\n"),
         Reply::NoDrill => Text::from_slice(alloc, b"no drill\n"),
         Reply::Infeasible { exp, rule, subject } => infeasible(alloc, exp, *rule, subject),
@@ -374,6 +458,7 @@ pub fn reply_text(alloc: Global, reply: &Reply) -> Result<Text, Memory>
         Reply::NotOpen { exp } => named(alloc, b"not open ", exp),
         Reply::Bad { exp, fault } => bad(alloc, exp, *fault),
         Reply::BadPtop { fault } => bad_ptop(alloc, *fault),
+        Reply::BadBatch { fault } => bad_batch(alloc, *fault),
         Reply::FullExperiments => Text::from_slice(alloc, b"full experiments 256\n"),
         Reply::FullSwaps => Text::from_slice(alloc, b"full swaps 16\n"),
         Reply::FullJournal { length } => full_journal(alloc, *length),

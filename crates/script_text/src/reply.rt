@@ -28,11 +28,42 @@ pub struct TagLine {
     pub vlan: VlanId,
 }
 
+/// A line of an audit: a row that is wanted and missing, one that nobody wants, or a node that is not as it is wanted.
+#[derive(Clone, Copy)]
+pub enum AuditLine {
+    /// `lacks SWITCH PORT VLAN`.
+    Lacks {
+        switch: Name,
+        port: u16,
+        vlan: VlanId,
+    },
+    /// `strange SWITCH PORT VLAN`.
+    Strange {
+        switch: Name,
+        port: u16,
+        vlan: VlanId,
+    },
+    /// `node NAME`.
+    Node {
+        node: Name,
+    },
+}
+
 /// The placement of an experiment that is in: its canonical solution text, and a line for each segment.
 #[derive(Drop)]
 pub struct Placed {
     pub solution: Text,
     pub tags: Items<TagLine>,
+}
+
+/// The replies to the runs of a batch, in the order of the runs: their lines, whether one of them closes, whether one blames a
+/// device, and whether one tells of a swap that failed.
+#[derive(Drop)]
+pub struct Served {
+    pub lines: Text,
+    pub closes: bool,
+    pub blames: bool,
+    pub fails: bool,
 }
 
 /// The end of a swap that failed.
@@ -150,6 +181,25 @@ pub enum Reply {
         closes: bool,
         blames: bool,
     },
+    /// `wait E AT NEED HAVE TYPE ..`: a run of a batch waits, since promises would not fit at the moment AT. Of these types NEED nodes are
+    /// promised then, and HAVE are left.
+    Wait {
+        exp: Name,
+        at: u64,
+        need: u32,
+        have: u32,
+        kinds: Items<Name>,
+    },
+    /// To `batch`: a line for each run, in the order of the runs.
+    Served(Served),
+    /// `audit N` and N lines: to `audit`, in what the devices differ from what is wanted of them.
+    Audit {
+        lines: Items<AuditLine>,
+    },
+    /// `unread NAME`: to `audit`, that device did not tell what it holds.
+    Unread {
+        name: Name,
+    },
     /// `planned`: to a drill.
     Planned,
     /// `no drill`: the plant takes no drills.
@@ -189,6 +239,10 @@ pub enum Reply {
     BadPtop {
         fault: TextFault,
     },
+    /// `bad batch LINE KIND`.
+    BadBatch {
+        fault: TextFault,
+    },
     /// `full experiments 256`.
     FullExperiments,
     /// `full swaps 16`: so many swaps are open.
@@ -211,6 +265,7 @@ impl Reply {
         match self {
             Reply::Down => true,
             Reply::Played { closes, .. } => *closes,
+            Reply::Served(served) => served.closes,
             Reply::Failed { end, what, .. } => {
                 matches!(end, FailedEnd::Stuck) && matches!(what, What::Journal)
             }
@@ -226,6 +281,7 @@ impl Reply {
                 matches!(what, What::Device(_))
             }
             Reply::Played { blames, .. } => *blames,
+            Reply::Served(served) => served.blames,
             _ => false,
         }
     }

@@ -58,9 +58,11 @@ fn in_short(command: &Command) -> (u8, &[u8], u32, &[u8]) {
         Command::Play { exp, lines, ns, .. } => {
             (b'p', exp.bytes(), u32::from(*lines), ns.bytes())
         }
+        Command::Batch { lines, text, .. } => (b'b', b"", u32::from(*lines), text.bytes()),
         Command::Delete { exp } => (b'd', exp.bytes(), 0, b""),
         Command::Recover => (b'r', b"", 0, b""),
         Command::Status => (b'?', b"", 0, b""),
+        Command::Audit => (b'a', b"", 0, b""),
     }
 }
 

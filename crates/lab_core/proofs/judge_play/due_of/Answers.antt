@@ -1,4 +1,4 @@
-use Rattle.std.proofs.Common.{List, refl, sym, ◌∙◌, subst}
+use Rattle.std.proofs.Common.{List, refl, sym, subst}
 use Rattle.lab_base.specs.Lists.{Has}
 use Rattle.ns_events.specs.Schedules.{IsSchedule}
 use Rattle.ns_events.specs.declared.event.Event.{Event as LinkEvent}

@@ -1,10 +1,9 @@
-use Rattle.std.proofs.lemmas.Result.{err_from_is_err_and}
 use Rattle.std.proofs.Common.{◌≡◌, List, subst, Err, Ok}
 use Rattle.ns_events.specs.declared.event.Event.{Event as LinkEvent}
 use Rattle.lab_core.specs.Judge.{asked}
 use Rattle.lab_core.specs.Playing.{AreDue, need_shapes}
 use Rattle.lab_core.specs.Tasks.{Refuses}
-use Rattle.lab_core.proofs.Plays.{list_asked, list_refused}
+use Rattle.lab_core.proofs.Plays.{list_refused}
 use Rattle.lab_core.proofs.judge_play.judge_script.Goals as goal
 
 pub returns-in-Err-clause-judged : goal.returns-in-Err-clause-judged

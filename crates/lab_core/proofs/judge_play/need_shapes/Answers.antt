@@ -1,4 +1,4 @@
-use Rattle.std.proofs.Common.{◌≡◌, ◌+◌, List, drop, length, ap, refl, sym, ◌∙◌, subst, Err, arith}
+use Rattle.std.proofs.Common.{◌+◌, List, drop, ap, refl, sym, ◌∙◌, subst, Err, arith}
 use Rattle.std.proofs.lemmas.Result.{err_from_is_err_and}
 use Rattle.ns_events.specs.declared.event.Event.{Event as LinkEvent}
 use Rattle.lab_core.specs.Playing.{need_shapes}

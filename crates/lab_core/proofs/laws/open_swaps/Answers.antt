@@ -4,7 +4,7 @@ use Rattle.script_text.specs.Drills.{drill_of}
 use Rattle.lab_core.specs.Judge.{BeginOnly, Turn, Finish}
 use Rattle.lab_core.specs.Sessions.{Open, names_of, open_at}
 use Rattle.lab_core.proofs.OtherWorlds.{others_spared}
-use Rattle.lab_core.proofs.ListSteps.{all_leave, all_move}
+use Rattle.lab_core.proofs.ListSteps.{about_not, all_leave, all_move}
 use Rattle.lab_core.proofs.OpenLaws.{names_differ, one_begun, others_as_they_were, they_are_few}
 use Rattle.lab_core.proofs.StepLaws.{was}
 use Rattle.lab_core.proofs.TurnLaws.{finish_tells, one_turn, turn_at_most_one, turn_tells}
@@ -12,7 +12,7 @@ use Rattle.lab_core.proofs.laws.open_swaps.Goals as goal
 
 pub returns-clause-others : goal.returns-clause-others
 returns-clause-others c = λ terms at set s opens to command opening own after name other step is.
-    ⊎_elim (λ same. ap (open_at name) same) (λ one. others_as_they_were set (Open opens) command one.0 to name other one.1) (all_leave terms at set s (Open opens) opening own after command to is step)
+    ⊎_elim (λ same. ap (open_at name) same) (λ one. others_as_they_were set (Open opens) command one.0 to name (about_not command name other) one.1) (all_leave terms at set s (Open opens) opening own after command to is step)
 
 pub returns-clause-differ : goal.returns-clause-differ
 returns-clause-differ c = λ terms at set s session to command opening own after differ step is.

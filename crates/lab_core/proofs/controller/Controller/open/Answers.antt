@@ -1,7 +1,6 @@
 use Rattle.std.proofs.Common.{◌≡◌, ◌↔◌, ◌∙◌, Bool, true, false, Err, IsErrOf, IsTrue, Ok, refl, subst}
 use Rattle.std.proofs.lemmas.Result.{err_from_is_err_and}
 use Rattle.journal_disk.specs.declared.fault.OpenFault.TheVariants as faults
-use Rattle.lab_core.specs.Opening.{AfterOpening}
 use Rattle.lab_core.proofs.Openings.{bad_behind}
 use Rattle.lab_core.proofs.OpenSwaps.{opened_alone}
 use Rattle.lab_core.proofs.SettledOpenings.{not_read, then_broken, then_moved}

@@ -1,6 +1,5 @@
 use Rattle.std.proofs.Common.{List, Option, ℕ, sym, subst, Err}
 use Rattle.lab_core.specs.Controller.{CanWork, Control, WorksWith, control}
-use Rattle.lab_core.specs.Obey.{Obeyed}
 use Rattle.lab_core.specs.Playing.{JudgedEvent}
 use Rattle.lab_core.specs.Tasks.{task_of}
 use Rattle.lab_core.proofs.Obey.{refuses, wanted}
