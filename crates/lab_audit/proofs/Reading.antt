@@ -1,6 +1,6 @@
 -- Readings one after another.
 use Rattle.std.proofs.Common.{◌≡◌, inl, inr, ℕ, suc, ◌≤◌, ◌<◌, List, [], ◌∷◌, ◌++◌, length, map, Option, Some, None, refl, sym, ap, ◌∙◌, subst, arith, append-nil}
-use Rattle.std.specs.Prelude.{IfSome, ◌↔◌}
+use Rattle.std.specs.Prelude.{IfOk, IfSome, Result, Ok, Err, ◌↔◌}
 use Rattle.std.proofs.lemmas.List.{map-append}
 use Rattle.lab_base.specs.declared.ids.VlanId.{VlanId}
 use Rattle.lab_base.specs.Counts.{Rose}
@@ -10,9 +10,10 @@ use Rattle.plant.specs.Events.{Event}
 use Rattle.plant.specs.Seen.{Seen}
 use Rattle.plant.specs.Told.{Told, with_steps}
 use Rattle.plant.specs.Worlds.{World, NodeRow}
-use Rattle.plant_tables.specs.Readings.{IsBefore, IsEntry, IsNth, HasPipe, TellsRow, TellsPipe, entry_of, pipe_of}
+use Rattle.plant_tables.specs.Readings.{IsBefore, IsEntry, IsNth, HasPipe, RowsFit, PipesFit, TellsRow, TellsPipe, entry_of, pipe_of}
 use Rattle.plant_tables.specs.declared.pipe_row.PipeRow.{PipeRow}
 use Rattle.plant_tables.proofs.Fronts.{IsFront, none_left, one_more}
+use Rattle.plant_tables.proofs.Full.{all_entries, all_numbers}
 use Rattle.plant_tables.proofs.Orders.{entries, numbers}
 use Rattle.lab_audit.specs.Reads.{Reads, ArePipes, steps_of}
 
@@ -48,6 +49,15 @@ read_on a b c unread r s = record {
 pub told_before : (a b : Seen) (P : Told → Type 0) → Reads a b None → IfSome b.told P → IfSome a.told P
 told_before a b P r h = subst (λ (o : Option Told). IfSome o P) (same_told a b r) h
 
+pub one_told : (o : Option Told) (P Q : Told → Type 0) → ((t : Told) → P t → Q t) → IfSome o P → IfSome o Q
+one_told None P Q f p = tt
+one_told (Some t) P Q f p = f t p
+
+-- what holds of an answer
+pub ok_to : {T E : Type 0} (r : Result T E) (P Q : T → Type 0) → ((x : T) → P x → Q x) → IfOk r P → IfOk r Q
+ok_to (Ok x) P Q f p = f x p
+ok_to (Err e) P Q f p = tt
+
 pub both_told : (o : Option Told) (P Q R : Told → Type 0) → ((t : Told) → P t → Q t → R t) → IfSome o P → IfSome o Q → IfSome o R
 both_told None P Q R f p q = tt
 both_told (Some t) P Q R f p q = f t p q
@@ -78,6 +88,13 @@ rows_end w switch rows nth same front tells =
     let size : nth ≡ length (map entry_of rows) = omega (arith, same, size_of entry_of rows) in
     λ e. (front.all_so e, none_left IsBefore entries (IsEntry w switch) (map entry_of rows) front (subst (λ (n : ℕ). IsNth IsBefore (IsEntry w switch) n None) size tells) e)
 
+-- as many rows as a port and an id can make are all
+pub rows_full : (w : World) (switch : List ℕ) (rows : List (ℕ × VlanId)) (nth : ℕ) → length rows ≡ nth → 4294967296 ≤ nth → IsFront IsBefore (IsEntry w switch) (map entry_of rows)
+    → RowsFit w switch → (e : ℕ × ℕ) → Has (map entry_of rows) e ↔ IsEntry w switch e
+rows_full w switch rows nth same many front fit =
+    let size : 4294967296 ≤ length (map entry_of rows) = omega (arith, same, many, size_of entry_of rows) in
+    λ e. (front.all_so e, λ s. all_entries (map entry_of rows) front.rising (λ x h. fit x (front.all_so x h)) size e (fit e s))
+
 -- a pipe more, and the last reading of pipes
 abbrev pub number_of : PipeRow → ℕ
 number_of p = p.pipe
@@ -102,5 +119,15 @@ pipes_end row pipes nth same front each tells =
     let size : nth ≡ length (map number_of pipes) = omega (arith, same, size_of number_of pipes) in
     record {
       numbers = record { rising = front.rising; exact = λ k. (front.all_so k, none_left ◌<◌ numbers (HasPipe row) (map number_of pipes) front (subst (λ (n : ℕ). IsNth ◌<◌ (HasPipe row) n None) size tells.0) k) };
+      each = each;
+    }
+
+-- as many pipes as a number can count are all
+pub pipes_full : (row : NodeRow) (pipes : List PipeRow) (nth : ℕ) → length pipes ≡ nth → 65536 ≤ nth → IsFront ◌<◌ (HasPipe row) (map number_of pipes)
+    → ((q : PipeRow) → Has pipes q → row.pipes q.pipe ≡ Some (pipe_of q)) → PipesFit row → ArePipes row pipes
+pipes_full row pipes nth same many front each fit =
+    let size : 65536 ≤ length (map number_of pipes) = omega (arith, same, many, size_of number_of pipes) in
+    record {
+      numbers = record { rising = front.rising; exact = λ k. (front.all_so k, λ s. all_numbers 65536 (map number_of pipes) front.rising (λ x h. fit x (front.all_so x h)) size k (fit k s)) };
       each = each;
     }

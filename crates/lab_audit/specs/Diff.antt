@@ -87,3 +87,11 @@ IsCompared lab es name = ((e : Experiment) × Has es e × ((m : Mapped) × (stan
 -- the world leaves open no state that is compared
 abbrev pub IsKnown : Lab → List Experiment → World → Type 0
 IsKnown lab es w = (name : List ℕ) → Has (node_names lab) name → IsCompared lab es name → is_some (w.node name).boot ≡ true
+
+-- WHAT A REPORT TELLS OF SWITCHES: whatever its lines of nodes are, those of switches are exactly those of the world
+pub record TellsSwitches (lab : Lab) (es : List Experiment) (w : World) (report : List Line) : Type 0 where
+  pub lines : List Line
+  pub nodes : List Line
+  pub switches : AreLines lab es w lab.switches lines
+  pub of_nodes : (line : Line) → Has nodes line → (name : List ℕ) × (line ≡ Node name)
+  pub are : report ≡ lines ++ nodes

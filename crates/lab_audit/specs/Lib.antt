@@ -1,2 +1,5 @@
 pub mod Diff
+pub mod Lines
+pub mod Nodes
 pub mod Reads
+pub mod Wants

@@ -1,7 +1,7 @@
-ghost use Rattle.std.specs.Prelude.{◌≡◌, ◌↔◌, ℕ, map, Some, IfOk, OnOk, IfSome};
-ghost use Rattle.lab_base.specs.Lists.{Has, Apart};
+ghost use Rattle.std.specs.Prelude.{◌≡◌, ◌↔◌, ℕ, map, IfOk, OnOk, IfSome};
+ghost use Rattle.lab_base.specs.Lists.{Has};
 ghost use Rattle.plant.specs.Worlds.{world_of};
-ghost use Rattle.plant_tables.specs.Readings.{IsEntry, IsListOf, HasPipe, entry_of, pipe_of, TellsRow, TellsNode, TellsPipe};
+ghost use Rattle.plant_tables.specs.Readings.{IsEntry, entry_of, TellsRow, TellsNode, TellsPipe, RowsFit, PipesFit};
 ghost use Rattle.lab_audit.specs.Reads.{Reads, unread_by, ArePipes};
 
 use crate::AuditFault;
@@ -10,6 +10,12 @@ use plant::NodeRow;
 use plant_tables::{PipeRow, Tables};
 use std::alloc::Global;
 
+/// The number of rows that a port and a VLAN id can make.
+const MOST_ROWS: u64 = 4_294_967_296;
+
+/// The number of pipes that a number can count.
+const MOST_PIPES: u32 = 65_536;
+
 fn row_at<P: Tables>(
     plant: &mut P,
     switch: Name,
@@ -17,6 +23,7 @@ fn row_at<P: Tables>(
 ) -> Result<Option<(u16, VlanId)>, AuditFault>
     ensures reads { Reads (P.seen plant.old) (P.seen plant.new) (unread_by result) }
     ensures row { IfSome (P.seen plant.old).told (λ t. IfOk result (TellsRow (world_of t.trace) switch nth)) }
+    ensures fits { IfSome (P.seen plant.old).told (λ t. OnOk result (RowsFit (world_of t.trace) switch)) }
 {
     match plant.row(switch, nth) {
         Ok(row) => Ok(row),
@@ -27,6 +34,7 @@ fn row_at<P: Tables>(
 fn pipe_at<P: Tables>(plant: &mut P, node: Name, nth: u16) -> Result<Option<PipeRow>, AuditFault>
     ensures reads { Reads (P.seen plant.old) (P.seen plant.new) (unread_by result) }
     ensures pipe { IfSome (P.seen plant.old).told (λ t. IfOk result (TellsPipe ((world_of t.trace).node node) nth)) }
+    ensures fits { IfSome (P.seen plant.old).told (λ t. OnOk result (PipesFit ((world_of t.trace).node node))) }
 {
     match plant.pipe(node, nth) {
         Ok(pipe) => Ok(pipe),
@@ -35,7 +43,7 @@ fn pipe_at<P: Tables>(plant: &mut P, node: Name, nth: u16) -> Result<Option<Pipe
 }
 
 /// The OS and the boot state of a node.
-pub fn node_at<P: Tables>(plant: &mut P, node: Name) -> Result<NodeRow, AuditFault>
+pub(crate) fn node_at<P: Tables>(plant: &mut P, node: Name) -> Result<NodeRow, AuditFault>
     ensures reads { Reads (P.seen plant.old) (P.seen plant.new) (unread_by result) }
     ensures node { IfSome (P.seen plant.old).told (λ t. IfOk result (TellsNode ((world_of t.trace).node node))) }
 {
@@ -45,8 +53,8 @@ pub fn node_at<P: Tables>(plant: &mut P, node: Name) -> Result<NodeRow, AuditFau
     }
 }
 
-/// The rows that stand on a switch. A list of as many as a port and an id can make wants memory.
-pub fn rows_on<P: Tables>(
+/// The rows that stand on a switch.
+pub(crate) fn rows_on<P: Tables>(
     alloc: Global,
     plant: &mut P,
     switch: Name,
@@ -55,17 +63,17 @@ pub fn rows_on<P: Tables>(
     ensures exact { IfSome (P.seen plant.old).told (λ t. IfOk result (λ rows. (e : ℕ × ℕ) → Has (map entry_of rows) e ↔ IsEntry (world_of t.trace) switch e)) }
 {
     let mut rows = Items::new(alloc);
-    for nth in 0..u32::MAX {
-        match row_at(plant, switch, nth)? {
+    for nth in 0..MOST_ROWS {
+        match row_at(plant, switch, nth as u32)? {
             Some(row) => rows.push(row)?,
             None => return Ok(rows),
         }
     }
-    Err(AuditFault::Memory)
+    Ok(rows)
 }
 
-/// The pipes that a node has, by number. A list of as many as a number can count wants memory.
-pub fn pipes_of<P: Tables>(
+/// The pipes that a node has, by number.
+pub(crate) fn pipes_of<P: Tables>(
     alloc: Global,
     plant: &mut P,
     node: Name,
@@ -74,11 +82,11 @@ pub fn pipes_of<P: Tables>(
     ensures exact { IfSome (P.seen plant.old).told (λ t. IfOk result (λ pipes. ArePipes ((world_of t.trace).node node) pipes)) }
 {
     let mut pipes = Items::new(alloc);
-    for nth in 0..u16::MAX {
-        match pipe_at(plant, node, nth)? {
+    for nth in 0..MOST_PIPES {
+        match pipe_at(plant, node, nth as u16)? {
             Some(pipe) => pipes.push(pipe)?,
             None => return Ok(pipes),
         }
     }
-    Err(AuditFault::Memory)
+    Ok(pipes)
 }

@@ -1,5 +1,6 @@
 -- Lists of the first of all that are so.
-use Rattle.std.proofs.Common.{◌≡◌, inl, inr, ℕ, ◌≤◌, List, [], ◌∷◌, ◌++◌, length, Option, Some, None, refl, sym, ap, ◌∙◌, subst, arith}
+use Rattle.std.proofs.Common.{◌≡◌, inl, inr, ℕ, zero, suc, ◌≤◌, List, [], ◌∷◌, ◌++◌, length, Option, Some, None, refl, sym, ap, ◌∙◌, subst, arith}
+use Rattle.std.specs.Prelude.{slice_get}
 use Rattle.lab_base.specs.Lists.{Has, Apart}
 use Rattle.lab_base.proofs.Members.{Has-append, Has-left}
 use Rattle.plant_tables.specs.Readings.{IsListOf, IsNth}
@@ -119,3 +120,55 @@ module _ {X : Type 0} (before : X → X → Type 0) (order : IsOrder before) whe
       | inr b ↦ absurd (apart so nth y n.1.0 m (part so x n.1.0 n.1.1) (omega (arith, n.1.2)) ((n.1.1.exact y).1 (m.0, b)))
     ]
   ]
+
+  -- A LIST OF ALL TELLS EACH OF THEM: its nth is the nth of all that are so
+  behind : (so : X → Type 0) (x : X) (xs : List X) → IsListOf before so (x ∷ xs) → IsListOf before (λ y. so y × before x y) xs
+  behind so x xs l = record {
+    rising = l.rising.1;
+    exact = λ y. (
+      (λ h. ((l.exact y).0 (inr h), l.rising.0 y h)),
+      (λ s. elim ((l.exact y).1 s.0) [
+        | inl e ↦ absurd (order.never x (subst (λ v. before x v) (sym e) s.1))
+        | inr h ↦ h
+      ]),
+    );
+  }
+
+  headed : (so : X → Type 0) (x : X) (xs ys : List X) → IsListOf before so (x ∷ xs) → IsListOf before (λ y. so y × before x y) ys → IsListOf before so (x ∷ ys)
+  headed so x xs ys l m = record {
+    rising = ((λ y h. ((m.exact y).0 h).1), m.rising);
+    exact = λ y. (
+      (λ h. elim h [ inl e ↦ subst so e ((l.exact x).0 (inl refl)) | inr g ↦ ((m.exact y).0 g).0 ]),
+      (λ s. elim ((l.exact y).1 s) [ inl e ↦ inl e | inr h ↦ inr ((m.exact y).1 (s, l.rising.0 y h)) ]),
+    );
+  }
+
+  headed_before : (so : X → Type 0) (x e : X) (xs ys : List X) → IsListOf before so (x ∷ xs) → before x e → IsListOf before (λ y. (so y × before x y) × before y e) ys → IsListOf before (λ y. so y × before y e) (x ∷ ys)
+  headed_before so x e xs ys l first m = record {
+    rising = ((λ y h. ((m.exact y).0 h).0.1), m.rising);
+    exact = λ y. (
+      (λ h. elim h [ inl d ↦ (subst so d ((l.exact x).0 (inl refl)), subst (λ v. before v e) d first) | inr g ↦ (((m.exact y).0 g).0.0, ((m.exact y).0 g).1) ]),
+      (λ s. elim ((l.exact y).1 s.0) [ inl d ↦ inl d | inr h ↦ inr ((m.exact y).1 ((s.0, l.rising.0 y h), s.1)) ]),
+    );
+  }
+
+  pub nth_of : (so : X → Type 0) (xs : List X) (nth : ℕ) → IsListOf before so xs → IsNth before so nth (slice_get xs nth)
+  nth_of so [] nth l = ([], l, omega arith)
+  nth_of so (x ∷ xs) zero l = (
+    (l.exact x).0 (inl refl),
+    ([], record {
+      rising = tt;
+      exact = λ y. (
+        (λ h. absurd h),
+        (λ s. elim ((l.exact y).1 s.0) [
+          | inl e ↦ absurd (order.never y (subst (λ v. before y v) e s.1))
+          | inr h ↦ absurd (order.never x (order.on x y x (l.rising.0 y h) s.1))
+        ]),
+      );
+    }, refl),
+  )
+  nth_of so (x ∷ xs) (suc nth) l = by (slice_get xs nth) (nth_of (λ y. so y × before x y) xs nth (behind so x xs l))
+    where
+      by : (o : Option X) → IsNth before (λ y. so y × before x y) nth o → IsNth before so (suc nth) o
+      by None n = (x ∷ n.0, headed so x xs n.0 l n.1, omega (arith, n.2))
+      by (Some e) n = (n.0.0, (x ∷ n.1.0, headed_before so x e xs n.1.0 l n.0.1 n.1.1, omega (arith, n.1.2)))

@@ -1,0 +1,203 @@
+-- Whether a node differs, by the first experiment that claims it.
+use Rattle.std.proofs.Common.{◌≡◌, inl, inr, ℕ, zero, suc, ◌<◌, Bool, true, false, List, [], ◌∷◌, Option, Some, None, refl, sym, ap, ◌∙◌, subst, cond, arith, length, take, if◌then◌else◌}
+use Rattle.std.specs.Prelude.{◌↔◌, ◌||◌, is_some, not, slice_get}
+use Rattle.std.specs.List.{find}
+use Rattle.std.proofs.lemmas.Bool.{or_cases, or_left, or_right, true≢false, false≢true}
+use Rattle.lab_base.specs.Lists.{Has}
+use Rattle.lab_base.proofs.Members.{Apart-same}
+use Rattle.phys_lab.specs.Labs.{Lab}
+use Rattle.virt_topo.specs.declared.experiment.Experiment.{Experiment}
+use Rattle.virt_topo.specs.declared.experiment.Phase.{Phase}
+use Rattle.virt_topo.specs.declared.experiment.Phase.TheVariants.{Out, In, Moving}
+use Rattle.virt_topo.specs.declared.mapping.Mapped.{Mapped}
+use Rattle.virt_topo.specs.declared.wiring.Wiring.{Wiring}
+use Rattle.plant.specs.Worlds.{World, NodeRow, PipeRow, wiped}
+use Rattle.lab_model.specs.Cabled.{SameNode}
+use Rattle.lab_model.specs.Claims.{Which, Old, New, claimed, claimed_in, Claims, Places, claims_it, is_placed}
+use Rattle.lab_model.specs.Holding.{Holding, Suits}
+use Rattle.lab_model.specs.Wants.{node_row_of, os_on, pipes_on}
+use Rattle.lab_model.proofs.Kept.{places_it_from, Places_from}
+use Rattle.lab_model.proofs.OneSided.{Has-slice_get}
+use Rattle.records_model.specs.Labs.{LabState, Sane, lab_in}
+use Rattle.lab_audit.specs.Diff.{standing, standing_in, Differs, Held, Free, IsCompared}
+use Rattle.lab_audit.specs.Nodes.{IsOff, claimer, row_with}
+
+-- the first that passes a test; one that passes none
+found : {X : Type 0} (p : X → Bool) (xs : List X) (x : X) → find p xs ≡ Some x → Has xs x × (p x ≡ true)
+found p [] x is = absurd (cc is)
+found {X} p (y ∷ xs) x is = by (p y) refl (λ e. found p xs x e) is
+  where
+    by : (test : Bool) → p y ≡ test → (find p xs ≡ Some x → Has xs x × (p x ≡ true)) → cond test (Some y) (find p xs) ≡ Some x → Has (y ∷ xs) x × (p x ≡ true)
+    by true t rest e = let same : y ≡ x = cc e in (inl same, ap p (sym same) ∙ t)
+    by false t rest e = let f = rest e in (inr f.0, f.1)
+
+pub not_found : {X : Type 0} (p : X → Bool) (xs : List X) → find p xs ≡ None → (x : X) → Has xs x → p x ≡ false
+not_found p [] is x h = absurd h
+not_found {X} p (y ∷ xs) is x h = by (p y) refl (λ e g. not_found p xs e x g) is h
+  where
+    by : (test : Bool) → p y ≡ test → (find p xs ≡ None → Has xs x → p x ≡ false) → cond test (Some y) (find p xs) ≡ None → Has (y ∷ xs) x → p x ≡ false
+    by true t rest e g = absurd (cc e)
+    by false t rest e (inl same) = ap p (sym same) ∙ t
+    by false t rest e (inr g) = rest e g
+
+-- the first that passes, where none before it does
+pub first_found : {X : Type 0} (p : X → Bool) (xs : List X) (n : ℕ) (x : X) → find p (take n xs) ≡ None → slice_get xs n ≡ Some x → p x ≡ true → find p xs ≡ Some x
+first_found p [] n x none at is = absurd (cc at)
+first_found p (y ∷ xs) zero x none at is = let same : y ≡ x = cc at in ap (λ (b : Bool). cond b (Some y) (find p xs)) (ap p same ∙ is) ∙ ap Some same
+first_found {X} p (y ∷ xs) (suc n) x none at is = by (p y) refl none (λ e. first_found p xs n x e at is)
+  where
+    by : (test : Bool) → p y ≡ test → cond test (Some y) (find p (take n xs)) ≡ None → (find p (take n xs) ≡ None → find p xs ≡ Some x) → cond (p y) (Some y) (find p xs) ≡ Some x
+    by true t e rest = absurd (cc e)
+    by false t e rest = ap (λ (b : Bool). cond b (Some y) (find p xs)) t ∙ rest e
+
+pub none_more : {X : Type 0} (p : X → Bool) (xs : List X) (n : ℕ) (x : X) → find p (take n xs) ≡ None → slice_get xs n ≡ Some x → p x ≡ false → find p (take (suc n) xs) ≡ None
+none_more p [] n x none at is = refl
+none_more p (y ∷ xs) zero x none at is = let same : y ≡ x = cc at in ap (λ (b : Bool). cond b (Some y) (find p [])) (ap p same ∙ is)
+none_more {X} p (y ∷ xs) (suc n) x none at is = by (p y) refl none (λ e. none_more p xs n x e at is)
+  where
+    by : (test : Bool) → p y ≡ test → cond test (Some y) (find p (take n xs)) ≡ None → (find p (take n xs) ≡ None → find p (take (suc n) xs) ≡ None) → cond (p y) (Some y) (find p (take (suc n) xs)) ≡ None
+    by true t e rest = absurd (cc e)
+    by false t e rest = ap (λ (b : Bool). cond b (Some y) (find p (take (suc n) xs))) t ∙ rest e
+
+pub some_at : {X : Type 0} (xs : List X) (n : ℕ) → n < length xs → (x : X) × (slice_get xs n ≡ Some x)
+some_at [] n lt = absurd (omega (arith, lt))
+some_at (x ∷ xs) zero lt = (x, refl)
+some_at (x ∷ xs) (suc n) lt = some_at xs n (omega (arith, lt))
+
+-- what a choice by a test tells of it
+pub chosen : {X : Type 0} (test : Bool) (x y : X) → Some y ≡ (if test then Some x else None) → (test ≡ true) × (x ≡ y)
+chosen true x y e = (refl, cc e)
+chosen false x y e = absurd (cc e)
+
+pub not_chosen : {X : Type 0} (test : Bool) (x : X) → None ≡ (if test then Some x else None) → test ≡ false
+not_chosen {X} true x e = absurd (let never : None ≡ Some x = e in cc never)
+not_chosen false x e = refl
+
+-- an experiment claims a node by a test
+test_claims : (lab : Lab) (e : Experiment) (name : List ℕ) → claims_it lab e name ≡ true → Claims lab e name
+test_claims lab e name is = elim (or_cases (is_placed lab (claimed e Old) name) (is_placed lab (claimed e New) name) is) [
+  | inl h ↦ by Old (claimed e Old) refl h
+  | inr h ↦ by New (claimed e New) refl h
+]
+  where
+    by : (which : Which) (o : Option Mapped) → claimed e which ≡ o → is_placed lab o name ≡ true → Claims lab e name
+    by which None is h = absurd (false≢true h)
+    by which (Some m) is h = record { which = which; mapped = m; is = is; placed = Places_from lab m name h }
+
+claims_test : (lab : Lab) (e : Experiment) (name : List ℕ) → Claims lab e name → claims_it lab e name ≡ true
+claims_test lab e name c = by c.which c.is
+  where
+    by : (which : Which) → claimed e which ≡ Some c.mapped → claims_it lab e name ≡ true
+    by Old is = or_left _ _ (ap (λ (o : Option Mapped). is_placed lab o name) is ∙ places_it_from lab c.mapped name c.placed)
+    by New is = or_right _ _ (ap (λ (o : Option Mapped). is_placed lab o name) is ∙ places_it_from lab c.mapped name c.placed)
+
+-- what stands is claimed, and places what is claimed
+stands_claimed : (wiring : Wiring) (phase : Phase) (m : Mapped) → standing_in wiring phase ≡ Some m → claimed_in wiring phase New ≡ Some m
+stands_claimed wiring Out m is = absurd (cc is)
+stands_claimed wiring (In mapping tags) m is = is
+stands_claimed wiring (Moving old new) m is = absurd (cc is)
+
+stands_placed : (lab : Lab) (wiring : Wiring) (phase : Phase) (m : Mapped) (name : List ℕ) → standing_in wiring phase ≡ Some m
+    → (is_placed lab (claimed_in wiring phase Old) name || is_placed lab (claimed_in wiring phase New) name) ≡ true → Places lab m name
+stands_placed lab wiring Out m name is h = absurd (cc is)
+stands_placed lab wiring (In mapping tags) m name is h = Places_from lab m name (ap (λ (o : Option Mapped). is_placed lab o name) (sym is) ∙ h)
+stands_placed lab wiring (Moving old new) m name is h = absurd (cc is)
+
+module _ (lab : Lab) (es : List Experiment) (w : World) (name : List ℕ) (holding : Holding lab es) where
+  one_claims : (e f : Experiment) → Has es e → Has es f → Claims lab e name → Claims lab f name → e ≡ f
+  one_claims e f has_e has_f c d = Apart-same (λ (a b : Experiment). (n : List ℕ) → Claims lab a n → Claims lab b n → ⊥) es e f holding.nodes has_e has_f (λ no. no name c d) (λ no. no name d c)
+
+  pub off_differs : (e : Experiment) → claimer lab es name ≡ Some e → IsOff lab w name (standing e) ↔ Differs lab es w name
+  off_differs e is =
+      let f = found (λ (x : Experiment). claims_it lab x name) es e is in (
+        (λ off. to e (standing e) refl f.0 f.1 off),
+        (λ d. from d f.0 f.1),
+      )
+    where
+      to : (x : Experiment) (o : Option Mapped) → standing x ≡ o → Has es x → claims_it lab x name ≡ true → IsOff lab w name o → Differs lab es w name
+      to x None s has it off = absurd off
+      to x (Some m) s has it off = Held x m has s (stands_placed lab x.wiring x.phase m name s it) off
+
+      from : Differs lab es w name → Has es e → claims_it lab e name ≡ true → IsOff lab w name (standing e)
+      from (Held x m has s placed off) has_e it =
+          let claims : Claims lab x name = record { which = New; mapped = m; is = stands_claimed x.wiring x.phase m s; placed = placed } in
+          let same : x ≡ e = one_claims x e has has_e claims (test_claims lab e name it) in
+          subst (λ (o : Option Mapped). IsOff lab w name o) (sym s ∙ ap standing same) off
+      from (Free none off) has_e it = absurd (none e has_e (test_claims lab e name it))
+
+  none_claims : claimer lab es name ≡ None → (e : Experiment) → Has es e → Claims lab e name → ⊥
+  none_claims is e has c = true≢false (sym (claims_test lab e name c) ∙ not_found (λ (x : Experiment). claims_it lab x name) es is e has)
+
+  pub free_differs : claimer lab es name ≡ None → (SameNode (w.node name) wiped → ⊥) ↔ Differs lab es w name
+  free_differs is = ((λ off. Free (none_claims is) off), from)
+    where
+      from : Differs lab es w name → SameNode (w.node name) wiped → ⊥
+      from (Held x m has s placed off) = absurd (none_claims is x has (record { which = New; mapped = m; is = stands_claimed x.wiring x.phase m s; placed = placed }))
+      from (Free none off) = off
+
+  -- the node is compared, where its experiment stands, and where it has none
+  pub held_compared : (e : Experiment) (m : Mapped) → claimer lab es name ≡ Some e → standing e ≡ Some m → IsCompared lab es name
+  held_compared e m is s =
+      let f = found (λ (x : Experiment). claims_it lab x name) es e is in
+      inl (e, f.0, (m, s, stands_placed lab e.wiring e.phase m name s f.1))
+
+  pub free_compared : claimer lab es name ≡ None → IsCompared lab es name
+  free_compared is = inr (none_claims is)
+
+-- a node without anything
+pub same_wiped : (row : NodeRow) → SameNode row (row_with None false []) ↔ SameNode row wiped
+same_wiped row = (
+  (λ s. record { os = s.os; pipes = λ k. s.pipes k ∙ no_pipe k; boot = s.boot }),
+  (λ s. record { os = s.os; pipes = λ k. s.pipes k ∙ sym (no_pipe k); boot = s.boot }),
+)
+  where
+    no_pipe : (k : ℕ) → (row_with None false []).pipes k ≡ None
+    no_pipe k = refl
+
+-- what isn't the same differs
+not_same : (same : Bool) (S : Type 0) → (same ≡ true ↔ S) → (not same ≡ true ↔ (S → ⊥))
+not_same true S is = ((λ never. absurd (false≢true never)), (λ other. absurd (other (is.0 refl))))
+not_same false S is = ((λ yes. λ s. false≢true (is.1 s)), (λ other. refl))
+
+pub unwiped_by : (row : NodeRow) (same : Bool) → (same ≡ true ↔ SameNode row (row_with None false [])) → (not same ≡ true ↔ (SameNode row wiped → ⊥))
+unwiped_by row same is = not_same same (SameNode row wiped) ((λ yes. (same_wiped row).0 (is.0 yes)), (λ s. is.1 ((same_wiped row).1 s)))
+
+-- a node isn't as an experiment wants it that stands
+pub off_by : (lab : Lab) (w : World) (e : Experiment) (m : Mapped) (name n : List ℕ) (os : Option (List ℕ)) (pipes : List PipeRow) (same : Bool) → standing e ≡ Some m → n ≡ name
+    → os ≡ os_on lab m.wiring.nodes m.mapping.places name → pipes ≡ pipes_on lab m name → (same ≡ true ↔ SameNode (w.node n) (row_with os true pipes)) → (not same ≡ true ↔ IsOff lab w name (standing e))
+off_by lab w e m name n os pipes same stands named os_is pipes_are is =
+    let node : (same ≡ true) ↔ SameNode (w.node name) (node_row_of lab m name) = subst (λ (v : List ℕ). (same ≡ true) ↔ SameNode (w.node v) (node_row_of lab m name)) named
+    (subst (λ (ps : List PipeRow). (same ≡ true) ↔ SameNode (w.node n) (row_with (os_on lab m.wiring.nodes m.mapping.places name) true ps)) pipes_are
+    (subst (λ (o : Option (List ℕ)). (same ≡ true) ↔ SameNode (w.node n) (row_with o true pipes)) os_is is)) in
+    subst (λ (o : Option Mapped). (not same ≡ true) ↔ IsOff lab w name o) (sym stands) (not_same same (SameNode (w.node name) (node_row_of lab m name)) node)
+
+-- what the mappings of a sane state are
+pub holding_in : (s : LabState) (lab : Lab) → Sane s → s.lab ≡ Some lab → Holding lab s.experiments
+holding_in s lab sane is = subst (λ (o : Option Lab). Holding (lab_in o) s.experiments) is sane.holding
+
+pub suits_all : (s : LabState) (lab : Lab) (n : ℕ) (e : Experiment) → Sane s → s.lab ≡ Some lab → slice_get s.experiments n ≡ Some e → (which : Which) (m : Mapped) → claimed e which ≡ Some m → Suits lab m
+suits_all s lab n e sane is at which m claims = (holding_in s lab sane is).fits e which m (Has-slice_get s.experiments n e at) claims
+
+pub claimer_suits : (s : LabState) (lab : Lab) (name : List ℕ) (e : Experiment) → Sane s → s.lab ≡ Some lab → claimer lab s.experiments name ≡ Some e → (m : Mapped) → standing e ≡ Some m → Suits lab m
+claimer_suits s lab name e sane is first m stands =
+    let f = found (λ (x : Experiment). claims_it lab x name) s.experiments e first in
+    (holding_in s lab sane is).fits e New m f.0 (stands_claimed e.wiring e.phase m stands)
+
+-- A NODE DIFFERS, by its experiment, and where it has none
+pub differs_held : (s : LabState) (lab : Lab) (w : World) (name : List ℕ) (e : Experiment) (off : Bool) → Sane s → s.lab ≡ Some lab → claimer lab s.experiments name ≡ Some e
+    → (((m : Mapped) → standing e ≡ Some m → is_some (w.node name).boot ≡ true) → (off ≡ true) ↔ IsOff lab w name (standing e))
+    → (IsCompared lab s.experiments name → is_some (w.node name).boot ≡ true) → (off ≡ true) ↔ Differs lab s.experiments w name
+differs_held s lab w name e off sane is first exact known =
+    let holding = holding_in s lab sane is in
+    let by : (off ≡ true) ↔ IsOff lab w name (standing e) = exact (λ m stands. known (held_compared lab s.experiments w name holding e m first stands)) in
+    let to = off_differs lab s.experiments w name holding e first in
+    ((λ yes. to.0 (by.0 yes)), (λ d. by.1 (to.1 d)))
+
+pub differs_free : (s : LabState) (lab : Lab) (w : World) (name : List ℕ) (off : Bool) → Sane s → s.lab ≡ Some lab → claimer lab s.experiments name ≡ None
+    → (is_some (w.node name).boot ≡ true → (off ≡ true) ↔ (SameNode (w.node name) wiped → ⊥))
+    → (IsCompared lab s.experiments name → is_some (w.node name).boot ≡ true) → (off ≡ true) ↔ Differs lab s.experiments w name
+differs_free s lab w name off sane is first exact known =
+    let holding = holding_in s lab sane is in
+    let by : (off ≡ true) ↔ (SameNode (w.node name) wiped → ⊥) = exact (known (free_compared lab s.experiments w name holding first)) in
+    let to = free_differs lab s.experiments w name holding first in
+    ((λ yes. to.0 (by.0 yes)), (λ d. by.1 (to.1 d)))
