@@ -1,5 +1,5 @@
 -- The state behind a command, as the trait has it.
-use Rattle.std.proofs.Common.{◌≡◌, inl, inr, ℕ, Bool, true, false, List, [], ◌∷◌, Option, Some, None, Result, Ok, Err, refl, sym, ap, subst, if◌then◌else◌}
+use Rattle.std.proofs.Common.{◌≡◌, inl, inr, ℕ, Bool, true, false, List, [], ◌∷◌, Option, Some, None, Result, Err, refl, sym, ap, subst, if◌then◌else◌}
 use Rattle.std.specs.Prelude.{is_some}
 use Rattle.std.proofs.lemmas.List.{append-nil}
 use Rattle.plant.specs.Calls.{Fits, CommandSteps}
@@ -14,7 +14,7 @@ use Rattle.plant.specs.declared.drill.Pick.{Pick}
 use Rattle.plant.specs.declared.drill.Pick.TheVariants.{Nothing, All, Torn}
 use Rattle.lab_base.specs.declared.boot.Boot.{Boot}
 use Rattle.plant_mem.specs.Boots.{answer_of, moved_by}
-use Rattle.plant_mem.specs.Commands.{answer_sent, sent, failed_if, met_command, met_answer, after_command, answer_command}
+use Rattle.plant_mem.specs.Commands.{answer_sent, failed_if, met_command, met_answer, after_command, answer_command}
 use Rattle.plant_mem.specs.DiskPlans.{stops_next, stop_counted, is_done}
 use Rattle.plant_mem.specs.Held.{Held, effect_if, halted}
 use Rattle.plant_mem.specs.Plans.{firing, motion_of, is_applied, answer_by}

@@ -5,7 +5,9 @@ mod Counts
 mod Growing
 mod Images
 mod Knowing
+mod Numbers
 mod Passes
 mod Restarting
+mod RowTables
 mod Sides
 mod States

@@ -1,8 +1,8 @@
 -- The state behind the other calls of a plant in memory: commands, drills, marks and starts.
-use Rattle.std.specs.Prelude.{ℕ, Bool, true, false, List, [], ◌∷◌, ◌++◌, map, length, Option, Some, None, is_some, Result, Err, if◌then◌else◌}
+use Rattle.std.specs.Prelude.{Bool, true, false, [], ◌∷◌, ◌++◌, map, length, Option, Some, None, is_some, Result, Err, if◌then◌else◌}
 use Rattle.lab_base.specs.Lists.{listed}
 use Rattle.plant.specs.Disks.{disk}
-use Rattle.plant.specs.Events.{Event, Did, Restarted}
+use Rattle.plant.specs.Events.{Did, Restarted}
 use Rattle.plant.specs.declared.device.Answer.{Answer}
 use Rattle.plant.specs.declared.device.DeviceOp.{DeviceOp}
 use Rattle.plant.specs.declared.device.Fault.{Fault}

@@ -9,5 +9,7 @@ pub mod MemLab
 pub mod Picks
 pub mod Plans
 pub mod Possible
+pub mod Readings
 pub mod Rooms
+pub mod RowTables
 pub mod Steps

@@ -10,12 +10,6 @@ use Rattle.plant_mem.specs.Boots.{state_in}
 use Rattle.plant_mem.specs.Steps.{trace_of}
 use Rattle.plant.specs.Seen.{Seen}
 use Rattle.plant.specs.Told.{Told}
-use Rattle.plant.specs.Worlds as worlds
-use Rattle.plant_mem.specs.declared.rows.Row.{Row}
-
--- a row as a world has it
-abbrev pub row_of : Row → worlds.Row
-row_of row = record { switch = row.switch; port = row.port; vlan = row.vlan.0 }
 
 -- the bytes of which steps name ranges
 abbrev pub bytes_of : MemLab → List ℕ

@@ -1,5 +1,5 @@
 -- The rooms of a plant in memory.
-use Rattle.std.specs.Prelude.{ℕ, ◌+◌, ◌-◌, ◌≤◌, ◌&&◌, nat_le, nat_lt, Bool, List, length, vec_len, vec_capacity}
+use Rattle.std.specs.Prelude.{ℕ, ◌+◌, ◌-◌, ◌≤◌, ◌&&◌, min, nat_le, nat_lt, Bool, List, length, vec_len, vec_capacity}
 use Rattle.plant.specs.Disks.{Disk, disk}
 use Rattle.plant.specs.Events.{Event}
 use Rattle.plant.specs.declared.step.Side.{Side}
@@ -15,7 +15,7 @@ pub record SideRooms : Type 0 where
   pub durable : ℕ
   pub writes : ℕ
 
--- for how many steps, entries of the table of nodes and written bytes more there is room; and the rooms of both sides
+-- for how many steps, entries of the tables of nodes and of rows, and written bytes more there is room; and the rooms of both sides
 pub record Rooms : Type 0 where
   pub steps : ℕ
   pub entries : ℕ
@@ -29,7 +29,7 @@ side_rooms face = record { reads = vec_capacity face.reads; durable = vec_capaci
 abbrev pub rooms_of : MemLab → Rooms
 rooms_of m = record {
   steps = vec_capacity m.past.steps - vec_len m.past.steps;
-  entries = vec_capacity m.past.nodes - vec_len m.past.nodes;
+  entries = min (vec_capacity m.past.nodes - vec_len m.past.nodes) (vec_capacity m.past.rows - vec_len m.past.rows);
   bytes = vec_capacity m.past.bytes - vec_len m.past.bytes;
   a = side_rooms m.past.a;
   b = side_rooms m.past.b;

@@ -6,11 +6,14 @@ mod fate;
 mod mem;
 mod mem_disk;
 mod mem_plant;
+mod mem_readings;
+mod mem_tables;
 mod motion;
 mod node_rows;
 mod nodes;
 mod past;
 mod plans;
+mod row_table;
 mod rows;
 mod stops;
 

@@ -32,7 +32,7 @@ const MORE_BYTES: usize = 1_048_576;
 
 /// A plant in memory, which tells its trace and takes drills.
 ///
-/// From the start and after each restart it has room for at least 262,144 steps more, each with an entry of its table of nodes. It has room for 16 MiB more of
+/// From the start and after each restart it has room for at least 262,144 steps more, each with an entry of its tables of nodes and of rows. It has room for 16 MiB more of
 /// written bytes. On each side it has room for 16 MiB more as it reads, and as it is durable. So none of its six calls to the disk and the devices
 /// takes memory.
 ///

@@ -24,7 +24,7 @@ impl MemLab {
         }
     }
 
-    fn can_step(&self) -> bool
+    pub(crate) fn can_step(&self) -> bool
         ensures { result ≡ can_step self.now }
     {
         0 < self.past.steps.capacity() - self.past.steps.len()
@@ -33,7 +33,9 @@ impl MemLab {
     pub(crate) fn can_command(&self) -> bool
         ensures { result ≡ can_command self.now }
     {
-        self.can_step() && 0 < self.past.nodes.capacity() - self.past.nodes.len()
+        let nodes = self.past.nodes.capacity() - self.past.nodes.len();
+        let rows = self.past.rows.capacity() - self.past.rows.len();
+        self.can_step() && 0 < nodes.min(rows)
     }
 
     #[tactic(auto, using(crate::proofs::Sides::reads_len))]

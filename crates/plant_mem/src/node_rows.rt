@@ -1,14 +1,16 @@
-ghost use Rattle.std.specs.Prelude.{◌≡◌, ◌≤◌, ℕ, List, is_some, Some};
+ghost use Rattle.std.specs.Prelude.{◌≡◌, ◌≤◌, ℕ, List, is_some, option_map, Some};
 ghost use Rattle.lab_base.specs.declared.boot.Boot.{Boot};
 ghost use Rattle.plant_mem.specs.Knows.{Free, end_after, pipes_below, pipe_count};
 ghost use Rattle.plant_mem.specs.MemLab.{told_of, state_of};
 ghost use Rattle.plant_mem.specs.Steps.{event_of};
 ghost use Rattle.plant.specs.Worlds.{World, world_of, world_after};
+ghost use Rattle.plant_tables.specs.Readings.{pipe_of};
 
 use crate::mem::MemLab;
 use crate::nodes::state_in;
 use lab_base::Name;
 use plant::{DeviceOp, NodeRow, Step};
+use plant_tables::PipeRow;
 
 /// The OS of a node after a step.
 fn os_after(node: &Name, step: &Step, had: Option<Name>) -> Option<Name>
@@ -53,6 +55,45 @@ fn pipe_after(node: &Name, pipe: u16, step: &Step, had: bool) -> bool
     }
 }
 
+/// The pipe of that number after a step.
+fn shaped_after(node: &Name, pipe: u16, step: &Step, had: Option<PipeRow>) -> Option<PipeRow>
+    ensures { (bytes : List ℕ) (world : World) → option_map pipe_of had ≡ (world.node node.now).pipes pipe
+        → option_map pipe_of result ≡ ((world_after world (event_of bytes step.now)).node node.now).pipes pipe }
+{
+    match step {
+        Step::Did {
+            op: DeviceOp::Shape {
+                node: shaped,
+                pipe: number,
+                from,
+                to,
+                there,
+                back,
+            },
+            applied: true,
+            ..
+        } => {
+            if *node == *shaped && pipe == *number {
+                Some(PipeRow {
+                    pipe,
+                    from: *from,
+                    to: *to,
+                    there: *there,
+                    back: *back,
+                })
+            } else {
+                had
+            }
+        }
+        Step::Did {
+            op: DeviceOp::Wipe { node: wiped },
+            applied: true,
+            ..
+        } => { if *node == *wiped { None } else { had } }
+        _ => had,
+    }
+}
+
 /// The number from which on no pipe is set after a step, where before it that number was `end`.
 fn end_after(step: &Step, end: u32) -> u32
     ensures end { result ≡ end_after step.now end }
@@ -88,6 +129,16 @@ impl MemLab {
         set
     }
 
+    pub(crate) fn pipe_at(&self, node: &Name, pipe: u16) -> Option<PipeRow>
+        ensures { option_map pipe_of result ≡ ((world_of (told_of self.now).trace).node node.now).pipes pipe }
+    {
+        let mut set = None;
+        for step in &self.past.steps {
+            set = shaped_after(node, pipe, step, set);
+        }
+        set
+    }
+
     fn pipes_below(&self, node: &Name, end: u32) -> u32
         requires { end ≤ 65536 }
         ensures { result ≡ pipes_below end ((world_of (told_of self.now).trace).node node.now).pipes }
@@ -102,7 +153,7 @@ impl MemLab {
     }
 
     /// The number from which on no node has a pipe.
-    fn pipes_end(&self) -> u32
+    pub(crate) fn pipes_end(&self) -> u32
         ensures free { Free result (world_of (told_of self.now).trace) }
         ensures bound { result ≤ 65536 }
     {

@@ -4,18 +4,22 @@ ghost use Rattle.plant.specs.Sides.{of_side};
 ghost use Rattle.plant_mem.specs.Faces.{disk_of, KeepsRoom, HasMore};
 ghost use Rattle.plant_mem.specs.Knows.{Knows};
 ghost use Rattle.plant_mem.specs.Picks.{left_by};
+ghost use Rattle.plant_mem.specs.RowTables.{AreRows};
 ghost use Rattle.plant_mem.specs.Steps.{trace_of, are_within};
+ghost use Rattle.plant.specs.Worlds.{world_of};
 ghost use Rattle.plant.specs.declared.drill.Pick.{Pick};
 ghost use Rattle.plant.specs.declared.step.Side.TheVariants.{A, B};
 
 use crate::face::{Face, most};
 use crate::motion::Motion;
 use crate::nodes::{NodeState, apply, apply_if};
-use lab_base::Memory;
+use crate::row_table;
+use crate::rows::Row;
+use lab_base::{Memory, Name};
 use plant::{Answer, DeviceOp, Fault, Pick, Side, Step};
 use std::alloc::Global;
 
-/// The steps of a plant in memory, with the sides that they made and the boot states of nodes.
+/// The steps of a plant in memory, with the sides that they made, the boot states of nodes and the rows that stand.
 #[derive(Drop)]
 pub struct Past {
     pub steps: Vec<Step>,
@@ -23,10 +27,12 @@ pub struct Past {
     pub a: Face,
     pub b: Face,
     pub nodes: Vec<NodeState>,
+    pub rows: Vec<Row>,
     ghost within: { are_within (length bytes.items) steps.items ≡ true },
     ghost a_is: { disk_of a ≡ disk A (trace_of bytes.items steps.items) },
     ghost b_is: { disk_of b ≡ disk B (trace_of bytes.items steps.items) },
     ghost known: { Knows (trace_of bytes.items steps.items) nodes.items },
+    ghost rows_are: { AreRows (world_of (trace_of bytes.items steps.items)) rows.items },
 }
 
 /// Adds a step for which there is room.
@@ -114,6 +120,7 @@ impl Past {
         ensures b { IfOk result (λ past. HasMore steps bytes past.b) }
         ensures nodes { IfOk result (λ past. past.nodes.items ≡ []) }
         ensures nodes_room { IfOk result (λ past. vec_len past.nodes + steps ≤ vec_capacity past.nodes) }
+        ensures rows_room { IfOk result (λ past. vec_len past.rows + steps ≤ vec_capacity past.rows) }
     {
         Ok(Past {
             steps: Vec::with_capacity(alloc, steps)?,
@@ -121,6 +128,7 @@ impl Past {
             a: Face::new(alloc, steps, bytes)?,
             b: Face::new(alloc, steps, bytes)?,
             nodes: Vec::with_capacity(alloc, steps)?,
+            rows: Vec::with_capacity(alloc, steps)?,
         })
     }
 
@@ -128,6 +136,7 @@ impl Past {
     pub fn done(&mut self, op: &DeviceOp, motion: Motion) -> Answer
         requires steps { vec_len self.old.steps < vec_capacity self.old.steps }
         requires nodes { vec_len self.old.nodes < vec_capacity self.old.nodes }
+        requires rows { vec_len self.old.rows < vec_capacity self.old.rows }
         ensures answer { result ≡ answer_of op.now motion (λ name. state_in name self.old.nodes.items) }
         ensures trace { trace_of self.new.bytes.items self.new.steps.items
             ≡ trace_of self.old.bytes.items self.old.steps.items ++ events.Did op.now true (Ok result) ∷ [] }
@@ -136,10 +145,13 @@ impl Past {
         ensures capacity { vec_capacity self.new.steps ≡ vec_capacity self.old.steps }
         ensures nodes { vec_len self.new.nodes ≤ vec_len self.old.nodes + 1 }
         ensures nodes_capacity { vec_capacity self.new.nodes ≡ vec_capacity self.old.nodes }
+        ensures rows { vec_len self.new.rows ≤ vec_len self.old.rows + 1 }
+        ensures rows_capacity { vec_capacity self.new.rows ≡ vec_capacity self.old.rows }
         ensures bytes { self.new.bytes ≡ self.old.bytes }
         ensures a { self.new.a ≡ self.old.a }
         ensures b { self.new.b ≡ self.old.b }
     {
+        row_table::apply(&mut self.rows, op);
         let answer = apply(&mut self.nodes, op, motion);
         add_step(
             &mut self.steps,
@@ -156,6 +168,7 @@ impl Past {
     pub fn failed(&mut self, op: &DeviceOp, motion: Motion, applied: bool, fault: Fault)
         requires steps { vec_len self.old.steps < vec_capacity self.old.steps }
         requires nodes { vec_len self.old.nodes < vec_capacity self.old.nodes }
+        requires rows { vec_len self.old.rows < vec_capacity self.old.rows }
         ensures trace { trace_of self.new.bytes.items self.new.steps.items
             ≡ trace_of self.old.bytes.items self.old.steps.items ++ events.Did op.now applied (Err fault) ∷ [] }
         ensures states { (name : List ℕ) → state_in name self.new.nodes.items ≡ state_sent op.now motion applied name (state_in name self.old.nodes.items) }
@@ -163,10 +176,13 @@ impl Past {
         ensures capacity { vec_capacity self.new.steps ≡ vec_capacity self.old.steps }
         ensures nodes { vec_len self.new.nodes ≤ vec_len self.old.nodes + 1 }
         ensures nodes_capacity { vec_capacity self.new.nodes ≡ vec_capacity self.old.nodes }
+        ensures rows { vec_len self.new.rows ≤ vec_len self.old.rows + 1 }
+        ensures rows_capacity { vec_capacity self.new.rows ≡ vec_capacity self.old.rows }
         ensures bytes { self.new.bytes ≡ self.old.bytes }
         ensures a { self.new.a ≡ self.old.a }
         ensures b { self.new.b ≡ self.old.b }
     {
+        row_table::apply_if(applied, &mut self.rows, op);
         apply_if(applied, &mut self.nodes, op, motion);
         add_step(
             &mut self.steps,
@@ -188,8 +204,24 @@ impl Past {
         ensures a { self.new.a ≡ self.old.a }
         ensures b { self.new.b ≡ self.old.b }
         ensures nodes { self.new.nodes ≡ self.old.nodes }
+        ensures rows { self.new.rows ≡ self.old.rows }
     {
         add_step(&mut self.steps, &Step::Missed { side });
+    }
+
+    /// Notes a reading of a device that failed.
+    pub fn unread(&mut self, device: Name)
+        requires { vec_len self.old.steps < vec_capacity self.old.steps }
+        ensures trace { trace_of self.new.bytes.items self.new.steps.items ≡ trace_of self.old.bytes.items self.old.steps.items ++ events.Unread device ∷ [] }
+        ensures steps { vec_len self.new.steps ≡ vec_len self.old.steps + 1 }
+        ensures capacity { vec_capacity self.new.steps ≡ vec_capacity self.old.steps }
+        ensures bytes { self.new.bytes ≡ self.old.bytes }
+        ensures a { self.new.a ≡ self.old.a }
+        ensures b { self.new.b ≡ self.old.b }
+        ensures nodes { self.new.nodes ≡ self.old.nodes }
+        ensures rows { self.new.rows ≡ self.old.rows }
+    {
+        add_step(&mut self.steps, &Step::Unread { device });
     }
 
     /// Notes and applies a write.
@@ -208,6 +240,7 @@ impl Past {
         ensures a { KeepsRoom self.old.a self.new.a }
         ensures b { KeepsRoom self.old.b self.new.b }
         ensures nodes { self.new.nodes ≡ self.old.nodes }
+        ensures rows { self.new.rows ≡ self.old.rows }
     {
         put_on(&mut self.a, &mut self.b, side, at, bytes);
         let start = self.bytes.len();
@@ -235,6 +268,7 @@ impl Past {
         ensures a { KeepsRoom self.old.a self.new.a }
         ensures b { KeepsRoom self.old.b self.new.b }
         ensures nodes { self.new.nodes ≡ self.old.nodes }
+        ensures rows { self.new.rows ≡ self.old.rows }
     {
         sync_on(&mut self.a, &mut self.b, side);
         add_step(&mut self.steps, &Step::Synced { side });
@@ -251,6 +285,7 @@ impl Past {
         ensures a { KeepsRoom self.old.a self.new.a }
         ensures b { KeepsRoom self.old.b self.new.b }
         ensures nodes { self.new.nodes ≡ self.old.nodes }
+        ensures rows { self.new.rows ≡ self.old.rows }
     {
         shorten_on(&mut self.a, &mut self.b, side, size);
         let length = size as u64;
@@ -262,6 +297,7 @@ impl Past {
         requires { steps < 1000000 }
         ensures trace { trace_of self.new.bytes.items self.new.steps.items ≡ trace_of self.old.bytes.items self.old.steps.items }
         ensures states { self.new.nodes.items ≡ self.old.nodes.items }
+        ensures table { self.new.rows.items ≡ self.old.rows.items }
         ensures a_is { disk_of self.new.a ≡ disk_of self.old.a }
         ensures b_is { disk_of self.new.b ≡ disk_of self.old.b }
         ensures steps { OnOk result (vec_len self.new.steps + (steps + 1) ≤ vec_capacity self.new.steps) }
@@ -269,6 +305,7 @@ impl Past {
             → (vec_len self.new.bytes + length (left_by pick (disk_of self.new.a))) + length (left_by pick (disk_of self.new.b)) + bytes ≤ vec_capacity
             self.new.bytes) }
         ensures nodes { OnOk result (vec_len self.new.nodes + steps ≤ vec_capacity self.new.nodes) }
+        ensures rows { OnOk result (vec_len self.new.rows + steps ≤ vec_capacity self.new.rows) }
         ensures a { OnOk result (HasMore steps bytes self.new.a) }
         ensures b { OnOk result (HasMore steps bytes self.new.b) }
     {
@@ -276,6 +313,7 @@ impl Past {
         self.b.make_room(steps, bytes)?;
         self.steps.try_reserve(steps + 1)?;
         self.nodes.try_reserve(steps)?;
+        self.rows.try_reserve(steps)?;
         let most = most_of(&self.a).saturating_add(most_of(&self.b));
         self.bytes.try_reserve(most.saturating_add(bytes))?;
         Ok(())
@@ -299,6 +337,7 @@ impl Past {
         ensures a { (writes bytes : ℕ) → HasMore writes bytes self.old.a → HasMore writes bytes self.new.a }
         ensures b { (writes bytes : ℕ) → HasMore writes bytes self.old.b → HasMore writes bytes self.new.b }
         ensures nodes { self.new.nodes ≡ self.old.nodes }
+        ensures rows { self.new.rows ≡ self.old.rows }
     {
         self.a.restore(pick);
         self.b.restore(pick);

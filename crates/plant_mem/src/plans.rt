@@ -2,6 +2,7 @@ ghost use Rattle.std.specs.Prelude.{◌≡◌, ◌<◌, ◌++◌, map, option_ma
 ghost use Rattle.std.specs.List.{list_any, find};
 ghost use Rattle.lab_base.specs.Lists.{listed};
 ghost use Rattle.plant_mem.specs.Plans.{is_poll, is_wipe, is_applying, is_hang, is_jump, is_read, waits_for_poll, counts};
+ghost use Rattle.plant_mem.specs.Readings.{counts_reading, is_due_reading, reading_counted};
 ghost use Rattle.plant_mem.specs.Plans.{is_due, fails_by, firing, jumps_by, begins_hang, hangs_by, motion_of, counted, plan_of};
 
 use crate::motion::Motion;
@@ -109,6 +110,29 @@ impl Plan {
         self.begins_hang(op) || self.counts(op) && self.hangs
     }
 
+    /// Whether a reading of the device counts for the plan.
+    fn counts_reading(&self, device: &Name) -> bool
+        ensures { result ≡ counts_reading device.now self.now }
+    {
+        is_read(self.how) && self.device == *device
+    }
+
+    /// Whether the plan waits for exactly this reading.
+    fn is_due_reading(&self, device: &Name) -> bool
+        ensures { result ≡ is_due_reading device.now self.now }
+    {
+        self.counts_reading(device) && self.left == 1
+    }
+
+    /// Counts a reading.
+    fn count_reading(&mut self, device: &Name)
+        ensures { self.new ≡ reading_counted device.now self.old }
+    {
+        if self.counts_reading(device) {
+            self.left = self.left.saturating_sub(1);
+        }
+    }
+
     /// Counts a command.
     fn count(&mut self, op: &DeviceOp, applied: bool)
         ensures { self.new ≡ counted op.now applied self.old }
@@ -193,5 +217,21 @@ pub(crate) fn count_down(plans: &mut Vec<Plan>, op: &DeviceOp, applied: bool)
 {
     for plan in plans.iter_mut() {
         plan.count(op, applied);
+    }
+}
+
+/// Whether a reading of the device fails by a plan.
+pub(crate) fn fails_reading(plans: &[Plan], device: &Name) -> bool
+    ensures { result ≡ list_any (is_due_reading device.now) plans.now }
+{
+    plans.iter().any(|plan| plan.is_due_reading(device))
+}
+
+/// Counts a reading in each plan.
+pub(crate) fn count_readings(plans: &mut Vec<Plan>, device: &Name)
+    ensures { plans.new.items ≡ map (reading_counted device.now) plans.old.items }
+{
+    for plan in plans.iter_mut() {
+        plan.count_reading(device);
     }
 }

@@ -1,7 +1,7 @@
 ghost use Rattle.std.specs.Prelude.{◌≡◌, ℕ, List};
 ghost use Rattle.plant.specs.Worlds.{World, is_row, row_after, world_after};
 ghost use Rattle.plant_mem.specs.declared.rows.Row.{Row};
-ghost use Rattle.plant_mem.specs.MemLab.{row_of};
+ghost use Rattle.plant_mem.specs.RowTables.{row_of};
 ghost use Rattle.plant_mem.specs.Steps.{event_of};
 
 use lab_base::{Name, VlanId};

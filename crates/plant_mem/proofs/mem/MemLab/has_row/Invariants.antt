@@ -1,5 +1,6 @@
 use Rattle.std.proofs.Common.{◌≡◌, take}
-use Rattle.plant_mem.specs.MemLab.{bytes_of, row_of}
+use Rattle.plant_mem.specs.MemLab.{bytes_of}
+use Rattle.plant_mem.specs.RowTables.{row_of}
 use Rattle.plant_mem.specs.Steps.{trace_of}
 use Rattle.plant.specs.Worlds.{world_of}
 use Rattle.plant_mem.proofs.mem.MemLab.has_row.Given as goal

@@ -1,4 +1,4 @@
-use Rattle.std.proofs.Common.{arith, rules}
+use Rattle.std.proofs.Common.{rules}
 use Rattle.plant.specs.declared.step.Side.TheVariants.{A, B}
 use Rattle.plant_mem.proofs.Sides.{has_side}
 use Rattle.plant_mem.proofs.mem.MemLab.start_again.Goals as goal

@@ -1,9 +1,9 @@
-use Rattle.std.proofs.Common.{◌≡◌, Bool, true, List, map, Err, ap, ◌∙◌, rules}
+use Rattle.std.proofs.Common.{◌≡◌, true, map, Err, ap, ◌∙◌, rules}
 use Rattle.plant.specs.Events.{Did}
 use Rattle.plant.specs.declared.device.Fault.TheVariants.{Stopped}
 use Rattle.plant_mem.specs.Boots.{state_sent}
 use Rattle.plant_mem.specs.DiskPlans.{is_done}
-use Rattle.plant_mem.specs.Held.{Held, held_of, with_events, effect_if, halted}
+use Rattle.plant_mem.specs.Held.{held_of, with_events, effect_if, halted}
 use Rattle.plant_mem.specs.MemLab.{state_of}
 use Rattle.plant_mem.specs.Plans.{counted, motion_of}
 use Rattle.plant_mem.proofs.mem.MemLab.stop_at.Goals as goal

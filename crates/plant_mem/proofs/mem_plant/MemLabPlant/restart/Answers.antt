@@ -1,8 +1,4 @@
-use Rattle.std.proofs.Common.{Some, ap}
-use Rattle.plant.specs.Disks.{disk}
-use Rattle.plant.specs.Told.{Told}
-use Rattle.plant.specs.declared.step.Side.TheVariants.{A, B}
-use Rattle.plant_mem.specs.Held.{Held, held_of}
+use Rattle.plant_mem.specs.Held.{held_of}
 use Rattle.plant_mem.proofs.Restarting.{restarts}
 use Rattle.plant_mem.proofs.mem_plant.MemLabPlant.restart.Goals as goal
 

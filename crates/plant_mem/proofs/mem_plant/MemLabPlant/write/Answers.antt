@@ -1,4 +1,4 @@
-use Rattle.std.proofs.Common.{◌≡◌, length, ap, ◌∙◌, sym, subst, rules}
+use Rattle.std.proofs.Common.{◌≡◌, length, ap, ◌∙◌, subst, rules}
 use Rattle.plant.specs.DiskCalls.{DiskCause}
 use Rattle.plant.specs.Events.{Wrote}
 use Rattle.plant_mem.specs.Fates.{fate, answered, after_call}

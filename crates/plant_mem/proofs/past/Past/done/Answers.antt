@@ -4,7 +4,9 @@ use Rattle.plant.specs.declared.step.Step.TheVariants as steps
 use Rattle.plant.specs.Events as events
 use Rattle.plant_mem.specs.Steps.{trace_of}
 use Rattle.plant_mem.proofs.Growing.{Grown, grown_by}
+use Rattle.plant.specs.Worlds.{world_of}
 use Rattle.plant_mem.proofs.Knowing.{known_done}
+use Rattle.plant_mem.proofs.RowTables.{rows_done}
 use Rattle.plant_mem.proofs.past.Past.done.Goals as goal
 
 pub returns-clause-trace : goal.returns-clause-trace
@@ -24,4 +26,5 @@ invariant_of-self c =
       a_is = self.a_is ∙ sym (after.disks A);
       b_is = self.b_is ∙ sym (after.disks B);
       known = known_done (trace_of self.bytes.items self.steps.items) (trace_of self.bytes.items c.add_step.new.steps.items) self.nodes.items c.apply-answer.new.nodes.items op c.args.motion c.apply-answer.result after.worlds c.apply-answer.ensures.answer c.apply-answer.ensures.states self.known;
+      rows_are = rows_done (trace_of self.bytes.items self.steps.items) (trace_of self.bytes.items c.add_step.new.steps.items) c.apply.new.rows.items op c.apply-answer.result after.worlds (c.apply.ensures.rows (world_of (trace_of self.bytes.items self.steps.items)) self.rows_are);
     }

@@ -4,7 +4,9 @@ use Rattle.plant.specs.declared.step.Step.TheVariants as steps
 use Rattle.plant.specs.Events as events
 use Rattle.plant_mem.specs.Steps.{trace_of}
 use Rattle.plant_mem.proofs.Growing.{Grown, grown_by}
+use Rattle.plant.specs.Worlds.{world_of}
 use Rattle.plant_mem.proofs.Knowing.{known_failed}
+use Rattle.plant_mem.proofs.RowTables.{rows_failed}
 use Rattle.plant_mem.proofs.past.Past.failed.Goals as goal
 
 pub returns-clause-trace : goal.returns-clause-trace
@@ -23,5 +25,6 @@ invariant_of-self c =
       within = after.within;
       a_is = self.a_is ∙ sym (after.disks A);
       b_is = self.b_is ∙ sym (after.disks B);
-      known = known_failed (trace_of self.bytes.items self.steps.items) (trace_of self.bytes.items c.add_step.new.steps.items) self.nodes.items c.apply_if.new.nodes.items op c.args.motion c.args.applied c.args.fault after.worlds c.apply_if.ensures.states self.known;
+      known = known_failed (trace_of self.bytes.items self.steps.items) (trace_of self.bytes.items c.add_step.new.steps.items) self.nodes.items c.apply_if-2.new.nodes.items op c.args.motion c.args.applied c.args.fault after.worlds c.apply_if-2.ensures.states self.known;
+      rows_are = rows_failed (trace_of self.bytes.items self.steps.items) (trace_of self.bytes.items c.add_step.new.steps.items) c.apply_if.new.rows.items op c.args.applied c.args.fault after.worlds (c.apply_if.ensures.rows (world_of (trace_of self.bytes.items self.steps.items)) self.rows_are);
     }

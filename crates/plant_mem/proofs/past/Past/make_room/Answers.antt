@@ -6,5 +6,6 @@ invariant_of-self-2 c = record {
   within = search rules;
   a_is = search rules;
   b_is = search rules;
-  known = rw (c.try_reserve-3.ensures.items, c.try_reserve-2.ensures.items, c.try_reserve.ensures.items) c.args.self.now.known;
+  known = rw (c.try_reserve-4.ensures.items, c.try_reserve-2.ensures.items, c.try_reserve.ensures.items) c.args.self.now.known;
+  rows_are = rw (c.try_reserve-4.ensures.items, c.try_reserve-3.ensures.items, c.try_reserve.ensures.items) c.args.self.now.rows_are;
 }

@@ -7,6 +7,7 @@ use Rattle.plant.specs.Events as events
 use Rattle.plant_mem.proofs.Growing.{Grown, grown_restart}
 use Rattle.plant_mem.specs.Steps.{trace_of}
 use Rattle.plant_mem.proofs.Knowing.{still}
+use Rattle.plant_mem.proofs.RowTables.{rows_still}
 use Rattle.plant_mem.proofs.past.Past.restarted.Goals as goal
 
 pub returns-clause-trace : goal.returns-clause-trace
@@ -48,6 +49,7 @@ invariant_of-self-3 c =
       a_is = c.restore.ensures.left ∙ sym (after.disks A);
       b_is = c.restore-2.ensures.left ∙ sym (after.disks B);
       known = still (trace_of self.bytes.items self.steps.items) (trace_of c.extend_from_slice-2.new.self.items c.add_step.new.steps.items) self.nodes.items after.worlds self.known;
+      rows_are = rows_still (trace_of self.bytes.items self.steps.items) (trace_of c.extend_from_slice-2.new.self.items c.add_step.new.steps.items) self.rows.items after.worlds self.rows_are;
     }
 
 pub returns-clause-a : goal.returns-clause-a

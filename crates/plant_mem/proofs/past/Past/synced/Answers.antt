@@ -6,6 +6,7 @@ use Rattle.plant.specs.Events as events
 use Rattle.plant_mem.proofs.Growing.{Grown, grown_by}
 use Rattle.plant_mem.specs.Steps.{trace_of}
 use Rattle.plant_mem.proofs.Knowing.{still}
+use Rattle.plant_mem.proofs.RowTables.{rows_still}
 use Rattle.plant_mem.proofs.past.Past.synced.Goals as goal
 
 pub returns-clause-trace : goal.returns-clause-trace
@@ -23,4 +24,5 @@ invariant_of-self c =
       a_is = c.sync_on.ensures.a ∙ ap (on_side (same_side c.args.side A) synced) self.a_is ∙ sym (after.disks A);
       b_is = c.sync_on.ensures.b ∙ ap (on_side (same_side c.args.side B) synced) self.b_is ∙ sym (after.disks B);
       known = still (trace_of self.bytes.items self.steps.items) (trace_of self.bytes.items c.add_step.new.steps.items) self.nodes.items after.worlds self.known;
+      rows_are = rows_still (trace_of self.bytes.items self.steps.items) (trace_of self.bytes.items c.add_step.new.steps.items) self.rows.items after.worlds self.rows_are;
     }

@@ -5,6 +5,7 @@ use Rattle.plant.specs.Events as events
 use Rattle.plant_mem.proofs.Growing.{Grown, grown_wrote}
 use Rattle.plant_mem.specs.Steps.{trace_of}
 use Rattle.plant_mem.proofs.Knowing.{still}
+use Rattle.plant_mem.proofs.RowTables.{rows_still}
 use Rattle.plant_mem.proofs.past.Past.wrote.Goals as goal
 
 pub returns-clause-trace : goal.returns-clause-trace
@@ -32,4 +33,5 @@ invariant_of-self c =
       a_is = c.put_on.ensures.a ∙ ap (on_side (same_side c.args.side A) (λ d. wrote d c.args.at c.args.bytes.now)) self.a_is ∙ sym (after.disks A);
       b_is = c.put_on.ensures.b ∙ ap (on_side (same_side c.args.side B) (λ d. wrote d c.args.at c.args.bytes.now)) self.b_is ∙ sym (after.disks B);
       known = still (trace_of self.bytes.items self.steps.items) (trace_of c.extend_from_slice.new.self.items c.add_step.new.steps.items) self.nodes.items after.worlds self.known;
+      rows_are = rows_still (trace_of self.bytes.items self.steps.items) (trace_of c.extend_from_slice.new.self.items c.add_step.new.steps.items) self.rows.items after.worlds self.rows_are;
     }
