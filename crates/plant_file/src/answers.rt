@@ -2,8 +2,10 @@
 ghost use Rattle.std.specs.Prelude.{◌≢◌, IfOk, Err};
 ghost use Rattle.plant.specs.Calls.{DeviceCause, Fits};
 ghost use Rattle.plant.specs.DiskCalls.{DiskCause};
+ghost use Rattle.plant_tables.specs.Readings.{ReadCause};
 
 use plant::{Answer, DeviceOp, Fault, Faults};
+use plant_tables::ReadFailed;
 use std::io;
 
 /// The answer of a call of the disk: each error is counted.
@@ -36,6 +38,22 @@ pub(crate) fn of_device(
         Err(_) => {
             faults.devices = faults.devices.saturating_add(1);
             Err(Fault::Failed)
+        }
+    }
+}
+
+/// The answer of a reading: each error is counted.
+pub(crate) fn of_reading<T: Drop>(
+    faults: &mut Faults,
+    found: io::Result<T>,
+) -> Result<T, ReadFailed>
+    ensures { ReadCause faults.old faults.new result }
+{
+    match found {
+        Ok(value) => Ok(value),
+        Err(_) => {
+            faults.devices = faults.devices.saturating_add(1);
+            Err(ReadFailed)
         }
     }
 }

@@ -17,12 +17,12 @@ const MAX_TABLES: usize = 1 << 30;
 /// The tables as they were left, and the stamp of their file then.
 #[derive(Drop)]
 pub(crate) struct Kept {
-    tables: Tables,
-    stamp: Stamp,
+    pub(crate) tables: Tables,
+    pub(crate) stamp: Stamp,
 }
 
 /// The error where memory was wanting.
-fn no_memory() -> io::Error {
+pub(crate) fn no_memory() -> io::Error {
     io::Error::from(io::ErrorKind::OutOfMemory)
 }
 
@@ -49,7 +49,7 @@ impl<R: Files + AllocGlobal + Drop> Folder<R> {
     }
 
     /// The tables that are kept, where their file is as it was left; else they are read. None are kept behind it.
-    fn take_tables(&mut self) -> io::Result<Tables> {
+    pub(crate) fn take_tables(&mut self) -> io::Result<Tables> {
         match self.kept.take() {
             Some(kept) if self.is_as_left(&kept.stamp) => Ok(kept.tables),
             _ => self.read_tables(),

@@ -15,7 +15,7 @@ use std::rt::Files;
 /// `pipe NODE NUMBER FROM TO` with the rates there and back, each as kbps, microseconds and parts of a million.
 ///
 /// Each call opens its file, and makes a folder or a file that is missing; the folder that it lies in must be there. Each
-/// error is a fault of the disk, or for a command of the devices: one of the system, a file that isn't of its form, memory
+/// error is a fault of the disk, or for a command or a reading of the devices: one of the system, a file that isn't of its form, memory
 /// that was wanting, and a range that doesn't lie in its side. A command writes the tables whole: beside them,
 /// as a new file that takes their name. They are synced where a side is synced next, before it.
 #[derive(Drop)]

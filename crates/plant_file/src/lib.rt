@@ -7,8 +7,10 @@ mod commands;
 mod entry;
 mod files;
 mod folder;
+mod folder_tables;
 mod lab;
 mod lab_plant;
+mod lab_tables;
 mod laws;
 mod lines;
 mod lines_kept;
@@ -19,6 +21,7 @@ mod paths;
 mod print;
 mod read;
 mod tables;
+mod tells;
 mod texts;
 
 pub use entry::{Entry, Key};

@@ -46,7 +46,13 @@ impl Tables {
         self.put(alloc, entry)
     }
 
-    fn os_of(&self, node: Name) -> Option<Name>
+    pub(crate) fn state_of(&self, node: Name) -> Boot
+        ensures { result ≡ state_in node self.now }
+    {
+        state_or_off(&self.find(&Key::Node { node }))
+    }
+
+    pub(crate) fn os_of(&self, node: Name) -> Option<Name>
         ensures { result ≡ os_in node self.now }
     {
         os_or_none(&self.find(&Key::Node { node }))

@@ -3,6 +3,7 @@ ghost use Rattle.std.specs.Prelude.{◌≡◌, ◌<◌, ◌++◌, ◌∷◌, [],
 ghost use Rattle.std.specs.List.{find};
 ghost use Rattle.line_text.specs.Refusals.{Reads};
 ghost use Rattle.plant_file.specs.Entries.{is_keyed, without};
+ghost use Rattle.plant_file.specs.Kept.{entries_of};
 ghost use Rattle.plant_file.specs.Lines.{tables_text, tables_of_text};
 
 use crate::entry::{Entry, Key};
@@ -81,6 +82,13 @@ impl Tables {
         ensures again { tables_of_text result.now ≡ Ok self.now }
     {
         self.text.as_slice()
+    }
+
+    /// The lines, each with its entry.
+    pub(crate) fn lines(&self) -> &[Line]
+        ensures { entries_of result.now ≡ self.now }
+    {
+        self.lines.as_slice()
     }
 
     /// Adds an entry at the end.

@@ -167,11 +167,16 @@ impl<R: Files + AllocGlobal + Drop> Folder<R> {
         Ok(stamp)
     }
 
+    /// The stamp of the tables' file; None where it can't be told.
+    pub(crate) fn stamp(&self) -> Option<Stamp> {
+        match fs::metadata(&self.rt, self.paths.tables.as_str()) {
+            Ok(found) => stamp_of(&found).ok(),
+            Err(_) => None,
+        }
+    }
+
     /// Whether the tables' file has that stamp.
     pub(crate) fn is_as_left(&self, stamp: &Stamp) -> bool {
-        match fs::metadata(&self.rt, self.paths.tables.as_str()) {
-            Ok(found) => matches!(stamp_of(&found), Ok(now) if now == *stamp),
-            Err(_) => false,
-        }
+        self.stamp() == Some(*stamp)
     }
 }
