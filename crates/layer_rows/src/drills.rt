@@ -11,6 +11,7 @@ fn how(words: &mut Words<'_>) -> Result<How, Untold> {
         "not" => Ok(How::Not),
         "hang" => Ok(How::Hang),
         "jump" => Ok(How::Jump),
+        "read" => Ok(How::Read),
         _ => Err(Untold::Words),
     }
 }

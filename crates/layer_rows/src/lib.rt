@@ -10,6 +10,7 @@ mod drills;
 mod journals;
 mod moves;
 mod plans;
+mod readings;
 mod records;
 mod row;
 mod swaps;

@@ -4,6 +4,7 @@
 //! join SWITCH PORT VLAN, leave .., load NODE OS, shape NODE PIPE KBPS, boot NODE, poll NODE, wipe NODE    a command: its answer
 //! row SWITCH PORT VLAN   whether the port is in the VLAN
 //! node NODE              its OS, its state, and how many pipes are set
+//! read-row SWITCH N, read-node NODE, read-pipe NODE N    a reading: the nth row or pipe, the state of a node and how many pipes it has
 //! fail DEVICE N HOW, fail disk N, stop N PICK    a drill
 //! restart                the plant is started again, if it is stopped
 //! length SIDE, read SIDE, write SIDE AT BYTES, sync SIDE, cut SIDE LENGTH    a call of the disk
@@ -21,7 +22,7 @@
 //! output is that of the last action only, once for all numbers in a row with equal outputs.
 use crate::untold::Untold;
 use crate::words::Words;
-use crate::{devices, disk, drills, journals, moves, records};
+use crate::{devices, disk, drills, journals, moves, readings, records};
 use plant_mem::MemLab;
 use std::alloc::Global;
 use std::fmt::Write;
@@ -33,7 +34,11 @@ fn told_of_devices(
     kind: &str,
     words: &mut Words<'_>,
 ) -> Result<bool, Untold> {
-    Ok(devices::told(out, plant, kind, words)? || drills::told(out, plant, kind, words)?)
+    Ok(
+        devices::told(out, plant, kind, words)?
+            || readings::told(out, plant, kind, words)?
+            || drills::told(out, plant, kind, words)?,
+    )
 }
 
 /// Does an action with the disk, or with the plant itself, and adds its output, if it is one.
