@@ -56,3 +56,4 @@ mod RunsInTurn
 mod Served
 pub mod ListSteps
 pub mod Wanting
+mod EventChanges

@@ -22,3 +22,4 @@ pub mod Sessions
 pub mod Swapping
 pub mod Tasks
 pub mod Tells
+pub mod EventChanges

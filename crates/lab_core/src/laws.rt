@@ -34,6 +34,7 @@ ghost use Rattle.lab_core.specs.Commands.{LabStep, is_about, is_list};
 ghost use Rattle.lab_core.specs.Moments.{StandForLab};
 ghost use Rattle.lab_core.specs.Said.{IsAsSaid};
 ghost use Rattle.lab_core.specs.Sessions.{OpenSwap, Session, Open, Terms, Setting, After, names_of, open_at};
+ghost use Rattle.lab_core.specs.EventChanges.{EventsAreChanges};
 ghost use Rattle.lab_core.specs.Judge.{IsFound, Task, Tell, Swap, BeginOnly, Turn, Finish, Judged, is_searched};
 ghost use Rattle.lab_core.specs.Tells.{AllMove, AreLocal, BeginsAt, GoesIn, Hinders, IsAtRest, IsFeasibleFor, IsInBy, IsNoSwap, IsOpened, IsTurn, IsTurnOf, TellsBroken, TellsEnd, TellsLab, SendsOne, busy_of, is_stopped, opens_of, settles, taken_reply};
 
@@ -134,6 +135,12 @@ pub fn solutions()
 pub fn searches()
     ensures { (rule : RuleNumber) (lab : Lab) (es : List Experiment) (e : Experiment) (w : Wiring) (seed : ℕ) (a b : Solved) → IsFound rule lab es e w seed a → IsFound rule lab es e w seed b
         → (a ≡ b) ⊎ AreLocal a b }
+{}
+
+/// What is judged of a link event is what is judged of `modify-with` by two texts: the canonical one of the wiring that the event leaves, and that of
+/// the present mapping. So it is undone as a change is. The one refusal beside is that the link lacks the shape that it has in its text.
+pub fn link_events()
+    ensures { EventsAreChanges }
 {}
 
 /// Over a sound trace the devices are as the lab of each image says.

@@ -29,5 +29,7 @@ mod views;
 pub use controller::Controller;
 pub use fault::CoreFault;
 pub use journal_disk::OpenFault;
-pub use laws::{lab_steps, labs_are_kept, open_swaps, recoveries, searches, solutions};
+pub use laws::{
+    lab_steps, labs_are_kept, link_events, open_swaps, recoveries, searches, solutions,
+};
 pub use sides::journals;
