@@ -1,0 +1,14 @@
+//! Where everything stands in the picture of a lab: its switches as trees from left to right, and at the right of each switch its machines
+//! in rows.
+#![tactic(auto)]
+
+mod columns;
+mod drawn;
+mod layout;
+mod lists;
+mod px;
+mod rows;
+mod tree;
+mod ways;
+
+pub use drawn::geometry_of;

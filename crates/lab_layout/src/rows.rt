@@ -1,0 +1,48 @@
+// Which machines stand under which switch.
+use lab_base::Memory;
+use lab_view::{Machine, View, home_of};
+use std::alloc::Global;
+
+/// By switch its machines, and those without an interface.
+#[derive(Drop)]
+pub(crate) struct Rows {
+    of: Vec<Vec<usize>>,
+    pub(crate) lone: Vec<usize>,
+}
+
+impl Rows {
+    pub(crate) fn new(alloc: Global, view: &View) -> Result<Rows, Memory> {
+        let mut of = Vec::new(alloc);
+        for _ in view.switches.as_slice().iter() {
+            of.push(Vec::new(alloc))?;
+        }
+        let mut rows = Rows {
+            of,
+            lone: Vec::new(alloc),
+        };
+        for (number, machine) in view.machines.as_slice().iter().enumerate() {
+            rows.add(number, machine)?;
+        }
+        Ok(rows)
+    }
+
+    fn add(&mut self, number: usize, machine: &Machine) -> Result<(), Memory> {
+        match home_of(machine) {
+            Some(switch) => {
+                if let Some(row) = self.of.get_mut(switch) {
+                    row.push(number)?;
+                }
+            }
+            None => self.lone.push(number)?,
+        }
+        Ok(())
+    }
+
+    /// The machines of a switch.
+    pub(crate) fn under(&self, switch: usize) -> &[usize] {
+        match self.of.get(switch) {
+            Some(row) => row.as_slice(),
+            None => &[],
+        }
+    }
+}

@@ -1,0 +1,278 @@
+// The switches as trees.
+use lab_base::Memory;
+use lab_view::{Trunk, View};
+use std::alloc::Global;
+
+/// A switch in its tree.
+#[derive(Drop)]
+pub(crate) struct Branch {
+    /// The trunk that leads towards the root.
+    pub(crate) up: Option<usize>,
+    pub(crate) depth: usize,
+    pub(crate) children: Vec<usize>,
+}
+
+/// The trees: by switch its branch, and the switches in an order in which each stands behind its parent.
+#[derive(Drop)]
+pub(crate) struct Forest {
+    pub(crate) branches: Vec<Branch>,
+    pub(crate) order: Vec<usize>,
+    pub(crate) roots: Vec<usize>,
+    pub(crate) deepest: usize,
+}
+
+/// A trunk of a switch, with the switch at its other end.
+#[derive(Clone, Copy)]
+struct Near {
+    trunk: usize,
+    other: usize,
+}
+
+/// By switch whether it is met, and the round in which it goes.
+#[derive(Drop)]
+struct Walk {
+    near: Vec<Vec<Near>>,
+    round: Vec<usize>,
+    met: Vec<bool>,
+}
+
+fn add_near(near: &mut Vec<Vec<Near>>, switch: usize, own: Near) -> Result<(), Memory> {
+    if let Some(list) = near.get_mut(switch) {
+        list.push(own)?;
+    }
+    Ok(())
+}
+
+/// By switch its trunks, each with the switch at its other end.
+fn near_of(alloc: Global, switches: usize, trunks: &[Trunk]) -> Result<Vec<Vec<Near>>, Memory> {
+    let mut near = Vec::new(alloc);
+    for _ in 0..switches {
+        near.push(Vec::new(alloc))?;
+    }
+    for (trunk, own) in trunks.iter().enumerate() {
+        let other = own.second;
+        add_near(&mut near, own.first, Near { trunk, other })?;
+        let other = own.first;
+        add_near(&mut near, own.second, Near { trunk, other })?;
+    }
+    Ok(near)
+}
+
+/// How many trunks a switch has.
+fn degree(near: &[Vec<Near>], switch: usize) -> usize {
+    match near.get(switch) {
+        Some(own) => own.len(),
+        None => 0,
+    }
+}
+
+fn count_at(counts: &[usize], number: usize) -> usize {
+    match counts.get(number) {
+        Some(count) => *count,
+        None => 0,
+    }
+}
+
+fn set(counts: &mut [usize], number: usize, count: usize) {
+    if let Some(own) = counts.get_mut(number) {
+        *own = count;
+    }
+}
+
+/// The switches that go in a round: those of at most one trunk to a switch that is left.
+fn going(alloc: Global, left: &[usize], round: &[usize]) -> Result<Vec<usize>, Memory> {
+    let mut going = Vec::new(alloc);
+    for (switch, own) in left.iter().enumerate() {
+        if *own <= 1 && count_at(round, switch) == 0 {
+            going.push(switch)?;
+        }
+    }
+    Ok(going)
+}
+
+/// Takes a switch off the counts of its neighbours.
+fn take_off(near: &[Vec<Near>], left: &mut [usize], switch: usize) {
+    if let Some(own) = near.get(switch) {
+        for beside in own.iter() {
+            let now = count_at(left, beside.other).saturating_sub(1);
+            set(left, beside.other, now);
+        }
+    }
+}
+
+/// By switch the round in which it goes when in each round all switches go that have at most one neighbour left. The last ones of
+/// a tree are its middle.
+fn rounds(alloc: Global, near: &[Vec<Near>]) -> Result<Vec<usize>, Memory> {
+    let mut left = Vec::new(alloc);
+    let mut round = Vec::new(alloc);
+    for own in near {
+        left.push(own.len())?;
+        round.push(0)?;
+    }
+    for number in 1..=near.len() {
+        let going = going(alloc, &left, &round)?;
+        for switch in going.iter() {
+            set(&mut round, *switch, number);
+        }
+        for switch in going.iter() {
+            take_off(near, &mut left, *switch);
+        }
+    }
+    Ok(round)
+}
+
+impl Walk {
+    /// Whether a switch is a better root than another: later in its rounds, with more trunks, earlier in the lab.
+    fn is_better(&self, a: usize, b: usize) -> bool {
+        let first = count_at(&self.round, a);
+        let second = count_at(&self.round, b);
+        first > second || (first == second && degree(&self.near, a) > degree(&self.near, b))
+    }
+
+    /// Notes that a switch is met, and tells whether it wasn't before.
+    fn meet(&mut self, switch: usize) -> bool {
+        match self.met.get_mut(switch) {
+            Some(met) if !*met => {
+                *met = true;
+                true
+            }
+            _ => false,
+        }
+    }
+
+    /// The best root among the switches that are joined with one; all of these are met then.
+    fn root_of(&mut self, alloc: Global, from: usize) -> Result<usize, Memory> {
+        let mut found = Vec::new(alloc);
+        found.push(from)?;
+        let mut root = from;
+        for at in 0..self.near.len() {
+            let Some(switch) = found.get(at) else {
+                break;
+            };
+            let switch = *switch;
+            if self.is_better(switch, root) {
+                root = switch;
+            }
+            for number in 0..degree(&self.near, switch) {
+                if let Some(beside) = self.beside(switch, number)
+                    && self.meet(beside.other)
+                {
+                    found.push(beside.other)?;
+                }
+            }
+        }
+        Ok(root)
+    }
+
+    fn beside(&self, switch: usize, number: usize) -> Option<Near> {
+        match self.near.get(switch) {
+            Some(own) => match own.get(number) {
+                Some(beside) => Some(*beside),
+                None => None,
+            },
+            None => None,
+        }
+    }
+}
+
+impl Forest {
+    fn depth(&self, switch: usize) -> usize {
+        match self.branches.get(switch) {
+            Some(branch) => branch.depth,
+            None => 0,
+        }
+    }
+
+    /// The trunk that leads from a switch towards its root.
+    pub(crate) fn up(&self, switch: usize) -> Option<usize> {
+        match self.branches.get(switch) {
+            Some(branch) => branch.up,
+            None => None,
+        }
+    }
+
+    /// The column of a switch: those without children stand in the last one.
+    pub(crate) fn column(&self, switch: usize) -> usize {
+        match self.branches.get(switch) {
+            Some(branch) if !branch.children.is_empty() => branch.depth,
+            _ => self.deepest,
+        }
+    }
+
+    /// Hangs a switch below another.
+    fn hang_below(&mut self, switch: usize, beside: Near) -> Result<(), Memory> {
+        let depth = self.depth(switch).saturating_add(1);
+        if let Some(child) = self.branches.get_mut(beside.other) {
+            child.up = Some(beside.trunk);
+            child.depth = depth;
+        }
+        if let Some(parent) = self.branches.get_mut(switch) {
+            parent.children.push(beside.other)?;
+        }
+        self.order.push(beside.other)?;
+        if depth > self.deepest {
+            self.deepest = depth;
+        }
+        Ok(())
+    }
+
+    /// Hangs all switches of a tree below its root.
+    fn hang(&mut self, near: &[Vec<Near>], root: usize) -> Result<(), Memory> {
+        self.roots.push(root)?;
+        let from = self.order.len();
+        self.order.push(root)?;
+        for at in from..near.len() {
+            let Some(switch) = self.order.get(at) else {
+                break;
+            };
+            let switch = *switch;
+            let up = self.up(switch);
+            let Some(own) = near.get(switch) else {
+                break;
+            };
+            for beside in own.iter() {
+                if up != Some(beside.trunk) {
+                    self.hang_below(switch, *beside)?;
+                }
+            }
+        }
+        Ok(())
+    }
+}
+
+fn bare(alloc: Global, switches: usize) -> Result<Forest, Memory> {
+    let mut branches = Vec::new(alloc);
+    for _ in 0..switches {
+        branches.push(Branch {
+            up: None,
+            depth: 0,
+            children: Vec::new(alloc),
+        })?;
+    }
+    Ok(Forest {
+        branches,
+        order: Vec::new(alloc),
+        roots: Vec::new(alloc),
+        deepest: 0,
+    })
+}
+
+/// The trees of a lab's switches, each hung from its middle.
+pub(crate) fn forest_of(alloc: Global, view: &View) -> Result<Forest, Memory> {
+    let switches = view.switches.len();
+    let near = near_of(alloc, switches, view.trunks.as_slice())?;
+    let round = rounds(alloc, &near)?;
+    let mut met = Vec::new(alloc);
+    for _ in 0..switches {
+        met.push(false)?;
+    }
+    let mut walk = Walk { near, round, met };
+    let mut forest = bare(alloc, switches)?;
+    for switch in 0..switches {
+        if walk.meet(switch) {
+            let root = walk.root_of(alloc, switch)?;
+            forest.hang(&walk.near, root)?;
+        }
+    }
+    Ok(forest)
+}

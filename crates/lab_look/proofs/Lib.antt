@@ -1,0 +1,5 @@
+pub mod Claiming
+pub mod Firsts
+pub mod Colours
+pub mod Looking
+pub mod Sums

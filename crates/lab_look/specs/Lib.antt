@@ -1,0 +1,6 @@
+pub mod Seats
+pub mod Seen
+pub mod Looks
+pub mod Reports
+pub mod Told
+pub mod Shows

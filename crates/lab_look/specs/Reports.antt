@@ -1,0 +1,77 @@
+-- What the sides of a journal hold, and whether that shows damage.
+use Rattle.std.specs.Prelude.{◌≡◌, ◌<◌, ℕ, Bool, true, false, ◌&&◌, ◌||◌, not, nat_lt, List, length, Option, Some, None}
+use Rattle.plant.specs.declared.step.Side.{Side}
+use Rattle.plant.specs.Sides.{of_side}
+use Rattle.journal_rec.specs.declared.record.Found.{Found}
+use Rattle.journal_model.specs.Journals.{head, live, New, Bad}
+use Rattle.records_model.specs.Labs.{LabState}
+use Rattle.lab_sides.specs.declared.heads.Head.{Head}
+use Rattle.lab_sides.specs.declared.heads.Head.TheVariants.{Blank, Foreign, Headed}
+use Rattle.lab_sides.specs.Heads.{seen, shut_head, is_cut}
+use Rattle.lab_sides.specs.Walks.{AreThere}
+use Rattle.lab_look.specs.declared.report.SideReport.{SideReport}
+use Rattle.lab_look.specs.declared.report.Standing.{Standing}
+use Rattle.lab_look.specs.declared.report.Standing.TheVariants as standings
+use Rattle.lab_look.specs.declared.report.Report.{Report}
+use Rattle.lab_look.specs.Looks.{HasLab, HasWrong}
+
+abbrev pub is_headed : Head → Bool
+is_headed (Headed n) = true
+is_headed head = false
+
+abbrev pub is_blank : Head → Bool
+is_blank Blank = true
+is_blank head = false
+
+-- a header stands behind a closed header gate
+abbrev pub is_shut : List ℕ → Bool
+is_shut bytes = is_headed (shut_head bytes) && is_blank (seen (head bytes))
+
+-- the whole records behind such a header
+abbrev pub IsShut : List ℕ → Option (List Found) → Type 0
+IsShut bytes None = (is_shut bytes && nat_lt 17 (length bytes)) ≡ false
+IsShut bytes (Some found) = (is_shut bytes ≡ true) × AreThere bytes 17 found
+
+-- what a side holds
+pub record IsSideReport (bytes : List ℕ) (r : SideReport) : Type 0 where
+  pub bytes_are : r.bytes ≡ length bytes
+  pub head_is : r.head ≡ seen (head bytes)
+  pub cut_is : r.cut ≡ is_cut bytes
+  pub shut_is : IsShut bytes r.shut
+
+-- where the journal stands, and the whole records behind its closed gate
+abbrev pub IsStanding : List ℕ → List ℕ → Standing → Type 0
+IsStanding a b standings.New = live (head a) (head b) ≡ New
+IsStanding a b (standings.On side w found) = (s : LabState) × HasLab a b side w s × AreThere (of_side side a b) w.gate found
+IsStanding a b (standings.Bad side at before) = Bad a b side at
+IsStanding a b (standings.Wrong side at w) = HasWrong a b side at w
+
+-- WHAT BOTH SIDES HOLD
+pub record IsReport (a b : List ℕ) (r : Report) : Type 0 where
+  pub first : IsSideReport a r.a
+  pub second : IsSideReport b r.b
+  pub stands : IsStanding a b r.standing
+
+-- there are some; there are two or more
+abbrev pub has_some : Option (List Found) → Bool
+has_some None = false
+has_some (Some found) = nat_lt 0 (length found)
+
+abbrev pub has_more : List Found → Bool
+has_more found = nat_lt 1 (length found)
+
+-- A SIDE SHOWS DAMAGE: it is cut in its header; or records stand behind its closed header, and the other side has no header. With one, this is
+-- what a move of the journal leaves
+abbrev pub is_side_damaged : SideReport → SideReport → Bool
+is_side_damaged own other = own.cut || (has_some own.shut && not (is_headed other.head))
+
+-- WHERE THE JOURNAL STANDS SHOWS DAMAGE: it is none; or two or more whole records stand behind its closed gate, since one is what a kill in
+-- an append leaves; or it is on no side yet, and the tables have lines
+abbrev pub is_standing_damaged : Bool → Standing → Bool
+is_standing_damaged rows standings.New = rows
+is_standing_damaged rows (standings.On side w found) = has_more found
+is_standing_damaged rows standing = true
+
+-- BOTH SIDES SHOW DAMAGE
+abbrev pub is_damaged : Bool → Report → Bool
+is_damaged rows r = is_side_damaged r.a r.b || is_side_damaged r.b r.a || is_standing_damaged rows r.standing

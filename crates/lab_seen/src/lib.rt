@@ -1,0 +1,12 @@
+//! What experiments claim of a lab, as a look tells it: machine by machine, VLAN id by VLAN id, and in numbers.
+#![tactic(auto)]
+
+mod claimed;
+mod counts;
+mod placed;
+mod plugs;
+
+pub use claimed::{claims, has_tag, how_held, stand_of};
+pub use counts::{ids_claimed, nodes_claimed};
+pub use placed::guests;
+pub use plugs::plugs_of;

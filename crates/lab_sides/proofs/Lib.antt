@@ -1,0 +1,4 @@
+pub mod Placing
+pub mod Bodies
+pub mod Stepping
+pub mod Gates

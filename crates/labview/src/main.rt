@@ -1,0 +1,162 @@
+//! Looks at the folder of a lab, and changes nothing in it: its text, with `--svg` its picture, with `--check` what its journal holds.
+#![tactic(auto)]
+
+mod words;
+
+use crate::words::{Asked, WordsFault, read_words};
+use lab_base::{Memory, Text};
+use lab_io::{StdSink, write_all};
+use lab_drawn::picture_in;
+use lab_look::{Shown, Told, check, text_in};
+use plant::Side;
+use std::process::ExitCode;
+use std::{env, fs, io};
+
+/// How often both sides are read, at most, until two looks find the same bytes.
+const LOOKS: usize = 64;
+
+/// How a run ends.
+#[derive(Clone, Copy)]
+enum End {
+    Done,
+    Damaged,
+    Usage,
+    Unread,
+    Busy,
+    Memory,
+    Bad { side: Side, at: u64 },
+}
+
+impl End {
+    fn code(self) -> u8 {
+        match self {
+            End::Done => 0,
+            End::Unread | End::Busy => 1,
+            End::Usage => 3,
+            End::Memory => 5,
+            End::Bad { .. } => 6,
+            End::Damaged => 7,
+        }
+    }
+}
+
+/// Both sides, whether the tables have lines, and whether two looks in a row found the sides equal.
+#[derive(Drop)]
+struct Seen {
+    a: Vec<u8>,
+    b: Vec<u8>,
+    rows: bool,
+    still: bool,
+}
+
+/// The bytes of a file of the folder; none where it is missing. The file is opened to be read alone.
+fn file(rt: &HostRuntime, dir: &str, name: &str) -> io::Result<Vec<u8>> {
+    let mut path = String::from_str(rt.alloc(), dir)?;
+    path.push_str(name)?;
+    match fs::read(rt, path.as_str()) {
+        Err(error) if error.kind() == io::ErrorKind::NotFound => Ok(Vec::new(rt.alloc())),
+        read => read,
+    }
+}
+
+/// Reads both sides, again and again until two looks in a row find them equal, which then stood so at one moment between both.
+fn sides(rt: &HostRuntime, dir: &str) -> io::Result<Seen> {
+    let mut a = file(rt, dir, "/journal.a")?;
+    let mut b = file(rt, dir, "/journal.b")?;
+    let mut still = false;
+    for _ in 0..LOOKS {
+        let next_a = file(rt, dir, "/journal.a")?;
+        let next_b = file(rt, dir, "/journal.b")?;
+        still = next_a == a && next_b == b;
+        a = next_a;
+        b = next_b;
+        if still {
+            break;
+        }
+    }
+    let rows = !file(rt, dir, "/tables")?.is_empty();
+    Ok(Seen { a, b, rows, still })
+}
+
+fn write(rt: &HostRuntime, text: &Text, end: End) -> End {
+    let mut sink = StdSink::new(rt);
+    match write_all(&mut sink, text.bytes()) {
+        Ok(()) => end,
+        Err(_) => End::Unread,
+    }
+}
+
+/// Writes the text, or the picture, of what was seen.
+fn show(rt: &HostRuntime, seen: &Seen, svg: bool) -> End {
+    let shown = if svg {
+        picture_in(rt.alloc(), &seen.a, &seen.b)
+    } else {
+        text_in(rt.alloc(), &seen.a, &seen.b)
+    };
+    match shown {
+        Ok(Shown::Text(text)) => write(rt, &text, End::Done),
+        Ok(Shown::Bad(_, _)) if !seen.still => End::Busy,
+        Ok(Shown::Bad(side, at)) => End::Bad { side, at },
+        Err(Memory) => End::Memory,
+    }
+}
+
+/// Writes what a check tells of what was seen.
+fn tell_check(rt: &HostRuntime, seen: &Seen) -> End {
+    match check(rt.alloc(), &seen.a, &seen.b, seen.still, seen.rows) {
+        Ok(Told { text, damaged }) => {
+            let end = if damaged { End::Damaged } else { End::Done };
+            write(rt, &text, end)
+        }
+        Err(Memory) => End::Memory,
+    }
+}
+
+fn run_on(rt: &HostRuntime, asked: Asked<'_>) -> End {
+    let Ok(seen) = sides(rt, asked.dir) else {
+        return End::Unread;
+    };
+    if asked.check {
+        tell_check(rt, &seen)
+    } else {
+        show(rt, &seen, asked.svg)
+    }
+}
+
+fn words_of(rt: &HostRuntime) -> io::Result<Vec<String>> {
+    let mut words = Vec::new(rt.alloc());
+    for word in env::args(rt)?.skip(1) {
+        words.push(word)?;
+    }
+    Ok(words)
+}
+
+fn run(rt: &HostRuntime) -> End {
+    let Ok(words) = words_of(rt) else {
+        return End::Memory;
+    };
+    match read_words(rt.alloc(), &words) {
+        Ok(asked) => run_on(rt, asked),
+        Err(WordsFault::Usage) => End::Usage,
+        Err(WordsFault::Memory) => End::Memory,
+    }
+}
+
+/// Says on standard error how the run ended, where that is not its end.
+fn tell(rt: &HostRuntime, end: End) -> io::Result<()> {
+    match end {
+        End::Done | End::Damaged => Ok(()),
+        End::Usage => eprintln!(rt; "labview [--check] [--svg] DIR"),
+        End::Unread => eprintln!(rt; "labview: a file can't be read, or the text not be written"),
+        End::Busy => eprintln!(rt; "labview: a program is at work here"),
+        End::Memory => eprintln!(rt; "labview: out of memory"),
+        End::Bad { side: Side::A, at } => eprintln!(rt; "labview: bad journal A {at}"),
+        End::Bad { side: Side::B, at } => eprintln!(rt; "labview: bad journal B {at}"),
+    }
+}
+
+fn main(rt: HostRuntime) -> ExitCode {
+    let end = run(&rt);
+    let _told = tell(&rt, end);
+    ExitCode::from(end.code())
+}
