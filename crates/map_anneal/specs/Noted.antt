@@ -1,4 +1,4 @@
--- What is known of the moves and exchanges of a map.
+-- Known moves and exchanges of a map.
 use Rattle.virt_topo.specs.declared.mapping.Mapping.{Mapping}
 use Rattle.map_anneal.specs.declared.known.Known.{Known}
 use Rattle.map_anneal.specs.Sought.{Sought}
