@@ -1,9 +1,8 @@
 -- A move on two maps that agree on what it reads.
-use Rattle.std.proofs.Common.{◌≡◌, ◌⊎◌, ◌<◌, ◌≤◌, ◌+◌, ◌∙◌, inl, inr, ℕ, List, [], length, get_or, Bool, true, Contains, Some, ap, sym, subst, arith, get_or-set_other, get_or-set_same}
+use Rattle.std.proofs.Common.{◌≡◌, ◌<◌, ◌+◌, ◌∙◌, inl, inr, ℕ, List, [], length, get_or, Bool, Contains, ap, sym, subst, arith, get_or-set_other, get_or-set_same}
 use Rattle.std.proofs.Math.ListN.{set}
 use Rattle.std.proofs.lemmas.Bool.{cases_eq}
 use Rattle.std.proofs.lemmas.List.{length-set}
-use Rattle.lab_base.specs.declared.ids.IfaceId.{IfaceId}
 use Rattle.phys_lab.specs.declared.free.Free.{Free}
 use Rattle.phys_lab.specs.Labs.{Lab}
 use Rattle.virt_topo.specs.declared.wiring.Wiring.{Wiring}
@@ -11,11 +10,9 @@ use Rattle.virt_topo.specs.declared.mapping.Mapping.{Mapping}
 use Rattle.virt_topo.specs.Wirings.{virt_at}
 use Rattle.virt_topo.specs.Soundness.{IsSound}
 use Rattle.lab_model.specs.Shapes.{Place, node_at}
-use Rattle.lab_model.specs.Uses.{use_of}
-use Rattle.lab_model.specs.Rules.{keeps_f6, place_at, no_place}
-use Rattle.cost_rule.specs.declared.rule.RuleNumber.{RuleNumber}
-use Rattle.cost_rule.specs.Cost.{cost, missed}
-use Rattle.node_maps.specs.NodeMaps.{candidates, ends_of, plugs_of, node_map}
+use Rattle.lab_model.specs.Rules.{place_at, no_place}
+use Rattle.cost_rule.specs.Cost.{missed}
+use Rattle.node_maps.specs.NodeMaps.{candidates, ends_of}
 use Rattle.node_maps.specs.Moved.{AlikeBut}
 use Rattle.node_maps.proofs.MapLaws.{choice_within}
 use Rattle.map_board.specs.Nodes.{no_end}

@@ -1,5 +1,5 @@
 -- The interface rule gives the ends on two nodes the same plugs, where the same virtual nodes are there.
-use Rattle.std.proofs.Common.{◌≡◌, ◌⊎◌, ◌<◌, ◌∙◌, ◌∷◌, ◌++◌, [], inl, inr, ℕ, suc, zero, List, length, get_or, filter, drop, Bool, true, false, cond, eqb, ◌==◌, Option, Some, None, All, refl, ap, sym, subst, arith}
+use Rattle.std.proofs.Common.{◌≡◌, ◌⊎◌, ◌<◌, ◌∙◌, ◌∷◌, [], inl, inr, ℕ, suc, zero, List, length, get_or, filter, drop, Bool, true, false, cond, eqb, ◌==◌, Some, All, refl, ap, sym, subst, arith}
 use Rattle.std.proofs.lemmas.Bool.{eq-eqb, eqb-true, ne_eqb}
 use Rattle.lab_base.specs.declared.ids.IfaceId.{IfaceId}
 use Rattle.phys_lab.specs.Labs.{Lab}

@@ -1,16 +1,14 @@
 -- Known moves of a virtual node, before and after a step.
-use Rattle.std.proofs.Common.{◌≡◌, ◌⊎◌, ◌<◌, ◌≤◌, ◌∙◌, inl, inr, ℕ, List, [], length, map, get_or, Bool, true, false, Contains, Option, Some, refl, ap, sym, subst, arith, get_or-set_same, get_or-set_other}
+use Rattle.std.proofs.Common.{◌≡◌, ◌<◌, ◌≤◌, ◌∙◌, inl, inr, ℕ, List, length, map, get_or, Bool, true, false, ap, sym, subst, arith, get_or-set_same, get_or-set_other}
 use Rattle.std.proofs.Math.ListN.{set}
 use Rattle.std.proofs.lemmas.Bool.{cases_eq}
 use Rattle.std.proofs.lemmas.List.{length-set, length-map, get_or-map}
 use Rattle.std.proofs.lemmas.List.Elements.{Contains-get_or}
-use Rattle.lab_base.specs.declared.ids.IfaceId.{IfaceId}
 use Rattle.virt_topo.specs.declared.mapping.Mapping.{Mapping}
 use Rattle.virt_topo.specs.Soundness.{IsSound}
 use Rattle.virt_topo.specs.Wirings.{virt_at}
 use Rattle.lab_model.specs.Shapes.{Place, IsShaped, node_at, has_name}
 use Rattle.lab_model.specs.Rules.{is_member, no_place, number_of, place_at}
-use Rattle.node_maps.specs.NodeMaps.{node_map}
 use Rattle.node_maps.proofs.Assembled.{parts_of_map}
 use Rattle.node_maps.proofs.MapLaws.{mapped_is}
 use Rattle.map_board.specs.Seated.{IsFull, guests_at, placed_at}
@@ -18,9 +16,9 @@ use Rattle.map_board.proofs.BoardLaws.{shaped_at}
 use Rattle.map_board.proofs.CrowdLaws.{overfull}
 use Rattle.map_board.proofs.SeatLaws.{guest_more}
 use Rattle.map_anneal.specs.declared.known.Weighed.{Weighed}
-use Rattle.map_anneal.specs.Sought.{Sought, choices, candidates_at, mapped, price, IsNodeMap, IsNoCheaper}
+use Rattle.map_anneal.specs.Sought.{Sought, candidates_at, mapped, price, IsNodeMap, IsNoCheaper}
 use Rattle.map_anneal.specs.Weighed.{IsNoLess, IsRow, not_weighed}
-use Rattle.map_anneal.specs.Steps.{AreStill, IsAside, KeepsTypes, IsStep}
+use Rattle.map_anneal.specs.Steps.{KeepsTypes, IsStep}
 use Rattle.map_anneal.proofs.StepLaws.{no_less_beside}
 
 -- no less where F6 is not asked is no less

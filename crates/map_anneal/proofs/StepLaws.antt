@@ -1,14 +1,11 @@
 -- A move between two nodes that a step leaves aside reads what it read before.
-use Rattle.std.proofs.Common.{◌≡◌, ◌≢◌, ◌⊎◌, ◌<◌, ◌+◌, ◌-◌, ◌∙◌, ◌∷◌, ◌++◌, [], inl, inr, ℕ, zero, suc, List, length, map, get_or, Bool, true, false, None, Contains, refl, ap, sym, subst, arith}
+use Rattle.std.proofs.Common.{◌≡◌, ◌<◌, ◌+◌, ◌-◌, ◌∙◌, ◌∷◌, [], inl, inr, ℕ, zero, suc, List, length, map, get_or, Bool, true, false, None, Contains, refl, ap, sym, subst, arith}
 use Rattle.std.proofs.Math.ListN.{set, get_or-append}
 use Rattle.std.proofs.Math.Seq.{get_or-append_right}
 use Rattle.std.proofs.lemmas.List.{get_or_default, length-map, get_or-map}
-use Rattle.phys_lab.specs.declared.free.Free.{Free}
-use Rattle.phys_lab.specs.Labs.{Lab}
 use Rattle.virt_topo.specs.declared.wiring.Segment.{Segment}
 use Rattle.virt_topo.specs.declared.wiring.Wiring.{Wiring}
 use Rattle.virt_topo.specs.declared.mapping.Mapping.{Mapping}
-use Rattle.virt_topo.specs.Ends.{end_nodes}
 use Rattle.virt_topo.specs.Wirings.{virt_at}
 use Rattle.virt_topo.specs.Soundness.{IsSound}
 use Rattle.lab_model.specs.Shapes.{Place}
@@ -18,14 +15,12 @@ use Rattle.node_maps.specs.NodeMaps.{end_of, ends_from, ends_of}
 use Rattle.node_maps.proofs.EndLists.{same_length}
 use Rattle.node_maps.proofs.MapLaws.{mapped_is, choice_within}
 use Rattle.node_maps.proofs.Shaped.{shaped}
-use Rattle.trunk_sums.specs.Summed.{first_end}
 use Rattle.trunk_sums.proofs.Replugged.{IsIn, in_ends}
 use Rattle.map_board.specs.Nodes.{no_end}
 use Rattle.map_anneal.specs.Sought.{Sought, candidates_at, price, IsNodeMap}
 use Rattle.map_anneal.specs.Weighed.{IsNoLess}
 use Rattle.map_anneal.specs.Steps.{AreStill, IsAside, KeepsTypes}
-use Rattle.map_anneal.proofs.Switches.{AreAlikeAt}
-use Rattle.map_anneal.proofs.Frames.{IsOff, AlikeOn, end_place}
+use Rattle.map_anneal.proofs.Frames.{IsOff}
 use Rattle.map_anneal.proofs.MoveReads.{ReadAlike}
 use Rattle.map_anneal.proofs.SegmentFrames.{sits_from}
 use Rattle.map_anneal.proofs.TryLaws.{no_less_again}
@@ -51,7 +46,7 @@ segment_from n (x ∷ segments) (suc s) e d is =
     let same : ◌≡◌ {A = ℕ} (n + 1 + s) (n + suc s) = omega arith in
     ap (λ (y : End). y.segment) (get_or-append_right own (ends_from (n + 1) segments) e d (omega (arith, from, count))) ∙ rest ∙ same
 
-segment_of : (w : Wiring) (s e : ℕ) → IsIn w.segments s e → (get_or (ends_of w.segments) e no_end).segment ≡ s
+pub segment_of : (w : Wiring) (s e : ℕ) → IsIn w.segments s e → (get_or (ends_of w.segments) e no_end).segment ≡ s
 segment_of w s e is = segment_from 0 w.segments s e no_end is ∙ (let zero_so : ◌≡◌ {A = ℕ} (0 + s) s = omega arith in zero_so)
 
 -- a step, two nodes that it leaves aside, and a virtual node whose class keeps its types

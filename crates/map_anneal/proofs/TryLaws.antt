@@ -1,5 +1,5 @@
 -- A try on two maps that agree on what it reads.
-use Rattle.std.proofs.Common.{◌≡◌, ◌<◌, ◌≤◌, ◌+◌, ◌∙◌, inl, inr, ℕ, List, length, Bool, Some, refl, arith}
+use Rattle.std.proofs.Common.{◌≡◌, ◌<◌, ◌+◌, ◌∙◌, inl, inr, ℕ, List, length, Bool, Some, refl, arith}
 use Rattle.lab_base.specs.declared.ids.IfaceId.{IfaceId}
 use Rattle.phys_lab.specs.declared.free.Free.{Free}
 use Rattle.phys_lab.specs.Labs.{Lab}

@@ -1,5 +1,5 @@
 -- Types of a class's members: what a step leaves as it was.
-use Rattle.std.proofs.Common.{◌≡◌, ◌≢◌, ◌⊎◌, ◌<◌, ◌∙◌, ◌∷◌, [], inl, inr, ℕ, zero, suc, List, length, get_or, Bool, true, false, cond, nat_lt, ◌&&◌, ◌||◌, not, refl, ap, sym, subst, arith, get_or-set_same, get_or-set_other}
+use Rattle.std.proofs.Common.{◌≡◌, ◌≢◌, ◌<◌, ◌∙◌, ◌∷◌, [], inl, inr, ℕ, zero, suc, List, length, get_or, Bool, true, false, cond, nat_lt, ◌&&◌, ◌||◌, not, refl, ap, sym, subst, arith, get_or-set_same, get_or-set_other}
 use Rattle.std.specs.List.{list_any}
 use Rattle.std.proofs.Math.ListN.{set}
 use Rattle.std.proofs.lemmas.Bool.{cases_eq, eq-eqb}
@@ -19,14 +19,14 @@ use Rattle.map_board.specs.Seated.{asked_soft, placed_at}
 use Rattle.map_anneal.specs.Steps.{IsSettler, HasTwo, KeepsTypes}
 
 -- a member of this type
-record IsTyped (c : ℕ) (type : List ℕ) (vs : List VirtNode) (places : List Place) : Type 0 where
-  virt : ℕ
-  within : virt < length vs
-  placed : virt < length places
-  member : is_member c (get_or vs virt no_virt).asks ≡ true
-  typed : (get_or places virt no_place).1 ≡ type
+pub record IsTyped (c : ℕ) (type : List ℕ) (vs : List VirtNode) (places : List Place) : Type 0 where
+  pub virt : ℕ
+  pub within : virt < length vs
+  pub placed : virt < length places
+  pub member : is_member c (get_or vs virt no_virt).asks ≡ true
+  pub typed : (get_or places virt no_place).1 ≡ type
 
-any_from : (c : ℕ) (type : List ℕ) (vs : List VirtNode) (places : List Place) (u : ℕ) → u < length vs → u < length places → is_member c (get_or vs u no_virt).asks ≡ true
+pub any_from : (c : ℕ) (type : List ℕ) (vs : List VirtNode) (places : List Place) (u : ℕ) → u < length vs → u < length places → is_member c (get_or vs u no_virt).asks ≡ true
     → (get_or places u no_place).1 ≡ type → list_any (same_name type) (types_of c vs places) ≡ true
 any_from c type [] places u lt less member typed = absurd (omega (arith, lt))
 any_from c type (v ∷ vs) [] u lt less member typed = absurd (omega (arith, less))
@@ -44,7 +44,7 @@ any_from c type (v ∷ vs) (p ∷ places) (suc u) lt less member typed =
     later true is = ap (λ (d : Bool). same_name type p.1 || d) is ∙ or_true (same_name type p.1)
     later false is = is
 
-any_to : (c : ℕ) (type : List ℕ) (vs : List VirtNode) (places : List Place) → list_any (same_name type) (types_of c vs places) ≡ true → IsTyped c type vs places
+pub any_to : (c : ℕ) (type : List ℕ) (vs : List VirtNode) (places : List Place) → list_any (same_name type) (types_of c vs places) ≡ true → IsTyped c type vs places
 any_to c type [] places is = absurd (cc is)
 any_to c type (v ∷ vs) [] is = absurd (cc is)
 any_to c type (v ∷ vs) (p ∷ places) is = by (any_to c type vs places) (is_member c v.asks) refl is
@@ -62,7 +62,7 @@ any_to c type (v ∷ vs) (p ∷ places) is = by (any_to c type vs places) (is_me
     by rest true member any = here rest (same_name type p.1) refl member any
     by rest false member any = next (rest any)
 
-both_true : (a b : Bool) → (a ≡ true → b ≡ true) → (b ≡ true → a ≡ true) → a ≡ b
+pub both_true : (a b : Bool) → (a ≡ true → b ≡ true) → (b ≡ true → a ≡ true) → a ≡ b
 both_true true b to from = sym (to refl)
 both_true false true to from = from refl
 both_true false false to from = refl

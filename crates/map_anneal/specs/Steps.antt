@@ -1,12 +1,11 @@
 -- Steps from one map to another, by the nodes, segments and classes that they leave as they were.
 use Rattle.std.specs.Prelude.{◌≡◌, ◌≢◌, ◌<◌, ◌⊎◌, ℕ, Bool, true, false, List, length, slice_index_or}
-use Rattle.lab_base.specs.declared.ids.IfaceId.{IfaceId}
 use Rattle.phys_lab.specs.Labs.{Lab}
 use Rattle.virt_topo.specs.declared.wiring.Wiring.{Wiring}
 use Rattle.virt_topo.specs.declared.mapping.Mapping.{Mapping}
 use Rattle.virt_topo.specs.Wirings.{virt_at}
 use Rattle.lab_model.specs.Uses.{switch_of}
-use Rattle.lab_model.specs.Rules.{is_member, no_place, place_at}
+use Rattle.lab_model.specs.Rules.{is_member, place_at}
 use Rattle.node_maps.specs.NodeMaps.{ends_of}
 use Rattle.map_board.specs.Nodes.{no_end}
 

@@ -1,17 +1,22 @@
 // Descent to a locally best map.
-ghost use Rattle.std.specs.Prelude.{◌≡◌, ◌≤◌, ◌<◌, ℕ, true, false, length, IfOk, OnOk, Contains, IsTrue, ◌↔◌};
+ghost use Rattle.std.specs.Prelude.{◌≡◌, ◌≤◌, ◌<◌, ℕ, true, false, [], length, slice_index_or, IfOk, OnOk, Contains, IsTrue, ◌↔◌};
 ghost use Rattle.virt_topo.specs.Soundness.{IsSound};
 ghost use Rattle.lab_model.specs.Shapes.{IsFreeOf};
+ghost use Rattle.virt_topo.specs.Wirings.{virt_at};
+ghost use Rattle.node_maps.specs.NodeMaps.{is_candidate, lab_places};
 ghost use Rattle.map_anneal.specs.Sought.{sought, choices, price, IsNodeMap, NoMove, NoExchange, LocallyBest};
 ghost use Rattle.map_anneal.specs.Searches.{sought_of, priced_by, IsMoves, IsTried};
-ghost use Rattle.map_anneal.specs.Weighed.{AreRows, IsRow};
+ghost use Rattle.map_anneal.specs.Weighed.{ArePairs, AreRows, IsExchangeNoLess, IsPairs, IsRow};
+ghost use Rattle.map_anneal.specs.Noted.{IsKnown};
 
 use crate::known::{Known, Row};
 use crate::moves::Moves;
+use crate::pairs::Pairs;
 use crate::prepared::Prepared;
 use crate::search::{Priced, place_of};
 use crate::tried::Tried;
 use cost_rule::StepRule;
+use feas::{is_fixed_at, suits};
 use lab_base::Memory;
 use node_maps::Place;
 use phys_lab::{Free, Lab};
@@ -57,30 +62,50 @@ fn any_cheaper_move(
     moves: &Moves,
     rule: &StepRule,
     at: &mut Tried,
-    known: &mut Known,
+    rows: &mut Vec<Row>,
 ) -> Result<bool, Memory>
     requires moves { IsMoves moves.now }
     requires at { IsTried moves.now rule.now.number at.old }
-    requires known { AreRows (sought_of moves.now rule.now.number) at.old.board.mapping known.old.rows.items }
+    requires rows { AreRows (sought_of moves.now rule.now.number) at.old.board.mapping rows.old.items }
     ensures tried { OnOk result (IsTried moves.now rule.now.number at.new) }
     ensures cheaper { IfOk result (λ yes. yes ≡ true → at.new.cost < at.old.cost) }
     ensures same { IfOk result (λ yes. yes ≡ false → at.new.board.mapping ≡ at.old.board.mapping) }
     ensures same_cost { IfOk result (λ yes. yes ≡ false → at.new.cost ≡ at.old.cost) }
     ensures none { IfOk result (λ yes. yes ≡ false → (v : ℕ) → v < length (choices (sought_of moves.now rule.now.number)) → NoMove (sought_of moves.now rule.now.number) at.old.board.mapping v) }
-    ensures known { OnOk result (AreRows (sought_of moves.now rule.now.number) at.old.board.mapping known.new.rows.items) }
+    ensures rows { OnOk result (AreRows (sought_of moves.now rule.now.number) at.old.board.mapping rows.new.items) }
 {
-    for node in 0..known.rows.len() {
-        if cheaper_move_of(alloc, moves, rule, at, node, &mut known.rows[node])? {
+    for node in 0..rows.len() {
+        if cheaper_move_of(alloc, moves, rule, at, node, &mut rows[node])? {
             return Ok(true);
         }
     }
     Ok(false)
 }
 
-fn has_place(places: &[Place], place: Place) -> bool
-    ensures { IsTrue result ↔ Contains places.now place }
+/// Whether a node is free, and a virtual node suits a place there and may be there.
+fn passes(moves: &Moves, virt: usize, place: Place) -> bool
+    requires moves { IsMoves moves.now }
+    requires virt { virt < length moves.now.setting.mapper.wiring.now.nodes }
+    requires node { place.0.0 < length moves.now.setting.mapper.lab.now.nodes }
+    ensures { result ≡ is_candidate moves.now.setting.mapper.lab.now moves.now.setting.mapper.free.now moves.now.setting.mapper.wiring.now (virt_at moves.now.setting.mapper.wiring.now virt) place }
 {
-    places.contains(&place)
+    let mapper = moves.setting.mapper;
+    let number = place.0.0 as usize;
+    let node = &mapper.lab.nodes()[number];
+    let asked = &mapper.wiring.nodes.as_slice()[virt];
+    mapper.free.nodes.as_slice()[number]
+        && suits(mapper.wiring, asked, node.features.as_slice(), place.1)
+        && is_fixed_at(asked.fixed, node.name)
+}
+
+/// Whether a place of the lab is among the candidates of a virtual node.
+fn may_have(moves: &Moves, virt: usize, place: Place) -> bool
+    requires moves { IsMoves moves.now }
+    requires virt { virt < length moves.now.setting.mapper.wiring.now.nodes }
+    requires place { Contains (lab_places moves.now.setting.mapper.lab.now) place }
+    ensures { IsTrue result ↔ Contains (slice_index_or moves.now.candidates.now virt []) place }
+{
+    passes(moves, virt, place)
 }
 
 /// Exchanges the places of two virtual nodes, where they may be, and the map is feasible and cheaper.
@@ -101,13 +126,15 @@ fn cheaper_exchange(
     ensures same { IfOk result (λ yes. yes ≡ false → at.new.board.mapping ≡ at.old.board.mapping) }
     ensures same_cost { IfOk result (λ yes. yes ≡ false → at.new.cost ≡ at.old.cost) }
     ensures none { IfOk result (λ yes. yes ≡ false → NoExchange (sought_of moves.now rule.now.number) at.old.board.mapping first second) }
+    ensures weighed { IfOk result (λ yes. yes ≡ false → at.new.weighed ≡ true → IsExchangeNoLess (sought_of moves.now rule.now.number) at.old.board.mapping first second) }
 {
     let one = place_of(at.board.mapping.places.as_slice(), first);
     let other = place_of(at.board.mapping.places.as_slice(), second);
-    if !has_place(moves.candidates.of(first), other) {
+    at.weighed = true;
+    if !may_have(moves, first, other) {
         return Ok(false);
     }
-    if !has_place(moves.candidates.of(second), one) {
+    if !may_have(moves, second, one) {
         return Ok(false);
     }
     let below = u128::from(at.cost);
@@ -115,26 +142,32 @@ fn cheaper_exchange(
     Ok(yes)
 }
 
-/// Makes the first cheaper exchange of a virtual node with a later one, if there is one.
+/// Makes the first cheaper exchange of a virtual node with a later one, if there is one; those that are known are not tried.
 fn cheaper_exchange_of(
     alloc: Global,
     moves: &Moves,
     rule: &StepRule,
     at: &mut Tried,
     first: usize,
+    row: &mut Pairs,
 ) -> Result<bool, Memory>
     requires moves { IsMoves moves.now }
     requires at { IsTried moves.now rule.now.number at.old }
     requires first { first < length (choices (sought_of moves.now rule.now.number)) }
+    requires row { IsPairs (sought_of moves.now rule.now.number) at.old.board.mapping first row.old }
     ensures tried { OnOk result (IsTried moves.now rule.now.number at.new) }
     ensures cheaper { IfOk result (λ yes. yes ≡ true → at.new.cost < at.old.cost) }
     ensures same { IfOk result (λ yes. yes ≡ false → at.new.board.mapping ≡ at.old.board.mapping) }
     ensures same_cost { IfOk result (λ yes. yes ≡ false → at.new.cost ≡ at.old.cost) }
     ensures none { IfOk result (λ yes. yes ≡ false → (u : ℕ) → first < u → u < length (choices (sought_of moves.now rule.now.number)) → NoExchange (sought_of moves.now rule.now.number) at.old.board.mapping first u) }
+    ensures row { OnOk result (IsPairs (sought_of moves.now rule.now.number) at.old.board.mapping first row.new) }
 {
     for second in first + 1..moves.candidates.len() {
-        if cheaper_exchange(alloc, moves, rule, at, first, second)? {
-            return Ok(true);
+        if !row.is_known(second) {
+            if cheaper_exchange(alloc, moves, rule, at, first, second)? {
+                return Ok(true);
+            }
+            row.note(second, at.weighed);
         }
     }
     Ok(false)
@@ -146,17 +179,20 @@ fn any_cheaper_exchange(
     moves: &Moves,
     rule: &StepRule,
     at: &mut Tried,
+    pairs: &mut Vec<Pairs>,
 ) -> Result<bool, Memory>
     requires moves { IsMoves moves.now }
     requires at { IsTried moves.now rule.now.number at.old }
+    requires pairs { ArePairs (sought_of moves.now rule.now.number) at.old.board.mapping pairs.old.items }
     ensures tried { OnOk result (IsTried moves.now rule.now.number at.new) }
     ensures cheaper { IfOk result (λ yes. yes ≡ true → at.new.cost < at.old.cost) }
     ensures same { IfOk result (λ yes. yes ≡ false → at.new.board.mapping ≡ at.old.board.mapping) }
     ensures same_cost { IfOk result (λ yes. yes ≡ false → at.new.cost ≡ at.old.cost) }
     ensures none { IfOk result (λ yes. yes ≡ false → (v u : ℕ) → v < u → u < length (choices (sought_of moves.now rule.now.number)) → NoExchange (sought_of moves.now rule.now.number) at.old.board.mapping v u) }
+    ensures pairs { OnOk result (ArePairs (sought_of moves.now rule.now.number) at.old.board.mapping pairs.new.items) }
 {
-    for first in 0..moves.candidates.len() {
-        if cheaper_exchange_of(alloc, moves, rule, at, first)? {
+    for first in 0..pairs.len() {
+        if cheaper_exchange_of(alloc, moves, rule, at, first, &mut pairs[first])? {
             return Ok(true);
         }
     }
@@ -173,18 +209,18 @@ fn cheaper_neighbour(
 ) -> Result<bool, Memory>
     requires moves { IsMoves moves.now }
     requires at { IsTried moves.now rule.now.number at.old }
-    requires known { AreRows (sought_of moves.now rule.now.number) at.old.board.mapping known.old.rows.items }
+    requires known { IsKnown (sought_of moves.now rule.now.number) at.old.board.mapping known.old }
     ensures tried { OnOk result (IsTried moves.now rule.now.number at.new) }
     ensures cheaper { IfOk result (λ yes. yes ≡ true → at.new.cost < at.old.cost) }
     ensures same { IfOk result (λ yes. yes ≡ false → at.new.board.mapping ≡ at.old.board.mapping) }
     ensures same_cost { IfOk result (λ yes. yes ≡ false → at.new.cost ≡ at.old.cost) }
     ensures none { IfOk result (λ yes. yes ≡ false → LocallyBest (sought_of moves.now rule.now.number) at.old.board.mapping) }
-    ensures known { OnOk result (AreRows (sought_of moves.now rule.now.number) at.old.board.mapping known.new.rows.items) }
+    ensures known { OnOk result (IsKnown (sought_of moves.now rule.now.number) at.old.board.mapping known.new) }
 {
-    if any_cheaper_move(alloc, moves, rule, at, known)? {
+    if any_cheaper_move(alloc, moves, rule, at, &mut known.rows)? {
         return Ok(true);
     }
-    let yes = any_cheaper_exchange(alloc, moves, rule, at)?;
+    let yes = any_cheaper_exchange(alloc, moves, rule, at, &mut known.pairs)?;
     Ok(yes)
 }
 
@@ -200,10 +236,10 @@ fn step(
     requires moves { IsMoves moves.now }
     requires at { IsTried moves.now rule.now.number at.old }
     requires lowest { lowest.old ≡ priced_by at.old }
-    requires known { AreRows (sought_of moves.now rule.now.number) at.old.board.mapping known.old.rows.items }
+    requires known { IsKnown (sought_of moves.now rule.now.number) at.old.board.mapping known.old }
     ensures tried { OnOk result (IsTried moves.now rule.now.number at.new) }
     ensures lowest { OnOk result (lowest.new ≡ priced_by at.new) }
-    ensures known { OnOk result (AreRows (sought_of moves.now rule.now.number) at.new.board.mapping known.new.rows.items) }
+    ensures known { OnOk result (IsKnown (sought_of moves.now rule.now.number) at.new.board.mapping known.new) }
     ensures cheaper { IfOk result (λ yes. yes ≡ true → at.new.cost < at.old.cost) }
     ensures same { IfOk result (λ yes. yes ≡ false → at.new.cost ≡ at.old.cost) }
     ensures none { IfOk result (λ yes. yes ≡ false → LocallyBest (sought_of moves.now rule.now.number) at.new.board.mapping) }

@@ -1,13 +1,15 @@
-// Known moves, followed from one map to the next.
+// Known moves and exchanges, followed from one map to the next.
 ghost use Rattle.std.specs.Prelude.{◌≡◌, ◌<◌, ℕ, true, false, List, [], map, length, slice_index_or, slice_set, IfOk, OnOk};
 ghost use Rattle.lab_model.specs.Rules.{is_member, place_at};
 ghost use Rattle.virt_topo.specs.Wirings.{virt_at};
 ghost use Rattle.map_anneal.specs.Sought.{IsNodeMap};
 ghost use Rattle.map_anneal.specs.Searches.{sought_of, IsMoves};
-ghost use Rattle.map_anneal.specs.Steps.{KeepsTypes};
-ghost use Rattle.map_anneal.specs.Weighed.{AreRows, not_weighed};
+ghost use Rattle.map_anneal.specs.Untouched.{IsTouched, IsUntouched};
+ghost use Rattle.map_anneal.specs.Noted.{IsKnown};
+ghost use Rattle.map_anneal.specs.Weighed.{ArePairs, AreRows, not_weighed};
 
 use crate::moves::Moves;
+use crate::pairs::{Pairs, is_marked_at};
 use crate::step::{is_marked, touched_classes, touched_nodes};
 use cost_rule::StepRule;
 use lab_base::{Memory, NodeId};
@@ -117,10 +119,147 @@ fn is_touched(
     is_class_marked(wiring, classes, virt)
 }
 
-/// By virtual node what is known of its moves.
+/// Nodes and virtual nodes that a step touches.
+#[derive(Drop)]
+pub(crate) struct Touched {
+    nodes: Vec<bool>,
+    virts: Vec<bool>,
+}
+
+/// By virtual node whether a step touches its node or its class.
+fn touched_virts(
+    alloc: Global,
+    wiring: &Wiring,
+    nodes: &[bool],
+    last: &Mapping,
+    next: &Mapping,
+) -> Result<Vec<bool>, Memory>
+    requires last { length last.now.places ≡ length wiring.now.nodes }
+    requires next { length next.now.places ≡ length wiring.now.nodes }
+    ensures one_each { IfOk result (λ virts. length virts.items ≡ length wiring.now.nodes) }
+    ensures untouched { IfOk result (λ virts. (v : ℕ) → slice_index_or virts.items v true ≡ false → IsUntouched wiring.now last.now next.now nodes.now v) }
+{
+    let classes = touched_classes(alloc, wiring, last, next)?;
+    let mut virts = vec![in alloc; true; wiring.nodes.len()]?;
+    for virt in 0..wiring.nodes.len() {
+        virts[virt] = is_touched(wiring, nodes, &classes, last, virt);
+    }
+    Ok(virts)
+}
+
+impl Touched {
+    /// The nodes and virtual nodes that the step from one map to another touches.
+    fn of(
+        alloc: Global,
+        moves: &Moves,
+        _rule: &StepRule,
+        last: &Mapping,
+        next: &Mapping,
+    ) -> Result<Touched, Memory>
+        requires moves { IsMoves moves.now }
+        requires last { IsNodeMap (sought_of moves.now _rule.now.number) last.now }
+        requires next { IsNodeMap (sought_of moves.now _rule.now.number) next.now }
+        ensures { IfOk result (IsTouched moves.now.setting.mapper.lab.now moves.now.setting.mapper.wiring.now last.now next.now) }
+    {
+        let nodes = touched_nodes(alloc, moves, _rule, last, next)?;
+        let virts = touched_virts(alloc, moves.setting.mapper.wiring, &nodes, last, next)?;
+        Ok(Touched { nodes, virts })
+    }
+
+    /// Whether a virtual node is touched.
+    fn has(&self, virt: usize) -> bool
+        ensures { result ≡ slice_index_or self.now.virts.items virt true }
+    {
+        is_marked_at(&self.virts, virt)
+    }
+}
+
+/// Forgets the moves that a step may have changed.
+fn follow_rows(
+    rows: &mut Vec<Row>,
+    _moves: &Moves,
+    _rule: &StepRule,
+    _last: &Mapping,
+    _next: &Mapping,
+    touched: &Touched,
+)
+    requires moves { IsMoves _moves.now }
+    requires last { IsNodeMap (sought_of _moves.now _rule.now.number) _last.now }
+    requires next { IsNodeMap (sought_of _moves.now _rule.now.number) _next.now }
+    requires touched { IsTouched _moves.now.setting.mapper.lab.now _moves.now.setting.mapper.wiring.now _last.now _next.now touched.now }
+    requires rows { AreRows (sought_of _moves.now _rule.now.number) _last.now rows.old.items }
+    ensures { AreRows (sought_of _moves.now _rule.now.number) _next.now rows.new.items }
+{
+    for virt in 0..rows.len() {
+        let all = touched.has(virt);
+        rows[virt].forget(all, &touched.nodes);
+    }
+}
+
+/// Forgets the exchanges that a step may have changed.
+fn follow_pairs(
+    pairs: &mut Vec<Pairs>,
+    _moves: &Moves,
+    _rule: &StepRule,
+    _last: &Mapping,
+    _next: &Mapping,
+    touched: &Touched,
+)
+    requires moves { IsMoves _moves.now }
+    requires last { IsNodeMap (sought_of _moves.now _rule.now.number) _last.now }
+    requires next { IsNodeMap (sought_of _moves.now _rule.now.number) _next.now }
+    requires touched { IsTouched _moves.now.setting.mapper.lab.now _moves.now.setting.mapper.wiring.now _last.now _next.now touched.now }
+    requires pairs { ArePairs (sought_of _moves.now _rule.now.number) _last.now pairs.old.items }
+    ensures { ArePairs (sought_of _moves.now _rule.now.number) _next.now pairs.new.items }
+{
+    for virt in 0..pairs.len() {
+        let all = touched.has(virt);
+        pairs[virt].forget(all, &touched.virts);
+    }
+}
+
+/// By virtual node what is known of its moves, and of its exchanges with later ones.
 #[derive(Drop)]
 pub(crate) struct Known {
     pub(crate) rows: Vec<Row>,
+    pub(crate) pairs: Vec<Pairs>,
+}
+
+/// No move is known.
+fn fresh_rows(
+    alloc: Global,
+    moves: &Moves,
+    _rule: &StepRule,
+    _start: &Mapping,
+) -> Result<Vec<Row>, Memory>
+    requires { IsMoves moves.now }
+    ensures { IfOk result (λ rows. AreRows (sought_of moves.now _rule.now.number) _start.now rows.items) }
+{
+    let mut rows = Vec::new(alloc);
+    for virt in 0..moves.candidates.len() {
+        let row = Row::of(alloc, moves.candidates.of(virt))?;
+        rows.push(row)?;
+    }
+    Ok(rows)
+}
+
+/// No exchange is known.
+fn fresh_pairs(
+    alloc: Global,
+    moves: &Moves,
+    _rule: &StepRule,
+    _start: &Mapping,
+) -> Result<Vec<Pairs>, Memory>
+    requires { IsMoves moves.now }
+    ensures { IfOk result (λ pairs. ArePairs (sought_of moves.now _rule.now.number) _start.now pairs.items) }
+{
+    let count = moves.candidates.len();
+    let mut pairs = Vec::new(alloc);
+    for _virt in 0..count {
+        let fresh = Pairs::of(alloc, count)?;
+        pairs.push(fresh)?;
+    }
+    Ok(pairs)
 }
 
 impl Known {
@@ -128,18 +267,15 @@ impl Known {
     pub(crate) fn of(
         alloc: Global,
         moves: &Moves,
-        _rule: &StepRule,
-        _start: &Mapping,
+        rule: &StepRule,
+        start: &Mapping,
     ) -> Result<Known, Memory>
         requires { IsMoves moves.now }
-        ensures { IfOk result (λ known. AreRows (sought_of moves.now _rule.now.number) _start.now known.rows.items) }
+        ensures { IfOk result (λ known. IsKnown (sought_of moves.now rule.now.number) start.now known) }
     {
-        let mut rows = Vec::new(alloc);
-        for virt in 0..moves.candidates.len() {
-            let row = Row::of(alloc, moves.candidates.of(virt))?;
-            rows.push(row)?;
-        }
-        Ok(Known { rows })
+        let rows = fresh_rows(alloc, moves, rule, start)?;
+        let pairs = fresh_pairs(alloc, moves, rule, start)?;
+        Ok(Known { rows, pairs })
     }
 
     /// Forgets what a step from one map to another may have changed.
@@ -147,23 +283,19 @@ impl Known {
         &mut self,
         alloc: Global,
         moves: &Moves,
-        _rule: &StepRule,
+        rule: &StepRule,
         last: &Mapping,
         next: &Mapping,
     ) -> Result<(), Memory>
         requires moves { IsMoves moves.now }
-        requires last { IsNodeMap (sought_of moves.now _rule.now.number) last.now }
-        requires next { IsNodeMap (sought_of moves.now _rule.now.number) next.now }
-        requires rows { AreRows (sought_of moves.now _rule.now.number) last.now self.old.rows.items }
-        ensures { OnOk result (AreRows (sought_of moves.now _rule.now.number) next.now self.new.rows.items) }
+        requires last { IsNodeMap (sought_of moves.now rule.now.number) last.now }
+        requires next { IsNodeMap (sought_of moves.now rule.now.number) next.now }
+        requires known { IsKnown (sought_of moves.now rule.now.number) last.now self.old }
+        ensures { OnOk result (IsKnown (sought_of moves.now rule.now.number) next.now self.new) }
     {
-        let wiring = moves.setting.mapper.wiring;
-        let nodes = touched_nodes(alloc, moves, _rule, last, next)?;
-        let classes = touched_classes(alloc, wiring, last, next)?;
-        for virt in 0..self.rows.len() {
-            let all = is_touched(wiring, &nodes, &classes, last, virt);
-            self.rows[virt].forget(all, &nodes);
-        }
+        let touched = Touched::of(alloc, moves, rule, last, next)?;
+        follow_rows(&mut self.rows, moves, rule, last, next, &touched);
+        follow_pairs(&mut self.pairs, moves, rule, last, next, &touched);
         Ok(())
     }
 }

@@ -4,6 +4,7 @@
 mod descent;
 mod known;
 mod moves;
+mod pairs;
 mod prepared;
 mod search;
 mod step;

@@ -9,7 +9,7 @@ ghost use Rattle.map_board.specs.Boards.{IsLaid, IsPlanned, Was};
 ghost use Rattle.map_board.specs.Seated.{placed_at};
 ghost use Rattle.map_anneal.specs.Sought.{choices, candidates_at, moved, exchanged, price, IsNodeMap};
 ghost use Rattle.map_anneal.specs.Walk.{named};
-ghost use Rattle.map_anneal.specs.Weighed.{IsNoLess};
+ghost use Rattle.map_anneal.specs.Weighed.{IsNoLess, swapped};
 ghost use Rattle.map_anneal.specs.Searches.{sought_of, IsMoves, IsTried};
 
 use crate::search::place_of;
@@ -240,6 +240,7 @@ impl Tried {
         ensures mapping { self.new.board.mapping ≡ placed_at (placed_at self.old.board.mapping first (place_at self.old.board.mapping second)) second (place_at self.old.board.mapping first) }
         ensures back { self.new.board.back.items ≡ self.old.board.back.items }
         ensures cost { self.new.cost ≡ self.old.cost }
+        ensures weighed { self.new.weighed ≡ self.old.weighed }
     {
         let setting = moves.setting;
         let one = place_of(self.board.mapping.places.as_slice(), first);
@@ -270,6 +271,7 @@ impl Tried {
         ensures same { IfOk result (λ yes. yes ≡ false → self.new.board.mapping ≡ self.old.board.mapping) }
         ensures same_cost { IfOk result (λ yes. yes ≡ false → self.new.cost ≡ self.old.cost) }
         ensures dear { IfOk result (λ yes. yes ≡ false → (m : MappingSeen) → exchanged (sought_of moves.now rule.now.number) self.old.board.mapping first second ≡ Some m → below ≤ price (sought_of moves.now rule.now.number) m) }
+        ensures weighed { IfOk result (λ yes. yes ≡ false → self.new.weighed ≡ true → IsNoLess (sought_of moves.now rule.now.number) below (swapped self.old.board.mapping first second)) }
     {
         let one = node_of(self.board.mapping.places.as_slice(), first);
         let other = node_of(self.board.mapping.places.as_slice(), second);

@@ -60,23 +60,33 @@ fn cooler(heat: u64) -> u64
 }
 
 /// Takes the next map in the place of the best one where it is cheaper.
-fn keep_cheaper(
-    alloc: Global,
-    moves: &Moves,
-    rule: &StepRule,
-    best: &mut Priced,
-    next: &Tried,
-) -> Result<(), Memory>
-    requires moves { IsMoves moves.now }
-    requires best { IsPriced (sought_of moves.now rule.now.number) best.old }
-    requires next { IsTried moves.now rule.now.number next.now }
+fn keep_cheaper(alloc: Global, best: &mut Priced, next: &Tried) -> Result<(), Memory>
     ensures { OnOk result (best.new ≡ (if nat_lt next.now.cost best.old.cost then priced_by next.now else best.old)) }
 {
     if next.cost < best.cost {
-        let taken = next.taken(alloc, moves, rule, best)?;
+        let taken = next.priced(alloc)?;
         *best = taken;
     }
     Ok(())
+}
+
+/// The map that a walk gives. Where it isn't the start, the rule's step from there tells its cost.
+fn told(moves: &Moves, rule: &StepRule, start: &Mapping, from: u64, best: Priced) -> Priced
+    requires moves { IsMoves moves.now }
+    requires start { IsNodeMap (sought_of moves.now rule.now.number) start.now }
+    requires from { from ≡ price (sought_of moves.now rule.now.number) start.now }
+    requires best { IsPriced (sought_of moves.now rule.now.number) best }
+    ensures { result ≡ best }
+{
+    if best.cost >= from {
+        return best;
+    }
+    let mapper = moves.setting.mapper;
+    let cost = rule.ask_step(mapper.lab, mapper.wiring, start, &best.mapping, from);
+    Priced {
+        mapping: best.mapping,
+        cost,
+    }
 }
 
 /// A walk: its last map, its cheapest map so far, and the generator of the words to come.
@@ -113,7 +123,7 @@ impl Walk {
         {
             return Ok(());
         }
-        keep_cheaper(alloc, moves, rule, &mut self.best, &self.last)?;
+        keep_cheaper(alloc, &mut self.best, &self.last)?;
         Ok(())
     }
 
@@ -184,7 +194,8 @@ pub fn anneal_by(
     let Walk { best, last, .. } = walk;
     drop(last);
     cooled?;
-    Ok(best.mapping)
+    let lowest = told(moves, rule, start, cost, best);
+    Ok(lowest.mapping)
 }
 
 /// The cheapest map of the walk of a start and a seed, the earliest among equals.

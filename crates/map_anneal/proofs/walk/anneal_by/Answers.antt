@@ -21,4 +21,6 @@ returns-clause-least g c =
       last = c.in_ok-last.ensures.start;
       best = subst Alone (sym (ap (λ (p : Priced). p.mapping) c.in_ok-priced.ensures ∙ c.in_ok-last.ensures.start)) (least_alone (price s) start);
     }) in
-    subst Whole (c.in_ok-last.ensures.tried.cost ∙ ap (price s) c.in_ok-last.ensures.start) kept.best
+    let done = subst Whole (c.in_ok-last.ensures.tried.cost ∙ ap (price s) c.in_ok-last.ensures.start) kept.best in
+    let Told : Priced → Type 0 = λ p. IsFirstLeast (price s) (cooled s (price s start) (price s start) (started start c.args.seed)).maps p.mapping in
+    subst Told (sym c.told-lowest.ensures) done

@@ -1,4 +1,4 @@
-use Rattle.std.proofs.Common.{◌≤◌, length, ap, arith}
+use Rattle.std.proofs.Common.{length, ap, arith}
 use Rattle.cost_rule.proofs.LimitLaws.{sound_limits}
 use Rattle.map_anneal.proofs.prepared.Prepared.of.Goals as goal
 

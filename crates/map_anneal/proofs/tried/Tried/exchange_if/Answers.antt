@@ -5,6 +5,7 @@ use Rattle.lab_model.specs.Rules.{no_place, place_at}
 use Rattle.node_maps.specs.NodeMaps.{node_map}
 use Rattle.map_anneal.specs.Sought.{choices, price}
 use Rattle.map_anneal.specs.Searches.{sought_of}
+use Rattle.map_anneal.specs.Weighed.{IsNoLess}
 use Rattle.map_anneal.proofs.Undone.{mapping_is, exchanged_at, first_after, second_after, exchanged_back, was_exchanged}
 use Rattle.map_anneal.proofs.tried.Tried.exchange_if.Goals as goal
 
@@ -122,3 +123,19 @@ returns-clause-dear g c = λ is map found.
     let other = c.node_of-other.ensures ∙ ap (λ (l : List Place). (get_or l u no_place).0.0) c.as_slice-2.ensures in
     let was = was_exchanged x c.args.self.now.board c.exchange.new.self.board.mapping v u c.node_of-one.result.0 c.node_of-other.result.0 c.requires.tried.board v_lt u_lt c.exchange.ensures.mapping one other in
     c.in_ok-settle_if.ensures.dear c.if-branch.false m.places was map (ap (λ (y : Mapping). node_map x.mapper.lab.now x.mapper.free.now x.mapper.wiring.now y.places) c.exchange.ensures.mapping ∙ found)
+
+pub returns-clause-weighed : goal.returns-clause-weighed
+returns-clause-weighed g c = λ is yes.
+    let x = c.args.moves.now.setting in
+    let s = sought_of c.args.moves.now c.args.rule.now.number in
+    let m = c.args.self.now.board.mapping in
+    let v = c.args.first in
+    let u = c.args.second in
+    let choice = c.requires.tried.board.laid.choice in
+    let u_lt : u < length m.places = omega (arith, c.requires.second, choice.one_each) in
+    let v_lt : v < length m.places = omega (arith, c.requires.ordered, u_lt) in
+    let one = c.node_of-one.ensures ∙ ap (λ (l : List Place). (get_or l v no_place).0.0) c.as_slice.ensures in
+    let other = c.node_of-other.ensures ∙ ap (λ (l : List Place). (get_or l u no_place).0.0) c.as_slice-2.ensures in
+    let was = was_exchanged x c.args.self.now.board c.exchange.new.self.board.mapping v u c.node_of-one.result.0 c.node_of-other.result.0 c.requires.tried.board v_lt u_lt c.exchange.ensures.mapping one other in
+    subst (λ (y : Mapping). IsNoLess s c.args.below y.places) c.exchange.ensures.mapping
+    (c.in_ok-settle_if.ensures.weighed c.if-branch.false (sym c.exchange-2.ensures.weighed ∙ yes) m.places was)

@@ -7,7 +7,7 @@ use Rattle.map_anneal.specs.Sought.{candidates_at}
 use Rattle.map_anneal.specs.Searches.{sought_of}
 use Rattle.map_anneal.specs.Weighed.{IsRow}
 use Rattle.map_anneal.proofs.RowLaws.{fresh_row}
-use Rattle.map_anneal.proofs.known.Known.of.Goals as goal
+use Rattle.map_anneal.proofs.known.fresh_rows.Goals as goal
 
 -- one row more
 one_pushed : (P : ℕ → List Weighed → Type 0) (rows : List (List Weighed)) (virt : ℕ) (new : List Weighed) → length rows ≡ virt → ((v : ℕ) → v < virt → P v (get_or rows v [])) → P virt new

@@ -1,7 +1,7 @@
 use Rattle.std.proofs.Common.{◌≡◌, ◌<◌, ℕ, [], length, get_or}
 use Rattle.map_anneal.specs.Searches.{sought_of}
 use Rattle.map_anneal.specs.Weighed.{IsRow}
-use Rattle.map_anneal.proofs.known.Known.of.Given as goal
+use Rattle.map_anneal.proofs.known.fresh_rows.Given as goal
 
 abbrev pub invariant-loop-virt : goal.invariant-loop-virt
 invariant-loop-virt g l = record {

@@ -1,0 +1,52 @@
+use Rattle.std.proofs.Common.{◌≡◌, ◌<◌, ◌+◌, ◌∙◌, inl, inr, ℕ, Bool, true, false, List, [], length, get_or, ap, sym, subst, arith, get_or-set_same, get_or-set_other}
+use Rattle.std.proofs.Math.ListN.{set}
+use Rattle.std.proofs.lemmas.Bool.{cases_eq}
+use Rattle.std.proofs.lemmas.List.{length-set, get_or_default}
+use Rattle.node_maps.proofs.MapLaws.{candidates_count}
+use Rattle.map_anneal.specs.declared.known.Weighed.{Weighed}
+use Rattle.map_anneal.specs.Searches.{sought_of}
+use Rattle.map_anneal.specs.Weighed.{IsRow, not_weighed}
+use Rattle.map_anneal.proofs.RowLaws.{row_after}
+use Rattle.map_anneal.proofs.known.follow_rows.Goals as goal
+
+-- one row more
+one_more : (P : ℕ → List Weighed → Type 0) (rows : List (List Weighed)) (virt : ℕ) (new : List Weighed) → virt < length rows → ((v : ℕ) → v < virt → P v (get_or rows v [])) → P virt new
+    → (v : ℕ) → v < virt + 1 → P v (get_or (set rows virt new) v [])
+one_more P rows virt new lt done here v less = elim (cases_eq v virt) [
+  | inl is ↦ subst (λ (k : ℕ). P k (get_or (set rows virt new) k [])) (sym is) (subst (P virt) (sym (get_or-set_same rows virt new [] lt)) here)
+  | inr apart ↦ subst (P v) (sym (get_or-set_other rows virt v new [] apart)) (done v (omega (arith, less, apart)))
+]
+
+pub loop-virt-preserved : goal.loop-virt-preserved
+loop-virt-preserved g c =
+    let x = c.args._moves.now.setting.mapper in
+    let s = sought_of c.args._moves.now c.args._rule.now.number in
+    let last = c.args._last.now in
+    let next = c.args._next.now in
+    let touched = c.requires.touched in
+    let v = c.loop-virt.virt in
+    let was = c.loop-virt.invariant in
+    let count = was.count in
+    let all = candidates_count x.lab.now x.free.now x.wiring.now in
+    let each = c.requires.rows.one_each in
+    let v_in : v < length x.wiring.now.nodes = omega (arith, count, each, all) in
+    let old = c.index_mut.result.now in
+    let at : old ≡ get_or c.loop-virt.rows.items v [] = c.index_mut.ensures.value ∙ get_or_default c.loop-virt.rows.items v c.index_mut.result.now [] (omega (arith, count, each, all, v_in)) in
+    let is_old : old ≡ get_or c.args.rows.now.items v [] = at ∙ was.later v (omega arith) in
+    let forgot = c.forget.ensures in
+    let row = row_after s last next v c.args.touched.now.nodes.items old c.forget.new.self
+    (record { sound = c.requires.moves.setting.mapper.sound; first = c.requires.last; second = c.requires.next })
+    v_in touched.nodes (subst (λ (r : List Weighed). IsRow s last v r) (sym is_old) (c.requires.rows.each v (omega (arith, v_in, all))))
+    (record {
+      count = forgot.one_each;
+      node = λ k lt. ap (λ n. n.0) (forgot.nodes k lt);
+      known = λ k lt yes. forgot.known k lt yes;
+      taken = λ k lt yes. subst (λ (l : List Bool). get_or l (get_or old k not_weighed).node.0 true ≡ false) c.deref.ensures.value (forgot.unmarked k lt yes);
+      here = λ k lt yes. (touched.virts v (sym c.has-all.ensures ∙ forgot.some k lt yes)).here;
+      class = λ k lt yes. (touched.virts v (sym c.has-all.ensures ∙ forgot.some k lt yes)).class;
+    }) in
+    record {
+      count = length-set c.loop-virt.rows.items v c.forget.new.self ∙ count;
+      done = one_more (λ k r. IsRow s next k r) c.loop-virt.rows.items v c.forget.new.self (omega (arith, count, each, all, v_in)) was.done row;
+      later = λ k le. get_or-set_other c.loop-virt.rows.items v k c.forget.new.self [] (λ e. absurd (omega (arith, e, le))) ∙ was.later k (omega (arith, le));
+    }
