@@ -13,8 +13,11 @@ _lab() {
     elif [[ -z $command && $word == -* ]]; then
         mapfile -t COMPREPLY < <(compgen -W '-d -m -n -v --help' -- "$word")
     elif [[ -z $command ]]; then
-        mapfile -t COMPREPLY < <(compgen -W 'set create solve in modify play out delete show status recover map dump run' -- "$word")
-    elif [[ $command == @(set|run) ]] || { ((COMP_CWORD > k + 1)) && [[ $command == @(create|in|modify|play) ]]; }; then
+        # (the commands as the help has them)
+        mapfile -t COMPREPLY < <(compgen -W "$("${COMP_WORDS[0]}" --help | sed -n 's/^  \([a-z]*\) .*/\1/p' | sort -u)" -- "$word")
+    elif [[ $word == -* ]]; then
+        mapfile -t COMPREPLY < <(compgen -W "$("${COMP_WORDS[0]}" --help | sed -n "s/^  $command \[\(--[^]]*\)\].*/\1/p" | tr -d '|')" -- "$word")
+    elif [[ $command == @(set|check|run) ]] || ((COMP_CWORD > k + 1)); then
         mapfile -t COMPREPLY < <(compgen -f -- "$word")
     fi
 }
