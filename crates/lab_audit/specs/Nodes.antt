@@ -1,4 +1,4 @@
--- What a node holds, beside what is wanted of it.
+-- The row and the pipes of a node, beside those that are wanted of it.
 use Rattle.std.specs.Prelude.{ℕ, suc, Bool, true, false, ◌&&◌, ◌==◌, List, [], ◌∷◌, slice_get, Option, Some, None, if◌then◌else◌}
 use Rattle.std.specs.List.{find}
 use Rattle.std.specs.Str.{bytes_eq}

@@ -1,4 +1,4 @@
-// What differs on the switches of a lab.
+// The lines of the switches of a lab.
 ghost use Rattle.std.specs.Prelude.{◌≡◌, ◌++◌, List, IfOk, OnOk, IfSome};
 ghost use Rattle.phys_lab.specs.Labs.{Lab as AnyLab};
 ghost use Rattle.virt_topo.specs.declared.experiment.Experiment.{Experiment as AnyExperiment};

@@ -1,4 +1,4 @@
--- What is judged of a link event is what is judged of `modify-with`, by the texts of what it leaves.
+-- A link event is judged as `modify-with` by the texts of what it leaves.
 use Rattle.std.proofs.Common.{◌≡◌, ℕ, Bool, true, false, List, [], length, Some, Result, Ok, Err, refl, sym, ap, ◌∙◌, subst, arith}
 use Rattle.std.specs.Prelude.{if◌then◌else◌}
 use Rattle.std.proofs.lemmas.Bool.{and_parts}

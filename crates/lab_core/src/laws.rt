@@ -137,8 +137,7 @@ pub fn searches()
         → (a ≡ b) ⊎ AreLocal a b }
 {}
 
-/// What is judged of a link event is what is judged of `modify-with` by two texts: the canonical one of the wiring that the event leaves, and that of
-/// the present mapping. So it is undone as a change is. The one refusal beside is that the link lacks the shape that it has in its text.
+/// A link event is judged as `modify-with` by two texts: the canonical one of the wiring that the event leaves, and that of the present mapping. So it is undone as a change is. The one refusal beside is that the link lacks the shape that it has in its text.
 pub fn link_events()
     ensures { EventsAreChanges }
 {}

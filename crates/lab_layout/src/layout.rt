@@ -31,7 +31,7 @@ pub(crate) fn head_high(wide: Px) -> Px {
     HEAD * head_scale(wide) / 10
 }
 
-/// What hangs on a card, from top to bottom.
+/// The parts that hang on a card, from top to bottom.
 #[derive(Clone, Copy, PartialEq, Eq)]
 pub(crate) enum Slot {
     Child(usize),
@@ -65,7 +65,7 @@ pub(crate) struct Layout {
     pub(crate) lone_columns: usize,
 }
 
-/// What a layout is made of.
+/// The parts of a layout.
 #[derive(Clone, Copy)]
 pub(crate) struct Plan<'a> {
     pub(crate) view: &'a View,

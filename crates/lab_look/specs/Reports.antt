@@ -1,4 +1,4 @@
--- What the sides of a journal hold, and whether that shows damage.
+-- The sides of a journal record by record, and whether they show damage.
 use Rattle.std.specs.Prelude.{◌≡◌, ◌<◌, ℕ, Bool, true, false, ◌&&◌, ◌||◌, not, nat_lt, List, length, Option, Some, None}
 use Rattle.plant.specs.declared.step.Side.{Side}
 use Rattle.plant.specs.Sides.{of_side}

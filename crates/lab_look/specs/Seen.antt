@@ -1,4 +1,4 @@
--- What is seen of a lab with its experiments, and its text.
+-- The view of a lab with its experiments, and its text.
 use Rattle.std.specs.Prelude.{ℕ, ◌+◌, List, ◌++◌, length, map, sum_by, codes, Option, Some, None}
 use Rattle.std.specs.List.{range_with_len}
 use Rattle.phys_lab.specs.Labs.{Lab}

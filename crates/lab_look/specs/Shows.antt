@@ -1,4 +1,4 @@
--- What is shown of two sides.
+-- The text or picture of two sides.
 use Rattle.std.specs.Prelude.{◌≡◌, ◌⊎◌, ℕ, List, codes}
 use Rattle.plant.specs.declared.step.Side.{Side}
 use Rattle.journal_model.specs.Journals.{head, live, New, Bad}

@@ -11,7 +11,7 @@ use lab_state::{LabState, ReplayFault};
 use plant::Side;
 use std::alloc::Global;
 
-/// What a look at two sides finds.
+/// The finding of a look at two sides.
 #[derive(Drop)]
 pub enum Looked {
     /// Both are blank.
@@ -47,7 +47,7 @@ fn followed(alloc: Global, a: &[u8], b: &[u8], side: Side, walked: Walked) -> Re
     }
 }
 
-/// What a look at two sides finds.
+/// The finding of a look at two sides.
 pub fn look(alloc: Global, a: &[u8], b: &[u8]) -> Result<Looked, Memory>
     ensures { IfOk result (IsLook a.now b.now) }
 {

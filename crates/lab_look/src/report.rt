@@ -1,4 +1,4 @@
-// What the sides of a journal hold.
+// The sides of a journal, record by record.
 ghost use Rattle.std.specs.Prelude.{◌≡◌, IfOk};
 ghost use Rattle.lab_look.specs.Reports.{is_shut, IsShut, IsSideReport, IsStanding, IsReport};
 
@@ -9,7 +9,7 @@ use lab_sides::{FIRST, Head, Walked, behind, bytes_of, head_of, is_cut, shut_hea
 use plant::Side;
 use std::alloc::Global;
 
-/// What a side holds.
+/// A side, record by record.
 #[derive(Drop)]
 pub struct SideReport {
     /// How many bytes it has.
@@ -34,7 +34,7 @@ pub enum Standing {
     Wrong(Side, u64, Walked),
 }
 
-/// What both sides hold.
+/// Both sides, record by record.
 #[derive(Drop)]
 pub struct Report {
     pub a: SideReport,
@@ -95,7 +95,7 @@ fn standing_of(alloc: Global, a: &[u8], b: &[u8]) -> Result<Standing, Memory>
     }
 }
 
-/// What both sides hold.
+/// Both sides, record by record.
 pub fn report_of(alloc: Global, a: &[u8], b: &[u8]) -> Result<Report, Memory>
     ensures { IfOk result (IsReport a.now b.now) }
 {

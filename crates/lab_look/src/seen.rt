@@ -1,4 +1,4 @@
-// What is seen of a lab with its experiments.
+// The view of a lab with its experiments.
 ghost use Rattle.std.specs.Prelude.{◌≡◌, ◌≤◌, ◌<◌, ◌+◌, length, IfOk, map, Some};
 ghost use Rattle.std.specs.List.{range_with_len};
 ghost use Rattle.lab_model.specs.Beside.{ids_of};
@@ -91,7 +91,7 @@ fn owners_of(alloc: Global, state: &LabState, lab: &Lab) -> Result<Items<Option<
     Ok(owners)
 }
 
-/// What is seen of a lab with its experiments and their claims.
+/// The view of a lab with its experiments and their claims.
 pub fn view_of(alloc: Global, state: &LabState, lab: &Lab, claims: &Claims) -> Result<View, Memory>
     requires lab { state.now.state.lab ≡ Some lab.now }
     requires sane { Sane state.now.state }

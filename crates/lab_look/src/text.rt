@@ -30,7 +30,7 @@ pub fn text_of(alloc: Global, state: &LabState) -> Result<Text, Memory>
     Ok(text)
 }
 
-/// What is shown of two sides.
+/// The text or picture of two sides.
 #[derive(Drop)]
 pub enum Shown {
     Text(Text),

@@ -1,4 +1,4 @@
-// What a check tells of both sides.
+// The lines that a check tells of both sides.
 ghost use Rattle.std.specs.Prelude.{◌≡◌, ◌++◌, ◌∷◌, [], nat_lt, length, codes, decimal, IfOk, OnOk};
 ghost use Rattle.lab_look.specs.Reports.{is_headed, has_some, has_more, is_side_damaged, is_standing_damaged, is_damaged};
 ghost use Rattle.lab_look.specs.Told.{stands_on, no_journal, epoch_words, changed_words, behind_words, side_word, way_word, kind_words, record_line, record_lines, damage, head_words, cut_line, side_lines, shut_records, shut_words, shut_lines, behind_lines, rows_line, stands_lines, closed_words, gate_line, on_lines, standing_lines, verdict_of, told_text, IsChecked};
@@ -10,7 +10,7 @@ use lab_sides::{Head, Walked};
 use plant::Side;
 use std::alloc::Global;
 
-/// What a check tells, and whether that is damage.
+/// The lines of a check, and whether they tell damage.
 #[derive(Drop)]
 pub struct Told {
     pub text: Text,

@@ -1,4 +1,4 @@
-// What every picture begins with.
+// The beginning of every picture.
 
 /// How each kind of thing is drawn.
 pub const STYLE: &[u8] = b"<style>

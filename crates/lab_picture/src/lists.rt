@@ -218,7 +218,7 @@ pub(crate) fn push_plural(
     }
 }
 
-/// What an experiment claims: `in, 2 machines, 1 id`.
+/// The claims of an experiment: `in, 2 machines, 1 id`.
 #[tactic(auto, unfolding(crate::specs::Lists::claim_words))]
 fn claim_words(alloc: Global, exp: &Exp) -> Result<Text, Memory>
     ensures { IfOk result (λ text. text ≡ claim_words exp.now) }

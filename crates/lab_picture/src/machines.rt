@@ -140,7 +140,7 @@ fn push_holder(text: &mut Text, view: &View, seat: &Option<Seat>) -> Result<(), 
     }
 }
 
-/// What a pointer over a machine tells.
+/// The words that a pointer over a machine shows.
 #[tactic(auto, unfolding(crate::specs::Machines::tip))]
 fn push_tip(text: &mut Text, view: &View, machine: &Machine) -> Result<(), Memory>
     ensures { OnOk result (text.new ≡ text.old ++ tip view.now machine.now) }

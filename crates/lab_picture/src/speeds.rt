@@ -104,7 +104,7 @@ fn push_used(text: &mut Text, trunk: &Trunk) -> Result<(), Memory>
     text.push_bytes(b"%")
 }
 
-/// What is claimed of a trunk: `1.5G of 2G, 75%`, or `2G, unused`.
+/// The claimed part of a trunk: `1.5G of 2G, 75%`, or `2G, unused`.
 #[tactic(auto, unfolding(crate::specs::Trunks::use_words))]
 pub(crate) fn push_use(text: &mut Text, trunk: &Trunk) -> Result<(), Memory>
     ensures { OnOk result (text.new ≡ text.old ++ use_words trunk.now) }

@@ -1,4 +1,4 @@
--- What an experiment claims of a lab.
+-- The claims of an experiment on a lab.
 use Rattle.std.specs.Prelude.{ℕ, ◌==◌, ◌++◌, Bool, true, false, not, List, [], ◌∷◌, length, count_by, map, filter, flat_map, slice_get, Option, Some, None, if◌then◌else◌}
 use Rattle.std.specs.List.{list_any, range_with_len}
 use Rattle.std.specs.Str.{bytes_eq}

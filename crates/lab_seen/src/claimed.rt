@@ -1,4 +1,4 @@
-// What an experiment claims, and how.
+// The claims of an experiment.
 ghost use Rattle.std.specs.Prelude.{◌≡◌, ◌==◌, map};
 ghost use Rattle.std.specs.List.{list_any};
 ghost use Rattle.std.specs.Str.{bytes_eq};

@@ -1,4 +1,4 @@
-//! What experiments claim of a lab, as a look tells it: machine by machine, VLAN id by VLAN id, and in numbers.
+//! The claims of experiments on a lab, as a look tells them: machine by machine, VLAN id by VLAN id, and in numbers.
 #![tactic(auto)]
 
 mod claimed;

@@ -1,4 +1,4 @@
--- What two sides hold.
+-- The records of two sides.
 use Rattle.std.specs.Prelude.{◌≡◌, ◌<◌, ℕ, List, length, drop}
 use Rattle.plant.specs.declared.step.Side.{Side}
 use Rattle.plant.specs.Sides.{of_side}

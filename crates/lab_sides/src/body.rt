@@ -1,4 +1,4 @@
-// What stands behind a gate.
+// The bytes behind a gate.
 ghost use Rattle.std.specs.Prelude.{◌≡◌, ◌≤◌, length, take, IfOk};
 ghost use Rattle.journal_rec.specs.Payloads.{number};
 ghost use Rattle.lab_sides.specs.Walks.{IsBody};

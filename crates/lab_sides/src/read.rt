@@ -1,4 +1,4 @@
-// What two sides hold.
+// The records of two sides.
 ghost use Rattle.std.specs.Prelude.{◌≡◌, ◌≤◌, length, IfOk};
 ghost use Rattle.plant.specs.Sides.{of_side};
 ghost use Rattle.journal_model.specs.Journals.{head, live, On};
@@ -12,7 +12,7 @@ use lab_base::{Items, Memory};
 use plant::Side;
 use std::alloc::Global;
 
-/// What two sides hold.
+/// The records of two sides.
 #[derive(Drop)]
 pub enum Read {
     /// Both are blank.
@@ -61,7 +61,7 @@ fn read_side(alloc: Global, side: Side, a: &[u8], b: &[u8]) -> Result<Read, Memo
     }
 }
 
-/// What two sides hold.
+/// The records of two sides.
 #[tactic(auto, using(crate::proofs::Placing::live_sides))]
 pub fn read_sides(alloc: Global, a: &[u8], b: &[u8]) -> Result<Read, Memory>
     ensures { IfOk result (IsRead a.now b.now) }

@@ -29,7 +29,6 @@ use Rattle.lab_core.specs.Commands.{LabStep, is_about}
 use Rattle.lab_core.specs.Sessions.{OpenSwap, Session, Closed, Open, Setting, After, is_among, name_in, names_of, open_at, Terms}
 use Rattle.lab_core.specs.Tells.{IsTurn, IsTurnOf, SendsOne, busy_of, is_stopped, opens_of, settles}
 use Rattle.lab_core.proofs.OpenLaws.{Leaves, names_differ, others_as_they_were, they_are_few}
-
 use Rattle.lab_core.proofs.ListSteps.{about_not, all_leave}
 use Rattle.lab_core.proofs.OtherWorlds.{others_spared, turn_or_refused}
 use Rattle.lab_core.proofs.SameSwaps.{same_swap}

@@ -1,4 +1,4 @@
-// What of a lab is free.
+// The free part of a lab.
 ghost use Rattle.std.specs.Prelude.{◌≡◌, find};
 ghost use Rattle.lab_view.specs.Views.{times, is_most, home_of, is_under, is_lone, is_unheld, is_free_under, is_held_by, free_machines, count_under, free_under, free_ids};
 

@@ -1,4 +1,4 @@
-// What is seen of a lab.
+// The view of a lab.
 use lab_base::{Items, Name};
 
 /// How an experiment holds a machine.
@@ -63,7 +63,7 @@ pub struct Exp {
     pub ids: u16,
 }
 
-/// What is seen of a lab.
+/// The view of a lab.
 #[derive(Drop)]
 pub struct View {
     pub switches: Items<Name>,

@@ -5,8 +5,8 @@ mod words;
 
 use crate::words::{Asked, WordsFault, read_words};
 use lab_base::{Memory, Text};
-use lab_io::{StdSink, write_all};
 use lab_drawn::picture_in;
+use lab_io::{StdSink, write_all};
 use lab_look::{Shown, Told, check, text_in};
 use plant::Side;
 use std::process::ExitCode;

@@ -3,7 +3,7 @@ use clap::error::ErrorKind;
 use clap::{Arg, ArgAction, ArgMatches, Command, Error};
 use std::alloc::Global;
 
-/// What is asked of a folder.
+/// A question about a folder.
 #[derive(Clone, Copy)]
 pub struct Asked<'a> {
     pub dir: &'a str,
@@ -37,7 +37,7 @@ fn matches<'a>(alloc: Global, words: &'a [String]) -> Result<ArgMatches<'a>, Err
     command.try_get_matches_from(words)
 }
 
-/// What words ask for, if they are a command line.
+/// The question that words ask, if they are a command line.
 pub fn read_words<'a>(alloc: Global, words: &'a [String]) -> Result<Asked<'a>, WordsFault> {
     let matches = match matches(alloc, words) {
         Ok(matches) => matches,

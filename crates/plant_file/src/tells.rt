@@ -1,4 +1,4 @@
-// What the tables tell of the devices, row by row and pipe by pipe.
+// The answers of the tables on devices, row by row and pipe by pipe.
 use crate::entry::{Entry, Key};
 use crate::lines_kept::Line;
 use crate::tables::Tables;
@@ -77,7 +77,7 @@ fn numbers_of(alloc: Global, lines: &[Line], node: &Name) -> Result<Vec<u16>, Me
     Ok(numbers)
 }
 
-/// What a node holds.
+/// The row of a node.
 pub(crate) fn node_of(alloc: Global, tables: &Tables, node: &Name) -> Result<NodeRow, Memory> {
     let numbers = numbers_of(alloc, tables.lines(), node)?;
     Ok(NodeRow {

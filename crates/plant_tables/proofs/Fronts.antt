@@ -156,16 +156,20 @@ module _ {X : Type 0} (before : X → X → Type 0) (order : IsOrder before) whe
   nth_of so [] nth l = ([], l, omega arith)
   nth_of so (x ∷ xs) zero l = (
     (l.exact x).0 (inl refl),
-    ([], record {
-      rising = tt;
-      exact = λ y. (
-        (λ h. absurd h),
-        (λ s. elim ((l.exact y).1 s.0) [
-          | inl e ↦ absurd (order.never y (subst (λ v. before y v) e s.1))
-          | inr h ↦ absurd (order.never x (order.on x y x (l.rising.0 y h) s.1))
-        ]),
-      );
-    }, refl),
+    (
+      [],
+      record {
+        rising = tt;
+        exact = λ y. (
+          (λ h. absurd h),
+          (λ s. elim ((l.exact y).1 s.0) [
+            | inl e ↦ absurd (order.never y (subst (λ v. before y v) e s.1))
+            | inr h ↦ absurd (order.never x (order.on x y x (l.rising.0 y h) s.1))
+          ]),
+        );
+      },
+      refl,
+    ),
   )
   nth_of so (x ∷ xs) (suc nth) l = by (slice_get xs nth) (nth_of (λ y. so y × before x y) xs nth (behind so x xs l))
     where

@@ -69,8 +69,8 @@ pub all_entries : (xs : List (ℕ × ℕ)) → Apart IsBefore xs → ((e : ℕ �
 unfolding Fits
 all_entries xs rises fits many e fit =
     let has : Has (map code xs) (code e) =
-        all_numbers 4294967296 (map code xs) (codes_rise xs rises fits)
-          (λ k h. let f = Has-map code xs k h in subst (λ v. v < 4294967296) f.2 (code_small f.0 (fits f.0 f.1)))
-          (omega (arith, size xs, many)) (code e) (code_small e fit) in
+    all_numbers 4294967296 (map code xs) (codes_rise xs rises fits)
+    (λ k h. let f = Has-map code xs k h in subst (λ v. v < 4294967296) f.2 (code_small f.0 (fits f.0 f.1)))
+    (omega (arith, size xs, many)) (code e) (code_small e fit) in
     let f = Has-map code xs (code e) has in
     subst (λ v. Has xs v) (code_one f.0 e (fits f.0 f.1) fit f.2) f.1
