@@ -42,7 +42,7 @@ use Rattle.script_text.specs.declared.reply.StatusLine.{StatusLine}
 use Rattle.script_text.specs.declared.reply.TagLine.{TagLine}
 use Rattle.script_text.specs.declared.reply.Placed.{Placed}
 use Rattle.script_text.specs.declared.reply.Reply.{Reply}
-use Rattle.script_text.specs.declared.reply.Reply.TheVariants.{Lab as LabReply, Created, Shown, Deleted, Listed, NoLab, LabIsSet, Exists, Unknown, IsIn, IsOut, IsMoving, Busy, NotOpen, Infeasible, NoneFits, GaveUp, Least, Local, Bad, BadPtop, FullExperiments, FullSwaps, Audit as AuditReply}
+use Rattle.script_text.specs.declared.reply.Reply.TheVariants.{Lab as LabReply, Created, Shown, Deleted, Listed, NoLab, LabIsSet, Exists, Unknown, IsIn, IsOut, IsMoving, Busy, NotOpen, Infeasible, NoneFits, GaveUp, Least, Local, Bad, BadPtop, FullExperiments, FullSwaps}
 use Rattle.lab_core.specs.Counts.{nodes_claimed, ids_claimed, nodes_free, ids_free, least_tags}
 
 -- THE REFUSALS: each check gives a value, or the reply that refuses the command
@@ -317,12 +317,6 @@ judged_recover s = do
   lab ← need_lab s.lab
   Ok Recover
 
--- no line: devices are not compared yet, and no script asks for it
-abbrev pub judged_audit : LabState → Result Task Reply
-judged_audit s = do
-  lab ← need_lab s.lab
-  Ok (Tell (AuditReply []))
-
 -- the refusal, or the task, is this one
 abbrev pub Is : Result Task Reply → Result Task Reply → Type 0
 Is judgement other = other ≡ judgement
@@ -432,4 +426,3 @@ Judged rule s busy count (commands.Play exp from to lines text) = λ judgement. 
 Judged rule s busy count (commands.Batch moment lines text) = λ judgement. ⊥
 Judged rule s busy count (commands.Delete exp) = Is (judged_delete s busy exp)
 Judged rule s busy count commands.Status = Is (judged_status s)
-Judged rule s busy count commands.Audit = Is (judged_audit s)

@@ -12,7 +12,7 @@ ghost use Rattle.records_model.specs.Labs.{LabState as AnyLabState};
 ghost use Rattle.script_text.specs.declared.reply.Reply.{Reply as AnyReply};
 ghost use Rattle.lab_core.specs.Commands.{is_list};
 ghost use Rattle.lab_core.specs.Controller.{has_open, has_open_for};
-ghost use Rattle.lab_core.specs.Judge.{Task as AnyTask, Judged, JudgedNetwork, in_slot, judged_audit, judged_create, judged_delete, judged_finish, judged_ptop, judged_recover, judged_show, judged_status, judged_swapout, judged_turn, judged_wiring, need_place};
+ghost use Rattle.lab_core.specs.Judge.{Task as AnyTask, Judged, JudgedNetwork, in_slot, judged_create, judged_delete, judged_finish, judged_ptop, judged_recover, judged_show, judged_status, judged_swapout, judged_turn, judged_wiring, need_place};
 ghost use Rattle.lab_core.specs.Tasks.{CanDo, Gives, IsJudged, IsMild, Refuses, IsRefusedBy};
 
 use crate::judge_change::judge_modify;
@@ -27,7 +27,7 @@ use crate::replies::{created_reply, lab_reply};
 use crate::task::{Refusal, Task};
 use crate::views::{shown, status_lines};
 use cost_rule::StepRule;
-use lab_base::{Items, Name, Text, TextRefused};
+use lab_base::{Name, Text, TextRefused};
 use lab_state::LabState;
 use ns_text::{Printed, read_and_print};
 use ptop_text::{print_ptop, read_ptop};
@@ -231,16 +231,6 @@ fn judge_recover(state: &LabState) -> Result<Task, Refusal>
     Ok(Task::Recover)
 }
 
-fn judge_audit(alloc: Global, state: &LabState) -> Result<Task, Refusal>
-    ensures judged { Gives (judged_audit state.now.state) result }
-    ensures can { IfOk result (CanDo state.now.state) }
-{
-    let _lab = need_lab(state)?;
-    Ok(Task::Tell(Reply::Audit {
-        lines: Items::new(alloc),
-    }))
-}
-
 /// The task of a command whose blocks have the lines that its words say, or why it has none. A drill has none, and
 /// neither has a list of commands. The rule is that by which searches count costs.
 pub(crate) fn judge(
@@ -311,6 +301,5 @@ pub(crate) fn judge(
         Command::Delete { exp } => judge_delete(state, swaps, *exp),
         Command::Recover => judge_recover(state),
         Command::Status => judge_status(alloc, state),
-        Command::Audit => judge_audit(alloc, state),
     }
 }
