@@ -8,7 +8,7 @@ mod Made
 mod Opening
 pub mod Holding
 mod Shutting
-mod CompactSteps
+pub mod CompactSteps
 mod CompactImages
 mod CompactMoments
 mod Leaving

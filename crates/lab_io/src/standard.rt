@@ -1,4 +1,6 @@
-// // Standard input and output, which tell no bytes.
+// Standard input and output, which tell no bytes.
+ghost use Rattle.std.specs.Prelude.{◌≡◌};
+
 use crate::outside::{Failed, Sink, Source};
 use std::io::Read;
 
@@ -11,7 +13,9 @@ pub struct StdSource<R: Input> {
 
 impl<R: Input> StdSource<R> {
     /// The standard input of a runtime.
-    pub fn new(rt: &R) -> StdSource<R> {
+    pub fn new(rt: &R) -> StdSource<R>
+        ensures faults { result.faults ≡ 0 }
+    {
         StdSource {
             reader: rt.reader(),
             faults: 0,
@@ -46,7 +50,9 @@ pub struct StdSink<'a, R: Print> {
 
 impl<'a, R: Print> StdSink<'a, R> {
     /// The standard output of a runtime.
-    pub fn new(rt: &'a R) -> StdSink<'a, R> {
+    pub fn new(rt: &'a R) -> StdSink<'a, R>
+        ensures faults { result.faults ≡ 0 }
+    {
         StdSink { rt, faults: 0 }
     }
 }
