@@ -39,7 +39,7 @@ silent_by terms (Some drill) planned reply by = silent_planned terms.takes plann
 silent_finds : (drill : Option Drill) (trace : List Event) (command : Command) (mark : Faults) (from to : Session) (opening own : List Event) (reply : Option Reply) → Finds drill from trace (piece_of command mark from to opening own reply)
     → Finds drill from trace (piece_of command mark from Closed opening own None)
 silent_finds (Some drill) trace command mark from to opening own reply finds = (finds.0, finds.1, λ some. absurd (cc some))
-silent_finds None trace command mark Closed to opening own reply (quiet, opened no_miss no_restart journal) = (quiet, opened no_miss no_restart journal)
+silent_finds None trace command mark Closed to opening own reply (quiet, opened no_miss no_restart journal led) = (quiet, opened no_miss no_restart journal led)
 silent_finds None trace command mark Closed to opening own reply (quiet, broken_off breaks nothing closed part) = (quiet, broken_off (unanswered refl) nothing refl part)
 silent_finds None trace command mark (Open opens) to opening own reply finds = finds
 
@@ -62,7 +62,6 @@ silent_made terms command old new from to told made =
           shuts = λ none shut. refl;
           steps = λ none some. absurd (cc some);
           leads = λ none open_now. absurd (cc open_now);
-          compact = λ opens. absurd (cc opens.answered);
           done = λ sound. silent_done terms t.trace command mark from to b.opening b.own reply is.readable (is.done sound);
         }) b.is_piece;
       };

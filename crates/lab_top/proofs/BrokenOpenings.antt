@@ -34,7 +34,7 @@ use Rattle.lab_core.proofs.Openings.{blank_journal}
 use Rattle.lab_state.proofs.Canonical.{texts_once}
 use Rattle.lab_core.specs.Recovery.{OpensInPart, SettlesSome, Shifts, reading as in_reading, settling as in_settling, shifting as in_shifting, some as settled_some, within}
 use Rattle.lab_core.specs.Sessions.{Closed, Terms}
-use Rattle.lab_top.specs.Pieces.{Finds, FirstLab, IsDone, IsPiece, Piece, StepsFrom, broken_off, is_early, leaves_one, may_shut}
+use Rattle.lab_top.specs.Pieces.{Finds, FirstLab, HasCome, IsDone, IsDue, IsPiece, MovesDue, Piece, StepsFrom, WritesInPart, broken_off, is_early, leaves_one, may_shut}
 use Rattle.lab_top.specs.Answering.{piece_of}
 use Rattle.lab_top.proofs.Stepping.{AsRead, ImagesAt, after_of, done_at, has_started, lab_length, late_enough, not_early, restarted_lab, step_of, still_synced, told_so}
 
@@ -121,7 +121,7 @@ module _ (terms : Terms) (trace : List Event) (command : Command) (mark : Faults
 
   -- how far it came from a lab that the sides stood for
   abbrev ComesSoFar : List Event → Type 0
-  ComesSoFar opening = (s : LabState) → IsLabAt trace s → (after : LabState) × OpensInPart s opening after
+  ComesSoFar opening = (s : LabState) → IsLabAt trace s → HasCome trace opening s
 
   broken_piece : (opening : List Event) (reply : Option Reply) → AsRead trace → Breaks opening reply → OnlyOfJournal opening → ComesSoFar opening → Done opening reply → IsPiece terms trace (of opening reply)
   broken_piece opening reply readable breaks journal part done = record {
@@ -131,7 +131,6 @@ module _ (terms : Terms) (trace : List Event) (command : Command) (mark : Faults
     shuts = λ none shut. breaks_as may_shut true refl refl refl opening reply breaks;
     steps = λ none some miss restart. breaks_not opening reply breaks miss restart some;
     leads = λ none open_now. absurd (cc open_now);
-    compact = λ opens. breaks_not opening reply breaks opens.no_miss opens.no_restart opens.answered;
     done = done;
   }
 
@@ -142,7 +141,7 @@ module _ (terms : Terms) (trace : List Event) (command : Command) (mark : Faults
 
     -- a call of the disk failed, memory was wanting, or the sides are no journal
     read_cut : (reply : Option Reply) → leaves_one Closed reply ≡ false → Breaks steps reply → IsPiece terms trace (of steps reply)
-    read_cut reply other breaks = broken_piece steps reply readable breaks read_quiet (λ s at. (s, in_reading o.no_command refl)) (λ sound.
+    read_cut reply other breaks = broken_piece steps reply readable breaks read_quiet (λ s at. record { after = s; part = in_reading o.no_command refl; writes = o.changes }) (λ sound.
         let now = sound_stands the_texts trace _ _ readable sound in
         closed_done steps reply breaks now.0 now.0 (subst (λ b. FirstLab b trace now.0) (sym (not_early Closed steps o.no_restart)) now.1) ((stood_alike the_texts _ _ _ _ now.0 o.alike).1 now.1) (in_reading o.no_command refl) (o.sound sound) other
         (λ a b at. let x = stood_before the_texts trace steps a b o.before at sound in (x.2, x.2, record { a = x.0; b = x.1; possible = x.3; stand = x.4 }, x.5, in_reading o.no_command refl)))
@@ -161,13 +160,14 @@ module _ (terms : Terms) (trace : List Event) (command : Command) (mark : Faults
       which_first sound false both = let x = stood_before the_texts trace steps a b o.before there sound in (x.2, record { a = x.0; b = x.1; possible = x.3; stand = x.4 }, x.5)
 
       read_again : IsPiece terms trace (of (steps ++ Restarted a b ∷ []) (Some replies.Stopped))
-      read_again = broken_piece (steps ++ Restarted a b ∷ []) (Some replies.Stopped) readable (again_breaks steps a b o.no_restart) (λ changed. read_quiet (sym (again_changes steps a b) ∙ changed)) (λ s at. (s, in_reading again_quiet refl)) (λ sound.
+      read_again = broken_piece (steps ++ Restarted a b ∷ []) (Some replies.Stopped) readable (again_breaks steps a b o.no_restart) (λ changed. read_quiet (sym (again_changes steps a b) ∙ changed)) (λ s at. record { after = s; part = in_reading again_quiet refl; writes = λ changed. o.changes (sym (again_changes steps a b) ∙ changed) }) (λ sound.
           let s = which_first sound (are_synced steps) refl in
           again_done steps a b o.no_restart there (o.sound sound) s.0 s.0 (subst (λ e. FirstLab e trace s.0) (sym early) s.1) s.2 (in_reading again_quiet refl))
 
   -- IT BROKE OFF BEHIND READING, in a part that led to a lab
   module _ (readable : AsRead trace) (reading behind : List Event) (o : ReadSteps trace reading) (no_restart : has_restart behind ≡ false) (sound : IsSound the_texts trace → IsSound the_texts (trace ++ (reading ++ behind)))
-      (start : LabState) (read : HasRead trace reading (2 ^ 32) start) (Part : List Event → LabState → Type 0) (part_of : (opening more : List Event) (after : LabState) → opening ≡ reading ++ more → Part more after → OpensInPart start opening after) where
+      (start : LabState) (read : HasRead trace reading (2 ^ 32) start) (Part : List Event → LabState → Type 0) (part_of : (opening more : List Event) (after : LabState) → opening ≡ reading ++ more → Part more after → OpensInPart start opening after)
+      (writes_of : (opening more : List Event) (after : LabState) (is : opening ≡ reading ++ more) (part : Part more after) → WritesInPart trace start opening after (part_of opening more after is part)) where
     abbrev steps : List Event
     steps = reading ++ behind
 
@@ -176,7 +176,8 @@ module _ (terms : Terms) (trace : List Event) (command : Command) (mark : Faults
 
     -- from whatever lab the sides stood for
     comes_so : (opening more : List Event) (lab : LabState) → opening ≡ reading ++ more → Part more lab → ComesSoFar opening
-    comes_so opening more lab is part s at = (lab, subst (λ u. OpensInPart u opening lab) (stood_once the_texts _ _ start s texts_once first_at at) (part_of opening more lab is part))
+    comes_so opening more lab is part s at =
+        subst (λ u. HasCome trace opening u) (stood_once the_texts _ _ start s texts_once first_at at) (record { after = lab; part = part_of opening more lab is part; writes = writes_of opening more lab is part })
 
     -- it stopped late enough, whatever stands behind
     from_first : (opening more : List Event) (reply : Option Reply) → opening ≡ reading ++ more → FirstLab (is_early (of opening reply)) trace start
@@ -203,20 +204,29 @@ module _ (terms : Terms) (trace : List Event) (command : Command) (mark : Faults
   abbrev Settling : LabState → List Event → LabState → Type 0
   Settling start more lab = SettlesSome start [] more lab
 
-  settling_part : (reading : List Event) (limit : ℕ) (start : LabState) → ReadSteps trace reading → HasRead trace reading limit start → (opening more : List Event) (after : LabState) → opening ≡ reading ++ more → Settling start more after → OpensInPart start opening after
+  abbrev settling_part : (reading : List Event) (limit : ℕ) (start : LabState) → ReadSteps trace reading → HasRead trace reading limit start → (opening more : List Event) (after : LabState) → opening ≡ reading ++ more → Settling start more after → OpensInPart start opening after
   settling_part reading limit start o read opening more after is settled = in_settling reading more is o.no_command read.no_miss o.no_restart settled
 
+  settling_writes : (reading : List Event) (limit : ℕ) (start : LabState) (o : ReadSteps trace reading) (read : HasRead trace reading limit start) (opening more : List Event) (after : LabState) (is : opening ≡ reading ++ more) (settled : Settling start more after)
+      → WritesInPart trace start opening after (settling_part reading limit start o read opening more after is settled)
+  settling_writes reading limit start o read opening more after is settled = o.changes
+
   -- IT BROKE OFF IN THE MOVE OF THE JOURNAL
-  record Shifting (start : LabState) (more : List Event) (lab : LabState) : Type 0 where
+  record Shifting (reading : List Event) (start : LabState) (more : List Event) (lab : LabState) : Type 0 where
     moving : List Event
     shifting : List Event
     parts : more ≡ moving ++ shifting
     outcomes : List Outcome
     settles : Settles start (swaps_of [] start.experiments) outcomes moving lab
     shifts : Shifts shifting
+    due : MovesDue trace (reading ++ moving) shifting lab
 
-  shifting_part : (reading : List Event) (limit : ℕ) (start : LabState) → ReadSteps trace reading → HasRead trace reading limit start → (opening more : List Event) (after : LabState) → opening ≡ reading ++ more → Shifting start more after → OpensInPart start opening after
+  abbrev shifting_part : (reading : List Event) (limit : ℕ) (start : LabState) → ReadSteps trace reading → HasRead trace reading limit start → (opening more : List Event) (after : LabState) → opening ≡ reading ++ more → Shifting reading start more after → OpensInPart start opening after
   shifting_part reading limit start o read opening more after is x = in_shifting reading x.moving x.shifting (is ∙ ap (λ l. reading ++ l) x.parts) o.no_command read.no_miss o.no_restart x.outcomes x.settles x.shifts
+
+  shifting_writes : (reading : List Event) (limit : ℕ) (start : LabState) (o : ReadSteps trace reading) (read : HasRead trace reading limit start) (opening more : List Event) (after : LabState) (is : opening ≡ reading ++ more) (x : Shifting reading start more after)
+      → WritesInPart trace start opening after (shifting_part reading limit start o read opening more after is x)
+  shifting_writes reading limit start o read opening more after is x = (o.changes, x.due)
 
   -- BY ITS FAULT, without a start of the plant
   module _ (reading behind : List Event) (fault : OpenFault) (o : OpenSteps trace reading behind (2 ^ 32) (Err fault)) (readable : AsRead trace) where
@@ -242,33 +252,37 @@ module _ (terms : Terms) (trace : List Event) (command : Command) (mark : Faults
 
     -- the move of the journal
     module _ (p : ShiftsInPart trace reading behind (2 ^ 32)) where
-      shifting_so : Shifting p.settled.start behind p.lab
-      shifting_so = record { moving = p.moving; shifting = p.shifting; parts = p.parts; outcomes = p.settled.outcomes; settles = p.settled.settles; shifts = p.shifts }
+      shifting_due : IsDue trace (reading ++ p.moving) p.lab
+      shifting_due = record { length = p.length; side = p.side; epoch = p.epoch; placed = p.settled.placed; to_move = p.to_move }
+
+      shifting_so : Shifting reading p.settled.start behind p.lab
+      shifting_so = record { moving = p.moving; shifting = p.shifting; parts = p.parts; outcomes = p.settled.outcomes; settles = p.settled.settles; shifts = p.shifts; due = λ changed. shifting_due }
 
       shifting_cut : (reply : Option Reply) → leaves_one Closed reply ≡ false → Breaks all reply → AsRead (trace ++ all) → IsPiece terms trace (of all reply)
       shifting_cut reply other breaks then =
           let s = p.settled in
-          part_cut readable reading behind o.reads o.no_restart o.sound s.start s.read (Shifting s.start) (shifting_part reading (2 ^ 32) s.start o.reads s.read) reply other breaks p.lab shifting_so
+          part_cut readable reading behind o.reads o.no_restart o.sound s.start s.read (Shifting reading s.start) (shifting_part reading (2 ^ 32) s.start o.reads s.read) (shifting_writes reading (2 ^ 32) s.start o.reads s.read) reply other breaks p.lab shifting_so
           (λ first. (p.lab, p.images first _ _ then, shifting_so)) (λ first a b at. (p.lab, p.images first a b at, shifting_so))
 
       shifting_again : (a b : List ℕ) → ArePossible (trace ++ all) a b → IsPiece terms trace (of (all ++ Restarted a b ∷ []) (Some replies.Stopped))
       shifting_again a b there =
           let s = p.settled in
-          let again : Shifting s.start (behind ++ Restarted a b ∷ []) p.lab = record {
+          let again : Shifting reading s.start (behind ++ Restarted a b ∷ []) p.lab = record {
             moving = p.moving;
             shifting = p.shifting ++ Restarted a b ∷ [];
             parts = ap (λ l. l ++ Restarted a b ∷ []) p.parts ∙ append_assoc p.moving p.shifting (Restarted a b ∷ []);
             outcomes = s.outcomes;
             settles = s.settles;
             shifts = shows is_command (p.shifting ++ Restarted a b ∷ []) p.shifting (Restarted a b ∷ []) false false refl p.shifts refl;
+            due = λ changed. shifting_due;
           } in
-          part_again readable reading behind o.reads o.no_restart o.sound s.start s.read (Shifting s.start) (shifting_part reading (2 ^ 32) s.start o.reads s.read) a b there p.lab again (λ first. (p.lab, p.images first a b there, again))
+          part_again readable reading behind o.reads o.no_restart o.sound s.start s.read (Shifting reading s.start) (shifting_part reading (2 ^ 32) s.start o.reads s.read) (shifting_writes reading (2 ^ 32) s.start o.reads s.read) a b there p.lab again (λ first. (p.lab, p.images first a b there, again))
 
     -- the settling, by what is left where a call of the journal failed, or the plant stopped
     module _ (outcome : Outcome) (p : SettlesInPart trace reading behind (2 ^ 32) outcome) where
       settling_cut : (reply : Option Reply) → leaves_one Closed reply ≡ false → Breaks all reply → AsRead (trace ++ all) → IsPiece terms trace (of all reply)
       settling_cut reply other breaks then =
-          part_cut readable reading behind o.reads o.no_restart o.sound p.start p.read (Settling p.start) (settling_part reading (2 ^ 32) p.start o.reads p.read) reply other breaks p.lab (within outcome behind [] (sym (append-nil behind)) p.breaks (inl refl))
+          part_cut readable reading behind o.reads o.no_restart o.sound p.start p.read (Settling p.start) (settling_part reading (2 ^ 32) p.start o.reads p.read) (settling_writes reading (2 ^ 32) p.start o.reads p.read) reply other breaks p.lab (within outcome behind [] (sym (append-nil behind)) p.breaks (inl refl))
           (λ first. each_some first _ _ then) each_some
         where
           each_some : IsSound the_texts trace → (a b : List ℕ) → ArePossible (trace ++ all) a b → (lab : LabState) × StandForLab a b lab × Settling p.start behind lab
@@ -276,7 +290,7 @@ module _ (terms : Terms) (trace : List Event) (command : Command) (mark : Faults
 
     settling_again : SettlesInPart trace reading behind (2 ^ 32) Halted → (a b : List ℕ) → ArePossible (trace ++ all) a b → IsPiece terms trace (of (all ++ Restarted a b ∷ []) (Some replies.Stopped))
     settling_again p a b there =
-        part_again readable reading behind o.reads o.no_restart o.sound p.start p.read (Settling p.start) (settling_part reading (2 ^ 32) p.start o.reads p.read) a b there p.lab (within Halted behind (Restarted a b ∷ []) refl p.breaks (inr (a, b, refl)))
+        part_again readable reading behind o.reads o.no_restart o.sound p.start p.read (Settling p.start) (settling_part reading (2 ^ 32) p.start o.reads p.read) (settling_writes reading (2 ^ 32) p.start o.reads p.read) a b there p.lab (within Halted behind (Restarted a b ∷ []) refl p.breaks (inr (a, b, refl)))
         (λ first. let x = p.images first a b there in (x.0, x.1, within Halted behind (Restarted a b ∷ []) refl x.2 (inr (a, b, refl))))
 
     pub cut_piece : (reply : Option Reply) → leaves_one Closed reply ≡ false → Breaks all reply → (is_some reply ≡ true → fault ≡ openings.Plant) → AsRead (trace ++ all) → IsPiece terms trace (of all reply)
@@ -292,7 +306,7 @@ module _ (terms : Terms) (trace : List Event) (command : Command) (mark : Faults
         by openings.Stopped (inr (inl p)) only = settling_cut Halted p reply other breaks then
         by openings.Stopped (inr (inr p)) only = shifting_cut p reply other breaks then
         by openings.Memory (inr (inl m)) only =
-            part_cut readable reading behind o.reads o.no_restart o.sound m.start m.read (Settling m.start) (settling_part reading (2 ^ 32) m.start o.reads m.read) reply other breaks m.lab (settled_some m.some) (λ first. (m.lab, m.at, settled_some m.some))
+            part_cut readable reading behind o.reads o.no_restart o.sound m.start m.read (Settling m.start) (settling_part reading (2 ^ 32) m.start o.reads m.read) (settling_writes reading (2 ^ 32) m.start o.reads m.read) reply other breaks m.lab (settled_some m.some) (λ first. (m.lab, m.at, settled_some m.some))
             (λ first a b at. (m.lab, m.images a b at, settled_some m.some))
         by openings.Memory (inr (inr never)) only = absurd never
         by (openings.Bad side at) (inr (inl never)) only = absurd never

@@ -155,7 +155,6 @@ module _ (terms : Terms) (command : Command) (mark : Faults) (drill : Drill) (is
       shuts = λ none. no_such none;
       steps = λ none. no_such none;
       leads = λ none. no_such none;
-      compact = λ opens. no_such opens.no_drill;
       done = λ sound. replied_over terms command mark drill is reply other stays t.trace old controller from at stands there sound;
     }) (stands_over old controller from at) possible;
   }
@@ -174,7 +173,6 @@ module _ (terms : Terms) (command : Command) (mark : Faults) (drill : Drill) (is
       shuts = λ none. no_such none;
       steps = λ none. no_such none;
       leads = λ none. no_such none;
-      compact = λ opens. no_such opens.no_drill;
       done = λ sound. silent_over terms command mark drill is t.trace from there sound;
     }) possible;
   }

@@ -44,7 +44,7 @@ use Rattle.journal_runs.proofs.Stood.{stood_alike}
 use Rattle.lab_top.specs.Pieces.{Finds, FindsNone, IsPiece, IsPlannedBy, Later, WantsBehind, WantsOnly, behind as goes_behind, reading as in_reading, settling as in_settling, blames_if, blames_now_if, closes_if, is_closed, leaves_one, may_shut, opened, stays_open}
 use Rattle.lab_top.specs.Answering.{Does, DoesOwn, FoundNone, HasSession, IsMarkAt, IsOpen, Makes, MayGoOn, MayOpen, OwnTold, StandsAt, Starts, Unopened, Begins, Made, Ends, Moment, WasOpened, piece_of, reply_if}
 use Rattle.lab_top.proofs.BrokenOpenings.{again_piece, cut_piece, missed_in, started_nowhere}
-use Rattle.lab_top.proofs.Stepping.{AsRead, map_some, own_answered, own_closed, own_stopped, own_stays, own_unmade, standing_lab, was_open, is_opened}
+use Rattle.lab_top.proofs.Stepping.{AsRead, map_some, own_answered, own_closed, own_stopped, own_stays, own_unmade, standing_lab, was_open, is_opened, has_led}
 
 -- WHAT A PLANT TELLS after more steps
 
@@ -249,7 +249,6 @@ module _ (terms : Terms) (command : Command) (mark : Faults) (no_drill : drill_o
     shuts = λ none. leaves.1;
     steps = λ none some miss restart. it.steps;
     leads = λ none. it.leads;
-    compact = it.compact;
     done = it.done;
   }
 
@@ -268,7 +267,7 @@ module _ (terms : Terms) (command : Command) (mark : Faults) (no_drill : drill_o
       (map_three old (λ t o readable both.
       let w = is_opened t.trace reading moving c o both.0 limit readable in
       let it = w.opens refl in
-      open_piece t.trace Closed m.to steps m.own.0 reply (m.closed, m.shut) readable ((λ sent. o.ends.settled.read.journal), opened it.no_miss it.no_restart o.ends.settled.read.journal) (both.1 t.trace Closed steps refl w)) opens there
+      open_piece t.trace Closed m.to steps m.own.0 reply (m.closed, m.shut) readable ((λ sent. o.ends.settled.read.journal), opened it.no_miss it.no_restart o.ends.settled.read.journal (has_led t.trace reading moving c o both.0)) (both.1 t.trace Closed steps refl w)) opens there
       (carried old mid.told steps is (λ l. Stands the_texts l c.journal c.lab × DoesOwn terms l command mark c [] m.own.0 m.to reply) (map_both mid.told (λ t stands does. (stands, does)) works.stands m.own.2)))
 
 -- WHERE THE CONTROLLER COULD NOT BE OPENED, from a moment at which it is closed

@@ -104,7 +104,7 @@ abbrev NoJournal : List Event → Side → ℕ → Type 0
 NoJournal trace side at = IsNoJournal (disk A trace).reads (disk B trace).reads (2 ^ 32) side at
 
 no_reply : (trace : List Event) (piece : Piece) (side : Side) (at : ℕ) → IsOpening trace piece → has_miss piece.opening ≡ false → has_restart piece.opening ≡ false → NoJournal trace side at → piece.reply ≡ None
-no_reply trace piece side at (opened no_miss no_restart journal) miss restart missing = absurd (not_both _ _ _ side at journal missing)
+no_reply trace piece side at (opened no_miss no_restart journal led) miss restart missing = absurd (not_both _ _ _ side at journal missing)
 no_reply trace piece side at (broken_off breaks nothing shut part) miss restart missing = by piece.reply breaks
   where
     by : (reply : Option Reply) → Breaks piece.opening reply → reply ≡ None
@@ -235,7 +235,7 @@ module _ (terms : Terms) (trace : List Event) (piece : Piece) (is : IsPiece term
   from_lab miss restart s at = let x = is.steps no_drill (ap is_some replied) miss restart s at in inr (s, x.0, x.1)
 
   by_opening : IsOpening trace piece → Was
-  by_opening (opened miss restart journal) = from_lab miss restart journal.lab (record { records = journal.records; read = journal.read; lab_of = journal.lab_of })
+  by_opening (opened miss restart journal led) = from_lab miss restart journal.lab (record { records = journal.records; read = journal.read; lab_of = journal.lab_of })
   by_opening (broken_off breaks nothing shut part) = inl (subst (λ (o : Option Reply). Breaks piece.opening o) replied breaks, nothing)
 
   was_so : (is_closed piece.from ≡ false → (s : LabState) × IsLabAt trace s) → Was

@@ -6,6 +6,7 @@ use Rattle.std.proofs.lemmas.List.{append-nil}
 use Rattle.std.proofs.lemmas.List.Folds.{list_any-append}
 use Rattle.plant.specs.declared.drill.Drill.{Drill}
 use Rattle.plant.specs.declared.moment.Faults.{Faults}
+use Rattle.plant.specs.declared.step.Side.{Side}
 use Rattle.plant.specs.declared.step.Side.TheVariants.{A, B}
 use Rattle.plant.specs.Disks.{disk, ArePossible}
 use Rattle.plant.specs.Events.{Event, Restarted}
@@ -33,10 +34,11 @@ use Rattle.lab_core.specs.LabSteps.{StepOf, opened}
 use Rattle.lab_core.specs.Commands.{DoesCommand, LabStep}
 use Rattle.lab_core.specs.Moments.{StandForLab, IsLabAt, IsLabOfImage, AllStandFor, IsLengthAt}
 use Rattle.lab_core.specs.Obey.{Doing, Shuts, Start, start_of}
-use Rattle.lab_core.specs.Opening.{OpenSteps}
+use Rattle.lab_core.specs.Compaction.{IsCompacted, IsPlaced, moves, stays}
+use Rattle.lab_core.specs.Opening.{OpenSteps, has_change}
 use Rattle.lab_core.specs.Recovery.{Opens}
 use Rattle.lab_core.specs.Sessions.{OpenSwap, Session, Closed, Open, Setting, After, Terms}
-use Rattle.lab_top.specs.Pieces.{Piece, ButForReply, HasOpened, IsDone, OpensTo, StepsFrom, FirstLab, ImagesAfter, is_closed, is_early, leaves_one, steps_of}
+use Rattle.lab_top.specs.Pieces.{Piece, ButForReply, HasLed, HasOpened, IsDone, MovesDue, OpensTo, StepsFrom, FirstLab, ImagesAfter, is_closed, is_early, leaves_one, steps_of}
 use Rattle.lab_top.specs.Answering.{Does, WasOpened, piece_of}
 use Rattle.lab_top.proofs.Compact.{compact_behind, compacted_quiet}
 
@@ -225,7 +227,6 @@ module _ (terms : Terms) (mark : Faults) (before : List Event) (from : Session) 
   does_behind own to reply lab steps at done = record {
     steps = λ s there. (lab, subst (λ u. StepsFrom terms before (of own to reply) u lab) (stood_once the_texts _ _ w.start s texts_once w.first there) steps);
     leads = λ open_now. record { first = w.start; last = lab; before = first_lab; behind = at open_now; steps = steps };
-    compact = λ opens s there. (c.lab, subst (λ u. Opens u opening c.lab) (stood_once the_texts _ _ w.start s texts_once w.first there) (w.opens opens.closed), w.compact opens.closed);
     done = done;
   }
 
@@ -294,36 +295,55 @@ was_open trace c swaps stands limit = record {
   sound = λ sound. subst (λ l. IsSound the_texts l) (sym (append-nil trace)) sound;
   limit = limit;
   opens = λ closed. absurd (cc closed);
-  compact = λ closed. absurd (cc closed);
   step = λ terms set command own after no_drill done. step_of terms trace set c.lab (Open swaps) command [] own after no_drill (refl, done);
 }
 
-pub is_opened : (trace reading behind : List Event) (c : Control) → OpenSteps trace reading behind (2 ^ 32) (Ok c) → Stands the_texts (trace ++ (reading ++ behind)) c.journal c.lab → limit_of c.journal ≡ 2 ^ 32 → AsRead trace
-    → WasOpened trace Closed (reading ++ behind) c []
-is_opened trace reading behind c o stands limit readable =
-    let e = o.ends in
-    let s = e.settled in
-    let opens : Opens s.start (reading ++ behind) c.lab = record {
-      reading = reading;
-      moving = e.moving;
-      shifting = e.shifting;
-      is = ap (λ l. reading ++ l) e.parts;
-      reads = o.reads.no_command;
-      outcomes = s.outcomes;
-      settles = s.settles;
-      shifts = e.shifts;
-      no_miss = shows is_miss (reading ++ behind) reading behind false false refl s.read.no_miss (shows is_miss behind e.moving e.shifting false false e.parts (settles_show _ _ _ _ _ s.settles).miss_is (compacted_quiet e.compacts));
-      no_restart = shows is_restart (reading ++ behind) reading behind false false refl o.reads.no_restart o.no_restart;
-    } in
-    record {
-      start = s.start;
-      readable = readable;
-      first = (stood_alike the_texts _ _ _ _ s.start o.reads.alike).0 s.read.lab;
-      no_restart = opens.no_restart;
-      stands = stands;
-      sound = o.sound;
-      limit = limit;
-      opens = λ closed. opens;
-      compact = λ closed. compact_behind trace reading behind c e (standing_lab (trace ++ (reading ++ behind)) c stands);
-      step = λ terms set command own after no_drill done. step_of terms trace set s.start Closed command (reading ++ behind) own after no_drill (opened c.lab opens done);
-    }
+module _ (trace reading behind : List Event) (c : Control) (o : OpenSteps trace reading behind (2 ^ 32) (Ok c)) where
+  abbrev opens_so : Opens o.ends.settled.start (reading ++ behind) c.lab
+  opens_so =
+      let e = o.ends in
+      let s = e.settled in
+      record {
+        reading = reading;
+        moving = e.moving;
+        shifting = e.shifting;
+        is = ap (λ l. reading ++ l) e.parts;
+        reads = o.reads.no_command;
+        outcomes = s.outcomes;
+        settles = s.settles;
+        shifts = e.shifts;
+        no_miss = shows is_miss (reading ++ behind) reading behind false false refl s.read.no_miss (shows is_miss behind e.moving e.shifting false false e.parts (settles_show _ _ _ _ _ s.settles).miss_is (compacted_quiet e.compacts));
+        no_restart = shows is_restart (reading ++ behind) reading behind false false refl o.reads.no_restart o.no_restart;
+      }
+
+  opened_at : IsLabAt trace o.ends.settled.start
+  opened_at = (stood_alike the_texts _ _ _ _ o.ends.settled.start o.reads.alike).0 o.ends.settled.read.lab
+
+  -- the journal was moved where it was to move
+  due_by : {length : ℕ} {side : Side} {epoch : ℕ} → IsPlaced trace (trace ++ (reading ++ o.ends.moving)) length side epoch → IsCompacted (trace ++ (reading ++ o.ends.moving)) o.ends.shifting length side epoch c.lab
+      → MovesDue trace (reading ++ o.ends.moving) o.ends.shifting c.lab
+  due_by placed (stays not none) changed = absurd (cc (ap has_change none, changed))
+  due_by placed (moves due quiet moved) changed = record { length = _; side = _; epoch = _; placed = placed; to_move = due }
+
+  -- from whatever lab the sides stood for
+  pub has_led : Stands the_texts (trace ++ (reading ++ behind)) c.journal c.lab → (s : LabState) → IsLabAt trace s → HasLed trace (reading ++ behind) s
+  has_led stands s at = subst (λ u. HasLed trace (reading ++ behind) u) (stood_once the_texts _ _ o.ends.settled.start s texts_once opened_at at) (record {
+    mid = c.lab;
+    opens = opens_so;
+    makes = o.reads.changes;
+    moves = due_by o.ends.settled.placed o.ends.compacts;
+    compact = compact_behind trace reading behind c o.ends (standing_lab (trace ++ (reading ++ behind)) c stands);
+  })
+
+  pub is_opened : Stands the_texts (trace ++ (reading ++ behind)) c.journal c.lab → limit_of c.journal ≡ 2 ^ 32 → AsRead trace → WasOpened trace Closed (reading ++ behind) c []
+  is_opened stands limit readable = record {
+    start = o.ends.settled.start;
+    readable = readable;
+    first = opened_at;
+    no_restart = opens_so.no_restart;
+    stands = stands;
+    sound = o.sound;
+    limit = limit;
+    opens = λ closed. opens_so;
+    step = λ terms set command own after no_drill done. step_of terms trace set o.ends.settled.start Closed command (reading ++ behind) own after no_drill (opened c.lab opens_so done);
+  }

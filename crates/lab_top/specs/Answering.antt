@@ -31,7 +31,7 @@ use Rattle.lab_core.specs.Sessions.{OpenSwap, Session, Closed, Open, Setting, Af
 use Rattle.lab_core.specs.Tells.{opens_of}
 use Rattle.lab_top.specs.declared.command.CommandFault.{CommandFault}
 use Rattle.lab_top.specs.declared.command.CommandFault.TheVariants.{Memory, WriteFault, JournalBad}
-use Rattle.lab_top.specs.Pieces.{Piece, FindsNone, HasOpened, IsCompact, IsDone, IsPiece, IsPlannedBy, Leads, Later, StepsFrom, WantsBehind, WantsOnly, blames_if, blames_now_if, closes_if, is_closed, may_shut, stays_open, with_drill_if}
+use Rattle.lab_top.specs.Pieces.{Piece, FindsNone, IsDone, IsPiece, IsPlannedBy, Leads, Later, StepsFrom, WantsBehind, WantsOnly, blames_if, blames_now_if, closes_if, is_closed, may_shut, stays_open, with_drill_if}
 
 -- what is seen of the plant between two commands, and the controller where it is open
 pub record Moment : Type 0 where
@@ -75,7 +75,6 @@ pub record WasOpened (trace : List Event) (from : Session) (opening : List Event
   pub sound : IsSound the_texts trace → IsSound the_texts (trace ++ opening)
   pub limit : limit_of c.journal ≡ 2 ^ 32
   pub opens : from ≡ Closed → Opens start opening c.lab
-  pub compact : from ≡ Closed → IsCompact trace opening c.lab
   pub step : (terms : Terms) (set : Setting) (command : Command) (own : List Event) (after : After) → drill_of command ≡ None → DoesCommand terms.rule command (trace ++ opening) set swaps c.lab own after
       → LabStep terms trace set start from command opening own after
 
@@ -83,7 +82,6 @@ pub record WasOpened (trace : List Event) (from : Session) (opening : List Event
 pub record Does (terms : Terms) (trace : List Event) (piece : Piece) : Type 0 where
   pub steps : (s : LabState) → IsLabAt trace s → (after : LabState) × StepsFrom terms trace piece s after
   pub leads : is_closed piece.to ≡ false → Leads terms trace piece
-  pub compact : HasOpened piece → (s : LabState) → IsLabAt trace s → (mid : LabState) × Opens s piece.opening mid × IsCompact trace piece.opening mid
   pub done : IsSound the_texts trace → IsDone terms trace piece
 
 abbrev pub DoesOwn : Terms → List Event → Command → Faults → Control → List OpenSwap → List Event → Session → Option Reply → Type 0

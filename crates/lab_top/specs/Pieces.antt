@@ -16,6 +16,7 @@ use Rattle.plant.specs.declared.step.Side.TheVariants.{A, B}
 use Rattle.virt_topo.specs.declared.experiment.Experiment.{Experiment}
 use Rattle.virt_topo.specs.declared.experiment.Phase.{Phase}
 use Rattle.journal_model.specs.Appends.{other_side}
+use Rattle.journal_model.specs.Journals.{New, head, live}
 use Rattle.records_model.specs.Labs.{LabState, find, is_out}
 use Rattle.records_model.specs.Works.{IsSound}
 use Rattle.journal_disk.specs.Before.{are_synced}
@@ -29,10 +30,10 @@ use Rattle.script_text.specs.declared.reply.Reply.TheVariants.{Planned, NoDrill,
 use Rattle.script_text.specs.declared.reply.FailedEnd.TheVariants as ends
 use Rattle.script_text.specs.Drills.{drill_of}
 use Rattle.script_text.specs.Replies.{text_of, closes, blames_device}
-use Rattle.lab_core.specs.Recovery.{Opens, OpensInPart, Reads, SettlesFirst}
+use Rattle.lab_core.specs.Recovery.{Opens, OpensInPart, Reads, SettlesFirst, reading as in_reading, settling as in_settling, shifting as in_shifting}
 use Rattle.lab_core.specs.Commands.{LabStep, is_about}
 use Rattle.cost_rule.specs.declared.rule.RuleNumber.{RuleNumber}
-use Rattle.lab_core.specs.Compaction.{packed_length}
+use Rattle.lab_core.specs.Compaction.{IsPlaced, IsToMove, packed_length}
 use Rattle.lab_core.specs.Moments.{IsNoJournal, IsLabAt, IsLabOfImage, AllStandFor, StandForLab, IsLengthAt, IsLiveAt}
 use Rattle.lab_core.specs.Breaks.{Breaks}
 use Rattle.lab_core.specs.Opening.{IsJournal, has_change}
@@ -147,11 +148,58 @@ session_after session (b ∷ begun) = session_after b.piece.to begun
 
 -- HOW A COMMAND FINDS THE JOURNAL, over any trace
 
--- it opens the journal: no call failed or stopped, and the sides are a journal; or it breaks off, and nothing of the command's own is done, and where the
--- sides stand for a lab the opening came so far from there
+-- BEHIND AN OPENING THE JOURNAL IS COMPACT, in that lab: it is at most a mebibyte long, or more than half of it is needed without the lab's past, or its
+-- epoch is the last one. Where a side was live before the opening, the same one is so with the same epoch, or it was moved onto the other side, with
+-- the next epoch.
+pub record IsCompact (trace opening : List Event) (mid : LabState) : Type 0 where
+  pub lab : IsLabAt (trace ++ opening) mid
+  pub length : ℕ
+  pub length_is : IsLengthAt (trace ++ opening) length
+  pub side : Side
+  pub epoch : ℕ
+  pub live : IsLiveAt (trace ++ opening) side epoch
+  pub small : (length ≤ 1048576) ⊎ ((length < 2 * packed_length mid) ⊎ (2 ^ 64 - 1 ≤ epoch))
+  pub moved : (was : Side) (old : ℕ) → IsLiveAt trace was old → ((side ≡ was) × (epoch ≡ old)) ⊎ ((side ≡ other_side was) × (epoch ≡ old + 1))
+
+-- WHAT AN OPENING WRITES, cuts or sends beside its settlings: a part that reads makes a new journal alone, and that only where both sides are blank
+abbrev pub MakesNew : List Event → List Event → Type 0
+MakesNew trace steps = has_change steps ≡ true → live (head (disk A trace).reads) (head (disk B trace).reads) ≡ New
+
+-- and a part that moves the journal does so only where that is to move, in that lab, behind those steps
+pub record IsDue (trace front : List Event) (s : LabState) : Type 0 where
+  pub length : ℕ
+  pub side : Side
+  pub epoch : ℕ
+  pub placed : IsPlaced trace (trace ++ front) length side epoch
+  pub to_move : IsToMove length epoch s
+
+abbrev pub MovesDue : List Event → List Event → List Event → LabState → Type 0
+MovesDue trace front steps s = has_change steps ≡ true → IsDue trace front s
+
+-- it led from that lab to another, in which the journal is compact
+pub record HasLed (trace opening : List Event) (s : LabState) : Type 0 where
+  pub mid : LabState
+  pub opens : Opens s opening mid
+  pub makes : MakesNew trace opens.reading
+  pub moves : MovesDue trace (opens.reading ++ opens.moving) opens.shifting mid
+  pub compact : IsCompact trace opening mid
+
+-- it broke off, and came so far from that lab
+abbrev pub WritesInPart : (trace : List Event) (s : LabState) (opening : List Event) (after : LabState) → OpensInPart s opening after → Type 0
+WritesInPart trace s opening after (in_reading reads same) = MakesNew trace opening
+WritesInPart trace s opening after (in_settling front steps is reads miss restart some) = MakesNew trace front
+WritesInPart trace s opening after (in_shifting front steps behind is reads miss restart outcomes all shifts) = MakesNew trace front × MovesDue trace (front ++ steps) behind after
+
+pub record HasCome (trace opening : List Event) (s : LabState) : Type 0 where
+  pub after : LabState
+  pub part : OpensInPart s opening after
+  pub writes : WritesInPart trace s opening after part
+
+-- it opens the journal: no call failed or stopped, the sides are a journal, and from the lab that they stand for it led to another; or it breaks off,
+-- and nothing of the command's own is done, and from the lab that the sides stand for, if they do, it came so far
 pub data IsOpening (trace : List Event) (piece : Piece) : Type 0 where
-  opened : has_miss piece.opening ≡ false → has_restart piece.opening ≡ false → IsJournal (disk A trace).reads (disk B trace).reads (2 ^ 32) → IsOpening trace piece
-  broken_off : Breaks piece.opening piece.reply → piece.own ≡ [] → piece.to ≡ Closed → ((s : LabState) → IsLabAt trace s → (after : LabState) × OpensInPart s piece.opening after) → IsOpening trace piece
+  opened : has_miss piece.opening ≡ false → has_restart piece.opening ≡ false → IsJournal (disk A trace).reads (disk B trace).reads (2 ^ 32) → ((s : LabState) → IsLabAt trace s → HasLed trace piece.opening s) → IsOpening trace piece
+  broken_off : Breaks piece.opening piece.reply → piece.own ≡ [] → piece.to ≡ Closed → ((s : LabState) → IsLabAt trace s → HasCome trace piece.opening s) → IsOpening trace piece
 
 -- a drill needs no open session: it has no steps, and its reply leaves the session as it was. Every other command opens it where it is closed, and
 -- writes, cuts or sends anything in that only where the sides are a journal, whatever comes of it.
@@ -243,19 +291,6 @@ pub record OpensTo (trace : List Event) (piece : Piece) (s mid : LabState) : Typ
   pub images : AllStandFor (trace ++ piece.opening) mid
   pub sound : IsSound the_texts (trace ++ piece.opening)
 
--- BEHIND AN OPENING THE JOURNAL IS COMPACT, in that lab: it is at most a mebibyte long, or more than half of it is needed without the lab's past, or its
--- epoch is the last one. Where a side was live before the opening, the same one is so with the same epoch, or it was moved onto the other side, with
--- the next epoch.
-pub record IsCompact (trace opening : List Event) (mid : LabState) : Type 0 where
-  pub lab : IsLabAt (trace ++ opening) mid
-  pub length : ℕ
-  pub length_is : IsLengthAt (trace ++ opening) length
-  pub side : Side
-  pub epoch : ℕ
-  pub live : IsLiveAt (trace ++ opening) side epoch
-  pub small : (length ≤ 1048576) ⊎ ((length < 2 * packed_length mid) ⊎ (2 ^ 64 - 1 ≤ epoch))
-  pub moved : (was : Side) (old : ℕ) → IsLiveAt trace was old → ((side ≡ was) × (epoch ≡ old)) ⊎ ((side ≡ other_side was) × (epoch ≡ old + 1))
-
 -- over a sound trace it is one, whatever its reply, and without one; each image stands for such a lab, and the trace stays sound
 pub record IsDone (terms : Terms) (trace : List Event) (piece : Piece) : Type 0 where
   pub leads : Leads terms trace piece
@@ -264,8 +299,7 @@ pub record IsDone (terms : Terms) (trace : List Event) (piece : Piece) : Type 0 
   pub sound : IsSound the_texts (trace ++ steps_of piece)
 
 -- OVER ANY TRACE a piece finds the journal so; where the sides stand for a lab, and no call of its opening failed or stopped, one that is answered is a
--- lab step from there; where it leaves the session open, the sides stand for the lab that it leads to; and behind an opening that led to a lab the
--- journal is compact in that one
+-- lab step from there; and where it leaves the session open, the sides stand for the lab that it leads to
 pub record IsPiece (terms : Terms) (trace : List Event) (piece : Piece) : Type 0 where
   pub readable : ArePossible trace (disk A trace).reads (disk B trace).reads
   pub finds : Finds (drill_of piece.command) piece.from trace piece
@@ -274,7 +308,6 @@ pub record IsPiece (terms : Terms) (trace : List Event) (piece : Piece) : Type 0
   pub steps : drill_of piece.command ≡ None → is_some piece.reply ≡ true → has_miss piece.opening ≡ false → has_restart piece.opening ≡ false
       → (s : LabState) → IsLabAt trace s → (after : LabState) × StepsFrom terms trace piece s after
   pub leads : drill_of piece.command ≡ None → is_closed piece.to ≡ false → Leads terms trace piece
-  pub compact : HasOpened piece → (s : LabState) → IsLabAt trace s → (mid : LabState) × Opens s piece.opening mid × IsCompact trace piece.opening mid
   pub done : IsSound the_texts trace → IsDone terms trace piece
 
 -- WITHOUT A REPLY, over a plant that is not stopped, memory was wanting: for the text of a reply alone, with which it is a piece; or before anything was
