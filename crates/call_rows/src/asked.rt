@@ -9,7 +9,7 @@ use crate::labs::{
     APART, FOUR, MIXED, Machine, OLD_AND_NEW, PAIR, class_wiring_of, free_of, is_free_of, lab_of,
     wiring_of,
 };
-use assign_core::{Solved, first_fit, solve};
+use assign_core::{Solved, are_few, best_of_all, candidates, first_fit, solve};
 use cost_rule::{CostFn, Parts, PartsFn, Rule, RuleNumber, StepFn, StepRule};
 use lab_base::Memory;
 use map_anneal::{anneal, descend};
@@ -61,6 +61,7 @@ fn walked(
 #[derive(Clone, Copy)]
 enum Call {
     Solve(u64),
+    BestOfAll,
     Descend,
     Walk(u64),
 }
@@ -114,6 +115,27 @@ fn told_solved(alloc: Global, solved: Solved) -> Result<Found, Fail> {
     }
 }
 
+/// The cheapest of all node maps, which have to be few.
+fn best(
+    alloc: Global,
+    lab: &Lab,
+    free: &Free,
+    wiring: &Wiring,
+    rule: &StepRule,
+) -> Result<Found, Fail>
+    requires free { IsFreeOf lab.now free.now }
+    requires sound { IsSound wiring.now }
+{
+    let listed = candidates(alloc, lab, free, wiring)?;
+    if !are_few(&listed) {
+        return Err(Fail::from("few candidates"));
+    }
+    match best_of_all(alloc, lab, free, wiring, rule)? {
+        Some((mapping, cost)) => told(alloc, "least", cost, Some(mapping)),
+        None => told(alloc, "none", 0, None),
+    }
+}
+
 fn called(
     alloc: Global,
     lab: &Lab,
@@ -127,6 +149,7 @@ fn called(
 {
     match call {
         Call::Solve(seed) => told_solved(alloc, solve(alloc, lab, free, wiring, rule, seed)?),
+        Call::BestOfAll => best(alloc, lab, free, wiring, rule),
         Call::Descend => told(
             alloc,
             "descent",
@@ -258,23 +281,27 @@ fn a_segment_above_the_links_has_no_map(rt: HostRuntime) -> Result<(), Fail> {
         kbps: 200_000,
         ..PAIR_OF_TWO
     };
-    let none = search(rt.alloc(), fast, Call::Solve(0))?;
-    assert_eq!(rt;
-        (none.word, none.asked, none.steps, none.parts),
-        ("none", 0, 0, 0)
-    );
+    for call in [Call::Solve(0), Call::BestOfAll] {
+        let none = search(rt.alloc(), fast, call)?;
+        assert_eq!(rt;
+            (none.word, none.asked, none.steps, none.parts),
+            ("none", 0, 0, 0)
+        );
+    }
     Ok(())
 }
 
 #[test]
 fn few_candidates_are_all_tried(rt: HostRuntime) -> Result<(), Fail> {
-    let slow = search(rt.alloc(), PAIR_OF_TWO, Call::Solve(0))?;
-    // of the two maps the first is taken, and the second isn't cheaper
-    assert_eq!(rt;
-        (slow.word, slow.cost, slow.asked, slow.steps, slow.parts),
-        ("least", 0, 1, 0, 2)
-    );
-    assert_eq!(rt; slow.nodes.as_slice(), [0u16, 1].as_slice());
+    for call in [Call::Solve(0), Call::BestOfAll] {
+        let slow = search(rt.alloc(), PAIR_OF_TWO, call)?;
+        // of the two maps the first is taken, and the second isn't cheaper
+        assert_eq!(rt;
+            (slow.word, slow.cost, slow.asked, slow.steps, slow.parts),
+            ("least", 0, 1, 0, 2)
+        );
+        assert_eq!(rt; slow.nodes.as_slice(), [0u16, 1].as_slice());
+    }
     Ok(())
 }
 
@@ -364,20 +391,22 @@ fn two_fixed_places(rt: HostRuntime) -> Result<(), Fail> {
         nodes: &nodes,
         ..PAIR_OF_SIX
     };
-    let least = search(rt.alloc(), fixed, Call::Solve(0))?;
-    // ten machines for four are 5,040 maps; the first has c on p2, and the first without p2 is a step
-    assert_eq!(rt;
-        (
-            least.word,
-            least.cost,
-            least.asked,
-            least.steps,
-            least.parts
-        ),
-        ("least", 250, 1, 1, 5_040)
-    );
-    // p2 would cost its feature, so the others are on q2 to q5
-    assert_eq!(rt; least.nodes.as_slice(), [2u16, 0, 3, 4, 5, 6].as_slice());
+    for call in [Call::Solve(0), Call::BestOfAll] {
+        let least = search(rt.alloc(), fixed, call)?;
+        // ten machines for four are 5,040 maps; the first has c on p2, and the first without p2 is a step
+        assert_eq!(rt;
+            (
+                least.word,
+                least.cost,
+                least.asked,
+                least.steps,
+                least.parts
+            ),
+            ("least", 250, 1, 1, 5_040)
+        );
+        // p2 would cost its feature, so the others are on q2 to q5
+        assert_eq!(rt; least.nodes.as_slice(), [2u16, 0, 3, 4, 5, 6].as_slice());
+    }
     Ok(())
 }
 
