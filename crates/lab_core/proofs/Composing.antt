@@ -25,9 +25,10 @@ use Rattle.lab_core.specs.Judge.{Task, Recover}
 use Rattle.lab_core.specs.LabSteps.{IsDoneBy}
 use Rattle.lab_core.specs.Moments.{IsLengthAt}
 use Rattle.lab_core.specs.Obey.{AnswersBy, EndsBy, Obeys, Shuts, StepsBy, Start, start_of, IsDone, Leaves, Answers, ObeySteps, Obeyed, WantsIn, reply_of, stays_at_work, undone, between as recovering}
-use Rattle.lab_core.specs.Sessions.{OpenSwap, Closed, After, Setting, AreOpenedBy, WereOpen, blames_now, counted_from, open_by, shut_by}
+use Rattle.lab_core.specs.Sessions.{OpenSwap, Closed, After, Setting, AreOpenedBy, WereOpen, blames_now, counted_from, ends_swap, name_in, open_by, shut_by}
 use Rattle.lab_core.specs.Lists.{DoesNext, Listing, Past, broken, last_reply, more, none, over}
 use Rattle.lab_core.specs.Coming.{AllDone, AllWants, HasComeTo, Origin, TellsAll, ground_of}
+use Rattle.lab_core.proofs.Obey.{calm_ends, shut_ends}
 
 if_all : {X : Type 0} (o : Option X) (P : X → Type 0) → ((x : X) → P x) → IfSome o P
 if_all None P each = tt
@@ -55,10 +56,10 @@ opened_on old mid new first second o has = let q = second o has in let x = first
 
 -- a reply that tells of no swap that has begun
 none_opened : (named : Option (List ℕ)) (reply : Option Reply) (old new : List OpenSwap) (count : ℕ) → ((name : List ℕ) → reply ≡ Some (replies.More name) → ⊥) → AreOpenedBy named reply old new count → WereOpen old new
-none_opened named reply old new count plain opened o has = elim (opened o has) [ inl begun ↦ absurd (plain _ begun.1) | inr was ↦ was ]
+none_opened named reply old new count plain opened o has = elim (opened o has) [ inl begun ↦ absurd (plain _ begun.1) | inr was ↦ was.1 ]
 
-were_opened : (exp : Option (List ℕ)) (reply : Option Reply) (old new : List OpenSwap) (count : ℕ) → WereOpen old new → AreOpenedBy exp reply old new count
-were_opened exp reply old new count were o has = inr (were o has)
+were_opened : (exp : Option (List ℕ)) (reply : Option Reply) (old new : List OpenSwap) (count : ℕ) → ((name : List ℕ) → ends_swap reply name ≡ false) → WereOpen old new → AreOpenedBy exp reply old new count
+were_opened exp reply old new count stays were o has = inr (stays (name_in o), were o has)
 
 -- a list, from where it began
 module _ {X : Type 0} (l : Listing X) (o : Origin X) (exp : Option (List ℕ)) where
@@ -87,8 +88,8 @@ module _ {X : Type 0} (l : Listing X) (o : Origin X) (exp : Option (List ℕ)) w
   }
 
   -- IT IS OVER
-  pub finished : (now : Seen) (new : Control) (at : X) → HasComeTo l o exp now new at → l.is_over at ≡ true → closes (l.whole at) ≡ false → Obeys (AllDone l o) (AllWants l o) o.devices o.before now o.old new o.opens exp (Ok (l.whole at))
-  finished now new at h over_here goes = record {
+  pub finished : TellsAll l → (now : Seen) (new : Control) (at : X) → HasComeTo l o exp now new at → l.is_over at ≡ true → closes (l.whole at) ≡ false → Obeys (AllDone l o) (AllWants l o) o.devices o.before now o.old new o.opens exp (Ok (l.whole at))
+  finished tells now new at h over_here goes = record {
     to = h.to;
     obeys = (
       h.own,
@@ -98,7 +99,7 @@ module _ {X : Type 0} (l : Listing X) (o : Origin X) (exp : Option (List ℕ)) w
     );
     works = λ _. h.works;
     limit = h.limit;
-    opened = were_opened exp (Some (l.whole at)) o.opens h.to o.devices h.opened;
+    opened = were_opened exp (Some (l.whole at)) o.opens h.to o.devices (λ name. calm_ends (l.whole at) name (tells.ends at)) h.opened;
     down = λ shuts. let both : true ≡ false = sym shuts ∙ goes in absurd (cc both);
     device = h.device;
     here = h.here;
@@ -118,7 +119,7 @@ module _ {X : Type 0} (l : Listing X) (o : Origin X) (exp : Option (List ℕ)) w
     );
     works = λ _. h.works;
     limit = h.limit;
-    opened = were_opened exp None o.opens h.to o.devices h.opened;
+    opened = were_opened exp None o.opens h.to o.devices (λ name. refl) h.opened;
     down = tt;
     device = tt;
     here = tt;
@@ -183,10 +184,10 @@ module _ {X : Type 0} (l : Listing X) (o : Origin X) (exp : Option (List ℕ)) w
       opened_now plain = opened_on o.opens h.to b.to h.opened (none_opened named (reply_of result) h.to b.to o.devices plain b.opened)
 
       -- the whole, by how it ends over each trace
-      leaves_all : (answer : Result Reply CoreFault) → ((name : List ℕ) → reply_of result ≡ Some (replies.More name) → ⊥) → ((t : Told) → Came t h.own at new.lab h.to → Sound t h.own → Length t → Ends t → EndsBy (AllDone l o) (AllWants l o) t.trace own newer.lab b.to answer) → (stays_at_work answer ≡ true → WorksWith then' newer b.to)
+      leaves_all : (answer : Result Reply CoreFault) → ((name : List ℕ) → ends_swap (reply_of answer) name ≡ false) → ((name : List ℕ) → reply_of result ≡ Some (replies.More name) → ⊥) → ((t : Told) → Came t h.own at new.lab h.to → Sound t h.own → Length t → Ends t → EndsBy (AllDone l o) (AllWants l o) t.trace own newer.lab b.to answer) → (stays_at_work answer ≡ true → WorksWith then' newer b.to)
           → IfOk answer (λ reply. closes reply ≡ true → Rose o.before.faults.disk then'.faults.disk) → IfOk answer (λ reply. blames_device reply ≡ true → Rose (counted_from o.opens exp o.devices) then'.faults.devices)
           → IfOk answer (λ reply. blames_now reply ≡ true → Rose o.before.faults.devices then'.faults.devices) → (o.before.stopped ≡ false → IsErrOf answer faults.Stopped ↔ IsTrue then'.stopped) → Obeys (AllDone l o) (AllWants l o) o.devices o.before then' o.old newer o.opens exp answer
-      leaves_all answer plain ends works down device here stops = record {
+      leaves_all answer calm plain ends works down device here stops = record {
         to = b.to;
         obeys = (
           own,
@@ -196,7 +197,7 @@ module _ {X : Type 0} (l : Listing X) (o : Origin X) (exp : Option (List ℕ)) w
         );
         works = works;
         limit = limit_on;
-        opened = were_opened exp (reply_of answer) o.opens b.to o.devices (opened_now plain);
+        opened = were_opened exp (reply_of answer) o.opens b.to o.devices calm (opened_now plain);
         down = down;
         device = device;
         here = here;
@@ -263,7 +264,7 @@ module _ {X : Type 0} (l : Listing X) (o : Origin X) (exp : Option (List ℕ)) w
     comes_shut tells reply shut b blames blames_here =
         let answer : Reply = l.whole (l.behind at reply) in
         let shut_too : closes answer ≡ true = tells.shuts at reply shut in
-        leaves_all (Ok reply) b (Ok answer) (λ name is. shut_is_none reply shut name (same_Some reply (replies.More name) is))
+        leaves_all (Ok reply) b (Ok answer) (λ name. shut_ends answer name shut_too) (λ name is. shut_is_none reply shut name (same_Some reply (replies.More name) is))
         (λ t past sound length ends. subst (λ x. AnswersBy (AllDone l o) t.trace (own (Ok reply) b) answer newer.lab b.to x) (sym shut_too)
         (shuts_all (Ok reply) b t past sound length reply (λ a c. []) answer (last_is reply shut) (subst (λ x. Answers (t.trace ++ h.own) J start b.obeys.0 reply newer.lab b.to x) shut ends.ends)))
         (λ going_on. let both : false ≡ true = sym (ap not shut_too) ∙ going_on in absurd (cc both)) (λ is. rose_from o.before.faults.disk now.faults.disk then'.faults.disk h.disk (b.down shut))
@@ -274,13 +275,13 @@ module _ {X : Type 0} (l : Listing X) (o : Origin X) (exp : Option (List ℕ)) w
     -- THE PLANT STOPPED in it
     pub comes_to_stop : (b : Sub (Err faults.Stopped)) → Obeys (AllDone l o) (AllWants l o) o.devices o.before then' o.old newer o.opens exp (Err faults.Stopped)
     comes_to_stop b =
-        leaves_all (Err faults.Stopped) b (Err faults.Stopped) (λ name is. absurd (cc is)) (λ t past sound length ends. shuts_all (Err faults.Stopped) b t past sound length replies.Stopped (λ a c. Restarted a c ∷ []) replies.Stopped refl ends.ends)
+        leaves_all (Err faults.Stopped) b (Err faults.Stopped) (λ name. refl) (λ name is. absurd (cc is)) (λ t past sound length ends. shuts_all (Err faults.Stopped) b t past sound length replies.Stopped (λ a c. Restarted a c ∷ []) replies.Stopped refl ends.ends)
         (λ going_on. absurd (cc going_on)) tt tt tt (λ ran. b.stopped (h.runs ran))
 
     -- MEMORY WAS WANTING in it, which is undone
     pub comes_to_want : (J (Ok Recover) → ⊥) → (b : Sub (Err faults.Memory)) → Obeys (AllDone l o) (AllWants l o) o.devices o.before then' o.old newer o.opens exp (Err faults.Memory)
     comes_to_want no_recover b =
-        leaves_all (Err faults.Memory) b (Err faults.Memory) (λ name is. absurd (cc is)) (λ t past sound length ends. (at, stays t past ends.ends)) (λ going_on. b.works going_on) tt tt tt (λ ran. b.stopped (h.runs ran))
+        leaves_all (Err faults.Memory) b (Err faults.Memory) (λ name. refl) (λ name is. absurd (cc is)) (λ t past sound length ends. (at, stays t past ends.ends)) (λ going_on. b.works going_on) tt tt tt (λ ran. b.stopped (h.runs ran))
       where
         stays : (t : Told) → Came t h.own at new.lab h.to → WantsIn J start b.obeys.0 newer.lab b.to → Came t (own (Err faults.Memory) b) at newer.lab b.to
         stays t past (undone nothing lab_is to_is) =

@@ -24,7 +24,7 @@ use Rattle.lab_core.specs.Swapping.{HasEndedIn, progress_answer}
 use Rattle.lab_core.proofs.OpenSwaps.{Pair, Place, open_without, risen_by}
 use Rattle.lab_core.proofs.PerformSwap.{IsCausedNow, IsCausedSince, Leads, by_outcome}
 use Rattle.lab_core.proofs.Told.{Halts, IsAnswer, answered, halts_as, onward_plain}
-use Rattle.lab_core.proofs.TurnOne.{at, counted, end_caused, moves, one, plain, since, works_with}
+use Rattle.lab_core.proofs.TurnOne.{apart, at, counted, end_caused, moves, one, plain, since, works_with}
 
 -- what is told of a swap that is over
 pub over_reply : (p : SwapOf) (outcome : Outcome) (reply : Reply) → IsOver outcome → turn_reply p outcome ≡ Some reply → end_reply p outcome ≡ Some reply
@@ -114,7 +114,7 @@ module _ (before now : Seen) (old new : Control) (opens : List OpenSwap) (exp : 
 
     abbrev EndLeads : Outcome → Type 0
     EndLeads outcome = Leads devices before now (Is (Ok (Finish exp))) old new opens end_to place.one.running.swap exp h.end.finished.steps h.end.finished.told h.end.finished.sound h.end.finished.later limit
-        (λ outcome. open_without opens place.front place.one place.rest place.are) EndIs end_done outcome
+        (λ outcome. (open_without opens place.front place.one place.rest place.are, λ gone q has. apart before now old new opens exp works h.end.before h.end.behind x h.end.opens_are h.end.named q has)) EndIs end_done outcome
 
     leads_by : (outcome : Outcome) → IsOver outcome → Goes outcome → FinishLeaves the_texts old.lab h.end.swap before now new.journal h.end.finished.steps outcome → EndLeads outcome
     leads_by More over goes leaves = absurd over
@@ -128,7 +128,7 @@ module _ (before now : Seen) (old new : Control) (opens : List OpenSwap) (exp : 
     pub ended : Obeyed devices before now (Is (Ok (Finish exp))) old new opens (Some exp) (progress_answer exp told)
     ended =
         by_outcome devices before now (Is (Ok (Finish exp))) old new opens end_to place.one.running.swap exp h.end.finished.steps h.end.finished.told h.end.finished.sound h.end.finished.later limit
-        (λ outcome. open_without opens place.front place.one place.rest place.are) EndIs end_done h.end.finished.outcome (leads_by h.end.finished.outcome h.end.finished.over h.goes h.end.finished.leaves)
+        (λ outcome. (open_without opens place.front place.one place.rest place.are, λ gone q has. apart before now old new opens exp works h.end.before h.end.behind x h.end.opens_are h.end.named q has)) EndIs end_done h.end.finished.outcome (leads_by h.end.finished.outcome h.end.finished.over h.goes h.end.finished.leaves)
         (subst (λ (n : ℕ). IsCausedSince h.end.finished.outcome n before now) (sym (counted before now old new opens exp works h.end.before h.end.behind x h.end.opens_are h.end.named devices)) cause_since) cause_now
         (λ halted. stops.0 (end_halts.0 halted)) (λ stopped. end_halts.1 (stops.1 stopped)) (progress_answer exp told)
         (subst (λ (o : RunningSwap). IsAnswer o.swap h.end.finished.outcome (progress_answer exp told)) (sym place.running) (end_answer h.end.finished.outcome refl))

@@ -109,7 +109,7 @@ module _ (exp : List ℕ) where
   one_shuts at reply is = is
 
   tells : TellsAll (events_in_turn exp)
-  tells = record { blames = one_blames; here = one_here; shuts = one_shuts }
+  tells = record { blames = one_blames; here = one_here; shuts = one_shuts; ends = λ at. refl }
 
   -- a reply that isn't `in` ends it, and is told; `in` goes on
   ended_by : (at : Playing) (reply : Reply) → is_in reply ≡ false → behind at reply ≡ record at { left = drop 1 at.left; ended = Some reply }
@@ -166,7 +166,7 @@ module _ (exp : List ℕ) where
             elim (cases_Bool (closes reply)) [
               | inl shut ↦ subst (λ (r : Reply). All opens devices (Ok r)) told (comes_shut (events_in_turn exp) o (Some exp) now new at h refl then' newer (Some exp) tells reply shut (sub (Ok reply) is) blames blames_here)
               | inr goes ↦ subst (λ (r : Reply). All opens devices (Ok r)) told
-                  (finished (events_in_turn exp) o (Some exp) then' newer (behind at reply) (one_on goes) (ap (events_in_turn exp).is_over (ended_by at reply no')) (ap closes told ∙ goes))
+                  (finished (events_in_turn exp) o (Some exp) tells then' newer (behind at reply) (one_on goes) (ap (events_in_turn exp).is_over (ended_by at reply no')) (ap closes told ∙ goes))
             ]
 
       one_stops : Event (Err faults.Stopped) → All opens devices (Err faults.Stopped)
@@ -205,4 +205,4 @@ module _ (exp : List ℕ) where
   module _ (start : Playing) (before now : Seen) (old new : Control) (text : Wiring) (played : ℕ) (comes : ComesTo exp start before now old new (going text [] played)) (opens : List OpenSwap) (devices : ℕ) (within : devices ≤ before.faults.devices) (works : WorksWith before old opens)
       (none : open_at exp opens ≡ None) where
     pub all_done : ObeysEvents exp start devices before now old new opens (Ok (played_of exp played None))
-    all_done = finished (events_in_turn exp) (origin_of before old opens start devices) (Some exp) now new (going text [] played) (comes opens devices within works none) refl refl
+    all_done = finished (events_in_turn exp) (origin_of before old opens start devices) (Some exp) tells now new (going text [] played) (comes opens devices within works none) refl refl

@@ -86,7 +86,7 @@ module _ (s : LabState) where
     follows = subst (λ (r : Record). MayFollow s r) (sym (entry_is ∙ ap (λ (t : List ℕ). LabRecord t) text))
         (record { move = SetLab lab; says = (lab, is, refl, refl); state = record { lab = Some lab; experiments = [] }; moves = rw none refl; ready = λ w. tt });
     no_end = subst EndsNoMove (sym entry_is) tt;
-    mild = subst IsMild (sym reply_is) (refl, refl);
+    mild = subst IsMild (sym reply_is) (refl, refl, refl);
   }
 
   -- `create` and `create-top`
@@ -115,7 +115,7 @@ module _ (s : LabState) where
     is_record = is_record;
     follows = let p = placed exp place in subst (λ (r : Record). MayFollow s r) (sym (entry_is ∙ ap (λ (t : List ℕ). create_in (has_multiplexed w) exp t) text)) (created exp w p.0 p.1 p.2 few sound printable);
     no_end = subst EndsNoMove (sym entry_is) (creates_none (has_multiplexed w) exp top);
-    mild = subst IsMild (sym reply_is) (refl, refl);
+    mild = subst IsMild (sym reply_is) (refl, refl, refl);
   }
 
   -- `delete`

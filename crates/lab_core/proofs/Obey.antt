@@ -2,6 +2,7 @@
 use Rattle.std.proofs.Common.{◌≡◌, inr, ℕ, Bool, true, false, not, List, [], ◌∷◌, ◌++◌, Option, Some, None, IfSome, Result, Ok, Err, refl, sym, ap, ◌∙◌, subst, arith}
 use Rattle.std.proofs.lemmas.List.{append-nil}
 use Rattle.lab_base.specs.Counts.{Rose}
+use Rattle.lab_base.specs.Lists.{Has}
 use Rattle.plant.specs.Events.{Event, Restarted}
 use Rattle.plant.specs.Told.{Told, with_steps}
 use Rattle.journal_disk.specs.Standing.{limit_of}
@@ -28,7 +29,7 @@ use Rattle.lab_core.specs.LabSteps.{IsDoneBy, JudgedBeside, does, no_memory}
 use Rattle.lab_core.specs.Obey.{Start, start_of, IsDone, Leaves, Answers, ObeyEnds, ObeySteps, ObeyTold, Obeyed, WantsIn, undone, between}
 use Rattle.lab_core.specs.Recovery.{broken_off, some}
 use Rattle.lab_core.specs.Breaks.{unanswered}
-use Rattle.lab_core.specs.Sessions.{After, Closed, Open, OpenSwap, Setting, AreOpenedBy, WereOpen, blames_now, counted_from}
+use Rattle.lab_core.specs.Sessions.{After, Closed, Open, OpenSwap, Setting, AreOpenedBy, WereOpen, blames_now, counted_from, ends_swap, name_in, tells_end}
 use Rattle.lab_core.specs.Tasks.{IsMild}
 use Rattle.journal_disk.proofs.Chains.{nothing_yet}
 
@@ -45,8 +46,26 @@ if_all None P each = tt
 if_all (Some x) P each = each x
 
 -- those that were open are so, whatever the reply
-pub as_open : (exp : Option (List ℕ)) (reply : Option Reply) (old new : List OpenSwap) (count : ℕ) → WereOpen old new → AreOpenedBy exp reply old new count
-as_open exp reply old new count were = λ o has. inr (were o has)
+pub as_open : (exp : Option (List ℕ)) (reply : Option Reply) (old new : List OpenSwap) (count : ℕ) → ((o : OpenSwap) → Has new o → ends_swap reply (name_in o) ≡ false) → WereOpen old new → AreOpenedBy exp reply old new count
+as_open exp reply old new count stays were = λ o has. inr (stays o has, were o has)
+
+-- a reply that tells of no end, and one that closes, ends no swap that stays open
+pub calm_ends : (reply : Reply) (name : List ℕ) → tells_end reply ≡ false → ends_swap (Some reply) name ≡ false
+calm_ends (replies.In exp) name h = false_true (sym h)
+calm_ends (replies.Out exp) name h = false_true (sym h)
+calm_ends (replies.Failed exp end what) name h = false_true (sym h)
+calm_ends reply name h = refl
+
+pub shut_ends : (reply : Reply) (name : List ℕ) → closes reply ≡ true → ends_swap (Some reply) name ≡ false
+shut_ends (replies.In exp) name h = false_true h
+shut_ends (replies.Out exp) name h = false_true h
+shut_ends (replies.Failed exp ends.Stuck whats.Journal) name h = refl
+shut_ends (replies.Failed exp ends.Stuck (whats.Device device)) name h = false_true h
+shut_ends (replies.Failed exp ends.Stuck (whats.Late node)) name h = false_true h
+shut_ends (replies.Failed exp ends.Stuck (whats.Unlawful node from to)) name h = false_true h
+shut_ends (replies.Failed exp ends.Out what) name h = false_true h
+shut_ends (replies.Failed exp ends.In what) name h = false_true h
+shut_ends reply name h = refl
 
 -- a device that is blamed for what the command itself sent is blamed
 pub now_blames : (reply : Reply) → blames_now reply ≡ true → blames_device reply ≡ true
@@ -100,7 +119,7 @@ module _ (devices : ℕ) (before now : Seen) (IsJudged : Result Task Reply → T
     obeys = steps_by (Err faults.Memory) (if_all before.told (λ w. WantsIn IsJudged start own new.lab to) (λ w. done));
     works = λ _. works;
     limit = limit;
-    opened = as_open exp None opens to devices were;
+    opened = as_open exp None opens to devices (λ o has. refl) were;
     down = tt;
     device = tt;
     here = tt;
@@ -125,7 +144,7 @@ module _ (devices : ℕ) (before now : Seen) (IsJudged : Result Task Reply → T
         (λ w l. subst (λ b. Answers w.trace IsJudged start own reply new.lab to b) (sym closing) l) (leaves Is closed reply (λ a b. []) (λ lab is a b. done lab is)));
     works = λ going. false_true (subst (λ b. not b ≡ true) closing going);
     limit = limit;
-    opened = as_open exp (Some reply) opens to devices were;
+    opened = as_open exp (Some reply) opens to devices (λ o has. shut_ends reply (name_in o) closing) were;
     down = λ _. rose;
     device = λ blaming. not_both (blames_device reply) blaming mild;
     here = λ blaming. not_both (blames_device reply) (now_blames reply blaming) mild;
@@ -142,7 +161,7 @@ module _ (devices : ℕ) (before now : Seen) (IsJudged : Result Task Reply → T
     obeys = steps_by (Err faults.Stopped) (leaves Is closed replies.Stopped (λ a b. Restarted a b ∷ []) done);
     works = λ going. false_true going;
     limit = limit;
-    opened = as_open exp None opens to devices were;
+    opened = as_open exp None opens to devices (λ o has. refl) were;
     down = tt;
     device = tt;
     here = tt;
@@ -171,7 +190,7 @@ same_open opens = λ o has. (o, has, refl, refl)
 pub replied : (devices : ℕ) (before : Seen) (IsJudged : Result Task Reply → Type 0) (c : Control) (opens : List OpenSwap) (exp : Option (List ℕ)) (reply : Reply) → WorksWith before c opens → IsMild reply
     → IsDone IsJudged (start_of devices c opens) [] (Some reply) c.lab (Open opens) → Obeyed devices before before IsJudged c c opens exp (Ok reply)
 replied devices before IsJudged c opens exp reply works mild done =
-    goes_on devices before before IsJudged c c opens opens exp [] (nothing_yet before.told) (sound_still before.told) (same_later before) refl reply mild.0 (as_open exp (Some reply) opens opens devices (same_open opens)) done works (λ blaming. not_both (blames_device reply) blaming mild.1)
+    goes_on devices before before IsJudged c c opens opens exp [] (nothing_yet before.told) (sound_still before.told) (same_later before) refl reply mild.0 (as_open exp (Some reply) opens opens devices (λ o has. calm_ends reply (name_in o) mild.2) (same_open opens)) done works (λ blaming. not_both (blames_device reply) blaming mild.1)
     (λ blaming. not_both (blames_device reply) (now_blames reply blaming) mild.1)
     (λ ran stopped. not_both before.stopped stopped ran)
 

@@ -1,5 +1,5 @@
 -- The open swaps of a session beside the pairs of a manager: where one of them stands, and what was counted since it was opened.
-use Rattle.std.proofs.Common.{◌≡◌, ◌≢◌, inl, inr, ◌≤◌, ℕ, List, [], ◌∷◌, ◌++◌, map, length, Some, None, Result, Ok, Err, refl, sym, ap, ◌∙◌, subst, arith}
+use Rattle.std.proofs.Common.{◌≡◌, ◌≢◌, inl, inr, ◌≤◌, ℕ, List, [], ◌∷◌, ◌++◌, map, length, Some, None, Result, Ok, Err, refl, sym, ap, ◌∙◌, subst, append_assoc, arith}
 use Rattle.std.proofs.lemmas.Bool.{cond-true, cond-false, false_from_ne_true}
 use Rattle.std.proofs.lemmas.List.{map-append}
 use Rattle.std.proofs.lemmas.Slice.Eq.{bytes_eq-Decides}
@@ -73,6 +73,13 @@ others_before pairs a x b opens p pairs_are differ q has same =
     let y = running_has a p.front p.before q has in
     Apart-across (λ (o z : Pair). o.0.swap.name ≢ z.0.swap.name) a (x ∷ b) y.0 x (subst (λ l. Apart (λ (o z : Pair). o.0.swap.name ≢ z.0.swap.name) l) pairs_are differ) y.1 (inl refl)
     (ap (λ r. r.swap.name) y.2 ∙ same ∙ ap (λ r. r.swap.name) p.running)
+
+pub others_behind : (pairs a : List Pair) (x : Pair) (b : List Pair) (opens : List OpenSwap) (p : Place a x.0 b opens) → pairs ≡ a ++ x ∷ b → Apart (λ o q. o.0.swap.name ≢ q.0.swap.name) pairs
+    → (q : OpenSwap) → Has p.rest q → name_in q ≢ name_in p.one
+others_behind pairs a x b opens p pairs_are differ q has same =
+    let y = running_has b p.rest p.behind q has in
+    Apart-across (λ (o z : Pair). o.0.swap.name ≢ z.0.swap.name) (a ++ x ∷ []) b x y.0 (subst (λ l. Apart (λ (o z : Pair). o.0.swap.name ≢ z.0.swap.name) l) (pairs_are ∙ sym (append_assoc a (x ∷ []) b)) differ) (Has-right a (x ∷ []) x (inl refl)) y.1
+    (sym (ap (λ r. r.swap.name) p.running) ∙ sym same ∙ sym (ap (λ r. r.swap.name) y.2))
 
 -- THE OPEN SWAP of a name
 pub open_at_one : (name : List ℕ) (front : List OpenSwap) (one : OpenSwap) (rest : List OpenSwap) → ((q : OpenSwap) → Has front q → name_in q ≢ name) → name_in one ≡ name → open_at name (front ++ one ∷ rest) ≡ Some one
@@ -191,7 +198,7 @@ module _ (opens front : List OpenSwap) (o : OpenSwap) (rest : List OpenSwap) (ar
 -- one more, which has begun
 pub opened_more : (exp : List ℕ) (opens : List OpenSwap) (last : OpenSwap) (count : ℕ) → name_in last ≡ exp → last.devices ≡ count → AreOpenedBy (Some exp) (Some (replies.More exp)) opens (opens ++ last ∷ []) count
 opened_more exp opens last count named is x has = elim (Has-append opens (last ∷ []) x has) [
-  | inl old ↦ inr (x, old, refl, refl)
+  | inl old ↦ inr (refl, (x, old, refl, refl))
   | inr at_end ↦ elim at_end [
     | inl here ↦
         let same : exp ≡ name_in x = sym named ∙ ap name_in here in

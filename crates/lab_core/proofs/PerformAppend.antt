@@ -47,9 +47,9 @@ use Rattle.lab_core.specs.Judge.{Task, Append, Is}
 use Rattle.lab_core.specs.LabSteps.{has_space, IfSpace, Performs, Replies, Behind, missed, restarted, AppendEnds, whole, broken, Appends, does}
 use Rattle.lab_core.specs.Obey.{start_of, IsDone, Obeyed}
 use Rattle.lab_core.specs.Perform.{append_answer}
-use Rattle.lab_core.specs.Sessions.{OpenSwap, Setting, Session, Closed, Open, After}
+use Rattle.lab_core.specs.Sessions.{OpenSwap, Setting, Session, Closed, Open, After, name_in}
 use Rattle.lab_core.specs.Tasks.{CanAppend}
-use Rattle.lab_core.proofs.Obey.{RunsOn, as_open, closed_by, goes_on, halted, not_both, now_blames, replied, same_open}
+use Rattle.lab_core.proofs.Obey.{RunsOn, as_open, calm_ends, closed_by, goes_on, halted, not_both, now_blames, replied, same_open}
 use Rattle.lab_core.proofs.OpenSwaps.{since_later}
 use Rattle.lab_core.proofs.Others.{record_leaves}
 
@@ -88,7 +88,7 @@ pub full : (devices : ℕ) (before : Seen) (c : Control) (opens : List OpenSwap)
 full devices before c opens exp task entry bytes long works does_so size_is no_space long_is =
     let full_so : has_space (start_of devices c opens).set entry ≡ false = sym (ap (λ (n : ℕ). nat_le (length_of c.journal + n + 10240) (limit_of c.journal)) size_is) ∙ no_space in
     subst (λ (n : ℕ). Obeyed devices before before (Is (Ok task)) c c opens exp (Ok (replies.FullJournal n))) (sym long_is)
-    (replied devices before (Is (Ok task)) c opens exp (replies.FullJournal (length_of c.journal)) works (refl, refl) (does (Ok task) refl (does_so [] _ full_so (record { nothing = refl; after_is = refl }))))
+    (replied devices before (Is (Ok task)) c opens exp (replies.FullJournal (length_of c.journal)) works (refl, refl, refl) (does (Ok task) refl (does_so [] _ full_so (record { nothing = refl; after_is = refl }))))
 
 pub no_space : (set : Setting) (s : LabState) (opens : List OpenSwap) (entry : Record) (Done : Type 0) (own : List Event) (after : After) → has_space set entry ≡ false → Replies s opens (replies.FullJournal set.length) own after
     → IfSpace (has_space set entry) set.length s opens Done own after
@@ -225,7 +225,7 @@ module _ (devices : ℕ) (exp : Option (List ℕ)) (before now : Seen) (c new : 
   -- WHATEVER IT ANSWERED
   pub left : (a : Result (Unit {0}) AppendFault) → answer ≡ a → OnOk a (new.lab ≡ state) → Obeyed devices before now Judges c new opens exp (append_answer reply a)
   left (Ok ok) is lab =
-      goes_on devices before now Judges c new opens opens exp own writes.appends.trace sound later writes.limit reply can.mild.0 (as_open exp (Some reply) opens opens devices (same_open opens)) (done ok is lab) (works_in ok is lab)
+      goes_on devices before now Judges c new opens opens exp own writes.appends.trace sound later writes.limit reply can.mild.0 (as_open exp (Some reply) opens opens devices (λ o has. calm_ends reply (name_in o) can.mild.2) (same_open opens)) (done ok is lab) (works_in ok is lab)
       (λ blaming. not_both _ blaming can.mild.1) (λ blaming. not_both _ (now_blames reply blaming) can.mild.1) (runs (Ok ok) is (λ h. cc h))
   left (Err appending.Plant) is lab =
       let ends = ends_as (Err appending.Plant) is in

@@ -105,7 +105,7 @@ module _ (devices : ℕ) (exp : Option (List ℕ)) (before now : Seen) (old new 
       → Obeyed devices before now (Is (Ok Recover)) old new opens exp (Ok (replies.Recovered all.done all.stuck))
   all_recovered all is limit runs =
       let h = is.has in
-      goes_on devices before now (Is (Ok Recover)) old new opens opens exp h.steps h.told h.sound h.later limit (replies.Recovered all.done all.stuck) refl (as_open exp (Some (replies.Recovered all.done all.stuck)) opens opens devices (same_open opens))
+      goes_on devices before now (Is (Ok Recover)) old new opens opens exp h.steps h.told h.sound h.later limit (replies.Recovered all.done all.stuck) refl (as_open exp (Some (replies.Recovered all.done all.stuck)) opens opens devices (λ o has. refl) (same_open opens))
       (does (Ok Recover) refl (settled is.outcomes (subst (λ (l : List Swap). Settles old.lab l is.outcomes h.steps new.lab) all_same h.settled) (λ i. Some (replies.Recovered (is.counts.done i) (is.counts.stuck i))) refl))
       (works_by (swaps_of busy old.lab.experiments) is.outcomes (λ p has. due_idle busy old.lab.experiments p has) h) (λ blaming. false_true blaming) (λ blaming. false_true blaming) runs
 

@@ -308,7 +308,7 @@ module _ (devices : ℕ) (before mid now : Seen) (old between new : Control) (op
   all_limit = limit ∙ h.begun.limit
 
   abbrev WholeLeads : Outcome → Type 0
-  WholeLeads outcome = Leads devices before now (Is (Ok (Swap exp way))) old new opens whole_to h.swap exp all_steps all_told all_sound all_later all_limit (λ _. same_open opens) WholeIs whole_done' outcome
+  WholeLeads outcome = Leads devices before now (Is (Ok (Swap exp way))) old new opens whole_to h.swap exp all_steps all_told all_sound all_later all_limit (λ _. (same_open opens, λ gone q has same. apart q has (same ∙ h.name))) WholeIs whole_done' outcome
 
   leads_by : (outcome : Outcome) → IsOver outcome → Rattle.lab_core.proofs.EndOne.Goes mid now between new more exp h.works told f outcome → FinishLeaves the_texts between.lab f.end.swap mid now new.journal end_steps outcome → WholeLeads outcome
   leads_by More over goes leaves = absurd over
@@ -354,6 +354,6 @@ module _ (devices : ℕ) (before mid now : Seen) (old between new : Control) (op
   pub whole_swap : Obeyed devices before now (Is (Ok (Swap exp way))) old new opens (Some exp) (progress_answer exp told)
   whole_swap =
       let halts = end_halts mid now between new more exp h.works told f in
-      by_outcome devices before now (Is (Ok (Swap exp way))) old new opens whole_to h.swap exp all_steps all_told all_sound all_later all_limit (λ _. same_open opens) WholeIs whole_done' end_outcome
+      by_outcome devices before now (Is (Ok (Swap exp way))) old new opens whole_to h.swap exp all_steps all_told all_sound all_later all_limit (λ _. (same_open opens, λ gone q has same. apart q has (same ∙ h.name))) WholeIs whole_done' end_outcome
       (leads_by end_outcome f.end.finished.over f.goes f.end.finished.leaves) (subst (λ (n : ℕ). IsCausedSince end_outcome n before now) (sym counted_here) caused_here) caused_now (λ halted. stops.0 (halts.0 halted)) (λ stopped. halts.1 (stops.1 stopped))
       (progress_answer exp told) (subst (λ (o : RunningSwap). IsAnswer o.swap end_outcome (progress_answer exp told)) swap_is (end_answer mid now between new more exp h.works told f end_outcome refl))

@@ -54,6 +54,7 @@ tells rule moment = record {
   blames = λ at reply is. any_either blames_device at.told reply is;
   here = λ at reply is. any_either blames_device at.told reply is;
   shuts = λ at reply is. any_last closes at.told reply is;
+  ends = λ at. refl;
 }
 
 -- the ends behind a reply
@@ -194,5 +195,5 @@ module _ (rule : RuleNumber) where
       → (opens : List OpenSwap) (devices : ℕ) → devices ≤ before.faults.devices → WorksWith before old opens → ObeysRuns rule moment start devices before now old new opens (Ok (replies.Served so_far))
   all_done moment start before now old new promises ends told so_far are open' comes opens devices within works =
       subst (λ (x : Served). ObeysRuns rule moment start devices before now old new opens (Ok (replies.Served x))) (sym are)
-      (finished (runs_in_turn rule moment) (runs_from before old opens start devices) None now new (record { promises = promises; left = []; ends = ends; told = told }) (comes opens devices within works) refl
+      (finished (runs_in_turn rule moment) (runs_from before old opens start devices) None (tells rule moment) now new (record { promises = promises; left = []; ends = ends; told = told }) (comes opens devices within works) refl
       (sym (ap (λ (x : Served). x.closes) are) ∙ open'))

@@ -1,5 +1,5 @@
 -- The state behind a turn of an open swap, and behind turning it to its end.
-use Rattle.std.proofs.Common.{◌≡◌, ◌↔◌, inl, inr, ◌≤◌, ℕ, List, ◌∷◌, ◌++◌, Option, Some, IsTrue, Ok, refl, sym, ap, ◌∙◌, subst}
+use Rattle.std.proofs.Common.{◌≡◌, ◌≢◌, ◌↔◌, inl, inr, ◌≤◌, ℕ, List, ◌∷◌, ◌++◌, Option, Some, IsTrue, Ok, refl, sym, ap, ◌∙◌, subst}
 use Rattle.std.proofs.lemmas.List.{map-append}
 use Rattle.lab_base.specs.Lists.{Has, listed}
 use Rattle.lab_base.proofs.Members.{Has-append, Has-right}
@@ -23,10 +23,10 @@ use Rattle.lab_core.specs.Controller.{Control, WorksWith}
 use Rattle.lab_core.specs.Judge.{Turn, Is}
 use Rattle.lab_core.specs.LabSteps.{IsOneOf, does, end_session, is_told, turn_reply, turned_on}
 use Rattle.lab_core.specs.Obey.{start_of, IsDone, Obeyed}
-use Rattle.lab_core.specs.Sessions.{OpenSwap, Session, HasRisenBy, IsSince, counted_from, devices_if, open_at}
+use Rattle.lab_core.specs.Sessions.{OpenSwap, Session, HasRisenBy, IsSince, counted_from, devices_if, name_in, open_at}
 use Rattle.lab_core.specs.Swapping.{HasTurnedIn, progress_answer}
-use Rattle.lab_core.proofs.OpenSwaps.{Pair, Place, has_front, has_one, has_rest, open_at_one, open_turned, others_before, place_of, risen_by, risen_later, running_of, since_later, since_turned, swaps_in, turned_running}
-use Rattle.lab_core.proofs.PerformSwap.{IsCausedNow, IsCausedSince, by_outcome}
+use Rattle.lab_core.proofs.OpenSwaps.{Pair, Place, has_front, has_one, has_rest, open_at_one, open_turned, others_before, others_behind, place_of, risen_by, risen_later, running_of, since_later, since_turned, swaps_in, turned_running}
+use Rattle.lab_core.proofs.PerformSwap.{HasEnded, IsCausedNow, IsCausedSince, LeavesOpen, by_outcome}
 use Rattle.lab_core.proofs.Told.{Halts, IsAnswer, answered, halts_as}
 
 -- a turn has its causes, and so has a leg that ends, since the swap was opened
@@ -55,6 +55,13 @@ module _ (before now : Seen) (old new : Control) (opens : List OpenSwap) (exp : 
 
   pub since : IsSince before.faults.devices at.one
   since = works.since at.one (has_one opens at.front at.one at.rest at.are)
+
+  -- each of the others has another name
+  pub apart : (q : OpenSwap) → Has (at.front ++ at.rest) q → name_in q ≢ at.one.running.swap.name
+  apart q has = elim (Has-append at.front at.rest q has) [
+    | inl in_front ↦ others_before works.pairs a x b opens at pairs_are works.working.differ q in_front
+    | inr in_rest ↦ others_behind works.pairs a x b opens at pairs_are works.working.differ q in_rest
+  ]
 
   pub counted : (devices : ℕ) → counted_from opens (Some exp) devices ≡ at.one.devices
   counted devices =
@@ -109,6 +116,14 @@ module _ (devices : ℕ) (before now : Seen) (old new : Control) (opens : List O
   abbrev TurnIs : Outcome → List Event → LabState → Type 0
   TurnIs outcome steps lab = TurnSteps old.lab place.one.running steps outcome lab
 
+  turn_leaves : (outcome : Outcome) → LeavesOpen place.one.running.swap.name outcome opens (turn_to outcome)
+  turn_leaves outcome = (open_turned opens place.front place.one place.rest place.are h.turn.steps outcome, by outcome)
+    where
+      by : (outcome : Outcome) → HasEnded outcome → (q : OpenSwap) → Has (turn_to outcome) q → name_in q ≢ place.one.running.swap.name
+      by (Ended leg) ended q has = apart before now old new opens exp works h.turn.before h.turn.behind x h.turn.opens_are h.turn.named q has
+      by (Stuck why) ended q has = apart before now old new opens exp works h.turn.before h.turn.behind x h.turn.opens_are h.turn.named q has
+      by outcome ended q has = absurd ended
+
   turn_done : (outcome : Outcome) (lab : LabState) (behind : List Event) (reply : Reply) (session : Session) → TurnIs outcome h.turn.steps lab → StartsBehind outcome behind → turn_reply place.one.running.swap outcome ≡ Some reply → session ≡ end_session (turn_to outcome) outcome
       → IsDone (Is (Ok (Turn exp))) (start_of devices old opens) (h.turn.steps ++ behind) (Some reply) lab session
   turn_done outcome lab behind reply session is starts reply_is session_is =
@@ -145,10 +160,10 @@ module _ (devices : ℕ) (before now : Seen) (old new : Control) (opens : List O
           (answered h.turn.swap exp h.turn.named told h.turn.outcome (λ _. plain before now old new opens exp works h.turn.before h.turn.behind x h.turn.opens_are h.turn.named) h.turn.is_told))
 
       left : (outcome : Outcome) → h.turn.outcome ≡ outcome → Rattle.lab_core.proofs.PerformSwap.Leads devices before now (Is (Ok (Turn exp))) old new opens turn_to place.one.running.swap exp h.turn.steps h.turn.told_is h.turn.sound h.turn.later limit
-          (λ outcome. open_turned opens place.front place.one place.rest place.are h.turn.steps outcome) TurnIs turn_done outcome → IsCausedSince outcome place.one.devices before now → IsCausedNow outcome before now → Obeyed devices before now (Is (Ok (Turn exp))) old new opens (Some exp) (progress_answer exp told)
+          turn_leaves TurnIs turn_done outcome → IsCausedSince outcome place.one.devices before now → IsCausedNow outcome before now → Obeyed devices before now (Is (Ok (Turn exp))) old new opens (Some exp) (progress_answer exp told)
       left outcome is leads cause here =
           by_outcome devices before now (Is (Ok (Turn exp))) old new opens turn_to place.one.running.swap exp h.turn.steps h.turn.told_is h.turn.sound h.turn.later limit
-          (λ outcome. open_turned opens place.front place.one place.rest place.are h.turn.steps outcome) TurnIs turn_done outcome leads
+          turn_leaves TurnIs turn_done outcome leads
           (subst (λ (n : ℕ). IsCausedSince outcome n before now) (sym count_is) cause) here (λ h'. stops.0 (halts.0 (subst Halts (sym is) h'))) (λ h'. subst Halts is (halts.1 (stops.1 h'))) (progress_answer exp told) (answer outcome is)
 
       by : (outcome : Outcome) → h.turn.outcome ≡ outcome → Goes outcome → Leaves the_texts old.lab h.turn.swap before now new.journal h.turn.steps outcome → IsOutcomeCaused outcome before now → Obeyed devices before now (Is (Ok (Turn exp))) old new opens (Some exp) (progress_answer exp told)

@@ -10,7 +10,7 @@ use Rattle.journal_disk.specs.Standing.{limit_of}
 use Rattle.script_text.specs.Replies.{blames_device, closes}
 use Rattle.script_text.specs.declared.reply.Reply.{Reply}
 use Rattle.lab_core.specs.Controller.{Control, WorksWith}
-use Rattle.lab_core.specs.Sessions.{OpenSwap, WereOpen, blames_now, counted_from}
+use Rattle.lab_core.specs.Sessions.{OpenSwap, WereOpen, blames_now, counted_from, tells_end}
 use Rattle.lab_core.specs.Lists.{Listing, Lists, Ground, Past}
 use Rattle.lab_core.specs.Obey.{Doing, Wanting}
 
@@ -48,8 +48,9 @@ pub record HasComeTo {X : Type 0} (l : Listing X) (o : Origin X) (exp : Option (
   pub devices : o.before.faults.devices ≤ now.faults.devices
   pub runs : o.before.stopped ≡ false → now.stopped ≡ false
 
--- the whole reply blames a device only where it did before or the new reply does, and closes where the last reply does
+-- the whole reply blames a device only where it did before or the new reply does, closes where the last reply does, and tells of no swap that has ended
 pub record TellsAll {X : Type 0} (l : Listing X) : Type 0 where
   pub blames : (at : X) (reply : Reply) → blames_device (l.whole (l.behind at reply)) ≡ true → (blames_device (l.whole at) ≡ true) ⊎ (blames_device reply ≡ true)
   pub here : (at : X) (reply : Reply) → blames_now (l.whole (l.behind at reply)) ≡ true → (blames_now (l.whole at) ≡ true) ⊎ (blames_device reply ≡ true)
   pub shuts : (at : X) (reply : Reply) → closes reply ≡ true → closes (l.whole (l.behind at reply)) ≡ true
+  pub ends : (at : X) → tells_end (l.whole at) ≡ false

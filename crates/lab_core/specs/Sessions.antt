@@ -85,10 +85,27 @@ WasOpen old o = (q : OpenSwap) × Has old q × (name_in q ≡ name_in o) × (q.d
 abbrev pub WereOpen : List OpenSwap → List OpenSwap → Type 0
 WereOpen old new = (o : OpenSwap) → Has new o → WasOpen old o
 
--- each of these open swaps was open before; or the command is about its experiment, the reply tells that it has begun, and its count is this one
+-- the reply tells that a swap has ended: its experiment is in or out, or stuck
+abbrev pub tells_end : Reply → Bool
+tells_end (replies.In exp) = true
+tells_end (replies.Out exp) = true
+tells_end (replies.Failed exp end what) = true
+tells_end reply = false
+
+-- and it is that of the name. Where the journal is why, the reply closes the controller, and no swap is open behind it.
+abbrev pub ends_swap : Option Reply → List ℕ → Bool
+ends_swap None name = false
+ends_swap (Some (replies.In exp)) name = bytes_eq exp name
+ends_swap (Some (replies.Out exp)) name = bytes_eq exp name
+ends_swap (Some (replies.Failed exp ends.Stuck whats.Journal)) name = false
+ends_swap (Some (replies.Failed exp end what)) name = bytes_eq exp name
+ends_swap (Some reply) name = false
+
+-- each of these open swaps was open before, and the reply does not tell that it has ended; or the command is about its experiment, the reply tells that
+-- it has begun, and its count is this one
 abbrev pub AreOpenedBy : Option (List ℕ) → Option Reply → List OpenSwap → List OpenSwap → ℕ → Type 0
 AreOpenedBy exp reply old new count =
-    (o : OpenSwap) → Has new o → ((exp ≡ Some (name_in o)) × (reply ≡ Some (replies.More (name_in o))) × (o.devices ≡ count)) ⊎ WasOpen old o
+    (o : OpenSwap) → Has new o → ((exp ≡ Some (name_in o)) × (reply ≡ Some (replies.More (name_in o))) × (o.devices ≡ count)) ⊎ ((ends_swap reply (name_in o) ≡ false) × WasOpen old o)
 
 -- THE REPLY BLAMES A DEVICE for what the command itself sent: that trouble begins the undo, or the experiment is stuck by it; or the reply that ended
 -- `play` or to a run of `batch` blames one, since the swaps of a list are its own

@@ -25,6 +25,7 @@ use Rattle.lab_core.specs.declared.task.Task.TheVariants as tasks
 use Rattle.lab_core.specs.declared.task.Refusal.{Refusal}
 use Rattle.lab_core.specs.declared.task.Refusal.TheVariants.{Refused, Memory}
 use Rattle.lab_core.specs.Judge.{Task, Tell, Append, Swap, BeginOnly, Turn, Finish, Recover}
+use Rattle.lab_core.specs.Sessions.{tells_end}
 
 -- the task that is in hand
 abbrev pub task_of : TaskInHand → Task
@@ -36,9 +37,9 @@ task_of (tasks.Turn exp) = Turn exp
 task_of (tasks.Finish exp) = Finish exp
 task_of tasks.Recover = Recover
 
--- the reply neither closes the controller nor blames a device
+-- the reply neither closes the controller nor blames a device, and tells of no swap that has ended
 abbrev pub IsMild : Reply → Type 0
-IsMild reply = (closes reply ≡ false) × (blames_device reply ≡ false)
+IsMild reply = (closes reply ≡ false) × (blames_device reply ≡ false) × (tells_end reply ≡ false)
 
 -- it gives what is judged, or memory was wanting
 abbrev pub Gives : Result Task Reply → Result TaskInHand Refusal → Type 0

@@ -21,7 +21,7 @@ use Rattle.lab_core.specs.Controller.{Control, WorksWith}
 use Rattle.lab_core.specs.Commands.{DoesCommand}
 use Rattle.lab_core.specs.LabSteps.{Drills, StepOf, is_planned, is_refused, wants_memory}
 use Rattle.lab_core.specs.Moments.{AllStandFor, IsLabAt, IsLengthAt}
-use Rattle.lab_core.specs.Sessions.{OpenSwap, Session, Closed, Open, AreOpenedBy, IsSince, name_of, Terms}
+use Rattle.lab_core.specs.Sessions.{OpenSwap, Session, Closed, Open, AreOpenedBy, IsSince, ends_swap, name_in, name_of, Terms}
 use Rattle.lab_core.specs.Tells.{opens_of}
 use Rattle.lab_top.specs.declared.command.CommandFault.{CommandFault}
 use Rattle.lab_top.specs.declared.command.CommandFault.TheVariants as faults
@@ -207,6 +207,11 @@ mild terms drill old new (Ok reply) (inl planned) = (ap closes planned.0, ap bla
 mild terms drill old new (Ok reply) (inr refused) = (ap closes refused.0, ap blames_device refused.0, tt)
 mild terms drill old new (Err fault) wants = (refl, refl, ap (λ f. let r : Result Reply CommandFault = Err f in r) wants.0)
 
+drill_ends : (terms : Terms) (drill : Drill) (old new : Option Told) (result : Result Reply CommandFault) → Plans terms.takes drill old new result → (name : List ℕ) → ends_swap (reply_if result) name ≡ false
+drill_ends terms drill old new (Ok reply) (inl planned) name = ap (λ r. ends_swap (Some r) name) planned.0
+drill_ends terms drill old new (Ok reply) (inr refused) name = ap (λ r. ends_swap (Some r) name) refused.0
+drill_ends terms drill old new (Err fault) wants name = refl
+
 kept_shut : (reply : Option Reply) (from : Session) → closes_if reply ≡ false → stays_open reply ≡ false → kept_by reply from ≡ Closed
 kept_shut None from mild shut = refl
 kept_shut (Some reply) from mild shut = let open_now : stays_open (Some reply) ≡ true = ap not mild in absurd (cc (open_now, shut))
@@ -215,9 +220,9 @@ kept_so : (reply : Option Reply) (from : Session) → is_some reply ≡ true →
 kept_so None from some = absurd (cc some)
 kept_so (Some reply) from some = refl
 
-opened_kept : (exp : Option (List ℕ)) (reply : Option Reply) (from : Session) (count : ℕ) → AreOpenedBy exp reply (opens_of from) (opens_of (kept_by reply from)) count
-opened_kept exp None from count o there = absurd there
-opened_kept exp (Some reply) from count o there = inr (o, there, refl, refl)
+opened_kept : (exp : Option (List ℕ)) (reply : Option Reply) (from : Session) (count : ℕ) → ((name : List ℕ) → ends_swap reply name ≡ false) → AreOpenedBy exp reply (opens_of from) (opens_of (kept_by reply from)) count
+opened_kept exp None from count stays o there = absurd there
+opened_kept exp (Some reply) from count stays o there = inr (stays (name_in o), (o, there, refl, refl))
 
 pub ends_drill : (terms : Terms) (command : Command) (drill : Drill) → drill_of command ≡ Some drill → (old new : Moment) (result : Result Reply CommandFault) → Plans terms.takes drill old.plant.told new.plant.told result → new.plant.faults ≡ old.plant.faults → new.plant.stopped ≡ old.plant.stopped
     → new.controller ≡ old.controller → (from : Session) → HasSession old from → IfSome old.plant.told (λ t. AsRead t.trace) → Ends terms command old new from result
@@ -230,7 +235,7 @@ ends_drill terms command drill is old new result plans count still kept from goe
     (λ shut. absurd (cc (mild_so.0, shut)))
     (λ blamed. absurd (cc (mild_so.1, blamed)))
     (λ blamed. absurd (cc (blames_none (reply_if result) mild_so.1, blamed)))
-    (opened_kept (name_of command) (reply_if result) from old.plant.faults.devices)
+    (opened_kept (name_of command) (reply_if result) from old.plant.faults.devices (drill_ends terms drill old.plant.told new.plant.told result plans))
     (λ some was. still ∙ was)
     mild_so.2
     (λ some. subst (HasSession new) (kept_so (reply_if result) from some) (record {

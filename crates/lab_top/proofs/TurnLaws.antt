@@ -116,7 +116,7 @@ pub all_marked : (terms : Terms) (entry exit : Faults) (session : Session) (made
 all_marked terms entry exit session [] after o counts handed there = inl (o, there, refl, refl)
 all_marked terms entry exit session (b ∷ made) after o counts handed there =
     ⊎_elim
-    (λ x. ⊎_elim (λ same. inr ([], b, made, refl, sym same.2 ∙ x.3)) (λ q. inl (q.0, subst (λ s. Has (opens_of s) q.0) handed.0 q.1, q.2 ∙ x.2, q.3 ∙ x.3)) (counts.1.opened x.0 x.1))
+    (λ x. ⊎_elim (λ same. inr ([], b, made, refl, sym same.2 ∙ x.3)) (λ (_, q). inl (q.0, subst (λ s. Has (opens_of s) q.0) handed.0 q.1, q.2 ∙ x.2, q.3 ∙ x.3)) (counts.1.opened x.0 x.1))
     (λ x. inr (b ∷ x.0, x.1, x.2, ap (λ l. b ∷ l) x.3, x.4))
     (all_marked terms b.later exit b.piece.to made after o counts.2 handed.1 there)
 

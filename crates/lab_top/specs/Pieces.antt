@@ -121,8 +121,8 @@ IsPlannedBy terms (Some drill) planned reply = IsPlannedAs terms.takes planned r
 
 -- a reply that closes comes only where the disk's count rose; one that blames a device only where the devices' count rose since the mark of the command
 -- that opened the experiment's swap, or where none is open since that of this one; and since that of this one where it blames it for what the command
--- itself sent. Each swap that is open behind the command was open before it, with its count; or the reply tells that it has begun, of the command's own
--- experiment, and its count is that at the mark. A drill is planned as its reply tells.
+-- itself sent. Each swap that is open behind the command was open before it, with its count, and the reply does not tell that it has ended; or the reply
+-- tells that it has begun, of the command's own experiment, and its count is that at the mark. A drill is planned as its reply tells.
 pub record IsCaused (terms : Terms) (b : Begun) : Type 0 where
   pub later : Later b.piece.faults b.later
   pub disk : closes_if b.piece.reply ≡ true → Rose b.piece.faults.disk b.later.disk
