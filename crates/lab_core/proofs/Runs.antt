@@ -83,7 +83,7 @@ module _ (s : LabState) (busy : Bool) (count : ℕ) (exp : List ℕ) where
   tested_fits : (space : Bool) (lab : Lab) (left : List Left) (promises : List Promise) (span : Span) (own : List ℕ) (way : Way) (j : Result Task Reply) → (own ≡ exp) × (busy ≡ false) → IsTested space lab left promises span own way j → IsOf j
   tested_fits space lab left promises span own way j of (full no' is) = subst IsOf (sym is) of
   tested_fits space lab left promises span own way j of (fits room all is) = subst IsOf (sym is) of
-  tested_fits space lab left promises span own way j of (waits room wait short is) = subst IsOf (sym is) (refl, refl, (refl, refl))
+  tested_fits space lab left promises span own way j of (waits room wait short is) = subst IsOf (sym is) (refl, refl, (refl, refl, refl))
 
   module _ (rule : RuleNumber) (moment : ℕ) (promises : List Promise) (ends : List End) (run : Run) (named : run.exp ≡ exp) (space : Record → Bool) where
     place_fits : (lab : Lab) (e : Experiment) (j : Result Task Reply) → (e.name ≡ exp) × (busy ≡ false) → JudgedPlace rule moment promises ends run space s lab e j → IsOf j

@@ -70,6 +70,7 @@ silent_made terms command old new from to told made =
       device = λ is. absurd (cc is);
       here = λ is. absurd (cc is);
       opened = opened_none (name_of command) None (opens_of from) mark.devices;
+      shut = λ shut. refl;
       runs = λ some. absurd (cc some);
       goes_on = λ some. absurd (cc some);
       wants = λ none runs. map_some old.plant.told (λ t is. but_text told to is) b.is_piece;

@@ -292,7 +292,7 @@ module _ (terms : Terms) (command : Command) (no_drill : drill_of command ≡ No
 
   abbrev made : (reply : Option Reply) (begun : Begins terms command plant.faults plant.told new.plant.told Closed Closed reply) → (closes_if reply ≡ true → Rose plant.faults.disk new.plant.faults.disk) → blames_if reply ≡ false → (is_some reply ≡ true → new.plant.stopped ≡ false)
       → WantsAt reply begun.opening begun.own → Made terms command old new Closed Closed reply
-  made reply begun disk blameless runs wants = record { begun = begun; later = later; disk = disk; device = λ blamed. absurd (cc (blameless, blamed)); here = λ blamed. absurd (cc (blames_none reply blameless, blamed)); opened = opened_none (name_of command) reply [] plant.faults.devices; runs = λ some was. runs some; goes_on = λ some. goes_on; wants = wants }
+  made reply begun disk blameless runs wants = record { begun = begun; later = later; disk = disk; device = λ blamed. absurd (cc (blameless, blamed)); here = λ blamed. absurd (cc (blames_none reply blameless, blamed)); opened = opened_none (name_of command) reply [] plant.faults.devices; shut = λ shut. refl; runs = λ some was. runs some; goes_on = λ some. goes_on; wants = wants }
 
   abbrev silent_end : new.plant.told ≡ mid → WantsAt None steps [] → Made terms command old new Closed Closed None
   silent_end same wants = made None (begins_cut None refl same (λ some. absurd (cc some)) (map_some plant.told (λ t o. unanswered refl) opens.3)) (λ shut. absurd (cc shut)) refl (λ some. absurd (cc some)) wants
@@ -383,10 +383,10 @@ pub ends_of : (terms : Terms) (command : Command) (old new : Moment) (from to : 
     → AreOpenedBy (name_of command) (reply_if result) (opens_of from) (opens_of to) old.plant.faults.devices
     → (is_some (reply_if result) ≡ true → old.plant.stopped ≡ false → new.plant.stopped ≡ false) → OnErr result (result ≡ Err command_faults.Memory) → (is_some (reply_if result) ≡ true → HasSession new to)
     → (is_some (reply_if result) ≡ false → new.plant.stopped ≡ false → IfSome old.plant.told (λ t. WantsOnly terms t.trace (piece_of command old.plant.faults from to begun.opening begun.own (reply_if result)))) → Ends terms command old new from result
-ends_of terms command old new from to (Ok reply) begun closed later down device here since runs memory goes_on wants = (to, record { begun = begun; later = later; disk = down; device = device; here = here; opened = since; runs = runs; goes_on = goes_on; wants = wants })
+ends_of terms command old new from to (Ok reply) begun closed later down device here since runs memory goes_on wants = (to, record { begun = begun; later = later; disk = down; device = device; here = here; opened = since; shut = closed; runs = runs; goes_on = goes_on; wants = wants })
 ends_of terms command old new from to (Err fault) begun closed later down device here since runs memory goes_on wants =
     subst (λ r. Ends terms command old new from r) (sym memory)
-    (subst (λ s. Made terms command old new from s None) (closed refl) (record { begun = begun; later = later; disk = down; device = device; here = here; opened = since; runs = runs; goes_on = goes_on; wants = wants }))
+    (subst (λ s. Made terms command old new from s None) (closed refl) (record { begun = begun; later = later; disk = down; device = device; here = here; opened = since; shut = closed; runs = runs; goes_on = goes_on; wants = wants }))
 
 -- the session of a controller that is there, and of none
 pub open_session : (plant : Seen) (k : Option Control) (c : Control) (from : Session) → k ≡ Some c → StandsAt plant k from → (swaps : List OpenSwap) × (from ≡ Open swaps) × IsOpen plant c swaps

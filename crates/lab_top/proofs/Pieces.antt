@@ -141,7 +141,7 @@ module _ (terms : Terms) (start before now : Moment) (begun : List Begun) (so : 
   one_more = record {
     told = made.begun.told ∙ ap (λ (o : Option Told). with_piece o next) so.told ∙ sym (told-push start.plant.told begun next);
     counts = counts-push terms start.plant.faults before.plant.faults begun next so.counts refl
-        (record { later = made.later; disk = made.disk; device = made.device; here = made.here; opened = made.opened; planned = made.begun.planned_by });
+        (record { later = made.later; disk = made.disk; device = made.device; here = made.here; opened = made.opened; planned = made.begun.planned_by; shut = made.shut });
     sessions = sessions-push Closed begun next so.sessions refl;
     are = map_both start.plant.told (λ t are is. pieces-push terms t.trace begun next are is) so.are (at_mark (λ l. IsPiece terms l next.piece) made.begun.is_piece);
   }

@@ -144,6 +144,7 @@ pub record Made (terms : Terms) (command : Command) (old new : Moment) (from to 
   pub device : blames_if reply ≡ true → Rose (counted_from (opens_of from) (name_of command) old.plant.faults.devices) new.plant.faults.devices
   pub here : blames_now_if reply ≡ true → Rose old.plant.faults.devices new.plant.faults.devices
   pub opened : AreOpenedBy (name_of command) reply (opens_of from) (opens_of to) old.plant.faults.devices
+  pub shut : stays_open reply ≡ false → to ≡ Closed
   pub runs : is_some reply ≡ true → old.plant.stopped ≡ false → new.plant.stopped ≡ false
   pub goes_on : is_some reply ≡ true → HasSession new to
   pub wants : is_some reply ≡ false → new.plant.stopped ≡ false

@@ -107,6 +107,16 @@ abbrev pub blames_now_if : Option Reply → Bool
 blames_now_if None = false
 blames_now_if (Some reply) = blames_now reply
 
+-- the session stays open only behind a reply that doesn't close it, and is closed only behind one that closes it, behind `stopped`, or where there is none
+abbrev pub stays_open : Option Reply → Bool
+stays_open None = false
+stays_open (Some reply) = not (closes reply)
+
+abbrev pub may_shut : Option Reply → Bool
+may_shut None = true
+may_shut (Some Stopped) = true
+may_shut (Some reply) = closes reply
+
 -- A DRILL IS PLANNED exactly where its reply tells it, and that only over a plant that takes drills; without a reply it may be. It has no other reply.
 -- No other command plans one.
 abbrev pub IsPlannedAs : Bool → Bool → Option Reply → Type 0
@@ -122,7 +132,8 @@ IsPlannedBy terms (Some drill) planned reply = IsPlannedAs terms.takes planned r
 -- a reply that closes comes only where the disk's count rose; one that blames a device only where the devices' count rose since the mark of the command
 -- that opened the experiment's swap, or where none is open since that of this one; and since that of this one where it blames it for what the command
 -- itself sent. Each swap that is open behind the command was open before it, with its count, and the reply does not tell that it has ended; or the reply
--- tells that it has begun, of the command's own experiment, and its count is that at the mark. A drill is planned as its reply tells.
+-- tells that it has begun, of the command's own experiment, and its count is that at the mark. A drill is planned as its reply tells. Behind a reply that
+-- closes, and where there is none, the session is closed.
 pub record IsCaused (terms : Terms) (b : Begun) : Type 0 where
   pub later : Later b.piece.faults b.later
   pub disk : closes_if b.piece.reply ≡ true → Rose b.piece.faults.disk b.later.disk
@@ -130,6 +141,7 @@ pub record IsCaused (terms : Terms) (b : Begun) : Type 0 where
   pub here : blames_now_if b.piece.reply ≡ true → Rose b.piece.faults.devices b.later.devices
   pub opened : AreOpenedBy (name_of b.piece.command) b.piece.reply (opens_of b.piece.from) (opens_of b.piece.to) b.piece.faults.devices
   pub planned : IsPlannedBy terms (drill_of b.piece.command) b.planned b.piece.reply
+  pub shut : stays_open b.piece.reply ≡ false → b.piece.to ≡ Closed
 
 -- THE COUNTS OF FAULTS begin with those of the entry and end with those of the exit
 abbrev pub Counts : Terms → Faults → List Begun → Faults → Type 0
@@ -207,16 +219,6 @@ abbrev pub Finds : Option Drill → Session → List Event → Piece → Type 0
 Finds (Some drill) from trace piece = (piece.opening ≡ []) × (piece.own ≡ []) × (is_some piece.reply ≡ true → piece.to ≡ from)
 Finds None Closed trace piece = (has_change piece.opening ≡ true → IsJournal (disk A trace).reads (disk B trace).reads (2 ^ 32)) × IsOpening trace piece
 Finds None (Open opens) trace piece = piece.opening ≡ []
-
--- the session stays open only behind a reply that doesn't close it, and is closed only behind one that closes it, behind `stopped`, or where there is none
-abbrev pub stays_open : Option Reply → Bool
-stays_open None = false
-stays_open (Some reply) = not (closes reply)
-
-abbrev pub may_shut : Option Reply → Bool
-may_shut None = true
-may_shut (Some Stopped) = true
-may_shut (Some reply) = closes reply
 
 -- THE SIDES ARE NO JOURNAL, and the program leaves them as they are: a command that is no drill finds the session closed; both sides are synced, and
 -- nothing else is done, so neither reads other than before
