@@ -1,19 +1,24 @@
 -- The journal's move onto its other side, over what a plant tells.
-use Rattle.std.proofs.Common.{◌≡◌, ◌≤◌, ℕ, ◌+◌, ◌-◌, ◌*◌, ◌^◌, true, false, ◌&&◌, List, [], ◌∷◌, ◌++◌, length, Option, Some, None, Result, Ok, Err, IfSome, refl, sym, ap, subst, ◌∙◌, arith}
+use Rattle.std.proofs.Common.{◌≡◌, ◌⊎◌, inl, inr, fold, ◌≤◌, ℕ, ◌+◌, ◌-◌, ◌*◌, ◌^◌, true, false, ◌&&◌, List, [], ◌∷◌, ◌++◌, length, Option, Some, None, Result, Ok, Err, IfSome, refl, sym, ap, subst, ◌∙◌, arith}
 use Rattle.std.specs.Prelude.{OnOk, nat_lt, nat_le}
 use Rattle.std.proofs.lemmas.Bool.{and_parts, lt-ltb, le-leb, ltb-true, leb-true}
 use Rattle.std.proofs.lemmas.List.{append-nil, append_cancel_left, length-append}
-use Rattle.plant.specs.Disks.{disk}
-use Rattle.plant.specs.Events.{Event}
+use Rattle.std.proofs.lemmas.List.Sums.{fold-append}
+use Rattle.plant.specs.Disks.{Disk, disk, disk_after}
+use Rattle.plant.specs.Events.{Event, Missed}
 use Rattle.plant.specs.Told.{Told, with_steps}
 use Rattle.plant.specs.declared.step.Side.{Side}
+use Rattle.plant.specs.declared.step.Side.TheVariants.{A, B}
 use Rattle.journal_rec.specs.declared.record.Record.{Record}
 use Rattle.journal_rec.specs.Payloads.{le, number}
 use Rattle.journal_model.specs.Appends.{blocks, other_side}
 use Rattle.journal_model.specs.Journals.{Headed, On, head, gate_after, magic}
 use Rattle.journal_model.proofs.Gates.{length_front}
+use Rattle.journal_model.proofs.Traces.{disk_more}
 use Rattle.journal_packed.specs.Packing.{ArePacked, side_length}
-use Rattle.journal_disk.specs.Compactions.{Compacts, Shifts as ShiftsImages}
+use Rattle.journal_disk.specs.Compacting.{Come, come_steps, is_unshut}
+use Rattle.journal_disk.specs.Compactions.{Compacts, Ends, Shifts as ShiftsImages}
+use Rattle.journal_disk.proofs.CompactSteps.{there_come}
 use Rattle.journal_disk.specs.Epochs.{epoch_of, HasEpoch}
 use Rattle.journal_disk.specs.Standing.{side_of, length_of, limit_of, IsAt}
 use Rattle.journal_disk.specs.declared.fault.CompactFault.{CompactFault}
@@ -77,7 +82,7 @@ is_needed size epoch s packed are none due = let half : nat_le (2 * side_length 
 -- where nothing was done
 undone : (s : LabState) (j : Journal) (told : Option Told) (result : Result (Unit {0}) OpenFault) → ((t : Told) → MoveEnds t.trace [] s j result) → AfterMove s j told told result
 undone s j told result ends =
-    ([], nothing_yet told, if_all told (λ t. MoveSteps t.trace [] s j result) (λ t. record { shifts = refl; no_restart = refl; sound = λ sound. subst (λ l. IsSound the_texts l) (sym (append-nil t.trace)) sound; ends = ends t }))
+    ([], nothing_yet told, if_all told (λ t. MoveSteps t.trace [] s j result) (λ t. record { shifts = refl; aside = ap (disk (side_of j)) (append-nil t.trace); no_restart = refl; sound = λ sound. subst (λ l. IsSound the_texts l) (sym (append-nil t.trace)) sound; ends = ends t }))
 
 pub stays_after : (s : LabState) (j : Journal) (told : Option Told) (done : Unit {0}) → (IsToMove (length_of j) (epoch_of j) s → ⊥) → AfterMove s j told told (Ok done)
 stays_after s j told done not = undone s j told (Ok done) (λ t. stays not refl)
@@ -93,7 +98,7 @@ of_fault trace steps s j faults.Memory ends = ends
 of_fault trace steps s j (faults.Bad side at) ends = ends
 
 after_as : (s : LabState) (j : Journal) (told now : Option Told) (r : Result (Unit {0}) OpenFault) (q : Result Control OpenFault) → ((trace steps : List Event) → MoveEnds trace steps s j r → MoveEnds trace steps s j q) → AfterMove s j told now r → AfterMove s j told now q
-after_as s j told now r q each after = (after.0, after.1, map_some told (λ t m. record { shifts = m.shifts; no_restart = m.no_restart; sound = m.sound; ends = each t.trace after.0 m.ends }) after.2)
+after_as s j told now r q each after = (after.0, after.1, map_some told (λ t m. record { shifts = m.shifts; aside = m.aside; no_restart = m.no_restart; sound = m.sound; ends = each t.trace after.0 m.ends }) after.2)
 
 pub done_as : (s : LabState) (j : Journal) (told now : Option Told) (done : Unit {0}) (c : Control) → AfterMove s j told now (Ok done) → AfterMove s j told now (Ok c)
 done_as s j told now done c after = after_as s j told now (Ok done) (Ok c) (λ trace steps ends. ends) after
@@ -117,6 +122,28 @@ pub is_due : (s : LabState) (size epoch : ℕ) (packed : List ℕ) → IsPacked 
 is_due s size epoch packed are may half =
     let both = and_parts (nat_lt 1048576 size) (nat_lt epoch (2 ^ 64 - 1)) may in
     record { long = ltb-true 1048576 size both.0; half = omega (arith, leb-true _ _ half, packed_side packed _ are.bytes); next = ltb-true epoch (2 ^ 64 - 1) both.1 }
+
+-- THE LIVE SIDE stays as it was
+nothing_more : (side live : Side) (more : List Event) (d : Disk) → (more ≡ []) ⊎ (more ≡ Missed side ∷ []) → fold (disk_after live) d more ≡ d
+nothing_more side live more d (inl none) = ap (fold (disk_after live) d) none
+nothing_more side A more d (inr one) = ap (fold (disk_after A) d) one
+nothing_more side B more d (inr one) = ap (fold (disk_after B) d) one
+
+last_few : (side : Side) (answer : Result (Unit {0}) CompactFault) (far : Come) (more : List Event) → Ends side answer far more → (more ≡ []) ⊎ (more ≡ Missed side ∷ [])
+last_few side (Ok u) far more ends = inl ends.1
+last_few side (Err moves.Plant) far more ends = inr ends
+last_few side (Err moves.Stopped) far more ends = inl ends
+
+stays_aside : (trace steps : List Event) (j : Journal) (packed : List ℕ) (answer : Result (Unit {0}) CompactFault) → Compacts trace steps j packed answer → disk (side_of j) (trace ++ steps) ≡ disk (side_of j) trace
+stays_aside trace steps j packed answer c =
+    let live = side_of j in
+    let d = disk live trace in
+    let come = come_steps (other_side live) (is_unshut (disk (other_side live) trace).reads) c.far in
+    disk_more live trace steps
+    ∙ ap (fold (disk_after live) d) c.steps_are
+    ∙ fold-append (disk_after live) d come c.more
+    ∙ ap (λ x. fold (disk_after live) x c.more) (there_come live d (is_unshut (disk (other_side live) trace).reads) c.far)
+    ∙ nothing_more (other_side live) live c.more d (last_few (other_side live) answer c.far c.more c.ends)
 
 -- THE MOVE of a journal that is to move
 module _ (s : LabState) (j : Journal) (told now : Option Told) (work : AtWork the_texts told j s) (packed : List ℕ) (are : IsPacked packed s) (due : IsToMove (length_of j) (epoch_of j) s) where
@@ -142,6 +169,7 @@ module _ (s : LabState) (j : Journal) (told now : Option Told) (work : AtWork th
         let quiet = shift_quiet trace steps j packed answer compacts in
         record {
           shifts = quiet.0;
+          aside = stays_aside trace steps j packed answer compacts;
           no_restart = quiet.1;
           sound = λ sound. shifts_sound the_texts trace j stands.records ps s (stands.works sound) lab room steps answer shifts quiet.0;
           ends = ends (λ sound. all_stand the_texts trace j stands.records ps s (stands.works sound) lab steps answer shifts);

@@ -147,6 +147,7 @@ module _ (limit : ℕ) (before mid now : Seen) (c : Control) (read : ReadTold be
         settled = settled_all settled.lab refl;
         to_move = due;
         shifts = m.shifts;
+        aside = m.aside;
         images = λ begins. subst (λ l. AllStandFor l settled.lab) joined (stand (sound_then begins));
       }
 
@@ -164,6 +165,7 @@ module _ (limit : ℕ) (before mid now : Seen) (c : Control) (read : ReadTold be
         settled = settled_all new.lab kept;
         compacts = subst (λ u. IsCompacted (t.trace ++ (read.0 ++ moving)) shifting (length_of j) (side_of j) (epoch_of j) u) (sym kept) ends;
         shifts = m.shifts;
+        aside = m.aside;
       }
       by_answer (Err faults.Plant) kept ends = inr (inr (shows is_miss (moving ++ shifting) moving shifting false true refl quiet.miss_is ends.0, in_move ends.1 ends.2))
       by_answer (Err faults.Stopped) kept ends = inr (inr (in_move ends.0 ends.1))

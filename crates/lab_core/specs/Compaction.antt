@@ -1,5 +1,6 @@
 -- The journal's move onto its other side, behind the settling of an opening.
 use Rattle.std.specs.Prelude.{◌≡◌, ◌<◌, ◌≤◌, ◌+◌, ◌-◌, ◌*◌, ◌^◌, ℕ, true, false, List, [], ◌++◌, Option, Result, Ok, Err, IfSome}
+use Rattle.plant.specs.Disks.{disk}
 use Rattle.plant.specs.Events.{Event}
 use Rattle.plant.specs.Told.{Told, with_steps}
 use Rattle.plant.specs.declared.step.Side.{Side}
@@ -62,8 +63,10 @@ MoveEnds trace steps s j (Err faults.Stopped) = IsToMove (length_of j) (epoch_of
 MoveEnds trace steps s j (Err faults.Memory) = steps ≡ []
 MoveEnds trace steps s j (Err (faults.Bad side at)) = ⊥
 
+-- the live side stays as it was, whatever came of it
 pub record MoveSteps {X : Type 0} (trace steps : List Event) (s : LabState) (j : Journal) (result : Result X OpenFault) : Type 0 where
   pub shifts : Shifts steps
+  pub aside : disk (side_of j) (trace ++ steps) ≡ disk (side_of j) trace
   pub no_restart : has_restart steps ≡ false
   pub sound : IsSound the_texts trace → IsSound the_texts (trace ++ steps)
   pub ends : MoveEnds trace steps s j result

@@ -95,7 +95,7 @@ pub record HasSettledAll (trace reading moving : List Event) (limit length : ℕ
   pub settles : Settles start (swaps_of [] start.experiments) outcomes moving lab
   pub placed : IsPlaced trace (trace ++ (reading ++ moving)) length side epoch
 
--- AFTER Ok: all are settled, and then the journal was moved exactly where it is to move
+-- AFTER Ok: all are settled, and then the journal was moved exactly where it is to move; the side that was live is as it was
 pub record HasOpened (trace reading behind : List Event) (limit : ℕ) (c : Control) : Type 0 where
   pub moving : List Event
   pub shifting : List Event
@@ -106,8 +106,10 @@ pub record HasOpened (trace reading behind : List Event) (limit : ℕ) (c : Cont
   pub settled : HasSettledAll trace reading moving limit length side epoch c.lab
   pub compacts : IsCompacted (trace ++ (reading ++ moving)) shifting length side epoch c.lab
   pub shifts : Shifts shifting
+  pub aside : disk side ((trace ++ (reading ++ moving)) ++ shifting) ≡ disk side (trace ++ (reading ++ moving))
 
--- THE MOVE OF THE JOURNAL BROKE OFF, where it is to move: over a sound trace each possible image stands for the lab that all settlings led to
+-- THE MOVE OF THE JOURNAL BROKE OFF, where it is to move: the side that was live is as it was, and over a sound trace each possible image stands for the
+-- lab that all settlings led to
 pub record ShiftsInPart (trace reading behind : List Event) (limit : ℕ) : Type 0 where
   pub moving : List Event
   pub shifting : List Event
@@ -119,6 +121,7 @@ pub record ShiftsInPart (trace reading behind : List Event) (limit : ℕ) : Type
   pub settled : HasSettledAll trace reading moving limit length side epoch lab
   pub to_move : IsToMove length epoch lab
   pub shifts : Shifts shifting
+  pub aside : disk side ((trace ++ (reading ++ moving)) ++ shifting) ≡ disk side (trace ++ (reading ++ moving))
   pub images : IsSound the_texts trace → AllStandFor (trace ++ (reading ++ behind)) lab
 
 -- THE SETTLING BROKE OFF in one, by a call of the journal that failed or by a stop; and over a sound trace each possible image stands for a lab to which

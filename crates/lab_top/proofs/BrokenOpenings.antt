@@ -252,11 +252,11 @@ module _ (terms : Terms) (trace : List Event) (command : Command) (mark : Faults
 
     -- the move of the journal
     module _ (p : ShiftsInPart trace reading behind (2 ^ 32)) where
-      shifting_due : IsDue trace (reading ++ p.moving) p.lab
-      shifting_due = record { length = p.length; side = p.side; epoch = p.epoch; placed = p.settled.placed; to_move = p.to_move }
+      shifting_due : (behind : List Event) → has_change behind ≡ false → IsDue trace (reading ++ p.moving) (p.shifting ++ behind) p.lab
+      shifting_due behind nothing = record { length = p.length; side = p.side; epoch = p.epoch; placed = p.settled.placed; to_move = p.to_move; moves = p.shifting; behind = behind; are = refl; aside = p.aside; nothing = nothing }
 
       shifting_so : Shifting reading p.settled.start behind p.lab
-      shifting_so = record { moving = p.moving; shifting = p.shifting; parts = p.parts; outcomes = p.settled.outcomes; settles = p.settled.settles; shifts = p.shifts; due = λ changed. shifting_due }
+      shifting_so = record { moving = p.moving; shifting = p.shifting; parts = p.parts; outcomes = p.settled.outcomes; settles = p.settled.settles; shifts = p.shifts; due = λ changed. subst (λ l. IsDue trace (reading ++ p.moving) l p.lab) (append-nil p.shifting) (shifting_due [] refl) }
 
       shifting_cut : (reply : Option Reply) → leaves_one Closed reply ≡ false → Breaks all reply → AsRead (trace ++ all) → IsPiece terms trace (of all reply)
       shifting_cut reply other breaks then =
@@ -274,7 +274,7 @@ module _ (terms : Terms) (trace : List Event) (command : Command) (mark : Faults
             outcomes = s.outcomes;
             settles = s.settles;
             shifts = shows is_command (p.shifting ++ Restarted a b ∷ []) p.shifting (Restarted a b ∷ []) false false refl p.shifts refl;
-            due = λ changed. shifting_due;
+            due = λ changed. shifting_due (Restarted a b ∷ []) refl;
           } in
           part_again readable reading behind o.reads o.no_restart o.sound s.start s.read (Shifting reading s.start) (shifting_part reading (2 ^ 32) s.start o.reads s.read) (shifting_writes reading (2 ^ 32) s.start o.reads s.read) a b there p.lab again (λ first. (p.lab, p.images first a b there, again))
 

@@ -321,9 +321,9 @@ module _ (trace reading behind : List Event) (c : Control) (o : OpenSteps trace 
 
   -- the journal was moved where it was to move
   due_by : {length : ℕ} {side : Side} {epoch : ℕ} → IsPlaced trace (trace ++ (reading ++ o.ends.moving)) length side epoch → IsCompacted (trace ++ (reading ++ o.ends.moving)) o.ends.shifting length side epoch c.lab
-      → MovesDue trace (reading ++ o.ends.moving) o.ends.shifting c.lab
-  due_by placed (stays not none) changed = absurd (cc (ap has_change none, changed))
-  due_by placed (moves due quiet moved) changed = record { length = _; side = _; epoch = _; placed = placed; to_move = due }
+      → disk side ((trace ++ (reading ++ o.ends.moving)) ++ o.ends.shifting) ≡ disk side (trace ++ (reading ++ o.ends.moving)) → MovesDue trace (reading ++ o.ends.moving) o.ends.shifting c.lab
+  due_by placed (stays not none) aside changed = absurd (cc (ap has_change none, changed))
+  due_by placed (moves due quiet moved) aside changed = record { length = _; side = _; epoch = _; placed = placed; to_move = due; moves = o.ends.shifting; behind = []; are = sym (append-nil o.ends.shifting); aside = aside; nothing = refl }
 
   -- from whatever lab the sides stood for
   pub has_led : Stands the_texts (trace ++ (reading ++ behind)) c.journal c.lab → (s : LabState) → IsLabAt trace s → HasLed trace (reading ++ behind) s
@@ -331,7 +331,7 @@ module _ (trace reading behind : List Event) (c : Control) (o : OpenSteps trace 
     mid = c.lab;
     opens = opens_so;
     makes = o.reads.changes;
-    moves = due_by o.ends.settled.placed o.ends.compacts;
+    moves = due_by o.ends.settled.placed o.ends.compacts o.ends.aside;
     compact = compact_behind trace reading behind c o.ends (standing_lab (trace ++ (reading ++ behind)) c stands);
   })
 

@@ -177,16 +177,22 @@ pub record IsCompact (trace opening : List Event) (mid : LabState) : Type 0 wher
 abbrev pub MakesNew : List Event → List Event → Type 0
 MakesNew trace steps = has_change steps ≡ true → live (head (disk A trace).reads) (head (disk B trace).reads) ≡ New
 
--- and a part that moves the journal does so only where that is to move, in that lab, behind those steps
-pub record IsDue (trace front : List Event) (s : LabState) : Type 0 where
+-- and a part that moves the journal, behind those steps and in that lab, does so only where that is to move; and the side that was live stays as it was,
+-- up to the start of a plant that stopped
+pub record IsDue (trace front steps : List Event) (s : LabState) : Type 0 where
   pub length : ℕ
   pub side : Side
   pub epoch : ℕ
   pub placed : IsPlaced trace (trace ++ front) length side epoch
   pub to_move : IsToMove length epoch s
+  pub moves : List Event
+  pub behind : List Event
+  pub are : steps ≡ moves ++ behind
+  pub aside : disk side ((trace ++ front) ++ moves) ≡ disk side (trace ++ front)
+  pub nothing : has_change behind ≡ false
 
 abbrev pub MovesDue : List Event → List Event → List Event → LabState → Type 0
-MovesDue trace front steps s = has_change steps ≡ true → IsDue trace front s
+MovesDue trace front steps s = has_change steps ≡ true → IsDue trace front steps s
 
 -- it led from that lab to another, in which the journal is compact
 pub record HasLed (trace opening : List Event) (s : LabState) : Type 0 where
