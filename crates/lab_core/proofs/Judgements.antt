@@ -70,6 +70,7 @@ judged_once rule s busy count (commands.Play exp from to lines text) a b alone p
 judged_once rule s busy count (commands.Batch moment lines text) a b alone p q = absurd p
 judged_once rule s busy count (commands.Delete exp) a b alone p q = p ∙ sym q
 judged_once rule s busy count commands.Status a b alone p q = p ∙ sym q
+judged_once rule s busy count commands.Audit a b alone p q = absurd p
 
 -- ---- `create`, by what the code gave
 read_so : (t : List ℕ) (w : Wiring) → HasWiring t (Ok w) → WiringOf t (Ok w)

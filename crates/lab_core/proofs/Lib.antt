@@ -1,59 +1,61 @@
+mod Audited
 mod Behind
-pub mod Beside
-pub mod BySolution
 mod Claimed
 mod Compacting
+mod Composing
 mod EndOne
-pub mod Fits
+mod InTurn
 mod JudgeSwap
 mod JudgeTasks
 mod Judgements
-pub mod Obey
+mod Keeping
+mod ListCommands
 mod ObeyJudged
-pub mod OneJournal
-mod OpenSwaps
-pub mod OpenMoves
 mod OpenNames
+mod OpenSwaps
 mod Opened
+mod PerformAppend
+mod PerformSwap
+mod Plays
+mod Readiness
+mod Recovering
+mod RunSwap
+mod RunsInTurn
+mod SearchLaws
+mod Searched
+mod Served
+mod SettledOpenings
+mod Shown
+mod SwapReplies
+mod Tags
+mod Taken
+mod Told
+mod TurnLabs
+mod TurnOne
+mod Unanswered
+mod WaysIn
+pub mod Beside
+pub mod BySolution
+pub mod Events
+pub mod Fits
+pub mod ListSteps
+pub mod Listings
+pub mod Obey
+pub mod OneJournal
 pub mod OpenLaws
+pub mod OpenMoves
 pub mod Openings
 pub mod OtherWorlds
 pub mod Others
 pub mod OuterReplies
-mod PerformAppend
-mod PerformSwap
+pub mod Parts
 pub mod Places
-mod Readiness
-mod Recovering
 pub mod Rested
-mod RunSwap
-pub mod SameSwaps
+pub mod Runs
 pub mod Said
-mod SettledOpenings
-mod SearchLaws
-mod Searched
-mod Shown
+pub mod SameSwaps
 pub mod SolutionLaws
 pub mod StepLaws
-mod Tags
-mod Taken
-mod Told
 pub mod TurnLaws
-mod TurnLabs
-mod TurnOne
-mod WaysIn
-mod Keeping
-pub mod Listings
-mod Composing
-mod InTurn
-mod ListCommands
-pub mod Parts
-mod Plays
-mod SwapReplies
-pub mod Events
-pub mod Runs
-mod RunsInTurn
-mod Served
-pub mod ListSteps
 pub mod Wanting
 mod EventChanges

@@ -31,6 +31,7 @@ use Rattle.lab_core.specs.Serving.{JudgedBatch, Serving, has_run, is_run_of, run
 use Rattle.lab_core.specs.Judge.{Task}
 use Rattle.lab_core.specs.Sessions.{OpenSwap, Session, Setting, After, Closed, Open, Terms, name_in, name_of, names_of}
 use Rattle.lab_core.specs.Tells.{AllMove, IsAtRest, TellsPlace, busy_of, is_of_drill, is_stopped, of_drill_if, opens_of, settles}
+use Rattle.lab_core.proofs.Audited.{audit_moves, audit_no_drill, audit_opens, audit_place, audit_stays, audit_stops}
 use Rattle.lab_core.proofs.Events.{events_are, plays_refuse}
 use Rattle.lab_core.proofs.Fits.{is_outer}
 use Rattle.lab_core.proofs.Listings.{IsAboutThese, lists_stay, others_stay, outer_calm, past_stays, same_open, stops}
@@ -48,6 +49,7 @@ pub plain_step : (terms : Terms) (at : List Event) (set : Setting) (s : LabState
     → StepOf (drill_of command) (DoesBy (JudgedBeside terms.rule command) set) terms s session opening own after
 plain_step terms at set s session (commands.Play exp from to lines text) opening own after no' step = absurd (cc no')
 plain_step terms at set s session (commands.Batch moment lines text) opening own after no' step = absurd (cc no')
+plain_step terms at set s session commands.Audit opening own after no' step = absurd (cc no')
 plain_step terms at set s session command opening own after no' step = step
 
 none_some : {X : Type 0} (reply : Reply) → None ≡ Some reply → X
@@ -271,6 +273,7 @@ module _ (terms : Terms) (at : List Event) (set : Setting) (s : LabState) (sessi
   pub all_stop : (command : Command) (reply : Reply) → after.reply ≡ Some reply → LabStep terms at set s session command opening own after → has_restart (opening ++ own) ≡ is_stopped reply
   all_stop (commands.Play exp from to lines text) reply is step = list_stops (events_in_turn exp) (playing exp from to text) _ (plays_any exp from to text) terms at set s opening own after session reply is step
   all_stop (commands.Batch moment lines text) reply is step = list_stops (runs_in_turn terms.rule moment) (serving text) _ (batches_any terms.rule moment text) terms at set s opening own after session reply is step
+  all_stop commands.Audit reply is step = audit_stops terms at set s opening own after session reply is step
   all_stop command reply is step = plain_stops command refl reply is step
 
   plain_stays : (command : Command) → is_list command ≡ false → (name : List ℕ) → is_some s.lab ≡ true → name_of command ≢ Some name → (settles session command name ≡ true → IsAtRest s name) → LabStep terms at set s session command opening own after → Stays name s after.lab
@@ -285,6 +288,7 @@ module _ (terms : Terms) (at : List Event) (set : Setting) (s : LabState) (sessi
   all_stay (commands.Batch moment lines text) name there other rests step =
       list_stays (runs_in_turn terms.rule moment) (serving text) (but name) (batches_are terms.rule moment text (but name) (no_run_in (batch_of_text text) name other)) terms at set s opening own after session name there (but_not name)
       (λ closed. rests (ap (λ (x : Session). settles x (commands.Batch moment lines text) name) closed)) step
+  all_stay commands.Audit name there other rests step = audit_stays terms at set s opening own after session name there (λ closed. rests (ap (λ (x : Session). settles x commands.Audit name) closed)) step
   all_stay command name there other rests step = plain_stays command refl name there (about_not command name other) rests step
 
   plain_drills : (command : Command) → is_list command ≡ false → is_some (drill_of command) ≡ true → LabStep terms at set s session command opening own after → (opening ≡ []) × (own ≡ []) × (after.lab ≡ s)
@@ -293,6 +297,7 @@ module _ (terms : Terms) (at : List Event) (set : Setting) (s : LabState) (sessi
   pub all_drills : (command : Command) → is_some (drill_of command) ≡ true → LabStep terms at set s session command opening own after → (opening ≡ []) × (own ≡ []) × (after.lab ≡ s)
   all_drills (commands.Play exp from to lines text) is step = absurd (cc is)
   all_drills (commands.Batch moment lines text) is step = absurd (cc is)
+  all_drills commands.Audit is step = absurd (cc is)
   all_drills command is step = plain_drills command refl is step
 
   -- which swaps are open
@@ -305,6 +310,7 @@ module _ (terms : Terms) (at : List Event) (set : Setting) (s : LabState) (sessi
   pub all_leave : (command : Command) (to : List OpenSwap) → after.session ≡ Open to → LabStep terms at set s session command opening own after → (to ≡ opens_of session) ⊎ ((judgement : Result Task Reply) × Leaves set session command judgement to)
   all_leave (commands.Play exp from to' lines text) to is step = inl (list_opens (events_in_turn exp) (playing exp from to' text) _ (plays_any exp from to' text) terms at set s opening own after session to is step)
   all_leave (commands.Batch moment lines text) to is step = inl (list_opens (runs_in_turn terms.rule moment) (serving text) _ (batches_any terms.rule moment text) terms at set s opening own after session to is step)
+  all_leave commands.Audit to is step = inl (audit_opens terms at set s opening own after session to is step)
   all_leave command to is step = inr (plain_leaves command refl to is step)
 
   plain_moves : (command : Command) → is_list command ≡ false → (to : List OpenSwap) → after.session ≡ Open to → (s.lab ≡ None → s.experiments ≡ []) → AllDiffer (busy_of session) → AllMove (opens_of session) s → LabStep terms at set s session command opening own after → AllMove to after.lab
@@ -315,6 +321,7 @@ module _ (terms : Terms) (at : List Event) (set : Setting) (s : LabState) (sessi
   pub all_move : (command : Command) (to : List OpenSwap) → after.session ≡ Open to → (s.lab ≡ None → s.experiments ≡ []) → AllDiffer (busy_of session) → AllMove (opens_of session) s → LabStep terms at set s session command opening own after → AllMove to after.lab
   all_move (commands.Play exp from to' lines text) to is empty differ all step = list_moves (events_in_turn exp) (playing exp from to' text) _ (plays_any exp from to' text) terms at set s opening own after session empty all to is step
   all_move (commands.Batch moment lines text) to is empty differ all step = list_moves (runs_in_turn terms.rule moment) (serving text) _ (batches_any terms.rule moment text) terms at set s opening own after session empty all to is step
+  all_move commands.Audit to is empty differ all step = audit_moves terms at set s opening own after session all to is step
   all_move command to is empty differ all step = plain_moves command refl to is empty differ all step
 
   plain_place : (command : Command) → is_list command ≡ false → (reply : Reply) → after.reply ≡ Some reply → LabStep terms at set s session command opening own after → TellsPlace reply after.lab
@@ -323,12 +330,14 @@ module _ (terms : Terms) (at : List Event) (set : Setting) (s : LabState) (sessi
   pub all_place : (command : Command) (reply : Reply) → after.reply ≡ Some reply → LabStep terms at set s session command opening own after → TellsPlace reply after.lab
   all_place (commands.Play exp from to lines text) reply is step = list_place (events_in_turn exp) (playing exp from to text) _ (plays_any exp from to text) terms at set s opening own after session reply is step
   all_place (commands.Batch moment lines text) reply is step = list_place (runs_in_turn terms.rule moment) (serving text) _ (batches_any terms.rule moment text) terms at set s opening own after session reply is step
+  all_place commands.Audit reply is step = audit_place terms at set s opening own after session reply is step
   all_place command reply is step = plain_place command refl reply is step
 
 -- NO REPLY OF A DRILL
 pub all_no_drill : (terms : Terms) (at : List Event) (set : Setting) (s : LabState) (session : Session) (command : Command) (opening own : List Event) (after : After) → drill_of command ≡ None → LabStep terms at set s session command opening own after → of_drill_if after.reply ≡ false
 all_no_drill terms at set s session (commands.Play exp from to lines text) opening own after is step = list_no_drill (events_in_turn exp) (playing exp from to text) _ (plays_any exp from to text) terms at set s opening own after session step
 all_no_drill terms at set s session (commands.Batch moment lines text) opening own after is step = list_no_drill (runs_in_turn terms.rule moment) (serving text) _ (batches_any terms.rule moment text) terms at set s opening own after session step
+all_no_drill terms at set s session commands.Audit opening own after is step = audit_no_drill terms at set s opening own after session step
 all_no_drill terms at set s session command opening own after is step = plain_no_drill command refl is step
   where
     plain_no_drill : (command : Command) → is_list command ≡ false → drill_of command ≡ None → LabStep terms at set s session command opening own after → of_drill_if after.reply ≡ false

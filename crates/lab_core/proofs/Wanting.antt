@@ -9,6 +9,7 @@ use Rattle.script_text.specs.declared.reply.Reply.{Reply}
 use Rattle.plant.specs.Seen.{Seen}
 use Rattle.lab_core.specs.declared.fault.CoreFault.{CoreFault}
 use Rattle.lab_core.specs.Controller.{Control}
+use Rattle.lab_core.specs.Auditing.{no_memory as audit_wants}
 use Rattle.lab_core.specs.Commands.{is_list}
 use Rattle.lab_core.specs.LabSteps.{JudgedBeside}
 use Rattle.lab_core.specs.Lists.{between, listed, no_memory, undone, wanting}
@@ -27,11 +28,13 @@ module _ (rule : RuleNumber) (devices : ℕ) (c : Control) (opens : List OpenSwa
   pub plain_wants : (command : Command) → is_list command ≡ false → Wants command → WantsIn (JudgedBeside rule command opens c.lab) (start_of devices c opens) own lab to
   plain_wants (commands.Play exp from until lines text) no' wants = absurd (cc no')
   plain_wants (commands.Batch moment lines text) no' wants = absurd (cc no')
+  plain_wants commands.Audit no' wants = absurd (cc no')
   plain_wants command no' wants = wants
 
   plain_done : (command : Command) → is_list command ≡ false → WantsIn (JudgedBeside rule command opens c.lab) (start_of devices c opens) own lab to → Ended command
   plain_done (commands.Play exp from until lines text) no' wants = absurd (cc no')
   plain_done (commands.Batch moment lines text) no' wants = absurd (cc no')
+  plain_done commands.Audit no' wants = absurd (cc no')
   plain_done command no' wants = wants_done (JudgedBeside rule command opens c.lab) (start_of devices c opens) own lab to wants
 
   -- THE COMMAND IS DONE as far as it came
@@ -40,6 +43,7 @@ module _ (rule : RuleNumber) (devices : ℕ) (c : Control) (opens : List OpenSwa
   command_wants (commands.Play exp from until lines text) (between start at judged past) = listed start judged (wanting at lab to past refl)
   command_wants (commands.Batch moment lines text) (undone nothing lab_is to_is) = no_memory (record { nothing = nothing; after_is = ap (λ u. shut_by None u) lab_is })
   command_wants (commands.Batch moment lines text) (between start at judged past) = listed start judged (wanting at lab to past refl)
+  command_wants commands.Audit (nothing, lab_is, to_is) = audit_wants (record { nothing = nothing; after_is = ap (λ u. shut_by None u) lab_is })
   command_wants command wants = plain_done command refl (plain_wants command refl wants)
 
 -- A COMMAND THAT IS NO LIST is obeyed by its judgement
@@ -47,4 +51,5 @@ pub plain_obeys : (rule : RuleNumber) (command : Command) → is_list command �
     → ObeysCommand rule command devices before now old new opens result
 plain_obeys rule (commands.Play exp from until lines text) no' devices before now old new opens result h = absurd (cc no')
 plain_obeys rule (commands.Batch moment lines text) no' devices before now old new opens result h = absurd (cc no')
+plain_obeys rule commands.Audit no' devices before now old new opens result h = absurd (cc no')
 plain_obeys rule command no' devices before now old new opens result h = h

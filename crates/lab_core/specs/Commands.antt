@@ -2,11 +2,13 @@
 use Rattle.std.specs.Prelude.{ℕ, Bool, true, false, List, ◌++◌, Option, Some, None}
 use Rattle.std.specs.Str.{bytes_eq}
 use Rattle.plant.specs.Events.{Event}
+use Rattle.plant.specs.Worlds.{world_of}
 use Rattle.records_model.specs.Labs.{LabState}
 use Rattle.cost_rule.specs.declared.rule.RuleNumber.{RuleNumber}
 use Rattle.script_text.specs.Drills.{drill_of}
 use Rattle.script_text.specs.declared.command.Command.{Command}
 use Rattle.script_text.specs.declared.command.Command.TheVariants as commands
+use Rattle.lab_core.specs.Auditing.{Audits}
 use Rattle.lab_core.specs.LabSteps.{DoesBy, JudgedBeside, StepOf}
 use Rattle.lab_core.specs.Lists.{DoesList, Ground}
 use Rattle.lab_core.specs.Playing.{JudgedPlay, events_in_turn}
@@ -14,10 +16,11 @@ use Rattle.lab_core.specs.Serving.{JudgedBatch, has_run, runs_in_turn}
 use Rattle.lab_core.specs.Sessions.{OpenSwap, Session, Setting, After, Terms, name_of}
 use Rattle.lab_ahead.specs.Batches.{batch_of_text}
 
--- a command that is a list of commands
+-- a command that isn't done by one judgement: a list of commands, or an audit
 abbrev pub is_list : Command → Bool
 is_list (commands.Play exp from to lines text) = true
 is_list (commands.Batch moment lines text) = true
+is_list commands.Audit = true
 is_list command = false
 
 -- THE COMMAND IS ABOUT that experiment: it names it, or a run of its text does
@@ -44,6 +47,7 @@ Serves rule moment text trace set opens s own after = DoesList (runs_in_turn rul
 abbrev pub DoesCommand : RuleNumber → Command → List Event → Setting → List OpenSwap → LabState → List Event → After → Type 0
 DoesCommand rule (commands.Play exp from to lines text) trace set opens s own after = Plays exp from to text trace set opens s own after
 DoesCommand rule (commands.Batch moment lines text) trace set opens s own after = Serves rule moment text trace set opens s own after
+DoesCommand rule commands.Audit trace set opens s own after = Audits (world_of trace) s opens own after
 DoesCommand rule command trace set opens s own after = DoesBy (JudgedBeside rule command) set opens s own after
 
 -- THE LAB STEP, over the trace before it, a plant that takes drills or not, and with a cost rule

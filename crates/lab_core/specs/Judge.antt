@@ -426,3 +426,4 @@ Judged rule s busy count (commands.Play exp from to lines text) = λ judgement. 
 Judged rule s busy count (commands.Batch moment lines text) = λ judgement. ⊥
 Judged rule s busy count (commands.Delete exp) = Is (judged_delete s busy exp)
 Judged rule s busy count commands.Status = Is (judged_status s)
+Judged rule s busy count commands.Audit = λ judgement. ⊥

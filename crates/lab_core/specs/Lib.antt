@@ -1,3 +1,4 @@
+pub mod Auditing
 pub mod Breaks
 pub mod Coming
 pub mod Commands

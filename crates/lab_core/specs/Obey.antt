@@ -142,6 +142,7 @@ wants_of_command rule (commands.Play exp from until lines text) devices c opens 
     λ trace own lab to. WantsInList (events_in_turn exp) (JudgedPlay c.lab opens exp from until text) (ground_by (start_of devices c opens).set) trace c.lab opens own lab to
 wants_of_command rule (commands.Batch moment lines text) devices c opens =
     λ trace own lab to. WantsInList (runs_in_turn rule moment) (JudgedBatch c.lab text) (ground_by (start_of devices c opens).set) trace c.lab opens own lab to
+wants_of_command rule commands.Audit devices c opens = λ trace own lab to. (own ≡ []) × (lab ≡ c.lab) × (to ≡ opens)
 wants_of_command rule command devices c opens = wants_as (JudgedBeside rule command opens c.lab) (start_of devices c opens)
 
 abbrev pub ObeysCommand : RuleNumber → Command → ℕ → Seen → Seen → Control → Control → List OpenSwap → Result Reply CoreFault → Type 0

@@ -63,6 +63,7 @@ name_of (commands.Play exp from to lines text) = Some exp
 name_of (commands.Batch moment lines text) = None
 name_of (commands.Delete exp) = Some exp
 name_of commands.Status = None
+name_of commands.Audit = None
 
 -- the experiment, if there is one, has one of these open swaps
 abbrev pub is_among : List (List ℕ) → Option (List ℕ) → Bool

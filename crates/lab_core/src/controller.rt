@@ -31,6 +31,7 @@ use journal_disk::{Journal, OpenFault};
 use journal_rec::Found;
 use lab_state::{LabState, ReplayFault};
 use plant::Plant;
+use plant_tables::Tables;
 use recovery::{SettleFault, settle};
 use script_text::{Command, Reply};
 use std::alloc::Global;
@@ -211,7 +212,7 @@ impl Controller {
     /// those are planned on the plant. Searches count costs by the rule. After a reply that closes, and after `Stopped`, the
     /// controller is of no use any more. Failures of devices are counted from the moment or from any before it, such as a mark
     /// that an opening lies behind.
-    pub fn obey<P: Plant>(
+    pub fn obey<P: Tables>(
         &mut self,
         command: &Command,
         rule: &StepRule,
@@ -238,11 +239,12 @@ impl Controller {
                 self.play(*exp, span, ns.bytes(), plant)
             }
             Command::Batch { moment, text, .. } => self.serve(*moment, text.bytes(), rule, plant),
+            Command::Audit => self.audit(plant),
             command => self.answer(command, rule, plant),
         }
     }
 
-    /// Judges a command that is no list of commands, and does its task.
+    /// Judges a command that is neither a list of commands nor an audit, and does its task.
     fn answer<P: Plant>(
         &mut self,
         command: &Command,

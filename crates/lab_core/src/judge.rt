@@ -232,7 +232,7 @@ fn judge_recover(state: &LabState) -> Result<Task, Refusal>
 }
 
 /// The task of a command whose blocks have the lines that its words say, or why it has none. A drill has none, and
-/// neither has a list of commands. The rule is that by which searches count costs.
+/// neither has what isn't done by one judgement. The rule is that by which searches count costs.
 pub(crate) fn judge(
     alloc: Global,
     state: &LabState,
@@ -297,7 +297,7 @@ pub(crate) fn judge(
         Command::Turn { exp } => judge_turn(state, swaps, *exp),
         Command::Finish { exp } => judge_finish(state, swaps, *exp),
         Command::Fail { .. } | Command::FailDisk { .. } | Command::Stop { .. } => unreachable!(),
-        Command::Play { .. } | Command::Batch { .. } => unreachable!(),
+        Command::Play { .. } | Command::Batch { .. } | Command::Audit => unreachable!(),
         Command::Delete { exp } => judge_delete(state, swaps, *exp),
         Command::Recover => judge_recover(state),
         Command::Status => judge_status(alloc, state),

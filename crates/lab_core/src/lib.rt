@@ -1,9 +1,11 @@
 //! The controller of a lab: it obeys the commands of a script one after another.
 //!
 //! A command is judged, and then done. It joins by a case of `Judged` in `specs/Judge.antt`, and one of `judge`. One that
-//! is a list of commands joins by a case of `DoesCommand` in `specs/Commands.antt`, and one of `Controller::obey`.
+//! is a list of commands, or only reads the devices, joins by a case of `DoesCommand` in `specs/Commands.antt`, and one of
+//! `Controller::obey`.
 #![tactic(auto)]
 
+mod auditing;
 mod compaction;
 mod controller;
 mod fault;

@@ -155,6 +155,7 @@ head_by word fields =
     else if bytes_eq word (codes "delete") then option_map (λ exp. Whole (commands.Delete exp)) (only_name fields)
     else if bytes_eq word (codes "recover") then option_map (λ none. Whole commands.Recover) (no_field fields)
     else if bytes_eq word (codes "status") then option_map (λ none. Whole commands.Status) (no_field fields)
+    else if bytes_eq word (codes "audit") then option_map (λ none. Whole commands.Audit) (no_field fields)
     else if bytes_eq word (codes "batch") then option_map (λ given. Block (Batch given.0) given.1) (moment_and_count fields)
     else if bytes_eq word (codes "play") then option_map (λ given. Block (Play given.0 given.1 given.2) given.3) (name_span_and_count fields)
     else if bytes_eq word (codes "fail") then fail_head fields

@@ -117,6 +117,8 @@ pub enum Command {
     Recover,
     /// `status`.
     Status,
+    /// `audit`: compares what the devices hold with what the experiments want of them.
+    Audit,
 }
 
 impl Command {

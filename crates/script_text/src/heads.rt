@@ -422,6 +422,9 @@ fn head_by(word: &[u8], fields: &[&[u8]]) -> Option<Head>
     } else if is_word(word, b"status") {
         no_field(fields)?;
         Some(Head::Whole(Command::Status))
+    } else if is_word(word, b"audit") {
+        no_field(fields)?;
+        Some(Head::Whole(Command::Audit))
     } else if is_word(word, b"batch") {
         let (moment, lines) = moment_and_count(fields)?;
         Some(Head::Block {

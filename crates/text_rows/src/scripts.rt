@@ -62,6 +62,7 @@ fn in_short(command: &Command) -> (u8, &[u8], u32, &[u8]) {
         Command::Delete { exp } => (b'd', exp.bytes(), 0, b""),
         Command::Recover => (b'r', b"", 0, b""),
         Command::Status => (b'?', b"", 0, b""),
+        Command::Audit => (b'a', b"", 0, b""),
     }
 }
 
