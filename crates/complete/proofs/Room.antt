@@ -14,7 +14,7 @@ use Rattle.script_text.specs.declared.command.Command.TheVariants.{Play, Batch}
 use Rattle.script_text.specs.declared.reply.Reply.{Reply}
 use Rattle.lab_core.specs.Breaks.{Breaks, stopped, failed, unanswered}
 use Rattle.lab_core.specs.Judge.{Task, Tell, Append, Swap, BeginOnly, Turn, Finish, Recover, Judged}
-use Rattle.lab_core.specs.Commands.{LabStep, is_list}
+use Rattle.lab_core.specs.Commands.{LabStep, is_unjudged}
 use Rattle.lab_core.specs.LabSteps.{Does, DoesBy, Drills, IsAnswered, IsDoneBy, JudgedBeside, StepOf, does, done_reply, end_reply, is_planned, is_refused, is_told, no_memory, not_opened, opened, turn_reply, wants_memory}
 use Rattle.lab_core.specs.Recovery.{Recovers, broken_off, settled}
 use Rattle.lab_core.specs.Sessions.{OpenSwap, Session, Closed, Open, Setting, After, Terms, is_among, name_of, names_of}
@@ -86,7 +86,7 @@ drill_not takes s session own after (is_refused t none is) = ap (λ (x : After).
 drill_not takes s session own after (wants_memory wants) = ap (λ (x : After). full_if x.reply) wants.after_is
 
 -- it is no list
-no_list : (command : Command) → settles_or_turns command ≡ true → is_list command ≡ false
+no_list : (command : Command) → settles_or_turns command ≡ true → is_unjudged command ≡ false
 no_list (Play exp from to lines text) is = absurd (cc is)
 no_list (Batch moment lines text) is = absurd (cc is)
 no_list command is = refl

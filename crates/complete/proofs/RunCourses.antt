@@ -17,7 +17,7 @@ use Rattle.script_text.specs.declared.reply.Reply.{Reply}
 use Rattle.swap_turns.specs.Legs.{Leg, Forth}
 use Rattle.swap_turns.specs.Running.{OpenSwap as RunningSwap}
 use Rattle.swap_turns.specs.Swaps.{Swap, Moves}
-use Rattle.lab_core.specs.Commands.{LabStep, is_list}
+use Rattle.lab_core.specs.Commands.{LabStep, is_unjudged}
 use Rattle.lab_core.specs.LabSteps.{DoesBy, JudgedBeside, StepOf, not_opened, opened}
 use Rattle.lab_core.specs.Moments.{IsLabAt}
 use Rattle.lab_core.specs.Sessions.{OpenSwap, Session, Closed, Open, Setting, After, Terms, name_in}
@@ -145,7 +145,7 @@ module _ (terms : Terms) (before : List Event) (set : Setting) (s : LabState) (o
   lists_continue l Judged Holds about are starts (Open opens) ok moves differ step =
       (s, list_continues l Holds about are opens differ (Judged opens s) (starts opens s) (ground_by set) (before ++ opening) s ok moves own after to open_now step.1, λ o has. (refl, step.0))
 
-  plain_continues : (command : Command) → is_list command ≡ false → drill_of command ≡ None → (session : Session) → AreOk session → AllMoveIn session → AllDiffer (busy_of session) → LabStep terms before set s session command opening own after → StepContinues session
+  plain_continues : (command : Command) → is_unjudged command ≡ false → drill_of command ≡ None → (session : Session) → AreOk session → AllMoveIn session → AllDiffer (busy_of session) → LabStep terms before set s session command opening own after → StepContinues session
   plain_continues command no' none session ok moves differ step = step_continues command (drill_of command) none session ok moves differ (plain_step terms before set s session command opening own after no' step)
 
   all_continue : (command : Command) → drill_of command ≡ None → (session : Session) → AreOk session → AllMoveIn session → AllDiffer (busy_of session) → LabStep terms before set s session command opening own after → StepContinues session

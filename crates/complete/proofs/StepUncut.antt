@@ -5,7 +5,7 @@ use Rattle.records_model.specs.Labs.{LabState}
 use Rattle.script_text.specs.Drills.{drill_of}
 use Rattle.script_text.specs.declared.command.Command.{Command}
 use Rattle.script_text.specs.declared.command.Command.TheVariants.{Play, Batch}
-use Rattle.lab_core.specs.Commands.{LabStep, is_list}
+use Rattle.lab_core.specs.Commands.{LabStep, is_unjudged}
 use Rattle.lab_core.specs.LabSteps.{DoesBy, Drills, JudgedBeside, StepOf, is_planned, is_refused, not_opened, opened, wants_memory}
 use Rattle.lab_core.specs.Sessions.{Session, Closed, Open, Setting, After, Terms}
 use Rattle.lab_core.specs.Tells.{opens_of}
@@ -47,7 +47,7 @@ module _ (terms : Terms) (at : List Event) (set : Setting) (s : LabState) (past 
   runs_uncut moment lines text Closed (not_opened b) = cut_told after.reply (no_break opening (own ++ more) after.reply b.breaks all_well)
   runs_uncut moment lines text (Open opens) step = batch_uncut terms.rule moment text (at ++ opening) set s opens own more after own_well step.1
 
-  plain_uncut : (command : Command) → is_list command ≡ false → (session : Session) → AreSafe past command s (opens_of session) → LabStep terms at set s session command opening own after → cut_if after.reply ≡ false
+  plain_uncut : (command : Command) → is_unjudged command ≡ false → (session : Session) → AreSafe past command s (opens_of session) → LabStep terms at set s session command opening own after → cut_if after.reply ≡ false
   plain_uncut command no' session safe step = step_uncut command (drill_of command) session safe (plain_step terms at set s session command opening own after no' step)
 
   pub lab_step_uncut : (command : Command) (session : Session) → AreSafe past command s (opens_of session) → LabStep terms at set s session command opening own after → told_cut after.reply ≡ false

@@ -24,7 +24,7 @@ use Rattle.script_text.specs.declared.reply.Reply.{Reply}
 use Rattle.script_text.specs.declared.reply.Reply.TheVariants as replies
 use Rattle.swap_turns.specs.Swaps.{Moves}
 use Rattle.lab_core.specs.LabSteps.{DoesBy, JudgedBeside, StepOf, not_opened, opened}
-use Rattle.lab_core.specs.Commands.{LabStep, ground_by, is_about, is_list, is_named}
+use Rattle.lab_core.specs.Commands.{LabStep, ground_by, is_about, is_unjudged, is_named}
 use Rattle.lab_core.specs.Lists.{DoesList, Ground, Listing, broken, last_reply, listed, no_memory, over, refused, wanting}
 use Rattle.lab_core.specs.Playing.{JudgedPlay, Playing, events_in_turn}
 use Rattle.lab_core.specs.Serving.{JudgedBatch, Serving, has_run, is_run_of, runs_in_turn}
@@ -45,7 +45,7 @@ use Rattle.lab_core.proofs.Places.{breaks_place, no_place, place_as, step_place}
 use Rattle.lab_core.proofs.StepLaws.{begins_stay, broke, by_one, drills_leave, step_stays, step_stops, was}
 
 -- one that is none is done by one judgement
-pub plain_step : (terms : Terms) (at : List Event) (set : Setting) (s : LabState) (session : Session) (command : Command) (opening own : List Event) (after : After) → is_list command ≡ false → LabStep terms at set s session command opening own after
+pub plain_step : (terms : Terms) (at : List Event) (set : Setting) (s : LabState) (session : Session) (command : Command) (opening own : List Event) (after : After) → is_unjudged command ≡ false → LabStep terms at set s session command opening own after
     → StepOf (drill_of command) (DoesBy (JudgedBeside terms.rule command) set) terms s session opening own after
 plain_step terms at set s session (commands.Play exp from to lines text) opening own after no' step = absurd (cc no')
 plain_step terms at set s session (commands.Batch moment lines text) opening own after no' step = absurd (cc no')
@@ -265,7 +265,7 @@ named_so (Some exp) name other = elim (cases_Bool (bytes_eq exp name)) [
 
 -- OF EACH COMMAND
 module _ (terms : Terms) (at : List Event) (set : Setting) (s : LabState) (session : Session) (opening own : List Event) (after : After) where
-  plain_stops : (command : Command) → is_list command ≡ false → (reply : Reply) → after.reply ≡ Some reply → LabStep terms at set s session command opening own after → has_restart (opening ++ own) ≡ is_stopped reply
+  plain_stops : (command : Command) → is_unjudged command ≡ false → (reply : Reply) → after.reply ≡ Some reply → LabStep terms at set s session command opening own after → has_restart (opening ++ own) ≡ is_stopped reply
   plain_stops command no' reply is step =
       let one = by_one (drill_of command) terms set s session command opening own after (plain_step terms at set s session command opening own after no' step) in
       step_stops own after reply is (drill_of command) one.0 terms set s session command opening (was one.0 terms set s command opening own after (drill_of command) session one.1)
@@ -276,7 +276,7 @@ module _ (terms : Terms) (at : List Event) (set : Setting) (s : LabState) (sessi
   all_stop commands.Audit reply is step = audit_stops terms at set s opening own after session reply is step
   all_stop command reply is step = plain_stops command refl reply is step
 
-  plain_stays : (command : Command) → is_list command ≡ false → (name : List ℕ) → is_some s.lab ≡ true → name_of command ≢ Some name → (settles session command name ≡ true → IsAtRest s name) → LabStep terms at set s session command opening own after → Stays name s after.lab
+  plain_stays : (command : Command) → is_unjudged command ≡ false → (name : List ℕ) → is_some s.lab ≡ true → name_of command ≢ Some name → (settles session command name ≡ true → IsAtRest s name) → LabStep terms at set s session command opening own after → Stays name s after.lab
   plain_stays command no' name there other rests step =
       let one = by_one (drill_of command) terms set s session command opening own after (plain_step terms at set s session command opening own after no' step) in
       step_stays name own after s there session command rests opening one.0 terms set other (was one.0 terms set s command opening own after (drill_of command) session one.1)
@@ -291,7 +291,7 @@ module _ (terms : Terms) (at : List Event) (set : Setting) (s : LabState) (sessi
   all_stay commands.Audit name there other rests step = audit_stays terms at set s opening own after session name there (λ closed. rests (ap (λ (x : Session). settles x commands.Audit name) closed)) step
   all_stay command name there other rests step = plain_stays command refl name there (about_not command name other) rests step
 
-  plain_drills : (command : Command) → is_list command ≡ false → is_some (drill_of command) ≡ true → LabStep terms at set s session command opening own after → (opening ≡ []) × (own ≡ []) × (after.lab ≡ s)
+  plain_drills : (command : Command) → is_unjudged command ≡ false → is_some (drill_of command) ≡ true → LabStep terms at set s session command opening own after → (opening ≡ []) × (own ≡ []) × (after.lab ≡ s)
   plain_drills command no' is step = drills_leave (drill_of command) terms set s session (JudgedBeside terms.rule command) opening own after is (plain_step terms at set s session command opening own after no' step)
 
   pub all_drills : (command : Command) → is_some (drill_of command) ≡ true → LabStep terms at set s session command opening own after → (opening ≡ []) × (own ≡ []) × (after.lab ≡ s)
@@ -301,7 +301,7 @@ module _ (terms : Terms) (at : List Event) (set : Setting) (s : LabState) (sessi
   all_drills command is step = plain_drills command refl is step
 
   -- which swaps are open
-  plain_leaves : (command : Command) → is_list command ≡ false → (to : List OpenSwap) → after.session ≡ Open to → LabStep terms at set s session command opening own after → (judgement : Result Task Reply) × Leaves set session command judgement to
+  plain_leaves : (command : Command) → is_unjudged command ≡ false → (to : List OpenSwap) → after.session ≡ Open to → LabStep terms at set s session command opening own after → (judgement : Result Task Reply) × Leaves set session command judgement to
   plain_leaves command no' to is step =
       let one = by_one (drill_of command) terms set s session command opening own after (plain_step terms at set s session command opening own after no' step) in
       (one.0, leaves (drill_of command) one.0 terms set s session command opening own after to is (was one.0 terms set s command opening own after (drill_of command) session one.1))
@@ -313,7 +313,7 @@ module _ (terms : Terms) (at : List Event) (set : Setting) (s : LabState) (sessi
   all_leave commands.Audit to is step = inl (audit_opens terms at set s opening own after session to is step)
   all_leave command to is step = inr (plain_leaves command refl to is step)
 
-  plain_moves : (command : Command) → is_list command ≡ false → (to : List OpenSwap) → after.session ≡ Open to → (s.lab ≡ None → s.experiments ≡ []) → AllDiffer (busy_of session) → AllMove (opens_of session) s → LabStep terms at set s session command opening own after → AllMove to after.lab
+  plain_moves : (command : Command) → is_unjudged command ≡ false → (to : List OpenSwap) → after.session ≡ Open to → (s.lab ≡ None → s.experiments ≡ []) → AllDiffer (busy_of session) → AllMove (opens_of session) s → LabStep terms at set s session command opening own after → AllMove to after.lab
   plain_moves command no' to is empty differ all step =
       let one = by_one (drill_of command) terms set s session command opening own after (plain_step terms at set s session command opening own after no' step) in
       step_moves (drill_of command) one.0 terms set s session command opening own after to is empty differ all (was one.0 terms set s command opening own after (drill_of command) session one.1)
@@ -324,7 +324,7 @@ module _ (terms : Terms) (at : List Event) (set : Setting) (s : LabState) (sessi
   all_move commands.Audit to is empty differ all step = audit_moves terms at set s opening own after session all to is step
   all_move command to is empty differ all step = plain_moves command refl to is empty differ all step
 
-  plain_place : (command : Command) → is_list command ≡ false → (reply : Reply) → after.reply ≡ Some reply → LabStep terms at set s session command opening own after → TellsPlace reply after.lab
+  plain_place : (command : Command) → is_unjudged command ≡ false → (reply : Reply) → after.reply ≡ Some reply → LabStep terms at set s session command opening own after → TellsPlace reply after.lab
   plain_place command no' reply is step = step_place terms set s session command opening own after reply is (plain_step terms at set s session command opening own after no' step)
 
   pub all_place : (command : Command) (reply : Reply) → after.reply ≡ Some reply → LabStep terms at set s session command opening own after → TellsPlace reply after.lab
@@ -340,6 +340,6 @@ all_no_drill terms at set s session (commands.Batch moment lines text) opening o
 all_no_drill terms at set s session commands.Audit opening own after is step = audit_no_drill terms at set s opening own after session step
 all_no_drill terms at set s session command opening own after is step = plain_no_drill command refl is step
   where
-    plain_no_drill : (command : Command) → is_list command ≡ false → drill_of command ≡ None → LabStep terms at set s session command opening own after → of_drill_if after.reply ≡ false
+    plain_no_drill : (command : Command) → is_unjudged command ≡ false → drill_of command ≡ None → LabStep terms at set s session command opening own after → of_drill_if after.reply ≡ false
     plain_no_drill command no' is step =
         step_so terms set s session command opening own after (subst (λ (d : Option Drill). StepOf d (DoesBy (JudgedBeside terms.rule command) set) terms s session opening own after) is (plain_step terms at set s session command opening own after no' step))

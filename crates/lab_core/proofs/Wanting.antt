@@ -10,7 +10,7 @@ use Rattle.plant.specs.Seen.{Seen}
 use Rattle.lab_core.specs.declared.fault.CoreFault.{CoreFault}
 use Rattle.lab_core.specs.Controller.{Control}
 use Rattle.lab_core.specs.Auditing.{no_memory as audit_wants}
-use Rattle.lab_core.specs.Commands.{is_list}
+use Rattle.lab_core.specs.Commands.{is_unjudged}
 use Rattle.lab_core.specs.LabSteps.{JudgedBeside}
 use Rattle.lab_core.specs.Lists.{between, listed, no_memory, undone, wanting}
 use Rattle.lab_core.specs.Obey.{Obeyed, ObeysCommand, WantsIn, does_command, start_of, wants_of_command}
@@ -25,13 +25,13 @@ module _ (rule : RuleNumber) (devices : ℕ) (c : Control) (opens : List OpenSwa
   Ended command = does_command rule command devices c opens trace own (shut_by None lab)
 
   -- of one that is no list
-  pub plain_wants : (command : Command) → is_list command ≡ false → Wants command → WantsIn (JudgedBeside rule command opens c.lab) (start_of devices c opens) own lab to
+  pub plain_wants : (command : Command) → is_unjudged command ≡ false → Wants command → WantsIn (JudgedBeside rule command opens c.lab) (start_of devices c opens) own lab to
   plain_wants (commands.Play exp from until lines text) no' wants = absurd (cc no')
   plain_wants (commands.Batch moment lines text) no' wants = absurd (cc no')
   plain_wants commands.Audit no' wants = absurd (cc no')
   plain_wants command no' wants = wants
 
-  plain_done : (command : Command) → is_list command ≡ false → WantsIn (JudgedBeside rule command opens c.lab) (start_of devices c opens) own lab to → Ended command
+  plain_done : (command : Command) → is_unjudged command ≡ false → WantsIn (JudgedBeside rule command opens c.lab) (start_of devices c opens) own lab to → Ended command
   plain_done (commands.Play exp from until lines text) no' wants = absurd (cc no')
   plain_done (commands.Batch moment lines text) no' wants = absurd (cc no')
   plain_done commands.Audit no' wants = absurd (cc no')
@@ -47,7 +47,7 @@ module _ (rule : RuleNumber) (devices : ℕ) (c : Control) (opens : List OpenSwa
   command_wants command wants = plain_done command refl (plain_wants command refl wants)
 
 -- A COMMAND THAT IS NO LIST is obeyed by its judgement
-pub plain_obeys : (rule : RuleNumber) (command : Command) → is_list command ≡ false → (devices : ℕ) (before now : Seen) (old new : Control) (opens : List OpenSwap) (result : Result Reply CoreFault) → Obeyed devices before now (JudgedBeside rule command opens old.lab) old new opens (name_of command) result
+pub plain_obeys : (rule : RuleNumber) (command : Command) → is_unjudged command ≡ false → (devices : ℕ) (before now : Seen) (old new : Control) (opens : List OpenSwap) (result : Result Reply CoreFault) → Obeyed devices before now (JudgedBeside rule command opens old.lab) old new opens (name_of command) result
     → ObeysCommand rule command devices before now old new opens result
 plain_obeys rule (commands.Play exp from until lines text) no' devices before now old new opens result h = absurd (cc no')
 plain_obeys rule (commands.Batch moment lines text) no' devices before now old new opens result h = absurd (cc no')

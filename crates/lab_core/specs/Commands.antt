@@ -16,12 +16,12 @@ use Rattle.lab_core.specs.Serving.{JudgedBatch, has_run, runs_in_turn}
 use Rattle.lab_core.specs.Sessions.{OpenSwap, Session, Setting, After, Terms, name_of}
 use Rattle.lab_ahead.specs.Batches.{batch_of_text}
 
--- a command that isn't done by one judgement: a list of commands, or an audit
-abbrev pub is_list : Command → Bool
-is_list (commands.Play exp from to lines text) = true
-is_list (commands.Batch moment lines text) = true
-is_list commands.Audit = true
-is_list command = false
+-- a command that no single judgement decides: a list of commands, or an audit
+abbrev pub is_unjudged : Command → Bool
+is_unjudged (commands.Play exp from to lines text) = true
+is_unjudged (commands.Batch moment lines text) = true
+is_unjudged commands.Audit = true
+is_unjudged command = false
 
 -- THE COMMAND IS ABOUT that experiment: it names it, or a run of its text does
 abbrev pub is_named : Option (List ℕ) → List ℕ → Bool

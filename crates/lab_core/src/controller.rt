@@ -11,7 +11,7 @@ ghost use Rattle.journal_disk.specs.Standing.{limit_of, length_of, Holds};
 ghost use Rattle.lab_model.specs.Sound.{is_moving};
 ghost use Rattle.script_text.specs.Drills.{drill_of};
 ghost use Rattle.script_text.specs.Blocks.{HasBlocks};
-ghost use Rattle.lab_core.specs.Commands.{is_list};
+ghost use Rattle.lab_core.specs.Commands.{is_unjudged};
 ghost use Rattle.lab_core.specs.Controller.{CanWork, Works, WorksWith};
 ghost use Rattle.lab_core.specs.Moments.{IsNoJournal};
 ghost use Rattle.lab_core.specs.Obey.{ObeysCommand};
@@ -253,7 +253,7 @@ impl Controller {
     ) -> Result<Reply, CoreFault>
         requires blocks { HasBlocks command.now }
         requires no_drill { drill_of command.now ≡ None }
-        requires alone { is_list command.now ≡ false }
+        requires alone { is_unjudged command.now ≡ false }
         requires works { CanWork (P.seen plant.old) self.old }
         ensures { (opens : List OpenSwap) (devices : ℕ) → devices ≤ (P.seen plant.old).faults.devices → WorksWith (P.seen plant.old) self.old opens
             → ObeysCommand rule.now.number command.now devices (P.seen plant.old) (P.seen plant.new) self.old self.new opens result }

@@ -10,7 +10,7 @@ ghost use Rattle.virt_topo.specs.Soundness.{IsSound};
 ghost use Rattle.script_text.specs.Blocks.{HasBlocks};
 ghost use Rattle.records_model.specs.Labs.{LabState as AnyLabState};
 ghost use Rattle.script_text.specs.declared.reply.Reply.{Reply as AnyReply};
-ghost use Rattle.lab_core.specs.Commands.{is_list};
+ghost use Rattle.lab_core.specs.Commands.{is_unjudged};
 ghost use Rattle.lab_core.specs.Controller.{has_open, has_open_for};
 ghost use Rattle.lab_core.specs.Judge.{Task as AnyTask, Judged, JudgedNetwork, in_slot, judged_create, judged_delete, judged_finish, judged_ptop, judged_recover, judged_show, judged_status, judged_swapout, judged_turn, judged_wiring, need_place};
 ghost use Rattle.lab_core.specs.Tasks.{CanDo, Gives, IsJudged, IsMild, Refuses, IsRefusedBy};
@@ -242,7 +242,7 @@ pub(crate) fn judge(
 ) -> Result<Task, Refusal>
     requires blocks { HasBlocks command.now }
     requires no_drill { drill_of command.now ≡ None }
-    requires alone { is_list command.now ≡ false }
+    requires alone { is_unjudged command.now ≡ false }
     ensures judged { IsJudged (Judged rule.now.number state.now.state (has_open_for swaps.now command.now) (length swaps.now) command.now) result }
     ensures can { IfOk result (CanDo state.now.state) }
 {

@@ -30,7 +30,7 @@ ghost use Rattle.lab_model.specs.Leavings.{SameFor};
 ghost use Rattle.lab_model.specs.Sound.{is_moving};
 ghost use Rattle.virt_topo.specs.declared.experiment.Experiment.{Experiment};
 ghost use Rattle.lab_core.specs.LabSteps.{LabStepBy};
-ghost use Rattle.lab_core.specs.Commands.{LabStep, is_about, is_list};
+ghost use Rattle.lab_core.specs.Commands.{LabStep, is_about, is_unjudged};
 ghost use Rattle.lab_core.specs.Moments.{StandForLab};
 ghost use Rattle.lab_core.specs.Said.{IsAsSaid};
 ghost use Rattle.lab_core.specs.Sessions.{OpenSwap, Session, Open, Terms, Setting, After, names_of, open_at};
@@ -46,7 +46,7 @@ ghost use Rattle.lab_core.specs.Tells.{AllMove, AreLocal, BeginsAt, GoesIn, Hind
 pub fn lab_steps()
     ensures judged_once { (rule : RuleNumber) (s : LabState) (busy : Bool) (count : ℕ) (command : Command) (a b : Result Task Reply) → is_searched command ≡ false → Judged rule s busy count command a → Judged rule s busy count command b → a ≡ b }
     ensures by_one { (terms : Terms) (at : List Event) (set : Setting) (s : LabState) (session : Session) (command : Command) (opening own : List Event) (after : After)
-        → is_list command ≡ false → LabStep terms at set s session command opening own after → (judgement : Result Task Reply) × LabStepBy judgement terms set s session command opening own after }
+        → is_unjudged command ≡ false → LabStep terms at set s session command opening own after → (judgement : Result Task Reply) × LabStepBy judgement terms set s session command opening own after }
     ensures refused { (terms : Terms) (set : Setting) (s : LabState) (session : Session) (command : Command) (opening own : List Event) (after : After) (reply : Reply)
         → LabStepBy (Err reply) terms set s session command opening own after → own ≡ [] }
     ensures told { (terms : Terms) (set : Setting) (s : LabState) (session : Session) (command : Command) (opening own : List Event) (after : After) (reply : Reply)
