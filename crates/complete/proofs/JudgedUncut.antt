@@ -11,7 +11,7 @@ use Rattle.script_text.specs.declared.command.Command.TheVariants as commands
 use Rattle.script_text.specs.declared.reply.Reply.{Reply}
 use Rattle.script_text.specs.declared.reply.Reply.TheVariants as replies
 use Rattle.cost_rule.specs.declared.rule.RuleNumber.{RuleNumber}
-use Rattle.lab_core.specs.Judge.{OrRefused, Task, Tell, Append, Swap, Turn, Finish, Judged, asked, in_slot, judged_change, judged_create, judged_delete, judged_ptop, judged_swapin, need_idle_in, need_idle_out, need_mapping, refused, task_in}
+use Rattle.lab_core.specs.Judge.{OrRefused, Task, Tell, Append, Swap, Turn, Finish, Judged, asked, in_slot, judged_change, judged_create_top, judged_delete, judged_ptop, judged_swapin_with, need_idle_in, need_idle_out, need_mapping, refused, task_in}
 use Rattle.lab_core.specs.Playing.{JudgedChange, JudgedEventAt, mapping_in, need_shape}
 use Rattle.lab_core.specs.Serving.{IsTested, IsTestedAs, JudgedPlace, JudgedRunAt, claimers_of, fits, full, span_of, waits}
 use Rattle.lab_core.proofs.Events.{stand_in}
@@ -45,7 +45,7 @@ module _ (s : LabState) (busy : Bool) (count : ℕ) where
   ptop_uncut : (lines : ℕ) (text : List ℕ) → IsJudgedUncut (commands.Ptop lines text) (judged_ptop s text)
   ptop_uncut lines text = grind arith
 
-  create_uncut : (exp : List ℕ) (lines : ℕ) (text : List ℕ) → IsJudgedUncut (commands.CreateTop exp lines text) (judged_create s exp text)
+  create_uncut : (exp : List ℕ) (lines : ℕ) (text : List ℕ) → IsJudgedUncut (commands.CreateTop exp lines text) (judged_create_top s exp text)
   create_uncut exp lines text = grind arith
 
   -- a swap, before its room is asked for
@@ -54,7 +54,7 @@ module _ (s : LabState) (busy : Bool) (count : ℕ) where
   IsSwapOnly (Ok (Swap exp way)) = Unit {0}
   IsSwapOnly (Ok task) = ⊥
 
-  swapin_uncut : (exp text : List ℕ) → IsSwapOnly (judged_swapin s busy exp text)
+  swapin_uncut : (exp text : List ℕ) → IsSwapOnly (judged_swapin_with s busy exp text)
   swapin_uncut exp text = grind arith
 
   slot_uncut : (command : Command) (only : Bool) (j : Result Task Reply) → IsSwapOnly j → IsJudgedUncut command (in_slot count only j)

@@ -30,7 +30,7 @@ use Rattle.top_text.specs.Canonical.{canonical_top}
 use Rattle.top_text.specs.Printable.{are_named, is_printable, named_class, named_node}
 use Rattle.top_text.proofs.TopWhole.{top_again}
 use Rattle.lab_core.specs.EventChanges.{EventsAreChanges, IsItsChange, changes, lacks}
-use Rattle.lab_core.specs.Judge.{OrRefused, Task, asked, in_slot, judged_change, judged_modify, need_idle_in, need_in, refused}
+use Rattle.lab_core.specs.Judge.{OrRefused, Task, asked, in_slot, judged_change, judged_modify_with, need_idle_in, need_in, refused}
 use Rattle.lab_core.specs.Playing.{JudgedChange, JudgedEventAt, bad_shape, mapping_in}
 use Rattle.lab_core.specs.Sessions.{names_of}
 use Rattle.lab_core.proofs.JudgeSwap.{over_reads}
@@ -59,7 +59,7 @@ one_of other (Ok p) = p.1
 one_of other (Err reply) = other
 
 -- what refuses an event before its shape refuses `modify-with` by any texts
-refuses_any : (s : LabState) (busy : Bool) (exp : List ℕ) (reply : Reply) (lines : ℕ) (top map : List ℕ) → need_idle_in s busy exp ≡ Err reply → judged_modify s busy exp lines top map ≡ Err reply
+refuses_any : (s : LabState) (busy : Bool) (exp : List ℕ) (reply : Reply) (lines : ℕ) (top map : List ℕ) → need_idle_in s busy exp ≡ Err reply → judged_modify_with s busy exp lines top map ≡ Err reply
 refuses_any s busy exp reply lines top map is = grind arith
 
 module _ (s : LabState) (busy : Bool) (exp : List ℕ) (lab : Lab) (e : Experiment) (is : need_idle_in s busy exp ≡ Ok (lab, e)) where
@@ -79,7 +79,7 @@ module _ (exp : List ℕ) (text : Wiring) (event : LinkEvent) (s : LabState) (bu
     (sound_text : IsSound text) (limits : KeepsLimits event.what) where
   -- the wiring behind it is sound, its text is read back, and so is that of the mapping
   reads : (lab : Lab) (e : Experiment) (needed : need_idle_in s busy exp ≡ Ok (lab, e)) → lacks_shape event.link text e.wiring ≡ false → (w : Wiring) → IsApplied event text e.wiring w → (lines : ℕ)
-      → judged_modify s busy exp lines (canonical_top w) (canonical_solution lab w (mapping_in e.phase)) ≡ judged_change s lab e w (mapping_in e.phase)
+      → judged_modify_with s busy exp lines (canonical_top w) (canonical_solution lab w (mapping_in e.phase)) ≡ judged_change s lab e w (mapping_in e.phase)
   reads lab e needed shaped w applied lines =
       let is = lab_is s busy exp lab e needed in
       let found = found_is s busy exp lab e needed in
@@ -90,10 +90,10 @@ module _ (exp : List ℕ) (text : Wiring) (event : LinkEvent) (s : LabState) (bu
       let prints : is_printable w ≡ true = ap is_printable applied.rest ∙ printable e has in
       let is_lab : IsLab lab = subst IsLab (ap lab_in is) sane.is_lab in
       let there : IsShaped lab w inside.0 = still_shaped event text e.wiring w applied lab inside.0 (stands_sound s exp lab e inside.0 inside.1 sane is found inside.2).1 in
-      let goes : judged_modify s busy exp lines (canonical_top w) (canonical_solution lab w inside.0) ≡ judged_change s lab e w inside.0
+      let goes : judged_modify_with s busy exp lines (canonical_top w) (canonical_solution lab w inside.0) ≡ judged_change s lab e w inside.0
       = over_reads s busy exp lines (canonical_top w) (canonical_solution lab w inside.0) lab e inside.0 inside.1 w inside.0 is found (idle_is s busy exp lab e needed) inside.2
       (top_again w sound prints) (canonical_again lab w inside.0 is_lab sound (are_named_of w prints) there) in
-      subst (λ (m : Mapping). judged_modify s busy exp lines (canonical_top w) (canonical_solution lab w m) ≡ judged_change s lab e w m) (sym placed) goes
+      subst (λ (m : Mapping). judged_modify_with s busy exp lines (canonical_top w) (canonical_solution lab w m) ≡ judged_change s lab e w m) (sym placed) goes
 
   refuses : (reply : Reply) (j : Result Task Reply) → need_idle_in s busy exp ≡ Err reply → j ≡ Err reply → IsItsChange exp text event s busy count j
   refuses reply j needed is =

@@ -10,7 +10,7 @@ use Rattle.script_text.specs.declared.command.Command.TheVariants as commands
 use Rattle.script_text.specs.declared.reply.Reply.{Reply}
 use Rattle.script_text.specs.declared.reply.Reply.TheVariants as replies
 use Rattle.cost_rule.specs.declared.rule.RuleNumber.{RuleNumber}
-use Rattle.lab_core.specs.Judge.{Task, Tell, Append, Swap, BeginOnly, Turn, Finish, Recover, Is, Judged, JudgedModify, JudgedNetwork, OrRefused, asked, judged_wiring, need_meaning, need_place, refused, JudgedSwapin, judged_modify, in_slot, judged_create, judged_delete, judged_ptop, judged_swapin}
+use Rattle.lab_core.specs.Judge.{Task, Tell, Append, Swap, BeginOnly, Turn, Finish, Recover, Is, Judged, JudgedModify, JudgedCreate, OrRefused, asked, judged_wiring, need_meaning, need_place, refused, JudgedSwapin, judged_modify_with, in_slot, judged_create_top, judged_delete, judged_ptop, judged_swapin_with}
 use Rattle.lab_core.specs.Sessions.{name_of}
 use Rattle.virt_topo.specs.declared.wiring.Wiring.{Wiring}
 use Rattle.lab_base.specs.declared.fault.TextFault.{TextFault}
@@ -48,7 +48,7 @@ module _ (s : LabState) (busy : Bool) (count : ℕ) where
   ptop_fits : (lines : ℕ) (text : List ℕ) → IsFit s (commands.Ptop lines text) busy count (judged_ptop s text)
   ptop_fits lines text = grind arith
 
-  create_fits : (exp : List ℕ) (lines : ℕ) (text : List ℕ) → IsFit s (commands.CreateTop exp lines text) busy count (judged_create s exp text)
+  create_fits : (exp : List ℕ) (lines : ℕ) (text : List ℕ) → IsFit s (commands.CreateTop exp lines text) busy count (judged_create_top s exp text)
   create_fits exp lines text = grind arith
 
   -- a swap of that experiment, before its room is asked for
@@ -57,13 +57,13 @@ module _ (s : LabState) (busy : Bool) (count : ℕ) where
   IsSwapOf exp (Ok (Swap own way)) = (own ≡ exp) × (busy ≡ false)
   IsSwapOf exp (Ok task) = ⊥
 
-  swapin_is : (exp text : List ℕ) → IsSwapOf exp (judged_swapin s busy exp text)
+  swapin_is : (exp text : List ℕ) → IsSwapOf exp (judged_swapin_with s busy exp text)
   swapin_is exp text = grind (arith, name_is)
 
   modify_is : (rule : RuleNumber) (exp : List ℕ) (seed : ℕ) (text : List ℕ) (j : Result Task Reply) → JudgedModify rule s busy exp seed text j → IsSwapOf exp j
   modify_is rule exp seed text j is = grind (arith, name_is)
 
-  modify_with_is : (exp : List ℕ) (lines : ℕ) (top map : List ℕ) → IsSwapOf exp (judged_modify s busy exp lines top map)
+  modify_with_is : (exp : List ℕ) (lines : ℕ) (top map : List ℕ) → IsSwapOf exp (judged_modify_with s busy exp lines top map)
   modify_with_is exp lines top map = grind (arith, name_is)
 
   entry_is : (rule : RuleNumber) (exp : List ℕ) (seed : ℕ) (j : Result Task Reply) → JudgedSwapin rule s busy exp seed j → IsSwapOf exp j
@@ -86,7 +86,7 @@ module _ (s : LabState) (busy : Bool) (count : ℕ) where
   meaning_inner exp (Ok w) reply is = absurd (cc is)
   meaning_inner exp (Err fault) reply is = let same : replies.Bad exp fault ≡ reply = cc is in subst (λ (r : Reply). is_outer r ≡ false) same refl
 
-  network_fits : (exp : List ℕ) (lines : ℕ) (text : List ℕ) (j : Result Task Reply) → JudgedNetwork s exp text j → FitsNew exp lines text j
+  network_fits : (exp : List ℕ) (lines : ℕ) (text : List ℕ) (j : Result Task Reply) → JudgedCreate s exp text j → FitsNew exp lines text j
   network_fits exp lines text j (refused reply needed is) = subst (FitsNew exp lines text) (sym is) (place_inner exp reply needed)
   network_fits exp lines text j (asked place needed t) = by t.judged
     where

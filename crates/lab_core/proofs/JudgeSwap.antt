@@ -51,7 +51,7 @@ use Rattle.lab_core.specs.declared.task.Task.TheVariants as tasks
 use Rattle.lab_core.specs.declared.task.Refusal.{Refusal}
 use Rattle.lab_core.specs.declared.task.Refusal.TheVariants.{Refused, Memory}
 use Rattle.lab_core.specs.Counts.{least_tags}
-use Rattle.lab_core.specs.Judge.{Task, Swap as SwapTask, begun_as, in_slot, judged_change, judged_mapping, judged_modify, judged_swapin, need_feasible, need_kept, need_slot, ◌>>=◌}
+use Rattle.lab_core.specs.Judge.{Task, Swap as SwapTask, begun_as, in_slot, judged_change, judged_mapping, judged_modify_with, judged_swapin_with, need_feasible, need_kept, need_slot, ◌>>=◌}
 use Rattle.lab_core.specs.JudgeSwap.{CanTake, IsInIn, IsOutIn, IsTaskOf, IsThere, IsWayOf, change_of, way_over}
 use Rattle.lab_state.proofs.Named.{name_is}
 use Rattle.lab_core.specs.Tasks.{CanDo, Gives, IsRefusal, Refuses, task_of}
@@ -212,11 +212,11 @@ module _ (s : LabState) (lab : Lab) (e : Experiment) (mapping : Mapping) (old : 
 
 -- WHAT IS JUDGED of an experiment that is there and has no open swap, once its text is read
 pub in_reads : (s : LabState) (busy : Bool) (exp text : List ℕ) (lab : Lab) (e : Experiment) (m : Mapping) → s.lab ≡ Some lab → find exp s.experiments ≡ Some e → busy ≡ false → e.phase ≡ Out → mapping_of_text lab e.wiring text ≡ Ok m
-    → judged_swapin s busy exp text ≡ judged_mapping s lab e m
+    → judged_swapin_with s busy exp text ≡ judged_mapping s lab e m
 in_reads s busy exp text lab e m is found idle out read = rw (is, found, idle, out, read) refl
 
 pub over_reads : (s : LabState) (busy : Bool) (exp : List ℕ) (lines : ℕ) (top map : List ℕ) (lab : Lab) (e : Experiment) (mapping : Mapping) (old : List VlanId) (w : Wiring) (m : Mapping) → s.lab ≡ Some lab → find exp s.experiments ≡ Some e → busy ≡ false
-    → e.phase ≡ In mapping old → wiring_of_text top ≡ Ok w → mapping_of_text lab w map ≡ Ok m → judged_modify s busy exp lines top map ≡ judged_change s lab e w m
+    → e.phase ≡ In mapping old → wiring_of_text top ≡ Ok w → mapping_of_text lab w map ≡ Ok m → judged_modify_with s busy exp lines top map ≡ judged_change s lab e w m
 over_reads s busy exp lines top map lab e mapping old w m is found idle inside reads read = rw (is, found, idle, inside, reads, read) refl
 
 -- a refusal in other words

@@ -17,7 +17,7 @@ use Rattle.script_text.specs.declared.command.Command.TheVariants as commands
 use Rattle.script_text.specs.declared.reply.Reply.{Reply}
 use Rattle.script_text.specs.declared.reply.Reply.TheVariants.{Bad, NoLab, LabIsSet}
 use Rattle.cost_rule.specs.declared.rule.RuleNumber.{RuleNumber}
-use Rattle.lab_core.specs.Judge.{need_meaning, need_place, Task, Tell, Append, Swap, BeginOnly, Turn, Finish, Recover, in_slot, judged_wiring, JudgedNetwork, refused, asked, Judged, JudgedText, JudgedFound, OrRefused, InSlot, Is, IsFound, is_searched}
+use Rattle.lab_core.specs.Judge.{need_meaning, need_place, Task, Tell, Append, Swap, BeginOnly, Turn, Finish, Recover, in_slot, judged_wiring, JudgedCreate, refused, asked, Judged, JudgedText, JudgedFound, OrRefused, InSlot, Is, IsFound, is_searched}
 use Rattle.lab_base.specs.declared.fault.TextRefused.{TextRefused}
 use Rattle.lab_base.specs.declared.fault.TextRefused.TheVariants as texts
 use Rattle.ns_text.specs.Wirings.{WiringOf, HasWiring}
@@ -43,7 +43,7 @@ refused_once {A} needed Judges a b each (asked x some judged) (asked y some' jud
     let same : x ≡ y = cc both in
     each x judged (subst (λ (z : A). Judges z b) (sym same) judged')
 
-network_once : (s : LabState) (exp text : List ℕ) (a b : Result Task Reply) → JudgedNetwork s exp text a → JudgedNetwork s exp text b → a ≡ b
+network_once : (s : LabState) (exp text : List ℕ) (a b : Result Task Reply) → JudgedCreate s exp text a → JudgedCreate s exp text b → a ≡ b
 network_once s exp text a b p q =
     refused_once (need_place s exp) (λ x. JudgedText exp text (λ w. Is (judged_wiring s exp w))) a b (λ x t u.
     refused_once (need_meaning (Bad exp) t.meaning) (λ w. Is (judged_wiring s exp w)) a b (λ w one other. one ∙ sym other) t.judged

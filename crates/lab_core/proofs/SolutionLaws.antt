@@ -37,7 +37,7 @@ use Rattle.swap_turns.specs.Turning.{Outcome, More, TurnsBack, Ended, Stuck, Unw
 use Rattle.swap_turns.specs.Whole.{SwapSteps, begun, unwritten, stopped as stopped_so}
 use Rattle.lab_core.specs.Breaks.{Breaks, stopped, failed, unanswered}
 use Rattle.lab_core.specs.Counts.{least_tags}
-use Rattle.lab_core.specs.Judge.{◌>>=◌, Task, Swap, begun_as, in_slot, judged_mapping, judged_swapin, need_kept, subject_name}
+use Rattle.lab_core.specs.Judge.{◌>>=◌, Task, Swap, begun_as, in_slot, judged_mapping, judged_swapin_with, need_kept, subject_name}
 use Rattle.lab_core.specs.LabSteps.{DoesBy, Does, IsDoneBy, does, no_memory, opened, not_opened, StepOf, IfSpace, Replies, Swaps, BeginSteps, Begins, begun_at, JudgedBeside, IsAnswered, is_told, has_space, done_reply, end_reply, turn_reply, undone_end}
 use Rattle.lab_core.specs.Sessions.{OpenSwap, Session, Closed, Open, Setting, After, is_among, name_in, names_of, Terms}
 use Rattle.lab_core.proofs.OpenNames.{busy_has}
@@ -55,10 +55,10 @@ taking false exp = refl
 
 -- what is judged of it: it can be swapped in, or another reply refuses it
 abbrev pub judged_for : LabState → Bool → ℕ → Bool → List ℕ → List ℕ → Result Task Reply
-judged_for s busy count only exp text = in_slot count only (judged_swapin s busy exp text)
+judged_for s busy count only exp text = in_slot count only (judged_swapin_with s busy exp text)
 
 abbrev Refused : LabState → Bool → List ℕ → List ℕ → Type 0
-Refused s busy exp text = (refusal : Reply) × (judged_swapin s busy exp text ≡ Err refusal) × (is_taking refusal ≡ false)
+Refused s busy exp text = (refusal : Reply) × (judged_swapin_with s busy exp text ≡ Err refusal) × (is_taking refusal ≡ false)
 
 module _ (s : LabState) (exp text : List ℕ) where
   by_violation : (lab : Lab) (e : Experiment) (mapping : Mapping) (o : Option (Broken × Subject)) → violation_beside lab (others e.name s.experiments) e e.wiring mapping ≡ o
@@ -67,7 +67,7 @@ module _ (s : LabState) (exp text : List ℕ) where
       ap (λ v. need_kept lab e.name e.wiring v >>= λ feasible. let r : Result Task Reply = Ok (Swap e.name (WayIn (canonical_solution lab e.wiring mapping) (least_tags lab s.experiments (length e.wiring.segments)))) in r) is
 
   -- where nothing refuses it before
-  idle_reads : (lab : Lab) (e : Experiment) (mapping : Mapping) → s.lab ≡ Some lab → find exp s.experiments ≡ Some e → e.phase ≡ Out → mapping_of_text lab e.wiring text ≡ Ok mapping → judged_swapin s false exp text ≡ judged_mapping s lab e mapping
+  idle_reads : (lab : Lab) (e : Experiment) (mapping : Mapping) → s.lab ≡ Some lab → find exp s.experiments ≡ Some e → e.phase ≡ Out → mapping_of_text lab e.wiring text ≡ Ok mapping → judged_swapin_with s false exp text ≡ judged_mapping s lab e mapping
   idle_reads lab e mapping is found out reads = rw (is, found, out, reads) refl
 
   by_rule : (lab : Lab) (e : Experiment) (mapping : Mapping) (o : Option (Broken × Subject)) → s.lab ≡ Some lab → find exp s.experiments ≡ Some e → e.phase ≡ Out → mapping_of_text lab e.wiring text ≡ Ok mapping
@@ -94,10 +94,10 @@ module _ (s : LabState) (exp text : List ℕ) where
   by_lab busy (Some lab) is = by_found lab busy (find exp s.experiments) is refl
 
   pub feasible_judged : (lab : Lab) (e : Experiment) (mapping : Mapping) → s.lab ≡ Some lab → find exp s.experiments ≡ Some e → e.phase ≡ Out → mapping_of_text lab e.wiring text ≡ Ok mapping → violation_beside lab (others e.name s.experiments) e e.wiring mapping ≡ None
-      → judged_swapin s false exp text ≡ Ok (Swap e.name (WayIn (canonical_solution lab e.wiring mapping) (least_tags lab s.experiments (length e.wiring.segments))))
+      → judged_swapin_with s false exp text ≡ Ok (Swap e.name (WayIn (canonical_solution lab e.wiring mapping) (least_tags lab s.experiments (length e.wiring.segments))))
   feasible_judged lab e mapping is found out reads keeps = idle_reads lab e mapping is found out reads ∙ by_violation lab e mapping None keeps
 
-  pub busy_judged : (lab : Lab) (e : Experiment) → s.lab ≡ Some lab → find exp s.experiments ≡ Some e → judged_swapin s true exp text ≡ Err (replies.Busy exp)
+  pub busy_judged : (lab : Lab) (e : Experiment) → s.lab ≡ Some lab → find exp s.experiments ≡ Some e → judged_swapin_with s true exp text ≡ Err (replies.Busy exp)
   busy_judged lab e is found = rw (is, found) refl
 
 -- an experiment that is out has no open swap, where that of each moves

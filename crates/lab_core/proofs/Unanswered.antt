@@ -61,9 +61,9 @@ pub unread_sound : (t : Texts) (trace : List Event) (device : List ℕ) → IsSo
 unread_sound t trace device sound n within =
     let was : SoundAt (λ a b s. StandFor t a b s) trace = subst (λ l. SoundAt (λ a b s. StandFor t a b s) l) (take_all (length trace) trace (omega arith)) (sound (length trace) (omega arith)) in
     let now : SoundAt (λ a b s. StandFor t a b s) (trace ++ Unread device ∷ []) = λ x y possible.
-        let before : ArePossible trace x y = rw (disk_push A trace (Unread device), disk_push B trace (Unread device)) at possible in
-        let at = was x y before in
-        (at.0, at.1, subst (λ w. Keeps w at.0) (sym (world_push trace (Unread device))) at.2) in
+    let before : ArePossible trace x y = rw (disk_push A trace (Unread device), disk_push B trace (Unread device)) at possible in
+    let at = was x y before in
+    (at.0, at.1, subst (λ w. Keeps w at.0) (sym (world_push trace (Unread device))) at.2) in
     elim (cases_lt (length trace) n) [
       | inl above ↦ subst (λ l. SoundAt (λ a b s. StandFor t a b s) l) (sym (take_all n (trace ++ Unread device ∷ []) (omega (arith, above, length-append trace (Unread device ∷ []))))) now
       | inr below ↦ subst (λ l. SoundAt (λ a b s. StandFor t a b s) l) (sym (take-append-le n trace (Unread device ∷ []) below)) (sound n below)
@@ -220,8 +220,8 @@ module _ (rule : RuleNumber) (devices : ℕ) (before now : Seen) (c : Control) (
       → ObeysCommand rule commands.Audit devices before now c c opens (Ok (replies.Audit (map line_of report)))
   audit_tells report r exact switches = audit_answered rule devices before now None c opens works (replies.Audit (map line_of report)) refl refl r
       (if_both before.told (λ w. IsKnown (lab_in c.lab.lab) c.lab.experiments (world_of w.trace) → IsDiff (lab_in c.lab.lab) c.lab.experiments (world_of w.trace) report)
-          (λ w. TellsSwitches (lab_in c.lab.lab) c.lab.experiments (world_of w.trace) report)
-          (λ w. Audits (world_of w.trace) c.lab opens [] (open_by (replies.Audit (map line_of report)) c.lab opens)) (λ w e s. all_told report refl s e refl) exact switches)
+      (λ w. TellsSwitches (lab_in c.lab.lab) c.lab.experiments (world_of w.trace) report)
+      (λ w. Audits (world_of w.trace) c.lab opens [] (open_by (replies.Audit (map line_of report)) c.lab opens)) (λ w e s. all_told report refl s e refl) exact switches)
 
   -- one was not, or memory was wanting
   pub audit_broken : (fault : AuditFault) → Reads before now (unread_in fault) → ObeysCommand rule commands.Audit devices before now c c opens (broken_by fault)

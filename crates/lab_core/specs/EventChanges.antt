@@ -14,7 +14,7 @@ use Rattle.script_text.specs.declared.reply.Reply.{Reply}
 use Rattle.solution_text.specs.CanonicalSolution.{canonical_solution}
 use Rattle.top_text.specs.Canonical.{canonical_top}
 use Rattle.top_text.specs.Printable.{is_printable}
-use Rattle.lab_core.specs.Judge.{Task, in_slot, judged_modify, need_idle_in}
+use Rattle.lab_core.specs.Judge.{Task, in_slot, judged_modify_with, need_idle_in}
 use Rattle.lab_core.specs.Playing.{JudgedEvent, bad_shape, mapping_in}
 use Rattle.lab_core.specs.Sessions.{OpenSwap, names_of}
 
@@ -27,7 +27,7 @@ module _ (exp : List ℕ) (text : Wiring) (event : LinkEvent) (s : LabState) (bu
   -- the link lacks the shape that it has in its text; or the judgement is that of `modify-with` by those texts, the refusals of it among them
   pub data IsItsChange (judgement : Result Task Reply) : Type 0 where
     lacks : (lab : Lab) (e : Experiment) → need_idle_in s busy exp ≡ Ok (lab, e) → lacks_shape event.link text e.wiring ≡ true → judgement ≡ Err (bad_shape exp event) → IsItsChange judgement
-    changes : (top map : List ℕ) → AreItsTexts top map → ((lines : ℕ) → judgement ≡ in_slot count false (judged_modify s busy exp lines top map)) → IsItsChange judgement
+    changes : (top map : List ℕ) → AreItsTexts top map → ((lines : ℕ) → judgement ≡ in_slot count false (judged_modify_with s busy exp lines top map)) → IsItsChange judgement
 
 -- of each event that keeps the limits, of a sound text, in a lab whose wirings can be printed
 abbrev pub EventsAreChanges : Type 0

@@ -212,8 +212,8 @@ need_place s exp = do
   lab ← need_lab s.lab
   need_new exp (find exp s.experiments)
 
-abbrev pub judged_create : LabState → List ℕ → List ℕ → Result Task Reply
-judged_create s exp text = do
+abbrev pub judged_create_top : LabState → List ℕ → List ℕ → Result Task Reply
+judged_create_top s exp text = do
   place ← need_place s exp
   wiring ← need_meaning (Bad exp) (wiring_of_text text)
   judged_wiring s exp wiring
@@ -241,8 +241,8 @@ judged_mapping s lab e mapping = do
   feasible ← need_feasible lab s.experiments e e.wiring mapping
   Ok (task_in s lab e mapping)
 
-abbrev pub judged_swapin : LabState → Bool → List ℕ → List ℕ → Result Task Reply
-judged_swapin s busy exp text = do
+abbrev pub judged_swapin_with : LabState → Bool → List ℕ → List ℕ → Result Task Reply
+judged_swapin_with s busy exp text = do
   lab ← need_lab s.lab
   e ← need_found exp (find exp s.experiments)
   idle ← need_idle exp busy
@@ -264,8 +264,8 @@ judged_change s lab e w mapping = do
   feasible ← need_feasible lab s.experiments e w mapping
   Ok (task_over s lab e w mapping)
 
-abbrev pub judged_modify : LabState → Bool → List ℕ → ℕ → List ℕ → List ℕ → Result Task Reply
-judged_modify s busy exp lines top map = do
+abbrev pub judged_modify_with : LabState → Bool → List ℕ → ℕ → List ℕ → List ℕ → Result Task Reply
+judged_modify_with s busy exp lines top map = do
   lab ← need_lab s.lab
   e ← need_found exp (find exp s.experiments)
   idle ← need_idle exp busy
@@ -364,8 +364,8 @@ need_idle_in s busy exp = do
   Ok (lab, e)
 
 -- `create`: the NS text is asked for its wiring only where nothing refuses before
-abbrev pub JudgedNetwork : LabState → List ℕ → List ℕ → Result Task Reply → Type 0
-JudgedNetwork s exp text = OrRefused (need_place s exp) (λ place. JudgedText exp text (λ w. Is (judged_wiring s exp w)))
+abbrev pub JudgedCreate : LabState → List ℕ → List ℕ → Result Task Reply → Type 0
+JudgedCreate s exp text = OrRefused (need_place s exp) (λ place. JudgedText exp text (λ w. Is (judged_wiring s exp w)))
 
 -- `solve`: the mapping that was found and its cost are told
 abbrev pub judged_solved : Lab → Experiment → Solved → Result Task Reply
@@ -407,14 +407,14 @@ is_searched command = false
 -- drill comes, and no list of commands.
 abbrev pub Judged : RuleNumber → LabState → Bool → ℕ → Command → Result Task Reply → Type 0
 Judged rule s busy count (commands.Ptop lines text) = Is (judged_ptop s text)
-Judged rule s busy count (commands.Create exp lines text) = JudgedNetwork s exp text
-Judged rule s busy count (commands.CreateTop exp lines text) = Is (judged_create s exp text)
+Judged rule s busy count (commands.Create exp lines text) = JudgedCreate s exp text
+Judged rule s busy count (commands.CreateTop exp lines text) = Is (judged_create_top s exp text)
 Judged rule s busy count (commands.Show exp) = Is (judged_show s exp)
 Judged rule s busy count (commands.Solve exp seed) = JudgedSolve rule s busy exp seed
 Judged rule s busy count (commands.Swapin only exp seed) = InSlot count only (JudgedSwapin rule s busy exp seed)
-Judged rule s busy count (commands.SwapinWith only exp lines text) = Is (in_slot count only (judged_swapin s busy exp text))
+Judged rule s busy count (commands.SwapinWith only exp lines text) = Is (in_slot count only (judged_swapin_with s busy exp text))
 Judged rule s busy count (commands.Modify only exp seed lines text) = InSlot count only (JudgedModify rule s busy exp seed text)
-Judged rule s busy count (commands.ModifyWith only exp lines top others map) = Is (in_slot count only (judged_modify s busy exp lines top map))
+Judged rule s busy count (commands.ModifyWith only exp lines top others map) = Is (in_slot count only (judged_modify_with s busy exp lines top map))
 Judged rule s busy count (commands.Swapout only exp) = Is (in_slot count only (judged_swapout s busy exp))
 Judged rule s busy count (commands.Turn exp) = Is (judged_turn s busy exp)
 Judged rule s busy count (commands.Finish exp) = Is (judged_finish s busy exp)

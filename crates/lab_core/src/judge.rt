@@ -12,12 +12,12 @@ ghost use Rattle.records_model.specs.Labs.{LabState as AnyLabState};
 ghost use Rattle.script_text.specs.declared.reply.Reply.{Reply as AnyReply};
 ghost use Rattle.lab_core.specs.Commands.{is_unjudged};
 ghost use Rattle.lab_core.specs.Controller.{has_open, has_open_for};
-ghost use Rattle.lab_core.specs.Judge.{Task as AnyTask, Judged, JudgedNetwork, in_slot, judged_create, judged_delete, judged_finish, judged_ptop, judged_recover, judged_show, judged_status, judged_swapout, judged_turn, judged_wiring, need_place};
+ghost use Rattle.lab_core.specs.Judge.{Task as AnyTask, Judged, JudgedCreate, in_slot, judged_create_top, judged_delete, judged_finish, judged_ptop, judged_recover, judged_show, judged_status, judged_swapout, judged_turn, judged_wiring, need_place};
 ghost use Rattle.lab_core.specs.Tasks.{CanDo, Gives, IsJudged, IsMild, Refuses, IsRefusedBy};
 
-use crate::judge_change::judge_modify;
-use crate::judge_search::{judge_remap, judge_solve, judge_swapin};
-use crate::judge_swap::judge_solution;
+use crate::judge_change::judge_modify_with;
+use crate::judge_search::{judge_modify, judge_solve, judge_swapin};
+use crate::judge_swap::judge_swapin_with;
 use crate::needs::{
     need_found, need_idle, need_in, need_lab, need_none, need_open, need_out, need_place,
     need_room, need_slot,
@@ -94,9 +94,14 @@ fn judge_wiring(state: &LabState, exp: Name, wiring: &Wiring, top: Text) -> Resu
     })
 }
 
-fn judge_create(alloc: Global, state: &LabState, exp: Name, text: &[u8]) -> Result<Task, Refusal>
+fn judge_create_top(
+    alloc: Global,
+    state: &LabState,
+    exp: Name,
+    text: &[u8],
+) -> Result<Task, Refusal>
     requires { length text.now < 4294967295 }
-    ensures judged { Gives (judged_create state.now.state exp text.now) result }
+    ensures judged { Gives (judged_create_top state.now.state exp text.now) result }
     ensures can { IfOk result (CanDo state.now.state) }
 {
     need_place(state, exp)?;
@@ -110,9 +115,9 @@ fn judge_create(alloc: Global, state: &LabState, exp: Name, text: &[u8]) -> Resu
 }
 
 /// Judges an experiment by the network of an NS text.
-fn judge_network(alloc: Global, state: &LabState, exp: Name, text: &[u8]) -> Result<Task, Refusal>
+fn judge_create(alloc: Global, state: &LabState, exp: Name, text: &[u8]) -> Result<Task, Refusal>
     requires { length text.now < 4294967295 }
-    ensures judged { IsJudged (JudgedNetwork state.now.state exp text.now) result }
+    ensures judged { IsJudged (JudgedCreate state.now.state exp text.now) result }
     ensures can { IfOk result (CanDo state.now.state) }
 {
     need_place(state, exp)?;
@@ -248,8 +253,8 @@ pub(crate) fn judge(
 {
     match command {
         Command::Ptop { ptop, .. } => judge_ptop(alloc, state, ptop.bytes()),
-        Command::Create { exp, ns, .. } => judge_network(alloc, state, *exp, ns.bytes()),
-        Command::CreateTop { exp, top, .. } => judge_create(alloc, state, *exp, top.bytes()),
+        Command::Create { exp, ns, .. } => judge_create(alloc, state, *exp, ns.bytes()),
+        Command::CreateTop { exp, top, .. } => judge_create_top(alloc, state, *exp, top.bytes()),
         Command::Show { exp } => judge_show(alloc, state, *exp),
         Command::Solve { exp, seed } => judge_solve(alloc, state, swaps, *exp, rule, *seed),
         Command::Swapin {
@@ -267,7 +272,7 @@ pub(crate) fn judge(
             ns,
             ..
         } => {
-            let judged = judge_remap(alloc, state, swaps, *exp, ns.bytes(), rule, *seed);
+            let judged = judge_modify(alloc, state, swaps, *exp, ns.bytes(), rule, *seed);
             in_slot(swaps, *only_begin, judged)
         }
         Command::SwapinWith {
@@ -276,7 +281,7 @@ pub(crate) fn judge(
             map,
             ..
         } => {
-            let judged = judge_solution(alloc, state, swaps, *exp, map.bytes());
+            let judged = judge_swapin_with(alloc, state, swaps, *exp, map.bytes());
             in_slot(swaps, *only_begin, judged)
         }
         Command::ModifyWith {
@@ -288,7 +293,7 @@ pub(crate) fn judge(
             ..
         } => {
             let (top, map) = (top.bytes(), map.bytes());
-            let judged = judge_modify(alloc, state, swaps, *exp, *top_lines, top, map);
+            let judged = judge_modify_with(alloc, state, swaps, *exp, *top_lines, top, map);
             in_slot(swaps, *only_begin, judged)
         }
         Command::Swapout { only_begin, exp } => {

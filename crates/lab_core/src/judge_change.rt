@@ -14,7 +14,7 @@ ghost use Rattle.top_text.specs.Canonical.{canonical_top};
 ghost use Rattle.top_text.specs.Printable.{is_printable};
 ghost use Rattle.virt_topo.specs.Soundness.{IsSound};
 ghost use Rattle.lab_core.specs.Controller.{has_open};
-ghost use Rattle.lab_core.specs.Judge.{behind_lines, judged_change, judged_modify};
+ghost use Rattle.lab_core.specs.Judge.{behind_lines, judged_change, judged_modify_with};
 ghost use Rattle.lab_core.specs.JudgeSwap.{IsInIn, IsTaskOf, change_of, way_over};
 ghost use Rattle.lab_core.specs.Tasks.{CanDo, Gives, IsRefusedBy};
 
@@ -157,7 +157,7 @@ pub(crate) fn judge_change(
 }
 
 /// Judges a change by a given wiring and solution; `lines` is the number of lines of the wiring's block.
-pub(crate) fn judge_modify(
+pub(crate) fn judge_modify_with(
     alloc: Global,
     state: &LabState,
     swaps: &Manager,
@@ -168,7 +168,7 @@ pub(crate) fn judge_modify(
 ) -> Result<Task, Refusal>
     requires top { length top.now < 4294967295 }
     requires map { length map.now < 2147483648 }
-    ensures judged { Gives (judged_modify state.now.state (has_open swaps.now exp) exp lines top.now map.now) result }
+    ensures judged { Gives (judged_modify_with state.now.state (has_open swaps.now exp) exp lines top.now map.now) result }
     ensures can { IfOk result (CanDo state.now.state) }
 {
     let lab = need_lab(state)?;

@@ -215,7 +215,7 @@ fn judge_move(
 }
 
 /// Judges a change by the wiring of an NS text, to where a search finds a place.
-pub(crate) fn judge_remap(
+pub(crate) fn judge_modify(
     alloc: Global,
     state: &LabState,
     swaps: &Manager,

@@ -10,7 +10,7 @@ ghost use Rattle.solution_text.specs.CanonicalSolution.{canonical_solution};
 ghost use Rattle.swap_turns.specs.Swaps.{swap_in};
 ghost use Rattle.virt_topo.specs.Soundness.{IsSound};
 ghost use Rattle.lab_core.specs.Controller.{has_open};
-ghost use Rattle.lab_core.specs.Judge.{judged_mapping, judged_swapin, need_feasible, need_kept};
+ghost use Rattle.lab_core.specs.Judge.{judged_mapping, judged_swapin_with, need_feasible, need_kept};
 ghost use Rattle.lab_core.specs.JudgeSwap.{CanTake, IsOutIn, IsTaskOf, IsThere};
 ghost use Rattle.lab_core.specs.Tasks.{CanDo, Gives, IsRefusal, Refuses};
 
@@ -135,7 +135,7 @@ pub(crate) fn judge_mapping(
 }
 
 /// Judges a swap-in by a given solution.
-pub(crate) fn judge_solution(
+pub(crate) fn judge_swapin_with(
     alloc: Global,
     state: &LabState,
     swaps: &Manager,
@@ -143,7 +143,7 @@ pub(crate) fn judge_solution(
     text: &[u8],
 ) -> Result<Task, Refusal>
     requires { length text.now < 4294967295 }
-    ensures judged { Gives (judged_swapin state.now.state (has_open swaps.now exp) exp text.now) result }
+    ensures judged { Gives (judged_swapin_with state.now.state (has_open swaps.now exp) exp text.now) result }
     ensures can { IfOk result (CanDo state.now.state) }
 {
     let lab = need_lab(state)?;

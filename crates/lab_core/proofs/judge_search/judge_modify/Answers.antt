@@ -3,7 +3,7 @@ use Rattle.std.proofs.Common.{Err}
 use Rattle.lab_core.specs.Controller.{has_open}
 use Rattle.lab_core.specs.Judge.{need_idle_in}
 use Rattle.lab_core.proofs.Judgements.{asked_so, fault_refuses, refuses_so, text_so}
-use Rattle.lab_core.proofs.judge_search.judge_remap.Goals as goal
+use Rattle.lab_core.proofs.judge_search.judge_modify.Goals as goal
 
 pub returns-in_err-lab-clause-judged : goal.returns-in_err-lab-clause-judged
 returns-in_err-lab-clause-judged g c =

@@ -2,7 +2,7 @@ use Rattle.std.proofs.lemmas.Result.{err_from_is_err_and}
 use Rattle.std.proofs.Common.{Err}
 use Rattle.lab_core.specs.Judge.{judged_wiring, need_place}
 use Rattle.lab_core.proofs.Judgements.{asked_so, fault_refuses, is_so, refuses_so, text_so}
-use Rattle.lab_core.proofs.judge.judge_network.Goals as goal
+use Rattle.lab_core.proofs.judge.judge_create.Goals as goal
 
 pub returns-in_err-need_place-clause-judged : goal.returns-in_err-need_place-clause-judged
 returns-in_err-need_place-clause-judged c =

@@ -3,7 +3,7 @@ use Rattle.lab_core.specs.Controller.{has_open}
 use Rattle.lab_core.specs.Tasks.{Gives}
 use Rattle.records_model.proofs.Swaps.{found_in}
 use Rattle.lab_core.proofs.JudgeSwap.{in_reads, is_there}
-use Rattle.lab_core.proofs.judge_swap.judge_solution.Goals as goal
+use Rattle.lab_core.proofs.judge_swap.judge_swapin_with.Goals as goal
 
 pub judge_mapping-requires-clause-out : goal.judge_mapping-requires-clause-out
 judge_mapping-requires-clause-out c =

@@ -5,7 +5,7 @@ use Rattle.solution_text.specs.Solutions.{mapping_of_text}
 use Rattle.virt_topo.specs.declared.mapping.Mapping.{Mapping}
 use Rattle.lab_core.proofs.Behind.{fault_within}
 use Rattle.lab_core.proofs.JudgeSwap.{is_there}
-use Rattle.lab_core.proofs.judge_change.judge_modify.Goals as goal
+use Rattle.lab_core.proofs.judge_change.judge_modify_with.Goals as goal
 
 pub judge_change-requires-clause-inside : goal.judge_change-requires-clause-inside
 judge_change-requires-clause-inside c = record {
