@@ -58,7 +58,8 @@ impl Controller {
     /// Tells in what the devices differ from what is wanted of them. It changes nothing.
     pub(crate) fn audit<P: Tables>(&mut self, plant: &mut P) -> Result<Reply, CoreFault>
         requires works { CanWork (P.seen plant.old) self.old }
-        ensures { (rule : AnyRule) (opens : List OpenSwap) (devices : ℕ) → devices ≤ (P.seen plant.old).faults.devices → WorksWith (P.seen plant.old) self.old opens
+        ensures { (rule : AnyRule) (opens : List OpenSwap) (devices : ℕ) → devices ≤ (P.seen plant.old).faults.devices
+            → WorksWith (P.seen plant.old) self.old opens
             → ObeysCommand rule commands.Audit devices (P.seen plant.old) (P.seen plant.new) self.old self.new opens result }
     {
         let Some(_lab) = self.lab.lab() else {

@@ -42,9 +42,11 @@ fn move_over<P: Plant>(
 ) -> Result<(), OpenFault>
     requires epoch { epoch_of journal.old < 2 ^ 64 - 1 }
     requires fits { side_length packed.now ≤ limit_of journal.old }
-    ensures after { (s : AnyLabState) → AtWork the_texts (P.seen plant.old).told journal.old s → IsPacked packed.now s → IsToMove (length_of journal.old) (epoch_of journal.old) s
+    ensures after { (s : AnyLabState) → AtWork the_texts (P.seen plant.old).told journal.old s → IsPacked packed.now s
+        → IsToMove (length_of journal.old) (epoch_of journal.old) s
         → AfterMove s journal.old (P.seen plant.old).told (P.seen plant.new).told result }
-    ensures works { OnOk result ((s : AnyLabState) → AtWork the_texts (P.seen plant.old).told journal.old s → IsPacked packed.now s → IsToMove (length_of journal.old) (epoch_of journal.old) s
+    ensures works { OnOk result ((s : AnyLabState) → AtWork the_texts (P.seen plant.old).told journal.old s → IsPacked packed.now s
+        → IsToMove (length_of journal.old) (epoch_of journal.old) s
         → AtWork the_texts (P.seen plant.new).told journal.new s) }
     ensures limit { limit_of journal.new ≡ limit_of journal.old }
     ensures plant { IsErrOf result OpenFault.Plant → Rose (P.seen plant.old).faults.disk (P.seen plant.new).faults.disk }

@@ -69,7 +69,8 @@ fn is_moving(experiment: &Experiment) -> bool
 /// Whether the experiment of that number moves.
 fn moves(lab: &LabState, number: usize) -> bool
     requires { number < length lab.now.state.experiments }
-    ensures { count_by is_moving (take (number + 1) lab.now.state.experiments) ≡ count_by is_moving (take number lab.now.state.experiments) + (if result then 1 else 0) }
+    ensures { count_by is_moving (take (number + 1) lab.now.state.experiments)
+        ≡ count_by is_moving (take number lab.now.state.experiments) + (if result then 1 else 0) }
 {
     let _kept = lab.lab();
     match lab.nth(number as u16) {

@@ -113,7 +113,8 @@ fn name_if_claims(experiment: &Experiment, node: NodeId) -> Option<Name>
 /// The name of the experiment of that number, where it claims the node.
 fn claimer(state: &LabState, number: usize, node: NodeId) -> Option<Name>
     requires { number < length state.now.state.experiments }
-    ensures { claimers_at (take (number + 1) state.now.state.experiments) node.0 ≡ claimers_at (take number state.now.state.experiments) node.0 ++ listed result }
+    ensures { claimers_at (take (number + 1) state.now.state.experiments) node.0
+        ≡ claimers_at (take number state.now.state.experiments) node.0 ++ listed result }
 {
     // for the prover: it tells what every lab keeps
     let _kept = state.lab();
@@ -159,8 +160,10 @@ fn wait_of(
     run: &Run,
 ) -> Result<Option<Wait>, Memory>
     requires { CanServe queue.now run.now }
-    ensures fits { IfOk result (λ wait. (wait ≡ None) ↔ FitsFor lab.now (left_beside lab.now state.now.state queue.now mapping.now) queue.now.promises queue.now.moment run.now.length) }
-    ensures waits { IfOk result (λ wait. IfSome wait (IsShortAt lab.now (left_beside lab.now state.now.state queue.now mapping.now) queue.now.promises (span_of queue.now.moment run.now))) }
+    ensures fits { IfOk result (λ wait. (wait ≡ None)
+        ↔ FitsFor lab.now (left_beside lab.now state.now.state queue.now mapping.now) queue.now.promises queue.now.moment run.now.length) }
+    ensures waits { IfOk result (λ wait. IfSome wait
+        (IsShortAt lab.now (left_beside lab.now state.now.state queue.now mapping.now) queue.now.promises (span_of queue.now.moment run.now))) }
 {
     // for the prover: it tells what every lab keeps
     let _kept = lab.range();
@@ -271,7 +274,8 @@ fn judge_place(
     requires out { IsOutIn state.now.state lab.now experiment.now }
     requires keeps { Keeps state.now.state lab.now experiment.now experiment.now.wiring mapping.now }
     requires serves { CanServe queue.now run.now }
-    ensures judged { IsJudged (IsTestedAs (λ entry. space_in journal.now entry) lab.now (left_beside lab.now state.now.state queue.now mapping.now) queue.now.promises (span_of queue.now.moment run.now) (task_in state.now.state lab.now experiment.now mapping.now)) result }
+    ensures judged { IsJudged (IsTestedAs (λ entry. space_in journal.now entry) lab.now (left_beside lab.now state.now.state queue.now mapping.now)
+        queue.now.promises (span_of queue.now.moment run.now) (task_in state.now.state lab.now experiment.now mapping.now)) result }
     ensures can { IfOk result (CanDo state.now.state) }
 {
     // It is feasible, so no rule refuses it.
@@ -301,7 +305,8 @@ fn judge_found(
     requires out { IsOutIn state.now.state lab.now experiment.now }
     requires sound { IsSound experiment.now.wiring }
     requires serves { CanServe queue.now run.now }
-    ensures judged { IsJudged (JudgedPlace rule.now.number queue.now.moment queue.now.promises queue.now.ends run.now (λ entry. space_in journal.now entry) state.now.state lab.now experiment.now) result }
+    ensures judged { IsJudged (JudgedPlace rule.now.number queue.now.moment queue.now.promises queue.now.ends run.now
+        (λ entry. space_in journal.now entry) state.now.state lab.now experiment.now) result }
     ensures can { IfOk result (CanDo state.now.state) }
 {
     let found = search(
@@ -328,7 +333,8 @@ fn judge_test(
     rule: &StepRule,
 ) -> Result<Task, Refusal>
     requires { CanServe queue.now run.now }
-    ensures judged { IsJudged (JudgedTest rule.now.number queue.now.moment queue.now.promises queue.now.ends run.now (λ entry. space_in journal.now entry) state.now.state (has_open swaps.now run.now.exp)) result }
+    ensures judged { IsJudged (JudgedTest rule.now.number queue.now.moment queue.now.promises queue.now.ends run.now
+        (λ entry. space_in journal.now entry) state.now.state (has_open swaps.now run.now.exp)) result }
     ensures can { IfOk result (CanDo state.now.state) }
 {
     let (lab, experiment) = need_idle_out(state, swaps, run.exp)?;
@@ -346,7 +352,8 @@ pub(crate) fn judge_run(
     rule: &StepRule,
 ) -> Result<Task, Refusal>
     requires { CanServe queue.now run.now }
-    ensures judged { IsJudged (JudgedRunAt rule.now.number queue.now.moment queue.now.promises queue.now.ends run.now (λ entry. space_in journal.now entry) state.now.state (has_open swaps.now run.now.exp) (length swaps.now)) result }
+    ensures judged { IsJudged (JudgedRunAt rule.now.number queue.now.moment queue.now.promises queue.now.ends run.now
+        (λ entry. space_in journal.now entry) state.now.state (has_open swaps.now run.now.exp) (length swaps.now)) result }
     ensures can { IfOk result (CanDo state.now.state) }
 {
     let judged = judge_test(alloc, state, swaps, journal, queue, run, rule);

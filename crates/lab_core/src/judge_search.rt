@@ -159,7 +159,8 @@ fn judge_entry(
 ) -> Result<Task, Refusal>
     requires out { IsOutIn state.now.state lab.now experiment.now }
     requires sound { IsSound experiment.now.wiring }
-    ensures judged { IsJudged (JudgedFound rule.now.number state.now.state lab.now experiment.now experiment.now.wiring seed (judged_entry state.now.state lab.now experiment.now)) result }
+    ensures judged { IsJudged (JudgedFound rule.now.number state.now.state lab.now experiment.now experiment.now.wiring seed
+        (judged_entry state.now.state lab.now experiment.now)) result }
     ensures can { IfOk result (CanDo state.now.state) }
 {
     let found = search(
@@ -205,7 +206,8 @@ fn judge_move(
 ) -> Result<Task, Refusal>
     requires inside { IsInIn state.now.state lab.now experiment.now place.0.now place.1.now }
     requires sound { IsSound wiring }
-    ensures judged { IsJudged (JudgedFound rule.now.number state.now.state lab.now experiment.now wiring seed (judged_move state.now.state lab.now experiment.now wiring)) result }
+    ensures judged { IsJudged (JudgedFound rule.now.number state.now.state lab.now experiment.now wiring seed
+        (judged_move state.now.state lab.now experiment.now wiring)) result }
     ensures can { IfOk result (CanDo state.now.state) }
 {
     let found = search(alloc, state, lab, experiment, &wiring, rule, seed)?;

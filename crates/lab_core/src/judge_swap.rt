@@ -105,7 +105,8 @@ fn plan_swap_in(
     requires shaped { IsShaped lab.now experiment.now.wiring mapping.now }
     requires tagged { length tags ≡ length experiment.now.wiring.segments }
     requires ids { (tag : AnyVlanId) → Has tags tag → tag.0 < 2 ^ 16 }
-    ensures { IfOk result (IsTaskOf lab.now (swap_in experiment.now mapping.now tags) (ways.In (canonical_solution lab.now experiment.now.wiring mapping.now) tags)) }
+    ensures { IfOk result (IsTaskOf lab.now (swap_in experiment.now mapping.now tags)
+        (ways.In (canonical_solution lab.now experiment.now.wiring mapping.now) tags)) }
 {
     let ops = plan_in(alloc, lab, &experiment.wiring, mapping, &tags)?;
     let map = print_solution(alloc, lab, &experiment.wiring, mapping)?;

@@ -44,26 +44,39 @@ ghost use Rattle.lab_core.specs.Tells.{AllMove, AreLocal, BeginsAt, GoesIn, Hind
 /// Experiments of other names stay, whatever the reply. Where the command settles what moves, those that don't move stay, and those with an open
 /// swap. A drill leaves all as it was. The plant stopped exactly where the reply is `stopped`.
 pub fn lab_steps()
-    ensures judged_once { (rule : RuleNumber) (s : LabState) (busy : Bool) (count : ℕ) (command : Command) (a b : Result Task Reply) → is_searched command ≡ false → Judged rule s busy count command a → Judged rule s busy count command b → a ≡ b }
-    ensures by_one { (terms : Terms) (at : List Event) (set : Setting) (s : LabState) (session : Session) (command : Command) (opening own : List Event) (after : After)
-        → is_unjudged command ≡ false → LabStep terms at set s session command opening own after → (judgement : Result Task Reply) × LabStepBy judgement terms set s session command opening own after }
-    ensures refused { (terms : Terms) (set : Setting) (s : LabState) (session : Session) (command : Command) (opening own : List Event) (after : After) (reply : Reply)
+    ensures judged_once { (rule : RuleNumber) (s : LabState) (busy : Bool) (count : ℕ) (command : Command) (a b : Result Task Reply)
+        → is_searched command ≡ false → Judged rule s busy count command a → Judged rule s busy count command b → a ≡ b }
+    ensures by_one { (terms : Terms) (at : List Event) (set : Setting) (s : LabState) (session : Session) (command : Command) (opening own : List Event)
+        (after : After)
+        → is_unjudged command ≡ false → LabStep terms at set s session command opening own after
+        → (judgement : Result Task Reply) × LabStepBy judgement terms set s session command opening own after }
+    ensures refused { (terms : Terms) (set : Setting) (s : LabState) (session : Session) (command : Command) (opening own : List Event) (after : After)
+        (reply : Reply)
         → LabStepBy (Err reply) terms set s session command opening own after → own ≡ [] }
-    ensures told { (terms : Terms) (set : Setting) (s : LabState) (session : Session) (command : Command) (opening own : List Event) (after : After) (reply : Reply)
+    ensures told { (terms : Terms) (set : Setting) (s : LabState) (session : Session) (command : Command) (opening own : List Event) (after : After)
+        (reply : Reply)
         → LabStepBy (Ok (Tell reply)) terms set s session command opening own after → own ≡ [] }
-    ensures once { (terms : Terms) (set : Setting) (s : LabState) (opens : List OpenSwap) (command : Command) (judgement : Result Task Reply) (own : List Event) (after later : After)
+    ensures once { (terms : Terms) (set : Setting) (s : LabState) (opens : List OpenSwap) (command : Command) (judgement : Result Task Reply)
+        (own : List Event) (after later : After)
         (reply other : Reply)
         → IsNoSwap judgement → has_restart own ≡ false → has_miss own ≡ false → after.reply ≡ Some reply → later.reply ≡ Some other
-        → LabStepBy judgement terms set s (Open opens) command [] own after → LabStepBy judgement terms set s (Open opens) command [] own later → (reply ≡ other) × (after.lab ≡ later.lab) }
-    ensures swapped { (terms : Terms) (set : Setting) (s : LabState) (session : Session) (command : Command) (opening own : List Event) (after : After) (exp : List ℕ) (way : Way)
+        → LabStepBy judgement terms set s (Open opens) command [] own after → LabStepBy judgement terms set s (Open opens) command [] own later
+        → (reply ≡ other) × (after.lab ≡ later.lab) }
+    ensures swapped { (terms : Terms) (set : Setting) (s : LabState) (session : Session) (command : Command) (opening own : List Event) (after : After)
+        (exp : List ℕ) (way : Way)
         (reply : Reply) → drill_of command ≡ None → after.reply ≡ Some reply → LabStepBy (Ok (Swap exp way)) terms set s session command opening own after
-        → TellsBroken reply ⊎ ((mid : LabState) × BeginsAt session s opening mid × ((move : Move) → Says the_texts mid (Begin exp way) move → TellsLab mid exp move reply after.lab)) }
-    ensures others { (terms : Terms) (at : List Event) (set : Setting) (s : LabState) (session : Session) (command : Command) (opening own : List Event) (after : After) (name : List ℕ)
-        → is_some s.lab ≡ true → is_about command name ≡ false → (settles session command name ≡ true → IsAtRest s name) → LabStep terms at set s session command opening own after
+        → TellsBroken reply ⊎ ((mid : LabState) × BeginsAt session s opening mid
+        × ((move : Move) → Says the_texts mid (Begin exp way) move → TellsLab mid exp move reply after.lab)) }
+    ensures others { (terms : Terms) (at : List Event) (set : Setting) (s : LabState) (session : Session) (command : Command) (opening own : List Event)
+        (after : After) (name : List ℕ)
+        → is_some s.lab ≡ true → is_about command name ≡ false → (settles session command name ≡ true → IsAtRest s name)
+        → LabStep terms at set s session command opening own after
         → find name after.lab.experiments ≡ find name s.experiments }
-    ensures drills { (terms : Terms) (at : List Event) (set : Setting) (s : LabState) (session : Session) (command : Command) (opening own : List Event) (after : After)
+    ensures drills { (terms : Terms) (at : List Event) (set : Setting) (s : LabState) (session : Session) (command : Command) (opening own : List Event)
+        (after : After)
         → is_some (drill_of command) ≡ true → LabStep terms at set s session command opening own after → (opening ≡ []) × (own ≡ []) × (after.lab ≡ s) }
-    ensures stops { (terms : Terms) (at : List Event) (set : Setting) (s : LabState) (session : Session) (command : Command) (opening own : List Event) (after : After) (reply : Reply)
+    ensures stops { (terms : Terms) (at : List Event) (set : Setting) (s : LabState) (session : Session) (command : Command) (opening own : List Event)
+        (after : After) (reply : Reply)
         → LabStep terms at set s session command opening own after → after.reply ≡ Some reply → has_restart (opening ++ own) ≡ is_stopped reply }
 {}
 
@@ -75,28 +88,41 @@ pub fn lab_steps()
 /// Both leave the world of each other experiment as it was, over any trace and however they end: each row that it wants, and each node that it
 /// claims.
 pub fn open_swaps()
-    ensures others { (terms : Terms) (at : List Event) (set : Setting) (s : LabState) (opens to : List OpenSwap) (command : Command) (opening own : List Event) (after : After) (name : List ℕ)
-        → is_about command name ≡ false → LabStep terms at set s (Open opens) command opening own after → after.session ≡ Open to → open_at name to ≡ open_at name opens }
-    ensures differ { (terms : Terms) (at : List Event) (set : Setting) (s : LabState) (session : Session) (to : List OpenSwap) (command : Command) (opening own : List Event) (after : After)
+    ensures others { (terms : Terms) (at : List Event) (set : Setting) (s : LabState) (opens to : List OpenSwap) (command : Command) (opening own : List Event)
+        (after : After) (name : List ℕ)
+        → is_about command name ≡ false → LabStep terms at set s (Open opens) command opening own after → after.session ≡ Open to
+        → open_at name to ≡ open_at name opens }
+    ensures differ { (terms : Terms) (at : List Event) (set : Setting) (s : LabState) (session : Session) (to : List OpenSwap) (command : Command)
+        (opening own : List Event) (after : After)
         → AllDiffer (busy_of session) → LabStep terms at set s session command opening own after → after.session ≡ Open to → AllDiffer (names_of to) }
-    ensures few { (terms : Terms) (at : List Event) (set : Setting) (s : LabState) (session : Session) (to : List OpenSwap) (command : Command) (opening own : List Event) (after : After)
+    ensures few { (terms : Terms) (at : List Event) (set : Setting) (s : LabState) (session : Session) (to : List OpenSwap) (command : Command)
+        (opening own : List Event) (after : After)
         → length (opens_of session) ≤ 16 → LabStep terms at set s session command opening own after → after.session ≡ Open to → length to ≤ 16 }
-    ensures moves { (terms : Terms) (at : List Event) (set : Setting) (s : LabState) (session : Session) (to : List OpenSwap) (command : Command) (opening own : List Event) (after : After)
-        → Sane s → AllDiffer (busy_of session) → AllMove (opens_of session) s → LabStep terms at set s session command opening own after → after.session ≡ Open to → AllMove to after.lab }
-    ensures begun { (terms : Terms) (set : Setting) (s : LabState) (session : Session) (command : Command) (opening own : List Event) (after : After) (exp name : List ℕ) (way : Way)
+    ensures moves { (terms : Terms) (at : List Event) (set : Setting) (s : LabState) (session : Session) (to : List OpenSwap) (command : Command)
+        (opening own : List Event) (after : After)
+        → Sane s → AllDiffer (busy_of session) → AllMove (opens_of session) s → LabStep terms at set s session command opening own after
+        → after.session ≡ Open to → AllMove to after.lab }
+    ensures begun { (terms : Terms) (set : Setting) (s : LabState) (session : Session) (command : Command) (opening own : List Event) (after : After)
+        (exp name : List ℕ) (way : Way)
         → LabStepBy (Ok (BeginOnly exp way)) terms set s session command opening own after → after.reply ≡ Some (More name)
         → (name ≡ exp) × ((to : List OpenSwap) × (after.session ≡ Open to) × IsOpened exp set.devices after.lab (opens_of session) to) }
-    ensures turned { (terms : Terms) (set : Setting) (s : LabState) (opens : List OpenSwap) (command : Command) (opening own : List Event) (after : After) (exp : List ℕ) (reply : Reply)
-        → drill_of command ≡ None → LabStepBy (Ok (Turn exp)) terms set s (Open opens) command opening own after → after.reply ≡ Some reply → closes reply ≡ false → is_stopped reply ≡ false
+    ensures turned { (terms : Terms) (set : Setting) (s : LabState) (opens : List OpenSwap) (command : Command) (opening own : List Event) (after : After)
+        (exp : List ℕ) (reply : Reply)
+        → drill_of command ≡ None → LabStepBy (Ok (Turn exp)) terms set s (Open opens) command opening own after → after.reply ≡ Some reply
+        → closes reply ≡ false → is_stopped reply ≡ false
         → IsTurn own }
-    ensures at_most_one { (terms : Terms) (set : Setting) (s : LabState) (opens : List OpenSwap) (command : Command) (opening own : List Event) (after : After) (exp : List ℕ)
+    ensures at_most_one { (terms : Terms) (set : Setting) (s : LabState) (opens : List OpenSwap) (command : Command) (opening own : List Event) (after : After)
+        (exp : List ℕ)
         → LabStepBy (Ok (Turn exp)) terms set s (Open opens) command opening own after → (has_command own ≡ false) ⊎ SendsOne own }
-    ensures turn_tells { (terms : Terms) (set : Setting) (s : LabState) (opens : List OpenSwap) (command : Command) (opening own : List Event) (after : After) (exp : List ℕ) (reply : Reply)
+    ensures turn_tells { (terms : Terms) (set : Setting) (s : LabState) (opens : List OpenSwap) (command : Command) (opening own : List Event) (after : After)
+        (exp : List ℕ) (reply : Reply)
         → LabStepBy (Ok (Turn exp)) terms set s (Open opens) command opening own after → after.reply ≡ Some reply → TellsEnd s exp reply after.lab }
-    ensures world { (terms : Terms) (at : List Event) (set : Setting) (s : LabState) (opens : List OpenSwap) (command : Command) (opening own : List Event) (after : After) (trace : List Event) (exp : List ℕ) (e : Experiment)
+    ensures world { (terms : Terms) (at : List Event) (set : Setting) (s : LabState) (opens : List OpenSwap) (command : Command) (opening own : List Event)
+        (after : After) (trace : List Event) (exp : List ℕ) (e : Experiment)
         → Sane s → IsTurnOf exp command → Has s.experiments e → e.name ≢ exp → LabStep terms at set s (Open opens) command opening own after
         → SameFor (lab_in s.lab) e (world_of trace) (world_of (trace ++ own)) }
-    ensures finish_tells { (terms : Terms) (set : Setting) (s : LabState) (opens : List OpenSwap) (command : Command) (opening own : List Event) (after : After) (exp : List ℕ) (reply : Reply)
+    ensures finish_tells { (terms : Terms) (set : Setting) (s : LabState) (opens : List OpenSwap) (command : Command) (opening own : List Event)
+        (after : After) (exp : List ℕ) (reply : Reply)
         → LabStepBy (Ok (Finish exp)) terms set s (Open opens) command opening own after → after.reply ≡ Some reply → TellsEnd s exp reply after.lab }
 {}
 
@@ -105,8 +131,10 @@ pub fn open_swaps()
 pub fn recoveries()
     ensures opened { (s mid : LabState) (opening : List Event) → Sane s → (is : Opens s opening mid) → count_by is_stuck is.outcomes ≡ 0
         → (e : Experiment) → Has mid.experiments e → is_moving e ≡ false }
-    ensures beside { (s after : LabState) (swaps : List Swapped) (outcomes : List Outcome) (steps : List Event) (name : List ℕ) → Settles s swaps outcomes steps after → EndedIn swaps outcomes name → IsAtRest after name }
-    ensures recovered { (terms : Terms) (at : List Event) (set : Setting) (s : LabState) (session : Session) (opening own : List Event) (after : After) (done : ℕ)
+    ensures beside { (s after : LabState) (swaps : List Swapped) (outcomes : List Outcome) (steps : List Event) (name : List ℕ)
+        → Settles s swaps outcomes steps after → EndedIn swaps outcomes name → IsAtRest after name }
+    ensures recovered { (terms : Terms) (at : List Event) (set : Setting) (s : LabState) (session : Session) (opening own : List Event) (after : After)
+        (done : ℕ)
         → Sane s → LabStep terms at set s session Recover opening own after → after.reply ≡ Some (Recovered done 0)
         → (e : Experiment) → Has after.lab.experiments e → is_moving e ≡ true → is_busy (busy_of session) e.name ≡ true }
 {}
@@ -116,28 +144,38 @@ pub fn recoveries()
 /// Where it is feasible it goes in, unless the reply tells what hindered it. An open swap of its own can't, since the experiment of one moves. One
 /// that is answered as in is in by the mapping of that solution, at once or at the end of the swap that begins.
 pub fn solutions()
-    ensures only { (terms : Terms) (at : List Event) (set : Setting) (s : LabState) (session : Session) (only_begin : Bool) (exp text : List ℕ) (lines : ℕ) (opening own : List Event) (after : After)
+    ensures only { (terms : Terms) (at : List Event) (set : Setting) (s : LabState) (session : Session) (only_begin : Bool) (exp text : List ℕ) (lines : ℕ)
+        (opening own : List Event) (after : After)
         → LabStep terms at set s session (SwapinWith only_begin exp lines text) opening own after → after.reply ≡ Some (taken_reply only_begin exp)
         → (mid : LabState) × BeginsAt session s opening mid × IsFeasibleFor mid exp text }
-    ensures unless { (terms : Terms) (at : List Event) (set : Setting) (s : LabState) (session : Session) (only_begin : Bool) (exp text : List ℕ) (lines : ℕ) (opening own : List Event) (after : After) (reply : Reply)
+    ensures unless { (terms : Terms) (at : List Event) (set : Setting) (s : LabState) (session : Session) (only_begin : Bool) (exp text : List ℕ) (lines : ℕ)
+        (opening own : List Event) (after : After) (reply : Reply)
         → LabStep terms at set s session (SwapinWith only_begin exp lines text) opening own after → AllMove (opens_of session) s → after.reply ≡ Some reply
-        → TellsBroken reply ⊎ ((mid : LabState) × BeginsAt session s opening mid × (IsFeasibleFor mid exp text → (reply ≡ taken_reply only_begin exp) ⊎ Hinders reply)) }
-    ensures inside { (terms : Terms) (at : List Event) (set : Setting) (s : LabState) (session : Session) (exp text : List ℕ) (lines : ℕ) (opening own : List Event) (after : After)
+        → TellsBroken reply ⊎ ((mid : LabState) × BeginsAt session s opening mid
+        × (IsFeasibleFor mid exp text → (reply ≡ taken_reply only_begin exp) ⊎ Hinders reply)) }
+    ensures inside { (terms : Terms) (at : List Event) (set : Setting) (s : LabState) (session : Session) (exp text : List ℕ) (lines : ℕ)
+        (opening own : List Event) (after : After)
         → LabStep terms at set s session (SwapinWith false exp lines text) opening own after → after.reply ≡ Some (In exp) → IsInBy after.lab exp text }
-    ensures begins { (terms : Terms) (at : List Event) (set : Setting) (s : LabState) (session : Session) (to : List OpenSwap) (exp text : List ℕ) (lines : ℕ) (opening own : List Event) (after : After)
-        → LabStep terms at set s session (SwapinWith true exp lines text) opening own after → after.reply ≡ Some (More exp) → after.session ≡ Open to → GoesIn to after.lab exp text }
-    ensures ends { (terms : Terms) (at : List Event) (set : Setting) (s : LabState) (opens : List OpenSwap) (command : Command) (exp text : List ℕ) (opening own : List Event) (after : After)
-        → AllMove opens s → GoesIn opens s exp text → IsTurnOf exp command → LabStep terms at set s (Open opens) command opening own after → after.reply ≡ Some (In exp) → IsInBy after.lab exp text }
+    ensures begins { (terms : Terms) (at : List Event) (set : Setting) (s : LabState) (session : Session) (to : List OpenSwap) (exp text : List ℕ) (lines : ℕ)
+        (opening own : List Event) (after : After)
+        → LabStep terms at set s session (SwapinWith true exp lines text) opening own after → after.reply ≡ Some (More exp) → after.session ≡ Open to
+        → GoesIn to after.lab exp text }
+    ensures ends { (terms : Terms) (at : List Event) (set : Setting) (s : LabState) (opens : List OpenSwap) (command : Command) (exp text : List ℕ)
+        (opening own : List Event) (after : After)
+        → AllMove opens s → GoesIn opens s exp text → IsTurnOf exp command → LabStep terms at set s (Open opens) command opening own after
+        → after.reply ≡ Some (In exp) → IsInBy after.lab exp text }
 {}
 
 /// A search has one answer, unless there are more than 65,536 candidates and FirstFit is feasible. Then each answer is locally best, and costs at
 /// most every map of the walk of the seed.
 pub fn searches()
-    ensures { (rule : RuleNumber) (lab : Lab) (es : List Experiment) (e : Experiment) (w : Wiring) (seed : ℕ) (a b : Solved) → IsFound rule lab es e w seed a → IsFound rule lab es e w seed b
+    ensures { (rule : RuleNumber) (lab : Lab) (es : List Experiment) (e : Experiment) (w : Wiring) (seed : ℕ) (a b : Solved) → IsFound rule lab es e w seed a
+        → IsFound rule lab es e w seed b
         → (a ≡ b) ⊎ AreLocal a b }
 {}
 
-/// A link event is judged as `modify-with` by two texts: the canonical one of the wiring that the event leaves, and that of the present mapping. So it is undone as a change is. The one refusal beside is that the link lacks the shape that it has in its text.
+/// A link event is judged as `modify-with` by two texts: the canonical one of the wiring that the event leaves, and that of the
+/// present mapping. So it is undone as a change is. The one refusal beside is that the link lacks the shape that it has in its text.
 pub fn link_events()
     ensures { EventsAreChanges }
 {}
@@ -145,5 +183,6 @@ pub fn link_events()
 /// Over a sound trace the devices are as the lab of each image says.
 /// Each row that an experiment wants which is in is there, and its nodes are as they are wanted. Of one that is out there is nothing.
 pub fn labs_are_kept()
-    ensures { (trace : List Event) (a b : List ℕ) (s : LabState) → IsSound the_texts trace → ArePossible trace a b → StandForLab a b s → IsAsSaid (world_of trace) s }
+    ensures { (trace : List Event) (a b : List ℕ) (s : LabState) → IsSound the_texts trace → ArePossible trace a b → StandForLab a b s
+        → IsAsSaid (world_of trace) s }
 {}

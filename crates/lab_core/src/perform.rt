@@ -118,8 +118,10 @@ fn append<P: Plant>(
 ) -> Result<Reply, CoreFault>
     requires can { CanAppend lab.old.state entry.now reply }
     requires works { CanWork (P.seen plant.old) (control lab.old.state journal.old swaps.now) }
-    ensures { (opens : List OpenSwap) (devices : ℕ) (exp : Option (List ℕ)) → devices ≤ (P.seen plant.old).faults.devices → WorksWith (P.seen plant.old) (control lab.old.state journal.old swaps.now) opens
-        → Obeyed devices (P.seen plant.old) (P.seen plant.new) (Is (Ok (Append entry.now reply))) (control lab.old.state journal.old swaps.now) (control lab.new.state journal.new swaps.now) opens exp result }
+    ensures { (opens : List OpenSwap) (devices : ℕ) (exp : Option (List ℕ)) → devices ≤ (P.seen plant.old).faults.devices
+        → WorksWith (P.seen plant.old) (control lab.old.state journal.old swaps.now) opens
+        → Obeyed devices (P.seen plant.old) (P.seen plant.new) (Is (Ok (Append entry.now reply))) (control lab.old.state journal.old swaps.now)
+        (control lab.new.state journal.new swaps.now) opens exp result }
 {
     let encoded = encode(alloc, entry)?;
     if !has_space(journal, encoded.size()) {
@@ -149,8 +151,10 @@ fn begin<P: Plant>(
     requires by { IsSwapBy lab.old.state exp way ops.commands ops.undo }
     requires ready { IsReady swaps.old (Swap exp way) }
     requires works { CanWork (P.seen plant.old) (control lab.old.state journal.old swaps.old) }
-    ensures begun { (opens : List OpenSwap) (devices : ℕ) → devices ≤ (P.seen plant.old).faults.devices → WorksWith (P.seen plant.old) (control lab.old.state journal.old swaps.old) opens
-        → IsBegunBy devices (P.seen plant.old) (P.seen plant.new) (control lab.old.state journal.old swaps.old) (control lab.new.state journal.new swaps.new) opens exp way result }
+    ensures begun { (opens : List OpenSwap) (devices : ℕ) → devices ≤ (P.seen plant.old).faults.devices
+        → WorksWith (P.seen plant.old) (control lab.old.state journal.old swaps.old) opens
+        → IsBegunBy devices (P.seen plant.old) (P.seen plant.new) (control lab.old.state journal.old swaps.old)
+        (control lab.new.state journal.new swaps.new) opens exp way result }
     ensures told { IfOk result (λ told. IfSome told (IsSwapReply exp)) }
 {
     let Ok(ready) = prepare_swap(alloc, lab, exp, way, ops) else {
@@ -184,8 +188,10 @@ fn begin_only<P: Plant>(
     requires by { IsSwapBy lab.old.state exp way ops.commands ops.undo }
     requires ready { IsReady swaps.old (BeginOnly exp way) }
     requires works { CanWork (P.seen plant.old) (control lab.old.state journal.old swaps.old) }
-    ensures { (opens : List OpenSwap) (devices : ℕ) → devices ≤ (P.seen plant.old).faults.devices → WorksWith (P.seen plant.old) (control lab.old.state journal.old swaps.old) opens
-        → Obeyed devices (P.seen plant.old) (P.seen plant.new) (Is (Ok (BeginOnly exp way))) (control lab.old.state journal.old swaps.old) (control lab.new.state journal.new swaps.new) opens (Some exp) result }
+    ensures { (opens : List OpenSwap) (devices : ℕ) → devices ≤ (P.seen plant.old).faults.devices
+        → WorksWith (P.seen plant.old) (control lab.old.state journal.old swaps.old) opens
+        → Obeyed devices (P.seen plant.old) (P.seen plant.new) (Is (Ok (BeginOnly exp way))) (control lab.old.state journal.old swaps.old)
+        (control lab.new.state journal.new swaps.new) opens (Some exp) result }
 {
     match begin(alloc, lab, journal, swaps, exp, way, ops, plant)? {
         None => Ok(Reply::More { exp }),
@@ -203,8 +209,10 @@ fn turn<P: Plant>(
 ) -> Result<Reply, CoreFault>
     requires ready { IsReady swaps.old (Turn exp) }
     requires works { CanWork (P.seen plant.old) (control lab.old.state journal.old swaps.old) }
-    ensures { (opens : List OpenSwap) (devices : ℕ) → devices ≤ (P.seen plant.old).faults.devices → WorksWith (P.seen plant.old) (control lab.old.state journal.old swaps.old) opens
-        → Obeyed devices (P.seen plant.old) (P.seen plant.new) (Is (Ok (Turn exp))) (control lab.old.state journal.old swaps.old) (control lab.new.state journal.new swaps.new) opens (Some exp) result }
+    ensures { (opens : List OpenSwap) (devices : ℕ) → devices ≤ (P.seen plant.old).faults.devices
+        → WorksWith (P.seen plant.old) (control lab.old.state journal.old swaps.old) opens
+        → Obeyed devices (P.seen plant.old) (P.seen plant.new) (Is (Ok (Turn exp))) (control lab.old.state journal.old swaps.old)
+        (control lab.new.state journal.new swaps.new) opens (Some exp) result }
 {
     let progress = turn_swap(lab, journal, swaps, exp, plant);
     reply_of_progress(exp, progress)
@@ -220,8 +228,10 @@ fn finish<P: Plant>(
 ) -> Result<Reply, CoreFault>
     requires ready { IsReady swaps.old (Finish exp) }
     requires works { CanWork (P.seen plant.old) (control lab.old.state journal.old swaps.old) }
-    ensures { (opens : List OpenSwap) (devices : ℕ) → devices ≤ (P.seen plant.old).faults.devices → WorksWith (P.seen plant.old) (control lab.old.state journal.old swaps.old) opens
-        → Obeyed devices (P.seen plant.old) (P.seen plant.new) (Is (Ok (Finish exp))) (control lab.old.state journal.old swaps.old) (control lab.new.state journal.new swaps.new) opens (Some exp) result }
+    ensures { (opens : List OpenSwap) (devices : ℕ) → devices ≤ (P.seen plant.old).faults.devices
+        → WorksWith (P.seen plant.old) (control lab.old.state journal.old swaps.old) opens
+        → Obeyed devices (P.seen plant.old) (P.seen plant.new) (Is (Ok (Finish exp))) (control lab.old.state journal.old swaps.old)
+        (control lab.new.state journal.new swaps.new) opens (Some exp) result }
 {
     let progress = finish_swap(lab, journal, swaps, exp, plant);
     reply_of_progress(exp, progress)
@@ -243,8 +253,10 @@ fn swap<P: Plant>(
     requires by { IsSwapBy lab.old.state exp way ops.commands ops.undo }
     requires ready { IsReady swaps.old (Swap exp way) }
     requires works { CanWork (P.seen plant.old) (control lab.old.state journal.old swaps.old) }
-    ensures obeyed { (opens : List OpenSwap) (devices : ℕ) → devices ≤ (P.seen plant.old).faults.devices → WorksWith (P.seen plant.old) (control lab.old.state journal.old swaps.old) opens
-        → Obeyed devices (P.seen plant.old) (P.seen plant.new) (Is (Ok (Swap exp way))) (control lab.old.state journal.old swaps.old) (control lab.new.state journal.new swaps.new) opens (Some exp) result }
+    ensures obeyed { (opens : List OpenSwap) (devices : ℕ) → devices ≤ (P.seen plant.old).faults.devices
+        → WorksWith (P.seen plant.old) (control lab.old.state journal.old swaps.old) opens
+        → Obeyed devices (P.seen plant.old) (P.seen plant.new) (Is (Ok (Swap exp way))) (control lab.old.state journal.old swaps.old)
+        (control lab.new.state journal.new swaps.new) opens (Some exp) result }
     ensures told { IfOk result (IsSwapReply exp) }
 {
     match begin(alloc, lab, journal, swaps, exp, way, ops, plant)? {
@@ -277,8 +289,10 @@ fn recover<P: Plant>(
     plant: &mut P,
 ) -> Result<Reply, CoreFault>
     requires works { CanWork (P.seen plant.old) (control lab.old.state journal.old swaps.now) }
-    ensures { (opens : List OpenSwap) (devices : ℕ) (exp : Option (List ℕ)) → devices ≤ (P.seen plant.old).faults.devices → WorksWith (P.seen plant.old) (control lab.old.state journal.old swaps.now) opens
-        → Obeyed devices (P.seen plant.old) (P.seen plant.new) (Is (Ok Recover)) (control lab.old.state journal.old swaps.now) (control lab.new.state journal.new swaps.now) opens exp result }
+    ensures { (opens : List OpenSwap) (devices : ℕ) (exp : Option (List ℕ)) → devices ≤ (P.seen plant.old).faults.devices
+        → WorksWith (P.seen plant.old) (control lab.old.state journal.old swaps.now) opens
+        → Obeyed devices (P.seen plant.old) (P.seen plant.new) (Is (Ok Recover)) (control lab.old.state journal.old swaps.now)
+        (control lab.new.state journal.new swaps.now) opens exp result }
 {
     let busy = swaps.names(alloc)?;
     let settled = settle(alloc, lab, &busy, journal, plant);
@@ -297,8 +311,10 @@ pub(crate) fn perform<P: Plant>(
     requires can { CanDo lab.old.state task }
     requires ready { IsReady swaps.old (task_of task) }
     requires works { CanWork (P.seen plant.old) (control lab.old.state journal.old swaps.old) }
-    ensures obeyed { (opens : List OpenSwap) (devices : ℕ) (exp : Option (List ℕ)) → devices ≤ (P.seen plant.old).faults.devices → WorksWith (P.seen plant.old) (control lab.old.state journal.old swaps.old) opens
-        → Obeyed devices (P.seen plant.old) (P.seen plant.new) (Is (Ok (task_of task))) (control lab.old.state journal.old swaps.old) (control lab.new.state journal.new swaps.new) opens (or_any (swapped_by (task_of task)) exp) result }
+    ensures obeyed { (opens : List OpenSwap) (devices : ℕ) (exp : Option (List ℕ)) → devices ≤ (P.seen plant.old).faults.devices
+        → WorksWith (P.seen plant.old) (control lab.old.state journal.old swaps.old) opens
+        → Obeyed devices (P.seen plant.old) (P.seen plant.new) (Is (Ok (task_of task))) (control lab.old.state journal.old swaps.old)
+        (control lab.new.state journal.new swaps.new) opens (or_any (swapped_by (task_of task)) exp) result }
     ensures told { IfOk result (TellsTask (task_of task)) }
 {
     match task {

@@ -132,7 +132,8 @@ impl Controller {
         requires text { IsSound text.now }
         requires limits { AllKeepLimits due.now }
         requires works { CanWork (P.seen plant.old) self.old }
-        ensures { (opens : List OpenSwap) (devices : ℕ) → devices ≤ (P.seen plant.old).faults.devices → WorksWith (P.seen plant.old) self.old opens → open_at exp opens ≡ None
+        ensures { (opens : List OpenSwap) (devices : ℕ) → devices ≤ (P.seen plant.old).faults.devices → WorksWith (P.seen plant.old) self.old opens
+            → open_at exp opens ≡ None
             → ObeysEvents exp (first_place text.now due.now) devices (P.seen plant.old) (P.seen plant.new) self.old self.new opens result }
     {
         let mut played = 0;
@@ -154,8 +155,10 @@ impl Controller {
         plant: &mut P,
     ) -> Result<Reply, CoreFault>
         requires works { CanWork (P.seen plant.old) self.old }
-        ensures { (rule : RuleNumber) (lines : ℕ) (opens : List OpenSwap) (devices : ℕ) → devices ≤ (P.seen plant.old).faults.devices → WorksWith (P.seen plant.old) self.old opens
-            → ObeysCommand rule (commands.Play exp span.from span.to lines text.now) devices (P.seen plant.old) (P.seen plant.new) self.old self.new opens result }
+        ensures { (rule : RuleNumber) (lines : ℕ) (opens : List OpenSwap) (devices : ℕ) → devices ≤ (P.seen plant.old).faults.devices
+            → WorksWith (P.seen plant.old) self.old opens
+            → ObeysCommand rule (commands.Play exp span.from span.to lines text.now) devices (P.seen plant.old)
+            (P.seen plant.new) self.old self.new opens result }
     {
         match judge_play(self.alloc, &self.lab, &self.swaps, exp, span, text) {
             Ok(play) => self.play_events(exp, &play.text, play.due.as_slice(), plant),

@@ -59,7 +59,8 @@ fn placed(
     tags: &[VlanId],
 ) -> Result<Placed, Memory>
     requires { IsShaped lab.now wiring.now mapping.now }
-    ensures { IfOk result (λ placed. placed ≡ record { solution = canonical_solution lab.now wiring.now mapping.now; tags = tag_lines wiring.now.segments tags.now }) }
+    ensures { IfOk result (λ placed. placed
+        ≡ record { solution = canonical_solution lab.now wiring.now mapping.now; tags = tag_lines wiring.now.segments tags.now }) }
 {
     Ok(Placed {
         solution: print_solution(alloc, lab, wiring, mapping)?,
@@ -104,7 +105,8 @@ pub(crate) fn shown(alloc: Global, lab: &Lab, experiment: &Experiment) -> Result
 
 /// A line for an experiment, with the numbers of nodes and of VLAN ids that it claims.
 fn status_line(claims: &Claims, experiment: &Experiment) -> StatusLine
-    ensures { (lab : AnyLab) (es : List AnyExperiment) → IsLab lab → ClaimsOf lab es claims.now → Holding lab es → Has es experiment.now → result ≡ status_line lab experiment.now }
+    ensures { (lab : AnyLab) (es : List AnyExperiment) → IsLab lab → ClaimsOf lab es claims.now → Holding lab es → Has es experiment.now
+        → result ≡ status_line lab experiment.now }
 {
     let counted = claims.counted_of(experiment.name);
     StatusLine {

@@ -74,7 +74,8 @@ fn obey_open<P: Plant>(
     requires open { MayOpen (P.seen plant.old) opened }
     requires runs { (P.seen plant.old).stopped ≡ false }
     ensures makes { (mark : AnyFaults) (swaps : List OpenSwap) → IsMarkAt mark (P.seen plant.old) → IsOpen (P.seen plant.old) opened swaps
-        → Makes (terms_of P.takes_drills rule.now.number) mark command.now (P.seen plant.old) opened swaps (record { plant = P.seen plant.new; controller = controller.new }) (reply_if result) }
+        → Makes (terms_of P.takes_drills rule.now.number) mark command.now (P.seen plant.old) opened swaps
+        (record { plant = P.seen plant.new; controller = controller.new }) (reply_if result) }
     ensures memory { OnErr result (result ≡ Err CommandFault.Memory) }
     ensures runs { OnOk result ((P.seen plant.new).stopped ≡ false) }
     ensures disk { closes_if (reply_if result) ≡ true → Rose (P.seen plant.old).faults.disk (P.seen plant.new).faults.disk }

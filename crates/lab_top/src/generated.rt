@@ -18,7 +18,8 @@ use std::alloc::Global;
 
 /// Writes the summary of the replies that were counted.
 fn write_summary<K: Sink>(alloc: Global, seed: u64, tally: &Tally, sink: &mut K) -> Status
-    ensures wrote { (replies : List AnyReply) → IsTally tally.now replies → WroteSummary (K.written sink.old) (K.written sink.new) (summary seed replies) result }
+    ensures wrote { (replies : List AnyReply) → IsTally tally.now replies
+        → WroteSummary (K.written sink.old) (K.written sink.new) (summary seed replies) result }
     ensures finishes { Finishes result }
     ensures write { result ≡ Status.WriteFault → Rose (K.faults sink.old) (K.faults sink.new) }
     ensures write_later { K.faults sink.old ≤ K.faults sink.new }

@@ -37,7 +37,8 @@ ghost use Rattle.lab_top.specs.declared.status.Status.TheVariants.{Memory, Journ
 /// A command that is no drill finds the session closed and the sides to be no journal, and no call of its opening fails or stops.
 /// Then the run ends with `JournalBad` at that very place, or memory is wanting, whatever the trace was before.
 pub fn bad_journals()
-    ensures { (terms : Terms) (choices : Option Choices) (old new : Outside) (status : Status) (before after : List Begun) (b : Begun) (t : Told) (side : Side) (at : ℕ)
+    ensures { (terms : Terms) (choices : Option Choices) (old new : Outside) (status : Status) (before after : List Begun) (b : Begun) (t : Told) (side : Side)
+        (at : ℕ)
         → Ran terms choices old new status (before ++ b ∷ after) → old.plant.told ≡ Some t → drill_of b.piece.command ≡ None → b.piece.from ≡ Closed
         → has_miss b.piece.opening ≡ false → has_restart b.piece.opening ≡ false
         → IsNoJournal (disk A (trace_after t.trace before)).reads (disk B (trace_after t.trace before)).reads (2 ^ 32) side at
@@ -50,23 +51,35 @@ pub fn bad_journals()
 /// The reply is `stopped` exactly where the plant stopped, and a command that is no drill has no reply of a drill, both whatever the trace was
 /// before. The empty trace is sound.
 pub fn runs()
-    ensures solutions { (terms : Terms) (choices : Option Choices) (old new : Outside) (status : Status) (before after : List Begun) (b : Begun) (t : Told) (only_begin : Bool) (exp text : List ℕ) (lines : ℕ) (reply : Reply)
-        → Ran terms choices old new status (before ++ b ∷ after) → old.plant.told ≡ Some t → IsSound the_texts t.trace → b.piece.command ≡ SwapinWith only_begin exp lines text → b.piece.reply ≡ Some reply
-        → TellsBroken reply ⊎ ((s : LabState) × FirstLab (is_early b.piece) (trace_after t.trace before) s × (mid : LabState) × BeginsAt b.piece.from s b.piece.opening mid
-        × (reply ≡ taken_reply only_begin exp → IsFeasibleFor mid exp text) × (IsFeasibleFor mid exp text → (reply ≡ taken_reply only_begin exp) ⊎ Hinders reply)) }
-    ensures kept { (terms : Terms) (choices : Option Choices) (old new : Outside) (status : Status) (before middle after : List Begun) (t : Told) (e : Experiment)
+    ensures solutions { (terms : Terms) (choices : Option Choices) (old new : Outside) (status : Status) (before after : List Begun) (b : Begun) (t : Told)
+        (only_begin : Bool) (exp text : List ℕ) (lines : ℕ) (reply : Reply)
+        → Ran terms choices old new status (before ++ b ∷ after) → old.plant.told ≡ Some t → IsSound the_texts t.trace
+        → b.piece.command ≡ SwapinWith only_begin exp lines text → b.piece.reply ≡ Some reply
+        → TellsBroken reply ⊎ ((s : LabState) × FirstLab (is_early b.piece) (trace_after t.trace before) s × (mid : LabState)
+        × BeginsAt b.piece.from s b.piece.opening mid
+        × (reply ≡ taken_reply only_begin exp → IsFeasibleFor mid exp text)
+        × (IsFeasibleFor mid exp text → (reply ≡ taken_reply only_begin exp) ⊎ Hinders reply)) }
+    ensures kept { (terms : Terms) (choices : Option Choices) (old new : Outside) (status : Status) (before middle after : List Begun) (t : Told)
+        (e : Experiment)
         → Ran terms choices old new status (before ++ (middle ++ after)) → old.plant.told ≡ Some t → IsSound the_texts t.trace → is_moving e ≡ false
         → AllHave (trace_after t.trace before) e → AreOthers e.name middle → AllHave (trace_after t.trace (before ++ middle)) e }
-    ensures answered { (terms : Terms) (choices : Option Choices) (old new : Outside) (status : Status) (before middle after : List Begun) (b : Begun) (t : Told) (reply : Reply)
+    ensures answered { (terms : Terms) (choices : Option Choices) (old new : Outside) (status : Status) (before middle after : List Begun) (b : Begun)
+        (t : Told) (reply : Reply)
         → Ran terms choices old new status (before ++ b ∷ (middle ++ after)) → old.plant.told ≡ Some t → IsSound the_texts t.trace → b.piece.reply ≡ Some reply
         → TellsAll reply middle (trace_after t.trace (before ++ b ∷ middle)) }
-    ensures inside { (terms : Terms) (choices : Option Choices) (old new : Outside) (status : Status) (before after : List Begun) (b : Begun) (t : Told) (exp text : List ℕ) (lines : ℕ)
-        → Ran terms choices old new status (before ++ b ∷ after) → old.plant.told ≡ Some t → IsSound the_texts t.trace → b.piece.command ≡ SwapinWith false exp lines text → b.piece.reply ≡ Some (In exp)
+    ensures inside { (terms : Terms) (choices : Option Choices) (old new : Outside) (status : Status) (before after : List Begun) (b : Begun) (t : Told)
+        (exp text : List ℕ) (lines : ℕ)
+        → Ran terms choices old new status (before ++ b ∷ after) → old.plant.told ≡ Some t → IsSound the_texts t.trace
+        → b.piece.command ≡ SwapinWith false exp lines text → b.piece.reply ≡ Some (In exp)
         → (s : LabState) × AllStandFor (trace_after t.trace (before ++ b ∷ [])) s × IsInBy s exp text }
-    ensures stops { (terms : Terms) (choices : Option Choices) (old new : Outside) (status : Status) (before after : List Begun) (b : Begun) (t : Told) (reply : Reply)
-        → Ran terms choices old new status (before ++ b ∷ after) → old.plant.told ≡ Some t → b.piece.reply ≡ Some reply → has_restart (steps_of b.piece) ≡ is_stopped reply }
-    ensures undrilled { (terms : Terms) (choices : Option Choices) (old new : Outside) (status : Status) (before after : List Begun) (b : Begun) (t : Told) (reply : Reply)
-        → Ran terms choices old new status (before ++ b ∷ after) → old.plant.told ≡ Some t → drill_of b.piece.command ≡ None → b.piece.reply ≡ Some reply → is_of_drill reply ≡ false }
+    ensures stops { (terms : Terms) (choices : Option Choices) (old new : Outside) (status : Status) (before after : List Begun) (b : Begun) (t : Told)
+        (reply : Reply)
+        → Ran terms choices old new status (before ++ b ∷ after) → old.plant.told ≡ Some t → b.piece.reply ≡ Some reply
+        → has_restart (steps_of b.piece) ≡ is_stopped reply }
+    ensures undrilled { (terms : Terms) (choices : Option Choices) (old new : Outside) (status : Status) (before after : List Begun) (b : Begun) (t : Told)
+        (reply : Reply)
+        → Ran terms choices old new status (before ++ b ∷ after) → old.plant.told ≡ Some t → drill_of b.piece.command ≡ None → b.piece.reply ≡ Some reply
+        → is_of_drill reply ≡ false }
     ensures blank { IsSound the_texts [] }
     ensures script { (bytes : List ℕ) (a b : List Command) (x y : Ending) → IsScript bytes a x → IsScript bytes b y → (a ≡ b) × (x ≡ y) }
 {}
@@ -79,11 +92,15 @@ pub fn recoveries()
         → Ran terms choices old new status (before ++ b ∷ after) → old.plant.told ≡ Some t → IsSound the_texts t.trace → HasOpened b.piece
         → (s : LabState) × (mid : LabState) × (to : OpensTo (trace_after t.trace before) b.piece s mid)
         × (count_by is_stuck to.opens.outcomes ≡ 0 → AllRestBut [] (trace_after t.trace before ++ b.piece.opening)) }
-    ensures each { (trace : List Event) (piece : Piece) (s mid : LabState) → IsLabAt trace s → (to : OpensTo trace piece s mid) → count_by is_stuck to.opens.outcomes ≡ 0 → AllRestBut [] (trace ++ piece.opening) }
-    ensures beside { (trace : List Event) (piece : Piece) (s mid : LabState) (name : List ℕ) → (to : OpensTo trace piece s mid) → EndedIn (swaps_of [] s.experiments) to.opens.outcomes name
+    ensures each { (trace : List Event) (piece : Piece) (s mid : LabState) → IsLabAt trace s → (to : OpensTo trace piece s mid)
+        → count_by is_stuck to.opens.outcomes ≡ 0 → AllRestBut [] (trace ++ piece.opening) }
+    ensures beside { (trace : List Event) (piece : Piece) (s mid : LabState) (name : List ℕ) → (to : OpensTo trace piece s mid)
+        → EndedIn (swaps_of [] s.experiments) to.opens.outcomes name
         → (a b : List ℕ) → ArePossible (trace ++ piece.opening) a b → (u : LabState) × StandForLab a b u × IsAtRest u name }
-    ensures recovered { (terms : Terms) (choices : Option Choices) (old new : Outside) (status : Status) (before after : List Begun) (b : Begun) (t : Told) (done : ℕ)
-        → Ran terms choices old new status (before ++ b ∷ after) → old.plant.told ≡ Some t → IsSound the_texts t.trace → b.piece.command ≡ Recover → b.piece.reply ≡ Some (Recovered done 0)
+    ensures recovered { (terms : Terms) (choices : Option Choices) (old new : Outside) (status : Status) (before after : List Begun) (b : Begun) (t : Told)
+        (done : ℕ)
+        → Ran terms choices old new status (before ++ b ∷ after) → old.plant.told ≡ Some t → IsSound the_texts t.trace → b.piece.command ≡ Recover
+        → b.piece.reply ≡ Some (Recovered done 0)
         → AllRestBut (busy_of b.piece.from) (trace_after t.trace (before ++ b ∷ [])) }
 {}
 
@@ -99,30 +116,43 @@ pub fn recoveries()
 /// No more than sixteen swaps are open, and no two of one name. Each has the count of device faults at the mark of a command before, over every
 /// plant.
 pub fn turns()
-    ensures swaps { (terms : Terms) (choices : Option Choices) (old new : Outside) (status : Status) (before middle after : List Begun) (t : Told) (name : List ℕ)
+    ensures swaps { (terms : Terms) (choices : Option Choices) (old new : Outside) (status : Status) (before middle after : List Begun) (t : Told)
+        (name : List ℕ)
         → Ran terms choices old new status (before ++ (middle ++ after)) → old.plant.told ≡ Some t → StayOpen middle → AreOthers name middle
         → open_at name (opens_of (session_after Closed (before ++ middle))) ≡ open_at name (opens_of (session_after Closed before)) }
-    ensures kept { (terms : Terms) (choices : Option Choices) (old new : Outside) (status : Status) (before middle after : List Begun) (t : Told) (e : Experiment) (swap : OpenSwap)
-        → Ran terms choices old new status (before ++ (middle ++ after)) → old.plant.told ≡ Some t → IsSound the_texts t.trace → open_at e.name (opens_of (session_after Closed before)) ≡ Some swap
+    ensures kept { (terms : Terms) (choices : Option Choices) (old new : Outside) (status : Status) (before middle after : List Begun) (t : Told)
+        (e : Experiment) (swap : OpenSwap)
+        → Ran terms choices old new status (before ++ (middle ++ after)) → old.plant.told ≡ Some t → IsSound the_texts t.trace
+        → open_at e.name (opens_of (session_after Closed before)) ≡ Some swap
         → AllHave (trace_after t.trace before) e → StayOpen middle → AreOthers e.name middle → AllHave (trace_after t.trace (before ++ middle)) e }
-    ensures moves { (terms : Terms) (choices : Option Choices) (old new : Outside) (status : Status) (before after : List Begun) (t : Told) (s : LabState) (swap : OpenSwap)
-        → Ran terms choices old new status (before ++ after) → old.plant.told ≡ Some t → IsLabAt (trace_after t.trace before) s → Has (opens_of (session_after Closed before)) swap → Moves swap.running.swap s }
-    ensures ended { (terms : Terms) (choices : Option Choices) (old new : Outside) (status : Status) (before middle after : List Begun) (b c : Begun) (t : Told) (exp text : List ℕ) (lines : ℕ)
+    ensures moves { (terms : Terms) (choices : Option Choices) (old new : Outside) (status : Status) (before after : List Begun) (t : Told) (s : LabState)
+        (swap : OpenSwap)
+        → Ran terms choices old new status (before ++ after) → old.plant.told ≡ Some t → IsLabAt (trace_after t.trace before) s
+        → Has (opens_of (session_after Closed before)) swap → Moves swap.running.swap s }
+    ensures ended { (terms : Terms) (choices : Option Choices) (old new : Outside) (status : Status) (before middle after : List Begun) (b c : Begun)
+        (t : Told) (exp text : List ℕ) (lines : ℕ)
         → Ran terms choices old new status ((before ++ b ∷ middle) ++ c ∷ after) → old.plant.told ≡ Some t → IsSound the_texts t.trace
-        → b.piece.command ≡ SwapinWith true exp lines text → b.piece.reply ≡ Some (More exp) → AreOn exp middle → IsTurnOf exp c.piece.command → c.piece.reply ≡ Some (In exp)
+        → b.piece.command ≡ SwapinWith true exp lines text → b.piece.reply ≡ Some (More exp) → AreOn exp middle → IsTurnOf exp c.piece.command
+        → c.piece.reply ≡ Some (In exp)
         → (s : LabState) × AllStandFor (trace_after t.trace ((before ++ b ∷ middle) ++ c ∷ [])) s × IsInBy s exp text }
-    ensures turned { (terms : Terms) (choices : Option Choices) (old new : Outside) (status : Status) (before after : List Begun) (b : Begun) (t : Told) (exp : List ℕ) (reply : Reply)
-        → Ran terms choices old new status (before ++ b ∷ after) → old.plant.told ≡ Some t → b.piece.command ≡ Turn exp → b.piece.reply ≡ Some reply → closes reply ≡ false → is_stopped reply ≡ false
+    ensures turned { (terms : Terms) (choices : Option Choices) (old new : Outside) (status : Status) (before after : List Begun) (b : Begun) (t : Told)
+        (exp : List ℕ) (reply : Reply)
+        → Ran terms choices old new status (before ++ b ∷ after) → old.plant.told ≡ Some t → b.piece.command ≡ Turn exp → b.piece.reply ≡ Some reply
+        → closes reply ≡ false → is_stopped reply ≡ false
         → is_closed b.piece.from ≡ false → (b.piece.own ≡ []) ⊎ IsTurn b.piece.own }
-    ensures at_most_one { (terms : Terms) (choices : Option Choices) (old new : Outside) (status : Status) (before after : List Begun) (b : Begun) (t : Told) (exp : List ℕ) (reply : Reply)
+    ensures at_most_one { (terms : Terms) (choices : Option Choices) (old new : Outside) (status : Status) (before after : List Begun) (b : Begun) (t : Told)
+        (exp : List ℕ) (reply : Reply)
         → Ran terms choices old new status (before ++ b ∷ after) → old.plant.told ≡ Some t → b.piece.command ≡ Turn exp → b.piece.reply ≡ Some reply
         → (has_command b.piece.own ≡ false) ⊎ SendsOne b.piece.own }
-    ensures world { (terms : Terms) (choices : Option Choices) (old new : Outside) (status : Status) (before after : List Begun) (b : Begun) (t : Told) (s : LabState) (exp : List ℕ) (e : Experiment) (reply : Reply)
-        → Ran terms choices old new status (before ++ b ∷ after) → old.plant.told ≡ Some t → IsTurnOf exp b.piece.command → b.piece.reply ≡ Some reply → is_closed b.piece.from ≡ false
+    ensures world { (terms : Terms) (choices : Option Choices) (old new : Outside) (status : Status) (before after : List Begun) (b : Begun) (t : Told)
+        (s : LabState) (exp : List ℕ) (e : Experiment) (reply : Reply)
+        → Ran terms choices old new status (before ++ b ∷ after) → old.plant.told ≡ Some t → IsTurnOf exp b.piece.command → b.piece.reply ≡ Some reply
+        → is_closed b.piece.from ≡ false
         → IsLabAt (trace_after t.trace before) s → Has s.experiments e → e.name ≢ exp
         → SameFor (lab_in s.lab) e (world_of (trace_after t.trace before)) (world_of (trace_after t.trace (before ++ b ∷ []))) }
     ensures few { (terms : Terms) (choices : Option Choices) (old new : Outside) (status : Status) (before after : List Begun) (t : Told)
-        → Ran terms choices old new status (before ++ after) → old.plant.told ≡ Some t → (length (opens_of (session_after Closed before)) ≤ 16) × AllDiffer (busy_of (session_after Closed before)) }
+        → Ran terms choices old new status (before ++ after) → old.plant.told ≡ Some t
+        → (length (opens_of (session_after Closed before)) ≤ 16) × AllDiffer (busy_of (session_after Closed before)) }
     ensures marked { (terms : Terms) (choices : Option Choices) (old new : Outside) (status : Status) (before after : List Begun) (swap : OpenSwap)
         → Ran terms choices old new status (before ++ after) → Has (opens_of (session_after Closed before)) swap
         → (front : List Begun) × (b : Begun) × (rest : List Begun) × (before ≡ front ++ b ∷ rest) × (b.piece.faults.devices ≡ swap.devices) }

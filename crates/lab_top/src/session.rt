@@ -66,7 +66,8 @@ pub(crate) fn run_under<S: Source, K: Sink, P: Plant>(
         ensures { result ≡ cost number lab.now wiring.now mapping.now }
     { cost_of(number, lab, wiring, mapping) };
     let by_step = move |lab: &Lab, wiring: &Wiring, from: &Mapping, to: &Mapping, told: u64| -> u64
-        requires { IsSound wiring.now × IsShaped lab.now wiring.now from.now × IsShaped lab.now wiring.now to.now × (told ≡ cost number lab.now wiring.now from.now) }
+        requires { IsSound wiring.now × IsShaped lab.now wiring.now from.now × IsShaped lab.now wiring.now to.now
+            × (told ≡ cost number lab.now wiring.now from.now) }
         ensures { result ≡ cost number lab.now wiring.now to.now }
     { step_cost(number, lab, wiring, from, to, told) };
     let by_parts = move |parts: Parts| -> u64
