@@ -73,6 +73,7 @@ now_blames (replies.Trouble exp (whats.Device name)) h = refl
 now_blames (replies.Failed exp ends.Stuck (whats.Device name)) h = refl
 now_blames (replies.Played exp played last closing blaming) h = h
 now_blames (replies.Served served) h = h
+now_blames (replies.Unread name) h = refl
 now_blames reply h = false_true h
 
 -- the plant runs on, if it ran

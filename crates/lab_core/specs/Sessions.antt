@@ -109,12 +109,13 @@ AreOpenedBy exp reply old new count =
     (o : OpenSwap) → Has new o → ((exp ≡ Some (name_in o)) × (reply ≡ Some (replies.More (name_in o))) × (o.devices ≡ count)) ⊎ ((ends_swap reply (name_in o) ≡ false) × WasOpen old o)
 
 -- THE REPLY BLAMES A DEVICE for what the command itself sent: that trouble begins the undo, or the experiment is stuck by it; or the reply that ended
--- `play` or to a run of `batch` blames one, since the swaps of a list are its own
+-- `play` or to a run of `batch` blames one, since the swaps of a list are its own; or that it did not tell what it holds
 abbrev pub blames_now : Reply → Bool
 blames_now (replies.Trouble exp (whats.Device name)) = true
 blames_now (replies.Failed exp ends.Stuck (whats.Device name)) = true
 blames_now (replies.Played exp played last closing blaming) = blaming
 blames_now (replies.Served served) = served.blames
+blames_now (replies.Unread name) = true
 blames_now reply = false
 
 -- A FAILURE that began the undo of an open swap came since it was opened

@@ -176,12 +176,13 @@ closes (replies.Played exp played last closing blaming) = closing
 closes (replies.Served served) = served.closes
 closes reply = false
 
--- THE REPLY BLAMES A DEVICE: a command to it failed in the swap
+-- THE REPLY BLAMES A DEVICE: a command to it failed in the swap, or it did not tell what it holds
 abbrev pub blames_device : Reply → Bool
 blames_device (replies.Failed exp end (Device name)) = true
 blames_device (replies.Trouble exp (Device name)) = true
 blames_device (replies.Played exp played last closing blaming) = blaming
 blames_device (replies.Served served) = served.blames
+blames_device (replies.Unread name) = true
 blames_device reply = false
 
 -- THE REPLY TO `play`: how many events were answered `in`, and the reply that ended it, if one did

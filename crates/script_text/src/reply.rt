@@ -272,7 +272,7 @@ impl Reply {
             _ => false,
         }
     }
-    /// Whether it tells that a command to a device failed.
+    /// Whether it tells that a command to a device failed, or that a device did not tell what it holds.
     pub fn blames_device(&self) -> bool
         ensures { result ≡ blames_device self.now }
     {
@@ -282,6 +282,7 @@ impl Reply {
             }
             Reply::Played { blames, .. } => *blames,
             Reply::Served(served) => served.blames,
+            Reply::Unread { .. } => true,
             _ => false,
         }
     }

@@ -37,4 +37,4 @@ returns g c = λ rule opens devices within works.
     let before = g.P.Plant.seen c.args.plant.now in
     let now = g.P.Plant.seen c.audit.new.plant in
     subst (λ (r : Result Reply CoreFault). ObeysCommand rule commands.Audit devices before now c.args.self.now c.args.self.now opens r) (sym c.broken_by.ensures)
-    (audit_broken rule devices before now c.args.self.now opens works c.in-Err.fault c.in-Err.ensures.reads)
+    (audit_broken rule devices before now c.args.self.now opens works within c.in-Err.fault c.in-Err.ensures.reads)
