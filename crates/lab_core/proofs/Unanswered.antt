@@ -48,8 +48,8 @@ use Rattle.lab_core.specs.Auditing.{Audits, broken_by, line_of, no_lab as lab_mi
 use Rattle.lab_core.specs.declared.fault.CoreFault.TheVariants as faults
 use Rattle.lab_core.specs.Obey.{AnswersBy, Doing, ObeysCommand, StepsBy, Wanting, does_command, wants_of_command}
 use Rattle.lab_core.specs.Sessions as sessions
-use Rattle.lab_core.specs.Sessions.{blames_now, open_by}
-use Rattle.lab_core.proofs.Obey.{as_open, false_true, if_all, not_both, same_open}
+use Rattle.lab_core.specs.Sessions.{blames_now, name_in, open_by, tells_end}
+use Rattle.lab_core.proofs.Obey.{as_open, calm_ends, false_true, if_all, not_both, same_open}
 use Rattle.lab_core.proofs.OpenSwaps.{risen_later}
 
 -- the sides and the world are as they were
@@ -170,10 +170,10 @@ module _ (rule : RuleNumber) (devices : ℕ) (before now : Seen) (unread : Optio
   runs_on_still : (of : Option (List ℕ)) → Reads before now of → before.stopped ≡ false → now.stopped ≡ true → ⊥
   runs_on_still of r ran halt = not_both now.stopped halt (r.stopped ∙ ran)
 
-  pub audit_answered : (reply : Reply) → closes reply ≡ false → (blames_device reply ≡ true → Rose devices now.faults.devices)
+  pub audit_answered : (reply : Reply) → closes reply ≡ false → tells_end reply ≡ false → (blames_device reply ≡ true → Rose devices now.faults.devices)
       → (blames_now reply ≡ true → Rose before.faults.devices now.faults.devices) → Reads before now unread
       → IfSome before.told (λ w. Audits (world_of w.trace) c.lab opens (steps_of unread) (open_by reply c.lab opens)) → ObeysCommand rule commands.Audit devices before now c c opens (Ok reply)
-  audit_answered reply open_still blamed here r done = record {
+  audit_answered reply open_still no_end blamed here r done = record {
     to = opens;
     obeys = (
       steps_of unread,
@@ -184,7 +184,7 @@ module _ (rule : RuleNumber) (devices : ℕ) (before now : Seen) (unread : Optio
     );
     works = λ _. reads_work before now unread c opens r works;
     limit = refl;
-    opened = as_open None (Some reply) opens opens devices (same_open opens);
+    opened = as_open None (Some reply) opens opens devices (λ o has. calm_ends reply (name_in o) no_end) (same_open opens);
     down = λ closing. not_both (closes reply) closing open_still;
     device = blamed;
     here = here;
@@ -199,7 +199,7 @@ module _ (rule : RuleNumber) (devices : ℕ) (before now : Seen) (unread : Optio
     obeys = ([], r.told, if_all before.told (λ w. StepsBy Done Wants w.trace [] c.lab opens (Err faults.Memory)) (λ w. record { ends = (refl, refl, refl); sound = λ sound. subst (λ l. IsSound the_texts l) (sym (append-nil w.trace)) sound }));
     works = λ _. reads_work before now None c opens r works;
     limit = refl;
-    opened = as_open None None opens opens devices (same_open opens);
+    opened = as_open None None opens opens devices (λ o has. refl) (same_open opens);
     down = tt;
     device = tt;
     here = tt;
@@ -211,7 +211,7 @@ module _ (rule : RuleNumber) (devices : ℕ) (before now : Seen) (unread : Optio
 module _ (rule : RuleNumber) (devices : ℕ) (before now : Seen) (c : Control) (opens : List sessions.OpenSwap) (works : WorksWith before c opens) where
   -- THERE IS NO LAB
   pub audit_no_lab : c.lab.lab ≡ None → ObeysCommand rule commands.Audit devices before before c c opens (Ok replies.NoLab)
-  audit_no_lab none = audit_answered rule devices before before None c opens works replies.NoLab refl (λ h. false_true h) (λ h. false_true h)
+  audit_no_lab none = audit_answered rule devices before before None c opens works replies.NoLab refl refl (λ h. false_true h) (λ h. false_true h)
       (record { told = no_more before.told; disk = refl; later = omega arith; failed = tt; stopped = refl })
       (if_all before.told (λ w. Audits (world_of w.trace) c.lab opens [] (open_by replies.NoLab c.lab opens)) (λ w. lab_missing none (record { nothing = refl; after_is = refl })))
 
@@ -220,14 +220,14 @@ module _ (rule : RuleNumber) (devices : ℕ) (before now : Seen) (c : Control) (
       → IfSome before.told (λ w. IsKnown (lab_in c.lab.lab) c.lab.experiments (world_of w.trace) → IsDiff (lab_in c.lab.lab) c.lab.experiments (world_of w.trace) report)
       → IfSome before.told (λ w. TellsSwitches (lab_in c.lab.lab) c.lab.experiments (world_of w.trace) report)
       → ObeysCommand rule commands.Audit devices before now c c opens (Ok (replies.Audit (map line_of report)))
-  audit_tells report r exact switches = audit_answered rule devices before now None c opens works (replies.Audit (map line_of report)) refl (λ h. false_true h) (λ h. false_true h) r
+  audit_tells report r exact switches = audit_answered rule devices before now None c opens works (replies.Audit (map line_of report)) refl refl (λ h. false_true h) (λ h. false_true h) r
       (if_both before.told (λ w. IsKnown (lab_in c.lab.lab) c.lab.experiments (world_of w.trace) → IsDiff (lab_in c.lab.lab) c.lab.experiments (world_of w.trace) report)
       (λ w. TellsSwitches (lab_in c.lab.lab) c.lab.experiments (world_of w.trace) report)
       (λ w. Audits (world_of w.trace) c.lab opens [] (open_by (replies.Audit (map line_of report)) c.lab opens)) (λ w e s. all_told report refl s e refl) exact switches)
 
   -- one was not, or memory was wanting
   pub audit_broken : devices ≤ before.faults.devices → (fault : AuditFault) → Reads before now (unread_in fault) → ObeysCommand rule commands.Audit devices before now c c opens (broken_by fault)
-  audit_broken within (broken.Unread name) r = audit_answered rule devices before now (Some name) c opens works (replies.Unread name) refl
+  audit_broken within (broken.Unread name) r = audit_answered rule devices before now (Some name) c opens works (replies.Unread name) refl refl
       (λ h. rose_later devices before.faults.devices now.faults.devices now.faults.devices within r.failed (omega arith)) (λ h. r.failed) r
       (if_all before.told (λ w. Audits (world_of w.trace) c.lab opens (Unread name ∷ []) (open_by (replies.Unread name) c.lab opens)) (λ w. one_unread name refl refl))
   audit_broken within broken.Memory r = audit_wanted rule devices before now None c opens works r
