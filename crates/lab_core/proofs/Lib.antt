@@ -43,13 +43,13 @@ pub mod Listings
 pub mod Obey
 pub mod OneJournal
 pub mod OpenLaws
-pub mod OpenMoves
+mod OpenMoves
 pub mod Openings
 pub mod OtherWorlds
 pub mod Others
-pub mod OuterReplies
-pub mod Parts
-pub mod Places
+mod OuterReplies
+mod Parts
+mod Places
 pub mod Rested
 pub mod Runs
 pub mod Said
