@@ -23,7 +23,8 @@ fn push_nth(
     requires sane { Sane state.now.state }
     requires lab { state.now.state.lab ≡ Some lab.now }
     requires number { number < length state.now.state.experiments }
-    ensures { OnOk result ((e : AnyExperiment) → slice_get state.now.state.experiments number ≡ Some e → wanted.new.items ≡ wanted.old.items ++ wanted_by lab.now e) }
+    ensures { OnOk result ((e : AnyExperiment) → slice_get state.now.state.experiments number ≡ Some e
+        → wanted.new.items ≡ wanted.old.items ++ wanted_by lab.now e) }
 {
     match state.nth(number as u16) {
         Some(experiment) => push_wanted(alloc, wanted, lab, experiment),

@@ -122,7 +122,8 @@ fn push_node<P: Tables>(
     ensures line { OnOk result ((differs : Bool) × (nodes.new ≡ nodes.old ++ line_if differs (node_name lab.now node))) }
     ensures exact { IfSome (P.seen plant.old).told (λ t. OnOk result (
         (IsCompared lab.now state.now.state.experiments (node_name lab.now node) → is_some ((world_of t.trace).node (node_name lab.now node)).boot ≡ true)
-        → (own : List AnyLine) × (nodes.new ≡ nodes.old ++ own) × AreDiffering lab.now state.now.state.experiments (world_of t.trace) (node_name lab.now node ∷ []) own)) }
+        → (own : List AnyLine) × (nodes.new ≡ nodes.old ++ own)
+        × AreDiffering lab.now state.now.state.experiments (world_of t.trace) (node_name lab.now node ∷ []) own)) }
 {
     let differs = differs(alloc, plant, state, lab, node)?;
     push_if(nodes, differs, name_at(lab, node))?;

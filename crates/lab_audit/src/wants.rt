@@ -60,7 +60,8 @@ fn push_standing(
     tags: &Tags,
 ) -> Result<(), Memory>
     requires { Suits lab.now (record { wiring = wiring.now; mapping = mapping.now; tags = tags.now }) }
-    ensures { OnOk result (wanted.new.items ≡ wanted.old.items ++ rows_as lab.now true (record { wiring = wiring.now; mapping = mapping.now; tags = tags.now })) }
+    ensures { OnOk result (wanted.new.items
+        ≡ wanted.old.items ++ rows_as lab.now true (record { wiring = wiring.now; mapping = mapping.now; tags = tags.now })) }
 {
     let rows = rows_of(alloc, lab, wiring, mapping, tags.as_slice())?;
     push_rows(wanted, &rows, true)

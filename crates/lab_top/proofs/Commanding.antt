@@ -1,5 +1,5 @@
 -- The commands of its script that a run begins.
-use Rattle.std.proofs.Common.{◌≡◌, inl, inr, ⊎_elim, ℕ, ◌+◌, false, List, [], ◌∷◌, ◌++◌, length, Option, Some, None, refl, sym, ◌∙◌, ap, subst, arith, append_assoc}
+use Rattle.std.proofs.Common.{◌≡◌, inl, inr, ⊎_elim, ℕ, ◌+◌, ◌≤◌, false, List, [], ◌∷◌, ◌++◌, length, Option, Some, None, refl, sym, ◌∙◌, ap, subst, arith, append_assoc}
 use Rattle.std.specs.Io.KnownBytes.{prepend_known, IsAtEnd}
 use Rattle.std.proofs.lemmas.List.{append-nil, length-map}
 use Rattle.lab_io.specs.Feeds.{NoFeed}
@@ -14,7 +14,7 @@ use Rattle.script_text.specs.Taking.{known, Reads, IsBad, IsUnfinished}
 use Rattle.script_text.proofs.Taken.{told_lines, known_behind}
 use Rattle.lab_top.specs.declared.status.Status.TheVariants as statuses
 use Rattle.lab_top.specs.Readers.{at_start}
-use Rattle.lab_top.specs.Ran.{AreFirst, BegunCommands}
+use Rattle.lab_top.specs.Ran.{AreFirst, BegunCommands, IsReadTo}
 
 -- BYTES THAT ARE KNOWN
 some_same : {x y : List ℕ} → Some x ≡ Some y → x ≡ y
@@ -73,6 +73,17 @@ module _ (bytes : List ℕ) (now : Stand) (commands : List Command) (cov : Cover
       (subst (λ (cs : List Command). AreFirst 0 (known cov.texts ++ lines_from now.taken told.0) cs) (append-nil commands)
       (cov.first (lines_from now.taken told.0) [] tt))
 
+  pub read_to : (ahead : List ℕ) (left : Option (List ℕ)) → now.rest ≡ prepend_known ahead left → length ahead ≤ 8193 → IsReadTo bytes left commands
+  read_to ahead left is few =
+      let p = cov.passed in
+      let a = some_parts p.raw now.rest bytes p.front in
+      let b = some_parts ahead left a.0 (sym a.1 ∙ is) in
+      let lines : script_lines p.raw ≡ known cov.texts ++ [] = ap (lines_from 0) (sym (append-nil p.raw)) ∙ p.lines [] (inr refl) ∙ ap (λ (l : Lines). known cov.texts ++ l) (lines-none now.taken) in
+      let all : IsScript p.raw commands AtEnd =
+      subst (λ (ls : Lines). AreCommands 0 ls commands AtEnd) (sym lines)
+      (subst (λ (cs : List Command). AreCommands 0 (known cov.texts ++ []) cs AtEnd) (append-nil commands) (cov.are [] [] AtEnd refl)) in
+      (p.raw, ahead, b.0, a.2 ∙ ap (λ (l : List ℕ). p.raw ++ l) b.2 ∙ sym (append_assoc p.raw ahead b.0), b.1, few, all)
+
   pub bad_begun : (line : ℕ) → IsBad now line → IsScript bytes commands (BadLine line)
   bad_begun line bad = all_of (BadLine line) (bad told.0 told.1)
 
@@ -121,3 +132,11 @@ none_begun bytes now commands made cov same = subst (λ cs. AreFirst 0 (script_l
 pub one_begun : (bytes : List ℕ) (now new : Stand) (commands made : List Command) (command : Command) → Covers (at_start bytes) now commands → Reads now (nexts.Command command) new → made ≡ commands ++ command ∷ []
     → AreFirst 0 (script_lines bytes) made
 one_begun bytes now new commands made command cov read one = none_begun bytes new (commands ++ command ∷ []) made (covers_more (at_start bytes) now new commands command cov read) one
+
+-- and nothing further is read
+pub one_read : (bytes : List ℕ) (now new : Stand) (commands made : List Command) (command : Command) → Covers (at_start bytes) now commands → Reads now (nexts.Command command) new → made ≡ commands ++ command ∷ []
+    → (ahead : List ℕ) (left : Option (List ℕ)) → new.rest ≡ prepend_known ahead left → length ahead ≤ 8193 → AreFirst 0 (script_lines bytes) made × IsReadTo bytes left made
+one_read bytes now new commands made command cov read one ahead left is few = (
+  one_begun bytes now new commands made command cov read one,
+  subst (λ cs. IsReadTo bytes left cs) (sym one) (read_to bytes new (commands ++ command ∷ []) (covers_more (at_start bytes) now new commands command cov read) ahead left is few),
+)

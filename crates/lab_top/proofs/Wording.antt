@@ -153,7 +153,7 @@ module _ (terms : Terms) (seed : ℕ) (a b : Outside) (was : Status) (made : Lis
       begun_by statuses.Usage begun done read write usage = absurd (usage refl)
       begun_by (statuses.BadScript line) begun done read write usage = absurd (no_other_end 0 line _ commands (commands_of made) in_grammar begun)
       begun_by statuses.Memory begun done read write usage = begun
-      begun_by (statuses.JournalBad side at) begun done read write usage = begun
+      begun_by (statuses.JournalBad side at) begun done read write usage = begun.0
 
       written_by : (status : Status) → (status ≡ statuses.Done → ⊥) → (status ≡ statuses.WriteFault → ⊥) → WroteSummary written written (summary seed (replies_of made)) status
       written_by statuses.Done done write = absurd (done refl)

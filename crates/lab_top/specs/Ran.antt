@@ -1,5 +1,5 @@
 -- THE RUN OF THE PROGRAM: what it says of the bytes that it read, the bytes that it wrote and the plant's past.
-use Rattle.std.specs.Prelude.{◌≡◌, ◌⊎◌, ℕ, ◌+◌, ◌<◌, Bool, true, false, is_some, List, [], ◌∷◌, ◌++◌, length, take, Option, Some, None, IfSome}
+use Rattle.std.specs.Prelude.{◌≡◌, ◌⊎◌, ℕ, ◌+◌, ◌<◌, ◌≤◌, Bool, true, false, is_some, List, [], ◌∷◌, ◌++◌, length, take, Option, Some, None, IfSome}
 use Rattle.std.specs.List.{list_all}
 use Rattle.std.specs.Io.KnownBytes.{append_known}
 use Rattle.lab_io.specs.Feeds.{NoFeed}
@@ -39,6 +39,10 @@ AreFirst number lines (c ∷ commands) = (after : ℕ) × (rest : Lines) × (nex
 abbrev pub AreWhole : List ℕ → List Command → Type 0
 AreWhole bytes commands = IsScript bytes commands AtEnd ⊎ IsScript bytes commands (BadLine (length (script_lines bytes) + 1))
 
+-- what was taken of these bytes: these commands to the last line, and behind that no more than the longest line with a piece
+abbrev pub IsReadTo : List ℕ → Option (List ℕ) → List Command → Type 0
+IsReadTo bytes left commands = (done : List ℕ) × (ahead : List ℕ) × (rest : List ℕ) × (bytes ≡ done ++ ahead ++ rest) × (left ≡ Some rest) × (length ahead ≤ 8193) × IsScript done commands AtEnd
+
 -- the commands that were begun, by how the run ended
 abbrev pub BegunCommands : List ℕ → Option (List ℕ) → List Command → Status → Type 0
 -- all of them, and nothing is left
@@ -47,10 +51,11 @@ BegunCommands bytes left begun Done = IsScript bytes begun AtEnd × (left ≡ So
 BegunCommands bytes left begun (BadScript line) = IsScript bytes begun (BadLine line)
 -- those whose last line lies, with its line feed, in the bytes that were taken
 BegunCommands bytes left begun ReadFault = (done : List ℕ) × (pending : List ℕ) × (rest : List ℕ) × (bytes ≡ done ++ pending ++ rest) × (left ≡ Some rest) × NoFeed pending × IsWhole done × AreWhole done begun
+-- some of the first, and nothing further is read
+BegunCommands bytes left begun WriteFault = AreFirst 0 (script_lines bytes) begun × IsReadTo bytes left begun
+BegunCommands bytes left begun (JournalBad side at) = AreFirst 0 (script_lines bytes) begun × IsReadTo bytes left begun
 -- some of the first
-BegunCommands bytes left begun WriteFault = AreFirst 0 (script_lines bytes) begun
 BegunCommands bytes left begun Memory = AreFirst 0 (script_lines bytes) begun
-BegunCommands bytes left begun (JournalBad side at) = AreFirst 0 (script_lines bytes) begun
 -- none, and nothing is taken
 BegunCommands bytes left begun Usage = (begun ≡ []) × (left ≡ Some bytes)
 

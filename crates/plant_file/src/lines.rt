@@ -155,7 +155,8 @@ fn as_pipe(read: Result<PipeRead, Kind>) -> Result<Entry, Kind>
 }
 
 fn both_rates_at(fields: &[&[u8]]) -> Result<(Rates, Rates), Kind>
-    ensures { result ≡ both_of (rates_of (field_at (views fields.now) 4) (field_at (views fields.now) 5) (field_at (views fields.now) 6)) (rates_of (field_at (views fields.now) 7) (field_at (views fields.now) 8) (field_at (views fields.now) 9)) }
+    ensures { result ≡ both_of (rates_of (field_at (views fields.now) 4) (field_at (views fields.now) 5) (field_at (views fields.now) 6))
+        (rates_of (field_at (views fields.now) 7) (field_at (views fields.now) 8) (field_at (views fields.now) 9)) }
 {
     let there = rates_at(fields, 4);
     let back = rates_at(fields, 7);

@@ -1,9 +1,11 @@
 -- The calls that read a command, and the reader behind them.
-use Rattle.std.specs.Prelude.{◌≡◌, ◌⊎◌, ◌+◌, ◌<◌, ℕ, false, List, [], ◌∷◌, ◌++◌, length, map, Some, None}
+use Rattle.std.specs.Prelude.{◌≡◌, ◌⊎◌, ◌+◌, ◌<◌, ◌≤◌, ℕ, max, false, List, [], ◌∷◌, ◌++◌, length, map, Some, None}
 use Rattle.std.specs.List.{flat_map}
 use Rattle.std.specs.Io.KnownBytes.{IsAtEnd}
 use Rattle.lab_io.specs.Lines.{lines_from}
 use Rattle.lab_io.specs.Passed.{Stand, Passed}
+use Rattle.lab_io.specs.Taken.{pending_of}
+use Rattle.lab_io.specs.declared.reader.LineReader.{LineReader}
 use Rattle.script_text.specs.Commands.{Lines, Found, Got, End, Bad, command_at, next_of}
 use Rattle.script_text.specs.declared.heads.Head.{Head}
 use Rattle.script_text.specs.declared.command.Command.{Command}
@@ -118,3 +120,7 @@ pub record IsUnfinished (old new : Stand) : Type 0 where
 abbrev pub GoesOn : Next → ℕ → ℕ → Type 0
 GoesOn (nexts.Command c) before after = before < after
 GoesOn nexts.End before after = Unit {0}
+
+-- a reader has no more bytes ahead than it had, or than the longest line with a piece that was read behind it
+abbrev pub HoldsNoMore : LineReader → LineReader → Type 0
+HoldsNoMore old new = length (pending_of new) ≤ max (length (pending_of old)) 8193

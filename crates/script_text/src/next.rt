@@ -5,7 +5,7 @@ ghost use Rattle.lab_io.specs.Feeds.{NoFeed};
 ghost use Rattle.lab_io.specs.Passed.{Passed, IsReady, stand_of};
 ghost use Rattle.lab_io.specs.Taken.{fault_of, lines_of, taken_of, ended_of, pending_of, rest_of};
 ghost use Rattle.script_text.specs.Blocks.{IsBlock, HasBlocks, NextHasBlocks, IsInRange};
-ghost use Rattle.script_text.specs.Taking.{HasLong, Skipped, Begun, Blocked, IsShort, IsCut, Completes, IsBadAt, IsHalf, IsBad, Reads, GoesOn, IsUnfinished};
+ghost use Rattle.script_text.specs.Taking.{HoldsNoMore, HasLong, Skipped, Begun, Blocked, IsShort, IsCut, Completes, IsBadAt, IsHalf, IsBad, Reads, GoesOn, IsUnfinished};
 
 use crate::Command;
 use crate::heads::{Head, Said, said_in};
@@ -43,13 +43,20 @@ impl From<Memory> for ScriptFault {
 
 /// Takes a line; None at the end.
 fn take_line<S: Source>(lines: &mut LineReader, source: &mut S) -> Result<Option<Text>, ScriptFault>
-    ensures some { IfOk result (λ line. IfSome line (λ text. Passed (stand_of lines.old (S.left source.old)) (stand_of lines.new (S.left source.new)) (text ∷ []))) }
+    ensures some { IfOk result (λ line. IfSome line (λ text. Passed (stand_of lines.old (S.left source.old)) (stand_of lines.new (S.left source.new))
+        (text ∷ []))) }
     ensures short { IfOk result (λ line. IfSome line (λ text. length text ≤ 4096)) }
     ensures more { IfOk result (λ line. IfSome line (λ text. taken_of lines.old < taken_of lines.new)) }
-    ensures none { IsReady lines.old (S.left source.old) → IfOk result (λ line. IfNone line (Passed (stand_of lines.old (S.left source.old)) (stand_of lines.new (S.left source.new)) [] × IsAtEnd (rest_of lines.new (S.left source.new)))) }
-    ensures bad { fault_of lines.old ≡ None → (line : ℕ) → IsErrOf result (ScriptFault.Bad line) → (line ≡ lines_of lines.old + 1) × HasLong (stand_of lines.old (S.left source.old)) }
-    ensures read { fault_of lines.old ≡ None → IsErrOf result ScriptFault.ReadFault → Rose (S.faults source.old) (S.faults source.new) × NoFeed (pending_of lines.new) × (ended_of lines.old ≡ false) × (rest_of lines.new (S.left source.new) ≡ rest_of lines.old (S.left source.old)) }
+    ensures none { IsReady lines.old (S.left source.old)
+        → IfOk result (λ line. IfNone line (Passed (stand_of lines.old (S.left source.old)) (stand_of lines.new (S.left source.new)) []
+        × IsAtEnd (rest_of lines.new (S.left source.new)))) }
+    ensures bad { fault_of lines.old ≡ None → (line : ℕ) → IsErrOf result (ScriptFault.Bad line)
+        → (line ≡ lines_of lines.old + 1) × HasLong (stand_of lines.old (S.left source.old)) }
+    ensures read { fault_of lines.old ≡ None → IsErrOf result ScriptFault.ReadFault
+        → Rose (S.faults source.old) (S.faults source.new) × NoFeed (pending_of lines.new) × (ended_of lines.old ≡ false)
+        × (rest_of lines.new (S.left source.new) ≡ rest_of lines.old (S.left source.old)) }
     ensures later { S.faults source.old ≤ S.faults source.new }
+    ensures ahead { HoldsNoMore lines.old lines.new }
     ensures within { taken_of lines.new ≤ 2 ^ 32 }
     ensures ok { OnOk result (fault_of lines.new ≡ None) }
 {
@@ -68,14 +75,21 @@ fn find_head<S: Source>(
     lines: &mut LineReader,
     source: &mut S,
 ) -> Result<Option<Head>, ScriptFault>
-    ensures some { IsReady lines.old (S.left source.old) → IfOk result (λ found. IfSome found (λ head. Begun (stand_of lines.old (S.left source.old)) (stand_of lines.new (S.left source.new)) head)) }
+    ensures some { IsReady lines.old (S.left source.old)
+        → IfOk result (λ found. IfSome found (λ head. Begun (stand_of lines.old (S.left source.old)) (stand_of lines.new (S.left source.new)) head)) }
     ensures range { IfOk result (λ found. IfSome found IsInRange) }
     ensures more { IfOk result (λ found. IfSome found (λ head. taken_of lines.old < taken_of lines.new)) }
-    ensures none { IsReady lines.old (S.left source.old) → IfOk result (λ found. IfNone found (Skipped (stand_of lines.old (S.left source.old)) (stand_of lines.new (S.left source.new)) × IsAtEnd (rest_of lines.new (S.left source.new)))) }
-    ensures bad { IsReady lines.old (S.left source.old) → (line : ℕ) → IsErrOf result (ScriptFault.Bad line) → IsBad (stand_of lines.old (S.left source.old)) line }
-    ensures read { fault_of lines.old ≡ None → IsErrOf result ScriptFault.ReadFault → Rose (S.faults source.old) (S.faults source.new) × NoFeed (pending_of lines.new) }
-    ensures unfinished { IsReady lines.old (S.left source.old) → IsErrOf result ScriptFault.ReadFault → IsUnfinished (stand_of lines.old (S.left source.old)) (stand_of lines.new (S.left source.new)) }
+    ensures none { IsReady lines.old (S.left source.old)
+        → IfOk result (λ found. IfNone found (Skipped (stand_of lines.old (S.left source.old)) (stand_of lines.new (S.left source.new))
+        × IsAtEnd (rest_of lines.new (S.left source.new)))) }
+    ensures bad { IsReady lines.old (S.left source.old) → (line : ℕ) → IsErrOf result (ScriptFault.Bad line)
+        → IsBad (stand_of lines.old (S.left source.old)) line }
+    ensures read { fault_of lines.old ≡ None → IsErrOf result ScriptFault.ReadFault
+        → Rose (S.faults source.old) (S.faults source.new) × NoFeed (pending_of lines.new) }
+    ensures unfinished { IsReady lines.old (S.left source.old) → IsErrOf result ScriptFault.ReadFault
+        → IsUnfinished (stand_of lines.old (S.left source.old)) (stand_of lines.new (S.left source.new)) }
     ensures later { S.faults source.old ≤ S.faults source.new }
+    ensures ahead { HoldsNoMore lines.old lines.new }
     ensures within { taken_of lines.new ≤ 2 ^ 32 }
     ensures ok { OnOk result (fault_of lines.new ≡ None) }
 {
@@ -102,12 +116,17 @@ fn take_block<S: Source>(
     source: &mut S,
     count: u16,
 ) -> Result<Text, ScriptFault>
-    ensures block { IsReady lines.old (S.left source.old) → IfOk result (λ text. Blocked (stand_of lines.old (S.left source.old)) (stand_of lines.new (S.left source.new)) count text) }
+    ensures block { IsReady lines.old (S.left source.old)
+        → IfOk result (λ text. Blocked (stand_of lines.old (S.left source.old)) (stand_of lines.new (S.left source.new)) count text) }
     ensures lines { count ≤ 16384 → IfOk result (λ text. IsBlock count text) }
-    ensures bad { IsReady lines.old (S.left source.old) → (line : ℕ) → IsErrOf result (ScriptFault.Bad line) → IsShort (stand_of lines.old (S.left source.old)) count line }
-    ensures read { fault_of lines.old ≡ None → IsErrOf result ScriptFault.ReadFault → Rose (S.faults source.old) (S.faults source.new) × NoFeed (pending_of lines.new) }
-    ensures cut { IsReady lines.old (S.left source.old) → IsErrOf result ScriptFault.ReadFault → IsCut (stand_of lines.old (S.left source.old)) (stand_of lines.new (S.left source.new)) count }
+    ensures bad { IsReady lines.old (S.left source.old) → (line : ℕ) → IsErrOf result (ScriptFault.Bad line)
+        → IsShort (stand_of lines.old (S.left source.old)) count line }
+    ensures read { fault_of lines.old ≡ None → IsErrOf result ScriptFault.ReadFault
+        → Rose (S.faults source.old) (S.faults source.new) × NoFeed (pending_of lines.new) }
+    ensures cut { IsReady lines.old (S.left source.old) → IsErrOf result ScriptFault.ReadFault
+        → IsCut (stand_of lines.old (S.left source.old)) (stand_of lines.new (S.left source.new)) count }
     ensures later { S.faults source.old ≤ S.faults source.new }
+    ensures ahead { HoldsNoMore lines.old lines.new }
     ensures taken { OnOk result (taken_of lines.old ≤ taken_of lines.new) }
     ensures ok { fault_of lines.old ≡ None → OnOk result (fault_of lines.new ≡ None) }
 {
@@ -135,12 +154,17 @@ fn with_blocks<S: Source>(
     lines: &mut LineReader,
     source: &mut S,
 ) -> Result<Command, ScriptFault>
-    ensures command { IsReady lines.old (S.left source.old) → IfOk result (λ command. Completes (stand_of lines.old (S.left source.old)) (stand_of lines.new (S.left source.new)) head command) }
+    ensures command { IsReady lines.old (S.left source.old)
+        → IfOk result (λ command. Completes (stand_of lines.old (S.left source.old)) (stand_of lines.new (S.left source.new)) head command) }
     ensures blocks { IsInRange head → IfOk result HasBlocks }
-    ensures bad { IsReady lines.old (S.left source.old) → (line : ℕ) → IsErrOf result (ScriptFault.Bad line) → IsBadAt (stand_of lines.old (S.left source.old)) head line }
-    ensures read { fault_of lines.old ≡ None → IsErrOf result ScriptFault.ReadFault → Rose (S.faults source.old) (S.faults source.new) × NoFeed (pending_of lines.new) }
-    ensures unfinished { IsReady lines.old (S.left source.old) → IsErrOf result ScriptFault.ReadFault → IsHalf (stand_of lines.old (S.left source.old)) (stand_of lines.new (S.left source.new)) head }
+    ensures bad { IsReady lines.old (S.left source.old) → (line : ℕ) → IsErrOf result (ScriptFault.Bad line)
+        → IsBadAt (stand_of lines.old (S.left source.old)) head line }
+    ensures read { fault_of lines.old ≡ None → IsErrOf result ScriptFault.ReadFault
+        → Rose (S.faults source.old) (S.faults source.new) × NoFeed (pending_of lines.new) }
+    ensures unfinished { IsReady lines.old (S.left source.old) → IsErrOf result ScriptFault.ReadFault
+        → IsHalf (stand_of lines.old (S.left source.old)) (stand_of lines.new (S.left source.new)) head }
     ensures later { S.faults source.old ≤ S.faults source.new }
+    ensures ahead { HoldsNoMore lines.old lines.new }
     ensures taken { OnOk result (taken_of lines.old ≤ taken_of lines.new) }
     ensures ok { fault_of lines.old ≡ None → OnOk result (fault_of lines.new ≡ None) }
 {
@@ -170,13 +194,18 @@ pub fn read_command<S: Source>(
     lines: &mut LineReader,
     source: &mut S,
 ) -> Result<Next, ScriptFault>
-    ensures next { IsReady lines.old (S.left source.old) → IfOk result (λ next. Reads (stand_of lines.old (S.left source.old)) next (stand_of lines.new (S.left source.new))) }
+    ensures next { IsReady lines.old (S.left source.old)
+        → IfOk result (λ next. Reads (stand_of lines.old (S.left source.old)) next (stand_of lines.new (S.left source.new))) }
     ensures blocks { IfOk result NextHasBlocks }
     ensures more { IfOk result (λ next. GoesOn next (taken_of lines.old) (taken_of lines.new)) }
-    ensures bad { IsReady lines.old (S.left source.old) → (line : ℕ) → IsErrOf result (ScriptFault.Bad line) → IsBad (stand_of lines.old (S.left source.old)) line }
-    ensures read { fault_of lines.old ≡ None → IsErrOf result ScriptFault.ReadFault → Rose (S.faults source.old) (S.faults source.new) × NoFeed (pending_of lines.new) }
-    ensures unfinished { IsReady lines.old (S.left source.old) → IsErrOf result ScriptFault.ReadFault → IsUnfinished (stand_of lines.old (S.left source.old)) (stand_of lines.new (S.left source.new)) }
+    ensures bad { IsReady lines.old (S.left source.old) → (line : ℕ) → IsErrOf result (ScriptFault.Bad line)
+        → IsBad (stand_of lines.old (S.left source.old)) line }
+    ensures read { fault_of lines.old ≡ None → IsErrOf result ScriptFault.ReadFault
+        → Rose (S.faults source.old) (S.faults source.new) × NoFeed (pending_of lines.new) }
+    ensures unfinished { IsReady lines.old (S.left source.old) → IsErrOf result ScriptFault.ReadFault
+        → IsUnfinished (stand_of lines.old (S.left source.old)) (stand_of lines.new (S.left source.new)) }
     ensures later { S.faults source.old ≤ S.faults source.new }
+    ensures ahead { HoldsNoMore lines.old lines.new }
     ensures ok { OnOk result (fault_of lines.new ≡ None) }
 {
     match find_head(alloc, lines, source)? {

@@ -7,7 +7,7 @@ use Rattle.script_text.specs.declared.command.Command.{Command}
 use Rattle.lab_top.specs.declared.status.Status.TheVariants.{Done, ReadFault, WriteFault, BadScript, Memory, JournalBad}
 use Rattle.lab_top.specs.Pieces.{commands_of}
 use Rattle.lab_top.specs.Readers.{at_start}
-use Rattle.lab_top.proofs.Commanding.{Covers, covers_none, covers_more, first_begun, bad_begun, all_begun, cut_begun, none_begun, one_begun}
+use Rattle.lab_top.proofs.Commanding.{Covers, covers_none, covers_more, first_begun, bad_begun, all_begun, cut_begun, none_begun, one_begun, one_read}
 use Rattle.lab_top.proofs.Pieces.{begun_ran, commands-push, going_none, going_ends, going_more, going_cut, going_memory, going_bad}
 use Rattle.lab_top.proofs.Tellings.{took_more}
 use Rattle.lab_top.proofs.commands.obey_commands.Goals as goal
@@ -19,6 +19,7 @@ commands-init g c =
     let stand = stand_of c.args.reader.now left in
     record {
       ready = (n.fault, inl n.ended);
+      near = rw n.pending (omega arith);
       going = ([], going_none _ _ (g.T.Teller.written c.args.teller.now) refl, λ bytes is. covers_none bytes stand (ap (λ p. prepend_known p left) n.pending ∙ prepend_known-nil left ∙ is) n.ended n.taken n.lines, refl);
       read = omega arith;
       write = omega arith;
@@ -85,6 +86,7 @@ commands-preserved g c =
     let more = going_more _ _ _ _ _ _ _ was.0 was.1 command _ (a.answered _ was.1.goes_on) in
     record {
       ready = (e.ok, read.1.ends);
+      near = omega (arith, e.ahead, inv.near);
       going = (
         was.0 ++ more.0 ∷ [],
         more.2,
@@ -104,7 +106,7 @@ returns-in-Err-WriteFault-clause-ran g c =
     let now = stand_of c.commands.reader (g.S.Source.left c.commands.source) in
     let new = stand_of c.read_command.new.lines (g.S.Source.left c.read_command.new.source) in
     let cut = going_cut _ _ _ _ _ _ _ was.0 was.1 c.in-Ok-Command.command (λ reply. g.T.Teller.takes c.commands.teller reply c.answer_command.new.teller) (a.answered _ was.1.goes_on) in
-    (cut.0, begun_ran _ _ _ _ _ _ _ WriteFault cut.0 cut.2 (λ bytes is. one_begun bytes now new (commands_of was.0) (commands_of cut.0) c.in-Ok-Command.command (was.2 bytes is) (e.next inv.ready) cut.1) (λ is. absurd (cc is)), λ is. absurd (cc is))
+    (cut.0, begun_ran _ _ _ _ _ _ _ WriteFault cut.0 cut.2 (λ bytes is. one_read bytes now new (commands_of was.0) (commands_of cut.0) c.in-Ok-Command.command (was.2 bytes is) (e.next inv.ready) cut.1 (pending_of c.read_command.new.lines) (g.S.Source.left c.read_command.new.source) refl (omega (arith, e.ahead, inv.near))) (λ is. absurd (cc is)), λ is. absurd (cc is))
 
 pub returns-in-Err-Memory-answer_command-clause-ran : goal.returns-in-Err-Memory-answer_command-clause-ran
 returns-in-Err-Memory-answer_command-clause-ran g c =
@@ -132,4 +134,4 @@ returns-in-Err-JournalBad-clause-ran g c =
     let side = c.in-Err-JournalBad.side in
     let at = c.in-Err-JournalBad.at in
     let cut = going_bad _ _ _ _ _ _ _ was.0 was.1 c.in-Ok-Command.command (λ reply. g.T.Teller.takes c.commands.teller reply c.answer_command.new.teller) side at (a.answered _ was.1.goes_on) in
-    rw c.in-Err-JournalBad.field-0-is (cut.0, begun_ran _ _ _ _ _ _ _ (JournalBad side at) cut.0 cut.2 (λ bytes is. one_begun bytes now new (commands_of was.0) (commands_of cut.0) c.in-Ok-Command.command (was.2 bytes is) (e.next inv.ready) cut.1) (λ is. absurd (cc is)), λ is. absurd (cc is))
+    rw c.in-Err-JournalBad.field-0-is (cut.0, begun_ran _ _ _ _ _ _ _ (JournalBad side at) cut.0 cut.2 (λ bytes is. one_read bytes now new (commands_of was.0) (commands_of cut.0) c.in-Ok-Command.command (was.2 bytes is) (e.next inv.ready) cut.1 (pending_of c.read_command.new.lines) (g.S.Source.left c.read_command.new.source) refl (omega (arith, e.ahead, inv.near))) (λ is. absurd (cc is)), λ is. absurd (cc is))

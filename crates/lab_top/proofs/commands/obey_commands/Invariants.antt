@@ -1,6 +1,6 @@
-use Rattle.std.proofs.Common.{◌≡◌, ◌≤◌, ◌-◌, ◌^◌, ℕ, List, Some, None}
+use Rattle.std.proofs.Common.{◌≡◌, ◌≤◌, ◌-◌, ◌^◌, ℕ, List, length, Some, None}
 use Rattle.lab_io.specs.Passed.{IsReady, stand_of}
-use Rattle.lab_io.specs.Taken.{taken_of}
+use Rattle.lab_io.specs.Taken.{pending_of, taken_of}
 use Rattle.lab_top.specs.Answering.{Moment}
 use Rattle.lab_top.specs.Pieces.{Begun, commands_of}
 use Rattle.lab_top.specs.Readers.{at_start}
@@ -16,6 +16,7 @@ invariant-commands g l =
     let here : Moment = record { plant = g.P.Plant.seen l.plant; controller = l.controller } in
     record {
       ready : IsReady l.reader (g.S.Source.left l.source);
+      near : length (pending_of l.reader) ≤ 8193;
       going : (begun : List Begun) × Going (terms_of g.P.Plant.takes_drills l.fn.rule.number) start here (g.T.Teller.written l.fn.teller) (g.T.Teller.written l.teller) begun
           × ((bytes : List ℕ) → g.S.Source.left l.fn.source ≡ Some bytes → Covers (at_start bytes) (stand_of l.reader (g.S.Source.left l.source)) (commands_of begun))
           × Took g.T.Teller.takes l.fn.teller (replies_of begun) l.teller;

@@ -10,6 +10,7 @@ lines-init g c = record {
   fault = λ h. h;
   skipped = λ ready. none_skipped _ ready.1;
   later = omega arith;
+  ahead = omega arith;
   taken = omega arith;
 }
 
@@ -46,5 +47,6 @@ lines-preserved g c =
       fault = λ h. c.in_ok-take_line.ensures.ok;
       skipped = λ ready. skipped_on _ _ _ _ (c.lines.invariant.skipped ready) some said;
       later = omega (arith, c.lines.invariant.later, c.take_line.ensures.later);
+      ahead = omega (arith, c.lines.invariant.ahead, c.take_line.ensures.ahead);
       taken = omega (arith, c.lines.invariant.taken, more);
     }

@@ -12,6 +12,7 @@ loop-number-init g c =
       block = λ ready. subst (λ (t : List ℕ). Blocked at at 0 t) (sym c.new-block.ensures) (none_blocked at ready.1);
       lines = λ few. subst (λ (t : List ℕ). IsBlock 0 t) (sym c.new-block.ensures) none_block;
       later = omega arith;
+      ahead = omega arith;
       taken = omega arith;
     }
 
@@ -25,5 +26,6 @@ loop-number-preserved g c =
       block = λ ready. blocked_on _ _ _ c.loop-number._number c.loop-number.block c.push_bytes.new.self _ c.in-Some.line (c.loop-number.invariant.block ready) some with_line c.in_ok-push-in-Some.ensures.ok;
       lines = λ few. block_on c.loop-number._number c.loop-number.block c.push_bytes.new.self _ c.in-Some.line (c.loop-number.invariant.lines few) (omega (arith, few)) short with_line c.in_ok-push-in-Some.ensures.ok;
       later = omega (arith, c.loop-number.invariant.later, c.take_line.ensures.later);
+      ahead = omega (arith, c.loop-number.invariant.ahead, c.take_line.ensures.ahead);
       taken = omega (arith, c.loop-number.invariant.taken, more);
     }

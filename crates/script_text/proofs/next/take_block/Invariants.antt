@@ -1,7 +1,7 @@
 use Rattle.std.proofs.Common.{◌≡◌, ◌≤◌, None}
 use Rattle.lab_io.specs.Passed.{IsReady, stand_of}
 use Rattle.lab_io.specs.Taken.{fault_of, taken_of}
-use Rattle.script_text.specs.Taking.{Blocked}
+use Rattle.script_text.specs.Taking.{HoldsNoMore, Blocked}
 use Rattle.script_text.specs.Blocks.{IsBlock}
 use Rattle.script_text.proofs.next.take_block.Given as goal
 
@@ -11,5 +11,6 @@ invariant-loop-number g l = record {
   block : IsReady l.fn.lines (g.S.Source.left l.fn.source) → Blocked (stand_of l.fn.lines (g.S.Source.left l.fn.source)) (stand_of l.lines (g.S.Source.left l.source)) l._number l.block;
   lines : l.count ≤ 16384 → IsBlock l._number l.block;
   later : g.S.Source.faults l.fn.source ≤ g.S.Source.faults l.source;
+  ahead : HoldsNoMore l.fn.lines l.lines;
   taken : taken_of l.fn.lines ≤ taken_of l.lines;
 }
