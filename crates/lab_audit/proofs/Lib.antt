@@ -1,7 +1,7 @@
 mod Agreeing
 mod AllWanted
 mod Comparing
-mod Nothing
+pub mod Nothing
 mod Owners
 mod Reading
 mod Sorting

@@ -28,7 +28,7 @@ not_shut to is = absurd (cc is)
 
 -- WHAT AN AUDIT LEAVES
 module _ (w : World) (s : LabState) (opens : List OpenSwap) (own : List Event) (after : After) where
-  kept : Audits w s opens own after → after.lab ≡ s
+  pub kept : Audits w s opens own after → after.lab ≡ s
   kept (no_lab none d) = ap (λ (a : After). a.lab) d.after_is
   kept (told report nothing tells exact is) = ap (λ (a : After). a.lab) is
   kept (unread name own_is is) = ap (λ (a : After). a.lab) is
