@@ -10,7 +10,7 @@ use Rattle.swap_turns.specs.Swaps.{Swap as SwapOf}
 use Rattle.swap_turns.specs.Turning.{Outcome, More, TurnsBack, Ended, Stuck, Unwritten, Stopped as Halted}
 use Rattle.script_text.specs.Drills.{drill_of}
 use Rattle.script_text.specs.declared.command.Command.{Command}
-use Rattle.script_text.specs.declared.command.Command.TheVariants.{Play, Batch}
+use Rattle.script_text.specs.declared.command.Command.TheVariants.{Play, Batch, Audit}
 use Rattle.script_text.specs.declared.reply.Reply.{Reply}
 use Rattle.lab_core.specs.Breaks.{Breaks, stopped, failed, unanswered}
 use Rattle.lab_core.specs.Judge.{Task, Tell, Append, Swap, BeginOnly, Turn, Finish, Recover, Judged}
@@ -85,14 +85,15 @@ drill_not takes s session own after (is_planned t none is) = ap (λ (x : After).
 drill_not takes s session own after (is_refused t none is) = ap (λ (x : After). full_if x.reply) is
 drill_not takes s session own after (wants_memory wants) = ap (λ (x : After). full_if x.reply) wants.after_is
 
--- it is no list
-no_list : (command : Command) → settles_or_turns command ≡ true → is_unjudged command ≡ false
-no_list (Play exp from to lines text) is = absurd (cc is)
-no_list (Batch moment lines text) is = absurd (cc is)
-no_list command is = refl
+-- a single judgement decides it
+judged_alone : (command : Command) → settles_or_turns command ≡ true → is_unjudged command ≡ false
+judged_alone (Play exp from to lines text) is = absurd (cc is)
+judged_alone (Batch moment lines text) is = absurd (cc is)
+judged_alone Audit is = absurd (cc is)
+judged_alone command is = refl
 
 pub step_not : (terms : Terms) (at : List Event) (set : Setting) (s : LabState) (session : Session) (command : Command) (opening own : List Event) (after : After) → settles_or_turns command ≡ true → LabStep terms at set s session command opening own after → full_if after.reply ≡ false
-step_not terms at set s session command opening own after turns step = by (drill_of command) session (plain_step terms at set s session command opening own after (no_list command turns) step)
+step_not terms at set s session command opening own after turns step = by (drill_of command) session (plain_step terms at set s session command opening own after (judged_alone command turns) step)
   where
     by : (drill : Option _) (session : Session) → StepOf drill (DoesBy (JudgedBeside terms.rule command) set) terms s session opening own after → full_if after.reply ≡ false
     by (Some drill) session step = drill_not terms.takes s session own after step.1

@@ -4,6 +4,7 @@ use Rattle.std.proofs.lemmas.List.{append-nil}
 use Rattle.lab_base.specs.Lists.{AllDiffer, Has}
 use Rattle.phys_lab.specs.Labs.{Lab}
 use Rattle.plant.specs.Events.{Event}
+use Rattle.plant.specs.Worlds.{World, world_of}
 use Rattle.plant.specs.declared.drill.Drill.{Drill}
 use Rattle.virt_topo.specs.declared.experiment.Experiment.{Experiment}
 use Rattle.lab_model.specs.OnCourse.{own_events}
@@ -12,11 +13,12 @@ use Rattle.records_model.proofs.LabLaws.{lab_sane}
 use Rattle.lab_state.specs.Texts.{the_texts}
 use Rattle.script_text.specs.Drills.{drill_of}
 use Rattle.script_text.specs.declared.command.Command.{Command}
-use Rattle.script_text.specs.declared.command.Command.TheVariants.{Play, Batch}
+use Rattle.script_text.specs.declared.command.Command.TheVariants.{Play, Batch, Audit}
 use Rattle.script_text.specs.declared.reply.Reply.{Reply}
 use Rattle.swap_turns.specs.Legs.{Leg, Forth}
 use Rattle.swap_turns.specs.Running.{OpenSwap as RunningSwap}
 use Rattle.swap_turns.specs.Swaps.{Swap, Moves}
+use Rattle.lab_core.specs.Auditing.{Audits, no_lab, told as all_told, unread, no_memory}
 use Rattle.lab_core.specs.Commands.{LabStep, is_unjudged}
 use Rattle.lab_core.specs.LabSteps.{DoesBy, JudgedBeside, StepOf, not_opened, opened}
 use Rattle.lab_core.specs.Moments.{IsLabAt}
@@ -27,6 +29,7 @@ use Rattle.lab_top.specs.Pieces.{Begun, AreHandedOn, ArePieces, ButForReply, Fin
 use Rattle.lab_top.proofs.TurnLaws.{they_differ}
 use Rattle.complete.specs.Booted.{GoesWell}
 use Rattle.complete.specs.OpenCourses.{AreOnLeg, IsCourse, IsOnLeg, forth, steps_in, undo}
+use Rattle.lab_core.proofs.Audited.{audit_opens, audit_stays}
 use Rattle.lab_core.proofs.ListSteps.{plain_step}
 use Rattle.complete.proofs.PlayedOn.{list_continues}
 use Rattle.lab_core.specs.Commands.{ground_by}
@@ -145,6 +148,29 @@ module _ (terms : Terms) (before : List Event) (set : Setting) (s : LabState) (o
   lists_continue l Judged Holds about are starts (Open opens) ok moves differ step =
       (s, list_continues l Holds about are opens differ (Judged opens s) (starts opens s) (ground_by set) (before ++ opening) s ok moves own after to open_now step.1, λ o has. (refl, step.0))
 
+  -- an audit has no own command of any experiment
+  audit_own : (w : World) (mid : LabState) (opens : List OpenSwap) (lab : Lab) (e : Experiment) → Audits w mid opens own after → own_events lab e own ≡ []
+  audit_own w mid opens lab e (no_lab none d) = ap (λ l. own_events lab e l) d.nothing
+  audit_own w mid opens lab e (all_told report nothing tells exact is) = ap (λ l. own_events lab e l) nothing
+  audit_own w mid opens lab e (unread name own_is is) = ap (λ l. own_events lab e l) own_is
+  audit_own w mid opens lab e (no_memory wants) = ap (λ l. own_events lab e l) wants.nothing
+
+  audit_continues : (session : Session) → AreOk session → LabStep terms before set s session Audit opening own after → StepContinues session
+  audit_continues Closed ok (not_opened b) = absurd (cc (sym b.session ∙ open_now))
+  audit_continues Closed ok (opened mid opens d) =
+      (mid, λ o has. absurd (subst (λ l. Has l o) (audit_opens terms before set s opening own after Closed to open_now (opened mid opens d)) has), λ o none. absurd none)
+  audit_continues (Open opens) ok step =
+      let same = audit_opens terms before set s opening own after (Open opens) to open_now step in
+      (
+        s,
+        λ o has.
+            let there = subst (λ l. Has l o) same has in
+            along o there [] (ap (λ c. record o.running { course = c }) (sym (append-nil o.running.course)))
+            (audit_stays terms before set s opening own after (Open opens) (name_in o) (ok o there).1 (λ closed. absurd (cc closed)) step)
+            (λ e found. audit_own (world_of (before ++ opening)) s opens (lab_in s.lab) e step.1),
+        λ o has. (refl, step.0),
+      )
+
   plain_continues : (command : Command) → is_unjudged command ≡ false → drill_of command ≡ None → (session : Session) → AreOk session → AllMoveIn session → AllDiffer (busy_of session) → LabStep terms before set s session command opening own after → StepContinues session
   plain_continues command no' none session ok moves differ step = step_continues command (drill_of command) none session ok moves differ (plain_step terms before set s session command opening own after no' step)
 
@@ -153,6 +179,7 @@ module _ (terms : Terms) (before : List Event) (set : Setting) (s : LabState) (o
       lists_continue (events_in_turn exp) (λ opens s. JudgedPlay s opens exp from until text) (λ at. Unit {0}) (λ n. true) (events_are exp (λ n. true) refl) (λ opens s start judged. tt) session ok moves differ step
   all_continue (Batch moment lines text) none session ok moves differ step =
       lists_continue (runs_in_turn terms.rule moment) (λ opens s. JudgedBatch s text) (λ at. AreOf (λ n. true) at.left) (λ n. true) (runs_are terms.rule moment (λ n. true)) (λ opens s start judged run has. refl) session ok moves differ step
+  all_continue Audit none session ok moves differ step = audit_continues session ok step
   all_continue command none session ok moves differ step = plain_continues command refl none session ok moves differ step
 
 -- a lab with an experiment is set

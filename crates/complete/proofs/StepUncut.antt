@@ -1,13 +1,15 @@
 -- A lab step among steps that go well: no course of it is cut.
 use Rattle.std.proofs.Common.{◌≡◌, ℕ, false, List, [], ◌++◌, append_assoc, Option, Some, None, refl, ap, subst}
 use Rattle.plant.specs.Events.{Event}
+use Rattle.plant.specs.Worlds.{World, world_of}
 use Rattle.records_model.specs.Labs.{LabState}
 use Rattle.script_text.specs.Drills.{drill_of}
 use Rattle.script_text.specs.declared.command.Command.{Command}
-use Rattle.script_text.specs.declared.command.Command.TheVariants.{Play, Batch}
+use Rattle.script_text.specs.declared.command.Command.TheVariants.{Play, Batch, Audit}
+use Rattle.lab_core.specs.Auditing.{Audits, no_lab, told, unread, no_memory}
 use Rattle.lab_core.specs.Commands.{LabStep, is_unjudged}
 use Rattle.lab_core.specs.LabSteps.{DoesBy, Drills, JudgedBeside, StepOf, is_planned, is_refused, not_opened, opened, wants_memory}
-use Rattle.lab_core.specs.Sessions.{Session, Closed, Open, Setting, After, Terms}
+use Rattle.lab_core.specs.Sessions.{OpenSwap, Session, Closed, Open, Setting, After, Terms}
 use Rattle.lab_core.specs.Tells.{opens_of}
 use Rattle.lab_core.proofs.ListSteps.{plain_step}
 use Rattle.complete.specs.Booted.{GoesWell}
@@ -47,10 +49,23 @@ module _ (terms : Terms) (at : List Event) (set : Setting) (s : LabState) (past 
   runs_uncut moment lines text Closed (not_opened b) = cut_told after.reply (no_break opening (own ++ more) after.reply b.breaks all_well)
   runs_uncut moment lines text (Open opens) step = batch_uncut terms.rule moment text (at ++ opening) set s opens own more after own_well step.1
 
+  -- the replies of an audit tell of no course
+  one_audit : (w : World) (mid : LabState) (opens : List OpenSwap) → Audits w mid opens own after → told_cut after.reply ≡ false
+  one_audit w mid opens (no_lab none d) = ap (λ (x : After). told_cut x.reply) d.after_is
+  one_audit w mid opens (told report nothing tells exact is) = ap (λ (x : After). told_cut x.reply) is
+  one_audit w mid opens (unread name own_is is) = ap (λ (x : After). told_cut x.reply) is
+  one_audit w mid opens (no_memory wants) = ap (λ (x : After). told_cut x.reply) wants.after_is
+
+  audit_uncut : (session : Session) → LabStep terms at set s session Audit opening own after → told_cut after.reply ≡ false
+  audit_uncut Closed (opened mid opens d) = one_audit (world_of (at ++ opening)) mid [] d
+  audit_uncut Closed (not_opened b) = cut_told after.reply (no_break opening (own ++ more) after.reply b.breaks all_well)
+  audit_uncut (Open opens) step = one_audit (world_of (at ++ opening)) s opens step.1
+
   plain_uncut : (command : Command) → is_unjudged command ≡ false → (session : Session) → AreSafe past command s (opens_of session) → LabStep terms at set s session command opening own after → cut_if after.reply ≡ false
   plain_uncut command no' session safe step = step_uncut command (drill_of command) session safe (plain_step terms at set s session command opening own after no' step)
 
   pub lab_step_uncut : (command : Command) (session : Session) → AreSafe past command s (opens_of session) → LabStep terms at set s session command opening own after → told_cut after.reply ≡ false
   lab_step_uncut (Play exp from until lines text) session safe step = cut_told after.reply (list_uncut exp from until lines text session step)
   lab_step_uncut (Batch moment lines text) session safe step = runs_uncut moment lines text session step
+  lab_step_uncut Audit session safe step = audit_uncut session step
   lab_step_uncut command session safe step = cut_told after.reply (plain_uncut command refl session safe step)

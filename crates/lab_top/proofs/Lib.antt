@@ -1,5 +1,6 @@
 mod Answering
 mod Answers
+mod Audits
 mod BrokenOpenings
 mod Commanding
 mod Compact

@@ -223,6 +223,7 @@ module _ (terms : Terms) (mark : Faults) (old mid : Seen) (command : Command) (n
       by trace own (commands.Play exp from until lines text) is (playing start place judged past) = inr (inr (start, place, judged, (d.lab, at.to, past)))
       by trace own (commands.Batch moment lines text) is (nothing_played nothing lab_is to_is) = inl nothing
       by trace own (commands.Batch moment lines text) is (playing start place judged past) = inr (inr (start, place, judged, (d.lab, at.to, past)))
+      by trace own commands.Audit is wants = inl wants.0
       by trace own asked is wants = plain trace own asked (plain_wants terms.rule mark.devices c swaps trace own d.lab at.to asked refl wants)
 
 -- WHAT A COMMAND BEGAN

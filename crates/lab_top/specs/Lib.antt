@@ -1,4 +1,5 @@
 pub mod Answering
+pub mod Audits
 pub mod Codes
 pub mod Pieces
 pub mod Ran

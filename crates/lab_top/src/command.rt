@@ -12,6 +12,7 @@ use crate::tellers::Teller;
 use cost_rule::StepRule;
 use lab_core::{Controller, CoreFault, OpenFault};
 use plant::{Drill, DrillFault, Plant, Side};
+use plant_tables::Tables;
 use script_text::{Command, Reply};
 use std::alloc::Global;
 
@@ -61,7 +62,7 @@ fn unopened<P: Plant>(fault: OpenFault, plant: &mut P) -> Result<Reply, CommandF
 }
 
 /// Obeys a command by an open controller, which stays open but for a reply that closes it.
-fn obey_open<P: Plant>(
+fn obey_open<P: Tables>(
     mut opened: Controller,
     controller: &mut Option<Controller>,
     command: &Command,
@@ -94,7 +95,7 @@ fn obey_open<P: Plant>(
 }
 
 /// Obeys a command that is no drill, after it has opened the controller where it is closed.
-fn obey<P: Plant>(
+fn obey<P: Tables>(
     alloc: Global,
     controller: &mut Option<Controller>,
     command: &Command,
@@ -132,7 +133,7 @@ fn plan<P: Plant>(drill: Drill, plant: &mut P) -> Result<Reply, CommandFault>
 }
 
 /// The reply to a command. A drill leaves the controller as it is, open or closed.
-fn reply_to<P: Plant>(
+fn reply_to<P: Tables>(
     alloc: Global,
     controller: &mut Option<Controller>,
     command: &Command,
@@ -153,7 +154,7 @@ fn reply_to<P: Plant>(
 }
 
 /// Marks the moment, obeys a command or plans the failure of a drill, and tells the reply.
-pub(crate) fn answer_command<T: Teller, P: Plant>(
+pub(crate) fn answer_command<T: Teller, P: Tables>(
     alloc: Global,
     controller: &mut Option<Controller>,
     command: Command,

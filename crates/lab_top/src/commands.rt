@@ -12,12 +12,12 @@ use crate::status::Status;
 use crate::tellers::Teller;
 use cost_rule::StepRule;
 use lab_io::{LineReader, Source};
-use plant::Plant;
+use plant_tables::Tables;
 use script_text::{Next, ScriptFault, read_command};
 use std::alloc::Global;
 
 /// Obeys the commands of a script one after another, and tells the reply to each before it reads the next.
-pub(crate) fn obey_commands<S: Source, T: Teller, P: Plant>(
+pub(crate) fn obey_commands<S: Source, T: Teller, P: Tables>(
     alloc: Global,
     reader: &mut LineReader,
     rule: &StepRule,

@@ -13,7 +13,7 @@ use crate::tellers::Counter;
 use cost_rule::StepRule;
 use lab_gen::{Tally, TextSource, generate};
 use lab_io::{LineReader, Sink, write_all};
-use plant::Plant;
+use plant_tables::Tables;
 use std::alloc::Global;
 
 /// Writes the summary of the replies that were counted.
@@ -34,7 +34,7 @@ fn write_summary<K: Sink>(alloc: Global, seed: u64, tally: &Tally, sink: &mut K)
 }
 
 /// Obeys the script of a seed, and writes the summary of the replies at its end.
-pub(crate) fn run_generated<K: Sink, P: Plant>(
+pub(crate) fn run_generated<K: Sink, P: Tables>(
     alloc: Global,
     seed: u64,
     rule: &StepRule,

@@ -1,5 +1,6 @@
 // Laws of a run.
-ghost use Rattle.std.specs.Prelude.{◌≡◌, ◌≢◌, ◌⊎◌, ◌≤◌, ◌^◌, count_by, ℕ, Bool, false, true, List, [], ◌∷◌, ◌++◌, length, Option, Some, None};
+ghost use Rattle.std.specs.Prelude.{◌≡◌, ◌≢◌, ◌⊎◌, ◌↔◌, ◌≤◌, ◌^◌, count_by, ℕ, Bool, false, true, List, [], ◌∷◌, ◌++◌, length, Option, Some, None};
+ghost use Rattle.lab_base.specs.Counts.{Rose};
 ghost use Rattle.lab_base.specs.Lists.{AllDiffer, Has};
 ghost use Rattle.plant.specs.Disks.{ArePossible, disk};
 ghost use Rattle.plant.specs.Told.{Told};
@@ -17,9 +18,10 @@ ghost use Rattle.lab_state.specs.Texts.{the_texts};
 ghost use Rattle.swap_turns.specs.Swaps.{Moves};
 ghost use Rattle.script_text.specs.Commands.{Ending, IsScript};
 ghost use Rattle.script_text.specs.declared.command.Command.{Command};
-ghost use Rattle.script_text.specs.declared.command.Command.TheVariants.{Recover, SwapinWith, Turn};
+ghost use Rattle.script_text.specs.declared.command.Command.TheVariants.{Audit, Recover, SwapinWith, Turn};
 ghost use Rattle.script_text.specs.declared.reply.Reply.{Reply};
-ghost use Rattle.script_text.specs.declared.reply.Reply.TheVariants.{In, More, Recovered};
+ghost use Rattle.script_text.specs.declared.reply.AuditLine.{AuditLine};
+ghost use Rattle.script_text.specs.declared.reply.Reply.TheVariants.{Audit as Audited, In, More, Recovered, Unread as NotRead};
 ghost use Rattle.script_text.specs.Drills.{drill_of};
 ghost use Rattle.script_text.specs.Replies.{closes};
 ghost use Rattle.lab_core.specs.Moments.{AllStandFor, IsLabAt, IsNoJournal, StandForLab};
@@ -27,7 +29,8 @@ ghost use Rattle.lab_core.specs.Recovery.{EndedIn};
 ghost use Rattle.recovery.specs.Due.{swaps_of};
 ghost use Rattle.lab_core.specs.Sessions.{OpenSwap, Closed, open_at, Terms};
 ghost use Rattle.lab_core.specs.Tells.{BeginsAt, IsAtRest, busy_of, IsFeasibleFor, IsInBy, Hinders, is_of_drill, is_stopped, IsTurn, IsTurnOf, SendsOne, opens_of, taken_reply, TellsBroken};
-ghost use Rattle.plant.specs.Events.{Event};
+ghost use Rattle.plant.specs.Events.{Event, Unread};
+ghost use Rattle.lab_top.specs.Audits.{ChangesNothing, TellsDifference};
 ghost use Rattle.lab_top.specs.Pieces.{Begun, Piece, TellsAll, AllHave, AllRestBut, AreOn, AreOthers, FirstLab, HasOpened, OpensTo, StayOpen, is_closed, is_early, session_after, steps_of, trace_after};
 ghost use Rattle.lab_top.specs.Ran.{Outside, Ran};
 ghost use Rattle.lab_words.specs.Words.{Choices};
@@ -156,4 +159,35 @@ pub fn turns()
     ensures marked { (terms : Terms) (choices : Option Choices) (old new : Outside) (status : Status) (before after : List Begun) (swap : OpenSwap)
         → Ran terms choices old new status (before ++ after) → Has (opens_of (session_after Closed before)) swap
         → (front : List Begun) × (b : Begun) × (rest : List Begun) × (before ≡ front ++ b ∷ rest) × (b.piece.faults.devices ≡ swap.devices) }
+{}
+
+/// Audits. Over any trace one that is answered `audit N` has no own steps. Its lines of switches are exactly those by which the devices differ from
+/// the lab of that moment. So are its lines of nodes, where the trace leaves open the boot state of none that is compared.
+/// Over every sound trace it tells that nothing differs, also beside open swaps, whose experiments move.
+/// Of the answered audits one has the reply `unread NAME` exactly where a reading of that device failed in it, which is its one step. Whatever the
+/// plant tells, such a reply comes only where the count of device faults rose in that command.
+/// Its own steps change no side and no table, and none of them is a step of an experiment's course.
+pub fn audits()
+    ensures told { (terms : Terms) (choices : Option Choices) (old new : Outside) (status : Status) (before after : List Begun)
+        (b : Begun) (t : Told) (lines : List AuditLine)
+        → Ran terms choices old new status (before ++ b ∷ after) → old.plant.told ≡ Some t
+        → b.piece.command ≡ Audit → b.piece.reply ≡ Some (Audited lines)
+        → TellsDifference (trace_after t.trace (before ++ b ∷ [])) lines × (b.piece.own ≡ []) }
+    ensures nothing { (terms : Terms) (choices : Option Choices) (old new : Outside) (status : Status) (before after : List Begun)
+        (b : Begun) (t : Told) (lines : List AuditLine)
+        → Ran terms choices old new status (before ++ b ∷ after) → old.plant.told ≡ Some t → IsSound the_texts t.trace
+        → b.piece.command ≡ Audit → b.piece.reply ≡ Some (Audited lines) → lines ≡ [] }
+    ensures unread { (terms : Terms) (choices : Option Choices) (old new : Outside) (status : Status) (before after : List Begun)
+        (b : Begun) (t : Told) (reply : Reply) (name : List ℕ)
+        → Ran terms choices old new status (before ++ b ∷ after) → old.plant.told ≡ Some t
+        → b.piece.command ≡ Audit → b.piece.reply ≡ Some reply
+        → (b.piece.own ≡ Unread name ∷ []) ↔ (reply ≡ NotRead name) }
+    ensures risen { (terms : Terms) (choices : Option Choices) (old new : Outside) (status : Status) (before after : List Begun)
+        (b : Begun) (name : List ℕ)
+        → Ran terms choices old new status (before ++ b ∷ after) → b.piece.reply ≡ Some (NotRead name)
+        → Rose b.piece.faults.devices b.later.devices }
+    ensures still { (terms : Terms) (choices : Option Choices) (old new : Outside) (status : Status) (before after : List Begun)
+        (b : Begun) (t : Told) (reply : Reply)
+        → Ran terms choices old new status (before ++ b ∷ after) → old.plant.told ≡ Some t
+        → b.piece.command ≡ Audit → b.piece.reply ≡ Some reply → ChangesNothing (trace_after t.trace before) b.piece }
 {}

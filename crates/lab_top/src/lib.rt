@@ -11,6 +11,6 @@ mod tellers;
 mod top;
 
 pub use lab_words::{Place, PlaceFault, place_of};
-pub use laws::{bad_journals, recoveries, runs, turns};
+pub use laws::{audits, bad_journals, recoveries, runs, turns};
 pub use status::Status;
 pub use top::labctl;

@@ -16,13 +16,13 @@ use crate::status::Status;
 use cost_rule::{CostFn, Parts, PartsFn, Rule, RuleNumber, StepFn, StepRule};
 use lab_io::{LineReader, Sink, Source};
 use phys_lab::Lab;
-use plant::Plant;
+use plant_tables::Tables;
 use rule_costs::{cost_of, parts_cost, step_cost};
 use std::alloc::Global;
 use virt_topo::{Mapping, Wiring};
 
 /// Obeys the script of the source.
-fn run_script<S: Source, K: Sink, P: Plant>(
+fn run_script<S: Source, K: Sink, P: Tables>(
     alloc: Global,
     rule: &StepRule,
     source: &mut S,
@@ -44,7 +44,7 @@ fn run_script<S: Source, K: Sink, P: Plant>(
 }
 
 /// Obeys a script under the cost rule of that number, which is made once. The script is that of a seed, if there is one, else the source's.
-pub(crate) fn run_under<S: Source, K: Sink, P: Plant>(
+pub(crate) fn run_under<S: Source, K: Sink, P: Tables>(
     alloc: Global,
     number: RuleNumber,
     seed: Option<u64>,

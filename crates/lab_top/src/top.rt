@@ -15,14 +15,14 @@ use crate::session::run_under;
 use crate::status::Status;
 use lab_io::{Sink, Source};
 use lab_words::{PlaceFault, read_words};
-use plant::Plant;
+use plant_tables::Tables;
 use std::alloc::Global;
 
 /// Obeys the script of the source, and writes a reply to each of its commands before it reads the next. With `--gen N` it obeys the
 /// script of that number instead, and writes a summary of the replies at its end.
 ///
 /// `words` are those behind the program's name. What they choose of the plant's place is done already: see [`crate::place_of`].
-pub fn labctl<S: Source, K: Sink, P: Plant>(
+pub fn labctl<S: Source, K: Sink, P: Tables>(
     alloc: Global,
     words: &[String],
     source: &mut S,

@@ -6,9 +6,10 @@
 
 use lab_io::{StdSink, StdSource};
 use lab_top::{Place, PlaceFault, Status, labctl, place_of};
-use plant::{Plant, Side};
+use plant::Side;
 use plant_file::FileLab;
 use plant_mem::MemLab;
+use plant_tables::Tables;
 use std::process::ExitCode;
 use std::{env, io};
 
@@ -22,7 +23,7 @@ fn words_of(rt: &HostRuntime) -> io::Result<Vec<String>> {
 }
 
 /// Obeys the script of standard input over a plant.
-fn run_over<P: Plant>(rt: &HostRuntime, words: &[String], plant: &mut P) -> Status {
+fn run_over<P: Tables>(rt: &HostRuntime, words: &[String], plant: &mut P) -> Status {
     let mut source = StdSource::new(rt);
     let mut sink = StdSink::new(rt);
     labctl(rt.alloc(), words, &mut source, &mut sink, plant)

@@ -1,0 +1,211 @@
+-- What an audit tells in a run, and that it changes nothing.
+use Rattle.std.proofs.Common.{◌≡◌, ◌⊎◌, ◌↔◌, inl, inr, ⊎_elim, ℕ, ◌^◌, Bool, true, false, List, [], ◌∷◌, ◌++◌, append_assoc, map, Option, Some, None, refl, sym, ◌∙◌, ap, subst, arith}
+use Rattle.std.proofs.lemmas.List.{append-nil}
+use Rattle.lab_base.specs.Counts.{Rose}
+use Rattle.phys_lab.specs.Labs.{Lab}
+use Rattle.plant.specs.Disks.{Disk, IsImage, ArePossible, disk}
+use Rattle.plant.specs.Events.{Event, Unread}
+use Rattle.plant.specs.Told.{Told}
+use Rattle.plant.specs.Worlds.{World, world_of}
+use Rattle.plant.specs.declared.step.Side.{Side}
+use Rattle.plant.specs.declared.step.Side.TheVariants.{A, B}
+use Rattle.virt_topo.specs.declared.experiment.Experiment.{Experiment}
+use Rattle.journal_model.proofs.Traces.{disk_push}
+use Rattle.lab_model.specs.OnCourse.{own_events}
+use Rattle.lab_model.proofs.TraceLaws.{world_push}
+use Rattle.records_model.specs.Labs.{LabState, lab_in}
+use Rattle.records_model.specs.Works.{IsSound}
+use Rattle.lab_state.specs.Texts.{the_texts}
+use Rattle.lab_audit.specs.Diff.{IsDiff, IsKnown, TellsSwitches}
+use Rattle.lab_audit.specs.declared.report.Line.{Line}
+use Rattle.lab_audit.proofs.Nothing as nothings
+use Rattle.script_text.specs.Drills.{drill_of}
+use Rattle.script_text.specs.declared.command.Command.{Command}
+use Rattle.script_text.specs.declared.command.Command.TheVariants as commands
+use Rattle.script_text.specs.declared.reply.AuditLine.{AuditLine}
+use Rattle.script_text.specs.declared.reply.Reply.{Reply}
+use Rattle.script_text.specs.declared.reply.Reply.TheVariants as replies
+use Rattle.lab_core.specs.Auditing.{Audits, line_of, no_lab, told, unread, no_memory}
+use Rattle.lab_core.specs.Breaks.{Breaks, stopped, failed, unanswered}
+use Rattle.lab_core.specs.Commands.{LabStep}
+use Rattle.lab_core.specs.LabSteps.{opened, not_opened}
+use Rattle.lab_core.specs.Moments.{AllStandFor, IsLabAt}
+use Rattle.lab_core.specs.Recovery.{BreaksOpening}
+use Rattle.lab_core.specs.Sessions.{OpenSwap, Session, Closed, Open, Setting, After, Terms}
+use Rattle.lab_core.specs.Tells.{opens_of}
+use Rattle.lab_core.proofs.Audited.{kept}
+use Rattle.lab_core.proofs.Said.{as_said}
+use Rattle.lab_words.specs.Words.{Choices}
+use Rattle.lab_top.specs.Audits.{ChangesNothing, IsReport, TellsDifference}
+use Rattle.lab_top.specs.Pieces.{Begun, ImagesAfter, IsDone, IsPiece, Leads, Piece, StepsFrom, blames_now_if, is_closed, leaves_one, may_shut, steps_of, trace_after}
+use Rattle.lab_top.specs.Ran.{Outside, Ran}
+use Rattle.lab_top.specs.declared.status.Status.{Status}
+use Rattle.lab_top.proofs.Pieces.{trace-push}
+use Rattle.lab_top.proofs.RunLaws.{Was, behind, caused_at, left_open, piece_at, pieces_of, told_of, was_of}
+
+-- the bytes that are durable are an image
+durable_image : (d : Disk) → IsImage d d.durable
+durable_image d = record { no_shorter = omega arith; no_longer = omega arith; kept = λ k within inside apart. refl }
+
+-- where a part breaks off, the reply is `stopped` or `down`
+broke_so : (events : List Event) (o : Option Reply) (reply : Reply) → Breaks events o → o ≡ Some reply → (reply ≡ replies.Stopped) ⊎ (reply ≡ replies.Down)
+broke_so events o reply (stopped ends is) told_it = inl (let same : Some reply ≡ Some replies.Stopped = sym told_it ∙ is in cc same)
+broke_so events o reply (failed once missed is) told_it = inr (let same : Some reply ≡ Some replies.Down = sym told_it ∙ is in cc same)
+broke_so events o reply (unanswered is) told_it = absurd (cc (is, told_it))
+
+-- and nothing was read
+broke_unread : (events own : List Event) (o : Option Reply) (reply : Reply) → Breaks events o → o ≡ Some reply → own ≡ [] → (name : List ℕ) → (own ≡ Unread name ∷ []) ↔ (reply ≡ replies.Unread name)
+broke_unread events own o reply breaks told_it none name =
+    (λ h. absurd (cc (h, none)), λ h. ⊎_elim (λ a. absurd (cc (a, h))) (λ a. absurd (cc (a, h))) (broke_so events o reply breaks told_it))
+
+-- ONE AUDIT
+module _ (w : World) (s : LabState) (opens : List OpenSwap) (own : List Event) (after : After) where
+  -- the report that it told
+  tells : (lines : List AuditLine) → after.reply ≡ Some (replies.Audit lines) → Audits w s opens own after → (report : List Line) × IsReport w s report × (lines ≡ map line_of report) × (own ≡ [])
+  tells lines is (no_lab none d) = absurd (cc (is, ap (λ (a : After). a.reply) d.after_is))
+  tells lines is (told report nothing switches exact after_is) =
+      let both : Some (replies.Audit lines) ≡ Some (replies.Audit (map line_of report)) = sym is ∙ ap (λ (a : After). a.reply) after_is in
+      (report, record { switches = switches; exact = exact }, (let same : lines ≡ map line_of report = cc both in same), nothing)
+  tells lines is (unread name own_is after_is) = absurd (cc (is, ap (λ (a : After). a.reply) after_is))
+  tells lines is (no_memory wants) = absurd (cc (is, ap (λ (a : After). a.reply) wants.after_is))
+
+  -- the device that did not tell what it holds
+  unread_so : (reply : Reply) → after.reply ≡ Some reply → Audits w s opens own after → (name : List ℕ) → (own ≡ Unread name ∷ []) ↔ (reply ≡ replies.Unread name)
+  unread_so reply is (no_lab none d) name = (λ h. absurd (cc (h, d.nothing)), λ h. absurd (cc (h, is, ap (λ (a : After). a.reply) d.after_is)))
+  unread_so reply is (told report nothing switches exact after_is) name = (λ h. absurd (cc (h, nothing)), λ h. absurd (cc (h, is, ap (λ (a : After). a.reply) after_is)))
+  unread_so reply is (unread other own_is after_is) name =
+      let both : Some reply ≡ Some (replies.Unread other) = sym is ∙ ap (λ (a : After). a.reply) after_is in
+      let reply_is : reply ≡ replies.Unread other = cc both in
+      (
+        λ h. let same : Unread other ∷ [] ≡ Unread name ∷ [] = sym own_is ∙ h in let one : other ≡ name = cc same in reply_is ∙ ap (λ n. replies.Unread n) one,
+        λ h. let same : replies.Unread other ≡ replies.Unread name = sym reply_is ∙ h in let one : other ≡ name = cc same in own_is ∙ ap (λ n. Unread n ∷ []) one,
+      )
+  unread_so reply is (no_memory wants) name = absurd (cc (is, ap (λ (a : After). a.reply) wants.after_is))
+
+  -- it has no step but of such a reading
+  quiet : Audits w s opens own after → (own ≡ []) ⊎ ((name : List ℕ) × (own ≡ Unread name ∷ []))
+  quiet (no_lab none d) = inl d.nothing
+  quiet (told report nothing switches exact after_is) = inl nothing
+  quiet (unread name own_is after_is) = inr (name, own_is)
+  quiet (no_memory wants) = inl wants.nothing
+
+-- the lab step of one
+module _ (terms : Terms) (trace : List Event) (set : Setting) (s : LabState) (opening own : List Event) (after : After) where
+  went_by : (session : Session) → LabStep terms trace set s session commands.Audit opening own after
+      → BreaksOpening s opening own after ⊎ ((mid : LabState) × Audits (world_of (trace ++ opening)) mid (opens_of session) own after)
+  went_by Closed (opened mid opens d) = inr (mid, d)
+  went_by Closed (not_opened b) = inl b
+  went_by (Open opens) step = inr (s, step.1)
+
+-- THE PIECE OF ONE that was answered, by its steps from a lab to another
+module _ (terms : Terms) (trace : List Event) (piece : Piece) (s last : LabState) (steps : StepsFrom terms trace piece s last) (asks : piece.command ≡ commands.Audit) (reply : Reply) (replied : piece.reply ≡ Some reply) where
+  abbrev all : List Event
+  all = piece.own ++ steps.behind
+
+  abbrev ends : After
+  ends = record { reply = steps.told; lab = last; session = steps.session }
+
+  abbrev set : Setting
+  set = record { length = steps.length; limit = 2 ^ 32; devices = piece.faults.devices }
+
+  told_so : (steps.told ≡ Some reply) × (steps.session ≡ piece.to) × (steps.behind ≡ [])
+  told_so = told_of terms trace piece s last steps reply replied
+
+  all_own : all ≡ piece.own
+  all_own = ap (λ l. piece.own ++ l) told_so.2 ∙ append-nil piece.own
+
+  went : BreaksOpening s piece.opening all ends ⊎ ((mid : LabState) × Audits (world_of (trace ++ piece.opening)) mid (opens_of piece.from) all ends)
+  went = went_by terms trace set s piece.opening all ends piece.from (subst (λ (c : Command). LabStep terms trace set s piece.from c piece.opening all ends) asks steps.step)
+
+  unread_by : (name : List ℕ) → (piece.own ≡ Unread name ∷ []) ↔ (reply ≡ replies.Unread name)
+  unread_by name =
+      let by = ⊎_elim (λ broke. broke_unread piece.opening all steps.told reply broke.breaks told_so.0 broke.nothing name)
+          (λ x. unread_so (world_of (trace ++ piece.opening)) x.0 (opens_of piece.from) all ends reply told_so.0 x.1 name) went in
+      (λ h. by.0 (all_own ∙ h), λ h. sym all_own ∙ by.1 h)
+
+  quiet_by : (piece.own ≡ []) ⊎ ((name : List ℕ) × (piece.own ≡ Unread name ∷ []))
+  quiet_by = ⊎_elim (λ broke. inl (sym all_own ∙ broke.nothing))
+      (λ x. ⊎_elim (λ none. inl (sym all_own ∙ none)) (λ one. inr (one.0, sym all_own ∙ one.1)) (quiet (world_of (trace ++ piece.opening)) x.0 (opens_of piece.from) all ends x.1)) went
+
+  -- the report is of the lab and of the world behind it, which are those before it
+  tells_by : (lines : List AuditLine) → reply ≡ replies.Audit lines → (report : List Line) × IsReport (world_of (trace ++ steps_of piece)) last report × (lines ≡ map line_of report) × (piece.own ≡ [])
+  tells_by lines is = ⊎_elim (λ broke. absurd (⊎_elim (λ a. cc (a, is)) (λ a. cc (a, is)) (broke_so piece.opening steps.told reply broke.breaks told_so.0)))
+      (λ x.
+      let w = world_of (trace ++ piece.opening) in
+      let t = tells w x.0 (opens_of piece.from) all ends lines (told_so.0 ∙ ap (λ r. Some r) is) x.1 in
+      let none : piece.own ≡ [] = sym all_own ∙ t.3 in
+      let steps_are : trace ++ piece.opening ≡ trace ++ steps_of piece = ap (λ l. trace ++ l) (sym (ap (λ l. piece.opening ++ l) none ∙ append-nil piece.opening)) in
+      (
+        t.0,
+        subst (λ l. IsReport (world_of l) last t.0) steps_are (subst (λ (u : LabState). IsReport w u t.0) (sym (kept w x.0 (opens_of piece.from) all ends x.1)) t.1),
+        t.2,
+        none,
+      ))
+      went
+
+-- WHAT ITS STEPS CHANGE: nothing
+one_unread : (side : Side) (trace : List Event) (name : List ℕ) → disk side (trace ++ Unread name ∷ []) ≡ disk side trace
+one_unread A trace name = disk_push A trace (Unread name)
+one_unread B trace name = disk_push B trace (Unread name)
+
+changes_nothing : (trace : List Event) (piece : Piece) → (piece.own ≡ []) ⊎ ((name : List ℕ) × (piece.own ≡ Unread name ∷ [])) → ChangesNothing trace piece
+changes_nothing trace piece (inl none) =
+    let are : trace ++ steps_of piece ≡ trace ++ piece.opening = ap (λ l. trace ++ l) (ap (λ l. piece.opening ++ l) none ∙ append-nil piece.opening) in
+    record { sides = λ side. ap (disk side) are; world = ap world_of are; courses = λ lab e. ap (λ l. own_events lab e l) none }
+changes_nothing trace piece (inr one) =
+    let are : trace ++ steps_of piece ≡ (trace ++ piece.opening) ++ Unread one.0 ∷ [] = ap (λ l. trace ++ (piece.opening ++ l)) one.1 ∙ sym (append_assoc trace piece.opening (Unread one.0 ∷ [])) in
+    record {
+      sides = λ side. ap (disk side) are ∙ one_unread side (trace ++ piece.opening) one.0;
+      world = ap world_of are ∙ world_push (trace ++ piece.opening) (Unread one.0);
+      courses = λ lab e. ap (λ l. own_events lab e l) one.1;
+    }
+
+-- ONE AUDIT OF A RUN
+module _ (terms : Terms) (choices : Option Choices) (old new : Outside) (status : Status) (before after : List Begun) (b : Begun) (t : Told) (r : Ran terms choices old new status (before ++ b ∷ after)) (is_told : old.plant.told ≡ Some t) (asks : b.piece.command ≡ commands.Audit) where
+  abbrev trace : List Event
+  trace = trace_after t.trace before
+
+  one_piece : IsPiece terms trace b.piece
+  one_piece = piece_at terms t.trace before after b (pieces_of terms choices old new status (before ++ b ∷ after) t r is_told)
+
+  module _ (reply : Reply) (replied : b.piece.reply ≡ Some reply) where
+    was : Was terms trace b.piece one_piece (ap drill_of asks) reply replied
+    was = was_of terms choices old new status before after b t r is_told reply replied (ap drill_of asks)
+
+    pub audit_unread : (name : List ℕ) → (b.piece.own ≡ Unread name ∷ []) ↔ (reply ≡ replies.Unread name)
+    audit_unread name = ⊎_elim (λ broke. broke_unread b.piece.opening b.piece.own (Some reply) reply broke.0 refl broke.1 name)
+        (λ x. unread_by terms trace b.piece x.0 x.1 x.2 asks reply replied name) was
+
+    pub audit_still : ChangesNothing trace b.piece
+    audit_still = changes_nothing trace b.piece (⊎_elim (λ broke. inl broke.1) (λ x. quiet_by terms trace b.piece x.0 x.1 x.2 asks reply replied) was)
+
+  module _ (lines : List AuditLine) (replied : b.piece.reply ≡ Some (replies.Audit lines)) where
+    not_shut : (closed : Bool) → is_closed b.piece.to ≡ closed → is_closed b.piece.to ≡ false
+    not_shut false h = h
+    not_shut true h = let shut : false ≡ true = ap may_shut (sym replied) ∙ one_piece.shuts (ap drill_of asks) h in absurd (cc shut)
+
+    pub audit_told : TellsDifference (trace_after t.trace (before ++ b ∷ [])) lines × (b.piece.own ≡ [])
+    audit_told =
+        let l : Leads terms trace b.piece = one_piece.leads (ap drill_of asks) (not_shut (is_closed b.piece.to) refl) in
+        let x = tells_by terms trace b.piece l.first l.last l.steps asks (replies.Audit lines) replied lines refl in
+        (subst (λ l. TellsDifference l lines) (sym (trace-push t.trace before b)) (record { lab = l.last; at = l.behind; report = x.0; is = x.1; lines_are = x.2 }), x.3)
+
+    -- OVER A SOUND TRACE nothing differs
+    pub audit_nothing : IsSound the_texts t.trace → lines ≡ []
+    audit_nothing sound =
+        let done : IsDone terms trace b.piece = one_piece.done (behind terms t.trace before (b ∷ after) (pieces_of terms choices old new status (before ++ b ∷ after) t r is_told) sound).1 in
+        let l : Leads terms trace b.piece = done.leads in
+        let x = tells_by terms trace b.piece l.first l.last l.steps asks (replies.Audit lines) replied lines refl in
+        let end = trace ++ steps_of b.piece in
+        let one : leaves_one b.piece.to b.piece.reply ≡ true =
+        ap (leaves_one b.piece.to) replied ∙ left_open b.piece.to (replies.Audit lines) refl (λ shut. ap may_shut (sym replied) ∙ one_piece.shuts (ap drill_of asks) shut) in
+        let images : AllStandFor end l.last = subst (λ y. ImagesAfter terms y trace b.piece l.last) one done.images in
+        let possible : ArePossible end (disk A end).durable (disk B end).durable = (durable_image (disk A end), durable_image (disk B end)) in
+        let said = as_said end (disk A end).durable (disk B end).durable l.last done.sound possible (images (disk A end).durable (disk B end).durable possible) in
+        let none : x.0 ≡ [] = nothings.nothing (lab_in l.last.lab) l.last.experiments (world_of end) said.cabled x.0 (x.1.exact (nothings.known (lab_in l.last.lab) l.last.experiments (world_of end) said.cabled)) in
+        x.2 ∙ ap (λ l. map line_of l) none
+
+-- THE DEVICES' COUNT ROSE where one did not tell what it holds, over every plant
+pub audit_risen : (terms : Terms) (choices : Option Choices) (old new : Outside) (status : Status) (before after : List Begun) (b : Begun) (name : List ℕ) → Ran terms choices old new status (before ++ b ∷ after)
+    → b.piece.reply ≡ Some (replies.Unread name) → Rose b.piece.faults.devices b.later.devices
+audit_risen terms choices old new status before after b name r replied = (caused_at terms _ _ before after b r.counts).here (ap blames_now_if replied)
