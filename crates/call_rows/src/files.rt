@@ -2,6 +2,7 @@
 use lab_base::{Boot, Name, VlanId};
 use plant::{Answer, DeviceOp, Drill, DrillFault, Fault, Plant, Side};
 use plant_file::FileLab;
+use plant_tables::{ReadFailed, Tables};
 use std::fs;
 use std::test::Fail;
 
@@ -117,5 +118,36 @@ fn commands_are_told_by_the_tables(rt: HostRuntime) -> Result<(), Fail> {
         b"row s1 1\n".as_slice()
     );
     fs::remove_dir_all(&rt, "tables.lab")?;
+    Ok(())
+}
+
+/// Tables as another hand left them: rows in no order, one of them twice, and pipes with gaps.
+const LEFT: &[u8] =
+    b"row s1 2 101\nrow s2 1 100\npipe pc1 7 eth0 eth1 1000 20 3 100 0 0\nrow s1 1 102\nrow s1 2 101\nnode pc1 ISUP linux\nrow s1 1 100\npipe pc1 2 eth1 eth2 10 0 0 20 0 0\n";
+
+#[test]
+fn readings_are_told_by_the_tables(rt: HostRuntime) -> Result<(), Fail> {
+    let mut lab = FileLab::new(&rt, "read.lab")?;
+    let (s1, pc1, pc2) = (name(b"s1")?, name(b"pc1")?, name(b"pc2")?);
+    // nothing is told where there is no folder
+    assert_eq!(rt; lab.row(s1, 0), Ok(None));
+    assert_eq!(rt; lab.length(Side::A), Ok(0));
+    fs::write(&rt, "read.lab/tables", LEFT)?;
+    assert_eq!(rt; lab.row(s1, 0), Ok(Some((1, VlanId(100)))));
+    assert_eq!(rt; lab.row(s1, 1), Ok(Some((1, VlanId(102)))));
+    assert_eq!(rt; lab.row(s1, 2), Ok(Some((2, VlanId(101)))));
+    assert_eq!(rt; lab.row(s1, 3), Ok(None));
+    let row = lab.node(pc1)?;
+    assert!(rt; row.state == Boot::IsUp && row.os == Some(name(b"linux")?) && row.pipes == 2);
+    let row = lab.node(pc2)?;
+    assert!(rt; row.state == Boot::Off && row.os.is_none() && row.pipes == 0);
+    let first = lab.pipe(pc1, 0)?;
+    assert!(rt; matches!(first, Some(pipe) if pipe.pipe == 2 && pipe.from == name(b"eth1")? && pipe.there.kbps == 10));
+    assert!(rt; lab.pipe(pc1, 1)?.is_some() && lab.pipe(pc1, 2)?.is_none());
+    assert_eq!(rt; fs::read(&rt, "read.lab/tables")?.as_slice(), LEFT);
+    // a line of another form is a fault
+    fs::write(&rt, "read.lab/tables", b"row s1 1\n".as_slice())?;
+    assert!(rt; lab.row(s1, 0) == Err(ReadFailed));
+    fs::remove_dir_all(&rt, "read.lab")?;
     Ok(())
 }

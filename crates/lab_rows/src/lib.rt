@@ -14,6 +14,7 @@
 //! follow RECORD..             whether each record can follow, and what it leaves of the first trunk; and how many experiments there are then
 //! replay RECORD RECORD RECORD how many experiments three records give, or the number of the first that can't follow
 //! pack RECORD.. | RECORD..    whether the lab of some records is packed into others
+//! audit RECORD.. | COMMAND..  in what devices differ that were sent the commands, and how many lines that has
 //! fit LAB TYPE:COUNT TYPE:COUNT      the nodes that two needs are given, or the types that are short
 //! batch LETTERS               how many promises and runs a batch has
 //! moments BATCH NOW LENGTH    when a run is tested
@@ -31,6 +32,7 @@
 //! name of a wiring, numbers of nodes with types, and numbers of interfaces and VLAN ids.
 #![tactic(auto)]
 
+mod audits;
 mod builds;
 mod claimed;
 mod isolation;
@@ -87,6 +89,7 @@ fn tell_of_records(
         "follow" => records::tell(out, alloc, texts, words)?,
         "replay" => records::tell_three(out, alloc, texts, words)?,
         "pack" => records::tell_packed(out, alloc, texts, words)?,
+        "audit" => audits::tell(out, alloc, texts, words)?,
         _ => return Ok(false),
     }
     Ok(true)

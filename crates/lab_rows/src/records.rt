@@ -199,6 +199,18 @@ fn enter_all(
     Ok(())
 }
 
+/// The lab that the records of texts give.
+pub fn state_of(alloc: Global, texts: &Texts, names: &[&[u8]]) -> Result<LabState, Wrong> {
+    let mut state = LabState::new(alloc);
+    match enter_all(alloc, texts, &mut state, names) {
+        Ok(()) => Ok(state),
+        Err(wrong) => {
+            drop(state);
+            Err(wrong)
+        }
+    }
+}
+
 /// The lab that the records of texts give, packed.
 fn packed_of(alloc: Global, texts: &Texts, names: &[&[u8]]) -> Result<Packed, Wrong> {
     let mut state = LabState::new(alloc);

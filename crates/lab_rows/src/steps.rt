@@ -112,6 +112,16 @@ pub fn steps_of(alloc: Global, texts: &Texts, words: &[&[u8]]) -> Result<Items<S
     Ok(sent)
 }
 
+/// The commands of words, whether they are applied or not.
+pub fn ops_of(alloc: Global, texts: &Texts, words: &[&[u8]]) -> Result<Items<DeviceOp>, Wrong> {
+    let sent = steps_of(alloc, texts, words)?;
+    let mut ops = Items::new(alloc);
+    for step in sent.as_slice() {
+        ops.push(step.op)?;
+    }
+    Ok(ops)
+}
+
 /// The row that parts say: a switch, a port and a VLAN id.
 pub fn row_of(parts: &[&[u8]]) -> Result<Row, Wrong> {
     Ok(Row {

@@ -29,13 +29,25 @@ pub const STOP_TORN: Drill = Drill {
     behind: " torn\n",
 };
 
-/// A drill of the disk, or a stop by what it leaves.
+const FAIL_SWITCH: Drill = Drill {
+    before: "fail s1 ",
+    behind: " read\n",
+};
+
+const FAIL_MACHINE: Drill = Drill {
+    before: "fail pc1 ",
+    behind: " read\n",
+};
+
+/// A drill of the disk, a stop by what it leaves, or one of the readings of a switch or a machine.
 pub fn drill_named(word: &str) -> anyhow::Result<Drill> {
     match word {
         "disk" => Ok(FAIL_DISK),
         "none" => Ok(STOP_NONE),
         "all" => Ok(STOP_ALL),
         "torn" => Ok(STOP_TORN),
+        "s1" => Ok(FAIL_SWITCH),
+        "pc1" => Ok(FAIL_MACHINE),
         _ => bail!("no drill: {word}"),
     }
 }

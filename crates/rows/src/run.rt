@@ -3,8 +3,9 @@ use anyhow::anyhow;
 use lab_base::Memory;
 use lab_io::{MemSink, MemSource};
 use lab_top::{Status, labctl};
-use plant::{Plant, Side};
+use plant::Side;
 use plant_mem::MemLab;
+use plant_tables::Tables;
 use std::alloc::{AllocError, Global};
 use std::fmt::Write;
 use std::str;
@@ -56,7 +57,7 @@ pub fn words_of(alloc: Global, words: &[&str]) -> Result<Vec<String>, AllocError
 }
 
 /// Runs a script over a plant.
-pub fn run<P: Plant>(alloc: Global, given: Given<'_>, plant: &mut P) -> anyhow::Result<Ran> {
+pub fn run<P: Tables>(alloc: Global, given: Given<'_>, plant: &mut P) -> anyhow::Result<Ran> {
     let words = words_of(alloc, given.words)?;
     let mut source = MemSource::new(alloc, given.script.as_bytes(), &[given.read]).map_err(
         wanting,
