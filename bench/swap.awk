@@ -1,6 +1,7 @@
 # Commands for a lab of 1,024 nodes that lab.awk makes: OTHERS experiments of two virtual nodes each are swapped in on machines from
 # p513 on, and then E, a chain of V virtual nodes on machines p1 to pV, is made, and ROUNDS times swapped in and out. With TURNS, its
-# swap-in is opened and turned so often, beside OPEN open ones of such chains on the machines behind.
+# swap-in is opened and turned so often, beside OPEN open ones of such chains on the machines behind. With AUDITS, E is swapped in where it
+# has nodes, and all is audited so often.
 function chain(nodes, last,   v) {
     for (v = 1; v <= nodes; v++) print "node v" v " pc " (v == nodes ? last : "linux")
     for (v = 1; v < nodes; v++) print "link s" v " s" v " 1000 v" v " v" v + 1
@@ -41,7 +42,12 @@ BEGIN {
         for (r = 0; r < ROUNDS; r++) print "status"
         exit
     }
-    made("E", V)
+    if (V) made("E", V)
+    if (AUDITS != "") {
+        if (V) swapped_in("E", V, 1)
+        for (r = 0; r < AUDITS; r++) print "audit"
+        exit
+    }
     if (TURNS != "") {
         for (o = 1; o <= OPEN; o++) {
             made("O" o, V)
