@@ -1,3 +1,4 @@
+mod ByNode
 pub mod Counting
 pub mod Empty
 mod Entries

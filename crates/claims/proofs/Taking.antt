@@ -53,7 +53,7 @@ node_placed lab e n h = elim (Has-append (nodes_in (hold_in lab (claimed e Old))
 ]
 
 -- so the experiment claims the node
-claims_node : (lab : Lab) (e : Experiment) (n : ℕ) → Has (claim_nodes (claim_of lab e)) n → Claims lab e (node_name lab (record { 0 = n }))
+pub claims_node : (lab : Lab) (e : Experiment) (n : ℕ) → Has (claim_nodes (claim_of lab e)) n → Claims lab e (node_name lab (record { 0 = n }))
 claims_node lab e n h =
     let p = node_placed lab e n h in
     record {

@@ -1,6 +1,6 @@
 // Laws of the definitions.
-ghost use Rattle.std.specs.Prelude.{◌≡◌, ◌≢◌, ◌<◌, ◌==◌, ◌&&◌, ◌++◌, ◌∷◌, [], List, length, map, Option, Some, None, true, false};
-ghost use Rattle.lab_base.specs.Lists.{Has, AllDiffer};
+ghost use Rattle.std.specs.Prelude.{◌≡◌, ◌≢◌, ◌<◌, ◌==◌, ◌&&◌, ◌++◌, ◌∷◌, [], ℕ, List, filter, length, map, Option, Some, None, true, false};
+ghost use Rattle.lab_base.specs.Lists.{Has, AllDiffer, listed};
 ghost use Rattle.lab_base.specs.declared.ids.VlanId.{VlanId};
 ghost use Rattle.phys_lab.specs.Labs.{Lab};
 ghost use Rattle.phys_lab.specs.Kept.{IsLab};
@@ -16,7 +16,7 @@ ghost use Rattle.lab_model.specs.Holding.{Holding};
 ghost use Rattle.lab_model.specs.Shapes.{IsShaped};
 ghost use Rattle.claims.specs.Adding.{MayAdd, with_claim, without, narrowed};
 ghost use Rattle.claims.specs.Answered.{are_free_ids, none_of};
-ghost use Rattle.claims.specs.Held.{Held, IsLeftTo, others};
+ghost use Rattle.claims.specs.Held.{Held, IsLeftTo, claim_nodes, is_in, others, owner_of};
 ghost use Rattle.claims.specs.Holds.{claim_of};
 ghost use Rattle.claims.specs.Experiments.{ClaimsOf};
 
@@ -74,6 +74,12 @@ pub fn narrowed()
 pub fn few()
     ensures { (lab : Lab) (a b : List Experiment) (e : Experiment) (held : Held) → AllDiffer (map (λ e. e.name) (a ++ e ∷ b))
         → ClaimsOf lab (a ++ e ∷ b) held → length (others e.name held.entries) < length (a ++ e ∷ b) }
+{}
+
+/// The experiments that claim a node are its owner alone, or none where it has none.
+pub fn owners()
+    ensures { (lab : Lab) (es : List Experiment) (held : Held) (n : ℕ) → Holding lab es → AllDiffer (map (λ e. e.name) es) → ClaimsOf lab es held
+        → map (λ e. e.name) (filter (λ e. is_in n (claim_nodes (claim_of lab e))) es) ≡ listed (owner_of claim_nodes held.entries n) }
 {}
 
 /// VLAN ids are free to an experiment exactly where, one for each segment, they are free beside the other claims.

@@ -14,4 +14,6 @@ pub use claim::Claim;
 pub use claims::Claims;
 pub use fault::TakeFault;
 pub use hold::Hold;
-pub use laws::{dropped, few, free_tags, gone, left_by_others, made, may_add, narrowed, none, put};
+pub use laws::{
+    dropped, few, free_tags, gone, left_by_others, made, may_add, narrowed, none, owners, put,
+};
