@@ -1,6 +1,6 @@
 mod Answering
 mod Answers
-mod Audits
+mod AuditLaws
 mod BrokenOpenings
 mod Commanding
 mod Compact

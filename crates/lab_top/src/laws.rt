@@ -30,7 +30,7 @@ ghost use Rattle.recovery.specs.Due.{swaps_of};
 ghost use Rattle.lab_core.specs.Sessions.{OpenSwap, Closed, open_at, Terms};
 ghost use Rattle.lab_core.specs.Tells.{BeginsAt, IsAtRest, busy_of, IsFeasibleFor, IsInBy, Hinders, is_of_drill, is_stopped, IsTurn, IsTurnOf, SendsOne, opens_of, taken_reply, TellsBroken};
 ghost use Rattle.plant.specs.Events.{Event, Unread};
-ghost use Rattle.lab_top.specs.Audits.{ChangesNothing, TellsDifference};
+ghost use Rattle.lab_top.specs.Reports.{ChangesNothing, TellsDifference};
 ghost use Rattle.lab_top.specs.Pieces.{Begun, Piece, TellsAll, AllHave, AllRestBut, AreOn, AreOthers, FirstLab, HasOpened, OpensTo, StayOpen, is_closed, is_early, session_after, steps_of, trace_after};
 ghost use Rattle.lab_top.specs.Ran.{Outside, Ran};
 ghost use Rattle.lab_words.specs.Words.{Choices};

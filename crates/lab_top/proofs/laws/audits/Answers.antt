@@ -1,4 +1,4 @@
-use Rattle.lab_top.proofs.Audits.{audit_nothing, audit_risen, audit_still, audit_told, audit_unread}
+use Rattle.lab_top.proofs.AuditLaws.{audit_nothing, audit_risen, audit_still, audit_told, audit_unread}
 use Rattle.lab_top.proofs.laws.audits.Goals as goal
 
 pub returns-clause-told : goal.returns-clause-told

@@ -36,7 +36,7 @@ use Rattle.lab_core.specs.Tells.{opens_of}
 use Rattle.lab_core.proofs.Audited.{kept}
 use Rattle.lab_core.proofs.Said.{as_said}
 use Rattle.lab_words.specs.Words.{Choices}
-use Rattle.lab_top.specs.Audits.{ChangesNothing, IsReport, TellsDifference}
+use Rattle.lab_top.specs.Reports.{ChangesNothing, IsReport, TellsDifference}
 use Rattle.lab_top.specs.Pieces.{Begun, ImagesAfter, IsDone, IsPiece, Leads, Piece, StepsFrom, blames_now_if, is_closed, leaves_one, may_shut, steps_of, trace_after}
 use Rattle.lab_top.specs.Ran.{Outside, Ran}
 use Rattle.lab_top.specs.declared.status.Status.{Status}
