@@ -1,5 +1,5 @@
 -- The lab step of an audit: all stays as it was.
-use Rattle.std.proofs.Common.{◌≡◌, Bool, true, false, ℕ, List, map, [], ◌∷◌, ◌++◌, Option, Some, None, Err, refl, sym, ap, ◌∙◌, subst}
+use Rattle.std.proofs.Common.{◌≡◌, true, false, ℕ, List, map, [], ◌++◌, Option, Some, None, Err, refl, sym, ap, ◌∙◌, subst}
 use Rattle.std.specs.Prelude.{is_some}
 use Rattle.lab_base.specs.Lists.{Has}
 use Rattle.plant.specs.Events.{Event}

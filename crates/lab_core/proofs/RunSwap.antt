@@ -59,7 +59,7 @@ use Rattle.lab_core.specs.Obey.{Start, start_of, IsDone, Obeyed}
 use Rattle.lab_core.specs.Sessions.{OpenSwap, Session, Setting, Closed, Open, After, IsSince, counted_from, devices_if, name_in}
 use Rattle.lab_core.specs.Swapping.{HasEndedIn, HasTried, IsBegunBy, IsOpened, IsPlanned, progress_answer, unopened_answer}
 use Rattle.lab_core.specs.Tasks.{IsSwapBy}
-use Rattle.lab_core.proofs.EndOne.{cause_now, cause_since, end_answer, end_halts, end_one, ends_from, end_works, over_reply, place}
+use Rattle.lab_core.proofs.EndOne.{cause_now, cause_since, end_answer, end_halts, end_one, end_works, over_reply, place}
 use Rattle.lab_core.proofs.Obey.{closed_by, false_true, goes_on, halted, same_open}
 use Rattle.lab_core.proofs.OpenSwaps.{IsLast, Pair, Place, none_named, only_last, open_at_none, opened_more, running_has, since_later}
 use Rattle.lab_core.proofs.PerformAppend.{no_space}

@@ -1,11 +1,10 @@
 -- A reading that was not answered, over a controller at work: it changes nothing but what is told.
-use Rattle.std.proofs.Common.{◌≡◌, ◌≢◌, ℕ, ◌≤◌, ◌+◌, List, [], ◌∷◌, ◌++◌, length, map, Bool, true, false, Option, Some, None, Ok, Err, refl, sym, ap, ◌∙◌, subst, arith, inl, inr, length-append}
+use Rattle.std.proofs.Common.{◌≡◌, ℕ, ◌≤◌, ◌+◌, List, [], ◌∷◌, ◌++◌, length, map, true, false, Option, Some, None, Ok, Err, refl, sym, ap, ◌∙◌, subst, arith, inl, inr, length-append}
 use Rattle.std.specs.Prelude.{IfSome}
 use Rattle.std.proofs.lemmas.Bool.{cases_lt}
 use Rattle.std.proofs.lemmas.List.{append-nil, take-append-le, take_all}
 use Rattle.lab_base.specs.Counts.{Rose}
-use Rattle.lab_base.specs.Lists.{Has}
-use Rattle.plant.specs.Disks.{Disk, disk, disk_after, ArePossible}
+use Rattle.plant.specs.Disks.{Disk, disk, ArePossible}
 use Rattle.plant.specs.Events.{Event, Unread}
 use Rattle.plant.specs.Seen.{Seen}
 use Rattle.plant.specs.Told.{Told, with_steps}
@@ -19,17 +18,15 @@ use Rattle.journal_model.proofs.Traces.{disk_push}
 use Rattle.journal_disk.specs.Epochs.{HasEpoch}
 use Rattle.journal_disk.specs.Standing.{side_of}
 use Rattle.journal_disk.specs.declared.journal.Journal.{Journal}
-use Rattle.journal_runs.specs.Working.{Works}
-use Rattle.virt_topo.specs.declared.experiment.Experiment.{Experiment}
 use Rattle.lab_model.specs.Parts.{Part}
 use Rattle.lab_model.specs.Sound.{Keeps, SoundAt}
 use Rattle.lab_model.proofs.Alone.{course_journal}
 use Rattle.lab_model.proofs.TraceLaws.{world_push}
 use Rattle.records_model.specs.Appends.{StandFor, standing}
-use Rattle.records_model.specs.Labs.{LabState, Texts, find, lab_in}
+use Rattle.records_model.specs.Labs.{LabState, Texts, lab_in}
 use Rattle.records_model.specs.Works.{IsSound}
 use Rattle.swap_txn.specs.declared.live.Live.{Live}
-use Rattle.swap_turns.specs.Running.{AtWork, IsOpen, IsRunning, OpenSwap, Runs, RunsIn, Stands, Working}
+use Rattle.swap_turns.specs.Running.{IsOpen, OpenSwap, RunsIn, Stands, Working}
 use Rattle.lab_state.specs.Texts.{the_texts}
 use Rattle.lab_audit.specs.Diff.{IsDiff, IsKnown, TellsSwitches}
 use Rattle.lab_audit.specs.Reads.{Reads, steps_of, unread_in}

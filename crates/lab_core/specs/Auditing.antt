@@ -1,5 +1,5 @@
 -- `audit`: in what the devices differ from what the experiments of the lab want.
-use Rattle.std.specs.Prelude.{◌≡◌, ℕ, List, [], ◌∷◌, map, Some, None, Result, Ok, Err}
+use Rattle.std.specs.Prelude.{◌≡◌, ℕ, List, [], ◌∷◌, map, None, Result, Ok, Err}
 use Rattle.plant.specs.Events.{Event, Unread}
 use Rattle.plant.specs.Worlds.{World}
 use Rattle.records_model.specs.Labs.{LabState, lab_in}

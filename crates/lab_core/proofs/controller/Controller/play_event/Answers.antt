@@ -1,4 +1,4 @@
-use Rattle.std.proofs.Common.{List, Option, ℕ, sym, subst, Err}
+use Rattle.std.proofs.Common.{sym, subst}
 use Rattle.lab_core.specs.Controller.{CanWork, Control, WorksWith, control}
 use Rattle.lab_core.specs.Playing.{JudgedEvent}
 use Rattle.lab_core.specs.Tasks.{task_of}
