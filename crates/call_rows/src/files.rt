@@ -142,7 +142,9 @@ fn readings_are_told_by_the_tables(rt: HostRuntime) -> Result<(), Fail> {
     let row = lab.node(pc2)?;
     assert!(rt; row.state == Boot::Off && row.os.is_none() && row.pipes == 0);
     let first = lab.pipe(pc1, 0)?;
-    assert!(rt; matches!(first, Some(pipe) if pipe.pipe == 2 && pipe.from == name(b"eth1")? && pipe.there.kbps == 10));
+    assert!(rt;
+        matches!(first, Some(pipe) if pipe.pipe == 2 && pipe.from == name(b"eth1")? && pipe.there.kbps == 10)
+    );
     assert!(rt; lab.pipe(pc1, 1)?.is_some() && lab.pipe(pc1, 2)?.is_none());
     assert_eq!(rt; fs::read(&rt, "read.lab/tables")?.as_slice(), LEFT);
     // a line of another form is a fault

@@ -160,8 +160,7 @@ module _ (terms : Terms) (before : List Event) (set : Setting) (s : LabState) (o
   audit_continues Closed ok (opened mid opens d) =
       (mid, λ o has. absurd (subst (λ l. Has l o) (audit_opens terms before set s opening own after Closed to open_now (opened mid opens d)) has), λ o none. absurd none)
   audit_continues (Open opens) ok step =
-      let same = audit_opens terms before set s opening own after (Open opens) to open_now step in
-      (
+      let same = audit_opens terms before set s opening own after (Open opens) to open_now step in (
         s,
         λ o has.
             let there = subst (λ l. Has l o) same has in

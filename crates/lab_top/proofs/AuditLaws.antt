@@ -75,8 +75,7 @@ module _ (w : World) (s : LabState) (opens : List OpenSwap) (own : List Event) (
   unread_so reply is (told report nothing switches exact after_is) name = (λ h. absurd (cc (h, nothing)), λ h. absurd (cc (h, is, ap (λ (a : After). a.reply) after_is)))
   unread_so reply is (unread other own_is after_is) name =
       let both : Some reply ≡ Some (replies.Unread other) = sym is ∙ ap (λ (a : After). a.reply) after_is in
-      let reply_is : reply ≡ replies.Unread other = cc both in
-      (
+      let reply_is : reply ≡ replies.Unread other = cc both in (
         λ h. let same : Unread other ∷ [] ≡ Unread name ∷ [] = sym own_is ∙ h in let one : other ≡ name = cc same in reply_is ∙ ap (λ n. replies.Unread n) one,
         λ h. let same : replies.Unread other ≡ replies.Unread name = sym reply_is ∙ h in let one : other ≡ name = cc same in own_is ∙ ap (λ n. Unread n ∷ []) one,
       )
@@ -120,7 +119,7 @@ module _ (terms : Terms) (trace : List Event) (piece : Piece) (s last : LabState
   unread_by : (name : List ℕ) → (piece.own ≡ Unread name ∷ []) ↔ (reply ≡ replies.Unread name)
   unread_by name =
       let by = ⊎_elim (λ broke. broke_unread piece.opening all steps.told reply broke.breaks told_so.0 broke.nothing name)
-          (λ x. unread_so (world_of (trace ++ piece.opening)) x.0 (opens_of piece.from) all ends reply told_so.0 x.1 name) went in
+      (λ x. unread_so (world_of (trace ++ piece.opening)) x.0 (opens_of piece.from) all ends reply told_so.0 x.1 name) went in
       (λ h. by.0 (all_own ∙ h), λ h. sym all_own ∙ by.1 h)
 
   quiet_by : (piece.own ≡ []) ⊎ ((name : List ℕ) × (piece.own ≡ Unread name ∷ []))
@@ -134,8 +133,7 @@ module _ (terms : Terms) (trace : List Event) (piece : Piece) (s last : LabState
       let w = world_of (trace ++ piece.opening) in
       let t = tells w x.0 (opens_of piece.from) all ends lines (told_so.0 ∙ ap (λ r. Some r) is) x.1 in
       let none : piece.own ≡ [] = sym all_own ∙ t.3 in
-      let steps_are : trace ++ piece.opening ≡ trace ++ steps_of piece = ap (λ l. trace ++ l) (sym (ap (λ l. piece.opening ++ l) none ∙ append-nil piece.opening)) in
-      (
+      let steps_are : trace ++ piece.opening ≡ trace ++ steps_of piece = ap (λ l. trace ++ l) (sym (ap (λ l. piece.opening ++ l) none ∙ append-nil piece.opening)) in (
         t.0,
         subst (λ l. IsReport (world_of l) last t.0) steps_are (subst (λ (u : LabState). IsReport w u t.0) (sym (kept w x.0 (opens_of piece.from) all ends x.1)) t.1),
         t.2,
