@@ -1,22 +1,19 @@
 -- Audits in a run: the reports that they tell, and that they change nothing.
-use Rattle.std.proofs.Common.{◌≡◌, ◌⊎◌, ◌↔◌, inl, inr, ⊎_elim, ℕ, ◌^◌, Bool, true, false, List, [], ◌∷◌, ◌++◌, append_assoc, map, Option, Some, None, refl, sym, ◌∙◌, ap, subst, arith}
+use Rattle.std.proofs.Common.{◌≡◌, ◌⊎◌, ◌↔◌, inl, inr, ⊎_elim, ℕ, ◌^◌, Bool, true, false, List, [], ◌∷◌, ◌++◌, append_assoc, map, Option, Some, refl, sym, ◌∙◌, ap, subst, arith}
 use Rattle.std.proofs.lemmas.List.{append-nil}
 use Rattle.lab_base.specs.Counts.{Rose}
-use Rattle.phys_lab.specs.Labs.{Lab}
 use Rattle.plant.specs.Disks.{Disk, IsImage, ArePossible, disk}
 use Rattle.plant.specs.Events.{Event, Unread}
 use Rattle.plant.specs.Told.{Told}
 use Rattle.plant.specs.Worlds.{World, world_of}
 use Rattle.plant.specs.declared.step.Side.{Side}
 use Rattle.plant.specs.declared.step.Side.TheVariants.{A, B}
-use Rattle.virt_topo.specs.declared.experiment.Experiment.{Experiment}
 use Rattle.journal_model.proofs.Traces.{disk_push}
 use Rattle.lab_model.specs.OnCourse.{own_events}
 use Rattle.lab_model.proofs.TraceLaws.{world_push}
 use Rattle.records_model.specs.Labs.{LabState, lab_in}
 use Rattle.records_model.specs.Works.{IsSound}
 use Rattle.lab_state.specs.Texts.{the_texts}
-use Rattle.lab_audit.specs.Diff.{IsDiff, IsKnown, TellsSwitches}
 use Rattle.lab_audit.specs.declared.report.Line.{Line}
 use Rattle.lab_audit.proofs.Nothing as nothings
 use Rattle.script_text.specs.Drills.{drill_of}
@@ -29,7 +26,7 @@ use Rattle.lab_core.specs.Auditing.{Audits, line_of, no_lab, told, unread, no_me
 use Rattle.lab_core.specs.Breaks.{Breaks, stopped, failed, unanswered}
 use Rattle.lab_core.specs.Commands.{LabStep}
 use Rattle.lab_core.specs.LabSteps.{opened, not_opened}
-use Rattle.lab_core.specs.Moments.{AllStandFor, IsLabAt}
+use Rattle.lab_core.specs.Moments.{AllStandFor}
 use Rattle.lab_core.specs.Recovery.{BreaksOpening}
 use Rattle.lab_core.specs.Sessions.{OpenSwap, Session, Closed, Open, Setting, After, Terms}
 use Rattle.lab_core.specs.Tells.{opens_of}
