@@ -1,4 +1,4 @@
-ghost use Rattle.std.specs.Prelude.{◌≡◌, ◌↔◌, ◌≤◌, ℕ, List, None, IfSome, IsErrOf, IsTrue, true, false, Err, OnOk, OnErr};
+ghost use Rattle.std.specs.Prelude.{◌≡◌, ◌↔◌, ◌≤◌, ℕ, List, None, IsErrOf, IsTrue, true, false, Err, OnOk, OnErr};
 ghost use Rattle.lab_base.specs.Counts.{Rose};
 ghost use Rattle.plant.specs.declared.moment.Faults.{Faults as AnyFaults};
 ghost use Rattle.plant.specs.declared.step.Side.{Side as AnySide};
