@@ -1,5 +1,5 @@
 -- One trunk more between two switches.
-use Rattle.std.proofs.Common.{◌≡◌, ◌≢◌, ◌<◌, ◌≤◌, ◌+◌, ◌∙◌, ◌++◌, ◌∷◌, [], inl, inr, ℕ, suc, Bool, true, false, cond, List, length, get_or, All, refl, ap, sym, subst, arith}
+use Rattle.std.proofs.Common.{◌≡◌, ◌≢◌, ◌<◌, ◌≤◌, ◌+◌, ◌∙◌, ◌++◌, ◌∷◌, [], inl, inr, ℕ, suc, Bool, true, false, cond, List, length, map, get_or, All, refl, ap, sym, subst, arith}
 use Rattle.std.proofs.lemmas.Bool.{cases_lt}
 use Rattle.std.proofs.lemmas.List.{length-append, get_or-map}
 use Rattle.std.proofs.lemmas.List.Sums.{sum_by-append, sum_by-cons}
@@ -8,6 +8,7 @@ use Rattle.phys_lab.specs.Labs.{Lab}
 use Rattle.phys_lab.specs.Sides.{on_first_side}
 use Rattle.trunk_sums.specs.declared.crossing.Crossing.{Crossing}
 use Rattle.lab_base.specs.declared.ids.IfaceId.{IfaceId}
+use Rattle.lab_base.specs.declared.ids.SwitchId.{SwitchId}
 use Rattle.phys_lab.specs.declared.parts.Iface.{Iface}
 use Rattle.trunk_sums.specs.Crossed.{ups, downs, is_on, side_of, AreCrossed}
 use Rattle.trunk_sums.specs.Between.{on_side, crossing_of, no_iface, AreBetween}
@@ -144,3 +145,7 @@ crossed_of lab i j a b cs i_lt j_lt is_a is_b h =
       gone = λ t lt. (let x = from t in let z = h.gone t lt in omega (arith, x, z));
       come = λ t lt. (let x = from t in let z = h.come t lt in omega (arith, x, z));
     }
+
+-- the switch of an interface, read from a table of them
+pub switch_read : (lab : Lab) (switches : List SwitchId) (i : ℕ) (d : SwitchId) → switches ≡ map (λ iface. iface.switch) lab.ifaces → i < length lab.ifaces → get_or switches i d ≡ (get_or lab.ifaces i no_iface).switch
+switch_read lab switches i d same lt = ap (λ (l : List SwitchId). get_or l i d) same ∙ get_or-map (λ (iface : Iface). iface.switch) lab.ifaces i no_iface d lt

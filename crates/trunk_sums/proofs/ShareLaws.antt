@@ -23,8 +23,8 @@ use Rattle.trunk_sums.specs.Totals.{sum_below, used_of_all}
 use Rattle.trunk_sums.specs.Remade.{remade}
 use Rattle.trunk_sums.specs.Foreseen.{on_first, before_crossed, once_crossed}
 use Rattle.trunk_sums.proofs.CrossLaws.{up, down, up_other, down_other, up_this, down_this}
-use Rattle.trunk_sums.proofs.Replugged.{other_after, own_after, own_at, use_set}
-use Rattle.trunk_sums.proofs.SummedLaws.{Going, Trunk, is_in, share_is, trunk_at}
+use Rattle.trunk_sums.proofs.Replugged.{other_after, own_after, use_set}
+use Rattle.trunk_sums.proofs.SummedLaws.{Going, is_in, share_is, trunk_at}
 
 -- SUMS OVER NUMBERS
 sums_alike : (n : ℕ) (a b c d : ℕ → ℕ) → ((t : ℕ) → t < n → a t + b t ≡ c t + d t) → sum_below n a + sum_below n b ≡ sum_below n c + sum_below n d

@@ -1,9 +1,10 @@
 -- The trunks that part two switches.
-use Rattle.std.specs.Prelude.{◌≡◌, ◌<◌, ◌≤◌, ◌+◌, ◌*◌, ℕ, Bool, true, false, List, [], ◌∷◌, length, All, slice_index_or, if◌then◌else◌}
+use Rattle.std.specs.Prelude.{◌≡◌, ◌<◌, ◌≤◌, ◌+◌, ◌*◌, ℕ, Bool, true, false, List, [], ◌∷◌, length, map, All, slice_index_or, if◌then◌else◌}
 use Rattle.phys_lab.specs.Labs.{Lab}
 use Rattle.phys_lab.specs.Sides.{on_first_side}
 use Rattle.phys_lab.specs.declared.parts.Iface.{Iface}
 use Rattle.trunk_sums.specs.declared.crossing.Crossing.{Crossing}
+use Rattle.trunk_sums.specs.declared.table.Crossings.{Crossings}
 use Rattle.trunk_sums.specs.Crossed.{ups, downs}
 
 abbrev pub no_iface : Iface
@@ -28,6 +29,7 @@ pub record AreBetween (lab : Lab) (a b n : ℕ) (cs : List Crossing) : Type 0 wh
   pub gone : (t : ℕ) → t < n → downs t cs ≤ on_side lab t a
   pub come : (t : ℕ) → t < n → ups t cs + on_side lab t a ≤ 1
 
--- by pair of switches what is crossed: of a and b at 64 * a + b
-pub record IsTable (lab : Lab) (lists : List (List Crossing)) : Type 0 where
-  pub each : (a b : ℕ) → a < length lab.switches → b < length lab.switches → AreBetween lab a b (length lab.trunks) (slice_index_or lists (64 * a + b) [])
+-- by pair of switches what is crossed: of a and b at 64 * a + b; and by interface its switch
+pub record IsTable (lab : Lab) (x : Crossings) : Type 0 where
+  pub each : (a b : ℕ) → a < length lab.switches → b < length lab.switches → AreBetween lab a b (length lab.trunks) (slice_index_or x.lists.items (64 * a + b) [])
+  pub switches : x.switches.items ≡ map (λ i. i.switch) lab.ifaces

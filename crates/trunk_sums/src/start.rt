@@ -47,7 +47,8 @@ fn counts_of(
     requires plugged { length plugs.now ≡ length (end_nodes wiring.now.segments) }
     requires in_lab { All (λ i. i.0 < length lab.now.ifaces) plugs.now }
     ensures room { IfOk result (λ counts. length counts.items ≡ 64 * length wiring.now.segments) }
-    ensures each { IfOk result (λ counts. (s t : ℕ) → s < length wiring.now.segments → t < length lab.now.trunks → slice_index_or counts.items (64 * s + t) 0 ≡ plugs_on (side_of lab.now t) (own_plugs wiring.now.segments plugs.now s)) }
+    ensures each { IfOk result (λ counts. (s t : ℕ) → s < length wiring.now.segments → t < length lab.now.trunks
+        → slice_index_or counts.items (64 * s + t) 0 ≡ plugs_on (side_of lab.now t) (own_plugs wiring.now.segments plugs.now s)) }
 {
     // for the prover: it tells what every lab keeps
     let _kept = lab.range();

@@ -54,8 +54,11 @@ impl Sums {
         requires small { slice_index_or self.old.uses.items crossing.trunk 0 ≤ 9223372036854775808 }
         requires whole { self.old.total ≤ 9223372036854775808 }
         ensures counts { self.new.counts.items ≡ slice_set self.old.counts.items place (after crossing.onto (slice_index_or self.old.counts.items place 0)) }
-        ensures uses { self.new.uses.items ≡ slice_set self.old.uses.items crossing.trunk (slice_index_or self.old.uses.items crossing.trunk 0 - share row.ends (slice_index_or self.old.counts.items place 0) row.kbps + share row.ends (after crossing.onto (slice_index_or self.old.counts.items place 0)) row.kbps) }
-        ensures total { self.new.total ≡ self.old.total - share row.ends (slice_index_or self.old.counts.items place 0) row.kbps + share row.ends (after crossing.onto (slice_index_or self.old.counts.items place 0)) row.kbps }
+        ensures uses { self.new.uses.items ≡ slice_set self.old.uses.items crossing.trunk (slice_index_or self.old.uses.items crossing.trunk 0
+            - share row.ends (slice_index_or self.old.counts.items place 0) row.kbps
+            + share row.ends (after crossing.onto (slice_index_or self.old.counts.items place 0)) row.kbps) }
+        ensures total { self.new.total ≡ self.old.total - share row.ends (slice_index_or self.old.counts.items place 0) row.kbps
+            + share row.ends (after crossing.onto (slice_index_or self.old.counts.items place 0)) row.kbps }
         ensures bound { self.new.total ≤ self.old.total + 256 * 1000000000 }
     {
         let on = self.counts[place];
@@ -76,17 +79,24 @@ impl Sums {
         requires short { length crossed.now ≤ 64 }
         requires few { row.ends ≤ 256 }
         requires slow { row.kbps ≤ 1000000000 }
-        requires come { (t : ℕ) → t < length self.old.uses.items → slice_index_or self.old.counts.items (64 * row.segment + t) 0 + ups t crossed.now ≤ row.ends }
+        requires come { (t : ℕ) → t < length self.old.uses.items
+            → slice_index_or self.old.counts.items (64 * row.segment + t) 0 + ups t crossed.now ≤ row.ends }
         requires gone { (t : ℕ) → t < length self.old.uses.items → downs t crossed.now ≤ slice_index_or self.old.counts.items (64 * row.segment + t) 0 }
-        requires counted { (t : ℕ) → t < length self.old.uses.items → share row.ends (slice_index_or self.old.counts.items (64 * row.segment + t) 0) row.kbps ≤ slice_index_or self.old.uses.items t 0 }
+        requires counted { (t : ℕ) → t < length self.old.uses.items
+            → share row.ends (slice_index_or self.old.counts.items (64 * row.segment + t) 0) row.kbps ≤ slice_index_or self.old.uses.items t 0 }
         requires small { (t : ℕ) → t < length self.old.uses.items → slice_index_or self.old.uses.items t 0 ≤ 4096 * 1000000000 }
         requires summed { self.old.total ≡ sum_by (λ (u : ℕ). u) self.old.uses.items }
         requires whole { self.old.total ≤ 64 * (4096 * 1000000000) }
         ensures room { length self.new.counts.items ≡ length self.old.counts.items }
         ensures one_each { length self.new.uses.items ≡ length self.old.uses.items }
-        ensures row { (t : ℕ) → t < length self.old.uses.items → slice_index_or self.new.counts.items (64 * row.segment + t) 0 + downs t crossed.now ≡ slice_index_or self.old.counts.items (64 * row.segment + t) 0 + ups t crossed.now }
-        ensures others { (k : ℕ) → (k < 64 * row.segment) ⊎ (64 * row.segment + 64 ≤ k) → slice_index_or self.new.counts.items k 0 ≡ slice_index_or self.old.counts.items k 0 }
-        ensures uses { (t : ℕ) → t < length self.old.uses.items → slice_index_or self.new.uses.items t 0 + share row.ends (slice_index_or self.old.counts.items (64 * row.segment + t) 0) row.kbps ≡ slice_index_or self.old.uses.items t 0 + share row.ends (slice_index_or self.new.counts.items (64 * row.segment + t) 0) row.kbps }
+        ensures row { (t : ℕ) → t < length self.old.uses.items
+            → slice_index_or self.new.counts.items (64 * row.segment + t) 0 + downs t crossed.now
+            ≡ slice_index_or self.old.counts.items (64 * row.segment + t) 0 + ups t crossed.now }
+        ensures others { (k : ℕ) → (k < 64 * row.segment) ⊎ (64 * row.segment + 64 ≤ k)
+            → slice_index_or self.new.counts.items k 0 ≡ slice_index_or self.old.counts.items k 0 }
+        ensures uses { (t : ℕ) → t < length self.old.uses.items
+            → slice_index_or self.new.uses.items t 0 + share row.ends (slice_index_or self.old.counts.items (64 * row.segment + t) 0) row.kbps
+            ≡ slice_index_or self.old.uses.items t 0 + share row.ends (slice_index_or self.new.counts.items (64 * row.segment + t) 0) row.kbps }
         ensures summed { self.new.total ≡ sum_by (λ (u : ℕ). u) self.new.uses.items }
     {
         for crossing in crossed {

@@ -1,5 +1,5 @@
 // The trunks that part switches, by pair of switches.
-ghost use Rattle.std.specs.Prelude.{◌≡◌, ◌<◌, ◌+◌, ◌++◌, ℕ, [], length, IfOk, OnOk, slice_index_or};
+ghost use Rattle.std.specs.Prelude.{◌≡◌, ◌<◌, ◌+◌, ◌*◌, ◌++◌, ℕ, [], length, map, IfOk, OnOk, slice_index_or};
 ghost use Rattle.trunk_sums.specs.Between.{AreBetween, IsTable, crossing_of, no_iface};
 ghost use Rattle.trunk_sums.specs.Crossed.{AreCrossed};
 
@@ -7,7 +7,6 @@ use crate::crossing::Crossing;
 use lab_base::{IfaceId, Items, Memory, SwitchId, TrunkId};
 use phys_lab::Lab;
 use std::alloc::Global;
-use std::marker::Model;
 
 fn push_crossing(
     listed: &mut Items<Crossing>,
@@ -50,15 +49,8 @@ fn between(
 #[derive(Drop)]
 pub struct Crossings {
     lists: Vec<Items<Crossing>>,
-}
-
-impl Model for Crossings {
-    ghost use Rattle.std.specs.Prelude.{List};
-    ghost use Rattle.trunk_sums.specs.declared.crossing.Crossing.{Crossing as CrossingSeen};
-
-    ghost Value = { List (List CrossingSeen) };
-
-    ghost view = { λ a. a.lists.items };
+    /// By interface its switch.
+    switches: Vec<SwitchId>,
 }
 
 /// Adds the trunks between the switches of two numbers, where both numbers name one.
@@ -71,7 +63,8 @@ fn push_pair(
 ) -> Result<(), Memory>
     ensures length { OnOk result (length lists.new.items ≡ length lists.old.items + 1) }
     ensures kept { OnOk result ((k : ℕ) → k < length lists.old.items → slice_index_or lists.new.items k [] ≡ slice_index_or lists.old.items k []) }
-    ensures pair { OnOk result (from < length lab.now.switches → to < length lab.now.switches → AreBetween lab.now from to (length lab.now.trunks) (slice_index_or lists.new.items (length lists.old.items) [])) }
+    ensures pair { OnOk result (from < length lab.now.switches → to < length lab.now.switches
+        → AreBetween lab.now from to (length lab.now.trunks) (slice_index_or lists.new.items (length lists.old.items) [])) }
 {
     // for the prover: it tells what every lab keeps
     let _kept = lab.range();
@@ -87,7 +80,8 @@ fn push_pair(
 
 /// By pair of switches, the trunks between them.
 fn table_of(alloc: Global, lab: &Lab) -> Result<Vec<Items<Crossing>>, Memory>
-    ensures { IfOk result (λ lists. IsTable lab.now lists.items) }
+    ensures { IfOk result (λ lists. (a b : ℕ) → a < length lab.now.switches → b < length lab.now.switches
+        → AreBetween lab.now a b (length lab.now.trunks) (slice_index_or lists.items (64 * a + b) [])) }
 {
     // for the prover: it tells what every lab keeps
     let _kept = lab.range();
@@ -98,12 +92,15 @@ fn table_of(alloc: Global, lab: &Lab) -> Result<Vec<Items<Crossing>>, Memory>
     Ok(lists)
 }
 
-fn switch_of(lab: &Lab, plug: IfaceId) -> SwitchId
-    requires { plug.0 < length lab.now.ifaces }
-    ensures is { result.0 ≡ (slice_index_or lab.now.ifaces plug.0 no_iface).switch.0 }
-    ensures within { result.0 < length lab.now.switches }
+/// By interface its switch.
+fn switches_of(alloc: Global, lab: &Lab) -> Result<Vec<SwitchId>, Memory>
+    ensures { IfOk result (λ switches. switches.items ≡ map (λ i. i.switch) lab.now.ifaces) }
 {
-    lab.ifaces()[plug.0 as usize].switch
+    let mut switches = Vec::new(alloc);
+    for iface in lab.ifaces() {
+        switches.push(iface.switch)?;
+    }
+    Ok(switches)
 }
 
 impl Crossings {
@@ -113,13 +110,27 @@ impl Crossings {
     {
         Ok(Crossings {
             lists: table_of(alloc, lab)?,
+            switches: switches_of(alloc, lab)?,
         })
+    }
+
+    /// The switch of an interface.
+    #[inline(always)]
+    fn switch_of(&self, lab: &Lab, plug: IfaceId) -> SwitchId
+        requires table { IsTable lab.now self.now }
+        requires plug { plug.0 < length lab.now.ifaces }
+        ensures is { result.0 ≡ (slice_index_or lab.now.ifaces plug.0 no_iface).switch.0 }
+        ensures within { result.0 < length lab.now.switches }
+    {
+        // for the prover: it tells that the switches of interfaces are of the lab
+        let _linked = lab.ifaces();
+        self.switches[plug.0 as usize]
     }
 
     /// The list at a place.
     #[inline(always)]
     fn of(&self, place: usize) -> &[Crossing]
-        ensures { result.now ≡ slice_index_or self.now place [] }
+        ensures { result.now ≡ slice_index_or self.now.lists.items place [] }
     {
         match self.lists.get(place) {
             Some(list) => list.as_slice(),
@@ -135,8 +146,8 @@ impl Crossings {
         requires to { to.0 < length lab.now.ifaces }
         ensures { AreCrossed lab.now from to result.now }
     {
-        let one = switch_of(lab, from);
-        let other = switch_of(lab, to);
+        let one = self.switch_of(lab, from);
+        let other = self.switch_of(lab, to);
         self.of(64 * one.0 as usize + other.0 as usize)
     }
 }

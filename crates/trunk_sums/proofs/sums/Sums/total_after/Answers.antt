@@ -1,4 +1,4 @@
-use Rattle.std.proofs.Common.{◌≡◌, ◌<◌, ◌≤◌, ◌+◌, ◌∙◌, ℕ, List, length, take, get_or, ap, sym, subst, arith}
+use Rattle.std.proofs.Common.{◌≡◌, ◌<◌, ◌+◌, ◌∙◌, ℕ, List, length, take, get_or, ap, sym, subst, arith}
 use Rattle.std.proofs.Math.ListN.{set}
 use Rattle.std.proofs.lemmas.List.{get_or-take, length-take-le}
 use Rattle.std.proofs.lemmas.List.Elements.{All-take}
@@ -6,7 +6,6 @@ use Rattle.lab_base.specs.declared.ids.IfaceId.{IfaceId}
 use Rattle.phys_lab.proofs.TrunkCount.{few_trunks}
 use Rattle.phys_lab.specs.Labs.{Lab}
 use Rattle.virt_topo.specs.declared.wiring.Wiring.{Wiring}
-use Rattle.virt_topo.specs.Ends.{end_nodes}
 use Rattle.trunk_sums.specs.declared.crossing.Crossing.{Crossing}
 use Rattle.trunk_sums.specs.declared.made.Change.{Change}
 use Rattle.trunk_sums.specs.declared.sums.Sums.{Sums}
