@@ -1,10 +1,10 @@
 -- The loads noted on an interface, and those that it may still bear.
-use Rattle.std.proofs.Common.{◌≡◌, ◌≢◌, ◌≤◌, ◌<◌, ◌+◌, ◌-◌, ◌∷◌, [], ◌++◌, ◌∙◌, inl, inr, ℕ, suc, zero, List, length, get_or, Bool, true, false, cond, eqb, not, nat_le, ◌&&◌, ◌||◌, All, refl, ap, sym, subst, arith}
+use Rattle.std.proofs.Common.{◌≡◌, ◌≢◌, ◌≤◌, ◌<◌, ◌+◌, ◌-◌, ◌∷◌, [], ◌∙◌, inl, inr, ℕ, suc, List, Bool, true, false, cond, eqb, not, nat_le, ◌&&◌, ◌||◌, All, refl, ap, sym, arith}
 use Rattle.std.specs.Prelude.{max, sum_by}
 use Rattle.std.specs.List.{list_all}
 use Rattle.std.proofs.lemmas.Bool.{cases_Bool, and_parts, eqb-true, ne_eqb, eq-eqb, leb-true}
 use Rattle.std.proofs.lemmas.Bool.Decides.{nat_tests}
-use Rattle.std.proofs.lemmas.List.Sums.{sum_by-cons, sum_by-append}
+use Rattle.std.proofs.lemmas.List.Sums.{sum_by-cons}
 use Rattle.virt_topo.specs.declared.loads.Load.{Load}
 use Rattle.lab_model.specs.Rules.{may_join, may_bear}
 use Rattle.node_maps.specs.Indexed.{noted, newest, serves}

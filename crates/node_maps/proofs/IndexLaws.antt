@@ -1,10 +1,10 @@
 -- The interface rule by the interfaces of each node.
-use Rattle.std.proofs.Common.{◌≡◌, ◌≤◌, ◌<◌, ◌+◌, ◌∷◌, [], ◌++◌, ◌∙◌, ℕ, suc, List, length, get_or, take, replicate, Bool, true, false, cond, eqb, ◌==◌, not, nat_le, ◌-◌, ◌&&◌, ◌||◌, inl, inr, Option, Some, All, refl, ap, sym, subst, arith, get_or-set_other, get_or-set_same}
+use Rattle.std.proofs.Common.{◌≡◌, ◌≤◌, ◌<◌, ◌+◌, ◌∷◌, [], ◌++◌, ◌∙◌, ℕ, suc, List, length, get_or, take, Bool, true, false, cond, eqb, not, nat_le, ◌-◌, ◌&&◌, ◌||◌, inl, inr, Option, Some, All, refl, ap, sym, subst, arith, get_or-set_other, get_or-set_same}
 use Rattle.std.proofs.Math.ListN.{set}
 use Rattle.std.specs.List.{find, list_all}
 use Rattle.std.specs.Option.{option_map}
 use Rattle.std.proofs.lemmas.Bool.{cond_both, cond-false, both_ways, cases_eq, eq-eqb, ne_eqb, and_parts, leb-true}
-use Rattle.std.proofs.lemmas.List.{append-nil, take_more, length-take-le, length-set, length-replicate, get_or-replicate}
+use Rattle.std.proofs.lemmas.List.{append-nil, take_more, length-take-le}
 use Rattle.std.proofs.lemmas.List.Elements.{All-cons}
 use Rattle.lab_base.specs.declared.ids.IfaceId.{IfaceId}
 use Rattle.lab_base.specs.declared.ids.NodeId.{NodeId}

@@ -1,5 +1,5 @@
 -- The places and plugs on which the first interface depends.
-use Rattle.std.proofs.Common.{◌≡◌, ◌<◌, ◌+◌, ◌∷◌, ◌++◌, [], ◌∙◌, ℕ, suc, List, length, get_or, Bool, true, false, cond, eqb, ◌==◌, ◌&&◌, Option, Some, refl, ap, arith}
+use Rattle.std.proofs.Common.{◌≡◌, ◌<◌, ◌+◌, ◌∷◌, ◌++◌, [], ℕ, suc, List, length, get_or, Bool, true, false, cond, eqb, ◌==◌, ◌&&◌, Option, Some, refl, ap, arith}
 use Rattle.std.proofs.lemmas.Bool.{and_parts, eqb-true}
 use Rattle.lab_base.specs.declared.ids.IfaceId.{IfaceId}
 use Rattle.lab_base.specs.declared.ids.NodeId.{NodeId}

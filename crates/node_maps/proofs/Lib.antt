@@ -10,6 +10,7 @@ mod Worked
 mod TableLaws
 pub mod OrderLaws
 mod CandidateLaws
+mod KindLaws
 pub mod PlugLaws
 pub mod Assembled
 pub mod MovedLaws

@@ -6,7 +6,7 @@ use Rattle.std.specs.Option.{option_map, option_map_or}
 use Rattle.virt_topo.specs.declared.loads.Load.{Load}
 use Rattle.virt_topo.specs.Loads.{loads_from, loads_of}
 use Rattle.virt_topo.specs.Loads as wires
-use Rattle.std.proofs.lemmas.Bool.{cond_both, and_parts, and_from}
+use Rattle.std.proofs.lemmas.Bool.{cond_both}
 use Rattle.std.proofs.lemmas.Option.{option_and_then_some, slice_get-get_or}
 use Rattle.std.proofs.lemmas.List.{take-take, take_at, take_all, get_or-take, get_or_push, get_or-map}
 use Rattle.std.proofs.lemmas.List.Elements.{All-append, All-cons}
@@ -20,7 +20,7 @@ use Rattle.virt_topo.specs.declared.wiring.Wiring.{Wiring}
 use Rattle.virt_topo.specs.Soundness.{IsSound}
 use Rattle.lab_model.specs.Shapes.{Place}
 use Rattle.lab_model.specs.Uses.{no_iface, iface_at}
-use Rattle.lab_model.specs.Rules.{no_place, no_load, end_node, keeps_f5, Laid, loads_on, may_bear, load_at, earlier}
+use Rattle.lab_model.specs.Rules.{no_place, no_load, end_node, keeps_f5, Laid, load_at}
 use Rattle.lab_model.specs.Feasible.{AllPass}
 use Rattle.node_maps.specs.declared.ends.End.{End}
 use Rattle.node_maps.specs.NodeMaps.{end_of, ends_from, ends_of, load_of, may_take, first_iface, with_plug, laid_from, plugs_in, plugs_from, plugs_of}

@@ -1,7 +1,7 @@
 -- The table of loads, with one more, and with none.
-use Rattle.std.proofs.Common.{◌≡◌, ◌≤◌, ◌<◌, ◌+◌, ◌∷◌, [], ◌++◌, ◌∙◌, inl, inr, ℕ, suc, zero, List, length, get_or, map, Bool, true, false, cond, eqb, ◌&&◌, Some, None, All, refl, ap, sym, subst, arith, get_or-set_other, get_or-set_same}
-use Rattle.std.specs.Prelude.{max, sum_by, replicate, ◌==◌, if◌then◌else◌}
-use Rattle.std.specs.List.{list_all, list_any}
+use Rattle.std.proofs.Common.{◌≡◌, ◌≤◌, ◌<◌, ◌+◌, ◌∷◌, [], ◌++◌, ◌∙◌, inl, inr, ℕ, suc, List, length, get_or, Bool, true, false, cond, eqb, ◌&&◌, All, refl, ap, sym, subst, arith, get_or-set_other, get_or-set_same}
+use Rattle.std.specs.Prelude.{replicate, ◌==◌, if◌then◌else◌}
+use Rattle.std.specs.List.{list_any}
 use Rattle.std.proofs.Math.ListN.{set}
 use Rattle.std.proofs.lemmas.Bool.{cases_eq, eq-eqb, ne_eqb, and_parts, or_parts, cases_Bool}
 use Rattle.std.proofs.lemmas.List.{length-set, length-replicate, get_or-replicate, append-nil}

@@ -4,7 +4,6 @@ use Rattle.lab_base.specs.declared.ids.IfaceId.{IfaceId}
 use Rattle.phys_lab.specs.declared.free.Free.{Free}
 use Rattle.phys_lab.specs.Labs.{Lab}
 use Rattle.virt_topo.specs.declared.wiring.Wiring.{Wiring}
-use Rattle.virt_topo.specs.declared.mapping.Mapping.{Mapping}
 use Rattle.virt_topo.specs.Wirings.{virt_at}
 use Rattle.lab_model.specs.Shapes.{Place, node_at}
 use Rattle.lab_model.specs.Rules.{agree, guests, is_of_one_type, keeps_f6, keeps_f7, keeps_f8, no_place}

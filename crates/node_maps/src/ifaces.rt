@@ -105,10 +105,13 @@ impl Given {
         requires used { iface.id.0 < length self.old.used.items }
         requires last { iface.id.0 < length self.old.last.items }
         requires segment { end.segment < 512 }
-        requires serves { serves (slice_index_or self.old.used.items iface.id.0 0) (slice_index_or self.old.last.items iface.id.0 0) iface.kbps (load_of end) ≡ true }
+        requires serves { serves (slice_index_or self.old.used.items iface.id.0 0) (slice_index_or self.old.last.items iface.id.0 0) iface.kbps (load_of end)
+            ≡ true }
         ensures plugs { OnOk result (self.new.plugs ≡ self.old.plugs ++ iface.id ∷ []) }
-        ensures used { OnOk result (self.new.used.items ≡ slice_set self.old.used.items iface.id.0 (if end.multiplexed then slice_index_or self.old.used.items iface.id.0 0 + end.kbps else 18446744073709551615)) }
-        ensures last { OnOk result (self.new.last.items ≡ (if end.multiplexed then slice_set self.old.last.items iface.id.0 (end.segment + 1) else self.old.last.items)) }
+        ensures used { OnOk result (self.new.used.items ≡ slice_set self.old.used.items iface.id.0
+            (if end.multiplexed then slice_index_or self.old.used.items iface.id.0 0 + end.kbps else 18446744073709551615)) }
+        ensures last { OnOk result (self.new.last.items
+            ≡ (if end.multiplexed then slice_set self.old.last.items iface.id.0 (end.segment + 1) else self.old.last.items)) }
     {
         let at = iface.id.0 as usize;
         self.plugs.push(iface.id)?;

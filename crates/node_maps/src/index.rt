@@ -42,7 +42,8 @@ fn no_ifaces(alloc: Global, nodes: usize) -> Result<Vec<Items<NodeIface>>, Memor
 
 fn add_iface(lists: &mut Vec<Items<NodeIface>>, number: u16, iface: &Iface) -> Result<(), Memory>
     requires { iface.now.node.0 < length lists.old.items }
-    ensures { OnOk result (lists.new.items ≡ slice_set lists.old.items iface.now.node.0 (slice_index_or lists.old.items iface.now.node.0 [] ++ record { id = record { 0 = number }; kbps = iface.now.kbps } ∷ [])) }
+    ensures { OnOk result (lists.new.items ≡ slice_set lists.old.items iface.now.node.0
+        (slice_index_or lists.old.items iface.now.node.0 [] ++ record { id = record { 0 = number }; kbps = iface.now.kbps } ∷ [])) }
 {
     lists[iface.node.0 as usize].push(NodeIface {
         id: IfaceId(number),
@@ -60,7 +61,8 @@ fn add_used(
 ) -> Result<(), Memory>
     requires one_each { length used.now ≡ length lists.old.items }
     requires node { iface.now.node.0 < length lists.old.items }
-    ensures { OnOk result (lists.new.items ≡ (if slice_index_or used.now iface.now.node.0 false then slice_set lists.old.items iface.now.node.0 (slice_index_or lists.old.items iface.now.node.0 [] ++ record { id = record { 0 = number }; kbps = iface.now.kbps } ∷ []) else lists.old.items)) }
+    ensures { OnOk result (lists.new.items ≡ (if slice_index_or used.now iface.now.node.0 false then slice_set lists.old.items iface.now.node.0
+        (slice_index_or lists.old.items iface.now.node.0 [] ++ record { id = record { 0 = number }; kbps = iface.now.kbps } ∷ []) else lists.old.items)) }
 {
     if used[iface.node.0 as usize] {
         add_iface(lists, number, iface)?;
@@ -72,7 +74,8 @@ fn add_used(
 fn lists_of(alloc: Global, lab: &Lab, used: &[bool]) -> Result<Vec<Items<NodeIface>>, Memory>
     requires { length used.now ≡ length lab.now.nodes }
     ensures nodes { IfOk result (λ lists. length lists.items ≡ length lab.now.nodes) }
-    ensures each { IfOk result (λ lists. (node : ℕ) → slice_index_or used.now node false ≡ true → slice_index_or lists.items node [] ≡ ifaces_of 0 lab.now.ifaces node) }
+    ensures each { IfOk result (λ lists. (node : ℕ) → slice_index_or used.now node false ≡ true
+        → slice_index_or lists.items node [] ≡ ifaces_of 0 lab.now.ifaces node) }
 {
     let _kept = lab.range();
     let ifaces = lab.ifaces();
@@ -96,7 +99,8 @@ fn mark(used: &mut Vec<bool>, node: NodeId)
 /// By node whether it has one of the places.
 fn used_nodes(alloc: Global, nodes: usize, places: &[Place]) -> Result<Vec<bool>, Memory>
     ensures one_each { IfOk result (λ used. length used.items ≡ nodes) }
-    ensures used { IfOk result (λ used. (k : ℕ) (d : PlaceSeen) → k < length places.now → (slice_index_or places.now k d).0.0 < nodes → slice_index_or used.items (slice_index_or places.now k d).0.0 false ≡ true) }
+    ensures used { IfOk result (λ used. (k : ℕ) (d : PlaceSeen) → k < length places.now → (slice_index_or places.now k d).0.0 < nodes
+        → slice_index_or used.items (slice_index_or places.now k d).0.0 false ≡ true) }
 {
     let mut used = vec![in alloc; false; nodes]?;
     for place in places {

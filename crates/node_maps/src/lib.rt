@@ -4,6 +4,7 @@
 mod ends;
 mod ifaces;
 mod index;
+mod kinds;
 mod lists;
 mod mapped;
 mod mapper;

@@ -1,8 +1,10 @@
 // The candidates of a virtual node.
 ghost use Rattle.std.specs.Prelude.{◌≡◌, ◌<◌, ◌≤◌, ◌++◌, map, filter, length, All, IfOk, OnOk, false, slice_index_or};
 ghost use Rattle.lab_model.specs.Shapes.{IsFreeOf, node_at};
+ghost use Rattle.virt_topo.specs.Wirings.{virt_at};
 ghost use Rattle.node_maps.specs.NodeMaps.{lab_places, is_candidate, candidates as candidates_in};
 
+use crate::kinds::Kinds;
 use crate::lists::{Candidates, Place};
 use feas::{is_fixed_at, suits};
 use lab_base::{Items, Memory, NodeId};
@@ -79,8 +81,46 @@ fn candidates_of(
     Ok(listed)
 }
 
+/// The candidates of the virtual node of a number.
+fn candidates_at(
+    alloc: Global,
+    lab: &Lab,
+    free: &Free,
+    wiring: &Wiring,
+    virt: usize,
+    places: &[Place],
+) -> Result<Items<Place>, Memory>
+    requires free { IsFreeOf lab.now free.now }
+    requires virt { virt < length wiring.now.nodes }
+    requires places { All (λ p. p.0.0 < length lab.now.nodes) places.now }
+    ensures { IfOk result (λ listed. listed ≡ filter (λ p. is_candidate lab.now free.now wiring.now (virt_at wiring.now virt) p) places.now) }
+{
+    let asked = &wiring.nodes.as_slice()[virt];
+    candidates_of(alloc, lab, free, wiring, asked, places)
+}
+
+/// The candidates of each of these virtual nodes.
+fn lists_of(
+    alloc: Global,
+    lab: &Lab,
+    free: &Free,
+    wiring: &Wiring,
+    ones: &[usize],
+    places: &[Place],
+) -> Result<Vec<Items<Place>>, Memory>
+    requires free { IsFreeOf lab.now free.now }
+    requires ones { All (λ v. v < length wiring.now.nodes) ones.now }
+    requires places { All (λ p. p.0.0 < length lab.now.nodes) places.now }
+    ensures { IfOk result (λ all. all.items ≡ map (λ v. filter (λ p. is_candidate lab.now free.now wiring.now (virt_at wiring.now v) p) places.now) ones.now) }
+{
+    let mut lists = Vec::new(alloc);
+    for one in ones {
+        lists.push(candidates_at(alloc, lab, free, wiring, *one, places)?)?;
+    }
+    Ok(lists)
+}
+
 /// By virtual node, its candidates in the lab's order: the free places that it suits and where it may be. The other members of its class don't count.
-#[tactic(auto, unfolding(crate::specs::NodeMaps::candidates))]
 pub fn candidates(
     alloc: Global,
     lab: &Lab,
@@ -91,9 +131,7 @@ pub fn candidates(
     ensures { IfOk result (λ listed. listed ≡ candidates_in lab.now free.now wiring.now) }
 {
     let places = places_of(alloc, lab)?;
-    let mut lists = Vec::new(alloc);
-    for virt in wiring.nodes.as_slice() {
-        lists.push(candidates_of(alloc, lab, free, wiring, virt, &places)?)?;
-    }
-    Ok(Candidates::of_lists(lists))
+    let kinds = Kinds::of(alloc, wiring.nodes.as_slice())?;
+    let lists = lists_of(alloc, lab, free, wiring, &kinds.ones, &places)?;
+    Ok(Candidates::of_kinds(lists, kinds.kinds))
 }

@@ -3,10 +3,9 @@ use Rattle.std.specs.Option.{option_and_then}
 use Rattle.std.proofs.Math.Seq.{drop-cons}
 use Rattle.std.proofs.lemmas.List.{get_or_default}
 use Rattle.virt_topo.specs.declared.loads.Load.{Load}
-use Rattle.lab_model.specs.Rules.{Laid}
 use Rattle.node_maps.specs.declared.ends.End.{End}
-use Rattle.node_maps.specs.NodeMaps.{with_plug, laid_from}
-use Rattle.node_maps.specs.Indexed.{Adds, Marks}
+use Rattle.node_maps.specs.NodeMaps.{laid_from}
+use Rattle.node_maps.specs.Indexed.{Adds}
 use Rattle.node_maps.proofs.PlugLaws.{more_all}
 use Rattle.node_maps.proofs.ifaces.serve.Goals as goal
 

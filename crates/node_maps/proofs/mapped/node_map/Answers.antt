@@ -1,4 +1,4 @@
-use Rattle.std.proofs.Common.{◌∙◌, [], List, ap, sym, subst}
+use Rattle.std.proofs.Common.{◌∙◌, List, ap, sym, subst}
 use Rattle.lab_model.specs.Shapes.{Place, IsShaped}
 use Rattle.node_maps.specs.NodeMaps.{plugs_from}
 use Rattle.node_maps.proofs.Shaped.{shaped}

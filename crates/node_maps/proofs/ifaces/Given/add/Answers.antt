@@ -1,6 +1,6 @@
-use Rattle.std.proofs.Common.{◌≡◌, ◌<◌, ◌≤◌, ◌∙◌, ◌++◌, ◌∷◌, [], ◌&&◌, ◌==◌, ℕ, List, Bool, true, Option, Some, None, get_or, All, length, refl, ap, sym, subst, arith}
+use Rattle.std.proofs.Common.{◌≡◌, ◌<◌, ◌≤◌, ◌∙◌, ◌++◌, ◌∷◌, [], ◌==◌, List, true, Option, Some, None, get_or, All, length, refl, ap, sym, subst, arith}
 use Rattle.std.specs.Prelude.{slice_get}
-use Rattle.std.specs.List.{find, list_all}
+use Rattle.std.specs.List.{find}
 use Rattle.std.specs.Option.{option_map, option_map_or}
 use Rattle.std.proofs.lemmas.Bool.{and_parts}
 use Rattle.std.proofs.lemmas.Option.{slice_get_read}
@@ -10,11 +10,11 @@ use Rattle.phys_lab.specs.Labs.{Lab}
 use Rattle.virt_topo.specs.declared.loads.Load.{Load}
 use Rattle.lab_model.specs.Shapes.{Place}
 use Rattle.lab_model.specs.Uses.{iface_at}
-use Rattle.lab_model.specs.Rules.{Laid, loads_on, may_bear, may_join, no_place}
+use Rattle.lab_model.specs.Rules.{Laid, loads_on, may_bear, no_place}
 use Rattle.node_maps.specs.declared.ends.End.{End}
 use Rattle.node_maps.specs.declared.index.NodeIface.{NodeIface}
 use Rattle.node_maps.specs.NodeMaps.{load_of, may_take, first_iface, with_plug}
-use Rattle.node_maps.specs.Indexed.{ifaces_of, serves, Marks, IsNext}
+use Rattle.node_maps.specs.Indexed.{ifaces_of, serves}
 use Rattle.node_maps.proofs.IndexLaws.{number_of, first_is, list_within, on_all}
 use Rattle.node_maps.proofs.Bearing.{all_multiplexed, joined_all}
 use Rattle.node_maps.proofs.PlugLaws.{adds}

@@ -1,4 +1,4 @@
-use Rattle.std.proofs.Common.{◌≡◌, ◌∙◌, ℕ, List, true, ◌==◌, get_or, ap, sym, refl, subst}
+use Rattle.std.proofs.Common.{◌∙◌, List, ◌==◌, ap, refl}
 use Rattle.std.specs.List.{list_any}
 use Rattle.lab_base.specs.declared.ids.IfaceId.{IfaceId}
 use Rattle.node_maps.proofs.TableLaws.{marks_cleared}
