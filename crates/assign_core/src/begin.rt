@@ -56,7 +56,8 @@ fn any_plugs(alloc: Global, lab: &Lab, ends: usize) -> Result<Option<Items<Iface
 /// interfaces.
 pub(crate) fn first_choice(alloc: Global, moves: &Moves) -> Result<Option<Mapping>, Memory>
     requires moves { IsMoves moves.now }
-    ensures choice { IfOk result (λ found. IfSome found (λ m. IsChoice (candidates moves.now.setting.mapper.lab.now moves.now.setting.mapper.free.now moves.now.setting.mapper.wiring.now) m.places)) }
+    ensures choice { IfOk result (λ found. IfSome found (λ m. IsChoice (candidates moves.now.setting.mapper.lab.now moves.now.setting.mapper.free.now
+        moves.now.setting.mapper.wiring.now) m.places)) }
     ensures shaped { IfOk result (λ found. IfSome found (IsShaped moves.now.setting.mapper.lab.now moves.now.setting.mapper.wiring.now)) }
     ensures none { IfOk result (λ found. found ≡ None → (number : AnyNumber) → node_maps (sought_of moves.now number) ≡ []) }
 {

@@ -59,7 +59,9 @@ fn weigh(
     ensures chosen { OnOk result (IsChosen moves.now.setting chosen.new) }
     ensures places { OnOk result (chosen.new.board.mapping.places ≡ chosen.old.board.mapping.places) }
     ensures priced { IfOk result (λ after. IfSome after (IsPriced (sought_of moves.now rule.now.number))) }
-    ensures best { IfOk result (λ after. (maps : List MappingValue) → IsBest (sought_of moves.now rule.now.number) maps best → IsBest (sought_of moves.now rule.now.number) (maps ++ cons_option (mapped (sought_of moves.now rule.now.number) chosen.old.board.mapping.places) []) after) }
+    ensures best { IfOk result (λ after. (maps : List MappingValue) → IsBest (sought_of moves.now rule.now.number) maps best
+        → IsBest (sought_of moves.now rule.now.number)
+        (maps ++ cons_option (mapped (sought_of moves.now rule.now.number) chosen.old.board.mapping.places) []) after) }
 {
     if !chosen.is_map(alloc, &moves.setting)? {
         return Ok(best);
@@ -88,7 +90,10 @@ fn explore(
     ensures chosen { OnOk result (IsChosen moves.now.setting chosen.new) }
     ensures places { OnOk result (take begun chosen.new.board.mapping.places ≡ take begun chosen.old.board.mapping.places) }
     ensures priced { IfOk result (λ after. IfSome after (IsPriced (sought_of moves.now rule.now.number))) }
-    ensures best { IfOk result (λ after. (maps : List MappingValue) → IsBest (sought_of moves.now rule.now.number) maps best → IsBest (sought_of moves.now rule.now.number) (maps ++ filter_map (λ p. mapped (sought_of moves.now rule.now.number) p) (all_choices (take begun chosen.old.board.mapping.places ∷ []) (drop begun (choices (sought_of moves.now rule.now.number))))) after) }
+    ensures best { IfOk result (λ after. (maps : List MappingValue) → IsBest (sought_of moves.now rule.now.number) maps best
+        → IsBest (sought_of moves.now rule.now.number)
+        (maps ++ filter_map (λ p. mapped (sought_of moves.now rule.now.number) p)
+        (all_choices (take begun chosen.old.board.mapping.places ∷ []) (drop begun (choices (sought_of moves.now rule.now.number))))) after) }
 {
     if begun == moves.candidates.len() {
         let after = weigh(alloc, moves, rule, chosen, best)?;
@@ -137,7 +142,8 @@ pub fn best_of_all(
     requires free { IsFreeOf lab.now free.now }
     requires sound { IsSound wiring.now }
     requires few { count (choices (sought lab.now free.now wiring.now rule.now.number)) ≤ 65536 }
-    ensures { IfOk result (λ best. IsCheapestOf (sought lab.now free.now wiring.now rule.now.number) (node_maps (sought lab.now free.now wiring.now rule.now.number)) best) }
+    ensures { IfOk result (λ best. IsCheapestOf (sought lab.now free.now wiring.now rule.now.number)
+        (node_maps (sought lab.now free.now wiring.now rule.now.number)) best) }
 {
     let prepared = Prepared::of(alloc, lab, free, wiring)?;
     let moves = prepared.moves(lab, free, wiring);

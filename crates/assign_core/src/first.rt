@@ -40,7 +40,8 @@ fn fits(alloc: Global, placing: &Placing, places: &[Place], node: NodeId) -> Res
     requires placing { IsPlacing placing.now }
     requires few { length places.now ≤ length placing.now.wiring.now.nodes }
     requires node { node.0 < length placing.now.lab.now.nodes }
-    ensures { IfOk result (λ yes. yes ≡ (may_share_in placing.now.lab.now placing.now.wiring.now places.now node.0 && is_some (plugs_of placing.now.lab.now placing.now.wiring.now places.now))) }
+    ensures { IfOk result (λ yes. yes ≡ (may_share_in placing.now.lab.now placing.now.wiring.now places.now node.0
+        && is_some (plugs_of placing.now.lab.now placing.now.wiring.now places.now))) }
 {
     let nodes = placing.wiring.nodes.as_slice();
     if !may_share(alloc, placing.lab, nodes, places, node)? {
@@ -58,7 +59,8 @@ fn first_fitting(
 ) -> Result<Option<Place>, Memory>
     requires placing { IsPlacing placing.now }
     requires more { length places.now < length placing.now.candidates.now }
-    ensures { IfOk result (λ place. place ≡ find (λ p. fits_next placing.now.lab.now placing.now.wiring.now places.now p) (slice_index_or placing.now.candidates.now (length places.now) [])) }
+    ensures { IfOk result (λ place. place
+        ≡ find (λ p. fits_next placing.now.lab.now placing.now.wiring.now places.now p) (slice_index_or placing.now.candidates.now (length places.now) [])) }
 {
     for place in placing.candidates.of(places.len()) {
         let more = with_more(alloc, places, *place)?;
@@ -74,7 +76,8 @@ fn first_fitting(
 pub(crate) fn fit_by(alloc: Global, placing: &Placing) -> Result<Option<Mapping>, Memory>
     requires placing { IsPlacing placing.now }
     ensures found { IfOk result (λ found. found ≡ first_fit_of placing.now.lab.now placing.now.free.now placing.now.wiring.now) }
-    ensures choice { IfOk result (λ found. IfSome found (λ m. IsChoice (candidates_in placing.now.lab.now placing.now.free.now placing.now.wiring.now) m.places)) }
+    ensures choice { IfOk result (λ found. IfSome found (λ m. IsChoice (candidates_in placing.now.lab.now placing.now.free.now placing.now.wiring.now)
+        m.places)) }
 {
     let mut places = Vec::new(alloc);
     for _virt in 0..placing.candidates.len() {

@@ -71,7 +71,8 @@ fn any_cheaper_move(
     ensures cheaper { IfOk result (λ yes. yes ≡ true → at.new.cost < at.old.cost) }
     ensures same { IfOk result (λ yes. yes ≡ false → at.new.board.mapping ≡ at.old.board.mapping) }
     ensures same_cost { IfOk result (λ yes. yes ≡ false → at.new.cost ≡ at.old.cost) }
-    ensures none { IfOk result (λ yes. yes ≡ false → (v : ℕ) → v < length (choices (sought_of moves.now rule.now.number)) → NoMove (sought_of moves.now rule.now.number) at.old.board.mapping v) }
+    ensures none { IfOk result (λ yes. yes ≡ false → (v : ℕ) → v < length (choices (sought_of moves.now rule.now.number))
+        → NoMove (sought_of moves.now rule.now.number) at.old.board.mapping v) }
     ensures rows { OnOk result (AreRows (sought_of moves.now rule.now.number) at.old.board.mapping rows.new.items) }
 {
     for node in 0..rows.len() {
@@ -87,7 +88,8 @@ fn passes(moves: &Moves, virt: usize, place: Place) -> bool
     requires moves { IsMoves moves.now }
     requires virt { virt < length moves.now.setting.mapper.wiring.now.nodes }
     requires node { place.0.0 < length moves.now.setting.mapper.lab.now.nodes }
-    ensures { result ≡ is_candidate moves.now.setting.mapper.lab.now moves.now.setting.mapper.free.now moves.now.setting.mapper.wiring.now (virt_at moves.now.setting.mapper.wiring.now virt) place }
+    ensures { result ≡ is_candidate moves.now.setting.mapper.lab.now moves.now.setting.mapper.free.now moves.now.setting.mapper.wiring.now
+        (virt_at moves.now.setting.mapper.wiring.now virt) place }
 {
     let mapper = moves.setting.mapper;
     let number = place.0.0 as usize;
@@ -126,7 +128,8 @@ fn cheaper_exchange(
     ensures same { IfOk result (λ yes. yes ≡ false → at.new.board.mapping ≡ at.old.board.mapping) }
     ensures same_cost { IfOk result (λ yes. yes ≡ false → at.new.cost ≡ at.old.cost) }
     ensures none { IfOk result (λ yes. yes ≡ false → NoExchange (sought_of moves.now rule.now.number) at.old.board.mapping first second) }
-    ensures weighed { IfOk result (λ yes. yes ≡ false → at.new.weighed ≡ true → IsExchangeNoLess (sought_of moves.now rule.now.number) at.old.board.mapping first second) }
+    ensures weighed { IfOk result (λ yes. yes ≡ false → at.new.weighed ≡ true
+        → IsExchangeNoLess (sought_of moves.now rule.now.number) at.old.board.mapping first second) }
 {
     let one = place_of(at.board.mapping.places.as_slice(), first);
     let other = place_of(at.board.mapping.places.as_slice(), second);
@@ -159,7 +162,8 @@ fn cheaper_exchange_of(
     ensures cheaper { IfOk result (λ yes. yes ≡ true → at.new.cost < at.old.cost) }
     ensures same { IfOk result (λ yes. yes ≡ false → at.new.board.mapping ≡ at.old.board.mapping) }
     ensures same_cost { IfOk result (λ yes. yes ≡ false → at.new.cost ≡ at.old.cost) }
-    ensures none { IfOk result (λ yes. yes ≡ false → (u : ℕ) → first < u → u < length (choices (sought_of moves.now rule.now.number)) → NoExchange (sought_of moves.now rule.now.number) at.old.board.mapping first u) }
+    ensures none { IfOk result (λ yes. yes ≡ false → (u : ℕ) → first < u → u < length (choices (sought_of moves.now rule.now.number))
+        → NoExchange (sought_of moves.now rule.now.number) at.old.board.mapping first u) }
     ensures row { OnOk result (IsPairs (sought_of moves.now rule.now.number) at.old.board.mapping first row.new) }
 {
     for second in first + 1..moves.candidates.len() {
@@ -188,7 +192,8 @@ fn any_cheaper_exchange(
     ensures cheaper { IfOk result (λ yes. yes ≡ true → at.new.cost < at.old.cost) }
     ensures same { IfOk result (λ yes. yes ≡ false → at.new.board.mapping ≡ at.old.board.mapping) }
     ensures same_cost { IfOk result (λ yes. yes ≡ false → at.new.cost ≡ at.old.cost) }
-    ensures none { IfOk result (λ yes. yes ≡ false → (v u : ℕ) → v < u → u < length (choices (sought_of moves.now rule.now.number)) → NoExchange (sought_of moves.now rule.now.number) at.old.board.mapping v u) }
+    ensures none { IfOk result (λ yes. yes ≡ false → (v u : ℕ) → v < u → u < length (choices (sought_of moves.now rule.now.number))
+        → NoExchange (sought_of moves.now rule.now.number) at.old.board.mapping v u) }
     ensures pairs { OnOk result (ArePairs (sought_of moves.now rule.now.number) at.old.board.mapping pairs.new.items) }
 {
     for first in 0..pairs.len() {
@@ -288,7 +293,8 @@ pub fn descend(
     requires sound { IsSound wiring.now }
     requires start { IsNodeMap (sought lab.now free.now wiring.now rule.now.number) start.now }
     ensures best { IfOk result (λ m. LocallyBest (sought lab.now free.now wiring.now rule.now.number) m) }
-    ensures cheaper { IfOk result (λ m. price (sought lab.now free.now wiring.now rule.now.number) m ≤ price (sought lab.now free.now wiring.now rule.now.number) start.now) }
+    ensures cheaper { IfOk result (λ m. price (sought lab.now free.now wiring.now rule.now.number) m
+        ≤ price (sought lab.now free.now wiring.now rule.now.number) start.now) }
 {
     let prepared = Prepared::of(alloc, lab, free, wiring)?;
     let moves = prepared.moves(lab, free, wiring);

@@ -76,8 +76,10 @@ impl Row {
     fn forget(&mut self, all: bool, nodes: &[bool])
         ensures one_each { length self.new ≡ length self.old }
         ensures nodes { (k : ℕ) → k < length self.old → (slice_index_or self.new k not_weighed).node ≡ (slice_index_or self.old k not_weighed).node }
-        ensures known { (k : ℕ) → k < length self.old → (slice_index_or self.new k not_weighed).known ≡ true → (slice_index_or self.old k not_weighed).known ≡ true }
-        ensures unmarked { (k : ℕ) → k < length self.old → (slice_index_or self.new k not_weighed).known ≡ true → slice_index_or nodes.now (slice_index_or self.old k not_weighed).node.0 true ≡ false }
+        ensures known { (k : ℕ) → k < length self.old → (slice_index_or self.new k not_weighed).known ≡ true
+            → (slice_index_or self.old k not_weighed).known ≡ true }
+        ensures unmarked { (k : ℕ) → k < length self.old → (slice_index_or self.new k not_weighed).known ≡ true
+            → slice_index_or nodes.now (slice_index_or self.old k not_weighed).node.0 true ≡ false }
         ensures some { (k : ℕ) → k < length self.old → (slice_index_or self.new k not_weighed).known ≡ true → all ≡ false }
     {
         for number in 0..self.tries.len() {

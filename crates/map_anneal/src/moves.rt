@@ -89,8 +89,14 @@ impl Tried {
         requires moves { IsMoves moves.now }
         requires laid { IsLaid moves.now.setting self.now.board }
         requires planned { IsPlanned moves.now.setting self.now.board.mapping.places _first.0 _second.0 self.now.board.changes.items }
-        ensures map { IsTrue result → (last : List PlaceSeen) → Was moves.now.setting self.now.board.mapping.places self.now.board.mapping.plugs _first.0 _second.0 last → (m : MappingSeen) → node_map moves.now.setting.mapper.lab.now moves.now.setting.mapper.free.now moves.now.setting.mapper.wiring.now self.now.board.mapping.places ≡ Some m → below ≤ price (sought_of moves.now rule.now.number) m }
-        ensures plugs { IsTrue result → (last : List PlaceSeen) → Was moves.now.setting self.now.board.mapping.places self.now.board.mapping.plugs _first.0 _second.0 last → (plugs : List IfaceIdSeen) → plugs_of moves.now.setting.mapper.lab.now moves.now.setting.mapper.wiring.now self.now.board.mapping.places ≡ Some plugs → below ≤ price (sought_of moves.now rule.now.number) (record { places = self.now.board.mapping.places; plugs = plugs }) }
+        ensures map { IsTrue result → (last : List PlaceSeen)
+            → Was moves.now.setting self.now.board.mapping.places self.now.board.mapping.plugs _first.0 _second.0 last → (m : MappingSeen)
+            → node_map moves.now.setting.mapper.lab.now moves.now.setting.mapper.free.now moves.now.setting.mapper.wiring.now self.now.board.mapping.places
+            ≡ Some m → below ≤ price (sought_of moves.now rule.now.number) m }
+        ensures plugs { IsTrue result → (last : List PlaceSeen)
+            → Was moves.now.setting self.now.board.mapping.places self.now.board.mapping.plugs _first.0 _second.0 last → (plugs : List IfaceIdSeen)
+            → plugs_of moves.now.setting.mapper.lab.now moves.now.setting.mapper.wiring.now self.now.board.mapping.places ≡ Some plugs
+            → below ≤ price (sought_of moves.now rule.now.number) (record { places = self.now.board.mapping.places; plugs = plugs }) }
     {
         let _kept = moves.setting.mapper.lab.range();
         match self.board.foreseen(&moves.setting) {
@@ -120,13 +126,21 @@ impl Tried {
         ensures laid { OnOk result (IsLaid moves.now.setting self.new.board) }
         ensures none { OnOk result (self.new.board.back.items ≡ []) }
         ensures places { OnOk result (self.new.board.mapping.places ≡ self.old.board.mapping.places) }
-        ensures map { IfOk result (λ yes. yes ≡ true → (last : List PlaceSeen) → Was moves.now.setting self.old.board.mapping.places self.old.board.mapping.plugs first.0.0 second.0.0 last → node_map moves.now.setting.mapper.lab.now moves.now.setting.mapper.free.now moves.now.setting.mapper.wiring.now self.old.board.mapping.places ≡ Some self.new.board.mapping) }
+        ensures map { IfOk result (λ yes. yes ≡ true → (last : List PlaceSeen)
+            → Was moves.now.setting self.old.board.mapping.places self.old.board.mapping.plugs first.0.0 second.0.0 last
+            → node_map moves.now.setting.mapper.lab.now moves.now.setting.mapper.free.now moves.now.setting.mapper.wiring.now self.old.board.mapping.places
+            ≡ Some self.new.board.mapping) }
         ensures cost { IfOk result (λ yes. yes ≡ true → self.new.cost ≡ price (sought_of moves.now rule.now.number) self.new.board.mapping) }
         ensures below { IfOk result (λ yes. yes ≡ true → self.new.cost < below) }
         ensures plugs { IfOk result (λ yes. yes ≡ false → self.new.board.mapping.plugs ≡ self.old.board.mapping.plugs) }
         ensures same_cost { IfOk result (λ yes. yes ≡ false → self.new.cost ≡ self.old.cost) }
-        ensures dear { IfOk result (λ yes. yes ≡ false → (last : List PlaceSeen) → Was moves.now.setting self.old.board.mapping.places self.old.board.mapping.plugs first.0.0 second.0.0 last → (m : MappingSeen) → node_map moves.now.setting.mapper.lab.now moves.now.setting.mapper.free.now moves.now.setting.mapper.wiring.now self.old.board.mapping.places ≡ Some m → below ≤ price (sought_of moves.now rule.now.number) m) }
-        ensures weighed { IfOk result (λ yes. yes ≡ false → self.new.weighed ≡ true → (last : List PlaceSeen) → Was moves.now.setting self.old.board.mapping.places self.old.board.mapping.plugs first.0.0 second.0.0 last → IsNoLess (sought_of moves.now rule.now.number) below self.old.board.mapping.places) }
+        ensures dear { IfOk result (λ yes. yes ≡ false → (last : List PlaceSeen)
+            → Was moves.now.setting self.old.board.mapping.places self.old.board.mapping.plugs first.0.0 second.0.0 last → (m : MappingSeen)
+            → node_map moves.now.setting.mapper.lab.now moves.now.setting.mapper.free.now moves.now.setting.mapper.wiring.now self.old.board.mapping.places
+            ≡ Some m → below ≤ price (sought_of moves.now rule.now.number) m) }
+        ensures weighed { IfOk result (λ yes. yes ≡ false → self.new.weighed ≡ true → (last : List PlaceSeen)
+            → Was moves.now.setting self.old.board.mapping.places self.old.board.mapping.plugs first.0.0 second.0.0 last
+            → IsNoLess (sought_of moves.now rule.now.number) below self.old.board.mapping.places) }
     {
         let setting = moves.setting;
         self.weighed = false;
@@ -172,22 +186,26 @@ impl Tried {
         requires within { node < length (choices (sought_of moves.now rule.now.number)) }
         requires among { Contains (candidates_at (sought_of moves.now rule.now.number) node) place }
         ensures tried { OnOk result (IsTried moves.now rule.now.number self.new) }
-        ensures map { IfOk result (λ yes. yes ≡ true → moved (sought_of moves.now rule.now.number) self.old.board.mapping node place ≡ Some self.new.board.mapping) }
+        ensures map { IfOk result (λ yes. yes ≡ true
+            → moved (sought_of moves.now rule.now.number) self.old.board.mapping node place ≡ Some self.new.board.mapping) }
         ensures below { IfOk result (λ yes. yes ≡ true → self.new.cost < below) }
         ensures same { IfOk result (λ yes. yes ≡ false → self.new.board.mapping ≡ self.old.board.mapping) }
         ensures same_cost { IfOk result (λ yes. yes ≡ false → self.new.cost ≡ self.old.cost) }
-        ensures dear { IfOk result (λ yes. yes ≡ false → (m : MappingSeen) → moved (sought_of moves.now rule.now.number) self.old.board.mapping node place ≡ Some m → below ≤ price (sought_of moves.now rule.now.number) m) }
-        ensures weighed { IfOk result (λ yes. yes ≡ false → self.new.weighed ≡ true → IsNoLess (sought_of moves.now rule.now.number) below (slice_set self.old.board.mapping.places node place)) }
+        ensures dear { IfOk result (λ yes. yes ≡ false → (m : MappingSeen)
+            → moved (sought_of moves.now rule.now.number) self.old.board.mapping node place ≡ Some m → below ≤ price (sought_of moves.now rule.now.number) m) }
+        ensures weighed { IfOk result (λ yes. yes ≡ false → self.new.weighed ≡ true
+            → IsNoLess (sought_of moves.now rule.now.number) below (slice_set self.old.board.mapping.places node place)) }
     {
         let setting = moves.setting;
         let to = place.0;
         let from = node_of(self.board.mapping.places.as_slice(), node);
         let old = place_of(self.board.mapping.places.as_slice(), node);
+        let soft = self.board.parts(&setting).soft;
         self.board.seat(alloc, &setting, node, place);
         if self.settle_if(alloc, moves, rule, (to, node), (from, node), below)? {
             return Ok(true);
         }
-        self.board.seat(alloc, &setting, node, old);
+        self.board.seat_back(alloc, &setting, node, old, soft);
         Ok(false)
     }
 
@@ -207,12 +225,15 @@ impl Tried {
         requires within { node < length (choices (sought_of moves.now rule.now.number)) }
         requires among { Contains (candidates_at (sought_of moves.now rule.now.number) node) place }
         ensures tried { OnOk result (IsTried moves.now rule.now.number self.new) }
-        ensures map { IfOk result (λ yes. yes ≡ true → moved (sought_of moves.now rule.now.number) self.old.board.mapping node place ≡ Some self.new.board.mapping) }
+        ensures map { IfOk result (λ yes. yes ≡ true
+            → moved (sought_of moves.now rule.now.number) self.old.board.mapping node place ≡ Some self.new.board.mapping) }
         ensures below { IfOk result (λ yes. yes ≡ true → self.new.cost < below) }
         ensures same { IfOk result (λ yes. yes ≡ false → self.new.board.mapping ≡ self.old.board.mapping) }
         ensures same_cost { IfOk result (λ yes. yes ≡ false → self.new.cost ≡ self.old.cost) }
-        ensures dear { IfOk result (λ yes. yes ≡ false → (m : MappingSeen) → moved (sought_of moves.now rule.now.number) self.old.board.mapping node place ≡ Some m → below ≤ price (sought_of moves.now rule.now.number) m) }
-        ensures weighed { IfOk result (λ yes. yes ≡ false → self.new.weighed ≡ true → IsNoLess (sought_of moves.now rule.now.number) below (slice_set self.old.board.mapping.places node place)) }
+        ensures dear { IfOk result (λ yes. yes ≡ false → (m : MappingSeen)
+            → moved (sought_of moves.now rule.now.number) self.old.board.mapping node place ≡ Some m → below ≤ price (sought_of moves.now rule.now.number) m) }
+        ensures weighed { IfOk result (λ yes. yes ≡ false → self.new.weighed ≡ true
+            → IsNoLess (sought_of moves.now rule.now.number) below (slice_set self.old.board.mapping.places node place)) }
     {
         let setting = moves.setting;
         let from = place_of(self.board.mapping.places.as_slice(), node);
@@ -234,10 +255,13 @@ impl Tried {
         requires laid { IsLaid moves.now.setting self.old.board }
         requires first { first < length moves.now.setting.mapper.wiring.now.nodes }
         requires second { second < length moves.now.setting.mapper.wiring.now.nodes }
-        requires first_among { Contains (slice_index_or (candidates moves.now.setting.mapper.lab.now moves.now.setting.mapper.free.now moves.now.setting.mapper.wiring.now) first []) (place_at self.old.board.mapping second) }
-        requires second_among { Contains (slice_index_or (candidates moves.now.setting.mapper.lab.now moves.now.setting.mapper.free.now moves.now.setting.mapper.wiring.now) second []) (place_at self.old.board.mapping first) }
+        requires first_among { Contains (slice_index_or (candidates moves.now.setting.mapper.lab.now moves.now.setting.mapper.free.now
+            moves.now.setting.mapper.wiring.now) first []) (place_at self.old.board.mapping second) }
+        requires second_among { Contains (slice_index_or (candidates moves.now.setting.mapper.lab.now moves.now.setting.mapper.free.now
+            moves.now.setting.mapper.wiring.now) second []) (place_at self.old.board.mapping first) }
         ensures laid { IsLaid moves.now.setting self.new.board }
-        ensures mapping { self.new.board.mapping ≡ placed_at (placed_at self.old.board.mapping first (place_at self.old.board.mapping second)) second (place_at self.old.board.mapping first) }
+        ensures mapping { self.new.board.mapping
+            ≡ placed_at (placed_at self.old.board.mapping first (place_at self.old.board.mapping second)) second (place_at self.old.board.mapping first) }
         ensures back { self.new.board.back.items ≡ self.old.board.back.items }
         ensures cost { self.new.cost ≡ self.old.cost }
         ensures weighed { self.new.weighed ≡ self.old.weighed }
@@ -266,12 +290,16 @@ impl Tried {
         requires first_among { Contains (candidates_at (sought_of moves.now rule.now.number) first) (place_at self.old.board.mapping second) }
         requires second_among { Contains (candidates_at (sought_of moves.now rule.now.number) second) (place_at self.old.board.mapping first) }
         ensures tried { OnOk result (IsTried moves.now rule.now.number self.new) }
-        ensures map { IfOk result (λ yes. yes ≡ true → exchanged (sought_of moves.now rule.now.number) self.old.board.mapping first second ≡ Some self.new.board.mapping) }
+        ensures map { IfOk result (λ yes. yes ≡ true
+            → exchanged (sought_of moves.now rule.now.number) self.old.board.mapping first second ≡ Some self.new.board.mapping) }
         ensures below { IfOk result (λ yes. yes ≡ true → self.new.cost < below) }
         ensures same { IfOk result (λ yes. yes ≡ false → self.new.board.mapping ≡ self.old.board.mapping) }
         ensures same_cost { IfOk result (λ yes. yes ≡ false → self.new.cost ≡ self.old.cost) }
-        ensures dear { IfOk result (λ yes. yes ≡ false → (m : MappingSeen) → exchanged (sought_of moves.now rule.now.number) self.old.board.mapping first second ≡ Some m → below ≤ price (sought_of moves.now rule.now.number) m) }
-        ensures weighed { IfOk result (λ yes. yes ≡ false → self.new.weighed ≡ true → IsNoLess (sought_of moves.now rule.now.number) below (swapped self.old.board.mapping first second)) }
+        ensures dear { IfOk result (λ yes. yes ≡ false → (m : MappingSeen)
+            → exchanged (sought_of moves.now rule.now.number) self.old.board.mapping first second ≡ Some m
+            → below ≤ price (sought_of moves.now rule.now.number) m) }
+        ensures weighed { IfOk result (λ yes. yes ≡ false → self.new.weighed ≡ true
+            → IsNoLess (sought_of moves.now rule.now.number) below (swapped self.old.board.mapping first second)) }
     {
         let one = node_of(self.board.mapping.places.as_slice(), first);
         let other = node_of(self.board.mapping.places.as_slice(), second);
@@ -297,11 +325,14 @@ impl Tried {
         requires tried { IsTried moves.now rule.now.number self.old }
         requires some { 0 < length (choices (sought_of moves.now rule.now.number)) }
         ensures tried { OnOk result (IsTried moves.now rule.now.number self.new) }
-        ensures map { IfOk result (λ yes. yes ≡ true → named (sought_of moves.now rule.now.number) self.old.board.mapping first second ≡ Some self.new.board.mapping) }
+        ensures map { IfOk result (λ yes. yes ≡ true
+            → named (sought_of moves.now rule.now.number) self.old.board.mapping first second ≡ Some self.new.board.mapping) }
         ensures below { IfOk result (λ yes. yes ≡ true → self.new.cost < below) }
         ensures same { IfOk result (λ yes. yes ≡ false → self.new.board.mapping ≡ self.old.board.mapping) }
         ensures same_cost { IfOk result (λ yes. yes ≡ false → self.new.cost ≡ self.old.cost) }
-        ensures dear { IfOk result (λ yes. yes ≡ false → (m : MappingSeen) → named (sought_of moves.now rule.now.number) self.old.board.mapping first second ≡ Some m → below ≤ price (sought_of moves.now rule.now.number) m) }
+        ensures dear { IfOk result (λ yes. yes ≡ false → (m : MappingSeen)
+            → named (sought_of moves.now rule.now.number) self.old.board.mapping first second ≡ Some m
+            → below ≤ price (sought_of moves.now rule.now.number) m) }
     {
         let node = first as usize % moves.candidates.len();
         let place = candidate(moves.candidates, node, second);

@@ -71,7 +71,9 @@ fn still_segments(
     requires next { length next.now.plugs ≡ length moves.now.setting.mapper.ends.now }
     requires last_in { All (λ i. i.0 < length moves.now.setting.mapper.lab.now.ifaces) last.now.plugs }
     requires next_in { All (λ i. i.0 < length moves.now.setting.mapper.lab.now.ifaces) next.now.plugs }
-    ensures { IfOk result (λ still. (e : ℕ) → e < length moves.now.setting.mapper.ends.now → slice_index_or still.items (slice_index_or moves.now.setting.mapper.ends.now e no_end).segment false ≡ true → StaysAt moves.now.setting.mapper.lab.now last.now next.now e) }
+    ensures { IfOk result (λ still. (e : ℕ) → e < length moves.now.setting.mapper.ends.now
+        → slice_index_or still.items (slice_index_or moves.now.setting.mapper.ends.now e no_end).segment false ≡ true
+        → StaysAt moves.now.setting.mapper.lab.now last.now next.now e) }
 {
     let mapper = moves.setting.mapper;
     let mut still = vec![in alloc; true; mapper.wiring.segments.len()]?;
@@ -94,7 +96,8 @@ fn mark_place(marks: &mut Vec<bool>, last: &Mapping, next: &Mapping, virt: usize
     requires last { virt < length last.now.places }
     requires next { virt < length next.now.places }
     ensures kept { (n : ℕ) → slice_index_or marks.new.items n true ≡ false → slice_index_or marks.old.items n true ≡ false }
-    ensures aside { (n : ℕ) → slice_index_or marks.new.items n true ≡ false → (place_at last.now virt ≡ place_at next.now virt) ⊎ ((place_at last.now virt).0.0 ≢ n) × ((place_at next.now virt).0.0 ≢ n) }
+    ensures aside { (n : ℕ) → slice_index_or marks.new.items n true ≡ false
+        → (place_at last.now virt ≡ place_at next.now virt) ⊎ ((place_at last.now virt).0.0 ≢ n) × ((place_at next.now virt).0.0 ≢ n) }
 {
     let one = last.places.as_slice()[virt];
     let other = next.places.as_slice()[virt];
@@ -108,7 +111,8 @@ fn mark_place(marks: &mut Vec<bool>, last: &Mapping, next: &Mapping, virt: usize
 fn mark_places(marks: &mut Vec<bool>, last: &Mapping, next: &Mapping)
     requires { length last.now.places ≡ length next.now.places }
     ensures kept { (n : ℕ) → slice_index_or marks.new.items n true ≡ false → slice_index_or marks.old.items n true ≡ false }
-    ensures aside { (n : ℕ) → slice_index_or marks.new.items n true ≡ false → (u : ℕ) → u < length last.now.places → (place_at last.now u ≡ place_at next.now u) ⊎ ((place_at last.now u).0.0 ≢ n) × ((place_at next.now u).0.0 ≢ n) }
+    ensures aside { (n : ℕ) → slice_index_or marks.new.items n true ≡ false → (u : ℕ) → u < length last.now.places
+        → (place_at last.now u ≡ place_at next.now u) ⊎ ((place_at last.now u).0.0 ≢ n) × ((place_at next.now u).0.0 ≢ n) }
 {
     for virt in 0..last.places.len() {
         mark_place(marks, last, next, virt);
@@ -129,7 +133,8 @@ fn is_still(still: &[bool], segment: u16) -> bool
 fn mark_end(marks: &mut Vec<bool>, last: &Mapping, still: &[bool], end: End)
     requires { end.node < length last.now.places }
     ensures kept { (n : ℕ) → slice_index_or marks.new.items n true ≡ false → slice_index_or marks.old.items n true ≡ false }
-    ensures aside { (n : ℕ) → slice_index_or marks.new.items n true ≡ false → slice_index_or still.now end.segment false ≡ false → (place_at last.now end.node).0.0 ≢ n }
+    ensures aside { (n : ℕ) → slice_index_or marks.new.items n true ≡ false → slice_index_or still.now end.segment false ≡ false
+        → (place_at last.now end.node).0.0 ≢ n }
 {
     let node = last.places.as_slice()[end.node as usize].0;
     if !is_still(still, end.segment) {
@@ -141,7 +146,9 @@ fn mark_end(marks: &mut Vec<bool>, last: &Mapping, still: &[bool], end: End)
 fn mark_ends(marks: &mut Vec<bool>, last: &Mapping, still: &[bool], ends: &[End])
     requires { All (λ (e : EndSeen). e.node < length last.now.places) ends.now }
     ensures kept { (n : ℕ) → slice_index_or marks.new.items n true ≡ false → slice_index_or marks.old.items n true ≡ false }
-    ensures aside { (n : ℕ) → slice_index_or marks.new.items n true ≡ false → (e : ℕ) → e < length ends.now → slice_index_or still.now (slice_index_or ends.now e no_end).segment false ≡ false → (place_at last.now (slice_index_or ends.now e no_end).node).0.0 ≢ n }
+    ensures aside { (n : ℕ) → slice_index_or marks.new.items n true ≡ false → (e : ℕ) → e < length ends.now
+        → slice_index_or still.now (slice_index_or ends.now e no_end).segment false ≡ false
+        → (place_at last.now (slice_index_or ends.now e no_end).node).0.0 ≢ n }
 {
     for end in ends {
         mark_end(marks, last, still, *end);
@@ -215,7 +222,9 @@ fn keeps_type(wiring: &Wiring, last: &Mapping, next: &Mapping, class: u16, virt:
     requires virt { virt < length wiring.now.nodes }
     requires last { length last.now.places ≡ length wiring.now.nodes }
     requires next { length next.now.places ≡ length wiring.now.nodes }
-    ensures { IsTrue result → ((place_at last.now virt).1 ≡ (place_at next.now virt).1) ⊎ (HasTwo wiring.now last.now next.now class (place_at last.now virt).1 × HasTwo wiring.now last.now next.now class (place_at next.now virt).1) }
+    ensures { IsTrue result
+        → ((place_at last.now virt).1 ≡ (place_at next.now virt).1)
+        ⊎ (HasTwo wiring.now last.now next.now class (place_at last.now virt).1 × HasTwo wiring.now last.now next.now class (place_at next.now virt).1) }
 {
     let one = last.places.as_slice()[virt].1;
     let other = next.places.as_slice()[virt].1;
@@ -229,7 +238,9 @@ fn mark_class(marks: &mut Vec<bool>, wiring: &Wiring, last: &Mapping, next: &Map
     requires last { length last.now.places ≡ length wiring.now.nodes }
     requires next { length next.now.places ≡ length wiring.now.nodes }
     ensures kept { (c : ℕ) → slice_index_or marks.new.items c true ≡ false → slice_index_or marks.old.items c true ≡ false }
-    ensures own { (c : ℕ) → slice_index_or marks.new.items c true ≡ false → is_member c (virt_at wiring.now virt).asks ≡ true → ((place_at last.now virt).1 ≡ (place_at next.now virt).1) ⊎ (HasTwo wiring.now last.now next.now c (place_at last.now virt).1 × HasTwo wiring.now last.now next.now c (place_at next.now virt).1) }
+    ensures own { (c : ℕ) → slice_index_or marks.new.items c true ≡ false → is_member c (virt_at wiring.now virt).asks ≡ true
+        → ((place_at last.now virt).1 ≡ (place_at next.now virt).1)
+        ⊎ (HasTwo wiring.now last.now next.now c (place_at last.now virt).1 × HasTwo wiring.now last.now next.now c (place_at next.now virt).1) }
 {
     if let Asks::Class(class) = wiring.nodes.as_slice()[virt].asks {
         if !keeps_type(wiring, last, next, class, virt) {

@@ -112,7 +112,8 @@ impl Walk {
         requires walk { IsWalk moves.now rule.now.number self.old }
         requires some { 0 < length (choices (sought_of moves.now rule.now.number)) }
         ensures walk { OnOk result (IsWalk moves.now rule.now.number self.new) }
-        ensures step { OnOk result ((x : Walker) → Keeps (sought_of moves.now rule.now.number) self.old x → Keeps (sought_of moves.now rule.now.number) self.new (one_try (sought_of moves.now rule.now.number) heat x)) }
+        ensures step { OnOk result ((x : Walker) → Keeps (sought_of moves.now rule.now.number) self.old x
+            → Keeps (sought_of moves.now rule.now.number) self.new (one_try (sought_of moves.now rule.now.number) heat x)) }
     {
         let words = draw(&mut self.generator);
         let below = bound(self.last.cost, words.third, heat);
@@ -138,7 +139,8 @@ impl Walk {
         requires moves { IsMoves moves.now }
         requires walk { IsWalk moves.now rule.now.number self.old }
         ensures walk { OnOk result (IsWalk moves.now rule.now.number self.new) }
-        ensures round { OnOk result ((x : Walker) → Keeps (sought_of moves.now rule.now.number) self.old x → Keeps (sought_of moves.now rule.now.number) self.new (round (sought_of moves.now rule.now.number) heat x)) }
+        ensures round { OnOk result ((x : Walker) → Keeps (sought_of moves.now rule.now.number) self.old x
+            → Keeps (sought_of moves.now rule.now.number) self.new (round (sought_of moves.now rule.now.number) heat x)) }
     {
         let tries = 8 * moves.candidates.len();
         for _number in 0..tries {
@@ -158,7 +160,8 @@ impl Walk {
         requires moves { IsMoves moves.now }
         requires walk { IsWalk moves.now rule.now.number self.old }
         ensures walk { OnOk result (IsWalk moves.now rule.now.number self.new) }
-        ensures cooled { OnOk result ((x : Walker) → Keeps (sought_of moves.now rule.now.number) self.old x → Keeps (sought_of moves.now rule.now.number) self.new (cooled (sought_of moves.now rule.now.number) from from x)) }
+        ensures cooled { OnOk result ((x : Walker) → Keeps (sought_of moves.now rule.now.number) self.old x
+            → Keeps (sought_of moves.now rule.now.number) self.new (cooled (sought_of moves.now rule.now.number) from from x)) }
     {
         let mut heat = from;
         while heat > 0 {
@@ -181,7 +184,8 @@ pub fn anneal_by(
     requires moves { IsMoves moves.now }
     requires start { IsNodeMap (sought_of moves.now rule.now.number) start.now }
     ensures node_map { IfOk result (λ m. IsNodeMap (sought_of moves.now rule.now.number) m) }
-    ensures least { IfOk result (λ m. IsFirstLeast (price (sought_of moves.now rule.now.number)) (walk_of (sought_of moves.now rule.now.number) start.now seed) m) }
+    ensures least { IfOk result (λ m. IsFirstLeast (price (sought_of moves.now rule.now.number))
+        (walk_of (sought_of moves.now rule.now.number) start.now seed) m) }
 {
     let last = moves.started(alloc, rule, start)?;
     let cost = last.cost;
@@ -212,7 +216,8 @@ pub fn anneal(
     requires sound { IsSound wiring.now }
     requires start { IsNodeMap (sought lab.now free.now wiring.now rule.now.number) start.now }
     ensures node_map { IfOk result (λ m. IsNodeMap (sought lab.now free.now wiring.now rule.now.number) m) }
-    ensures least { IfOk result (λ m. IsFirstLeast (price (sought lab.now free.now wiring.now rule.now.number)) (walk_of (sought lab.now free.now wiring.now rule.now.number) start.now seed) m) }
+    ensures least { IfOk result (λ m. IsFirstLeast (price (sought lab.now free.now wiring.now rule.now.number))
+        (walk_of (sought lab.now free.now wiring.now rule.now.number) start.now seed) m) }
 {
     let prepared = Prepared::of(alloc, lab, free, wiring)?;
     let moves = prepared.moves(lab, free, wiring);

@@ -32,6 +32,7 @@ pub struct Board {
 }
 
 impl Board {
+    ghost use Rattle.cost_rule.specs.Cost.{soft as soft_in};
     ghost use Rattle.cost_rule.specs.Parts.{parts_of};
     ghost use Rattle.trunk_sums.specs.Foreseen.{AreRising};
     ghost use Rattle.trunk_sums.specs.Remade.{remade, AreChanges};
@@ -123,7 +124,8 @@ impl Board {
         requires laid { IsLaid setting.now self.now }
         requires virt { virt < length setting.now.mapper.wiring.now.nodes }
         ensures crowded { IsTrue result ↔ IsCrowded setting.now.mapper.lab.now self.now.mapping.places virt }
-        ensures none { IsTrue result → node_map setting.now.mapper.lab.now setting.now.mapper.free.now setting.now.mapper.wiring.now self.now.mapping.places ≡ None }
+        ensures none { IsTrue result
+            → node_map setting.now.mapper.lab.now setting.now.mapper.free.now setting.now.mapper.wiring.now self.now.mapping.places ≡ None }
     {
         let place = self.mapping.places.as_slice()[virt];
         let types = types_at(setting.mapper.lab, place.0);
@@ -135,9 +137,12 @@ impl Board {
         requires setting { IsSetting setting.now }
         requires laid { IsLaid setting.now self.now }
         requires virt { virt < length setting.now.mapper.wiring.now.nodes }
-        requires among { Contains (slice_index_or (candidates setting.now.mapper.lab.now setting.now.mapper.free.now setting.now.mapper.wiring.now) virt []) place }
+        requires among { Contains (slice_index_or (candidates setting.now.mapper.lab.now setting.now.mapper.free.now setting.now.mapper.wiring.now) virt [])
+            place }
         ensures full { IsTrue result ↔ IsFull setting.now.mapper.lab.now self.now.mapping.places virt place }
-        ensures none { IsTrue result → node_map setting.now.mapper.lab.now setting.now.mapper.free.now setting.now.mapper.wiring.now (placed_at self.now.mapping virt place).places ≡ None }
+        ensures none { IsTrue result
+            → node_map setting.now.mapper.lab.now setting.now.mapper.free.now setting.now.mapper.wiring.now (placed_at self.now.mapping virt place).places
+            ≡ None }
     {
         let from = self.mapping.places.as_slice()[virt].0;
         let types = types_at(setting.mapper.lab, place.0);
@@ -149,7 +154,8 @@ impl Board {
         requires setting { IsSetting setting.now }
         requires laid { IsLaid setting.now self.old }
         requires virt { virt < length setting.now.mapper.wiring.now.nodes }
-        requires among { Contains (slice_index_or (candidates setting.now.mapper.lab.now setting.now.mapper.free.now setting.now.mapper.wiring.now) virt []) place }
+        requires among { Contains (slice_index_or (candidates setting.now.mapper.lab.now setting.now.mapper.free.now setting.now.mapper.wiring.now) virt [])
+            place }
         ensures laid { IsLaid setting.now self.new }
         ensures mapping { self.new.mapping ≡ placed_at self.old.mapping virt place }
         ensures back { self.new.back.items ≡ self.old.back.items }
@@ -162,6 +168,37 @@ impl Board {
             &mut self.mapping,
             virt,
             place,
+        );
+    }
+
+    /// A virtual node goes to another of its candidates, with which that much is soft, as is known; the plugs stay.
+    pub fn seat_back(
+        &mut self,
+        alloc: Global,
+        setting: &Setting,
+        virt: usize,
+        place: Place,
+        soft: u64,
+    )
+        requires setting { IsSetting setting.now }
+        requires laid { IsLaid setting.now self.old }
+        requires virt { virt < length setting.now.mapper.wiring.now.nodes }
+        requires among { Contains (slice_index_or (candidates setting.now.mapper.lab.now setting.now.mapper.free.now setting.now.mapper.wiring.now) virt [])
+            place }
+        requires soft { soft ≡ soft_in setting.now.mapper.lab.now setting.now.mapper.wiring.now (placed_at self.old.mapping virt place) }
+        ensures laid { IsLaid setting.now self.new }
+        ensures mapping { self.new.mapping ≡ placed_at self.old.mapping virt place }
+        ensures back { self.new.back.items ≡ self.old.back.items }
+    {
+        let mapper = setting.mapper;
+        self.seats.seat_back(
+            alloc,
+            mapper.lab,
+            mapper.wiring,
+            &mut self.mapping,
+            virt,
+            place,
+            soft,
         );
     }
 
@@ -289,7 +326,11 @@ impl Board {
         requires first { first.0 < length setting.now.mapper.lab.now.nodes }
         requires second { second.0 < length setting.now.mapper.lab.now.nodes }
         requires backward { AreChanges setting.now.mapper.lab.now setting.now.mapper.wiring.now self.now.back.items }
-        ensures { IfOk result (λ yes. (last : List PlaceSeen) → Was setting.now self.now.mapping.places (unmade self.now.mapping.plugs self.now.back.items) first.0 second.0 last → plugs_of setting.now.mapper.lab.now setting.now.mapper.wiring.now self.now.mapping.places ≡ Some self.now.mapping.plugs → node_map setting.now.mapper.lab.now setting.now.mapper.free.now setting.now.mapper.wiring.now self.now.mapping.places ≡ (if yes then Some self.now.mapping else None)) }
+        ensures { IfOk result (λ yes. (last : List PlaceSeen)
+            → Was setting.now self.now.mapping.places (unmade self.now.mapping.plugs self.now.back.items) first.0 second.0 last
+            → plugs_of setting.now.mapper.lab.now setting.now.mapper.wiring.now self.now.mapping.places ≡ Some self.now.mapping.plugs
+            → node_map setting.now.mapper.lab.now setting.now.mapper.free.now setting.now.mapper.wiring.now self.now.mapping.places
+            ≡ (if yes then Some self.now.mapping else None)) }
     {
         let mapper = setting.mapper;
         let _kept = mapper.lab.range();
@@ -324,7 +365,9 @@ impl Board {
         ensures places { OnOk result (self.new.mapping.places ≡ self.old.mapping.places) }
         ensures back { OnOk result (unmade self.new.mapping.plugs self.new.back.items ≡ self.old.mapping.plugs) }
         ensures backward { OnOk result (AreChanges setting.now.mapper.lab.now setting.now.mapper.wiring.now self.new.back.items) }
-        ensures map { IfOk result (λ yes. (last : List PlaceSeen) → Was setting.now self.old.mapping.places self.old.mapping.plugs first.0 second.0 last → node_map setting.now.mapper.lab.now setting.now.mapper.free.now setting.now.mapper.wiring.now self.old.mapping.places ≡ (if yes then Some self.new.mapping else None)) }
+        ensures map { IfOk result (λ yes. (last : List PlaceSeen) → Was setting.now self.old.mapping.places self.old.mapping.plugs first.0 second.0 last
+            → node_map setting.now.mapper.lab.now setting.now.mapper.free.now setting.now.mapper.wiring.now self.old.mapping.places
+            ≡ (if yes then Some self.new.mapping else None)) }
     {
         self.make(alloc, setting)?;
         let yes = self.is_kept(alloc, setting, first, second)?;

@@ -48,7 +48,8 @@ impl Chosen {
         requires setting { IsSetting setting.now }
         requires chosen { IsChosen setting.now self.old }
         requires virt { virt < length setting.now.mapper.wiring.now.nodes }
-        requires among { Contains (slice_index_or (candidates setting.now.mapper.lab.now setting.now.mapper.free.now setting.now.mapper.wiring.now) virt []) place }
+        requires among { Contains (slice_index_or (candidates setting.now.mapper.lab.now setting.now.mapper.free.now setting.now.mapper.wiring.now) virt [])
+            place }
         ensures chosen { IsChosen setting.now self.new }
         ensures places { self.new.board.mapping.places ≡ slice_set self.old.board.mapping.places virt place }
     {
@@ -68,9 +69,11 @@ impl Chosen {
         requires virt { virt < length setting.now.mapper.wiring.now.nodes }
         ensures chosen { OnOk result (IsChosen setting.now self.new) }
         ensures places { OnOk result (self.new.board.mapping.places ≡ self.old.board.mapping.places) }
-        ensures fresh { IfOk result (λ yes. yes ≡ true → slice_index_or self.new.stale.items (slice_index_or self.old.board.mapping.places virt no_place).0.0 true ≡ false) }
+        ensures fresh { IfOk result (λ yes. yes ≡ true
+            → slice_index_or self.new.stale.items (slice_index_or self.old.board.mapping.places virt no_place).0.0 true ≡ false) }
         ensures kept { OnOk result ((n : ℕ) → slice_index_or self.old.stale.items n true ≡ false → slice_index_or self.new.stale.items n true ≡ false) }
-        ensures none { IfOk result (λ yes. yes ≡ false → node_map setting.now.mapper.lab.now setting.now.mapper.free.now setting.now.mapper.wiring.now self.old.board.mapping.places ≡ None) }
+        ensures none { IfOk result (λ yes. yes ≡ false
+            → node_map setting.now.mapper.lab.now setting.now.mapper.free.now setting.now.mapper.wiring.now self.old.board.mapping.places ≡ None) }
     {
         let node = self.board.mapping.places.as_slice()[virt].0;
         if !self.stale[node.0 as usize] {
@@ -89,8 +92,10 @@ impl Chosen {
         requires chosen { IsChosen setting.now self.old }
         ensures chosen { OnOk result (IsChosen setting.now self.new) }
         ensures places { OnOk result (self.new.board.mapping.places ≡ self.old.board.mapping.places) }
-        ensures fresh { IfOk result (λ yes. yes ≡ true → (v : ℕ) → v < length setting.now.mapper.wiring.now.nodes → slice_index_or self.new.stale.items (slice_index_or self.old.board.mapping.places v no_place).0.0 true ≡ false) }
-        ensures none { IfOk result (λ yes. yes ≡ false → node_map setting.now.mapper.lab.now setting.now.mapper.free.now setting.now.mapper.wiring.now self.old.board.mapping.places ≡ None) }
+        ensures fresh { IfOk result (λ yes. yes ≡ true → (v : ℕ) → v < length setting.now.mapper.wiring.now.nodes
+            → slice_index_or self.new.stale.items (slice_index_or self.old.board.mapping.places v no_place).0.0 true ≡ false) }
+        ensures none { IfOk result (λ yes. yes ≡ false
+            → node_map setting.now.mapper.lab.now setting.now.mapper.free.now setting.now.mapper.wiring.now self.old.board.mapping.places ≡ None) }
     {
         for virt in 0..setting.mapper.wiring.nodes.len() {
             if !self.refresh(alloc, setting, virt)? {
@@ -106,7 +111,8 @@ impl Chosen {
         requires chosen { IsChosen setting.now self.old }
         ensures chosen { OnOk result (IsChosen setting.now self.new) }
         ensures places { OnOk result (self.new.board.mapping.places ≡ self.old.board.mapping.places) }
-        ensures map { IfOk result (λ yes. node_map setting.now.mapper.lab.now setting.now.mapper.free.now setting.now.mapper.wiring.now self.old.board.mapping.places ≡ (if yes then Some self.new.board.mapping else None)) }
+        ensures map { IfOk result (λ yes. node_map setting.now.mapper.lab.now setting.now.mapper.free.now setting.now.mapper.wiring.now
+            self.old.board.mapping.places ≡ (if yes then Some self.new.board.mapping else None)) }
     {
         if !self.refresh_all(alloc, setting)? {
             return Ok(false);

@@ -51,7 +51,8 @@ fn serve_listed(
     requires within { All (λ k. k < length setting.now.mapper.ends.now) listed.now }
     requires ordered { AreOrdered (map (λ k. slice_index_or setting.now.mapper.ends.now k no_end) listed.now) }
     ensures giving { OnOk result (IsGiving setting.now.mapper.lab.now given.new) }
-    ensures given { IfOk result (λ yes. plugs_from setting.now.mapper.lab.now places.now (map (λ k. slice_index_or setting.now.mapper.ends.now k no_end) listed.now) ≡ (if yes then Some given.new.plugs else None)) }
+    ensures given { IfOk result (λ yes. plugs_from setting.now.mapper.lab.now places.now (map (λ k. slice_index_or setting.now.mapper.ends.now k no_end)
+        listed.now) ≡ (if yes then Some given.new.plugs else None)) }
 {
     let mapper = setting.mapper;
     for number in listed {
@@ -104,8 +105,10 @@ fn serve_noted(
     requires listed { listed.now ≡ numbers_of 0 (is_on places.now node.0) setting.now.mapper.ends.now }
     requires idle { IsIdle setting.now.mapper.lab.now given.old }
     ensures giving { OnOk result (IsGiving setting.now.mapper.lab.now given.new) }
-    ensures given { IfOk result (λ yes. yes ≡ true → IsNoted setting.now.mapper.lab.now setting.now.table.now.rows.items setting.now.mapper.ends.now places.now node.0 changes.old.items changes.new.items) }
-    ensures none { IfOk result (λ yes. yes ≡ false → plugs_from setting.now.mapper.lab.now places.now (filter (is_on places.now node.0) setting.now.mapper.ends.now) ≡ None) }
+    ensures given { IfOk result (λ yes. yes ≡ true → IsNoted setting.now.mapper.lab.now setting.now.table.now.rows.items setting.now.mapper.ends.now places.now
+        node.0 changes.old.items changes.new.items) }
+    ensures none { IfOk result (λ yes. yes ≡ false
+        → plugs_from setting.now.mapper.lab.now places.now (filter (is_on places.now node.0) setting.now.mapper.ends.now) ≡ None) }
 {
     let yes = serve_listed(setting, places, listed, given)?;
     if !yes {
@@ -130,8 +133,10 @@ fn give_listed(
     requires listed { listed.now ≡ numbers_of 0 (is_on places.now node.0) setting.now.mapper.ends.now }
     requires idle { IsIdle setting.now.mapper.lab.now given.old }
     ensures idle { OnOk result (IsIdle setting.now.mapper.lab.now given.new) }
-    ensures given { IfOk result (λ yes. yes ≡ true → IsNoted setting.now.mapper.lab.now setting.now.table.now.rows.items setting.now.mapper.ends.now places.now node.0 changes.old.items changes.new.items) }
-    ensures none { IfOk result (λ yes. yes ≡ false → plugs_from setting.now.mapper.lab.now places.now (filter (is_on places.now node.0) setting.now.mapper.ends.now) ≡ None) }
+    ensures given { IfOk result (λ yes. yes ≡ true → IsNoted setting.now.mapper.lab.now setting.now.table.now.rows.items setting.now.mapper.ends.now places.now
+        node.0 changes.old.items changes.new.items) }
+    ensures none { IfOk result (λ yes. yes ≡ false
+        → plugs_from setting.now.mapper.lab.now places.now (filter (is_on places.now node.0) setting.now.mapper.ends.now) ≡ None) }
 {
     let yes = serve_noted(setting, places, node, listed, given, changes)?;
     given.clear(alloc, setting.mapper.lab);
@@ -167,8 +172,10 @@ pub(crate) fn give(
     requires virt { virt < length setting.now.mapper.wiring.now.nodes }
     requires idle { IsIdle setting.now.mapper.lab.now given.old }
     ensures idle { OnOk result (IsIdle setting.now.mapper.lab.now given.new) }
-    ensures given { IfOk result (λ yes. yes ≡ true → IsNoted setting.now.mapper.lab.now setting.now.table.now.rows.items setting.now.mapper.ends.now mapping.now.places node.0 changes.old.items changes.new.items) }
-    ensures none { IfOk result (λ yes. yes ≡ false → plugs_from setting.now.mapper.lab.now mapping.now.places (filter (is_on mapping.now.places node.0) setting.now.mapper.ends.now) ≡ None) }
+    ensures given { IfOk result (λ yes. yes ≡ true → IsNoted setting.now.mapper.lab.now setting.now.table.now.rows.items setting.now.mapper.ends.now
+        mapping.now.places node.0 changes.old.items changes.new.items) }
+    ensures none { IfOk result (λ yes. yes ≡ false
+        → plugs_from setting.now.mapper.lab.now mapping.now.places (filter (is_on mapping.now.places node.0) setting.now.mapper.ends.now) ≡ None) }
 {
     let places = mapping.places.as_slice();
     if seats.guests[node.0 as usize] == 0 {

@@ -67,7 +67,8 @@ fn keeps_f7(setting: &Setting, mapping: &Mapping, segment: usize) -> bool
 pub(crate) fn all_keep_f7(setting: &Setting, mapping: &Mapping) -> bool
     requires setting { IsSetting setting.now }
     requires shaped { IsShaped setting.now.mapper.lab.now setting.now.mapper.wiring.now mapping.now }
-    ensures { IsTrue result ↔ AllPass (length setting.now.mapper.wiring.now.segments) (keeps_f7 setting.now.mapper.lab.now setting.now.mapper.wiring.now mapping.now) }
+    ensures { IsTrue result
+        ↔ AllPass (length setting.now.mapper.wiring.now.segments) (keeps_f7 setting.now.mapper.lab.now setting.now.mapper.wiring.now mapping.now) }
 {
     for segment in 0..setting.mapper.wiring.segments.len() {
         if !keeps_f7(setting, mapping, segment) {

@@ -1,6 +1,7 @@
 // The counts kept by place of a mapping.
 ghost use Rattle.std.specs.Prelude.{◌≡◌, ◌<◌, ◌≤◌, ◌+◌, ◌-◌, ◌==◌, ℕ, length, slice_index_or, slice_set, if◌then◌else◌, IfOk, OnOk, All, true};
 ghost use Rattle.virt_topo.specs.Soundness.{IsSound};
+ghost use Rattle.cost_rule.specs.Cost.{nodes_in_use, soft as soft_in};
 ghost use Rattle.lab_model.specs.Shapes.{IsShaped, node_at, has_name};
 ghost use Rattle.virt_topo.specs.Wirings.{virt_at};
 ghost use Rattle.lab_model.specs.Rules.{no_place};
@@ -160,6 +161,34 @@ impl Seats {
         self.guests[node.0 as usize] += 1;
     }
 
+    /// A virtual node leaves its node for another place. What is soft isn't told anew.
+    fn go(
+        &mut self,
+        alloc: Global,
+        lab: &Lab,
+        _wiring: &Wiring,
+        mapping: &mut Mapping,
+        virt: usize,
+        place: Place,
+    )
+        requires sound { IsSound _wiring.now }
+        requires shaped { IsShaped lab.now _wiring.now mapping.old }
+        requires seated { IsSeated lab.now _wiring.now mapping.old self.old }
+        requires virt { virt < length _wiring.now.nodes }
+        requires node { place.0.0 < length lab.now.nodes }
+        ensures mapping { mapping.new ≡ placed_at mapping.old virt place }
+        ensures one_each { length self.new.guests.items ≡ length lab.now.nodes }
+        ensures guests { (n : ℕ) → n < length lab.now.nodes → slice_index_or self.new.guests.items n 0 ≡ guests_at (placed_at mapping.old virt place).places n }
+        ensures nodes { self.new.nodes ≡ nodes_in_use (placed_at mapping.old virt place) }
+        ensures soft { self.new.soft ≡ self.old.soft }
+    {
+        let _kept = lab.range();
+        let from = node_of(mapping, virt);
+        self.leave(from);
+        self.join(place.0);
+        set_place(alloc, mapping, virt, place);
+    }
+
     /// A virtual node goes to another place.
     pub fn seat(
         &mut self,
@@ -181,15 +210,38 @@ impl Seats {
         ensures seated { IsSeated lab.now wiring.now mapping.new self.new }
     {
         let _kept = lab.range();
-        let from = node_of(mapping, virt);
         let kind = kind_of(mapping, virt);
         let before = node_soft(lab, wiring, mapping, virt);
         let gained = type_soft(wiring, mapping, virt, place.1);
-        self.leave(from);
-        self.join(place.0);
-        set_place(alloc, mapping, virt, place);
+        self.go(alloc, lab, wiring, mapping, virt, place);
         let after = node_soft(lab, wiring, mapping, virt);
         let lost = type_soft(wiring, mapping, virt, kind);
         self.soft = changed(self.soft, (after, gained), (before, lost));
+    }
+
+    /// A virtual node goes to a place with which that much is soft, as is known.
+    pub fn seat_back(
+        &mut self,
+        alloc: Global,
+        lab: &Lab,
+        wiring: &Wiring,
+        mapping: &mut Mapping,
+        virt: usize,
+        place: Place,
+        soft: u64,
+    )
+        requires sound { IsSound wiring.now }
+        requires shaped { IsShaped lab.now wiring.now mapping.old }
+        requires seated { IsSeated lab.now wiring.now mapping.old self.old }
+        requires virt { virt < length wiring.now.nodes }
+        requires node { place.0.0 < length lab.now.nodes }
+        requires typed { has_name (node_at lab.now place.0).types place.1 ≡ true }
+        requires soft { soft ≡ soft_in lab.now wiring.now (placed_at mapping.old virt place) }
+        ensures mapping { mapping.new ≡ placed_at mapping.old virt place }
+        ensures shaped { IsShaped lab.now wiring.now mapping.new }
+        ensures seated { IsSeated lab.now wiring.now mapping.new self.new }
+    {
+        self.go(alloc, lab, wiring, mapping, virt, place);
+        self.soft = soft;
     }
 }

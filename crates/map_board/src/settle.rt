@@ -63,7 +63,9 @@ impl Board {
         requires laid { IsLaid setting.now self.now }
         requires first { first.0 < length setting.now.mapper.lab.now.nodes }
         requires second { second.0 < length setting.now.mapper.lab.now.nodes }
-        ensures { IfOk result (λ yes. yes ≡ (may_share setting.now.mapper.lab.now setting.now.mapper.wiring.now self.now.mapping.places first.0 && may_share setting.now.mapper.lab.now setting.now.mapper.wiring.now self.now.mapping.places second.0)) }
+        ensures { IfOk result (λ yes. yes
+            ≡ (may_share setting.now.mapper.lab.now setting.now.mapper.wiring.now self.now.mapping.places first.0
+            && may_share setting.now.mapper.lab.now setting.now.mapper.wiring.now self.now.mapping.places second.0)) }
     {
         if !self.may_share(alloc, setting, first)? {
             return Ok(false);
@@ -85,7 +87,8 @@ impl Board {
     fn is_joined(&self, setting: &Setting) -> bool
         requires setting { IsSetting setting.now }
         requires laid { IsLaid setting.now self.now }
-        ensures { IsTrue result ↔ AllPass (length setting.now.mapper.wiring.now.segments) (keeps_f7 setting.now.mapper.lab.now setting.now.mapper.wiring.now self.now.mapping) }
+        ensures { IsTrue result
+            ↔ AllPass (length setting.now.mapper.wiring.now.segments) (keeps_f7 setting.now.mapper.lab.now setting.now.mapper.wiring.now self.now.mapping) }
     {
         let _kept = setting.mapper.lab.range();
         if setting.table.joined {
@@ -99,7 +102,11 @@ impl Board {
         requires setting { IsSetting setting.now }
         requires laid { IsLaid setting.now self.now }
         requires backward { AreChanges setting.now.mapper.lab.now setting.now.mapper.wiring.now self.now.back.items }
-        ensures { (last : List PlaceSeen) → AllPass (length setting.now.mapper.wiring.now.segments) (keeps_f7 setting.now.mapper.lab.now setting.now.mapper.wiring.now (record { places = last; plugs = unmade self.now.mapping.plugs self.now.back.items })) → (IsTrue result ↔ AllPass (length setting.now.mapper.wiring.now.segments) (keeps_f7 setting.now.mapper.lab.now setting.now.mapper.wiring.now self.now.mapping)) }
+        ensures { (last : List PlaceSeen) → AllPass (length setting.now.mapper.wiring.now.segments)
+            (keeps_f7 setting.now.mapper.lab.now setting.now.mapper.wiring.now
+            (record { places = last; plugs = unmade self.now.mapping.plugs self.now.back.items }))
+            → (IsTrue result ↔ AllPass (length setting.now.mapper.wiring.now.segments)
+            (keeps_f7 setting.now.mapper.lab.now setting.now.mapper.wiring.now self.now.mapping)) }
     {
         let _kept = setting.mapper.lab.range();
         if setting.table.joined {
@@ -144,10 +151,14 @@ impl Board {
         requires virt { virt < length setting.now.mapper.wiring.now.nodes }
         ensures laid { OnOk result (IsLaid setting.now self.new) }
         ensures places { OnOk result (self.new.mapping.places ≡ self.old.mapping.places) }
-        ensures settled { IfOk result (λ yes. yes ≡ true → may_share setting.now.mapper.lab.now setting.now.mapper.wiring.now self.old.mapping.places node.0 ≡ true → IsSettled setting.now self.new.mapping node.0) }
-        ensures others { IfOk result (λ yes. yes ≡ true → (n : ℕ) → n ≢ node.0 → IsSettled setting.now self.old.mapping n → IsSettled setting.now self.new.mapping n) }
+        ensures settled { IfOk result (λ yes. yes ≡ true
+            → may_share setting.now.mapper.lab.now setting.now.mapper.wiring.now self.old.mapping.places node.0 ≡ true
+            → IsSettled setting.now self.new.mapping node.0) }
+        ensures others { IfOk result (λ yes. yes ≡ true → (n : ℕ) → n ≢ node.0 → IsSettled setting.now self.old.mapping n
+            → IsSettled setting.now self.new.mapping n) }
         ensures same { IfOk result (λ yes. yes ≡ false → self.new.mapping ≡ self.old.mapping) }
-        ensures none { IfOk result (λ yes. yes ≡ false → node_map setting.now.mapper.lab.now setting.now.mapper.free.now setting.now.mapper.wiring.now self.old.mapping.places ≡ None) }
+        ensures none { IfOk result (λ yes. yes ≡ false
+            → node_map setting.now.mapper.lab.now setting.now.mapper.free.now setting.now.mapper.wiring.now self.old.mapping.places ≡ None) }
     {
         self.changes.clear();
         let yes = give(
@@ -184,7 +195,8 @@ impl Board {
         ensures places { OnOk result (self.new.mapping.places ≡ self.old.mapping.places) }
         ensures settled { IfOk result (λ yes. yes ≡ true → IsSettled setting.now self.new.mapping node.0) }
         ensures others { IfOk result (λ yes. (n : ℕ) → n ≢ node.0 → IsSettled setting.now self.old.mapping n → IsSettled setting.now self.new.mapping n) }
-        ensures none { IfOk result (λ yes. yes ≡ false → node_map setting.now.mapper.lab.now setting.now.mapper.free.now setting.now.mapper.wiring.now self.old.mapping.places ≡ None) }
+        ensures none { IfOk result (λ yes. yes ≡ false
+            → node_map setting.now.mapper.lab.now setting.now.mapper.free.now setting.now.mapper.wiring.now self.old.mapping.places ≡ None) }
     {
         if self.is_crowded(setting, virt) {
             return Ok(false);
@@ -201,7 +213,8 @@ impl Board {
         requires setting { IsSetting setting.now }
         requires laid { IsLaid setting.now self.now }
         requires settled { (n : ℕ) → n < length setting.now.mapper.lab.now.nodes → IsSettled setting.now self.now.mapping n }
-        ensures { node_map setting.now.mapper.lab.now setting.now.mapper.free.now setting.now.mapper.wiring.now self.now.mapping.places ≡ (if result then Some self.now.mapping else None) }
+        ensures { node_map setting.now.mapper.lab.now setting.now.mapper.free.now setting.now.mapper.wiring.now self.now.mapping.places
+            ≡ (if result then Some self.now.mapping else None) }
     {
         let mapper = setting.mapper;
         let _kept = mapper.lab.range();

@@ -39,7 +39,8 @@ pub struct Setting<'a> {
 
 fn push_rows(rows: &mut Vec<EndRow>, number: u16, segment: &Segment) -> Result<(), Memory>
     requires { length segment.now.ends ≤ 256 }
-    ensures { OnOk result (rows.new.items ≡ rows.old.items ++ replicate (length segment.now.ends) (record { segment = number; ends = length segment.now.ends; kbps = segment.now.kbps })) }
+    ensures { OnOk result (rows.new.items
+        ≡ rows.old.items ++ replicate (length segment.now.ends) (record { segment = number; ends = length segment.now.ends; kbps = segment.now.kbps })) }
 {
     let ends = segment.ends.len();
     for _end in 0..ends {

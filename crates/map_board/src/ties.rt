@@ -50,7 +50,8 @@ fn first_member(wiring: &Wiring, class: u16, virt: u16) -> u16
     requires virt { virt < length wiring.now.nodes }
     requires member { is_member class (virt_at wiring.now virt).asks ≡ true }
     ensures within { result < length wiring.now.nodes }
-    ensures first { (places : List PlaceSeen) → length places ≡ length wiring.now.nodes → first_type class wiring.now.nodes places ≡ (slice_index_or places result no_place).1 }
+    ensures first { (places : List PlaceSeen) → length places ≡ length wiring.now.nodes
+        → first_type class wiring.now.nodes places ≡ (slice_index_or places result no_place).1 }
 {
     for earlier in 0..virt {
         if is_member(class, asks_of(wiring, earlier)) {

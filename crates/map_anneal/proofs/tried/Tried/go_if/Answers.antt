@@ -3,6 +3,8 @@ use Rattle.std.proofs.Math.ListN.{set}
 use Rattle.virt_topo.specs.declared.mapping.Mapping.{Mapping}
 use Rattle.lab_model.specs.Shapes.{Place}
 use Rattle.lab_model.specs.Rules.{no_place}
+use Rattle.cost_rule.specs.declared.parts.Parts.{Parts}
+use Rattle.cost_rule.specs.Cost.{soft}
 use Rattle.node_maps.specs.NodeMaps.{node_map}
 use Rattle.map_board.proofs.Choices.{choice_moved}
 use Rattle.map_board.specs.Seated.{placed_at}
@@ -53,13 +55,25 @@ returns-then-branch-clause-tried g c =
       cost = c.in_ok-settle_if.ensures.cost c.if-branch.true;
     }
 
-pub seat-requires-2-clause-among : goal.seat-requires-2-clause-among
-seat-requires-2-clause-among g c =
+pub seat_back-requires-clause-among : goal.seat_back-requires-clause-among
+seat_back-requires-clause-among g c =
     let s = sought_of c.args.moves.now c.args.rule.now.number in
     let m = c.args.self.now.board.mapping in
     let v = c.args.node in
     let old : c.place_of-old.result ≡ get_or m.places v no_place = c.place_of-old.ensures ∙ ap (λ (l : List Place). get_or l v no_place) c.as_slice-2.ensures in
     subst (λ (p : Place). Contains (get_or (choices s) v []) p) (sym old) (c.requires.tried.board.laid.choice.among v no_place c.requires.within)
+
+pub seat_back-requires-clause-soft : goal.seat_back-requires-clause-soft
+seat_back-requires-clause-soft g c =
+    let x = c.args.moves.now.setting.mapper in
+    let m = c.args.self.now.board.mapping in
+    let v = c.args.node in
+    let old : c.place_of-old.result ≡ get_or m.places v no_place = c.place_of-old.ensures ∙ ap (λ (l : List Place). get_or l v no_place) c.as_slice-2.ensures in
+    let left : c.settle_if.new.self.board.mapping ≡ placed_at m v c.args.place =
+    mapping_is c.settle_if.new.self.board.mapping (placed_at m v c.args.place)
+    (c.in_ok-settle_if.ensures.places ∙ ap (λ (y : Mapping). y.places) c.seat.ensures.mapping)
+    (c.in_ok-settle_if.ensures.plugs c.if-branch.false ∙ ap (λ (y : Mapping). y.plugs) c.seat.ensures.mapping) in
+    ap (λ (y : Parts). y.soft) c.parts-soft.ensures ∙ sym (ap (soft x.lab.now x.wiring.now) ((λ j. placed_at (left j) v (old j)) ∙ moved_back m v c.args.place))
 
 pub returns-clause-same : goal.returns-clause-same
 returns-clause-same g c = λ is.
@@ -70,7 +84,7 @@ returns-clause-same g c = λ is.
     mapping_is c.settle_if.new.self.board.mapping (placed_at m v c.args.place)
     (c.in_ok-settle_if.ensures.places ∙ ap (λ (y : Mapping). y.places) c.seat.ensures.mapping)
     (c.in_ok-settle_if.ensures.plugs c.if-branch.false ∙ ap (λ (y : Mapping). y.plugs) c.seat.ensures.mapping) in
-    c.seat-2.ensures.mapping ∙ (λ j. placed_at (left j) v (old j)) ∙ moved_back m v c.args.place
+    c.seat_back.ensures.mapping ∙ (λ j. placed_at (left j) v (old j)) ∙ moved_back m v c.args.place
 
 pub returns-clause-tried : goal.returns-clause-tried
 returns-clause-tried g c =
@@ -83,13 +97,13 @@ returns-clause-tried g c =
     mapping_is c.settle_if.new.self.board.mapping (placed_at m v c.args.place)
     (c.in_ok-settle_if.ensures.places ∙ ap (λ (y : Mapping). y.places) c.seat.ensures.mapping)
     (c.in_ok-settle_if.ensures.plugs c.if-branch.false ∙ ap (λ (y : Mapping). y.plugs) c.seat.ensures.mapping) in
-    let same : c.seat-2.new.self.mapping ≡ m = c.seat-2.ensures.mapping ∙ (λ j. placed_at (left j) v (old j)) ∙ moved_back m v c.args.place in
+    let same : c.seat_back.new.self.mapping ≡ m = c.seat_back.ensures.mapping ∙ (λ j. placed_at (left j) v (old j)) ∙ moved_back m v c.args.place in
     record {
       board = record {
-        laid = c.seat-2.ensures.laid;
+        laid = c.seat_back.ensures.laid;
         mapped = subst (λ (y : Mapping). node_map x.mapper.lab.now x.mapper.free.now x.mapper.wiring.now y.places ≡ Some y) (sym same) c.requires.tried.board.mapped;
       };
-      none = c.seat-2.ensures.back ∙ c.in_ok-settle_if.ensures.none;
+      none = c.seat_back.ensures.back ∙ c.in_ok-settle_if.ensures.none;
       cost = c.in_ok-settle_if.ensures.same_cost c.if-branch.false ∙ c.requires.tried.cost ∙ ap (price s) (sym same);
     }
 
