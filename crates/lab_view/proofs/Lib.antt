@@ -1,2 +1,2 @@
-pub mod Steps
-pub mod Holders
+mod Steps
+mod Holders
