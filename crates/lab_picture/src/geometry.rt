@@ -74,8 +74,8 @@ pub struct Echo {
 /// Where everything stands.
 #[derive(Drop)]
 pub struct Geometry {
-    pub wide: u32,
-    pub high: u32,
+    pub wide: u64,
+    pub high: u64,
     /// How wide the lines and the strip are.
     pub across: u32,
     /// The size of the head, in tenths.

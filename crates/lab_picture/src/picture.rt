@@ -148,12 +148,10 @@ fn push_rule(text: &mut Text, geometry: &Geometry, y: u32) -> Result<(), Memory>
 fn push_size(text: &mut Text, geometry: &Geometry) -> Result<(), Memory>
     ensures { OnOk result (text.new ≡ text.old ++ size_text geometry.now) }
 {
-    let wide = u64::from(geometry.wide);
-    let high = u64::from(geometry.high);
-    push_field(text, tag(Piece::Picture), wide)?;
-    push_field(text, b" ", high)?;
-    push_field(text, tag(Piece::Wide), wide)?;
-    push_field(text, tag(Piece::High), high)?;
+    push_field(text, tag(Piece::Picture), geometry.wide)?;
+    push_field(text, b" ", geometry.high)?;
+    push_field(text, tag(Piece::Wide), geometry.wide)?;
+    push_field(text, tag(Piece::High), geometry.high)?;
     text.push_bytes(tag(Piece::Open))
 }
 
@@ -164,8 +162,8 @@ fn sheet(geometry: &Geometry) -> Area
     Area {
         x: 0,
         y: 0,
-        wide: u64::from(geometry.wide),
-        high: u64::from(geometry.high),
+        wide: geometry.wide,
+        high: geometry.high,
     }
 }
 
