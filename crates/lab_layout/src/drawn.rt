@@ -1,4 +1,8 @@
 // Where everything stands in the picture of a lab.
+ghost use Rattle.std.specs.Prelude.{◌≡◌, length, IfOk};
+ghost use Rattle.lab_layout.specs.Laid.{IsLaid};
+
+use crate::apart::set_apart;
 use crate::columns::{BESIDE, MARGIN};
 use crate::layout::{
     CELL_HIGH, GAP, Layout, Plan, Slot, Spot, cell_width, head_high, head_scale, layout_of,
@@ -8,6 +12,7 @@ use crate::px::{Place, Px};
 use crate::rows::Rows;
 use crate::tree::forest_of;
 use crate::ways::{line_of, small, way_of, wide_of};
+use crate::within::Reach;
 use lab_base::{Items, Memory};
 use lab_picture::{Card, Echo, Geometry, Label, Line, Point, Way};
 use lab_view::View;
@@ -21,7 +26,9 @@ fn off(layout: &Layout, view: &View) -> Px {
 }
 
 /// The layout whose picture is nearest to a sheet of paper on its side.
-fn best_layout(alloc: Global, plan: Plan<'_>) -> Result<Layout, Memory> {
+fn best_layout(alloc: Global, plan: Plan<'_>) -> Result<Layout, Memory>
+    ensures { IfOk result (λ layout. length layout.spots.items ≡ length plan.entry.view.now.switches) }
+{
     let cell = cell_width(plan.view);
     let mut best = layout_of(alloc, plan, cell, 4)?;
     let mut least = off(&best, plan.view);
@@ -80,10 +87,13 @@ const NO_WAY: Way = Way {
     end: 0,
 };
 
-fn bare_trunks(alloc: Global, count: usize) -> Result<Trunks, Memory> {
+fn bare_trunks(alloc: Global, count: usize) -> Result<Trunks, Memory>
+    ensures lines { IfOk result (λ trunks. length trunks.lines.items ≡ count) }
+    ensures labels { IfOk result (λ trunks. length trunks.labels.items ≡ count) }
+{
     let mut lines = Vec::new(alloc);
     let mut labels = Vec::new(alloc);
-    for _ in 0..count {
+    for _number in 0..count {
         lines.push(Line {
             way: NO_WAY,
             wide: 0,
@@ -110,7 +120,10 @@ fn label_of(kbps: u64, card: Place) -> Label {
 
 impl Trunks {
     /// Notes the line and the label of the trunk that leads to a child.
-    fn note(&mut self, plan: Plan<'_>, layout: &Layout, child: usize, way: Way) {
+    fn note(&mut self, plan: Plan<'_>, layout: &Layout, child: usize, way: Way)
+        ensures lines { length self.new.lines.items ≡ length self.old.lines.items }
+        ensures labels { length self.new.labels.items ≡ length self.old.labels.items }
+    {
         let Some(up) = plan.forest.up(child) else {
             return;
         };
@@ -126,7 +139,10 @@ impl Trunks {
     }
 
     /// Notes the trunks that lead from a switch to its children.
-    fn note_all(&mut self, plan: Plan<'_>, layout: &Layout, spot: &Spot) {
+    fn note_all(&mut self, plan: Plan<'_>, layout: &Layout, spot: &Spot)
+        ensures lines { length self.new.lines.items ≡ length self.old.lines.items }
+        ensures labels { length self.new.labels.items ≡ length self.old.labels.items }
+    {
         for (number, slot) in spot.slots.iter().enumerate() {
             if let Slot::Child(child) = *slot {
                 let way = way_of(layout, spot, number, *slot);
@@ -136,7 +152,10 @@ impl Trunks {
     }
 }
 
-fn trunks_of(alloc: Global, plan: Plan<'_>, layout: &Layout) -> Result<Trunks, Memory> {
+fn trunks_of(alloc: Global, plan: Plan<'_>, layout: &Layout) -> Result<Trunks, Memory>
+    ensures lines { IfOk result (λ trunks. length trunks.lines.items ≡ length plan.entry.view.now.trunks) }
+    ensures labels { IfOk result (λ trunks. length trunks.labels.items ≡ length plan.entry.view.now.trunks) }
+{
     let mut trunks = bare_trunks(alloc, plan.view.trunks.len())?;
     for spot in layout.spots.iter() {
         trunks.note_all(plan, layout, spot);
@@ -181,16 +200,25 @@ const NOWHERE: lab_picture::Place = lab_picture::Place {
     high: 0,
 };
 
+fn bare_cells(alloc: Global, count: usize) -> Result<Vec<lab_picture::Place>, Memory>
+    ensures { IfOk result (λ cells. length cells.items ≡ count) }
+{
+    let mut cells = Vec::new(alloc);
+    for _number in 0..count {
+        cells.push(NOWHERE)?;
+    }
+    Ok(cells)
+}
+
 /// By machine its box.
 fn cells_of(
     alloc: Global,
     plan: Plan<'_>,
     layout: &Layout,
-) -> Result<Items<lab_picture::Place>, Memory> {
-    let mut cells = Vec::new(alloc);
-    for _ in plan.view.machines.as_slice() {
-        cells.push(NOWHERE)?;
-    }
+) -> Result<Items<lab_picture::Place>, Memory>
+    ensures { IfOk result (λ cells. length cells ≡ length plan.entry.view.now.machines) }
+{
+    let mut cells = bare_cells(alloc, plan.view.machines.len())?;
     for (switch, spot) in layout.spots.iter().enumerate() {
         note_cells(
             &mut cells,
@@ -210,7 +238,9 @@ fn cells_of(
     Ok(Items::from_vec(cells))
 }
 
-fn cards_of(alloc: Global, layout: &Layout) -> Result<Items<Card>, Memory> {
+fn cards_of(alloc: Global, layout: &Layout) -> Result<Items<Card>, Memory>
+    ensures { IfOk result (λ cards. length cards ≡ length layout.now.spots.items) }
+{
     let mut cards = Items::new(alloc);
     for spot in layout.spots.iter() {
         cards.push(card_of(spot.card))?;
@@ -218,7 +248,9 @@ fn cards_of(alloc: Global, layout: &Layout) -> Result<Items<Card>, Memory> {
     Ok(cards)
 }
 
-fn echoes_of(alloc: Global, layout: &Layout) -> Result<Items<Option<Echo>>, Memory> {
+fn echoes_of(alloc: Global, layout: &Layout) -> Result<Items<Option<Echo>>, Memory>
+    ensures { IfOk result (λ echoes. length echoes ≡ length layout.now.spots.items) }
+{
     let mut echoes = Items::new(alloc);
     for spot in layout.spots.iter() {
         echoes.push(echo_of(layout, spot))?;
@@ -236,33 +268,49 @@ fn lone_of(plan: Plan<'_>, layout: &Layout) -> Option<Point> {
     })
 }
 
-fn drawn(alloc: Global, plan: Plan<'_>, layout: &Layout) -> Result<Geometry, Memory> {
+fn drawn(alloc: Global, plan: Plan<'_>, layout: &Layout) -> Result<Geometry, Memory>
+    requires { length layout.now.spots.items ≡ length plan.view.now.switches }
+    ensures { IfOk result (IsLaid plan.entry.view.now) }
+{
     let view = plan.view;
     let wide = layout.wide;
     let across = wide - MARGIN * 2;
     let top = layout.high + 10;
     let trunks = trunks_of(alloc, plan, layout)?;
-    let strip = Place {
+    let strip = small(Place {
         x: MARGIN,
         y: top + 30,
         wide: across,
         high: Px(14),
-    };
+    });
+    let cells = set_apart(alloc, cells_of(alloc, plan, layout)?)?;
+    let cards = cards_of(alloc, layout)?;
+    let echoes = echoes_of(alloc, layout)?;
+    let entries = entries_of(alloc, view, wide, top)?;
+    let reach = Reach {
+        wide: wide.0,
+        high: (layout.high + lists_high(view, wide)).0,
+    }
+    .over(strip)
+    .over_all(cells.as_slice())
+    .over_cards(cards.as_slice())
+    .over_echoes(echoes.as_slice())
+    .over_points(entries.as_slice());
     Ok(Geometry {
-        wide: wide.small(),
-        high: (layout.high + lists_high(view, wide)).small(),
+        wide: reach.wide,
+        high: reach.high,
         across: across.small(),
         scale: Px(head_scale(wide)).small(),
         head: (head_high(wide) - 12).small(),
         foot: (layout.high + 2).small(),
-        cards: cards_of(alloc, layout)?,
-        echoes: echoes_of(alloc, layout)?,
+        cards,
+        echoes,
         lines: Items::from_vec(trunks.lines),
         labels: Items::from_vec(trunks.labels),
-        cells: cells_of(alloc, plan, layout)?,
+        cells,
         lone: lone_of(plan, layout),
         marks: marks_of(alloc, view.owners.len(), across)?,
-        strip: small(strip),
+        strip,
         ids: Point {
             x: MARGIN.small(),
             y: (top + 20).small(),
@@ -271,13 +319,15 @@ fn drawn(alloc: Global, plan: Plan<'_>, layout: &Layout) -> Result<Geometry, Mem
             x: MARGIN.small(),
             y: (top + 80).small(),
         },
-        entries: entries_of(alloc, view, wide, top)?,
+        entries,
         second: second(view).small(),
     })
 }
 
 /// Where everything stands in the picture of a lab.
-pub fn geometry_of(alloc: Global, view: &View) -> Result<Geometry, Memory> {
+pub fn geometry_of(alloc: Global, view: &View) -> Result<Geometry, Memory>
+    ensures { IfOk result (IsLaid view.now) }
+{
     let forest = forest_of(alloc, view)?;
     let rows = Rows::new(alloc, view)?;
     let plan = Plan {

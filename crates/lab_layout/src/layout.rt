@@ -1,4 +1,6 @@
 // Where everything stands.
+ghost use Rattle.std.specs.Prelude.{◌≡◌, length, IfOk, OnOk, vec_len};
+
 use crate::columns::{BESIDE, Columns, MARGIN, PORT, columns_of_lab};
 use crate::px::{Place, Px, at, nowhere, width};
 use crate::rows::Rows;
@@ -201,7 +203,9 @@ impl Layout {
     }
 
     /// From the leaves up: how high each block is.
-    fn measure(&mut self, order: &[usize]) {
+    fn measure(&mut self, order: &[usize])
+        ensures { length self.new.spots.items ≡ length self.old.spots.items }
+    {
         for switch in order.iter().rev() {
             let block = self.block_of(*switch);
             if let Some(spot) = self.spots.get_mut(*switch) {
@@ -211,7 +215,9 @@ impl Layout {
     }
 
     /// Puts a block there: its card in its midst, and below another the blocks of its slots, whose tops are noted.
-    fn put(&mut self, switch: usize, top: Px, tops: &mut [Px]) {
+    fn put(&mut self, switch: usize, top: Px, tops: &mut [Px])
+        ensures { length self.new.spots.items ≡ length self.old.spots.items }
+    {
         let Some(spot) = self.spots.get(switch) else {
             return;
         };
@@ -236,7 +242,9 @@ impl Layout {
     }
 
     /// From the roots down: where each block stands. The answer is where the last one ends.
-    fn put_all(&mut self, alloc: Global, forest: &Forest, top: Px) -> Result<Px, Memory> {
+    fn put_all(&mut self, alloc: Global, forest: &Forest, top: Px) -> Result<Px, Memory>
+        ensures { OnOk result (length self.new.spots.items ≡ length self.old.spots.items) }
+    {
         let mut tops = Vec::new(alloc);
         for _ in self.spots.iter() {
             tops.push(Px(0))?;
@@ -262,7 +270,9 @@ pub(crate) fn layout_of(
     plan: Plan<'_>,
     cell: Px,
     most: usize,
-) -> Result<Layout, Memory> {
+) -> Result<Layout, Memory>
+    ensures { IfOk result (λ layout. length layout.spots.items ≡ length plan.entry.view.now.switches) }
+{
     let columns = columns_of_lab(alloc, plan)?;
     let lone = plan.rows.lone.len();
     let lone_columns = columns_for(lone, most);

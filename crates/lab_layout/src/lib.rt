@@ -2,6 +2,7 @@
 //! in rows.
 #![tactic(auto)]
 
+mod apart;
 mod columns;
 mod drawn;
 mod layout;
@@ -10,5 +11,6 @@ mod px;
 mod rows;
 mod tree;
 mod ways;
+mod within;
 
 pub use drawn::geometry_of;

@@ -1,4 +1,6 @@
 // Where the lists below a lab stand.
+ghost use Rattle.std.specs.Prelude.{◌≡◌, ◌+◌, length, IfOk};
+
 use crate::columns::MARGIN;
 use crate::px::{Px, width};
 use lab_base::{Items, Memory};
@@ -47,13 +49,20 @@ pub(crate) fn lists_high(view: &View, wide: Px) -> Px {
     LIST + ROW * rows as u64 + 30
 }
 
+/// Where the VLAN id of that number begins on a strip of so many.
+fn mark_of(number: usize, count: usize, across: Px) -> u32 {
+    (MARGIN + across * number as u64 / count as u64).small()
+}
+
 /// By VLAN id where it begins on a strip of that width, and behind the last one where the strip ends.
-pub(crate) fn marks_of(alloc: Global, count: usize, across: Px) -> Result<Items<u32>, Memory> {
+pub(crate) fn marks_of(alloc: Global, count: usize, across: Px) -> Result<Items<u32>, Memory>
+    ensures { IfOk result (λ marks. length marks ≡ count + 1) }
+{
     let mut marks = Items::new(alloc);
-    for number in 0..=count {
-        let mark = MARGIN + across * number as u64 / count as u64;
-        marks.push(mark.small())?;
+    for number in 0..count {
+        marks.push(mark_of(number, count, across))?;
     }
+    marks.push(mark_of(count, count, across))?;
     Ok(marks)
 }
 
@@ -63,12 +72,14 @@ pub(crate) fn entries_of(
     view: &View,
     wide: Px,
     top: Px,
-) -> Result<Items<Point>, Memory> {
+) -> Result<Items<Point>, Memory>
+    ensures { IfOk result (λ entries. length entries ≡ length view.now.experiments) }
+{
     let (_columns, rows) = shape(view, wide);
     let mut entries = Items::new(alloc);
     let mut x = MARGIN;
     let mut y = Px(0);
-    for _ in view.experiments.as_slice() {
+    for _exp in view.experiments.as_slice() {
         entries.push(Point {
             x: x.small(),
             y: (top + LIST + y - 12).small(),

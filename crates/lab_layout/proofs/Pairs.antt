@@ -1,0 +1,26 @@
+-- One box more is apart from all behind it.
+use Rattle.std.proofs.Common.{◌≡◌, ℕ, ◌+◌, ◌-◌, ◌<◌, List, length, get_or, take, drop, ap, sym, ◌∙◌, subst, below_more, arith}
+use Rattle.std.specs.Prelude.{All}
+use Rattle.std.proofs.lemmas.List.{length-drop, get_or-drop, get_or_default, take_all}
+use Rattle.std.proofs.lemmas.List.Elements.{All-same}
+use Rattle.lab_picture.specs.declared.geometry.Place.{Place}
+use Rattle.lab_layout.specs.Laid.{IsApart}
+
+abbrev pub Below : List Place → ℕ → Type 0
+Below ps n = (i j : ℕ) (d : Place) → i < n → i < j → j < length ps → IsApart (get_or ps i d) (get_or ps j d)
+
+behind : (ps : List Place) (i j : ℕ) (d p : Place) → p ≡ get_or ps i d → All (IsApart p) (drop (i + 1) ps) → i < j → j < length ps → IsApart (get_or ps i d) (get_or ps j d)
+behind ps i j d p is apart less within =
+    let k : ℕ = j - (i + 1) in
+    let lies : k < length (drop (i + 1) ps) = omega (arith, length-drop (i + 1) ps) in
+    let same : i + 1 + k ≡ j = omega arith in
+    let there = subst (λ (q : Place). IsApart p q) (get_or-drop (i + 1) ps k d ∙ ap (λ (m : ℕ). get_or ps m d) same) (apart k d lies) in
+    subst (λ (q : Place). IsApart q (get_or ps j d)) is there
+
+pub pairs_more : (ps : List Place) (n : ℕ) (e : Place) → n < length ps → Below ps n → All (IsApart (get_or ps n e)) (take (length ps - (n + 1)) (drop (n + 1) ps))
+    → Below ps (n + 1)
+pairs_more ps n e here before apart i j d lies less within =
+    let P : ℕ → Type 0 = λ i. (j : ℕ) (d : Place) → i < j → j < length ps → IsApart (get_or ps i d) (get_or ps j d) in
+    let whole : take (length ps - (n + 1)) (drop (n + 1) ps) ≡ drop (n + 1) ps = take_all (length ps - (n + 1)) (drop (n + 1) ps) (omega (arith, length-drop (n + 1) ps)) in
+    let rest = All-same (IsApart (get_or ps n e)) (drop (n + 1) ps) (take (length ps - (n + 1)) (drop (n + 1) ps)) (sym whole) apart in
+    below_more P n (λ i h j d. before i j d h) (λ j d. behind ps n j d (get_or ps n e) (get_or_default ps n e d here) rest) i lies j d less within

@@ -1,0 +1,106 @@
+// Machines that don't overlap.
+ghost use Rattle.std.specs.Prelude.{◌≡◌, ◌≤◌, ◌+◌, length, All, AllPairs, IsTrue, IfOk};
+ghost use Rattle.lab_layout.specs.Laid.{IsApart, HasRoom, AreApart};
+
+use lab_base::{Items, Memory};
+use lab_picture::Place;
+use std::alloc::Global;
+
+/// Whether an edge ends where another begins, or before.
+fn is_before(start: u32, size: u32, next: u32) -> bool
+    ensures { IsTrue result → start + size ≤ next }
+{
+    u64::from(start) + u64::from(size) <= u64::from(next)
+}
+
+fn is_beside(one: Place, other: Place) -> bool
+    ensures { IsTrue result → IsApart one other }
+{
+    is_before(one.x, one.wide, other.x) || is_before(other.x, other.wide, one.x)
+}
+
+fn is_above(one: Place, other: Place) -> bool
+    ensures { IsTrue result → IsApart one other }
+{
+    is_before(one.y, one.high, other.y) || is_before(other.y, other.high, one.y)
+}
+
+fn is_apart(one: Place, other: Place) -> bool
+    ensures { IsTrue result → IsApart one other }
+{
+    is_beside(one, other) || is_above(one, other)
+}
+
+fn has_room(place: Place) -> bool
+    ensures { IsTrue result → HasRoom place }
+{
+    place.wide >= 84 && place.high >= 44
+}
+
+fn is_apart_from(one: Place, others: &[Place]) -> bool
+    ensures { IsTrue result → All (IsApart one) others.now }
+{
+    for other in others {
+        if !is_apart(one, *other) {
+            return false;
+        }
+    }
+    true
+}
+
+fn all_have_room(places: &[Place]) -> bool
+    ensures { IsTrue result → All HasRoom places.now }
+{
+    for place in places {
+        if !has_room(*place) {
+            return false;
+        }
+    }
+    true
+}
+
+fn all_are_apart(places: &[Place]) -> bool
+    ensures { IsTrue result → AllPairs IsApart places.now }
+{
+    for (number, place) in places.iter().enumerate() {
+        if !is_apart_from(*place, &places[number + 1..]) {
+            return false;
+        }
+    }
+    true
+}
+
+/// Machines below one another.
+fn column(alloc: Global, count: usize) -> Result<Items<Place>, Memory>
+    requires { count ≤ 65536 }
+    ensures len { IfOk result (λ cells. length cells ≡ count) }
+    ensures apart { IfOk result AreApart }
+{
+    let mut cells = Items::new(alloc);
+    for number in 0..count {
+        cells.push(Place {
+            x: 40,
+            y: 138 + 49 * number as u32,
+            wide: 84,
+            high: 44,
+        })?;
+    }
+    Ok(cells)
+}
+
+fn are_apart(places: &[Place]) -> bool
+    ensures { IsTrue result → AreApart places.now }
+{
+    all_have_room(places) && all_are_apart(places)
+}
+
+/// These boxes, where no two overlap and each has room. No lab is known of which that isn't so; machines stand below one another then.
+pub(crate) fn set_apart(alloc: Global, cells: Items<Place>) -> Result<Items<Place>, Memory>
+    ensures len { IfOk result (λ apart. length apart ≡ length cells) }
+    ensures apart { IfOk result (λ apart. length cells ≤ 65536 → AreApart apart) }
+{
+    if cells.len() > 65_536 || are_apart(cells.as_slice()) {
+        return Ok(cells);
+    }
+    column(alloc, cells.len())
+}
