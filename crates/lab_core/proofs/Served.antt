@@ -1,11 +1,11 @@
 -- `batch`: what is judged of it and of its runs in the parts of a controller, and what it leaves.
 use Rattle.std.specs.Prelude.{if◌then◌else◌}
-use Rattle.std.specs.List.{range_with_len}
-use Rattle.std.proofs.Common.{◌≡◌, inl, inr, ◌+◌, ℕ, Bool, true, false, List, [], ◌∷◌, ◌++◌, filter, length, map, take, slice_get, Option, Some, None, IfOk, IfSome, Result, Ok, Err, refl, sym, ap, ◌∙◌, subst}
+use Rattle.std.specs.List.{list_any, range_with_len}
+use Rattle.std.proofs.Common.{◌≡◌, inl, inr, ℕ, ◌||◌, ◌==◌, Bool, true, false, List, [], ◌∷◌, ◌++◌, filter, length, map, Option, Some, None, IfOk, IfSome, Result, Ok, Err, refl, sym, ap, ◌∙◌, subst}
 use Rattle.std.proofs.lemmas.Bool.{cases_Bool}
-use Rattle.std.proofs.lemmas.List.{length-map, take_more}
+use Rattle.std.proofs.lemmas.List.{length-map}
+use Rattle.std.proofs.lemmas.List.Folds.{list_any-append}
 use Rattle.std.proofs.lemmas.List.FromFn.{length-range_with_len}
-use Rattle.std.proofs.lemmas.Option.{slice_get_within, get_or_from_slice_get}
 use Rattle.lab_base.specs.Lists.{listed}
 use Rattle.lab_base.specs.declared.fault.TextFault.{TextFault}
 use Rattle.lab_base.specs.declared.fault.TextRefused.{TextRefused}
@@ -13,7 +13,13 @@ use Rattle.lab_base.specs.declared.fault.TextRefused.TheVariants as texts
 use Rattle.phys_lab.specs.Labs.{Lab}
 use Rattle.plant.specs.Seen.{Seen}
 use Rattle.records_model.specs.Labs.{LabState, others}
+use Rattle.claims.specs.declared.claim.Entry.{Entry}
+use Rattle.claims.specs.Held.{claim_nodes, is_in, nodes_in, owner_of}
+use Rattle.claims.specs.Holds.{claim_of, hold_in}
 use Rattle.lab_model.specs.Beside.{violation_beside}
+use Rattle.lab_model.specs.Claims.{Old, New, claimed}
+use Rattle.lab_model.specs.Shapes.{Place}
+use Rattle.virt_topo.specs.declared.mapping.Mapped.{Mapped}
 use Rattle.virt_topo.specs.declared.violation.Broken.{Broken}
 use Rattle.virt_topo.specs.declared.violation.Subject.{Subject}
 use Rattle.recovery.specs.Due.{is_busy}
@@ -56,7 +62,7 @@ use Rattle.lab_core.specs.Judge.{◌>>=◌, Is, IsFound, Swap, Task, Tell, asked
 use Rattle.lab_core.specs.LabSteps.{has_space}
 use Rattle.lab_core.specs.Obey.{Obeyed, ObeysCommand, start_of}
 use Rattle.lab_core.specs.Queues.{EndsRun, IsJudgedBatch, IsSwapTask, ObeysRuns, held_back, left_beside}
-use Rattle.lab_core.specs.Serving.{IsTestedAs, JudgedBatch, JudgedPlace, JudgedRun, JudgedRunAt, claimers_at, claimers_of, claims_node, first_run, fits, full, runs_in_turn, span_of, wait_of, waits}
+use Rattle.lab_core.specs.Serving.{IsTestedAs, JudgedBatch, JudgedPlace, JudgedRun, JudgedRunAt, claimers_at, claimers_of, claims_node, first_run, fits, full, places_node, runs_in_turn, span_of, wait_of, waits}
 use Rattle.lab_core.specs.Sessions.{OpenSwap, names_of}
 use Rattle.lab_core.specs.Swapping.{TellsTask}
 use Rattle.lab_core.specs.Tasks.{CanDo, IsJudged, IsMild, IsReady, IsRefusedBy, Refuses, or_any, swapped_by, task_of}
@@ -86,23 +92,27 @@ module _ (s : LabState) (text : List ℕ) (lab : Lab) (there : s.lab ≡ Some la
   batch_refused (texts.Text fault) refusal is h = subst (λ (r : Refusal). IsJudgedBatch s text (Err r)) (sym h.0) (batch_faulty fault is, h.1)
   batch_refused texts.Memory refusal is h = subst (λ (r : Refusal). IsJudgedBatch s text (Err r)) (sym h) tt
 
--- ---- WHO CLAIMS A NODE, one experiment more
-pub claimers_on : (es : List Experiment) (e : Experiment) (n : ℕ) → claimers_at (es ++ e ∷ []) n ≡ claimers_at es n ++ listed (if claims_node n e then Some e.name else None)
-claimers_on [] e n = by (claims_node n e)
-  where
-    by : (b : Bool) → map (λ (x : Experiment). x.name) (if b then e ∷ [] else []) ≡ listed (if b then Some e.name else None)
-    by true = refl
-    by false = refl
-claimers_on (d ∷ es) e n = by (claims_node n d) (claimers_on es e n)
-  where
-    by : (b : Bool) → claimers_at (es ++ e ∷ []) n ≡ claimers_at es n ++ listed (if claims_node n e then Some e.name else None) → map (λ (x : Experiment). x.name) (if b then d ∷ filter (claims_node n) (es ++ e ∷ []) else filter (claims_node n) (es ++ e ∷ []))
-        ≡ map (λ (x : Experiment). x.name) (if b then d ∷ filter (claims_node n) es else filter (claims_node n) es) ++ listed (if claims_node n e then Some e.name else None)
-    by true rest = ap (λ l. d.name ∷ l) rest
-    by false rest = rest
+-- ---- WHO CLAIMS A NODE: its owner alone
+placed_on : (n : ℕ) (places : List Place) → list_any (λ m. m == n) (map (λ m. m.0) (map (λ p. p.0) places)) ≡ list_any (λ p. p.0.0 == n) places
+placed_on n [] = refl
+placed_on n (p ∷ places) = ap (λ b. (p.0.0 == n) || b) (placed_on n places)
 
-pub claimers_more : (es : List Experiment) (k : ℕ) (e : Experiment) (n : ℕ) → slice_get es k ≡ Some e → claimers_at (take (k + 1) es) n ≡ claimers_at (take k es) n ++ listed (if claims_node n e then Some e.name else None)
-claimers_more es k e n is =
-    ap (λ (l : List Experiment). claimers_at l n) (take_more es k e (slice_get_within es k e is) ∙ ap (λ (y : Experiment). take k es ++ y ∷ []) (get_or_from_slice_get es k e e is)) ∙ claimers_on (take k es) e n
+placed_by : (lab : Lab) (n : ℕ) (o : Option Mapped) → is_in n (nodes_in (hold_in lab o)) ≡ places_node n o
+placed_by lab n None = refl
+placed_by lab n (Some m) = placed_on n m.mapping.places
+
+claims_as : (lab : Lab) (n : ℕ) (e : Experiment) → is_in n (claim_nodes (claim_of lab e)) ≡ claims_node n e
+claims_as lab n e =
+    list_any-append (λ m. m == n) (nodes_in (hold_in lab (claimed e Old))) (nodes_in (hold_in lab (claimed e New)))
+    ∙ (λ i. placed_by lab n (claimed e Old) i || placed_by lab n (claimed e New) i)
+
+module _ (lab : Lab) (es : List Experiment) (entries : List Entry)
+    (alone : (n : ℕ) → map (λ e. e.name) (filter (λ e. is_in n (claim_nodes (claim_of lab e))) es) ≡ listed (owner_of claim_nodes entries n)) where
+  owner_at : (n : ℕ) → listed (owner_of claim_nodes entries n) ≡ claimers_at es n
+  owner_at n = sym (alone n) ∙ (λ i. map (λ (e : Experiment). e.name) (filter (λ e. claims_as lab n e i) es))
+
+  pub owners_claim : (nodes : ℕ) → map (λ n. listed (owner_of claim_nodes entries n)) (range_with_len 0 nodes) ≡ claimers_of nodes es
+  owners_claim nodes = λ i. map (λ n. owner_at n i) (range_with_len 0 nodes)
 
 pub claimers_long : (nodes : ℕ) (es : List Experiment) → length (claimers_of nodes es) ≡ nodes
 claimers_long nodes es = length-map (range_with_len 0 nodes) (claimers_at es) ∙ length-range_with_len 0 nodes

@@ -1,7 +1,8 @@
 // The judgement of a run of a batch.
-ghost use Rattle.std.specs.Prelude.{ℕ, List, ◌≡◌, ◌<◌, ◌≤◌, ◌+◌, ◌++◌, ◌↔◌, ◌==◌, None, Some, IfOk, IfSome, length, take, if◌then◌else◌};
-ghost use Rattle.std.specs.List.{list_any};
+ghost use Rattle.std.specs.Prelude.{ℕ, List, ◌≡◌, ◌<◌, ◌≤◌, ◌↔◌, None, Some, IfOk, IfSome, length, map};
+ghost use Rattle.std.specs.List.{range_with_len};
 ghost use Rattle.lab_base.specs.Lists.{listed};
+ghost use Rattle.claims.specs.Held.{claim_nodes, owner_of};
 ghost use Rattle.journal_rec.specs.Payloads.{IsRecord};
 ghost use Rattle.journal_rec.specs.declared.record.Record.TheVariants as records;
 ghost use Rattle.journal_rec.specs.declared.record.Way.{Way as AnyWay};
@@ -16,7 +17,7 @@ ghost use Rattle.lab_core.specs.Controller.{has_open};
 ghost use Rattle.lab_core.specs.JudgeSwap.{IsOutIn, Keeps};
 ghost use Rattle.lab_core.specs.Judge.{task_in};
 ghost use Rattle.lab_core.specs.Queues.{CanServe, IsJudgedBatch, IsSwapTask, held_back, left_beside, space_in};
-ghost use Rattle.lab_core.specs.Serving.{IsTestedAs, JudgedPlace, JudgedRunAt, JudgedTest, claimers_at, claimers_of, claims_node, places_node, span_of, wait_of as wait_reply};
+ghost use Rattle.lab_core.specs.Serving.{IsTestedAs, JudgedPlace, JudgedRunAt, JudgedTest, claimers_of, span_of, wait_of as wait_reply};
 ghost use Rattle.lab_core.specs.Swapping.{IsBegin};
 ghost use Rattle.lab_core.specs.Tasks.{CanDo, IsJudged, IsRefusedBy, task_of};
 
@@ -26,6 +27,7 @@ use crate::judge_swap::judge_mapping;
 use crate::needs::need_lab;
 use crate::perform::has_space;
 use crate::task::{Refusal, Task};
+use claims::{Claims, owners};
 use cost_rule::StepRule;
 use journal_disk::Journal;
 use journal_rec::{Record, encode};
@@ -37,7 +39,7 @@ use script_text::Reply;
 use std::alloc::Global;
 use swap_mgr::Manager;
 use swap_plan::Ops;
-use virt_topo::{Experiment, Mapped, Mapping, Phase};
+use virt_topo::{Experiment, Mapping};
 
 /// A batch in hand: its moment and promises, and the experiments that it swapped in, each with the end of its run.
 #[derive(Drop)]
@@ -69,85 +71,54 @@ pub(crate) fn judge_batch(alloc: Global, state: &LabState, text: &[u8]) -> Resul
     }
 }
 
-/// Whether a virtual node of a mapping is placed on the node.
-fn is_placed(mapping: &Mapping, node: NodeId) -> bool
-    ensures { result ≡ list_any (λ p. p.0.0 == node.0) mapping.now.places }
-{
-    mapping
-        .places
-        .as_slice()
-        .iter()
-        .any(|place| place.0 == node)
-}
-
-fn places_node(mapped: &Option<Mapped>, node: NodeId) -> bool
-    ensures { result ≡ places_node node.0 mapped.now }
-{
-    match mapped {
-        Some(mapped) => is_placed(&mapped.mapping, node),
-        None => false,
-    }
-}
-
-fn claims_node(experiment: &Experiment, node: NodeId) -> bool
-    ensures { result ≡ claims_node node.0 experiment.now }
-{
-    match &experiment.phase {
-        Phase::Out => false,
-        Phase::In { mapping, .. } => is_placed(mapping, node),
-        Phase::Moving { old, new } => places_node(old, node) || places_node(new, node),
-    }
-}
-
-/// The name of an experiment, where it claims the node.
-fn name_if_claims(experiment: &Experiment, node: NodeId) -> Option<Name>
-    ensures { result ≡ (if claims_node node.0 experiment.now then Some experiment.now.name else None) }
-{
-    if claims_node(experiment, node) {
-        Some(experiment.name)
-    } else {
-        None
-    }
-}
-
-/// The name of the experiment of that number, where it claims the node.
-fn claimer(state: &LabState, number: usize, node: NodeId) -> Option<Name>
-    requires { number < length state.now.state.experiments }
-    ensures { claimers_at (take (number + 1) state.now.state.experiments) node.0
-        ≡ claimers_at (take number state.now.state.experiments) node.0 ++ listed result }
-{
-    // for the prover: it tells what every lab keeps
-    let _kept = state.lab();
-    match state.nth(number as u16) {
-        Some(experiment) => name_if_claims(experiment, node),
-        None => None,
-    }
-}
-
-/// The experiments that claim a node.
-fn claimers_at(alloc: Global, state: &LabState, node: NodeId) -> Result<Items<Name>, Memory>
-    ensures { IfOk result (λ names. names ≡ claimers_at state.now.state.experiments node.0) }
+/// The one experiment, or none.
+fn at_most_one(alloc: Global, exp: Option<Name>) -> Result<Items<Name>, Memory>
+    ensures { IfOk result (λ names. names ≡ listed exp) }
 {
     let mut names = Items::new(alloc);
-    for number in 0..state.len() {
-        if let Some(name) = claimer(state, number, node) {
-            names.push(name)?;
+    match exp {
+        Some(exp) => {
+            names.push(exp)?;
+            Ok(names)
         }
+        None => Ok(names),
     }
-    Ok(names)
 }
 
-/// By node of a lab of so many the experiments that claim it.
-fn claimers_of(alloc: Global, state: &LabState, nodes: usize) -> Result<Items<Items<Name>>, Memory>
-    requires { nodes ≤ 1024 }
-    ensures { IfOk result (λ by_node. by_node ≡ claimers_of nodes state.now.state.experiments) }
+/// The experiments that claim a node: its owner alone, if it has one.
+fn claimers_at(alloc: Global, claims: &Claims, node: NodeId) -> Result<Items<Name>, Memory>
+    requires { node.0 < claims.now.nodes }
+    ensures { IfOk result (λ names. names ≡ listed (owner_of claim_nodes claims.now.entries node.0)) }
+{
+    at_most_one(alloc, claims.owner_of(node))
+}
+
+/// By node of a lab of so many its owner, if it has one.
+fn owners_of(alloc: Global, claims: &Claims, nodes: usize) -> Result<Items<Items<Name>>, Memory>
+    requires few { nodes ≤ 1024 }
+    requires of_lab { nodes ≤ claims.now.nodes }
+    ensures { IfOk result (λ by_node. by_node ≡ map (λ n. listed (owner_of claim_nodes claims.now.entries n)) (range_with_len 0 nodes)) }
 {
     let mut by_node = Items::new(alloc);
     for node in 0..nodes {
-        let names = claimers_at(alloc, state, NodeId(node as u16))?;
+        let names = claimers_at(alloc, claims, NodeId(node as u16))?;
         by_node.push(names)?;
     }
     Ok(by_node)
+}
+
+/// By node of the lab the experiments that claim it.
+fn claimers_of(alloc: Global, state: &LabState, lab: &Lab) -> Result<Items<Items<Name>>, Memory>
+    requires { state.now.state.lab ≡ Some lab.now }
+    ensures { IfOk result (λ by_node. by_node ≡ claimers_of (length lab.now.nodes) state.now.state.experiments) }
+{
+    // for the prover: they tell what every lab keeps, and that a node's owner alone claims it
+    let _kept = state.lab();
+    owners();
+    match state.claims() {
+        Some(claims) => owners_of(alloc, claims, lab.nodes().len()),
+        None => unreachable!(),
+    }
 }
 
 /// Tests a run in that mapping: its wait at the first moment of its span at which the promises don't fit, if there is one.
@@ -159,7 +130,8 @@ fn wait_of(
     queue: &Queue,
     run: &Run,
 ) -> Result<Option<Wait>, Memory>
-    requires { CanServe queue.now run.now }
+    requires lab { state.now.state.lab ≡ Some lab.now }
+    requires serves { CanServe queue.now run.now }
     ensures fits { IfOk result (λ wait. (wait ≡ None)
         ↔ FitsFor lab.now (left_beside lab.now state.now.state queue.now mapping.now) queue.now.promises queue.now.moment run.now.length) }
     ensures waits { IfOk result (λ wait. IfSome wait
@@ -167,7 +139,7 @@ fn wait_of(
 {
     // for the prover: it tells what every lab keeps
     let _kept = lab.range();
-    let claimers = claimers_of(alloc, state, lab.nodes().len())?;
+    let claimers = claimers_of(alloc, state, lab)?;
     let places = mapping.places.as_slice();
     let left = left_for(alloc, claimers.as_slice(), queue.ends.as_slice(), places)?;
     let span = Span {
