@@ -1,4 +1,4 @@
-pub mod Placing
-pub mod Bodies
-pub mod Stepping
-pub mod Gates
+mod Placing
+mod Bodies
+mod Stepping
+mod Gates
