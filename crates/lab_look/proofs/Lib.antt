@@ -1,5 +1,5 @@
-pub mod Claiming
-pub mod Firsts
-pub mod Colours
-pub mod Looking
-pub mod Sums
+mod Claiming
+mod Firsts
+mod Colours
+mod Looking
+mod Sums
