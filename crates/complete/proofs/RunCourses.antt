@@ -26,10 +26,10 @@ use Rattle.lab_core.specs.Sessions.{OpenSwap, Session, Closed, Open, Setting, Af
 use Rattle.lab_core.specs.Tells.{busy_of, opens_of}
 use Rattle.lab_core.proofs.Others.{Stays, same_stays}
 use Rattle.lab_top.specs.Pieces.{Begun, AreHandedOn, ArePieces, ButForReply, Finds, FirstLab, IsPiece, Leads, StepsFrom, is_closed, session_after, stays_open, steps_of, trace_after}
+use Rattle.lab_top.proofs.AuditLaws.{lab_stays, swaps_stay}
 use Rattle.lab_top.proofs.TurnLaws.{they_differ}
 use Rattle.complete.specs.Booted.{GoesWell}
 use Rattle.complete.specs.OpenCourses.{AreOnLeg, IsCourse, IsOnLeg, forth, steps_in, undo}
-use Rattle.lab_core.proofs.Audited.{audit_opens, audit_stays}
 use Rattle.lab_core.proofs.ListSteps.{plain_step}
 use Rattle.complete.proofs.PlayedOn.{list_continues}
 use Rattle.lab_core.specs.Commands.{ground_by}
@@ -158,15 +158,16 @@ module _ (terms : Terms) (before : List Event) (set : Setting) (s : LabState) (o
   audit_continues : (session : Session) → AreOk session → LabStep terms before set s session Audit opening own after → StepContinues session
   audit_continues Closed ok (not_opened b) = absurd (cc (sym b.session ∙ open_now))
   audit_continues Closed ok (opened mid opens d) =
-      (mid, λ o has. absurd (subst (λ l. Has l o) (audit_opens terms before set s opening own after Closed to open_now (opened mid opens d)) has), λ o none. absurd none)
+      (mid, λ o has. absurd (subst (λ l. Has l o) (swaps_stay (world_of (before ++ opening)) mid [] own after to open_now d) has), λ o none. absurd none)
   audit_continues (Open opens) ok step =
-      let same = audit_opens terms before set s opening own after (Open opens) to open_now step in (
+      let w = world_of (before ++ opening) in
+      let same = swaps_stay w s opens own after to open_now step.1 in (
         s,
         λ o has.
             let there = subst (λ l. Has l o) same has in
             along o there [] (ap (λ c. record o.running { course = c }) (sym (append-nil o.running.course)))
-            (audit_stays terms before set s opening own after (Open opens) (name_in o) (ok o there).1 (λ closed. absurd (cc closed)) step)
-            (λ e found. audit_own (world_of (before ++ opening)) s opens (lab_in s.lab) e step.1),
+            (same_stays (name_in o) s after.lab (ok o there).1 (lab_stays w s opens own after step.1))
+            (λ e found. audit_own w s opens (lab_in s.lab) e step.1),
         λ o has. (refl, step.0),
       )
 

@@ -30,7 +30,6 @@ use Rattle.lab_core.specs.Moments.{AllStandFor}
 use Rattle.lab_core.specs.Recovery.{BreaksOpening}
 use Rattle.lab_core.specs.Sessions.{OpenSwap, Session, Closed, Open, Setting, After, Terms}
 use Rattle.lab_core.specs.Tells.{opens_of}
-use Rattle.lab_core.proofs.Audited.{kept}
 use Rattle.lab_core.proofs.Said.{as_said}
 use Rattle.lab_words.specs.Words.{Choices}
 use Rattle.lab_top.specs.Reports.{ChangesNothing, IsReport, TellsDifference}
@@ -57,6 +56,19 @@ broke_unread events own o reply breaks told_it none name =
 
 -- ONE AUDIT
 module _ (w : World) (s : LabState) (opens : List OpenSwap) (own : List Event) (after : After) where
+  -- the lab stays as it was, and so do the open swaps while the controller stays open
+  pub lab_stays : Audits w s opens own after → after.lab ≡ s
+  lab_stays (no_lab none d) = ap (λ (a : After). a.lab) d.after_is
+  lab_stays (told report nothing switches exact after_is) = ap (λ (a : After). a.lab) after_is
+  lab_stays (unread name own_is after_is) = ap (λ (a : After). a.lab) after_is
+  lab_stays (no_memory wants) = ap (λ (a : After). a.lab) wants.after_is
+
+  pub swaps_stay : (to : List OpenSwap) → after.session ≡ Open to → Audits w s opens own after → to ≡ opens
+  swaps_stay to is (no_lab none d) = let both : Open to ≡ Open opens = sym is ∙ ap (λ (a : After). a.session) d.after_is in cc both
+  swaps_stay to is (told report nothing switches exact after_is) = let both : Open to ≡ Open opens = sym is ∙ ap (λ (a : After). a.session) after_is in cc both
+  swaps_stay to is (unread name own_is after_is) = let both : Open to ≡ Open opens = sym is ∙ ap (λ (a : After). a.session) after_is in cc both
+  swaps_stay to is (no_memory wants) = absurd (cc (is, ap (λ (a : After). a.session) wants.after_is))
+
   -- the report that it told
   tells : (lines : List AuditLine) → after.reply ≡ Some (replies.Audit lines) → Audits w s opens own after → (report : List Line) × IsReport w s report × (lines ≡ map line_of report) × (own ≡ [])
   tells lines is (no_lab none d) = absurd (cc (is, ap (λ (a : After). a.reply) d.after_is))
@@ -132,7 +144,7 @@ module _ (terms : Terms) (trace : List Event) (piece : Piece) (s last : LabState
       let none : piece.own ≡ [] = sym all_own ∙ t.3 in
       let steps_are : trace ++ piece.opening ≡ trace ++ steps_of piece = ap (λ l. trace ++ l) (sym (ap (λ l. piece.opening ++ l) none ∙ append-nil piece.opening)) in (
         t.0,
-        subst (λ l. IsReport (world_of l) last t.0) steps_are (subst (λ (u : LabState). IsReport w u t.0) (sym (kept w x.0 (opens_of piece.from) all ends x.1)) t.1),
+        subst (λ l. IsReport (world_of l) last t.0) steps_are (subst (λ (u : LabState). IsReport w u t.0) (sym (lab_stays w x.0 (opens_of piece.from) all ends x.1)) t.1),
         t.2,
         none,
       ))

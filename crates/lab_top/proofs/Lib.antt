@@ -1,6 +1,6 @@
 mod Answering
 mod Answers
-mod AuditLaws
+pub mod AuditLaws
 mod BrokenOpenings
 mod Commanding
 mod Compact
