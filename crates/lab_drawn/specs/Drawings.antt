@@ -5,6 +5,7 @@ use Rattle.virt_topo.specs.declared.experiment.Experiment.{Experiment}
 use Rattle.records_model.specs.Labs.{LabState}
 use Rattle.lab_picture.specs.declared.geometry.Geometry.{Geometry}
 use Rattle.lab_picture.specs.Pictures.{picture}
+use Rattle.lab_layout.specs.Laid.{IsLaid}
 use Rattle.lab_look.specs.declared.text.Shown.{Shown}
 use Rattle.lab_look.specs.declared.text.Shown.TheVariants as shows
 use Rattle.lab_look.specs.Seen.{view_of}
@@ -16,10 +17,10 @@ pub record Frame : Type 0 where
   pub key : List ℕ
   pub none : List ℕ
 
--- THE PICTURE OF A LAB, wherever everything stands in it
+-- THE PICTURE OF A LAB, with everything at its place, within the picture, and no machine over another
 abbrev pub IsPictureIn : Frame → Option Lab → List Experiment → List ℕ → Type 0
 IsPictureIn frame None es text = text ≡ frame.none
-IsPictureIn frame (Some lab) es text = (g : Geometry) × (text ≡ picture frame.style frame.key g (view_of lab es))
+IsPictureIn frame (Some lab) es text = (g : Geometry) × IsLaid (view_of lab es) g × (text ≡ picture frame.style frame.key g (view_of lab es))
 
 abbrev pub IsPictureOf : Frame → LabState → List ℕ → Type 0
 IsPictureOf frame s text = IsPictureIn frame s.lab s.experiments text
