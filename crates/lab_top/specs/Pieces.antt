@@ -205,7 +205,7 @@ pub record HasLed (trace opening : List Event) (s : LabState) : Type 0 where
 -- it broke off, and came so far from that lab
 abbrev pub WritesInPart : (trace : List Event) (s : LabState) (opening : List Event) (after : LabState) → OpensInPart s opening after → Type 0
 WritesInPart trace s opening after (in_reading reads same) = MakesNew trace opening
-WritesInPart trace s opening after (in_settling front steps is reads miss restart some) = MakesNew trace front
+WritesInPart trace s opening after (in_settling front steps is reads miss restart settled) = MakesNew trace front
 WritesInPart trace s opening after (in_shifting front steps behind is reads miss restart outcomes all shifts) = MakesNew trace front × MovesDue trace (front ++ steps) behind after
 
 pub record HasCome (trace opening : List Event) (s : LabState) : Type 0 where
