@@ -59,8 +59,10 @@ fn file(rt: &HostRuntime, dir: &str, name: &str) -> io::Result<Vec<u8>> {
     }
 }
 
-/// Reads both sides, again and again until two looks in a row find them equal, which then stood so at one moment between both.
+/// Reads both sides, again and again until two looks in a row find them equal, which then stood so at one moment between both. The
+/// tables are read before: a program at work writes a journal first, and then rows.
 fn sides(rt: &HostRuntime, dir: &str) -> io::Result<Seen> {
+    let rows = !file(rt, dir, "/tables")?.is_empty();
     let mut a = file(rt, dir, "/journal.a")?;
     let mut b = file(rt, dir, "/journal.b")?;
     let mut still = false;
@@ -74,7 +76,6 @@ fn sides(rt: &HostRuntime, dir: &str) -> io::Result<Seen> {
             break;
         }
     }
-    let rows = !file(rt, dir, "/tables")?.is_empty();
     Ok(Seen { a, b, rows, still })
 }
 
