@@ -1,4 +1,4 @@
-mod Audited
+pub mod Audited
 mod Behind
 mod Claimed
 mod Compacting
@@ -48,6 +48,7 @@ pub mod Openings
 pub mod OtherWorlds
 pub mod Others
 mod OuterReplies
+pub mod OuterSteps
 mod Parts
 mod Places
 pub mod Rested
