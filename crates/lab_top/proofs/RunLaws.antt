@@ -48,7 +48,7 @@ use Rattle.lab_top.specs.declared.status.Status.{Status}
 use Rattle.lab_top.specs.declared.status.Status.TheVariants.{Memory, JournalBad}
 use Rattle.lab_top.proofs.BrokenOpenings.{breaks_as, breaks_not}
 use Rattle.lab_top.proofs.Pieces.{trace-push}
-use Rattle.lab_top.proofs.Stepping.{and_left, and_right, first_image, has_started}
+use Rattle.lab_top.proofs.Stepping.{and_left, and_right, first_image}
 
 -- ONE OF THE PIECES
 pub piece_at : (terms : Terms) (trace : List Event) (before after : List Begun) (b : Begun) → ArePieces terms trace (before ++ b ∷ after) → IsPiece terms (trace_after trace before) b.piece
