@@ -13,7 +13,7 @@ use Rattle.script_text.specs.declared.reply.Reply.{Reply}
 use Rattle.script_text.specs.declared.reply.Reply.TheVariants as replies
 use Rattle.lab_core.specs.Breaks.{Breaks, stopped, failed, unanswered}
 use Rattle.lab_core.specs.Tells.{is_stopped}
-use Rattle.lab_core.proofs.Fits.{is_outer as is_outer_reply}
+use Rattle.lab_judge.proofs.Fits.{is_outer as is_outer_reply}
 
 -- the reply tells of such a step
 abbrev pub tells_step : Reply → Bool
