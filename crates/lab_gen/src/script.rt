@@ -13,6 +13,9 @@ use rand_core::utils::NextWord;
 use rand_pcg::Pcg32;
 use std::alloc::Global;
 
+/// A bound on the virtual nodes of a generated experiment.
+const MAX_NODES: u16 = 1_000;
+
 /// Adds the interfaces of the 64 nodes.
 fn push_interfaces(text: &mut Text) -> Result<(), Memory>
     ensures { OnOk result (text.new ≡ text.old ++ text_of (flat_map interface_lines (numbers 1 64))) }
@@ -37,7 +40,7 @@ fn push_lab(text: &mut Text) -> Result<(), Memory>
 /// Adds the nodes and links of an experiment of so many virtual nodes.
 fn push_top(text: &mut Text, nodes: u16) -> Result<(), Memory>
     requires some { 0 < nodes }
-    requires few { nodes ≤ 1000 }
+    requires few { nodes ≤ MAX_NODES }
     ensures { OnOk result (text.new ≡ text.old ++ text_of (top_lines nodes)) }
 {
     push_lines(text, Line::VirtualNode, 1, nodes)?;
@@ -58,7 +61,7 @@ fn push_swapout(text: &mut Text, number: u16) -> Result<(), Memory>
 /// Adds the commands on an experiment of so many virtual nodes.
 fn push_experiment(text: &mut Text, number: u16, nodes: u16) -> Result<(), Memory>
     requires some { 0 < nodes }
-    requires few { nodes ≤ 1000 }
+    requires few { nodes ≤ MAX_NODES }
     ensures { OnOk result (text.new ≡ text.old ++ text_of (experiment_lines number nodes)) }
 {
     push_command(text, b"create-top E", number, 2 * nodes - 1)?;
