@@ -308,7 +308,7 @@ impl<H: Host> Machine<H> {
     ) -> Result<(i64, usize), Halt>
         requires short { length text.now ≤ MAX_VALUE }
         requires here { at ≤ length text.now }
-        requires tiers { tier ≤ 6 }
+        requires tiers { tier ≤ TIERS }
         ensures evals { Ended (H.calls line) H.hears (λ x. IntegerAt x.0 x.1) levels (Tier text.now at tier live) (seen H.objects self.old)
             (seen H.objects self.new) result }
         ensures left { self.new.left ≤ self.old.left }
