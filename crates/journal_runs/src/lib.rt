@@ -1,7 +1,7 @@
 //! Runs of a journal over a whole trace: openings, appends, moves onto the other side, and starts of a stopped plant.
 #![tactic(auto)]
 
-ghost use Rattle.std.specs.Prelude.{◌≡◌, ◌↔◌, ◌≤◌, ◌+◌, ◌*◌, ◌^◌, ℕ, Bool, true, false, List, [], ◌∷◌, ◌++◌, count_by, Result, Ok, Err};
+ghost use Rattle.std.specs.Prelude.{◌≡◌, ◌↔◌, ◌≤◌, ◌+◌, ◌*◌, ℕ, Bool, true, false, List, [], ◌∷◌, ◌++◌, count_by, Result, Ok, Err};
 ghost use Rattle.std.specs.Global.{Vec};
 ghost use Rattle.plant.specs.Disks.{disk, ArePossible};
 ghost use Rattle.plant.specs.Events.{Event, Did, Restarted};
@@ -31,6 +31,8 @@ ghost use Rattle.journal_disk.specs.declared.fault.AppendFault.TheVariants as ap
 ghost use Rattle.journal_disk.specs.declared.journal.Journal.{Journal};
 ghost use Rattle.journal_runs.specs.Pieces.{has_command, has_miss, has_outer};
 ghost use Rattle.journal_runs.specs.Working.{StandForLab, AllStandFor, StandForEither, Works};
+
+use journal_rec::{LAST_RECORD, MAX_JOURNAL};
 
 /// An opening sends no device command, starts no plant, and has no failed reading of a device. No call failed after `Ok`, and one did after `Plant`.
 /// A sound trace stays sound, and after `Ok` the journal is at work. With any answer, both sides read alike before it and after it.
@@ -144,7 +146,7 @@ pub fn sound_traces()
     ensures follows { (t : Texts) (trace : List Event) (a b : List ℕ) (rs : List Record) (n : ℕ) → ArePossible trace a b → IsSound t trace
         → AreCanonical t → Records a b rs → StopsAt t at_first rs n → ⊥ }
     ensures room { (t : Texts) (trace : List Event) (a b : List ℕ) (rs : List Record) (s : LabState) → ArePossible trace a b → IsSound t trace
-        → AreCanonical t → Records a b rs → LabOf t rs s → journal_length a b rs + 39 * count_by is_moving s.experiments ≤ 2 ^ 32 }
+        → AreCanonical t → Records a b rs → LabOf t rs s → journal_length a b rs + LAST_RECORD * count_by is_moving s.experiments ≤ MAX_JOURNAL }
 {}
 
 /// Two sides stand for one lab, and sides that read alike for the same. So each image in an opening stands for the lab of an image before it. Once
