@@ -24,7 +24,6 @@ use crate::CoreFault;
 use crate::compaction::compact;
 use crate::judge::judge;
 use crate::judge_play::Span;
-use crate::perform::perform;
 use crate::task::Refusal;
 use cost_rule::StepRule;
 use journal_disk::{Journal, OpenFault};
@@ -260,14 +259,7 @@ impl Controller {
             → ObeysCommand rule.now.number command.now devices (P.seen plant.old) (P.seen plant.new) self.old self.new opens result }
     {
         match judge(self.alloc, &self.lab, &self.swaps, command, rule) {
-            Ok(task) => perform(
-                self.alloc,
-                &mut self.lab,
-                &mut self.journal,
-                &mut self.swaps,
-                task,
-                plant,
-            ),
+            Ok(task) => self.perform(task, plant),
             Err(Refusal::Refused(reply)) => Ok(reply),
             Err(Refusal::Memory) => Err(CoreFault::Memory),
         }

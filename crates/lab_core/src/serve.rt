@@ -12,7 +12,6 @@ ghost use Rattle.lab_core.specs.Queues.{CanServe, EndsRun, IsToldBehind, ObeysRu
 ghost use Rattle.lab_core.specs.Sessions.{OpenSwap};
 
 use crate::judge_run::{Queue, judge_batch, judge_run};
-use crate::perform::perform;
 use crate::play::is_in;
 use crate::task::Refusal;
 use crate::{Controller, CoreFault};
@@ -95,14 +94,7 @@ impl Controller {
             run,
             rule,
         ) {
-            Ok(task) => perform(
-                self.alloc,
-                &mut self.lab,
-                &mut self.journal,
-                &mut self.swaps,
-                task,
-                plant,
-            ),
+            Ok(task) => self.perform(task, plant),
             Err(Refusal::Refused(reply)) => Ok(reply),
             Err(Refusal::Memory) => Err(CoreFault::Memory),
         }
