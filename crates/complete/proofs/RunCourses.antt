@@ -19,7 +19,8 @@ use Rattle.swap_turns.specs.Legs.{Leg, Forth}
 use Rattle.swap_turns.specs.Running.{OpenSwap as RunningSwap}
 use Rattle.swap_turns.specs.Swaps.{Swap, Moves}
 use Rattle.lab_core.specs.Auditing.{Audits, no_lab, told as all_told, unread, no_memory}
-use Rattle.lab_core.specs.Commands.{LabStep, is_unjudged}
+use Rattle.lab_core.specs.Commands.{LabStep, ground_by}
+use Rattle.lab_judge.specs.Judge.{is_unjudged}
 use Rattle.lab_core.specs.LabSteps.{DoesBy, JudgedBeside, StepOf, not_opened, opened}
 use Rattle.lab_core.specs.Moments.{IsLabAt}
 use Rattle.lab_core.specs.Sessions.{OpenSwap, Session, Closed, Open, Setting, After, Terms, name_in}
@@ -32,10 +33,10 @@ use Rattle.complete.specs.Booted.{GoesWell}
 use Rattle.complete.specs.OpenCourses.{AreOnLeg, IsCourse, IsOnLeg, forth, steps_in, undo}
 use Rattle.lab_core.proofs.ListSteps.{plain_step}
 use Rattle.complete.proofs.PlayedOn.{list_continues}
-use Rattle.lab_core.specs.Commands.{ground_by}
 use Rattle.lab_core.specs.Lists.{DoesList, Listing}
-use Rattle.lab_core.specs.Playing.{JudgedPlay, events_in_turn}
-use Rattle.lab_core.specs.Serving.{JudgedBatch, runs_in_turn}
+use Rattle.lab_core.specs.PlayList.{JudgedPlay, events_in_turn}
+use Rattle.lab_judge.specs.Serving.{JudgedBatch}
+use Rattle.lab_core.specs.BatchList.{runs_in_turn}
 use Rattle.lab_core.proofs.Events.{events_are}
 use Rattle.lab_core.proofs.Listings.{IsAboutThese}
 use Rattle.lab_core.proofs.Runs.{AreOf, runs_are}

@@ -33,7 +33,7 @@ use Rattle.recovery.specs.declared.all.Settled.{Settled}
 use Rattle.lab_core.specs.declared.fault.CoreFault.TheVariants as faults
 use Rattle.lab_core.specs.Breaks.{Breaks, StartsBehind, stopped, failed}
 use Rattle.lab_core.specs.Controller.{Control, WorksWith}
-use Rattle.lab_core.specs.Judge.{Recover, Is}
+use Rattle.lab_judge.specs.Judge.{Recover, Is}
 use Rattle.lab_core.specs.LabSteps.{does}
 use Rattle.lab_core.specs.Obey.{start_of, IsDone, Obeyed, between}
 use Rattle.lab_core.specs.Perform.{recover_answer}
@@ -42,7 +42,8 @@ use Rattle.lab_core.specs.Sessions.{OpenSwap, Closed, names_of}
 use Rattle.lab_core.proofs.Obey.{RunsOn, as_open, closed_by, false_true, goes_on, halted, not_both, same_open, wants}
 use Rattle.lab_core.proofs.OpenSwaps.{Pair, since_later}
 use Rattle.phys_lab.proofs.ForestLaws.{same_test}
-use Rattle.lab_core.proofs.OpenNames.{busy_has, has_busy, has_opens, opens_has}
+use Rattle.lab_judge.proofs.Busy.{busy_has, has_busy}
+use Rattle.lab_core.proofs.OpenNames.{has_opens, opens_has}
 
 -- ---- busy names
 -- the same names are busy

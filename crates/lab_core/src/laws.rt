@@ -5,10 +5,7 @@ ghost use Rattle.plant.specs.Events.{Event};
 ghost use Rattle.plant.specs.Worlds.{world_of};
 ghost use Rattle.journal_rec.specs.declared.record.Record.TheVariants.{Begin};
 ghost use Rattle.journal_rec.specs.declared.record.Way.{Way};
-ghost use Rattle.phys_lab.specs.Labs.{Lab};
-ghost use Rattle.virt_topo.specs.declared.wiring.Wiring.{Wiring};
 ghost use Rattle.cost_rule.specs.declared.rule.RuleNumber.{RuleNumber};
-ghost use Rattle.assign_core.specs.declared.whole.Solved.{Solved};
 ghost use Rattle.records_model.specs.Labs.{LabState, Move, Sane, Says, find, lab_in};
 ghost use Rattle.records_model.specs.Works.{IsSound};
 ghost use Rattle.lab_state.specs.Texts.{the_texts};
@@ -30,13 +27,12 @@ ghost use Rattle.lab_model.specs.Leavings.{SameFor};
 ghost use Rattle.lab_model.specs.Sound.{is_moving};
 ghost use Rattle.virt_topo.specs.declared.experiment.Experiment.{Experiment};
 ghost use Rattle.lab_core.specs.LabSteps.{LabStepBy};
-ghost use Rattle.lab_core.specs.Commands.{LabStep, is_about, is_unjudged};
+ghost use Rattle.lab_core.specs.Commands.{LabStep, is_about};
+ghost use Rattle.lab_judge.specs.Judge.{is_unjudged, Task, Tell, Swap, BeginOnly, Turn, Finish, Judged, is_searched};
 ghost use Rattle.lab_core.specs.Moments.{StandForLab};
 ghost use Rattle.lab_core.specs.Said.{IsAsSaid};
 ghost use Rattle.lab_core.specs.Sessions.{OpenSwap, Session, Open, Terms, Setting, After, names_of, open_at};
-ghost use Rattle.lab_core.specs.EventChanges.{EventsAreChanges};
-ghost use Rattle.lab_core.specs.Judge.{IsFound, Task, Tell, Swap, BeginOnly, Turn, Finish, Judged, is_searched};
-ghost use Rattle.lab_core.specs.Tells.{AllMove, AreLocal, BeginsAt, GoesIn, Hinders, IsAtRest, IsFeasibleFor, IsInBy, IsNoSwap, IsOpened, IsTurn, IsTurnOf, TellsBroken, TellsEnd, TellsLab, SendsOne, busy_of, is_stopped, opens_of, settles, taken_reply};
+ghost use Rattle.lab_core.specs.Tells.{AllMove, BeginsAt, GoesIn, Hinders, IsAtRest, IsFeasibleFor, IsInBy, IsNoSwap, IsOpened, IsTurn, IsTurnOf, TellsBroken, TellsEnd, TellsLab, SendsOne, busy_of, is_stopped, opens_of, settles, taken_reply};
 
 /// A command without a search has one judgement, and a lab step is by one of its command's judgements.
 /// One that refuses the command, or only tells something, has no steps of its own. One that begins no swap and settles none leads, where nothing
@@ -164,20 +160,6 @@ pub fn solutions()
         (opening own : List Event) (after : After)
         → AllMove opens s → GoesIn opens s exp text → IsTurnOf exp command → LabStep terms at set s (Open opens) command opening own after
         → after.reply ≡ Some (In exp) → IsInBy after.lab exp text }
-{}
-
-/// A search has one answer, unless there are more than 65,536 candidates and FirstFit is feasible. Then each answer is locally best, and costs at
-/// most every map of the walk of the seed.
-pub fn searches()
-    ensures { (rule : RuleNumber) (lab : Lab) (es : List Experiment) (e : Experiment) (w : Wiring) (seed : ℕ) (a b : Solved) → IsFound rule lab es e w seed a
-        → IsFound rule lab es e w seed b
-        → (a ≡ b) ⊎ AreLocal a b }
-{}
-
-/// A link event is judged as `modify-with` by two texts: the canonical one of the wiring that the event leaves, and that of the
-/// present mapping. So it is undone as a change is. The one refusal beside is that the link lacks the shape that it has in its text.
-pub fn link_events()
-    ensures { EventsAreChanges }
 {}
 
 /// Over a sound trace the devices are as the lab of each image says.

@@ -27,16 +27,17 @@ use Rattle.lab_core.specs.declared.fault.CoreFault.{CoreFault}
 use Rattle.lab_core.specs.declared.fault.CoreFault.TheVariants as faults
 use Rattle.lab_core.specs.Breaks.{Breaks, failed, unanswered}
 use Rattle.lab_core.specs.Controller.{Control, Works, WorksWith}
-use Rattle.lab_core.specs.Judge.{Task, Recover}
+use Rattle.lab_judge.specs.Judge.{Task, Recover}
 use Rattle.lab_core.specs.LabSteps.{JudgedBeside}
 use Rattle.lab_core.specs.Lists.{Ground, between as playing, undone as nothing_played}
 use Rattle.lab_core.specs.Obey.{AnswersBy, Doing, ObeysCommand, StepsBy, WantsIn, between, does_command, start_of, undone, wants_of_command}
 use Rattle.lab_core.specs.Opening.{OpenEnds, OpenSteps, OpenTold}
-use Rattle.lab_core.specs.Sessions.{OpenSwap, Session, Closed, Open, AreOpenedBy, blames_now, counted_from, is_among, name_of, names_of, Terms}
+use Rattle.lab_core.specs.Sessions.{OpenSwap, Session, Closed, Open, AreOpenedBy, blames_now, counted_from, names_of, Terms}
+use Rattle.lab_judge.specs.OpenNames.{is_among, name_of}
 use Rattle.lab_core.specs.Tells.{opens_of}
 use Rattle.lab_top.specs.declared.command.CommandFault.{CommandFault}
 use Rattle.lab_top.specs.declared.command.CommandFault.TheVariants as command_faults
-use Rattle.lab_core.proofs.Fits.{fits}
+use Rattle.lab_judge.proofs.Fits.{fits}
 use Rattle.lab_core.proofs.Obey.{now_blames}
 use Rattle.lab_core.proofs.Wanting.{command_wants, plain_wants}
 use Rattle.journal_runs.specs.Pieces.{has_command}

@@ -1,7 +1,7 @@
 use Rattle.std.proofs.Common.{Err, Ok}
 use Rattle.script_text.specs.Drills.{drill_of}
-use Rattle.lab_core.specs.Judge.{Tell, Swap}
-use Rattle.lab_core.proofs.Judgements.{judged_once}
+use Rattle.lab_judge.specs.Judge.{Tell, Swap}
+use Rattle.lab_judge.proofs.Judgements.{judged_once}
 use Rattle.lab_core.proofs.StepLaws.{was, by_one, no_steps_refused, no_steps_told, step_once, swap_tells}
 use Rattle.lab_core.proofs.ListSteps.{all_drills, all_stay, all_stop, plain_step}
 use Rattle.lab_core.proofs.laws.lab_steps.Goals as goal
