@@ -12,7 +12,6 @@ ghost use Rattle.lab_judge.specs.JudgeRun.{CanServe};
 ghost use Rattle.lab_core.specs.Queues.{EndsRun, IsToldBehind, ObeysRun, ObeysRuns, ends_if, first_place};
 ghost use Rattle.lab_core.specs.Sessions.{OpenSwap};
 
-use crate::perform::perform;
 use crate::play::is_in;
 use crate::{Controller, CoreFault};
 use cost_rule::StepRule;
@@ -95,14 +94,7 @@ impl Controller {
             run,
             rule,
         ) {
-            Ok(task) => perform(
-                self.alloc,
-                &mut self.lab,
-                &mut self.journal,
-                &mut self.swaps,
-                task,
-                plant,
-            ),
+            Ok(task) => self.perform(task, plant),
             Err(Refusal::Refused(reply)) => Ok(reply),
             Err(Refusal::Memory) => Err(CoreFault::Memory),
         }
