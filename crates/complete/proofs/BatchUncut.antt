@@ -15,7 +15,8 @@ use Rattle.recovery.specs.Due.{is_busy}
 use Rattle.lab_core.specs.Commands.{Serves, ground_by}
 use Rattle.lab_core.specs.LabSteps.{IsDoneBy, does, has_space, no_memory}
 use Rattle.lab_core.specs.Lists.{Ground, Past, broken, last_reply, listed, more, no_memory as list_no_memory, none, over, refused, wanting}
-use Rattle.lab_core.specs.Serving.{JudgedNextRun, Serving, runs_in_turn}
+use Rattle.lab_core.specs.BatchList.{JudgedNextRun, runs_in_turn}
+use Rattle.lab_judge.specs.Serving.{Serving}
 use Rattle.lab_core.specs.Sessions.{OpenSwap, Setting, After, names_of}
 use Rattle.lab_core.proofs.Runs.{batch_first, batch_refuses, stand_in}
 use Rattle.complete.specs.Booted.{GoesWell}

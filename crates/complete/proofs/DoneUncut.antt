@@ -23,10 +23,11 @@ use Rattle.swap_turns.proofs.Showing.{swap_shows}
 use Rattle.script_text.specs.declared.command.Command.{Command}
 use Rattle.script_text.specs.declared.reply.Reply.{Reply}
 use Rattle.lab_core.specs.Breaks.{Breaks, StartsBehind, stopped, failed, unanswered}
-use Rattle.lab_core.specs.Judge.{Task, Tell, Append, Swap, BeginOnly, Turn, Finish, Recover}
+use Rattle.lab_judge.specs.Judge.{Task, Tell, Append, Swap, BeginOnly, Turn, Finish, Recover}
 use Rattle.lab_core.specs.LabSteps.{AppendEnds, Appends, BeginSteps, Begins, Does, IfSpace, IsAnswered, IsDoneBy, IsOneOf, JudgedBeside, Swaps, broken, does, done_reply, end_reply, has_space, is_told, no_memory, turn_reply, whole}
 use Rattle.lab_core.specs.Recovery.{Recovers, broken_off, settled}
-use Rattle.lab_core.specs.Sessions.{OpenSwap, Setting, After, is_among, name_of, names_of}
+use Rattle.lab_core.specs.Sessions.{OpenSwap, Setting, After, names_of}
+use Rattle.lab_judge.specs.OpenNames.{is_among, name_of}
 use Rattle.complete.specs.Booted.{GoesWell}
 use Rattle.complete.specs.Complete.{turns_open}
 use Rattle.complete.proofs.JudgedUncut.{cuts, IsJudgedUncut, judged_uncut}

@@ -7,7 +7,8 @@ use Rattle.script_text.specs.Drills.{drill_of}
 use Rattle.script_text.specs.declared.command.Command.{Command}
 use Rattle.script_text.specs.declared.command.Command.TheVariants.{Play, Batch, Audit}
 use Rattle.lab_core.specs.Auditing.{Audits, no_lab, told, unread, no_memory}
-use Rattle.lab_core.specs.Commands.{LabStep, is_unjudged}
+use Rattle.lab_core.specs.Commands.{LabStep}
+use Rattle.lab_judge.specs.Judge.{is_unjudged}
 use Rattle.lab_core.specs.LabSteps.{DoesBy, Drills, JudgedBeside, StepOf, is_planned, is_refused, not_opened, opened, wants_memory}
 use Rattle.lab_core.specs.Sessions.{OpenSwap, Session, Closed, Open, Setting, After, Terms}
 use Rattle.lab_core.specs.Tells.{opens_of}

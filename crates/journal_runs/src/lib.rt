@@ -29,16 +29,16 @@ ghost use Rattle.journal_disk.specs.declared.fault.OpenFault.TheVariants as open
 ghost use Rattle.journal_disk.specs.declared.fault.AppendFault.{AppendFault};
 ghost use Rattle.journal_disk.specs.declared.fault.AppendFault.TheVariants as appending;
 ghost use Rattle.journal_disk.specs.declared.journal.Journal.{Journal};
-ghost use Rattle.journal_runs.specs.Pieces.{has_command, has_miss, has_restart};
+ghost use Rattle.journal_runs.specs.Pieces.{has_command, has_miss, has_outer};
 ghost use Rattle.journal_runs.specs.Working.{StandForLab, AllStandFor, StandForEither, Works};
 
 use journal_rec::{LAST_RECORD, MAX_JOURNAL};
 
-/// An opening sends no device command and starts no plant. No call failed after `Ok`, and one did after `Plant`.
+/// An opening sends no device command, starts no plant, and has no failed reading of a device. No call failed after `Ok`, and one did after `Plant`.
 /// A sound trace stays sound, and after `Ok` the journal is at work. With any answer, both sides read alike before it and after it.
 pub fn openings()
     ensures quiet { (trace steps : List Event) (result : Result (Journal × Vec Found) OpenFault) → IsOpening trace steps result
-        → (has_command steps ≡ false) × (has_restart steps ≡ false) }
+        → (has_command steps ≡ false) × (has_outer steps ≡ false) }
     ensures opened { (trace steps : List Event) (opened : Journal × Vec Found) → IsOpening trace steps (Ok opened) → has_miss steps ≡ false }
     ensures failed { (trace steps : List Event) → IsOpening trace steps (Err opening.Plant) → has_miss steps ≡ true }
     ensures sound { (t : Texts) (trace steps : List Event) (result : Result (Journal × Vec Found) OpenFault) → IsOpening trace steps result
@@ -54,7 +54,7 @@ pub fn openings()
 
 /// An append of a record that may follow: after `Ok` the journal is at work with the record. Else each image stands for the lab before it or after
 /// it.
-/// It sends no device command and starts no plant. No call failed after `Ok`, and one did after `Plant`.
+/// It sends no device command, starts no plant, and has no failed reading. No call failed after `Ok`, and one did after `Plant`.
 pub fn appends()
     ensures done { (t : Texts) (trace more : List Event) (j : Journal) (rs : List Record) (s u : LabState) (r : Record) (run : Run) (done : Unit {0})
         → Works t trace j rs s → MayAppend t trace rs s r u → Ends (side_of j) (Ok done) run more
@@ -68,9 +68,9 @@ pub fn appends()
         → IsSound t (trace ++ (added (side_of j) (gate_of j) r run ++ more))
         × StandForEither t (trace ++ (added (side_of j) (gate_of j) r run ++ more)) s u }
     ensures quiet { (j : Journal) (r : Record) (run : Run) → (has_command (added (side_of j) (gate_of j) r run) ≡ false)
-        × (has_restart (added (side_of j) (gate_of j) r run) ≡ false) × (has_miss (added (side_of j) (gate_of j) r run) ≡ false) }
+        × (has_outer (added (side_of j) (gate_of j) r run) ≡ false) × (has_miss (added (side_of j) (gate_of j) r run) ≡ false) }
     ensures ended { (j : Journal) (r : Record) (run : Run) (more : List Event) (result : Result (Unit {0}) AppendFault) → Ends (side_of j) result run more
-        → (has_command (added (side_of j) (gate_of j) r run ++ more) ≡ false) × (has_restart (added (side_of j) (gate_of j) r run ++ more) ≡ false) }
+        → (has_command (added (side_of j) (gate_of j) r run ++ more) ≡ false) × (has_outer (added (side_of j) (gate_of j) r run ++ more) ≡ false) }
     ensures appended { (j : Journal) (r : Record) (run : Run) (more : List Event) (done : Unit {0}) → Ends (side_of j) (Ok done) run more
         → has_miss (added (side_of j) (gate_of j) r run ++ more) ≡ false }
     ensures failed { (j : Journal) (r : Record) (run : Run) (more : List Event) → Ends (side_of j) (Err appending.Plant) run more
@@ -79,8 +79,8 @@ pub fn appends()
 
 /// A move of the journal onto the other side, with records of the same lab for which there is room.
 /// A sound trace stays sound through each of its steps, and each image stands for that lab. After `Ok` the journal is at work with these records. It
-/// sends no device command and starts no plant. No call failed after `Ok`, and one did after `Plant`. There is room for records that are no longer
-/// than the journal.
+/// sends no device command, starts no plant, and has no failed reading. No call failed after `Ok`, and one did after `Plant`. There is room for
+/// records that are no longer than the journal.
 pub fn compactions()
     ensures sound { (t : Texts) (trace steps : List Event) (j : Journal) (rs ps : List Record) (s : LabState) (packed : List ℕ)
         (result : Result (Unit {0}) CompactFault) → Works t trace j rs s → LabOf t ps s → HasRoom ps s → Compacts trace steps j packed result
@@ -91,7 +91,7 @@ pub fn compactions()
         (result : Result (Unit {0}) CompactFault) → Works t trace j rs s → LabOf t ps s → HasRoom ps s → Compacts trace steps j packed result
         → Shifts trace steps (side_of j) rs ps result → AreCanonical t → IsAt (trace ++ steps) k ps → Works t (trace ++ steps) k ps s }
     ensures quiet { (trace steps : List Event) (j : Journal) (packed : List ℕ) (result : Result (Unit {0}) CompactFault)
-        → Compacts trace steps j packed result → (has_command steps ≡ false) × (has_restart steps ≡ false) }
+        → Compacts trace steps j packed result → (has_command steps ≡ false) × (has_outer steps ≡ false) }
     ensures done { (trace steps : List Event) (j : Journal) (packed : List ℕ) (done : Unit {0}) → Compacts trace steps j packed (Ok done)
         → has_miss steps ≡ false }
     ensures failed { (trace steps : List Event) (j : Journal) (packed : List ℕ) → Compacts trace steps j packed (Err compacting.Plant)

@@ -21,7 +21,7 @@ use Rattle.script_text.specs.declared.reply.Reply.TheVariants as replies
 use Rattle.lab_core.specs.declared.fault.CoreFault.{CoreFault}
 use Rattle.lab_core.specs.declared.fault.CoreFault.TheVariants as faults
 use Rattle.lab_core.specs.Controller.{Control, WorksWith}
-use Rattle.lab_core.specs.Judge.{Task, Recover}
+use Rattle.lab_judge.specs.Judge.{Task, Recover}
 use Rattle.lab_core.specs.LabSteps.{IsDoneBy}
 use Rattle.lab_core.specs.Moments.{IsLengthAt}
 use Rattle.lab_core.specs.Obey.{AnswersBy, EndsBy, Obeys, Shuts, StepsBy, Start, start_of, IsDone, Leaves, Answers, ObeySteps, Obeyed, WantsIn, reply_of, stays_at_work, undone, between as recovering}

@@ -1,6 +1,6 @@
 -- Link events of one experiment, one after another: what one more of them leaves.
 use Rattle.std.specs.Prelude.{if◌then◌else◌}
-use Rattle.std.proofs.Common.{◌≡◌, ◌⊎◌, inl, inr, ◌≤◌, ◌<◌, ◌+◌, ℕ, zero, suc, true, false, not, List, [], ◌∷◌, drop, length, get_or, Option, Some, None, Result, Ok, Err, refl, sym, ap, ◌∙◌, subst, arith}
+use Rattle.std.proofs.Common.{◌≡◌, ◌⊎◌, inl, inr, ◌≤◌, ◌+◌, ℕ, true, false, not, List, [], ◌∷◌, drop, Option, Some, None, Result, Ok, Err, refl, sym, ap, ◌∙◌, subst, arith}
 use Rattle.std.specs.Str.{bytes_eq}
 use Rattle.std.proofs.lemmas.Bool.{cases_Bool}
 use Rattle.std.proofs.lemmas.Slice.Eq.{bytes_eq-Decides}
@@ -17,32 +17,13 @@ use Rattle.lab_core.specs.declared.fault.CoreFault.TheVariants as faults
 use Rattle.lab_core.specs.Coming.{HasComeTo, Origin, TellsAll}
 use Rattle.lab_core.specs.Controller.{CanWork, Control, WorksWith}
 use Rattle.lab_core.specs.InTurn.{ComesTo, EndsEvent, IsPart, ObeysEvent, ObeysEvents, TellsWhole, is_in, origin_of, stuck_by_journal}
-use Rattle.lab_core.specs.Judge.{Recover}
+use Rattle.lab_judge.specs.Judge.{Recover}
 use Rattle.lab_core.specs.Obey.{Obeyed}
-use Rattle.lab_core.specs.Playing.{JudgedEvent, Playing, behind_event, events_in_turn, first_place}
+use Rattle.lab_core.specs.PlayList.{JudgedEvent, behind_event, events_in_turn}
+use Rattle.lab_judge.specs.Playing.{Playing, first_place}
 use Rattle.lab_core.specs.Sessions.{OpenSwap, WereOpen, blames_now, counted_from, devices_if, name_in, open_at}
 use Rattle.lab_core.proofs.Composing.{begins, comes_on, comes_shut, comes_to_stop, comes_to_want, finished, wants}
 use Rattle.lab_core.proofs.Events.{event_fits}
-
--- ---- LISTS
-drop_suc : {X : Type 0} (xs : List X) (i : ℕ) (x : X) → i < length xs → x ≡ get_or xs i x → drop i xs ≡ x ∷ drop (suc i) xs
-drop_suc [] i x lt is = absurd (omega (arith, lt))
-drop_suc (y ∷ ys) zero x lt is = ap (λ z. z ∷ ys) (sym is)
-drop_suc (y ∷ ys) (suc i) x lt is = drop_suc ys i x (omega (arith, lt)) is
-
-pub drop_at : {X : Type 0} (xs : List X) (i : ℕ) (x : X) → i < length xs → x ≡ get_or xs i x → drop i xs ≡ x ∷ drop (i + 1) xs
-drop_at xs i x lt is = let next : suc i ≡ i + 1 = omega arith in subst (λ n. drop i xs ≡ x ∷ drop n xs) next (drop_suc xs i x lt is)
-
-pub has_at : {X : Type 0} (xs : List X) (i : ℕ) (x : X) → i < length xs → x ≡ get_or xs i x → Has xs x
-has_at [] i x lt is = absurd (omega (arith, lt))
-has_at (y ∷ ys) zero x lt is = inl (sym is)
-has_at (y ∷ ys) (suc i) x lt is = inr (has_at ys i x (omega (arith, lt)) is)
-
-pub drop_all : {X : Type 0} (xs : List X) (i : ℕ) → length xs ≤ i → drop i xs ≡ []
-drop_all [] zero le = refl
-drop_all [] (suc i) le = refl
-drop_all (y ∷ ys) zero le = absurd (omega (arith, le))
-drop_all (y ∷ ys) (suc i) le = drop_all ys i (omega (arith, le))
 
 -- ---- HOW AN EVENT ENDED
 pub fault_ends : (exp : List ℕ) (played : ℕ) (Leaves : Result Reply CoreFault → Type 0) (fault : CoreFault) → Leaves (Err fault) → EndsEvent exp played Leaves (Err fault)

@@ -1,13 +1,8 @@
-mod Audited
-mod Behind
-mod Claimed
+pub mod Audited
 mod Compacting
 mod Composing
 mod EndOne
 mod InTurn
-mod JudgeSwap
-mod JudgeTasks
-mod Judgements
 mod Keeping
 mod ListCommands
 mod ObeyJudged
@@ -21,23 +16,17 @@ mod Readiness
 mod Recovering
 mod RunSwap
 mod RunsInTurn
-mod SearchLaws
-mod Searched
 mod Served
 mod SettledOpenings
-mod Shown
 mod SwapReplies
-mod Tags
-mod Taken
+mod TasksApart
 mod Told
 mod TurnLabs
 mod TurnOne
 mod Unanswered
-mod WaysIn
 pub mod Beside
 pub mod BySolution
 pub mod Events
-pub mod Fits
 pub mod ListSteps
 pub mod Listings
 pub mod Obey
@@ -48,6 +37,7 @@ pub mod Openings
 pub mod OtherWorlds
 pub mod Others
 mod OuterReplies
+pub mod OuterSteps
 mod Parts
 mod Places
 pub mod Rested
@@ -58,4 +48,3 @@ pub mod SolutionLaws
 pub mod StepLaws
 pub mod TurnLaws
 pub mod Wanting
-mod EventChanges

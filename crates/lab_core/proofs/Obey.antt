@@ -24,13 +24,13 @@ use Rattle.cost_rule.specs.declared.rule.RuleNumber.{RuleNumber}
 use Rattle.lab_core.specs.declared.fault.CoreFault.{CoreFault}
 use Rattle.lab_core.specs.declared.fault.CoreFault.TheVariants as faults
 use Rattle.lab_core.specs.Controller.{Control, WorksWith}
-use Rattle.lab_core.specs.Judge.{Task, Is, Recover}
+use Rattle.lab_judge.specs.Judge.{Task, Is, Recover}
 use Rattle.lab_core.specs.LabSteps.{IsDoneBy, JudgedBeside, does, no_memory}
 use Rattle.lab_core.specs.Obey.{Start, start_of, IsDone, Leaves, Answers, ObeyEnds, ObeySteps, ObeyTold, Obeyed, WantsIn, undone, between}
 use Rattle.lab_core.specs.Recovery.{broken_off, some}
 use Rattle.lab_core.specs.Breaks.{unanswered}
-use Rattle.lab_core.specs.Sessions.{After, Closed, Open, OpenSwap, Setting, AreOpenedBy, WereOpen, blames_now, counted_from, ends_swap, name_in, tells_end}
-use Rattle.lab_core.specs.Tasks.{IsMild}
+use Rattle.lab_core.specs.Sessions.{After, Closed, Open, OpenSwap, Setting, AreOpenedBy, WereOpen, blames_now, counted_from, ends_swap, name_in}
+use Rattle.lab_judge.specs.Tasks.{tells_end, IsMild}
 use Rattle.journal_disk.proofs.Chains.{nothing_yet}
 
 -- no steps more

@@ -1,9 +1,6 @@
 -- The names of the open swaps, as the code finds them and as the session has them.
-use Rattle.std.proofs.Common.{◌≡◌, inl, inr, ℕ, Bool, true, false, ◌||◌, List, [], ◌∷◌, length, Option, Some, None, Result, refl, sym, ap, ◌∙◌, subst}
-use Rattle.std.proofs.lemmas.Bool.{cases_Bool, false_from_ne_true, or_left}
+use Rattle.std.proofs.Common.{◌≡◌, ℕ, Bool, List, length, Option, Some, None, Result, refl, sym, ap, ◌∙◌, subst}
 use Rattle.std.proofs.lemmas.List.{length-map}
-use Rattle.std.proofs.lemmas.Slice.Eq.{bytes_eq-Decides}
-use Rattle.std.specs.Str.{bytes_eq}
 use Rattle.lab_base.specs.Lists.{Has}
 use Rattle.lab_base.proofs.Members.{Has-map, Has-mapped}
 use Rattle.plant.specs.Seen.{Seen}
@@ -12,43 +9,16 @@ use Rattle.script_text.specs.declared.command.Command.{Command}
 use Rattle.script_text.specs.declared.reply.Reply.{Reply}
 use Rattle.swap_mgr.specs.Open.{HasOpen}
 use Rattle.swap_mgr.proofs.Holding.{named_open}
-use Rattle.swap_txn.specs.Facts.{exp_of}
 use Rattle.swap_txn.specs.declared.live.Live.{Live}
 use Rattle.swap_turns.specs.Running.{OpenSwap as RunningSwap}
 use Rattle.cost_rule.specs.declared.rule.RuleNumber.{RuleNumber}
-use Rattle.lab_core.specs.Controller.{Control, WorksWith, has_open, has_open_for, open_names}
-use Rattle.lab_core.specs.Judge.{Task, Judged}
+use Rattle.lab_core.specs.Controller.{Control, WorksWith}
+use Rattle.lab_judge.specs.OpenNames.{has_open, has_open_for, open_names, is_among, name_of}
+use Rattle.lab_judge.specs.Judge.{Task, Judged}
 use Rattle.lab_core.specs.LabSteps.{JudgedBeside}
-use Rattle.lab_core.specs.Sessions.{OpenSwap, is_among, name_in, name_of, names_of}
+use Rattle.lab_core.specs.Sessions.{OpenSwap, name_in, names_of}
 use Rattle.phys_lab.proofs.ForestLaws.{same_test}
-
--- A NAME IS BUSY exactly where it is one of these
-pub busy_has : (names : List (List ℕ)) (exp : List ℕ) → is_busy names exp ≡ true → Has names exp
-busy_has [] exp h = absurd (cc h)
-busy_has (n ∷ names) exp h = elim (cases_Bool (bytes_eq n exp)) [
-  | inl yes' ↦ inl ((bytes_eq-Decides n exp).0 yes')
-  | inr no' ↦ inr (busy_has names exp (sym (ap (λ (b : Bool). b || is_busy names exp) no') ∙ h))
-]
-
-pub has_busy : (names : List (List ℕ)) (exp : List ℕ) → Has names exp → is_busy names exp ≡ true
-has_busy [] exp h = absurd h
-has_busy (n ∷ names) exp (inl is) = or_left (bytes_eq n exp) (is_busy names exp) ((bytes_eq-Decides n exp).1 is)
-has_busy (n ∷ names) exp (inr h) = elim (cases_Bool (bytes_eq n exp)) [
-  | inl yes' ↦ or_left (bytes_eq n exp) (is_busy names exp) yes'
-  | inr no' ↦ ap (λ (b : Bool). b || is_busy names exp) no' ∙ has_busy names exp h
-]
-
--- THE MANAGER HAS A SWAP of the name exactly where the name is busy
-pub open_busy : (swaps : List Live) (exp : List ℕ) → HasOpen swaps exp → has_open swaps exp ≡ true
-open_busy swaps exp o = subst (λ (n : List ℕ). has_open swaps n ≡ true) o.named (has_busy (open_names swaps) (exp_of o.state) (Has-mapped exp_of swaps o.state o.stands))
-
-pub busy_open : (swaps : List Live) (exp : List ℕ) → has_open swaps exp ≡ true → HasOpen swaps exp
-busy_open swaps exp h =
-    let x = Has-map exp_of swaps exp (busy_has (open_names swaps) exp h) in
-    record { state = x.0; stands = x.1; named = x.2 }
-
-pub not_busy : (swaps : List Live) (exp : List ℕ) → (HasOpen swaps exp → ⊥) → has_open swaps exp ≡ false
-not_busy swaps exp none = false_from_ne_true (has_open swaps exp) (λ h. none (busy_open swaps exp h))
+use Rattle.lab_judge.proofs.Busy.{busy_has, busy_open, has_busy, open_busy}
 
 -- THE SESSION HAS THE SAME NAMES, and as many
 module _ (now : Seen) (c : Control) (opens : List OpenSwap) (works : WorksWith now c opens) where

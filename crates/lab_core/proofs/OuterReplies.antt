@@ -1,4 +1,4 @@
--- The replies that no judgement has: those of drills, and `stopped`.
+-- The replies that no judgement has: those of drills.
 use Rattle.std.proofs.Common.{◌≡◌, ℕ, Bool, true, false, List, [], Option, Some, None, Result, Ok, Err, refl, ◌∙◌, ap}
 use Rattle.std.specs.Prelude.{length}
 use Rattle.plant.specs.Events.{Event}
@@ -14,16 +14,13 @@ use Rattle.script_text.specs.declared.command.Command.{Command}
 use Rattle.script_text.specs.declared.reply.Reply.{Reply}
 use Rattle.script_text.specs.declared.reply.Reply.TheVariants as replies
 use Rattle.lab_core.specs.Breaks.{Breaks, stopped, failed, unanswered}
-use Rattle.lab_core.specs.Judge.{Task, Tell, Append, Swap, BeginOnly, Turn, Finish, Recover}
+use Rattle.lab_judge.specs.Judge.{Task, Tell, Append, Swap, BeginOnly, Turn, Finish, Recover}
 use Rattle.lab_core.specs.LabSteps.{DoesBy, StepOf, Does, IsDoneBy, does, no_memory, opened, not_opened, AppendEnds, whole, broken, IsAnswered, is_told, end_reply, turn_reply, done_reply, has_space, IfSpace, Appends, Swaps, Begins, JudgedBeside}
 use Rattle.lab_core.specs.Recovery.{Recovers, settled, broken_off}
-use Rattle.lab_core.specs.Sessions.{OpenSwap, Session, Closed, Open, Setting, After, is_among, name_of, names_of, Terms}
-use Rattle.lab_core.proofs.Fits.{IsFit, fits, is_outer}
-use Rattle.lab_core.specs.Tells.{is_of_drill, is_stopped, of_drill_if}
-
-pub no_stop_of : (reply : Reply) → is_outer reply ≡ false → is_stopped reply ≡ false
-no_stop_of replies.Stopped inner = absurd (cc inner)
-no_stop_of reply inner = refl
+use Rattle.lab_core.specs.Sessions.{OpenSwap, Session, Closed, Open, Setting, After, names_of, Terms}
+use Rattle.lab_judge.specs.OpenNames.{is_among, name_of}
+use Rattle.lab_judge.proofs.Fits.{IsFit, fits, is_outer}
+use Rattle.lab_core.specs.Tells.{is_of_drill, of_drill_if}
 
 pub no_drill_of : (reply : Reply) → is_outer reply ≡ false → is_of_drill reply ≡ false
 no_drill_of replies.Planned free = absurd (cc free)

@@ -45,7 +45,8 @@ use Rattle.lab_core.specs.Auditing.{Audits, broken_by, line_of, no_lab as lab_mi
 use Rattle.lab_core.specs.declared.fault.CoreFault.TheVariants as faults
 use Rattle.lab_core.specs.Obey.{AnswersBy, Doing, ObeysCommand, StepsBy, Wanting, does_command, wants_of_command}
 use Rattle.lab_core.specs.Sessions as sessions
-use Rattle.lab_core.specs.Sessions.{blames_now, name_in, open_by, tells_end}
+use Rattle.lab_core.specs.Sessions.{blames_now, name_in, open_by}
+use Rattle.lab_judge.specs.Tasks.{tells_end}
 use Rattle.lab_core.proofs.Obey.{as_open, calm_ends, false_true, if_all, not_both, same_open}
 use Rattle.lab_core.proofs.OpenSwaps.{risen_later}
 

@@ -10,11 +10,12 @@ use Rattle.plant.specs.Seen.{Seen}
 use Rattle.lab_core.specs.declared.fault.CoreFault.{CoreFault}
 use Rattle.lab_core.specs.Controller.{Control}
 use Rattle.lab_core.specs.Auditing.{no_memory as audit_wants}
-use Rattle.lab_core.specs.Commands.{is_unjudged}
+use Rattle.lab_judge.specs.Judge.{is_unjudged}
 use Rattle.lab_core.specs.LabSteps.{JudgedBeside}
 use Rattle.lab_core.specs.Lists.{between, listed, no_memory, undone, wanting}
 use Rattle.lab_core.specs.Obey.{Obeyed, ObeysCommand, WantsIn, does_command, start_of, wants_of_command}
-use Rattle.lab_core.specs.Sessions.{OpenSwap, name_of, shut_by}
+use Rattle.lab_core.specs.Sessions.{OpenSwap, shut_by}
+use Rattle.lab_judge.specs.OpenNames.{name_of}
 use Rattle.lab_core.proofs.Obey.{wants_done}
 
 module _ (rule : RuleNumber) (devices : ℕ) (c : Control) (opens : List OpenSwap) (trace own : List Event) (lab : LabState) (to : List OpenSwap) where

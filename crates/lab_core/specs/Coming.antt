@@ -10,7 +10,8 @@ use Rattle.journal_disk.specs.Standing.{limit_of}
 use Rattle.script_text.specs.Replies.{blames_device, closes}
 use Rattle.script_text.specs.declared.reply.Reply.{Reply}
 use Rattle.lab_core.specs.Controller.{Control, WorksWith}
-use Rattle.lab_core.specs.Sessions.{OpenSwap, WereOpen, blames_now, counted_from, tells_end}
+use Rattle.lab_core.specs.Sessions.{OpenSwap, WereOpen, blames_now, counted_from}
+use Rattle.lab_judge.specs.Tasks.{tells_end}
 use Rattle.lab_core.specs.Lists.{Listing, Lists, Ground, Past}
 use Rattle.lab_core.specs.Obey.{Doing, Wanting}
 

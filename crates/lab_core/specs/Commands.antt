@@ -1,5 +1,5 @@
 -- WHAT AN OPEN CONTROLLER DOES of a command, and the lab step.
-use Rattle.std.specs.Prelude.{ℕ, Bool, true, false, List, ◌++◌, Option, Some, None}
+use Rattle.std.specs.Prelude.{ℕ, Bool, false, List, ◌++◌, Option, Some, None}
 use Rattle.std.specs.Str.{bytes_eq}
 use Rattle.plant.specs.Events.{Event}
 use Rattle.plant.specs.Worlds.{world_of}
@@ -11,17 +11,12 @@ use Rattle.script_text.specs.declared.command.Command.TheVariants as commands
 use Rattle.lab_core.specs.Auditing.{Audits}
 use Rattle.lab_core.specs.LabSteps.{DoesBy, JudgedBeside, StepOf}
 use Rattle.lab_core.specs.Lists.{DoesList, Ground}
-use Rattle.lab_core.specs.Playing.{JudgedPlay, events_in_turn}
-use Rattle.lab_core.specs.Serving.{JudgedBatch, has_run, runs_in_turn}
-use Rattle.lab_core.specs.Sessions.{OpenSwap, Session, Setting, After, Terms, name_of}
+use Rattle.lab_core.specs.PlayList.{JudgedPlay, events_in_turn}
+use Rattle.lab_judge.specs.Serving.{JudgedBatch}
+use Rattle.lab_core.specs.BatchList.{has_run, runs_in_turn}
+use Rattle.lab_core.specs.Sessions.{OpenSwap, Session, Setting, After, Terms}
+use Rattle.lab_judge.specs.OpenNames.{name_of}
 use Rattle.lab_ahead.specs.Batches.{batch_of_text}
-
--- a command that no single judgement decides: a list of commands, or an audit
-abbrev pub is_unjudged : Command → Bool
-is_unjudged (commands.Play exp from to lines text) = true
-is_unjudged (commands.Batch moment lines text) = true
-is_unjudged commands.Audit = true
-is_unjudged command = false
 
 -- THE COMMAND IS ABOUT that experiment: it names it, or a run of its text does
 abbrev pub is_named : Option (List ℕ) → List ℕ → Bool

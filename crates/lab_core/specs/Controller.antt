@@ -1,19 +1,16 @@
 -- A controller as contracts see it, and when it is at work.
-use Rattle.std.specs.Prelude.{◌≡◌, ℕ, Bool, List, map, Option}
+use Rattle.std.specs.Prelude.{◌≡◌, List, map, Option}
 use Rattle.lab_base.specs.Lists.{Has}
 use Rattle.plant.specs.Seen.{Seen}
 use Rattle.plant.specs.Told.{Told}
 use Rattle.journal_disk.specs.declared.journal.Journal.{Journal}
 use Rattle.lab_state.specs.Texts.{the_texts}
 use Rattle.records_model.specs.Labs.{LabState}
-use Rattle.recovery.specs.Due.{is_busy}
-use Rattle.script_text.specs.declared.command.Command.{Command}
 use Rattle.swap_mgr.specs.Managing.{Holds}
-use Rattle.swap_txn.specs.Facts.{exp_of}
 use Rattle.swap_txn.specs.declared.live.Live.{Live}
 use Rattle.swap_turns.specs.Running.{AtWork, Working}
 use Rattle.swap_turns.specs.Running as running
-use Rattle.lab_core.specs.Sessions.{OpenSwap, IsSince, is_among, name_of}
+use Rattle.lab_core.specs.Sessions.{OpenSwap, IsSince}
 
 -- WHAT CONTRACTS SEE OF A CONTROLLER: its lab, its journal, and the states of its open swaps
 pub record Control : Type 0 where
@@ -23,16 +20,6 @@ pub record Control : Type 0 where
 
 abbrev pub control : LabState → Journal → List Live → Control
 control lab journal swaps = record { lab = lab; journal = journal; swaps = swaps }
-
--- the names of the open swaps; whether the experiment has one, and whether that of a command has
-abbrev pub open_names : List Live → List (List ℕ)
-open_names swaps = map exp_of swaps
-
-abbrev pub has_open : List Live → List ℕ → Bool
-has_open swaps exp = is_busy (open_names swaps) exp
-
-abbrev pub has_open_for : List Live → Command → Bool
-has_open_for swaps command = is_among (open_names swaps) (name_of command)
 
 -- IT WORKS, over what its plant tells: its lab is that of the journal's records, and there is room for the last records of all experiments that move
 abbrev pub Works : Option Told → Control → Type 0

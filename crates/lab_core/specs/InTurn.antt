@@ -3,9 +3,7 @@ use Rattle.std.specs.Prelude.{◌≡◌, ◌≢◌, ◌⊎◌, ◌≤◌, ℕ, B
 use Rattle.lab_base.specs.declared.memory.Memory.{Memory}
 use Rattle.lab_base.specs.declared.what.What.TheVariants.{Journal}
 use Rattle.plant.specs.Seen.{Seen}
-use Rattle.virt_topo.specs.Soundness.{IsSound}
 use Rattle.virt_topo.specs.declared.wiring.Wiring.{Wiring}
-use Rattle.ns_build.specs.Kept.{AllKeepLimits}
 use Rattle.ns_events.specs.declared.event.Event.{Event as LinkEvent}
 use Rattle.script_text.specs.Replies.{closes, played_of}
 use Rattle.script_text.specs.declared.reply.FailedEnd.TheVariants as ends
@@ -13,30 +11,12 @@ use Rattle.script_text.specs.declared.reply.Reply.{Reply}
 use Rattle.script_text.specs.declared.reply.Reply.TheVariants as replies
 use Rattle.lab_core.specs.declared.fault.CoreFault.{CoreFault}
 use Rattle.lab_core.specs.declared.fault.CoreFault.TheVariants as faults
-use Rattle.lab_core.specs.declared.judge_play.Play.{Play}
-use Rattle.lab_core.specs.declared.task.Refusal.{Refusal}
-use Rattle.lab_core.specs.declared.task.Refusal.TheVariants as refusals
 use Rattle.lab_core.specs.Coming.{AllDone, AllWants, HasComeTo, Origin}
 use Rattle.lab_core.specs.Controller.{Control, WorksWith}
 use Rattle.lab_core.specs.Obey.{Obeyed, Obeys}
-use Rattle.lab_core.specs.Playing.{JudgedEvent, Playing, events_in_turn, first_place}
+use Rattle.lab_core.specs.PlayList.{JudgedEvent, events_in_turn}
+use Rattle.lab_judge.specs.Playing.{Playing}
 use Rattle.lab_core.specs.Sessions.{OpenSwap, open_at}
-use Rattle.lab_core.specs.Tasks.{IsMild}
-
--- THE EVENTS IN HAND, from the first on
-abbrev pub place_of : Play → Playing
-place_of play = first_place play.text play.due
-
--- they can be applied, to whatever wiring they fit
-pub record CanPlay (play : Play) : Type 0 where
-  pub sound : IsSound play.text
-  pub limits : AllKeepLimits play.due
-
--- what is judged of a list is one of these
-abbrev pub IsJudgedPlay : (Result Playing Reply → Type 0) → Result Play Refusal → Type 0
-IsJudgedPlay Judges (Ok play) = Judges (Ok (place_of play))
-IsJudgedPlay Judges (Err (refusals.Refused reply)) = Judges (Err reply) × IsMild reply
-IsJudgedPlay Judges (Err refusals.Memory) = Unit {0}
 
 -- THE REPLY TO AN EVENT lets the next one come; begins no swap that stays open, and closes the controller only where the last record can't be written
 abbrev pub is_in : Reply → Bool

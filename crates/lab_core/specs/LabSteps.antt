@@ -29,9 +29,10 @@ use Rattle.swap_turns.specs.Records as records
 use Rattle.swap_turns.specs.Turning.{Outcome, More, TurnsBack, Ended, Stuck, Unwritten, Stopped as Halted, TurnSteps, open_after}
 use Rattle.swap_turns.specs.Whole.{SwapSteps}
 use Rattle.cost_rule.specs.declared.rule.RuleNumber.{RuleNumber}
-use Rattle.lab_core.specs.Sessions.{OpenSwap, Session, Closed, Open, Terms, Setting, After, is_among, name_in, name_of, names_of}
+use Rattle.lab_core.specs.Sessions.{OpenSwap, Session, Closed, Open, Terms, Setting, After, name_in, names_of}
+use Rattle.lab_judge.specs.OpenNames.{is_among, name_of}
 use Rattle.lab_core.specs.Breaks.{Breaks, StartsBehind}
-use Rattle.lab_core.specs.Judge.{Task, Tell, Append, Swap, BeginOnly, Turn, Finish, Recover, Judged}
+use Rattle.lab_judge.specs.Judge.{Task, Tell, Append, Swap, BeginOnly, Turn, Finish, Recover, Judged}
 use Rattle.lab_core.specs.Recovery.{Opens, BreaksOpening, Recovers}
 
 -- THE COMMAND'S OWN STEPS, over an open controller with those open swaps

@@ -5,9 +5,6 @@ use Rattle.lab_base.specs.Lists.{Has}
 use Rattle.lab_base.specs.Counts.{Rose}
 use Rattle.records_model.specs.Labs.{LabState}
 use Rattle.lab_model.specs.Courses.{Device}
-use Rattle.recovery.specs.Due.{is_busy}
-use Rattle.script_text.specs.declared.command.Command.{Command}
-use Rattle.script_text.specs.declared.command.Command.TheVariants as commands
 use Rattle.script_text.specs.declared.reply.FailedEnd.TheVariants as ends
 use Rattle.script_text.specs.declared.reply.Reply.{Reply}
 use Rattle.script_text.specs.declared.reply.Reply.TheVariants as replies
@@ -41,35 +38,6 @@ open_at name (o ∷ opens) = if bytes_eq (name_in o) name then Some o else open_
 abbrev pub names_of : List OpenSwap → List (List ℕ)
 names_of opens = map name_in opens
 
--- the experiment that a command is about
-abbrev pub name_of : Command → Option (List ℕ)
-name_of (commands.Ptop lines text) = None
-name_of (commands.Create exp lines text) = Some exp
-name_of (commands.CreateTop exp lines text) = Some exp
-name_of (commands.Show exp) = Some exp
-name_of (commands.Solve exp seed) = Some exp
-name_of (commands.Swapin only exp seed) = Some exp
-name_of (commands.SwapinWith only exp lines text) = Some exp
-name_of (commands.Modify only exp seed lines text) = Some exp
-name_of (commands.ModifyWith only exp lines top others map) = Some exp
-name_of (commands.Swapout only exp) = Some exp
-name_of (commands.Turn exp) = Some exp
-name_of (commands.Finish exp) = Some exp
-name_of commands.Recover = None
-name_of (commands.Fail device nth how) = None
-name_of (commands.FailDisk nth) = None
-name_of (commands.Stop nth pick) = None
-name_of (commands.Play exp from to lines text) = Some exp
-name_of (commands.Batch moment lines text) = None
-name_of (commands.Delete exp) = Some exp
-name_of commands.Status = None
-name_of commands.Audit = None
-
--- the experiment, if there is one, has one of these open swaps
-abbrev pub is_among : List (List ℕ) → Option (List ℕ) → Bool
-is_among names None = false
-is_among names (Some exp) = is_busy names exp
-
 -- WHAT IS COUNTED FROM: the count of device faults when the experiment's swap was opened, or this count where it has none
 abbrev pub devices_if : Option OpenSwap → ℕ → ℕ
 devices_if None count = count
@@ -86,14 +54,7 @@ WasOpen old o = (q : OpenSwap) × Has old q × (name_in q ≡ name_in o) × (q.d
 abbrev pub WereOpen : List OpenSwap → List OpenSwap → Type 0
 WereOpen old new = (o : OpenSwap) → Has new o → WasOpen old o
 
--- the reply tells that a swap has ended: its experiment is in or out, or stuck
-abbrev pub tells_end : Reply → Bool
-tells_end (replies.In exp) = true
-tells_end (replies.Out exp) = true
-tells_end (replies.Failed exp end what) = true
-tells_end reply = false
-
--- and it is that of the name. Where the journal is why, the reply closes the controller, and no swap is open behind it.
+-- the reply tells that the swap of the name has ended. Where the journal is why, the reply closes the controller, and no swap is open behind it.
 abbrev pub ends_swap : Option Reply → List ℕ → Bool
 ends_swap None name = false
 ends_swap (Some (replies.In exp)) name = bytes_eq exp name

@@ -29,7 +29,7 @@ use Rattle.script_text.specs.declared.reply.Reply.TheVariants.{In, Out, More, Tr
 use Rattle.lab_core.specs.declared.fault.CoreFault.{CoreFault}
 use Rattle.lab_core.specs.declared.fault.CoreFault.TheVariants as faults
 use Rattle.lab_core.specs.Controller.{Control, WorksWith}
-use Rattle.lab_core.specs.Judge.{Task, Swap, Tell, Is, begun_as}
+use Rattle.lab_judge.specs.Judge.{Task, Swap, Tell, Is, begun_as}
 use Rattle.lab_core.specs.LabSteps.{begun_at, has_space}
 use Rattle.lab_core.specs.Obey.{Obeyed, start_of}
 use Rattle.lab_core.specs.Sessions.{OpenSwap}
@@ -41,11 +41,6 @@ pub record IsPlanned (s u : LabState) (j : Journal) (plans : Plans) (p : SwapOf)
   pub moves : Moves p u
   pub plan : IsPlanOf p (lab_in u.lab) plans.forth
   pub body : IsBody plans.begin begin
-
--- the record begins a swap
-abbrev pub IsBegin : Record → Type 0
-IsBegin (Begin exp way) = Unit {0}
-IsBegin entry = ⊥
 
 -- WHY A SWAP IS NOT OPENED that has none open and room: its Begin was not written, or the plant stopped
 abbrev pub HasTried : Unopened → Type 0

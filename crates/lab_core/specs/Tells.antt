@@ -32,9 +32,7 @@ use Rattle.script_text.specs.declared.reply.FailedEnd.TheVariants as ends
 use Rattle.script_text.specs.declared.reply.Reply.{Reply}
 use Rattle.script_text.specs.declared.reply.Reply.TheVariants.{In, Out as IsOutside, More, Trouble, Failed, FullSwaps, FullJournal, Down, Stopped, Planned, NoDrill}
 use Rattle.lab_base.specs.declared.what.What.TheVariants as whats
-use Rattle.assign_core.specs.declared.whole.Solved.{Solved}
-use Rattle.assign_core.specs.declared.whole.Solved.TheVariants as solved
-use Rattle.lab_core.specs.Judge.{Task, Swap, BeginOnly, Turn, Finish, Recover}
+use Rattle.lab_judge.specs.Judge.{Task, Swap, BeginOnly, Turn, Finish, Recover}
 use Rattle.lab_core.specs.LabSteps.{begun_at}
 use Rattle.lab_core.specs.Recovery.{Opens}
 use Rattle.lab_core.specs.Sessions.{OpenSwap, Session, Closed, Open, names_of, open_at}
@@ -213,11 +211,6 @@ pub record GoesIn (opens : List OpenSwap) (s : LabState) (exp text : List ℕ) :
   pub tags : List VlanId
   pub new : swap.running.swap.new ≡ Some (mapped wiring mapping tags)
   pub reads : mapping_of_text lab wiring text ≡ Ok mapping
-
--- TWO ANSWERS OF A SEARCH that may differ: locally best mappings, where the candidates are many
-abbrev pub AreLocal : Solved → Solved → Type 0
-AreLocal (solved.Local m c) (solved.Local n d) = Unit {0}
-AreLocal a b = ⊥
 
 -- the reply to a swap-in that is done, and where `open` stands before it to one that has begun
 abbrev pub taken_reply : Bool → List ℕ → Reply

@@ -1,14 +1,11 @@
 // Laws of the definitions.
-ghost use Rattle.std.specs.Prelude.{◌≡◌, ◌≢◌, ◌⊎◌, ◌≤◌, ℕ, Bool, false, true, is_some, count_by, List, [], ◌++◌, length, Some, None, Ok, Err, Result};
+ghost use Rattle.std.specs.Prelude.{◌≡◌, ◌≢◌, ◌⊎◌, ◌↔◌, ◌≤◌, ℕ, Bool, false, true, is_some, count_by, List, [], ◌∷◌, ◌++◌, length, Some, None, Ok, Err, Result};
 ghost use Rattle.plant.specs.Disks.{ArePossible};
-ghost use Rattle.plant.specs.Events.{Event};
+ghost use Rattle.plant.specs.Events.{Event, Unread};
 ghost use Rattle.plant.specs.Worlds.{world_of};
 ghost use Rattle.journal_rec.specs.declared.record.Record.TheVariants.{Begin};
 ghost use Rattle.journal_rec.specs.declared.record.Way.{Way};
-ghost use Rattle.phys_lab.specs.Labs.{Lab};
-ghost use Rattle.virt_topo.specs.declared.wiring.Wiring.{Wiring};
 ghost use Rattle.cost_rule.specs.declared.rule.RuleNumber.{RuleNumber};
-ghost use Rattle.assign_core.specs.declared.whole.Solved.{Solved};
 ghost use Rattle.records_model.specs.Labs.{LabState, Move, Sane, Says, find, lab_in};
 ghost use Rattle.records_model.specs.Works.{IsSound};
 ghost use Rattle.lab_state.specs.Texts.{the_texts};
@@ -16,9 +13,9 @@ ghost use Rattle.journal_runs.specs.Pieces.{has_command, has_miss, has_restart};
 ghost use Rattle.script_text.specs.Drills.{drill_of};
 ghost use Rattle.script_text.specs.Replies.{closes};
 ghost use Rattle.script_text.specs.declared.command.Command.{Command};
-ghost use Rattle.script_text.specs.declared.command.Command.TheVariants.{Recover, SwapinWith};
+ghost use Rattle.script_text.specs.declared.command.Command.TheVariants.{Audit, Recover, SwapinWith};
 ghost use Rattle.script_text.specs.declared.reply.Reply.{Reply};
-ghost use Rattle.script_text.specs.declared.reply.Reply.TheVariants.{In, More, Recovered};
+ghost use Rattle.script_text.specs.declared.reply.Reply.TheVariants.{In, More, Recovered, Unread as NotRead};
 ghost use Rattle.lab_core.specs.Recovery.{EndedIn, Opens};
 ghost use Rattle.swap_turns.specs.Settling.{Settles};
 ghost use Rattle.swap_turns.specs.Swaps.{Swap as Swapped};
@@ -30,19 +27,19 @@ ghost use Rattle.lab_model.specs.Leavings.{SameFor};
 ghost use Rattle.lab_model.specs.Sound.{is_moving};
 ghost use Rattle.virt_topo.specs.declared.experiment.Experiment.{Experiment};
 ghost use Rattle.lab_core.specs.LabSteps.{LabStepBy};
-ghost use Rattle.lab_core.specs.Commands.{LabStep, is_about, is_unjudged};
+ghost use Rattle.lab_core.specs.Commands.{LabStep, is_about};
+ghost use Rattle.lab_judge.specs.Judge.{is_unjudged, Task, Tell, Swap, BeginOnly, Turn, Finish, Judged, is_searched};
 ghost use Rattle.lab_core.specs.Moments.{StandForLab};
 ghost use Rattle.lab_core.specs.Said.{IsAsSaid};
 ghost use Rattle.lab_core.specs.Sessions.{OpenSwap, Session, Open, Terms, Setting, After, names_of, open_at};
-ghost use Rattle.lab_core.specs.EventChanges.{EventsAreChanges};
-ghost use Rattle.lab_core.specs.Judge.{IsFound, Task, Tell, Swap, BeginOnly, Turn, Finish, Judged, is_searched};
-ghost use Rattle.lab_core.specs.Tells.{AllMove, AreLocal, BeginsAt, GoesIn, Hinders, IsAtRest, IsFeasibleFor, IsInBy, IsNoSwap, IsOpened, IsTurn, IsTurnOf, TellsBroken, TellsEnd, TellsLab, SendsOne, busy_of, is_stopped, opens_of, settles, taken_reply};
+ghost use Rattle.lab_core.specs.Tells.{AllMove, BeginsAt, GoesIn, Hinders, IsAtRest, IsFeasibleFor, IsInBy, IsNoSwap, IsOpened, IsTurn, IsTurnOf, TellsBroken, TellsEnd, TellsLab, SendsOne, busy_of, is_stopped, opens_of, settles, taken_reply};
 
 /// A command without a search has one judgement, and a lab step is by one of its command's judgements.
 /// One that refuses the command, or only tells something, has no steps of its own. One that begins no swap and settles none leads, where nothing
 /// failed or stopped and a reply is told, to one reply and one lab. The reply to a swap tells where its experiment is.
 /// Experiments of other names stay, whatever the reply. Where the command settles what moves, those that don't move stay, and those with an open
 /// swap. A drill leaves all as it was. The plant stopped exactly where the reply is `stopped`.
+/// A reading of a device failed exactly where the reply is `unread` with its name. Only an audit is answered so, and that reading is its one step.
 pub fn lab_steps()
     ensures judged_once { (rule : RuleNumber) (s : LabState) (busy : Bool) (count : ℕ) (command : Command) (a b : Result Task Reply)
         → is_searched command ≡ false → Judged rule s busy count command a → Judged rule s busy count command b → a ≡ b }
@@ -78,6 +75,13 @@ pub fn lab_steps()
     ensures stops { (terms : Terms) (at : List Event) (set : Setting) (s : LabState) (session : Session) (command : Command) (opening own : List Event)
         (after : After) (reply : Reply)
         → LabStep terms at set s session command opening own after → after.reply ≡ Some reply → has_restart (opening ++ own) ≡ is_stopped reply }
+    ensures unread { (terms : Terms) (at : List Event) (set : Setting) (s : LabState) (session : Session) (command : Command) (opening own : List Event)
+        (after : After) (reply : Reply) (name : List ℕ)
+        → LabStep terms at set s session command opening own after → after.reply ≡ Some reply
+        → Has (opening ++ own) (Unread name) ↔ (reply ≡ NotRead name) }
+    ensures alone { (terms : Terms) (at : List Event) (set : Setting) (s : LabState) (session : Session) (command : Command) (opening own : List Event)
+        (after : After) (name : List ℕ)
+        → LabStep terms at set s session command opening own after → after.reply ≡ Some (NotRead name) → (command ≡ Audit) × (own ≡ Unread name ∷ []) }
 {}
 
 /// Open swaps, over lab steps that leave the controller open.
@@ -164,20 +168,6 @@ pub fn solutions()
         (opening own : List Event) (after : After)
         → AllMove opens s → GoesIn opens s exp text → IsTurnOf exp command → LabStep terms at set s (Open opens) command opening own after
         → after.reply ≡ Some (In exp) → IsInBy after.lab exp text }
-{}
-
-/// A search has one answer, unless there are more than 65,536 candidates and FirstFit is feasible. Then each answer is locally best, and costs at
-/// most every map of the walk of the seed.
-pub fn searches()
-    ensures { (rule : RuleNumber) (lab : Lab) (es : List Experiment) (e : Experiment) (w : Wiring) (seed : ℕ) (a b : Solved) → IsFound rule lab es e w seed a
-        → IsFound rule lab es e w seed b
-        → (a ≡ b) ⊎ AreLocal a b }
-{}
-
-/// A link event is judged as `modify-with` by two texts: the canonical one of the wiring that the event leaves, and that of the
-/// present mapping. So it is undone as a change is. The one refusal beside is that the link lacks the shape that it has in its text.
-pub fn link_events()
-    ensures { EventsAreChanges }
 {}
 
 /// Over a sound trace the devices are as the lab of each image says.

@@ -1,5 +1,5 @@
 // A task is done: over the plant, where the journal has room for it.
-ghost use Rattle.std.specs.Prelude.{◌≡◌, ◌≤◌, ◌+◌, ◌^◌, ℕ, Err, IfOk, IfSome, List, Ok, OnOk, Option, Some, length, nat_le};
+ghost use Rattle.std.specs.Prelude.{◌≡◌, ◌≤◌, ◌+◌, ℕ, Err, IfOk, IfSome, List, Ok, OnOk, Option, Some, length};
 ghost use Rattle.journal_rec.specs.Payloads.{IsBody, IsRecord};
 ghost use Rattle.journal_rec.specs.declared.record.Record.{Record as AnyRecord};
 ghost use Rattle.journal_rec.specs.declared.record.Record.TheVariants as records;
@@ -9,21 +9,21 @@ ghost use Rattle.swap_txn.specs.Steps.{Stands, Writes};
 ghost use Rattle.lab_state.specs.Changes.{after, CanEnter};
 ghost use Rattle.lab_state.specs.Texts.{the_texts};
 ghost use Rattle.lab_core.specs.Controller.{CanWork, WorksWith, control};
-ghost use Rattle.lab_core.specs.Judge.{Append, BeginOnly, Finish, Is, Recover, Swap, Turn};
+ghost use Rattle.lab_judge.specs.Judge.{Append, BeginOnly, Finish, Is, Recover, Swap, Turn};
 ghost use Rattle.lab_core.specs.Obey.{Obeyed};
-ghost use Rattle.lab_core.specs.Perform.{append_answer, recover_answer};
+ghost use Rattle.lab_core.specs.Perform.{append_answer, recover_answer, IsReady, or_any, swapped_by};
 ghost use Rattle.lab_core.specs.Sessions.{OpenSwap};
 ghost use Rattle.lab_core.specs.Swapping.{IsBegunBy, IsSwapReply, TellsTask};
-ghost use Rattle.lab_core.specs.Tasks.{CanAppend, CanDo, IsReady, IsSwapBy, MayFollow, or_any, swapped_by, task_of};
+ghost use Rattle.lab_judge.specs.Tasks.{CanAppend, CanDo, IsSwapBy, MayFollow, task_of};
 
 use crate::CoreFault;
 use crate::swapping::{
     finish_swap, open_swap, prepare_swap, reply_of_progress, reply_of_unopened, turn_swap,
 };
-use crate::task::Task;
 use journal_disk::{AppendFault, Journal};
 use journal_rec::{Encoded, Record, Way, encode};
 use lab_base::{Memory, Name};
+use lab_judge::{Task, has_space};
 use lab_state::{LabState, PrepareFault, Prepared};
 use plant::Plant;
 use recovery::{SettleFault, Settled, settle};
@@ -31,22 +31,6 @@ use script_text::Reply;
 use std::alloc::Global;
 use swap_mgr::Manager;
 use swap_plan::Ops;
-
-/// How many bytes a record has to leave, so that the last record of each move finds room.
-const LAST_RECORDS: u64 = 10_240;
-
-/// Whether a record of a size leaves room for the last records of moves.
-pub(crate) fn has_space(journal: &Journal, size: u64) -> bool
-    ensures space { result ≡ nat_le (length_of journal.now + size + 10240) (limit_of journal.now) }
-    ensures most { limit_of journal.now ≤ 2 ^ 32 }
-{
-    let most = journal.limit();
-    let needed = journal
-        .length()
-        .saturating_add(size)
-        .saturating_add(LAST_RECORDS);
-    needed <= most
-}
 
 /// Prepares a record that can follow. Its clause `sane` is what every lab keeps.
 pub(crate) fn prepare(lab: &mut LabState, entry: &Record) -> Result<Prepared, Memory>

@@ -8,17 +8,17 @@ ghost use Rattle.script_text.specs.declared.command.Command.TheVariants as comma
 ghost use Rattle.lab_core.specs.Controller.{CanWork, WorksWith};
 ghost use Rattle.lab_core.specs.InTurn.{IsPart, stuck_by_journal};
 ghost use Rattle.lab_core.specs.Obey.{ObeysCommand};
-ghost use Rattle.lab_core.specs.Queues.{CanServe, EndsRun, IsToldBehind, ObeysRun, ObeysRuns, ends_if, first_place};
+ghost use Rattle.lab_judge.specs.JudgeRun.{CanServe};
+ghost use Rattle.lab_core.specs.Queues.{EndsRun, IsToldBehind, ObeysRun, ObeysRuns, ends_if, first_place};
 ghost use Rattle.lab_core.specs.Sessions.{OpenSwap};
 
-use crate::judge_run::{Queue, judge_batch, judge_run};
 use crate::perform::perform;
 use crate::play::is_in;
-use crate::task::Refusal;
 use crate::{Controller, CoreFault};
 use cost_rule::StepRule;
 use lab_ahead::{Batch, End, Promise, Run};
 use lab_base::{Items, Memory, Name, What};
+use lab_judge::{Queue, Refusal, judge_batch, judge_run};
 use plant::Plant;
 use script_text::{FailedEnd, Reply, Served};
 use std::alloc::Global;

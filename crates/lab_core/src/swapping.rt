@@ -17,8 +17,8 @@ ghost use Rattle.swap_mgr.specs.Open.{HasOpen};
 ghost use Rattle.swap_mgr.specs.Turns.{IsStop};
 ghost use Rattle.lab_state.specs.Changes.{after, CanEnter};
 ghost use Rattle.lab_state.specs.Texts.{the_texts};
-ghost use Rattle.lab_core.specs.Swapping.{CanEndBy, HasEndedIn, HasTried, HasTurnedIn, IsBegin, IsEndedBy, IsPlanned, progress_answer, reply_of_done, reply_of_over, undone_by, unopened_answer};
-ghost use Rattle.lab_core.specs.Tasks.{MayFollow};
+ghost use Rattle.lab_core.specs.Swapping.{CanEndBy, HasEndedIn, HasTried, HasTurnedIn, IsEndedBy, IsPlanned, progress_answer, reply_of_done, reply_of_over, undone_by, unopened_answer};
+ghost use Rattle.lab_judge.specs.Tasks.{IsBegin, MayFollow};
 
 use crate::CoreFault;
 use crate::perform::prepare;

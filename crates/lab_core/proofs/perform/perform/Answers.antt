@@ -1,6 +1,6 @@
 use Rattle.std.proofs.Common.{Ok, refl}
 use Rattle.lab_core.specs.Controller.{control}
-use Rattle.lab_core.specs.Judge.{Is, Tell}
+use Rattle.lab_judge.specs.Judge.{Is, Tell}
 use Rattle.lab_core.specs.LabSteps.{does}
 use Rattle.lab_core.proofs.Obey.{replied}
 use Rattle.lab_core.proofs.perform.perform.Goals as goal

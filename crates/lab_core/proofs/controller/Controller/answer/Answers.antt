@@ -2,8 +2,8 @@ use Rattle.std.proofs.Common.{Ok, Err, sym, subst}
 use Rattle.lab_core.specs.declared.fault.CoreFault.TheVariants as faults
 use Rattle.lab_core.specs.Controller.{CanWork, Control, WorksWith, control}
 use Rattle.lab_core.specs.LabSteps.{JudgedBeside}
-use Rattle.lab_core.specs.Sessions.{name_of}
-use Rattle.lab_core.specs.Tasks.{task_of}
+use Rattle.lab_judge.specs.OpenNames.{name_of}
+use Rattle.lab_judge.specs.Tasks.{task_of}
 use Rattle.lab_core.proofs.Obey.{refuses, wanted}
 use Rattle.lab_core.proofs.ObeyJudged.{done_beside, refused_beside}
 use Rattle.lab_core.proofs.Readiness.{ready_of_judged}

@@ -1,7 +1,7 @@
 use Rattle.std.proofs.Common.{sym, subst}
 use Rattle.lab_core.specs.Controller.{CanWork, Control, WorksWith, control}
-use Rattle.lab_core.specs.Playing.{JudgedEvent}
-use Rattle.lab_core.specs.Tasks.{task_of}
+use Rattle.lab_core.specs.PlayList.{JudgedEvent}
+use Rattle.lab_judge.specs.Tasks.{task_of}
 use Rattle.lab_core.proofs.Obey.{refuses, wanted}
 use Rattle.lab_core.proofs.Plays.{event_done, event_part, event_ready, event_refused, refusal_part}
 use Rattle.lab_core.proofs.controller.Controller.play_event.Goals as goal

@@ -2,8 +2,9 @@ use Rattle.std.proofs.Common.{◌+◌, List, drop, refl, ap, subst, arith}
 use Rattle.std.proofs.lemmas.Result.{err_from_is_err_and}
 use Rattle.ns_events.specs.declared.event.Event.{Event as LinkEvent}
 use Rattle.lab_core.specs.InTurn.{ComesTo}
-use Rattle.lab_core.specs.Playing.{first_place}
-use Rattle.lab_core.proofs.InTurn.{all_done, drop_all, drop_at, ends_there, fails_there, goes_further, going, has_at, starts, works_further}
+use Rattle.lab_judge.specs.Playing.{first_place}
+use Rattle.lab_core.proofs.InTurn.{all_done, ends_there, fails_there, goes_further, going, starts, works_further}
+use Rattle.lab_judge.proofs.Drops.{drop_all, drop_at, has_at}
 use Rattle.lab_core.proofs.controller.Controller.play_events.Goals as goal
 
 pub loop-event-init : goal.loop-event-init

@@ -1,7 +1,7 @@
 use Rattle.std.proofs.Common.{inl, inr, Some}
 use Rattle.std.proofs.lemmas.Result.{err_from_is_err_and}
 use Rattle.lab_core.specs.InTurn.{ObeysEvent}
-use Rattle.lab_core.specs.Playing.{JudgedEvent}
+use Rattle.lab_core.specs.PlayList.{JudgedEvent}
 use Rattle.lab_core.proofs.InTurn.{fault_ends, told_ends}
 use Rattle.lab_core.proofs.Obey.{wanted}
 use Rattle.lab_core.proofs.controller.Controller.play_next.Goals as goal

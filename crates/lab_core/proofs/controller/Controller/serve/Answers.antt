@@ -3,7 +3,7 @@ use Rattle.lab_ahead.specs.declared.batch.Batch.{Batch}
 use Rattle.lab_ahead.specs.declared.batch.Run.{Run}
 use Rattle.lab_core.specs.Controller.{Control}
 use Rattle.lab_core.specs.Queues.{ObeysRuns, first_place}
-use Rattle.lab_core.specs.Serving.{JudgedBatch, first_run}
+use Rattle.lab_judge.specs.Serving.{JudgedBatch, first_run}
 use Rattle.lab_core.proofs.Served.{batch_listed, batch_told, batch_wanted}
 use Rattle.lab_core.proofs.controller.Controller.serve.Goals as goal
 

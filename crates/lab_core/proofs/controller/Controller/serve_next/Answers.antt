@@ -3,7 +3,7 @@ use Rattle.std.proofs.lemmas.Result.{err_from_is_err_and}
 use Rattle.lab_core.specs.LabSteps.{has_space}
 use Rattle.lab_core.specs.Obey.{start_of}
 use Rattle.lab_core.specs.Queues.{ObeysRun}
-use Rattle.lab_core.specs.Serving.{JudgedRun}
+use Rattle.lab_core.specs.BatchList.{JudgedRun}
 use Rattle.lab_core.proofs.Obey.{wanted}
 use Rattle.lab_core.proofs.Served.{fault_ends}
 use Rattle.lab_core.proofs.controller.Controller.serve_next.Goals as goal

@@ -2,9 +2,9 @@ use Rattle.std.proofs.Common.{Some, sym, subst}
 use Rattle.lab_core.specs.Controller.{CanWork, Control, WorksWith, control}
 use Rattle.lab_core.specs.LabSteps.{has_space}
 use Rattle.lab_core.specs.Obey.{start_of}
-use Rattle.lab_core.specs.Queues.{space_in}
-use Rattle.lab_core.specs.Serving.{JudgedRun}
-use Rattle.lab_core.specs.Tasks.{task_of}
+use Rattle.lab_judge.specs.JudgeRun.{space_in}
+use Rattle.lab_core.specs.BatchList.{JudgedRun}
+use Rattle.lab_judge.specs.Tasks.{task_of}
 use Rattle.lab_core.proofs.Obey.{refuses, wanted}
 use Rattle.lab_core.proofs.Served.{idle_beside, mild_idle, refusal_part, run_done, run_idle, run_part, run_ready, run_refused}
 use Rattle.lab_core.proofs.controller.Controller.serve_run.Goals as goal

@@ -5,11 +5,11 @@ use Rattle.lab_ahead.specs.declared.ends.End.{End}
 use Rattle.script_text.specs.declared.reply.Reply.TheVariants as replies
 use Rattle.script_text.specs.declared.reply.Served.{Served}
 use Rattle.lab_core.specs.declared.fault.CoreFault.TheVariants as faults
-use Rattle.lab_core.specs.declared.judge_run.Queue.{Queue}
+use Rattle.lab_judge.specs.declared.judge_run.Queue.{Queue}
 use Rattle.lab_core.specs.Controller.{WorksWith}
 use Rattle.lab_core.specs.Queues.{ComesToRun, ObeysRuns, ends_if, first_place}
 use Rattle.lab_core.specs.Sessions.{OpenSwap}
-use Rattle.lab_core.proofs.InTurn.{drop_all, drop_at, has_at}
+use Rattle.lab_judge.proofs.Drops.{drop_all, drop_at, has_at}
 use Rattle.lab_core.proofs.RunsInTurn.{all_done, ends_there, fails_there, goes_further, place_at, starts, wants_behind, works_further}
 use Rattle.lab_core.proofs.controller.Controller.serve_runs.Goals as goal
 

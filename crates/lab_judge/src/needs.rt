@@ -1,0 +1,147 @@
+// The needs of commands: each check gives a value, or the reply that refuses the command.
+ghost use Rattle.std.specs.Prelude.{◌≡◌, ◌<◌, Ok, IfOk, OnOk, length, true, false, None, Some};
+ghost use Rattle.lab_base.specs.Lists.{Has};
+ghost use Rattle.virt_topo.specs.declared.experiment.Experiment.{Experiment as AnyExperiment};
+ghost use Rattle.virt_topo.specs.declared.experiment.Phase.TheVariants as phases;
+ghost use Rattle.records_model.specs.Labs.{Sane, find};
+ghost use Rattle.top_text.specs.Printable.{is_printable};
+ghost use Rattle.lab_judge.specs.OpenNames.{has_open};
+ghost use Rattle.lab_judge.specs.Judge.{need_found, need_idle, need_in, need_lab, need_new, need_none, need_open, need_out, need_place, need_room, need_slot};
+ghost use Rattle.lab_judge.specs.Tasks.{Refuses};
+
+use crate::task::Refusal;
+use lab_base::{Name, Tags};
+use lab_state::LabState;
+use phys_lab::Lab;
+use script_text::Reply;
+use swap_mgr::Manager;
+use virt_topo::{Experiment, Mapping, Phase};
+
+/// How many experiments there may be.
+const MAX_EXPERIMENTS: usize = 256;
+
+/// How many swaps may be open.
+const MAX_SWAPS: u16 = 16;
+
+/// The lab.
+pub(crate) fn need_lab(state: &LabState) -> Result<&Lab, Refusal>
+    ensures lab { IfOk result (λ lab. state.now.state.lab ≡ Some lab.now) }
+    ensures refuses { Refuses (need_lab state.now.state.lab) result }
+    ensures sane { Sane state.now.state }
+    ensures printable { (e : AnyExperiment) → Has state.now.state.experiments e → is_printable e.wiring ≡ true }
+{
+    match state.lab() {
+        Some(lab) => Ok(lab),
+        None => Err(Refusal::Refused(Reply::NoLab)),
+    }
+}
+
+/// No lab yet.
+pub(crate) fn need_none(state: &LabState) -> Result<(), Refusal>
+    ensures none { OnOk result (state.now.state.lab ≡ None) }
+    ensures refuses { Refuses (need_none state.now.state.lab) result }
+{
+    match state.lab() {
+        None => Ok(()),
+        Some(_) => Err(Refusal::Refused(Reply::LabIsSet)),
+    }
+}
+
+/// The experiment of that name.
+pub(crate) fn need_found(state: &LabState, exp: Name) -> Result<&Experiment, Refusal>
+    ensures found { IfOk result (λ e. find exp state.now.state.experiments ≡ Some e.now) }
+    ensures refuses { Refuses (need_found exp (find exp state.now.state.experiments)) result }
+{
+    match state.experiment(exp) {
+        Some(experiment) => Ok(experiment),
+        None => Err(Refusal::Refused(Reply::Unknown { exp })),
+    }
+}
+
+/// No experiment of that name.
+fn need_new(state: &LabState, exp: Name) -> Result<(), Refusal>
+    ensures new { OnOk result (find exp state.now.state.experiments ≡ None) }
+    ensures refuses { Refuses (need_new exp (find exp state.now.state.experiments)) result }
+{
+    match state.experiment(exp) {
+        None => Ok(()),
+        Some(_) => Err(Refusal::Refused(Reply::Exists { exp })),
+    }
+}
+
+/// A lab, and a name that is new in it.
+pub(crate) fn need_place(state: &LabState, exp: Name) -> Result<(), Refusal>
+    ensures place { OnOk result (need_place state.now.state exp ≡ Ok tt) }
+    ensures refuses { Refuses (need_place state.now.state exp) result }
+{
+    let _lab = need_lab(state)?;
+    need_new(state, exp)
+}
+
+/// Room for one more experiment.
+pub(crate) fn need_room(state: &LabState) -> Result<(), Refusal>
+    ensures room { OnOk result (length state.now.state.experiments < 256) }
+    ensures refuses { Refuses (need_room state.now.state.experiments) result }
+{
+    if MAX_EXPERIMENTS <= state.len() {
+        return Err(Refusal::Refused(Reply::FullExperiments));
+    }
+    Ok(())
+}
+
+/// No open swap of the experiment.
+pub(crate) fn need_idle(swaps: &Manager, exp: Name) -> Result<(), Refusal>
+    ensures idle { OnOk result (has_open swaps.now exp ≡ false) }
+    ensures refuses { Refuses (need_idle exp (has_open swaps.now exp)) result }
+{
+    if swaps.is_open(exp) {
+        return Err(Refusal::Refused(Reply::Busy { exp }));
+    }
+    Ok(())
+}
+
+/// An open swap of the experiment.
+pub(crate) fn need_open(swaps: &Manager, exp: Name) -> Result<(), Refusal>
+    ensures open { OnOk result (has_open swaps.now exp ≡ true) }
+    ensures refuses { Refuses (need_open exp (has_open swaps.now exp)) result }
+{
+    if swaps.is_open(exp) {
+        return Ok(());
+    }
+    Err(Refusal::Refused(Reply::NotOpen { exp }))
+}
+
+/// Room for one more open swap.
+pub(crate) fn need_slot(swaps: &Manager) -> Result<(), Refusal>
+    ensures slot { OnOk result (length swaps.now < 16) }
+    ensures refuses { Refuses (need_slot (length swaps.now)) result }
+{
+    if MAX_SWAPS <= swaps.count() {
+        return Err(Refusal::Refused(Reply::FullSwaps));
+    }
+    Ok(())
+}
+
+/// An experiment that is out.
+pub(crate) fn need_out(exp: Name, phase: &Phase) -> Result<(), Refusal>
+    ensures out { OnOk result (phase.now ≡ phases.Out) }
+    ensures refuses { Refuses (need_out exp phase.now) result }
+{
+    match phase {
+        Phase::Out => Ok(()),
+        Phase::In { .. } => Err(Refusal::Refused(Reply::IsIn { exp })),
+        Phase::Moving { .. } => Err(Refusal::Refused(Reply::IsMoving { exp })),
+    }
+}
+
+/// Where an experiment is that is in.
+pub(crate) fn need_in(exp: Name, phase: &Phase) -> Result<(&Mapping, &Tags), Refusal>
+    ensures inside { IfOk result (λ place. phase.now ≡ phases.In place.0.now place.1.now) }
+    ensures refuses { Refuses (need_in exp phase.now) result }
+{
+    match phase {
+        Phase::In { mapping, tags } => Ok((mapping, tags)),
+        Phase::Out => Err(Refusal::Refused(Reply::IsOut { exp })),
+        Phase::Moving { .. } => Err(Refusal::Refused(Reply::IsMoving { exp })),
+    }
+}
