@@ -16,10 +16,13 @@ ghost use Rattle.lab_judge.specs.Tasks.{CanDo, Gives, IsJudged, IsMild, Refuses,
 
 use crate::case::Present;
 use crate::change::judge_modify_with;
-use crate::needs::{need_found, need_lab, need_none, need_open, need_place, need_room, need_slot};
+use crate::needs::{
+    need_found, need_idle_in, need_idle_out, need_lab, need_none, need_open, need_place, need_room,
+    need_slot,
+};
 use crate::records::{create_record, delete_record, lab_record, way_out};
 use crate::replies::{created_reply, lab_reply};
-use crate::search::{judge_modify, judge_solve, judge_swapin, need_idle_in, need_idle_out};
+use crate::search::{judge_modify, judge_solve, judge_swapin};
 use crate::swap::judge_swapin_with;
 use crate::task::{Refusal, Task};
 use crate::views::{shown, status_lines};
