@@ -11,8 +11,8 @@ use phys_lab::{Lab, Trunk};
 use std::alloc::Global;
 use std::marker::Model;
 
-/// The number of claims for which there is room from the start: as many experiments as a lab may have.
-const MAX_CLAIMS: usize = 256;
+/// The most experiments of a lab. There is room for as many claims from the start.
+pub const MAX_EXPERIMENTS: usize = 256;
 
 /// The claims of all experiments on a lab, at most one for each.
 #[derive(Drop)]
@@ -129,7 +129,7 @@ impl Claims {
         Ok(Claims {
             range,
             kbps: kbps_of(alloc, lab.trunks())?,
-            entries: Vec::with_capacity(alloc, MAX_CLAIMS)?,
+            entries: Vec::with_capacity(alloc, MAX_EXPERIMENTS)?,
             tables: no_tables(alloc, lab.nodes().len(), lab.trunks().len(), ids)?,
         })
     }
@@ -148,7 +148,7 @@ impl Claims {
     /// Sets the claim of an experiment, as `add` does, where at most 255 others have one. It takes no memory.
     pub fn note(&mut self, exp: Name, claim: Claim)
         requires may { MayAdd self.old exp claim }
-        requires few { length (others exp self.old.entries) < 256 }
+        requires few { length (others exp self.old.entries) < MAX_EXPERIMENTS }
         ensures { self.new ≡ with_claim exp claim self.old }
     {
         put_in_place(self.range, &mut self.entries, &mut self.tables, exp, claim);

@@ -121,7 +121,7 @@ fn first_free(
     first: u16,
     count: usize,
 ) -> Result<Tags, Memory>
-    requires { first + length owners.now ≤ 65536 }
+    requires { first + length owners.now ≤ 2 ^ 16 }
     ensures { IfOk result (λ tags. map (λ tag. tag.0) tags ≡ take count (free_from first owners.now)) }
 {
     let mut tags = Items::new(alloc);

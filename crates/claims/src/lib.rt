@@ -11,7 +11,7 @@ mod tables;
 mod tags;
 
 pub use claim::Claim;
-pub use claims::Claims;
+pub use claims::{Claims, MAX_EXPERIMENTS};
 pub use fault::TakeFault;
 pub use hold::Hold;
 pub use laws::{

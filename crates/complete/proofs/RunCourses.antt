@@ -25,9 +25,9 @@ use Rattle.lab_core.specs.LabSteps.{DoesBy, JudgedBeside, StepOf, not_opened, op
 use Rattle.lab_core.specs.Moments.{IsLabAt}
 use Rattle.lab_core.specs.Sessions.{OpenSwap, Session, Closed, Open, Setting, After, Terms, name_in}
 use Rattle.lab_core.specs.Tells.{busy_of, opens_of}
+use Rattle.lab_core.proofs.Audited.{kept, opens_stay}
 use Rattle.lab_core.proofs.Others.{Stays, same_stays}
 use Rattle.lab_top.specs.Pieces.{Begun, AreHandedOn, ArePieces, ButForReply, Finds, FirstLab, IsPiece, Leads, StepsFrom, is_closed, session_after, stays_open, steps_of, trace_after}
-use Rattle.lab_top.proofs.AuditLaws.{lab_stays, swaps_stay}
 use Rattle.lab_top.proofs.TurnLaws.{they_differ}
 use Rattle.complete.specs.Booted.{GoesWell}
 use Rattle.complete.specs.OpenCourses.{AreOnLeg, IsCourse, IsOnLeg, forth, steps_in, undo}
@@ -159,15 +159,15 @@ module _ (terms : Terms) (before : List Event) (set : Setting) (s : LabState) (o
   audit_continues : (session : Session) → AreOk session → LabStep terms before set s session Audit opening own after → StepContinues session
   audit_continues Closed ok (not_opened b) = absurd (cc (sym b.session ∙ open_now))
   audit_continues Closed ok (opened mid opens d) =
-      (mid, λ o has. absurd (subst (λ l. Has l o) (swaps_stay (world_of (before ++ opening)) mid [] own after to open_now d) has), λ o none. absurd none)
+      (mid, λ o has. absurd (subst (λ l. Has l o) (opens_stay (world_of (before ++ opening)) mid [] own after to open_now d) has), λ o none. absurd none)
   audit_continues (Open opens) ok step =
       let w = world_of (before ++ opening) in
-      let same = swaps_stay w s opens own after to open_now step.1 in (
+      let same = opens_stay w s opens own after to open_now step.1 in (
         s,
         λ o has.
             let there = subst (λ l. Has l o) same has in
             along o there [] (ap (λ c. record o.running { course = c }) (sym (append-nil o.running.course)))
-            (same_stays (name_in o) s after.lab (ok o there).1 (lab_stays w s opens own after step.1))
+            (same_stays (name_in o) s after.lab (ok o there).1 (kept w s opens own after step.1))
             (λ e found. audit_own w s opens (lab_in s.lab) e step.1),
         λ o has. (refl, step.0),
       )

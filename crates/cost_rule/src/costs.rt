@@ -7,15 +7,15 @@ ghost use Rattle.lab_model.specs.Uses.{use_of};
 ghost use Rattle.cost_rule.specs.Cost.{trunk_uses, nodes_in_use};
 
 use lab_base::{Name, NodeId, TrunkId};
-use phys_lab::Lab;
-use virt_topo::{Mapping, Wiring};
+use phys_lab::{Lab, MAX_TRUNKS};
+use virt_topo::{MAX_ENDS, MAX_KBPS, Mapping, Wiring};
 
 fn trunk_use(lab: &Lab, wiring: &Wiring, mapping: &Mapping, trunk: usize) -> u64
     requires sound { IsSound wiring.now }
     requires shaped { IsShaped lab.now wiring.now mapping.now }
     requires trunk { trunk < length lab.now.trunks }
     ensures used { result ≡ use_of lab.now wiring.now mapping.now trunk }
-    ensures bound { result ≤ 4096 * 1000000000 }
+    ensures bound { result ≤ MAX_ENDS * MAX_KBPS }
 {
     // for the prover: it tells what every lab keeps
     let _kept = lab.range();
@@ -26,7 +26,7 @@ pub(crate) fn trunk_uses(lab: &Lab, wiring: &Wiring, mapping: &Mapping) -> u64
     requires sound { IsSound wiring.now }
     requires shaped { IsShaped lab.now wiring.now mapping.now }
     ensures sum { result ≡ trunk_uses lab.now wiring.now mapping.now }
-    ensures bound { result ≤ 64 * (4096 * 1000000000) }
+    ensures bound { result ≤ MAX_TRUNKS * (MAX_ENDS * MAX_KBPS) }
 {
     // for the prover: it tells what every lab keeps
     let _kept = lab.range();

@@ -11,8 +11,13 @@ ghost use Rattle.cost_rule.specs.Counting.{is_of_kind, types_from};
 
 use crate::at::{node_at, place_at, virt_at};
 use lab_base::Name;
-use phys_lab::Lab;
-use virt_topo::{Asks, Mapping, Wiring};
+use phys_lab::{Lab, MAX_FEATURES};
+use virt_topo::{
+    Asks, MAX_CLASSES, MAX_DESIRES, MAX_SOFT_WEIGHT, MAX_TOPOLOGY_NODES, Mapping, Wiring,
+};
+
+/// A bound on the unmet weights of a mapping, those of nodes and of classes together.
+pub const MAX_SOFT: u64 = 1_000_000_000;
 
 fn has_name(pairs: &[(Name, u32)], name: Name) -> bool
     ensures { result ≡ has_name pairs.now name }
@@ -22,7 +27,7 @@ fn has_name(pairs: &[(Name, u32)], name: Name) -> bool
 
 fn missed_weight(wanted: &(Name, u32), given: &[(Name, u32)]) -> u64
     ensures weight { result ≡ missed_weight given.now wanted.now }
-    ensures small { result ≤ 999 }
+    ensures small { result ≤ MAX_SOFT_WEIGHT }
 {
     if wanted.1 < 1_000 && !has_name(given, wanted.0) {
         wanted.1 as u64
@@ -33,9 +38,9 @@ fn missed_weight(wanted: &(Name, u32), given: &[(Name, u32)]) -> u64
 
 /// The sum of the weights below 1,000 of those first names that are not among the others.
 fn missed(wanted: &[(Name, u32)], given: &[(Name, u32)]) -> u64
-    requires { length wanted.now ≤ 8 }
+    requires { length wanted.now ≤ MAX_FEATURES }
     ensures sum { result ≡ missed wanted.now given.now }
-    ensures small { result ≤ 8 * 999 }
+    ensures small { result ≤ MAX_FEATURES * MAX_SOFT_WEIGHT }
 {
     let mut total = 0;
     for pair in wanted {
@@ -50,7 +55,7 @@ pub fn node_soft(lab: &Lab, wiring: &Wiring, mapping: &Mapping, virt: usize) -> 
     requires shaped { IsShaped lab.now wiring.now mapping.now }
     requires virt { virt < length wiring.now.nodes }
     ensures sum { result ≡ node_soft lab.now wiring.now mapping.now virt }
-    ensures small { result ≤ 16 * 999 }
+    ensures small { result ≤ (MAX_DESIRES + MAX_FEATURES) * MAX_SOFT_WEIGHT }
 {
     // for the prover: it tells what every lab keeps
     let _kept = lab.range();
@@ -64,7 +69,7 @@ fn nodes_soft(lab: &Lab, wiring: &Wiring, mapping: &Mapping) -> u64
     requires sound { IsSound wiring.now }
     requires shaped { IsShaped lab.now wiring.now mapping.now }
     ensures sum { result ≡ sum_below (length wiring.now.nodes) (node_soft lab.now wiring.now mapping.now) }
-    ensures small { result ≤ 256 * (16 * 999) }
+    ensures small { result ≤ MAX_TOPOLOGY_NODES * ((MAX_DESIRES + MAX_FEATURES) * MAX_SOFT_WEIGHT) }
 {
     let mut total = 0;
     for virt in 0..wiring.nodes.len() {
@@ -107,7 +112,7 @@ pub fn has_kind(wiring: &Wiring, mapping: &Mapping, class: u16, kind: Name, from
 
 /// Whether a virtual node is a member of a class, and the last one of its type.
 fn is_last_of_kind(wiring: &Wiring, mapping: &Mapping, class: u16, virt: usize) -> bool
-    requires few { length wiring.now.nodes ≤ 256 }
+    requires few { length wiring.now.nodes ≤ MAX_TOPOLOGY_NODES }
     requires virt { virt < length wiring.now.nodes }
     requires placed { length mapping.now.places ≡ length wiring.now.nodes }
     ensures { result ≡ (is_member class (virt_at wiring.now virt).asks
@@ -119,7 +124,7 @@ fn is_last_of_kind(wiring: &Wiring, mapping: &Mapping, class: u16, virt: usize) 
 
 /// The number of different types that the members of a class have.
 fn kinds_of(wiring: &Wiring, mapping: &Mapping, class: u16) -> usize
-    requires few { length wiring.now.nodes ≤ 256 }
+    requires few { length wiring.now.nodes ≤ MAX_TOPOLOGY_NODES }
     requires placed { length mapping.now.places ≡ length wiring.now.nodes }
     ensures number { result ≡ kinds_of wiring.now mapping.now class }
     ensures within { result ≤ length wiring.now.nodes }
@@ -137,7 +142,7 @@ pub fn class_soft(wiring: &Wiring, mapping: &Mapping, class: usize) -> u64
     requires placed { length mapping.now.places ≡ length wiring.now.nodes }
     requires class { class < length wiring.now.classes }
     ensures sum { result ≡ class_soft wiring.now mapping.now class }
-    ensures small { result ≤ 999 * 256 }
+    ensures small { result ≤ MAX_SOFT_WEIGHT * MAX_TOPOLOGY_NODES }
 {
     let weight = wiring.classes.as_slice()[class].weight;
     if weight < 1_000 {
@@ -151,7 +156,7 @@ fn classes_soft(wiring: &Wiring, mapping: &Mapping) -> u64
     requires sound { IsSound wiring.now }
     requires placed { length mapping.now.places ≡ length wiring.now.nodes }
     ensures sum { result ≡ sum_below (length wiring.now.classes) (class_soft wiring.now mapping.now) }
-    ensures small { result ≤ 64 * (999 * 256) }
+    ensures small { result ≤ MAX_CLASSES * (MAX_SOFT_WEIGHT * MAX_TOPOLOGY_NODES) }
 {
     let mut total = 0;
     for class in 0..wiring.classes.len() {
@@ -165,7 +170,7 @@ pub(crate) fn soft(lab: &Lab, wiring: &Wiring, mapping: &Mapping) -> u64
     requires sound { IsSound wiring.now }
     requires shaped { IsShaped lab.now wiring.now mapping.now }
     ensures sum { result ≡ soft lab.now wiring.now mapping.now }
-    ensures small { result ≤ 1000000000 }
+    ensures small { result ≤ MAX_SOFT }
 {
     nodes_soft(lab, wiring, mapping) + classes_soft(wiring, mapping)
 }

@@ -15,6 +15,7 @@ ghost use Rattle.journal_disk.specs.Compactions.{MovesOver, Compacts, Shifts};
 use crate::emptying::{empty, is_unshut};
 use crate::front::OPEN;
 use crate::pouring::pour;
+use crate::walk::FIRST;
 use crate::{CompactFault, Journal};
 use journal_packed::Packed;
 use plant::{Fault, Plant, Side};
@@ -30,7 +31,7 @@ fn other_side(side: Side) -> Side
 
 /// Opens the header gate in front of a text that is written.
 fn raise<P: Plant>(plant: &mut P, side: Side) -> Result<(), Fault>
-    ensures ok { OnOk result ((P.seen plant.new).told ≡ with_steps (P.seen plant.old).told (Synced side ∷ Wrote side 0 (165 ∷ []) ∷ Synced side ∷ [])) }
+    ensures ok { OnOk result ((P.seen plant.new).told ≡ with_steps (P.seen plant.old).told (Synced side ∷ Wrote side 0 (OPEN ∷ []) ∷ Synced side ∷ [])) }
     ensures leaves { (base : Option Told) (unshut : Bool) (text : List ℕ) (pieces : List (List ℕ)) → ArePieces text pieces
         → (P.seen plant.old).told ≡ with_steps base (filling side unshut pieces) → BreaksOff side unshut text base (P.seen plant.new).told result }
     ensures cause { DiskCause (P.seen plant.old).faults (P.seen plant.new).faults result }
@@ -43,7 +44,7 @@ fn raise<P: Plant>(plant: &mut P, side: Side) -> Result<(), Fault>
 
 /// Moves a journal onto a side. The side is emptied, and its text is written behind the closed gate. Then come a sync, the open gate, and a sync.
 fn move_over<P: Plant>(plant: &mut P, side: Side, epoch: u64, records: &[u8]) -> Result<(), Fault>
-    requires { 17 + length records.now < 2 ^ 64 }
+    requires { FIRST + length records.now < 2 ^ 64 }
     ensures moves { MovesOver side (side_text epoch records.now) (P.seen plant.old).told (P.seen plant.new).told result }
     ensures cause { DiskCause (P.seen plant.old).faults (P.seen plant.new).faults result }
     ensures stopped { IsErrOf result Fault.Stopped ↔ IsTrue (P.seen plant.new).stopped }

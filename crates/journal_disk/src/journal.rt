@@ -1,4 +1,5 @@
 ghost use Rattle.std.specs.Prelude.{◌<◌, ◌≤◌, ◌+◌, ◌^◌};
+ghost use Rattle.journal_rec.specs.declared.limits.TheConstants.{MAX_JOURNAL};
 
 use crate::AppendFault;
 use crate::front::OPEN;
@@ -16,7 +17,7 @@ pub struct Journal {
     /// The number of its moves onto the other side, and 1.
     pub(crate) epoch: u64,
     ghost gate_fits: { gate + 1 < 2 ^ 64 },
-    ghost limit_fits: { limit ≤ 2 ^ 32 },
+    ghost limit_fits: { limit ≤ MAX_JOURNAL },
 }
 
 impl Journal {
@@ -39,7 +40,7 @@ impl Journal {
     /// The length that the journal may not pass.
     pub fn limit(&self) -> u64
         ensures limit { result ≡ limit_of self.now }
-        ensures most { limit_of self.now ≤ 2 ^ 32 }
+        ensures most { limit_of self.now ≤ MAX_JOURNAL }
     {
         self.limit
     }

@@ -13,5 +13,7 @@ mod sides;
 mod walk;
 
 pub use fault::{AppendFault, CompactFault, OpenFault};
+pub use front::HEADER;
 pub use journal::Journal;
 pub use open::Opened;
+pub use walk::FIRST;

@@ -1,4 +1,4 @@
-ghost use Rattle.std.specs.Prelude.{◌≡◌, ◌↔◌, ◌≤◌, ◌^◌, ℕ, List, Err, length, take, drop, IfOk, IfSome, IsErrOf, IsTrue};
+ghost use Rattle.std.specs.Prelude.{◌≡◌, ◌↔◌, ◌≤◌, ℕ, List, Err, length, take, drop, IfOk, IfSome, IsErrOf, IsTrue};
 ghost use Rattle.lab_base.specs.Counts.{Rose};
 ghost use Rattle.plant.specs.Disks.{disk};
 ghost use Rattle.plant.specs.declared.step.Side.{Side as AnySide};
@@ -21,7 +21,7 @@ use crate::make::make;
 use crate::sides::{read_side, sync_sides};
 use crate::walk::{FIRST, WalkFault, walk};
 use crate::{Journal, OpenFault};
-use journal_rec::Found;
+use journal_rec::{Found, MAX_JOURNAL};
 use plant::{Plant, Side};
 use std::alloc::Global;
 
@@ -36,8 +36,8 @@ fn place_in(a: &[u8], b: &[u8]) -> Place
 
 /// The journal on a side with a header.
 fn opened(alloc: Global, side: Side, bytes: &[u8], limit: u64) -> Result<Opened, OpenFault>
-    requires header { 18 ≤ length bytes.now }
-    requires limit { limit ≤ 2 ^ 32 }
+    requires header { HEADER ≤ length bytes.now }
+    requires limit { limit ≤ MAX_JOURNAL }
     ensures opened { IsOpened side limit bytes.now result }
     ensures epoch { IfOk result (λ opened. epoch_of opened.0 ≡ number (take 8 (drop 9 bytes.now))) }
 {
@@ -61,9 +61,9 @@ fn opened(alloc: Global, side: Side, bytes: &[u8], limit: u64) -> Result<Opened,
 impl Journal {
     /// Opens the journal with its records, in order. Where both sides are blank it makes a new one. `limit` is the most bytes of a side.
     pub fn open<P: Plant>(alloc: Global, plant: &mut P, limit: u64) -> Result<Opened, OpenFault>
-        requires least { 18 ≤ limit }
-        requires most { limit ≤ 2 ^ 32 }
-        ensures ok { IfOk result (λ opened. (rs : List Record) × (opened.1.items ≡ placed 17 rs)
+        requires least { HEADER ≤ limit }
+        requires most { limit ≤ MAX_JOURNAL }
+        ensures ok { IfOk result (λ opened. (rs : List Record) × (opened.1.items ≡ placed FIRST rs)
             × IfSome (P.seen plant.new).told (λ t. IsAt t.trace opened.0 rs × HasAll t.trace rs)) }
         ensures holds { IfOk result (λ opened. (rs : List Record) × Holds rs opened.0 opened.1.items) }
         ensures bad { (side : AnySide) (at : ℕ) → result ≡ Err (OpenFault.Bad side at)

@@ -9,6 +9,7 @@ ghost use Rattle.journal_model.specs.Journals.{magic};
 ghost use Rattle.journal_disk.specs.Compacting.{side_text, Pours};
 
 use crate::sides::{PIECE, piece_of};
+use crate::walk::FIRST;
 use plant::{Fault, Plant, Side};
 
 /// The number of bytes of a header between its gate and the gate of the first record.
@@ -83,7 +84,7 @@ fn first_of(all: usize) -> usize
 /// Writes the text of a side of that epoch behind its gate.
 pub fn pour<P: Plant>(plant: &mut P, side: Side, epoch: u64, records: &[u8]) -> Result<(), Fault>
     requires within { IfSome (P.seen plant.old).told (λ t. 1 ≤ length (disk side t.trace).reads) }
-    requires fits { 17 + length records.now < 2 ^ 64 }
+    requires fits { FIRST + length records.now < 2 ^ 64 }
     ensures pours { Pours side 1 (side_text epoch records.now) (P.seen plant.old).told (P.seen plant.new).told result }
     ensures cause { DiskCause (P.seen plant.old).faults (P.seen plant.new).faults result }
     ensures stopped { IsErrOf result Fault.Stopped ↔ IsTrue (P.seen plant.new).stopped }

@@ -2,7 +2,7 @@ ghost use Rattle.std.specs.Prelude.{◌≡◌, ◌<◌, ◌≤◌, length, take}
 ghost use Rattle.journal_rec.specs.Payloads.{number};
 ghost use Rattle.journal_disk.specs.Walks.{IsBlock, IsWalk};
 
-use crate::front::OPEN;
+use crate::front::{HEADER, OPEN};
 use journal_rec::{Found, RecFault, Record, decode};
 use std::alloc::Global;
 
@@ -52,7 +52,7 @@ fn block_at(alloc: Global, bytes: &[u8]) -> Result<Option<(Record, usize)>, RecF
 
 /// The records behind open gates, up to the first closed one.
 pub fn walk(alloc: Global, bytes: &[u8]) -> Result<Walked, WalkFault>
-    requires { 18 ≤ length bytes.now }
+    requires { HEADER ≤ length bytes.now }
     ensures { IsWalk bytes.now result }
 {
     let mut found = Vec::new(alloc);

@@ -4,6 +4,7 @@
 mod encoded;
 mod fault;
 mod laws;
+mod limits;
 mod reading;
 mod record;
 mod writing;
@@ -11,6 +12,7 @@ mod writing;
 pub use encoded::Encoded;
 pub use fault::RecFault;
 pub use laws::one_spelling;
+pub use limits::{LAST_RECORD, LAST_RECORDS, MAX_JOURNAL};
 pub use reading::decode;
 pub use record::{Found, Record, Way};
 pub use writing::encode;

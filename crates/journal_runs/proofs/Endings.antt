@@ -17,7 +17,7 @@ use Rattle.journal_disk.specs.declared.fault.AppendFault.{AppendFault}
 use Rattle.journal_disk.specs.declared.fault.AppendFault.TheVariants as faults
 use Rattle.journal_disk.specs.declared.journal.Journal.{Journal}
 use Rattle.journal_disk.proofs.Prefixes.{missed_images}
-use Rattle.journal_runs.specs.Pieces.{is_command, is_miss, is_restart, has_command, has_miss, has_restart}
+use Rattle.journal_runs.specs.Pieces.{is_command, is_miss, is_outer, has_command, has_miss, has_outer}
 use Rattle.journal_runs.specs.Working.{StandForLab, StandForEither, Works}
 use Rattle.journal_runs.proofs.Quiet.{shows, last_quiet}
 
@@ -75,7 +75,7 @@ module _ (t : Texts) (trace : List Event) (side : Side) (rs : List Record) (s u 
       (with_last (λ l. Left l) trace (added side (gate_after rs) r run) more side missed_left (last_step side result run more ends) (run_left run))
 
 -- its steps are writes and syncs
-pub append_quiet : (side : Side) (gate : ℕ) (r : Record) (run : Run) → (has_command (added side gate r run) ≡ false) × (has_restart (added side gate r run) ≡ false) × (has_miss (added side gate r run) ≡ false)
+pub append_quiet : (side : Side) (gate : ℕ) (r : Record) (run : Run) → (has_command (added side gate r run) ≡ false) × (has_outer (added side gate r run) ≡ false) × (has_miss (added side gate r run) ≡ false)
 append_quiet side gate r Nothing = (refl, refl, refl)
 append_quiet side gate r (Body bytes) = (refl, refl, refl)
 append_quiet side gate r Settled = (refl, refl, refl)
@@ -87,11 +87,11 @@ some_side side more (inl none) = inl none
 some_side side more (inr one) = inr (side, one)
 
 pub ended_quiet : (side : Side) (gate : ℕ) (r : Record) (run : Run) (more : List Event) (result : Result (Unit {0}) AppendFault) → Ends side result run more
-    → (has_command (added side gate r run ++ more) ≡ false) × (has_restart (added side gate r run ++ more) ≡ false)
+    → (has_command (added side gate r run ++ more) ≡ false) × (has_outer (added side gate r run ++ more) ≡ false)
 ended_quiet side gate r run more result ends =
     let first = append_quiet side gate r run in
     let last = last_quiet more (some_side side more (last_step side result run more ends)) in
-    (shows is_command _ (added side gate r run) more false false refl first.0 last.0, shows is_restart _ (added side gate r run) more false false refl first.1 last.1)
+    (shows is_command _ (added side gate r run) more false false refl first.0 last.0, shows is_outer _ (added side gate r run) more false false refl first.1 last.1)
 
 pub ended_missed : (side : Side) (gate : ℕ) (r : Record) (run : Run) (more : List Event) (y : Bool) → has_miss more ≡ y → has_miss (added side gate r run ++ more) ≡ y
 ended_missed side gate r run more y last = shows is_miss _ (added side gate r run) more false y refl (append_quiet side gate r run).2 last

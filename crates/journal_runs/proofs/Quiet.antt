@@ -1,4 +1,4 @@
--- The steps of an opening: no command, no start, and a failed call only at the end.
+-- The steps of an opening: no command, no start, no failed reading, and a failed call only at the end.
 use Rattle.std.proofs.Common.{◌≡◌, ◌⊎◌, inl, inr, ℕ, Bool, true, false, ◌||◌, List, [], ◌∷◌, ◌++◌, Result, Ok, Err, refl, ap, ◌∙◌}
 use Rattle.std.specs.Global.{Vec}
 use Rattle.std.specs.List.{list_any}
@@ -10,11 +10,11 @@ use Rattle.journal_disk.specs.Opening.{Untouched, Closing, Closed, Heading, With
 use Rattle.journal_disk.specs.declared.fault.OpenFault.{OpenFault}
 use Rattle.journal_disk.specs.declared.fault.OpenFault.TheVariants as faults
 use Rattle.journal_disk.specs.declared.journal.Journal.{Journal}
-use Rattle.journal_runs.specs.Pieces.{is_command, is_miss, is_restart, has_command, has_miss, has_restart}
+use Rattle.journal_runs.specs.Pieces.{is_command, is_miss, is_outer, has_command, has_miss, has_outer}
 
--- no device command, no start, no call that missed
+-- no device command, no start, no failed reading, no call that missed
 abbrev IsQuiet : List Event → Type 0
-IsQuiet steps = (has_command steps ≡ false) × (has_restart steps ≡ false) × (has_miss steps ≡ false)
+IsQuiet steps = (has_command steps ≡ false) × (has_outer steps ≡ false) × (has_miss steps ≡ false)
 
 far_quiet : (far : Far) → IsQuiet (far_steps far)
 far_quiet AtStart = (refl, refl, refl)
@@ -44,16 +44,16 @@ last_step (Err faults.Memory) a b far more h = inl h.1
 pub shows : (p : Event → Bool) (steps front back : List Event) (x y : Bool) → steps ≡ front ++ back → list_any p front ≡ x → list_any p back ≡ y → list_any p steps ≡ (x || y)
 shows p steps front back x y is first second = ap (list_any p) is ∙ list_any-append p front back ∙ (λ i. first i || second i)
 
-pub last_quiet : (more : List Event) → (more ≡ []) ⊎ ((side : Side) × (more ≡ Missed side ∷ [])) → (has_command more ≡ false) × (has_restart more ≡ false)
-last_quiet more (inl none) = (ap has_command none, ap has_restart none)
-last_quiet more (inr one) = (ap has_command one.1, ap has_restart one.1)
+pub last_quiet : (more : List Event) → (more ≡ []) ⊎ ((side : Side) × (more ≡ Missed side ∷ [])) → (has_command more ≡ false) × (has_outer more ≡ false)
+last_quiet more (inl none) = (ap has_command none, ap has_outer none)
+last_quiet more (inr one) = (ap has_command one.1, ap has_outer one.1)
 
-pub opening_quiet : (trace steps : List Event) (result : Result (Journal × Vec Found) OpenFault) → Opens trace steps result → (has_command steps ≡ false) × (has_restart steps ≡ false)
+pub opening_quiet : (trace steps : List Event) (result : Result (Journal × Vec Found) OpenFault) → Opens trace steps result → (has_command steps ≡ false) × (has_outer steps ≡ false)
 opening_quiet trace steps result o =
     let first = far_quiet o.far in
     let last = last_quiet o.more (last_step result _ _ o.far o.more o.ends) in (
       shows is_command steps (far_steps o.far) o.more false false o.steps_are first.0 last.0,
-      shows is_restart steps (far_steps o.far) o.more false false o.steps_are first.1 last.1,
+      shows is_outer steps (far_steps o.far) o.more false false o.steps_are first.1 last.1,
     )
 
 pub opening_missed : (trace steps : List Event) (result : Result (Journal × Vec Found) OpenFault) (o : Opens trace steps result) (y : Bool) → has_miss o.more ≡ y → has_miss steps ≡ y

@@ -31,7 +31,7 @@ use Rattle.journal_disk.specs.Standing.{side_of, length_of}
 use Rattle.journal_disk.specs.Epochs.{HasEpoch}
 use Rattle.journal_disk.specs.Compacting.{poured, Come, Untouched, Closing, Closed, Cutting, Emptied, Filling, Filled, Raising, InUse, shutting, emptying, filling, come_steps}
 use Rattle.journal_disk.specs.Compactions.{Ends, Compacts, Shifts}
-use Rattle.journal_runs.specs.Pieces.{is_command, is_miss, is_restart, has_command, has_miss, has_restart}
+use Rattle.journal_runs.specs.Pieces.{is_command, is_miss, is_outer, has_command, has_miss, has_outer}
 use Rattle.journal_runs.specs.Working.{StandForLab, AllStandFor, Works}
 use Rattle.journal_runs.proofs.Quiet.{shows}
 use Rattle.journal_runs.proofs.Sounds.{Ok as IsFine, world_stays, take_quiet, back_to}
@@ -93,8 +93,8 @@ module _ (p : Event → Bool) (misses : Misses p) (side : Side) where
 no_command : Misses is_command
 no_command = record { wrote = λ side at bytes. refl; synced = λ side. refl; cut = λ side size. refl }
 
-no_restart : Misses is_restart
-no_restart = record { wrote = λ side at bytes. refl; synced = λ side. refl; cut = λ side size. refl }
+no_outer : Misses is_outer
+no_outer = record { wrote = λ side at bytes. refl; synced = λ side. refl; cut = λ side size. refl }
 
 no_miss : Misses is_miss
 no_miss = record { wrote = λ side at bytes. refl; synced = λ side. refl; cut = λ side size. refl }
@@ -104,16 +104,16 @@ few side (Ok u) far more h = inl h.1
 few side (Err faults.Plant) far more h = inr h
 few side (Err faults.Stopped) far more h = inl h
 
-ends_quiet : (side : Side) (more : List Event) → (more ≡ []) ⊎ (more ≡ Missed side ∷ []) → (has_command more ≡ false) × (has_restart more ≡ false)
-ends_quiet side more (inl none) = (ap has_command none, ap has_restart none)
-ends_quiet side more (inr one) = (ap has_command one, ap has_restart one)
+ends_quiet : (side : Side) (more : List Event) → (more ≡ []) ⊎ (more ≡ Missed side ∷ []) → (has_command more ≡ false) × (has_outer more ≡ false)
+ends_quiet side more (inl none) = (ap has_command none, ap has_outer none)
+ends_quiet side more (inr one) = (ap has_command one, ap has_outer one)
 
 module _ (trace steps : List Event) (j : Journal) (packed : List ℕ) (result : Result (Unit {0}) CompactFault) (c : Compacts trace steps j packed result) where
-  pub shift_quiet : (has_command steps ≡ false) × (has_restart steps ≡ false)
+  pub shift_quiet : (has_command steps ≡ false) × (has_outer steps ≡ false)
   shift_quiet =
       let last = ends_quiet (other_side (side_of j)) c.more (few _ result c.far c.more c.ends) in (
         shows is_command steps _ c.more false false c.steps_are (no_step is_command no_command (other_side (side_of j)) _ c.far) last.0,
-        shows is_restart steps _ c.more false false c.steps_are (no_step is_restart no_restart (other_side (side_of j)) _ c.far) last.1,
+        shows is_outer steps _ c.more false false c.steps_are (no_step is_outer no_outer (other_side (side_of j)) _ c.far) last.1,
       )
 
   pub shift_missed : (y : Bool) → has_miss c.more ≡ y → has_miss steps ≡ y

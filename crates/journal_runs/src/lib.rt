@@ -1,7 +1,7 @@
 //! Runs of a journal over a whole trace: openings, appends, moves onto the other side, and starts of a stopped plant.
 #![tactic(auto)]
 
-ghost use Rattle.std.specs.Prelude.{◌≡◌, ◌↔◌, ◌≤◌, ◌+◌, ◌*◌, ◌^◌, ℕ, Bool, true, false, List, [], ◌∷◌, ◌++◌, count_by, Result, Ok, Err};
+ghost use Rattle.std.specs.Prelude.{◌≡◌, ◌↔◌, ◌≤◌, ◌+◌, ◌*◌, ℕ, Bool, true, false, List, [], ◌∷◌, ◌++◌, count_by, Result, Ok, Err};
 ghost use Rattle.std.specs.Global.{Vec};
 ghost use Rattle.plant.specs.Disks.{disk, ArePossible};
 ghost use Rattle.plant.specs.Events.{Event, Did, Restarted};
@@ -29,14 +29,16 @@ ghost use Rattle.journal_disk.specs.declared.fault.OpenFault.TheVariants as open
 ghost use Rattle.journal_disk.specs.declared.fault.AppendFault.{AppendFault};
 ghost use Rattle.journal_disk.specs.declared.fault.AppendFault.TheVariants as appending;
 ghost use Rattle.journal_disk.specs.declared.journal.Journal.{Journal};
-ghost use Rattle.journal_runs.specs.Pieces.{has_command, has_miss, has_restart};
+ghost use Rattle.journal_runs.specs.Pieces.{has_command, has_miss, has_outer};
 ghost use Rattle.journal_runs.specs.Working.{StandForLab, AllStandFor, StandForEither, Works};
 
-/// An opening sends no device command and starts no plant. No call failed after `Ok`, and one did after `Plant`.
+use journal_rec::{LAST_RECORD, MAX_JOURNAL};
+
+/// An opening sends no device command, starts no plant, and has no failed reading of a device. No call failed after `Ok`, and one did after `Plant`.
 /// A sound trace stays sound, and after `Ok` the journal is at work. With any answer, both sides read alike before it and after it.
 pub fn openings()
     ensures quiet { (trace steps : List Event) (result : Result (Journal × Vec Found) OpenFault) → IsOpening trace steps result
-        → (has_command steps ≡ false) × (has_restart steps ≡ false) }
+        → (has_command steps ≡ false) × (has_outer steps ≡ false) }
     ensures opened { (trace steps : List Event) (opened : Journal × Vec Found) → IsOpening trace steps (Ok opened) → has_miss steps ≡ false }
     ensures failed { (trace steps : List Event) → IsOpening trace steps (Err opening.Plant) → has_miss steps ≡ true }
     ensures sound { (t : Texts) (trace steps : List Event) (result : Result (Journal × Vec Found) OpenFault) → IsOpening trace steps result
@@ -52,7 +54,7 @@ pub fn openings()
 
 /// An append of a record that may follow: after `Ok` the journal is at work with the record. Else each image stands for the lab before it or after
 /// it.
-/// It sends no device command and starts no plant. No call failed after `Ok`, and one did after `Plant`.
+/// It sends no device command, starts no plant, and has no failed reading. No call failed after `Ok`, and one did after `Plant`.
 pub fn appends()
     ensures done { (t : Texts) (trace more : List Event) (j : Journal) (rs : List Record) (s u : LabState) (r : Record) (run : Run) (done : Unit {0})
         → Works t trace j rs s → MayAppend t trace rs s r u → Ends (side_of j) (Ok done) run more
@@ -66,9 +68,9 @@ pub fn appends()
         → IsSound t (trace ++ (added (side_of j) (gate_of j) r run ++ more))
         × StandForEither t (trace ++ (added (side_of j) (gate_of j) r run ++ more)) s u }
     ensures quiet { (j : Journal) (r : Record) (run : Run) → (has_command (added (side_of j) (gate_of j) r run) ≡ false)
-        × (has_restart (added (side_of j) (gate_of j) r run) ≡ false) × (has_miss (added (side_of j) (gate_of j) r run) ≡ false) }
+        × (has_outer (added (side_of j) (gate_of j) r run) ≡ false) × (has_miss (added (side_of j) (gate_of j) r run) ≡ false) }
     ensures ended { (j : Journal) (r : Record) (run : Run) (more : List Event) (result : Result (Unit {0}) AppendFault) → Ends (side_of j) result run more
-        → (has_command (added (side_of j) (gate_of j) r run ++ more) ≡ false) × (has_restart (added (side_of j) (gate_of j) r run ++ more) ≡ false) }
+        → (has_command (added (side_of j) (gate_of j) r run ++ more) ≡ false) × (has_outer (added (side_of j) (gate_of j) r run ++ more) ≡ false) }
     ensures appended { (j : Journal) (r : Record) (run : Run) (more : List Event) (done : Unit {0}) → Ends (side_of j) (Ok done) run more
         → has_miss (added (side_of j) (gate_of j) r run ++ more) ≡ false }
     ensures failed { (j : Journal) (r : Record) (run : Run) (more : List Event) → Ends (side_of j) (Err appending.Plant) run more
@@ -77,8 +79,8 @@ pub fn appends()
 
 /// A move of the journal onto the other side, with records of the same lab for which there is room.
 /// A sound trace stays sound through each of its steps, and each image stands for that lab. After `Ok` the journal is at work with these records. It
-/// sends no device command and starts no plant. No call failed after `Ok`, and one did after `Plant`. There is room for records that are no longer
-/// than the journal.
+/// sends no device command, starts no plant, and has no failed reading. No call failed after `Ok`, and one did after `Plant`. There is room for
+/// records that are no longer than the journal.
 pub fn compactions()
     ensures sound { (t : Texts) (trace steps : List Event) (j : Journal) (rs ps : List Record) (s : LabState) (packed : List ℕ)
         (result : Result (Unit {0}) CompactFault) → Works t trace j rs s → LabOf t ps s → HasRoom ps s → Compacts trace steps j packed result
@@ -89,7 +91,7 @@ pub fn compactions()
         (result : Result (Unit {0}) CompactFault) → Works t trace j rs s → LabOf t ps s → HasRoom ps s → Compacts trace steps j packed result
         → Shifts trace steps (side_of j) rs ps result → AreCanonical t → IsAt (trace ++ steps) k ps → Works t (trace ++ steps) k ps s }
     ensures quiet { (trace steps : List Event) (j : Journal) (packed : List ℕ) (result : Result (Unit {0}) CompactFault)
-        → Compacts trace steps j packed result → (has_command steps ≡ false) × (has_restart steps ≡ false) }
+        → Compacts trace steps j packed result → (has_command steps ≡ false) × (has_outer steps ≡ false) }
     ensures done { (trace steps : List Event) (j : Journal) (packed : List ℕ) (done : Unit {0}) → Compacts trace steps j packed (Ok done)
         → has_miss steps ≡ false }
     ensures failed { (trace steps : List Event) (j : Journal) (packed : List ℕ) → Compacts trace steps j packed (Err compacting.Plant)
@@ -144,7 +146,7 @@ pub fn sound_traces()
     ensures follows { (t : Texts) (trace : List Event) (a b : List ℕ) (rs : List Record) (n : ℕ) → ArePossible trace a b → IsSound t trace
         → AreCanonical t → Records a b rs → StopsAt t at_first rs n → ⊥ }
     ensures room { (t : Texts) (trace : List Event) (a b : List ℕ) (rs : List Record) (s : LabState) → ArePossible trace a b → IsSound t trace
-        → AreCanonical t → Records a b rs → LabOf t rs s → journal_length a b rs + 39 * count_by is_moving s.experiments ≤ 2 ^ 32 }
+        → AreCanonical t → Records a b rs → LabOf t rs s → journal_length a b rs + LAST_RECORD * count_by is_moving s.experiments ≤ MAX_JOURNAL }
 {}
 
 /// Two sides stand for one lab, and sides that read alike for the same. So each image in an opening stands for the lab of an image before it. Once

@@ -8,6 +8,7 @@ ghost use Rattle.lab_ahead.specs.Ends.{IsLeftAt, end_of, from_of, is_placed, lef
 
 use crate::times::Left;
 use lab_base::{Items, Memory, Name, NodeId};
+use phys_lab::MAX_LAB_NODES;
 use std::alloc::Global;
 
 /// An experiment that a batch swapped in, and the moment at which its run ends.
@@ -67,7 +68,7 @@ pub fn left_for(
     ends: &[End],
     places: &[(NodeId, Name)],
 ) -> Result<Items<Left>, Memory>
-    requires { length claimers.now ≤ 1024 }
+    requires { length claimers.now ≤ MAX_LAB_NODES }
     ensures left { IfOk result (λ left. left ≡ left_for claimers.now ends.now places.now) }
     ensures differ { IfOk result (λ left. AllDiffer (map (λ entry. entry.node) left)) }
     ensures of_lab { IfOk result (All (λ entry. entry.node.0 < length claimers.now)) }

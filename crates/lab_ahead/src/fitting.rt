@@ -10,6 +10,7 @@ ghost use Rattle.lab_ahead.specs.Givings.{Fits, IsShort, IsYes, Shows, need_at};
 ghost use Rattle.lab_ahead.specs.Trails.{Reached, given_of, step_at};
 
 use crate::giving::Giving;
+use crate::read::MAX_PROMISES;
 use crate::trail::Step;
 use lab_base::{Items, Memory, Name, NodeId};
 use phys_lab::Lab;
@@ -68,7 +69,7 @@ fn kinds_reached(alloc: Global, needs: &[Need], steps: &[Step]) -> Result<Items<
 pub fn fits(alloc: Global, lab: &Lab, left: &[NodeId], needs: &[Need]) -> Result<Fit, Memory>
     requires differ { AllDiffer left.now }
     requires of_lab { All (λ node. node.0 < length lab.now.nodes) left.now }
-    requires few { length needs.now ≤ 64 }
+    requires few { length needs.now ≤ MAX_PROMISES }
     ensures shows { IfOk result (Shows lab.now left.now needs.now) }
     ensures exact { IfOk result (λ fit. IsYes fit ↔ Fits lab.now left.now needs.now) }
 {

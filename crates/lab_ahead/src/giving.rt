@@ -6,6 +6,7 @@ ghost use Rattle.lab_ahead.specs.Givings.{has_type, need_at};
 ghost use Rattle.lab_ahead.specs.Trails.{AreMet, Extends, IsClosedAt, IsFree, IsPath, IsSearched, IsTaken, IsTrail, IsStuck, IsWanting, IsWhole, KeepsNodes, held, owner_at, owners_in, serves, step_at, table_in, table_of};
 
 use crate::fitting::Need;
+use crate::read::MAX_PROMISES;
 use crate::trail::{Path, Search, Step, Trail};
 use lab_base::{Memory, Name, NodeId};
 use phys_lab::Lab;
@@ -178,7 +179,8 @@ impl Giving {
         ensures others { OnOk result ((n : ℕ) → (need ≡ n → ⊥) → held (owners_in self.new) n ≡ held (owners_in self.old) n) }
         ensures answer { IfOk result (λ stuck. MatchOption stuck
             (held (owners_in self.new) need ≡ held (owners_in self.old) need + count)
-            (λ trail. IsStuck (table_in self.new) (owners_in self.new) need trail × (held (owners_in self.new) need < held (owners_in self.old) need + count))) }
+            (λ trail. IsStuck (table_in self.new) (owners_in self.new) need trail
+            × (held (owners_in self.new) need < held (owners_in self.old) need + count))) }
     {
         for _given in 0..count {
             match self.search(alloc, need)? {
@@ -197,7 +199,7 @@ impl Giving {
     ) -> Result<Option<Trail>, Memory>
         requires whole { IsWhole self.old }
         requires needs { length (table_in self.old) ≡ length needs.now }
-        requires few { length needs.now ≤ 64 }
+        requires few { length needs.now ≤ MAX_PROMISES }
         requires none { (n : ℕ) → held (owners_in self.old) n ≡ 0 }
         ensures whole { OnOk result (IsWhole self.new) }
         ensures nodes { OnOk result (KeepsNodes self.old self.new) }

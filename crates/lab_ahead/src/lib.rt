@@ -14,6 +14,6 @@ mod waits;
 pub use batch::{Batch, Promise, Run};
 pub use ends::{End, left_for, left_nodes};
 pub use fitting::{Fit, Need, fits, short_types_never_fit};
-pub use read::read_batch;
+pub use read::{MAX_PROMISES, read_batch};
 pub use times::{Left, later_moments, left_at, moments, needs_at};
 pub use waits::{Span, Wait, first_wait, waits_tell};

@@ -6,13 +6,14 @@ ghost use Rattle.lab_ahead.specs.Batches.{KeepsLimits, added, batch_of_text, pro
 
 use crate::batch::{Batch, Promise, Run};
 use crate::lines::{promise_in, run_in};
-use lab_base::{Items, Kind, TextRefused, fields_in, first_line, is_skipped};
+use lab_base::{Items, Kind, TEXT_LIMIT, TextRefused, fields_in, first_line, is_skipped};
 use line_text::{LineFault, refusal};
 use std::alloc::Global;
 
-/// The most promises and the most runs of a batch.
-const MAX_PROMISES: usize = 64;
+/// The most promises of a batch.
+pub const MAX_PROMISES: usize = 64;
 
+/// The most runs of a batch.
 const MAX_RUNS: usize = 256;
 
 fn add_promise(batch: &mut Batch, promise: Promise) -> Result<(), LineFault>
@@ -79,7 +80,7 @@ fn add_line(batch: &mut Batch, alloc: Global, line: &[u8]) -> Result<(), LineFau
 
 /// Adds the lines of a text.
 fn add_lines(batch: &mut Batch, alloc: Global, text: &[u8]) -> Result<(), TextRefused>
-    requires { length text.now < 4294967295 }
+    requires { length text.now < TEXT_LIMIT }
     ensures { ReadsInto result batch.new (read_from added 1 (Ok batch.old) (lines_of text.now)) }
 {
     let mut line = 1u32;
@@ -107,7 +108,7 @@ fn start(alloc: Global) -> Batch
 /// COUNT is 1 to 1,024, moments are 0 to 10^12, FROM is below TO, LENGTH is 1 to 10^12. At most 64 lines are promises, and at most 256 runs.
 /// The faults of a line are tried in the order `word`, `fields`, `name`, `number`, `range`, `limit`. The first line with a fault counts.
 pub fn read_batch(alloc: Global, text: &[u8]) -> Result<Batch, TextRefused>
-    requires { length text.now < 4294967295 }
+    requires { length text.now < TEXT_LIMIT }
     ensures batch { Reads result (batch_of_text text.now) }
     ensures limits { IfOk result KeepsLimits }
 {

@@ -14,6 +14,7 @@ ghost use Rattle.lab_ahead.specs.Waits.{IsShortAt, TellsShort};
 use crate::batch::Promise;
 use crate::fitting::{Fit, Need, fits};
 use crate::giving::has_type;
+use crate::read::MAX_PROMISES;
 use crate::times::{Left, left_at, moments, needs_at};
 use lab_base::{Items, Memory, Name, NodeId};
 use phys_lab::Lab;
@@ -45,7 +46,7 @@ fn has_name(kinds: &[Name], name: &Name) -> bool
 /// How many nodes a need counts, where its type is one of these.
 fn count_of(need: &Need, kinds: &[Name]) -> u32
     ensures is { result ≡ (if has_name kinds.now need.now.kind then need.now.count else 0) }
-    ensures small { result ≤ 65535 }
+    ensures small { result ≤ u16.MAX }
 {
     if has_name(kinds, &need.kind) {
         u32::from(need.count)
@@ -56,7 +57,7 @@ fn count_of(need: &Need, kinds: &[Name]) -> u32
 
 /// How many nodes are needed of these types together.
 fn need_of(needs: &[Need], kinds: &[Name]) -> u32
-    requires { length needs.now ≤ 64 }
+    requires { length needs.now ≤ MAX_PROMISES }
     ensures { result ≡ need_of needs.now kinds.now }
 {
     let mut sum = 0;
@@ -95,7 +96,7 @@ fn have_of(lab: &Lab, left: &[NodeId], kinds: &[Name]) -> usize
 /// The wait at a moment at which these types are short.
 fn wait_for(lab: &Lab, nodes: &[NodeId], needs: &[Need], kinds: Items<Name>, at: u64) -> Wait
     requires of_lab { All (λ node. node.0 < length lab.now.nodes) nodes.now }
-    requires few { length needs.now ≤ 64 }
+    requires few { length needs.now ≤ MAX_PROMISES }
     requires short { IsShort lab.now nodes.now needs.now kinds }
     ensures at { result.at ≡ at }
     ensures kinds { result.kinds ≡ kinds }
@@ -123,7 +124,7 @@ fn wait_at(
 ) -> Result<Option<Wait>, Memory>
     requires differ { AllDiffer (map (λ entry. entry.node) left.now) }
     requires of_lab { All (λ entry. entry.node.0 < length lab.now.nodes) left.now }
-    requires few { length promises.now ≤ 64 }
+    requires few { length promises.now ≤ MAX_PROMISES }
     ensures fits { IfOk result (λ wait. (wait ≡ None) ↔ FitsAt lab.now left.now promises.now at) }
     ensures waits { IfOk result (λ wait. IfSome wait (λ w. (w.at ≡ at) × TellsShort lab.now left.now promises.now w)) }
 {
@@ -149,7 +150,7 @@ pub fn first_wait(
 ) -> Result<Option<Wait>, Memory>
     requires differ { AllDiffer (map (λ entry. entry.node) left.now) }
     requires of_lab { All (λ entry. entry.node.0 < length lab.now.nodes) left.now }
-    requires few { length promises.now ≤ 64 }
+    requires few { length promises.now ≤ MAX_PROMISES }
     requires end { span.from + span.length < 2 ^ 64 }
     ensures fits { IfOk result (λ wait. (wait ≡ None) ↔ FitsFor lab.now left.now promises.now span.from span.length) }
     ensures waits { IfOk result (λ wait. IfSome wait (IsShortAt lab.now left.now promises.now span)) }

@@ -7,14 +7,11 @@ ghost use Rattle.lab_audit.specs.Reads.{Reads, unread_by, ArePipes};
 use crate::AuditFault;
 use lab_base::{Items, Name, VlanId};
 use plant::NodeRow;
-use plant_tables::{PipeRow, Tables};
+use plant_tables::{MAX_PIPES, PipeRow, Tables};
 use std::alloc::Global;
 
 /// The number of rows that a port and a VLAN id can make.
 const MOST_ROWS: u64 = 4_294_967_296;
-
-/// The number of pipes that a number can count.
-const MOST_PIPES: u32 = 65_536;
 
 fn row_at<P: Tables>(
     plant: &mut P,
@@ -82,7 +79,7 @@ pub(crate) fn pipes_of<P: Tables>(
     ensures exact { IfSome (P.seen plant.old).told (λ t. IfOk result (λ pipes. ArePipes ((world_of t.trace).node node) pipes)) }
 {
     let mut pipes = Items::new(alloc);
-    for nth in 0..MOST_PIPES {
+    for nth in 0..MAX_PIPES {
         match pipe_at(plant, node, nth as u16)? {
             Some(pipe) => pipes.push(pipe)?,
             None => return Ok(pipes),

@@ -12,6 +12,12 @@ use std::cmp::Ordering;
 use std::hash::{Hash, Hasher};
 use std::marker::Model;
 
+/// Texts that are read by lines or by words have fewer bytes than this, so that 32 bits count their lines and places.
+pub const TEXT_LIMIT: usize = 4_294_967_295;
+
+/// The most bytes of each text in a record of the journal. Each text that is printed for a record keeps to it.
+pub const MAX_PAYLOAD_TEXT: usize = 16_777_216;
+
 /// A text: bytes, which contracts see as a list.
 #[derive(Drop)]
 pub struct Text {

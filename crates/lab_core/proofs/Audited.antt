@@ -1,12 +1,12 @@
 -- The lab step of an audit: all stays as it was.
 use Rattle.std.proofs.Common.{◌≡◌, true, false, ℕ, List, map, [], ◌++◌, Option, Some, None, Err, refl, sym, ap, ◌∙◌, subst}
 use Rattle.std.specs.Prelude.{is_some}
+use Rattle.std.proofs.lemmas.Option.{same_Some}
 use Rattle.lab_base.specs.Lists.{Has}
 use Rattle.plant.specs.Events.{Event}
 use Rattle.plant.specs.Worlds.{World, world_of}
 use Rattle.records_model.specs.Labs.{LabState}
-use Rattle.journal_runs.specs.Pieces.{has_restart, is_restart}
-use Rattle.journal_runs.proofs.Quiet.{shows}
+use Rattle.journal_runs.specs.Pieces.{has_outer}
 use Rattle.swap_turns.specs.Swaps.{Moves}
 use Rattle.script_text.specs.declared.command.Command.TheVariants as commands
 use Rattle.script_text.specs.declared.reply.Reply.{Reply}
@@ -14,8 +14,9 @@ use Rattle.script_text.specs.declared.reply.Reply.TheVariants as replies
 use Rattle.lab_core.specs.Auditing.{Audits, line_of, no_lab, told, unread, no_memory}
 use Rattle.lab_core.specs.LabSteps.{StepOf, opened, not_opened}
 use Rattle.lab_core.specs.Sessions.{OpenSwap, Session, Setting, After, Closed, Open, Terms}
-use Rattle.lab_core.specs.Tells.{AllMove, IsAtRest, TellsPlace, is_stopped, of_drill_if, opens_of}
+use Rattle.lab_core.specs.Tells.{AllMove, IsAtRest, TellsPlace, of_drill_if, opens_of}
 use Rattle.lab_core.proofs.OuterReplies.{breaks_so}
+use Rattle.lab_core.proofs.OuterSteps.{CommandTells, plain, still_as, tell_behind, unread as unread_so}
 use Rattle.lab_core.proofs.Others.{Stays, both_stay, same_stays}
 use Rattle.lab_core.proofs.Places.{breaks_place, place_as}
 use Rattle.lab_core.proofs.StepLaws.{begins_stay, broke, step_stays, step_stops}
@@ -34,16 +35,16 @@ module _ (w : World) (s : LabState) (opens : List OpenSwap) (own : List Event) (
   kept (unread name own_is is) = ap (λ (a : After). a.lab) is
   kept (no_memory wants) = ap (λ (a : After). a.lab) wants.after_is
 
-  stops : (reply : Reply) → after.reply ≡ Some reply → Audits w s opens own after → has_restart own ≡ is_stopped reply
-  stops reply is (no_lab none d) = ap has_restart d.nothing ∙ calm replies.NoLab refl (ap (λ (a : After). a.reply) d.after_is)
-    where
-      calm : (r : Reply) → is_stopped r ≡ false → after.reply ≡ Some r → false ≡ is_stopped reply
-      calm r quiet told_it = sym quiet ∙ ap is_stopped (let both : Some r ≡ Some reply = sym told_it ∙ is in cc both)
-  stops reply is (told report nothing tells exact after_is) = ap has_restart nothing ∙ (let both : Some (replies.Audit (map line_of report)) ≡ Some reply = sym (ap (λ (a : After). a.reply) after_is) ∙ is in ap is_stopped (let same : replies.Audit (map line_of report) ≡ reply = cc both in same))
-  stops reply is (unread name own_is after_is) = ap has_restart own_is ∙ (let both : Some (replies.Unread name) ≡ Some reply = sym (ap (λ (a : After). a.reply) after_is) ∙ is in ap is_stopped (let same : replies.Unread name ≡ reply = cc both in same))
-  stops reply is (no_memory wants) = none_some reply (sym (ap (λ (a : After). a.reply) wants.after_is) ∙ is)
+  -- its steps and the reply, behind an opening
+  stops : (opening : List Event) → has_outer opening ≡ false → (reply : Reply) → after.reply ≡ Some reply → Audits w s opens own after → CommandTells commands.Audit opening own reply
+  stops opening quiet reply is (no_lab none d) = plain (tell_behind opening own reply quiet (still_as own replies.NoLab reply (ap has_outer d.nothing) refl (sym (ap (λ (a : After). a.reply) d.after_is) ∙ is)))
+  stops opening quiet reply is (told report nothing tells exact after_is) =
+      plain (tell_behind opening own reply quiet (still_as own (replies.Audit (map line_of report)) reply (ap has_outer nothing) refl (sym (ap (λ (a : After). a.reply) after_is) ∙ is)))
+  stops opening quiet reply is (unread name own_is after_is) = unread_so name refl quiet own_is (sym (same_Some (replies.Unread name) reply (sym (ap (λ (a : After). a.reply) after_is) ∙ is)))
+  stops opening quiet reply is (no_memory wants) = none_some reply (sym (ap (λ (a : After). a.reply) wants.after_is) ∙ is)
 
-  opens_stay : (to : List OpenSwap) → after.session ≡ Open to → Audits w s opens own after → to ≡ opens
+  -- and the open swaps, while the controller stays open
+  pub opens_stay : (to : List OpenSwap) → after.session ≡ Open to → Audits w s opens own after → to ≡ opens
   opens_stay to is (no_lab none d) = let both : Open opens ≡ Open to = sym (ap (λ (a : After). a.session) d.after_is) ∙ is in sym (let same : opens ≡ to = cc both in same)
   opens_stay to is (told report nothing tells exact after_is) = let both : Open opens ≡ Open to = sym (ap (λ (a : After). a.session) after_is) ∙ is in sym (let same : opens ≡ to = cc both in same)
   opens_stay to is (unread name own_is after_is) = let both : Open opens ≡ Open to = sym (ap (λ (a : After). a.session) after_is) ∙ is in sym (let same : opens ≡ to = cc both in same)
@@ -66,14 +67,14 @@ module _ (terms : Terms) (at : List Event) (set : Setting) (s : LabState) (openi
   abbrev Step : Session → Type 0
   Step session = StepOf None (λ opens mid steps ends. Audits (world_of (at ++ opening)) mid opens steps ends) terms s session opening own after
 
-  pub audit_stops : (session : Session) (reply : Reply) → after.reply ≡ Some reply → Step session → has_restart (opening ++ own) ≡ is_stopped reply
-  audit_stops Closed reply is (opened mid opens done) = shows is_restart (opening ++ own) opening own false (is_stopped reply) refl opens.no_restart (stops (world_of (at ++ opening)) mid [] own after reply is done)
-  audit_stops Closed reply is (not_opened breaks) = step_stops own after reply is None (Err replies.NoLab) terms set s Closed commands.Status opening (broke refl refl breaks)
-  audit_stops (Open opens) reply is (none, done) = shows is_restart (opening ++ own) opening own false (is_stopped reply) refl (ap has_restart none) (stops (world_of (at ++ opening)) s opens own after reply is done)
+  pub audit_stops : (session : Session) (reply : Reply) → after.reply ≡ Some reply → Step session → CommandTells commands.Audit opening own reply
+  audit_stops Closed reply is (opened mid opens done) = stops (world_of (at ++ opening)) mid [] own after opening opens.no_outer reply is done
+  audit_stops Closed reply is (not_opened breaks) = plain (step_stops own after reply is None (Err replies.NoLab) terms set s Closed commands.Status opening (broke refl refl breaks))
+  audit_stops (Open opens) reply is (none, done) = stops (world_of (at ++ opening)) s opens own after opening (ap has_outer none) reply is done
 
   pub audit_stays : (session : Session) (name : List ℕ) → is_some s.lab ≡ true → (session ≡ Closed → IsAtRest s name) → Step session → Stays name s after.lab
   audit_stays Closed name there rests (opened mid opens done) =
-      let first = begins_stay name own after s there Closed commands.Status (λ is. rests refl) opening Closed (λ is. rests refl) mid [] (record { no_drill = refl; at = opens; quiet = opens.no_restart; are = refl }) in
+      let first = begins_stay name own after s there Closed commands.Status (λ is. rests refl) opening Closed (λ is. rests refl) mid [] (record { no_drill = refl; at = opens; quiet = opens.no_outer; are = refl }) in
       both_stay name s mid after.lab first (same_stays name mid after.lab first.set (kept (world_of (at ++ opening)) mid [] own after done))
   audit_stays Closed name there rests (not_opened breaks) =
       step_stays name own after s there Closed commands.Status (λ is. rests refl) opening (Err replies.NoLab) terms set (λ is. let none : ◌≡◌ {A = Option (List ℕ)} None (Some name) = is in cc none) (broke refl refl breaks)

@@ -82,7 +82,7 @@ is_needed size epoch s packed are none due = let half : nat_le (2 * side_length 
 -- where nothing was done
 undone : (s : LabState) (j : Journal) (told : Option Told) (result : Result (Unit {0}) OpenFault) → ((t : Told) → MoveEnds t.trace [] s j result) → AfterMove s j told told result
 undone s j told result ends =
-    ([], nothing_yet told, if_all told (λ t. MoveSteps t.trace [] s j result) (λ t. record { shifts = refl; aside = ap (disk (side_of j)) (append-nil t.trace); no_restart = refl; sound = λ sound. subst (λ l. IsSound the_texts l) (sym (append-nil t.trace)) sound; ends = ends t }))
+    ([], nothing_yet told, if_all told (λ t. MoveSteps t.trace [] s j result) (λ t. record { shifts = refl; aside = ap (disk (side_of j)) (append-nil t.trace); no_outer = refl; sound = λ sound. subst (λ l. IsSound the_texts l) (sym (append-nil t.trace)) sound; ends = ends t }))
 
 pub stays_after : (s : LabState) (j : Journal) (told : Option Told) (done : Unit {0}) → (IsToMove (length_of j) (epoch_of j) s → ⊥) → AfterMove s j told told (Ok done)
 stays_after s j told done not = undone s j told (Ok done) (λ t. stays not refl)
@@ -98,7 +98,7 @@ of_fault trace steps s j faults.Memory ends = ends
 of_fault trace steps s j (faults.Bad side at) ends = ends
 
 after_as : (s : LabState) (j : Journal) (told now : Option Told) (r : Result (Unit {0}) OpenFault) (q : Result Control OpenFault) → ((trace steps : List Event) → MoveEnds trace steps s j r → MoveEnds trace steps s j q) → AfterMove s j told now r → AfterMove s j told now q
-after_as s j told now r q each after = (after.0, after.1, map_some told (λ t m. record { shifts = m.shifts; aside = m.aside; no_restart = m.no_restart; sound = m.sound; ends = each t.trace after.0 m.ends }) after.2)
+after_as s j told now r q each after = (after.0, after.1, map_some told (λ t m. record { shifts = m.shifts; aside = m.aside; no_outer = m.no_outer; sound = m.sound; ends = each t.trace after.0 m.ends }) after.2)
 
 pub done_as : (s : LabState) (j : Journal) (told now : Option Told) (done : Unit {0}) (c : Control) → AfterMove s j told now (Ok done) → AfterMove s j told now (Ok c)
 done_as s j told now done c after = after_as s j told now (Ok done) (Ok c) (λ trace steps ends. ends) after
@@ -170,7 +170,7 @@ module _ (s : LabState) (j : Journal) (told now : Option Told) (work : AtWork th
         record {
           shifts = quiet.0;
           aside = stays_aside trace steps j packed answer compacts;
-          no_restart = quiet.1;
+          no_outer = quiet.1;
           sound = λ sound. shifts_sound the_texts trace j stands.records ps s (stands.works sound) lab room steps answer shifts quiet.0;
           ends = ends (λ sound. all_stand the_texts trace j stands.records ps s (stands.works sound) lab steps answer shifts);
         }

@@ -4,12 +4,12 @@ use Rattle.std.proofs.lemmas.List.Folds.{list_any-append}
 use Rattle.std.proofs.lemmas.Option.{same_Some}
 use Rattle.plant.specs.Events.{Event}
 use Rattle.records_model.specs.Labs.{LabState}
-use Rattle.journal_runs.specs.Pieces.{has_restart, is_restart}
+use Rattle.journal_runs.specs.Pieces.{has_outer, is_outer}
 use Rattle.script_text.specs.declared.reply.Reply.{Reply}
 use Rattle.script_text.specs.declared.reply.Reply.TheVariants as replies
 use Rattle.lab_core.specs.Sessions.{OpenSwap, After, open_by, shut_by}
-use Rattle.lab_core.specs.Tells.{is_stopped}
 use Rattle.lab_core.specs.Lists.{DoesNext, Ground, Listing, Lists, Past, broken, last_reply, more, none, over, wanting}
+use Rattle.lab_core.proofs.OuterSteps.{Tells, restarts, still, still_as, tell_behind, tells_step}
 
 module _ {X : Type 0} (l : Listing X) (ground : Ground) (trace : List Event) where
   -- WHAT HOLDS OF THE PLACES, from one to the next
@@ -36,24 +36,26 @@ module _ {X : Type 0} (l : Listing X) (ground : Ground) (trace : List Event) whe
           subst (λ (a : After). L s a.lab) (sym after_is) (then' s mid lab (weaker s mid opens between (past_keeps start s opens front at mid between first past)) (last front at (past_holds Holds on start s opens front at mid between first past) mid between steps reply lab next))
       lists_keep start s opens own after first (wanting at lab to past after_is) = subst (λ (a : After). L s a.lab) (sym after_is) (weaker s lab opens to (past_keeps start s opens own at lab to first past))
 
-  -- THE PLANT STOPPED exactly where `stopped` is told, where that holds of each
-  module _ (Holds : X → Type 0) (on : (at : X) (reply : Reply) → Holds at → Holds (l.behind at reply)) (quiet : (front : List Event) (at : X) → Holds at → (s : LabState) (opens : List OpenSwap) (steps : List Event) (reply : Reply) (lab : LabState) (to : List OpenSwap) → DoesNext l ground trace front at s opens steps (open_by reply lab to) → has_restart steps ≡ false)
-      (stops : (front : List Event) (at : X) → Holds at → (s : LabState) (opens : List OpenSwap) (steps : List Event) (reply : Reply) (lab : LabState) → DoesNext l ground trace front at s opens steps (shut_by (Some reply) lab) → has_restart steps ≡ is_stopped reply)
-      (calm : (at : X) → is_stopped (l.whole at) ≡ false) where
-    pub past_quiet : (start : X) (s : LabState) (opens : List OpenSwap) (own : List Event) (at : X) (lab : LabState) (to : List OpenSwap) → Holds start → Past l ground trace start s opens own at lab to → has_restart own ≡ false
+  -- THE STEPS THAT THE REPLY TELLS OF, where that holds of each
+  module _ (Holds : X → Type 0) (on : (at : X) (reply : Reply) → Holds at → Holds (l.behind at reply)) (quiet : (front : List Event) (at : X) → Holds at → (s : LabState) (opens : List OpenSwap) (steps : List Event) (reply : Reply) (lab : LabState) (to : List OpenSwap) → DoesNext l ground trace front at s opens steps (open_by reply lab to) → has_outer steps ≡ false)
+      (stops : (front : List Event) (at : X) → Holds at → (s : LabState) (opens : List OpenSwap) (steps : List Event) (reply : Reply) (lab : LabState) → DoesNext l ground trace front at s opens steps (shut_by (Some reply) lab) → Tells steps reply)
+      (calm : (at : X) → tells_step (l.whole at) ≡ false) where
+    pub past_quiet : (start : X) (s : LabState) (opens : List OpenSwap) (own : List Event) (at : X) (lab : LabState) (to : List OpenSwap) → Holds start → Past l ground trace start s opens own at lab to → has_outer own ≡ false
     past_quiet start s opens own at lab to first none = refl
     past_quiet start s opens own at lab to first (more front place mid between past steps reply lab' to' next) =
-        list_any-append is_restart front steps ∙ (λ i. past_quiet start s opens front place mid between first past i || quiet front place (past_holds Holds on start s opens front place mid between first past) mid between steps reply lab to next i)
+        list_any-append is_outer front steps ∙ (λ i. past_quiet start s opens front place mid between first past i || quiet front place (past_holds Holds on start s opens front place mid between first past) mid between steps reply lab to next i)
 
-    last_stops : (at : X) (told reply : Reply) → last_reply l at (Some told) ≡ Some reply → is_stopped reply ≡ is_stopped told
-    last_stops at replies.Stopped reply is = ap is_stopped (sym (same_Some replies.Stopped reply is))
-    last_stops at told reply is = ap is_stopped (sym (same_Some (l.whole (l.behind at told)) reply is)) ∙ calm (l.behind at told)
+    last_stops : (at : X) (told reply : Reply) (steps : List Event) → last_reply l at (Some told) ≡ Some reply → Tells steps told → Tells steps reply
+    last_stops at replies.Stopped reply steps is tells = subst (λ r. Tells steps r) (same_Some replies.Stopped reply is) tells
+    last_stops at told reply steps is (still quiet calm') = still_as steps (l.whole (l.behind at told)) reply quiet (calm (l.behind at told)) is
+    last_stops at told reply steps is (restarts ends other) = absurd (cc other)
 
-    pub lists_stop : (start : X) (s : LabState) (opens : List OpenSwap) (own : List Event) (after : After) (reply : Reply) → Holds start → Lists l ground trace start s opens own after → after.reply ≡ Some reply → has_restart own ≡ is_stopped reply
+    pub lists_stop : (start : X) (s : LabState) (opens : List OpenSwap) (own : List Event) (after : After) (reply : Reply) → Holds start → Lists l ground trace start s opens own after → after.reply ≡ Some reply → Tells own reply
     lists_stop start s opens own after reply first (over at lab to past is_over after_is) told =
-        past_quiet start s opens own at lab to first past ∙ sym (calm at) ∙ ap is_stopped (same_Some (l.whole at) reply (sym (ap (λ (a : After). a.reply) after_is) ∙ told))
+        still_as own (l.whole at) reply (past_quiet start s opens own at lab to first past) (calm at) (sym (ap (λ (a : After). a.reply) after_is) ∙ told)
     lists_stop start s opens own after reply first (broken front steps at mid between None lab own_is past next after_is) told = let none' : None ≡ Some reply = sym (ap (λ (a : After). a.reply) after_is) ∙ told in absurd (cc none')
     lists_stop start s opens own after reply first (broken front steps at mid between (Some last) lab own_is past next after_is) told =
-        ap has_restart own_is ∙ list_any-append is_restart front steps ∙ (λ i. past_quiet start s opens front at mid between first past i || stops front at (past_holds Holds on start s opens front at mid between first past) mid between steps last lab next i)
-        ∙ sym (last_stops at last reply (sym (ap (λ (a : After). a.reply) after_is) ∙ told))
+        subst (λ l. Tells l reply) (sym own_is)
+        (tell_behind front steps reply (past_quiet start s opens front at mid between first past)
+        (last_stops at last reply steps (sym (ap (λ (a : After). a.reply) after_is) ∙ told) (stops front at (past_holds Holds on start s opens front at mid between first past) mid between steps last lab next)))
     lists_stop start s opens own after reply first (wanting at lab to past after_is) told = let none' : None ≡ Some reply = sym (ap (λ (a : After). a.reply) after_is) ∙ told in absurd (cc none')

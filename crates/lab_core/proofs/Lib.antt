@@ -1,4 +1,4 @@
-mod Audited
+pub mod Audited
 mod Compacting
 mod Composing
 mod EndOne
@@ -37,6 +37,7 @@ pub mod Openings
 pub mod OtherWorlds
 pub mod Others
 mod OuterReplies
+pub mod OuterSteps
 mod Parts
 mod Places
 pub mod Rested

@@ -8,8 +8,7 @@ use Rattle.lab_base.specs.Lists.{AllDiffer, Has}
 use Rattle.lab_base.proofs.Members.{Has-mapped}
 use Rattle.plant.specs.Events.{Event}
 use Rattle.plant.specs.declared.drill.Drill.{Drill}
-use Rattle.journal_runs.specs.Pieces.{has_restart, is_restart}
-use Rattle.journal_runs.proofs.Quiet.{shows}
+use Rattle.journal_runs.specs.Pieces.{has_outer}
 use Rattle.records_model.specs.Labs.{LabState, find}
 use Rattle.recovery.specs.Due.{is_busy}
 use Rattle.cost_rule.specs.declared.rule.RuleNumber.{RuleNumber}
@@ -33,13 +32,14 @@ use Rattle.lab_judge.specs.Serving.{JudgedBatch, Serving}
 use Rattle.lab_core.specs.BatchList.{has_run, is_run_of, runs_in_turn}
 use Rattle.lab_core.specs.Sessions.{OpenSwap, Session, Setting, After, Closed, Open, Terms, name_in, names_of}
 use Rattle.lab_judge.specs.OpenNames.{name_of}
-use Rattle.lab_core.specs.Tells.{AllMove, IsAtRest, TellsPlace, busy_of, is_of_drill, is_stopped, of_drill_if, opens_of, settles}
+use Rattle.lab_core.specs.Tells.{AllMove, IsAtRest, TellsPlace, busy_of, is_of_drill, of_drill_if, opens_of, settles}
 use Rattle.lab_core.proofs.Audited.{audit_moves, audit_no_drill, audit_opens, audit_place, audit_stays, audit_stops}
 use Rattle.lab_core.proofs.Events.{events_are, plays_refuse}
 use Rattle.lab_judge.proofs.Fits.{is_outer}
-use Rattle.lab_core.proofs.Listings.{IsAboutThese, lists_stay, others_stay, outer_calm, past_stays, same_open, stops}
+use Rattle.lab_core.proofs.Listings.{IsAboutThese, lists_stay, others_stay, past_stays, same_open, stops}
 use Rattle.lab_core.proofs.Runs.{AreOf, batch_first, batch_refuses, runs_are}
 use Rattle.lab_core.proofs.OuterReplies.{breaks_so, no_drill_of, step_so}
+use Rattle.lab_core.proofs.OuterSteps.{CommandTells, Tells, no_step_of, plain, still_as, tell_behind, tells_step}
 use Rattle.lab_core.proofs.Others.{Stays, both_stay, same_stays}
 use Rattle.lab_core.proofs.OpenLaws.{Leaves, leaves}
 use Rattle.lab_judge.proofs.Busy.{has_busy}
@@ -64,7 +64,7 @@ not_shut to is = absurd (cc is)
 -- WHAT A LIST OF COMMANDS TELLS: no outer reply refuses it, and the reply to the whole is none, and tells of no place
 pub record TellsOfWhole {X : Type 0} (l : Listing X) (JudgedList : Result X Reply → Type 0) : Type 0 where
   pub refuses : (reply : Reply) → JudgedList (Err reply) → is_outer reply ≡ false
-  pub calm : (at : X) → is_stopped (l.whole at) ≡ false
+  pub calm : (at : X) → tells_step (l.whole at) ≡ false
   pub places : (at : X) (s : LabState) → TellsPlace (l.whole at) s
   pub drillless : (at : X) → is_of_drill (l.whole at) ≡ false
 
@@ -100,9 +100,9 @@ module _ {X : Type 0} (l : Listing X) (JudgedList : Result X Reply → Type 0) (
   done_no_drill (listed start judged (wanting at lab new past after_is)) = ap (λ (a : After). of_drill_if a.reply) after_is
 
   module _ (Holds : X → Type 0) (about : List ℕ → Bool) (about_these : IsAboutThese l Holds about) (starts : (start : X) → JudgedList (Ok start) → Holds start) where
-    -- the plant stopped exactly where `stopped` is told
-    done_stop : (reply : Reply) → after.reply ≡ Some reply → Done → has_restart own ≡ is_stopped reply
-    done_stop reply is (refused r judged d) = ap has_restart d.nothing ∙ sym (outer_calm r (tells.refuses r judged)) ∙ ap is_stopped (same_Some r reply (sym (ap (λ (a : After). a.reply) d.after_is) ∙ is))
+    -- the steps that the reply tells of
+    done_stop : (reply : Reply) → after.reply ≡ Some reply → Done → Tells own reply
+    done_stop reply is (refused r judged d) = still_as own r reply (ap has_outer d.nothing) (no_step_of r (tells.refuses r judged)) (sym (ap (λ (a : After). a.reply) d.after_is) ∙ is)
     done_stop reply is (no_memory wants) = none_some reply (sym (ap (λ (a : After). a.reply) wants.after_is) ∙ is)
     done_stop reply is (listed start judged lists) = stops l base trace Holds about about_these tells.calm start s opens own after reply (starts start judged) lists is
 
@@ -156,16 +156,16 @@ module _ {X : Type 0} (l : Listing X) (Judged : List OpenSwap → LabState → R
   abbrev Step : Session → Type 0
   Step session = StepOf None Does terms s session opening own after
 
-  list_stops : (session : Session) (reply : Reply) → after.reply ≡ Some reply → Step session → has_restart (opening ++ own) ≡ is_stopped reply
+  list_stops : (session : Session) (reply : Reply) → after.reply ≡ Some reply → Step session → Tells (opening ++ own) reply
   list_stops Closed reply is (opened mid opens done) =
-      shows is_restart (opening ++ own) opening own false (is_stopped reply) refl opens.no_restart (done_stop l (Judged [] mid) (laws.tells [] mid) (ground_by set) (at ++ opening) mid [] own after laws.Holds about laws.about_these (laws.starts [] mid) reply is done)
+      tell_behind opening own reply opens.no_outer (done_stop l (Judged [] mid) (laws.tells [] mid) (ground_by set) (at ++ opening) mid [] own after laws.Holds about laws.about_these (laws.starts [] mid) reply is done)
   list_stops Closed reply is (not_opened breaks) = step_stops own after reply is None (Err replies.NoLab) terms set s Closed commands.Status opening (broke refl refl breaks)
   list_stops (Open opens) reply is (none, done) =
-      shows is_restart (opening ++ own) opening own false (is_stopped reply) refl (ap has_restart none) (done_stop l (Judged opens s) (laws.tells opens s) (ground_by set) (at ++ opening) s opens own after laws.Holds about laws.about_these (laws.starts opens s) reply is done)
+      tell_behind opening own reply (ap has_outer none) (done_stop l (Judged opens s) (laws.tells opens s) (ground_by set) (at ++ opening) s opens own after laws.Holds about laws.about_these (laws.starts opens s) reply is done)
 
   list_stays : (session : Session) (name : List ℕ) → is_some s.lab ≡ true → about name ≡ false → (session ≡ Closed → IsAtRest s name) → Step session → Stays name s after.lab
   list_stays Closed name there apart rests (opened mid opens done) =
-      let first = begins_stay name own after s there Closed commands.Status (λ is. rests refl) opening Closed (λ is. rests refl) mid [] (record { no_drill = refl; at = opens; quiet = opens.no_restart; are = refl }) in
+      let first = begins_stay name own after s there Closed commands.Status (λ is. rests refl) opening Closed (λ is. rests refl) mid [] (record { no_drill = refl; at = opens; quiet = opens.no_outer; are = refl }) in
       both_stay name s mid after.lab first (done_stay l (Judged [] mid) (laws.tells [] mid) (ground_by set) (at ++ opening) mid [] own after laws.Holds about laws.about_these (laws.starts [] mid) name apart first.set done)
   list_stays Closed name there apart rests (not_opened breaks) =
       step_stays name own after s there Closed commands.Status (λ is. rests refl) opening (Err replies.NoLab) terms set (λ is. let none : ◌≡◌ {A = Option (List ℕ)} None (Some name) = is in cc none) (broke refl refl breaks)
@@ -268,14 +268,14 @@ named_so (Some exp) name other = elim (cases_Bool (bytes_eq exp name)) [
 
 -- OF EACH COMMAND
 module _ (terms : Terms) (at : List Event) (set : Setting) (s : LabState) (session : Session) (opening own : List Event) (after : After) where
-  plain_stops : (command : Command) → is_unjudged command ≡ false → (reply : Reply) → after.reply ≡ Some reply → LabStep terms at set s session command opening own after → has_restart (opening ++ own) ≡ is_stopped reply
+  plain_stops : (command : Command) → is_unjudged command ≡ false → (reply : Reply) → after.reply ≡ Some reply → LabStep terms at set s session command opening own after → CommandTells command opening own reply
   plain_stops command no' reply is step =
       let one = by_one (drill_of command) terms set s session command opening own after (plain_step terms at set s session command opening own after no' step) in
-      step_stops own after reply is (drill_of command) one.0 terms set s session command opening (was one.0 terms set s command opening own after (drill_of command) session one.1)
+      plain (step_stops own after reply is (drill_of command) one.0 terms set s session command opening (was one.0 terms set s command opening own after (drill_of command) session one.1))
 
-  pub all_stop : (command : Command) (reply : Reply) → after.reply ≡ Some reply → LabStep terms at set s session command opening own after → has_restart (opening ++ own) ≡ is_stopped reply
-  all_stop (commands.Play exp from to lines text) reply is step = list_stops (events_in_turn exp) (playing exp from to text) _ (plays_any exp from to text) terms at set s opening own after session reply is step
-  all_stop (commands.Batch moment lines text) reply is step = list_stops (runs_in_turn terms.rule moment) (serving text) _ (batches_any terms.rule moment text) terms at set s opening own after session reply is step
+  pub all_stop : (command : Command) (reply : Reply) → after.reply ≡ Some reply → LabStep terms at set s session command opening own after → CommandTells command opening own reply
+  all_stop (commands.Play exp from to lines text) reply is step = plain (list_stops (events_in_turn exp) (playing exp from to text) _ (plays_any exp from to text) terms at set s opening own after session reply is step)
+  all_stop (commands.Batch moment lines text) reply is step = plain (list_stops (runs_in_turn terms.rule moment) (serving text) _ (batches_any terms.rule moment text) terms at set s opening own after session reply is step)
   all_stop commands.Audit reply is step = audit_stops terms at set s opening own after session reply is step
   all_stop command reply is step = plain_stops command refl reply is step
 

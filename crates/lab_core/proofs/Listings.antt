@@ -1,12 +1,10 @@
--- Laws of the lab step hold of a list of commands: experiments of other names stay, the same swaps are open, and the plant stopped where it tells so.
+-- Laws of the lab step hold of a list of commands: experiments of other names stay, the same swaps are open, and their steps are as its reply tells.
 use Rattle.std.proofs.Common.{◌≡◌, ◌≢◌, inl, ℕ, Bool, true, false, is_some, List, length, Option, Some, None, Result, Ok, Err, refl, sym, ap, ◌∙◌, subst}
 use Rattle.std.proofs.lemmas.Option.{same_Some}
 use Rattle.plant.specs.Events.{Event}
 use Rattle.records_model.specs.Labs.{LabState}
-use Rattle.journal_runs.specs.Pieces.{has_restart}
 use Rattle.journal_rec.specs.declared.record.Record.{Record}
 use Rattle.journal_rec.specs.declared.record.Record.TheVariants.{Begin}
-use Rattle.virt_topo.specs.declared.mapping.Mapped.{Mapped}
 use Rattle.recovery.specs.Due.{is_busy}
 use Rattle.script_text.specs.declared.command.Command.{Command}
 use Rattle.script_text.specs.declared.command.Command.TheVariants as commands
@@ -19,12 +17,12 @@ use Rattle.lab_judge.specs.Judge.{Task, Tell, Swap}
 use Rattle.lab_core.specs.LabSteps.{Does, IfSpace, IsAnswered, IsDoneBy, Replies, Swaps, does, done_reply, end_reply, end_session, has_space, is_told, no_memory}
 use Rattle.lab_core.specs.Sessions.{OpenSwap, Setting, After, Closed, Open, names_of, open_by, shut_by}
 use Rattle.lab_judge.specs.OpenNames.{is_among, name_of}
-use Rattle.lab_core.specs.Tells.{is_stopped}
-use Rattle.lab_judge.proofs.Fits.{IsFit, is_outer}
+use Rattle.lab_judge.proofs.Fits.{IsFit}
 use Rattle.lab_core.proofs.TasksApart.{IsTaskApart, task_apart}
 use Rattle.lab_core.proofs.OpenLaws.{does_next}
 use Rattle.lab_core.proofs.Others.{Stays, both_stay, same_stays}
-use Rattle.lab_core.proofs.StepLaws.{does_stays, does_stop}
+use Rattle.lab_core.proofs.OuterSteps.{Tells, no_step_of, still_steps, tells_step}
+use Rattle.lab_core.proofs.StepLaws.{does_stays, does_stop, done_calm}
 use Rattle.lab_core.specs.Lists.{DoesNext, Ground, Listing, Lists, Past, broken, over, set_at, wanting}
 use Rattle.lab_core.proofs.Keeping.{lists_keep, lists_stop, past_holds, past_keeps}
 
@@ -54,41 +52,33 @@ open_not opens is = absurd (cc is)
 none_some : {X : Type 0} (reply : Reply) → Some reply ≡ None → X
 none_some reply is = absurd (cc is)
 
--- a swap that leaves the controller open told of no stop
-done_calm : (exp : List ℕ) (o : Option Mapped) → is_stopped (done_reply exp o) ≡ false
-done_calm exp None = refl
-done_calm exp (Some m) = refl
-
-end_calm : (p : SwapOf) (outcome : Outcome) (opens to : List OpenSwap) (reply : Reply) → end_reply p outcome ≡ Some reply → Open to ≡ end_session opens outcome → is_stopped reply ≡ false
-end_calm p (Ended Forth) opens to reply is session = ap is_stopped (sym (same_Some (done_reply p.name p.new) reply is)) ∙ done_calm p.name p.new
-end_calm p (Ended (Undo why)) opens to reply is session = ap is_stopped (sym (same_Some _ reply is))
+-- a swap that leaves the controller open told of no start and of no reading
+end_calm : (p : SwapOf) (outcome : Outcome) (opens to : List OpenSwap) (reply : Reply) → end_reply p outcome ≡ Some reply → Open to ≡ end_session opens outcome → tells_step reply ≡ false
+end_calm p (Ended Forth) opens to reply is session = ap tells_step (sym (same_Some (done_reply p.name p.new) reply is)) ∙ done_calm p.name p.new
+end_calm p (Ended (Undo why)) opens to reply is session = ap tells_step (sym (same_Some _ reply is))
 end_calm p (Ended Settling) opens to reply is session = let none : None ≡ Some reply = is in absurd (cc none)
-end_calm p (Stuck why) opens to reply is session = ap is_stopped (sym (same_Some _ reply is))
+end_calm p (Stuck why) opens to reply is session = ap tells_step (sym (same_Some _ reply is))
 end_calm p Unwritten opens to reply is session = open_not to session
 end_calm p Halted opens to reply is session = open_not to session
 end_calm p More opens to reply is session = let none : None ≡ Some reply = is in absurd (cc none)
 end_calm p (TurnsBack why) opens to reply is session = let none : None ≡ Some reply = is in absurd (cc none)
 
-pub outer_calm : (reply : Reply) → is_outer reply ≡ false → is_stopped reply ≡ false
-outer_calm replies.Stopped is = absurd (cc is)
-outer_calm reply is = refl
-
 module _ (about : List ℕ → Bool) (set : Setting) (s : LabState) (opens : List OpenSwap) (steps : List Event) where
-  replied_calm : (told reply : Reply) (lab : LabState) (to : List OpenSwap) → is_stopped told ≡ false → Replies s opens told steps (open_by reply lab to) → is_stopped reply ≡ false
-  replied_calm told reply lab to calm d = ap is_stopped (same_Some reply told (ap (λ (a : After). a.reply) d.after_is)) ∙ calm
+  replied_calm : (told reply : Reply) (lab : LabState) (to : List OpenSwap) → tells_step told ≡ false → Replies s opens told steps (open_by reply lab to) → tells_step reply ≡ false
+  replied_calm told reply lab to calm d = ap tells_step (same_Some reply told (ap (λ (a : After). a.reply) d.after_is)) ∙ calm
 
-  swapped_calm : (exp : List ℕ) (entry : Record) (reply : Reply) (lab : LabState) (to : List OpenSwap) → Swaps s opens exp entry steps (open_by reply lab to) → is_stopped reply ≡ false
+  swapped_calm : (exp : List ℕ) (entry : Record) (reply : Reply) (lab : LabState) (to : List OpenSwap) → Swaps s opens exp entry steps (open_by reply lab to) → tells_step reply ≡ false
   swapped_calm exp entry reply lab to d = by d.answered
     where
-      by : IsAnswered (end_reply d.swap d.outcome) opens d.outcome d.behind (open_by reply lab to) → is_stopped reply ≡ false
+      by : IsAnswered (end_reply d.swap d.outcome) opens d.outcome d.behind (open_by reply lab to) → tells_step reply ≡ false
       by (is_told starts told session) = end_calm d.swap d.outcome opens to reply (sym told) session
 
-  does_calm : (c : Command) (busy : Bool) (count : ℕ) (j : Result Task Reply) → IsFit s c busy count j → IsPlain j → (reply : Reply) (lab : LabState) (to : List OpenSwap) → Does set s opens j steps (open_by reply lab to) → is_stopped reply ≡ false
-  does_calm c busy count (Err refusal) fit plain reply lab to d = replied_calm refusal reply lab to (outer_calm refusal fit) d
-  does_calm c busy count (Ok (Tell told)) fit plain reply lab to d = replied_calm told reply lab to (outer_calm told fit) d
+  does_calm : (c : Command) (busy : Bool) (count : ℕ) (j : Result Task Reply) → IsFit s c busy count j → IsPlain j → (reply : Reply) (lab : LabState) (to : List OpenSwap) → Does set s opens j steps (open_by reply lab to) → tells_step reply ≡ false
+  does_calm c busy count (Err refusal) fit plain reply lab to d = replied_calm refusal reply lab to (no_step_of refusal fit) d
+  does_calm c busy count (Ok (Tell told)) fit plain reply lab to d = replied_calm told reply lab to (no_step_of told fit) d
   does_calm c busy count (Ok (Swap exp way)) fit plain reply lab to d = by (has_space set (Begin exp way)) d
     where
-      by : (b : Bool) → IfSpace b set.length s opens (Swaps s opens exp (Begin exp way) steps (open_by reply lab to)) steps (open_by reply lab to) → is_stopped reply ≡ false
+      by : (b : Bool) → IfSpace b set.length s opens (Swaps s opens exp (Begin exp way) steps (open_by reply lab to)) steps (open_by reply lab to) → tells_step reply ≡ false
       by true d = swapped_calm exp (Begin exp way) reply lab to d
       by false d = replied_calm (replies.FullJournal set.length) reply lab to refl d
   does_calm c busy count j fit plain reply lab to d = absurd plain
@@ -163,21 +153,21 @@ module _ {X : Type 0} (l : Listing X) (ground : Ground) (trace : List Event) (Ho
         subst (λ (a : After). Stays name s a.lab) (sym after_is) (both_stay name s mid lab p.0 q)
     lists_stay start s opens own after holds (wanting at lab to past after_is) there busy = subst (λ (a : After). Stays name s a.lab) (sym after_is) (past_stays start s opens own at lab to holds past there busy).0
 
-  -- THE PLANT STOPPED exactly where `stopped` is told
-  stop_by : (at : X) → Holds at → (set : Setting) (s : LabState) (opens : List OpenSwap) (steps : List Event) (after : After) (reply : Reply) → after.reply ≡ Some reply → IsDoneBy (l.Judges at set s opens) set s opens steps after → has_restart steps ≡ is_stopped reply
+  -- THE STEPS THAT THE REPLY TELLS OF
+  stop_by : (at : X) → Holds at → (set : Setting) (s : LabState) (opens : List OpenSwap) (steps : List Event) (after : After) (reply : Reply) → after.reply ≡ Some reply → IsDoneBy (l.Judges at set s opens) set s opens steps after → Tells steps reply
   stop_by at holds set s opens steps after reply told (no_memory wants) = none_some reply (sym told ∙ ap (λ (a : After). a.reply) wants.after_is)
   stop_by at holds set s opens steps after reply told (does j judged d) =
       let f = is.each at holds set s opens j judged in
       does_stop steps after reply told set s opens f.command (is_among (names_of opens) (name_of f.command)) (length opens) j f.fit d
 
-  calm_by : (at : X) → Holds at → (set : Setting) (s : LabState) (opens : List OpenSwap) (steps : List Event) (reply : Reply) (lab : LabState) (to : List OpenSwap) → IsDoneBy (l.Judges at set s opens) set s opens steps (open_by reply lab to) → is_stopped reply ≡ false
+  calm_by : (at : X) → Holds at → (set : Setting) (s : LabState) (opens : List OpenSwap) (steps : List Event) (reply : Reply) (lab : LabState) (to : List OpenSwap) → IsDoneBy (l.Judges at set s opens) set s opens steps (open_by reply lab to) → tells_step reply ≡ false
   calm_by at holds set s opens steps reply lab to (no_memory wants) = open_not to (ap (λ (a : After). a.session) wants.after_is)
   calm_by at holds set s opens steps reply lab to (does j judged d) =
       let f = is.each at holds set s opens j judged in
       does_calm about set s opens steps f.command (is_among (names_of opens) (name_of f.command)) (length opens) j f.fit f.plain reply lab to d
 
-  pub stops : ((at : X) → is_stopped (l.whole at) ≡ false) → (start : X) (s : LabState) (opens : List OpenSwap) (own : List Event) (after : After) (reply : Reply) → Holds start → Lists l ground trace start s opens own after → after.reply ≡ Some reply → has_restart own ≡ is_stopped reply
+  pub stops : ((at : X) → tells_step (l.whole at) ≡ false) → (start : X) (s : LabState) (opens : List OpenSwap) (own : List Event) (after : After) (reply : Reply) → Holds start → Lists l ground trace start s opens own after → after.reply ≡ Some reply → Tells own reply
   stops calm =
       lists_stop l ground trace Holds is.on
-      (λ front at holds s opens steps reply lab to next. stop_by at holds (set_at ground next.length) s opens steps (open_by reply lab to) reply refl next.done ∙ calm_by at holds (set_at ground next.length) s opens steps reply lab to next.done)
+      (λ front at holds s opens steps reply lab to next. still_steps steps reply (stop_by at holds (set_at ground next.length) s opens steps (open_by reply lab to) reply refl next.done) (calm_by at holds (set_at ground next.length) s opens steps reply lab to next.done))
       (λ front at holds s opens steps reply lab next. stop_by at holds (set_at ground next.length) s opens steps (shut_by (Some reply) lab) reply refl next.done) calm

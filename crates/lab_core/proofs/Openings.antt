@@ -95,7 +95,7 @@ steps_of trace steps result is possible =
     let quiet = opening_quiet trace steps result is.opens in
     record {
       no_command = quiet.0;
-      no_restart = quiet.1;
+      no_outer = quiet.1;
       changes = opening_changes trace steps result is.opens;
       before = is.before;
       settled = is.settled;

@@ -1,4 +1,4 @@
--- The replies that no judgement has: those of drills, and `stopped`.
+-- The replies that no judgement has: those of drills.
 use Rattle.std.proofs.Common.{◌≡◌, ℕ, Bool, true, false, List, [], Option, Some, None, Result, Ok, Err, refl, ◌∙◌, ap}
 use Rattle.std.specs.Prelude.{length}
 use Rattle.plant.specs.Events.{Event}
@@ -20,11 +20,7 @@ use Rattle.lab_core.specs.Recovery.{Recovers, settled, broken_off}
 use Rattle.lab_core.specs.Sessions.{OpenSwap, Session, Closed, Open, Setting, After, names_of, Terms}
 use Rattle.lab_judge.specs.OpenNames.{is_among, name_of}
 use Rattle.lab_judge.proofs.Fits.{IsFit, fits, is_outer}
-use Rattle.lab_core.specs.Tells.{is_of_drill, is_stopped, of_drill_if}
-
-pub no_stop_of : (reply : Reply) → is_outer reply ≡ false → is_stopped reply ≡ false
-no_stop_of replies.Stopped inner = absurd (cc inner)
-no_stop_of reply inner = refl
+use Rattle.lab_core.specs.Tells.{is_of_drill, of_drill_if}
 
 pub no_drill_of : (reply : Reply) → is_outer reply ≡ false → is_of_drill reply ≡ false
 no_drill_of replies.Planned free = absurd (cc free)

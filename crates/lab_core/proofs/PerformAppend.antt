@@ -21,7 +21,7 @@ use Rattle.records_model.proofs.Starts.{room_accepted}
 use Rattle.journal_disk.specs.Standing.{side_of, gate_of, length_of, limit_of, Ends}
 use Rattle.journal_disk.specs.declared.fault.AppendFault.{AppendFault}
 use Rattle.journal_disk.specs.declared.fault.AppendFault.TheVariants as appending
-use Rattle.journal_runs.specs.Pieces.{has_restart, has_miss}
+use Rattle.journal_runs.specs.Pieces.{has_outer, has_miss}
 use Rattle.journal_runs.specs.Working.{StandForEither}
 use Rattle.journal_runs.proofs.Endings.{ended_quiet, ended_missed}
 use Rattle.lab_state.specs.Texts.{the_texts}
@@ -216,7 +216,7 @@ module _ (devices : ℕ) (exp : Option (List ℕ)) (before now : Seen) (c new : 
       done_so (own ++ behind) (after_it told lab Closed)
       (append_so (writes.appends.more ++ behind) (own ++ behind) (after_it told lab Closed) (append_assoc (added (side_of c.journal) (gate_of c.journal) entry writes.appends.run) writes.appends.more behind) last (broken breaks refl either refl))
 
-  quiet : has_restart own ≡ false
+  quiet : has_outer own ≡ false
   quiet = (ended_quiet (side_of c.journal) (gate_of c.journal) entry writes.appends.run writes.appends.more answer writes.appends.ends).1
 
   runs : (a : Result (Unit {0}) AppendFault) → answer ≡ a → (a ≡ Err appending.Stopped → ⊥) → RunsOn before now
@@ -232,7 +232,7 @@ module _ (devices : ℕ) (exp : Option (List ℕ)) (before now : Seen) (c new : 
       let all : own ++ [] ≡ own = append-nil own in
       let miss : has_miss own ≡ true = ended_missed (side_of c.journal) (gate_of c.journal) entry writes.appends.run writes.appends.more true (ap has_miss ends) in
       closed_by devices before now Judges c new opens opens exp own writes.appends.trace sound later writes.limit (same_open opens) replies.Down refl refl Either closes_either
-      (part_so replies.Down [] (missed (append-nil writes.appends.more ∙ ends)) (failed (ap has_restart all ∙ quiet) (ap has_miss all ∙ miss) refl)) (writes.cause is) (runs (Err appending.Plant) is (λ h. cc h))
+      (part_so replies.Down [] (missed (append-nil writes.appends.more ∙ ends)) (failed (ap has_outer all ∙ quiet) (ap has_miss all ∙ miss) refl)) (writes.cause is) (runs (Err appending.Plant) is (λ h. cc h))
   left (Err appending.Stopped) is lab =
       halted devices before now Judges c new opens opens exp own writes.appends.trace sound later writes.limit (same_open opens) Either closes_either
       (λ lab either a b. part_so replies.Stopped (Restarted a b ∷ []) (restarted a b (ap (λ l. l ++ Restarted a b ∷ []) (ends_as (Err appending.Stopped) is))) (stopped (record { front = own; a = a; b = b; is = refl; once = quiet }) refl) lab either) (λ _. writes.halts.0 is)

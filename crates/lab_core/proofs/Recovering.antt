@@ -9,7 +9,7 @@ use Rattle.plant.specs.Events.{Event, Restarted}
 use Rattle.plant.specs.Seen.{Seen}
 use Rattle.virt_topo.specs.declared.experiment.Experiment.{Experiment}
 use Rattle.journal_disk.specs.Standing.{limit_of}
-use Rattle.journal_runs.specs.Pieces.{has_restart, has_miss}
+use Rattle.journal_runs.specs.Pieces.{has_outer, has_miss}
 use Rattle.virt_topo.specs.declared.experiment.Phase.{Phase}
 use Rattle.virt_topo.specs.declared.experiment.Phase.TheVariants.{Out, In, Moving}
 use Rattle.records_model.specs.Labs.{LabState}
@@ -131,13 +131,13 @@ module _ (devices : ℕ) (exp : Option (List ℕ)) (before now : Seen) (old new 
       let shows = broken_shows _ _ h.steps Unwritten h.leaves.after h.leaves.is in
       let all : h.steps ++ [] ≡ h.steps = append-nil h.steps in
       closed_by devices before now (Is (Ok Recover)) old new opens opens exp h.steps h.told h.sound h.later limit (same_open opens) replies.Down refl refl (Broken Unwritten) h.leaves
-      (broken_so Unwritten h.steps [] replies.Down (inl refl) (failed (ap has_restart all ∙ shows.restart) (ap has_miss all ∙ shows.miss_is) refl)) h.cause runs
+      (broken_so Unwritten h.steps [] replies.Down (inl refl) (failed (ap has_outer all ∙ shows.outer) (ap has_miss all ∙ shows.miss_is) refl)) h.cause runs
 
   stops : HasBrokenOff the_texts old.lab ps before now Stopped → limit_of new.journal ≡ limit_of old.journal → (before.stopped ≡ false → now.stopped ≡ true) → Obeyed devices before now (Is (Ok Recover)) old new opens exp (Err faults.Stopped)
   stops h limit stop =
       let shows = broken_shows _ _ h.steps Stopped h.leaves.after h.leaves.is in
       halted devices before now (Is (Ok Recover)) old new opens opens exp h.steps h.told h.sound h.later limit (same_open opens) (Broken Stopped) h.leaves
-      (λ lab broken a b. broken_so Stopped h.steps (Restarted a b ∷ []) replies.Stopped (inr (a, b, refl)) (stopped (record { front = h.steps; a = a; b = b; is = refl; once = shows.restart }) refl) lab broken) stop
+      (λ lab broken a b. broken_so Stopped h.steps (Restarted a b ∷ []) replies.Stopped (inr (a, b, refl)) (stopped (record { front = h.steps; a = a; b = b; is = refl; once = shows.outer }) refl) lab broken) stop
 
   -- WHATEVER IT ANSWERED
   runs_by : (result : Result Settled SettleFault) → (result ≡ Err settling.Stopped → ⊥) → (before.stopped ≡ false → IsErrOf result settling.Stopped ↔ IsTrue now.stopped) → RunsOn before now

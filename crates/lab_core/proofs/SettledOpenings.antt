@@ -12,7 +12,7 @@ use Rattle.journal_disk.specs.Standing.{side_of, length_of}
 use Rattle.journal_disk.specs.declared.journal.Journal.{Journal}
 use Rattle.journal_disk.specs.declared.fault.OpenFault.{OpenFault}
 use Rattle.journal_disk.specs.declared.fault.OpenFault.TheVariants as faults
-use Rattle.journal_runs.specs.Pieces.{has_restart, is_miss, is_restart}
+use Rattle.journal_runs.specs.Pieces.{has_outer, is_miss, is_outer}
 use Rattle.journal_runs.proofs.Quiet.{shows}
 use Rattle.lab_state.specs.Texts.{the_texts}
 use Rattle.swap_txn.specs.Steps.{live_of}
@@ -38,7 +38,7 @@ not_read limit before now fault read = (
   [],
   read.1 ∙ ap (λ l. with_steps before l) (sym (append-nil read.0)),
   if_some before (λ t. ReadSteps t.trace read.0 × ReadEnds t.trace read.0 limit (Err fault)) (λ t. OpenSteps t.trace read.0 [] limit (Err fault))
-      (λ t r. record { reads = r.0; no_restart = refl; ends = inl (refl, r.1); sound = λ before. subst (λ l. IsSound the_texts (t.trace ++ l)) (sym (append-nil read.0)) (r.0.sound before) }) read.2,
+      (λ t r. record { reads = r.0; no_outer = refl; ends = inl (refl, r.1); sound = λ before. subst (λ l. IsSound the_texts (t.trace ++ l)) (sym (append-nil read.0)) (r.0.sound before) }) read.2,
 )
 
 module _ (limit : ℕ) (before mid now : Seen) (c : Control) (read : ReadTold before.told mid.told limit (Ok c)) where
@@ -46,7 +46,7 @@ module _ (limit : ℕ) (before mid now : Seen) (c : Control) (read : ReadTold be
   Left result = OpenTold before.told now.told limit result
 
   -- what is said of the steps of the settling, behind those of reading
-  put : (moving : List Event) (result : Result Control OpenFault) → now.told ≡ with_steps mid.told moving → has_restart moving ≡ false → IfSome mid.told (λ t. IsSound the_texts t.trace → IsSound the_texts (t.trace ++ moving))
+  put : (moving : List Event) (result : Result Control OpenFault) → now.told ≡ with_steps mid.told moving → has_outer moving ≡ false → IfSome mid.told (λ t. IsSound the_texts t.trace → IsSound the_texts (t.trace ++ moving))
       → IfSome before.told (λ t. HasRead t.trace read.0 limit c.lab → OpenEnds t.trace read.0 moving limit result) → Left result
   put moving result told quiet sound ends = (
     read.0,
@@ -58,7 +58,7 @@ module _ (limit : ℕ) (before mid now : Seen) (c : Control) (read : ReadTold be
       by : (o : Option Told) → IfSome o (λ t. ReadSteps t.trace read.0 × HasRead t.trace read.0 limit c.lab) → IfSome o (λ t. IsSound the_texts (t.trace ++ read.0) → IsSound the_texts ((t.trace ++ read.0) ++ moving))
           → IfSome o (λ t. HasRead t.trace read.0 limit c.lab → OpenEnds t.trace read.0 moving limit result) → IfSome o (λ t. OpenSteps t.trace read.0 moving limit result)
       by None r s e = tt
-      by (Some t) r s e = record { reads = r.0; no_restart = quiet; ends = e r.1; sound = λ first. subst (λ l. IsSound the_texts l) (append_assoc t.trace read.0 moving) (s (r.0.sound first)) }
+      by (Some t) r s e = record { reads = r.0; no_outer = quiet; ends = e r.1; sound = λ first. subst (λ l. IsSound the_texts l) (append_assoc t.trace read.0 moving) (s (r.0.sound first)) }
 
   -- it broke off
   abbrev Broken : Outcome → List Event → LabState → Type 0
@@ -75,17 +75,17 @@ module _ (limit : ℕ) (before mid now : Seen) (c : Control) (read : ReadTold be
   pub then_broken : (fault : OpenFault) → AfterOpening c mid now (Err fault) → Left (Err fault)
   then_broken faults.Memory (journal, lab, first) =
       let h = first.has in
-      put h.steps (Err faults.Memory) h.told (settles_show _ _ _ h.steps lab h.settled).restart h.sound
+      put h.steps (Err faults.Memory) h.told (settles_show _ _ _ h.steps lab h.settled).outer h.sound
       (if_some before.told (λ t. Stands the_texts (t.trace ++ (read.0 ++ h.steps)) journal lab) (λ t. HasRead t.trace read.0 limit c.lab → OpenEnds t.trace read.0 h.steps limit (Err faults.Memory))
       (λ t stands has_read. inr (inl (record { start = c.lab; read = has_read; lab = lab; some = record { past = first.past; rest = first.rest; all = first.all; outcomes = first.outcomes; settles = h.settled }; at = lab_at _ journal stands.records lab stands.at stands.lab_of; images = all_at _ journal stands.records lab stands.at stands.lab_of })))
       (if_back before.told now.told (read.0 ++ h.steps) (λ l. Stands the_texts l journal lab) (h.told ∙ ap (λ o. with_steps o h.steps) read.1 ∙ told_twice before.told read.0 h.steps) h.work.stands))
   then_broken faults.Plant h =
       let shows = broken_shows _ _ h.steps Unwritten h.leaves.after h.leaves.is in
-      put h.steps (Err faults.Plant) h.told shows.restart h.sound
+      put h.steps (Err faults.Plant) h.told shows.outer h.sound
       (if_some before.told (λ t. HasRead t.trace read.0 limit c.lab → SettlesInPart t.trace read.0 h.steps limit Unwritten) (λ t. HasRead t.trace read.0 limit c.lab → OpenEnds t.trace read.0 h.steps limit (Err faults.Plant))
       (λ t part has_read. inr (inl (shows.miss_is, part has_read))) (in_part Unwritten h))
   then_broken faults.Stopped h =
-      put h.steps (Err faults.Stopped) h.told (broken_shows _ _ h.steps Stopped h.leaves.after h.leaves.is).restart h.sound
+      put h.steps (Err faults.Stopped) h.told (broken_shows _ _ h.steps Stopped h.leaves.after h.leaves.is).outer h.sound
       (if_some before.told (λ t. HasRead t.trace read.0 limit c.lab → SettlesInPart t.trace read.0 h.steps limit Stopped) (λ t. HasRead t.trace read.0 limit c.lab → OpenEnds t.trace read.0 h.steps limit (Err faults.Stopped))
       (λ t part has_read. inr (inl (part has_read))) (in_part Stopped h))
   then_broken (faults.Bad side at) h = absurd h
@@ -190,7 +190,7 @@ module _ (limit : ℕ) (before mid now : Seen) (c : Control) (read : ReadTold be
       open_steps : OpenSteps t.trace read.0 (moving ++ shifting) limit result
       open_steps = record {
         reads = r.0;
-        no_restart = shows is_restart (moving ++ shifting) moving shifting false false refl quiet.restart m.no_restart;
+        no_outer = shows is_outer (moving ++ shifting) moving shifting false false refl quiet.outer m.no_outer;
         ends = by_answer result stays m.ends;
         sound = λ begins. subst (λ l. IsSound the_texts l) joined (m.sound (sound_then begins));
       }

@@ -13,11 +13,10 @@ use Rattle.lab_model.specs.Courses.{Trouble as AnyTrouble, Device, Late, Unlawfu
 use Rattle.virt_topo.specs.declared.mapping.Mapped.{Mapped}
 use Rattle.records_model.specs.Labs.{LabState, Move, Says, Commits, Aborts, moved}
 use Rattle.records_model.proofs.LabLaws.{says_once}
-use Rattle.journal_runs.specs.Pieces.{has_restart, has_miss, is_restart}
+use Rattle.journal_runs.specs.Pieces.{has_miss, has_outer, has_restart, is_restart}
 use Rattle.journal_model.specs.Appends.{All}
 use Rattle.journal_runs.proofs.Endings.{append_quiet, ended_quiet}
 use Rattle.recovery.specs.Due.{is_busy}
-use Rattle.journal_runs.proofs.Quiet.{shows}
 use Rattle.lab_state.specs.Texts.{the_texts}
 use Rattle.lab_state.proofs.Canonical.{texts_once}
 use Rattle.script_text.specs.Drills.{drill_of}
@@ -43,11 +42,11 @@ use Rattle.lab_core.specs.Breaks.{Breaks, StartsBehind, stopped, failed, unanswe
 use Rattle.lab_core.specs.Recovery.{BreaksOpening, OpensInPart, reading, settling, shifting, Recovers, settled, broken_off}
 use Rattle.lab_core.specs.Sessions.{OpenSwap, Session, Closed, Open, Setting, After, names_of, Terms}
 use Rattle.lab_judge.specs.OpenNames.{is_among, name_of}
-use Rattle.lab_core.specs.Tells.{BeginsAt, GoBy, IsAtRest, IsNoSwap, TellsBroken, TellsLab, is_stopped, opens_of, settles}
+use Rattle.lab_core.specs.Tells.{BeginsAt, GoBy, IsAtRest, IsNoSwap, TellsBroken, TellsLab, opens_of, settles}
 use Rattle.lab_judge.proofs.Fits.{IsFit, fits}
 use Rattle.lab_core.proofs.TasksApart.{IsTaskApart, task_apart}
 use Rattle.lab_core.proofs.Others.{IsSpared, Stays, begun_stays, both_stay, either_stays, ended_stays, in_part_stay, move_stays, rests_on, same_stays, settled_stay, settles_stay, some_stay, swap_stays, turned_stays}
-use Rattle.lab_core.proofs.OuterReplies.{no_stop_of}
+use Rattle.lab_core.proofs.OuterSteps.{Tells, broken_tells, no_step_of, restarts, still_as, tell_behind, tells_step}
 
 -- where none is told
 pub none_told : {X : Type 0} (told : Option Reply) (reply : Reply) → told ≡ None → told ≡ Some reply → X
@@ -95,7 +94,7 @@ end_tells p s after exp entry move steps (Ended Settling) reply name is (begun b
 pub record Begins (drill : Option Drill) (session : Session) (s : LabState) (opening : List Event) (mid : LabState) (opens : List OpenSwap) : Type 0 where
   pub no_drill : drill ≡ None
   pub at : BeginsAt session s opening mid
-  pub quiet : has_restart opening ≡ false
+  pub quiet : has_outer opening ≡ false
   pub are : opens ≡ opens_of session
 
 -- WHAT A STEP WAS, by its judgement: that was done from there, or memory was wanting; or the opening broke off; or it was a drill
@@ -112,9 +111,9 @@ module _ (judgement : Result Task Reply) (terms : Terms) (set : Setting) (s : La
 
   pub was : (drill : Option Drill) (session : Session) → StepOf drill (DoesBy (IsThis judgement terms.rule command) set) terms s session opening own after → Was drill judgement terms set s session command opening own after
   was (Some drill) session step = drilled refl step.0 step.1
-  was None Closed (opened mid opens d) = was_done Closed mid [] (record { no_drill = refl; at = opens; quiet = opens.no_restart; are = refl }) d
+  was None Closed (opened mid opens d) = was_done Closed mid [] (record { no_drill = refl; at = opens; quiet = opens.no_outer; are = refl }) d
   was None Closed (not_opened breaks) = broke refl refl breaks
-  was None (Open opens) step = was_done (Open opens) s opens (record { no_drill = refl; at = refl; quiet = ap has_restart step.0; are = refl }) step.1
+  was None (Open opens) step = was_done (Open opens) s opens (record { no_drill = refl; at = refl; quiet = ap has_outer step.0; are = refl }) step.1
 
 -- A STEP IS BY ONE JUDGEMENT
 one_done : (rule : RuleNumber) (set : Setting) (s : LabState) (opens : List OpenSwap) (command : Command) (own : List Event) (after : After) → IsDoneBy (JudgedBeside rule command opens s) set s opens own after → (judgement : Result Task Reply) × IsDoneBy (IsThis judgement rule command opens s) set s opens own after
@@ -265,112 +264,107 @@ module _ (exp : List ℕ) (way : Way) (own : List Event) (after : After) (reply 
   swap_tells drill terms set s session command opening no' (broke none closed breaks) = inl (breaks_tell opening breaks.breaks)
   swap_tells drill terms set s session command opening no' (drilled some none drills) = let both : false ≡ true = ap is_some (sym no') ∙ some in absurd (cc both)
 
--- THE PLANT STOPPED exactly where `stopped` is told
-nothing_behind : (steps behind : List Event) → has_restart steps ≡ false → behind ≡ [] → has_restart (steps ++ behind) ≡ false
-nothing_behind steps behind quiet none = ap (λ l. has_restart (steps ++ l)) none ∙ ap has_restart (append-nil steps) ∙ quiet
+-- THE STEPS THAT A REPLY TELLS OF: starts of the plant, and failed readings
+nothing_behind : (steps behind : List Event) → has_outer steps ≡ false → behind ≡ [] → has_outer (steps ++ behind) ≡ false
+nothing_behind steps behind quiet none = ap (λ l. has_outer (steps ++ l)) none ∙ ap has_outer (append-nil steps) ∙ quiet
 
-done_calm : (exp : List ℕ) (o : Option Mapped) → is_stopped (done_reply exp o) ≡ false
+pub done_calm : (exp : List ℕ) (o : Option Mapped) → tells_step (done_reply exp o) ≡ false
 done_calm exp None = refl
 done_calm exp (Some m) = refl
 
-end_stops : (p : SwapOf) (outcome : Outcome) (steps behind : List Event) (reply : Reply) → has_restart steps ≡ false → StartsBehind outcome behind → end_reply p outcome ≡ Some reply → has_restart (steps ++ behind) ≡ is_stopped reply
-end_stops p Halted steps behind reply quiet (a, b, starts) is = ap (λ l. has_restart (steps ++ l)) starts ∙ has_started steps a b ∙ ap is_stopped (same_Some StoppedReply reply is)
+end_stops : (p : SwapOf) (outcome : Outcome) (steps behind : List Event) (reply : Reply) → has_outer steps ≡ false → StartsBehind outcome behind → end_reply p outcome ≡ Some reply → Tells (steps ++ behind) reply
+end_stops p Halted steps behind reply quiet (a, b, starts) is = restarts (record { front = steps; a = a; b = b; is = ap (λ l. steps ++ l) starts; once = quiet }) (sym (same_Some StoppedReply reply is))
 end_stops p More steps behind reply quiet starts is = let none : None ≡ Some reply = is in absurd (cc none)
 end_stops p (TurnsBack why) steps behind reply quiet starts is = let none : None ≡ Some reply = is in absurd (cc none)
 end_stops p (Ended Settling) steps behind reply quiet starts is = let none : None ≡ Some reply = is in absurd (cc none)
-end_stops p (Ended Forth) steps behind reply quiet starts is = nothing_behind steps behind quiet starts ∙ sym (done_calm p.name p.new) ∙ ap is_stopped (same_Some (done_reply p.name p.new) reply is)
-end_stops p (Ended (Undo why)) steps behind reply quiet starts is = nothing_behind steps behind quiet starts ∙ ap is_stopped (same_Some (Failed p.name (undone_end p.old) (what_of why)) reply is)
-end_stops p (Stuck why) steps behind reply quiet starts is = nothing_behind steps behind quiet starts ∙ ap is_stopped (same_Some (Failed p.name ends.Stuck (what_of why)) reply is)
-end_stops p Unwritten steps behind reply quiet starts is = nothing_behind steps behind quiet starts ∙ ap is_stopped (same_Some (Failed p.name ends.Stuck whats.Journal) reply is)
+end_stops p (Ended Forth) steps behind reply quiet starts is = still_as (steps ++ behind) (done_reply p.name p.new) reply (nothing_behind steps behind quiet starts) (done_calm p.name p.new) is
+end_stops p (Ended (Undo why)) steps behind reply quiet starts is = still_as (steps ++ behind) (Failed p.name (undone_end p.old) (what_of why)) reply (nothing_behind steps behind quiet starts) refl is
+end_stops p (Stuck why) steps behind reply quiet starts is = still_as (steps ++ behind) (Failed p.name ends.Stuck (what_of why)) reply (nothing_behind steps behind quiet starts) refl is
+end_stops p Unwritten steps behind reply quiet starts is = still_as (steps ++ behind) (Failed p.name ends.Stuck whats.Journal) reply (nothing_behind steps behind quiet starts) refl is
 
-turn_stops : (p : SwapOf) (outcome : Outcome) (steps behind : List Event) (reply : Reply) → has_restart steps ≡ false → StartsBehind outcome behind → turn_reply p outcome ≡ Some reply → has_restart (steps ++ behind) ≡ is_stopped reply
-turn_stops p More steps behind reply quiet starts is = nothing_behind steps behind quiet starts ∙ ap is_stopped (same_Some (MoreReply p.name) reply is)
-turn_stops p (TurnsBack why) steps behind reply quiet starts is = nothing_behind steps behind quiet starts ∙ ap is_stopped (same_Some (Trouble p.name (what_of why)) reply is)
+turn_stops : (p : SwapOf) (outcome : Outcome) (steps behind : List Event) (reply : Reply) → has_outer steps ≡ false → StartsBehind outcome behind → turn_reply p outcome ≡ Some reply → Tells (steps ++ behind) reply
+turn_stops p More steps behind reply quiet starts is = still_as (steps ++ behind) (MoreReply p.name) reply (nothing_behind steps behind quiet starts) refl is
+turn_stops p (TurnsBack why) steps behind reply quiet starts is = still_as (steps ++ behind) (Trouble p.name (what_of why)) reply (nothing_behind steps behind quiet starts) refl is
 turn_stops p (Ended leg) steps behind reply quiet starts is = end_stops p (Ended leg) steps behind reply quiet starts is
 turn_stops p (Stuck why) steps behind reply quiet starts is = end_stops p (Stuck why) steps behind reply quiet starts is
 turn_stops p Unwritten steps behind reply quiet starts is = end_stops p Unwritten steps behind reply quiet starts is
 turn_stops p Halted steps behind reply quiet starts is = end_stops p Halted steps behind reply quiet starts is
 
--- the append that begins a swap starts no plant
-begin_quiet : (p : SwapOf) (s after : LabState) (entry : Record) (move : Move) (steps : List Event) (outcome : Outcome) → BeginSteps s entry move steps after outcome → has_restart steps ≡ false
-begin_quiet p s after entry move steps More b = ap has_restart b.steps_are ∙ (append_quiet b.side b.gate entry All).1
-begin_quiet p s after entry move steps Unwritten b = (swap_shows p s entry move steps after Unwritten (unwritten b refl)).restart
-begin_quiet p s after entry move steps Halted b = (swap_shows p s entry move steps after Halted (stopped_so b refl)).restart
+-- the append that begins a swap has none
+begin_quiet : (p : SwapOf) (s after : LabState) (entry : Record) (move : Move) (steps : List Event) (outcome : Outcome) → BeginSteps s entry move steps after outcome → has_outer steps ≡ false
+begin_quiet p s after entry move steps More b = ap has_outer b.steps_are ∙ (append_quiet b.side b.gate entry All).1
+begin_quiet p s after entry move steps Unwritten b = (swap_shows p s entry move steps after Unwritten (unwritten b refl)).outer
+begin_quiet p s after entry move steps Halted b = (swap_shows p s entry move steps after Halted (stopped_so b refl)).outer
 begin_quiet p s after entry move steps (TurnsBack why) b = absurd b
 begin_quiet p s after entry move steps (Ended leg) b = absurd b
 begin_quiet p s after entry move steps (Stuck trouble) b = absurd b
 
 module _ (own : List Event) (after : After) (reply : Reply) (is : after.reply ≡ Some reply) where
-  breaks_stop : (events : List Event) → Breaks events after.reply → has_restart events ≡ is_stopped reply
-  breaks_stop events (stopped ends told) = ap has_restart ends.is ∙ has_started ends.front ends.a ends.b ∙ ap is_stopped (same_Some StoppedReply reply (sym told ∙ is))
-  breaks_stop events (failed no' miss told) = no' ∙ ap is_stopped (same_Some Down reply (sym told ∙ is))
-  breaks_stop events (unanswered none) = none_told after.reply reply none is
+  calm : (told : Reply) → tells_step told ≡ false → after.reply ≡ Some told → has_outer own ≡ false → Tells own reply
+  calm told goes told_is quiet = still_as own told reply quiet goes (sym told_is ∙ is)
 
-  calm : (told : Reply) → is_stopped told ≡ false → after.reply ≡ Some told → has_restart own ≡ false → has_restart own ≡ is_stopped reply
-  calm told goes told_is quiet = quiet ∙ sym goes ∙ ap is_stopped (same_Some told reply (sym told_is ∙ is))
+  replies_stop : (s : LabState) (opens : List OpenSwap) (told : Reply) → tells_step told ≡ false → Replies s opens told own after → Tells own reply
+  replies_stop s opens told goes d = calm told goes (ap (λ (a : After). a.reply) d.after_is) (ap has_outer d.nothing)
 
-  replies_stop : (s : LabState) (opens : List OpenSwap) (told : Reply) → is_stopped told ≡ false → Replies s opens told own after → has_restart own ≡ is_stopped reply
-  replies_stop s opens told goes d = calm told goes (ap (λ (a : After). a.reply) d.after_is) (ap has_restart d.nothing)
-
-  space_stop : (s : LabState) (opens : List OpenSwap) (b : Bool) (length : ℕ) (Done : Type 0) → (Done → has_restart own ≡ is_stopped reply) → IfSpace b length s opens Done own after → has_restart own ≡ is_stopped reply
+  space_stop : (s : LabState) (opens : List OpenSwap) (b : Bool) (length : ℕ) (Done : Type 0) → (Done → Tells own reply) → IfSpace b length s opens Done own after → Tells own reply
   space_stop s opens true length Done each d = each d
   space_stop s opens false length Done each d = replies_stop s opens (FullJournal length) refl d
 
-  append_stops : (s : LabState) (opens : List OpenSwap) (entry : Record) (told : Reply) → is_stopped told ≡ false → Appends s opens entry told own after → has_restart own ≡ is_stopped reply
+  append_stops : (s : LabState) (opens : List OpenSwap) (entry : Record) (told : Reply) → tells_step told ≡ false → Appends s opens entry told own after → Tells own reply
   append_stops s opens entry told goes d = by d.ends
     where
-      by : AppendEnds s opens d.state told d.run d.more own after → has_restart own ≡ is_stopped reply
-      by (whole all none after_is) = calm told goes (ap (λ (a : After). a.reply) after_is) (ap has_restart d.steps ∙ (ended_quiet d.side d.gate entry d.run d.more (Ok tt) (all, none)).1)
-      by (broken breaks said either session) = breaks_stop own breaks
+      by : AppendEnds s opens d.state told d.run d.more own after → Tells own reply
+      by (whole all none after_is) = calm told goes (ap (λ (a : After). a.reply) after_is) (ap has_outer d.steps ∙ (ended_quiet d.side d.gate entry d.run d.more (Ok tt) (all, none)).1)
+      by (broken breaks said either session) = broken_tells own after.reply reply breaks is
 
   -- a swap, or a turn, was answered
-  answered_stops : (told : Option Reply) (to : List OpenSwap) (outcome : Outcome) (steps behind : List Event) → own ≡ steps ++ behind → (StartsBehind outcome behind → told ≡ Some reply → has_restart (steps ++ behind) ≡ is_stopped reply)
-      → IsAnswered told to outcome behind after → has_restart own ≡ is_stopped reply
-  answered_stops told to outcome steps behind own_is each (is_told starts replied session) = ap has_restart own_is ∙ each starts (sym replied ∙ is)
+  answered_stops : (told : Option Reply) (to : List OpenSwap) (outcome : Outcome) (steps behind : List Event) → own ≡ steps ++ behind → (StartsBehind outcome behind → told ≡ Some reply → Tells (steps ++ behind) reply)
+      → IsAnswered told to outcome behind after → Tells own reply
+  answered_stops told to outcome steps behind own_is each (is_told starts replied session) = subst (λ l. Tells l reply) (sym own_is) (each starts (sym replied ∙ is))
 
-  swap_stops : (s : LabState) (opens : List OpenSwap) (exp : List ℕ) (entry : Record) → Swaps s opens exp entry own after → has_restart own ≡ is_stopped reply
+  swap_stops : (s : LabState) (opens : List OpenSwap) (exp : List ℕ) (entry : Record) → Swaps s opens exp entry own after → Tells own reply
   swap_stops s opens exp entry d =
-      answered_stops _ opens d.outcome d.steps d.behind d.own_is (end_stops d.swap d.outcome d.steps d.behind reply (swap_shows d.swap s entry d.move d.steps after.lab d.outcome d.ends).restart) d.answered
+      answered_stops _ opens d.outcome d.steps d.behind d.own_is (end_stops d.swap d.outcome d.steps d.behind reply (swap_shows d.swap s entry d.move d.steps after.lab d.outcome d.ends).outer) d.answered
 
-  begin_stops : (s : LabState) (opens : List OpenSwap) (devices : ℕ) (exp : List ℕ) (entry : Record) → BeginsSwap s opens devices exp entry own after → has_restart own ≡ is_stopped reply
+  begin_stops : (s : LabState) (opens : List OpenSwap) (devices : ℕ) (exp : List ℕ) (entry : Record) → BeginsSwap s opens devices exp entry own after → Tells own reply
   begin_stops s opens devices exp entry d =
       answered_stops _ _ d.outcome d.steps d.behind d.own_is (turn_stops d.swap d.outcome d.steps d.behind reply (begin_quiet d.swap s after.lab entry d.move d.steps d.outcome d.begins)) d.answered
 
-  one_stops : (s : LabState) (opens : List OpenSwap) (exp : List ℕ) → Turns s opens exp own after → has_restart own ≡ is_stopped reply
+  one_stops : (s : LabState) (opens : List OpenSwap) (exp : List ℕ) → Turns s opens exp own after → Tells own reply
   one_stops s opens exp d =
       answered_stops _ _ d.outcome d.steps d.behind d.own_is
-      (turn_stops d.one.swap.running.swap d.outcome d.steps d.behind reply (turn_shows s d.one.swap.running d.steps d.outcome after.lab d.turn).restart) d.answered
+      (turn_stops d.one.swap.running.swap d.outcome d.steps d.behind reply (turn_shows s d.one.swap.running d.steps d.outcome after.lab d.turn).outer) d.answered
 
-  finish_stops : (s : LabState) (opens : List OpenSwap) (exp : List ℕ) → EndsSwap s opens exp own after → has_restart own ≡ is_stopped reply
+  finish_stops : (s : LabState) (opens : List OpenSwap) (exp : List ℕ) → EndsSwap s opens exp own after → Tells own reply
   finish_stops s opens exp d =
       answered_stops _ _ d.outcome d.steps d.behind d.own_is
-      (end_stops d.one.swap.running.swap d.outcome d.steps d.behind reply (finish_shows s d.one.swap.running d.steps d.outcome after.lab d.finishes).restart) d.answered
+      (end_stops d.one.swap.running.swap d.outcome d.steps d.behind reply (finish_shows s d.one.swap.running d.steps d.outcome after.lab d.finishes).outer) d.answered
 
-  recover_stops : (s : LabState) (opens : List OpenSwap) → Recovers s opens own after → has_restart own ≡ is_stopped reply
-  recover_stops s opens (settled outcomes settles told session) = calm _ refl told (settles_show s _ outcomes own after.lab settles).restart
-  recover_stops s opens (broken_off part breaks session) = breaks_stop own breaks
+  recover_stops : (s : LabState) (opens : List OpenSwap) → Recovers s opens own after → Tells own reply
+  recover_stops s opens (settled outcomes settles told session) = calm _ refl told (settles_show s _ outcomes own after.lab settles).outer
+  recover_stops s opens (broken_off part breaks session) = broken_tells own after.reply reply breaks is
 
-  pub does_stop : (set : Setting) (s : LabState) (opens : List OpenSwap) (command : Command) (busy : Bool) (count : ℕ) (judgement : Result Task Reply) → IsFit s command busy count judgement → Does set s opens judgement own after → has_restart own ≡ is_stopped reply
-  does_stop set s opens command busy count (Err refusal) inner d = replies_stop s opens refusal (no_stop_of refusal inner) d
-  does_stop set s opens command busy count (Ok (Tell told)) inner d = replies_stop s opens told (no_stop_of told inner) d
-  does_stop set s opens command busy count (Ok (Append entry told)) inner d = space_stop s opens _ set.length (Appends s opens entry told own after) (append_stops s opens entry told (no_stop_of told inner.0)) d
+  pub does_stop : (set : Setting) (s : LabState) (opens : List OpenSwap) (command : Command) (busy : Bool) (count : ℕ) (judgement : Result Task Reply) → IsFit s command busy count judgement → Does set s opens judgement own after → Tells own reply
+  does_stop set s opens command busy count (Err refusal) inner d = replies_stop s opens refusal (no_step_of refusal inner) d
+  does_stop set s opens command busy count (Ok (Tell told)) inner d = replies_stop s opens told (no_step_of told inner) d
+  does_stop set s opens command busy count (Ok (Append entry told)) inner d = space_stop s opens _ set.length (Appends s opens entry told own after) (append_stops s opens entry told (no_step_of told inner.0)) d
   does_stop set s opens command busy count (Ok (Swap exp way)) inner d = space_stop s opens _ set.length (Swaps s opens exp (Begin exp way) own after) (swap_stops s opens exp (Begin exp way)) d
   does_stop set s opens command busy count (Ok (BeginOnly exp way)) inner d = space_stop s opens _ set.length (BeginsSwap s opens set.devices exp (Begin exp way) own after) (begin_stops s opens set.devices exp (Begin exp way)) d
   does_stop set s opens command busy count (Ok (Turn exp)) inner d = one_stops s opens exp d
   does_stop set s opens command busy count (Ok (Finish exp)) inner d = finish_stops s opens exp d
   does_stop set s opens command busy count (Ok Recover) inner d = recover_stops s opens d
 
-  drill_stops : (terms : Terms) (s : LabState) (session : Session) → Drills terms.takes s session own after → has_restart own ≡ is_stopped reply
-  drill_stops terms s session (is_planned yes' none a) = calm Planned refl (ap (λ (v : After). v.reply) a) (ap has_restart none)
-  drill_stops terms s session (is_refused no' none a) = calm NoDrill refl (ap (λ (v : After). v.reply) a) (ap has_restart none)
+  drill_stops : (terms : Terms) (s : LabState) (session : Session) → Drills terms.takes s session own after → Tells own reply
+  drill_stops terms s session (is_planned yes' none a) = calm Planned refl (ap (λ (v : After). v.reply) a) (ap has_outer none)
+  drill_stops terms s session (is_refused no' none a) = calm NoDrill refl (ap (λ (v : After). v.reply) a) (ap has_outer none)
   drill_stops terms s session (wants_memory wants) = none_told after.reply reply (ap (λ (v : After). v.reply) wants.after_is) is
 
-  pub step_stops : (drill : Option Drill) (judgement : Result Task Reply) (terms : Terms) (set : Setting) (s : LabState) (session : Session) (command : Command) (opening : List Event) → Was drill judgement terms set s session command opening own after → has_restart (opening ++ own) ≡ is_stopped reply
+  pub step_stops : (drill : Option Drill) (judgement : Result Task Reply) (terms : Terms) (set : Setting) (s : LabState) (session : Session) (command : Command) (opening : List Event) → Was drill judgement terms set s session command opening own after → Tells (opening ++ own) reply
   step_stops drill judgement terms set s session command opening (done mid opens begins judged d) =
-      shows is_restart (opening ++ own) opening own false (is_stopped reply) refl begins.quiet (does_stop set mid opens command (is_among (names_of opens) (name_of command)) (length opens) judgement (fits mid (is_among (names_of opens) (name_of command)) (length opens) terms.rule command judgement judged) d)
+      tell_behind opening own reply begins.quiet (does_stop set mid opens command (is_among (names_of opens) (name_of command)) (length opens) judgement (fits mid (is_among (names_of opens) (name_of command)) (length opens) terms.rule command judgement judged) d)
   step_stops drill judgement terms set s session command opening (wanting mid opens begins wants) = none_told after.reply reply (ap (λ (v : After). v.reply) wants.after_is) is
-  step_stops drill judgement terms set s session command opening (broke no' closed breaks) = ap (λ l. has_restart (opening ++ l)) breaks.nothing ∙ ap has_restart (append-nil opening) ∙ breaks_stop opening breaks.breaks
-  step_stops drill judgement terms set s session command opening (drilled some none drills) = ap (λ l. has_restart (l ++ own)) none ∙ drill_stops terms s session drills
+  step_stops drill judgement terms set s session command opening (broke no' closed breaks) = subst (λ l. Tells (opening ++ l) reply) (sym breaks.nothing) (subst (λ l. Tells l reply) (sym (append-nil opening)) (broken_tells opening after.reply reply breaks.breaks is))
+  step_stops drill judgement terms set s session command opening (drilled some none drills) = subst (λ l. Tells (l ++ own) reply) (sym none) (drill_stops terms s session drills)
 
 -- EXPERIMENTS OF OTHER NAMES
 module _ (name : List ℕ) (own : List Event) (after : After) where
@@ -426,8 +420,8 @@ module _ (name : List ℕ) (own : List Event) (after : After) where
 
     part_stays : OpensInPart s opening after.lab → IsAtRest s name → Stays name s after.lab
     part_stays (reading reads same) at_rest = same_stays name s after.lab there same
-    part_stays (settling front moving is reads no_miss no_restart part) at_rest = some_stay name s after.lab [] moving there at_rest part
-    part_stays (shifting front moving behind is reads no_miss no_restart outcomes all shifts) at_rest = settles_stay name _ outcomes s after.lab moving there at_rest all
+    part_stays (settling front moving is reads no_miss no_outer part) at_rest = some_stay name s after.lab [] moving there at_rest part
+    part_stays (shifting front moving behind is reads no_miss no_outer outcomes all shifts) at_rest = settles_stay name _ outcomes s after.lab moving there at_rest all
 
     pub step_stays : (judgement : Result Task Reply) (terms : Terms) (set : Setting) → name_of command ≢ Some name → Was (drill_of command) judgement terms set s session command opening own after → Stays name s after.lab
     step_stays judgement terms set other (done mid opens begins judged d) =

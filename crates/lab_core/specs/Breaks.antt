@@ -2,7 +2,7 @@
 use Rattle.std.specs.Prelude.{◌≡◌, ℕ, true, false, List, [], ◌∷◌, Option, Some, None}
 use Rattle.plant.specs.Events.{Event, Restarted}
 use Rattle.swap_turns.specs.Turning.{Outcome, Stopped as Halted}
-use Rattle.journal_runs.specs.Pieces.{has_restart, has_miss, EndsRestarted}
+use Rattle.journal_runs.specs.Pieces.{has_outer, has_miss, EndsRestarted}
 use Rattle.script_text.specs.declared.reply.Reply.{Reply}
 use Rattle.script_text.specs.declared.reply.Reply.TheVariants.{Stopped, Down}
 
@@ -10,7 +10,7 @@ use Rattle.script_text.specs.declared.reply.Reply.TheVariants.{Stopped, Down}
 -- since memory was wanting or the sides are no journal.
 pub data Breaks (events : List Event) (reply : Option Reply) : Type 0 where
   stopped : EndsRestarted events → reply ≡ Some Stopped → Breaks events reply
-  failed : has_restart events ≡ false → has_miss events ≡ true → reply ≡ Some Down → Breaks events reply
+  failed : has_outer events ≡ false → has_miss events ≡ true → reply ≡ Some Down → Breaks events reply
   unanswered : reply ≡ None → Breaks events reply
 
 -- behind the steps of a swap in which the plant stopped stands its start

@@ -15,7 +15,7 @@ use Rattle.journal_disk.specs.Standing.{side_of, length_of}
 use Rattle.journal_disk.specs.declared.journal.Journal.{Journal}
 use Rattle.journal_disk.specs.declared.fault.OpenFault.{OpenFault}
 use Rattle.journal_disk.specs.declared.fault.OpenFault.TheVariants as faults
-use Rattle.journal_runs.specs.Pieces.{has_miss, has_restart}
+use Rattle.journal_runs.specs.Pieces.{has_miss, has_outer}
 use Rattle.lab_state.specs.Packing.{packed_of}
 use Rattle.lab_state.specs.Texts.{the_texts}
 use Rattle.lab_core.specs.Controller.{Control}
@@ -67,7 +67,7 @@ MoveEnds trace steps s j (Err (faults.Bad side at)) = ⊥
 pub record MoveSteps {X : Type 0} (trace steps : List Event) (s : LabState) (j : Journal) (result : Result X OpenFault) : Type 0 where
   pub shifts : Shifts steps
   pub aside : disk (side_of j) (trace ++ steps) ≡ disk (side_of j) trace
-  pub no_restart : has_restart steps ≡ false
+  pub no_outer : has_outer steps ≡ false
   pub sound : IsSound the_texts trace → IsSound the_texts (trace ++ steps)
   pub ends : MoveEnds trace steps s j result
 

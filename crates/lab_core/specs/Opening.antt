@@ -18,7 +18,7 @@ use Rattle.journal_disk.specs.Opening.{both_synced}
 use Rattle.journal_disk.specs.Before.{AreAsBefore, AreSettled, ReadAlike, are_synced}
 use Rattle.journal_disk.specs.declared.fault.OpenFault.{OpenFault}
 use Rattle.journal_disk.specs.declared.fault.OpenFault.TheVariants as faults
-use Rattle.journal_runs.specs.Pieces.{has_command, has_miss, has_restart}
+use Rattle.journal_runs.specs.Pieces.{has_command, has_miss, has_outer}
 use Rattle.plant.specs.Seen.{Seen}
 use Rattle.recovery.specs.Due.{swaps_of}
 use Rattle.recovery.specs.Settle.{SettledAll, SettledSome}
@@ -42,9 +42,9 @@ has_change events = list_any is_change events
 
 -- WHAT THE PART THAT READS ADDED, whatever came of it
 pub record ReadSteps (trace steps : List Event) : Type 0 where
-  -- no device command, and no start of a stopped plant
+  -- no device command, no start of a stopped plant, and no reading of a device that failed
   pub no_command : has_command steps ≡ false
-  pub no_restart : has_restart steps ≡ false
+  pub no_outer : has_outer steps ≡ false
   -- it writes a new journal, and that only where both sides are blank
   pub changes : has_change steps ≡ true → live (head (disk A trace).reads) (head (disk B trace).reads) ≡ New
   -- at each moment each image has the records, or the bad place, of one that was possible when the call began
@@ -160,11 +160,11 @@ abbrev pub OpenEnds : List Event → List Event → List Event → ℕ → Resul
 OpenEnds trace reading behind limit (Ok c) = HasOpened trace reading behind limit c
 OpenEnds trace reading behind limit (Err fault) = ((behind ≡ []) × ReadEnds trace reading limit (Err fault)) ⊎ (InSettling trace reading behind limit fault ⊎ InShifting trace reading behind limit fault)
 
--- WHAT AN OPENING ADDED: a part that reads, and behind it the settling of all experiments that move and the journal's move; it starts no plant, and a
--- sound trace stays sound
+-- WHAT AN OPENING ADDED: a part that reads, and behind it the settling of all experiments that move and the journal's move; it starts no plant, no reading failed in it,
+-- and a sound trace stays sound
 pub record OpenSteps (trace reading behind : List Event) (limit : ℕ) (result : Result Control OpenFault) : Type 0 where
   pub reads : ReadSteps trace reading
-  pub no_restart : has_restart behind ≡ false
+  pub no_outer : has_outer behind ≡ false
   pub ends : OpenEnds trace reading behind limit result
   pub sound : IsSound the_texts trace → IsSound the_texts (trace ++ (reading ++ behind))
 

@@ -2,7 +2,7 @@
 use Rattle.std.specs.Prelude.{◌≡◌, ◌⊎◌, ℕ, true, false, count_by, List, [], ◌∷◌, ◌++◌, Some}
 use Rattle.plant.specs.Events.{Event}
 use Rattle.records_model.specs.Labs.{LabState}
-use Rattle.journal_runs.specs.Pieces.{has_restart, has_miss, has_command}
+use Rattle.journal_runs.specs.Pieces.{has_outer, has_miss, has_command}
 use Rattle.script_text.specs.declared.reply.Reply.TheVariants.{Recovered}
 use Rattle.swap_turns.specs.Settling.{Settles, BreaksOff}
 use Rattle.swap_turns.specs.Swaps.{Swap}
@@ -43,7 +43,7 @@ Reads reading = has_command reading ≡ false
 abbrev pub Shifts : List Event → Type 0
 Shifts shifting = has_command shifting ≡ false
 
--- it opened, and led to that lab: no call of the disk failed, and the plant did not stop
+-- it opened, and led to that lab: no call of the disk and no reading of a device failed, and the plant did not stop
 pub record Opens (s : LabState) (opening : List Event) (mid : LabState) : Type 0 where
   pub reading : List Event
   pub moving : List Event
@@ -54,14 +54,14 @@ pub record Opens (s : LabState) (opening : List Event) (mid : LabState) : Type 0
   pub settles : Settles s (swaps_of [] s.experiments) outcomes moving mid
   pub shifts : Shifts shifting
   pub no_miss : has_miss opening ≡ false
-  pub no_restart : has_restart opening ≡ false
+  pub no_outer : has_outer opening ≡ false
 
 -- how far it came that broke off: it read; or it had read, and settled some; or it had settled all, and moved the journal
 pub data OpensInPart (s : LabState) (opening : List Event) (after : LabState) : Type 0 where
   reading : Reads opening → after ≡ s → OpensInPart s opening after
-  settling : (front moving : List Event) → opening ≡ front ++ moving → Reads front → has_miss front ≡ false → has_restart front ≡ false
+  settling : (front moving : List Event) → opening ≡ front ++ moving → Reads front → has_miss front ≡ false → has_outer front ≡ false
       → SettlesSome s [] moving after → OpensInPart s opening after
-  shifting : (front moving behind : List Event) → opening ≡ front ++ (moving ++ behind) → Reads front → has_miss front ≡ false → has_restart front ≡ false
+  shifting : (front moving behind : List Event) → opening ≡ front ++ (moving ++ behind) → Reads front → has_miss front ≡ false → has_outer front ≡ false
       → (outcomes : List Outcome) → Settles s (swaps_of [] s.experiments) outcomes moving after → Shifts behind → OpensInPart s opening after
 
 -- it broke off, in that lab: nothing of the command's own is done

@@ -22,7 +22,6 @@ ghost use Rattle.swap_turns.specs.Causes.{IsLater};
 
 use crate::CoreFault;
 use crate::compaction::compact;
-use crate::perform::perform;
 use cost_rule::StepRule;
 use journal_disk::{Journal, OpenFault};
 use journal_rec::Found;
@@ -262,14 +261,7 @@ impl Controller {
             swaps: &self.swaps,
         };
         match judge(self.alloc, present, command, rule) {
-            Ok(task) => perform(
-                self.alloc,
-                &mut self.lab,
-                &mut self.journal,
-                &mut self.swaps,
-                task,
-                plant,
-            ),
+            Ok(task) => self.perform(task, plant),
             Err(Refusal::Refused(reply)) => Ok(reply),
             Err(Refusal::Memory) => Err(CoreFault::Memory),
         }

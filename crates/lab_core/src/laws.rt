@@ -1,7 +1,7 @@
 // Laws of the definitions.
-ghost use Rattle.std.specs.Prelude.{◌≡◌, ◌≢◌, ◌⊎◌, ◌≤◌, ℕ, Bool, false, true, is_some, count_by, List, [], ◌++◌, length, Some, None, Ok, Err, Result};
+ghost use Rattle.std.specs.Prelude.{◌≡◌, ◌≢◌, ◌⊎◌, ◌↔◌, ◌≤◌, ℕ, Bool, false, true, is_some, count_by, List, [], ◌∷◌, ◌++◌, length, Some, None, Ok, Err, Result};
 ghost use Rattle.plant.specs.Disks.{ArePossible};
-ghost use Rattle.plant.specs.Events.{Event};
+ghost use Rattle.plant.specs.Events.{Event, Unread};
 ghost use Rattle.plant.specs.Worlds.{world_of};
 ghost use Rattle.journal_rec.specs.declared.record.Record.TheVariants.{Begin};
 ghost use Rattle.journal_rec.specs.declared.record.Way.{Way};
@@ -13,9 +13,9 @@ ghost use Rattle.journal_runs.specs.Pieces.{has_command, has_miss, has_restart};
 ghost use Rattle.script_text.specs.Drills.{drill_of};
 ghost use Rattle.script_text.specs.Replies.{closes};
 ghost use Rattle.script_text.specs.declared.command.Command.{Command};
-ghost use Rattle.script_text.specs.declared.command.Command.TheVariants.{Recover, SwapinWith};
+ghost use Rattle.script_text.specs.declared.command.Command.TheVariants.{Audit, Recover, SwapinWith};
 ghost use Rattle.script_text.specs.declared.reply.Reply.{Reply};
-ghost use Rattle.script_text.specs.declared.reply.Reply.TheVariants.{In, More, Recovered};
+ghost use Rattle.script_text.specs.declared.reply.Reply.TheVariants.{In, More, Recovered, Unread as NotRead};
 ghost use Rattle.lab_core.specs.Recovery.{EndedIn, Opens};
 ghost use Rattle.swap_turns.specs.Settling.{Settles};
 ghost use Rattle.swap_turns.specs.Swaps.{Swap as Swapped};
@@ -39,6 +39,7 @@ ghost use Rattle.lab_core.specs.Tells.{AllMove, BeginsAt, GoesIn, Hinders, IsAtR
 /// failed or stopped and a reply is told, to one reply and one lab. The reply to a swap tells where its experiment is.
 /// Experiments of other names stay, whatever the reply. Where the command settles what moves, those that don't move stay, and those with an open
 /// swap. A drill leaves all as it was. The plant stopped exactly where the reply is `stopped`.
+/// A reading of a device failed exactly where the reply is `unread` with its name. Only an audit is answered so, and that reading is its one step.
 pub fn lab_steps()
     ensures judged_once { (rule : RuleNumber) (s : LabState) (busy : Bool) (count : ℕ) (command : Command) (a b : Result Task Reply)
         → is_searched command ≡ false → Judged rule s busy count command a → Judged rule s busy count command b → a ≡ b }
@@ -74,6 +75,13 @@ pub fn lab_steps()
     ensures stops { (terms : Terms) (at : List Event) (set : Setting) (s : LabState) (session : Session) (command : Command) (opening own : List Event)
         (after : After) (reply : Reply)
         → LabStep terms at set s session command opening own after → after.reply ≡ Some reply → has_restart (opening ++ own) ≡ is_stopped reply }
+    ensures unread { (terms : Terms) (at : List Event) (set : Setting) (s : LabState) (session : Session) (command : Command) (opening own : List Event)
+        (after : After) (reply : Reply) (name : List ℕ)
+        → LabStep terms at set s session command opening own after → after.reply ≡ Some reply
+        → Has (opening ++ own) (Unread name) ↔ (reply ≡ NotRead name) }
+    ensures alone { (terms : Terms) (at : List Event) (set : Setting) (s : LabState) (session : Session) (command : Command) (opening own : List Event)
+        (after : After) (name : List ℕ)
+        → LabStep terms at set s session command opening own after → after.reply ≡ Some (NotRead name) → (command ≡ Audit) × (own ≡ Unread name ∷ []) }
 {}
 
 /// Open swaps, over lab steps that leave the controller open.

@@ -2,35 +2,29 @@
 ghost use Rattle.std.specs.Prelude.{◌≡◌, ◌≤◌, ◌+◌, ◌^◌, nat_le, ℕ, Err, IfOk, IfSome, List, Ok, OnOk, Option, Some, length};
 ghost use Rattle.journal_rec.specs.Payloads.{IsBody, IsRecord};
 ghost use Rattle.journal_rec.specs.declared.record.Record.{Record as AnyRecord};
-ghost use Rattle.journal_rec.specs.declared.record.Record.TheVariants as records;
 ghost use Rattle.journal_disk.specs.Standing.{length_of, limit_of};
 ghost use Rattle.records_model.specs.Labs.{Follows, Sane};
 ghost use Rattle.swap_txn.specs.Steps.{Stands, Writes};
 ghost use Rattle.lab_state.specs.Changes.{after, CanEnter};
 ghost use Rattle.lab_state.specs.Texts.{the_texts};
-ghost use Rattle.lab_core.specs.Controller.{CanWork, WorksWith, control};
+ghost use Rattle.lab_core.specs.Controller.{CanWork, WorksWith};
 ghost use Rattle.lab_judge.specs.Judge.{Append, BeginOnly, Finish, Is, Recover, Swap, Turn};
 ghost use Rattle.lab_core.specs.Obey.{Obeyed};
 ghost use Rattle.lab_core.specs.Perform.{append_answer, recover_answer, IsReady, or_any, swapped_by};
 ghost use Rattle.lab_core.specs.Sessions.{OpenSwap};
 ghost use Rattle.lab_core.specs.Swapping.{IsBegunBy, IsSwapReply, TellsTask};
-ghost use Rattle.lab_judge.specs.Tasks.{CanAppend, CanDo, IsSwapBy, MayFollow, task_of};
+ghost use Rattle.lab_judge.specs.Tasks.{CanAppend, CanDo, CanSwap, MayFollow, task_of};
 
-use crate::CoreFault;
-use crate::swapping::{
-    finish_swap, open_swap, prepare_swap, reply_of_progress, reply_of_unopened, turn_swap,
-};
+use crate::swapping::{NewSwap, open_swap, prepare_swap, reply_of_progress, reply_of_unopened};
+use crate::{Controller, CoreFault};
 use journal_disk::{AppendFault, Journal};
-use journal_rec::{Encoded, Record, Way, encode};
+use journal_rec::{Encoded, Record, encode};
 use lab_base::{Memory, Name};
 use lab_judge::{Space, Task};
 use lab_state::{LabState, PrepareFault, Prepared};
 use plant::Plant;
 use recovery::{SettleFault, Settled, settle};
 use script_text::Reply;
-use std::alloc::Global;
-use swap_mgr::Manager;
-use swap_plan::Ops;
 
 /// The length of the journal, and its limit.
 pub(crate) fn space_of(journal: &Journal) -> Space
@@ -110,168 +104,6 @@ fn reply_of_append(reply: Reply, written: Result<(), AppendFault>) -> Result<Rep
     }
 }
 
-/// Appends a record, where there is space for it, and tells that it is made.
-fn append<P: Plant>(
-    alloc: Global,
-    lab: &mut LabState,
-    journal: &mut Journal,
-    swaps: &Manager,
-    entry: &Record,
-    reply: Reply,
-    plant: &mut P,
-) -> Result<Reply, CoreFault>
-    requires can { CanAppend lab.old.state entry.now reply }
-    requires works { CanWork (P.seen plant.old) (control lab.old.state journal.old swaps.now) }
-    ensures { (opens : List OpenSwap) (devices : ℕ) (exp : Option (List ℕ)) → devices ≤ (P.seen plant.old).faults.devices
-        → WorksWith (P.seen plant.old) (control lab.old.state journal.old swaps.now) opens
-        → Obeyed devices (P.seen plant.old) (P.seen plant.new) (Is (Ok (Append entry.now reply))) (control lab.old.state journal.old swaps.now)
-        (control lab.new.state journal.new swaps.now) opens exp result }
-{
-    let encoded = encode(alloc, entry)?;
-    if !has_space(journal, encoded.size()) {
-        return Ok(Reply::FullJournal {
-            length: journal.length(),
-        });
-    }
-    let prepared = prepare(lab, entry)?;
-    let written = write(&encoded, journal, plant);
-    enter_written(lab, prepared, &written);
-    reply_of_append(reply, written)
-}
-
-/// Begins a swap by its record, where there is space for it. It is open then, where nothing else is told.
-fn begin<P: Plant>(
-    alloc: Global,
-    lab: &mut LabState,
-    journal: &mut Journal,
-    swaps: &mut Manager,
-    exp: Name,
-    way: Way,
-    ops: Ops,
-    plant: &mut P,
-) -> Result<Option<Reply>, CoreFault>
-    requires record { IsRecord (records.Begin exp way) }
-    requires follows { MayFollow lab.old.state (records.Begin exp way) }
-    requires by { IsSwapBy lab.old.state exp way ops.commands ops.undo }
-    requires ready { IsReady swaps.old (Swap exp way) }
-    requires works { CanWork (P.seen plant.old) (control lab.old.state journal.old swaps.old) }
-    ensures begun { (opens : List OpenSwap) (devices : ℕ) → devices ≤ (P.seen plant.old).faults.devices
-        → WorksWith (P.seen plant.old) (control lab.old.state journal.old swaps.old) opens
-        → IsBegunBy devices (P.seen plant.old) (P.seen plant.new) (control lab.old.state journal.old swaps.old)
-        (control lab.new.state journal.new swaps.new) opens exp way result }
-    ensures told { IfOk result (λ told. IfSome told (IsSwapReply exp)) }
-{
-    let Ok(ready) = prepare_swap(alloc, lab, exp, way, ops) else {
-        return Err(CoreFault::Memory);
-    };
-    if !has_space(journal, ready.planned.size()) {
-        drop(ready);
-        return Ok(Some(Reply::FullJournal {
-            length: journal.length(),
-        }));
-    }
-    match open_swap(lab, journal, swaps, ready, plant) {
-        Ok(()) => Ok(None),
-        Err(fault) => reply_of_unopened(exp, fault),
-    }
-}
-
-/// Begins a swap. Later commands turn it.
-fn begin_only<P: Plant>(
-    alloc: Global,
-    lab: &mut LabState,
-    journal: &mut Journal,
-    swaps: &mut Manager,
-    exp: Name,
-    way: Way,
-    ops: Ops,
-    plant: &mut P,
-) -> Result<Reply, CoreFault>
-    requires record { IsRecord (records.Begin exp way) }
-    requires follows { MayFollow lab.old.state (records.Begin exp way) }
-    requires by { IsSwapBy lab.old.state exp way ops.commands ops.undo }
-    requires ready { IsReady swaps.old (BeginOnly exp way) }
-    requires works { CanWork (P.seen plant.old) (control lab.old.state journal.old swaps.old) }
-    ensures { (opens : List OpenSwap) (devices : ℕ) → devices ≤ (P.seen plant.old).faults.devices
-        → WorksWith (P.seen plant.old) (control lab.old.state journal.old swaps.old) opens
-        → Obeyed devices (P.seen plant.old) (P.seen plant.new) (Is (Ok (BeginOnly exp way))) (control lab.old.state journal.old swaps.old)
-        (control lab.new.state journal.new swaps.new) opens (Some exp) result }
-{
-    match begin(alloc, lab, journal, swaps, exp, way, ops, plant)? {
-        None => Ok(Reply::More { exp }),
-        Some(reply) => Ok(reply),
-    }
-}
-
-/// Makes one turn of the experiment's open swap.
-fn turn<P: Plant>(
-    lab: &mut LabState,
-    journal: &mut Journal,
-    swaps: &mut Manager,
-    exp: Name,
-    plant: &mut P,
-) -> Result<Reply, CoreFault>
-    requires ready { IsReady swaps.old (Turn exp) }
-    requires works { CanWork (P.seen plant.old) (control lab.old.state journal.old swaps.old) }
-    ensures { (opens : List OpenSwap) (devices : ℕ) → devices ≤ (P.seen plant.old).faults.devices
-        → WorksWith (P.seen plant.old) (control lab.old.state journal.old swaps.old) opens
-        → Obeyed devices (P.seen plant.old) (P.seen plant.new) (Is (Ok (Turn exp))) (control lab.old.state journal.old swaps.old)
-        (control lab.new.state journal.new swaps.new) opens (Some exp) result }
-{
-    let progress = turn_swap(lab, journal, swaps, exp, plant);
-    reply_of_progress(exp, progress)
-}
-
-/// Turns the experiment's open swap to its end.
-fn finish<P: Plant>(
-    lab: &mut LabState,
-    journal: &mut Journal,
-    swaps: &mut Manager,
-    exp: Name,
-    plant: &mut P,
-) -> Result<Reply, CoreFault>
-    requires ready { IsReady swaps.old (Finish exp) }
-    requires works { CanWork (P.seen plant.old) (control lab.old.state journal.old swaps.old) }
-    ensures { (opens : List OpenSwap) (devices : ℕ) → devices ≤ (P.seen plant.old).faults.devices
-        → WorksWith (P.seen plant.old) (control lab.old.state journal.old swaps.old) opens
-        → Obeyed devices (P.seen plant.old) (P.seen plant.new) (Is (Ok (Finish exp))) (control lab.old.state journal.old swaps.old)
-        (control lab.new.state journal.new swaps.new) opens (Some exp) result }
-{
-    let progress = finish_swap(lab, journal, swaps, exp, plant);
-    reply_of_progress(exp, progress)
-}
-
-/// Begins a swap, and where that is open turns it to its end.
-fn swap<P: Plant>(
-    alloc: Global,
-    lab: &mut LabState,
-    journal: &mut Journal,
-    swaps: &mut Manager,
-    exp: Name,
-    way: Way,
-    ops: Ops,
-    plant: &mut P,
-) -> Result<Reply, CoreFault>
-    requires record { IsRecord (records.Begin exp way) }
-    requires follows { MayFollow lab.old.state (records.Begin exp way) }
-    requires by { IsSwapBy lab.old.state exp way ops.commands ops.undo }
-    requires ready { IsReady swaps.old (Swap exp way) }
-    requires works { CanWork (P.seen plant.old) (control lab.old.state journal.old swaps.old) }
-    ensures obeyed { (opens : List OpenSwap) (devices : ℕ) → devices ≤ (P.seen plant.old).faults.devices
-        → WorksWith (P.seen plant.old) (control lab.old.state journal.old swaps.old) opens
-        → Obeyed devices (P.seen plant.old) (P.seen plant.new) (Is (Ok (Swap exp way))) (control lab.old.state journal.old swaps.old)
-        (control lab.new.state journal.new swaps.new) opens (Some exp) result }
-    ensures told { IfOk result (IsSwapReply exp) }
-{
-    match begin(alloc, lab, journal, swaps, exp, way, ops, plant)? {
-        None => {
-            let progress = finish_swap(lab, journal, swaps, exp, plant);
-            reply_of_progress(exp, progress)
-        }
-        Some(reply) => Ok(reply),
-    }
-}
-
 /// The reply behind the settling of all experiments that move.
 fn reply_of_settling(settled: Result<Settled, SettleFault>) -> Result<Reply, CoreFault>
     ensures { result ≡ recover_answer settled }
@@ -284,52 +116,160 @@ fn reply_of_settling(settled: Result<Settled, SettleFault>) -> Result<Reply, Cor
     }
 }
 
-/// Settles all experiments that move and have no open swap, and tells how many were settled and how many are stuck.
-fn recover<P: Plant>(
-    alloc: Global,
-    lab: &mut LabState,
-    journal: &mut Journal,
-    swaps: &Manager,
-    plant: &mut P,
-) -> Result<Reply, CoreFault>
-    requires works { CanWork (P.seen plant.old) (control lab.old.state journal.old swaps.now) }
-    ensures { (opens : List OpenSwap) (devices : ℕ) (exp : Option (List ℕ)) → devices ≤ (P.seen plant.old).faults.devices
-        → WorksWith (P.seen plant.old) (control lab.old.state journal.old swaps.now) opens
-        → Obeyed devices (P.seen plant.old) (P.seen plant.new) (Is (Ok Recover)) (control lab.old.state journal.old swaps.now)
-        (control lab.new.state journal.new swaps.now) opens exp result }
-{
-    let busy = swaps.names(alloc)?;
-    let settled = settle(alloc, lab, &busy, journal, plant);
-    reply_of_settling(settled)
-}
-
-/// Does a task. `full journal` is told here alone, where there is no space for the task's first record.
-pub(crate) fn perform<P: Plant>(
-    alloc: Global,
-    lab: &mut LabState,
-    journal: &mut Journal,
-    swaps: &mut Manager,
-    task: Task,
-    plant: &mut P,
-) -> Result<Reply, CoreFault>
-    requires can { CanDo lab.old.state task }
-    requires ready { IsReady swaps.old (task_of task) }
-    requires works { CanWork (P.seen plant.old) (control lab.old.state journal.old swaps.old) }
-    ensures obeyed { (opens : List OpenSwap) (devices : ℕ) (exp : Option (List ℕ)) → devices ≤ (P.seen plant.old).faults.devices
-        → WorksWith (P.seen plant.old) (control lab.old.state journal.old swaps.old) opens
-        → Obeyed devices (P.seen plant.old) (P.seen plant.new) (Is (Ok (task_of task))) (control lab.old.state journal.old swaps.old)
-        (control lab.new.state journal.new swaps.new) opens (or_any (swapped_by (task_of task)) exp) result }
-    ensures told { IfOk result (TellsTask (task_of task)) }
-{
-    match task {
-        Task::Tell(reply) => Ok(reply),
-        Task::Append { entry, reply } => append(alloc, lab, journal, swaps, &entry, reply, plant),
-        Task::Swap { exp, way, ops } => swap(alloc, lab, journal, swaps, exp, way, ops, plant),
-        Task::BeginOnly { exp, way, ops } => {
-            begin_only(alloc, lab, journal, swaps, exp, way, ops, plant)
+impl Controller {
+    /// Appends a record, where there is space for it, and tells that it is made.
+    fn append<P: Plant>(
+        &mut self,
+        entry: &Record,
+        reply: Reply,
+        plant: &mut P,
+    ) -> Result<Reply, CoreFault>
+        requires can { CanAppend self.old.lab entry.now reply }
+        requires works { CanWork (P.seen plant.old) self.old }
+        ensures { (opens : List OpenSwap) (devices : ℕ) (exp : Option (List ℕ)) → devices ≤ (P.seen plant.old).faults.devices
+            → WorksWith (P.seen plant.old) self.old opens
+            → Obeyed devices (P.seen plant.old) (P.seen plant.new) (Is (Ok (Append entry.now reply))) self.old self.new opens exp result }
+    {
+        let encoded = encode(self.alloc, entry)?;
+        if !has_space(&self.journal, encoded.size()) {
+            return Ok(Reply::FullJournal {
+                length: self.journal.length(),
+            });
         }
-        Task::Turn { exp } => turn(lab, journal, swaps, exp, plant),
-        Task::Finish { exp } => finish(lab, journal, swaps, exp, plant),
-        Task::Recover => recover(alloc, lab, journal, swaps, plant),
+        let prepared = prepare(&mut self.lab, entry)?;
+        let written = write(&encoded, &mut self.journal, plant);
+        enter_written(&mut self.lab, prepared, &written);
+        reply_of_append(reply, written)
+    }
+
+    /// Begins a swap by its record, where there is space for it. It is open then, where nothing else is told.
+    fn begin<P: Plant>(&mut self, swap: NewSwap, plant: &mut P) -> Result<Option<Reply>, CoreFault>
+        // its record can follow, and no other swap is in its way
+        requires can { CanSwap self.old.lab swap.exp swap.way swap.ops }
+        requires ready { IsReady self.old.swaps (Swap swap.exp swap.way) }
+        requires works { CanWork (P.seen plant.old) self.old }
+        // it is begun, or what is told is all that its command does
+        ensures begun { (opens : List OpenSwap) (devices : ℕ) → devices ≤ (P.seen plant.old).faults.devices → WorksWith (P.seen plant.old) self.old opens
+            → IsBegunBy devices (P.seen plant.old) (P.seen plant.new) self.old self.new opens swap.exp swap.way result }
+        ensures told { IfOk result (λ told. IfSome told (IsSwapReply swap.exp)) }
+    {
+        let exp = swap.exp;
+        let Ok(ready) = prepare_swap(self.alloc, &mut self.lab, swap) else {
+            return Err(CoreFault::Memory);
+        };
+        if !has_space(&self.journal, ready.planned.size()) {
+            drop(ready);
+            return Ok(Some(Reply::FullJournal {
+                length: self.journal.length(),
+            }));
+        }
+        match open_swap(
+            &mut self.lab,
+            &mut self.journal,
+            &mut self.swaps,
+            ready,
+            plant,
+        ) {
+            Ok(()) => Ok(None),
+            Err(fault) => reply_of_unopened(exp, fault),
+        }
+    }
+
+    /// Begins a swap. Later commands turn it.
+    fn begin_only<P: Plant>(&mut self, swap: NewSwap, plant: &mut P) -> Result<Reply, CoreFault>
+        requires can { CanSwap self.old.lab swap.exp swap.way swap.ops }
+        requires ready { IsReady self.old.swaps (BeginOnly swap.exp swap.way) }
+        requires works { CanWork (P.seen plant.old) self.old }
+        ensures { (opens : List OpenSwap) (devices : ℕ) → devices ≤ (P.seen plant.old).faults.devices → WorksWith (P.seen plant.old) self.old opens
+            → Obeyed devices (P.seen plant.old) (P.seen plant.new) (Is (Ok (BeginOnly swap.exp swap.way))) self.old self.new opens (Some swap.exp) result }
+    {
+        let exp = swap.exp;
+        match self.begin(swap, plant)? {
+            None => Ok(Reply::More { exp }),
+            Some(reply) => Ok(reply),
+        }
+    }
+
+    /// Makes one turn of the experiment's open swap.
+    fn turn<P: Plant>(&mut self, exp: Name, plant: &mut P) -> Result<Reply, CoreFault>
+        requires ready { IsReady self.old.swaps (Turn exp) }
+        requires works { CanWork (P.seen plant.old) self.old }
+        ensures { (opens : List OpenSwap) (devices : ℕ) → devices ≤ (P.seen plant.old).faults.devices → WorksWith (P.seen plant.old) self.old opens
+            → Obeyed devices (P.seen plant.old) (P.seen plant.new) (Is (Ok (Turn exp))) self.old self.new opens (Some exp) result }
+    {
+        let progress = self.turn_swap(exp, plant);
+        reply_of_progress(exp, progress)
+    }
+
+    /// Turns the experiment's open swap to its end.
+    fn finish<P: Plant>(&mut self, exp: Name, plant: &mut P) -> Result<Reply, CoreFault>
+        requires ready { IsReady self.old.swaps (Finish exp) }
+        requires works { CanWork (P.seen plant.old) self.old }
+        ensures { (opens : List OpenSwap) (devices : ℕ) → devices ≤ (P.seen plant.old).faults.devices → WorksWith (P.seen plant.old) self.old opens
+            → Obeyed devices (P.seen plant.old) (P.seen plant.new) (Is (Ok (Finish exp))) self.old self.new opens (Some exp) result }
+    {
+        let progress = self.finish_swap(exp, plant);
+        reply_of_progress(exp, progress)
+    }
+
+    /// Begins a swap, and where that is open turns it to its end.
+    fn swap<P: Plant>(&mut self, swap: NewSwap, plant: &mut P) -> Result<Reply, CoreFault>
+        // its record can follow, and no other swap is in its way
+        requires can { CanSwap self.old.lab swap.exp swap.way swap.ops }
+        requires ready { IsReady self.old.swaps (Swap swap.exp swap.way) }
+        requires works { CanWork (P.seen plant.old) self.old }
+        // the whole swap is done, and where it ended is told
+        ensures obeyed { (opens : List OpenSwap) (devices : ℕ) → devices ≤ (P.seen plant.old).faults.devices → WorksWith (P.seen plant.old) self.old opens
+            → Obeyed devices (P.seen plant.old) (P.seen plant.new) (Is (Ok (Swap swap.exp swap.way))) self.old self.new opens (Some swap.exp) result }
+        ensures told { IfOk result (IsSwapReply swap.exp) }
+    {
+        let exp = swap.exp;
+        match self.begin(swap, plant)? {
+            None => {
+                let progress = self.finish_swap(exp, plant);
+                reply_of_progress(exp, progress)
+            }
+            Some(reply) => Ok(reply),
+        }
+    }
+
+    /// Settles all experiments that move and have no open swap, and tells how many were settled and how many are stuck.
+    fn recover<P: Plant>(&mut self, plant: &mut P) -> Result<Reply, CoreFault>
+        requires works { CanWork (P.seen plant.old) self.old }
+        ensures { (opens : List OpenSwap) (devices : ℕ) (exp : Option (List ℕ)) → devices ≤ (P.seen plant.old).faults.devices
+            → WorksWith (P.seen plant.old) self.old opens
+            → Obeyed devices (P.seen plant.old) (P.seen plant.new) (Is (Ok Recover)) self.old self.new opens exp result }
+    {
+        let busy = self.swaps.names(self.alloc)?;
+        let settled = settle(self.alloc, &mut self.lab, &busy, &mut self.journal, plant);
+        reply_of_settling(settled)
+    }
+
+    /// Does a task. `full journal` is told here alone, where there is no space for the task's first record.
+    pub(crate) fn perform<P: Plant>(
+        &mut self,
+        task: Task,
+        plant: &mut P,
+    ) -> Result<Reply, CoreFault>
+        // the task can be done, and the open swaps allow it
+        requires can { CanDo self.old.lab task }
+        requires ready { IsReady self.old.swaps (task_of task) }
+        requires works { CanWork (P.seen plant.old) self.old }
+        // it is done, and its end is told
+        ensures obeyed { (opens : List OpenSwap) (devices : ℕ) (exp : Option (List ℕ)) → devices ≤ (P.seen plant.old).faults.devices
+            → WorksWith (P.seen plant.old) self.old opens
+            → Obeyed devices (P.seen plant.old) (P.seen plant.new) (Is (Ok (task_of task))) self.old self.new opens
+            (or_any (swapped_by (task_of task)) exp) result }
+        ensures told { IfOk result (TellsTask (task_of task)) }
+    {
+        match task {
+            Task::Tell(reply) => Ok(reply),
+            Task::Append { entry, reply } => self.append(&entry, reply, plant),
+            Task::Swap { exp, way, ops } => self.swap(NewSwap { exp, way, ops }, plant),
+            Task::BeginOnly { exp, way, ops } => self.begin_only(NewSwap { exp, way, ops }, plant),
+            Task::Turn { exp } => self.turn(exp, plant),
+            Task::Finish { exp } => self.finish(exp, plant),
+            Task::Recover => self.recover(plant),
+        }
     }
 }

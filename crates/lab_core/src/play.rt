@@ -12,7 +12,6 @@ ghost use Rattle.lab_core.specs.Obey.{ObeysCommand};
 ghost use Rattle.lab_judge.specs.Playing.{first_place};
 ghost use Rattle.lab_core.specs.Sessions.{OpenSwap, open_at};
 
-use crate::perform::perform;
 use crate::{Controller, CoreFault};
 use lab_base::{Memory, Name, What};
 use lab_judge::{Present, Refusal, Span, judge_event, judge_play};
@@ -85,14 +84,7 @@ impl Controller {
             swaps: &self.swaps,
         };
         match judge_event(self.alloc, present, exp, text, event) {
-            Ok(task) => perform(
-                self.alloc,
-                &mut self.lab,
-                &mut self.journal,
-                &mut self.swaps,
-                task,
-                plant,
-            ),
+            Ok(task) => self.perform(task, plant),
             Err(Refusal::Refused(reply)) => Ok(reply),
             Err(Refusal::Memory) => Err(CoreFault::Memory),
         }

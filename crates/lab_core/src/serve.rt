@@ -12,7 +12,7 @@ ghost use Rattle.lab_judge.specs.JudgeRun.{CanServe};
 ghost use Rattle.lab_core.specs.Queues.{EndsRun, IsToldBehind, ObeysRun, ObeysRuns, ends_if, first_place};
 ghost use Rattle.lab_core.specs.Sessions.{OpenSwap};
 
-use crate::perform::{perform, space_of};
+use crate::perform::space_of;
 use crate::play::is_in;
 use crate::{Controller, CoreFault};
 use cost_rule::StepRule;
@@ -92,14 +92,7 @@ impl Controller {
         };
         let space = space_of(&self.journal);
         match judge_run(self.alloc, present, space, queue, run, rule) {
-            Ok(task) => perform(
-                self.alloc,
-                &mut self.lab,
-                &mut self.journal,
-                &mut self.swaps,
-                task,
-                plant,
-            ),
+            Ok(task) => self.perform(task, plant),
             Err(Refusal::Refused(reply)) => Ok(reply),
             Err(Refusal::Memory) => Err(CoreFault::Memory),
         }

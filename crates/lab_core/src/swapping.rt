@@ -20,8 +20,8 @@ ghost use Rattle.lab_state.specs.Texts.{the_texts};
 ghost use Rattle.lab_core.specs.Swapping.{CanEndBy, HasEndedIn, HasTried, HasTurnedIn, IsEndedBy, IsPlanned, progress_answer, reply_of_done, reply_of_over, undone_by, unopened_answer};
 ghost use Rattle.lab_judge.specs.Tasks.{IsBegin, MayFollow};
 
-use crate::CoreFault;
 use crate::perform::prepare;
+use crate::{Controller, CoreFault};
 use journal_disk::Journal;
 use journal_rec::{Record, Way};
 use lab_base::{Memory, Name};
@@ -32,6 +32,14 @@ use std::alloc::Global;
 use swap_mgr::{Manager, OpenSwap, Progress};
 use swap_plan::Ops;
 use swap_txn::{Ended, Planned};
+
+/// A swap that is to begin: of that experiment, that way, by these device commands.
+#[derive(Drop)]
+pub(crate) struct NewSwap {
+    pub(crate) exp: Name,
+    pub(crate) way: Way,
+    pub(crate) ops: Ops,
+}
 
 /// Plans the swap of a record Begin.
 fn plan_swap(alloc: Global, begin: Record, ops: Ops) -> Result<Planned, Memory>
@@ -87,23 +95,25 @@ fn ready_swap(
     }
 }
 
-/// Prepares and plans the swap of an experiment that way.
+/// Prepares and plans a swap.
 pub(crate) fn prepare_swap(
     alloc: Global,
     lab: &mut LabState,
-    exp: Name,
-    way: Way,
-    ops: Ops,
+    swap: NewSwap,
 ) -> Result<ReadySwap, Memory>
-    requires record { IsRecord (records.Begin exp way) }
-    requires follows { MayFollow lab.old.state (records.Begin exp way) }
-    ensures follows { IfOk result (λ r. Follows the_texts lab.old.state (records.Begin exp way) (after lab.old.state r.prepared)) }
+    requires record { IsRecord (records.Begin swap.exp swap.way) }
+    requires follows { MayFollow lab.old.state (records.Begin swap.exp swap.way) }
+    // its record can be entered
+    ensures follows { IfOk result (λ r. Follows the_texts lab.old.state (records.Begin swap.exp swap.way) (after lab.old.state r.prepared)) }
     ensures enters { IfOk result (λ r. CanEnter lab.new r.prepared) }
     ensures sane { Sane lab.old.state }
-    ensures body { IfOk result (λ r. IsBody r.planned.begin (records.Begin exp way)) }
-    ensures forth { IfOk result (λ r. r.planned.forth ≡ unsent exp way ops.commands ops.undo) }
+    // it is planned whole
+    ensures body { IfOk result (λ r. IsBody r.planned.begin (records.Begin swap.exp swap.way)) }
+    ensures forth { IfOk result (λ r. r.planned.forth ≡ unsent swap.exp swap.way swap.ops.commands swap.ops.undo) }
+    // nothing is done yet
     ensures unchanged { lab.new.state ≡ lab.old.state }
 {
+    let NewSwap { exp, way, ops } = swap;
     ready_swap(alloc, lab, Record::Begin { exp, way }, ops)
 }
 
@@ -155,50 +165,42 @@ fn end_move(lab: &mut LabState, exp: Name, progress: &Progress)
     }
 }
 
-/// Makes one turn of an open swap.
-pub(crate) fn turn_swap<P: Plant>(
-    lab: &mut LabState,
-    journal: &mut Journal,
-    swaps: &mut Manager,
-    exp: Name,
-    plant: &mut P,
-) -> Progress
-    requires managed { IsManagingFor the_texts (P.seen plant.old).told journal.old lab.old.state swaps.old }
-    requires is_open { HasOpen swaps.old exp }
-    ensures turned { (pairs : List (RunningSwap × Live)) → Working the_texts (P.seen plant.old).told journal.old lab.old.state pairs → Holds swaps.old pairs
-        → HasTurnedIn lab.old.state pairs exp (P.seen plant.old) (P.seen plant.new) journal.new result swaps.new lab.new.state }
-    ensures stopped { IsStop result ↔ IsTrue (P.seen plant.new).stopped }
-    ensures limit { limit_of journal.new ≡ limit_of journal.old }
-{
-    // It is open.
-    let Ok(progress) = swaps.turn(exp, journal, plant) else {
-        unreachable!()
-    };
-    end_move(lab, exp, &progress);
-    progress
-}
+impl Controller {
+    /// Makes one turn of an open swap.
+    pub(crate) fn turn_swap<P: Plant>(&mut self, exp: Name, plant: &mut P) -> Progress
+        requires managed { IsManagingFor the_texts (P.seen plant.old).told self.old.journal self.old.lab self.old.swaps }
+        requires is_open { HasOpen self.old.swaps exp }
+        ensures turned { (pairs : List (RunningSwap × Live)) → Working the_texts (P.seen plant.old).told self.old.journal self.old.lab pairs
+            → Holds self.old.swaps pairs
+            → HasTurnedIn self.old.lab pairs exp (P.seen plant.old) (P.seen plant.new) self.new.journal result self.new.swaps self.new.lab }
+        ensures stopped { IsStop result ↔ IsTrue (P.seen plant.new).stopped }
+        ensures limit { limit_of self.new.journal ≡ limit_of self.old.journal }
+    {
+        // It is open.
+        let Ok(progress) = self.swaps.turn(exp, &mut self.journal, plant) else {
+            unreachable!()
+        };
+        end_move(&mut self.lab, exp, &progress);
+        progress
+    }
 
-/// Turns an open swap to its end.
-pub(crate) fn finish_swap<P: Plant>(
-    lab: &mut LabState,
-    journal: &mut Journal,
-    swaps: &mut Manager,
-    exp: Name,
-    plant: &mut P,
-) -> Progress
-    requires managed { IsManagingFor the_texts (P.seen plant.old).told journal.old lab.old.state swaps.old }
-    requires is_open { HasOpen swaps.old exp }
-    ensures ended { (pairs : List (RunningSwap × Live)) → Working the_texts (P.seen plant.old).told journal.old lab.old.state pairs → Holds swaps.old pairs
-        → HasEndedIn lab.old.state pairs exp (P.seen plant.old) (P.seen plant.new) journal.new result swaps.new lab.new.state }
-    ensures stopped { IsStop result ↔ IsTrue (P.seen plant.new).stopped }
-    ensures limit { limit_of journal.new ≡ limit_of journal.old }
-{
-    // It is open.
-    let Ok(progress) = swaps.finish(exp, journal, plant) else {
-        unreachable!()
-    };
-    end_move(lab, exp, &progress);
-    progress
+    /// Turns an open swap to its end.
+    pub(crate) fn finish_swap<P: Plant>(&mut self, exp: Name, plant: &mut P) -> Progress
+        requires managed { IsManagingFor the_texts (P.seen plant.old).told self.old.journal self.old.lab self.old.swaps }
+        requires is_open { HasOpen self.old.swaps exp }
+        ensures ended { (pairs : List (RunningSwap × Live)) → Working the_texts (P.seen plant.old).told self.old.journal self.old.lab pairs
+            → Holds self.old.swaps pairs
+            → HasEndedIn self.old.lab pairs exp (P.seen plant.old) (P.seen plant.new) self.new.journal result self.new.swaps self.new.lab }
+        ensures stopped { IsStop result ↔ IsTrue (P.seen plant.new).stopped }
+        ensures limit { limit_of self.new.journal ≡ limit_of self.old.journal }
+    {
+        // It is open.
+        let Ok(progress) = self.swaps.finish(exp, &mut self.journal, plant) else {
+            unreachable!()
+        };
+        end_move(&mut self.lab, exp, &progress);
+        progress
+    }
 }
 
 /// `in E` where the experiment is in, and `out E` where it is out.

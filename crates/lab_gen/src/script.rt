@@ -1,5 +1,5 @@
 // // The script of a seed.
-ghost use Rattle.std.specs.Prelude.{◌≡◌, ◌+◌, ◌*◌, ◌-◌, ◌%◌, ◌<◌, ◌≤◌, ◌^◌, ◌++◌, List, length, IfOk, OnOk};
+ghost use Rattle.std.specs.Prelude.{◌≡◌, ◌+◌, ◌*◌, ◌-◌, ◌%◌, ◌<◌, ◌≤◌, ◌++◌, List, length, IfOk, OnOk};
 ghost use Rattle.std.specs.List.{flat_map};
 ghost use Rattle.lab_gen.specs.Script.{drawn_lines, experiment_lines, generated, generator_behind, interface_lines, lab_lines, numbers, swapout_lines, text_of, top_lines};
 ghost use Rattle.rand_pcg.specs.Pcg.{pcg32};
@@ -8,10 +8,14 @@ ghost use Rattle.script_text.specs.declared.command.Command.{Command};
 
 use crate::lines::{Line, push_command, push_lines, push_numbered};
 use lab_base::{Memory, Text};
+use lab_io::MAX_SCRIPT;
 use rand_core::SeedableRng;
 use rand_core::utils::NextWord;
 use rand_pcg::Pcg32;
 use std::alloc::Global;
+
+/// A bound on the virtual nodes of a generated experiment.
+const MAX_NODES: u16 = 1_000;
 
 /// Adds the interfaces of the 64 nodes.
 fn push_interfaces(text: &mut Text) -> Result<(), Memory>
@@ -37,7 +41,7 @@ fn push_lab(text: &mut Text) -> Result<(), Memory>
 /// Adds the nodes and links of an experiment of so many virtual nodes.
 fn push_top(text: &mut Text, nodes: u16) -> Result<(), Memory>
     requires some { 0 < nodes }
-    requires few { nodes ≤ 1000 }
+    requires few { nodes ≤ MAX_NODES }
     ensures { OnOk result (text.new ≡ text.old ++ text_of (top_lines nodes)) }
 {
     push_lines(text, Line::VirtualNode, 1, nodes)?;
@@ -58,7 +62,7 @@ fn push_swapout(text: &mut Text, number: u16) -> Result<(), Memory>
 /// Adds the commands on an experiment of so many virtual nodes.
 fn push_experiment(text: &mut Text, number: u16, nodes: u16) -> Result<(), Memory>
     requires some { 0 < nodes }
-    requires few { nodes ≤ 1000 }
+    requires few { nodes ≤ MAX_NODES }
     ensures { OnOk result (text.new ≡ text.old ++ text_of (experiment_lines number nodes)) }
 {
     push_command(text, b"create-top E", number, 2 * nodes - 1)?;
@@ -91,7 +95,7 @@ fn push_experiments(text: &mut Text, seed: u64) -> Result<(), Memory>
 /// The script of a seed: a lab, 40 experiments that are swapped in and out by turns, and `status`.
 pub fn generate(alloc: Global, seed: u64) -> Result<Text, Memory>
     ensures text { IfOk result (λ text. text ≡ generated seed) }
-    ensures short { IfOk result (λ text. length text < 2 ^ 32) }
+    ensures short { IfOk result (λ text. length text < MAX_SCRIPT) }
     ensures script { IfOk result (λ text. (commands : List Command) × IsScript text commands AtEnd) }
 {
     let mut text = Text::new(alloc);

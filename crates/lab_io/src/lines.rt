@@ -1,5 +1,5 @@
 // The lines of a source.
-ghost use Rattle.std.specs.Prelude.{◌≡◌, ◌≢◌, ◌≤◌, ◌<◌, ◌+◌, ◌-◌, ◌^◌, ◌⊎◌, ℕ, max, length, [], take, drop, None, Some};
+ghost use Rattle.std.specs.Prelude.{◌≡◌, ◌≢◌, ◌≤◌, ◌<◌, ◌+◌, ◌-◌, ◌⊎◌, ℕ, max, length, [], take, drop, None, Some};
 ghost use Rattle.std.specs.Prelude.{Ok, Err, true, false, IfNone, IsTrue, IsFalse, slice_index, IfOk, IfErr, IfSome, OnErr, OnOk, IsErrOf, IsSome, vec_len};
 ghost use Rattle.std.specs.Io.KnownBytes.{prepend_known};
 ghost use Rattle.lab_base.specs.Counts.{Rose};
@@ -7,19 +7,11 @@ ghost use Rattle.lab_io.specs.Feeds.{NoFeed, without_return};
 ghost use Rattle.lab_io.specs.Next.{IsNext, HasNoText};
 ghost use Rattle.lab_io.specs.Taken.{Took, Counted, IsFound, IsTooLong, rest_of, pending_of, ended_of, fault_of, lines_of, taken_of};
 
+use crate::limits::{CHUNK, MAX_LINE, MAX_PENDING, MAX_SCRIPT};
 use crate::outside::Source;
 use crate::reader::{Line, LineFault, LineReader};
 use lab_base::{Memory, Text};
 use std::alloc::Global;
-
-/// The most bytes of a line, without its line feed or carriage return.
-const MAX_LINE: usize = 4_096;
-
-/// The most bytes that one read of a source asks for.
-const CHUNK: usize = 4_096;
-
-/// The most bytes of a script.
-const LIMIT: u64 = 1 << 32;
 
 /// The line at the front of the pending bytes.
 #[derive(Clone, Copy)]
@@ -69,14 +61,14 @@ fn drop_front(bytes: &mut Vec<u8>, n: usize)
 
 /// Reads pieces until the pending bytes have a line feed, are too many for a line, or the source has ended.
 fn fill<S: Source>(pending: &mut Vec<u8>, taken: u64, source: &mut S) -> Result<Found, LineFault>
-    requires { taken ≤ 2 ^ 32 }
+    requires { taken ≤ MAX_SCRIPT }
     ensures rest { prepend_known pending.new.items (S.left source.new) ≡ prepend_known pending.old.items (S.left source.old) }
     ensures found { IfOk result (λ found. IsFound taken pending.new.items (S.left source.new) found) }
     ensures read { IsErrOf result LineFault.ReadFault → Rose (S.faults source.old) (S.faults source.new) × NoFeed pending.new.items }
     ensures later { S.faults source.old ≤ S.faults source.new }
     ensures long { IfErr result (λ e. (n : _) → e ≢ LineFault.TooLong n) }
     ensures quiet { NoFeed pending.old.items ⊎ ((source.new ≡ source.old) × (pending.new.items ≡ pending.old.items)) }
-    ensures ahead { length pending.new.items ≤ max (length pending.old.items) 8193 }
+    ensures ahead { length pending.new.items ≤ max (length pending.old.items) MAX_PENDING }
     ensures stands { OnOk result (S.faults source.new ≡ S.faults source.old) }
 {
     let mut chunk = [0u8; CHUNK];
@@ -85,7 +77,7 @@ fn fill<S: Source>(pending: &mut Vec<u8>, taken: u64, source: &mut S) -> Result<
         if at < pending.len() {
             return Ok(Found::Feed(at));
         }
-        if pending.len() > MAX_LINE + 1 || pending.len() as u64 > LIMIT - taken {
+        if pending.len() > MAX_LINE + 1 || pending.len() as u64 > MAX_SCRIPT - taken {
             return Ok(Found::Long);
         }
         if pending.try_reserve(CHUNK).is_err() {
@@ -108,23 +100,23 @@ fn take_text(
     after: usize,
     number: u64,
 ) -> Result<Text, LineFault>
-    requires taken { taken.old ≤ 2 ^ 32 }
+    requires taken { taken.old ≤ MAX_SCRIPT }
     requires end { end ≤ after }
     requires after { after ≤ vec_len pending.old }
     ensures text { IfOk result (λ text. text ≡ take end pending.old.items) }
     ensures after { OnOk result (pending.new.items ≡ drop after pending.old.items) }
-    ensures short { OnOk result (end ≤ 4096) }
+    ensures short { OnOk result (end ≤ MAX_LINE) }
     ensures counted { OnOk result (taken.new ≡ taken.old + after) }
-    ensures within { taken.new ≤ 2 ^ 32 }
+    ensures within { taken.new ≤ MAX_SCRIPT }
     ensures err { OnErr result (pending.new.items ≡ pending.old.items) }
     ensures uncounted { OnErr result (taken.new ≡ taken.old) }
-    ensures long { (n : ℕ) → IsErrOf result (LineFault.TooLong n) → (n ≡ number) × ((4096 < end) ⊎ (2 ^ 32 < taken.old + after)) }
+    ensures long { (n : ℕ) → IsErrOf result (LineFault.TooLong n) → (n ≡ number) × ((MAX_LINE < end) ⊎ (MAX_SCRIPT < taken.old + after)) }
     ensures read { result ≢ Err LineFault.ReadFault }
 {
     if end > MAX_LINE {
         return Err(LineFault::TooLong(number));
     }
-    if after as u64 > LIMIT - *taken {
+    if after as u64 > MAX_SCRIPT - *taken {
         return Err(LineFault::TooLong(number));
     }
     match Text::from_slice(alloc, &pending[..end]) {
@@ -147,17 +139,17 @@ fn next_line<S: Source>(
     source: &mut S,
 ) -> Result<Line, LineFault>
     requires open { IsFalse ended.old }
-    requires taken { taken.old ≤ 2 ^ 32 }
+    requires taken { taken.old ≤ MAX_SCRIPT }
     ensures took { IfOk result (λ line. Took (prepend_known pending.old.items (S.left source.old)) line (prepend_known pending.new.items (S.left source.new))
         ended.new taken.old taken.new) }
     ensures err { OnErr result (prepend_known pending.new.items (S.left source.new) ≡ prepend_known pending.old.items (S.left source.old)) }
     ensures uncounted { OnErr result (taken.new ≡ taken.old) }
-    ensures within { taken.new ≤ 2 ^ 32 }
+    ensures within { taken.new ≤ MAX_SCRIPT }
     ensures read { IsErrOf result LineFault.ReadFault → Rose (S.faults source.old) (S.faults source.new) × NoFeed pending.new.items }
     ensures long { (n : ℕ) → IsErrOf result (LineFault.TooLong n) → (n ≡ number) × IsTooLong taken.old (prepend_known pending.old.items (S.left source.old)) }
     ensures later { S.faults source.old ≤ S.faults source.new }
     ensures quiet { NoFeed pending.old.items ⊎ (source.new ≡ source.old) }
-    ensures ahead { length pending.new.items ≤ max (length pending.old.items) 8193 }
+    ensures ahead { length pending.new.items ≤ max (length pending.old.items) MAX_PENDING }
     ensures stands { OnOk result (S.faults source.new ≡ S.faults source.old) }
 {
     match fill(pending, *taken, source)? {
@@ -192,15 +184,15 @@ fn text_at(
     end: usize,
     after: usize,
 ) -> Result<Option<Text>, LineFault>
-    requires taken { taken ≤ 2 ^ 32 }
+    requires taken { taken ≤ MAX_SCRIPT }
     requires end { end ≤ length pending.now }
     ensures text { IfOk result (λ peeked. IfSome peeked (λ text. text ≡ take end pending.now)) }
-    ensures short { IfOk result (λ peeked. IfSome peeked (λ text. end ≤ 4096)) }
-    ensures within { IfOk result (λ peeked. IfSome peeked (λ text. taken + after ≤ 2 ^ 32)) }
-    ensures long { IfOk result (λ peeked. IfNone peeked ((4096 < end) ⊎ (2 ^ 32 < taken + after))) }
+    ensures short { IfOk result (λ peeked. IfSome peeked (λ text. end ≤ MAX_LINE)) }
+    ensures within { IfOk result (λ peeked. IfSome peeked (λ text. taken + after ≤ MAX_SCRIPT)) }
+    ensures long { IfOk result (λ peeked. IfNone peeked ((MAX_LINE < end) ⊎ (MAX_SCRIPT < taken + after))) }
     ensures err { IfErr result (λ fault. fault ≡ LineFault.Memory) }
 {
-    if end > MAX_LINE || after as u64 > LIMIT - taken {
+    if end > MAX_LINE || after as u64 > MAX_SCRIPT - taken {
         return Ok(None);
     }
     match Text::from_slice(alloc, &pending[..end]) {
@@ -216,7 +208,7 @@ fn peek_line<S: Source>(
     taken: u64,
     source: &mut S,
 ) -> Result<Option<Text>, LineFault>
-    requires taken { taken ≤ 2 ^ 32 }
+    requires taken { taken ≤ MAX_SCRIPT }
     ensures text { IfOk result (λ peeked. IfSome peeked (λ text. IsNext (prepend_known pending.new.items (S.left source.new)) taken text)) }
     ensures none { IfOk result (λ peeked. IfNone peeked (HasNoText taken (prepend_known pending.new.items (S.left source.new)))) }
     ensures rest { prepend_known pending.new.items (S.left source.new) ≡ prepend_known pending.old.items (S.left source.old) }
@@ -224,7 +216,7 @@ fn peek_line<S: Source>(
     ensures later { S.faults source.old ≤ S.faults source.new }
     ensures err { (n : ℕ) → result ≢ Err (LineFault.TooLong n) }
     ensures quiet { NoFeed pending.old.items ⊎ (source.new ≡ source.old) }
-    ensures ahead { length pending.new.items ≤ max (length pending.old.items) 8193 }
+    ensures ahead { length pending.new.items ≤ max (length pending.old.items) MAX_PENDING }
     ensures stands { OnOk result (S.faults source.new ≡ S.faults source.old) }
 {
     match fill(pending, taken, source)? {
@@ -288,13 +280,13 @@ impl LineReader {
         ensures long { (n : ℕ) → IsErrOf result (LineFault.TooLong n) → fault_of self.old ≡ None
             → (n ≡ lines_of self.old + 1) × IsFalse (ended_of self.old) × IsTooLong (taken_of self.old) (rest_of self.old (S.left source.old)) }
         ensures later { S.faults source.old ≤ S.faults source.new }
-        ensures within { taken_of self.new ≤ 2 ^ 32 }
+        ensures within { taken_of self.new ≤ MAX_SCRIPT }
         ensures ok { OnOk result (fault_of self.new ≡ None) }
         ensures kept { IfErr result (λ fault. fault_of self.new ≡ Some fault) }
         ensures again { IfSome (fault_of self.old) (λ fault. result ≡ Err fault) }
         ensures unread { IsSome (fault_of self.old) → source.new ≡ source.old }
         ensures quiet { NoFeed (pending_of self.old) ⊎ (source.new ≡ source.old) }
-        ensures ahead { length (pending_of self.new) ≤ max (length (pending_of self.old)) 8193 }
+        ensures ahead { length (pending_of self.new) ≤ max (length (pending_of self.old)) MAX_PENDING }
         ensures stands { OnOk result (S.faults source.new ≡ S.faults source.old) }
     {
         if let Some(fault) = self.fault {
@@ -329,7 +321,8 @@ impl LineReader {
     pub fn peek<S: Source>(&mut self, source: &mut S) -> Result<Option<Text>, LineFault>
         ensures text { IfOk result (λ peeked. IfSome peeked
             (λ text. (ended_of self.old ≡ false) × IsNext (rest_of self.new (S.left source.new)) (taken_of self.new) text)) }
-        ensures none { IfOk result (λ peeked. IfNone peeked ((ended_of self.old ≡ true) ⊎ HasNoText (taken_of self.new) (rest_of self.new (S.left source.new)))) }
+        ensures none { IfOk result (λ peeked. IfNone peeked ((ended_of self.old ≡ true)
+            ⊎ HasNoText (taken_of self.new) (rest_of self.new (S.left source.new)))) }
         ensures rest { rest_of self.new (S.left source.new) ≡ rest_of self.old (S.left source.old) }
         ensures lines { lines_of self.new ≡ lines_of self.old }
         ensures taken { taken_of self.new ≡ taken_of self.old }
@@ -343,7 +336,7 @@ impl LineReader {
         ensures again { IfSome (fault_of self.old) (λ fault. result ≡ Err fault) }
         ensures unread { IsSome (fault_of self.old) → source.new ≡ source.old }
         ensures quiet { NoFeed (pending_of self.old) ⊎ (source.new ≡ source.old) }
-        ensures ahead { length (pending_of self.new) ≤ max (length (pending_of self.old)) 8193 }
+        ensures ahead { length (pending_of self.new) ≤ max (length (pending_of self.old)) MAX_PENDING }
         ensures stands { OnOk result (S.faults source.new ≡ S.faults source.old) }
     {
         if let Some(fault) = self.fault {

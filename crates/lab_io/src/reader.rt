@@ -1,4 +1,5 @@
-ghost use Rattle.std.specs.Prelude.{◌≤◌, ◌^◌};
+ghost use Rattle.std.specs.Prelude.{◌≤◌};
+ghost use Rattle.lab_io.specs.declared.limits.TheConstants.{MAX_SCRIPT};
 
 use lab_base::Text;
 use std::alloc::Global;
@@ -35,5 +36,5 @@ pub struct LineReader {
     pub(crate) ended: bool,
     pub(crate) fault: Option<LineFault>,
     ghost counted: { lines ≤ taken },
-    ghost within: { taken ≤ 2 ^ 32 },
+    ghost within: { taken ≤ MAX_SCRIPT },
 }

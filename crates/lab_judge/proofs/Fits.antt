@@ -20,6 +20,7 @@ abbrev pub is_outer : Reply → Bool
 is_outer replies.Planned = true
 is_outer replies.NoDrill = true
 is_outer replies.Stopped = true
+is_outer (replies.Unread name) = true
 is_outer (replies.In exp) = true
 is_outer (replies.Out exp) = true
 is_outer (replies.Failed exp end what) = true

@@ -1,6 +1,7 @@
 -- Where things stand in the picture of a lab.
 use Rattle.std.specs.Prelude.{◌≡◌, ◌≤◌, ◌+◌, ◌⊎◌, ℕ, List, length, All, AllPairs, Option, Some, None, ⊤}
 use Rattle.lab_view.specs.declared.view.View.{View}
+use Rattle.lab_layout.specs.declared.limits.TheConstants.{LEAST_WIDE, LEAST_HIGH, MAX_CELLS}
 use Rattle.lab_picture.specs.declared.geometry.Geometry.{Geometry}
 use Rattle.lab_picture.specs.declared.geometry.Place.{Place}
 use Rattle.lab_picture.specs.declared.geometry.Point.{Point}
@@ -45,7 +46,7 @@ IsApart p q = (p.x + p.wide ≤ q.x) ⊎ ((q.x + q.wide ≤ p.x) ⊎ ((p.y + p.h
 
 -- a box has room for a machine's name
 abbrev pub HasRoom : Place → Type 0
-HasRoom p = (84 ≤ p.wide) × (44 ≤ p.high)
+HasRoom p = (LEAST_WIDE ≤ p.wide) × (LEAST_HIGH ≤ p.high)
 
 -- MACHINES DON'T OVERLAP, and each has its room
 pub record AreApart (cells : List Place) : Type 0 where
@@ -56,4 +57,4 @@ pub record AreApart (cells : List Place) : Type 0 where
 pub record IsLaid (v : View) (g : Geometry) : Type 0 where
   pub places : HasPlaces v g
   pub within : IsWithin g
-  pub apart : length v.machines ≤ 65536 → AreApart g.cells
+  pub apart : length v.machines ≤ MAX_CELLS → AreApart g.cells

@@ -2,6 +2,7 @@
 ghost use Rattle.std.specs.Prelude.{◌≡◌, ◌≤◌, ◌+◌, length, All, AllPairs, IsTrue, IfOk};
 ghost use Rattle.lab_layout.specs.Laid.{IsApart, HasRoom, AreApart};
 
+use crate::limits::{LEAST_HIGH, LEAST_WIDE, MAX_CELLS};
 use lab_base::{Items, Memory};
 use lab_picture::Place;
 use std::alloc::Global;
@@ -34,7 +35,7 @@ fn is_apart(one: Place, other: Place) -> bool
 fn has_room(place: Place) -> bool
     ensures { IsTrue result → HasRoom place }
 {
-    place.wide >= 84 && place.high >= 44
+    place.wide >= LEAST_WIDE && place.high >= LEAST_HIGH
 }
 
 fn is_apart_from(one: Place, others: &[Place]) -> bool
@@ -72,7 +73,7 @@ fn all_are_apart(places: &[Place]) -> bool
 
 /// Machines below one another.
 fn column(alloc: Global, count: usize) -> Result<Items<Place>, Memory>
-    requires { count ≤ 65536 }
+    requires { count ≤ MAX_CELLS }
     ensures len { IfOk result (λ cells. length cells ≡ count) }
     ensures apart { IfOk result AreApart }
 {
@@ -81,8 +82,8 @@ fn column(alloc: Global, count: usize) -> Result<Items<Place>, Memory>
         cells.push(Place {
             x: 40,
             y: 138 + 49 * number as u32,
-            wide: 84,
-            high: 44,
+            wide: LEAST_WIDE,
+            high: LEAST_HIGH,
         })?;
     }
     Ok(cells)
@@ -97,9 +98,9 @@ fn are_apart(places: &[Place]) -> bool
 /// These boxes, where no two overlap and each has room. No lab is known of which that isn't so; machines stand below one another then.
 pub(crate) fn set_apart(alloc: Global, cells: Items<Place>) -> Result<Items<Place>, Memory>
     ensures len { IfOk result (λ apart. length apart ≡ length cells) }
-    ensures apart { IfOk result (λ apart. length cells ≤ 65536 → AreApart apart) }
+    ensures apart { IfOk result (λ apart. length cells ≤ MAX_CELLS → AreApart apart) }
 {
-    if cells.len() > 65_536 || are_apart(cells.as_slice()) {
+    if cells.len() > MAX_CELLS || are_apart(cells.as_slice()) {
         return Ok(cells);
     }
     column(alloc, cells.len())

@@ -2,6 +2,7 @@
 ghost use Rattle.std.specs.Prelude.{◌≡◌, length, IfOk, OnOk, vec_len};
 
 use crate::columns::{BESIDE, Columns, MARGIN, PORT, columns_of_lab};
+use crate::limits::{LEAST_HIGH, LEAST_WIDE};
 use crate::px::{Place, Px, at, nowhere, width};
 use crate::rows::Rows;
 use crate::tree::Forest;
@@ -14,7 +15,7 @@ const HEAD: Px = Px(138);
 /// The width of a picture where they have that size.
 const LEAST: Px = Px(1_160);
 
-pub(crate) const CELL_HIGH: Px = Px(44);
+pub(crate) const CELL_HIGH: Px = Px(LEAST_HIGH as u64);
 
 pub(crate) const GAP: Px = Px(5);
 /// Between two switches.
@@ -77,7 +78,7 @@ pub(crate) struct Plan<'a> {
 
 /// The width of a machine: its name, at least 9 letters, and the names of experiments up to 12 letters.
 pub(crate) fn cell_width(view: &View) -> Px {
-    let mut most = Px(84);
+    let mut most = Px(u64::from(LEAST_WIDE));
     for machine in view.machines.as_slice().iter() {
         most = most.max(width(machine.name.bytes().len(), 105) + 22);
     }

@@ -6,6 +6,7 @@ mod apart;
 mod columns;
 mod drawn;
 mod layout;
+mod limits;
 mod lists;
 mod px;
 mod rows;
@@ -14,3 +15,4 @@ mod ways;
 mod within;
 
 pub use drawn::geometry_of;
+pub use limits::{LEAST_HIGH, LEAST_WIDE, MAX_CELLS};

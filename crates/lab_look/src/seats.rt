@@ -2,6 +2,7 @@
 ghost use Rattle.std.specs.Prelude.{◌≡◌, ◌≤◌, length, ◌<◌, IfOk, slice_get};
 ghost use Rattle.lab_look.specs.Seats.{holder, owner, seat_by, seat_at, seat_of};
 
+use claims::MAX_EXPERIMENTS;
 use lab_base::Memory;
 use lab_seen::{claims, guests, has_tag, how_held};
 use lab_state::LabState;
@@ -11,7 +12,7 @@ use std::alloc::Global;
 
 /// The number of the first experiment that claims the node of that name.
 fn holder_of(state: &LabState, lab: &Lab, name: &[u8]) -> Option<usize>
-    requires { length state.now.state.experiments ≤ 256 }
+    requires { length state.now.state.experiments ≤ MAX_EXPERIMENTS }
     ensures { result ≡ holder lab.now state.now.state.experiments name.now }
 {
     for number in 0..state.len() {
@@ -29,7 +30,7 @@ fn holder_of(state: &LabState, lab: &Lab, name: &[u8]) -> Option<usize>
 
 /// The number of the first experiment that claims the VLAN id.
 pub(crate) fn owner_of(state: &LabState, id: u16) -> Option<usize>
-    requires { length state.now.state.experiments ≤ 256 }
+    requires { length state.now.state.experiments ≤ MAX_EXPERIMENTS }
     ensures { result ≡ owner state.now.state.experiments id }
 {
     for number in 0..state.len() {
@@ -53,7 +54,7 @@ fn seat_by(
     name: &[u8],
     number: usize,
 ) -> Result<Option<Seat>, Memory>
-    requires { number < 65536 }
+    requires { number < 2 ^ 16 }
     ensures { IfOk result (λ seat. seat ≡ seat_by lab.now name.now number (slice_get state.now.state.experiments number)) }
 {
     match state.nth(number as u16) {
@@ -76,7 +77,7 @@ pub(crate) fn seat_of(
     lab: &Lab,
     name: &[u8],
 ) -> Result<Option<Seat>, Memory>
-    requires { length state.now.state.experiments ≤ 256 }
+    requires { length state.now.state.experiments ≤ MAX_EXPERIMENTS }
     ensures { IfOk result (λ seat. seat ≡ seat_of lab.now state.now.state.experiments name.now) }
 {
     match holder_of(state, lab, name) {

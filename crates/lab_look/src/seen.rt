@@ -9,17 +9,17 @@ ghost use Rattle.lab_look.specs.Seen.{machine_of, exp_of, owner_at, view_of};
 
 use crate::seats::{owner_of, seat_of};
 use crate::trunks::trunks_of;
-use claims::Claims;
+use claims::{Claims, MAX_EXPERIMENTS};
 use lab_base::{Items, Memory};
 use lab_seen::{ids_claimed, nodes_claimed, plugs_of, stand_of};
 use lab_state::LabState;
-use lab_view::{Exp, Machine, View};
+use lab_view::{Exp, MAX_IDS, Machine, View};
 use phys_lab::{Lab, Node};
 use std::alloc::Global;
 use virt_topo::Experiment;
 
 fn machine_of(alloc: Global, state: &LabState, lab: &Lab, node: &Node) -> Result<Machine, Memory>
-    requires { length state.now.state.experiments ≤ 256 }
+    requires { length state.now.state.experiments ≤ MAX_EXPERIMENTS }
     ensures { IfOk result (λ machine. machine ≡ machine_of lab.now state.now.state.experiments node.now) }
 {
     let name = node.name.bytes();
@@ -35,7 +35,7 @@ fn machine_of(alloc: Global, state: &LabState, lab: &Lab, node: &Node) -> Result
 }
 
 fn machines_of(alloc: Global, state: &LabState, lab: &Lab) -> Result<Items<Machine>, Memory>
-    requires { length state.now.state.experiments ≤ 256 }
+    requires { length state.now.state.experiments ≤ MAX_EXPERIMENTS }
     ensures { IfOk result (λ machines. machines ≡ map (machine_of lab.now state.now.state.experiments) lab.now.nodes) }
 {
     let mut machines = Items::new(alloc);
@@ -47,8 +47,8 @@ fn machines_of(alloc: Global, state: &LabState, lab: &Lab) -> Result<Items<Machi
 
 /// An experiment of a lab that records gave.
 fn exp_of(lab: &Lab, own: &Experiment) -> Exp
-    requires nodes { length lab.now.nodes ≤ 65535 }
-    requires ids { ids_claimed own.now ≤ 65535 }
+    requires nodes { length lab.now.nodes ≤ u16.MAX }
+    requires ids { ids_claimed own.now ≤ u16.MAX }
     ensures { result ≡ exp_of lab.now own.now }
 {
     Exp {
@@ -79,9 +79,9 @@ fn exps_of(alloc: Global, state: &LabState, lab: &Lab) -> Result<Items<Exp>, Mem
 
 /// By VLAN id of the range the experiment that claims it.
 fn owners_of(alloc: Global, state: &LabState, lab: &Lab) -> Result<Items<Option<usize>>, Memory>
-    requires { length state.now.state.experiments ≤ 256 }
+    requires { length state.now.state.experiments ≤ MAX_EXPERIMENTS }
     ensures owners { IfOk result (λ owners. owners ≡ map (owner_at lab.now state.now.state.experiments) (range_with_len 0 (ids_of lab.now))) }
-    ensures few { IfOk result (λ owners. length owners ≤ 65536) }
+    ensures few { IfOk result (λ owners. length owners ≤ MAX_IDS) }
 {
     let (low, high) = lab.range();
     let mut owners = Items::new(alloc);
@@ -97,7 +97,7 @@ pub fn view_of(alloc: Global, state: &LabState, lab: &Lab, claims: &Claims) -> R
     requires sane { Sane state.now.state }
     requires claims { ClaimsOf lab.now state.now.state.experiments claims.now }
     ensures view { IfOk result (λ view. view ≡ view_of lab.now state.now.state.experiments) }
-    ensures few { IfOk result (λ view. length view.owners ≤ 65536) }
+    ensures few { IfOk result (λ view. length view.owners ≤ MAX_IDS) }
 {
     let machines = machines_of(alloc, state, lab)?;
     let trunks = trunks_of(alloc, state, lab, claims)?;

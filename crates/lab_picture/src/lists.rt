@@ -11,7 +11,7 @@ use crate::shapes::{Area, area_of, push_filled, push_label, push_rect};
 use crate::tags::{Piece, tag};
 use lab_base::{Memory, Text};
 use lab_view::{
-    Exp, Flag, Held, Stand, View, begins_run, flag_of_exp, free_ids, owner_at, run_length,
+    Exp, Flag, Held, MAX_IDS, Stand, View, begins_run, flag_of_exp, free_ids, owner_at, run_length,
 };
 use std::alloc::Global;
 
@@ -93,7 +93,7 @@ fn push_run_of(
     place: usize,
     owner: Option<usize>,
 ) -> Result<(), Memory>
-    requires few { length view.now.owners ≤ 65536 }
+    requires few { length view.now.owners ≤ MAX_IDS }
     requires within { place < length view.now.owners }
     ensures { OnOk result (text.new ≡ text.old ++ run_of geometry.now view.now place owner) }
 {
@@ -112,7 +112,7 @@ fn push_run_at(
     view: &View,
     place: usize,
 ) -> Result<(), Memory>
-    requires few { length view.now.owners ≤ 65536 }
+    requires few { length view.now.owners ≤ MAX_IDS }
     requires within { place < length view.now.owners }
     ensures { OnOk result (text.new ≡ text.old ++ run_at geometry.now view.now place) }
 {
@@ -126,7 +126,7 @@ fn push_run_at(
 
 #[tactic(auto, using(crate::proofs::Steps::counted_more))]
 fn push_runs(text: &mut Text, geometry: &Geometry, view: &View) -> Result<(), Memory>
-    requires { length view.now.owners ≤ 65536 }
+    requires { length view.now.owners ≤ MAX_IDS }
     ensures { OnOk result (text.new ≡ text.old ++ flat_map (run_at geometry.now view.now) (range_with_len 0 (length view.now.owners))) }
 {
     for place in 0..view.owners.len() {
@@ -157,7 +157,7 @@ pub(crate) fn push_strip(
     geometry: &Geometry,
     view: &View,
 ) -> Result<(), Memory>
-    requires { length view.now.owners ≤ 65536 }
+    requires { length view.now.owners ≤ MAX_IDS }
     ensures { OnOk result (text.new ≡ text.old ++ strip_text geometry.now view.now) }
 {
     let x = u64::from(geometry.ids.x);

@@ -12,7 +12,7 @@ use crate::switches::push_switches;
 use crate::tags::{Piece, tag};
 use crate::trunks::{push_labels, push_trunks};
 use lab_base::{Memory, Text};
-use lab_view::{Stand, View, free_machines};
+use lab_view::{MAX_IDS, Stand, View, free_machines};
 use std::alloc::Global;
 
 fn is_in(stand: Stand) -> bool
@@ -232,7 +232,7 @@ fn draw_with(
     geometry: &Geometry,
     view: &View,
 ) -> Result<Text, Memory>
-    requires { length view.now.owners ≤ 65536 }
+    requires { length view.now.owners ≤ MAX_IDS }
     ensures { IfOk result (λ text. text ≡ picture style.now key.now geometry.now view.now) }
 {
     let mut text = Text::new(alloc);
@@ -247,7 +247,7 @@ fn draw_with(
 
 /// The picture of a lab, as an SVG text, with everything where the geometry says. A lab has at most 65,536 VLAN ids.
 pub fn draw(alloc: Global, geometry: &Geometry, view: &View) -> Result<Text, Memory>
-    requires { length view.now.owners ≤ 65536 }
+    requires { length view.now.owners ≤ MAX_IDS }
     ensures { IfOk result (λ text. text ≡ picture STYLE.now KEY.now geometry.now view.now) }
 {
     draw_with(alloc, STYLE, KEY, geometry, view)

@@ -5,6 +5,9 @@ ghost use Rattle.lab_picture.specs.Trunks.{tenth, tenths, speed, share, thousand
 use lab_base::{Memory, Text};
 use lab_view::Trunk;
 
+/// How full a full trunk is, in thousandths.
+pub(crate) const MAX_FULL: u64 = 1_000;
+
 fn push_tenth(text: &mut Text, number: u64) -> Result<(), Memory>
     ensures { OnOk result (text.new ≡ text.old ++ tenth number) }
 {
@@ -46,7 +49,7 @@ fn push_speed(text: &mut Text, kbps: u64) -> Result<(), Memory>
 fn share(used: u64, kbps: u64) -> u64
     requires { 1 ≤ kbps }
     ensures share { result ≡ share used kbps }
-    ensures most { result ≤ 1000 }
+    ensures most { result ≤ MAX_FULL }
 {
     let parts = used.saturating_mul(1_000) / kbps;
     parts.max(1).min(1_000)
@@ -56,7 +59,7 @@ fn share(used: u64, kbps: u64) -> u64
 #[tactic(auto, unfolding(crate::specs::Trunks::thousandths))]
 pub fn thousandths(trunk: &Trunk) -> u64
     ensures thousandths { result ≡ thousandths trunk.now }
-    ensures most { result ≤ 1000 }
+    ensures most { result ≤ MAX_FULL }
 {
     if trunk.used == 0 {
         0

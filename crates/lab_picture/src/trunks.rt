@@ -5,7 +5,7 @@ ghost use Rattle.lab_picture.specs.Trunks.{use_words, case_text, core_wide, core
 
 use crate::geometry::{Geometry, Line};
 use crate::shapes::{push_field, push_way};
-use crate::speeds::{heat, push_tenths, push_use, thousandths};
+use crate::speeds::{MAX_FULL, heat, push_tenths, push_use, thousandths};
 use crate::tags::{Piece, tag};
 use lab_base::{Memory, Text};
 use lab_view::{Trunk, View};
@@ -22,7 +22,7 @@ fn push_case(text: &mut Text, line: &Line) -> Result<(), Memory>
 
 #[tactic(auto, unfolding(crate::specs::Trunks::core_wide))]
 fn core_wide(wide: u32, full: u64) -> u64
-    requires { full ≤ 1000 }
+    requires { full ≤ MAX_FULL }
     ensures { result ≡ core_wide wide full }
 {
     (u64::from(wide) * full / 100).max(20)
@@ -30,7 +30,7 @@ fn core_wide(wide: u32, full: u64) -> u64
 
 #[tactic(auto, unfolding(crate::specs::Trunks::core_text))]
 fn push_core(text: &mut Text, line: &Line, full: u64) -> Result<(), Memory>
-    requires { full ≤ 1000 }
+    requires { full ≤ MAX_FULL }
     ensures { OnOk result (text.new ≡ text.old ++ core_text line.now full) }
 {
     text.push_bytes(tag(Piece::Core))?;
@@ -43,7 +43,7 @@ fn push_core(text: &mut Text, line: &Line, full: u64) -> Result<(), Memory>
 
 #[tactic(auto, unfolding(crate::specs::Trunks::core_of))]
 fn push_core_of(text: &mut Text, line: &Line, full: u64) -> Result<(), Memory>
-    requires { full ≤ 1000 }
+    requires { full ≤ MAX_FULL }
     ensures { OnOk result (text.new ≡ text.old ++ core_of line.now full) }
 {
     if full == 0 {

@@ -4,6 +4,7 @@ ghost use Rattle.journal_model.specs.Journals.{head};
 ghost use Rattle.journal_rec.specs.Payloads.{number};
 ghost use Rattle.lab_sides.specs.Heads.{seen, shut_head, is_cut, place_of, later};
 
+use journal_disk::HEADER;
 use plant::Side;
 
 /// The open gate. Every other byte is a closed one.
@@ -11,9 +12,6 @@ pub(crate) const OPEN: u8 = 0xa5;
 
 /// The eight bytes behind the header gate, by which a side is known as a journal.
 const MAGIC: [u8; 8] = *b"LABJRNL1";
-
-/// The length of a header, with the gate of the first record behind it.
-pub(crate) const HEADER: usize = 18;
 
 /// The head of a side.
 #[derive(Clone, Copy, PartialEq, Eq)]

@@ -10,4 +10,4 @@ mod walking;
 pub use closed::behind;
 pub use heads::{Head, Place, head_of, is_cut, place_of, shut_head};
 pub use read::{Read, bytes_of, read_sides};
-pub use walking::{Ended, FIRST, Walked, walk};
+pub use walking::{Ended, Walked, walk};

@@ -4,12 +4,10 @@ ghost use Rattle.lab_sides.specs.Walks.{IsWalk};
 
 use crate::body::record_in;
 use crate::heads::OPEN;
+use journal_disk::{FIRST, HEADER};
 use journal_rec::Found;
 use lab_base::{Items, Memory};
 use std::alloc::Global;
-
-/// The position of the first record's gate.
-pub const FIRST: usize = 17;
 
 /// Records one behind another, and the position of the gate behind them.
 #[derive(Drop)]
@@ -29,7 +27,7 @@ pub enum Ended {
 
 /// The records behind open gates.
 pub fn walk(alloc: Global, bytes: &[u8]) -> Result<Ended, Memory>
-    requires { 18 ≤ length bytes.now }
+    requires { HEADER ≤ length bytes.now }
     ensures { IfOk result (IsWalk bytes.now) }
 {
     let mut found = Items::new(alloc);

@@ -13,14 +13,14 @@ ghost use Rattle.lab_state.specs.Changes.{after, Begins, CanEnd, ending};
 
 use crate::claimed_lab::ClaimedLab;
 use crate::state::LabState;
-use claims::Claim;
+use claims::{Claim, MAX_EXPERIMENTS};
 use lab_base::Name;
 use virt_topo::Experiment;
 
 /// Sets the claim of an experiment, where there is a lab.
 fn note(place: &mut Option<ClaimedLab>, exp: Name, claim: Claim)
     requires may { IfSome place.old (λ p. MayAdd p.claims exp claim) }
-    requires few { IfSome place.old (λ p. length (others exp p.claims.entries) < 256) }
+    requires few { IfSome place.old (λ p. length (others exp p.claims.entries) < MAX_EXPERIMENTS) }
     ensures { place.new ≡ noted exp claim place.old }
 {
     if let Some(place) = place {

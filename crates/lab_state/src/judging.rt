@@ -13,17 +13,15 @@ use crate::ending::{is_in, is_out, may_end};
 use crate::prepared::Change;
 use crate::state::LabState;
 use crate::texts::{lab_of, mapping_of, wiring_in};
+use claims::MAX_EXPERIMENTS;
 use journal_rec::{Record, Way};
-use lab_base::{Name, Tags};
+use lab_base::{Name, TEXT_LIMIT, Tags};
 use virt_topo::{Experiment, Mapped, Phase};
-
-/// The most experiments of a lab.
-const MAX_EXPERIMENTS: usize = 256;
 
 impl LabState {
     /// Judges the record of a lab, which comes first, and once.
     fn judge_lab(&self, text: &[u8]) -> Result<Change, PrepareFault>
-        requires { length text.now < 4294967295 }
+        requires { length text.now < TEXT_LIMIT }
         ensures { IsJudged self.now.state (records.Lab text.now) result }
     {
         if self.place.is_some() {
@@ -37,7 +35,7 @@ impl LabState {
     /// Judges the record of a new experiment. It needs a lab, a new name, at most 255 experiments there, and the record's format has to be that of
     /// its wiring.
     fn judge_create(&self, exp: Name, text: &[u8], second: bool) -> Result<Change, PrepareFault>
-        requires { length text.now < 4294967295 }
+        requires { length text.now < TEXT_LIMIT }
         ensures { IsJudged self.now.state (create_in second exp text.now) result }
     {
         if self.place.is_none() {
@@ -75,7 +73,7 @@ impl LabState {
 
     /// Judges the begin of a swap-in: the experiment has to be out.
     fn judge_in(&self, exp: Name, map: &[u8], tags: &Tags) -> Result<Change, PrepareFault>
-        requires { length map.now < 4294967295 }
+        requires { length map.now < TEXT_LIMIT }
         ensures { IsJudged self.now.state (records.Begin exp (ways.In map.now tags.now)) result }
     {
         let Some(place) = &self.place else {
@@ -124,8 +122,8 @@ impl LabState {
         tags: &Tags,
         second: bool,
     ) -> Result<Change, PrepareFault>
-        requires top { length top.now < 4294967295 }
-        requires map { length map.now < 4294967295 }
+        requires top { length top.now < TEXT_LIMIT }
+        requires map { length map.now < TEXT_LIMIT }
         ensures { IsJudged self.now.state (records.Begin exp (change_in second top.now map.now tags.now)) result }
     {
         let Some(place) = &self.place else {

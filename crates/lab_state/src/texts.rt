@@ -10,6 +10,7 @@ ghost use Rattle.lab_state.specs.Answers.{OnBad};
 ghost use Rattle.lab_state.specs.Texts.{the_texts};
 
 use crate::PrepareFault;
+use lab_base::TEXT_LIMIT;
 use phys_lab::Lab;
 use ptop_text::{print_ptop, read_ptop};
 use solution_text::{print_solution, read_solution};
@@ -19,7 +20,7 @@ use virt_topo::{Mapping, Wiring, has_multiplexed};
 
 /// The lab whose canonical text this is.
 pub(crate) fn lab_of(alloc: Global, text: &[u8]) -> Result<Lab, PrepareFault>
-    requires { length text.now < 4294967295 }
+    requires { length text.now < TEXT_LIMIT }
     ensures ok { IfOk result (λ lab. IsLab lab × (text.now ≡ the_texts.ptop lab)) }
     ensures bad { OnBad result ((lab : AnyLab) → IsLab lab → text.now ≡ the_texts.ptop lab → ⊥) }
 {
@@ -43,7 +44,7 @@ pub(crate) fn lab_of(alloc: Global, text: &[u8]) -> Result<Lab, PrepareFault>
 
 /// The wiring whose canonical text this is.
 pub(crate) fn wiring_of(alloc: Global, text: &[u8]) -> Result<Wiring, PrepareFault>
-    requires { length text.now < 4294967295 }
+    requires { length text.now < TEXT_LIMIT }
     ensures ok { IfOk result (λ wiring. HasText the_texts wiring × (text.now ≡ the_texts.top wiring)) }
     ensures bad { OnBad result ((wiring : AnyWiring) → HasText the_texts wiring → text.now ≡ the_texts.top wiring → ⊥) }
 {
@@ -65,7 +66,7 @@ pub(crate) fn wiring_of(alloc: Global, text: &[u8]) -> Result<Wiring, PrepareFau
 
 /// The wiring whose canonical text this is, where a record of that format has such a wiring.
 pub(crate) fn wiring_in(alloc: Global, text: &[u8], second: bool) -> Result<Wiring, PrepareFault>
-    requires { length text.now < 4294967295 }
+    requires { length text.now < TEXT_LIMIT }
     ensures ok { IfOk result (λ wiring. SaysTop the_texts wiring text.now second) }
     ensures bad { OnBad result ((wiring : AnyWiring) → SaysTop the_texts wiring text.now second → ⊥) }
 {
@@ -85,7 +86,7 @@ pub(crate) fn mapping_of(
     wiring: &Wiring,
     text: &[u8],
 ) -> Result<Mapping, PrepareFault>
-    requires short { length text.now < 4294967295 }
+    requires short { length text.now < TEXT_LIMIT }
     requires wiring { HasText the_texts wiring.now }
     ensures ok { IfOk result (λ mapping. IsShaped lab.now wiring.now mapping × (text.now ≡ the_texts.solution lab.now wiring.now mapping)) }
     ensures bad { OnBad result ((mapping : AnyMapping) → IsShaped lab.now wiring.now mapping → text.now ≡ the_texts.solution lab.now wiring.now mapping → ⊥) }

@@ -1,5 +1,5 @@
 -- Audits in a run: the reports that they tell, and that they change nothing.
-use Rattle.std.proofs.Common.{◌≡◌, ◌⊎◌, ◌↔◌, inl, inr, ⊎_elim, ℕ, ◌^◌, Bool, true, false, List, [], ◌∷◌, ◌++◌, append_assoc, map, Option, Some, refl, sym, ◌∙◌, ap, subst, arith}
+use Rattle.std.proofs.Common.{◌≡◌, ◌⊎◌, inl, inr, ⊎_elim, ℕ, ◌^◌, Bool, true, false, List, [], ◌∷◌, ◌++◌, append_assoc, map, Option, Some, refl, sym, ◌∙◌, ap, subst, arith}
 use Rattle.std.proofs.lemmas.List.{append-nil}
 use Rattle.lab_base.specs.Counts.{Rose}
 use Rattle.plant.specs.Disks.{Disk, IsImage, ArePossible, disk}
@@ -30,6 +30,7 @@ use Rattle.lab_core.specs.Moments.{AllStandFor}
 use Rattle.lab_core.specs.Recovery.{BreaksOpening}
 use Rattle.lab_core.specs.Sessions.{OpenSwap, Session, Closed, Open, Setting, After, Terms}
 use Rattle.lab_core.specs.Tells.{opens_of}
+use Rattle.lab_core.proofs.Audited.{kept}
 use Rattle.lab_core.proofs.Said.{as_said}
 use Rattle.lab_words.specs.Words.{Choices}
 use Rattle.lab_top.specs.Reports.{ChangesNothing, IsReport, TellsDifference}
@@ -49,26 +50,8 @@ broke_so events o reply (stopped ends is) told_it = inl (let same : Some reply �
 broke_so events o reply (failed once missed is) told_it = inr (let same : Some reply ≡ Some replies.Down = sym told_it ∙ is in cc same)
 broke_so events o reply (unanswered is) told_it = absurd (cc (is, told_it))
 
--- and nothing was read
-broke_unread : (events own : List Event) (o : Option Reply) (reply : Reply) → Breaks events o → o ≡ Some reply → own ≡ [] → (name : List ℕ) → (own ≡ Unread name ∷ []) ↔ (reply ≡ replies.Unread name)
-broke_unread events own o reply breaks told_it none name =
-    (λ h. absurd (cc (h, none)), λ h. ⊎_elim (λ a. absurd (cc (a, h))) (λ a. absurd (cc (a, h))) (broke_so events o reply breaks told_it))
-
 -- ONE AUDIT
 module _ (w : World) (s : LabState) (opens : List OpenSwap) (own : List Event) (after : After) where
-  -- the lab stays as it was, and so do the open swaps while the controller stays open
-  pub lab_stays : Audits w s opens own after → after.lab ≡ s
-  lab_stays (no_lab none d) = ap (λ (a : After). a.lab) d.after_is
-  lab_stays (told report nothing switches exact after_is) = ap (λ (a : After). a.lab) after_is
-  lab_stays (unread name own_is after_is) = ap (λ (a : After). a.lab) after_is
-  lab_stays (no_memory wants) = ap (λ (a : After). a.lab) wants.after_is
-
-  pub swaps_stay : (to : List OpenSwap) → after.session ≡ Open to → Audits w s opens own after → to ≡ opens
-  swaps_stay to is (no_lab none d) = let both : Open to ≡ Open opens = sym is ∙ ap (λ (a : After). a.session) d.after_is in cc both
-  swaps_stay to is (told report nothing switches exact after_is) = let both : Open to ≡ Open opens = sym is ∙ ap (λ (a : After). a.session) after_is in cc both
-  swaps_stay to is (unread name own_is after_is) = let both : Open to ≡ Open opens = sym is ∙ ap (λ (a : After). a.session) after_is in cc both
-  swaps_stay to is (no_memory wants) = absurd (cc (is, ap (λ (a : After). a.session) wants.after_is))
-
   -- the report that it told
   tells : (lines : List AuditLine) → after.reply ≡ Some (replies.Audit lines) → Audits w s opens own after → (report : List Line) × IsReport w s report × (lines ≡ map line_of report) × (own ≡ [])
   tells lines is (no_lab none d) = absurd (cc (is, ap (λ (a : After). a.reply) d.after_is))
@@ -77,18 +60,6 @@ module _ (w : World) (s : LabState) (opens : List OpenSwap) (own : List Event) (
       (report, record { switches = switches; exact = exact }, (let same : lines ≡ map line_of report = cc both in same), nothing)
   tells lines is (unread name own_is after_is) = absurd (cc (is, ap (λ (a : After). a.reply) after_is))
   tells lines is (no_memory wants) = absurd (cc (is, ap (λ (a : After). a.reply) wants.after_is))
-
-  -- the device that did not tell what it holds
-  unread_so : (reply : Reply) → after.reply ≡ Some reply → Audits w s opens own after → (name : List ℕ) → (own ≡ Unread name ∷ []) ↔ (reply ≡ replies.Unread name)
-  unread_so reply is (no_lab none d) name = (λ h. absurd (cc (h, d.nothing)), λ h. absurd (cc (h, is, ap (λ (a : After). a.reply) d.after_is)))
-  unread_so reply is (told report nothing switches exact after_is) name = (λ h. absurd (cc (h, nothing)), λ h. absurd (cc (h, is, ap (λ (a : After). a.reply) after_is)))
-  unread_so reply is (unread other own_is after_is) name =
-      let both : Some reply ≡ Some (replies.Unread other) = sym is ∙ ap (λ (a : After). a.reply) after_is in
-      let reply_is : reply ≡ replies.Unread other = cc both in (
-        λ h. let same : Unread other ∷ [] ≡ Unread name ∷ [] = sym own_is ∙ h in let one : other ≡ name = cc same in reply_is ∙ ap (λ n. replies.Unread n) one,
-        λ h. let same : replies.Unread other ≡ replies.Unread name = sym reply_is ∙ h in let one : other ≡ name = cc same in own_is ∙ ap (λ n. Unread n ∷ []) one,
-      )
-  unread_so reply is (no_memory wants) name = absurd (cc (is, ap (λ (a : After). a.reply) wants.after_is))
 
   -- it has no step but of such a reading
   quiet : Audits w s opens own after → (own ≡ []) ⊎ ((name : List ℕ) × (own ≡ Unread name ∷ []))
@@ -125,12 +96,6 @@ module _ (terms : Terms) (trace : List Event) (piece : Piece) (s last : LabState
   went : BreaksOpening s piece.opening all ends ⊎ ((mid : LabState) × Audits (world_of (trace ++ piece.opening)) mid (opens_of piece.from) all ends)
   went = went_by terms trace set s piece.opening all ends piece.from (subst (λ (c : Command). LabStep terms trace set s piece.from c piece.opening all ends) asks steps.step)
 
-  unread_by : (name : List ℕ) → (piece.own ≡ Unread name ∷ []) ↔ (reply ≡ replies.Unread name)
-  unread_by name =
-      let by = ⊎_elim (λ broke. broke_unread piece.opening all steps.told reply broke.breaks told_so.0 broke.nothing name)
-      (λ x. unread_so (world_of (trace ++ piece.opening)) x.0 (opens_of piece.from) all ends reply told_so.0 x.1 name) went in
-      (λ h. by.0 (all_own ∙ h), λ h. sym all_own ∙ by.1 h)
-
   quiet_by : (piece.own ≡ []) ⊎ ((name : List ℕ) × (piece.own ≡ Unread name ∷ []))
   quiet_by = ⊎_elim (λ broke. inl (sym all_own ∙ broke.nothing))
       (λ x. ⊎_elim (λ none. inl (sym all_own ∙ none)) (λ one. inr (one.0, sym all_own ∙ one.1)) (quiet (world_of (trace ++ piece.opening)) x.0 (opens_of piece.from) all ends x.1)) went
@@ -144,7 +109,7 @@ module _ (terms : Terms) (trace : List Event) (piece : Piece) (s last : LabState
       let none : piece.own ≡ [] = sym all_own ∙ t.3 in
       let steps_are : trace ++ piece.opening ≡ trace ++ steps_of piece = ap (λ l. trace ++ l) (sym (ap (λ l. piece.opening ++ l) none ∙ append-nil piece.opening)) in (
         t.0,
-        subst (λ l. IsReport (world_of l) last t.0) steps_are (subst (λ (u : LabState). IsReport w u t.0) (sym (lab_stays w x.0 (opens_of piece.from) all ends x.1)) t.1),
+        subst (λ l. IsReport (world_of l) last t.0) steps_are (subst (λ (u : LabState). IsReport w u t.0) (sym (kept w x.0 (opens_of piece.from) all ends x.1)) t.1),
         t.2,
         none,
       ))
@@ -178,10 +143,6 @@ module _ (terms : Terms) (choices : Option Choices) (old new : Outside) (status 
   module _ (reply : Reply) (replied : b.piece.reply ≡ Some reply) where
     was : Was terms trace b.piece one_piece (ap drill_of asks) reply replied
     was = was_of terms choices old new status before after b t r is_told reply replied (ap drill_of asks)
-
-    pub audit_unread : (name : List ℕ) → (b.piece.own ≡ Unread name ∷ []) ↔ (reply ≡ replies.Unread name)
-    audit_unread name = ⊎_elim (λ broke. broke_unread b.piece.opening b.piece.own (Some reply) reply broke.0 refl broke.1 name)
-        (λ x. unread_by terms trace b.piece x.0 x.1 x.2 asks reply replied name) was
 
     pub audit_still : ChangesNothing trace b.piece
     audit_still = changes_nothing trace b.piece (⊎_elim (λ broke. inl broke.1) (λ x. quiet_by terms trace b.piece x.0 x.1 x.2 asks reply replied) was)

@@ -14,7 +14,7 @@ use Rattle.records_model.proofs.Starts.{restarted}
 use Rattle.journal_disk.specs.Before.{is_sync_of, are_synced}
 use Rattle.journal_disk.specs.declared.fault.OpenFault.{OpenFault}
 use Rattle.journal_disk.specs.declared.fault.OpenFault.TheVariants as openings
-use Rattle.journal_runs.specs.Pieces.{is_command, is_miss, is_restart, has_command, has_miss, has_restart}
+use Rattle.journal_runs.specs.Pieces.{is_command, is_miss, is_outer, has_command, has_miss, has_outer, has_restart}
 use Rattle.journal_runs.proofs.Blank.{restarted_stand}
 use Rattle.journal_runs.proofs.Quiet.{shows}
 use Rattle.journal_runs.proofs.Stood.{sound_stands, stood_alike, stood_before, stood_once, stood_settled}
@@ -31,6 +31,7 @@ use Rattle.lab_core.specs.LabSteps.{not_opened}
 use Rattle.lab_core.specs.Moments.{StandForLab, IsLabAt, IsLabOfImage, IsLengthAt}
 use Rattle.lab_core.specs.Opening.{HasRead, IsJournal, OpenEnds, OpenSteps, ReadSteps, SettlesInPart, ShiftsInPart, has_change, is_change}
 use Rattle.lab_core.proofs.Openings.{blank_journal}
+use Rattle.lab_core.proofs.OuterSteps.{no_start}
 use Rattle.lab_state.proofs.Canonical.{texts_once}
 use Rattle.lab_core.specs.Recovery.{OpensInPart, SettlesSome, Shifts, reading as in_reading, settling as in_settling, shifting as in_shifting, some as settled_some, within}
 use Rattle.lab_core.specs.Sessions.{Closed, Terms}
@@ -50,7 +51,7 @@ breaks_as is x stops downs none opening reply (stopped ends told) = ap is told �
 breaks_as is x stops downs none opening reply (failed once missed told) = ap is told ∙ downs
 breaks_as is x stops downs none opening reply (unanswered told) = ap is told ∙ none
 
-again_breaks : (steps : List Event) (a b : List ℕ) → has_restart steps ≡ false → Breaks (steps ++ Restarted a b ∷ []) (Some replies.Stopped)
+again_breaks : (steps : List Event) (a b : List ℕ) → has_outer steps ≡ false → Breaks (steps ++ Restarted a b ∷ []) (Some replies.Stopped)
 again_breaks steps a b none = stopped (record { front = steps; a = a; b = b; is = refl; once = none }) refl
 
 or_true : (x : Bool) → x || true ≡ true
@@ -107,7 +108,7 @@ module _ (terms : Terms) (trace : List Event) (command : Command) (mark : Faults
         (λ a b there. let x = each a b there in (x.0, x.1, x.2, x.3, broken_steps opening reply x.0 x.1 (lab_length (trace ++ opening) last at) x.4 breaks)))
 
   -- a stopped plant is started again with an image
-  again_done : (steps : List Event) (a b : List ℕ) → has_restart steps ≡ false → ArePossible (trace ++ steps) a b → IsSound the_texts (trace ++ steps) → (first last : LabState)
+  again_done : (steps : List Event) (a b : List ℕ) → has_outer steps ≡ false → ArePossible (trace ++ steps) a b → IsSound the_texts (trace ++ steps) → (first last : LabState)
       → FirstLab (is_early (of (steps ++ Restarted a b ∷ []) (Some replies.Stopped))) trace first → StandForLab a b last → OpensInPart first (steps ++ Restarted a b ∷ []) last → IsDone terms trace (of (steps ++ Restarted a b ∷ []) (Some replies.Stopped))
   again_done steps a b none there sound first last from stand part =
       let opening = steps ++ Restarted a b ∷ [] in
@@ -143,7 +144,7 @@ module _ (terms : Terms) (trace : List Event) (command : Command) (mark : Faults
     read_cut : (reply : Option Reply) → leaves_one Closed reply ≡ false → Breaks steps reply → IsPiece terms trace (of steps reply)
     read_cut reply other breaks = broken_piece steps reply readable breaks read_quiet (λ s at. record { after = s; part = in_reading o.no_command refl; writes = o.changes }) (λ sound.
         let now = sound_stands the_texts trace _ _ readable sound in
-        closed_done steps reply breaks now.0 now.0 (subst (λ b. FirstLab b trace now.0) (sym (not_early Closed steps o.no_restart)) now.1) ((stood_alike the_texts _ _ _ _ now.0 o.alike).1 now.1) (in_reading o.no_command refl) (o.sound sound) other
+        closed_done steps reply breaks now.0 now.0 (subst (λ b. FirstLab b trace now.0) (sym (not_early Closed steps (no_start steps o.no_outer))) now.1) ((stood_alike the_texts _ _ _ _ now.0 o.alike).1 now.1) (in_reading o.no_command refl) (o.sound sound) other
         (λ a b at. let x = stood_before the_texts trace steps a b o.before at sound in (x.2, x.2, record { a = x.0; b = x.1; possible = x.3; stand = x.4 }, x.5, in_reading o.no_command refl)))
 
     -- the plant stopped, and is started again
@@ -152,7 +153,7 @@ module _ (terms : Terms) (trace : List Event) (command : Command) (mark : Faults
       again_quiet = shows is_command (steps ++ Restarted a b ∷ []) steps (Restarted a b ∷ []) false false refl o.no_command refl
 
       early : (true && (has_restart (steps ++ Restarted a b ∷ []) && not (are_synced (steps ++ Restarted a b ∷ [])))) ≡ not (are_synced steps)
-      early i = has_started (steps ++ Restarted a b ∷ []) (record { front = steps; a = a; b = b; is = refl; once = o.no_restart }) i && not (synced_with steps a b i)
+      early i = has_started (steps ++ Restarted a b ∷ []) (record { front = steps; a = a; b = b; is = refl; once = o.no_outer }) i && not (synced_with steps a b i)
 
       -- the first lab, and that it is the last one
       which_first : IsSound the_texts trace → (synced : Bool) → are_synced steps ≡ synced → (s : LabState) × FirstLab (not synced) trace s × StandForLab a b s
@@ -160,12 +161,12 @@ module _ (terms : Terms) (trace : List Event) (command : Command) (mark : Faults
       which_first sound false both = let x = stood_before the_texts trace steps a b o.before there sound in (x.2, record { a = x.0; b = x.1; possible = x.3; stand = x.4 }, x.5)
 
       read_again : IsPiece terms trace (of (steps ++ Restarted a b ∷ []) (Some replies.Stopped))
-      read_again = broken_piece (steps ++ Restarted a b ∷ []) (Some replies.Stopped) readable (again_breaks steps a b o.no_restart) (λ changed. read_quiet (sym (again_changes steps a b) ∙ changed)) (λ s at. record { after = s; part = in_reading again_quiet refl; writes = λ changed. o.changes (sym (again_changes steps a b) ∙ changed) }) (λ sound.
+      read_again = broken_piece (steps ++ Restarted a b ∷ []) (Some replies.Stopped) readable (again_breaks steps a b o.no_outer) (λ changed. read_quiet (sym (again_changes steps a b) ∙ changed)) (λ s at. record { after = s; part = in_reading again_quiet refl; writes = λ changed. o.changes (sym (again_changes steps a b) ∙ changed) }) (λ sound.
           let s = which_first sound (are_synced steps) refl in
-          again_done steps a b o.no_restart there (o.sound sound) s.0 s.0 (subst (λ e. FirstLab e trace s.0) (sym early) s.1) s.2 (in_reading again_quiet refl))
+          again_done steps a b o.no_outer there (o.sound sound) s.0 s.0 (subst (λ e. FirstLab e trace s.0) (sym early) s.1) s.2 (in_reading again_quiet refl))
 
   -- IT BROKE OFF BEHIND READING, in a part that led to a lab
-  module _ (readable : AsRead trace) (reading behind : List Event) (o : ReadSteps trace reading) (no_restart : has_restart behind ≡ false) (sound : IsSound the_texts trace → IsSound the_texts (trace ++ (reading ++ behind)))
+  module _ (readable : AsRead trace) (reading behind : List Event) (o : ReadSteps trace reading) (no_outer : has_outer behind ≡ false) (sound : IsSound the_texts trace → IsSound the_texts (trace ++ (reading ++ behind)))
       (start : LabState) (read : HasRead trace reading (2 ^ 32) start) (Part : List Event → LabState → Type 0) (part_of : (opening more : List Event) (after : LabState) → opening ≡ reading ++ more → Part more after → OpensInPart start opening after)
       (writes_of : (opening more : List Event) (after : LabState) (is : opening ≡ reading ++ more) (part : Part more after) → WritesInPart trace start opening after (part_of opening more after is part)) where
     abbrev steps : List Event
@@ -190,22 +191,22 @@ module _ (terms : Terms) (trace : List Event) (command : Command) (mark : Faults
         closed_done steps reply breaks start x.0 (from_first steps behind reply refl) x.1 (part_of steps behind x.0 refl x.2) (sound first) other
         (λ a b at. let y = each first a b at in (start, y.0, record { a = (disk A trace).reads; b = (disk B trace).reads; possible = readable; stand = first_at }, y.1, part_of steps behind y.0 refl y.2)))
 
-    no_start : has_restart steps ≡ false
-    no_start = shows is_restart steps reading behind false false refl o.no_restart no_restart
+    none_outer : has_outer steps ≡ false
+    none_outer = shows is_outer steps reading behind false false refl o.no_outer no_outer
 
     part_again : (a b : List ℕ) → ArePossible (trace ++ steps) a b → (lab : LabState) → Part (behind ++ Restarted a b ∷ []) lab → (IsSound the_texts trace → (lab : LabState) × StandForLab a b lab × Part (behind ++ Restarted a b ∷ []) lab) → IsPiece terms trace (of (steps ++ Restarted a b ∷ []) (Some replies.Stopped))
-    part_again a b there lab part image = broken_piece (steps ++ Restarted a b ∷ []) (Some replies.Stopped) readable (again_breaks steps a b no_start) (λ sent. read.journal) (comes_so (steps ++ Restarted a b ∷ []) (behind ++ Restarted a b ∷ []) lab (append_assoc reading behind (Restarted a b ∷ [])) part) (λ first.
+    part_again a b there lab part image = broken_piece (steps ++ Restarted a b ∷ []) (Some replies.Stopped) readable (again_breaks steps a b none_outer) (λ sent. read.journal) (comes_so (steps ++ Restarted a b ∷ []) (behind ++ Restarted a b ∷ []) lab (append_assoc reading behind (Restarted a b ∷ [])) part) (λ first.
         let more = behind ++ Restarted a b ∷ [] in
         let join : steps ++ Restarted a b ∷ [] ≡ reading ++ more = append_assoc reading behind (Restarted a b ∷ []) in
         let x = image first in
-        again_done steps a b no_start there (sound first) start x.0 (from_first (steps ++ Restarted a b ∷ []) more (Some replies.Stopped) join) x.1 (part_of (steps ++ Restarted a b ∷ []) more x.0 join x.2))
+        again_done steps a b none_outer there (sound first) start x.0 (from_first (steps ++ Restarted a b ∷ []) more (Some replies.Stopped) join) x.1 (part_of (steps ++ Restarted a b ∷ []) more x.0 join x.2))
 
   -- IT BROKE OFF IN SETTLING
   abbrev Settling : LabState → List Event → LabState → Type 0
   Settling start more lab = SettlesSome start [] more lab
 
   abbrev settling_part : (reading : List Event) (limit : ℕ) (start : LabState) → ReadSteps trace reading → HasRead trace reading limit start → (opening more : List Event) (after : LabState) → opening ≡ reading ++ more → Settling start more after → OpensInPart start opening after
-  settling_part reading limit start o read opening more after is settled = in_settling reading more is o.no_command read.no_miss o.no_restart settled
+  settling_part reading limit start o read opening more after is settled = in_settling reading more is o.no_command read.no_miss o.no_outer settled
 
   settling_writes : (reading : List Event) (limit : ℕ) (start : LabState) (o : ReadSteps trace reading) (read : HasRead trace reading limit start) (opening more : List Event) (after : LabState) (is : opening ≡ reading ++ more) (settled : Settling start more after)
       → WritesInPart trace start opening after (settling_part reading limit start o read opening more after is settled)
@@ -222,7 +223,7 @@ module _ (terms : Terms) (trace : List Event) (command : Command) (mark : Faults
     due : MovesDue trace (reading ++ moving) shifting lab
 
   abbrev shifting_part : (reading : List Event) (limit : ℕ) (start : LabState) → ReadSteps trace reading → HasRead trace reading limit start → (opening more : List Event) (after : LabState) → opening ≡ reading ++ more → Shifting reading start more after → OpensInPart start opening after
-  shifting_part reading limit start o read opening more after is x = in_shifting reading x.moving x.shifting (is ∙ ap (λ l. reading ++ l) x.parts) o.no_command read.no_miss o.no_restart x.outcomes x.settles x.shifts
+  shifting_part reading limit start o read opening more after is x = in_shifting reading x.moving x.shifting (is ∙ ap (λ l. reading ++ l) x.parts) o.no_command read.no_miss o.no_outer x.outcomes x.settles x.shifts
 
   shifting_writes : (reading : List Event) (limit : ℕ) (start : LabState) (o : ReadSteps trace reading) (read : HasRead trace reading limit start) (opening more : List Event) (after : LabState) (is : opening ≡ reading ++ more) (x : Shifting reading start more after)
       → WritesInPart trace start opening after (shifting_part reading limit start o read opening more after is x)
@@ -236,8 +237,8 @@ module _ (terms : Terms) (trace : List Event) (command : Command) (mark : Faults
     nothing_behind : behind ≡ [] → reading ≡ all
     nothing_behind none = sym (append-nil reading) ∙ ap (λ l. reading ++ l) (sym none)
 
-    pub started_nowhere : has_restart all ≡ false
-    started_nowhere = shows is_restart all reading behind false false refl o.reads.no_restart o.no_restart
+    pub nothing_outer : has_outer all ≡ false
+    nothing_outer = shows is_outer all reading behind false false refl o.reads.no_outer o.no_outer
 
     missed_behind : has_miss behind ≡ true → has_miss all ≡ true
     missed_behind missed = shows is_miss all reading behind (has_miss reading) true refl refl missed ∙ or_true (has_miss reading)
@@ -261,7 +262,7 @@ module _ (terms : Terms) (trace : List Event) (command : Command) (mark : Faults
       shifting_cut : (reply : Option Reply) → leaves_one Closed reply ≡ false → Breaks all reply → AsRead (trace ++ all) → IsPiece terms trace (of all reply)
       shifting_cut reply other breaks then =
           let s = p.settled in
-          part_cut readable reading behind o.reads o.no_restart o.sound s.start s.read (Shifting reading s.start) (shifting_part reading (2 ^ 32) s.start o.reads s.read) (shifting_writes reading (2 ^ 32) s.start o.reads s.read) reply other breaks p.lab shifting_so
+          part_cut readable reading behind o.reads o.no_outer o.sound s.start s.read (Shifting reading s.start) (shifting_part reading (2 ^ 32) s.start o.reads s.read) (shifting_writes reading (2 ^ 32) s.start o.reads s.read) reply other breaks p.lab shifting_so
           (λ first. (p.lab, p.images first _ _ then, shifting_so)) (λ first a b at. (p.lab, p.images first a b at, shifting_so))
 
       shifting_again : (a b : List ℕ) → ArePossible (trace ++ all) a b → IsPiece terms trace (of (all ++ Restarted a b ∷ []) (Some replies.Stopped))
@@ -276,13 +277,13 @@ module _ (terms : Terms) (trace : List Event) (command : Command) (mark : Faults
             shifts = shows is_command (p.shifting ++ Restarted a b ∷ []) p.shifting (Restarted a b ∷ []) false false refl p.shifts refl;
             due = λ changed. shifting_due (Restarted a b ∷ []) refl;
           } in
-          part_again readable reading behind o.reads o.no_restart o.sound s.start s.read (Shifting reading s.start) (shifting_part reading (2 ^ 32) s.start o.reads s.read) (shifting_writes reading (2 ^ 32) s.start o.reads s.read) a b there p.lab again (λ first. (p.lab, p.images first a b there, again))
+          part_again readable reading behind o.reads o.no_outer o.sound s.start s.read (Shifting reading s.start) (shifting_part reading (2 ^ 32) s.start o.reads s.read) (shifting_writes reading (2 ^ 32) s.start o.reads s.read) a b there p.lab again (λ first. (p.lab, p.images first a b there, again))
 
     -- the settling, by what is left where a call of the journal failed, or the plant stopped
     module _ (outcome : Outcome) (p : SettlesInPart trace reading behind (2 ^ 32) outcome) where
       settling_cut : (reply : Option Reply) → leaves_one Closed reply ≡ false → Breaks all reply → AsRead (trace ++ all) → IsPiece terms trace (of all reply)
       settling_cut reply other breaks then =
-          part_cut readable reading behind o.reads o.no_restart o.sound p.start p.read (Settling p.start) (settling_part reading (2 ^ 32) p.start o.reads p.read) (settling_writes reading (2 ^ 32) p.start o.reads p.read) reply other breaks p.lab (within outcome behind [] (sym (append-nil behind)) p.breaks (inl refl))
+          part_cut readable reading behind o.reads o.no_outer o.sound p.start p.read (Settling p.start) (settling_part reading (2 ^ 32) p.start o.reads p.read) (settling_writes reading (2 ^ 32) p.start o.reads p.read) reply other breaks p.lab (within outcome behind [] (sym (append-nil behind)) p.breaks (inl refl))
           (λ first. each_some first _ _ then) each_some
         where
           each_some : IsSound the_texts trace → (a b : List ℕ) → ArePossible (trace ++ all) a b → (lab : LabState) × StandForLab a b lab × Settling p.start behind lab
@@ -290,7 +291,7 @@ module _ (terms : Terms) (trace : List Event) (command : Command) (mark : Faults
 
     settling_again : SettlesInPart trace reading behind (2 ^ 32) Halted → (a b : List ℕ) → ArePossible (trace ++ all) a b → IsPiece terms trace (of (all ++ Restarted a b ∷ []) (Some replies.Stopped))
     settling_again p a b there =
-        part_again readable reading behind o.reads o.no_restart o.sound p.start p.read (Settling p.start) (settling_part reading (2 ^ 32) p.start o.reads p.read) (settling_writes reading (2 ^ 32) p.start o.reads p.read) a b there p.lab (within Halted behind (Restarted a b ∷ []) refl p.breaks (inr (a, b, refl)))
+        part_again readable reading behind o.reads o.no_outer o.sound p.start p.read (Settling p.start) (settling_part reading (2 ^ 32) p.start o.reads p.read) (settling_writes reading (2 ^ 32) p.start o.reads p.read) a b there p.lab (within Halted behind (Restarted a b ∷ []) refl p.breaks (inr (a, b, refl)))
         (λ first. let x = p.images first a b there in (x.0, x.1, within Halted behind (Restarted a b ∷ []) refl x.2 (inr (a, b, refl))))
 
     pub cut_piece : (reply : Option Reply) → leaves_one Closed reply ≡ false → Breaks all reply → (is_some reply ≡ true → fault ≡ openings.Plant) → AsRead (trace ++ all) → IsPiece terms trace (of all reply)
@@ -306,7 +307,7 @@ module _ (terms : Terms) (trace : List Event) (command : Command) (mark : Faults
         by openings.Stopped (inr (inl p)) only = settling_cut Halted p reply other breaks then
         by openings.Stopped (inr (inr p)) only = shifting_cut p reply other breaks then
         by openings.Memory (inr (inl m)) only =
-            part_cut readable reading behind o.reads o.no_restart o.sound m.start m.read (Settling m.start) (settling_part reading (2 ^ 32) m.start o.reads m.read) (settling_writes reading (2 ^ 32) m.start o.reads m.read) reply other breaks m.lab (settled_some m.some) (λ first. (m.lab, m.at, settled_some m.some))
+            part_cut readable reading behind o.reads o.no_outer o.sound m.start m.read (Settling m.start) (settling_part reading (2 ^ 32) m.start o.reads m.read) (settling_writes reading (2 ^ 32) m.start o.reads m.read) reply other breaks m.lab (settled_some m.some) (λ first. (m.lab, m.at, settled_some m.some))
             (λ first a b at. (m.lab, m.images a b at, settled_some m.some))
         by openings.Memory (inr (inr never)) only = absurd never
         by (openings.Bad side at) (inr (inl never)) only = absurd never

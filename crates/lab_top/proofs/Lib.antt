@@ -1,6 +1,6 @@
 mod Answering
 mod Answers
-pub mod AuditLaws
+mod AuditLaws
 mod BrokenOpenings
 mod Commanding
 mod Compact

@@ -39,12 +39,13 @@ use Rattle.lab_top.specs.declared.command.CommandFault.{CommandFault}
 use Rattle.lab_top.specs.declared.command.CommandFault.TheVariants as command_faults
 use Rattle.lab_judge.proofs.Fits.{fits}
 use Rattle.lab_core.proofs.Obey.{now_blames}
+use Rattle.lab_core.proofs.OuterSteps.{no_start}
 use Rattle.lab_core.proofs.Wanting.{command_wants, plain_wants}
 use Rattle.journal_runs.specs.Pieces.{has_command}
 use Rattle.journal_runs.proofs.Stood.{stood_alike}
 use Rattle.lab_top.specs.Pieces.{Finds, FindsNone, IsPiece, IsPlannedBy, Later, WantsBehind, WantsOnly, behind as goes_behind, reading as in_reading, settling as in_settling, blames_if, blames_now_if, closes_if, is_closed, leaves_one, may_shut, opened, stays_open}
 use Rattle.lab_top.specs.Answering.{Does, DoesOwn, FoundNone, HasSession, IsMarkAt, IsOpen, Makes, MayGoOn, MayOpen, OwnTold, StandsAt, Starts, Unopened, Begins, Made, Ends, Moment, WasOpened, piece_of, reply_if}
-use Rattle.lab_top.proofs.BrokenOpenings.{again_piece, cut_piece, missed_in, started_nowhere}
+use Rattle.lab_top.proofs.BrokenOpenings.{again_piece, cut_piece, missed_in, nothing_outer}
 use Rattle.lab_top.proofs.Stepping.{AsRead, map_some, own_answered, own_closed, own_stopped, own_stays, own_unmade, standing_lab, was_open, is_opened, has_led}
 
 -- WHAT A PLANT TELLS after more steps
@@ -269,7 +270,7 @@ module _ (terms : Terms) (command : Command) (mark : Faults) (no_drill : drill_o
       (map_three old (λ t o readable both.
       let w = is_opened t.trace reading moving c o both.0 limit readable in
       let it = w.opens refl in
-      open_piece t.trace Closed m.to steps m.own.0 reply (m.closed, m.shut) readable ((λ sent. o.ends.settled.read.journal), opened it.no_miss it.no_restart o.ends.settled.read.journal (has_led t.trace reading moving c o both.0)) (both.1 t.trace Closed steps refl w)) opens there
+      open_piece t.trace Closed m.to steps m.own.0 reply (m.closed, m.shut) readable ((λ sent. o.ends.settled.read.journal), opened it.no_miss (no_start steps it.no_outer) o.ends.settled.read.journal (has_led t.trace reading moving c o both.0)) (both.1 t.trace Closed steps refl w)) opens there
       (carried old mid.told steps is (λ l. Stands the_texts l c.journal c.lab × DoesOwn terms l command mark c [] m.own.0 m.to reply) (map_both mid.told (λ t stands does. (stands, does)) works.stands m.own.2)))
 
 -- WHERE THE CONTROLLER COULD NOT BE OPENED, from a moment at which it is closed
@@ -308,7 +309,7 @@ module _ (terms : Terms) (command : Command) (no_drill : drill_of command ≡ No
     where
       by : (trace : List Event) → OpenSteps trace opens.0 opens.1 (2 ^ 32) (Err fault) → OpenEnds trace opens.0 opens.1 (2 ^ 32) (Err openings.Memory) → WantsOnly terms trace (piece_of command plant.faults Closed Closed steps [] None)
       by trace o (inl read) = only_read trace o read.0
-      by trace o (inr (inl m)) = in_settling m.start m.lab opens.0 opens.1 ((stood_alike the_texts _ _ _ _ m.start o.reads.alike).0 m.read.lab) refl o.reads.no_command m.read.no_miss o.reads.no_restart m.some refl
+      by trace o (inr (inl m)) = in_settling m.start m.lab opens.0 opens.1 ((stood_alike the_texts _ _ _ _ m.start o.reads.alike).0 m.read.lab) refl o.reads.no_command m.read.no_miss (no_start opens.0 o.reads.no_outer) m.some refl
       by trace o (inr (inr never)) = absurd never
 
   wants_bad : (side : Side) (at : ℕ) → fault ≡ openings.Bad side at → WantsAt None steps []
@@ -325,7 +326,7 @@ module _ (terms : Terms) (command : Command) (no_drill : drill_of command ≡ No
   down_end : fault ≡ openings.Plant → new.plant.told ≡ mid → Rose plant.faults.disk new.plant.faults.disk → new.plant.stopped ≡ false → Ends terms command old new Closed (Ok replies.Down)
   down_end is same missed runs =
       in_reply replies.Down (made (Some replies.Down) (begins_cut (Some replies.Down) refl same (λ some. is)
-      (map_both plant.told (λ t o readable. failed (started_nowhere terms t.trace command plant.faults no_drill opens.0 opens.1 fault o readable) (missed_in terms t.trace command plant.faults no_drill opens.0 opens.1 fault o readable is) refl) opens.3 there))
+      (map_both plant.told (λ t o readable. failed (nothing_outer terms t.trace command plant.faults no_drill opens.0 opens.1 fault o readable) (missed_in terms t.trace command plant.faults no_drill opens.0 opens.1 fault o readable is) refl) opens.3 there))
       (λ shut. missed) refl (λ some. runs) (λ none. absurd (cc none)))
 
   again_end : fault ≡ openings.Stopped → (reply : Reply) → Starts mid new.plant.told (Ok reply) → new.plant.stopped ≡ false → Ends terms command old new Closed (Ok reply)

@@ -17,7 +17,7 @@ use Rattle.lab_model.specs.Sound.{is_moving}
 use Rattle.records_model.specs.Labs.{LabState, Sane, find}
 use Rattle.records_model.specs.Works.{IsSound}
 use Rattle.records_model.proofs.LabLaws.{lab_sane}
-use Rattle.journal_runs.specs.Pieces.{has_miss, has_restart}
+use Rattle.journal_runs.specs.Pieces.{has_miss, has_outer, has_restart}
 use Rattle.journal_runs.proofs.Stood.{stood_once}
 use Rattle.lab_state.specs.Texts.{the_texts}
 use Rattle.lab_state.proofs.Canonical.{texts_once}
@@ -29,12 +29,13 @@ use Rattle.script_text.specs.declared.command.Command.TheVariants.{SwapinWith, R
 use Rattle.script_text.specs.declared.reply.Reply.{Reply}
 use Rattle.script_text.specs.declared.reply.Reply.TheVariants as replies
 use Rattle.script_text.specs.declared.reply.Reply.TheVariants.{Recovered}
-use Rattle.lab_core.specs.Breaks.{Breaks, stopped, failed, unanswered}
+use Rattle.lab_core.specs.Breaks.{Breaks}
 use Rattle.lab_core.specs.Commands.{is_about, LabStep}
 use Rattle.lab_core.specs.Moments.{IsLabAt, IsNoJournal, StandForLab, IsLabOfImage, AllStandFor}
 use Rattle.lab_core.specs.Sessions.{Session, Closed, Open, Setting, After, Terms}
-use Rattle.lab_core.specs.Tells.{AllMove, BeginsAt, IsFeasibleFor, Hinders, TellsBroken, busy_of, is_of_drill, is_stopped, of_drill_if, opens_of, settles, taken_reply}
+use Rattle.lab_core.specs.Tells.{AllMove, BeginsAt, IsFeasibleFor, Hinders, TellsBroken, busy_of, is_of_drill, of_drill_if, opens_of, settles, taken_reply}
 use Rattle.lab_core.proofs.ListSteps.{all_no_drill, all_stay, all_stop}
+use Rattle.lab_core.proofs.OuterSteps.{CommandTells, Tells, broken_tells, plain, still, tells_step}
 use Rattle.lab_core.proofs.OneJournal.{not_both, one_place}
 use Rattle.lab_core.proofs.Rested.{opened_rest, recovered_rest}
 use Rattle.lab_core.proofs.Said.{as_said}
@@ -47,7 +48,7 @@ use Rattle.lab_top.specs.declared.status.Status.{Status}
 use Rattle.lab_top.specs.declared.status.Status.TheVariants.{Memory, JournalBad}
 use Rattle.lab_top.proofs.BrokenOpenings.{breaks_as, breaks_not}
 use Rattle.lab_top.proofs.Pieces.{trace-push}
-use Rattle.lab_top.proofs.Stepping.{and_left, and_right, first_image, has_started}
+use Rattle.lab_top.proofs.Stepping.{and_left, and_right, first_image}
 
 -- ONE OF THE PIECES
 pub piece_at : (terms : Terms) (trace : List Event) (before after : List Begun) (b : Begun) → ArePieces terms trace (before ++ b ∷ after) → IsPiece terms (trace_after trace before) b.piece
@@ -245,18 +246,8 @@ module _ (terms : Terms) (trace : List Event) (piece : Piece) (is : IsPiece term
       by Closed same finds = by_opening finds.1
       by (Open opens) same finds = let lab = here (ap is_closed same) in from_lab (ap has_miss finds) (ap has_restart finds) lab.0 lab.1
 
--- a part that breaks off
-breaks_stopped : (events : List Event) (o : Option Reply) (reply : Reply) → Breaks events o → o ≡ Some reply → has_restart events ≡ is_stopped reply
-breaks_stopped events o reply (stopped ends is) told = let same : replies.Stopped ≡ reply = cc (is, told) in has_started events ends ∙ ap is_stopped same
-breaks_stopped events o reply (failed once missed is) told = let same : replies.Down ≡ reply = cc (is, told) in once ∙ ap is_stopped same
-breaks_stopped events o reply (unanswered is) told = absurd (cc (is, told))
-
-step_stopped : (terms : Terms) (trace : List Event) (set : Setting) (s : LabState) (session : Session) (command : Command) (opening own : List Event) (after : After) (reply : Reply) → after.reply ≡ Some reply → LabStep terms trace set s session command opening own after
-    → has_restart (opening ++ own) ≡ is_stopped reply
-step_stopped terms trace set s session command opening own after reply is step = all_stop terms trace set s session opening own after command reply is step
-
 -- the reply to a drill
-drill_replied : (takes planned : Bool) (reply : Reply) → IsPlannedAs takes planned (Some reply) → is_stopped reply ≡ false
+drill_replied : (takes planned : Bool) (reply : Reply) → IsPlannedAs takes planned (Some reply) → tells_step reply ≡ false
 drill_replied takes planned replies.Planned by = refl
 drill_replied takes planned replies.NoDrill by = refl
 drill_replied takes planned reply by = absurd by
@@ -343,25 +334,25 @@ module _ (terms : Terms) (choices : Option Choices) (old new : Outside) (status 
           subst (AllRestBut (busy_of b.piece.from)) (sym (trace-push t.trace before b))
           (λ x y possible. (l.last, all x y possible, record { rest = rest; as_said = as_said (trace ++ steps_of b.piece) x y l.last done.sound possible (all x y possible) }))
 
-  -- OVER ANY TRACE: `stopped` exactly where the plant stopped, and no drill of a command that is none
+  -- OVER ANY TRACE: a start or a failed reading exactly where the reply tells of it, and no reply of a drill to a command that is none
   module _ (reply : Reply) (replied : b.piece.reply ≡ Some reply) where
     pub was_of : (no_drill : drill_of b.piece.command ≡ None) → Was terms trace b.piece piece no_drill reply replied
     was_of no_drill = was_so terms trace b.piece piece no_drill reply replied (lab_before terms t.trace Closed before after b are r.sessions (λ open_now. absurd (cc open_now)))
 
-    pub stops_told : has_restart (steps_of b.piece) ≡ is_stopped reply
-    stops_told = by (drill_of b.piece.command) refl
+    pub steps_told : CommandTells b.piece.command b.piece.opening b.piece.own reply
+    steps_told = by (drill_of b.piece.command) refl
       where
-        by : (drill : Option Drill) → drill_of b.piece.command ≡ drill → has_restart (steps_of b.piece) ≡ is_stopped reply
+        by : (drill : Option Drill) → drill_of b.piece.command ≡ drill → CommandTells b.piece.command b.piece.opening b.piece.own reply
         by (Some drill) is =
             let finds = subst (λ (d : Option Drill). Finds d b.piece.from trace b.piece) is piece.finds in
             let planned = subst (λ (d : Option Drill). IsPlannedBy terms d b.planned b.piece.reply) is (caused_at terms _ _ before after b r.counts).planned in
-            (λ i. has_restart (finds.0 i ++ finds.1 i)) ∙ sym (drill_replied terms.takes b.planned reply (subst (λ (o : Option Reply). IsPlannedAs terms.takes b.planned o) replied planned))
-        by None is = ⊎_elim (λ broke. ap (λ l. has_restart (b.piece.opening ++ l)) broke.1 ∙ ap has_restart (append-nil b.piece.opening) ∙ breaks_stopped b.piece.opening (Some reply) reply broke.0 refl)
+            plain (still (λ i. has_outer (finds.0 i ++ finds.1 i)) (drill_replied terms.takes b.planned reply (subst (λ (o : Option Reply). IsPlannedAs terms.takes b.planned o) replied planned)))
+        by None is = ⊎_elim (λ broke. plain (subst (λ l. Tells l reply) (sym (ap (λ l. b.piece.opening ++ l) broke.1 ∙ append-nil b.piece.opening)) (broken_tells b.piece.opening (Some reply) reply broke.0 refl)))
             (λ x.
             let steps = x.2 in
             let so = told_of terms trace b.piece x.0 x.1 steps reply replied in
-            ap (λ l. has_restart (b.piece.opening ++ l)) (sym (ap (λ l. b.piece.own ++ l) so.2 ∙ append-nil b.piece.own))
-            ∙ step_stopped terms trace _ x.0 b.piece.from b.piece.command b.piece.opening (b.piece.own ++ steps.behind) _ reply so.0 steps.step)
+            subst (λ l. CommandTells b.piece.command b.piece.opening l reply) (ap (λ l. b.piece.own ++ l) so.2 ∙ append-nil b.piece.own)
+            (all_stop terms trace _ x.0 b.piece.from b.piece.opening (b.piece.own ++ steps.behind) _ b.piece.command reply so.0 steps.step))
             (was_of is)
 
     pub undrilled_told : drill_of b.piece.command ≡ None → is_of_drill reply ≡ false

@@ -16,7 +16,7 @@ use Rattle.records_model.specs.Works.{IsSound}
 use Rattle.records_model.proofs.Starts.{restarted}
 use Rattle.journal_disk.specs.Before.{is_sync_of, are_synced}
 use Rattle.journal_disk.specs.Standing.{side_of, length_of, limit_of}
-use Rattle.journal_runs.specs.Pieces.{is_miss, is_restart, has_restart, EndsRestarted}
+use Rattle.journal_runs.specs.Pieces.{is_miss, is_outer, is_restart, has_restart, EndsRestarted}
 use Rattle.journal_runs.proofs.Blank.{restarted_reads, restarted_stand}
 use Rattle.journal_runs.proofs.Images.{on_image, reads_possible, reads_on}
 use Rattle.journal_runs.proofs.Quiet.{shows}
@@ -38,6 +38,7 @@ use Rattle.lab_core.specs.Compaction.{IsCompacted, IsPlaced, moves, stays}
 use Rattle.lab_core.specs.Opening.{OpenSteps, has_change}
 use Rattle.lab_core.specs.Recovery.{Opens}
 use Rattle.lab_core.specs.Sessions.{OpenSwap, Session, Closed, Open, Setting, After, Terms}
+use Rattle.lab_core.proofs.OuterSteps.{no_start}
 use Rattle.lab_top.specs.Pieces.{Piece, ButForReply, HasLed, HasOpened, IsDone, MovesDue, OpensTo, StepsFrom, FirstLab, ImagesAfter, is_closed, is_early, leaves_one, steps_of}
 use Rattle.lab_top.specs.Answering.{Does, WasOpened, piece_of}
 use Rattle.lab_top.proofs.Compact.{compact_behind, compacted_quiet}
@@ -77,7 +78,7 @@ restarted_lab trace a b s stand =
     subst (λ l. StandForLab l (disk B (trace ++ Restarted a b ∷ [])).reads s) (sym reads.0) (subst (λ l. StandForLab a l s) (sym reads.1) stand)
 
 pub has_started : (events : List Event) → EndsRestarted events → has_restart events ≡ true
-has_started events ends = shows is_restart events ends.front (Restarted ends.a ends.b ∷ []) false true ends.is ends.once refl
+has_started events ends = shows is_restart events ends.front (Restarted ends.a ends.b ∷ []) false true ends.is (no_start ends.front ends.once) refl
 
 -- WHETHER IT STOPPED EARLY
 pub not_early : (from : Session) (opening : List Event) → has_restart opening ≡ false → (is_closed from && (has_restart opening && not (are_synced opening))) ≡ false
@@ -313,7 +314,7 @@ module _ (trace reading behind : List Event) (c : Control) (o : OpenSteps trace 
         settles = s.settles;
         shifts = e.shifts;
         no_miss = shows is_miss (reading ++ behind) reading behind false false refl s.read.no_miss (shows is_miss behind e.moving e.shifting false false e.parts (settles_show _ _ _ _ _ s.settles).miss_is (compacted_quiet e.compacts));
-        no_restart = shows is_restart (reading ++ behind) reading behind false false refl o.reads.no_restart o.no_restart;
+        no_outer = shows is_outer (reading ++ behind) reading behind false false refl o.reads.no_outer o.no_outer;
       }
 
   opened_at : IsLabAt trace o.ends.settled.start
@@ -340,7 +341,7 @@ module _ (trace reading behind : List Event) (c : Control) (o : OpenSteps trace 
     start = o.ends.settled.start;
     readable = readable;
     first = opened_at;
-    no_restart = opens_so.no_restart;
+    no_restart = no_start (reading ++ behind) opens_so.no_outer;
     stands = stands;
     sound = o.sound;
     limit = limit;

@@ -164,9 +164,9 @@ pub fn turns()
 /// Audits. Over any trace one that is answered `audit N` has no own steps. Its lines of switches are exactly those by which the devices differ from
 /// the lab of that moment. So are its lines of nodes, where the trace leaves open the boot state of none that is compared.
 /// Over every sound trace it tells that nothing differs, also beside open swaps, whose experiments move.
-/// Of the answered audits one has the reply `unread NAME` exactly where a reading of that device failed in it, which is its one step. Whatever the
-/// plant tells, such a reply comes only where the count of device faults rose in that command.
-/// Its own steps change no side and no table, and none of them is a step of an experiment's course.
+/// A command has the reply `unread NAME` exactly where a reading of that device failed in it, in its opening or behind. Only an audit has such a
+/// reply, and that reading is its one step. Whatever the plant tells, such a reply comes only where the count of device faults rose in that command.
+/// The own steps of an audit change no side and no table, and none of them is a step of an experiment's course.
 pub fn audits()
     ensures told { (terms : Terms) (choices : Option Choices) (old new : Outside) (status : Status) (before after : List Begun)
         (b : Begun) (t : Told) (lines : List AuditLine)
@@ -179,9 +179,12 @@ pub fn audits()
         → b.piece.command ≡ Audit → b.piece.reply ≡ Some (Audited lines) → lines ≡ [] }
     ensures unread { (terms : Terms) (choices : Option Choices) (old new : Outside) (status : Status) (before after : List Begun)
         (b : Begun) (t : Told) (reply : Reply) (name : List ℕ)
-        → Ran terms choices old new status (before ++ b ∷ after) → old.plant.told ≡ Some t
-        → b.piece.command ≡ Audit → b.piece.reply ≡ Some reply
-        → (b.piece.own ≡ Unread name ∷ []) ↔ (reply ≡ NotRead name) }
+        → Ran terms choices old new status (before ++ b ∷ after) → old.plant.told ≡ Some t → b.piece.reply ≡ Some reply
+        → Has (steps_of b.piece) (Unread name) ↔ (reply ≡ NotRead name) }
+    ensures alone { (terms : Terms) (choices : Option Choices) (old new : Outside) (status : Status) (before after : List Begun)
+        (b : Begun) (t : Told) (name : List ℕ)
+        → Ran terms choices old new status (before ++ b ∷ after) → old.plant.told ≡ Some t → b.piece.reply ≡ Some (NotRead name)
+        → (b.piece.command ≡ Audit) × (b.piece.own ≡ Unread name ∷ []) }
     ensures risen { (terms : Terms) (choices : Option Choices) (old new : Outside) (status : Status) (before after : List Begun)
         (b : Begun) (name : List ℕ)
         → Ran terms choices old new status (before ++ b ∷ after) → b.piece.reply ≡ Some (NotRead name)

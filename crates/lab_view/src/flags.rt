@@ -7,6 +7,9 @@ ghost use Rattle.lab_view.specs.Flags.{flag_of, flag_of_exp};
 use crate::counts::is_held_by;
 use crate::view::View;
 
+/// How many flags there are, and as many machines have flags of their own. A lab has at most so many.
+pub const MAX_FLAGS: usize = 1_024;
+
 /// The number of a tint, of a bar's colour and of the bar's form.
 #[derive(Clone, Copy, PartialEq, Eq)]
 pub struct Flag {

@@ -7,7 +7,7 @@ ghost use Rattle.lab_view.specs.Runs.{owner_at};
 
 use crate::counts::{count_under, free_ids, free_machines, free_under, is_lone, is_under};
 use crate::runs::{begins_run, owner_at, run_length};
-use crate::view::{Exp, Held, Machine, Seat, Stand, Trunk, View};
+use crate::view::{Exp, Held, MAX_IDS, Machine, Seat, Stand, Trunk, View};
 use lab_base::{Memory, Name, Text};
 use std::alloc::Global;
 
@@ -244,7 +244,7 @@ fn push_run(text: &mut Text, first: u64, count: u64) -> Result<(), Memory>
 }
 
 fn push_if_free(text: &mut Text, view: &View, place: usize) -> Result<(), Memory>
-    requires few { length view.now.owners ≤ 65536 }
+    requires few { length view.now.owners ≤ MAX_IDS }
     requires within { place < length view.now.owners }
     ensures { OnOk result (text.new ≡ text.old ++ free_run view.now place) }
 {
@@ -260,7 +260,7 @@ fn push_if_free(text: &mut Text, view: &View, place: usize) -> Result<(), Memory
 /// `ids free 100-103 107`.
 #[tactic(auto, using(crate::proofs::Steps::counted_more))]
 fn push_ids(text: &mut Text, view: &View) -> Result<(), Memory>
-    requires { length view.now.owners ≤ 65536 }
+    requires { length view.now.owners ≤ MAX_IDS }
     ensures { OnOk result (text.new ≡ text.old ++ ids_line view.now) }
 {
     text.push_bytes(b"ids free")?;
@@ -336,7 +336,7 @@ fn push_free(text: &mut Text, view: &View) -> Result<(), Memory>
 
 /// The lines of a lab behind its ptop text. A lab has at most 65,536 VLAN ids.
 pub fn lines_of(alloc: Global, view: &View) -> Result<Text, Memory>
-    requires { length view.now.owners ≤ 65536 }
+    requires { length view.now.owners ≤ MAX_IDS }
     ensures { IfOk result (λ text. text ≡ lines_of view.now) }
 {
     let mut text = Text::new(alloc);

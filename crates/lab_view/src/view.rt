@@ -1,6 +1,9 @@
 // The view of a lab.
 use lab_base::{Items, Name};
 
+/// The most VLAN ids of a lab.
+pub const MAX_IDS: usize = 65_536;
+
 /// How an experiment holds a machine.
 #[derive(Clone, Copy, PartialEq, Eq)]
 pub enum Held {

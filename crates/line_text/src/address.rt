@@ -1,5 +1,5 @@
 // IPv4 addresses.
-ghost use Rattle.std.specs.Prelude.{◌≡◌, ◌<◌, option_map};
+ghost use Rattle.std.specs.Prelude.{◌≡◌, ◌<◌, ◌^◌, option_map};
 ghost use Rattle.line_text.specs.Addresses.{leads_with_zero, octet, dotted, fourth, third, second, address_of};
 
 use lab_base::{Kind, Parts, number_in, parted};
@@ -28,7 +28,7 @@ fn octet_in(bytes: &[u8], least: u8, most: u8) -> Result<u8, Kind>
 }
 
 fn fourth(value: u32, bytes: &[u8]) -> Result<u32, Kind>
-    requires { value < 16777216 }
+    requires { value < 2 ^ 24 }
     ensures { result ≡ fourth value bytes.now }
 {
     match octet_in(bytes, 1, 254) {
@@ -38,7 +38,7 @@ fn fourth(value: u32, bytes: &[u8]) -> Result<u32, Kind>
 }
 
 fn third(value: u32, parts: Option<Parts<'_>>) -> Result<u32, Kind>
-    requires { value < 65536 }
+    requires { value < 2 ^ 16 }
     ensures { result ≡ dotted fourth value (option_map (λ parts. (parts.before.now, parts.behind.now)) parts.entry) }
 {
     match parts {
@@ -51,14 +51,14 @@ fn third(value: u32, parts: Option<Parts<'_>>) -> Result<u32, Kind>
 }
 
 fn third_in(value: u32, bytes: &[u8]) -> Result<u32, Kind>
-    requires { value < 65536 }
+    requires { value < 2 ^ 16 }
     ensures { result ≡ third value bytes.now }
 {
     third(value, parted(bytes, b'.'))
 }
 
 fn second(value: u32, parts: Option<Parts<'_>>) -> Result<u32, Kind>
-    requires { value < 256 }
+    requires { value < 2 ^ 8 }
     ensures { result ≡ dotted third value (option_map (λ parts. (parts.before.now, parts.behind.now)) parts.entry) }
 {
     match parts {
@@ -71,7 +71,7 @@ fn second(value: u32, parts: Option<Parts<'_>>) -> Result<u32, Kind>
 }
 
 fn second_in(value: u32, bytes: &[u8]) -> Result<u32, Kind>
-    requires { value < 256 }
+    requires { value < 2 ^ 8 }
     ensures { result ≡ second value bytes.now }
 {
     second(value, parted(bytes, b'.'))

@@ -16,7 +16,7 @@ use lab_base::{IfaceId, Memory, Name};
 use node_maps::End;
 use phys_lab::Lab;
 use std::alloc::Global;
-use virt_topo::{Asks, Mapping, Wiring};
+use virt_topo::{Asks, MAX_ENDS, Mapping, Wiring};
 
 /// Whether a place of a list is marked; those behind its end are.
 pub(crate) fn is_marked(marks: &[bool], number: u16) -> bool
@@ -66,7 +66,7 @@ fn still_segments(
     last: &Mapping,
     next: &Mapping,
 ) -> Result<Vec<bool>, Memory>
-    requires few { length moves.now.setting.mapper.ends.now ≤ 4096 }
+    requires few { length moves.now.setting.mapper.ends.now ≤ MAX_ENDS }
     requires last { length last.now.plugs ≡ length moves.now.setting.mapper.ends.now }
     requires next { length next.now.plugs ≡ length moves.now.setting.mapper.ends.now }
     requires last_in { All (λ i. i.0 < length moves.now.setting.mapper.lab.now.ifaces) last.now.plugs }

@@ -15,7 +15,7 @@ use lab_base::{IfaceId, Memory, NodeId};
 use node_maps::{End, Given, Place};
 use std::alloc::Global;
 use trunk_sums::{Change, EndRow};
-use virt_topo::Mapping;
+use virt_topo::{MAX_ENDS, Mapping};
 
 /// The numbers of the ends on a node.
 fn list_ends(
@@ -24,7 +24,7 @@ fn list_ends(
     ends: &[End],
     node: NodeId,
 ) -> Result<(), Memory>
-    requires few { length ends.now ≤ 4096 }
+    requires few { length ends.now ≤ MAX_ENDS }
     requires placed { All (λ e. e.node < length places.now) ends.now }
     ensures { OnOk result (listed.new.items ≡ numbers_of 0 (is_on places.now node.0) ends.now) }
 {

@@ -7,13 +7,13 @@ ghost use Rattle.virt_topo.specs.Wirings.{virt_at};
 ghost use Rattle.lab_model.specs.Rules.{no_place};
 ghost use Rattle.map_board.specs.Seated.{IsSeated, guests_at, kind_soft as kind_soft_in, asked_soft as asked_soft_in, placed_at};
 
-use cost_rule::{has_kind, node_soft, parts_of};
+use cost_rule::{MAX_SOFT, has_kind, node_soft, parts_of};
 use lab_base::{Items, Memory, Name, NodeId};
 use node_maps::Place;
 use phys_lab::Lab;
 use std::alloc::Global;
 use std::mem;
-use virt_topo::{Asks, Mapping, Wiring};
+use virt_topo::{Asks, MAX_CLASSES, MAX_SOFT_WEIGHT, MAX_TOPOLOGY_NODES, Mapping, Wiring};
 
 /// By node how many virtual nodes are on it, how many nodes are in use, and what is soft.
 #[derive(Drop)]
@@ -27,9 +27,9 @@ pub struct Seats {
 fn kind_soft(wiring: &Wiring, mapping: &Mapping, class: usize, kind: Name) -> u64
     requires placed { length mapping.now.places ≡ length wiring.now.nodes }
     requires class { class < length wiring.now.classes }
-    requires few { length wiring.now.classes ≤ 64 }
+    requires few { length wiring.now.classes ≤ MAX_CLASSES }
     ensures is { result ≡ kind_soft_in wiring.now mapping.now class kind }
-    ensures small { result ≤ 999 }
+    ensures small { result ≤ MAX_SOFT_WEIGHT }
 {
     let weight = wiring.classes.as_slice()[class].weight;
     if weight < 1_000 && !has_kind(wiring, mapping, class as u16, kind, 0) {
@@ -44,7 +44,7 @@ fn asked_soft(wiring: &Wiring, mapping: &Mapping, asks: &Asks, kind: Name) -> u6
     requires sound { IsSound wiring.now }
     requires placed { length mapping.now.places ≡ length wiring.now.nodes }
     ensures is { result ≡ asked_soft_in wiring.now mapping.now asks.now kind }
-    ensures small { result ≤ 999 }
+    ensures small { result ≤ MAX_SOFT_WEIGHT }
 {
     match asks {
         Asks::Plain(_) => 0,
@@ -64,7 +64,7 @@ fn type_soft(wiring: &Wiring, mapping: &Mapping, virt: usize, kind: Name) -> u64
     requires placed { length mapping.now.places ≡ length wiring.now.nodes }
     requires virt { virt < length wiring.now.nodes }
     ensures is { result ≡ asked_soft_in wiring.now mapping.now (virt_at wiring.now virt).asks kind }
-    ensures small { result ≤ 999 }
+    ensures small { result ≤ MAX_SOFT_WEIGHT }
 {
     let asks = &wiring.nodes.as_slice()[virt].asks;
     asked_soft(wiring, mapping, asks, kind)
@@ -86,9 +86,9 @@ fn kind_of(mapping: &Mapping, virt: usize) -> Name
 
 /// A sum, with two parts more and two less.
 fn changed(sum: u64, more: (u64, u64), less: (u64, u64)) -> u64
-    requires small { sum ≤ 1000000000 }
-    requires first { more.0 ≤ 1000000000 }
-    requires second { more.1 ≤ 1000000000 }
+    requires small { sum ≤ MAX_SOFT }
+    requires first { more.0 ≤ MAX_SOFT }
+    requires second { more.1 ≤ MAX_SOFT }
     requires within { less.0 + less.1 ≤ sum + more.0 + more.1 }
     ensures { result + less.0 + less.1 ≡ sum + more.0 + more.1 }
 {
@@ -105,7 +105,7 @@ fn set_place(alloc: Global, mapping: &mut Mapping, virt: usize, place: Place)
 }
 
 fn count_guests(alloc: Global, lab: &Lab, mapping: &Mapping) -> Result<Vec<u16>, Memory>
-    requires few { length mapping.now.places ≤ 256 }
+    requires few { length mapping.now.places ≤ MAX_TOPOLOGY_NODES }
     requires within { All (λ p. p.0.0 < length lab.now.nodes) mapping.now.places }
     ensures one_each { IfOk result (λ guests. length guests.items ≡ length lab.now.nodes) }
     ensures guests { IfOk result (λ guests. (n : ℕ) → n < length lab.now.nodes → slice_index_or guests.items n 0 ≡ guests_at mapping.now.places n) }
@@ -149,8 +149,8 @@ impl Seats {
 
     fn join(&mut self, node: NodeId)
         requires within { node.0 < length self.old.guests.items }
-        requires few { slice_index_or self.old.guests.items node.0 0 ≤ 256 }
-        requires few_nodes { self.old.nodes ≤ 256 }
+        requires few { slice_index_or self.old.guests.items node.0 0 ≤ MAX_TOPOLOGY_NODES }
+        requires few_nodes { self.old.nodes ≤ MAX_TOPOLOGY_NODES }
         ensures guests { self.new.guests.items ≡ slice_set self.old.guests.items node.0 (slice_index_or self.old.guests.items node.0 0 + 1) }
         ensures nodes { self.new.nodes ≡ self.old.nodes + (if slice_index_or self.old.guests.items node.0 0 == 0 then 1 else 0) }
         ensures soft { self.new.soft ≡ self.old.soft }

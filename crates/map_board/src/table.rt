@@ -12,7 +12,7 @@ use node_maps::{End, Mapper};
 use phys_lab::Lab;
 use std::alloc::Global;
 use trunk_sums::{Crossings, EndRow};
-use virt_topo::{Segment, Wiring};
+use virt_topo::{MAX_ENDS, MAX_SEGMENT_ENDS, Segment, Wiring};
 
 /// The tables of a lab and a wiring that tries use.
 #[derive(Drop)]
@@ -38,7 +38,7 @@ pub struct Setting<'a> {
 }
 
 fn push_rows(rows: &mut Vec<EndRow>, number: u16, segment: &Segment) -> Result<(), Memory>
-    requires { length segment.now.ends ≤ 256 }
+    requires { length segment.now.ends ≤ MAX_SEGMENT_ENDS }
     ensures { OnOk result (rows.new.items
         ≡ rows.old.items ++ replicate (length segment.now.ends) (record { segment = number; ends = length segment.now.ends; kbps = segment.now.kbps })) }
 {
@@ -68,7 +68,7 @@ fn rows_of(alloc: Global, wiring: &Wiring) -> Result<Vec<EndRow>, Memory>
 
 /// The numbers of a virtual node's ends.
 fn own_ends(alloc: Global, ends: &[End], virt: u16) -> Result<Items<u16>, Memory>
-    requires { length ends.now ≤ 4096 }
+    requires { length ends.now ≤ MAX_ENDS }
     ensures { IfOk result (λ own. own ≡ numbers_of 0 (λ e. e.node == virt) ends.now) }
 {
     let mut own = Items::new(alloc);

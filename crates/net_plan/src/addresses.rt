@@ -9,6 +9,7 @@ ghost use Rattle.net_plan.specs.declared.fault.PlanFault.TheVariants as faults;
 
 use crate::PlanFault;
 use crate::explicit::{have_two_subnets, use_all_explicit};
+use crate::limits::MAX_LINKS;
 use crate::used::Used;
 use lab_base::Items;
 use std::alloc::Global;
@@ -100,7 +101,7 @@ fn addressed_from_first(
     used: &mut Used,
     links: &[AskedLink],
 ) -> Result<Items<AskedLink>, PlanFault>
-    requires { length links.now ≤ 512 }
+    requires { length links.now ≤ MAX_LINKS }
     ensures { Answers result (ok_or (addressed_from (uses used.old) 1 links.now) faults.Subnet) }
 {
     let mut given = Items::new(alloc);
@@ -122,7 +123,7 @@ fn addressed_from_first(
 
 /// The links and LANs with an address for each end.
 pub(crate) fn addressed(alloc: Global, links: &[AskedLink]) -> Result<Items<AskedLink>, PlanFault>
-    requires { length links.now ≤ 512 }
+    requires { length links.now ≤ MAX_LINKS }
     ensures { Answers result (if has_bad_address links.now then Err faults.Address else ok_or (addressed links.now) faults.Subnet) }
 {
     if have_two_subnets(links) {

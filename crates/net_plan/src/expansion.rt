@@ -11,7 +11,7 @@ use crate::pipes::wired_pipes;
 use crate::segments::wired_segments;
 use lab_base::{Items, Memory};
 use std::alloc::Global;
-use virt_topo::{AskedLink, Class, Topo, Wiring};
+use virt_topo::{AskedLink, Class, MAX_TOPOLOGY_NODES, Topo, Wiring};
 
 fn copy_class(alloc: Global, class: &Class) -> Result<Class, Memory>
     ensures { IfOk result (λ copy. copy ≡ class.now) }
@@ -37,7 +37,7 @@ fn copy_classes(alloc: Global, classes: &[Class]) -> Result<Items<Class>, Memory
 /// The wiring of a network with these links and LANs.
 fn wired(alloc: Global, topo: &Topo, links: &[AskedLink]) -> Result<Wiring, Memory>
     requires links { AreExpandable links.now }
-    requires few { length topo.now.nodes + sum_by delays links.now ≤ 256 }
+    requires few { length topo.now.nodes + sum_by delays links.now ≤ MAX_TOPOLOGY_NODES }
     ensures { IfOk result (λ wiring. wiring ≡ wired topo.now links.now) }
 {
     let asked = topo.nodes().len() as u16;

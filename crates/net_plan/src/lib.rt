@@ -16,4 +16,5 @@ mod used;
 pub use expansion::expand;
 pub use fault::PlanFault;
 pub use laws::{addresses_are_least, expansions_are_sound};
+pub use limits::{MAX_LINKS, MAX_MEMBERS};
 pub use pipes::{lan_pipe, link_pipe};

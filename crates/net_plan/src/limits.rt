@@ -6,13 +6,19 @@ ghost use Rattle.net_plan.specs.Expansion.{wired};
 ghost use Rattle.net_plan.specs.Parts.{IsExpandable, AreExpandable, delays, segments_of};
 
 use crate::nodes::{delays, is_shaped};
-use virt_topo::{AskedLink, Topo};
+use virt_topo::{AskedLink, MAX_ENDS, MAX_SEGMENTS, MAX_TOPOLOGY_NODES, Topo};
+
+/// The most links and LANs of a network.
+pub const MAX_LINKS: usize = 512;
+
+/// The most ends of a link or LAN.
+pub const MAX_MEMBERS: usize = 254;
 
 /// The number of segments that a link or LAN has.
 fn segments(link: &AskedLink) -> usize
     requires { IsExpandable link.now }
     ensures count { result ≡ length (segments_of (0, link.now)) }
-    ensures few { result ≤ 255 }
+    ensures few { result ≤ MAX_MEMBERS + 1 }
 {
     if !is_shaped(link.rates) {
         return 1;
@@ -24,7 +30,7 @@ fn segments(link: &AskedLink) -> usize
 fn ends(link: &AskedLink) -> usize
     requires { IsExpandable link.now }
     ensures count { result ≡ length (end_nodes (segments_of (0, link.now))) }
-    ensures few { result ≤ 762 }
+    ensures few { result ≤ 3 * MAX_MEMBERS }
 {
     if !is_shaped(link.rates) {
         return link.ends.len();
@@ -34,9 +40,9 @@ fn ends(link: &AskedLink) -> usize
 
 fn count_delays(links: &[AskedLink]) -> usize
     requires expandable { AreExpandable links.now }
-    requires few { length links.now ≤ 512 }
+    requires few { length links.now ≤ MAX_LINKS }
     ensures count { result ≡ sum_by delays links.now }
-    ensures few { result ≤ 130048 }
+    ensures few { result ≤ MAX_LINKS * MAX_MEMBERS }
 {
     let mut count = 0;
     for link in links {
@@ -47,7 +53,7 @@ fn count_delays(links: &[AskedLink]) -> usize
 
 fn count_segments(links: &[AskedLink]) -> usize
     requires expandable { AreExpandable links.now }
-    requires few { length links.now ≤ 512 }
+    requires few { length links.now ≤ MAX_LINKS }
     ensures { result ≡ sum_by (λ l. length (segments_of (0, l))) links.now }
 {
     let mut count = 0;
@@ -59,7 +65,7 @@ fn count_segments(links: &[AskedLink]) -> usize
 
 fn count_ends(links: &[AskedLink]) -> usize
     requires expandable { AreExpandable links.now }
-    requires few { length links.now ≤ 512 }
+    requires few { length links.now ≤ MAX_LINKS }
     ensures { result ≡ sum_by (λ l. length (end_nodes (segments_of (0, l)))) links.now }
 {
     let mut count = 0;
@@ -70,9 +76,9 @@ fn count_ends(links: &[AskedLink]) -> usize
 }
 
 fn are_few(nodes: usize, segments: usize, ends: usize) -> bool
-    ensures { result ≡ (nat_le nodes 256 && (nat_le segments 512 && nat_le ends 4096)) }
+    ensures { result ≡ (nat_le nodes MAX_TOPOLOGY_NODES && (nat_le segments MAX_SEGMENTS && nat_le ends MAX_ENDS)) }
 {
-    nodes <= 256 && segments <= 512 && ends <= 4_096
+    nodes <= MAX_TOPOLOGY_NODES && segments <= MAX_SEGMENTS && ends <= MAX_ENDS
 }
 
 /// Whether the wiring of a network keeps the limits.

@@ -7,7 +7,7 @@ ghost use Rattle.net_plan.specs.Parts.{is_shaped, delays, link_pipe, lan_pipe, p
 use crate::nodes::{delays, is_shaped};
 use lab_base::{Items, Memory, Rates};
 use std::alloc::Global;
-use virt_topo::{AskedLink, Pipe};
+use virt_topo::{AskedLink, MAX_TOPOLOGY_NODES, Pipe};
 
 /// The pipe of a shaped link, with the link's rates in both directions.
 pub fn link_pipe(rates: Rates, node: u16) -> Pipe
@@ -52,7 +52,7 @@ fn push_lan_pipes(
     first: u16,
     count: u16,
 ) -> Result<(), Memory>
-    requires { first + count ≤ 256 }
+    requires { first + count ≤ MAX_TOPOLOGY_NODES }
     ensures { OnOk result (pipes.new ≡ pipes.old ++ map (lan_pipe rates) (range_with_len first count)) }
 {
     for node in first..first + count {
@@ -63,7 +63,7 @@ fn push_lan_pipes(
 
 /// Adds the pipes of a link or LAN.
 fn push_pipes(pipes: &mut Items<Pipe>, link: &AskedLink, first: u16) -> Result<(), Memory>
-    requires { first + delays link.now ≤ 256 }
+    requires { first + delays link.now ≤ MAX_TOPOLOGY_NODES }
     ensures { OnOk result (pipes.new ≡ pipes.old ++ pipes_of (first, link.now)) }
 {
     if !is_shaped(link.rates) {
@@ -82,7 +82,7 @@ pub(crate) fn wired_pipes(
     links: &[AskedLink],
     asked: u16,
 ) -> Result<Items<Pipe>, Memory>
-    requires { asked + sum_by delays links.now ≤ 256 }
+    requires { asked + sum_by delays links.now ≤ MAX_TOPOLOGY_NODES }
     ensures { IfOk result (λ pipes. pipes ≡ flat_map pipes_of (numbered asked links.now)) }
 {
     let mut pipes = Items::new(alloc);

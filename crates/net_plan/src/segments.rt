@@ -9,7 +9,7 @@ use crate::names;
 use crate::nodes::{delays, is_shaped};
 use lab_base::{Items, Memory, Name};
 use std::alloc::Global;
-use virt_topo::{AskedLink, Segment, VirtEnd};
+use virt_topo::{AskedLink, MAX_TOPOLOGY_NODES, Segment, VirtEnd};
 
 fn part(link: &AskedLink, name: Name, ends: Items<VirtEnd>) -> Segment
     ensures { result ≡ part link.now name ends }
@@ -43,7 +43,7 @@ fn two_ends(alloc: Global, one: VirtEnd, other: VirtEnd) -> Result<Items<VirtEnd
 
 /// An end for each of so many delay nodes.
 fn delay_ends(alloc: Global, first: u16, count: u16) -> Result<Items<VirtEnd>, Memory>
-    requires { first + count ≤ 256 }
+    requires { first + count ≤ MAX_TOPOLOGY_NODES }
     ensures { IfOk result (λ ends. ends ≡ map delay_end (range_with_len first count)) }
 {
     let mut ends = Items::new(alloc);
@@ -63,7 +63,7 @@ fn member_segment(
 ) -> Result<Segment, Memory>
     requires lan { IsExpandable lan.now }
     requires place { place + 1 ≤ length lan.now.ends }
-    requires few { first + length lan.now.ends ≤ 256 }
+    requires few { first + length lan.now.ends ≤ MAX_TOPOLOGY_NODES }
     ensures { IfOk result (λ segment. segment ≡ member_segment lan.now first (place, end)) }
 {
     let name = names::numbered(alloc, lan.name, b".m", place as u64 + 1)?;
@@ -79,7 +79,7 @@ fn push_member_segments(
     first: u16,
 ) -> Result<(), Memory>
     requires lan { IsExpandable lan.now }
-    requires few { first + length lan.now.ends ≤ 256 }
+    requires few { first + length lan.now.ends ≤ MAX_TOPOLOGY_NODES }
     ensures { OnOk result (segments.new ≡ segments.old ++ map (member_segment lan.now first) (enumerate_from 0 lan.now.ends)) }
 {
     for (place, end) in lan.ends.as_slice().iter().enumerate() {
@@ -96,7 +96,7 @@ fn push_lan_segments(
     first: u16,
 ) -> Result<(), Memory>
     requires lan { IsExpandable lan.now }
-    requires few { first + length lan.now.ends ≤ 256 }
+    requires few { first + length lan.now.ends ≤ MAX_TOPOLOGY_NODES }
     ensures { OnOk result (segments.new ≡ segments.old ++ lan_segments lan.now first) }
 {
     push_member_segments(alloc, segments, lan, first)?;
@@ -132,7 +132,7 @@ fn push_segments(
     first: u16,
 ) -> Result<(), Memory>
     requires link { IsExpandable link.now }
-    requires few { first + delays link.now ≤ 256 }
+    requires few { first + delays link.now ≤ MAX_TOPOLOGY_NODES }
     ensures { OnOk result (segments.new ≡ segments.old ++ segments_of (first, link.now)) }
 {
     if !is_shaped(link.rates) {
@@ -153,7 +153,7 @@ pub(crate) fn wired_segments(
     asked: u16,
 ) -> Result<Items<Segment>, Memory>
     requires links { AreExpandable links.now }
-    requires few { asked + sum_by delays links.now ≤ 256 }
+    requires few { asked + sum_by delays links.now ≤ MAX_TOPOLOGY_NODES }
     ensures { IfOk result (λ segments. segments ≡ flat_map segments_of (numbered asked links.now)) }
 {
     let mut segments = Items::new(alloc);

@@ -4,7 +4,7 @@ ghost use Rattle.node_maps.specs.NodeMaps.{end_of, ends_of};
 
 use lab_base::Memory;
 use std::alloc::Global;
-use virt_topo::Segment;
+use virt_topo::{MAX_SEGMENTS, Segment};
 
 /// An end of a segment.
 #[derive(Clone, Copy)]
@@ -35,7 +35,7 @@ fn push_ends(listed: &mut Vec<End>, number: u16, segment: &Segment) -> Result<()
 
 /// The ends of segments, by segment, then by place in the segment.
 pub fn ends_of(alloc: Global, segments: &[Segment]) -> Result<Vec<End>, Memory>
-    requires { length segments.now ≤ 512 }
+    requires { length segments.now ≤ MAX_SEGMENTS }
     ensures { IfOk result (λ listed. listed.items ≡ ends_of segments.now) }
 {
     let mut listed = Vec::new(alloc);

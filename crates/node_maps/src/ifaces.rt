@@ -12,13 +12,14 @@ use lab_base::{IfaceId, Items, Memory};
 use phys_lab::Lab;
 use std::alloc::Global;
 use std::mem;
+use virt_topo::MAX_SEGMENTS;
 
 /// Noted as used of an interface that no further end may have: more than any interface has.
 const FULL: u64 = 18_446_744_073_709_551_615;
 
 /// Whether an interface, of which this is noted, may have one more end.
 fn serves(used: u64, last: u16, kbps: u64, end: End) -> bool
-    requires { end.segment < 512 }
+    requires { end.segment < MAX_SEGMENTS }
     ensures { result ≡ serves used last kbps (load_of end) }
 {
     if end.kbps > kbps {
@@ -34,7 +35,7 @@ fn serves(used: u64, last: u16, kbps: u64, end: End) -> bool
 fn first_free(listed: &[NodeIface], used: &[u64], last: &[u16], end: End) -> Option<NodeIface>
     requires used { All (λ x. x.id.0 < length used.now) listed.now }
     requires last { All (λ x. x.id.0 < length last.now) listed.now }
-    requires segment { end.segment < 512 }
+    requires segment { end.segment < MAX_SEGMENTS }
     ensures first { result ≡ find (λ x. serves (slice_index_or used.now x.id.0 0) (slice_index_or last.now x.id.0 0) x.kbps (load_of end)) listed.now }
     ensures within { IfSome result (λ x. x.id.0 < length used.now) }
     ensures serves { IfSome result (λ x. serves (slice_index_or used.now x.id.0 0) (slice_index_or last.now x.id.0 0) x.kbps (load_of end) ≡ true) }
@@ -104,12 +105,12 @@ impl Given {
     fn note(&mut self, iface: NodeIface, end: End) -> Result<(), Memory>
         requires used { iface.id.0 < length self.old.used.items }
         requires last { iface.id.0 < length self.old.last.items }
-        requires segment { end.segment < 512 }
+        requires segment { end.segment < MAX_SEGMENTS }
         requires serves { serves (slice_index_or self.old.used.items iface.id.0 0) (slice_index_or self.old.last.items iface.id.0 0) iface.kbps (load_of end)
             ≡ true }
         ensures plugs { OnOk result (self.new.plugs ≡ self.old.plugs ++ iface.id ∷ []) }
         ensures used { OnOk result (self.new.used.items ≡ slice_set self.old.used.items iface.id.0
-            (if end.multiplexed then slice_index_or self.old.used.items iface.id.0 0 + end.kbps else 18446744073709551615)) }
+            (if end.multiplexed then slice_index_or self.old.used.items iface.id.0 0 + end.kbps else FULL)) }
         ensures last { OnOk result (self.new.last.items
             ≡ (if end.multiplexed then slice_set self.old.last.items iface.id.0 (end.segment + 1) else self.old.last.items)) }
     {
@@ -135,7 +136,7 @@ impl Given {
     ) -> Result<bool, Memory>
         requires index { HasPlaces lab.now places.now index.now }
         requires sized { IsSized lab.now self.old }
-        requires segment { end.segment < 512 }
+        requires segment { end.segment < MAX_SEGMENTS }
         ensures sized { OnOk result (IsSized lab.now self.new) }
         ensures adds { IfOk result (λ yes. (had : List Laid) → Marks lab.now self.old had → IsNext end had → Adds lab.now places.now end had self.new yes) }
     {

@@ -5,4 +5,4 @@ mod pairs;
 mod watch;
 
 pub use pairs::lawful;
-pub use watch::{Seen, Watch};
+pub use watch::{MAX_POLLS, Seen, Watch};

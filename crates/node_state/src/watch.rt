@@ -7,7 +7,7 @@ use lab_base::Boot;
 use std::marker::Model;
 
 /// The number of polls after which a node that isn't up has taken too long.
-const MAX_POLLS: u32 = 64;
+pub const MAX_POLLS: u32 = 64;
 
 /// The verdict of a watch on a state: the first of these that holds.
 #[derive(Clone, Copy, Debug, PartialEq, Eq)]
@@ -54,7 +54,7 @@ impl Watch {
     pub fn see(&mut self, state: Boot) -> Seen
         ensures seen { result ≡ seen self.old state }
         ensures last { self.new.last ≡ state }
-        ensures polls { self.new.polls ≡ min (self.old.polls + 1) 4294967295 }
+        ensures polls { self.new.polls ≡ min (self.old.polls + 1) u32.MAX }
     {
         let last = self.last;
         self.last = state;

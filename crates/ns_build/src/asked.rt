@@ -6,6 +6,7 @@ ghost use Rattle.tcl_eval.specs.Runs.{fault_on};
 ghost use Rattle.ns_build.specs.Kept.{AllKeepLimits};
 ghost use Rattle.ns_build.specs.Meaning.{HasMeaning};
 
+use crate::events::MAX_EVENTS;
 use crate::host::NsHost;
 use lab_base::{Items, Kind, TextFault, TextRefused};
 use ns_events::Event;
@@ -40,7 +41,7 @@ fn refused(line: u32, kind: Kind) -> TextRefused
 /// come faults of the evaluation, with the line of the command at the top level. It is `not-run` with the last line where no `$ns run` is reached.
 pub fn read_ns(alloc: Global, text: &[u8]) -> Result<Asked, TextRefused>
     ensures meaning { HasMeaning text.now result }
-    ensures few { IfOk result (λ asked. length asked.events ≤ 1024) }
+    ensures few { IfOk result (λ asked. length asked.events ≤ MAX_EVENTS) }
     ensures limits { IfOk result (λ asked. AllKeepLimits asked.events) }
 {
     if text.len() > MAX_TEXT {

@@ -17,13 +17,7 @@ use crate::task::Task;
 use crate::words::elements_in;
 use lab_base::{Items, Kind, Name, Text};
 use std::alloc::Global;
-use virt_topo::{Asks, Class};
-
-/// The most classes.
-const MAX_CLASSES: usize = 64;
-
-/// The most types of a class.
-const MAX_TYPES: usize = 8;
+use virt_topo::{Asks, Class, MAX_CLASSES, MAX_TYPES};
 
 /// The weight of a class, in thousandths.
 const WEIGHT: u32 = 500;
@@ -84,7 +78,7 @@ impl Network {
 
     /// Whether another class, of so many types, is one too many, or has too many types.
     fn has_no_room(&self, types: usize) -> bool
-        ensures { result ≡ (nat_lt 8 types || nat_le 64 (length self.now.classes)) }
+        ensures { result ≡ (nat_lt MAX_TYPES types || nat_le MAX_CLASSES (length self.now.classes)) }
     {
         types > MAX_TYPES || self.classes.len() >= MAX_CLASSES
     }

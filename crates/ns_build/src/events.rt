@@ -19,7 +19,7 @@ use ns_events::{Event, What};
 use std::alloc::Global;
 
 /// The most events.
-const MAX_EVENTS: usize = 1_024;
+pub const MAX_EVENTS: usize = 1_024;
 
 /// The time that a word is, in microseconds.
 #[tactic(auto, unfolding(crate::specs::Events::time_in))]

@@ -5,6 +5,7 @@ ghost use Rattle.ns_build.specs.Kept.{AllKeepLimits};
 ghost use Rattle.ns_build.specs.Networks.{empty, topo_of, events_of};
 ghost use Rattle.ns_build.specs.Host.{called as called_by, assigned as assigned_by};
 
+use crate::events::MAX_EVENTS;
 use crate::network::Network;
 use crate::refusal::Refusal;
 use lab_base::{Items, Memory, Text};
@@ -46,7 +47,7 @@ impl NsHost {
     /// The scheduled events, in text order.
     pub fn events(&self) -> Result<Items<Event>, Memory>
         ensures events { IfOk result (λ events. events ≡ events_of self.now) }
-        ensures few { IfOk result (λ events. length events ≤ 1024) }
+        ensures few { IfOk result (λ events. length events ≤ MAX_EVENTS) }
         ensures limits { IfOk result (λ events. AllKeepLimits events) }
     {
         self.network.named_events(self.alloc)

@@ -12,6 +12,7 @@ use crate::task::Task;
 use crate::words::SIMULATOR;
 use lab_base::{Kind, Text};
 use std::alloc::Global;
+use virt_topo::MAX_CLASSES;
 
 impl Network {
     /// Judges a command with this first word: the task that it asks for.
@@ -22,7 +23,7 @@ impl Network {
         keyword: Option<Keyword>,
         words: &[Text],
     ) -> Result<Task, Refusal>
-        requires { length self.now.classes ≤ 64 }
+        requires { length self.now.classes ≤ MAX_CLASSES }
         ensures { Gives result (judged_keyword self.now keyword words.now) }
     {
         match keyword {
@@ -46,7 +47,7 @@ impl Network {
     /// Judges a command on a line: the task that it asks for.
     #[tactic(auto, unfolding(crate::specs::Tasks::judged))]
     pub(crate) fn judge(&self, alloc: Global, line: u32, words: &[Text]) -> Result<Task, Refusal>
-        requires { length self.now.classes ≤ 64 }
+        requires { length self.now.classes ≤ MAX_CLASSES }
         ensures { Gives result (judged line self.now words.now) }
     {
         match words {

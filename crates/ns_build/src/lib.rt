@@ -23,4 +23,5 @@ mod task;
 mod words;
 
 pub use asked::{Asked, read_ns};
+pub use events::MAX_EVENTS;
 pub use laws::{meaning_is_one, words_stand_for_objects};

@@ -30,7 +30,7 @@ fn has_link(name: Name, links: &[AskedLink]) -> bool
 
 /// The name of an object by its number.
 fn number_name(of: Numbered, place: usize) -> Name
-    requires { place < 65535 }
+    requires { place < u16.MAX }
     ensures { result ≡ numbered_name_of of (place + 1) }
 {
     numbered_name(of, place as u16 + 1)
@@ -39,7 +39,7 @@ fn number_name(of: Numbered, place: usize) -> Name
 impl Network {
     /// Whether the node at a place still has the name by its number.
     fn is_bare_node(&self, place: u16) -> bool
-        requires { place < 65535 }
+        requires { place < u16.MAX }
         ensures { result ≡ judges.is_numbered (numbered_name_of numbered.Node (place + 1)) (map (λ x. x.name) self.now.nodes) place }
     {
         match self.nodes.get(usize::from(place)) {
@@ -50,7 +50,7 @@ impl Network {
 
     /// Whether the link or LAN at a place still has the name by its number.
     fn is_bare_link(&self, place: usize) -> bool
-        requires { place < 65535 }
+        requires { place < u16.MAX }
         ensures { result ≡ judges.is_numbered (numbered_name_of numbered.Link (place + 1)) (map (λ x. x.name) self.now.links) place }
     {
         match self.links.as_slice().get(place) {
@@ -62,7 +62,7 @@ impl Network {
     /// Names the node at a place by a variable, if it still has the name by its number.
     #[tactic(auto, unfolding(crate::specs::Tasks::named_node))]
     fn name_node(&self, place: u16, variable: &[u8]) -> Result<Task, Kind>
-        requires { place < 65535 }
+        requires { place < u16.MAX }
         ensures { result ≡ judges.named_node self.now place variable.now }
     {
         if !self.is_bare_node(place) {
@@ -79,7 +79,7 @@ impl Network {
     /// Names the link or LAN at a place by a variable, if it still has the name by its number.
     #[tactic(auto, unfolding(crate::specs::Tasks::named_link))]
     fn name_link(&self, place: usize, variable: &[u8]) -> Result<Task, Kind>
-        requires { place < 65535 }
+        requires { place < u16.MAX }
         ensures { result ≡ judges.named_link self.now place variable.now }
     {
         if !self.is_bare_link(place) {

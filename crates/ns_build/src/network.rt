@@ -12,7 +12,7 @@ use crate::words::{LINK, NODE, place_in};
 use lab_base::{Items, Name};
 use std::alloc::Global;
 use std::marker::Model;
-use virt_topo::{AskedLink, AskedNode, Asks, Class, Topo, VirtEnd};
+use virt_topo::{AskedLink, AskedNode, Asks, Class, MAX_CLASSES, Topo, VirtEnd};
 
 /// The network that a text has made so far, with or without a simulator. It has nodes, links and LANs, classes, and events, each in order of
 /// creation.
@@ -92,7 +92,7 @@ impl Network {
     /// The place of the node that a word stands for.
     pub fn node_of(&self, word: &[u8]) -> Option<u16>
         ensures place { result ≡ words.node_of self.now word.now }
-        ensures fits { IfSome result (λ place. place < 65535) }
+        ensures fits { IfSome result (λ place. place < u16.MAX) }
     {
         place_in(NODE, self.nodes.len(), word)
     }
@@ -100,7 +100,7 @@ impl Network {
     /// The place of the link or LAN that a word stands for.
     pub fn link_of(&self, word: &[u8]) -> Option<usize>
         ensures place { result ≡ words.link_of self.now word.now }
-        ensures fits { IfSome result (λ place. place < 65535) }
+        ensures fits { IfSome result (λ place. place < u16.MAX) }
     {
         match place_in(LINK, self.links.len(), word) {
             Some(place) => Some(usize::from(place)),
@@ -153,7 +153,7 @@ impl Network {
 
     /// The class of that name where one is made, else the type of that name.
     pub fn asks_of(&self, name: Name) -> Asks
-        requires { length self.now.classes ≤ 64 }
+        requires { length self.now.classes ≤ MAX_CLASSES }
         ensures { result ≡ networks.asks_of self.now name }
     {
         match class_named(name, &self.classes) {

@@ -14,18 +14,10 @@ use crate::refusal::Refusal;
 use crate::task::Task;
 use crate::words::elements_in;
 use lab_base::{Items, Kind, Rates, Text};
+use net_plan::{MAX_LINKS, MAX_MEMBERS};
 use ns_words::{Numbered, numbered_name};
 use std::alloc::Global;
-use virt_topo::{AskedLink, VirtEnd};
-
-/// The most nodes.
-const MAX_NODES: usize = 256;
-
-/// The most links and LANs.
-const MAX_LINKS: usize = 512;
-
-/// The most nodes of a LAN.
-const MAX_MEMBERS: usize = 254;
+use virt_topo::{AskedLink, MAX_TOPOLOGY_NODES, VirtEnd};
 
 /// An end without an address.
 fn bare_end(node: u16) -> VirtEnd
@@ -57,7 +49,7 @@ impl Network {
     {
         counted(2, words)?;
         let place = self.nodes.len();
-        if place >= MAX_NODES {
+        if place >= MAX_TOPOLOGY_NODES {
             return Err(Kind::Limit);
         }
         Ok(Task::AddNode {
@@ -75,7 +67,7 @@ impl Network {
     /// The task of a new link or LAN, without loss.
     #[tactic(auto, unfolding(crate::specs::Commands::new_link))]
     fn new_link(&self, lan: bool, kbps: u64, micros: u32, ends: Items<VirtEnd>) -> Task
-        requires { length self.now.links < 512 }
+        requires { length self.now.links < MAX_LINKS }
         ensures { result ≡ commands.new_link self.now lan kbps micros ends }
     {
         let place = self.links.len();

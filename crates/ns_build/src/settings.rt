@@ -7,6 +7,7 @@ use crate::checks::{address_in, counted, flag_in, loss_in, name_in, need, refuse
 use crate::network::Network;
 use crate::task::{LinkChange, NodeChange, Task};
 use lab_base::{Kind, Text};
+use virt_topo::MAX_CLASSES;
 
 impl Network {
     /// `tb-set-node-os NODE OS`
@@ -26,7 +27,7 @@ impl Network {
     /// `tb-set-hardware NODE TYPE`
     #[tactic(auto, unfolding(crate::specs::Settings::judged_hardware))]
     pub(crate) fn judge_hardware(&self, words: &[Text]) -> Result<Task, Kind>
-        requires { length self.now.classes ≤ 64 }
+        requires { length self.now.classes ≤ MAX_CLASSES }
         ensures { result ≡ settings.judged_hardware self.now words.now }
     {
         counted(3, words)?;

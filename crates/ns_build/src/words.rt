@@ -38,8 +38,8 @@ fn is_printed(number: u16, digits: &[u8]) -> bool
 
 /// The place of these digits, if they are the printed form of a number below `count`.
 fn place_below(count: usize, digits: &[u8]) -> Option<u16>
-    ensures place { result ≡ place_below count digits.now (number_of 65534 digits.now) }
-    ensures fits { IfSome result (λ place. place < 65535) }
+    ensures place { result ≡ place_below count digits.now (number_of (u16.MAX - 1) digits.now) }
+    ensures fits { IfSome result (λ place. place < u16.MAX) }
 {
     match read_number(digits, 65_534) {
         Ok(number) => {
@@ -57,7 +57,7 @@ fn place_below(count: usize, digits: &[u8]) -> Option<u16>
 /// The place behind a mark in a word, if it is below `count`.
 pub(crate) fn place_in(mark: &[u8], count: usize, word: &[u8]) -> Option<u16>
     ensures place { result ≡ place_in mark.now count word.now }
-    ensures fits { IfSome result (λ place. place < 65535) }
+    ensures fits { IfSome result (λ place. place < u16.MAX) }
 {
     if word.starts_with(mark) {
         place_below(count, &word[mark.len()..])

@@ -13,7 +13,7 @@ use crate::rates::renewed_pipe;
 use crate::{ApplyFault, Event};
 use lab_base::{Items, Memory, Name};
 use std::alloc::Global;
-use virt_topo::{Pipe, Wiring};
+use virt_topo::{END_NUMBERS, Pipe, Wiring};
 
 /// The pipes behind an event. Those of its link are `text` in the text's wiring.
 fn renewed_pipes(
@@ -22,8 +22,9 @@ fn renewed_pipes(
     text: &[Pipe],
     now: &Wiring,
 ) -> Result<Items<Pipe>, Memory>
-    requires { length (end_nodes now.now.segments) ≤ 65536 }
-    ensures { IfOk result (λ pipes. pipes ≡ renewals.renewed (owners.is_of now.now event.now.link) (renewals.renewed_pipe event.now.what (length text.now)) now.now.pipes text.now) }
+    requires { length (end_nodes now.now.segments) ≤ END_NUMBERS }
+    ensures { IfOk result (λ pipes. pipes
+        ≡ renewals.renewed (owners.is_of now.now event.now.link) (renewals.renewed_pipe event.now.what (length text.now)) now.now.pipes text.now) }
 {
     let mut pipes = Items::new(alloc);
     let mut left = text;

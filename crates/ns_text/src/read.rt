@@ -7,9 +7,9 @@ ghost use Rattle.top_text.specs.Printable.{is_printable};
 ghost use Rattle.ns_build.specs.Kept.{AllKeepLimits};
 ghost use Rattle.ns_text.specs.Wirings.{Becomes, BecomesScript, HasScript, HasWiring, wiring_alone};
 
-use lab_base::{Items, Kind, Text, TextFault, TextRefused};
+use lab_base::{Items, Kind, MAX_PAYLOAD_TEXT, Text, TextFault, TextRefused};
 use net_plan::{PlanFault, expand};
-use ns_build::{Asked, read_ns};
+use ns_build::{Asked, MAX_EVENTS, read_ns};
 use ns_events::Event;
 use std::alloc::Global;
 use top_text::print_top;
@@ -84,7 +84,7 @@ fn script_of(alloc: Global, asked: Asked) -> Result<Script, TextRefused>
 pub fn read_script(alloc: Global, text: &[u8]) -> Result<Script, TextRefused>
     ensures script { HasScript text.now result }
     ensures sound { IfOk result (λ script. IsSound script.wiring) }
-    ensures few { IfOk result (λ script. length script.events ≤ 1024) }
+    ensures few { IfOk result (λ script. length script.events ≤ MAX_EVENTS) }
     ensures limits { IfOk result (λ script. AllKeepLimits script.events) }
 {
     match read_ns(alloc, text) {
@@ -99,7 +99,7 @@ pub fn read_and_print(alloc: Global, text: &[u8]) -> Result<Printed, TextRefused
     ensures sound { IfOk result (λ printed. IsSound printed.wiring) }
     ensures text { IfOk result (λ printed. printed.top ≡ canonical_top printed.wiring) }
     ensures again { IfOk result (λ printed. wiring_of_text printed.top ≡ Ok printed.wiring) }
-    ensures size { IfOk result (λ printed. length printed.top ≤ 16777216) }
+    ensures size { IfOk result (λ printed. length printed.top ≤ MAX_PAYLOAD_TEXT) }
     ensures printable { IfOk result (λ printed. is_printable printed.wiring ≡ true) }
 {
     let wiring = read_network(alloc, text)?;

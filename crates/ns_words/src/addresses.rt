@@ -5,6 +5,7 @@ ghost use Rattle.line_text.specs.Addresses.{IsAddress};
 ghost use Rattle.ns_words.specs.Addresses.{address_of};
 
 use line_text::address_in;
+use virt_topo::MAX_HOST;
 
 #[tactic(auto, unfolding(crate::specs::Addresses::address_of))]
 fn value_in(word: &[u8]) -> Option<u32>
@@ -17,7 +18,7 @@ fn value_in(word: &[u8]) -> Option<u32>
 pub fn address(word: &[u8]) -> Option<u32>
     ensures value { result ≡ address_of word.now }
     ensures exact { (address : ℕ) → (result ≡ Some address) ↔ IsAddress word.now address }
-    ensures limits { IfSome result (λ address. (1 ≤ address % 256) × (address % 256 ≤ 254)) }
+    ensures limits { IfSome result (λ address. (1 ≤ address % 256) × (address % 256 ≤ MAX_HOST)) }
 {
     value_in(word)
 }

@@ -11,4 +11,4 @@ mod units;
 pub use addresses::address;
 pub use laws::values_are_one;
 pub use names::{Numbered, numbered_name, object_name};
-pub use quantities::{bandwidth, delay, loss, time};
+pub use quantities::{MAX_TIME, bandwidth, delay, loss, time};

@@ -12,7 +12,7 @@ use arrayvec::ArrayVec;
 use lab_base::{Name, Parts, parted};
 
 /// The most bytes of an object's name.
-const MAX_NAME: usize = 26;
+const MAX_OBJECT_NAME: usize = 26;
 
 /// The kind of an object that is named by its number, if no variable names it.
 #[derive(Clone, Copy, Debug, PartialEq, Eq)]
@@ -62,14 +62,14 @@ fn is_index(bytes: &[u8]) -> bool
 fn name_in(bytes: &[u8]) -> Option<Name>
     ensures { result ≡ named_if bytes.now }
 {
-    if bytes.len() <= MAX_NAME {
+    if bytes.len() <= MAX_OBJECT_NAME {
         return Name::read(bytes).ok();
     }
     None
 }
 
-fn extend(bytes: &mut ArrayVec<u8, MAX_NAME>, more: &[u8])
-    requires { array_vec_len bytes.old + length more.now ≤ 26 }
+fn extend(bytes: &mut ArrayVec<u8, MAX_OBJECT_NAME>, more: &[u8])
+    requires { array_vec_len bytes.old + length more.now ≤ MAX_OBJECT_NAME }
     ensures { bytes.new.items ≡ bytes.old.items ++ more.now }
 {
     bytes.try_extend_from_slice(more).unwrap()
@@ -80,10 +80,10 @@ fn joined(first: &[u8], second: &[u8], third: &[u8]) -> Option<Name>
     ensures { result ≡ named_if (first.now ++ second.now ++ third.now) }
 {
     let len = first.len().saturating_add(second.len());
-    if len.saturating_add(third.len()) > MAX_NAME {
+    if len.saturating_add(third.len()) > MAX_OBJECT_NAME {
         return None;
     }
-    let mut bytes = ArrayVec::<u8, MAX_NAME>::new();
+    let mut bytes = ArrayVec::<u8, MAX_OBJECT_NAME>::new();
     extend(&mut bytes, first);
     extend(&mut bytes, second);
     extend(&mut bytes, third);

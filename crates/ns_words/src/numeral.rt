@@ -7,11 +7,17 @@ ghost use Rattle.std.specs.Str.Parse.{digits_value};
 ghost use Rattle.ns_words.specs.Values.{is_no_digit, numeral_from, numeral_of, quotient_of, parts_of, measured};
 ghost use Rattle.ns_words.specs.Seen.{numeral_seen, IsNumeral, capped};
 
+use crate::quantities::MAX_TIME;
+use crate::units::MAX_SCALE;
+
 /// The whole part from which on a number is too large in every unit.
 const LARGE: u64 = 10_000_000_000_000;
 
 /// The most digits behind a point.
 const MAX_PLACES: usize = 9;
+
+/// The most smallest parts of which a quantity is counted as one.
+const MAX_PART: u64 = 1_000;
 
 /// A numeral at the front of a word: its digits before and behind the point, and the bytes left.
 #[derive(Clone, Copy)]
@@ -96,7 +102,7 @@ impl Numeral<'_> {
         requires numeral { IsNumeral (numeral_seen self.now) }
         requires power { power ≡ 10 ^ length self.now.fraction.now }
         ensures value { result ≡ capped (digits_value 10 self.now.whole.now) * power + digits_value 10 self.now.fraction.now }
-        ensures fits { result < 20000000000000000000000 }
+        ensures fits { result < 2 * LARGE * 10 ^ MAX_PLACES }
     {
         let whole = u128::from(capped_value(self.whole)) * u128::from(power);
         whole + u128::from(capped_value(self.fraction))
@@ -105,9 +111,9 @@ impl Numeral<'_> {
     /// The numeral in units of `scale`, counted in parts of `part`; None where that is no whole number within the limits.
     pub fn parts(&self, scale: u64, part: u64, least: u64, most: u64) -> Option<u64>
         requires numeral { IsNumeral (numeral_seen self.now) }
-        requires scale { (1 ≤ scale) × (scale ≤ 1000000000) }
-        requires part { (1 ≤ part) × (part ≤ 1000) }
-        requires most { part * most ≤ 1000000000000 }
+        requires scale { (1 ≤ scale) × (scale ≤ MAX_SCALE) }
+        requires part { (1 ≤ part) × (part ≤ MAX_PART) }
+        requires most { part * most ≤ MAX_TIME }
         ensures { result ≡ parts_of part least most (numeral_seen self.now) scale }
     {
         if self.whole.is_empty() {
@@ -121,9 +127,9 @@ impl Numeral<'_> {
     /// The numeral in units of `scale`, as `parts` counts it; None where the unit is none.
     pub fn measured(&self, scale: Option<u64>, part: u64, least: u64, most: u64) -> Option<u64>
         requires numeral { IsNumeral (numeral_seen self.now) }
-        requires scale { ForSome scale (λ scale. (1 ≤ scale) × (scale ≤ 1000000000)) }
-        requires part { (1 ≤ part) × (part ≤ 1000) }
-        requires most { part * most ≤ 1000000000000 }
+        requires scale { ForSome scale (λ scale. (1 ≤ scale) × (scale ≤ MAX_SCALE)) }
+        requires part { (1 ≤ part) × (part ≤ MAX_PART) }
+        requires most { part * most ≤ MAX_TIME }
         ensures { result ≡ measured part least most (numeral_seen self.now) scale }
     {
         match scale {

@@ -5,6 +5,9 @@ ghost use Rattle.ns_words.specs.Quantities.{rate_units, time_units, loss_units, 
 ghost use Rattle.ns_words.specs.Values.{scale_of};
 ghost use Rattle.ns_words.specs.Letters.{letter_scale, is_ending, ended};
 
+/// The most that a unit has of its smallest part.
+pub(crate) const MAX_SCALE: u64 = 1_000_000_000;
+
 /// The factor of a letter before `b` or `bps`.
 fn letter_scale(letter: u8) -> Option<u64>
     ensures { result ≡ letter_scale letter }
@@ -32,7 +35,7 @@ fn ended(ending: &[u8], scale: u64) -> Option<u64>
 /// The bits per second of a unit of bandwidth.
 pub(crate) fn rate_scale(unit: &[u8]) -> Option<u64>
     ensures value { result ≡ scale_of rate_units unit.now }
-    ensures limits { ForSome result (λ scale. (1 ≤ scale) × (scale ≤ 1000000000)) }
+    ensures limits { ForSome result (λ scale. (1 ≤ scale) × (scale ≤ MAX_SCALE)) }
 {
     match unit {
         [letter, ending @ ..] => match letter_scale(*letter) {
@@ -46,7 +49,7 @@ pub(crate) fn rate_scale(unit: &[u8]) -> Option<u64>
 /// The microseconds of a unit of time.
 pub(crate) fn time_scale(unit: &[u8]) -> Option<u64>
     ensures value { result ≡ scale_of time_units unit.now }
-    ensures limits { ForSome result (λ scale. (1 ≤ scale) × (scale ≤ 1000000000)) }
+    ensures limits { ForSome result (λ scale. (1 ≤ scale) × (scale ≤ MAX_SCALE)) }
 {
     if unit.is_empty() || unit == b"s".as_slice() {
         Some(1_000_000)
@@ -62,7 +65,7 @@ pub(crate) fn time_scale(unit: &[u8]) -> Option<u64>
 /// The unit of a loss, which is the empty word.
 pub(crate) fn loss_scale(unit: &[u8]) -> Option<u64>
     ensures value { result ≡ scale_of loss_units unit.now }
-    ensures limits { ForSome result (λ scale. (1 ≤ scale) × (scale ≤ 1000000000)) }
+    ensures limits { ForSome result (λ scale. (1 ≤ scale) × (scale ≤ MAX_SCALE)) }
 {
     if unit.is_empty() {
         Some(1_000_000)
@@ -74,7 +77,7 @@ pub(crate) fn loss_scale(unit: &[u8]) -> Option<u64>
 /// The microseconds of a time's unit, which is always the second.
 pub(crate) fn second_scale(unit: &[u8]) -> Option<u64>
     ensures value { result ≡ scale_of second_units unit.now }
-    ensures limits { ForSome result (λ scale. (1 ≤ scale) × (scale ≤ 1000000000)) }
+    ensures limits { ForSome result (λ scale. (1 ≤ scale) × (scale ≤ MAX_SCALE)) }
 {
     if unit.is_empty() {
         Some(1_000_000)

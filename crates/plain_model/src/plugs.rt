@@ -13,7 +13,7 @@ use crate::at::{node_of, speed_of, switch_of};
 use crate::sides::is_joined;
 use lab_base::IfaceId;
 use phys_lab::Lab;
-use virt_topo::{Load, Mapping, Segment, Wiring};
+use virt_topo::{Load, MAX_ENDS, MAX_SEGMENTS, Mapping, Segment, Wiring};
 
 /// The virtual node of an end.
 fn end_node(segments: &[Segment], end: usize) -> u16
@@ -30,7 +30,7 @@ fn end_node(segments: &[Segment], end: usize) -> u16
 
 /// The load of an end on its interface. The first of these segments has that number.
 fn load_at(segments: &[Segment], number: u16, end: usize) -> Load
-    requires { number + length segments.now ≤ 512 }
+    requires { number + length segments.now ≤ MAX_SEGMENTS }
     ensures { result ≡ slice_index_or (loads_from number segments.now) end no_load }
 {
     match segments.split_first() {
@@ -85,8 +85,8 @@ fn joins_all(
     plug: IfaceId,
     load: &Load,
 ) -> bool
-    requires segments { length segments.now ≤ 512 }
-    requires few { end + length plugs.now ≤ 4096 }
+    requires segments { length segments.now ≤ MAX_SEGMENTS }
+    requires few { end + length plugs.now ≤ MAX_ENDS }
     requires ends { end + length plugs.now ≤ length (loads_from 0 segments.now) }
     ensures { result ≡ list_all (λ y. may_join y load.now) (loads_on plug.0 (zip (drop end (loads_from 0 segments.now)) plugs.now)) }
 {
@@ -105,8 +105,8 @@ fn joins_all(
 
 /// Whether the loads on an interface sum up to at most so many kbps. `plugs` are those of the ends from that number on.
 fn has_room(segments: &[Segment], end: usize, plugs: &[IfaceId], plug: IfaceId, kbps: u64) -> bool
-    requires segments { length segments.now ≤ 512 }
-    requires few { end + length plugs.now ≤ 4096 }
+    requires segments { length segments.now ≤ MAX_SEGMENTS }
+    requires few { end + length plugs.now ≤ MAX_ENDS }
     requires ends { end + length plugs.now ≤ length (loads_from 0 segments.now) }
     ensures { result ≡ nat_le (sum_by (λ y. y.kbps) (loads_on plug.0 (zip (drop end (loads_from 0 segments.now)) plugs.now))) kbps }
 {
@@ -125,8 +125,8 @@ fn has_room(segments: &[Segment], end: usize, plugs: &[IfaceId], plug: IfaceId, 
 
 /// Whether an interface of that many kbps may bear a load beside those of the first ends, which have these plugs.
 fn may_bear(segments: &[Segment], plugs: &[IfaceId], plug: IfaceId, kbps: u64, load: &Load) -> bool
-    requires segments { length segments.now ≤ 512 }
-    requires few { length plugs.now ≤ 4096 }
+    requires segments { length segments.now ≤ MAX_SEGMENTS }
+    requires few { length plugs.now ≤ MAX_ENDS }
     requires ends { length plugs.now ≤ length (loads_from 0 segments.now) }
     ensures { result ≡ may_bear kbps (loads_on plug.0 (zip (loads_from 0 segments.now) plugs.now)) load.now }
 {

@@ -12,7 +12,7 @@ use lab_base::{Boot, Kind, Name, Rates, VlanId, both, number_in};
 use line_text::{field_at, name_at, short_in, weight_in};
 
 fn short_at(fields: &[&[u8]], n: usize) -> Result<u16, Kind>
-    ensures { result ≡ number_from 0 65535 (field_at (views fields.now) n) }
+    ensures { result ≡ number_from 0 u16.MAX (field_at (views fields.now) n) }
 {
     let field = field_at(fields, n);
     short_in(field, 0, u16::MAX)
@@ -172,7 +172,7 @@ fn interfaces_at(fields: &[&[u8]]) -> Result<(Name, Name), Kind>
 }
 
 fn pipe_key_at(fields: &[&[u8]]) -> Result<(Name, u16), Kind>
-    ensures { result ≡ both_of (name_of (field_at (views fields.now) 0)) (number_from 0 65535 (field_at (views fields.now) 1)) }
+    ensures { result ≡ both_of (name_of (field_at (views fields.now) 0)) (number_from 0 u16.MAX (field_at (views fields.now) 1)) }
 {
     let node = name_at(fields, 0);
     let number = short_at(fields, 1);

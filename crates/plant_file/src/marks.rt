@@ -10,7 +10,7 @@ const MARKS: u64 = 4_294_967_291;
 /// The mark of the bytes so far, and of one more.
 fn mark_more(mark: u64, byte: u8) -> u64
     requires { mark < 2 ^ 32 }
-    ensures is { result ≡ (mark * 31 + byte) % 4294967291 }
+    ensures is { result ≡ (mark * 31 + byte) % MARKS }
     ensures small { result < 2 ^ 32 }
 {
     (mark * 31 + u64::from(byte)) % MARKS

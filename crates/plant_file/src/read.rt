@@ -7,7 +7,7 @@ ghost use Rattle.plant_file.specs.Lines.{added, tables_of_text};
 use crate::entry::Entry;
 use crate::lines::entry_in;
 use crate::list::push_read;
-use lab_base::{Items, TextRefused, fields_in, first_line, is_skipped};
+use lab_base::{Items, TEXT_LIMIT, TextRefused, fields_in, first_line, is_skipped};
 use line_text::{LineFault, refusal};
 use std::alloc::Global;
 
@@ -30,7 +30,7 @@ fn add_line(so_far: &mut Vec<Entry>, alloc: Global, line: &[u8]) -> Result<(), L
 }
 
 fn add_lines(so_far: &mut Vec<Entry>, alloc: Global, text: &[u8]) -> Result<(), TextRefused>
-    requires { length text.now < 4294967295 }
+    requires { length text.now < TEXT_LIMIT }
     ensures { ReadsInto result so_far.new.items (read_from added 1 (Ok so_far.old.items) (lines_of text.now)) }
 {
     let mut line = 1u32;
@@ -47,7 +47,7 @@ fn add_lines(so_far: &mut Vec<Entry>, alloc: Global, text: &[u8]) -> Result<(), 
 
 /// Reads the tables of a text.
 pub(crate) fn read_tables(alloc: Global, text: &[u8]) -> Result<Items<Entry>, TextRefused>
-    requires { length text.now < 4294967295 }
+    requires { length text.now < TEXT_LIMIT }
     ensures { Reads result (tables_of_text text.now) }
 {
     let mut so_far = Vec::new(alloc);

@@ -9,7 +9,7 @@ ghost use Rattle.plant_file.specs.Lines.{tables_text, tables_of_text};
 use crate::entry::{Entry, Key};
 use crate::lines_kept::{Line, find_line, put_line, take_out};
 use crate::read::read_tables;
-use lab_base::{Memory, TextRefused};
+use lab_base::{Memory, TEXT_LIMIT, TextRefused};
 use plant::Answer;
 use std::alloc::Global;
 use std::marker::Model;
@@ -55,7 +55,7 @@ impl Tables {
 
     /// The tables of a text.
     pub fn read(alloc: Global, text: &[u8]) -> Result<Tables, TextRefused>
-        requires { length text.now < 4294967295 }
+        requires { length text.now < TEXT_LIMIT }
         ensures { Reads result (tables_of_text text.now) }
     {
         let entries = read_tables(alloc, text)?;

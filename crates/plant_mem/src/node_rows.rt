@@ -10,7 +10,7 @@ use crate::mem::MemLab;
 use crate::nodes::state_in;
 use lab_base::Name;
 use plant::{DeviceOp, NodeRow, Step};
-use plant_tables::PipeRow;
+use plant_tables::{MAX_PIPES, PipeRow};
 
 /// The OS of a node after a step.
 fn os_after(node: &Name, step: &Step, had: Option<Name>) -> Option<Name>
@@ -97,7 +97,7 @@ fn shaped_after(node: &Name, pipe: u16, step: &Step, had: Option<PipeRow>) -> Op
 /// The number from which on no pipe is set after a step, where before it that number was `end`.
 fn end_after(step: &Step, end: u32) -> u32
     ensures end { result ≡ end_after step.now end }
-    ensures bound { end ≤ 65536 → result ≤ 65536 }
+    ensures bound { end ≤ MAX_PIPES → result ≤ MAX_PIPES }
 {
     match step {
         Step::Did {
@@ -140,7 +140,7 @@ impl MemLab {
     }
 
     fn pipes_below(&self, node: &Name, end: u32) -> u32
-        requires { end ≤ 65536 }
+        requires { end ≤ MAX_PIPES }
         ensures { result ≡ pipes_below end ((world_of (told_of self.now).trace).node node.now).pipes }
     {
         let mut count = 0;
@@ -155,7 +155,7 @@ impl MemLab {
     /// The number from which on no node has a pipe.
     pub(crate) fn pipes_end(&self) -> u32
         ensures free { Free result (world_of (told_of self.now).trace) }
-        ensures bound { result ≤ 65536 }
+        ensures bound { result ≤ MAX_PIPES }
     {
         let mut end = 0;
         for step in &self.past.steps {

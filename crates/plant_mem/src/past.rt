@@ -19,6 +19,9 @@ use lab_base::{Memory, Name};
 use plant::{Answer, DeviceOp, Fault, Pick, Side, Step};
 use std::alloc::Global;
 
+/// Room is made for fewer steps than this at once.
+const STEPS_LIMIT: usize = 1_000_000;
+
 /// The steps of a plant in memory, with the sides that they made, the boot states of nodes and the rows that stand.
 #[derive(Drop)]
 pub struct Past {
@@ -294,7 +297,7 @@ impl Past {
 
     /// Makes room for so many steps more, each with a node, and for so many bytes more. It follows a restart.
     pub fn make_room(&mut self, steps: usize, bytes: usize) -> Result<(), Memory>
-        requires { steps < 1000000 }
+        requires { steps < STEPS_LIMIT }
         ensures trace { trace_of self.new.bytes.items self.new.steps.items ≡ trace_of self.old.bytes.items self.old.steps.items }
         ensures states { self.new.nodes.items ≡ self.old.nodes.items }
         ensures table { self.new.rows.items ≡ self.old.rows.items }

@@ -6,5 +6,5 @@ mod pipe_row;
 mod tables;
 
 pub use laws::answers_are_one;
-pub use pipe_row::{PipeRow, ReadFailed};
+pub use pipe_row::{MAX_PIPES, PipeRow, ReadFailed};
 pub use tables::Tables;

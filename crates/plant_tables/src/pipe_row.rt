@@ -1,5 +1,8 @@
 use lab_base::{Name, Rates};
 
+/// The most pipes of a node: 16 bits number them.
+pub const MAX_PIPES: u32 = 65_536;
+
 /// A pipe that a node holds, with its number.
 #[derive(Clone, Copy, PartialEq, Eq)]
 pub struct PipeRow {

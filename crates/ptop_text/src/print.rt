@@ -4,7 +4,7 @@ ghost use Rattle.ptop_text.specs.Adding.{lab_of_text};
 ghost use Rattle.ptop_text.specs.Canonical.{port_field, range_line, switch_line, node_line, iface_line, trunk_line, canonical, feature_fields};
 ghost use Rattle.line_text.specs.Printing.{line_text, text_of, with_number, spaced};
 
-use lab_base::{Memory, Name, SwitchId, Text};
+use lab_base::{MAX_PAYLOAD_TEXT, Memory, Name, SwitchId, Text};
 use line_text::push_numbered;
 use phys_lab::{Iface, Lab, Node, Trunk};
 use std::alloc::Global;
@@ -162,7 +162,7 @@ fn push_trunks(text: &mut Text, lab: &Lab) -> Result<(), Memory>
 pub fn print_ptop(alloc: Global, lab: &Lab) -> Result<Text, Memory>
     ensures text { IfOk result (λ text. text ≡ canonical lab.now) }
     ensures again { IfOk result (λ text. lab_of_text text ≡ Ok lab.now) }
-    ensures size { IfOk result (λ text. length text ≤ 16777216) }
+    ensures size { IfOk result (λ text. length text ≤ MAX_PAYLOAD_TEXT) }
 {
     let mut text = Text::new(alloc);
     push_range(&mut text, lab.range())?;

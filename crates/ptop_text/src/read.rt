@@ -5,7 +5,7 @@ ghost use Rattle.line_text.specs.Refusals.{Reads, ReadsInto, Takes};
 ghost use Rattle.ptop_text.specs.Adding.{added, start, lab_of_text};
 
 use crate::so_far::LabSoFar;
-use lab_base::{Memory, TextRefused, fields_in, first_line, is_skipped};
+use lab_base::{Memory, TEXT_LIMIT, TextRefused, fields_in, first_line, is_skipped};
 use line_text::{LineFault, refusal};
 use phys_lab::{Lab, LabBuilder};
 use std::alloc::Global;
@@ -34,7 +34,7 @@ fn start(alloc: Global) -> Result<LabSoFar, Memory>
 
 /// Adds the lines of a text.
 fn add_lines(so_far: &mut LabSoFar, alloc: Global, text: &[u8]) -> Result<(), TextRefused>
-    requires { length text.now < 4294967295 }
+    requires { length text.now < TEXT_LIMIT }
     ensures { ReadsInto result so_far.new (read_from added 1 (Ok so_far.old) (lines_of text.now)) }
 {
     let mut line = 1u32;
@@ -51,7 +51,7 @@ fn add_lines(so_far: &mut LabSoFar, alloc: Global, text: &[u8]) -> Result<(), Te
 
 /// Reads the lab of a ptop text; a refusal has the kind and the line of the first fault.
 pub fn read_ptop(alloc: Global, text: &[u8]) -> Result<Lab, TextRefused>
-    requires { length text.now < 4294967295 }
+    requires { length text.now < TEXT_LIMIT }
     ensures { Reads result (lab_of_text text.now) }
 {
     let mut so_far = start(alloc)?;

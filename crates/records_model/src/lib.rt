@@ -1,7 +1,7 @@
 //! The lab that the records of a journal stand for, and the facts that hold of it at every moment.
 #![tactic(auto)]
 
-ghost use Rattle.std.specs.Prelude.{ℕ, ◌≡◌, ◌≤◌, ◌+◌, ◌^◌, Bool, List, [], ◌∷◌, ◌++◌, Result};
+ghost use Rattle.std.specs.Prelude.{ℕ, ◌≡◌, ◌≤◌, ◌+◌, Bool, List, [], ◌∷◌, ◌++◌, Result};
 ghost use Rattle.lab_base.specs.Lists.{Has};
 ghost use Rattle.virt_topo.specs.declared.experiment.Experiment.{Experiment};
 ghost use Rattle.plant.specs.Worlds.{World, world_of};
@@ -26,6 +26,8 @@ ghost use Rattle.records_model.specs.Appends.{StandFor};
 ghost use Rattle.records_model.specs.Openings.{Blanks, Finds};
 ghost use Rattle.records_model.specs.Works.{IsSound, AtWork, HasRoom, MayAppend};
 
+use journal_rec::{LAST_RECORDS, MAX_JOURNAL};
+
 /// The lab of records: one record more is one step more, the lab is unique, and its claims are held.
 pub fn lab_of_records()
     ensures pushed { (t : Texts) (s mid end : LabState) (rs : List Record) (r : Record) → FoldsTo t s rs mid → Follows t mid r end
@@ -40,7 +42,7 @@ pub fn lab_of_records()
     ensures holding { (t : Texts) (rs : List Record) (s : LabState) → LabOf t rs s → Holding (lab_in s.lab) s.experiments }
     ensures parts { (t : Texts) (s u : LabState) (r : Record) (w : World) → Sane s → (f : Follows t s r u) → IsRightFor s w f.move
         → KeepsParts w s → KeepsParts w u }
-    ensures room { (rs : List Record) (r : Record) (u : LabState) → Sane u → gate_after rs + 1 + size r + 10240 ≤ 2 ^ 32
+    ensures room { (rs : List Record) (r : Record) (u : LabState) → Sane u → gate_after rs + 1 + size r + LAST_RECORDS ≤ MAX_JOURNAL
         → HasRoom (rs ++ r ∷ []) u }
 {}
 

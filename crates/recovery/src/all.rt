@@ -12,7 +12,7 @@ ghost use Rattle.recovery.specs.Settle.{CountedBy, SettledTo, IsSettlingSome, Af
 
 use crate::{One, SettleFault, settle_one};
 use journal_disk::Journal;
-use lab_base::Name;
+use lab_base::{MAX_NAME, Name};
 use lab_state::LabState;
 use plant::Plant;
 use std::alloc::Global;
@@ -28,7 +28,7 @@ pub struct Settled {
 /// The name of an experiment, which is short.
 fn short_name(experiment: &Experiment) -> Name
     ensures name { result ≡ (experiment.now).name }
-    ensures short { length result ≤ 32 }
+    ensures short { length result ≤ MAX_NAME }
 {
     let _named = experiment.name.bytes();
     experiment.name
@@ -37,7 +37,7 @@ fn short_name(experiment: &Experiment) -> Name
 /// The name of an experiment, if it moves and isn't busy.
 fn due(experiment: &Experiment, busy: &[Name]) -> Option<Name>
     ensures due { result ≡ name_of (due busy.now experiment.now) }
-    ensures short { IfSome result (λ name. length name ≤ 32) }
+    ensures short { IfSome result (λ name. length name ≤ MAX_NAME) }
 {
     let name = short_name(experiment);
     if busy.contains(&name) {
@@ -52,7 +52,7 @@ fn due(experiment: &Experiment, busy: &[Name]) -> Option<Name>
 /// The name of the experiment of that number, if it moves and isn't busy.
 fn due_at(state: &LabState, busy: &[Name], n: u16) -> Option<Name>
     ensures due { result ≡ name_of (due_in busy.now (slice_get state.now.state.experiments n)) }
-    ensures short { IfSome result (λ name. length name ≤ 32) }
+    ensures short { IfSome result (λ name. length name ≤ MAX_NAME) }
 {
     match state.nth(n) {
         Some(experiment) => due(experiment, busy),

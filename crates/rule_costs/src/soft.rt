@@ -8,9 +8,9 @@ ghost use Rattle.cost_rule.specs.Cost.{sum_below, node_soft, class_soft, soft};
 ghost use Rattle.rule_costs.specs.Moved.{IsDifference};
 
 use crate::moved::Moved;
-use cost_rule::{class_soft, is_member, node_soft};
-use phys_lab::Lab;
-use virt_topo::{Mapping, Wiring};
+use cost_rule::{MAX_SOFT, class_soft, is_member, node_soft};
+use phys_lab::{Lab, MAX_FEATURES};
+use virt_topo::{MAX_CLASSES, MAX_DESIRES, MAX_SOFT_WEIGHT, MAX_TOPOLOGY_NODES, Mapping, Wiring};
 
 /// Whether a virtual node has another place in one mapping than in the other.
 fn has_moved(from: &Mapping, to: &Mapping, virt: usize) -> bool
@@ -28,8 +28,8 @@ fn moved_node_soft(lab: &Lab, wiring: &Wiring, from: &Mapping, to: &Mapping, vir
     requires to { IsShaped lab.now wiring.now to.now }
     requires virt { virt < length wiring.now.nodes }
     ensures difference { IsDifference (node_soft lab.now wiring.now from.now virt) (node_soft lab.now wiring.now to.now virt) result }
-    ensures before { result.before ≤ 16 * 999 }
-    ensures after { result.after ≤ 16 * 999 }
+    ensures before { result.before ≤ (MAX_DESIRES + MAX_FEATURES) * MAX_SOFT_WEIGHT }
+    ensures after { result.after ≤ (MAX_DESIRES + MAX_FEATURES) * MAX_SOFT_WEIGHT }
 {
     if !has_moved(from, to, virt) {
         return Moved::nothing();
@@ -47,8 +47,8 @@ fn moved_nodes_soft(lab: &Lab, wiring: &Wiring, from: &Mapping, to: &Mapping) ->
     requires to { IsShaped lab.now wiring.now to.now }
     ensures difference { IsDifference (sum_below (length wiring.now.nodes) (node_soft lab.now wiring.now from.now))
         (sum_below (length wiring.now.nodes) (node_soft lab.now wiring.now to.now)) result }
-    ensures before { result.before ≤ 256 * (16 * 999) }
-    ensures after { result.after ≤ 256 * (16 * 999) }
+    ensures before { result.before ≤ MAX_TOPOLOGY_NODES * ((MAX_DESIRES + MAX_FEATURES) * MAX_SOFT_WEIGHT) }
+    ensures after { result.after ≤ MAX_TOPOLOGY_NODES * ((MAX_DESIRES + MAX_FEATURES) * MAX_SOFT_WEIGHT) }
 {
     let mut before = 0;
     let mut after = 0;
@@ -92,8 +92,8 @@ fn moved_class_soft(wiring: &Wiring, from: &Mapping, to: &Mapping, class: usize)
     requires to { length to.now.places ≡ length wiring.now.nodes }
     requires class { class < length wiring.now.classes }
     ensures difference { IsDifference (class_soft wiring.now from.now class) (class_soft wiring.now to.now class) result }
-    ensures before { result.before ≤ 999 * 256 }
-    ensures after { result.after ≤ 999 * 256 }
+    ensures before { result.before ≤ MAX_SOFT_WEIGHT * MAX_TOPOLOGY_NODES }
+    ensures after { result.after ≤ MAX_SOFT_WEIGHT * MAX_TOPOLOGY_NODES }
 {
     if !has_moved_member(wiring, from, to, class as u16) {
         return Moved::nothing();
@@ -111,8 +111,8 @@ fn moved_classes_soft(wiring: &Wiring, from: &Mapping, to: &Mapping) -> Moved
     requires to { length to.now.places ≡ length wiring.now.nodes }
     ensures difference { IsDifference (sum_below (length wiring.now.classes) (class_soft wiring.now from.now))
         (sum_below (length wiring.now.classes) (class_soft wiring.now to.now)) result }
-    ensures before { result.before ≤ 64 * (999 * 256) }
-    ensures after { result.after ≤ 64 * (999 * 256) }
+    ensures before { result.before ≤ MAX_CLASSES * (MAX_SOFT_WEIGHT * MAX_TOPOLOGY_NODES) }
+    ensures after { result.after ≤ MAX_CLASSES * (MAX_SOFT_WEIGHT * MAX_TOPOLOGY_NODES) }
 {
     let mut before = 0;
     let mut after = 0;
@@ -130,8 +130,8 @@ pub(crate) fn moved_soft(lab: &Lab, wiring: &Wiring, from: &Mapping, to: &Mappin
     requires from { IsShaped lab.now wiring.now from.now }
     requires to { IsShaped lab.now wiring.now to.now }
     ensures difference { IsDifference (soft lab.now wiring.now from.now) (soft lab.now wiring.now to.now) result }
-    ensures before { result.before ≤ 1000000000 }
-    ensures after { result.after ≤ 1000000000 }
+    ensures before { result.before ≤ MAX_SOFT }
+    ensures after { result.after ≤ MAX_SOFT }
 {
     let nodes = moved_nodes_soft(lab, wiring, from, to);
     let classes = moved_classes_soft(wiring, from, to);

@@ -13,14 +13,17 @@ use cost_rule::RuleNumber;
 use phys_lab::Lab;
 use virt_topo::{Mapping, Wiring};
 
+/// A bound on the cost of a mapping.
+const MAX_COST: u64 = 1_000_000_000_000_000;
+
 /// The cost of the parts that moved, by the number of a rule.
 fn moved_cost(number: RuleNumber, lab: &Lab, wiring: &Wiring, from: &Mapping, to: &Mapping) -> Moved
     requires sound { IsSound wiring.now }
     requires from { IsShaped lab.now wiring.now from.now }
     requires to { IsShaped lab.now wiring.now to.now }
     ensures difference { IsDifference (cost_in number lab.now wiring.now from.now) (cost_in number lab.now wiring.now to.now) result }
-    ensures before { result.before ≤ 1000000000000000 }
-    ensures after { result.after ≤ 1000000000000000 }
+    ensures before { result.before ≤ MAX_COST }
+    ensures after { result.after ≤ MAX_COST }
 {
     // for the prover: it tells what every lab keeps
     let _kept = lab.range();

@@ -10,7 +10,7 @@ ghost use Rattle.rule_costs.specs.Uses.{uses_of};
 use crate::moved::Moved;
 use lab_base::{IfaceId, TrunkId};
 use phys_lab::Lab;
-use virt_topo::{Mapping, Segment, Wiring};
+use virt_topo::{MAX_KBPS, MAX_SEGMENT_ENDS, Mapping, Segment, Wiring};
 
 /// The number of plugs on a side.
 fn plugs_on(side: &[bool], plugs: &[IfaceId]) -> usize
@@ -24,10 +24,10 @@ fn plugs_on(side: &[bool], plugs: &[IfaceId]) -> usize
 /// The kbps that a segment with these plugs uses of the cut between a side and the rest.
 fn segment_use(side: &[bool], segment: &Segment, plugs: &[IfaceId]) -> u64
     requires within { All (λ i. i.0 < length side.now) plugs.now }
-    requires few { length plugs.now ≤ 256 }
-    requires slow { segment.now.kbps ≤ 1000000000 }
+    requires few { length plugs.now ≤ MAX_SEGMENT_ENDS }
+    requires slow { segment.now.kbps ≤ MAX_KBPS }
     ensures is { result ≡ cable_use side.now (record { segment = segment.now; plugs = plugs.now }) }
-    ensures small { result ≤ 256 * 1000000000 }
+    ensures small { result ≤ MAX_SEGMENT_ENDS * MAX_KBPS }
 {
     let on_side = plugs_on(side, plugs);
     on_side.min(plugs.len() - on_side) as u64 * segment.kbps
@@ -36,8 +36,8 @@ fn segment_use(side: &[bool], segment: &Segment, plugs: &[IfaceId]) -> u64
 /// The kbps that a segment with these plugs uses of all trunks.
 fn segment_uses(lab: &Lab, segment: &Segment, plugs: &[IfaceId]) -> u64
     requires in_lab { All (λ i. i.0 < length lab.now.ifaces) plugs.now }
-    requires few { length plugs.now ≤ 256 }
-    requires slow { segment.now.kbps ≤ 1000000000 }
+    requires few { length plugs.now ≤ MAX_SEGMENT_ENDS }
+    requires slow { segment.now.kbps ≤ MAX_KBPS }
     ensures { result ≡ uses_of lab.now (record { segment = segment.now; plugs = plugs.now }) }
 {
     // for the prover: it tells what every lab keeps
@@ -54,9 +54,9 @@ fn segment_uses(lab: &Lab, segment: &Segment, plugs: &[IfaceId]) -> u64
 fn moved_segment(lab: &Lab, segment: &Segment, old: &[IfaceId], new: &[IfaceId]) -> Moved
     requires old { All (λ i. i.0 < length lab.now.ifaces) old.now }
     requires new { All (λ i. i.0 < length lab.now.ifaces) new.now }
-    requires few_old { length old.now ≤ 256 }
-    requires few_new { length new.now ≤ 256 }
-    requires slow { segment.now.kbps ≤ 1000000000 }
+    requires few_old { length old.now ≤ MAX_SEGMENT_ENDS }
+    requires few_new { length new.now ≤ MAX_SEGMENT_ENDS }
+    requires slow { segment.now.kbps ≤ MAX_KBPS }
     ensures difference { IsDifference (uses_of lab.now (record { segment = segment.now; plugs = old.now }))
         (uses_of lab.now (record { segment = segment.now; plugs = new.now })) result }
     ensures before { result.before ≤ uses_of lab.now (record { segment = segment.now; plugs = old.now }) }

@@ -209,8 +209,3 @@ tells_failed reply = false
 -- THE REPLY TO `batch`: a line for each run, in order; whether one closes, whether one blames a device, and whether one tells of a swap that failed
 abbrev pub served_of : List Reply → Served
 served_of told = record { lines = flat_map text_of told; closes = list_any closes told; blames = list_any blames_device told; fails = list_any tells_failed told }
-
--- THE REPLY TELLS that a device did not tell what it holds
-abbrev pub tells_unread : Reply → Option (List ℕ)
-tells_unread (replies.Unread name) = Some name
-tells_unread reply = None

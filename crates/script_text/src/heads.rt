@@ -11,10 +11,10 @@ use lab_base::{Memory, Name, Text, fields_in, is_skipped, read_number};
 use std::alloc::Global;
 
 /// The most lines of a block.
-const MAX_LINES: u64 = 16_384;
+pub const MAX_LINES: u64 = 16_384;
 
 /// The last moment that a script names: of link events in microseconds.
-const MAX_MOMENT: u64 = 1_000_000_000_000;
+pub const MAX_MOMENT: u64 = 1_000_000_000_000;
 
 /// A command that one block completes.
 #[derive(Clone, Copy)]
@@ -150,7 +150,7 @@ impl TwoBlocks {
 /// The number of lines in a field.
 fn count_in(field: &[u8]) -> Option<u16>
     ensures count { result ≡ counted field.now }
-    ensures few { IfSome result (λ lines. lines ≤ 16384) }
+    ensures few { IfSome result (λ lines. lines ≤ MAX_LINES) }
 {
     match read_number(field, MAX_LINES) {
         Ok(lines) => Some(lines as u16),
@@ -191,7 +191,7 @@ fn only_name(fields: &[&[u8]]) -> Option<Name>
 /// The number of lines in the only field.
 fn only_count(fields: &[&[u8]]) -> Option<u16>
     ensures count { result ≡ only_count (views fields.now) }
-    ensures few { IfSome result (λ lines. lines ≤ 16384) }
+    ensures few { IfSome result (λ lines. lines ≤ MAX_LINES) }
 {
     match fields {
         [lines] => count_in(lines),
@@ -202,7 +202,7 @@ fn only_count(fields: &[&[u8]]) -> Option<u16>
 /// The name and the number of lines in two fields.
 fn name_and_count(fields: &[&[u8]]) -> Option<(Name, u16)>
     ensures pair { result ≡ name_and_count (views fields.now) }
-    ensures few { IfSome result (λ given. given.1 ≤ 16384) }
+    ensures few { IfSome result (λ given. given.1 ≤ MAX_LINES) }
 {
     match fields {
         [exp, lines] => {
@@ -217,8 +217,8 @@ fn name_and_count(fields: &[&[u8]]) -> Option<(Name, u16)>
 /// The name and the two numbers of lines in three fields.
 fn name_and_counts(fields: &[&[u8]]) -> Option<(Name, u16, u16)>
     ensures triple { result ≡ name_and_counts (views fields.now) }
-    ensures first { IfSome result (λ given. given.1 ≤ 16384) }
-    ensures second { IfSome result (λ given. given.2 ≤ 16384) }
+    ensures first { IfSome result (λ given. given.1 ≤ MAX_LINES) }
+    ensures second { IfSome result (λ given. given.2 ≤ MAX_LINES) }
 {
     match fields {
         [exp, first, second] => {
@@ -258,7 +258,7 @@ fn name_and_seed(fields: &[&[u8]]) -> Option<(Name, u64)>
 /// The name, the seed and the number of lines in three fields.
 fn name_seed_and_count(fields: &[&[u8]]) -> Option<(Name, u64, u16)>
     ensures triple { result ≡ name_seed_and_count (views fields.now) }
-    ensures few { IfSome result (λ given. given.2 ≤ 16384) }
+    ensures few { IfSome result (λ given. given.2 ≤ MAX_LINES) }
 {
     match fields {
         [exp, seed, lines] => {
@@ -274,7 +274,7 @@ fn name_seed_and_count(fields: &[&[u8]]) -> Option<(Name, u64, u16)>
 /// The moment that a field gives.
 fn moment_in(field: &[u8]) -> Option<u64>
     ensures moment { result ≡ moment_of field.now }
-    ensures range { IfSome result (λ moment. moment ≤ 1000000000000) }
+    ensures range { IfSome result (λ moment. moment ≤ MAX_MOMENT) }
 {
     match read_number(field, MAX_MOMENT) {
         Ok(moment) => Some(moment),
@@ -285,8 +285,8 @@ fn moment_in(field: &[u8]) -> Option<u64>
 /// The moment and the number of lines that two fields give.
 fn moment_and_count(fields: &[&[u8]]) -> Option<(u64, u16)>
     ensures given { result ≡ moment_and_count (views fields.now) }
-    ensures range { IfSome result (λ given. given.0 ≤ 1000000000000) }
-    ensures few { IfSome result (λ given. given.1 ≤ 16384) }
+    ensures range { IfSome result (λ given. given.0 ≤ MAX_MOMENT) }
+    ensures few { IfSome result (λ given. given.1 ≤ MAX_LINES) }
 {
     match fields {
         [moment, lines] => {
@@ -301,7 +301,7 @@ fn moment_and_count(fields: &[&[u8]]) -> Option<(u64, u16)>
 /// The name, the two moments and the number of lines that four fields give.
 fn name_span_and_count(fields: &[&[u8]]) -> Option<(Name, u64, u64, u16)>
     ensures given { result ≡ name_span_and_count (views fields.now) }
-    ensures few { IfSome result (λ given. given.3 ≤ 16384) }
+    ensures few { IfSome result (λ given. given.3 ≤ MAX_LINES) }
 {
     match fields {
         [exp, from, to, lines] => {

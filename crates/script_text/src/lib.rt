@@ -15,6 +15,7 @@ mod reply;
 mod served;
 
 pub use command::Command;
+pub use heads::{MAX_LINES, MAX_MOMENT};
 pub use next::{Next, ScriptFault, read_command};
 pub use played::{played_all, played_until};
 pub use replies::reply_text;

@@ -1,4 +1,4 @@
-ghost use Rattle.std.specs.Prelude.{◌≡◌, ◌≤◌, ◌<◌, ◌+◌, ◌^◌, ℕ, [], ◌∷◌, length, None, Some, false, IfOk, IfSome, IfNone, OnOk, IsErrOf};
+ghost use Rattle.std.specs.Prelude.{◌≡◌, ◌≤◌, ◌<◌, ◌+◌, ℕ, [], ◌∷◌, length, None, Some, false, IfOk, IfSome, IfNone, OnOk, IsErrOf};
 ghost use Rattle.std.specs.Io.KnownBytes.{IsAtEnd};
 ghost use Rattle.lab_base.specs.Counts.{Rose};
 ghost use Rattle.lab_io.specs.Feeds.{NoFeed};
@@ -8,9 +8,9 @@ ghost use Rattle.script_text.specs.Blocks.{IsBlock, HasBlocks, NextHasBlocks, Is
 ghost use Rattle.script_text.specs.Taking.{HoldsNoMore, HasLong, Skipped, Begun, Blocked, IsShort, IsCut, Completes, IsBadAt, IsHalf, IsBad, Reads, GoesOn, IsUnfinished};
 
 use crate::Command;
-use crate::heads::{Head, Said, said_in};
+use crate::heads::{Head, MAX_LINES, Said, said_in};
 use lab_base::{Memory, Text};
-use lab_io::{Line, LineFault, LineReader, Source};
+use lab_io::{Line, LineFault, LineReader, MAX_LINE, MAX_SCRIPT, Source};
 use std::alloc::Global;
 
 /// The next part of a script.
@@ -45,7 +45,7 @@ impl From<Memory> for ScriptFault {
 fn take_line<S: Source>(lines: &mut LineReader, source: &mut S) -> Result<Option<Text>, ScriptFault>
     ensures some { IfOk result (λ line. IfSome line (λ text. Passed (stand_of lines.old (S.left source.old)) (stand_of lines.new (S.left source.new))
         (text ∷ []))) }
-    ensures short { IfOk result (λ line. IfSome line (λ text. length text ≤ 4096)) }
+    ensures short { IfOk result (λ line. IfSome line (λ text. length text ≤ MAX_LINE)) }
     ensures more { IfOk result (λ line. IfSome line (λ text. taken_of lines.old < taken_of lines.new)) }
     ensures none { IsReady lines.old (S.left source.old)
         → IfOk result (λ line. IfNone line (Passed (stand_of lines.old (S.left source.old)) (stand_of lines.new (S.left source.new)) []
@@ -57,7 +57,7 @@ fn take_line<S: Source>(lines: &mut LineReader, source: &mut S) -> Result<Option
         × (rest_of lines.new (S.left source.new) ≡ rest_of lines.old (S.left source.old)) }
     ensures later { S.faults source.old ≤ S.faults source.new }
     ensures ahead { HoldsNoMore lines.old lines.new }
-    ensures within { taken_of lines.new ≤ 2 ^ 32 }
+    ensures within { taken_of lines.new ≤ MAX_SCRIPT }
     ensures ok { OnOk result (fault_of lines.new ≡ None) }
 {
     match lines.next(source) {
@@ -90,7 +90,7 @@ fn find_head<S: Source>(
         → IsUnfinished (stand_of lines.old (S.left source.old)) (stand_of lines.new (S.left source.new)) }
     ensures later { S.faults source.old ≤ S.faults source.new }
     ensures ahead { HoldsNoMore lines.old lines.new }
-    ensures within { taken_of lines.new ≤ 2 ^ 32 }
+    ensures within { taken_of lines.new ≤ MAX_SCRIPT }
     ensures ok { OnOk result (fault_of lines.new ≡ None) }
 {
     'lines: loop {
@@ -118,7 +118,7 @@ fn take_block<S: Source>(
 ) -> Result<Text, ScriptFault>
     ensures block { IsReady lines.old (S.left source.old)
         → IfOk result (λ text. Blocked (stand_of lines.old (S.left source.old)) (stand_of lines.new (S.left source.new)) count text) }
-    ensures lines { count ≤ 16384 → IfOk result (λ text. IsBlock count text) }
+    ensures lines { count ≤ MAX_LINES → IfOk result (λ text. IsBlock count text) }
     ensures bad { IsReady lines.old (S.left source.old) → (line : ℕ) → IsErrOf result (ScriptFault.Bad line)
         → IsShort (stand_of lines.old (S.left source.old)) count line }
     ensures read { fault_of lines.old ≡ None → IsErrOf result ScriptFault.ReadFault

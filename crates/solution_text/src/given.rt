@@ -158,7 +158,7 @@ impl Given {
         end: Option<usize>,
         iface: Option<usize>,
     ) -> Result<(), LineFault>
-        requires { IfSome iface (λ i. i < 65536) }
+        requires { IfSome iface (λ i. i < 2 ^ 16) }
         ensures { Takes result self.new (plugged_in self.old end iface) }
     {
         match (end, iface) {
@@ -178,7 +178,7 @@ impl Given {
         end: Option<usize>,
         iface: Option<usize>,
     ) -> Result<(), LineFault>
-        requires { IfSome iface (λ i. i < 65536) }
+        requires { IfSome iface (λ i. i < 2 ^ 16) }
         ensures { Takes result self.new (with_plug self.old end iface) }
     {
         if has_entry(self.plugs.as_slice(), end) {

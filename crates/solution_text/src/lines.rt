@@ -35,7 +35,7 @@ fn pair_parts(parts: Option<Parts<'_>>) -> Result<(Name, Name), Kind>
 }
 
 fn end_at(fields: &[&[u8]]) -> Result<(Name, u16), Kind>
-    ensures { result ≡ numbered 0 65535 (field_at (views fields.now) 0) }
+    ensures { result ≡ numbered 0 u16.MAX (field_at (views fields.now) 0) }
 {
     let field = field_at(fields, 0);
     numbered_short(field, 0, 65_535)

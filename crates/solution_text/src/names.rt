@@ -175,7 +175,7 @@ impl Names<'_> {
     pub(crate) fn iface(&self, node: Name, name: Name) -> Option<usize>
         requires { AreNames self.now }
         ensures named { result ≡ iface_named self.now.lab.now (node, name) }
-        ensures within { IfSome result (λ i. i < 65536) }
+        ensures within { IfSome result (λ i. i < 2 ^ 16) }
     {
         // for the prover: it tells what every lab keeps
         let _kept = self.lab.range();

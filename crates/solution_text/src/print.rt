@@ -10,7 +10,7 @@ ghost use Rattle.solution_text.specs.Solutions.{mapping_of_text};
 ghost use Rattle.solution_text.specs.CanonicalSolution.{end_keys, end_name, place_fields, iface_field, plug_fields, canonical_solution};
 
 use crate::ends::end_keys;
-use lab_base::{IfaceId, Memory, Name, NodeId, Text};
+use lab_base::{IfaceId, MAX_PAYLOAD_TEXT, Memory, Name, NodeId, Text};
 use line_text::push_field;
 use phys_lab::Lab;
 use std::alloc::Global;
@@ -141,7 +141,7 @@ pub fn print_solution(
     requires { IsShaped lab.now wiring.now mapping.now }
     ensures text { IfOk result (λ text. text ≡ canonical_solution lab.now wiring.now mapping.now) }
     ensures again { IsSound wiring.now → IfOk result (λ text. mapping_of_text lab.now wiring.now text ≡ Ok mapping.now) }
-    ensures size { IsSound wiring.now → IfOk result (λ text. length text ≤ 16777216) }
+    ensures size { IsSound wiring.now → IfOk result (λ text. length text ≤ MAX_PAYLOAD_TEXT) }
 {
     // for the prover: it tells what every lab keeps
     let _kept = lab.range();

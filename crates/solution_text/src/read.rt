@@ -11,7 +11,9 @@ use crate::ends::end_nodes;
 use crate::given::{Given, all_given, none_given};
 use crate::lines::{place_in, plug_in};
 use crate::names::{Names, names_of};
-use lab_base::{Kind, Memory, TextFault, TextRefused, fields_in, first_line, is_skipped};
+use lab_base::{
+    Kind, Memory, TEXT_LIMIT, TextFault, TextRefused, fields_in, first_line, is_skipped,
+};
 use line_text::{LineFault, refusal};
 use phys_lab::Lab;
 use std::alloc::Global;
@@ -105,7 +107,7 @@ fn add_lines(
     names: &Names<'_>,
     text: &[u8],
 ) -> Result<u32, TextRefused>
-    requires short { length text.now < 4294967295 }
+    requires short { length text.now < TEXT_LIMIT }
     requires names { AreNames names.now }
     ensures reads { ReadsInto result given.new (read_from (line_given names.now.lab.now names.now.wiring.now) 1 (Ok given.old) (lines_of text.now)) }
     ensures lines { IfOk result (λ line. line ≡ length (lines_of text.now) + 1) }
@@ -155,7 +157,7 @@ fn mapping_of(alloc: Global, line: u32, given: &Given) -> Result<Mapping, TextRe
 
 /// Reads the mapping of a solution text, with the tables of its lab and wiring.
 fn read_named(alloc: Global, names: &Names<'_>, text: &[u8]) -> Result<Mapping, TextRefused>
-    requires short { length text.now < 4294967295 }
+    requires short { length text.now < TEXT_LIMIT }
     requires names { AreNames names.now }
     ensures { Reads result (mapping_of_text names.now.lab.now names.now.wiring.now text.now) }
 {
@@ -171,7 +173,7 @@ pub fn read_solution(
     lab: &Lab,
     wiring: &Wiring,
 ) -> Result<Mapping, TextRefused>
-    requires { length text.now < 4294967295 }
+    requires { length text.now < TEXT_LIMIT }
     ensures reads { Reads result (mapping_of_text lab.now wiring.now text.now) }
     ensures shaped { IfOk result (IsShaped lab.now wiring.now) }
 {

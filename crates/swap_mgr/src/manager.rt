@@ -32,6 +32,9 @@ use std::marker::Model;
 use swap_turns::finish;
 use swap_txn::{Live, Planned, Turned};
 
+/// The most open swaps.
+pub const MAX_OPEN: u16 = 16;
+
 /// Up to 16 open swaps.
 #[derive(Drop)]
 pub struct Manager {
@@ -85,7 +88,7 @@ impl Manager {
         ensures { IfOk result (λ m. m ≡ []) }
     {
         Ok(Manager {
-            swaps: Slab::with_capacity(alloc, 16)?,
+            swaps: Slab::with_capacity(alloc, usize::from(MAX_OPEN))?,
         })
     }
 
@@ -99,7 +102,7 @@ impl Manager {
     /// The number of open swaps.
     pub fn count(&self) -> u16
         ensures count { result ≡ length self.now }
-        ensures few { result ≤ 16 }
+        ensures few { result ≤ MAX_OPEN }
     {
         self.swaps.len() as u16
     }
@@ -115,7 +118,7 @@ impl Manager {
     fn take(&mut self, exp: Name) -> Option<Live>
         ensures taken { IfSome result (λ x. IsWithout self.old x self.new) }
         ensures named { IfSome result (λ x. exp_of x ≡ exp) }
-        ensures room { OnSome result (length self.new < 16) }
+        ensures room { OnSome result (length self.new < MAX_OPEN) }
         ensures none { IfNone result (HasOpen self.old exp → ⊥) }
         ensures same { IfNone result (self.new ≡ self.old) }
     {
@@ -125,7 +128,7 @@ impl Manager {
 
     /// Puts a swap of another name in.
     fn put(&mut self, live: Live)
-        requires room { length self.old < 16 }
+        requires room { length self.old < MAX_OPEN }
         requires apart { (y : State) → Has self.old y → exp_of y ≢ exp_of live }
         ensures { IsWith self.old live self.new }
     {
@@ -133,7 +136,7 @@ impl Manager {
     }
 
     fn put_back(&mut self, next: Option<Live>)
-        requires room { length self.old < 16 }
+        requires room { length self.old < MAX_OPEN }
         requires apart { IfSome next (λ x. (y : State) → Has self.old y → exp_of y ≢ exp_of x) }
         ensures { PutBy self.old next self.new }
     {
@@ -169,8 +172,8 @@ impl Manager {
         if self.is_open(exp) {
             return Err(OpenSwap::Busy(exp));
         }
-        if self.count() >= 16 {
-            return Err(OpenSwap::TooManyOpen(16));
+        if self.count() >= MAX_OPEN {
+            return Err(OpenSwap::TooManyOpen(MAX_OPEN));
         }
         match planned.turn(journal, plant) {
             Turned::Next(live) => {

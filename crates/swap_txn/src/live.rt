@@ -4,6 +4,7 @@ use crate::state::any;
 use crate::work::Work;
 use crate::{Begun, Booting, Cabling, Clearing, Ended, Loading, Ready, Turned, Undoing, Undone};
 use journal_disk::Journal;
+use journal_rec::LAST_RECORD;
 use lab_base::{Memory, Name};
 use plant::Plant;
 use std::alloc::Global;
@@ -35,7 +36,7 @@ impl Live {
     /// The experiment of the swap. The last record of a swap makes the journal at most 39 bytes longer.
     pub fn exp(&self) -> Name
         ensures exp { result ≡ exp_of self.now }
-        ensures room { (j : AnyJournal) → length_of j + 39 ≤ limit_of j → Fits self.now j }
+        ensures room { (j : AnyJournal) → length_of j + LAST_RECORD ≤ limit_of j → Fits self.now j }
     {
         let exp = self.name();
         // A name has at most 32 bytes.

@@ -10,7 +10,7 @@ ghost use Rattle.swap_txn.specs.Views.{IsPolledBy};
 use crate::halt::Halt;
 use crate::sent::poll;
 use lab_base::{Boot, Name, What};
-use node_state::{Seen, Watch};
+use node_state::{MAX_POLLS, Seen, Watch};
 use plant::Plant;
 
 /// A node that is watched since its boot.
@@ -23,7 +23,7 @@ pub(crate) struct Watched {
 impl Watched {
     /// Takes the answer of a poll; `Ok` tells whether the node is up. After trouble the watch begins anew.
     fn see(&mut self, state: Boot) -> Result<bool, What>
-        requires { self.old.watch.polls < 64 }
+        requires { self.old.watch.polls < MAX_POLLS }
         ensures told { result ≡ told_by self.old.node (seen self.old.watch state) }
         ensures node { self.new.node ≡ self.old.node }
         ensures last { OnOk result (self.new.watch.last ≡ state) }
@@ -48,7 +48,7 @@ impl Watched {
 
     /// Polls the node; `Ok` tells whether it is up. After trouble the watch begins anew.
     pub(crate) fn poll<P: Plant>(&mut self, plant: &mut P) -> Result<bool, Halt>
-        requires { self.old.watch.polls < 64 }
+        requires { self.old.watch.polls < MAX_POLLS }
         ensures { (answer : Result Answered Faulted) × Commanded (ops.Poll self.old.node) (P.seen plant.old) (P.seen plant.new) answer
             × IsPolledBy self.old answer result self.new }
     {

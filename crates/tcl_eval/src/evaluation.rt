@@ -1,6 +1,6 @@
 //! The evaluation of texts.
 
-ghost use Rattle.std.specs.Prelude.{◌≡◌, ◌≢◌, ℕ, ◌+◌, ◌-◌, ◌^◌, ◌<◌, ◌≤◌, All, IfOk, OnOk, length, drop, Some};
+ghost use Rattle.std.specs.Prelude.{◌≡◌, ◌≢◌, ℕ, ◌+◌, ◌<◌, ◌≤◌, All, IfOk, OnOk, length, drop, Some};
 ghost use Rattle.tcl_words.specs.Words.{LiesIn, CommandLiesIn};
 ghost use Rattle.tcl_eval.specs.Short.{AllShort};
 ghost use Rattle.tcl_eval.specs.Forms.{own};
@@ -12,14 +12,14 @@ use crate::branches::branches;
 use crate::commands::{Own, own_command};
 use crate::halts::Halt;
 use crate::hosts::Host;
-use crate::limits::{deeper, index_levels, indexed_name, short};
+use crate::limits::{MAX_VALUE, deeper, index_levels, indexed_name, short};
 use crate::lists::{element_at, joined, words_from};
 use crate::literals::literal;
 use crate::machine::Machine;
 use crate::numbers::{number_text, read_number};
 use crate::openings::{Opening, closes_at, opening_at};
 use crate::operators::{TIERS, alive, behind_blanks, holds, negated, operator_at, turned};
-use lab_base::{Kind, Text};
+use lab_base::{Kind, TEXT_LIMIT, Text};
 use tcl_words::{Command, Part, reference_at, script_end, split};
 
 impl<H: Host> Machine<H> {
@@ -31,7 +31,7 @@ impl<H: Host> Machine<H> {
     /// Runs a script. The result is that of its last command.
     #[cycle(eval)]
     fn script(&mut self, text: &[u8], levels: u32, line: u32) -> Result<Text, Halt>
-        requires short { length text.now < 2 ^ 32 - 1 }
+        requires short { length text.now < TEXT_LIMIT }
         ensures evals { Ended (H.calls line) H.hears Value levels (Whole text.now) (seen H.objects self.old) (seen H.objects self.new) result }
         ensures left { self.new.left ≤ self.old.left }
     {
@@ -46,7 +46,7 @@ impl<H: Host> Machine<H> {
     /// Runs a script one level deeper.
     #[cycle(eval)]
     fn nested(&mut self, text: &[u8], levels: u32, line: u32) -> Result<Text, Halt>
-        requires short { length text.now < 2 ^ 32 - 1 }
+        requires short { length text.now < TEXT_LIMIT }
         ensures evals { Ended (H.calls line) H.hears Value levels (Nested text.now) (seen H.objects self.old) (seen H.objects self.new) result }
         ensures left { self.new.left ≤ self.old.left }
     {
@@ -63,7 +63,7 @@ impl<H: Host> Machine<H> {
         levels: u32,
         line: u32,
     ) -> Result<Text, Halt>
-        requires short { length text.now < 2 ^ 32 - 1 }
+        requires short { length text.now < TEXT_LIMIT }
         requires lies { CommandLiesIn (length text.now) command.now }
         ensures evals { Ended (H.calls line) H.hears Value levels (One text.now command.now) (seen H.objects self.old) (seen H.objects self.new) result }
         ensures left { self.new.left ≤ self.old.left }
@@ -90,12 +90,12 @@ impl<H: Host> Machine<H> {
         line: u32,
         in_index: bool,
     ) -> Result<Text, Halt>
-        requires short { length text.now < 2 ^ 32 - 1 }
+        requires short { length text.now < TEXT_LIMIT }
         requires lie { All (LiesIn (length text.now)) parts.now }
         ensures evals { Ended (H.calls line) H.hears Value levels (Parts text.now in_index parts.now []) (seen H.objects self.old) (seen H.objects self.new)
             result }
         ensures left { self.new.left ≤ self.old.left }
-        ensures value { IfOk result (λ value. length value ≤ 65536) }
+        ensures value { IfOk result (λ value. length value ≤ MAX_VALUE) }
     {
         let mut value = Text::new(self.alloc);
         for part in parts {
@@ -127,7 +127,7 @@ impl<H: Host> Machine<H> {
         line: u32,
         in_index: bool,
     ) -> Result<(Text, usize), Halt>
-        requires short { length text.now < 2 ^ 32 - 1 }
+        requires short { length text.now < TEXT_LIMIT }
         requires here { at < length text.now }
         ensures evals { Ended (H.calls line) H.hears (λ x. ValueAt x.0 x.1) levels (Named text.now at in_index) (seen H.objects self.old)
             (seen H.objects self.new) result }
@@ -256,7 +256,7 @@ impl<H: Host> Machine<H> {
     /// Whether a condition holds.
     #[cycle(eval)]
     fn condition(&mut self, text: &[u8], levels: u32, line: u32) -> Result<bool, Halt>
-        requires short { length text.now ≤ 65536 }
+        requires short { length text.now ≤ MAX_VALUE }
         ensures evals { Ended (H.calls line) H.hears Truth levels (Condition text.now) (seen H.objects self.old) (seen H.objects self.new) result }
         ensures left { self.new.left ≤ self.old.left }
         ensures spent { OnOk result (self.new.left < self.old.left) }
@@ -272,7 +272,7 @@ impl<H: Host> Machine<H> {
     /// The value of an expression. A malformed one is refused before anything in it is evaluated.
     #[cycle(eval)]
     fn expression(&mut self, text: &[u8], levels: u32, line: u32) -> Result<i64, Halt>
-        requires short { length text.now ≤ 65536 }
+        requires short { length text.now ≤ MAX_VALUE }
         ensures evals { Ended (H.calls line) H.hears Integer levels (Expression text.now) (seen H.objects self.old) (seen H.objects self.new) result }
         ensures left { self.new.left ≤ self.old.left }
     {
@@ -283,7 +283,7 @@ impl<H: Host> Machine<H> {
     /// The value of a text that is one expression. Where it isn't live nothing is evaluated, and the value is 0.
     #[cycle(eval)]
     fn whole(&mut self, text: &[u8], levels: u32, line: u32, live: bool) -> Result<i64, Halt>
-        requires short { length text.now ≤ 65536 }
+        requires short { length text.now ≤ MAX_VALUE }
         ensures evals { Ended (H.calls line) H.hears Integer levels (Pass text.now live) (seen H.objects self.old) (seen H.objects self.new) result }
         ensures left { self.new.left ≤ self.old.left }
     {
@@ -306,9 +306,9 @@ impl<H: Host> Machine<H> {
         line: u32,
         live: bool,
     ) -> Result<(i64, usize), Halt>
-        requires short { length text.now ≤ 65536 }
+        requires short { length text.now ≤ MAX_VALUE }
         requires here { at ≤ length text.now }
-        requires tiers { tier ≤ 6 }
+        requires tiers { tier ≤ TIERS }
         ensures evals { Ended (H.calls line) H.hears (λ x. IntegerAt x.0 x.1) levels (Tier text.now at tier live) (seen H.objects self.old)
             (seen H.objects self.new) result }
         ensures left { self.new.left ≤ self.old.left }
@@ -339,7 +339,7 @@ impl<H: Host> Machine<H> {
         line: u32,
         live: bool,
     ) -> Result<(i64, usize), Halt>
-        requires short { length text.now ≤ 65536 }
+        requires short { length text.now ≤ MAX_VALUE }
         requires here { at ≤ length text.now }
         ensures evals { Ended (H.calls line) H.hears (λ x. IntegerAt x.0 x.1) levels (Operand text.now at live) (seen H.objects self.old)
             (seen H.objects self.new) result }
@@ -367,7 +367,7 @@ impl<H: Host> Machine<H> {
         line: u32,
         live: bool,
     ) -> Result<(i64, usize), Halt>
-        requires short { length text.now ≤ 65536 }
+        requires short { length text.now ≤ MAX_VALUE }
         requires here { at < length text.now }
         requires opening { opening_of (drop at text.now) ≡ openings.Not }
         ensures evals { Ended (H.calls line) H.hears (λ x. IntegerAt x.0 x.1) levels (Operand text.now at live) (seen H.objects self.old)
@@ -390,7 +390,7 @@ impl<H: Host> Machine<H> {
         line: u32,
         live: bool,
     ) -> Result<(i64, usize), Halt>
-        requires short { length text.now ≤ 65536 }
+        requires short { length text.now ≤ MAX_VALUE }
         requires here { at < length text.now }
         requires opening { opening_of (drop at text.now) ≡ openings.Minus }
         ensures evals { Ended (H.calls line) H.hears (λ x. IntegerAt x.0 x.1) levels (Operand text.now at live) (seen H.objects self.old)
@@ -413,7 +413,7 @@ impl<H: Host> Machine<H> {
         line: u32,
         live: bool,
     ) -> Result<(i64, usize), Halt>
-        requires short { length text.now ≤ 65536 }
+        requires short { length text.now ≤ MAX_VALUE }
         requires here { at < length text.now }
         requires opening { opening_of (drop at text.now) ≡ openings.Parenthesis }
         ensures evals { Ended (H.calls line) H.hears (λ x. IntegerAt x.0 x.1) levels (Operand text.now at live) (seen H.objects self.old)
@@ -440,7 +440,7 @@ impl<H: Host> Machine<H> {
         line: u32,
         live: bool,
     ) -> Result<(i64, usize), Halt>
-        requires short { length text.now ≤ 65536 }
+        requires short { length text.now ≤ MAX_VALUE }
         requires here { at < length text.now }
         requires opening { opening_of (drop at text.now) ≡ openings.Dollar }
         ensures evals { Ended (H.calls line) H.hears (λ x. IntegerAt x.0 x.1) levels (Operand text.now at live) (seen H.objects self.old)
@@ -468,7 +468,7 @@ impl<H: Host> Machine<H> {
         line: u32,
         live: bool,
     ) -> Result<(i64, usize), Halt>
-        requires short { length text.now ≤ 65536 }
+        requires short { length text.now ≤ MAX_VALUE }
         requires here { at < length text.now }
         requires opening { opening_of (drop at text.now) ≡ openings.Bracket }
         ensures evals { Ended (H.calls line) H.hears (λ x. IntegerAt x.0 x.1) levels (Operand text.now at live) (seen H.objects self.old)

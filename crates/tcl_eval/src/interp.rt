@@ -1,13 +1,13 @@
 //! The interpreter.
 
-ghost use Rattle.std.specs.Prelude.{◌≡◌, ◌-◌, ◌^◌, ◌<◌, length, IfErr};
+ghost use Rattle.std.specs.Prelude.{◌≡◌, ◌<◌, length, IfErr};
 
 use crate::hosts::Host;
 use crate::limits::BUDGET;
 use crate::machine::Machine;
 use crate::runs::Ran;
 use indexmap::IndexMap;
-use lab_base::{Memory, Text, TextRefused};
+use lab_base::{Memory, TEXT_LIMIT, Text, TextRefused};
 use std::alloc::Global;
 use std::marker::Model;
 
@@ -36,7 +36,7 @@ impl<H: Host> Interp<H> {
 
     /// An interpreter without variables.
     pub fn new(alloc: Global, host: H) -> Result<Interp<H>, Memory>
-        ensures { IfOk result (λ interp. interp ≡ record { host = host; variables = []; left = 20000; failed = None }) }
+        ensures { IfOk result (λ interp. interp ≡ record { host = host; variables = []; left = BUDGET; failed = None }) }
     {
         Ok(Interp {
             machine: Machine {
@@ -66,7 +66,7 @@ impl<H: Host> Interp<H> {
 
     /// Runs a text on top of those before. After a fault it answers that fault again.
     pub fn run(&mut self, text: &[u8]) -> Result<Ran, TextRefused>
-        requires short { length text.now < 2 ^ 32 - 1 }
+        requires short { length text.now < TEXT_LIMIT }
         ensures runs { self.old.failed ≡ None → HasRun H.calls H.hears text.now (state self.old.variables (H.objects self.old.host) self.old.left)
             (state self.new.variables (H.objects self.new.host) self.new.left) result }
         ensures ok { OnOk result (self.new.failed ≡ None) }

@@ -16,14 +16,14 @@ pub const BUDGET: u32 = 20_000;
 pub const LEVELS: u32 = 32;
 
 /// The most bytes of a value.
-const LONGEST: usize = 65_536;
+pub const MAX_VALUE: usize = 65_536;
 
 /// A value that isn't too long; else the fault.
 pub fn short(value: Text) -> Result<Text, Halt>
-    ensures value { IfOk result (λ short. (short ≡ value) × (length value ≤ 65536)) }
-    ensures long { IfErr result (λ halt. (halt ≡ halts.Fault kinds.Long) × (65536 < length value)) }
+    ensures value { IfOk result (λ short. (short ≡ value) × (length value ≤ MAX_VALUE)) }
+    ensures long { IfErr result (λ halt. (halt ≡ halts.Fault kinds.Long) × (MAX_VALUE < length value)) }
 {
-    if value.len() > LONGEST {
+    if value.len() > MAX_VALUE {
         return Err(Halt::Fault(Kind::Long));
     }
     Ok(value)

@@ -1,13 +1,13 @@
 //! The run of a whole text.
 
-ghost use Rattle.std.specs.Prelude.{◌≡◌, ◌-◌, ◌^◌, ◌<◌, length};
+ghost use Rattle.std.specs.Prelude.{◌≡◌, ◌<◌, length};
 ghost use Rattle.tcl_eval.specs.Runs.{HasRun, last_line_of};
 
 use crate::halts::Halt;
 use crate::hosts::Host;
 use crate::limits::LEVELS;
 use crate::machine::Machine;
-use lab_base::{TextFault, TextRefused};
+use lab_base::{TEXT_LIMIT, TextFault, TextRefused};
 use tcl_words::{line_of, split};
 
 /// The end of a run.
@@ -21,7 +21,7 @@ pub enum Ran {
 
 /// The last line of a text.
 fn last_line(text: &[u8]) -> u32
-    requires { length text.now < 2 ^ 32 - 1 }
+    requires { length text.now < TEXT_LIMIT }
     ensures { result ≡ last_line_of text.now }
 {
     if text.is_empty() {
@@ -36,7 +36,7 @@ impl<H: Host> Machine<H> {
 
     /// Runs a text at the top level.
     pub fn run_text(&mut self, text: &[u8]) -> Result<Ran, TextRefused>
-        requires short { length text.now < 2 ^ 32 - 1 }
+        requires short { length text.now < TEXT_LIMIT }
         ensures runs { HasRun H.calls H.hears text.now (seen H.objects self.old) (seen H.objects self.new) result }
     {
         let commands = split(self.alloc, text)?;

@@ -1,6 +1,6 @@
 //! The parts of words.
 
-ghost use Rattle.std.specs.Prelude.{◌≡◌, ℕ, ◌+◌, ◌-◌, ◌^◌, ◌<◌, ◌≤◌, ◌++◌, All, IfOk, OnOk, IsOk, length, drop, false};
+ghost use Rattle.std.specs.Prelude.{◌≡◌, ℕ, ◌+◌, ◌^◌, ◌<◌, ◌≤◌, ◌++◌, All, IfOk, OnOk, IsOk, length, drop, false};
 ghost use Rattle.std.specs.Option.{ForSome};
 ghost use Rattle.tcl_words.specs.Passes.{Passes};
 ghost use Rattle.tcl_words.specs.Gives.{Finds};
@@ -17,7 +17,7 @@ use crate::frame::{Frame, Place};
 use crate::nesting::pass;
 use crate::tokens::{Token, ends_word_at, joined_at, token_at};
 use crate::word::{Part, Reference};
-use lab_base::{Items, Kind};
+use lab_base::{Items, Kind, TEXT_LIMIT};
 use std::alloc::Global;
 
 /// Adds the bytes from one place to another, if there are any.
@@ -134,7 +134,7 @@ fn variable_part(start: usize, end: usize) -> Part
 /// The part at a place, and the place behind it. A byte that stands for itself is no part.
 fn piece_at(alloc: Global, text: &[u8], at: usize) -> Result<(Option<Part>, usize), Broken>
     requires here { at < length text.now }
-    requires short { length text.now < 2 ^ 32 - 1 }
+    requires short { length text.now < TEXT_LIMIT }
     ensures leads { Finds (PieceLeads text.now at) result }
     ensures forward { IfOk result (λ piece. (at < piece.1) × (piece.1 ≤ length text.now)) }
     ensures lies { IfOk result (λ piece. ForSome piece.0 (LiesIn (length text.now))) }
@@ -171,7 +171,7 @@ pub(crate) fn parts_at(
     start: usize,
 ) -> Result<(Items<Part>, usize), Broken>
     requires here { start ≤ length text.now }
-    requires short { length text.now < 2 ^ 32 - 1 }
+    requires short { length text.now < TEXT_LIMIT }
     ensures parts { Finds (PartsOf text.now closing start start) result }
     ensures forward { IfOk result (λ found. (start ≤ found.1) × (found.1 ≤ length text.now)) }
     ensures moves { IfOk result (λ found. closing ≡ closings.Blank → is_word_end (drop start text.now) ≡ false → start < found.1) }
@@ -207,7 +207,7 @@ pub(crate) fn braced_parts(
     end: usize,
 ) -> Result<Items<Part>, Broken>
     requires here { end ≤ length text.now }
-    requires short { length text.now < 2 ^ 32 - 1 }
+    requires short { length text.now < TEXT_LIMIT }
     ensures parts { IfOk result (InBraces text.now end start start) }
     ensures memory { Finds (λ o. IsOk o) result }
     ensures lie { IfOk result (All (LiesIn (length text.now))) }
@@ -235,7 +235,7 @@ pub(crate) fn braced_parts(
 /// The variable at a place, if there is one.
 pub fn reference_at(alloc: Global, text: &[u8], at: usize) -> Result<Option<Reference>, Broken>
     requires here { at < length text.now }
-    requires short { length text.now < 2 ^ 32 - 1 }
+    requires short { length text.now < TEXT_LIMIT }
     ensures reference { Finds (ReferenceOf text.now at) result }
     ensures lies { IfOk result (λ found. ForSome found (ReferenceLies (length text.now) at)) }
 {

@@ -1,6 +1,6 @@
 //! The commands of a text.
 
-ghost use Rattle.std.specs.Prelude.{◌≡◌, ℕ, ◌+◌, ◌-◌, ◌^◌, ◌<◌, ◌≤◌, All, Ok, IfOk, IfErr, length, drop};
+ghost use Rattle.std.specs.Prelude.{◌≡◌, ℕ, ◌+◌, ◌<◌, ◌≤◌, All, Ok, IfOk, IfErr, length, drop};
 ghost use Rattle.tcl_words.specs.Gives.{Finds};
 ghost use Rattle.tcl_words.specs.Words.{gap_of, feeds_of, line_at, CommandsOf, IsRefused, CommandLiesIn};
 
@@ -8,7 +8,7 @@ use crate::flaw::{Broken, Flaw};
 use crate::tokens::{blank_at, comment_at, ends_command_at};
 use crate::word::Command;
 use crate::words::words_at;
-use lab_base::{Items, TextFault, TextRefused};
+use lab_base::{Items, TEXT_LIMIT, TextFault, TextRefused};
 use std::alloc::Global;
 
 /// The number of line feeds in these bytes.
@@ -21,7 +21,7 @@ fn feeds(bytes: &[u8]) -> usize
 
 /// The line of a place, from 1.
 pub fn line_of(text: &[u8], at: usize) -> u32
-    requires { length text.now < 2 ^ 32 - 1 }
+    requires { length text.now < TEXT_LIMIT }
     ensures { result ≡ line_at text.now at }
 {
     let end = if at < text.len() { at } else { text.len() };
@@ -50,7 +50,7 @@ fn gap_at(text: &[u8], at: usize) -> usize
 
 /// The commands of a text.
 fn commands(alloc: Global, text: &[u8]) -> Result<Items<Command>, Broken>
-    requires { length text.now < 2 ^ 32 - 1 }
+    requires { length text.now < TEXT_LIMIT }
     ensures commands { Finds (CommandsOf text.now 0) result }
     ensures lie { IfOk result (λ v. All (CommandLiesIn (length text.now)) v) }
 {
@@ -78,7 +78,7 @@ fn commands(alloc: Global, text: &[u8]) -> Result<Items<Command>, Broken>
 
 /// The commands of a text, in order, or its first fault with its line.
 pub fn split(alloc: Global, text: &[u8]) -> Result<Vec<Command>, TextRefused>
-    requires { length text.now < 2 ^ 32 - 1 }
+    requires { length text.now < TEXT_LIMIT }
     ensures commands { IfOk result (λ v. CommandsOf text.now 0 (Ok v.items)) }
     ensures refused { IfErr result (IsRefused text.now) }
     ensures lie { IfOk result (λ v. All (CommandLiesIn (length text.now)) v.items) }

@@ -1,6 +1,6 @@
 //! The words of a command.
 
-ghost use Rattle.std.specs.Prelude.{◌≡◌, ◌≢◌, ℕ, ◌-◌, ◌^◌, ◌<◌, ◌≤◌, All, IfOk, length, drop, slice_index, false};
+ghost use Rattle.std.specs.Prelude.{◌≡◌, ◌≢◌, ℕ, ◌^◌, ◌<◌, ◌≤◌, All, IfOk, length, drop, slice_index, false};
 ghost use Rattle.tcl_words.specs.Gives.{Finds};
 ghost use Rattle.tcl_words.specs.Words.{WordOf, WordsOf, word, WordLiesIn, WordBeginsAt};
 ghost use Rattle.tcl_words.specs.Tokens.{is_word_end, is_command_end, blank_of};
@@ -9,7 +9,7 @@ use crate::flaw::{Broken, Flaw};
 use crate::parts::{Closing, braced_parts, parts_at};
 use crate::tokens::{blank_at, braces_at, ends_command_at, ends_word_at};
 use crate::word::{Part, Word, WordKind};
-use lab_base::{Items, Kind};
+use lab_base::{Items, Kind, TEXT_LIMIT};
 use std::alloc::Global;
 
 /// A word of these places and parts.
@@ -29,7 +29,7 @@ fn make_word(kind: WordKind, start: usize, end: usize, parts: Items<Part>) -> Wo
 /// The word in quotes at a place.
 fn quoted_word(alloc: Global, text: &[u8], at: usize) -> Result<Word, Broken>
     requires here { at < length text.now }
-    requires short { length text.now < 2 ^ 32 - 1 }
+    requires short { length text.now < TEXT_LIMIT }
     requires quote { slice_index text.now at ≡ 34 }
     ensures word { Finds (WordOf text.now at) result }
     ensures lies { IfOk result (λ word. WordBeginsAt text.now at word) }
@@ -47,7 +47,7 @@ fn quoted_word(alloc: Global, text: &[u8], at: usize) -> Result<Word, Broken>
 /// The word in braces at a place.
 fn braced_word(alloc: Global, text: &[u8], at: usize) -> Result<Word, Broken>
     requires here { at < length text.now }
-    requires short { length text.now < 2 ^ 32 - 1 }
+    requires short { length text.now < TEXT_LIMIT }
     requires brace { slice_index text.now at ≡ 123 }
     ensures word { Finds (WordOf text.now at) result }
     ensures lies { IfOk result (λ word. WordBeginsAt text.now at word) }
@@ -72,7 +72,7 @@ fn braced_word(alloc: Global, text: &[u8], at: usize) -> Result<Word, Broken>
 /// The bare word at a place.
 fn bare_word(alloc: Global, text: &[u8], at: usize) -> Result<Word, Broken>
     requires here { at < length text.now }
-    requires short { length text.now < 2 ^ 32 - 1 }
+    requires short { length text.now < TEXT_LIMIT }
     requires begins { is_word_end (drop at text.now) ≡ false }
     requires no_quote { slice_index text.now at ≢ 34 }
     requires no_brace { slice_index text.now at ≢ 123 }
@@ -86,7 +86,7 @@ fn bare_word(alloc: Global, text: &[u8], at: usize) -> Result<Word, Broken>
 /// The word at a place.
 fn word_at(alloc: Global, text: &[u8], at: usize) -> Result<Word, Broken>
     requires here { at < length text.now }
-    requires short { length text.now < 2 ^ 32 - 1 }
+    requires short { length text.now < TEXT_LIMIT }
     requires begins { is_word_end (drop at text.now) ≡ false }
     ensures word { Finds (WordOf text.now at) result }
     ensures lies { IfOk result (λ word. WordBeginsAt text.now at word) }
@@ -101,7 +101,7 @@ fn word_at(alloc: Global, text: &[u8], at: usize) -> Result<Word, Broken>
 /// The words of the command at a place, and the place where it ends.
 pub fn words_at(alloc: Global, text: &[u8], start: usize) -> Result<(Items<Word>, usize), Broken>
     requires here { start ≤ length text.now }
-    requires short { length text.now < 2 ^ 32 - 1 }
+    requires short { length text.now < TEXT_LIMIT }
     ensures words { Finds (WordsOf text.now start) result }
     ensures forward { IfOk result (λ found. (start ≤ found.1) × (found.1 ≤ length text.now)) }
     ensures moves { IfOk result (λ found. is_command_end (drop start text.now) ≡ false → start < found.1) }

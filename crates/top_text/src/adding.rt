@@ -13,7 +13,7 @@ use lab_base::{Items, Kind, Memory, Name};
 use line_text::LineFault;
 use std::alloc::Global;
 use std::mem::replace;
-use virt_topo::{Class, Pipe, Segment, VirtEnd, VirtNode, Wiring};
+use virt_topo::{Class, MAX_SEGMENT_ENDS, Pipe, Segment, VirtEnd, VirtNode, Wiring};
 
 fn ends_of(alloc: Global, so_far: &SoFar, ends: &[End]) -> Result<Items<VirtEnd>, Memory>
     requires { IsReading so_far.now }
@@ -62,7 +62,7 @@ pub(crate) fn add_node(so_far: &mut SoFar, alloc: Global, read: NodeRead) -> Res
 
 fn add_segment(so_far: &mut SoFar, segment: Segment) -> Result<(), LineFault>
     requires reading { IsReading so_far.old }
-    requires few { length segment.ends ≤ 256 }
+    requires few { length segment.ends ≤ MAX_SEGMENT_ENDS }
     ensures takes { Takes result so_far.new.wiring (kept (with_segment so_far.old.wiring segment)) }
     ensures keeps { OnOk result (IsReading so_far.new) }
 {
@@ -80,7 +80,7 @@ fn add_segment(so_far: &mut SoFar, segment: Segment) -> Result<(), LineFault>
 
 pub(crate) fn add_link(so_far: &mut SoFar, alloc: Global, read: LinkRead) -> Result<(), LineFault>
     requires reading { IsReading so_far.old }
-    requires few { length read.1.1.1 ≤ 256 }
+    requires few { length read.1.1.1 ≤ MAX_SEGMENT_ENDS }
     ensures takes { Takes result so_far.new.wiring (kept (with_segment so_far.old.wiring (segment_of so_far.old.wiring read))) }
     ensures keeps { OnOk result (IsReading so_far.new) }
 {

@@ -15,23 +15,23 @@ use line_text::{
     short_in, weight_in,
 };
 use std::alloc::Global;
-use virt_topo::Class;
+use virt_topo::{Class, MAX_KBPS, MAX_SEGMENT_ENDS, MAX_WEIGHT};
 
 /// The name of an end's virtual node, and its address.
 pub(crate) type End = (Name, Option<u32>);
 
 fn weight_at(fields: &[&[u8]], n: usize) -> Result<u32, Kind>
-    ensures { result ≡ number_from 0 1000000 (field_at (views fields.now) n) }
+    ensures { result ≡ number_from 0 MAX_WEIGHT (field_at (views fields.now) n) }
 {
     let field = field_at(fields, n);
-    weight_in(field, 1_000_000)
+    weight_in(field, MAX_WEIGHT)
 }
 
 fn kbps_at(fields: &[&[u8]], n: usize) -> Result<u64, Kind>
-    ensures { result ≡ number_from 1 1000000000 (field_at (views fields.now) n) }
+    ensures { result ≡ number_from 1 MAX_KBPS (field_at (views fields.now) n) }
 {
     let field = field_at(fields, n);
-    number_in(field, 1, 1_000_000_000)
+    number_in(field, 1, MAX_KBPS)
 }
 
 fn bare(name: Result<Name, Kind>) -> Result<End, Kind>
@@ -87,7 +87,7 @@ fn all_desires(alloc: Global, fields: &[&[u8]]) -> Result<ListRead<(Name, u32)>,
 {
     let mut so_far = Ok(Items::new(alloc));
     for field in fields {
-        so_far = add_read(so_far, numbered_weight(field, 1_000_000))?;
+        so_far = add_read(so_far, numbered_weight(field, MAX_WEIGHT))?;
     }
     Ok(so_far)
 }
@@ -123,7 +123,7 @@ fn desires_in(alloc: Global, fields: &[&[u8]]) -> Result<ListRead<(Name, u32)>, 
 }
 
 fn ends_in(alloc: Global, fields: &[&[u8]]) -> Result<ListRead<End>, Memory>
-    ensures { IfOk result (λ read. read ≡ list_behind 3 2 256 end_of (views fields.now)) }
+    ensures { IfOk result (λ read. read ≡ list_behind 3 2 MAX_SEGMENT_ENDS end_of (views fields.now)) }
 {
     if counts(fields, 5, 259) {
         all_ends(alloc, fields_behind(fields, 3))
@@ -212,10 +212,10 @@ fn as_rates(read: Result<(u64, (u32, u32)), Kind>) -> Result<Rates, Kind>
 fn rates_in(kbps: &[u8], micros: &[u8], ppm: &[u8]) -> Result<Rates, Kind>
     ensures { result ≡ rates_of kbps.now micros.now ppm.now }
 {
-    let delay = weight_in(micros, 10_000_000);
-    let loss = weight_in(ppm, 1_000_000);
+    let delay = weight_in(micros, MAX_MICROS);
+    let loss = weight_in(ppm, MAX_PPM);
     let behind = both(delay, loss);
-    let speed = number_in(kbps, 1, 1_000_000_000);
+    let speed = number_in(kbps, 1, MAX_KBPS);
     let whole = both(speed, behind);
     as_rates(whole)
 }
@@ -224,13 +224,13 @@ fn rates_in(kbps: &[u8], micros: &[u8], ppm: &[u8]) -> Result<Rates, Kind>
 pub(crate) type PipeRead = (Name, ((u16, u16), (Rates, Rates)));
 
 fn pipe_ends_in(from: &[u8], to: &[u8]) -> Result<(u16, u16), Kind>
-    ensures { result ≡ both_of (number_from 0 65535 from.now) (number_from 0 65535 to.now) }
+    ensures { result ≡ both_of (number_from 0 u16.MAX from.now) (number_from 0 u16.MAX to.now) }
 {
     both(short_in(from, 0, 65_535), short_in(to, 0, 65_535))
 }
 
 fn pipe_ends_at(fields: &[&[u8]]) -> Result<(u16, u16), Kind>
-    ensures { result ≡ both_of (number_from 0 65535 (field_at (views fields.now) 1)) (number_from 0 65535 (field_at (views fields.now) 2)) }
+    ensures { result ≡ both_of (number_from 0 u16.MAX (field_at (views fields.now) 1)) (number_from 0 u16.MAX (field_at (views fields.now) 2)) }
 {
     let from = field_at(fields, 1);
     let to = field_at(fields, 2);

@@ -8,7 +8,7 @@ ghost use Rattle.top_text.specs.Printable.{named_asks, named_class, named_node, 
 ghost use Rattle.top_text.specs.Canonical.{virt_name, class_name, address_text, behind_name, end_field, asked_name, rates_fields};
 ghost use Rattle.top_text.specs.Canonical.{class_fields, node_fields, fix_at, fix_lines, link_fields, multiplex_lines, pipe_fields, canonical_top};
 
-use lab_base::{Memory, Name, Rates, Text};
+use lab_base::{MAX_PAYLOAD_TEXT, Memory, Name, Rates, Text};
 use line_text::{push_field, push_numbered};
 use std::alloc::Global;
 use virt_topo::{Asks, Class, Pipe, Segment, VirtEnd, VirtNode, Wiring};
@@ -294,7 +294,7 @@ fn push_all(text: &mut Text, wiring: &Wiring) -> Result<(), Memory>
 pub fn print_top(alloc: Global, wiring: &Wiring) -> Result<Text, Memory>
     ensures text { IfOk result (λ text. text ≡ canonical_top wiring.now) }
     ensures again { IsSound wiring.now → IfOk result (λ text. wiring_of_text text ≡ Ok wiring.now) }
-    ensures size { IsSound wiring.now → IfOk result (λ text. length text ≤ 16777216) }
+    ensures size { IsSound wiring.now → IfOk result (λ text. length text ≤ MAX_PAYLOAD_TEXT) }
     ensures printable { OnOk result (is_printable wiring.now ≡ true) }
 {
     let mut text = Text::new(alloc);

@@ -8,7 +8,7 @@ ghost use Rattle.top_text.specs.Tables.{IsReading};
 
 use crate::keyed::add;
 use crate::so_far::SoFar;
-use lab_base::{Kind, TextFault, TextRefused, fields_in, first_line, is_skipped};
+use lab_base::{Kind, TEXT_LIMIT, TextFault, TextRefused, fields_in, first_line, is_skipped};
 use line_text::{LineFault, refusal};
 use std::alloc::Global;
 use virt_topo::Wiring;
@@ -27,7 +27,7 @@ fn add_line(so_far: &mut SoFar, alloc: Global, line: &[u8]) -> Result<(), LineFa
 
 /// Adds the lines of a text. Answers the number behind its last line.
 fn add_lines(so_far: &mut SoFar, alloc: Global, text: &[u8]) -> Result<u32, TextRefused>
-    requires short { length text.now < 4294967295 }
+    requires short { length text.now < TEXT_LIMIT }
     requires reading { IsReading so_far.old }
     ensures reads { ReadsInto result so_far.new.wiring (read_from added 1 (Ok so_far.old.wiring) (lines_of text.now)) }
     ensures keeps { OnOk result (IsReading so_far.new) }
@@ -69,7 +69,7 @@ fn finish(so_far: SoFar, line: u32) -> Result<Wiring, TextRefused>
 
 /// Reads the wiring of a top text; a refusal has the kind and the line of the first fault.
 pub fn read_top(alloc: Global, text: &[u8]) -> Result<Wiring, TextRefused>
-    requires { length text.now < 4294967295 }
+    requires { length text.now < TEXT_LIMIT }
     ensures reads { Reads result (wiring_of_text text.now) }
     ensures sound { IfOk result IsSound }
 {

@@ -17,8 +17,9 @@ use lab_base::{Items, Name};
 use line_text::LineFault;
 use std::alloc::Global;
 use virt_topo::{
-    Asks, Class, Pipe, Segment, VirtEnd, VirtNode, Wiring, limits_class, limits_node, limits_pipe,
-    limits_segment, repeat_desire, repeat_node_of, repeat_type,
+    Asks, Class, MAX_CLASSES, MAX_ENDS, MAX_SEGMENT_ENDS, MAX_SEGMENTS, MAX_TOPOLOGY_NODES, Pipe,
+    Segment, VirtEnd, VirtNode, Wiring, limits_class, limits_node, limits_pipe, limits_segment,
+    repeat_desire, repeat_node_of, repeat_type,
 };
 
 /// The wiring so far, with the tables of its names, addresses and ends.
@@ -140,9 +141,9 @@ impl SoFar {
     }
 
     fn class_fits(&self, class: &Class) -> bool
-        ensures { result ≡ (nat_lt (length self.now.wiring.classes) 64 && limits_class class.now) }
+        ensures { result ≡ (nat_lt (length self.now.wiring.classes) MAX_CLASSES && limits_class class.now) }
     {
-        self.wiring.classes.len() < 64 && limits_class(class)
+        self.wiring.classes.len() < MAX_CLASSES && limits_class(class)
     }
 
     pub(crate) fn check_class(&self, class: &Class) -> Result<(), LineFault>
@@ -166,9 +167,9 @@ impl SoFar {
     }
 
     fn node_fits(&self, node: &VirtNode) -> bool
-        ensures { result ≡ (nat_lt (length self.now.wiring.nodes) 256 && limits_node node.now) }
+        ensures { result ≡ (nat_lt (length self.now.wiring.nodes) MAX_TOPOLOGY_NODES && limits_node node.now) }
     {
-        self.wiring.nodes.len() < 256 && limits_node(node)
+        self.wiring.nodes.len() < MAX_TOPOLOGY_NODES && limits_node(node)
     }
 
     /// Tests the wiring with one more virtual node, which asks for the type or class of some name.
@@ -188,13 +189,13 @@ impl SoFar {
     }
 
     fn segment_fits(&self, segment: &Segment) -> bool
-        requires ends { self.now.tables.ends ≤ 4096 }
-        requires few { length segment.now.ends ≤ 256 }
-        ensures { result ≡ (nat_lt (length self.now.wiring.segments) 512
-            && (nat_le (self.now.tables.ends + length segment.now.ends) 4096 && limits_segment segment.now)) }
+        requires ends { self.now.tables.ends ≤ MAX_ENDS }
+        requires few { length segment.now.ends ≤ MAX_SEGMENT_ENDS }
+        ensures { result ≡ (nat_lt (length self.now.wiring.segments) MAX_SEGMENTS
+            && (nat_le (self.now.tables.ends + length segment.now.ends) MAX_ENDS && limits_segment segment.now)) }
     {
-        self.wiring.segments.len() < 512
-            && self.tables.ends + segment.ends.len() <= 4_096
+        self.wiring.segments.len() < MAX_SEGMENTS
+            && self.tables.ends + segment.ends.len() <= MAX_ENDS
             && limits_segment(segment)
     }
 
@@ -210,7 +211,7 @@ impl SoFar {
         requires names { self.now.tables.segments.keys ≡ map (λ s. s.name) self.now.wiring.segments }
         requires ends { self.now.tables.ends ≡ length (end_nodes self.now.wiring.segments) }
         requires again { again ≡ stands_again same_address (all_ends self.now.wiring.segments ++ segment.now.ends) }
-        requires few { length segment.now.ends ≤ 256 }
+        requires few { length segment.now.ends ≤ MAX_SEGMENT_ENDS }
         ensures { Takes result (with_segment self.now.wiring segment.now) (kept (with_segment self.now.wiring segment.now)) }
     {
         let tests = Tests {

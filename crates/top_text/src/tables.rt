@@ -93,7 +93,8 @@ pub(crate) fn put_ends(
     requires { list_all (λ e. nat_lt e.node (length on_node.old.items)) ends.now ≡ true }
     ensures count { OnOk result (length on_node.new.items ≡ length on_node.old.items) }
     ensures numbers { OnOk result ((v : ℕ) → v < length on_node.old.items
-        → slice_index_or on_node.new.items v [] ≡ slice_index_or on_node.old.items v [] ++ at_ends v (map (λ e. e.node) ends.now) (map (λ e. segment) ends.now)) }
+        → slice_index_or on_node.new.items v []
+        ≡ slice_index_or on_node.old.items v [] ++ at_ends v (map (λ e. e.node) ends.now) (map (λ e. segment) ends.now)) }
 {
     for end in ends {
         on_node[end.node as usize].push(segment)?;
@@ -171,7 +172,7 @@ impl Tables {
 
     /// The number of the segment of a virtual node's end that has `k` earlier ones; 65,535 where there is none.
     pub(crate) fn segment(&self, node: u16, k: u16) -> u16
-        ensures { result ≡ slice_index_or (slice_index_or self.now.on_node.items node []) k 65535 }
+        ensures { result ≡ slice_index_or (slice_index_or self.now.on_node.items node []) k NONE }
     {
         match self.on_node.get(node as usize) {
             Some(numbers) => match numbers.as_slice().get(k as usize) {

@@ -15,8 +15,8 @@ use crate::made::Change;
 use crate::sums::{EndRow, Sums, share_of};
 use crate::table::Crossings;
 use lab_base::IfaceId;
-use phys_lab::Lab;
-use virt_topo::Wiring;
+use phys_lab::{Lab, MAX_TRUNKS};
+use virt_topo::{MAX_KBPS, MAX_SEGMENT_ENDS, Wiring};
 
 /// Whether each change is of a later segment than those before it.
 pub fn are_rising(changes: &[Change]) -> bool
@@ -45,18 +45,18 @@ impl Sums {
     /// The kbps that a segment uses of a trunk before a plug of it crosses it, and after.
     #[inline(always)]
     fn shares_of(&self, row: EndRow, crossing: Crossing) -> Shares
-        requires place { 64 * row.segment + crossing.trunk < length self.now.counts.items }
-        requires few { row.ends ≤ 256 }
-        requires slow { row.kbps ≤ 1000000000 }
+        requires place { MAX_TRUNKS * row.segment + crossing.trunk < length self.now.counts.items }
+        requires few { row.ends ≤ MAX_SEGMENT_ENDS }
+        requires slow { row.kbps ≤ MAX_KBPS }
         requires onto { crossing.onto ≡ true → on_first self.now row crossing.trunk < row.ends }
         requires off { crossing.onto ≡ false → 0 < on_first self.now row crossing.trunk }
         requires within { on_first self.now row crossing.trunk ≤ row.ends }
         ensures before { result.before ≡ share row.ends (on_first self.now row crossing.trunk) row.kbps }
         ensures after { result.after ≡ share row.ends (after crossing.onto (on_first self.now row crossing.trunk)) row.kbps }
-        ensures small { result.before ≤ 256 * 1000000000 }
-        ensures small_after { result.after ≤ 256 * 1000000000 }
+        ensures small { result.before ≤ MAX_SEGMENT_ENDS * MAX_KBPS }
+        ensures small_after { result.after ≤ MAX_SEGMENT_ENDS * MAX_KBPS }
     {
-        let on = self.counts[64 * row.segment as usize + crossing.trunk as usize];
+        let on = self.counts[MAX_TRUNKS * row.segment as usize + crossing.trunk as usize];
         let now = if crossing.onto { on + 1 } else { on - 1 };
         Shares {
             before: share_of(row.ends, on, row.kbps),
@@ -66,17 +66,17 @@ impl Sums {
 
     /// The kbps that a segment uses of the trunks that a plug of it crosses, before and after.
     fn shares(&self, row: EndRow, crossed: &[Crossing]) -> Shares
-        requires room { 64 * row.segment + 64 ≤ length self.now.counts.items }
-        requires one_each { length self.now.uses.items ≤ 64 }
+        requires room { MAX_TRUNKS * row.segment + MAX_TRUNKS ≤ length self.now.counts.items }
+        requires one_each { length self.now.uses.items ≤ MAX_TRUNKS }
         requires within { All (λ c. c.trunk < length self.now.uses.items) crossed.now }
-        requires short { length crossed.now ≤ 64 }
-        requires few { row.ends ≤ 256 }
-        requires slow { row.kbps ≤ 1000000000 }
+        requires short { length crossed.now ≤ MAX_TRUNKS }
+        requires few { row.ends ≤ MAX_SEGMENT_ENDS }
+        requires slow { row.kbps ≤ MAX_KBPS }
         requires come { (t : ℕ) → t < length self.now.uses.items → on_first self.now row t + ups t crossed.now ≤ row.ends }
         requires gone { (t : ℕ) → t < length self.now.uses.items → downs t crossed.now ≤ on_first self.now row t }
         ensures before { result.before ≡ before_crossed self.now row crossed.now }
         ensures after { result.after ≡ once_crossed self.now row crossed.now }
-        ensures small { result.after ≤ 64 * (256 * 1000000000) }
+        ensures small { result.after ≤ MAX_TRUNKS * (MAX_SEGMENT_ENDS * MAX_KBPS) }
     {
         let mut before = 0;
         let mut after = 0;
@@ -106,7 +106,7 @@ impl Sums {
         requires summed { IsSummed lab.now wiring.now _plugs.now self.now }
         ensures before { result.before ≡ before_crossed self.now row crossed.now }
         ensures after { result.after ≡ once_crossed self.now row crossed.now }
-        ensures small { result.after ≤ 64 * (256 * 1000000000) }
+        ensures small { result.after ≤ MAX_TRUNKS * (MAX_SEGMENT_ENDS * MAX_KBPS) }
     {
         // for the prover: it tells what every lab keeps
         let _kept = lab.range();

@@ -8,9 +8,9 @@ ghost use Rattle.trunk_sums.specs.Summed.{IsSummed, own_plugs, used};
 
 use crate::sums::Sums;
 use lab_base::{IfaceId, Memory, TrunkId};
-use phys_lab::Lab;
+use phys_lab::{Lab, MAX_TRUNKS};
 use std::alloc::Global;
-use virt_topo::{Mapping, Wiring};
+use virt_topo::{MAX_ENDS, MAX_KBPS, MAX_SEGMENT_ENDS, Mapping, Wiring};
 
 fn plugs_on(side: &[bool], plugs: &[IfaceId]) -> usize
     requires { All (λ i. i.0 < length side.now) plugs.now }
@@ -22,9 +22,9 @@ fn plugs_on(side: &[bool], plugs: &[IfaceId]) -> usize
 
 /// Counts the plugs of a segment on the first side of each trunk, from a place on.
 fn count_row(lab: &Lab, place: usize, plugs: &[IfaceId], counts: &mut Vec<u16>)
-    requires room { place + 64 ≤ length counts.old.items }
+    requires room { place + MAX_TRUNKS ≤ length counts.old.items }
     requires in_lab { All (λ i. i.0 < length lab.now.ifaces) plugs.now }
-    requires few { length plugs.now ≤ 256 }
+    requires few { length plugs.now ≤ MAX_SEGMENT_ENDS }
     ensures room { length counts.new.items ≡ length counts.old.items }
     ensures row { (t : ℕ) → t < length lab.now.trunks → slice_index_or counts.new.items (place + t) 0 ≡ plugs_on (side_of lab.now t) plugs.now }
     ensures earlier { (k : ℕ) → k < place → slice_index_or counts.new.items k 0 ≡ slice_index_or counts.old.items k 0 }
@@ -46,20 +46,20 @@ fn counts_of(
     requires limits { keeps_limits wiring.now ≡ true }
     requires plugged { length plugs.now ≡ length (end_nodes wiring.now.segments) }
     requires in_lab { All (λ i. i.0 < length lab.now.ifaces) plugs.now }
-    ensures room { IfOk result (λ counts. length counts.items ≡ 64 * length wiring.now.segments) }
+    ensures room { IfOk result (λ counts. length counts.items ≡ MAX_TRUNKS * length wiring.now.segments) }
     ensures each { IfOk result (λ counts. (s t : ℕ) → s < length wiring.now.segments → t < length lab.now.trunks
-        → slice_index_or counts.items (64 * s + t) 0 ≡ plugs_on (side_of lab.now t) (own_plugs wiring.now.segments plugs.now s)) }
+        → slice_index_or counts.items (MAX_TRUNKS * s + t) 0 ≡ plugs_on (side_of lab.now t) (own_plugs wiring.now.segments plugs.now s)) }
 {
     // for the prover: it tells what every lab keeps
     let _kept = lab.range();
-    let mut counts = vec![in alloc; 0u16; 64 * wiring.segments.len()]?;
+    let mut counts = vec![in alloc; 0u16; MAX_TRUNKS * wiring.segments.len()]?;
     let mut rest = plugs;
     let mut place = 0usize;
     for segment in wiring.segments.as_slice() {
         let (own, later) = rest.split_at(segment.ends.len());
         count_row(lab, place, own, &mut counts);
         rest = later;
-        place += 64;
+        place += MAX_TRUNKS;
     }
     Ok(counts)
 }
@@ -91,8 +91,8 @@ fn uses_of(alloc: Global, lab: &Lab, wiring: &Wiring, mapping: &Mapping) -> Resu
 }
 
 fn sum_of(uses: &[u64]) -> u64
-    requires few { length uses.now ≤ 64 }
-    requires small { (t : ℕ) → t < length uses.now → slice_index_or uses.now t 0 ≤ 4096 * 1000000000 }
+    requires few { length uses.now ≤ MAX_TRUNKS }
+    requires small { (t : ℕ) → t < length uses.now → slice_index_or uses.now t 0 ≤ MAX_ENDS * MAX_KBPS }
     ensures { result ≡ sum_by (λ (u : ℕ). u) uses.now }
 {
     let mut total = 0;

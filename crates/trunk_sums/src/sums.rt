@@ -5,8 +5,8 @@ ghost use Rattle.trunk_sums.specs.Crossed.{ups, downs};
 
 use crate::crossing::Crossing;
 use lab_base::IfaceId;
-use phys_lab::Lab;
-use virt_topo::Wiring;
+use phys_lab::{Lab, MAX_TRUNKS};
+use virt_topo::{MAX_ENDS, MAX_KBPS, MAX_SEGMENT_ENDS, Wiring};
 
 /// The segment of an end, the number of ends there, and its kbps.
 #[derive(Clone, Copy)]
@@ -17,7 +17,7 @@ pub struct EndRow {
 }
 
 /// Running sums of a mapping.
-/// `counts` has by segment and trunk the number of plugs on the trunk's first side, those of segment s from `64 * s` on. `uses` has by trunk the kbps
+/// `counts` has by segment and trunk the number of plugs on the trunk's first side, those of segment s from `MAX_TRUNKS * s` on. `uses` has by trunk the kbps
 /// that the segments use, and `total` their sum.
 #[derive(Drop)]
 pub struct Sums {
@@ -30,10 +30,10 @@ pub struct Sums {
 #[inline(always)]
 pub(crate) fn share_of(ends: u16, on: u16, kbps: u64) -> u64
     requires within { on ≤ ends }
-    requires few { ends ≤ 256 }
-    requires slow { kbps ≤ 1000000000 }
+    requires few { ends ≤ MAX_SEGMENT_ENDS }
+    requires slow { kbps ≤ MAX_KBPS }
     ensures is { result ≡ share ends on kbps }
-    ensures small { result ≤ 256 * 1000000000 }
+    ensures small { result ≤ MAX_SEGMENT_ENDS * MAX_KBPS }
 {
     on.min(ends - on) as u64 * kbps
 }
@@ -44,22 +44,22 @@ impl Sums {
     fn cross_one(&mut self, place: usize, crossing: Crossing, row: EndRow)
         requires place { place < length self.old.counts.items }
         requires trunk { crossing.trunk < length self.old.uses.items }
-        requires few { row.ends ≤ 256 }
-        requires slow { row.kbps ≤ 1000000000 }
+        requires few { row.ends ≤ MAX_SEGMENT_ENDS }
+        requires slow { row.kbps ≤ MAX_KBPS }
         requires onto { crossing.onto ≡ true → slice_index_or self.old.counts.items place 0 < row.ends }
         requires off { crossing.onto ≡ false → 0 < slice_index_or self.old.counts.items place 0 }
         requires within { slice_index_or self.old.counts.items place 0 ≤ row.ends }
         requires counted { share row.ends (slice_index_or self.old.counts.items place 0) row.kbps ≤ slice_index_or self.old.uses.items crossing.trunk 0 }
         requires summed { share row.ends (slice_index_or self.old.counts.items place 0) row.kbps ≤ self.old.total }
-        requires small { slice_index_or self.old.uses.items crossing.trunk 0 ≤ 9223372036854775808 }
-        requires whole { self.old.total ≤ 9223372036854775808 }
+        requires small { slice_index_or self.old.uses.items crossing.trunk 0 ≤ 2 ^ 63 }
+        requires whole { self.old.total ≤ 2 ^ 63 }
         ensures counts { self.new.counts.items ≡ slice_set self.old.counts.items place (after crossing.onto (slice_index_or self.old.counts.items place 0)) }
         ensures uses { self.new.uses.items ≡ slice_set self.old.uses.items crossing.trunk (slice_index_or self.old.uses.items crossing.trunk 0
             - share row.ends (slice_index_or self.old.counts.items place 0) row.kbps
             + share row.ends (after crossing.onto (slice_index_or self.old.counts.items place 0)) row.kbps) }
         ensures total { self.new.total ≡ self.old.total - share row.ends (slice_index_or self.old.counts.items place 0) row.kbps
             + share row.ends (after crossing.onto (slice_index_or self.old.counts.items place 0)) row.kbps }
-        ensures bound { self.new.total ≤ self.old.total + 256 * 1000000000 }
+        ensures bound { self.new.total ≤ self.old.total + MAX_SEGMENT_ENDS * MAX_KBPS }
     {
         let on = self.counts[place];
         let now = if crossing.onto { on + 1 } else { on - 1 };
@@ -73,34 +73,34 @@ impl Sums {
 
     /// Takes a plug of a segment over trunks.
     pub fn cross(&mut self, row: EndRow, crossed: &[Crossing])
-        requires room { 64 * row.segment + 64 ≤ length self.old.counts.items }
-        requires one_each { length self.old.uses.items ≤ 64 }
+        requires room { MAX_TRUNKS * row.segment + MAX_TRUNKS ≤ length self.old.counts.items }
+        requires one_each { length self.old.uses.items ≤ MAX_TRUNKS }
         requires within { All (λ c. c.trunk < length self.old.uses.items) crossed.now }
-        requires short { length crossed.now ≤ 64 }
-        requires few { row.ends ≤ 256 }
-        requires slow { row.kbps ≤ 1000000000 }
+        requires short { length crossed.now ≤ MAX_TRUNKS }
+        requires few { row.ends ≤ MAX_SEGMENT_ENDS }
+        requires slow { row.kbps ≤ MAX_KBPS }
         requires come { (t : ℕ) → t < length self.old.uses.items
-            → slice_index_or self.old.counts.items (64 * row.segment + t) 0 + ups t crossed.now ≤ row.ends }
-        requires gone { (t : ℕ) → t < length self.old.uses.items → downs t crossed.now ≤ slice_index_or self.old.counts.items (64 * row.segment + t) 0 }
+            → slice_index_or self.old.counts.items (MAX_TRUNKS * row.segment + t) 0 + ups t crossed.now ≤ row.ends }
+        requires gone { (t : ℕ) → t < length self.old.uses.items → downs t crossed.now ≤ slice_index_or self.old.counts.items (MAX_TRUNKS * row.segment + t) 0 }
         requires counted { (t : ℕ) → t < length self.old.uses.items
-            → share row.ends (slice_index_or self.old.counts.items (64 * row.segment + t) 0) row.kbps ≤ slice_index_or self.old.uses.items t 0 }
-        requires small { (t : ℕ) → t < length self.old.uses.items → slice_index_or self.old.uses.items t 0 ≤ 4096 * 1000000000 }
+            → share row.ends (slice_index_or self.old.counts.items (MAX_TRUNKS * row.segment + t) 0) row.kbps ≤ slice_index_or self.old.uses.items t 0 }
+        requires small { (t : ℕ) → t < length self.old.uses.items → slice_index_or self.old.uses.items t 0 ≤ MAX_ENDS * MAX_KBPS }
         requires summed { self.old.total ≡ sum_by (λ (u : ℕ). u) self.old.uses.items }
-        requires whole { self.old.total ≤ 64 * (4096 * 1000000000) }
+        requires whole { self.old.total ≤ MAX_TRUNKS * (MAX_ENDS * MAX_KBPS) }
         ensures room { length self.new.counts.items ≡ length self.old.counts.items }
         ensures one_each { length self.new.uses.items ≡ length self.old.uses.items }
         ensures row { (t : ℕ) → t < length self.old.uses.items
-            → slice_index_or self.new.counts.items (64 * row.segment + t) 0 + downs t crossed.now
-            ≡ slice_index_or self.old.counts.items (64 * row.segment + t) 0 + ups t crossed.now }
-        ensures others { (k : ℕ) → (k < 64 * row.segment) ⊎ (64 * row.segment + 64 ≤ k)
+            → slice_index_or self.new.counts.items (MAX_TRUNKS * row.segment + t) 0 + downs t crossed.now
+            ≡ slice_index_or self.old.counts.items (MAX_TRUNKS * row.segment + t) 0 + ups t crossed.now }
+        ensures others { (k : ℕ) → (k < MAX_TRUNKS * row.segment) ⊎ (MAX_TRUNKS * row.segment + MAX_TRUNKS ≤ k)
             → slice_index_or self.new.counts.items k 0 ≡ slice_index_or self.old.counts.items k 0 }
         ensures uses { (t : ℕ) → t < length self.old.uses.items
-            → slice_index_or self.new.uses.items t 0 + share row.ends (slice_index_or self.old.counts.items (64 * row.segment + t) 0) row.kbps
-            ≡ slice_index_or self.old.uses.items t 0 + share row.ends (slice_index_or self.new.counts.items (64 * row.segment + t) 0) row.kbps }
+            → slice_index_or self.new.uses.items t 0 + share row.ends (slice_index_or self.old.counts.items (MAX_TRUNKS * row.segment + t) 0) row.kbps
+            ≡ slice_index_or self.old.uses.items t 0 + share row.ends (slice_index_or self.new.counts.items (MAX_TRUNKS * row.segment + t) 0) row.kbps }
         ensures summed { self.new.total ≡ sum_by (λ (u : ℕ). u) self.new.uses.items }
     {
         for crossing in crossed {
-            let place = 64 * row.segment as usize + crossing.trunk as usize;
+            let place = MAX_TRUNKS * row.segment as usize + crossing.trunk as usize;
             self.cross_one(place, *crossing, row);
         }
     }

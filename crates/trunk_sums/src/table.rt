@@ -5,7 +5,7 @@ ghost use Rattle.trunk_sums.specs.Crossed.{AreCrossed};
 
 use crate::crossing::Crossing;
 use lab_base::{IfaceId, Items, Memory, SwitchId, TrunkId};
-use phys_lab::Lab;
+use phys_lab::{Lab, MAX_SWITCHES};
 use std::alloc::Global;
 
 fn push_crossing(
@@ -45,7 +45,7 @@ fn between(
     Ok(listed)
 }
 
-/// By pair of switches, the trunks between them. The pair a and b is at `64 * a + b`.
+/// By pair of switches, the trunks between them. The pair a and b is at `MAX_SWITCHES * a + b`.
 #[derive(Drop)]
 pub struct Crossings {
     lists: Vec<Items<Crossing>>,
@@ -81,13 +81,19 @@ fn push_pair(
 /// By pair of switches, the trunks between them.
 fn table_of(alloc: Global, lab: &Lab) -> Result<Vec<Items<Crossing>>, Memory>
     ensures { IfOk result (λ lists. (a b : ℕ) → a < length lab.now.switches → b < length lab.now.switches
-        → AreBetween lab.now a b (length lab.now.trunks) (slice_index_or lists.items (64 * a + b) [])) }
+        → AreBetween lab.now a b (length lab.now.trunks) (slice_index_or lists.items (MAX_SWITCHES * a + b) [])) }
 {
     // for the prover: it tells what every lab keeps
     let _kept = lab.range();
     let mut lists = Vec::new(alloc);
-    for number in 0..4_096usize {
-        push_pair(alloc, &mut lists, lab, number / 64, number % 64)?;
+    for number in 0..MAX_SWITCHES * MAX_SWITCHES {
+        push_pair(
+            alloc,
+            &mut lists,
+            lab,
+            number / MAX_SWITCHES,
+            number % MAX_SWITCHES,
+        )?;
     }
     Ok(lists)
 }
@@ -148,6 +154,6 @@ impl Crossings {
     {
         let one = self.switch_of(lab, from);
         let other = self.switch_of(lab, to);
-        self.of(64 * one.0 as usize + other.0 as usize)
+        self.of(MAX_SWITCHES * one.0 as usize + other.0 as usize)
     }
 }

@@ -4,6 +4,7 @@ ghost use Rattle.virt_topo.specs.Ends.{end_nodes, end_number};
 ghost use Rattle.virt_topo.specs.Soundness.{end_of};
 ghost use Rattle.virt_topo.specs.Sought.{IsSought};
 
+use crate::limits::END_NUMBERS;
 use crate::{VirtEnd, Wiring};
 
 /// The outcome of a search for an end in one segment.
@@ -34,7 +35,7 @@ fn sought_in(ends: &[VirtEnd], node: u16, k: u16) -> Sought
 impl Wiring {
     /// The number, among all ends, of the end that has `k` earlier ends of the virtual node.
     pub fn end(&self, node: u16, k: u16) -> Option<u16>
-        requires { length (end_nodes self.now.segments) ≤ 65536 }
+        requires { length (end_nodes self.now.segments) ≤ END_NUMBERS }
         ensures { result ≡ end_of self.now node k }
     {
         let mut passed: usize = 0;

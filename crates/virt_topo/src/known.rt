@@ -4,6 +4,7 @@ ghost use Rattle.std.specs.List.{list_all};
 ghost use Rattle.virt_topo.specs.Ends.{end_nodes};
 ghost use Rattle.virt_topo.specs.Soundness.{knows_class, knows_node, is_end, knows_pipe, knows_all};
 
+use crate::limits::END_NUMBERS;
 use crate::{Asks, Pipe, Segment, VirtEnd, VirtNode, Wiring};
 
 fn knows_class(wiring: &Wiring, asks: &Asks) -> bool
@@ -42,14 +43,14 @@ fn knows_segments(wiring: &Wiring, segments: &[Segment]) -> bool
 }
 
 fn is_end(wiring: &Wiring, node: u16, k: u16) -> bool
-    requires { length (end_nodes wiring.now.segments) ≤ 65536 }
+    requires { length (end_nodes wiring.now.segments) ≤ END_NUMBERS }
     ensures { result ≡ is_end wiring.now node k }
 {
     wiring.end(node, k).is_some()
 }
 
 fn knows_pipe(wiring: &Wiring, pipe: &Pipe) -> bool
-    requires { length (end_nodes wiring.now.segments) ≤ 65536 }
+    requires { length (end_nodes wiring.now.segments) ≤ END_NUMBERS }
     ensures { result ≡ knows_pipe wiring.now pipe.now }
 {
     knows_node(wiring, pipe.node)
@@ -58,7 +59,7 @@ fn knows_pipe(wiring: &Wiring, pipe: &Pipe) -> bool
 }
 
 fn knows_pipes(wiring: &Wiring, pipes: &[Pipe]) -> bool
-    requires { length (end_nodes wiring.now.segments) ≤ 65536 }
+    requires { length (end_nodes wiring.now.segments) ≤ END_NUMBERS }
     ensures { result ≡ list_all (knows_pipe wiring.now) pipes.now }
 {
     pipes.iter().all(|pipe| knows_pipe(wiring, pipe))
@@ -66,7 +67,7 @@ fn knows_pipes(wiring: &Wiring, pipes: &[Pipe]) -> bool
 
 /// Whether each number of the wiring names something.
 pub fn knows_all(wiring: &Wiring) -> bool
-    requires { length (end_nodes wiring.now.segments) ≤ 65536 }
+    requires { length (end_nodes wiring.now.segments) ≤ END_NUMBERS }
     ensures { result ≡ knows_all wiring.now }
 {
     knows_classes(wiring, wiring.nodes.as_slice())

@@ -20,7 +20,11 @@ mod wiring;
 pub use experiment::{Experiment, Phase};
 pub use fault::WiringFault;
 pub use known::knows_all;
-pub use limits::{keeps_limits, limits_class, limits_node, limits_pipe, limits_segment};
+pub use limits::{
+    END_NUMBERS, MAX_CLASSES, MAX_DESIRES, MAX_ENDS, MAX_HOST, MAX_KBPS, MAX_MICROS, MAX_PPM,
+    MAX_SEGMENT_ENDS, MAX_SEGMENTS, MAX_SOFT_WEIGHT, MAX_TOPOLOGY_NODES, MAX_TYPES, MAX_WEIGHT,
+    keeps_limits, limits_class, limits_node, limits_pipe, limits_segment,
+};
 pub use loads::{Load, loads_of};
 pub use mapping::{Mapped, Mapping};
 pub use pipes::{has_bad_pipe, is_multiplexed_at, owner_at};

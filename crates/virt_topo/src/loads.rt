@@ -3,6 +3,7 @@ ghost use Rattle.std.specs.Prelude.{◌≡◌, ◌<◌, ◌≤◌, ◌++◌, len
 ghost use Rattle.virt_topo.specs.Loads.{load_of, loads_from};
 
 use crate::Segment;
+use crate::limits::MAX_SEGMENTS;
 use lab_base::Memory;
 use std::alloc::Global;
 
@@ -29,7 +30,7 @@ fn push_loads(listed: &mut Vec<Load>, number: u16, segment: &Segment) -> Result<
 
 /// By end, its load on its interface.
 pub fn loads_of(alloc: Global, segments: &[Segment]) -> Result<Vec<Load>, Memory>
-    requires { length segments.now ≤ 512 }
+    requires { length segments.now ≤ MAX_SEGMENTS }
     ensures { IfOk result (λ listed. listed.items ≡ loads_from 0 segments.now) }
 {
     let mut listed = Vec::new(alloc);

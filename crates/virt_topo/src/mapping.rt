@@ -3,6 +3,7 @@ ghost use Rattle.virt_topo.specs.Ends.{end_nodes};
 ghost use Rattle.virt_topo.specs.Cables.{cables, cut_use, cable_use, plugs_on};
 ghost use Rattle.virt_topo.specs.Soundness.{keeps_limits};
 
+use crate::limits::{MAX_KBPS, MAX_SEGMENT_ENDS};
 use crate::{Segment, Wiring};
 use lab_base::{IfaceId, Items, Memory, Name, NodeId, Tags};
 use std::alloc::Global;
@@ -35,8 +36,8 @@ fn plugs_on(side: &[bool], plugs: &[IfaceId]) -> usize
 /// The kbps that a segment with these plugs uses of the cut between a side and the rest.
 fn segment_use(side: &[bool], segment: &Segment, plugs: &[IfaceId]) -> u64
     requires within { All (λ i. i.0 < length side.now) plugs.now }
-    requires few { length plugs.now ≤ 256 }
-    requires slow { segment.now.kbps ≤ 1000000000 }
+    requires few { length plugs.now ≤ MAX_SEGMENT_ENDS }
+    requires slow { segment.now.kbps ≤ MAX_KBPS }
     ensures { result ≡ cable_use side.now (record { segment = segment.now; plugs = plugs.now }) }
 {
     let on_side = plugs_on(side, plugs);

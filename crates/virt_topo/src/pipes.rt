@@ -5,6 +5,7 @@ ghost use Rattle.virt_topo.specs.Ends.{end_nodes, end_owners, end_multiplexed, e
 ghost use Rattle.virt_topo.specs.Repeats.{stands_again};
 ghost use Rattle.virt_topo.specs.Soundness.{has_bad_pipe, is_bad_pipe, multiplexed_at, owner_at, shares_end};
 
+use crate::limits::END_NUMBERS;
 use crate::{Pipe, Segment, Wiring};
 
 fn owner_among(segments: &[Segment], end: u16) -> &[u8]
@@ -22,7 +23,7 @@ fn owner_among(segments: &[Segment], end: u16) -> &[u8]
 
 /// The owner of the segment of a virtual node's end that has `k` earlier ones; no bytes where there is none.
 pub fn owner_at(wiring: &Wiring, node: u16, k: u16) -> &[u8]
-    requires { length (end_nodes wiring.now.segments) ≤ 65536 }
+    requires { length (end_nodes wiring.now.segments) ≤ END_NUMBERS }
     ensures { result.now ≡ owner_at wiring.now (end_number (end_nodes wiring.now.segments) node k) }
 {
     match wiring.end(node, k) {
@@ -46,7 +47,7 @@ fn multiplexed_among(segments: &[Segment], end: u16) -> bool
 
 /// Whether the segment of a virtual node's end that has `k` earlier ones is multiplexed; false where there is none.
 pub fn is_multiplexed_at(wiring: &Wiring, node: u16, k: u16) -> bool
-    requires { length (end_nodes wiring.now.segments) ≤ 65536 }
+    requires { length (end_nodes wiring.now.segments) ≤ END_NUMBERS }
     ensures { result ≡ multiplexed_at wiring.now (end_number (end_nodes wiring.now.segments) node k) }
 {
     match wiring.end(node, k) {
@@ -56,7 +57,7 @@ pub fn is_multiplexed_at(wiring: &Wiring, node: u16, k: u16) -> bool
 }
 
 fn is_bad_pipe(wiring: &Wiring, pipe: &Pipe) -> bool
-    requires { length (end_nodes wiring.now.segments) ≤ 65536 }
+    requires { length (end_nodes wiring.now.segments) ≤ END_NUMBERS }
     ensures { result ≡ is_bad_pipe wiring.now pipe.now }
 {
     pipe.from == pipe.to
@@ -66,7 +67,7 @@ fn is_bad_pipe(wiring: &Wiring, pipe: &Pipe) -> bool
 }
 
 fn have_bad_pipe(wiring: &Wiring, pipes: &[Pipe]) -> bool
-    requires { length (end_nodes wiring.now.segments) ≤ 65536 }
+    requires { length (end_nodes wiring.now.segments) ≤ END_NUMBERS }
     ensures { result ≡ list_any (is_bad_pipe wiring.now) pipes.now }
 {
     pipes.iter().any(|pipe| is_bad_pipe(wiring, pipe))
@@ -103,7 +104,7 @@ fn repeat_end(pipes: &[Pipe]) -> bool
 
 /// Whether a pipe has one end twice, ends of two owners, an end of a multiplexed segment, or an end of an earlier pipe.
 pub fn has_bad_pipe(wiring: &Wiring) -> bool
-    requires { length (end_nodes wiring.now.segments) ≤ 65536 }
+    requires { length (end_nodes wiring.now.segments) ≤ END_NUMBERS }
     ensures { result ≡ has_bad_pipe wiring.now }
 {
     have_bad_pipe(wiring, wiring.pipes.as_slice()) || repeat_end(wiring.pipes.as_slice())

@@ -1,9 +1,11 @@
-use Rattle.std.proofs.Common.{Err, Ok}
+use Rattle.std.proofs.Common.{Err, Ok, refl}
 use Rattle.script_text.specs.Drills.{drill_of}
+use Rattle.script_text.specs.declared.reply.Reply.TheVariants.{Unread}
 use Rattle.lab_judge.specs.Judge.{Tell, Swap}
 use Rattle.lab_judge.proofs.Judgements.{judged_once}
 use Rattle.lab_core.proofs.StepLaws.{was, by_one, no_steps_refused, no_steps_told, step_once, swap_tells}
 use Rattle.lab_core.proofs.ListSteps.{all_drills, all_stay, all_stop, plain_step}
+use Rattle.lab_core.proofs.OuterSteps.{tells_alone, tells_stop, tells_unread}
 use Rattle.lab_core.proofs.laws.lab_steps.Goals as goal
 
 pub returns-clause-judged_once : goal.returns-clause-judged_once
@@ -35,4 +37,10 @@ pub returns-clause-drills : goal.returns-clause-drills
 returns-clause-drills c = λ terms at set s session command opening own after is step. all_drills terms at set s session opening own after command is step
 
 pub returns-clause-stops : goal.returns-clause-stops
-returns-clause-stops c = λ terms at set s session command opening own after reply step is. all_stop terms at set s session opening own after command reply is step
+returns-clause-stops c = λ terms at set s session command opening own after reply step is. tells_stop command opening own reply (all_stop terms at set s session opening own after command reply is step)
+
+pub returns-clause-unread : goal.returns-clause-unread
+returns-clause-unread c = λ terms at set s session command opening own after reply name step is. tells_unread command opening own reply name (all_stop terms at set s session opening own after command reply is step)
+
+pub returns-clause-alone : goal.returns-clause-alone
+returns-clause-alone c = λ terms at set s session command opening own after name step is. tells_alone command opening own (Unread name) name (all_stop terms at set s session opening own after command (Unread name) is step) refl

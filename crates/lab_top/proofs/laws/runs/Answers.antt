@@ -1,7 +1,8 @@
 use Rattle.journal_runs.proofs.Blank.{nothing_sound}
 use Rattle.lab_state.specs.Texts.{the_texts}
+use Rattle.lab_core.proofs.OuterSteps.{tells_stop}
 use Rattle.lab_top.proofs.Moving.{moves_first}
-use Rattle.lab_top.proofs.RunLaws.{are_kept, stops_told, swapped_in, undrilled_told}
+use Rattle.lab_top.proofs.RunLaws.{are_kept, steps_told, swapped_in, undrilled_told}
 use Rattle.lab_top.proofs.Answers.{inside_told, stays_told}
 use Rattle.lab_top.proofs.Scripts.{script_once}
 use Rattle.lab_top.proofs.laws.runs.Goals as goal
@@ -20,7 +21,7 @@ pub returns-clause-inside : goal.returns-clause-inside
 returns-clause-inside c = λ terms choices old new status before after b t exp text lines r told sound asks replied. inside_told terms choices old new status before after b t r told sound exp text lines asks replied
 
 pub returns-clause-stops : goal.returns-clause-stops
-returns-clause-stops c = λ terms choices old new status before after b t reply r told replied. stops_told terms choices old new status before after b t r told reply replied
+returns-clause-stops c = λ terms choices old new status before after b t reply r told replied. tells_stop b.piece.command b.piece.opening b.piece.own reply (steps_told terms choices old new status before after b t r told reply replied)
 
 pub returns-clause-undrilled : goal.returns-clause-undrilled
 returns-clause-undrilled c = λ terms choices old new status before after b t reply r told no_drill replied. undrilled_told terms choices old new status before after b t r told reply replied no_drill

@@ -21,7 +21,7 @@ returns-in-Ok g c = λ opens devices within works.
     let before = g.P.Plant.seen c.args.plant.now in
     let now = g.P.Plant.seen c.perform.new.plant in
     let inside = control c.self.inside.lab.state c.self.inside.journal c.self.inside.swaps in
-    let new = control c.perform.new.lab.state c.perform.new.journal c.perform.new.swaps in
+    let new = c.perform.new.self in
     let works_inside = subst (λ (k : Control). WorksWith before k opens) (sym c.self.view_is) works in
     plain_obeys c.args.rule.now.number c.args.command.now c.requires.alone devices before now c.args.self.now new opens c.perform.result
     (done_beside before inside c.args.self.now c.self.view_is opens works_inside c.args.rule.now.number c.args.command.now devices now new (task_of c.in-Ok.task) c.perform.result c.in-Ok.ensures.judged (c.perform.ensures.obeyed opens devices (name_of c.args.command.now) within works_inside))

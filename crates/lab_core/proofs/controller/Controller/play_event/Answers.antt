@@ -16,7 +16,7 @@ pub returns-in-Ok-clause-obeys : goal.returns-in-Ok-clause-obeys
 returns-in-Ok-clause-obeys g c = λ opens devices within works.
     let before = g.P.Plant.seen c.args.plant.now in
     let inside = control c.self.inside.lab.state c.self.inside.journal c.self.inside.swaps in
-    let new = control c.perform.new.lab.state c.perform.new.journal c.perform.new.swaps in
+    let new = c.perform.new.self in
     let works_inside = subst (λ (k : Control). WorksWith before k opens) (sym c.self.view_is) works in
     event_done before inside c.args.self.now c.self.view_is opens works_inside c.args.exp c.args.text.now c.args.event.now devices (g.P.Plant.seen c.perform.new.plant) new (task_of c.in-Ok.task) c.perform.result c.in-Ok.ensures.judged
     (c.perform.ensures.obeyed opens devices (Rattle.std.proofs.Common.Some c.args.exp) within works_inside)

@@ -22,7 +22,7 @@ returns-in-Ok-clause-obeys g c = λ opens devices within works.
     let q = c.args.queue.now in
     let before = g.P.Plant.seen c.args.plant.now in
     let inside = control c.self.inside.lab.state c.self.inside.journal c.self.inside.swaps in
-    let new = control c.perform.new.lab.state c.perform.new.journal c.perform.new.swaps in
+    let new = c.perform.new.self in
     let works_inside = subst (λ (k : Control). WorksWith before k opens) (sym c.self.view_is) works in
     record {
       obeyed = run_done before inside c.args.self.now c.self.view_is opens works_inside c.args.rule.now.number q.moment q.promises q.ends c.args.run.now devices (g.P.Plant.seen c.perform.new.plant) new (task_of c.in-Ok.task) c.perform.result (rw c.space_of.ensures at c.in-Ok.ensures.judged)

@@ -1,6 +1,6 @@
-use Rattle.lab_core.specs.Controller.{Control, control}
+use Rattle.lab_core.specs.Controller.{Control}
 use Rattle.lab_core.proofs.EndOne.{ended}
-use Rattle.lab_core.proofs.perform.finish.Goals as goal
+use Rattle.lab_core.proofs.controller.Controller.finish.Goals as goal
 
 pub finish_swap-progress-requires-clause-managed : goal.finish_swap-progress-requires-clause-managed
 finish_swap-progress-requires-clause-managed g c = let works = c.requires.works.1 in record { opens = works.pairs; working = works.working; holds = works.holds }
@@ -10,7 +10,7 @@ finish_swap-progress-requires-clause-is_open g c = c.requires.ready
 
 pub returns : goal.returns
 returns g c = λ opens devices within works.
-    let old : Control = control c.args.lab.now.state c.args.journal.now c.args.swaps.now in
-    let new : Control = control c.finish_swap-progress.new.lab.state c.finish_swap-progress.new.journal c.finish_swap-progress.new.swaps in
+    let old : Control = c.args.self.now in
+    let new : Control = c.finish_swap-progress.new.self in
     let e = c.finish_swap-progress.ensures in
     rw c.reply_of_progress.ensures (ended _ _ old new opens c.args.exp works c.finish_swap-progress.result (e.ended works.pairs works.working works.holds) devices e.limit e.stopped)

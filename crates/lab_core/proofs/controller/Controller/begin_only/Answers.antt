@@ -1,8 +1,7 @@
 use Rattle.std.proofs.Common.{true}
 use Rattle.std.proofs.lemmas.Result.{err_from_is_err_and}
-use Rattle.lab_core.specs.Controller.{control}
 use Rattle.lab_core.proofs.RunSwap.{only_begun}
-use Rattle.lab_core.proofs.perform.begin_only.Goals as goal
+use Rattle.lab_core.proofs.controller.Controller.begin_only.Goals as goal
 
 pub returns-in_err-begin : goal.returns-in_err-begin
 returns-in_err-begin g c =
@@ -11,7 +10,7 @@ returns-in_err-begin g c =
 
 pub returns-in-None : goal.returns-in-None
 returns-in-None g c = λ opens devices within works.
-    only_begun devices _ _ (control c.args.lab.now.state c.args.journal.now c.args.swaps.now) (control c.begin.new.lab.state c.begin.new.journal c.begin.new.swaps) opens c.args.exp c.args.way ((rw c.in-None.is at c.in_ok-begin.ensures.begun) opens devices within works)
+    only_begun devices _ _ c.args.self.now c.begin.new.self opens c.args.swap.exp c.args.swap.way ((rw c.in-None.is at c.in_ok-begin.ensures.begun) opens devices within works)
 
 pub returns-in-Some : goal.returns-in-Some
 returns-in-Some g c = λ opens devices within works. (rw c.in-Some.is at c.in_ok-begin.ensures.begun) opens devices within works true

@@ -1,6 +1,6 @@
-use Rattle.lab_core.specs.Controller.{Control, control}
+use Rattle.lab_core.specs.Controller.{Control}
 use Rattle.lab_core.proofs.TurnOne.{turned}
-use Rattle.lab_core.proofs.perform.turn.Goals as goal
+use Rattle.lab_core.proofs.controller.Controller.turn.Goals as goal
 
 pub turn_swap-progress-requires-clause-managed : goal.turn_swap-progress-requires-clause-managed
 turn_swap-progress-requires-clause-managed g c = let works = c.requires.works.1 in record { opens = works.pairs; working = works.working; holds = works.holds }
@@ -10,7 +10,7 @@ turn_swap-progress-requires-clause-is_open g c = c.requires.ready
 
 pub returns : goal.returns
 returns g c = λ opens devices within works.
-    let old : Control = control c.args.lab.now.state c.args.journal.now c.args.swaps.now in
-    let new : Control = control c.turn_swap-progress.new.lab.state c.turn_swap-progress.new.journal c.turn_swap-progress.new.swaps in
+    let old : Control = c.args.self.now in
+    let new : Control = c.turn_swap-progress.new.self in
     let e = c.turn_swap-progress.ensures in
     rw c.reply_of_progress.ensures (turned devices _ _ old new opens c.args.exp works c.turn_swap-progress.result (e.turned works.pairs works.working works.holds) e.limit e.stopped)

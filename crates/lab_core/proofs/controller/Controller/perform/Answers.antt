@@ -1,15 +1,14 @@
 use Rattle.std.proofs.Common.{Ok, refl}
-use Rattle.lab_core.specs.Controller.{control}
 use Rattle.lab_judge.specs.Judge.{Is, Tell}
 use Rattle.lab_core.specs.LabSteps.{does}
 use Rattle.lab_core.proofs.Obey.{replied}
-use Rattle.lab_core.proofs.perform.perform.Goals as goal
+use Rattle.lab_core.proofs.controller.Controller.perform.Goals as goal
 
 pub returns-in-Tell-clause-obeyed : goal.returns-in-Tell-clause-obeyed
 returns-in-Tell-clause-obeyed g c =
     let mild = rw c.in-Tell.is at c.requires.can in
     rw c.in-Tell.is
-    (λ opens devices exp within works. replied devices _ (Is (Ok (Tell c.in-Tell.reply))) (control c.args.lab.now.state c.args.journal.now c.args.swaps.now) opens exp c.in-Tell.reply works mild (does (Ok (Tell c.in-Tell.reply)) refl (record { nothing = refl; after_is = refl })))
+    (λ opens devices exp within works. replied devices _ (Is (Ok (Tell c.in-Tell.reply))) c.args.self.now opens exp c.in-Tell.reply works mild (does (Ok (Tell c.in-Tell.reply)) refl (record { nothing = refl; after_is = refl })))
 
 pub append-requires-clause-can : goal.append-requires-clause-can
 append-requires-clause-can g c = rw c.in-Append.is at c.requires.can
@@ -17,14 +16,8 @@ append-requires-clause-can g c = rw c.in-Append.is at c.requires.can
 pub returns-in-Append-clause-obeyed : goal.returns-in-Append-clause-obeyed
 returns-in-Append-clause-obeyed g c = rw c.in-Append.is c.append.ensures
 
-pub swap-requires-clause-record : goal.swap-requires-clause-record
-swap-requires-clause-record g c = (rw c.in-Swap.is at c.requires.can).0
-
-pub swap-requires-clause-follows : goal.swap-requires-clause-follows
-swap-requires-clause-follows g c = (rw c.in-Swap.is at c.requires.can).1
-
-pub swap-requires-clause-by : goal.swap-requires-clause-by
-swap-requires-clause-by g c = (rw c.in-Swap.is at c.requires.can).2
+pub swap-requires-clause-can : goal.swap-requires-clause-can
+swap-requires-clause-can g c = rw c.in-Swap.is at c.requires.can
 
 pub swap-requires-clause-ready : goal.swap-requires-clause-ready
 swap-requires-clause-ready g c = rw c.in-Swap.is at c.requires.ready
@@ -32,14 +25,8 @@ swap-requires-clause-ready g c = rw c.in-Swap.is at c.requires.ready
 pub returns-in-Swap-clause-obeyed : goal.returns-in-Swap-clause-obeyed
 returns-in-Swap-clause-obeyed g c = rw c.in-Swap.is (λ opens devices exp within works. c.swap.ensures.obeyed opens devices within works)
 
-pub begin_only-requires-clause-record : goal.begin_only-requires-clause-record
-begin_only-requires-clause-record g c = (rw c.in-BeginOnly.is at c.requires.can).0
-
-pub begin_only-requires-clause-follows : goal.begin_only-requires-clause-follows
-begin_only-requires-clause-follows g c = (rw c.in-BeginOnly.is at c.requires.can).1
-
-pub begin_only-requires-clause-by : goal.begin_only-requires-clause-by
-begin_only-requires-clause-by g c = (rw c.in-BeginOnly.is at c.requires.can).2
+pub begin_only-requires-clause-can : goal.begin_only-requires-clause-can
+begin_only-requires-clause-can g c = rw c.in-BeginOnly.is at c.requires.can
 
 pub begin_only-requires-clause-ready : goal.begin_only-requires-clause-ready
 begin_only-requires-clause-ready g c = rw c.in-BeginOnly.is at c.requires.ready

@@ -17,22 +17,22 @@ use Rattle.lab_core.proofs.Obey.{wanted}
 use Rattle.lab_core.proofs.PerformAppend.{full, stands_of}
 use Rattle.lab_core.proofs.RunSwap.{is_opened, no_space_for, not_opened, nothing_as, planned}
 use Rattle.lab_core.proofs.SwapReplies.{unopened_told}
-use Rattle.lab_core.proofs.perform.begin.Goals as goal
+use Rattle.lab_core.proofs.controller.Controller.begin.Goals as goal
 
 pub returns-in_default-clause-begun : goal.returns-in_default-clause-begun
-returns-in_default-clause-begun g c = rw c.prepare_swap.ensures.unchanged (λ opens devices within works only. wanted devices _ _ (control c.args.lab.now.state c.args.journal.now c.args.swaps.now) opens (Some c.args.exp) works)
+returns-in_default-clause-begun g c = rw (c.prepare_swap.ensures.unchanged, ← c.self.view_is) (λ opens devices within works only. wanted devices _ _ (control c.self.inside.lab.state c.self.inside.journal c.self.inside.swaps) opens (Some c.args.swap.exp) works)
 
 pub returns-then-not-has_space-clause-begun : goal.returns-then-not-has_space-clause-begun
 returns-then-not-has_space-clause-begun g c =
-    let old : Control = control c.args.lab.now.state c.args.journal.now c.args.swaps.now in
-    rw c.prepare_swap.ensures.unchanged
-    (λ opens devices within works only. full devices _ old opens (Some c.args.exp) (begun_as only (Swap c.args.exp c.args.way)) (Begin c.args.exp c.args.way) c.in-Ok.ready.planned.begin c.length.result works
-    (λ own after no' replies. no_space_for (start_of devices old opens).set old.lab opens c.args.exp c.args.way only own after no' replies)
-    (body_size c.in-Ok.ready.planned.begin (Begin c.args.exp c.args.way) c.in-Ok.ensures.body)
-    (sym (ap (λ (n : ℕ). nat_le (length_of c.args.journal.now + n + 10240) (limit_of c.args.journal.now)) c.size.ensures) ∙ (sym c.has_space.ensures.space ∙ c.if-not-has_space.true)) c.length.ensures)
+    let old : Control = control c.self.inside.lab.state c.self.inside.journal c.self.inside.swaps in
+    rw (c.prepare_swap.ensures.unchanged, ← c.self.view_is)
+    (λ opens devices within works only. full devices _ old opens (Some c.args.swap.exp) (begun_as only (Swap c.args.swap.exp c.args.swap.way)) (Begin c.args.swap.exp c.args.swap.way) c.in-Ok.ready.planned.begin c.length.result works
+    (λ own after no' replies. no_space_for (start_of devices old opens).set old.lab opens c.args.swap.exp c.args.swap.way only own after no' replies)
+    (body_size c.in-Ok.ready.planned.begin (Begin c.args.swap.exp c.args.swap.way) c.in-Ok.ensures.body)
+    (sym (ap (λ (n : ℕ). nat_le (length_of c.self.inside.journal + n + 10240) (limit_of c.self.inside.journal)) c.size.ensures) ∙ (sym c.has_space.ensures.space ∙ c.if-not-has_space.true)) c.length.ensures)
 
 pub open_swap-requires-clause-stands : goal.open_swap-requires-clause-stands
-open_swap-requires-clause-stands g c = stands_of _ (control c.args.lab.now.state c.args.journal.now c.args.swaps.now) c.requires.works.0 c.requires.works.1
+open_swap-requires-clause-stands g c = stands_of _ (control c.self.inside.lab.state c.self.inside.journal c.self.inside.swaps) c.requires.works.0 (rw (← c.self.view_is) at c.requires.works.1)
 
 pub open_swap-requires-clause-fits : goal.open_swap-requires-clause-fits
 open_swap-requires-clause-fits g c =
@@ -43,58 +43,58 @@ pub open_swap-requires-clause-enters : goal.open_swap-requires-clause-enters
 open_swap-requires-clause-enters g c = c.in-Ok.ensures.enters
 
 pub open_swap-requires-clause-idle : goal.open_swap-requires-clause-idle
-open_swap-requires-clause-idle g c = λ h. c.requires.ready.0 (subst (λ (n : Rattle.std.specs.Prelude.List ℕ). Rattle.swap_mgr.specs.Open.HasOpen c.args.swaps.now n) (ap (λ (v : View). v.exp) c.in-Ok.ensures.forth) h)
+open_swap-requires-clause-idle g c = λ h. (rw (← c.self.view_is) at c.requires.ready.0) (subst (λ (n : Rattle.std.specs.Prelude.List ℕ). Rattle.swap_mgr.specs.Open.HasOpen c.self.inside.swaps n) (ap (λ (v : View). v.exp) c.in-Ok.ensures.forth) h)
 
 pub open_swap-requires-clause-room : goal.open_swap-requires-clause-room
-open_swap-requires-clause-room g c = c.requires.ready.1
+open_swap-requires-clause-room g c = rw (← c.self.view_is) at c.requires.ready.1
 
 pub reply_of_unopened-requires : goal.reply_of_unopened-requires
 reply_of_unopened-requires g c = c.in-Err.ensures.tried
 
 -- the swap is planned, with space
 pub returns-in-Ok-open_swap-clause-begun : goal.returns-in-Ok-open_swap-clause-begun
-returns-in-Ok-open_swap-clause-begun g c = λ opens devices within works.
-    let s = c.args.lab.now.state in
-    let j = c.args.journal.now in
-    let old : Control = control s j c.args.swaps.now in
+returns-in-Ok-open_swap-clause-begun g c = rw (← c.self.view_is) (λ opens devices within works.
+    let s = c.self.inside.lab.state in
+    let j = c.self.inside.journal in
+    let old : Control = control s j c.self.inside.swaps in
     let new : Control = control c.open_swap.new.lab.state c.open_swap.new.journal c.open_swap.new.swaps in
     let ready = c.in-Ok.ready in
     let e = c.in-Ok.ensures in
-    let by = c.requires.by in
-    let begin = Begin c.args.exp c.args.way in
+    let by = rw (← c.self.view_is) at c.requires.can.2 in
+    let begin = Begin c.args.swap.exp c.args.swap.way in
     let same = c.prepare_swap.ensures.unchanged in
     let space : nat_le (length_of j + length ready.planned.begin + 10240) (limit_of j) ≡ true = sym (ap (λ (n : ℕ). nat_le (length_of j + n + 10240) (limit_of j)) c.size.ensures) ∙ (sym c.has_space.ensures.space ∙ c.if-not-has_space.false) in
-    let plans : IsPlanned s (after s ready.prepared) j ready.planned by.swap begin by.move = planned s (after s ready.prepared) j ready.planned c.args.exp c.args.way c.args.ops.commands c.args.ops.undo by c.requires.record e.follows e.body e.forth space c.has_space.ensures.most c.prepare_swap.ensures.sane in
+    let plans : IsPlanned s (after s ready.prepared) j ready.planned by.swap begin by.move = planned s (after s ready.prepared) j ready.planned c.args.swap.exp c.args.swap.way c.args.swap.ops.commands c.args.swap.ops.undo by c.requires.can.0 e.follows e.body e.forth space c.has_space.ensures.most c.prepare_swap.ensures.sane in
     let here = c.in-Ok-open_swap.ensures.begun works.pairs by.swap begin by.move (subst (λ (x : LabState). Working the_texts (g.P.Plant.seen c.args.plant.now).told j x works.pairs) (sym same) works.working) works.holds
     (subst (λ (x : LabState). IsPlanned x (after x ready.prepared) j ready.planned by.swap begin by.move) (sym same) plans) in
     let opened = subst (λ (x : LabState). HasOpened the_texts works.pairs by.swap x (after x ready.prepared) begin by.move (g.P.Plant.seen c.args.plant.now) (g.P.Plant.seen c.open_swap.new.plant) j new.journal new.swaps) same here in
     let lab : new.lab ≡ after s ready.prepared = c.in-Ok-open_swap.ensures.lab ∙ ap (λ (x : LabState). after x ready.prepared) same in
-    is_opened devices _ _ old new opens c.args.exp c.args.way c.args.ops.commands c.args.ops.undo by works within
+    is_opened devices _ _ old new opens c.args.swap.exp c.args.swap.way c.args.swap.ops.commands c.args.swap.ops.undo by works within
     (sym (ap (λ (n : ℕ). nat_le (length_of j + n + 10240) (limit_of j)) (body_size ready.planned.begin begin e.body)) ∙ space)
-    (subst (λ (x : LabState). HasOpened the_texts works.pairs by.swap s x begin by.move (g.P.Plant.seen c.args.plant.now) (g.P.Plant.seen c.open_swap.new.plant) j new.journal new.swaps) (sym lab) opened) (λ stopped. c.in-Ok-open_swap.ensures.stopped.1 stopped)
+    (subst (λ (x : LabState). HasOpened the_texts works.pairs by.swap s x begin by.move (g.P.Plant.seen c.args.plant.now) (g.P.Plant.seen c.open_swap.new.plant) j new.journal new.swaps) (sym lab) opened) (λ stopped. c.in-Ok-open_swap.ensures.stopped.1 stopped))
 
 pub returns-in-Err-clause-begun : goal.returns-in-Err-clause-begun
-returns-in-Err-clause-begun g c = λ opens devices within works.
-    let s = c.args.lab.now.state in
-    let j = c.args.journal.now in
-    let old : Control = control s j c.args.swaps.now in
+returns-in-Err-clause-begun g c = rw (← c.self.view_is) (λ opens devices within works.
+    let s = c.self.inside.lab.state in
+    let j = c.self.inside.journal in
+    let old : Control = control s j c.self.inside.swaps in
     let new : Control = control c.open_swap.new.lab.state c.open_swap.new.journal c.open_swap.new.swaps in
     let ready = c.in-Ok.ready in
     let e = c.in-Ok.ensures in
-    let by = c.requires.by in
-    let begin = Begin c.args.exp c.args.way in
+    let by = rw (← c.self.view_is) at c.requires.can.2 in
+    let begin = Begin c.args.swap.exp c.args.swap.way in
     let same = c.prepare_swap.ensures.unchanged in
     let fault = c.in-Err.fault in
     let space : nat_le (length_of j + length ready.planned.begin + 10240) (limit_of j) ≡ true = sym (ap (λ (n : ℕ). nat_le (length_of j + n + 10240) (limit_of j)) c.size.ensures) ∙ (sym c.has_space.ensures.space ∙ c.if-not-has_space.false) in
-    let plans : IsPlanned s (after s ready.prepared) j ready.planned by.swap begin by.move = planned s (after s ready.prepared) j ready.planned c.args.exp c.args.way c.args.ops.commands c.args.ops.undo by c.requires.record e.follows e.body e.forth space c.has_space.ensures.most c.prepare_swap.ensures.sane in
+    let plans : IsPlanned s (after s ready.prepared) j ready.planned by.swap begin by.move = planned s (after s ready.prepared) j ready.planned c.args.swap.exp c.args.swap.way c.args.swap.ops.commands c.args.swap.ops.undo by c.requires.can.0 e.follows e.body e.forth space c.has_space.ensures.most c.prepare_swap.ensures.sane in
     let here = c.in-Err.ensures.begun works.pairs by.swap begin by.move (subst (λ (x : LabState). Working the_texts (g.P.Plant.seen c.args.plant.now).told j x works.pairs) (sym same) works.working) works.holds
     (subst (λ (x : LabState). IsPlanned x (after x ready.prepared) j ready.planned by.swap begin by.move) (sym same) plans) in
     let unopened = subst (λ (x : LabState). IsAfterOpening the_texts works.pairs by.swap x (after x ready.prepared) begin by.move (g.P.Plant.seen c.args.plant.now) (g.P.Plant.seen c.open_swap.new.plant) j new.journal new.swaps (Err fault)) same here in
     let lab : new.lab ≡ s = c.in-Err.ensures.unchanged.0 ∙ same in
     let still = nothing_as _ _ (Err fault) (λ kept. (ap g.P.Plant.seen kept.0, λ i. control (lab i) (kept.1 i) (c.in-Err.ensures.unchanged.1 i))) c.in-Err.ensures.nothing in
     rw c.reply_of_unopened.ensures
-    (not_opened devices _ _ old new opens c.args.exp c.args.way c.args.ops.commands c.args.ops.undo by works within (sym (ap (λ (n : ℕ). nat_le (length_of j + n + 10240) (limit_of j)) (body_size ready.planned.begin begin e.body)) ∙ space)
-    (after s ready.prepared) fault c.in-Err.ensures.tried unopened still c.in-Err.ensures.stopped c.in-Err.ensures.limit)
+    (not_opened devices _ _ old new opens c.args.swap.exp c.args.swap.way c.args.swap.ops.commands c.args.swap.ops.undo by works within (sym (ap (λ (n : ℕ). nat_le (length_of j + n + 10240) (limit_of j)) (body_size ready.planned.begin begin e.body)) ∙ space)
+    (after s ready.prepared) fault c.in-Err.ensures.tried unopened still c.in-Err.ensures.stopped c.in-Err.ensures.limit))
 
 pub returns-in-Err-clause-told : goal.returns-in-Err-clause-told
-returns-in-Err-clause-told g c = rw c.reply_of_unopened.ensures (unopened_told c.args.exp c.in-Err.fault)
+returns-in-Err-clause-told g c = rw c.reply_of_unopened.ensures (unopened_told c.args.swap.exp c.in-Err.fault)

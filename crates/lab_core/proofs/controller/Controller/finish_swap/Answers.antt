@@ -1,0 +1,16 @@
+use Rattle.lab_core.proofs.TurnLabs.{can_end, ended_in}
+use Rattle.lab_core.proofs.controller.Controller.finish_swap.Goals as goal
+
+pub finish-requires : goal.finish-requires
+finish-requires g c = let m = rw (← c.self.view_is) at c.requires.managed in record { managed = record { texts = _; lab = _; opens = m.opens; working = m.working; holds = m.holds } }
+
+pub unreachable-requires : goal.unreachable-requires
+unreachable-requires g c = c.in_default.ensures.not_open (rw (← c.self.view_is) at c.requires.is_open)
+
+pub end_move-requires : goal.end_move-requires
+end_move-requires g c =
+    let m = rw (← c.self.view_is) at c.requires.managed in
+    can_end _ m.opens c.args.exp _ _ _ c.in-Ok.progress _ (c.in-Ok.ensures.finished _ _ m.opens m.working m.holds)
+
+pub returns-clause-ended : goal.returns-clause-ended
+returns-clause-ended g c = rw (← c.self.view_is) (λ pairs working holds. ended_in _ pairs c.args.exp _ _ _ c.in-Ok.progress _ (c.in-Ok.ensures.finished _ _ pairs working holds) _ c.end_move.ensures)
