@@ -1,5 +1,6 @@
 mod Behind
 pub mod Busy
+mod Checks
 mod Claimed
 pub mod Drops
 mod EventChanges
@@ -9,7 +10,6 @@ mod JudgeRun
 mod JudgeSwap
 mod JudgeTasks
 pub mod Judgements
-mod Needs
 mod SearchLaws
 mod Searched
 mod Shown

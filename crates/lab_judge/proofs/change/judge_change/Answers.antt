@@ -2,7 +2,7 @@ use Rattle.std.proofs.Common.{Ok, Result, ap, sym, ◌∙◌}
 use Rattle.script_text.specs.declared.reply.Reply.{Reply}
 use Rattle.lab_judge.specs.Judge.{Task, need_feasible}
 use Rattle.lab_judge.proofs.JudgeSwap.{change_is}
-use Rattle.lab_judge.proofs.Needs.{refused_by}
+use Rattle.lab_judge.proofs.Checks.{refused_by}
 use Rattle.lab_judge.proofs.change.judge_change.Goals as goal
 
 pub need_feasible-requires-clause-there : goal.need_feasible-requires-clause-there

@@ -9,7 +9,7 @@ use Rattle.virt_topo.specs.declared.mapping.Mapping.{Mapping}
 use Rattle.lab_judge.specs.Judge.{behind_lines, need_idle_in}
 use Rattle.lab_judge.specs.OpenNames.{has_open}
 use Rattle.lab_judge.proofs.Behind.{fault_within}
-use Rattle.lab_judge.proofs.Needs.{faulty_by, given_by, meant_by, refused_by}
+use Rattle.lab_judge.proofs.Checks.{faulty_by, given_by, meant_by, refused_by}
 use Rattle.lab_judge.proofs.change.judge_modify_with.Goals as goal
 
 pub returns-in_err-lab-clause-judged : goal.returns-in_err-lab-clause-judged

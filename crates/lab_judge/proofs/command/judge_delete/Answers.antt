@@ -6,7 +6,7 @@ use Rattle.script_text.specs.declared.reply.Reply.TheVariants.{Deleted}
 use Rattle.lab_judge.specs.Judge.{Append, Task, need_idle_out}
 use Rattle.lab_judge.specs.OpenNames.{has_open}
 use Rattle.lab_judge.proofs.JudgeTasks.{can_delete}
-use Rattle.lab_judge.proofs.Needs.{given_by, refused_by}
+use Rattle.lab_judge.proofs.Checks.{given_by, refused_by}
 use Rattle.lab_judge.proofs.command.judge_delete.Goals as goal
 
 pub returns-in_err-_idle-clause-judged : goal.returns-in_err-_idle-clause-judged

@@ -5,7 +5,7 @@ use Rattle.script_text.specs.declared.reply.Reply.{Reply}
 use Rattle.lab_judge.specs.Judge.{Swap, Task, need_idle_in}
 use Rattle.lab_judge.specs.OpenNames.{has_open}
 use Rattle.lab_judge.proofs.JudgeTasks.{can_leave, stands_sound}
-use Rattle.lab_judge.proofs.Needs.{given_by, refused_by}
+use Rattle.lab_judge.proofs.Checks.{given_by, refused_by}
 use Rattle.lab_judge.proofs.command.judge_swapout.Goals as goal
 
 pub returns-in_err-lab-clause-judged : goal.returns-in_err-lab-clause-judged

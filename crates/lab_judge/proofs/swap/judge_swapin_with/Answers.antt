@@ -4,7 +4,7 @@ use Rattle.solution_text.specs.Solutions.{mapping_of_text}
 use Rattle.std.proofs.Common.{Err}
 use Rattle.lab_judge.specs.Judge.{need_idle_out}
 use Rattle.lab_judge.specs.OpenNames.{has_open}
-use Rattle.lab_judge.proofs.Needs.{faulty_by, given_by, meant_by, refused_by}
+use Rattle.lab_judge.proofs.Checks.{faulty_by, given_by, meant_by, refused_by}
 use Rattle.lab_judge.proofs.swap.judge_swapin_with.Goals as goal
 
 pub returns-in_err-lab-clause-judged : goal.returns-in_err-lab-clause-judged
