@@ -25,7 +25,7 @@ use crate::compaction::compact;
 use cost_rule::StepRule;
 use journal_disk::{Journal, OpenFault};
 use journal_rec::Found;
-use lab_judge::{Refusal, Span, judge};
+use lab_judge::{Present, Refusal, Span, judge};
 use lab_state::{LabState, ReplayFault};
 use plant::Plant;
 use plant_tables::Tables;
@@ -256,7 +256,11 @@ impl Controller {
         ensures { (opens : List OpenSwap) (devices : ℕ) → devices ≤ (P.seen plant.old).faults.devices → WorksWith (P.seen plant.old) self.old opens
             → ObeysCommand rule.now.number command.now devices (P.seen plant.old) (P.seen plant.new) self.old self.new opens result }
     {
-        match judge(self.alloc, &self.lab, &self.swaps, command, rule) {
+        let present = Present {
+            state: &self.lab,
+            swaps: &self.swaps,
+        };
+        match judge(self.alloc, present, command, rule) {
             Ok(task) => self.perform(task, plant),
             Err(Refusal::Refused(reply)) => Ok(reply),
             Err(Refusal::Memory) => Err(CoreFault::Memory),

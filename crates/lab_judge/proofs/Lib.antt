@@ -1,5 +1,6 @@
 mod Behind
 pub mod Busy
+mod Checks
 mod Claimed
 pub mod Drops
 mod EventChanges
