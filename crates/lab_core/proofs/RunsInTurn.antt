@@ -18,7 +18,7 @@ use Rattle.script_text.specs.declared.reply.Served.{Served}
 use Rattle.script_text.proofs.ToldRuns.{any_more}
 use Rattle.lab_core.specs.declared.fault.CoreFault.{CoreFault}
 use Rattle.lab_core.specs.declared.fault.CoreFault.TheVariants as faults
-use Rattle.lab_judge.specs.declared.judge_run.Queue.{Queue}
+use Rattle.lab_judge.specs.declared.run.Queue.{Queue}
 use Rattle.lab_core.specs.Coming.{HasComeTo, Origin, TellsAll}
 use Rattle.lab_core.specs.Controller.{CanWork, Control, WorksWith}
 use Rattle.lab_core.specs.InTurn.{IsPart, is_in}

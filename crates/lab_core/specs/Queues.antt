@@ -11,7 +11,7 @@ use Rattle.script_text.specs.declared.reply.Reply.{Reply}
 use Rattle.script_text.specs.declared.reply.Served.{Served}
 use Rattle.lab_core.specs.declared.fault.CoreFault.{CoreFault}
 use Rattle.lab_core.specs.declared.fault.CoreFault.TheVariants as faults
-use Rattle.lab_judge.specs.declared.judge_run.Queue.{Queue}
+use Rattle.lab_judge.specs.declared.run.Queue.{Queue}
 use Rattle.lab_core.specs.Coming.{AllDone, AllWants, HasComeTo, Origin}
 use Rattle.lab_core.specs.Controller.{Control, WorksWith}
 use Rattle.lab_core.specs.InTurn.{IsPart, is_in}

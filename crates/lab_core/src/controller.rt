@@ -24,7 +24,7 @@ use crate::compaction::compact;
 use cost_rule::StepRule;
 use journal_disk::{Journal, OpenFault};
 use journal_rec::Found;
-use lab_judge::{Refusal, Span, judge};
+use lab_judge::{Present, Refusal, Span, judge};
 use lab_state::{LabState, ReplayFault};
 use plant::Plant;
 use plant_tables::Tables;
@@ -247,11 +247,17 @@ impl Controller {
             }
             Command::Batch { moment, text, .. } => self.serve(*moment, text.bytes(), rule, plant),
             Command::Audit => self.audit(plant),
-            _ => match judge(self.alloc, &self.lab, &self.swaps, command, rule) {
-                Ok(task) => self.perform(task, plant),
-                Err(Refusal::Refused(reply)) => Ok(reply),
-                Err(Refusal::Memory) => Err(CoreFault::Memory),
-            },
+            _ => {
+                let present = Present {
+                    state: &self.lab,
+                    swaps: &self.swaps,
+                };
+                match judge(self.alloc, present, command, rule) {
+                    Ok(task) => self.perform(task, plant),
+                    Err(Refusal::Refused(reply)) => Ok(reply),
+                    Err(Refusal::Memory) => Err(CoreFault::Memory),
+                }
+            }
         }
     }
 }

@@ -1,5 +1,5 @@
 // A task is done: over the plant, where the journal has room for it.
-ghost use Rattle.std.specs.Prelude.{◌≡◌, ◌≤◌, ◌+◌, ℕ, Err, IfOk, IfSome, List, Ok, OnOk, Option, Some, length};
+ghost use Rattle.std.specs.Prelude.{◌≡◌, ◌≤◌, ◌+◌, ◌^◌, nat_le, ℕ, Err, IfOk, IfSome, List, Ok, OnOk, Option, Some, length};
 ghost use Rattle.journal_rec.specs.Payloads.{IsBody, IsRecord};
 ghost use Rattle.journal_rec.specs.declared.record.Record.{Record as AnyRecord};
 ghost use Rattle.journal_disk.specs.Standing.{length_of, limit_of};
@@ -20,11 +20,31 @@ use crate::{Controller, CoreFault};
 use journal_disk::{AppendFault, Journal};
 use journal_rec::{Encoded, Record, encode};
 use lab_base::{Memory, Name};
-use lab_judge::{Task, has_space};
+use lab_judge::{Space, Task};
 use lab_state::{LabState, PrepareFault, Prepared};
 use plant::Plant;
 use recovery::{SettleFault, Settled, settle};
 use script_text::Reply;
+
+/// The length of the journal, and its limit.
+pub(crate) fn space_of(journal: &Journal) -> Space
+    ensures { result ≡ record { length = length_of journal.now; limit = limit_of journal.now } }
+{
+    Space {
+        length: journal.length(),
+        limit: journal.limit(),
+    }
+}
+
+/// Whether a record of a size leaves room for the last records of moves.
+fn has_space(journal: &Journal, size: u64) -> bool
+    ensures space { result ≡ nat_le (length_of journal.now + size + 10240) (limit_of journal.now) }
+    ensures most { limit_of journal.now ≤ 2 ^ 32 }
+{
+    // for the prover: it tells how long a journal may be
+    let _limit = journal.limit();
+    space_of(journal).has(size)
+}
 
 /// Prepares a record that can follow. Its clause `sane` is what every lab keeps.
 pub(crate) fn prepare(lab: &mut LabState, entry: &Record) -> Result<Prepared, Memory>

@@ -14,7 +14,7 @@ ghost use Rattle.lab_core.specs.Sessions.{OpenSwap, open_at};
 
 use crate::{Controller, CoreFault};
 use lab_base::{Memory, Name, What};
-use lab_judge::{Refusal, Span, judge_event, judge_play};
+use lab_judge::{Present, Refusal, Span, judge_event, judge_play};
 use ns_events::Event;
 use plant::Plant;
 use script_text::{FailedEnd, Reply, played_all, played_until};
@@ -79,7 +79,11 @@ impl Controller {
         ensures obeys { ObeysEvent exp text.now event.now (P.seen plant.old) (P.seen plant.new) self.old self.new result }
         ensures part { IfOk result (IsPart exp) }
     {
-        match judge_event(self.alloc, &self.lab, &self.swaps, exp, text, event) {
+        let present = Present {
+            state: &self.lab,
+            swaps: &self.swaps,
+        };
+        match judge_event(self.alloc, present, exp, text, event) {
             Ok(task) => self.perform(task, plant),
             Err(Refusal::Refused(reply)) => Ok(reply),
             Err(Refusal::Memory) => Err(CoreFault::Memory),
@@ -151,7 +155,11 @@ impl Controller {
             → ObeysCommand rule (commands.Play exp span.from span.to lines text.now) devices (P.seen plant.old)
             (P.seen plant.new) self.old self.new opens result }
     {
-        match judge_play(self.alloc, &self.lab, &self.swaps, exp, span, text) {
+        let present = Present {
+            state: &self.lab,
+            swaps: &self.swaps,
+        };
+        match judge_play(self.alloc, present, exp, span, text) {
             Ok(play) => self.play_events(exp, &play.text, play.due.as_slice(), plant),
             Err(Refusal::Refused(reply)) => Ok(reply),
             Err(Refusal::Memory) => Err(CoreFault::Memory),

@@ -12,12 +12,13 @@ ghost use Rattle.lab_judge.specs.JudgeRun.{CanServe};
 ghost use Rattle.lab_core.specs.Queues.{EndsRun, IsToldBehind, ObeysRun, ObeysRuns, ends_if, first_place};
 ghost use Rattle.lab_core.specs.Sessions.{OpenSwap};
 
+use crate::perform::space_of;
 use crate::play::is_in;
 use crate::{Controller, CoreFault};
 use cost_rule::StepRule;
 use lab_ahead::{Batch, End, Promise, Run};
 use lab_base::{Items, Memory, Name, What};
-use lab_judge::{Queue, Refusal, judge_batch, judge_run};
+use lab_judge::{Present, Queue, Refusal, judge_batch, judge_run};
 use plant::Plant;
 use script_text::{FailedEnd, Reply, Served};
 use std::alloc::Global;
@@ -85,15 +86,12 @@ impl Controller {
         ensures obeys { ObeysRun rule.now.number queue.now run.now (P.seen plant.old) (P.seen plant.new) self.old self.new result }
         ensures part { IfOk result (IsPart run.now.exp) }
     {
-        match judge_run(
-            self.alloc,
-            &self.lab,
-            &self.swaps,
-            &self.journal,
-            queue,
-            run,
-            rule,
-        ) {
+        let present = Present {
+            state: &self.lab,
+            swaps: &self.swaps,
+        };
+        let space = space_of(&self.journal);
+        match judge_run(self.alloc, present, space, queue, run, rule) {
             Ok(task) => self.perform(task, plant),
             Err(Refusal::Refused(reply)) => Ok(reply),
             Err(Refusal::Memory) => Err(CoreFault::Memory),

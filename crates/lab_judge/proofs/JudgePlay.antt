@@ -23,7 +23,7 @@ use Rattle.ns_text.specs.Wirings.{HasScript, ScriptOf}
 use Rattle.ns_text.specs.declared.read.Script.{Script}
 use Rattle.script_text.specs.declared.reply.Reply.{Reply}
 use Rattle.script_text.specs.declared.reply.Reply.TheVariants as replies
-use Rattle.lab_judge.specs.declared.judge_play.Play.{Play}
+use Rattle.lab_judge.specs.declared.play.Play.{Play}
 use Rattle.lab_judge.specs.declared.task.Refusal.{Refusal}
 use Rattle.lab_judge.specs.declared.task.Refusal.TheVariants as refusals
 use Rattle.lab_judge.specs.declared.task.Task.{Task as TaskInHand}

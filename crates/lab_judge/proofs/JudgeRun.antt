@@ -11,25 +11,20 @@ use Rattle.lab_base.specs.declared.fault.TextFault.{TextFault}
 use Rattle.lab_base.specs.declared.fault.TextRefused.{TextRefused}
 use Rattle.lab_base.specs.declared.fault.TextRefused.TheVariants as texts
 use Rattle.phys_lab.specs.Labs.{Lab}
-use Rattle.records_model.specs.Labs.{LabState, others}
+use Rattle.records_model.specs.Labs.{LabState}
 use Rattle.claims.specs.declared.claim.Entry.{Entry}
 use Rattle.claims.specs.Held.{claim_nodes, is_in, nodes_in, owner_of}
 use Rattle.claims.specs.Holds.{claim_of, hold_in}
-use Rattle.lab_model.specs.Beside.{violation_beside}
 use Rattle.lab_model.specs.Claims.{Old, New, claimed}
 use Rattle.lab_model.specs.Shapes.{Place}
 use Rattle.virt_topo.specs.declared.mapping.Mapped.{Mapped}
-use Rattle.virt_topo.specs.declared.violation.Broken.{Broken}
-use Rattle.virt_topo.specs.declared.violation.Subject.{Subject}
 use Rattle.virt_topo.specs.declared.experiment.Experiment.{Experiment}
 use Rattle.virt_topo.specs.declared.mapping.Mapping.{Mapping}
 use Rattle.journal_rec.specs.declared.record.Record.{Record}
 use Rattle.journal_rec.specs.declared.record.Record.TheVariants.{Begin}
 use Rattle.journal_rec.specs.declared.record.Way.{Way}
 use Rattle.cost_rule.specs.declared.rule.RuleNumber.{RuleNumber}
-use Rattle.assign_core.specs.Exact.{IfFound}
 use Rattle.assign_core.specs.declared.whole.Solved.{Solved}
-use Rattle.assign_core.specs.declared.whole.Solved.TheVariants as solved
 use Rattle.lab_ahead.specs.declared.batch.Batch.{Batch}
 use Rattle.lab_ahead.specs.declared.batch.Promise.{Promise}
 use Rattle.lab_ahead.specs.declared.batch.Run.{Run}
@@ -43,12 +38,12 @@ use Rattle.lab_ahead.specs.Waits.{IsShortAt}
 use Rattle.line_text.specs.Refusals.{Reads}
 use Rattle.script_text.specs.declared.reply.Reply.{Reply}
 use Rattle.script_text.specs.declared.reply.Reply.TheVariants as replies
-use Rattle.lab_judge.specs.declared.judge_run.Queue.{Queue}
+use Rattle.lab_judge.specs.declared.run.Queue.{Queue}
 use Rattle.lab_judge.specs.declared.task.Refusal.{Refusal}
 use Rattle.lab_judge.specs.declared.task.Refusal.TheVariants as refusals
 use Rattle.lab_judge.specs.declared.task.Task.{Task as TaskInHand}
 use Rattle.lab_judge.specs.declared.task.Task.TheVariants as tasks
-use Rattle.lab_judge.specs.Judge.{◌>>=◌, IsFound, Swap, Task, Tell, asked, judged_mapping, need_kept, need_lab, need_mapping, need_meaning, refused, task_in}
+use Rattle.lab_judge.specs.Judge.{IsFound, Swap, Task, Tell, asked, need_lab, need_mapping, need_meaning, refused, task_in}
 use Rattle.lab_judge.specs.JudgeRun.{IsJudgedBatch, IsSwapTask, held_back, left_beside}
 use Rattle.lab_judge.specs.Serving.{IsTestedAs, JudgedBatch, JudgedPlace, claimers_at, claimers_of, claims_node, fits, full, places_node, span_of, wait_of, waits}
 use Rattle.lab_judge.specs.Tasks.{CanDo, IsJudged, IsRefusedBy, Refuses, task_of}
@@ -121,13 +116,7 @@ module _ (space : Record → Bool) (lab : Lab) (left : List Left) (promises : Li
   tested_so (tasks.Swap exp way ops) record_fits (Some wait) all short = waits_so exp way wait short
   tested_so task record_fits wait all short = absurd record_fits
 
--- a swap to a mapping that keeps all rules is judged to be that, and its record can be written
-pub judged_is : (s : LabState) (lab : Lab) (e : Experiment) (m : Mapping) → violation_beside lab (others e.name s.experiments) e e.wiring m ≡ None → judged_mapping s lab e m ≡ Ok (task_in s lab e m)
-judged_is s lab e m keeps = ap (λ (v : Option (Broken × Subject)). need_kept lab e.name e.wiring v >>= (λ feasible. Ok (task_in s lab e m))) keeps
-
-pub task_is : (s : LabState) (lab : Lab) (e : Experiment) (m : Mapping) (task : TaskInHand) → violation_beside lab (others e.name s.experiments) e e.wiring m ≡ None → judged_mapping s lab e m ≡ Ok (task_of task) → task_of task ≡ task_in s lab e m
-task_is s lab e m task keeps gives = let both : ◌≡◌ {A = Result Task Reply} (Ok (task_in s lab e m)) (Ok (task_of task)) = sym (judged_is s lab e m keeps) ∙ gives in let same : task_in s lab e m ≡ task_of task = cc both in sym same
-
+-- the record of a swap that can be done can be written
 pub swap_record : (s : LabState) (task : TaskInHand) (exp : List ℕ) (way : Way) → task_of task ≡ Swap exp way → CanDo s task → IsSwapTask task
 swap_record s (tasks.Swap own by ops) exp way is can = can.0
 swap_record s (tasks.Tell reply) exp way is can = absurd (cc is)
@@ -136,13 +125,6 @@ swap_record s (tasks.BeginOnly own by ops) exp way is can = absurd (cc is)
 swap_record s (tasks.Turn own) exp way is can = absurd (cc is)
 swap_record s (tasks.Finish own) exp way is can = absurd (cc is)
 swap_record s tasks.Recover exp way is can = absurd (cc is)
-
--- the mapping that a search found keeps what all found keep
-pub found_keeps : (P : Mapping → Type 0) (exp : List ℕ) (found : Solved) (m : Mapping) → need_mapping exp found ≡ Ok m → IfFound found P → P m
-found_keeps P exp (solved.Least one cost) m is h = let same : one ≡ m = cc is in subst P same h
-found_keeps P exp (solved.Local one cost) m is h = let same : one ≡ m = cc is in subst P same h
-found_keeps P exp solved.None m is h = absurd (cc is)
-found_keeps P exp solved.GaveUp m is h = absurd (cc is)
 
 -- what is judged of a run of an experiment that is out
 module _ (rule : RuleNumber) (moment : ℕ) (promises : List Promise) (ends : List End) (run : Run) (space : Record → Bool) (s : LabState) (lab : Lab) (e : Experiment) (found : Solved) (is_found : IsFound rule lab s.experiments e e.wiring run.seed found) where

@@ -1,8 +1,11 @@
 -- A swap to a mapping that can begin.
-use Rattle.std.proofs.Common.{◌≡◌, ◌≤◌, ◌<◌, ◌^◌, ◌&&◌, ℕ, Bool, true, false, if◌then◌else◌, nat_le, is_none, is_some, List, ◌++◌, length, map, Option, Some, None, Result, Ok, Err, refl, sym, ap, ◌∙◌, subst, arith}
+use Rattle.std.proofs.Common.{◌≡◌, ◌≤◌, ◌<◌, ◌^◌, ◌+◌, ◌&&◌, not, ℕ, Bool, true, false, if◌then◌else◌, nat_le, is_none, is_some, IfOk, OnOk, List, ◌∷◌, ◌++◌, length, map, Option, Some, None, Result, Ok, Err, refl, sym, ap, ◌∙◌, subst, arith}
+use Rattle.std.specs.List.{count_by, sum_by}
 use Rattle.std.proofs.lemmas.Bool.{and_parts, eqb-true, leb-true, lt-leb}
+use Rattle.std.proofs.lemmas.List.Sums.{length-filter, sum_by-append, sum_by-cons}
 use Rattle.lab_base.specs.Lists.{Has, AllDiffer}
 use Rattle.lab_base.specs.declared.ids.VlanId.{VlanId}
+use Rattle.lab_base.specs.declared.memory.Memory.{Memory as NoMemory}
 use Rattle.phys_lab.specs.Kept.{IsLab}
 use Rattle.phys_lab.specs.Labs.{Lab}
 use Rattle.phys_lab.specs.declared.free.Free.{Free}
@@ -13,16 +16,17 @@ use Rattle.virt_topo.specs.declared.experiment.Phase.TheVariants.{Out, In, Movin
 use Rattle.virt_topo.specs.declared.mapping.Mapped.{Mapped}
 use Rattle.virt_topo.specs.declared.mapping.Mapping.{Mapping}
 use Rattle.virt_topo.specs.declared.wiring.Wiring.{Wiring}
+use Rattle.virt_topo.specs.declared.violation.Broken.{Broken}
 use Rattle.virt_topo.specs.declared.violation.Broken.TheVariants.{F8}
+use Rattle.virt_topo.specs.declared.violation.Subject.{Subject}
 use Rattle.virt_topo.specs.Sharing.{has_multiplexed}
 use Rattle.virt_topo.specs.Wirings.{mapped}
 use Rattle.journal_rec.specs.declared.record.Way.{Way}
 use Rattle.journal_rec.specs.declared.record.Way.TheVariants.{In as WayIn}
-use Rattle.lab_model.specs.Beside.{IsLeft, violation_beside}
+use Rattle.lab_model.specs.Beside.{IsLeft, claimed_segments, has_ids, has_room, ids_of, is_unclaimed, violation_beside}
 use Rattle.lab_model.specs.Courses.{Plan}
 use Rattle.lab_model.specs.Feasible.{violation}
 use Rattle.lab_model.specs.Holding.{Holding}
-use Rattle.lab_model.specs.Rules.{keeps_f1, keeps_f6, keeps_f8}
 use Rattle.lab_model.specs.Shapes.{IsShaped}
 use Rattle.lab_model.proofs.FeasibleLaws.{kept_from}
 use Rattle.lab_model.proofs.FirstViolation.{same_violation}
@@ -32,8 +36,9 @@ use Rattle.records_model.proofs.LabLaws.{change_says}
 use Rattle.records_model.proofs.Swaps.{found_in}
 use Rattle.claims.specs.Answered.{AreTaken}
 use Rattle.claims.specs.Experiments.{ClaimsOf}
-use Rattle.claims.specs.Held.{Held, IsLeftTo, free_ids}
-use Rattle.claims.proofs.OthersLeave.{is_left}
+use Rattle.claims.specs.Held.{Held, IsLeftTo, free_ids, has_id, ids}
+use Rattle.claims.proofs.Matching.{Match}
+use Rattle.claims.proofs.OthersLeave.{ids_left, is_left, named_apart}
 use Rattle.solution_text.specs.CanonicalSolution.{canonical_solution}
 use Rattle.swap_txn.specs.States.{is_over, unsent}
 use Rattle.swap_plan.specs.Plans.{IsFit}
@@ -51,8 +56,8 @@ use Rattle.lab_judge.specs.declared.task.Task.TheVariants as tasks
 use Rattle.lab_judge.specs.declared.task.Refusal.{Refusal}
 use Rattle.lab_judge.specs.declared.task.Refusal.TheVariants.{Refused, Memory}
 use Rattle.lab_judge.specs.Counts.{least_tags}
-use Rattle.lab_judge.specs.Judge.{Task, Swap as SwapTask, begun_as, in_slot, judged_change, judged_mapping, judged_modify_with, judged_swapin_with, need_feasible, need_kept, need_slot, ◌>>=◌}
-use Rattle.lab_judge.specs.JudgeSwap.{CanTake, IsInIn, IsOutIn, IsTaskOf, IsThere, IsWayOf, change_of, way_over}
+use Rattle.lab_judge.specs.Judge.{Task, Swap as SwapTask, begun_as, in_slot, judged_change, judged_mapping, judged_modify_with, judged_swapin_with, need_feasible, need_kept, need_slot, task_in, task_over, ◌>>=◌}
+use Rattle.lab_judge.specs.JudgeSwap.{CanTake, IsInIn, IsOutIn, IsTaskOf, IsThere, IsWayOf, Keeps, change_of, way_over}
 use Rattle.lab_state.proofs.Named.{name_is}
 use Rattle.lab_judge.specs.Tasks.{CanDo, Gives, IsRefusal, Refuses, task_of}
 use Rattle.lab_judge.proofs.JudgeTasks.{Leads, can_swap, stands_sound}
@@ -84,18 +89,48 @@ module _ (s : LabState) (lab : Lab) (e : Experiment) (held : Held) (o : IsThere 
     pub checks : IsShaped lab w m → violation lab free w m ≡ violation_beside lab (others e.name s.experiments) e w m
     checks shaped = same_violation lab (at.before ++ at.after) e free w m (left_is free left) shaped ∙ ap (λ (l : List Experiment). violation_beside lab l e w m) (sym at.others_are)
 
-    -- there are VLAN ids enough
-    pub enough : violation lab free w m ≡ None → length w.segments ≤ length (free_ids held)
-    enough none =
-        let kept : keeps_f8 free w ≡ true = kept_from lab w m (keeps_f1 free m) (keeps_f6 lab free w m) (keeps_f8 free w) none F8 0 (omega arith) in
-        omega (arith, leb-true (length w.segments) free.vlans kept, left.ids)
+  -- so a mapping that keeps the rules on what is free keeps them beside the others
+  pub keeps_so : (w : Wiring) (m : Mapping) (free : Free) → IsLeftTo held e.name free → IsShaped lab w m → violation lab free w m ≡ None → Keeps s lab e w m
+  keeps_so w m free left shaped none = record { shaped = shaped; keeps = sym (checks w m free left shaped) ∙ none }
 
-    pub takes : (tags : List VlanId) → IsShaped lab w m → violation lab free w m ≡ None → AreTaken (free_ids held) (length w.segments) (Ok tags) → CanTake s lab e w m tags
-    takes tags shaped none taken = record {
-      keeps = sym (checks shaped) ∙ none;
+  -- THERE ARE VLAN IDS ENOUGH where they are kept, and the least are taken
+  free_count : length (free_ids held) + sum_by claimed_segments s.experiments ≡ ids_of lab
+  free_count =
+      let holding : Holding lab s.experiments = subst (λ (l : Lab). Holding l s.experiments) same o.sane.holding in
+      let matching : Match lab held.entries s.experiments = record { once = of_lab.once; known = of_lab.known; claims = of_lab.claims; names = named_apart s.experiments o.sane.names } in
+      let count : length (free_ids held) ≡ count_by (λ id. not (has_id held.entries id)) (ids lab.range) =
+      length-filter (λ id. not (has_id held.entries id)) (ids held.range) ∙ ap (λ (range : ℕ × ℕ). count_by (λ id. not (has_id held.entries id)) (ids range)) of_lab.range in
+      omega (arith, count, ids_left lab held.entries s.experiments holding matching)
+
+  own_first : sum_by claimed_segments (e ∷ others e.name s.experiments) ≡ sum_by claimed_segments s.experiments
+  own_first =
+      omega (
+        arith,
+        ap (λ (l : List Experiment). sum_by claimed_segments (e ∷ l)) at.others_are,
+        ap (λ (l : List Experiment). sum_by claimed_segments l) at.whole,
+        sum_by-cons claimed_segments e (at.before ++ at.after),
+        sum_by-append claimed_segments at.before at.after,
+        sum_by-append claimed_segments at.before (e ∷ at.after),
+        sum_by-cons claimed_segments e at.after,
+      )
+
+  module _ (w : Wiring) (m : Mapping) (keeps : Keeps s lab e w m) where
+    pub enough : length w.segments ≤ length (free_ids held)
+    enough =
+        let os = others e.name s.experiments in
+        let kept : has_ids lab os e w ≡ true = kept_from lab w m (is_unclaimed lab os m) (has_room lab os w m) (has_ids lab os e w) keeps.keeps F8 0 (omega arith) in
+        omega (arith, leb-true (length w.segments + sum_by claimed_segments (e ∷ os)) (ids_of lab) kept, own_first, free_count)
+
+    takes : (tags : List VlanId) → AreTaken (free_ids held) (length w.segments) (Ok tags) → CanTake s lab e w m tags
+    takes tags taken = record {
+      keeps = keeps.keeps;
       least = least_are lab s.experiments held o.sane.names of_lab (length w.segments) tags taken;
       free = free_of_all lab s.experiments held w tags o.sane.names of_lab taken;
     }
+
+    pub takes_if : (r : Result (List VlanId) NoMemory) → IfOk r (λ tags. AreTaken (free_ids held) (length w.segments) (Ok tags)) → IfOk r (CanTake s lab e w m)
+    takes_if (Ok tags) taken = takes tags taken
+    takes_if (Err memory) taken = tt
 
 -- WHAT IS TAKEN, where it can be
 module _ (s : LabState) (lab : Lab) (e : Experiment) (w : Wiring) (m : Mapping) (tags : List VlanId) (o : IsThere s lab e) (can : CanTake s lab e w m tags) where
@@ -258,3 +293,31 @@ begun_same (tasks.BeginOnly exp way ops) other = refl
 begun_same (tasks.Turn exp) other = refl
 begun_same (tasks.Finish exp) other = refl
 begun_same tasks.Recover other = refl
+
+-- ---- A MAPPING THAT KEEPS THE RULES is judged to be a swap to it
+module _ (s : LabState) (lab : Lab) (e : Experiment) where
+  pub entry_is : (m : Mapping) → Keeps s lab e e.wiring m → judged_mapping s lab e m ≡ Ok (task_in s lab e m)
+  entry_is m keeps = ap (λ (v : Option (Broken × Subject)). need_kept lab e.name e.wiring v >>= (λ feasible. Ok (task_in s lab e m))) keeps.keeps
+
+  pub change_is : (w : Wiring) (m : Mapping) → Keeps s lab e w m → judged_change s lab e w m ≡ Ok (task_over s lab e w m)
+  change_is w m keeps = ap (λ (v : Option (Broken × Subject)). need_kept lab e.name w v >>= (λ feasible. Ok (task_over s lab e w m))) keeps.keeps
+
+-- a task that is judged is that one
+pub task_is : (judgement : Result Task Reply) (task own : Task) → judgement ≡ Ok task → judgement ≡ Ok own → own ≡ task
+task_is judgement task own is gives = let both : ◌≡◌ {A = Result Task Reply} (Ok task) (Ok own) = sym is ∙ gives in let same : task ≡ own = cc both in sym same
+
+-- the task of a swap to it, and of a change
+module _ (s : LabState) (lab : Lab) (e : Experiment) (m : Mapping) (tags : List VlanId) (o : IsOutIn s lab e) (keeps : Keeps s lab e e.wiring m) (can : CanTake s lab e e.wiring m tags) where
+  pub entry_if : (r : Result TaskInHand NoMemory) → IfOk r (IsTaskOf lab (swap_in e m tags) (WayIn (canonical_solution lab e.wiring m) tags)) → IfOk r (λ task. task_of task ≡ task_in s lab e m) × IfOk r (CanDo s)
+  entry_if (Ok task) h =
+      let p = planned_in s lab e m tags o keeps.shaped can task h in
+      (task_is (judged_mapping s lab e m) (task_in s lab e m) (task_of task) (entry_is s lab e m keeps) p.0, p.1)
+  entry_if (Err memory) h = (tt, tt)
+
+module _ (s : LabState) (lab : Lab) (e : Experiment) (mapping : Mapping) (old : List VlanId) (w : Wiring) (m : Mapping) (tags : List VlanId) (o : IsInIn s lab e mapping old) (sound : IsSound w) (keeps : Keeps s lab e w m) (can : CanTake s lab e w m tags) where
+  pub change_if : (r : Result TaskInHand NoMemory) → OnOk r (is_printable w ≡ true) → IfOk r (IsTaskOf lab (change_of e.name (mapped e.wiring mapping old) (mapped w m tags)) (way_over lab (mapped w m tags)))
+      → IfOk r (λ task. task_of task ≡ task_over s lab e w m) × IfOk r (CanDo s)
+  change_if (Ok task) printable h =
+      let p = planned_over s lab e mapping old w m tags o sound keeps.shaped can printable task h in
+      (task_is (judged_change s lab e w m) (task_over s lab e w m) (task_of task) (change_is s lab e w m keeps) p.0, p.1)
+  change_if (Err memory) printable h = (tt, tt)

@@ -9,6 +9,7 @@ mod JudgeRun
 mod JudgeSwap
 mod JudgeTasks
 pub mod Judgements
+mod Needs
 mod SearchLaws
 mod Searched
 mod Shown

@@ -224,12 +224,26 @@ judged_show s exp = do
   e ← need_found exp (find exp s.experiments)
   Ok (Tell (shown_reply lab e))
 
-abbrev pub judged_delete : LabState → Bool → List ℕ → Result Task Reply
-judged_delete s busy exp = do
+-- an experiment of the lab that has no open swap, and is out; and one that is in
+abbrev pub need_idle_out : LabState → Bool → List ℕ → Result (Lab × Experiment) Reply
+need_idle_out s busy exp = do
   lab ← need_lab s.lab
   e ← need_found exp (find exp s.experiments)
   idle ← need_idle exp busy
   out ← need_out exp e.phase
+  Ok (lab, e)
+
+abbrev pub need_idle_in : LabState → Bool → List ℕ → Result (Lab × Experiment) Reply
+need_idle_in s busy exp = do
+  lab ← need_lab s.lab
+  e ← need_found exp (find exp s.experiments)
+  idle ← need_idle exp busy
+  inside ← need_in exp e.phase
+  Ok (lab, e)
+
+abbrev pub judged_delete : LabState → Bool → List ℕ → Result Task Reply
+judged_delete s busy exp = do
+  p ← need_idle_out s busy exp
   Ok (Append (Delete exp) (Deleted exp))
 
 -- an experiment goes in there; the segments get the least VLAN ids that no claim has
@@ -243,12 +257,9 @@ judged_mapping s lab e mapping = do
 
 abbrev pub judged_swapin_with : LabState → Bool → List ℕ → List ℕ → Result Task Reply
 judged_swapin_with s busy exp text = do
-  lab ← need_lab s.lab
-  e ← need_found exp (find exp s.experiments)
-  idle ← need_idle exp busy
-  out ← need_out exp e.phase
-  mapping ← need_meaning (Bad exp) (mapping_of_text lab e.wiring text)
-  judged_mapping s lab e mapping
+  p ← need_idle_out s busy exp
+  mapping ← need_meaning (Bad exp) (mapping_of_text p.0 p.1.wiring text)
+  judged_mapping s p.0 p.1 mapping
 
 -- the fault of a second block, whose lines are counted behind those of the first
 abbrev pub behind_lines : ℕ → TextFault → TextFault
@@ -266,20 +277,14 @@ judged_change s lab e w mapping = do
 
 abbrev pub judged_modify_with : LabState → Bool → List ℕ → ℕ → List ℕ → List ℕ → Result Task Reply
 judged_modify_with s busy exp lines top map = do
-  lab ← need_lab s.lab
-  e ← need_found exp (find exp s.experiments)
-  idle ← need_idle exp busy
-  inside ← need_in exp e.phase
+  p ← need_idle_in s busy exp
   w ← need_meaning (Bad exp) (wiring_of_text top)
-  mapping ← need_meaning (λ fault. Bad exp (behind_lines lines fault)) (mapping_of_text lab w map)
-  judged_change s lab e w mapping
+  mapping ← need_meaning (λ fault. Bad exp (behind_lines lines fault)) (mapping_of_text p.0 w map)
+  judged_change s p.0 p.1 w mapping
 
 abbrev pub judged_swapout : LabState → Bool → List ℕ → Result Task Reply
 judged_swapout s busy exp = do
-  lab ← need_lab s.lab
-  e ← need_found exp (find exp s.experiments)
-  idle ← need_idle exp busy
-  inside ← need_in exp e.phase
+  p ← need_idle_in s busy exp
   Ok (Swap exp WayOut)
 
 -- a swap that nothing else refuses needs room among the open swaps, and is only begun where `open` stands before it
@@ -345,23 +350,6 @@ pub record InSlot (count : ℕ) (only : Bool) (Judges : Result Task Reply → Ty
   pub before : Result Task Reply
   pub judged : Judges before
   pub is : judgement ≡ in_slot count only before
-
--- an experiment of the lab that has no open swap, and is out; and one that is in
-abbrev pub need_idle_out : LabState → Bool → List ℕ → Result (Lab × Experiment) Reply
-need_idle_out s busy exp = do
-  lab ← need_lab s.lab
-  e ← need_found exp (find exp s.experiments)
-  idle ← need_idle exp busy
-  out ← need_out exp e.phase
-  Ok (lab, e)
-
-abbrev pub need_idle_in : LabState → Bool → List ℕ → Result (Lab × Experiment) Reply
-need_idle_in s busy exp = do
-  lab ← need_lab s.lab
-  e ← need_found exp (find exp s.experiments)
-  idle ← need_idle exp busy
-  inside ← need_in exp e.phase
-  Ok (lab, e)
 
 -- `create`: the NS text is asked for its wiring only where nothing refuses before
 abbrev pub JudgedCreate : LabState → List ℕ → List ℕ → Result Task Reply → Type 0

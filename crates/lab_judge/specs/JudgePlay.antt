@@ -3,7 +3,7 @@ use Rattle.std.specs.Prelude.{Result, Ok, Err}
 use Rattle.virt_topo.specs.Soundness.{IsSound}
 use Rattle.ns_build.specs.Kept.{AllKeepLimits}
 use Rattle.script_text.specs.declared.reply.Reply.{Reply}
-use Rattle.lab_judge.specs.declared.judge_play.Play.{Play}
+use Rattle.lab_judge.specs.declared.play.Play.{Play}
 use Rattle.lab_judge.specs.declared.task.Refusal.{Refusal}
 use Rattle.lab_judge.specs.declared.task.Refusal.TheVariants as refusals
 use Rattle.lab_judge.specs.Playing.{Playing, first_place}

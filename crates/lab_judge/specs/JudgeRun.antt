@@ -6,15 +6,14 @@ use Rattle.journal_rec.specs.Payloads.{IsRecord}
 use Rattle.journal_rec.specs.declared.record.Record.{Record}
 use Rattle.journal_rec.specs.declared.record.Record.TheVariants.{Begin}
 use Rattle.journal_model.specs.Journals.{size}
-use Rattle.journal_disk.specs.Standing.{length_of, limit_of}
-use Rattle.journal_disk.specs.declared.journal.Journal.{Journal}
 use Rattle.records_model.specs.Labs.{LabState}
 use Rattle.lab_ahead.specs.declared.batch.Batch.{Batch}
 use Rattle.lab_ahead.specs.declared.batch.Run.{Run}
 use Rattle.lab_ahead.specs.declared.times.Left.{Left}
 use Rattle.lab_ahead.specs.declared.waits.Wait.{Wait}
 use Rattle.lab_ahead.specs.Ends.{left_for}
-use Rattle.lab_judge.specs.declared.judge_run.Queue.{Queue}
+use Rattle.lab_judge.specs.declared.run.Queue.{Queue}
+use Rattle.lab_judge.specs.declared.space.Space.{Space}
 use Rattle.lab_judge.specs.declared.task.Task.{Task as TaskInHand}
 use Rattle.lab_judge.specs.declared.task.Task.TheVariants as tasks
 use Rattle.lab_judge.specs.declared.task.Refusal.{Refusal}
@@ -39,9 +38,12 @@ pub record CanServe (queue : Queue) (run : Run) : Type 0 where
 abbrev pub left_beside : Lab → LabState → Queue → Mapping → List Left
 left_beside lab s queue m = left_for (claimers_of (length lab.nodes) s.experiments) queue.ends m.places
 
--- the journal has space for a record
-abbrev pub space_in : Journal → Record → Bool
-space_in j entry = nat_le (length_of j + size entry + 10240) (limit_of j)
+-- a journal has space for so many bytes, and for a record: with the last records of moves that is within its limit
+abbrev pub has_space : Space → ℕ → Bool
+has_space space bytes = nat_le (space.length + bytes + 10240) space.limit
+
+abbrev pub space_in : Space → Record → Bool
+space_in space entry = has_space space (size entry)
 
 -- a swap whose record can be written
 abbrev pub IsSwapTask : TaskInHand → Type 0

@@ -6,9 +6,11 @@ ghost use Rattle.virt_topo.specs.declared.experiment.Phase.TheVariants as phases
 ghost use Rattle.records_model.specs.Labs.{Sane, find};
 ghost use Rattle.top_text.specs.Printable.{is_printable};
 ghost use Rattle.lab_judge.specs.OpenNames.{has_open};
-ghost use Rattle.lab_judge.specs.Judge.{need_found, need_idle, need_in, need_lab, need_new, need_none, need_open, need_out, need_place, need_room, need_slot};
+ghost use Rattle.lab_judge.specs.Judge.{need_found, need_idle, need_idle_in, need_idle_out, need_in, need_lab, need_new, need_none, need_open, need_out, need_place, need_room, need_slot};
+ghost use Rattle.lab_judge.specs.JudgeSwap.{IsInIn, IsOutIn};
 ghost use Rattle.lab_judge.specs.Tasks.{Refuses};
 
+use crate::case::Present;
 use crate::task::Refusal;
 use lab_base::{Name, Tags};
 use lab_state::LabState;
@@ -90,7 +92,7 @@ pub(crate) fn need_room(state: &LabState) -> Result<(), Refusal>
 }
 
 /// No open swap of the experiment.
-pub(crate) fn need_idle(swaps: &Manager, exp: Name) -> Result<(), Refusal>
+fn need_idle(swaps: &Manager, exp: Name) -> Result<(), Refusal>
     ensures idle { OnOk result (has_open swaps.now exp ≡ false) }
     ensures refuses { Refuses (need_idle exp (has_open swaps.now exp)) result }
 {
@@ -123,7 +125,7 @@ pub(crate) fn need_slot(swaps: &Manager) -> Result<(), Refusal>
 }
 
 /// An experiment that is out.
-pub(crate) fn need_out(exp: Name, phase: &Phase) -> Result<(), Refusal>
+fn need_out(exp: Name, phase: &Phase) -> Result<(), Refusal>
     ensures out { OnOk result (phase.now ≡ phases.Out) }
     ensures refuses { Refuses (need_out exp phase.now) result }
 {
@@ -135,7 +137,7 @@ pub(crate) fn need_out(exp: Name, phase: &Phase) -> Result<(), Refusal>
 }
 
 /// Where an experiment is that is in.
-pub(crate) fn need_in(exp: Name, phase: &Phase) -> Result<(&Mapping, &Tags), Refusal>
+fn need_in(exp: Name, phase: &Phase) -> Result<(&Mapping, &Tags), Refusal>
     ensures inside { IfOk result (λ place. phase.now ≡ phases.In place.0.now place.1.now) }
     ensures refuses { Refuses (need_in exp phase.now) result }
 {
@@ -144,4 +146,38 @@ pub(crate) fn need_in(exp: Name, phase: &Phase) -> Result<(&Mapping, &Tags), Ref
         Phase::Out => Err(Refusal::Refused(Reply::IsOut { exp })),
         Phase::Moving { .. } => Err(Refusal::Refused(Reply::IsMoving { exp })),
     }
+}
+
+/// An experiment that is out and has no open swap.
+pub(crate) fn need_idle_out<'a>(
+    present: Present<'a>,
+    exp: Name,
+) -> Result<(&'a Lab, &'a Experiment), Refusal>
+    ensures place { IfOk result (λ p. need_idle_out present.state.now.state (has_open present.swaps.now exp) exp ≡ Ok (p.0.now, p.1.now)) }
+    ensures found { IfOk result (λ p. find exp present.state.now.state.experiments ≡ Some p.1.now) }
+    ensures out { IfOk result (λ p. IsOutIn present.state.now.state p.0.now p.1.now) }
+    ensures refuses { Refuses (need_idle_out present.state.now.state (has_open present.swaps.now exp) exp) result }
+{
+    let lab = need_lab(present.state)?;
+    let experiment = need_found(present.state, exp)?;
+    need_idle(present.swaps, exp)?;
+    need_out(exp, &experiment.phase)?;
+    Ok((lab, experiment))
+}
+
+/// An experiment that is in and has no open swap, and where it is.
+pub(crate) fn need_idle_in<'a>(
+    present: Present<'a>,
+    exp: Name,
+) -> Result<(&'a Lab, &'a Experiment, &'a Mapping, &'a Tags), Refusal>
+    ensures place { IfOk result (λ p. need_idle_in present.state.now.state (has_open present.swaps.now exp) exp ≡ Ok (p.0.now, p.1.now)) }
+    ensures found { IfOk result (λ p. find exp present.state.now.state.experiments ≡ Some p.1.now) }
+    ensures inside { IfOk result (λ p. IsInIn present.state.now.state p.0.now p.1.now p.2.now p.3.now) }
+    ensures refuses { Refuses (need_idle_in present.state.now.state (has_open present.swaps.now exp) exp) result }
+{
+    let lab = need_lab(present.state)?;
+    let experiment = need_found(present.state, exp)?;
+    need_idle(present.swaps, exp)?;
+    let (mapping, tags) = need_in(exp, &experiment.phase)?;
+    Ok((lab, experiment, mapping, tags))
 }

@@ -5,7 +5,7 @@ use Rattle.lab_ahead.specs.declared.ends.End.{End}
 use Rattle.script_text.specs.declared.reply.Reply.TheVariants as replies
 use Rattle.script_text.specs.declared.reply.Served.{Served}
 use Rattle.lab_core.specs.declared.fault.CoreFault.TheVariants as faults
-use Rattle.lab_judge.specs.declared.judge_run.Queue.{Queue}
+use Rattle.lab_judge.specs.declared.run.Queue.{Queue}
 use Rattle.lab_core.specs.Controller.{WorksWith}
 use Rattle.lab_core.specs.Queues.{ComesToRun, ObeysRuns, ends_if, first_place}
 use Rattle.lab_core.specs.Sessions.{OpenSwap}

@@ -1,0 +1,20 @@
+use Rattle.std.proofs.Common.{◌≤◌, ℕ, IfOk, Result, Ok, Err, length, sym, subst, List}
+use Rattle.lab_base.specs.declared.ids.VlanId.{VlanId}
+use Rattle.lab_base.specs.declared.memory.Memory.{Memory}
+use Rattle.claims.specs.Answered.{AreTaken}
+use Rattle.claims.specs.Held.{free_ids}
+use Rattle.lab_judge.proofs.JudgeSwap.{enough, is_none_not, takes_if}
+use Rattle.lab_judge.proofs.swap.take_tags.Goals as goal
+
+pub unreachable-requires : goal.unreachable-requires
+unreachable-requires c = is_none_not c.args.case.state.now.state.lab c.args.case.lab.now (sym c.in_default.ensures.some) c.requires.there.is_lab
+
+pub least_tags-requires : goal.least_tags-requires
+least_tags-requires c =
+    subst (λ (n : ℕ). n ≤ length (free_ids c.in-Some.claims.now)) (sym c.len.ensures)
+    (enough c.args.case.state.now.state c.args.case.lab.now c.args.case.experiment.now c.in-Some.claims.now c.requires.there c.in-Some.ensures.claims c.args.wiring.now c.requires.keeps.0 c.requires.keeps.1)
+
+pub returns : goal.returns
+returns c = λ m keeps.
+    takes_if c.args.case.state.now.state c.args.case.lab.now c.args.case.experiment.now c.in-Some.claims.now c.requires.there c.in-Some.ensures.claims c.args.wiring.now m keeps c.least_tags.result
+    (subst (λ (n : ℕ). IfOk c.least_tags.result (λ tags. AreTaken (free_ids c.in-Some.claims.now) n (Ok tags))) c.len.ensures c.least_tags.ensures)

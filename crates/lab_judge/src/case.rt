@@ -1,0 +1,20 @@
+// What a command is judged by.
+use lab_state::LabState;
+use phys_lab::Lab;
+use swap_mgr::Manager;
+use virt_topo::Experiment;
+
+/// The lab and its open swaps, as a command finds them.
+#[derive(Clone, Copy)]
+pub struct Present<'a> {
+    pub state: &'a LabState,
+    pub swaps: &'a Manager,
+}
+
+/// An experiment of the lab, of which something is judged.
+#[derive(Clone, Copy)]
+pub(crate) struct Case<'a> {
+    pub(crate) state: &'a LabState,
+    pub(crate) lab: &'a Lab,
+    pub(crate) experiment: &'a Experiment,
+}
