@@ -18,8 +18,8 @@ use Rattle.swap_turns.specs.Running.{OpenSwap as RunningSwap, Working}
 use Rattle.swap_turns.specs.Swaps.{Swap as SwapOf, Moves}
 use Rattle.swap_turns.specs.Turning.{TurnSteps}
 use Rattle.swap_mgr.specs.Managing.{HasTurned, HasTurnedToEnd, IfGoesOn}
-use Rattle.swap_mgr.specs.declared.progress.OpenSwap.{OpenSwap as Unopened}
-use Rattle.swap_mgr.specs.declared.progress.OpenSwap.TheVariants as unopened
+use Rattle.swap_mgr.specs.declared.progress.NotOpened.{NotOpened}
+use Rattle.swap_mgr.specs.declared.progress.NotOpened.TheVariants as unopened
 use Rattle.swap_mgr.specs.declared.progress.Progress.{Progress}
 use Rattle.swap_mgr.specs.declared.progress.Progress.TheVariants as progress
 use Rattle.script_text.specs.declared.reply.FailedEnd.{FailedEnd}
@@ -43,7 +43,7 @@ pub record IsPlanned (s u : LabState) (j : Journal) (plans : Plans) (p : SwapOf)
   pub body : IsBody plans.begin begin
 
 -- WHY A SWAP IS NOT OPENED that has none open and room: its Begin was not written, or the plant stopped
-abbrev pub HasTried : Unopened → Type 0
+abbrev pub HasTried : NotOpened → Type 0
 HasTried (unopened.Busy exp) = ⊥
 HasTried (unopened.TooManyOpen most) = ⊥
 HasTried fault = Unit {0}
@@ -120,7 +120,7 @@ progress_answer exp (progress.Stuck what) = Ok (Failed exp ends.Stuck what)
 progress_answer exp progress.Stopped = Err faults.Stopped
 
 -- and of one that was not opened
-abbrev pub unopened_answer : List ℕ → Unopened → Result (Option Reply) CoreFault
+abbrev pub unopened_answer : List ℕ → NotOpened → Result (Option Reply) CoreFault
 unopened_answer exp (unopened.Stuck what) = Ok (Some (Failed exp ends.Stuck what))
 unopened_answer exp unopened.Stopped = Err faults.Stopped
 unopened_answer exp fault = Err faults.Memory

@@ -29,7 +29,7 @@ use lab_state::{LabState, Prepared};
 use plant::Plant;
 use script_text::{FailedEnd, Reply};
 use std::alloc::Global;
-use swap_mgr::{Manager, OpenSwap, Progress};
+use swap_mgr::{Manager, NotOpened, Progress};
 use swap_plan::Ops;
 use swap_txn::{Ended, Planned};
 
@@ -124,7 +124,7 @@ pub(crate) fn open_swap<P: Plant>(
     swaps: &mut Manager,
     ready: ReadySwap,
     plant: &mut P,
-) -> Result<(), OpenSwap>
+) -> Result<(), NotOpened>
     requires stands { Stands (P.seen plant.old).told journal.old }
     requires fits { length_of journal.old + length ready.planned.begin ≤ limit_of journal.old }
     requires enters { CanEnter lab.old ready.prepared }
@@ -258,18 +258,18 @@ pub(crate) fn reply_of_progress(exp: Name, progress: Progress) -> Result<Reply, 
 }
 
 /// The reply where a swap was not opened.
-pub(crate) fn reply_of_unopened(exp: Name, fault: OpenSwap) -> Result<Option<Reply>, CoreFault>
+pub(crate) fn reply_of_unopened(exp: Name, fault: NotOpened) -> Result<Option<Reply>, CoreFault>
     requires { HasTried fault }
     ensures { result ≡ unopened_answer exp fault }
 {
     match fault {
-        OpenSwap::Stuck(what) => Ok(Some(Reply::Failed {
+        NotOpened::Stuck(what) => Ok(Some(Reply::Failed {
             exp,
             end: FailedEnd::Stuck,
             what,
         })),
-        OpenSwap::Stopped => Err(CoreFault::Stopped),
+        NotOpened::Stopped => Err(CoreFault::Stopped),
         // It has none, and there is room for one more.
-        OpenSwap::Busy(_) | OpenSwap::TooManyOpen(_) => unreachable!(),
+        NotOpened::Busy(_) | NotOpened::TooManyOpen(_) => unreachable!(),
     }
 }
