@@ -8,7 +8,6 @@ use Rattle.journal_rec.specs.declared.record.Way.{Way}
 use Rattle.journal_disk.specs.declared.journal.Journal.{Journal}
 use Rattle.lab_base.specs.declared.what.What.{What}
 use Rattle.records_model.specs.Labs.{LabState, Move, Says, moved, lab_in}
-use Rattle.lab_state.specs.Changes.{CanEnd, ending}
 use Rattle.lab_state.specs.Texts.{the_texts}
 use Rattle.swap_txn.specs.States.{Plans}
 use Rattle.swap_txn.specs.declared.live.Live.{Live}
@@ -47,15 +46,6 @@ abbrev pub HasTried : NotOpened → Type 0
 HasTried (unopened.Busy exp) = ⊥
 HasTried (unopened.TooManyOpen most) = ⊥
 HasTried fault = Unit {0}
-
--- the end of the experiment's move can follow, and follows, where its swap came to its last record
-abbrev pub CanEndBy : LabState → List ℕ → Progress → Type 0
-CanEndBy s exp (progress.Ended over) = CanEnd s exp over.committed
-CanEndBy s exp told = Unit {0}
-
-abbrev pub IsEndedBy : LabState → List ℕ → Progress → LabState → Type 0
-IsEndedBy s exp (progress.Ended over) after = moved s (ending exp over.committed) ≡ Some after
-IsEndedBy s exp told after = after ≡ s
 
 -- A TURN WAS MADE, or an open swap turned to its end: and where the controller goes on, its lab is that of the steps
 pub record HasTurnedIn (s : LabState) (pairs : List (RunningSwap × Live)) (exp : List ℕ) (was now : Seen) (k : Journal) (told : Progress) (new : List Live) (after : LabState) : Type 0 where

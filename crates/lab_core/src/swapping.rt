@@ -17,7 +17,7 @@ ghost use Rattle.swap_mgr.specs.Open.{HasOpen};
 ghost use Rattle.swap_mgr.specs.Turns.{IsStop};
 ghost use Rattle.lab_state.specs.Changes.{after, CanEnter};
 ghost use Rattle.lab_state.specs.Texts.{the_texts};
-ghost use Rattle.lab_core.specs.Swapping.{CanEndBy, HasEndedIn, HasTried, HasTurnedIn, IsEndedBy, IsPlanned, progress_answer, reply_of_done, reply_of_over, undone_by, unopened_answer};
+ghost use Rattle.lab_core.specs.Swapping.{HasEndedIn, HasTried, HasTurnedIn, IsPlanned, progress_answer, reply_of_done, reply_of_over, undone_by, unopened_answer};
 ghost use Rattle.lab_judge.specs.Tasks.{IsBegin, MayFollow};
 
 use crate::perform::prepare;
@@ -27,6 +27,7 @@ use journal_rec::{Record, Way};
 use lab_base::{Memory, Name};
 use lab_state::{LabState, Prepared};
 use plant::Plant;
+use recovery::end_move;
 use script_text::{FailedEnd, Reply};
 use std::alloc::Global;
 use swap_mgr::{Manager, NotOpened, Progress};
@@ -155,16 +156,6 @@ pub(crate) fn open_swap<P: Plant>(
     }
 }
 
-/// Ends the experiment's move, where its swap came to its last record.
-fn end_move(lab: &mut LabState, exp: Name, progress: &Progress)
-    requires { CanEndBy lab.old.state exp progress.now }
-    ensures { IsEndedBy lab.old.state exp progress.now lab.new.state }
-{
-    if let Progress::Ended(ended) = progress {
-        lab.end_move(exp, ended.committed);
-    }
-}
-
 impl Controller {
     /// Makes one turn of an open swap.
     pub(crate) fn turn_swap<P: Plant>(&mut self, exp: Name, plant: &mut P) -> Progress
@@ -180,7 +171,7 @@ impl Controller {
         let Ok(progress) = self.swaps.turn(exp, &mut self.journal, plant) else {
             unreachable!()
         };
-        end_move(&mut self.lab, exp, &progress);
+        end_move(&mut self.lab, exp, progress.ended());
         progress
     }
 
@@ -198,7 +189,7 @@ impl Controller {
         let Ok(progress) = self.swaps.finish(exp, &mut self.journal, plant) else {
             unreachable!()
         };
-        end_move(&mut self.lab, exp, &progress);
+        end_move(&mut self.lab, exp, progress.ended());
         progress
     }
 }
