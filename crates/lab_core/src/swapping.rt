@@ -30,7 +30,7 @@ use plant::Plant;
 use recovery::end_move;
 use script_text::{FailedEnd, Reply};
 use std::alloc::Global;
-use swap_mgr::{Manager, NotOpened, Progress};
+use swap_mgr::{MAX_OPEN, Manager, NotOpened, Progress};
 use swap_plan::Ops;
 use swap_txn::{Ended, Planned};
 
@@ -135,7 +135,7 @@ pub(crate) fn open_swap<P: Plant>(
     // the record can be entered, and no other swap is in its way
     requires enters { CanEnter lab.old ready.prepared }
     requires idle { HasOpen swaps.old ready.planned.forth.exp → ⊥ }
-    requires room { length swaps.old < 16 }
+    requires room { length swaps.old < MAX_OPEN }
     // it is open and its record entered, or it was tried
     ensures tried { IfErr result HasTried }
     ensures begun { (pairs : List (RunningSwap × Live)) (p : SwapOf) (entry : AnyRecord) (move : Move)

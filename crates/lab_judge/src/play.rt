@@ -185,7 +185,8 @@ pub fn judge_event(
 ) -> Result<Task, Refusal>
     requires text { IsSound text.now }
     requires limits { KeepsLimits event.now.what }
-    ensures judged { IsJudged (JudgedEventAt exp text.now event.now present.state.now.state (has_open present.swaps.now exp) (length present.swaps.now)) result }
+    ensures judged { IsJudged (JudgedEventAt exp text.now event.now present.state.now.state (has_open present.swaps.now exp)
+        (length present.swaps.now)) result }
     ensures can { IfOk result (CanDo present.state.now.state) }
 {
     let (lab, experiment, mapping, tags) = need_idle_in(present, exp)?;
