@@ -1,5 +1,5 @@
 -- FirstFit, one virtual node more.
-use Rattle.std.proofs.Common.{◌≡◌, ◌<◌, ◌∙◌, ◌+◌, ◌++◌, ◌∷◌, [], ℕ, List, length, drop, map, get_or, All, Contains, Bool, true, false, Option, Some, None, IfSome, sym, ap, subst, suc, arith}
+use Rattle.std.proofs.Common.{◌≡◌, ◌<◌, ◌∙◌, ◌+◌, ◌++◌, ◌∷◌, [], ℕ, List, length, drop, map, get_or, All, Contains, Bool, true, false, cond, Option, Some, None, IfSome, refl, sym, ap, subst, suc, arith}
 use Rattle.std.specs.List.{find}
 use Rattle.std.specs.Option.{option_and_then}
 use Rattle.std.proofs.lemmas.Bool.{cond_both, cond-true, cond-false}
@@ -35,6 +35,14 @@ find_among f (x ∷ xs) p e =
     cond_both (f x) (Some x) (find f xs) (λ o. o ≡ Some p → Contains (x ∷ xs) p)
     (λ here h. (0, omega arith, cc h))
     (λ later h. let there = find_among f xs p h in (suc there.0, omega (arith, there.1), there.2)) e
+
+pub find_passes : (f : Place → Bool) (xs : List Place) (p : Place) → find f xs ≡ Some p → f p ≡ true
+find_passes f [] p e = absurd (cc e)
+find_passes f (x ∷ xs) p e = by (f x) refl e (λ h. find_passes f xs p h)
+  where
+    by : (b : Bool) → f x ≡ b → cond b (Some x) (find f xs) ≡ Some p → (find f xs ≡ Some p → f p ≡ true) → f p ≡ true
+    by true passed h later = let same : x ≡ p = cc h in ap f (sym same) ∙ passed
+    by false failed h later = later h
 
 -- what is mapped of a choice is one
 pub mapped_choice : (lab : Lab) (free : Free) (w : Wiring) (places : List Place) (o : Option Mapping) → IsChoice (candidates lab free w) places

@@ -12,7 +12,7 @@ use crate::first::{Placing, fit_by};
 use cost_rule::StepRule;
 use lab_base::Memory;
 use map_anneal::{Prepared, anneal_by, descend_by};
-use node_maps::Candidates;
+use node_maps::{Candidates, Mapper};
 use phys_lab::{Free, Lab};
 use std::alloc::Global;
 use virt_topo::{Mapping, Wiring};
@@ -72,11 +72,15 @@ fn solve_by(
         };
         return Ok(Solved::Least(mapping, cost));
     }
-    let placing = Placing {
+    let mapper = Mapper {
         lab,
         free,
         wiring,
         ends: &prepared.ends,
+        ifaces: moves.setting.mapper.ifaces,
+    };
+    let placing = Placing {
+        mapper,
         candidates: &prepared.candidates,
     };
     let Some(start) = fit_by(alloc, &placing)? else {

@@ -1,9 +1,13 @@
 use Rattle.std.proofs.Common.{◌≡◌, drop}
 use Rattle.std.specs.List.{find}
+use Rattle.map_board.specs.Boards.{IsIdle}
 use Rattle.assign_core.specs.Exact.{fits_next}
 use Rattle.assign_core.proofs.first.first_fitting.Given as goal
 
 abbrev pub invariant-loop-place : goal.invariant-loop-place
-invariant-loop-place l =
-    find (λ p. fits_next l.placing.lab.now l.placing.wiring.now l.places p) (drop l.place-index l.place-items)
-    ≡ find (λ p. fits_next l.placing.lab.now l.placing.wiring.now l.places p) l.place-items
+invariant-loop-place l = record {
+  same : l.places.items ≡ l.initial.places.items;
+  idle : IsIdle l.placing.mapper.lab.now l.given;
+  first : find (λ p. fits_next l.placing.mapper.lab.now l.placing.mapper.wiring.now l.initial.places.items p) (drop l.place-index l.place-items)
+      ≡ find (λ p. fits_next l.placing.mapper.lab.now l.placing.mapper.wiring.now l.initial.places.items p) l.place-items;
+}
