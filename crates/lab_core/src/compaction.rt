@@ -42,6 +42,7 @@ fn move_over<P: Plant>(
 ) -> Result<(), OpenFault>
     requires epoch { epoch_of journal.old < 2 ^ 64 - 1 }
     requires fits { side_length packed.now ≤ limit_of journal.old }
+    // the other side has the records, or the call broke off
     ensures after { (s : AnyLabState) → AtWork the_texts (P.seen plant.old).told journal.old s → IsPacked packed.now s
         → IsToMove (length_of journal.old) (epoch_of journal.old) s
         → AfterMove s journal.old (P.seen plant.old).told (P.seen plant.new).told result }
@@ -49,6 +50,7 @@ fn move_over<P: Plant>(
         → IsToMove (length_of journal.old) (epoch_of journal.old) s
         → AtWork the_texts (P.seen plant.new).told journal.new s) }
     ensures limit { limit_of journal.new ≡ limit_of journal.old }
+    // each fault has its cause
     ensures plant { IsErrOf result OpenFault.Plant → Rose (P.seen plant.old).faults.disk (P.seen plant.new).faults.disk }
     ensures later { IsLater (P.seen plant.old) (P.seen plant.new) }
     ensures stopped { IsErrOf result OpenFault.Stopped ↔ IsTrue (P.seen plant.new).stopped }
@@ -68,9 +70,11 @@ fn move_journal<P: Plant>(
 ) -> Result<(), OpenFault>
     requires work { AtWork the_texts (P.seen plant.old).told journal.old lab.now.state }
     requires runs { (P.seen plant.old).stopped ≡ false }
+    // it was moved exactly where it is to move, or the call broke off
     ensures after { AfterMove lab.now.state journal.old (P.seen plant.old).told (P.seen plant.new).told result }
     ensures works { OnOk result (AtWork the_texts (P.seen plant.new).told journal.new lab.now.state) }
     ensures limit { limit_of journal.new ≡ limit_of journal.old }
+    // each fault has its cause
     ensures plant { IsErrOf result OpenFault.Plant → Rose (P.seen plant.old).faults.disk (P.seen plant.new).faults.disk }
     ensures later { IsLater (P.seen plant.old) (P.seen plant.new) }
     ensures stopped { IsErrOf result OpenFault.Stopped ↔ IsTrue (P.seen plant.new).stopped }
@@ -95,11 +99,14 @@ pub(crate) fn compact<P: Plant>(
 ) -> Result<Controller, OpenFault>
     requires works { Works (P.seen plant.old).told controller }
     requires runs { (P.seen plant.old).stopped ≡ false }
+    // the journal was moved exactly where it is to move, or the call broke off
     ensures after { AfterCompaction controller (P.seen plant.old).told (P.seen plant.new).told result }
+    // the controller works in the same lab, with the same open swaps
     ensures same { IfOk result (λ moved. moved.lab ≡ controller.lab) }
     ensures works { IfOk result (λ moved. Works (P.seen plant.new).told moved) }
     ensures alone { IfOk result (λ moved. moved.swaps ≡ controller.swaps) }
     ensures limit { IfOk result (λ moved. limit_of moved.journal ≡ limit_of controller.journal) }
+    // each fault has its cause
     ensures plant { IsErrOf result OpenFault.Plant → Rose (P.seen plant.old).faults.disk (P.seen plant.new).faults.disk }
     ensures later { IsLater (P.seen plant.old) (P.seen plant.new) }
     ensures stopped { IsErrOf result OpenFault.Stopped ↔ IsTrue (P.seen plant.new).stopped }

@@ -11,7 +11,6 @@ ghost use Rattle.journal_disk.specs.Standing.{limit_of, length_of, Holds};
 ghost use Rattle.lab_model.specs.Sound.{is_moving};
 ghost use Rattle.script_text.specs.Drills.{drill_of};
 ghost use Rattle.script_text.specs.Blocks.{HasBlocks};
-ghost use Rattle.lab_judge.specs.Judge.{is_unjudged};
 ghost use Rattle.lab_core.specs.Controller.{CanWork, Works, WorksWith};
 ghost use Rattle.lab_core.specs.Moments.{IsNoJournal};
 ghost use Rattle.lab_core.specs.Obey.{ObeysCommand};
@@ -141,10 +140,12 @@ fn of_journal(
 fn read<P: Plant>(alloc: Global, limit: u64, plant: &mut P) -> Result<Controller, OpenFault>
     requires least { 18 ≤ limit }
     requires most { limit ≤ 2 ^ 32 }
+    // both sides were read, and the controller works over them
     ensures steps { ReadTold (P.seen plant.old).told (P.seen plant.new).told limit result }
     ensures works { IfOk result (λ controller. Works (P.seen plant.new).told controller) }
     ensures alone { IfOk result (λ controller. controller.swaps ≡ []) }
     ensures limit { IfOk result (λ controller. limit_of controller.journal ≡ limit) }
+    // each fault has its cause
     ensures plant { IsErrOf result OpenFault.Plant → Rose (P.seen plant.old).faults.disk (P.seen plant.new).faults.disk }
     ensures later { (P.seen plant.old).faults.disk ≤ (P.seen plant.new).faults.disk }
     ensures devices { (P.seen plant.new).faults.devices ≡ (P.seen plant.old).faults.devices }
@@ -158,13 +159,16 @@ fn read<P: Plant>(alloc: Global, limit: u64, plant: &mut P) -> Result<Controller
 fn settle_all<P: Plant>(mut controller: Controller, plant: &mut P) -> Result<Controller, OpenFault>
     requires works { Works (P.seen plant.old).told controller }
     requires runs { (P.seen plant.old).stopped ≡ false }
+    // each that moves was settled, or the call broke off
     ensures after { AfterOpening controller (P.seen plant.old) (P.seen plant.new) result }
+    // the controller works, with its open swaps and on the side of its journal
     ensures works { IfOk result (λ settled. Works (P.seen plant.new).told settled) }
     ensures alone { IfOk result (λ settled. settled.swaps ≡ controller.swaps) }
-    ensures plant { IsErrOf result OpenFault.Plant → Rose (P.seen plant.old).faults.disk (P.seen plant.new).faults.disk }
-    ensures later { IsLater (P.seen plant.old) (P.seen plant.new) }
     ensures limit { IfOk result (λ settled. limit_of settled.journal ≡ limit_of controller.journal) }
     ensures live { IfOk result (λ settled. live_of settled.journal ≡ live_of controller.journal) }
+    // each fault has its cause
+    ensures plant { IsErrOf result OpenFault.Plant → Rose (P.seen plant.old).faults.disk (P.seen plant.new).faults.disk }
+    ensures later { IsLater (P.seen plant.old) (P.seen plant.new) }
     ensures stopped { IsErrOf result OpenFault.Stopped ↔ IsTrue (P.seen plant.new).stopped }
 {
     match settle(
@@ -192,11 +196,14 @@ impl Controller {
     pub fn open<P: Plant>(alloc: Global, limit: u64, plant: &mut P) -> Result<Controller, OpenFault>
         requires least { 18 ≤ limit }
         requires most { limit ≤ 2 ^ 32 }
+        // what was read, settled and moved, or where the journal is bad
         ensures steps { OpenTold (P.seen plant.old).told (P.seen plant.new).told limit result }
         ensures bad { (side : AnySide) (at : ℕ) → result ≡ Err (OpenFault.Bad side at)
             → IfSome (P.seen plant.new).told (λ t. IsNoJournal (disk A t.trace).reads (disk B t.trace).reads limit side at) }
+        // the controller works, with no open swap
         ensures works { IfOk result (λ controller. WorksWith (P.seen plant.new) controller []) }
         ensures limit { IfOk result (λ controller. limit_of controller.journal ≡ limit) }
+        // each fault has its cause
         ensures plant { IsErrOf result OpenFault.Plant → Rose (P.seen plant.old).faults.disk (P.seen plant.new).faults.disk }
         ensures later { IsLater (P.seen plant.old) (P.seen plant.new) }
         ensures stopped { IsErrOf result OpenFault.Stopped ↔ IsTrue (P.seen plant.new).stopped }
@@ -210,6 +217,8 @@ impl Controller {
     /// those are planned on the plant. Searches count costs by the rule. After a reply that closes, and after `Stopped`, the
     /// controller is of no use any more. Failures of devices are counted from the moment or from any before it, such as a mark
     /// that an opening lies behind.
+    ///
+    /// A command that is neither a list of commands nor an audit is judged, and its task done.
     pub fn obey<P: Tables>(
         &mut self,
         command: &Command,
@@ -238,32 +247,17 @@ impl Controller {
             }
             Command::Batch { moment, text, .. } => self.serve(*moment, text.bytes(), rule, plant),
             Command::Audit => self.audit(plant),
-            command => self.answer(command, rule, plant),
-        }
-    }
-
-    /// Judges a command that is neither a list of commands nor an audit, and does its task.
-    fn answer<P: Plant>(
-        &mut self,
-        command: &Command,
-        rule: &StepRule,
-        plant: &mut P,
-    ) -> Result<Reply, CoreFault>
-        requires blocks { HasBlocks command.now }
-        requires no_drill { drill_of command.now ≡ None }
-        requires alone { is_unjudged command.now ≡ false }
-        requires works { CanWork (P.seen plant.old) self.old }
-        ensures { (opens : List OpenSwap) (devices : ℕ) → devices ≤ (P.seen plant.old).faults.devices → WorksWith (P.seen plant.old) self.old opens
-            → ObeysCommand rule.now.number command.now devices (P.seen plant.old) (P.seen plant.new) self.old self.new opens result }
-    {
-        let present = Present {
-            state: &self.lab,
-            swaps: &self.swaps,
-        };
-        match judge(self.alloc, present, command, rule) {
-            Ok(task) => self.perform(task, plant),
-            Err(Refusal::Refused(reply)) => Ok(reply),
-            Err(Refusal::Memory) => Err(CoreFault::Memory),
+            _ => {
+                let present = Present {
+                    state: &self.lab,
+                    swaps: &self.swaps,
+                };
+                match judge(self.alloc, present, command, rule) {
+                    Ok(task) => self.perform(task, plant),
+                    Err(Refusal::Refused(reply)) => Ok(reply),
+                    Err(Refusal::Memory) => Err(CoreFault::Memory),
+                }
+            }
         }
     }
 }

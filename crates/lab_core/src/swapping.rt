@@ -71,11 +71,14 @@ fn ready_swap(
     requires record { IsRecord begin }
     requires begins { IsBegin begin }
     requires follows { MayFollow lab.old.state begin }
+    // its record can be entered
     ensures ok { IfOk result (λ r. Follows the_texts lab.old.state begin (after lab.old.state r.prepared)) }
     ensures enters { IfOk result (λ r. CanEnter lab.new r.prepared) }
     ensures sane { Sane lab.old.state }
+    // it is planned whole
     ensures body { IfOk result (λ r. IsBody r.planned.begin begin) }
     ensures forth { (exp : List ℕ) (way : AnyWay) → begin ≡ records.Begin exp way → IfOk result (λ r. r.planned.forth ≡ unsent exp way ops.commands ops.undo) }
+    // nothing is done yet
     ensures unchanged { lab.new.state ≡ lab.old.state }
 {
     let prepared = match prepare(lab, &begin) {
@@ -125,11 +128,14 @@ pub(crate) fn open_swap<P: Plant>(
     ready: ReadySwap,
     plant: &mut P,
 ) -> Result<(), OpenSwap>
+    // the journal has room for its record
     requires stands { Stands (P.seen plant.old).told journal.old }
     requires fits { length_of journal.old + length ready.planned.begin ≤ limit_of journal.old }
+    // the record can be entered, and no other swap is in its way
     requires enters { CanEnter lab.old ready.prepared }
     requires idle { HasOpen swaps.old ready.planned.forth.exp → ⊥ }
     requires room { length swaps.old < 16 }
+    // it is open and its record entered, or it was tried
     ensures tried { IfErr result HasTried }
     ensures begun { (pairs : List (RunningSwap × Live)) (p : SwapOf) (entry : AnyRecord) (move : Move)
         → Working the_texts (P.seen plant.old).told journal.old lab.old.state pairs → Holds swaps.old pairs
@@ -137,8 +143,10 @@ pub(crate) fn open_swap<P: Plant>(
         → IsAfterOpening the_texts pairs p lab.old.state (after lab.old.state ready.prepared) entry move
         (P.seen plant.old) (P.seen plant.new) journal.old journal.new swaps.new result }
     ensures lab { OnOk result (lab.new.state ≡ after lab.old.state ready.prepared) }
+    // where it is not opened, the lab and the open swaps stay
     ensures unchanged { OnErr result ((lab.new.state ≡ lab.old.state) × (swaps.new ≡ swaps.old)) }
     ensures nothing { IfNothingSent result ((plant.new ≡ plant.old) × (journal.new ≡ journal.old)) }
+    // the plant stopped exactly where that is told, and the limit stays
     ensures stopped { IfSent result (IsStopOpening result ↔ IsTrue (P.seen plant.new).stopped) }
     ensures limit { limit_of journal.new ≡ limit_of journal.old }
 {

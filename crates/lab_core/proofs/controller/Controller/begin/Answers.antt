@@ -19,6 +19,12 @@ use Rattle.lab_core.proofs.RunSwap.{is_opened, no_space_for, not_opened, nothing
 use Rattle.lab_core.proofs.SwapReplies.{unopened_told}
 use Rattle.lab_core.proofs.controller.Controller.begin.Goals as goal
 
+pub prepare_swap-requires-clause-record : goal.prepare_swap-requires-clause-record
+prepare_swap-requires-clause-record g c = c.requires.can.0
+
+pub prepare_swap-requires-clause-follows : goal.prepare_swap-requires-clause-follows
+prepare_swap-requires-clause-follows g c = rw (← c.self.view_is) at c.requires.can.1
+
 pub returns-in_default-clause-begun : goal.returns-in_default-clause-begun
 returns-in_default-clause-begun g c = rw (c.prepare_swap.ensures.unchanged, ← c.self.view_is) (λ opens devices within works only. wanted devices _ _ (control c.self.inside.lab.state c.self.inside.journal c.self.inside.swaps) opens (Some c.args.swap.exp) works)
 

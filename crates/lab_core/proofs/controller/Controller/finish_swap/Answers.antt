@@ -14,3 +14,6 @@ end_move-requires g c =
 
 pub returns-clause-ended : goal.returns-clause-ended
 returns-clause-ended g c = rw (← c.self.view_is) (λ pairs working holds. ended_in _ pairs c.args.exp _ _ _ c.in-Ok.progress _ (c.in-Ok.ensures.finished _ _ pairs working holds) _ c.end_move.ensures)
+
+pub returns-clause-limit : goal.returns-clause-limit
+returns-clause-limit g c = rw (← c.self.view_is) c.finish.ensures.limit

@@ -14,3 +14,6 @@ end_move-requires g c =
 
 pub returns-clause-turned : goal.returns-clause-turned
 returns-clause-turned g c = rw (← c.self.view_is) (λ pairs working holds. turned_in _ pairs c.args.exp _ _ _ c.in-Ok.progress _ (c.in-Ok.ensures.turned _ _ pairs working holds) _ c.end_move.ensures)
+
+pub returns-clause-limit : goal.returns-clause-limit
+returns-clause-limit g c = rw (← c.self.view_is) c.turn.ensures.limit
