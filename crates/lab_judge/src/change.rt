@@ -79,10 +79,13 @@ struct Over {
 
 /// Plans the commands of a change and prints what it leads to.
 fn over_to(alloc: Global, lab: &Lab, old: &Mapped, new: &Mapped) -> Result<Over, Memory>
+    // both sides can be planned
     requires old_fit { IsFit lab.now old.now }
     requires new_fit { IsFit lab.now new.now }
+    // the commands, and those of the undo
     ensures commands { IfOk result (λ over. over.ops.commands ≡ commands lab.now (Some old.now) (Some new.now)) }
     ensures undo { IfOk result (λ over. over.ops.undo ≡ undo lab.now (Some old.now) (Some new.now)) }
+    // the texts, which a record can hold
     ensures top { IfOk result (λ over. over.top ≡ canonical_top new.now.wiring) }
     ensures map { IfOk result (λ over. over.map ≡ canonical_solution lab.now new.now.wiring new.now.mapping) }
     ensures short_top { IfOk result (λ over. length over.top ≤ 16777216) }

@@ -78,11 +78,14 @@ fn judge_ptop(alloc: Global, state: &LabState, text: &[u8]) -> Result<Task, Refu
 
 /// Judges a new experiment of a new name by the canonical text of its wiring.
 fn judge_wiring(state: &LabState, exp: Name, wiring: &Wiring, top: Text) -> Result<Task, Refusal>
+    // the name is new in a lab
     requires place { need_place state.now.state exp ≡ Ok tt }
+    // the text is that of the wiring, and a record can hold it
     requires sound { IsSound wiring.now }
     requires text { top ≡ canonical_top wiring.now }
     requires size { length top ≤ 16777216 }
     requires printable { is_printable wiring.now ≡ true }
+    // it is judged so, and can be done
     ensures judged { Gives (judged_wiring state.now.state exp wiring.now) result }
     ensures can { IfOk result (CanDo state.now.state) }
 {

@@ -160,9 +160,11 @@ fn changed_wiring(
     text: &Wiring,
     now: &Wiring,
 ) -> Result<Wiring, Refusal>
+    // both wirings are sound, and the event keeps the limits
     requires text { IsSound text.now }
     requires now { IsSound now.now }
     requires limits { KeepsLimits event.now.what }
+    // the wiring behind it, where the link has its shape
     ensures applied { IfOk result (IsApplied event.now text.now now.now) }
     ensures shaped { OnOk result (need_shape exp text.now event.now now.now ≡ Ok tt) }
     ensures sound { IfOk result IsSound }
@@ -185,7 +187,8 @@ pub fn judge_event(
 ) -> Result<Task, Refusal>
     requires text { IsSound text.now }
     requires limits { KeepsLimits event.now.what }
-    ensures judged { IsJudged (JudgedEventAt exp text.now event.now present.state.now.state (has_open present.swaps.now exp) (length present.swaps.now)) result }
+    ensures judged { IsJudged (JudgedEventAt exp text.now event.now present.state.now.state (has_open present.swaps.now exp)
+        (length present.swaps.now)) result }
     ensures can { IfOk result (CanDo present.state.now.state) }
 {
     let (lab, experiment, mapping, tags) = need_idle_in(present, exp)?;
