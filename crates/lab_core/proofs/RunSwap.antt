@@ -41,8 +41,8 @@ use Rattle.swap_turns.proofs.Closing.{closes_behind}
 use Rattle.swap_turns.proofs.Pushing.{rose_later}
 use Rattle.swap_turns.proofs.Telling.{if_back, if_both, told_twice}
 use Rattle.swap_mgr.specs.Managing.{HasOpened, IfNothingSent, IfSent, IsAfterOpening, IsStopOpening}
-use Rattle.swap_mgr.specs.declared.progress.OpenSwap.{OpenSwap as Unopened}
-use Rattle.swap_mgr.specs.declared.progress.OpenSwap.TheVariants as unopened
+use Rattle.swap_mgr.specs.declared.progress.NotOpened.{NotOpened}
+use Rattle.swap_mgr.specs.declared.progress.NotOpened.TheVariants as unopened
 use Rattle.swap_mgr.proofs.Holding.{named_open}
 use Rattle.swap_mgr.specs.Open.{HasOpen}
 use Rattle.swap_mgr.specs.Turns.{IsStop}
@@ -102,7 +102,7 @@ no_space_for set s opens exp way true own after full replies = no_space set s op
 no_space_for set s opens exp way false own after full replies = no_space set s opens (Begin exp way) (Swaps s opens exp (Begin exp way) own after) own after full replies
 
 -- nothing was sent, in other words
-pub nothing_as : (P Q : Type 0) (result : Result (Unit {0}) Unopened) → (P → Q) → IfNothingSent result P → IfNothingSent result Q
+pub nothing_as : (P Q : Type 0) (result : Result (Unit {0}) NotOpened) → (P → Q) → IfNothingSent result P → IfNothingSent result Q
 nothing_as P Q (Ok done) f p = tt
 nothing_as P Q (Err (unopened.Busy name)) f p = f p
 nothing_as P Q (Err (unopened.TooManyOpen most)) f p = f p
@@ -169,7 +169,7 @@ module _ (devices : ℕ) (before now : Seen) (old new : Control) (opens : List O
       (λ lab broken a b. stopped_done only h.steps lab broken a b) (λ _. stop)
 
   -- IT WAS NOT OPENED
-  pub not_opened : (u : LabState) (fault : Unopened) → HasTried fault → IsAfterOpening the_texts works.pairs by.swap old.lab u (Begin exp way) by.move before now old.journal new.journal new.swaps (Err fault) → IfNothingSent (Err fault) ((now ≡ before) × (new ≡ old))
+  pub not_opened : (u : LabState) (fault : NotOpened) → HasTried fault → IsAfterOpening the_texts works.pairs by.swap old.lab u (Begin exp way) by.move before now old.journal new.journal new.swaps (Err fault) → IfNothingSent (Err fault) ((now ≡ before) × (new ≡ old))
       → IfSent (Err fault) (IsStopOpening (Err fault) ↔ IsTrue now.stopped) → limit_of new.journal ≡ limit_of old.journal → IsBegunBy devices before now old new opens exp way (unopened_answer exp fault)
   not_opened u (unopened.Busy name) tried after still stops limit = absurd tried
   not_opened u (unopened.TooManyOpen most) tried after still stops limit = absurd tried

@@ -2,8 +2,8 @@
 use Rattle.std.proofs.Common.{ℕ, List, Option, Some, None, IfSome, Bool, true, false, IfOk, refl, subst}
 use Rattle.lab_base.specs.declared.what.What.{What}
 use Rattle.swap_mgr.specs.Managing.{IsProgress}
-use Rattle.swap_mgr.specs.declared.progress.OpenSwap.{OpenSwap as Unopened}
-use Rattle.swap_mgr.specs.declared.progress.OpenSwap.TheVariants as unopened
+use Rattle.swap_mgr.specs.declared.progress.NotOpened.{NotOpened}
+use Rattle.swap_mgr.specs.declared.progress.NotOpened.TheVariants as unopened
 use Rattle.swap_mgr.specs.declared.progress.Progress.{Progress}
 use Rattle.swap_mgr.specs.declared.progress.Progress.TheVariants as progress
 use Rattle.swap_turns.specs.Finishing.{IsOver}
@@ -25,7 +25,7 @@ over_told exp at (progress.Stuck what) outcome over is = refl
 over_told exp at progress.Stopped outcome over is = tt
 
 -- and of one that was not opened
-pub unopened_told : (exp : List ℕ) (fault : Unopened) → IfOk (unopened_answer exp fault) (λ told. IfSome told (IsSwapReply exp))
+pub unopened_told : (exp : List ℕ) (fault : NotOpened) → IfOk (unopened_answer exp fault) (λ told. IfSome told (IsSwapReply exp))
 unopened_told exp (unopened.Stuck what) = refl
 unopened_told exp unopened.Stopped = tt
 unopened_told exp (unopened.Busy name) = tt

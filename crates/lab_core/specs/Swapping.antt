@@ -8,7 +8,6 @@ use Rattle.journal_rec.specs.declared.record.Way.{Way}
 use Rattle.journal_disk.specs.declared.journal.Journal.{Journal}
 use Rattle.lab_base.specs.declared.what.What.{What}
 use Rattle.records_model.specs.Labs.{LabState, Move, Says, moved, lab_in}
-use Rattle.lab_state.specs.Changes.{CanEnd, ending}
 use Rattle.lab_state.specs.Texts.{the_texts}
 use Rattle.swap_txn.specs.States.{Plans}
 use Rattle.swap_txn.specs.declared.live.Live.{Live}
@@ -18,8 +17,8 @@ use Rattle.swap_turns.specs.Running.{OpenSwap as RunningSwap, Working}
 use Rattle.swap_turns.specs.Swaps.{Swap as SwapOf, Moves}
 use Rattle.swap_turns.specs.Turning.{TurnSteps}
 use Rattle.swap_mgr.specs.Managing.{HasTurned, HasTurnedToEnd, IfGoesOn}
-use Rattle.swap_mgr.specs.declared.progress.OpenSwap.{OpenSwap as Unopened}
-use Rattle.swap_mgr.specs.declared.progress.OpenSwap.TheVariants as unopened
+use Rattle.swap_mgr.specs.declared.progress.NotOpened.{NotOpened}
+use Rattle.swap_mgr.specs.declared.progress.NotOpened.TheVariants as unopened
 use Rattle.swap_mgr.specs.declared.progress.Progress.{Progress}
 use Rattle.swap_mgr.specs.declared.progress.Progress.TheVariants as progress
 use Rattle.script_text.specs.declared.reply.FailedEnd.{FailedEnd}
@@ -43,19 +42,10 @@ pub record IsPlanned (s u : LabState) (j : Journal) (plans : Plans) (p : SwapOf)
   pub body : IsBody plans.begin begin
 
 -- WHY A SWAP IS NOT OPENED that has none open and room: its Begin was not written, or the plant stopped
-abbrev pub HasTried : Unopened → Type 0
+abbrev pub HasTried : NotOpened → Type 0
 HasTried (unopened.Busy exp) = ⊥
 HasTried (unopened.TooManyOpen most) = ⊥
 HasTried fault = Unit {0}
-
--- the end of the experiment's move can follow, and follows, where its swap came to its last record
-abbrev pub CanEndBy : LabState → List ℕ → Progress → Type 0
-CanEndBy s exp (progress.Ended over) = CanEnd s exp over.committed
-CanEndBy s exp told = Unit {0}
-
-abbrev pub IsEndedBy : LabState → List ℕ → Progress → LabState → Type 0
-IsEndedBy s exp (progress.Ended over) after = moved s (ending exp over.committed) ≡ Some after
-IsEndedBy s exp told after = after ≡ s
 
 -- A TURN WAS MADE, or an open swap turned to its end: and where the controller goes on, its lab is that of the steps
 pub record HasTurnedIn (s : LabState) (pairs : List (RunningSwap × Live)) (exp : List ℕ) (was now : Seen) (k : Journal) (told : Progress) (new : List Live) (after : LabState) : Type 0 where
@@ -120,7 +110,7 @@ progress_answer exp (progress.Stuck what) = Ok (Failed exp ends.Stuck what)
 progress_answer exp progress.Stopped = Err faults.Stopped
 
 -- and of one that was not opened
-abbrev pub unopened_answer : List ℕ → Unopened → Result (Option Reply) CoreFault
+abbrev pub unopened_answer : List ℕ → NotOpened → Result (Option Reply) CoreFault
 unopened_answer exp (unopened.Stuck what) = Ok (Some (Failed exp ends.Stuck what))
 unopened_answer exp unopened.Stopped = Err faults.Stopped
 unopened_answer exp fault = Err faults.Memory

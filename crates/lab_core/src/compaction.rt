@@ -22,7 +22,7 @@ const LONGEST: u64 = 1_048_576;
 
 /// Whether the journal is long, and has a next epoch.
 fn may_move(journal: &Journal) -> bool
-    ensures { result ≡ (nat_lt 1048576 (length_of journal.now) && nat_lt (epoch_of journal.now) (2 ^ 64 - 1)) }
+    ensures { result ≡ (nat_lt LONGEST (length_of journal.now) && nat_lt (epoch_of journal.now) (2 ^ 64 - 1)) }
 {
     journal.length() > LONGEST && journal.epoch() < u64::MAX
 }

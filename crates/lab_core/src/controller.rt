@@ -1,4 +1,4 @@
-ghost use Rattle.std.specs.Prelude.{◌≡◌, ◌↔◌, ◌<◌, ◌≤◌, ◌+◌, ◌*◌, ◌^◌, ℕ, List, [], count_by, take, length, if◌then◌else◌, false, true, None, IfOk, IfSome, IsErrOf, IsTrue, slice_get, Err, Some};
+ghost use Rattle.std.specs.Prelude.{◌≡◌, ◌↔◌, ◌<◌, ◌≤◌, ◌+◌, ◌*◌, ℕ, List, [], count_by, take, length, if◌then◌else◌, false, true, None, IfOk, IfSome, IsErrOf, IsTrue, slice_get, Err, Some};
 ghost use Rattle.lab_base.specs.Counts.{Rose};
 ghost use Rattle.plant.specs.Disks.{disk};
 ghost use Rattle.plant.specs.Events.{Event};
@@ -22,8 +22,8 @@ ghost use Rattle.swap_turns.specs.Causes.{IsLater};
 use crate::CoreFault;
 use crate::compaction::compact;
 use cost_rule::StepRule;
-use journal_disk::{Journal, OpenFault};
-use journal_rec::Found;
+use journal_disk::{HEADER, Journal, OpenFault};
+use journal_rec::{Found, LAST_RECORD, MAX_JOURNAL};
 use lab_judge::{Present, Refusal, Span, judge};
 use lab_state::{LabState, ReplayFault};
 use plant::Plant;
@@ -34,9 +34,6 @@ use std::alloc::Global;
 use std::marker::Model;
 use swap_mgr::Manager;
 use virt_topo::{Experiment, Phase};
-
-/// How many bytes the last record of one move has at most.
-const LAST_RECORD: u64 = 39;
 
 /// A lab over its journal, with the open swaps. Contracts see the lab with its experiments, the journal, and the states of the
 /// open swaps.
@@ -103,7 +100,7 @@ fn of_journal(
     journal: Journal,
     found: &[Found],
 ) -> Result<Controller, OpenFault>
-    requires most { limit ≤ 2 ^ 32 }
+    requires most { limit ≤ MAX_JOURNAL }
     requires holds { (rs : List AnyRecord) × Holds rs journal found.now }
     ensures is { (rs : List AnyRecord) → Holds rs journal found.now → IsOfJournal limit journal rs result }
     ensures alone { IfOk result (λ controller. controller.swaps ≡ []) }
@@ -138,8 +135,8 @@ fn of_journal(
 
 /// Reads the journal, whose sides may have any length up to the limit, and finds the lab that its records stand for.
 fn read<P: Plant>(alloc: Global, limit: u64, plant: &mut P) -> Result<Controller, OpenFault>
-    requires least { 18 ≤ limit }
-    requires most { limit ≤ 2 ^ 32 }
+    requires least { HEADER ≤ limit }
+    requires most { limit ≤ MAX_JOURNAL }
     // both sides were read, and the controller works over them
     ensures steps { ReadTold (P.seen plant.old).told (P.seen plant.new).told limit result }
     ensures works { IfOk result (λ controller. Works (P.seen plant.new).told controller) }
@@ -194,8 +191,8 @@ impl Controller {
     /// `Bad` has the side and the position of the first record that can't be read or can't follow. Where there is no room for the last records of the
     /// experiments that move, it has the last gate. Then nothing was settled. No swap is open yet.
     pub fn open<P: Plant>(alloc: Global, limit: u64, plant: &mut P) -> Result<Controller, OpenFault>
-        requires least { 18 ≤ limit }
-        requires most { limit ≤ 2 ^ 32 }
+        requires least { HEADER ≤ limit }
+        requires most { limit ≤ MAX_JOURNAL }
         // what was read, settled and moved, or where the journal is bad
         ensures steps { OpenTold (P.seen plant.old).told (P.seen plant.new).told limit result }
         ensures bad { (side : AnySide) (at : ℕ) → result ≡ Err (OpenFault.Bad side at)

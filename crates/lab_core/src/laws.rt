@@ -34,6 +34,8 @@ ghost use Rattle.lab_core.specs.Said.{IsAsSaid};
 ghost use Rattle.lab_core.specs.Sessions.{OpenSwap, Session, Open, Terms, Setting, After, names_of, open_at};
 ghost use Rattle.lab_core.specs.Tells.{AllMove, BeginsAt, GoesIn, Hinders, IsAtRest, IsFeasibleFor, IsInBy, IsNoSwap, IsOpened, IsTurn, IsTurnOf, TellsBroken, TellsEnd, TellsLab, SendsOne, busy_of, is_stopped, opens_of, settles, taken_reply};
 
+use swap_mgr::MAX_OPEN;
+
 /// A command without a search has one judgement, and a lab step is by one of its command's judgements.
 /// One that refuses the command, or only tells something, has no steps of its own. One that begins no swap and settles none leads, where nothing
 /// failed or stopped and a reply is told, to one reply and one lab. The reply to a swap tells where its experiment is.
@@ -101,7 +103,7 @@ pub fn open_swaps()
         → AllDiffer (busy_of session) → LabStep terms at set s session command opening own after → after.session ≡ Open to → AllDiffer (names_of to) }
     ensures few { (terms : Terms) (at : List Event) (set : Setting) (s : LabState) (session : Session) (to : List OpenSwap) (command : Command)
         (opening own : List Event) (after : After)
-        → length (opens_of session) ≤ 16 → LabStep terms at set s session command opening own after → after.session ≡ Open to → length to ≤ 16 }
+        → length (opens_of session) ≤ MAX_OPEN → LabStep terms at set s session command opening own after → after.session ≡ Open to → length to ≤ MAX_OPEN }
     ensures moves { (terms : Terms) (at : List Event) (set : Setting) (s : LabState) (session : Session) (to : List OpenSwap) (command : Command)
         (opening own : List Event) (after : After)
         → Sane s → AllDiffer (busy_of session) → AllMove (opens_of session) s → LabStep terms at set s session command opening own after

@@ -1,5 +1,5 @@
 // A task is done: over the plant, where the journal has room for it.
-ghost use Rattle.std.specs.Prelude.{◌≡◌, ◌≤◌, ◌+◌, ◌^◌, nat_le, ℕ, Err, IfOk, IfSome, List, Ok, OnOk, Option, Some, length};
+ghost use Rattle.std.specs.Prelude.{◌≡◌, ◌≤◌, ◌+◌, nat_le, ℕ, Err, IfOk, IfSome, List, Ok, OnOk, Option, Some, length};
 ghost use Rattle.journal_rec.specs.Payloads.{IsBody, IsRecord};
 ghost use Rattle.journal_rec.specs.declared.record.Record.{Record as AnyRecord};
 ghost use Rattle.journal_disk.specs.Standing.{length_of, limit_of};
@@ -18,7 +18,7 @@ ghost use Rattle.lab_judge.specs.Tasks.{CanAppend, CanDo, CanSwap, MayFollow, ta
 use crate::swapping::{NewSwap, open_swap, prepare_swap, reply_of_progress, reply_of_unopened};
 use crate::{Controller, CoreFault};
 use journal_disk::{AppendFault, Journal};
-use journal_rec::{Encoded, Record, encode};
+use journal_rec::{Encoded, LAST_RECORDS, MAX_JOURNAL, Record, encode};
 use lab_base::{Memory, Name};
 use lab_judge::{Space, Task};
 use lab_state::{LabState, PrepareFault, Prepared};
@@ -38,8 +38,8 @@ pub(crate) fn space_of(journal: &Journal) -> Space
 
 /// Whether a record of a size leaves room for the last records of moves.
 fn has_space(journal: &Journal, size: u64) -> bool
-    ensures space { result ≡ nat_le (length_of journal.now + size + 10240) (limit_of journal.now) }
-    ensures most { limit_of journal.now ≤ 2 ^ 32 }
+    ensures space { result ≡ nat_le (length_of journal.now + size + LAST_RECORDS) (limit_of journal.now) }
+    ensures most { limit_of journal.now ≤ MAX_JOURNAL }
 {
     // for the prover: it tells how long a journal may be
     let _limit = journal.limit();

@@ -16,11 +16,11 @@ use crate::perform::space_of;
 use crate::play::is_in;
 use crate::{Controller, CoreFault};
 use cost_rule::StepRule;
-use lab_ahead::{Batch, End, Promise, Run};
-use lab_base::{Items, Memory, Name, What};
+use lab_ahead::{Batch, End, MAX_PROMISES, Promise, Run};
+use lab_base::{Items, Memory, Name, TEXT_LIMIT, What};
 use lab_judge::{Present, Queue, Refusal, judge_batch, judge_run};
 use plant::Plant;
-use script_text::{FailedEnd, Reply, Served};
+use script_text::{FailedEnd, MAX_MOMENT, Reply, Served};
 use std::alloc::Global;
 
 /// The replies so far, where the last record of a run's swap can't be written. They are made before that swap begins, since nothing may be
@@ -132,8 +132,8 @@ impl Controller {
         rule: &StepRule,
         plant: &mut P,
     ) -> Result<Reply, CoreFault>
-        requires moment { moment ≤ 1000000000000 }
-        requires few { length promises ≤ 64 }
+        requires moment { moment ≤ MAX_MOMENT }
+        requires few { length promises ≤ MAX_PROMISES }
         requires runs { (run : AnyRun) → Has runs.now run → IsRun run }
         requires works { CanWork (P.seen plant.old) self.old }
         ensures { (opens : List OpenSwap) (devices : ℕ) → devices ≤ (P.seen plant.old).faults.devices → WorksWith (P.seen plant.old) self.old opens
@@ -164,8 +164,8 @@ impl Controller {
         rule: &StepRule,
         plant: &mut P,
     ) -> Result<Reply, CoreFault>
-        requires moment { moment ≤ 1000000000000 }
-        requires size { length text.now < 4294967295 }
+        requires moment { moment ≤ MAX_MOMENT }
+        requires size { length text.now < TEXT_LIMIT }
         requires works { CanWork (P.seen plant.old) self.old }
         ensures { (lines : ℕ) (opens : List OpenSwap) (devices : ℕ) → devices ≤ (P.seen plant.old).faults.devices → WorksWith (P.seen plant.old) self.old opens
             → ObeysCommand rule.now.number (commands.Batch moment lines text.now) devices (P.seen plant.old) (P.seen plant.new) self.old self.new opens result }

@@ -17,7 +17,7 @@ ghost use Rattle.swap_mgr.specs.Open.{HasOpen};
 ghost use Rattle.swap_mgr.specs.Turns.{IsStop};
 ghost use Rattle.lab_state.specs.Changes.{after, CanEnter};
 ghost use Rattle.lab_state.specs.Texts.{the_texts};
-ghost use Rattle.lab_core.specs.Swapping.{CanEndBy, HasEndedIn, HasTried, HasTurnedIn, IsEndedBy, IsPlanned, progress_answer, reply_of_done, reply_of_over, undone_by, unopened_answer};
+ghost use Rattle.lab_core.specs.Swapping.{HasEndedIn, HasTried, HasTurnedIn, IsPlanned, progress_answer, reply_of_done, reply_of_over, undone_by, unopened_answer};
 ghost use Rattle.lab_judge.specs.Tasks.{IsBegin, MayFollow};
 
 use crate::perform::prepare;
@@ -27,9 +27,10 @@ use journal_rec::{Record, Way};
 use lab_base::{Memory, Name};
 use lab_state::{LabState, Prepared};
 use plant::Plant;
+use recovery::end_move;
 use script_text::{FailedEnd, Reply};
 use std::alloc::Global;
-use swap_mgr::{Manager, OpenSwap, Progress};
+use swap_mgr::{MAX_OPEN, Manager, NotOpened, Progress};
 use swap_plan::Ops;
 use swap_txn::{Ended, Planned};
 
@@ -127,14 +128,14 @@ pub(crate) fn open_swap<P: Plant>(
     swaps: &mut Manager,
     ready: ReadySwap,
     plant: &mut P,
-) -> Result<(), OpenSwap>
+) -> Result<(), NotOpened>
     // the journal has room for its record
     requires stands { Stands (P.seen plant.old).told journal.old }
     requires fits { length_of journal.old + length ready.planned.begin ≤ limit_of journal.old }
     // the record can be entered, and no other swap is in its way
     requires enters { CanEnter lab.old ready.prepared }
     requires idle { HasOpen swaps.old ready.planned.forth.exp → ⊥ }
-    requires room { length swaps.old < 16 }
+    requires room { length swaps.old < MAX_OPEN }
     // it is open and its record entered, or it was tried
     ensures tried { IfErr result HasTried }
     ensures begun { (pairs : List (RunningSwap × Live)) (p : SwapOf) (entry : AnyRecord) (move : Move)
@@ -163,16 +164,6 @@ pub(crate) fn open_swap<P: Plant>(
     }
 }
 
-/// Ends the experiment's move, where its swap came to its last record.
-fn end_move(lab: &mut LabState, exp: Name, progress: &Progress)
-    requires { CanEndBy lab.old.state exp progress.now }
-    ensures { IsEndedBy lab.old.state exp progress.now lab.new.state }
-{
-    if let Progress::Ended(ended) = progress {
-        lab.end_move(exp, ended.committed);
-    }
-}
-
 impl Controller {
     /// Makes one turn of an open swap.
     pub(crate) fn turn_swap<P: Plant>(&mut self, exp: Name, plant: &mut P) -> Progress
@@ -188,7 +179,7 @@ impl Controller {
         let Ok(progress) = self.swaps.turn(exp, &mut self.journal, plant) else {
             unreachable!()
         };
-        end_move(&mut self.lab, exp, &progress);
+        end_move(&mut self.lab, exp, progress.ended());
         progress
     }
 
@@ -206,7 +197,7 @@ impl Controller {
         let Ok(progress) = self.swaps.finish(exp, &mut self.journal, plant) else {
             unreachable!()
         };
-        end_move(&mut self.lab, exp, &progress);
+        end_move(&mut self.lab, exp, progress.ended());
         progress
     }
 }
@@ -266,18 +257,18 @@ pub(crate) fn reply_of_progress(exp: Name, progress: Progress) -> Result<Reply, 
 }
 
 /// The reply where a swap was not opened.
-pub(crate) fn reply_of_unopened(exp: Name, fault: OpenSwap) -> Result<Option<Reply>, CoreFault>
+pub(crate) fn reply_of_unopened(exp: Name, fault: NotOpened) -> Result<Option<Reply>, CoreFault>
     requires { HasTried fault }
     ensures { result ≡ unopened_answer exp fault }
 {
     match fault {
-        OpenSwap::Stuck(what) => Ok(Some(Reply::Failed {
+        NotOpened::Stuck(what) => Ok(Some(Reply::Failed {
             exp,
             end: FailedEnd::Stuck,
             what,
         })),
-        OpenSwap::Stopped => Err(CoreFault::Stopped),
+        NotOpened::Stopped => Err(CoreFault::Stopped),
         // It has none, and there is room for one more.
-        OpenSwap::Busy(_) | OpenSwap::TooManyOpen(_) => unreachable!(),
+        NotOpened::Busy(_) | NotOpened::TooManyOpen(_) => unreachable!(),
     }
 }

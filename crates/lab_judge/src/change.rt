@@ -24,7 +24,7 @@ use crate::needs::need_idle_in;
 use crate::records::way_over;
 use crate::swap::{need_feasible, take_tags};
 use crate::task::{Refusal, Task};
-use lab_base::{Memory, Name, Tags, Text, TextFault, TextRefused};
+use lab_base::{MAX_PAYLOAD_TEXT, Memory, Name, TEXT_LIMIT, Tags, Text, TextFault, TextRefused};
 use phys_lab::Lab;
 use script_text::Reply;
 use solution_text::{print_solution, read_solution};
@@ -88,8 +88,8 @@ fn over_to(alloc: Global, lab: &Lab, old: &Mapped, new: &Mapped) -> Result<Over,
     // the texts, which a record can hold
     ensures top { IfOk result (λ over. over.top ≡ canonical_top new.now.wiring) }
     ensures map { IfOk result (λ over. over.map ≡ canonical_solution lab.now new.now.wiring new.now.mapping) }
-    ensures short_top { IfOk result (λ over. length over.top ≤ 16777216) }
-    ensures short_map { IfOk result (λ over. length over.map ≤ 16777216) }
+    ensures short_top { IfOk result (λ over. length over.top ≤ MAX_PAYLOAD_TEXT) }
+    ensures short_map { IfOk result (λ over. length over.map ≤ MAX_PAYLOAD_TEXT) }
     ensures printable { OnOk result (is_printable new.now.wiring ≡ true) }
 {
     let top = print_top(alloc, &new.wiring)?;
@@ -187,8 +187,8 @@ pub(crate) fn judge_modify_with(
     top: &[u8],
     map: &[u8],
 ) -> Result<Task, Refusal>
-    requires top { length top.now < 4294967295 }
-    requires map { length map.now < 2147483648 }
+    requires top { length top.now < TEXT_LIMIT }
+    requires map { length map.now < 2 ^ 31 }
     ensures judged { Gives (judged_modify_with present.state.now.state (has_open present.swaps.now exp) exp lines top.now map.now) result }
     ensures can { IfOk result (CanDo present.state.now.state) }
 {

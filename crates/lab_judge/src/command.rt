@@ -27,7 +27,7 @@ use crate::swap::judge_swapin_with;
 use crate::task::{Refusal, Task};
 use crate::views::{shown, status_lines};
 use cost_rule::StepRule;
-use lab_base::{Name, Text, TextRefused};
+use lab_base::{MAX_PAYLOAD_TEXT, Name, TEXT_LIMIT, Text, TextRefused};
 use lab_state::LabState;
 use ns_text::{Printed, read_and_print};
 use ptop_text::{print_ptop, read_ptop};
@@ -58,7 +58,7 @@ fn bad_ptop(refused: TextRefused) -> Refusal
 }
 
 fn judge_ptop(alloc: Global, state: &LabState, text: &[u8]) -> Result<Task, Refusal>
-    requires { length text.now < 4294967295 }
+    requires { length text.now < TEXT_LIMIT }
     ensures judged { Gives (judged_ptop state.now.state text.now) result }
     ensures can { IfOk result (CanDo state.now.state) }
 {
@@ -83,7 +83,7 @@ fn judge_wiring(state: &LabState, exp: Name, wiring: &Wiring, top: Text) -> Resu
     // the text is that of the wiring, and a record can hold it
     requires sound { IsSound wiring.now }
     requires text { top ≡ canonical_top wiring.now }
-    requires size { length top ≤ 16777216 }
+    requires size { length top ≤ MAX_PAYLOAD_TEXT }
     requires printable { is_printable wiring.now ≡ true }
     // it is judged so, and can be done
     ensures judged { Gives (judged_wiring state.now.state exp wiring.now) result }
@@ -103,7 +103,7 @@ fn judge_create_top(
     exp: Name,
     text: &[u8],
 ) -> Result<Task, Refusal>
-    requires { length text.now < 4294967295 }
+    requires { length text.now < TEXT_LIMIT }
     ensures judged { Gives (judged_create_top state.now.state exp text.now) result }
     ensures can { IfOk result (CanDo state.now.state) }
 {
@@ -119,7 +119,7 @@ fn judge_create_top(
 
 /// Judges an experiment by the network of an NS text.
 fn judge_create(alloc: Global, state: &LabState, exp: Name, text: &[u8]) -> Result<Task, Refusal>
-    requires { length text.now < 4294967295 }
+    requires { length text.now < TEXT_LIMIT }
     ensures judged { IsJudged (JudgedCreate state.now.state exp text.now) result }
     ensures can { IfOk result (CanDo state.now.state) }
 {

@@ -12,18 +12,13 @@ ghost use Rattle.lab_judge.specs.Tasks.{Refuses};
 
 use crate::case::Present;
 use crate::task::Refusal;
+use claims::MAX_EXPERIMENTS;
 use lab_base::{Name, Tags};
 use lab_state::LabState;
 use phys_lab::Lab;
 use script_text::Reply;
-use swap_mgr::Manager;
+use swap_mgr::{MAX_OPEN, Manager};
 use virt_topo::{Experiment, Mapping, Phase};
-
-/// How many experiments there may be.
-const MAX_EXPERIMENTS: usize = 256;
-
-/// How many swaps may be open.
-const MAX_SWAPS: u16 = 16;
 
 /// The lab.
 pub(crate) fn need_lab(state: &LabState) -> Result<&Lab, Refusal>
@@ -82,7 +77,7 @@ pub(crate) fn need_place(state: &LabState, exp: Name) -> Result<(), Refusal>
 
 /// Room for one more experiment.
 pub(crate) fn need_room(state: &LabState) -> Result<(), Refusal>
-    ensures room { OnOk result (length state.now.state.experiments < 256) }
+    ensures room { OnOk result (length state.now.state.experiments < MAX_EXPERIMENTS) }
     ensures refuses { Refuses (need_room state.now.state.experiments) result }
 {
     if MAX_EXPERIMENTS <= state.len() {
@@ -115,10 +110,10 @@ pub(crate) fn need_open(swaps: &Manager, exp: Name) -> Result<(), Refusal>
 
 /// Room for one more open swap.
 pub(crate) fn need_slot(swaps: &Manager) -> Result<(), Refusal>
-    ensures slot { OnOk result (length swaps.now < 16) }
+    ensures slot { OnOk result (length swaps.now < MAX_OPEN) }
     ensures refuses { Refuses (need_slot (length swaps.now)) result }
 {
-    if MAX_SWAPS <= swaps.count() {
+    if MAX_OPEN <= swaps.count() {
         return Err(Refusal::Refused(Reply::FullSwaps));
     }
     Ok(())

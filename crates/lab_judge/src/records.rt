@@ -8,10 +8,10 @@ ghost use Rattle.journal_rec.specs.declared.record.Way.TheVariants as ways;
 ghost use Rattle.records_model.specs.Labs.{change_in, create_in};
 
 use journal_rec::{Record, Way};
-use lab_base::{Name, Tags, Text};
+use lab_base::{MAX_PAYLOAD_TEXT, Name, Tags, Text};
 
 pub(crate) fn lab_record(ptop: Text) -> Record
-    requires { length ptop ≤ 16777216 }
+    requires { length ptop ≤ MAX_PAYLOAD_TEXT }
     ensures entry { result ≡ records.Lab ptop }
     ensures is { IsRecord result }
 {
@@ -20,7 +20,7 @@ pub(crate) fn lab_record(ptop: Text) -> Record
 
 /// The record of a new experiment, of the second format or of the first.
 pub(crate) fn create_record(exp: Name, top: Text, second: bool) -> Record
-    requires { length top ≤ 16777216 }
+    requires { length top ≤ MAX_PAYLOAD_TEXT }
     ensures entry { result ≡ create_in second exp top }
     ensures is { IsRecord result }
 {
@@ -42,8 +42,8 @@ pub(crate) fn delete_record(exp: Name) -> Record
 
 /// The way of a swap-in.
 pub(crate) fn way_in(exp: Name, map: Text, tags: Tags) -> Way
-    requires short { length map ≤ 16777216 }
-    requires few { length tags ≤ 65535 }
+    requires short { length map ≤ MAX_PAYLOAD_TEXT }
+    requires few { length tags ≤ u16.MAX }
     requires ids { (tag : VlanId) → Has tags tag → tag.0 < 2 ^ 16 }
     ensures way { result ≡ ways.In map tags }
     ensures is { IsRecord (records.Begin exp result) }
@@ -55,9 +55,9 @@ pub(crate) fn way_in(exp: Name, map: Text, tags: Tags) -> Way
 /// The way of a change, of the second format or of the first.
 pub(crate) fn way_over(exp: Name, top: Text, map: Text, tags: Tags, second: bool) -> Way
     // the texts and the VLAN ids fit a record
-    requires top { length top ≤ 16777216 }
-    requires map { length map ≤ 16777216 }
-    requires few { length tags ≤ 65535 }
+    requires top { length top ≤ MAX_PAYLOAD_TEXT }
+    requires map { length map ≤ MAX_PAYLOAD_TEXT }
+    requires few { length tags ≤ u16.MAX }
     requires ids { (tag : VlanId) → Has tags tag → tag.0 < 2 ^ 16 }
     // the record is of that format
     ensures way { result ≡ change_in second top map tags }

@@ -31,9 +31,9 @@ use claims::{Claims, owners};
 use cost_rule::StepRule;
 use journal_rec::{Record, encode};
 use lab_ahead::{Batch, End, Promise, Run, Span, Wait, first_wait, left_for, read_batch};
-use lab_base::{Items, Memory, Name, NodeId, TextRefused};
+use lab_base::{Items, Memory, Name, NodeId, TEXT_LIMIT, TextRefused};
 use lab_state::LabState;
-use phys_lab::Lab;
+use phys_lab::{Lab, MAX_LAB_NODES};
 use script_text::Reply;
 use std::alloc::Global;
 use swap_plan::Ops;
@@ -58,7 +58,7 @@ fn bad_batch(refused: TextRefused) -> Refusal
 
 /// Judges a batch by its text.
 pub fn judge_batch(alloc: Global, state: &LabState, text: &[u8]) -> Result<Batch, Refusal>
-    requires { length text.now < 4294967295 }
+    requires { length text.now < TEXT_LIMIT }
     ensures judged { IsJudgedBatch state.now.state text.now result }
     ensures limits { IfOk result KeepsLimits }
 {
@@ -93,7 +93,7 @@ fn claimers_at(alloc: Global, claims: &Claims, node: NodeId) -> Result<Items<Nam
 
 /// By node of a lab of so many its owner, if it has one.
 fn owners_of(alloc: Global, claims: &Claims, nodes: usize) -> Result<Items<Items<Name>>, Memory>
-    requires few { nodes ≤ 1024 }
+    requires few { nodes ≤ MAX_LAB_NODES }
     requires of_lab { nodes ≤ claims.now.nodes }
     ensures { IfOk result (λ by_node. by_node ≡ map (λ n. listed (owner_of claim_nodes claims.now.entries n)) (range_with_len 0 nodes)) }
 {

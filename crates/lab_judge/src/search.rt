@@ -16,7 +16,7 @@ use crate::swap::swap_to;
 use crate::task::{Refusal, Task};
 use assign_core::{Solved, solve};
 use cost_rule::StepRule;
-use lab_base::{Memory, Name, Tags};
+use lab_base::{Memory, Name, TEXT_LIMIT, Tags};
 use ns_text::read_network;
 use phys_lab::Lab;
 use script_text::Reply;
@@ -171,7 +171,7 @@ pub(crate) fn judge_modify(
     rule: &StepRule,
     seed: u64,
 ) -> Result<Task, Refusal>
-    requires { length text.now < 4294967295 }
+    requires { length text.now < TEXT_LIMIT }
     ensures judged { IsJudged (JudgedModify rule.now.number present.state.now.state (has_open present.swaps.now exp) exp seed text.now) result }
     ensures can { IfOk result (CanDo present.state.now.state) }
 {

@@ -2,8 +2,7 @@
 ghost use Rattle.std.specs.Prelude.{◌≡◌};
 ghost use Rattle.lab_judge.specs.JudgeRun.{has_space};
 
-/// How many bytes a record has to leave, so that the last record of each move finds room.
-const LAST_RECORDS: u64 = 10_240;
+use journal_rec::LAST_RECORDS;
 
 /// The length of a journal, and its limit, in bytes.
 #[derive(Clone, Copy, PartialEq, Eq)]

@@ -23,7 +23,7 @@ use crate::subjects::subject_name;
 use crate::task::{Refusal, Task};
 use claims::{Claims, TakeFault};
 use feas::{CheckFault, check};
-use lab_base::{Memory, Name, Tags};
+use lab_base::{Memory, Name, TEXT_LIMIT, Tags};
 use phys_lab::Lab;
 use script_text::Reply;
 use solution_text::{print_solution, read_solution};
@@ -156,7 +156,7 @@ pub(crate) fn judge_swapin_with(
     exp: Name,
     text: &[u8],
 ) -> Result<Task, Refusal>
-    requires { length text.now < 4294967295 }
+    requires { length text.now < TEXT_LIMIT }
     ensures judged { Gives (judged_swapin_with present.state.now.state (has_open present.swaps.now exp) exp text.now) result }
     ensures can { IfOk result (CanDo present.state.now.state) }
 {

@@ -10,14 +10,12 @@ ghost use Rattle.lab_top.specs.Pieces.{Later, closes_if};
 
 use crate::tellers::Teller;
 use cost_rule::StepRule;
+use journal_rec::MAX_JOURNAL;
 use lab_core::{Controller, CoreFault, OpenFault};
 use plant::{Drill, DrillFault, Plant, Side};
 use plant_tables::Tables;
 use script_text::{Command, Reply};
 use std::alloc::Global;
-
-/// How long the journal may be, on each side.
-const LIMIT: u64 = 4_294_967_296;
 
 /// Why a command has no reply, or not a whole one.
 #[derive(Clone, Copy, Debug, PartialEq, Eq)]
@@ -112,7 +110,7 @@ fn obey<P: Tables>(
 {
     match controller.take() {
         Some(opened) => obey_open(opened, controller, command, rule, plant),
-        None => match Controller::open(alloc, LIMIT, plant) {
+        None => match Controller::open(alloc, MAX_JOURNAL, plant) {
             Ok(opened) => obey_open(opened, controller, command, rule, plant),
             Err(fault) => unopened(fault, plant),
         },

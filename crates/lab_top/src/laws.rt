@@ -1,5 +1,5 @@
 // Laws of a run.
-ghost use Rattle.std.specs.Prelude.{◌≡◌, ◌≢◌, ◌⊎◌, ◌↔◌, ◌≤◌, ◌^◌, count_by, ℕ, Bool, false, true, List, [], ◌∷◌, ◌++◌, length, Option, Some, None};
+ghost use Rattle.std.specs.Prelude.{◌≡◌, ◌≢◌, ◌⊎◌, ◌↔◌, ◌≤◌, count_by, ℕ, Bool, false, true, List, [], ◌∷◌, ◌++◌, length, Option, Some, None};
 ghost use Rattle.lab_base.specs.Counts.{Rose};
 ghost use Rattle.lab_base.specs.Lists.{AllDiffer, Has};
 ghost use Rattle.plant.specs.Disks.{ArePossible, disk};
@@ -37,6 +37,9 @@ ghost use Rattle.lab_words.specs.Words.{Choices};
 ghost use Rattle.lab_top.specs.declared.status.Status.{Status};
 ghost use Rattle.lab_top.specs.declared.status.Status.TheVariants.{Memory, JournalBad};
 
+use journal_rec::MAX_JOURNAL;
+use swap_mgr::MAX_OPEN;
+
 /// A command that is no drill finds the session closed and the sides to be no journal, and no call of its opening fails or stops.
 /// Then the run ends with `JournalBad` at that very place, or memory is wanting, whatever the trace was before.
 pub fn bad_journals()
@@ -44,7 +47,7 @@ pub fn bad_journals()
         (at : ℕ)
         → Ran terms choices old new status (before ++ b ∷ after) → old.plant.told ≡ Some t → drill_of b.piece.command ≡ None → b.piece.from ≡ Closed
         → has_miss b.piece.opening ≡ false → has_restart b.piece.opening ≡ false
-        → IsNoJournal (disk A (trace_after t.trace before)).reads (disk B (trace_after t.trace before)).reads (2 ^ 32) side at
+        → IsNoJournal (disk A (trace_after t.trace before)).reads (disk B (trace_after t.trace before)).reads MAX_JOURNAL side at
         → (status ≡ Memory) ⊎ (status ≡ JournalBad side at) }
 {}
 
@@ -155,7 +158,7 @@ pub fn turns()
         → SameFor (lab_in s.lab) e (world_of (trace_after t.trace before)) (world_of (trace_after t.trace (before ++ b ∷ []))) }
     ensures few { (terms : Terms) (choices : Option Choices) (old new : Outside) (status : Status) (before after : List Begun) (t : Told)
         → Ran terms choices old new status (before ++ after) → old.plant.told ≡ Some t
-        → (length (opens_of (session_after Closed before)) ≤ 16) × AllDiffer (busy_of (session_after Closed before)) }
+        → (length (opens_of (session_after Closed before)) ≤ MAX_OPEN) × AllDiffer (busy_of (session_after Closed before)) }
     ensures marked { (terms : Terms) (choices : Option Choices) (old new : Outside) (status : Status) (before after : List Begun) (swap : OpenSwap)
         → Ran terms choices old new status (before ++ after) → Has (opens_of (session_after Closed before)) swap
         → (front : List Begun) × (b : Begun) × (rest : List Begun) × (before ≡ front ++ b ∷ rest) × (b.piece.faults.devices ≡ swap.devices) }

@@ -1,4 +1,4 @@
-ghost use Rattle.std.specs.Prelude.{◌≡◌, ◌≤◌, ◌^◌, ℕ, List, None, IfSome, is_some, true};
+ghost use Rattle.std.specs.Prelude.{◌≡◌, ◌≤◌, ℕ, List, None, IfSome, is_some, true};
 ghost use Rattle.lab_base.specs.Counts.{Rose};
 ghost use Rattle.plant.specs.Disks.{disk};
 ghost use Rattle.plant.specs.declared.step.Side.{Side as AnySide};
@@ -13,6 +13,7 @@ ghost use Rattle.lab_words.specs.Words.{choices_of};
 
 use crate::session::run_under;
 use crate::status::Status;
+use journal_rec::MAX_JOURNAL;
 use lab_io::{Sink, Source};
 use lab_words::{PlaceFault, read_words};
 use plant_tables::Tables;
@@ -33,7 +34,7 @@ pub fn labctl<S: Source, K: Sink, P: Tables>(
         (record { left = S.left source.old; plant = P.seen plant.old; written = K.written sink.old })
         (record { left = S.left source.new; plant = P.seen plant.new; written = K.written sink.new }) result made }
     ensures bad { (side : AnySide) (at : ℕ) → result ≡ Status.JournalBad side at
-        → IfSome (P.seen plant.new).told (λ t. IsNoJournal (disk A t.trace).reads (disk B t.trace).reads (2 ^ 32) side at) }
+        → IfSome (P.seen plant.new).told (λ t. IsNoJournal (disk A t.trace).reads (disk B t.trace).reads MAX_JOURNAL side at) }
     ensures never_bad { (side : AnySide) (at : ℕ) → result ≡ Status.JournalBad side at → IfSome (P.seen plant.old).told (λ t. IsSound the_texts t.trace → ⊥) }
     ensures unread { choices_of words.now ≡ None → source.new ≡ source.old }
     ensures unread_where_generated { is_some (number_of (choices_of words.now)) ≡ true → source.new ≡ source.old }

@@ -1,5 +1,5 @@
 // Whether an expansion keeps the limits.
-ghost use Rattle.std.specs.Prelude.{◌≡◌, ◌≤◌, ◌&&◌, nat_le, length, sum_by};
+ghost use Rattle.std.specs.Prelude.{◌≡◌, ◌≤◌, ◌&&◌, ◌*◌, ◌+◌, nat_le, length, sum_by};
 ghost use Rattle.virt_topo.specs.Ends.{end_nodes};
 ghost use Rattle.virt_topo.specs.Soundness.{keeps_limits};
 ghost use Rattle.net_plan.specs.Expansion.{wired};

@@ -1,5 +1,5 @@
 // The names of the parts of a link or LAN.
-ghost use Rattle.std.specs.Prelude.{◌≡◌, ◌<◌, ◌≤◌, ◌+◌, ◌++◌, IfOk, length, true, decimal};
+ghost use Rattle.std.specs.Prelude.{◌≡◌, ◌<◌, ◌≤◌, ◌+◌, ◌++◌, ◌^◌, ◌-◌, IfOk, length, true, decimal};
 ghost use Rattle.std.specs.List.{list_all};
 ghost use Rattle.lab_base.specs.Names.{is_name, is_name_byte};
 

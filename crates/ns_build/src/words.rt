@@ -1,6 +1,6 @@
 //! Words of objects, and lists.
 
-ghost use Rattle.std.specs.Prelude.{◌≡◌, ◌<◌, ◌++◌, IfOk, IfSome, decimal};
+ghost use Rattle.std.specs.Prelude.{◌≡◌, ◌<◌, ◌++◌, ◌-◌, IfOk, IfSome, decimal};
 ghost use Rattle.std.specs.List.{slice_split};
 ghost use Rattle.lab_base.specs.Texts.{views};
 ghost use Rattle.lab_base.specs.Numbers.{number_of};

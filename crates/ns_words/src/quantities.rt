@@ -1,6 +1,6 @@
 //! Bandwidths, delays, losses and times.
 
-ghost use Rattle.std.specs.Prelude.{◌≡◌, ◌<◌, ◌≤◌, ◌↔◌, ℕ, IfSome, Some};
+ghost use Rattle.std.specs.Prelude.{◌≡◌, ◌<◌, ◌≤◌, ◌↔◌, ◌^◌, ℕ, IfSome, Some};
 ghost use Rattle.std.specs.Option.{ForSome};
 ghost use Rattle.ns_words.specs.Quantities.{IsBandwidth, IsDelay, IsLoss, IsTime};
 ghost use Rattle.ns_words.specs.Values.{bandwidth_of, delay_of, loss_of, time_of};

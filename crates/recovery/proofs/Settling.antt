@@ -23,7 +23,7 @@ use Rattle.swap_turns.specs.Beginning.{settling}
 use Rattle.swap_turns.specs.Causes.{IsLater}
 use Rattle.swap_turns.specs.declared.loops.Finished.{Finished}
 use Rattle.swap_turns.specs.declared.loops.Finished.TheVariants.{Ended, Stuck, Stopped}
-use Rattle.swap_turns.specs.Finishing.{Onward, along, back, Finishes, FinishGoesOn, FinishLeaves, IsFinishCaused, HasFinished, IsOnWay, IsStop, Tells}
+use Rattle.swap_turns.specs.Finishing.{end_of, Onward, along, back, Finishes, FinishGoesOn, FinishLeaves, IsFinishCaused, HasFinished, IsOnWay, IsStop, Tells}
 use Rattle.swap_turns.specs.Legs.{Forth, Settling, commits, last_move, last_move_by, inside_by, why_of}
 use Rattle.swap_turns.specs.Running.{OpenSwap, AtWork}
 use Rattle.swap_turns.specs.Settling.{LeavesLab, OneLeaves, HasSettledOne}
@@ -108,7 +108,7 @@ module _ (t : Texts) (s : LabState) (exp : List ℕ) (p : Swap) (named : p.name 
         (subst (λ q. moved s (last_move q Settling) ≡ Some x) at.0 g.turn.0.1.moves)
 
   -- its last record can follow
-  pub can_end_by : Sane s → Moves p s → (end : Finished) → HasFinished t s (settling p) before now k (λ at outcome. Tells end at outcome) → CanEndBy s exp end
+  pub can_end_by : Sane s → Moves p s → (end : Finished) → HasFinished t s (settling p) before now k (λ at outcome. Tells end at outcome) → CanEndBy s exp (end_of end)
   can_end_by sane moves (Ended ended) f =
       let can = can_end p Settling moves.is_swap tt in
       (state_by p s moves.exp (is_none p.new), as_ending s p.name exp (is_none p.new) ended.committed _ named (committed_is ended f) (gives_by (is_none p.new) p s sane moves can))
@@ -154,7 +154,7 @@ module _ (t : Texts) (s : LabState) (exp : List ℕ) (p : Swap) (named : p.name 
         )
 
     -- IT IS OVER, for the lab after it
-    pub over_as : (end : Finished) → HasFinished t s (settling p) before now k (λ at outcome. Tells end at outcome) → EndsBy s exp end after → IsFinishedAs t s p before now k after end
+    pub over_as : (end : Finished) → HasFinished t s (settling p) before now k (λ at outcome. Tells end at outcome) → EndsBy s exp (end_of end) after → IsFinishedAs t s p before now k after end
     over_as (Ended ended) f ends = by_ended ended f ends
     over_as (Stuck (whats.Device name)) f ends = let told = f.is_told in (turning.Stuck told.0, (told.0, told.1, refl), by_stuck _ f told.0 told.2 ends)
     over_as (Stuck (whats.Late node)) f ends = let told = f.is_told in (turning.Stuck told.0, (told.0, told.1, refl), by_stuck _ f told.0 told.2 ends)

@@ -9,6 +9,7 @@ use Rattle.lab_model.specs.Courses.{Trouble}
 use Rattle.lab_model.specs.Holding.{Suits}
 use Rattle.records_model.specs.Labs.{LabState, Texts, moved}
 use Rattle.swap_txn.specs.Troubles.{what_of}
+use Rattle.swap_txn.specs.declared.ended.Ended.{Ended as Over}
 use Rattle.swap_turns.specs.Beginning.{settling}
 use Rattle.swap_turns.specs.Finishing.{Tells}
 use Rattle.swap_turns.specs.Legs.{Settling, commits, inside_by}
@@ -51,14 +52,14 @@ SuitsIf lab (Some m) = Suits lab m
 abbrev pub IsFinishedAs : Texts → LabState → Swap → Seen → Seen → Journal → LabState → Finished → Type 0
 IsFinishedAs t s p before now k after end = (outcome : Outcome) × Tells end (settling p) outcome × HasSettledOne t s p before now k outcome after
 
--- its last record is durable
-abbrev pub EndsBy : LabState → List ℕ → Finished → LabState → Type 0
-EndsBy s exp (finished.Ended ended) after = moved s (ending exp ended.committed) ≡ Some after
-EndsBy s exp end after = after ≡ s
+-- the end of the experiment's move can follow, and follows, where its swap came to its last record
+abbrev pub CanEndBy : LabState → List ℕ → Option Over → Type 0
+CanEndBy s exp (Some over) = CanEnd s exp over.committed
+CanEndBy s exp None = Unit {0}
 
-abbrev pub CanEndBy : LabState → List ℕ → Finished → Type 0
-CanEndBy s exp (finished.Ended ended) = CanEnd s exp ended.committed
-CanEndBy s exp end = Unit {0}
+abbrev pub EndsBy : LabState → List ℕ → Option Over → LabState → Type 0
+EndsBy s exp (Some over) after = moved s (ending exp over.committed) ≡ Some after
+EndsBy s exp None after = after ≡ s
 
 -- the answer of the end
 abbrev pub side_of : Bool → One

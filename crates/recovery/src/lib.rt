@@ -18,7 +18,7 @@ ghost use Rattle.recovery.specs.Settle.{SettledAll};
 
 pub use all::{Settled, settle};
 pub use fault::SettleFault;
-pub use one::{One, settle_one};
+pub use one::{One, end_move, settle_one};
 
 /// Where none is stuck, no experiment but a busy one moves afterwards.
 pub fn all_rest()

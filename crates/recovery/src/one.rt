@@ -21,7 +21,7 @@ use plant::Plant;
 use std::alloc::Global;
 use swap_plan::{Ops, plan_change, plan_in, plan_out};
 use swap_turns::{Finished, finish};
-use swap_txn::Live;
+use swap_txn::{Ended, Live};
 use virt_topo::{Mapped, Phase};
 
 /// The end of one experiment's settling.
@@ -74,14 +74,14 @@ fn again(alloc: Global, state: &LabState, exp: Name) -> Result<Live, Memory>
     Live::again(alloc, exp, ops, new.is_none())
 }
 
-/// Ends the experiment's move, where its last record is durable.
-fn end_move(state: &mut LabState, exp: Name, finished: &Finished)
-    requires { CanEndBy state.old.state exp finished.now }
-    ensures { EndsBy state.old.state exp finished.now state.new.state }
+/// Ends an experiment's move by the end of its swap. Where the swap has none, the lab stays as it is.
+pub fn end_move(state: &mut LabState, exp: Name, end: Option<Ended>)
+    requires { CanEndBy state.old.state exp end }
+    ensures { EndsBy state.old.state exp end state.new.state }
 {
-    match finished {
-        Finished::Ended(ended) => state.end_move(exp, ended.committed),
-        Finished::Stuck(_) | Finished::Stopped => {}
+    match end {
+        Some(ended) => state.end_move(exp, ended.committed),
+        None => {}
     }
 }
 
@@ -104,7 +104,7 @@ fn turned_to_end<P: Plant>(
 {
     let live = again(alloc, state, exp)?;
     let finished = finish(live, journal, plant);
-    end_move(state, exp, &finished);
+    end_move(state, exp, finished.ended());
     Ok(finished)
 }
 

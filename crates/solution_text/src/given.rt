@@ -1,5 +1,5 @@
 // // The places and plugs that the lines of a solution text give.
-ghost use Rattle.std.specs.Prelude.{◌≡◌, ◌<◌, is_some, slice_index_or, replicate, length, None, IfSome, IfOk};
+ghost use Rattle.std.specs.Prelude.{◌≡◌, ◌<◌, ◌^◌, is_some, slice_index_or, replicate, length, None, IfSome, IfOk};
 ghost use Rattle.line_text.specs.Refusals.{Takes};
 ghost use Rattle.lab_model.specs.Shapes.{has_name};
 ghost use Rattle.solution_text.specs.Solutions.{all_given, is_given, place_given, plug_given, typed, placed_on, plugged_in, with_place, with_plug};

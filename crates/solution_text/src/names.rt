@@ -1,5 +1,5 @@
 // // Tables of the names in a solution text.
-ghost use Rattle.std.specs.Prelude.{◌≡◌, ◌<◌, ℕ, List, map, position, length, None, IfOk, IfSome};
+ghost use Rattle.std.specs.Prelude.{◌≡◌, ◌<◌, ◌^◌, ℕ, List, map, position, length, None, IfOk, IfSome};
 ghost use Rattle.lab_base.specs.Names.{same_name};
 ghost use Rattle.indexmap.specs.IndexMap.{get};
 ghost use Rattle.virt_topo.specs.Soundness.{end_of};

@@ -24,19 +24,20 @@ use Rattle.swap_txn.specs.Facts.{exp_of}
 use Rattle.swap_txn.specs.States.{Plans, View}
 use Rattle.plant.specs.Seen.{Seen}
 use Rattle.swap_txn.specs.Turns.{Turns, Begins, WrittenBy, view_of}
+use Rattle.swap_turns.specs.declared.left.Left.{Left}
 use Rattle.swap_turns.specs.Swaps.{Swap}
 use Rattle.swap_turns.specs.Beginning.{HasBegun, opened}
 use Rattle.swap_turns.specs.Finishing.{IsOver, Finishes, FinishLeaves, HasFinished, IsOnWay}
 use Rattle.swap_turns.specs.Legs.{leg_view}
+use Rattle.swap_turns.specs.OneTurn.{CanTurn, IsLeftBy, open_in}
 use Rattle.swap_turns.specs.Running.{OpenSwap, IsOpen, Working}
 use Rattle.swap_turns.specs.Turning.{Outcome, More, TurnsBack, Ended, Stuck, Unwritten, Stopped, TurnSteps, StillWorking, open_after, state_after, slot}
 use Rattle.swap_turns.proofs.Finishing.{way_starts}
 use Rattle.swap_turns.proofs.Together.{gone, one_more, one_of_them}
 use Rattle.swap_mgr.specs.declared.progress.Progress.{Progress}
-use Rattle.swap_mgr.specs.declared.turns.Turn.{Turn}
 use Rattle.swap_mgr.specs.Managing.{Holds, IsPlain, IsManaging, IsProgress, IfGoesOn, HasTurned, HasTurnedToEnd, HasOpened}
 use Rattle.swap_mgr.specs.Open.{HasOpen, IsWithout, IsWith, PutBy}
-use Rattle.swap_mgr.specs.Turns.{CanTurn, IsTurnOf}
+use Rattle.swap_mgr.specs.Turns.{progress_of}
 use Rattle.swap_mgr.proofs.Telling.{IsNext, retold, next_of}
 
 abbrev pub Slot : Type 0
@@ -167,7 +168,7 @@ module _ (t : Texts) (s : LabState) (opens : List Slot) (exp : List ℕ) (was no
   still_as result steps Stopped h = tt
 
   -- A TURN of one of them
-  pub turned_one : (y : Turned Live) (result : Turn) → Turns x was now j k y → IsTurnOf y result → PutBy mid result.next new → HasTurned t s opens exp was now k result.progress new
+  pub turned_one : (y : Turned Live) (result : Left) → Turns x was now j k y → IsLeftBy y result → PutBy mid (open_in result) new → HasTurned t s opens exp was now k (progress_of result) new
   turned_one y result turns is put =
       let split_work = as_split t was.told j s opens working old holds x mid w its.0 at.0 at.1 at.2 in
       let a = one_of_them t s its.0 x at.0 at.1 was now j k split_work y turns in
@@ -188,8 +189,8 @@ module _ (t : Texts) (s : LabState) (opens : List Slot) (exp : List ℕ) (was no
         later = a.turn.later;
         cause = a.turn.cause;
         next = slot (open_after its.0 a.turn.steps a.turn.outcome) (state_after y);
-        next_is = next_of (slot (open_after its.0 a.turn.steps a.turn.outcome) (state_after y)) (open_after its.0 a.turn.steps a.turn.outcome) result.next r.next;
-        holds = next_holds mid new at.0 at.1 (slot (open_after its.0 a.turn.steps a.turn.outcome) (state_after y)) (open_after its.0 a.turn.steps a.turn.outcome) result.next (still_plain its.0 a.turn.steps a.turn.outcome (holds.plain (its.0, x) its.1)) (mid_holds t was.told j s opens working old holds x mid w its.0 at.0 at.1 at.2) r.next put;
+        next_is = next_of (slot (open_after its.0 a.turn.steps a.turn.outcome) (state_after y)) (open_after its.0 a.turn.steps a.turn.outcome) (open_in result) r.next;
+        holds = next_holds mid new at.0 at.1 (slot (open_after its.0 a.turn.steps a.turn.outcome) (state_after y)) (open_after its.0 a.turn.steps a.turn.outcome) (open_in result) (still_plain its.0 a.turn.steps a.turn.outcome (holds.plain (its.0, x) its.1)) (mid_holds t was.told j s opens working old holds x mid w its.0 at.0 at.1 at.2) r.next put;
         all = still_as y a.turn.steps a.turn.outcome a.all;
       }
 

@@ -20,8 +20,8 @@ use Rattle.swap_turns.specs.Finishing.{Finishes, HasFinished}
 use Rattle.swap_turns.specs.Legs.{Leg, Settling}
 use Rattle.swap_turns.specs.Running.{OpenSwap, Working}
 use Rattle.swap_turns.specs.Turning.{Outcome, More, TurnsBack, Unwritten, Stopped, TurnSteps, Leaves, EndsAs, IsStuckAs, IsOutcomeCaused, open_after}
-use Rattle.swap_mgr.specs.declared.progress.OpenSwap.{OpenSwap as Refusal}
-use Rattle.swap_mgr.specs.declared.progress.OpenSwap.TheVariants as refusals
+use Rattle.swap_mgr.specs.declared.progress.NotOpened.{NotOpened}
+use Rattle.swap_mgr.specs.declared.progress.NotOpened.TheVariants as unopened
 use Rattle.swap_mgr.specs.declared.progress.Progress.{Progress}
 use Rattle.swap_mgr.specs.declared.progress.Progress.TheVariants as progress
 use Rattle.swap_mgr.specs.Open.{HasOpen}
@@ -106,27 +106,27 @@ pub record HasTurnedToEnd (t : Texts) (s : LabState) (opens : List (OpenSwap × 
   pub all : IfGoesOn finished.outcome ((after : LabState) × Finishes s swap finished.steps finished.outcome after × Working t now.told k after (before ++ behind))
 
 -- WHY A SWAP IS NOT OPENED, each exactly where it holds
-abbrev pub IsAnsweredBy : List Live → List ℕ → Result (Unit {0}) Refusal → Type 0
-IsAnsweredBy old exp (Err (refusals.Busy name)) = (name ≡ exp) × HasOpen old exp
-IsAnsweredBy old exp (Err (refusals.TooManyOpen n)) = (n ≡ 16) × (n ≤ length old) × (HasOpen old exp → ⊥)
+abbrev pub IsAnsweredBy : List Live → List ℕ → Result (Unit {0}) NotOpened → Type 0
+IsAnsweredBy old exp (Err (unopened.Busy name)) = (name ≡ exp) × HasOpen old exp
+IsAnsweredBy old exp (Err (unopened.TooManyOpen n)) = (n ≡ 16) × (n ≤ length old) × (HasOpen old exp → ⊥)
 IsAnsweredBy old exp result = (length old < 16) × (HasOpen old exp → ⊥)
 
 -- these refusals send nothing
-abbrev pub IfNothingSent : Result (Unit {0}) Refusal → Type 0 → Type 0
-IfNothingSent (Err (refusals.Busy name)) P = P
-IfNothingSent (Err (refusals.TooManyOpen n)) P = P
+abbrev pub IfNothingSent : Result (Unit {0}) NotOpened → Type 0 → Type 0
+IfNothingSent (Err (unopened.Busy name)) P = P
+IfNothingSent (Err (unopened.TooManyOpen n)) P = P
 IfNothingSent result P = Unit {0}
 
 -- and after the others Begin was sent
-abbrev pub IfSent : Result (Unit {0}) Refusal → Type 0 → Type 0
+abbrev pub IfSent : Result (Unit {0}) NotOpened → Type 0 → Type 0
 IfSent (Ok done) P = P
-IfSent (Err (refusals.Stuck what)) P = P
-IfSent (Err refusals.Stopped) P = P
+IfSent (Err (unopened.Stuck what)) P = P
+IfSent (Err unopened.Stopped) P = P
 IfSent result P = Unit {0}
 
 -- the plant stopped
-abbrev pub IsStopOpening : Result (Unit {0}) Refusal → Type 0
-IsStopOpening (Err refusals.Stopped) = Unit {0}
+abbrev pub IsStopOpening : Result (Unit {0}) NotOpened → Type 0
+IsStopOpening (Err unopened.Stopped) = Unit {0}
 IsStopOpening result = ⊥
 
 -- A SWAP THAT WAS OPENED is one more
@@ -137,10 +137,10 @@ pub record HasOpened (t : Texts) (opens : List (OpenSwap × Live)) (p : Swap) (s
   pub all : Working t now.told k u (opens ++ (opened p, state) ∷ [])
 
 -- AFTER BEGIN WAS SENT
-abbrev pub IsAfterOpening : Texts → List (OpenSwap × Live) → Swap → LabState → LabState → Record → Move → Seen → Seen → Journal → Journal → List Live → Result (Unit {0}) Refusal → Type 0
+abbrev pub IsAfterOpening : Texts → List (OpenSwap × Live) → Swap → LabState → LabState → Record → Move → Seen → Seen → Journal → Journal → List Live → Result (Unit {0}) NotOpened → Type 0
 IsAfterOpening t opens p s u begin move was now j k new (Ok done) = HasOpened t opens p s u begin move was now j k new
-IsAfterOpening t opens p s u begin move was now j k new (Err (refusals.Stuck what)) = (what ≡ whats.Journal) × HasNotBegun t s begin move missed Unwritten was now
-IsAfterOpening t opens p s u begin move was now j k new (Err refusals.Stopped) = HasNotBegun t s begin move nothing Stopped was now
+IsAfterOpening t opens p s u begin move was now j k new (Err (unopened.Stuck what)) = (what ≡ whats.Journal) × HasNotBegun t s begin move missed Unwritten was now
+IsAfterOpening t opens p s u begin move was now j k new (Err unopened.Stopped) = HasNotBegun t s begin move nothing Stopped was now
 IsAfterOpening t opens p s u begin move was now j k new result = Unit {0}
 
 -- an open swap of that name is among them

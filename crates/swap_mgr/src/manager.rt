@@ -15,21 +15,22 @@ ghost use Rattle.swap_txn.specs.Facts.{exp_of};
 ghost use Rattle.swap_txn.specs.Steps.{Stands};
 ghost use Rattle.swap_turns.specs.Swaps.{Swap, Moves};
 ghost use Rattle.swap_turns.specs.Beginning.{BeginsOf, MayBegin, IsPlanOf};
-ghost use Rattle.swap_turns.specs.Running.{OpenSwap as AnyOpen, Working};
+ghost use Rattle.swap_turns.specs.OneTurn.{open_in};
+ghost use Rattle.swap_turns.specs.Running.{OpenSwap, Working};
 ghost use Rattle.swap_mgr.specs.Managing.{Holds, IsManaging, GoesOnBy, HasTurned, HasTurnedToEnd};
 ghost use Rattle.swap_mgr.specs.Managing.{IsAnsweredBy, IfNothingSent, IfSent, IsStopOpening, IsAfterOpening};
 ghost use Rattle.swap_mgr.specs.Open.{AreNames, AreWithin, HasOpen, IsWith, IsWithout, PutBy, states};
 ghost use Rattle.swap_mgr.specs.Turns.{IsStop};
 
-use crate::turns::{Turn, one_turn, progress_of};
-use crate::{NotOpen, OpenSwap, Progress};
+use crate::turns::{progress_at_end, progress_of};
+use crate::{NotOpen, NotOpened, Progress};
 use journal_disk::Journal;
 use lab_base::{Memory, Name};
 use plant::Plant;
 use slab::Slab;
 use std::alloc::Global;
 use std::marker::Model;
-use swap_turns::finish;
+use swap_turns::{Left, finish, one_turn};
 use swap_txn::{Live, Planned, Turned};
 
 /// The most open swaps.
@@ -135,13 +136,15 @@ impl Manager {
         self.swaps.insert_reserved(live);
     }
 
-    fn put_back(&mut self, next: Option<Live>)
+    /// Puts a swap back that is open still.
+    fn put_back(&mut self, left: Left)
         requires room { length self.old < MAX_OPEN }
-        requires apart { IfSome next (λ x. (y : State) → Has self.old y → exp_of y ≢ exp_of x) }
-        ensures { PutBy self.old next self.new }
+        requires apart { IfSome (open_in left) (λ x. (y : State) → Has self.old y → exp_of y ≢ exp_of x) }
+        ensures { PutBy self.old (open_in left) self.new }
     {
-        if let Some(live) = next {
-            self.put(live);
+        match left {
+            Left::Open(live, _trouble) => self.put(live),
+            Left::Over(_) | Left::Stuck(_) | Left::Stopped => {}
         }
     }
 
@@ -151,11 +154,11 @@ impl Manager {
         planned: Planned,
         journal: &mut Journal,
         plant: &mut P,
-    ) -> Result<(), OpenSwap>
+    ) -> Result<(), NotOpened>
         requires stands { Stands (P.seen plant.old).told journal.old }
         requires fits { length_of journal.old + length planned.begin ≤ limit_of journal.old }
         ensures answered { IsAnsweredBy self.old planned.forth.exp result }
-        ensures begun { (t : Texts) (s u : LabState) (opens : List (AnyOpen × State)) (p : Swap) (begin : Record) (move : Move)
+        ensures begun { (t : Texts) (s u : LabState) (opens : List (OpenSwap × State)) (p : Swap) (begin : Record) (move : Move)
             → Working t (P.seen plant.old).told journal.old s opens → Holds self.old opens
             → IsBody planned.begin begin → MayBegin t s u begin move journal.old → BeginsOf p.name move → Moves p u
             → IsPlanOf p (lab_in u.lab) planned.forth → IsAfterOpening t opens p s u begin move
@@ -163,25 +166,25 @@ impl Manager {
         ensures refused { OnErr result (self.new ≡ self.old) }
         ensures nothing { IfNothingSent result ((plant.new ≡ plant.old) × (journal.new ≡ journal.old)) }
         ensures stopped { IfSent result (IsStopOpening result ↔ IsTrue (P.seen plant.new).stopped) }
-        ensures stuck { (what : AnyWhat) → result ≡ Err (OpenSwap.Stuck what)
+        ensures stuck { (what : AnyWhat) → result ≡ Err (NotOpened.Stuck what)
             → (what ≡ whats.Journal) × Rose (P.seen plant.old).faults.disk (P.seen plant.new).faults.disk }
         ensures held { OnOk result ((state : State) × IsWith self.old state self.new × (exp_of state ≡ planned.forth.exp)) }
         ensures limit { limit_of journal.new ≡ limit_of journal.old }
     {
         let exp = planned.exp();
         if self.is_open(exp) {
-            return Err(OpenSwap::Busy(exp));
+            return Err(NotOpened::Busy(exp));
         }
         if self.count() >= MAX_OPEN {
-            return Err(OpenSwap::TooManyOpen(MAX_OPEN));
+            return Err(NotOpened::TooManyOpen(MAX_OPEN));
         }
         match planned.turn(journal, plant) {
             Turned::Next(live) => {
                 self.put(live);
                 Ok(())
             }
-            Turned::Stuck(_planned, what) => Err(OpenSwap::Stuck(what)),
-            Turned::Stopped => Err(OpenSwap::Stopped),
+            Turned::Stuck(_planned, what) => Err(NotOpened::Stuck(what)),
+            Turned::Stopped => Err(NotOpened::Stopped),
             Turned::Same(_) | Turned::Trouble(_, _) => unreachable!(),
         }
     }
@@ -198,7 +201,7 @@ impl Manager {
         ensures not_open { OnErr result (HasOpen self.old exp → ⊥) }
         ensures same { OnErr result (self.new ≡ self.old) }
         ensures nothing { OnErr result ((plant.new ≡ plant.old) × (journal.new ≡ journal.old)) }
-        ensures turned { IfOk result (λ progress. (t : Texts) (s : LabState) (opens : List (AnyOpen × State))
+        ensures turned { IfOk result (λ progress. (t : Texts) (s : LabState) (opens : List (OpenSwap × State))
             → Working t (P.seen plant.old).told journal.old s opens → Holds self.old opens
             → HasTurned t s opens exp (P.seen plant.old) (P.seen plant.new) journal.new progress self.new) }
         ensures goes_on { IfOk result (λ progress. GoesOnBy progress (IsManaging (P.seen plant.new).told journal.new self.new)) }
@@ -208,8 +211,9 @@ impl Manager {
         let Some(live) = self.take(exp) else {
             return Err(NotOpen);
         };
-        let Turn { next, progress } = one_turn(live, journal, plant);
-        self.put_back(next);
+        let left = one_turn(live, journal, plant);
+        let progress = progress_of(&left);
+        self.put_back(left);
         Ok(progress)
     }
 
@@ -225,7 +229,7 @@ impl Manager {
         ensures not_open { OnErr result (HasOpen self.old exp → ⊥) }
         ensures same { OnErr result (self.new ≡ self.old) }
         ensures nothing { OnErr result ((plant.new ≡ plant.old) × (journal.new ≡ journal.old)) }
-        ensures finished { IfOk result (λ progress. (t : Texts) (s : LabState) (opens : List (AnyOpen × State))
+        ensures finished { IfOk result (λ progress. (t : Texts) (s : LabState) (opens : List (OpenSwap × State))
             → Working t (P.seen plant.old).told journal.old s opens → Holds self.old opens
             → HasTurnedToEnd t s opens exp (P.seen plant.old) (P.seen plant.new) journal.new progress self.new) }
         ensures goes_on { IfOk result (λ progress. GoesOnBy progress (IsManaging (P.seen plant.new).told journal.new self.new)) }
@@ -235,6 +239,6 @@ impl Manager {
         let Some(live) = self.take(exp) else {
             return Err(NotOpen);
         };
-        Ok(progress_of(finish(live, journal, plant)))
+        Ok(progress_at_end(finish(live, journal, plant)))
     }
 }

@@ -1,3 +1,5 @@
+ghost use Rattle.std.specs.Prelude.{◌≡◌};
+
 use lab_base::{Name, What};
 use swap_txn::Ended;
 
@@ -20,9 +22,23 @@ pub enum Progress {
     Stopped,
 }
 
+impl Progress {
+    ghost use Rattle.swap_mgr.specs.Turns.{end_of};
+
+    /// The end of the swap, if its last record is durable.
+    pub fn ended(&self) -> Option<Ended>
+        ensures { result ≡ end_of self.now }
+    {
+        match self {
+            Progress::Ended(ended) => Some(*ended),
+            Progress::More | Progress::Trouble(_) | Progress::Stuck(_) | Progress::Stopped => None,
+        }
+    }
+}
+
 /// The reason why a swap was not opened.
 #[derive(Clone, Copy, PartialEq, Eq)]
-pub enum OpenSwap {
+pub enum NotOpened {
     /// The experiment has an open swap.
     Busy(Name),
     /// So many swaps are open that there is no room for another.

@@ -15,7 +15,7 @@ use line_text::{
     short_in, weight_in,
 };
 use std::alloc::Global;
-use virt_topo::{Class, MAX_KBPS, MAX_SEGMENT_ENDS, MAX_WEIGHT};
+use virt_topo::{Class, MAX_KBPS, MAX_MICROS, MAX_PPM, MAX_SEGMENT_ENDS, MAX_WEIGHT};
 
 /// The name of an end's virtual node, and its address.
 pub(crate) type End = (Name, Option<u32>);

@@ -1,5 +1,7 @@
+use Rattle.std.proofs.Common.{sym, subst}
 use Rattle.lab_state.specs.Texts.{the_texts}
 use Rattle.swap_turns.specs.Beginning.{settling}
+use Rattle.recovery.specs.One.{CanEndBy, EndsBy}
 use Rattle.recovery.proofs.Settling.{way_of, can_end_by, over_as}
 use Rattle.recovery.proofs.one.turned_to_end.Goals as goal
 
@@ -19,10 +21,11 @@ finish-finished-requires g c =
 pub end_move-requires : goal.end_move-requires
 end_move-requires g c =
     let m = c.requires.moves in
-    can_end_by the_texts c.args.state.now.state c.args.exp m.swap m.name _ _ c.finish-finished.new.journal c.requires.work.sane m.moves c.finish-finished.result
-    (c.finish-finished.ensures.ends the_texts c.args.state.now.state (settling m.swap) _ (way_of the_texts c.args.state.now.state _ c.args.journal.now m.swap _ c.requires.work m.moves (c.in_ok-live.ensures m.swap m.name m.moves)))
+    subst (λ end. CanEndBy c.args.state.now.state c.args.exp end) (sym c.ended.ensures)
+    (can_end_by the_texts c.args.state.now.state c.args.exp m.swap m.name _ _ c.finish-finished.new.journal c.requires.work.sane m.moves c.finish-finished.result
+    (c.finish-finished.ensures.ends the_texts c.args.state.now.state (settling m.swap) _ (way_of the_texts c.args.state.now.state _ c.args.journal.now m.swap _ c.requires.work m.moves (c.in_ok-live.ensures m.swap m.name m.moves))))
 
 pub returns-clause-over : goal.returns-clause-over
 returns-clause-over g c = λ p name moves.
     over_as the_texts c.args.state.now.state c.args.exp p name _ _ c.finish-finished.new.journal c.end_move.new.state.state c.finish-finished.result
-    (c.finish-finished.ensures.ends the_texts c.args.state.now.state (settling p) _ (way_of the_texts c.args.state.now.state _ c.args.journal.now p _ c.requires.work moves (c.in_ok-live.ensures p name moves))) c.end_move.ensures
+    (c.finish-finished.ensures.ends the_texts c.args.state.now.state (settling p) _ (way_of the_texts c.args.state.now.state _ c.args.journal.now p _ c.requires.work moves (c.in_ok-live.ensures p name moves))) (subst (λ end. EndsBy c.args.state.now.state c.args.exp end c.end_move.new.state.state) c.ended.ensures c.end_move.ensures)
