@@ -249,7 +249,7 @@ impl Controller {
                     state: &self.lab,
                     swaps: &self.swaps,
                 };
-                match judge(self.alloc, present, command, rule) {
+                match judge(self.alloc, &present, command, rule) {
                     Ok(task) => self.perform(task, plant),
                     Err(Refusal::Refused(reply)) => Ok(reply),
                     Err(Refusal::Memory) => Err(CoreFault::Memory),

@@ -83,7 +83,7 @@ impl Controller {
             state: &self.lab,
             swaps: &self.swaps,
         };
-        match judge_event(self.alloc, present, exp, text, event) {
+        match judge_event(self.alloc, &present, exp, text, event) {
             Ok(task) => self.perform(task, plant),
             Err(Refusal::Refused(reply)) => Ok(reply),
             Err(Refusal::Memory) => Err(CoreFault::Memory),
@@ -159,7 +159,7 @@ impl Controller {
             state: &self.lab,
             swaps: &self.swaps,
         };
-        match judge_play(self.alloc, present, exp, span, text) {
+        match judge_play(self.alloc, &present, exp, span, text) {
             Ok(play) => self.play_events(exp, &play.text, play.due.as_slice(), plant),
             Err(Refusal::Refused(reply)) => Ok(reply),
             Err(Refusal::Memory) => Err(CoreFault::Memory),

@@ -91,7 +91,7 @@ impl Controller {
             swaps: &self.swaps,
         };
         let space = space_of(&self.journal);
-        match judge_run(self.alloc, present, space, queue, run, rule) {
+        match judge_run(self.alloc, &present, space, queue, run, rule) {
             Ok(task) => self.perform(task, plant),
             Err(Refusal::Refused(reply)) => Ok(reply),
             Err(Refusal::Memory) => Err(CoreFault::Memory),

@@ -79,10 +79,13 @@ struct Over {
 
 /// Plans the commands of a change and prints what it leads to.
 fn over_to(alloc: Global, lab: &Lab, old: &Mapped, new: &Mapped) -> Result<Over, Memory>
+    // both sides can be planned
     requires old_fit { IsFit lab.now old.now }
     requires new_fit { IsFit lab.now new.now }
+    // the commands, and those of the undo
     ensures commands { IfOk result (λ over. over.ops.commands ≡ commands lab.now (Some old.now) (Some new.now)) }
     ensures undo { IfOk result (λ over. over.ops.undo ≡ undo lab.now (Some old.now) (Some new.now)) }
+    // the texts, which a record can hold
     ensures top { IfOk result (λ over. over.top ≡ canonical_top new.now.wiring) }
     ensures map { IfOk result (λ over. over.map ≡ canonical_solution lab.now new.now.wiring new.now.mapping) }
     ensures short_top { IfOk result (λ over. length over.top ≤ MAX_PAYLOAD_TEXT) }
@@ -129,16 +132,16 @@ fn plan_swap_over(
 /// Changes an experiment that is in there to a mapping of another wiring that keeps all rules.
 pub(crate) fn change_to(
     alloc: Global,
-    case: Case,
+    case: &Case,
     place: (&Mapping, &Tags),
     wiring: Wiring,
     mapping: Mapping,
 ) -> Result<Task, Memory>
-    requires inside { IsInIn case.state.now.state case.lab.now case.experiment.now place.0.now place.1.now }
+    requires inside { IsInIn case.now.state.now.state case.now.lab.now case.now.experiment.now place.0.now place.1.now }
     requires sound { IsSound wiring }
-    requires keeps { Keeps case.state.now.state case.lab.now case.experiment.now wiring mapping }
-    ensures task { IfOk result (λ task. task_of task ≡ task_over case.state.now.state case.lab.now case.experiment.now wiring mapping) }
-    ensures can { IfOk result (CanDo case.state.now.state) }
+    requires keeps { Keeps case.now.state.now.state case.now.lab.now case.now.experiment.now wiring mapping }
+    ensures task { IfOk result (λ task. task_of task ≡ task_over case.now.state.now.state case.now.lab.now case.now.experiment.now wiring mapping) }
+    ensures can { IfOk result (CanDo case.now.state.now.state) }
 {
     let tags = take_tags(alloc, case, &wiring)?;
     let old = mapped_copy(alloc, &case.experiment.wiring, place.0, place.1)?;
@@ -155,16 +158,16 @@ pub(crate) fn change_to(
 /// Judges a mapping of another wiring for an experiment that is in there.
 pub(crate) fn judge_change(
     alloc: Global,
-    case: Case,
+    case: &Case,
     place: (&Mapping, &Tags),
     wiring: Wiring,
     mapping: Mapping,
 ) -> Result<Task, Refusal>
-    requires inside { IsInIn case.state.now.state case.lab.now case.experiment.now place.0.now place.1.now }
+    requires inside { IsInIn case.now.state.now.state case.now.lab.now case.now.experiment.now place.0.now place.1.now }
     requires sound { IsSound wiring }
-    requires shaped { IsShaped case.lab.now wiring mapping }
-    ensures judged { Gives (judged_change case.state.now.state case.lab.now case.experiment.now wiring mapping) result }
-    ensures can { IfOk result (CanDo case.state.now.state) }
+    requires shaped { IsShaped case.now.lab.now wiring mapping }
+    ensures judged { Gives (judged_change case.now.state.now.state case.now.lab.now case.now.experiment.now wiring mapping) result }
+    ensures can { IfOk result (CanDo case.now.state.now.state) }
 {
     if let Err(refusal) = need_feasible(alloc, case, &wiring, &mapping) {
         drop(wiring);
@@ -178,7 +181,7 @@ pub(crate) fn judge_change(
 /// Judges a change by a given wiring and solution; `lines` is the number of lines of the wiring's block.
 pub(crate) fn judge_modify_with(
     alloc: Global,
-    present: Present,
+    present: &Present,
     exp: Name,
     lines: u16,
     top: &[u8],
@@ -186,8 +189,8 @@ pub(crate) fn judge_modify_with(
 ) -> Result<Task, Refusal>
     requires top { length top.now < TEXT_LIMIT }
     requires map { length map.now < 2 ^ 31 }
-    ensures judged { Gives (judged_modify_with present.state.now.state (has_open present.swaps.now exp) exp lines top.now map.now) result }
-    ensures can { IfOk result (CanDo present.state.now.state) }
+    ensures judged { Gives (judged_modify_with present.now.state.now.state (has_open present.now.swaps.now exp) exp lines top.now map.now) result }
+    ensures can { IfOk result (CanDo present.now.state.now.state) }
 {
     let (lab, experiment, mapping, tags) = need_idle_in(present, exp)?;
     let case = Case {
@@ -200,7 +203,7 @@ pub(crate) fn judge_modify_with(
         Err(refused) => return Err(bad_text(exp, refused)),
     };
     match read_solution(alloc, map, lab, &wiring) {
-        Ok(given) => judge_change(alloc, case, (mapping, tags), wiring, given),
+        Ok(given) => judge_change(alloc, &case, (mapping, tags), wiring, given),
         Err(refused) => Err(bad_behind(exp, lines, refused)),
     }
 }

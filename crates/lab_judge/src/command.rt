@@ -78,11 +78,14 @@ fn judge_ptop(alloc: Global, state: &LabState, text: &[u8]) -> Result<Task, Refu
 
 /// Judges a new experiment of a new name by the canonical text of its wiring.
 fn judge_wiring(state: &LabState, exp: Name, wiring: &Wiring, top: Text) -> Result<Task, Refusal>
+    // the name is new in a lab
     requires place { need_place state.now.state exp ≡ Ok tt }
+    // the text is that of the wiring, and a record can hold it
     requires sound { IsSound wiring.now }
     requires text { top ≡ canonical_top wiring.now }
     requires size { length top ≤ MAX_PAYLOAD_TEXT }
     requires printable { is_printable wiring.now ≡ true }
+    // it is judged so, and can be done
     ensures judged { Gives (judged_wiring state.now.state exp wiring.now) result }
     ensures can { IfOk result (CanDo state.now.state) }
 {
@@ -136,9 +139,9 @@ fn judge_show(alloc: Global, state: &LabState, exp: Name) -> Result<Task, Refusa
     Ok(Task::Tell(shown(alloc, lab, experiment)?))
 }
 
-fn judge_delete(present: Present, exp: Name) -> Result<Task, Refusal>
-    ensures judged { Gives (judged_delete present.state.now.state (has_open present.swaps.now exp) exp) result }
-    ensures can { IfOk result (CanDo present.state.now.state) }
+fn judge_delete(present: &Present, exp: Name) -> Result<Task, Refusal>
+    ensures judged { Gives (judged_delete present.now.state.now.state (has_open present.now.swaps.now exp) exp) result }
+    ensures can { IfOk result (CanDo present.now.state.now.state) }
 {
     let _idle = need_idle_out(present, exp)?;
     Ok(Task::Append {
@@ -147,9 +150,9 @@ fn judge_delete(present: Present, exp: Name) -> Result<Task, Refusal>
     })
 }
 
-fn judge_swapout(alloc: Global, present: Present, exp: Name) -> Result<Task, Refusal>
-    ensures judged { Gives (judged_swapout present.state.now.state (has_open present.swaps.now exp) exp) result }
-    ensures can { IfOk result (CanDo present.state.now.state) }
+fn judge_swapout(alloc: Global, present: &Present, exp: Name) -> Result<Task, Refusal>
+    ensures judged { Gives (judged_swapout present.now.state.now.state (has_open present.now.swaps.now exp) exp) result }
+    ensures can { IfOk result (CanDo present.now.state.now.state) }
 {
     let (lab, experiment, mapping, tags) = need_idle_in(present, exp)?;
     let ops = plan_out(alloc, lab, &experiment.wiring, mapping, tags)?;
@@ -179,9 +182,9 @@ pub(crate) fn in_slot(
     }
 }
 
-fn judge_turn(present: Present, exp: Name) -> Result<Task, Refusal>
-    ensures judged { Gives (judged_turn present.state.now.state (has_open present.swaps.now exp) exp) result }
-    ensures can { IfOk result (CanDo present.state.now.state) }
+fn judge_turn(present: &Present, exp: Name) -> Result<Task, Refusal>
+    ensures judged { Gives (judged_turn present.now.state.now.state (has_open present.now.swaps.now exp) exp) result }
+    ensures can { IfOk result (CanDo present.now.state.now.state) }
 {
     let _lab = need_lab(present.state)?;
     let _experiment = need_found(present.state, exp)?;
@@ -189,9 +192,9 @@ fn judge_turn(present: Present, exp: Name) -> Result<Task, Refusal>
     Ok(Task::Turn { exp })
 }
 
-fn judge_finish(present: Present, exp: Name) -> Result<Task, Refusal>
-    ensures judged { Gives (judged_finish present.state.now.state (has_open present.swaps.now exp) exp) result }
-    ensures can { IfOk result (CanDo present.state.now.state) }
+fn judge_finish(present: &Present, exp: Name) -> Result<Task, Refusal>
+    ensures judged { Gives (judged_finish present.now.state.now.state (has_open present.now.swaps.now exp) exp) result }
+    ensures can { IfOk result (CanDo present.now.state.now.state) }
 {
     let _lab = need_lab(present.state)?;
     let _experiment = need_found(present.state, exp)?;
@@ -229,16 +232,16 @@ fn judge_recover(state: &LabState) -> Result<Task, Refusal>
 /// neither has what isn't done by one judgement. The rule is that by which searches count costs.
 pub fn judge(
     alloc: Global,
-    present: Present,
+    present: &Present,
     command: &Command,
     rule: &StepRule,
 ) -> Result<Task, Refusal>
     requires blocks { HasBlocks command.now }
     requires no_drill { drill_of command.now ≡ None }
     requires alone { is_unjudged command.now ≡ false }
-    ensures judged { IsJudged (Judged rule.now.number present.state.now.state (has_open_for present.swaps.now command.now)
-        (length present.swaps.now) command.now) result }
-    ensures can { IfOk result (CanDo present.state.now.state) }
+    ensures judged { IsJudged (Judged rule.now.number present.now.state.now.state (has_open_for present.now.swaps.now command.now)
+        (length present.now.swaps.now) command.now) result }
+    ensures can { IfOk result (CanDo present.now.state.now.state) }
 {
     let state = present.state;
     match command {

@@ -11,8 +11,8 @@ ghost use Rattle.lab_judge.specs.Judge.{AreLocal, IsFound};
 /// A search has one answer, unless there are more than 65,536 candidates and FirstFit is feasible. Then each answer is locally best, and costs at
 /// most every map of the walk of the seed.
 pub fn searches()
-    ensures { (rule : RuleNumber) (lab : Lab) (es : List Experiment) (e : Experiment) (w : Wiring) (seed : ℕ) (a b : Solved) → IsFound rule lab es e w seed a
-        → IsFound rule lab es e w seed b
+    ensures { (rule : RuleNumber) (lab : Lab) (es : List Experiment) (e : Experiment) (w : Wiring) (seed : ℕ) (a b : Solved)
+        → IsFound rule lab es e w seed a → IsFound rule lab es e w seed b
         → (a ≡ b) ⊎ AreLocal a b }
 {}
 

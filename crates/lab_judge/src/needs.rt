@@ -145,13 +145,13 @@ fn need_in(exp: Name, phase: &Phase) -> Result<(&Mapping, &Tags), Refusal>
 
 /// An experiment that is out and has no open swap.
 pub(crate) fn need_idle_out<'a>(
-    present: Present<'a>,
+    present: &Present<'a>,
     exp: Name,
 ) -> Result<(&'a Lab, &'a Experiment), Refusal>
-    ensures place { IfOk result (λ p. need_idle_out present.state.now.state (has_open present.swaps.now exp) exp ≡ Ok (p.0.now, p.1.now)) }
-    ensures found { IfOk result (λ p. find exp present.state.now.state.experiments ≡ Some p.1.now) }
-    ensures out { IfOk result (λ p. IsOutIn present.state.now.state p.0.now p.1.now) }
-    ensures refuses { Refuses (need_idle_out present.state.now.state (has_open present.swaps.now exp) exp) result }
+    ensures place { IfOk result (λ p. need_idle_out present.now.state.now.state (has_open present.now.swaps.now exp) exp ≡ Ok (p.0.now, p.1.now)) }
+    ensures found { IfOk result (λ p. find exp present.now.state.now.state.experiments ≡ Some p.1.now) }
+    ensures out { IfOk result (λ p. IsOutIn present.now.state.now.state p.0.now p.1.now) }
+    ensures refuses { Refuses (need_idle_out present.now.state.now.state (has_open present.now.swaps.now exp) exp) result }
 {
     let lab = need_lab(present.state)?;
     let experiment = need_found(present.state, exp)?;
@@ -162,13 +162,13 @@ pub(crate) fn need_idle_out<'a>(
 
 /// An experiment that is in and has no open swap, and where it is.
 pub(crate) fn need_idle_in<'a>(
-    present: Present<'a>,
+    present: &Present<'a>,
     exp: Name,
 ) -> Result<(&'a Lab, &'a Experiment, &'a Mapping, &'a Tags), Refusal>
-    ensures place { IfOk result (λ p. need_idle_in present.state.now.state (has_open present.swaps.now exp) exp ≡ Ok (p.0.now, p.1.now)) }
-    ensures found { IfOk result (λ p. find exp present.state.now.state.experiments ≡ Some p.1.now) }
-    ensures inside { IfOk result (λ p. IsInIn present.state.now.state p.0.now p.1.now p.2.now p.3.now) }
-    ensures refuses { Refuses (need_idle_in present.state.now.state (has_open present.swaps.now exp) exp) result }
+    ensures place { IfOk result (λ p. need_idle_in present.now.state.now.state (has_open present.now.swaps.now exp) exp ≡ Ok (p.0.now, p.1.now)) }
+    ensures found { IfOk result (λ p. find exp present.now.state.now.state.experiments ≡ Some p.1.now) }
+    ensures inside { IfOk result (λ p. IsInIn present.now.state.now.state p.0.now p.1.now p.2.now p.3.now) }
+    ensures refuses { Refuses (need_idle_in present.now.state.now.state (has_open present.now.swaps.now exp) exp) result }
 {
     let lab = need_lab(present.state)?;
     let experiment = need_found(present.state, exp)?;

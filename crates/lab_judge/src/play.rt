@@ -137,12 +137,12 @@ fn judge_script(
 /// Judges the events of an NS text that are due in a span.
 pub fn judge_play(
     alloc: Global,
-    present: Present,
+    present: &Present,
     exp: Name,
     span: Span,
     text: &[u8],
 ) -> Result<Play, Refusal>
-    ensures judged { IsJudgedPlay (JudgedPlayAt present.state.now.state (has_open present.swaps.now exp) exp span.from span.to text.now) result }
+    ensures judged { IsJudgedPlay (JudgedPlayAt present.now.state.now.state (has_open present.now.swaps.now exp) exp span.from span.to text.now) result }
     ensures can { IfOk result CanPlay }
 {
     let (_lab, experiment, _mapping, _tags) = need_idle_in(present, exp)?;
@@ -160,9 +160,11 @@ fn changed_wiring(
     text: &Wiring,
     now: &Wiring,
 ) -> Result<Wiring, Refusal>
+    // both wirings are sound, and the event keeps the limits
     requires text { IsSound text.now }
     requires now { IsSound now.now }
     requires limits { KeepsLimits event.now.what }
+    // the wiring behind it, where the link has its shape
     ensures applied { IfOk result (IsApplied event.now text.now now.now) }
     ensures shaped { OnOk result (need_shape exp text.now event.now now.now ≡ Ok tt) }
     ensures sound { IfOk result IsSound }
@@ -178,16 +180,16 @@ fn changed_wiring(
 /// Judges the change that an event asks for. `text` is the wiring of the event's text.
 pub fn judge_event(
     alloc: Global,
-    present: Present,
+    present: &Present,
     exp: Name,
     text: &Wiring,
     event: &Event,
 ) -> Result<Task, Refusal>
     requires text { IsSound text.now }
     requires limits { KeepsLimits event.now.what }
-    ensures judged { IsJudged (JudgedEventAt exp text.now event.now present.state.now.state (has_open present.swaps.now exp)
-        (length present.swaps.now)) result }
-    ensures can { IfOk result (CanDo present.state.now.state) }
+    ensures judged { IsJudged (JudgedEventAt exp text.now event.now present.now.state.now.state (has_open present.now.swaps.now exp)
+        (length present.now.swaps.now)) result }
+    ensures can { IfOk result (CanDo present.now.state.now.state) }
 {
     let (lab, experiment, mapping, tags) = need_idle_in(present, exp)?;
     let case = Case {
@@ -203,6 +205,6 @@ pub fn judge_event(
             return Err(refusal);
         }
     };
-    let judged = judge_change(alloc, case, (mapping, tags), wiring, same);
+    let judged = judge_change(alloc, &case, (mapping, tags), wiring, same);
     in_slot(present.swaps, false, judged)
 }

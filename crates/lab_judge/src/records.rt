@@ -54,10 +54,12 @@ pub(crate) fn way_in(exp: Name, map: Text, tags: Tags) -> Way
 
 /// The way of a change, of the second format or of the first.
 pub(crate) fn way_over(exp: Name, top: Text, map: Text, tags: Tags, second: bool) -> Way
+    // the texts and the VLAN ids fit a record
     requires top { length top ≤ MAX_PAYLOAD_TEXT }
     requires map { length map ≤ MAX_PAYLOAD_TEXT }
     requires few { length tags ≤ u16.MAX }
     requires ids { (tag : VlanId) → Has tags tag → tag.0 < 2 ^ 16 }
+    // the record is of that format
     ensures way { result ≡ change_in second top map tags }
     ensures is { IsRecord (records.Begin exp result) }
 {

@@ -228,20 +228,20 @@ fn held_back(alloc: Global, space: Space, task: Task, wait: Option<Wait>) -> Res
 /// Judges the swap of a run to where a search finds a place: it is tested.
 fn judge_place(
     alloc: Global,
-    case: Case,
+    case: &Case,
     mapping: &Mapping,
     space: Space,
     queue: &Queue,
     run: &Run,
 ) -> Result<Task, Refusal>
-    requires out { IsOutIn case.state.now.state case.lab.now case.experiment.now }
-    requires keeps { Keeps case.state.now.state case.lab.now case.experiment.now case.experiment.now.wiring mapping.now }
+    requires out { IsOutIn case.now.state.now.state case.now.lab.now case.now.experiment.now }
+    requires keeps { Keeps case.now.state.now.state case.now.lab.now case.now.experiment.now case.now.experiment.now.wiring mapping.now }
     requires serves { CanServe queue.now run.now }
-    ensures judged { IsJudged (IsTestedAs (λ entry. space_in space entry) case.lab.now
-        (left_beside case.lab.now case.state.now.state queue.now mapping.now)
+    ensures judged { IsJudged (IsTestedAs (λ entry. space_in space entry) case.now.lab.now
+        (left_beside case.now.lab.now case.now.state.now.state queue.now mapping.now)
         queue.now.promises (span_of queue.now.moment run.now)
-        (task_in case.state.now.state case.lab.now case.experiment.now mapping.now)) result }
-    ensures can { IfOk result (CanDo case.state.now.state) }
+        (task_in case.now.state.now.state case.now.lab.now case.now.experiment.now mapping.now)) result }
+    ensures can { IfOk result (CanDo case.now.state.now.state) }
 {
     let task = swap_to(alloc, case, mapping)?;
     let wait = match wait_of(alloc, case.state, case.lab, mapping, queue, run) {
@@ -258,18 +258,18 @@ fn judge_place(
 /// Judges a run of an experiment that is out: what a search finds is tested.
 fn judge_found(
     alloc: Global,
-    case: Case,
+    case: &Case,
     space: Space,
     queue: &Queue,
     run: &Run,
     rule: &StepRule,
 ) -> Result<Task, Refusal>
-    requires out { IsOutIn case.state.now.state case.lab.now case.experiment.now }
-    requires sound { IsSound case.experiment.now.wiring }
+    requires out { IsOutIn case.now.state.now.state case.now.lab.now case.now.experiment.now }
+    requires sound { IsSound case.now.experiment.now.wiring }
     requires serves { CanServe queue.now run.now }
     ensures judged { IsJudged (JudgedPlace rule.now.number queue.now.moment queue.now.promises queue.now.ends run.now
-        (λ entry. space_in space entry) case.state.now.state case.lab.now case.experiment.now) result }
-    ensures can { IfOk result (CanDo case.state.now.state) }
+        (λ entry. space_in space entry) case.now.state.now.state case.now.lab.now case.now.experiment.now) result }
+    ensures can { IfOk result (CanDo case.now.state.now.state) }
 {
     let found = search(alloc, case, &case.experiment.wiring, rule, run.seed)?;
     let mapping = need_mapping(case.experiment.name, found)?;
@@ -279,7 +279,7 @@ fn judge_found(
 /// Judges a run before its room among the open swaps is asked for.
 fn judge_test(
     alloc: Global,
-    present: Present,
+    present: &Present,
     space: Space,
     queue: &Queue,
     run: &Run,
@@ -287,8 +287,8 @@ fn judge_test(
 ) -> Result<Task, Refusal>
     requires { CanServe queue.now run.now }
     ensures judged { IsJudged (JudgedTest rule.now.number queue.now.moment queue.now.promises queue.now.ends run.now
-        (λ entry. space_in space entry) present.state.now.state (has_open present.swaps.now run.now.exp)) result }
-    ensures can { IfOk result (CanDo present.state.now.state) }
+        (λ entry. space_in space entry) present.now.state.now.state (has_open present.now.swaps.now run.now.exp)) result }
+    ensures can { IfOk result (CanDo present.now.state.now.state) }
 {
     let (lab, experiment) = need_idle_out(present, run.exp)?;
     let case = Case {
@@ -296,13 +296,13 @@ fn judge_test(
         lab,
         experiment,
     };
-    judge_found(alloc, case, space, queue, run, rule)
+    judge_found(alloc, &case, space, queue, run, rule)
 }
 
 /// Judges a run of a batch.
 pub fn judge_run(
     alloc: Global,
-    present: Present,
+    present: &Present,
     space: Space,
     queue: &Queue,
     run: &Run,
@@ -310,8 +310,8 @@ pub fn judge_run(
 ) -> Result<Task, Refusal>
     requires { CanServe queue.now run.now }
     ensures judged { IsJudged (JudgedRunAt rule.now.number queue.now.moment queue.now.promises queue.now.ends run.now
-        (λ entry. space_in space entry) present.state.now.state (has_open present.swaps.now run.now.exp) (length present.swaps.now)) result }
-    ensures can { IfOk result (CanDo present.state.now.state) }
+        (λ entry. space_in space entry) present.now.state.now.state (has_open present.now.swaps.now run.now.exp) (length present.now.swaps.now)) result }
+    ensures can { IfOk result (CanDo present.now.state.now.state) }
 {
     let judged = judge_test(alloc, present, space, queue, run, rule);
     in_slot(present.swaps, false, judged)

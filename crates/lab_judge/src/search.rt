@@ -27,15 +27,15 @@ use virt_topo::{Experiment, Mapping, Wiring};
 /// Searches a mapping of that wiring for an experiment, on the rest that the other experiments leave.
 pub(crate) fn search(
     alloc: Global,
-    case: Case,
+    case: &Case,
     wiring: &Wiring,
     rule: &StepRule,
     seed: u64,
 ) -> Result<Solved, Memory>
-    requires there { IsThere case.state.now.state case.lab.now case.experiment.now }
+    requires there { IsThere case.now.state.now.state case.now.lab.now case.now.experiment.now }
     requires sound { IsSound wiring.now }
-    ensures found { IfOk result (IsFound rule.now.number case.lab.now case.state.now.state.experiments case.experiment.now wiring.now seed) }
-    ensures keeps { IfOk result (λ found. IfFound found (Keeps case.state.now.state case.lab.now case.experiment.now wiring.now)) }
+    ensures found { IfOk result (IsFound rule.now.number case.now.lab.now case.now.state.now.state.experiments case.now.experiment.now wiring.now seed) }
+    ensures keeps { IfOk result (λ found. IfFound found (Keeps case.now.state.now.state case.now.lab.now case.now.experiment.now wiring.now)) }
 {
     // There is a lab.
     let Some(claims) = case.state.claims() else {
@@ -89,13 +89,13 @@ fn tell_found(
 /// Judges the search for an experiment that is out.
 pub(crate) fn judge_solve(
     alloc: Global,
-    present: Present,
+    present: &Present,
     exp: Name,
     rule: &StepRule,
     seed: u64,
 ) -> Result<Task, Refusal>
-    ensures judged { IsJudged (JudgedSolve rule.now.number present.state.now.state (has_open present.swaps.now exp) exp seed) result }
-    ensures can { IfOk result (CanDo present.state.now.state) }
+    ensures judged { IsJudged (JudgedSolve rule.now.number present.now.state.now.state (has_open present.now.swaps.now exp) exp seed) result }
+    ensures can { IfOk result (CanDo present.now.state.now.state) }
 {
     let (lab, experiment) = need_idle_out(present, exp)?;
     let case = Case {
@@ -103,17 +103,17 @@ pub(crate) fn judge_solve(
         lab,
         experiment,
     };
-    let found = search(alloc, case, &experiment.wiring, rule, seed)?;
+    let found = search(alloc, &case, &experiment.wiring, rule, seed)?;
     tell_found(alloc, lab, experiment, found)
 }
 
 /// Judges the swap of an experiment that is out to where a search finds a place.
-fn judge_entry(alloc: Global, case: Case, rule: &StepRule, seed: u64) -> Result<Task, Refusal>
-    requires out { IsOutIn case.state.now.state case.lab.now case.experiment.now }
-    requires sound { IsSound case.experiment.now.wiring }
-    ensures judged { IsJudged (JudgedFound rule.now.number case.state.now.state case.lab.now case.experiment.now case.experiment.now.wiring seed
-        (judged_entry case.state.now.state case.lab.now case.experiment.now)) result }
-    ensures can { IfOk result (CanDo case.state.now.state) }
+fn judge_entry(alloc: Global, case: &Case, rule: &StepRule, seed: u64) -> Result<Task, Refusal>
+    requires out { IsOutIn case.now.state.now.state case.now.lab.now case.now.experiment.now }
+    requires sound { IsSound case.now.experiment.now.wiring }
+    ensures judged { IsJudged (JudgedFound rule.now.number case.now.state.now.state case.now.lab.now case.now.experiment.now case.now.experiment.now.wiring seed
+        (judged_entry case.now.state.now.state case.now.lab.now case.now.experiment.now)) result }
+    ensures can { IfOk result (CanDo case.now.state.now.state) }
 {
     let found = search(alloc, case, &case.experiment.wiring, rule, seed)?;
     let mapping = need_mapping(case.experiment.name, found)?;
@@ -124,13 +124,13 @@ fn judge_entry(alloc: Global, case: Case, rule: &StepRule, seed: u64) -> Result<
 /// Judges a swap-in to where a search finds a place.
 pub(crate) fn judge_swapin(
     alloc: Global,
-    present: Present,
+    present: &Present,
     exp: Name,
     rule: &StepRule,
     seed: u64,
 ) -> Result<Task, Refusal>
-    ensures judged { IsJudged (JudgedSwapin rule.now.number present.state.now.state (has_open present.swaps.now exp) exp seed) result }
-    ensures can { IfOk result (CanDo present.state.now.state) }
+    ensures judged { IsJudged (JudgedSwapin rule.now.number present.now.state.now.state (has_open present.now.swaps.now exp) exp seed) result }
+    ensures can { IfOk result (CanDo present.now.state.now.state) }
 {
     let (lab, experiment) = need_idle_out(present, exp)?;
     let case = Case {
@@ -138,23 +138,23 @@ pub(crate) fn judge_swapin(
         lab,
         experiment,
     };
-    judge_entry(alloc, case, rule, seed)
+    judge_entry(alloc, &case, rule, seed)
 }
 
 /// Judges a change of an experiment that is in there, to that wiring, and to where a search finds a place.
 fn judge_move(
     alloc: Global,
-    case: Case,
+    case: &Case,
     place: (&Mapping, &Tags),
     wiring: Wiring,
     rule: &StepRule,
     seed: u64,
 ) -> Result<Task, Refusal>
-    requires inside { IsInIn case.state.now.state case.lab.now case.experiment.now place.0.now place.1.now }
+    requires inside { IsInIn case.now.state.now.state case.now.lab.now case.now.experiment.now place.0.now place.1.now }
     requires sound { IsSound wiring }
-    ensures judged { IsJudged (JudgedFound rule.now.number case.state.now.state case.lab.now case.experiment.now wiring seed
-        (judged_move case.state.now.state case.lab.now case.experiment.now wiring)) result }
-    ensures can { IfOk result (CanDo case.state.now.state) }
+    ensures judged { IsJudged (JudgedFound rule.now.number case.now.state.now.state case.now.lab.now case.now.experiment.now wiring seed
+        (judged_move case.now.state.now.state case.now.lab.now case.now.experiment.now wiring)) result }
+    ensures can { IfOk result (CanDo case.now.state.now.state) }
 {
     let found = search(alloc, case, &wiring, rule, seed)?;
     let mapping = need_mapping(case.experiment.name, found)?;
@@ -165,15 +165,15 @@ fn judge_move(
 /// Judges a change by the wiring of an NS text, to where a search finds a place.
 pub(crate) fn judge_modify(
     alloc: Global,
-    present: Present,
+    present: &Present,
     exp: Name,
     text: &[u8],
     rule: &StepRule,
     seed: u64,
 ) -> Result<Task, Refusal>
     requires { length text.now < TEXT_LIMIT }
-    ensures judged { IsJudged (JudgedModify rule.now.number present.state.now.state (has_open present.swaps.now exp) exp seed text.now) result }
-    ensures can { IfOk result (CanDo present.state.now.state) }
+    ensures judged { IsJudged (JudgedModify rule.now.number present.now.state.now.state (has_open present.now.swaps.now exp) exp seed text.now) result }
+    ensures can { IfOk result (CanDo present.now.state.now.state) }
 {
     let (lab, experiment, mapping, tags) = need_idle_in(present, exp)?;
     let case = Case {
@@ -182,7 +182,7 @@ pub(crate) fn judge_modify(
         experiment,
     };
     match read_network(alloc, text) {
-        Ok(wiring) => judge_move(alloc, case, (mapping, tags), wiring, rule, seed),
+        Ok(wiring) => judge_move(alloc, &case, (mapping, tags), wiring, rule, seed),
         Err(refused) => Err(bad_text(exp, refused)),
     }
 }

@@ -63,15 +63,15 @@ fn infeasible(
 /// Checks a mapping of a wiring beside the other experiments.
 pub(crate) fn need_feasible(
     alloc: Global,
-    case: Case,
+    case: &Case,
     wiring: &Wiring,
     mapping: &Mapping,
 ) -> Result<(), Refusal>
-    requires there { IsThere case.state.now.state case.lab.now case.experiment.now }
+    requires there { IsThere case.now.state.now.state case.now.lab.now case.now.experiment.now }
     requires sound { IsSound wiring.now }
-    requires shaped { IsShaped case.lab.now wiring.now mapping.now }
-    ensures keeps { OnOk result (Keeps case.state.now.state case.lab.now case.experiment.now wiring.now mapping.now) }
-    ensures refuses { Refuses (need_feasible case.lab.now case.state.now.state.experiments case.experiment.now wiring.now mapping.now) result }
+    requires shaped { IsShaped case.now.lab.now wiring.now mapping.now }
+    ensures keeps { OnOk result (Keeps case.now.state.now.state case.now.lab.now case.now.experiment.now wiring.now mapping.now) }
+    ensures refuses { Refuses (need_feasible case.now.lab.now case.now.state.now.state.experiments case.now.experiment.now wiring.now mapping.now) result }
 {
     // There is a lab.
     let Some(claims) = case.state.claims() else {
@@ -89,11 +89,11 @@ pub(crate) fn need_feasible(
 }
 
 /// Takes VLAN ids for a wiring that has a mapping by all rules. The experiment's own old ones are among the claimed.
-pub(crate) fn take_tags(alloc: Global, case: Case, wiring: &Wiring) -> Result<Tags, Memory>
-    requires there { IsThere case.state.now.state case.lab.now case.experiment.now }
-    requires keeps { (m : AnyMapping) × Keeps case.state.now.state case.lab.now case.experiment.now wiring.now m }
-    ensures { (m : AnyMapping) → Keeps case.state.now.state case.lab.now case.experiment.now wiring.now m
-        → IfOk result (CanTake case.state.now.state case.lab.now case.experiment.now wiring.now m) }
+pub(crate) fn take_tags(alloc: Global, case: &Case, wiring: &Wiring) -> Result<Tags, Memory>
+    requires there { IsThere case.now.state.now.state case.now.lab.now case.now.experiment.now }
+    requires keeps { (m : AnyMapping) × Keeps case.now.state.now.state case.now.lab.now case.now.experiment.now wiring.now m }
+    ensures { (m : AnyMapping) → Keeps case.now.state.now.state case.now.lab.now case.now.experiment.now wiring.now m
+        → IfOk result (CanTake case.now.state.now.state case.now.lab.now case.now.experiment.now wiring.now m) }
 {
     // There is a lab.
     let Some(claims) = case.state.claims() else {
@@ -127,22 +127,22 @@ fn plan_swap_in(
 }
 
 /// Swaps an experiment that is out to a mapping that keeps all rules.
-pub(crate) fn swap_to(alloc: Global, case: Case, mapping: &Mapping) -> Result<Task, Memory>
-    requires out { IsOutIn case.state.now.state case.lab.now case.experiment.now }
-    requires keeps { Keeps case.state.now.state case.lab.now case.experiment.now case.experiment.now.wiring mapping.now }
-    ensures task { IfOk result (λ task. task_of task ≡ task_in case.state.now.state case.lab.now case.experiment.now mapping.now) }
-    ensures can { IfOk result (CanDo case.state.now.state) }
+pub(crate) fn swap_to(alloc: Global, case: &Case, mapping: &Mapping) -> Result<Task, Memory>
+    requires out { IsOutIn case.now.state.now.state case.now.lab.now case.now.experiment.now }
+    requires keeps { Keeps case.now.state.now.state case.now.lab.now case.now.experiment.now case.now.experiment.now.wiring mapping.now }
+    ensures task { IfOk result (λ task. task_of task ≡ task_in case.now.state.now.state case.now.lab.now case.now.experiment.now mapping.now) }
+    ensures can { IfOk result (CanDo case.now.state.now.state) }
 {
     let tags = take_tags(alloc, case, &case.experiment.wiring)?;
     plan_swap_in(alloc, case.lab, case.experiment, mapping, tags)
 }
 
 /// Judges a mapping for an experiment that is out.
-pub(crate) fn judge_mapping(alloc: Global, case: Case, mapping: &Mapping) -> Result<Task, Refusal>
-    requires out { IsOutIn case.state.now.state case.lab.now case.experiment.now }
-    requires shaped { IsShaped case.lab.now case.experiment.now.wiring mapping.now }
-    ensures judged { Gives (judged_mapping case.state.now.state case.lab.now case.experiment.now mapping.now) result }
-    ensures can { IfOk result (CanDo case.state.now.state) }
+pub(crate) fn judge_mapping(alloc: Global, case: &Case, mapping: &Mapping) -> Result<Task, Refusal>
+    requires out { IsOutIn case.now.state.now.state case.now.lab.now case.now.experiment.now }
+    requires shaped { IsShaped case.now.lab.now case.now.experiment.now.wiring mapping.now }
+    ensures judged { Gives (judged_mapping case.now.state.now.state case.now.lab.now case.now.experiment.now mapping.now) result }
+    ensures can { IfOk result (CanDo case.now.state.now.state) }
 {
     need_feasible(alloc, case, &case.experiment.wiring, mapping)?;
     let task = swap_to(alloc, case, mapping)?;
@@ -152,13 +152,13 @@ pub(crate) fn judge_mapping(alloc: Global, case: Case, mapping: &Mapping) -> Res
 /// Judges a swap-in by a given solution.
 pub(crate) fn judge_swapin_with(
     alloc: Global,
-    present: Present,
+    present: &Present,
     exp: Name,
     text: &[u8],
 ) -> Result<Task, Refusal>
     requires { length text.now < TEXT_LIMIT }
-    ensures judged { Gives (judged_swapin_with present.state.now.state (has_open present.swaps.now exp) exp text.now) result }
-    ensures can { IfOk result (CanDo present.state.now.state) }
+    ensures judged { Gives (judged_swapin_with present.now.state.now.state (has_open present.now.swaps.now exp) exp text.now) result }
+    ensures can { IfOk result (CanDo present.now.state.now.state) }
 {
     let (lab, experiment) = need_idle_out(present, exp)?;
     let case = Case {
@@ -167,7 +167,7 @@ pub(crate) fn judge_swapin_with(
         experiment,
     };
     match read_solution(alloc, text, lab, &experiment.wiring) {
-        Ok(mapping) => judge_mapping(alloc, case, &mapping),
+        Ok(mapping) => judge_mapping(alloc, &case, &mapping),
         Err(refused) => Err(bad_text(exp, refused)),
     }
 }

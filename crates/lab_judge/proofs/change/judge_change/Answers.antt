@@ -10,8 +10,8 @@ need_feasible-requires-clause-there c = c.requires.inside.there
 
 pub returns-in-Err-clause-judged : goal.returns-in-Err-clause-judged
 returns-in-Err-clause-judged c =
-    refused_by (need_feasible c.args.case.lab.now c.args.case.state.now.state.experiments c.args.case.experiment.now c.args.wiring c.args.mapping) _ c.in-Err.refusal c.in-Err.ensures.refuses
+    refused_by (need_feasible c.args.case.now.lab.now c.args.case.now.state.now.state.experiments c.args.case.now.experiment.now c.args.wiring c.args.mapping) _ c.in-Err.refusal c.in-Err.ensures.refuses
 
 pub returns-clause-judged : goal.returns-clause-judged
 returns-clause-judged c =
-    change_is c.args.case.state.now.state c.args.case.lab.now c.args.case.experiment.now c.args.wiring c.args.mapping c.in-not-Err.ensures.keeps ∙ ap (λ (t : Task). let j : Result Task Reply = Ok t in j) (sym c.in_ok-task.ensures.task)
+    change_is c.args.case.now.state.now.state c.args.case.now.lab.now c.args.case.now.experiment.now c.args.wiring c.args.mapping c.in-not-Err.ensures.keeps ∙ ap (λ (t : Task). let j : Result Task Reply = Ok t in j) (sym c.in_ok-task.ensures.task)

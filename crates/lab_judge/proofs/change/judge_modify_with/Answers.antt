@@ -15,11 +15,11 @@ use Rattle.lab_judge.proofs.change.judge_modify_with.Goals as goal
 pub returns-in_err-lab-clause-judged : goal.returns-in_err-lab-clause-judged
 returns-in_err-lab-clause-judged c =
     let p = err_from_is_err_and c.from_residual.result c.from_residual.ensures.1 in
-    rw (p.1, p.2) (refused_by (need_idle_in c.args.present.state.now.state (has_open c.args.present.swaps.now c.args.exp) c.args.exp) _ c.in_err-lab.field-0.0 c.in_err-lab.ensures.refuses)
+    rw (p.1, p.2) (refused_by (need_idle_in c.args.present.now.state.now.state (has_open c.args.present.now.swaps.now c.args.exp) c.args.exp) _ c.in_err-lab.field-0.0 c.in_err-lab.ensures.refuses)
 
 pub returns-in-Err-clause-judged : goal.returns-in-Err-clause-judged
 returns-in-Err-clause-judged c =
-    given_by (need_idle_in c.args.present.state.now.state (has_open c.args.present.swaps.now c.args.exp) c.args.exp) _ (c.in_ok-lab.lab.now, c.in_ok-lab.experiment.now) (Err c.bad_text.result) c.in_ok-lab.ensures.place
+    given_by (need_idle_in c.args.present.now.state.now.state (has_open c.args.present.now.swaps.now c.args.exp) c.args.exp) _ (c.in_ok-lab.lab.now, c.in_ok-lab.experiment.now) (Err c.bad_text.result) c.in_ok-lab.ensures.place
     (faulty_by (Bad c.args.exp) (wiring_of_text c.args.top.now) _ c.in-Err.refused c.bad_text.result c.in-Err.ensures.reads c.bad_text.ensures)
 
 pub bad_behind-requires : goal.bad_behind-requires
@@ -30,12 +30,12 @@ bad_behind-requires c = λ fault is.
 
 pub returns-in-Ok-clause-judged : goal.returns-in-Ok-clause-judged
 returns-in-Ok-clause-judged c =
-    given_by (need_idle_in c.args.present.state.now.state (has_open c.args.present.swaps.now c.args.exp) c.args.exp) _ (c.in_ok-lab.lab.now, c.in_ok-lab.experiment.now) c.judge_change.result c.in_ok-lab.ensures.place
+    given_by (need_idle_in c.args.present.now.state.now.state (has_open c.args.present.now.swaps.now c.args.exp) c.args.exp) _ (c.in_ok-lab.lab.now, c.in_ok-lab.experiment.now) c.judge_change.result c.in_ok-lab.ensures.place
     (meant_by (Bad c.args.exp) (wiring_of_text c.args.top.now) _ c.in-Ok.wiring c.judge_change.result c.in-Ok.ensures.reads
     (meant_by (λ fault. Bad c.args.exp (behind_lines c.args.lines fault)) (mapping_of_text c.in_ok-lab.lab.now c.in-Ok.wiring c.args.map.now) _ c.in-Ok-read_solution.given c.judge_change.result c.in-Ok-read_solution.ensures.reads c.judge_change.ensures.judged))
 
 pub returns-in-Err-read_solution-clause-judged : goal.returns-in-Err-read_solution-clause-judged
 returns-in-Err-read_solution-clause-judged c =
-    given_by (need_idle_in c.args.present.state.now.state (has_open c.args.present.swaps.now c.args.exp) c.args.exp) _ (c.in_ok-lab.lab.now, c.in_ok-lab.experiment.now) (Err c.bad_behind.result) c.in_ok-lab.ensures.place
+    given_by (need_idle_in c.args.present.now.state.now.state (has_open c.args.present.now.swaps.now c.args.exp) c.args.exp) _ (c.in_ok-lab.lab.now, c.in_ok-lab.experiment.now) (Err c.bad_behind.result) c.in_ok-lab.ensures.place
     (meant_by (Bad c.args.exp) (wiring_of_text c.args.top.now) _ c.in-Ok.wiring (Err c.bad_behind.result) c.in-Ok.ensures.reads
     (faulty_by (λ fault. Bad c.args.exp (behind_lines c.args.lines fault)) (mapping_of_text c.in_ok-lab.lab.now c.in-Ok.wiring c.args.map.now) _ c.in-Err-read_solution.refused c.bad_behind.result c.in-Err-read_solution.ensures.reads c.bad_behind.ensures))

@@ -4,7 +4,7 @@ use Rattle.lab_judge.proofs.needs.need_idle_out.Goals as goal
 
 pub returns-clause-out : goal.returns-clause-out
 returns-clause-out c =
-    let s = c.args.present.state.now.state in
+    let s = c.args.present.now.state.now.state in
     let e = c.in_ok-experiment.experiment.now in
     let found = c.in_ok-experiment.ensures.found in
     record {

@@ -13,11 +13,11 @@ pub returns-in_err-mapping-clause-judged : goal.returns-in_err-mapping-clause-ju
 returns-in_err-mapping-clause-judged g c =
     let p = err_from_is_err_and c.from_residual-in_err-mapping.result c.from_residual-in_err-mapping.ensures.1 in
     rw (p.1, p.2)
-    (found_so c.args.rule.now.number c.args.case.state.now.state c.args.case.lab.now c.args.case.experiment.now c.args.case.experiment.now.wiring c.args.seed (judged_entry c.args.case.state.now.state c.args.case.lab.now c.args.case.experiment.now) c.in_ok-found.found (Err c.in_err-mapping.field-0.0) c.in_ok-found.ensures.found
-    (refused_by (need_mapping c.args.case.experiment.now.name c.in_ok-found.found) _ c.in_err-mapping.field-0.0 c.in_err-mapping.ensures.refuses))
+    (found_so c.args.rule.now.number c.args.case.now.state.now.state c.args.case.now.lab.now c.args.case.now.experiment.now c.args.case.now.experiment.now.wiring c.args.seed (judged_entry c.args.case.now.state.now.state c.args.case.now.lab.now c.args.case.now.experiment.now) c.in_ok-found.found (Err c.in_err-mapping.field-0.0) c.in_ok-found.ensures.found
+    (refused_by (need_mapping c.args.case.now.experiment.now.name c.in_ok-found.found) _ c.in_err-mapping.field-0.0 c.in_err-mapping.ensures.refuses))
 
 pub returns-clause-judged : goal.returns-clause-judged
 returns-clause-judged g c =
-    found_so c.args.rule.now.number c.args.case.state.now.state c.args.case.lab.now c.args.case.experiment.now c.args.case.experiment.now.wiring c.args.seed (judged_entry c.args.case.state.now.state c.args.case.lab.now c.args.case.experiment.now) c.in_ok-found.found (Ok c.in_ok-task.task) c.in_ok-found.ensures.found
-    (given_by (need_mapping c.args.case.experiment.now.name c.in_ok-found.found) _ c.in_ok-mapping.mapping (Ok c.in_ok-task.task) c.in_ok-mapping.ensures.mapping
+    found_so c.args.rule.now.number c.args.case.now.state.now.state c.args.case.now.lab.now c.args.case.now.experiment.now c.args.case.now.experiment.now.wiring c.args.seed (judged_entry c.args.case.now.state.now.state c.args.case.now.lab.now c.args.case.now.experiment.now) c.in_ok-found.found (Ok c.in_ok-task.task) c.in_ok-found.ensures.found
+    (given_by (need_mapping c.args.case.now.experiment.now.name c.in_ok-found.found) _ c.in_ok-mapping.mapping (Ok c.in_ok-task.task) c.in_ok-mapping.ensures.mapping
     (ap (λ (t : Task). let j : Result Task Reply = Ok t in j) (sym c.in_ok-task.ensures.task)))

@@ -8,18 +8,18 @@ use Rattle.lab_judge.proofs.search.judge_solve.Goals as goal
 pub returns-in_err-lab-clause-judged : goal.returns-in_err-lab-clause-judged
 returns-in_err-lab-clause-judged g c =
     let p = err_from_is_err_and c.from_residual.result c.from_residual.ensures.1 in
-    rw (p.1, p.2) (refuses_so (need_idle_out c.args.present.state.now.state (has_open c.args.present.swaps.now c.args.exp) c.args.exp) _ c.in_err-lab.field-0.0 c.in_err-lab.ensures.refuses)
+    rw (p.1, p.2) (refuses_so (need_idle_out c.args.present.now.state.now.state (has_open c.args.present.now.swaps.now c.args.exp) c.args.exp) _ c.in_err-lab.field-0.0 c.in_err-lab.ensures.refuses)
 
 pub search-requires-clause-sound : goal.search-requires-clause-sound
-search-requires-clause-sound g c = sound_of c.args.present.state.now.state c.in_ok-lab.lab.now c.in_ok-lab.experiment.now c.in_ok-lab.ensures.out.there
+search-requires-clause-sound g c = sound_of c.args.present.now.state.now.state c.in_ok-lab.lab.now c.in_ok-lab.experiment.now c.in_ok-lab.ensures.out.there
 
 pub tell_found-requires-clause-sound : goal.tell_found-requires-clause-sound
-tell_found-requires-clause-sound g c = sound_of c.args.present.state.now.state c.in_ok-lab.lab.now c.in_ok-lab.experiment.now c.in_ok-lab.ensures.out.there
+tell_found-requires-clause-sound g c = sound_of c.args.present.now.state.now.state c.in_ok-lab.lab.now c.in_ok-lab.experiment.now c.in_ok-lab.ensures.out.there
 
 pub returns-clause-judged : goal.returns-clause-judged
 returns-clause-judged g c =
-    let s = c.args.present.state.now.state in
+    let s = c.args.present.now.state.now.state in
     let lab = c.in_ok-lab.lab.now in
     let e = c.in_ok-lab.experiment.now in
-    asked_so (need_idle_out s (has_open c.args.present.swaps.now c.args.exp) c.args.exp) _ (lab, e) c.tell_found.result c.in_ok-lab.ensures.place
+    asked_so (need_idle_out s (has_open c.args.present.now.swaps.now c.args.exp) c.args.exp) _ (lab, e) c.tell_found.result c.in_ok-lab.ensures.place
     (found_so c.args.rule.now.number s lab e e.wiring c.args.seed (judged_solved lab e) c.in_ok-found.found c.tell_found.result c.in_ok-found.ensures.found c.tell_found.ensures.judged)

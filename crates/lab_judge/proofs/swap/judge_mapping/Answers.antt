@@ -10,13 +10,13 @@ pub need_feasible-requires-clause-there : goal.need_feasible-requires-clause-the
 need_feasible-requires-clause-there c = c.requires.out.there
 
 pub need_feasible-requires-clause-sound : goal.need_feasible-requires-clause-sound
-need_feasible-requires-clause-sound c = sound_of c.args.case.state.now.state c.args.case.lab.now c.args.case.experiment.now c.requires.out.there
+need_feasible-requires-clause-sound c = sound_of c.args.case.now.state.now.state c.args.case.now.lab.now c.args.case.now.experiment.now c.requires.out.there
 
 pub returns-in_err-need_feasible-clause-judged : goal.returns-in_err-need_feasible-clause-judged
 returns-in_err-need_feasible-clause-judged c =
     let p = err_from_is_err_and c.from_residual.result c.from_residual.ensures.1 in
-    rw (p.1, p.2) (refused_by (need_feasible c.args.case.lab.now c.args.case.state.now.state.experiments c.args.case.experiment.now c.args.case.experiment.now.wiring c.args.mapping.now) _ c.in_err-need_feasible.field-0.0 c.in_err-need_feasible.ensures.refuses)
+    rw (p.1, p.2) (refused_by (need_feasible c.args.case.now.lab.now c.args.case.now.state.now.state.experiments c.args.case.now.experiment.now c.args.case.now.experiment.now.wiring c.args.mapping.now) _ c.in_err-need_feasible.field-0.0 c.in_err-need_feasible.ensures.refuses)
 
 pub returns-clause-judged : goal.returns-clause-judged
 returns-clause-judged c =
-    entry_is c.args.case.state.now.state c.args.case.lab.now c.args.case.experiment.now c.args.mapping.now c.in_ok-need_feasible.ensures.keeps ∙ ap (λ (t : Task). let j : Result Task Reply = Ok t in j) (sym c.in_ok-task.ensures.task)
+    entry_is c.args.case.now.state.now.state c.args.case.now.lab.now c.args.case.now.experiment.now c.args.mapping.now c.in_ok-need_feasible.ensures.keeps ∙ ap (λ (t : Task). let j : Result Task Reply = Ok t in j) (sym c.in_ok-task.ensures.task)
