@@ -14,4 +14,4 @@ returns-in-Err-clause-judged c =
 
 pub returns-clause-judged : goal.returns-clause-judged
 returns-clause-judged c =
-    change_is c.args.case.now.state.now.state c.args.case.now.lab.now c.args.case.now.experiment.now c.args.wiring c.args.mapping c.in-not-Err.ensures.keeps ∙ ap (λ (t : Task). let j : Result Task Reply = Ok t in j) (sym c.in_ok-task.ensures.task)
+    change_is c.args.case.now.state.now.state c.args.case.now.lab.now c.args.case.now.experiment.now c.args.wiring c.args.mapping c.in_default.ensures.keeps ∙ ap (λ (t : Task). let j : Result Task Reply = Ok t in j) (sym c.in_ok-task.ensures.task)

@@ -28,8 +28,8 @@ bad_behind-requires c = λ fault is.
     let read = subst (λ (r : TextRefused). Reads {X = Mapping} (Err r) (mapping_of_text lab c.in-Ok.wiring c.args.map.now)) is c.in-Err-read_solution.ensures.reads in
     omega (arith, fault_within lab c.in-Ok.wiring c.args.map.now fault read, c.requires.map, c.ranges.lines.fits)
 
-pub returns-in-Ok-clause-judged : goal.returns-in-Ok-clause-judged
-returns-in-Ok-clause-judged c =
+pub returns-in-Ok-read_solution-clause-judged : goal.returns-in-Ok-read_solution-clause-judged
+returns-in-Ok-read_solution-clause-judged c =
     given_by (need_idle_in c.args.present.now.state.now.state (has_open c.args.present.now.swaps.now c.args.exp) c.args.exp) _ (c.in_ok-lab.lab.now, c.in_ok-lab.experiment.now) c.judge_change.result c.in_ok-lab.ensures.place
     (meant_by (Bad c.args.exp) (wiring_of_text c.args.top.now) _ c.in-Ok.wiring c.judge_change.result c.in-Ok.ensures.reads
     (meant_by (λ fault. Bad c.args.exp (behind_lines c.args.lines fault)) (mapping_of_text c.in_ok-lab.lab.now c.in-Ok.wiring c.args.map.now) _ c.in-Ok-read_solution.given c.judge_change.result c.in-Ok-read_solution.ensures.reads c.judge_change.ensures.judged))

@@ -1,9 +1,11 @@
 use Rattle.std.proofs.Common.{Ok, Result, ap, refl, sym}
 use Rattle.std.proofs.lemmas.Result.{err_from_is_err_and}
 use Rattle.journal_rec.specs.declared.record.Record.{Record}
+use Rattle.journal_rec.specs.declared.record.Record.TheVariants.{Delete}
 use Rattle.script_text.specs.declared.reply.Reply.{Reply}
 use Rattle.script_text.specs.declared.reply.Reply.TheVariants.{Deleted}
 use Rattle.lab_judge.specs.Judge.{Append, Task, need_idle_out}
+use Rattle.lab_judge.specs.declared.task.Task.TheVariants as tasks
 use Rattle.lab_judge.specs.OpenNames.{has_open}
 use Rattle.lab_judge.proofs.JudgeTasks.{can_delete}
 use Rattle.lab_judge.proofs.Checks.{given_by, refused_by}
@@ -16,7 +18,7 @@ returns-in_err-_idle-clause-judged c =
 
 pub returns-clause-judged : goal.returns-clause-judged
 returns-clause-judged c =
-    given_by (need_idle_out c.args.present.now.state.now.state (has_open c.args.present.now.swaps.now c.args.exp) c.args.exp) _ (c.in_ok-_idle._idle.0.now, c.in_ok-_idle._idle.1.now) _ c.in_ok-_idle.ensures.place
+    given_by (need_idle_out c.args.present.now.state.now.state (has_open c.args.present.now.swaps.now c.args.exp) c.args.exp) (λ p. Ok (Append (Delete c.args.exp) (Deleted c.args.exp))) (c.in_ok-_idle._idle.0.now, c.in_ok-_idle._idle.1.now) (Ok (tasks.Append c.delete_record.result (Deleted c.args.exp))) c.in_ok-_idle.ensures.place
     (ap (λ (r : Record). let j : Result Task Reply = Ok (Append r (Deleted c.args.exp)) in j) (sym c.delete_record.ensures.entry))
 
 pub returns-clause-can : goal.returns-clause-can

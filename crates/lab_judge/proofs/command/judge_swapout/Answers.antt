@@ -1,8 +1,10 @@
 use Rattle.std.proofs.Common.{Ok, Result, ap, sym}
 use Rattle.std.proofs.lemmas.Result.{err_from_is_err_and}
 use Rattle.journal_rec.specs.declared.record.Way.{Way}
+use Rattle.journal_rec.specs.declared.record.Way.TheVariants.{Out as WayOut}
 use Rattle.script_text.specs.declared.reply.Reply.{Reply}
 use Rattle.lab_judge.specs.Judge.{Swap, Task, need_idle_in}
+use Rattle.lab_judge.specs.declared.task.Task.TheVariants as tasks
 use Rattle.lab_judge.specs.OpenNames.{has_open}
 use Rattle.lab_judge.proofs.JudgeTasks.{can_leave, stands_sound}
 use Rattle.lab_judge.proofs.Checks.{given_by, refused_by}
@@ -24,7 +26,7 @@ plan_out-requires-clause-tagged c = (stands_sound c.args.present.now.state.now.s
 
 pub returns-clause-judged : goal.returns-clause-judged
 returns-clause-judged c =
-    given_by (need_idle_in c.args.present.now.state.now.state (has_open c.args.present.now.swaps.now c.args.exp) c.args.exp) _ (c.in_ok-lab.lab.now, c.in_ok-lab.experiment.now) _ c.in_ok-lab.ensures.place
+    given_by (need_idle_in c.args.present.now.state.now.state (has_open c.args.present.now.swaps.now c.args.exp) c.args.exp) (λ p. Ok (Swap c.args.exp WayOut)) (c.in_ok-lab.lab.now, c.in_ok-lab.experiment.now) (Ok (tasks.Swap c.args.exp c.way_out.result c.in_ok-ops.ops)) c.in_ok-lab.ensures.place
     (ap (λ (w : Way). let j : Result Task Reply = Ok (Swap c.args.exp w) in j) (sym c.way_out.ensures.way))
 
 pub returns-clause-can : goal.returns-clause-can

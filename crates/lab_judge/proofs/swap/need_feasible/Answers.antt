@@ -15,7 +15,6 @@ returns-in-Ok-clause-keeps c = keeps_so c.args.case.now.state.now.state c.args.c
 pub returns-in-Err-Violation-clause-refuses : goal.returns-in-Err-Violation-clause-refuses
 returns-in-Err-Violation-clause-refuses c =
     let found = rw c.in-Err-Violation.field-0-is at c.in-Err-Violation.ensures in
-    let refused = rw c.in-Err-Violation.field-0-is at c.infeasible.ensures in
     refuses_as (Unit {0}) _ (need_kept c.args.case.now.lab.now c.args.case.now.experiment.now.name c.args.wiring.now (Some (c.in-Err-Violation.rule, c.in-Err-Violation.subject))) c.infeasible.result
     (ap (λ v. need_kept c.args.case.now.lab.now c.args.case.now.experiment.now.name c.args.wiring.now v)
-    (sym found ∙ checks c.args.case.now.state.now.state c.args.case.now.lab.now c.args.case.now.experiment.now c.in-Some.claims.now c.requires.there c.in-Some.ensures.claims c.args.wiring.now c.args.mapping.now c.in_ok-free.free c.in_ok-free.ensures c.requires.shaped)) refused
+    (sym found ∙ checks c.args.case.now.state.now.state c.args.case.now.lab.now c.args.case.now.experiment.now c.in-Some.claims.now c.requires.there c.in-Some.ensures.claims c.args.wiring.now c.args.mapping.now c.in_ok-free.free c.in_ok-free.ensures c.requires.shaped)) c.infeasible.ensures
