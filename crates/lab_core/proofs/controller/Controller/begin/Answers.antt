@@ -102,7 +102,7 @@ returns-clause-begun g c =
           (subst (λ (x : LabState). IsPlanned x (after x ready.prepared) j ready.planned by.swap begin by.move) (sym same) plans) in
           let unopened = subst (λ (x : LabState). IsAfterOpening the_texts works.pairs by.swap x (after x ready.prepared) begin by.move (g.P.Plant.seen c.args.plant.now) (g.P.Plant.seen c.open_swap.new.plant) j new.journal new.swaps (Err fault)) same here in
           let lab : new.lab ≡ s = w.in-Err.ensures.unchanged.0 ∙ same in
-          let still = nothing_as _ _ (Err fault) (λ kept. (ap g.P.Plant.seen kept.0, λ i. control (lab i) (kept.1 i) (w.in-Err.ensures.unchanged.1 i))) w.in-Err.ensures.nothing in
+          let still = nothing_as ((c.open_swap.new.plant ≡ c.args.plant.now) × (new.journal ≡ j)) ((g.P.Plant.seen c.open_swap.new.plant ≡ g.P.Plant.seen c.args.plant.now) × (new ≡ old)) (Err fault) (λ kept. (ap g.P.Plant.seen kept.0, λ i. control (lab i) (kept.1 i) (w.in-Err.ensures.unchanged.1 i))) w.in-Err.ensures.nothing in
           not_opened devices _ _ old new opens c.args.swap.exp c.args.swap.way c.args.swap.ops.commands c.args.swap.ops.undo by works within (sym (ap (λ (n : ℕ). nat_le (length_of j + n + 10240) (limit_of j)) (body_size ready.planned.begin begin e.body)) ∙ space)
           (after s ready.prepared) fault w.in-Err.ensures.tried unopened still w.in-Err.ensures.stopped w.in-Err.ensures.limit)
     ]
