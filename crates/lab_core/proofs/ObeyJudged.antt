@@ -28,13 +28,13 @@ module _ (before : Seen) (inside old : Control) (view : inside ≡ old) (opens :
   abbrev JudgedInside : Result Task Reply → Type 0
   JudgedInside judgement = Judged rule inside.lab (has_open_for inside.swaps command) (length inside.swaps) command judgement
 
-  pub done_beside : (devices : ℕ) (now : Seen) (new : Control) (task : Task) (result : Result Reply CoreFault) → JudgedInside (Ok task) → Obeyed devices before now (Is (Ok task)) inside new opens (or_any (swapped_by task) (name_of command)) result
+  pub done_beside : (devices : ℕ) (now : Seen) (new : Control) (task : Task) (result : Result Reply CoreFault) → JudgedInside (Ok task) → Obeyed devices before now (Is (Ok task)) old new opens (or_any (swapped_by task) (name_of command)) result
       → Obeyed devices before now (JudgedBeside rule command opens old.lab) old new opens (name_of command) result
   done_beside devices now new task result judged h =
       let own = own_or (swapped_by task) (name_of command) (swaps_own rule inside.lab (has_open_for inside.swaps command) (length inside.swaps) command task judged) in
-      subst (λ (c : Control). Obeyed devices before now (JudgedBeside rule command opens c.lab) c new opens (name_of command) result) view
-      (obeyed_as rule devices before now inside new opens (name_of command) command (Ok task) (judged_beside before inside opens works rule command (Ok task) judged) result
-      (subst (λ (e : Option (List ℕ)). Obeyed devices before now (Is (Ok task)) inside new opens e result) own h))
+      let judged_so = subst (λ (c : Control). JudgedBeside rule command opens c.lab (Ok task)) view (judged_beside before inside opens works rule command (Ok task) judged) in
+      obeyed_as rule devices before now old new opens (name_of command) command (Ok task) judged_so result
+      (subst (λ (e : Option (List ℕ)). Obeyed devices before now (Is (Ok task)) old new opens e result) own h)
 
   pub refused_beside : (reply : Reply) → JudgedInside (Err reply) × IsMild reply → JudgedBeside rule command opens old.lab (Err reply) × IsMild reply
   refused_beside reply h = (subst (λ (c : Control). JudgedBeside rule command opens c.lab (Err reply)) view (judged_beside before inside opens works rule command (Err reply) h.0), h.1)

@@ -91,13 +91,12 @@ module _ (before : Seen) (inside old : Control) (view : inside ≡ old) (opens :
   abbrev JudgedInside : Result Task Reply → Type 0
   JudgedInside j = JudgedEventAt exp text event inside.lab (has_open inside.swaps exp) (length inside.swaps) j
 
-  pub event_done : (devices : ℕ) (now : Seen) (new : Control) (task : Task) (result : Result Reply CoreFault) → JudgedInside (Ok task) → Obeyed devices before now (Is (Ok task)) inside new opens (or_any (swapped_by task) (Some exp)) result
+  pub event_done : (devices : ℕ) (now : Seen) (new : Control) (task : Task) (result : Result Reply CoreFault) → JudgedInside (Ok task) → Obeyed devices before now (Is (Ok task)) old new opens (or_any (swapped_by task) (Some exp)) result
       → Obeyed devices before now (JudgedEvent exp text event old.lab opens) old new opens (Some exp) result
   event_done devices now new task result judged h =
-      subst (λ (c : Control). Obeyed devices before now (JudgedEvent exp text event c.lab opens) c new opens (Some exp) result) view
-      (obeyed_by (Is (Ok task)) (JudgedEvent exp text event inside.lab opens) (λ j is. subst (λ (x : Result Task Reply). JudgedEvent exp text event inside.lab opens x) (sym is) (event_beside before inside old view opens works exp text event (Ok task) judged))
-      devices before now inside new opens (Some exp) result
-      (subst (λ (e : Option (List ℕ)). Obeyed devices before now (Is (Ok task)) inside new opens e result) (event_swaps inside.lab inside.swaps exp text event task judged) h))
+      let judged_so = subst (λ (c : Control). JudgedEvent exp text event c.lab opens (Ok task)) view (event_beside before inside old view opens works exp text event (Ok task) judged) in
+      obeyed_by (Is (Ok task)) (JudgedEvent exp text event old.lab opens) (λ j is. subst (λ (x : Result Task Reply). JudgedEvent exp text event old.lab opens x) (sym is) judged_so) devices before now old new opens (Some exp) result
+      (subst (λ (e : Option (List ℕ)). Obeyed devices before now (Is (Ok task)) old new opens e result) (event_swaps inside.lab inside.swaps exp text event task judged) h)
 
   pub event_refused : (reply : Reply) → JudgedInside (Err reply) × IsMild reply → JudgedEvent exp text event old.lab opens (Err reply) × IsMild reply
   event_refused reply h = (subst (λ (c : Control). JudgedEvent exp text event c.lab opens (Err reply)) view (event_beside before inside old view opens works exp text event (Err reply) h.0), h.1)

@@ -97,13 +97,13 @@ module _ (before : Seen) (inside old : Control) (view : inside ≡ old) (opens :
       subst (λ (n : ℕ). JudgedRunAt rule moment promises ends run (Space inside) inside.lab (is_busy (names_of opens) run.exp) n j) (sym (same_count before inside opens works))
       (subst (λ (b : Bool). JudgedRunAt rule moment promises ends run (Space inside) inside.lab b (length inside.swaps) j) (sym (same_busy before inside opens works run.exp)) h)
 
-  pub run_done : (now : Seen) (new : Control) (task : Task) (result : Result Reply CoreFault) → JudgedInside (Ok task) → Obeyed devices before now (Is (Ok task)) inside new opens (or_any (swapped_by task) (Some run.exp)) result
+  pub run_done : (now : Seen) (new : Control) (task : Task) (result : Result Reply CoreFault) → JudgedInside (Ok task) → Obeyed devices before now (Is (Ok task)) old new opens (or_any (swapped_by task) (Some run.exp)) result
       → Obeyed devices before now (JudgedRun rule moment promises ends run (Space old) old.lab opens) old new opens (Some run.exp) result
   run_done now new task result judged h =
-      subst (λ (c : Control). Obeyed devices before now (JudgedRun rule moment promises ends run (Space c) c.lab opens) c new opens (Some run.exp) result) view
-      (obeyed_by (Is (Ok task)) (JudgedRun rule moment promises ends run (Space inside) inside.lab opens)
-      (λ j is. subst (λ (x : Result Task Reply). JudgedRun rule moment promises ends run (Space inside) inside.lab opens x) (sym is) (beside (Ok task) judged)) devices before now inside new opens (Some run.exp) result
-      (subst (λ (e : Option (List ℕ)). Obeyed devices before now (Is (Ok task)) inside new opens e result) (run_swaps inside.lab inside.swaps rule moment promises ends run (Space inside) task judged) h))
+      let judged_so = subst (λ (c : Control). JudgedRun rule moment promises ends run (Space c) c.lab opens (Ok task)) view (beside (Ok task) judged) in
+      obeyed_by (Is (Ok task)) (JudgedRun rule moment promises ends run (Space old) old.lab opens)
+      (λ j is. subst (λ (x : Result Task Reply). JudgedRun rule moment promises ends run (Space old) old.lab opens x) (sym is) judged_so) devices before now old new opens (Some run.exp) result
+      (subst (λ (e : Option (List ℕ)). Obeyed devices before now (Is (Ok task)) old new opens e result) (run_swaps inside.lab inside.swaps rule moment promises ends run (Space inside) task judged) h)
 
   pub run_refused : (reply : Reply) → JudgedInside (Err reply) × IsMild reply → JudgedRun rule moment promises ends run (Space old) old.lab opens (Err reply) × IsMild reply
   run_refused reply h = (subst (λ (c : Control). JudgedRun rule moment promises ends run (Space c) c.lab opens (Err reply)) view (beside (Err reply) h.0), h.1)

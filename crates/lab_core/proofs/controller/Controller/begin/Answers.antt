@@ -18,6 +18,7 @@ use Rattle.lab_core.proofs.PerformAppend.{full, stands_of}
 use Rattle.lab_core.proofs.RunSwap.{is_opened, no_space_for, not_opened, nothing_as, planned}
 use Rattle.lab_core.proofs.SwapReplies.{unopened_told}
 use Rattle.lab_core.proofs.controller.Controller.begin.Goals as goal
+use Rattle.lab_core.proofs.controller.Controller.begin.Goals.{in-Ok-open_swap, in-Err}
 
 pub prepare_swap-requires-clause-record : goal.prepare_swap-requires-clause-record
 prepare_swap-requires-clause-record g c = c.requires.can.0
@@ -57,50 +58,58 @@ open_swap-requires-clause-room g c = rw (← c.self.view_is) at c.requires.ready
 pub reply_of_unopened-requires : goal.reply_of_unopened-requires
 reply_of_unopened-requires g c = c.in-Err.ensures.tried
 
--- the swap is planned, with space
-pub returns-in-Ok-open_swap-clause-begun : goal.returns-in-Ok-open_swap-clause-begun
-returns-in-Ok-open_swap-clause-begun g c = rw (← c.self.view_is) (λ opens devices within works.
-    let s = c.self.inside.lab.state in
-    let j = c.self.inside.journal in
-    let old : Control = control s j c.self.inside.swaps in
-    let new : Control = control c.open_swap.new.lab.state c.open_swap.new.journal c.open_swap.new.swaps in
-    let ready = c.in-Ok.ready in
-    let e = c.in-Ok.ensures in
-    let by = rw (← c.self.view_is) at c.requires.can.2 in
-    let begin = Begin c.args.swap.exp c.args.swap.way in
-    let same = c.prepare_swap.ensures.unchanged in
-    let space : nat_le (length_of j + length ready.planned.begin + 10240) (limit_of j) ≡ true = sym (ap (λ (n : ℕ). nat_le (length_of j + n + 10240) (limit_of j)) c.size.ensures) ∙ (sym c.has_space.ensures.space ∙ c.if-not-has_space.false) in
-    let plans : IsPlanned s (after s ready.prepared) j ready.planned by.swap begin by.move = planned s (after s ready.prepared) j ready.planned c.args.swap.exp c.args.swap.way c.args.swap.ops.commands c.args.swap.ops.undo by c.requires.can.0 e.follows e.body e.forth space c.has_space.ensures.most c.prepare_swap.ensures.sane in
-    let here = c.in-Ok-open_swap.ensures.begun works.pairs by.swap begin by.move (subst (λ (x : LabState). Working the_texts (g.P.Plant.seen c.args.plant.now).told j x works.pairs) (sym same) works.working) works.holds
-    (subst (λ (x : LabState). IsPlanned x (after x ready.prepared) j ready.planned by.swap begin by.move) (sym same) plans) in
-    let opened = subst (λ (x : LabState). HasOpened the_texts works.pairs by.swap x (after x ready.prepared) begin by.move (g.P.Plant.seen c.args.plant.now) (g.P.Plant.seen c.open_swap.new.plant) j new.journal new.swaps) same here in
-    let lab : new.lab ≡ after s ready.prepared = c.in-Ok-open_swap.ensures.lab ∙ ap (λ (x : LabState). after x ready.prepared) same in
-    is_opened devices _ _ old new opens c.args.swap.exp c.args.swap.way c.args.swap.ops.commands c.args.swap.ops.undo by works within
-    (sym (ap (λ (n : ℕ). nat_le (length_of j + n + 10240) (limit_of j)) (body_size ready.planned.begin begin e.body)) ∙ space)
-    (subst (λ (x : LabState). HasOpened the_texts works.pairs by.swap s x begin by.move (g.P.Plant.seen c.args.plant.now) (g.P.Plant.seen c.open_swap.new.plant) j new.journal new.swaps) (sym lab) opened) (λ stopped. c.in-Ok-open_swap.ensures.stopped.1 stopped))
+-- the swap is planned, with space: it is open, or was not opened
+pub returns-clause-begun : goal.returns-clause-begun
+returns-clause-begun g c =
+    elim c.match-open_swap.branch [
+      | in-Ok-open_swap w ↦
+          rw (w.result-is, ← c.self.view_is)
+          (λ opens devices within works.
+          let s = c.self.inside.lab.state in
+          let j = c.self.inside.journal in
+          let old : Control = control s j c.self.inside.swaps in
+          let new : Control = control c.open_swap.new.lab.state c.open_swap.new.journal c.open_swap.new.swaps in
+          let ready = c.in-Ok.ready in
+          let e = c.in-Ok.ensures in
+          let by = rw (← c.self.view_is) at c.requires.can.2 in
+          let begin = Begin c.args.swap.exp c.args.swap.way in
+          let same = c.prepare_swap.ensures.unchanged in
+          let space : nat_le (length_of j + length ready.planned.begin + 10240) (limit_of j) ≡ true = sym (ap (λ (n : ℕ). nat_le (length_of j + n + 10240) (limit_of j)) c.size.ensures) ∙ (sym c.has_space.ensures.space ∙ c.if-not-has_space.false) in
+          let plans : IsPlanned s (after s ready.prepared) j ready.planned by.swap begin by.move = planned s (after s ready.prepared) j ready.planned c.args.swap.exp c.args.swap.way c.args.swap.ops.commands c.args.swap.ops.undo by c.requires.can.0 e.follows e.body e.forth space c.has_space.ensures.most c.prepare_swap.ensures.sane in
+          let here = w.in-Ok-open_swap.ensures.begun works.pairs by.swap begin by.move (subst (λ (x : LabState). Working the_texts (g.P.Plant.seen c.args.plant.now).told j x works.pairs) (sym same) works.working) works.holds
+          (subst (λ (x : LabState). IsPlanned x (after x ready.prepared) j ready.planned by.swap begin by.move) (sym same) plans) in
+          let opened = subst (λ (x : LabState). HasOpened the_texts works.pairs by.swap x (after x ready.prepared) begin by.move (g.P.Plant.seen c.args.plant.now) (g.P.Plant.seen c.open_swap.new.plant) j new.journal new.swaps) same here in
+          let lab : new.lab ≡ after s ready.prepared = w.in-Ok-open_swap.ensures.lab ∙ ap (λ (x : LabState). after x ready.prepared) same in
+          is_opened devices _ _ old new opens c.args.swap.exp c.args.swap.way c.args.swap.ops.commands c.args.swap.ops.undo by works within
+          (sym (ap (λ (n : ℕ). nat_le (length_of j + n + 10240) (limit_of j)) (body_size ready.planned.begin begin e.body)) ∙ space)
+          (subst (λ (x : LabState). HasOpened the_texts works.pairs by.swap s x begin by.move (g.P.Plant.seen c.args.plant.now) (g.P.Plant.seen c.open_swap.new.plant) j new.journal new.swaps) (sym lab) opened) (λ stopped. w.in-Ok-open_swap.ensures.stopped.1 stopped))
+      | in-Err w ↦
+          rw (w.result-is, w.reply_of_unopened.ensures, ← c.self.view_is)
+          (λ opens devices within works.
+          let s = c.self.inside.lab.state in
+          let j = c.self.inside.journal in
+          let old : Control = control s j c.self.inside.swaps in
+          let new : Control = control c.open_swap.new.lab.state c.open_swap.new.journal c.open_swap.new.swaps in
+          let ready = c.in-Ok.ready in
+          let e = c.in-Ok.ensures in
+          let by = rw (← c.self.view_is) at c.requires.can.2 in
+          let begin = Begin c.args.swap.exp c.args.swap.way in
+          let same = c.prepare_swap.ensures.unchanged in
+          let fault = w.in-Err.fault in
+          let space : nat_le (length_of j + length ready.planned.begin + 10240) (limit_of j) ≡ true = sym (ap (λ (n : ℕ). nat_le (length_of j + n + 10240) (limit_of j)) c.size.ensures) ∙ (sym c.has_space.ensures.space ∙ c.if-not-has_space.false) in
+          let plans : IsPlanned s (after s ready.prepared) j ready.planned by.swap begin by.move = planned s (after s ready.prepared) j ready.planned c.args.swap.exp c.args.swap.way c.args.swap.ops.commands c.args.swap.ops.undo by c.requires.can.0 e.follows e.body e.forth space c.has_space.ensures.most c.prepare_swap.ensures.sane in
+          let here = w.in-Err.ensures.begun works.pairs by.swap begin by.move (subst (λ (x : LabState). Working the_texts (g.P.Plant.seen c.args.plant.now).told j x works.pairs) (sym same) works.working) works.holds
+          (subst (λ (x : LabState). IsPlanned x (after x ready.prepared) j ready.planned by.swap begin by.move) (sym same) plans) in
+          let unopened = subst (λ (x : LabState). IsAfterOpening the_texts works.pairs by.swap x (after x ready.prepared) begin by.move (g.P.Plant.seen c.args.plant.now) (g.P.Plant.seen c.open_swap.new.plant) j new.journal new.swaps (Err fault)) same here in
+          let lab : new.lab ≡ s = w.in-Err.ensures.unchanged.0 ∙ same in
+          let still = nothing_as ((c.open_swap.new.plant ≡ c.args.plant.now) × (new.journal ≡ j)) ((g.P.Plant.seen c.open_swap.new.plant ≡ g.P.Plant.seen c.args.plant.now) × (new ≡ old)) (Err fault) (λ kept. (ap g.P.Plant.seen kept.0, λ i. control (lab i) (kept.1 i) (w.in-Err.ensures.unchanged.1 i))) w.in-Err.ensures.nothing in
+          not_opened devices _ _ old new opens c.args.swap.exp c.args.swap.way c.args.swap.ops.commands c.args.swap.ops.undo by works within (sym (ap (λ (n : ℕ). nat_le (length_of j + n + 10240) (limit_of j)) (body_size ready.planned.begin begin e.body)) ∙ space)
+          (after s ready.prepared) fault w.in-Err.ensures.tried unopened still w.in-Err.ensures.stopped w.in-Err.ensures.limit)
+    ]
 
-pub returns-in-Err-clause-begun : goal.returns-in-Err-clause-begun
-returns-in-Err-clause-begun g c = rw (← c.self.view_is) (λ opens devices within works.
-    let s = c.self.inside.lab.state in
-    let j = c.self.inside.journal in
-    let old : Control = control s j c.self.inside.swaps in
-    let new : Control = control c.open_swap.new.lab.state c.open_swap.new.journal c.open_swap.new.swaps in
-    let ready = c.in-Ok.ready in
-    let e = c.in-Ok.ensures in
-    let by = rw (← c.self.view_is) at c.requires.can.2 in
-    let begin = Begin c.args.swap.exp c.args.swap.way in
-    let same = c.prepare_swap.ensures.unchanged in
-    let fault = c.in-Err.fault in
-    let space : nat_le (length_of j + length ready.planned.begin + 10240) (limit_of j) ≡ true = sym (ap (λ (n : ℕ). nat_le (length_of j + n + 10240) (limit_of j)) c.size.ensures) ∙ (sym c.has_space.ensures.space ∙ c.if-not-has_space.false) in
-    let plans : IsPlanned s (after s ready.prepared) j ready.planned by.swap begin by.move = planned s (after s ready.prepared) j ready.planned c.args.swap.exp c.args.swap.way c.args.swap.ops.commands c.args.swap.ops.undo by c.requires.can.0 e.follows e.body e.forth space c.has_space.ensures.most c.prepare_swap.ensures.sane in
-    let here = c.in-Err.ensures.begun works.pairs by.swap begin by.move (subst (λ (x : LabState). Working the_texts (g.P.Plant.seen c.args.plant.now).told j x works.pairs) (sym same) works.working) works.holds
-    (subst (λ (x : LabState). IsPlanned x (after x ready.prepared) j ready.planned by.swap begin by.move) (sym same) plans) in
-    let unopened = subst (λ (x : LabState). IsAfterOpening the_texts works.pairs by.swap x (after x ready.prepared) begin by.move (g.P.Plant.seen c.args.plant.now) (g.P.Plant.seen c.open_swap.new.plant) j new.journal new.swaps (Err fault)) same here in
-    let lab : new.lab ≡ s = c.in-Err.ensures.unchanged.0 ∙ same in
-    let still = nothing_as _ _ (Err fault) (λ kept. (ap g.P.Plant.seen kept.0, λ i. control (lab i) (kept.1 i) (c.in-Err.ensures.unchanged.1 i))) c.in-Err.ensures.nothing in
-    rw c.reply_of_unopened.ensures
-    (not_opened devices _ _ old new opens c.args.swap.exp c.args.swap.way c.args.swap.ops.commands c.args.swap.ops.undo by works within (sym (ap (λ (n : ℕ). nat_le (length_of j + n + 10240) (limit_of j)) (body_size ready.planned.begin begin e.body)) ∙ space)
-    (after s ready.prepared) fault c.in-Err.ensures.tried unopened still c.in-Err.ensures.stopped c.in-Err.ensures.limit))
-
-pub returns-in-Err-clause-told : goal.returns-in-Err-clause-told
-returns-in-Err-clause-told g c = rw c.reply_of_unopened.ensures (unopened_told c.args.swap.exp c.in-Err.fault)
+pub returns-clause-told : goal.returns-clause-told
+returns-clause-told g c =
+    elim c.match-open_swap.branch [
+      | in-Ok-open_swap w ↦ rw w.result-is tt
+      | in-Err w ↦ rw (w.result-is, w.reply_of_unopened.ensures) (unopened_told c.args.swap.exp w.in-Err.fault)
+    ]

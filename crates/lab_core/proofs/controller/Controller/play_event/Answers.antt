@@ -1,16 +1,17 @@
 use Rattle.std.proofs.Common.{sym, subst}
-use Rattle.lab_core.specs.Controller.{CanWork, Control, WorksWith, control}
+use Rattle.lab_core.specs.Controller.{Control, WorksWith, control}
 use Rattle.lab_core.specs.PlayList.{JudgedEvent}
-use Rattle.lab_judge.specs.Tasks.{task_of}
+use Rattle.lab_core.specs.Perform.{IsReady}
+use Rattle.lab_judge.specs.Tasks.{CanDo, task_of}
 use Rattle.lab_core.proofs.Obey.{refuses, wanted}
 use Rattle.lab_core.proofs.Plays.{event_done, event_part, event_ready, event_refused, refusal_part}
 use Rattle.lab_core.proofs.controller.Controller.play_event.Goals as goal
 
-pub perform-requires-clause-ready : goal.perform-requires-clause-ready
-perform-requires-clause-ready g c = event_ready c.self.inside.lab.state c.self.inside.swaps c.args.exp c.args.text.now c.args.event.now (task_of c.in-Ok.task) c.in-Ok.ensures.judged
+pub perform-requires-clause-can : goal.perform-requires-clause-can
+perform-requires-clause-can g c = subst (λ (k : Control). CanDo k.lab c.in-Ok.task) c.self.view_is c.in-Ok.ensures.can
 
-pub perform-requires-clause-works : goal.perform-requires-clause-works
-perform-requires-clause-works g c = subst (λ (k : Control). CanWork (g.P.Plant.seen c.args.plant.now) k) (sym c.self.view_is) c.requires.works
+pub perform-requires-clause-ready : goal.perform-requires-clause-ready
+perform-requires-clause-ready g c = subst (λ (k : Control). IsReady k.swaps (task_of c.in-Ok.task)) c.self.view_is (event_ready c.self.inside.lab.state c.self.inside.swaps c.args.exp c.args.text.now c.args.event.now (task_of c.in-Ok.task) c.in-Ok.ensures.judged)
 
 pub returns-in-Ok-clause-obeys : goal.returns-in-Ok-clause-obeys
 returns-in-Ok-clause-obeys g c = λ opens devices within works.
@@ -19,7 +20,7 @@ returns-in-Ok-clause-obeys g c = λ opens devices within works.
     let new = c.perform.new.self in
     let works_inside = subst (λ (k : Control). WorksWith before k opens) (sym c.self.view_is) works in
     event_done before inside c.args.self.now c.self.view_is opens works_inside c.args.exp c.args.text.now c.args.event.now devices (g.P.Plant.seen c.perform.new.plant) new (task_of c.in-Ok.task) c.perform.result c.in-Ok.ensures.judged
-    (c.perform.ensures.obeyed opens devices (Rattle.std.proofs.Common.Some c.args.exp) within works_inside)
+    (c.perform.ensures.obeyed opens devices (Rattle.std.proofs.Common.Some c.args.exp) within works)
 
 pub returns-in-Ok-clause-part : goal.returns-in-Ok-clause-part
 returns-in-Ok-clause-part g c = event_part c.self.inside.lab.state c.self.inside.swaps c.args.exp c.args.text.now c.args.event.now (task_of c.in-Ok.task) c.in-Ok.ensures.judged c.perform.result c.perform.ensures.told
