@@ -1,4 +1,4 @@
--- What the code judges of a batch and of its runs.
+-- The judgements of a batch and of its runs, as the code makes them.
 use Rattle.std.specs.Prelude.{if◌then◌else◌}
 use Rattle.std.specs.List.{list_any, range_with_len}
 use Rattle.std.proofs.Common.{◌≡◌, inl, inr, ℕ, ◌||◌, ◌==◌, Bool, List, [], ◌∷◌, filter, length, map, Option, Some, None, IfSome, Result, Ok, Err, refl, sym, ap, ◌∙◌, subst}

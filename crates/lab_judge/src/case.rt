@@ -1,4 +1,4 @@
-// What a command is judged by.
+// The lab, its open swaps and an experiment, by which a command is judged.
 use lab_state::LabState;
 use phys_lab::Lab;
 use swap_mgr::Manager;

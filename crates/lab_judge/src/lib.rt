@@ -1,4 +1,4 @@
-//! What a command does in a lab, or why not: the first refusal in order, or its task.
+//! The judgement of a command in a lab: the first refusal in order, or its task.
 //!
 //! Nothing is done here, and there is no plant. A command joins by a case of `Judged` in `specs/Judge.antt`, and one of `judge`.
 #![tactic(auto)]
