@@ -38,26 +38,32 @@ perform-requires-clause-can g c = subst (λ (k : Control). CanDo k.lab c.in-Ok.t
 pub perform-requires-clause-ready : goal.perform-requires-clause-ready
 perform-requires-clause-ready g c = subst (λ (k : Control). IsReady k.swaps (task_of c.in-Ok.task)) c.self.view_is (ready_of_judged c.args.rule.now.number c.self.inside.lab.state c.self.inside.swaps c.args.command.now (task_of c.in-Ok.task) c.in-Ok.ensures.judged)
 
-pub returns-in-Ok-clause-obeys : goal.returns-in-Ok-clause-obeys
-returns-in-Ok-clause-obeys g c = λ opens devices within works.
-    let before = g.P.Plant.seen c.args.plant.now in
-    let now = g.P.Plant.seen c.perform.new.plant in
-    let inside = control c.self.inside.lab.state c.self.inside.journal c.self.inside.swaps in
-    let new = c.perform.new.self in
-    let works_inside = subst (λ (k : Control). WorksWith before k opens) (sym c.self.view_is) works in
-    plain_obeys c.args.rule.now.number c.args.command.now (judged_alone c.args.command.now c.in_default.not-Play c.in_default.not-Batch c.in_default.not-Audit) devices before now c.args.self.now new opens c.perform.result
-    (done_beside before inside c.args.self.now c.self.view_is opens works_inside c.args.rule.now.number c.args.command.now devices now new (task_of c.in-Ok.task) c.perform.result c.in-Ok.ensures.judged (c.perform.ensures.obeyed opens devices (name_of c.args.command.now) within works))
+pub returns-in-Ok : goal.returns-in-Ok
+returns-in-Ok g c = record {
+  obeys = λ opens devices within works.
+      let before = g.P.Plant.seen c.args.plant.now in
+      let now = g.P.Plant.seen c.perform.new.plant in
+      let inside = control c.self.inside.lab.state c.self.inside.journal c.self.inside.swaps in
+      let new = c.perform.new.self in
+      let works_inside = subst (λ (k : Control). WorksWith before k opens) (sym c.self.view_is) works in
+      plain_obeys c.args.rule.now.number c.args.command.now (judged_alone c.args.command.now c.in_default.not-Play c.in_default.not-Batch c.in_default.not-Audit) devices before now c.args.self.now new opens c.perform.result
+      (done_beside before inside c.args.self.now c.self.view_is opens works_inside c.args.rule.now.number c.args.command.now devices now new (task_of c.in-Ok.task) c.perform.result c.in-Ok.ensures.judged (c.perform.ensures.obeyed opens devices (name_of c.args.command.now) within works));
+}
 
-pub returns-in-Err-Refused-clause-obeys : goal.returns-in-Err-Refused-clause-obeys
-returns-in-Err-Refused-clause-obeys g c = λ opens devices within works.
-    let before = g.P.Plant.seen c.args.plant.now in
-    let inside = control c.self.inside.lab.state c.self.inside.journal c.self.inside.swaps in
-    let judged = rw c.in-Err-Refused.field-0-is at c.in-Err-Refused.ensures.judged in
-    plain_obeys c.args.rule.now.number c.args.command.now (judged_alone c.args.command.now c.in_default.not-Play c.in_default.not-Batch c.in_default.not-Audit) devices before before c.args.self.now c.args.self.now opens (Ok c.in-Err-Refused.reply)
-    (refuses devices before (JudgedBeside c.args.rule.now.number c.args.command.now opens c.args.self.now.lab) c.args.self.now opens (name_of c.args.command.now) c.in-Err-Refused.reply works
-    (refused_beside before inside c.args.self.now c.self.view_is opens (subst (λ (k : Control). WorksWith before k opens) (sym c.self.view_is) works) c.args.rule.now.number c.args.command.now c.in-Err-Refused.reply judged))
+pub returns-in-Err-Refused : goal.returns-in-Err-Refused
+returns-in-Err-Refused g c = record {
+  obeys = λ opens devices within works.
+      let before = g.P.Plant.seen c.args.plant.now in
+      let inside = control c.self.inside.lab.state c.self.inside.journal c.self.inside.swaps in
+      let judged = rw c.in-Err-Refused.field-0-is at c.in-Err-Refused.ensures.judged in
+      plain_obeys c.args.rule.now.number c.args.command.now (judged_alone c.args.command.now c.in_default.not-Play c.in_default.not-Batch c.in_default.not-Audit) devices before before c.args.self.now c.args.self.now opens (Ok c.in-Err-Refused.reply)
+      (refuses devices before (JudgedBeside c.args.rule.now.number c.args.command.now opens c.args.self.now.lab) c.args.self.now opens (name_of c.args.command.now) c.in-Err-Refused.reply works
+      (refused_beside before inside c.args.self.now c.self.view_is opens (subst (λ (k : Control). WorksWith before k opens) (sym c.self.view_is) works) c.args.rule.now.number c.args.command.now c.in-Err-Refused.reply judged));
+}
 
-pub returns-in-Err-Memory-clause-obeys : goal.returns-in-Err-Memory-clause-obeys
-returns-in-Err-Memory-clause-obeys g c = λ opens devices within works.
-    plain_obeys c.args.rule.now.number c.args.command.now (judged_alone c.args.command.now c.in_default.not-Play c.in_default.not-Batch c.in_default.not-Audit) devices (g.P.Plant.seen c.args.plant.now) (g.P.Plant.seen c.args.plant.now) c.args.self.now c.args.self.now opens (Err faults.Memory)
-    (wanted devices (g.P.Plant.seen c.args.plant.now) (JudgedBeside c.args.rule.now.number c.args.command.now opens c.args.self.now.lab) c.args.self.now opens (name_of c.args.command.now) works)
+pub returns-in-Err-Memory : goal.returns-in-Err-Memory
+returns-in-Err-Memory g c = record {
+  obeys = λ opens devices within works.
+      plain_obeys c.args.rule.now.number c.args.command.now (judged_alone c.args.command.now c.in_default.not-Play c.in_default.not-Batch c.in_default.not-Audit) devices (g.P.Plant.seen c.args.plant.now) (g.P.Plant.seen c.args.plant.now) c.args.self.now c.args.self.now opens (Err faults.Memory)
+      (wanted devices (g.P.Plant.seen c.args.plant.now) (JudgedBeside c.args.rule.now.number c.args.command.now opens c.args.self.now.lab) c.args.self.now opens (name_of c.args.command.now) works);
+}
