@@ -2,13 +2,13 @@
 use Rattle.std.proofs.Common.{◌≡◌, ◌≤◌, ◌<◌, ◌∙◌, ◌+◌, ◌++◌, ◌∷◌, [], inl, inr, ℕ, List, length, take, drop, map, get_or, Contains, Option, Some, None, true, false, refl, sym, ap, subst, suc, zero, length-append, arith}
 use Rattle.std.specs.List.{filter_map, cons_option}
 use Rattle.std.proofs.lemmas.Grind.{flat_map-append}
-use Rattle.std.proofs.lemmas.List.{take_more, map-append, get_or_append_left, get_or_default}
+use Rattle.std.proofs.lemmas.List.{take_more, map-append, get_or_append_left, get_or_default, append-nil}
 use Rattle.std.proofs.lemmas.List.Elements.{filter_map-append}
 use Rattle.std.proofs.Math.Seq.{get_or-append_seam}
 use Rattle.std.proofs.lemmas.Bool.{cases_lt, ltb-true, ltb-false}
+use Rattle.lab_base.proofs.Lists.{item_at}
 use Rattle.virt_topo.specs.declared.mapping.Mapping.{Mapping}
 use Rattle.lab_model.specs.Shapes.{Place}
-use Rattle.virt_topo.proofs.EndLaws.{item_at as drop_item}
 use Rattle.node_maps.specs.NodeMaps.{IsChoice}
 use Rattle.node_maps.specs.Least.{IsFirstLeast}
 use Rattle.node_maps.proofs.Leasts.{least_alone, least_kept, least_taken}
@@ -44,10 +44,6 @@ all_choices-append a b [] = refl
 all_choices-append a b (c ∷ cs) =
     ap (λ m. all_choices m cs) (flat_map-append (λ m. map (λ p. m ++ p ∷ []) c) a b) ∙ all_choices-append (extended a c) (extended b c) cs
 
-append_nil : {X : Type 0} (xs : List X) → xs ++ [] ≡ xs
-append_nil [] = refl
-append_nil (x ∷ xs) = ap (λ ys. x ∷ ys) (append_nil xs)
-
 pub get_or_here : (cs : List (List Place)) (d : ℕ) → d < length cs → get_or cs d [] ≡ get_or cs d (get_or cs d [])
 get_or_here cs d lt = get_or_default cs d [] (get_or cs d []) lt
 
@@ -82,8 +78,8 @@ found_one_more s places c k x cs lt is =
 pub found_here : (s : Sought) (places : List Place) (cs : List (List Place)) (d : ℕ) → d < length cs
     → found s (places ∷ []) (drop d cs) ≡ found s (with_each places (get_or cs d [])) (drop (d + 1) cs)
 found_here s places cs d lt =
-    ap (λ xs. found s (places ∷ []) xs) (drop_item cs d (get_or cs d []) lt (get_or_here cs d lt))
-    ∙ ap (λ xs. found s xs (drop (d + 1) cs)) (append_nil (with_each places (get_or cs d [])))
+    ap (λ xs. found s (places ∷ []) xs) (item_at cs d (get_or cs d []) lt (get_or_here cs d lt))
+    ∙ ap (λ xs. found s xs (drop (d + 1) cs)) (append-nil (with_each places (get_or cs d [])))
 
 -- the next map is cheaper, or it isn't
 pub best_taken : (s : Sought) (maps : List Mapping) (o : Option Priced) (p : Priced) → IsBest s maps o → IsPriced s p → is_below p.cost o ≡ true → IsBest s (maps ++ p.mapping ∷ []) (Some p)

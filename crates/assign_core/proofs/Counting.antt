@@ -2,8 +2,8 @@
 use Rattle.std.proofs.Common.{◌≡◌, ◌≤◌, ◌<◌, ◌∙◌, ◌+◌, ◌*◌, [], inl, inr, ℕ, List, length, drop, get_or, min, zero, suc, sym, ap, arith}
 use Rattle.std.proofs.Math.Nat.{mul-le-mul_left}
 use Rattle.std.proofs.lemmas.Bool.{cases_lt}
+use Rattle.lab_base.proofs.Lists.{item_at}
 use Rattle.lab_model.specs.Shapes.{Place}
-use Rattle.virt_topo.proofs.EndLaws.{item_at as drop_item}
 use Rattle.assign_core.specs.Exact.{count}
 use Rattle.assign_core.proofs.Choosing.{get_or_here}
 
@@ -23,4 +23,4 @@ cut_product a (suc r) c = elim (cases_lt a c) [
 ]
 
 pub count_step : (cs : List (List Place)) (k : ℕ) → k < length cs → count (drop k cs) ≡ length (get_or cs k []) * count (drop (k + 1) cs)
-count_step cs k lt = ap count (drop_item cs k (get_or cs k []) lt (get_or_here cs k lt))
+count_step cs k lt = ap count (item_at cs k (get_or cs k []) lt (get_or_here cs k lt))

@@ -9,25 +9,25 @@ use Rattle.phys_lab.specs.declared.free.Free.{Free}
 use Rattle.virt_topo.specs.declared.mapping.Mapping.{Mapping}
 use Rattle.virt_topo.specs.declared.wiring.VirtNode.{VirtNode}
 use Rattle.std.proofs.lemmas.List.Elements.{All-map, All-filter}
+use Rattle.lab_base.proofs.Lists.{item_at}
 use Rattle.node_maps.proofs.Places.{all_places}
 use Rattle.node_maps.specs.NodeMaps.{candidates, candidates_of, is_candidate, lab_places, IsChoice, node_map}
 use Rattle.node_maps.proofs.MapLaws.{mapped_is}
 use Rattle.virt_topo.specs.declared.wiring.Wiring.{Wiring}
 use Rattle.lab_model.specs.Shapes.{Place}
-use Rattle.virt_topo.proofs.EndLaws.{item_at as drop_item}
 use Rattle.assign_core.specs.Exact.{fits_next, first_fit_from, first_fit}
 use Rattle.assign_core.proofs.Choosing.{get_or_here}
 
 pub first_step : (lab : Lab) (w : Wiring) (places : List Place) (cs : List (List Place)) (i : ℕ) → i < length cs
     → first_fit_from lab w places (drop i cs) ≡ option_and_then (λ p. first_fit_from lab w (places ++ p ∷ []) (drop (i + 1) cs)) (find (λ p. fits_next lab w places p) (get_or cs i []))
-first_step lab w places cs i lt = ap (first_fit_from lab w places) (drop_item cs i (get_or cs i []) lt (get_or_here cs i lt))
+first_step lab w places cs i lt = ap (first_fit_from lab w places) (item_at cs i (get_or cs i []) lt (get_or_here cs i lt))
 
 -- the next one passes, or it doesn't
 pub find_here : (f : Place → Bool) (xs : List Place) (i : ℕ) (p : Place) → i < length xs → p ≡ get_or xs i p → f p ≡ true → find f (drop i xs) ≡ Some p
-find_here f xs i p lt is passed = ap (find f) (drop_item xs i p lt is) ∙ cond-true (f p) (Some p) (find f (drop (i + 1) xs)) passed
+find_here f xs i p lt is passed = ap (find f) (item_at xs i p lt is) ∙ cond-true (f p) (Some p) (find f (drop (i + 1) xs)) passed
 
 pub find_later : (f : Place → Bool) (xs : List Place) (i : ℕ) (p : Place) → i < length xs → p ≡ get_or xs i p → f p ≡ false → find f (drop i xs) ≡ find f (drop (i + 1) xs)
-find_later f xs i p lt is failed = ap (find f) (drop_item xs i p lt is) ∙ cond-false (f p) (Some p) (find f (drop (i + 1) xs)) failed
+find_later f xs i p lt is failed = ap (find f) (item_at xs i p lt is) ∙ cond-false (f p) (Some p) (find f (drop (i + 1) xs)) failed
 
 pub find_among : (f : Place → Bool) (xs : List Place) (p : Place) → find f xs ≡ Some p → Contains xs p
 find_among f [] p e = absurd (cc e)

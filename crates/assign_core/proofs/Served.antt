@@ -13,6 +13,7 @@ use Rattle.virt_topo.specs.declared.wiring.Wiring.{Wiring}
 use Rattle.lab_model.specs.Shapes.{Place}
 use Rattle.lab_model.specs.Rules.{no_place, Laid}
 use Rattle.lab_base.specs.declared.ids.IfaceId.{IfaceId}
+use Rattle.lab_base.proofs.Tests.{same_tests}
 use Rattle.node_maps.specs.declared.ends.End.{End}
 use Rattle.node_maps.specs.declared.ifaces.Given.{Given}
 use Rattle.node_maps.specs.Indexed.{Adds}
@@ -203,11 +204,6 @@ other_placed (q ∷ places) p n e apart = by e.node (λ v. other_placed places p
     by zero each = refl
     by (suc v) each = each v
 
-same_bool : (a b : Bool) → (a ≡ true → b ≡ true) → (b ≡ true → a ≡ true) → a ≡ b
-same_bool true b there back = sym (there refl)
-same_bool false true there back = back refl
-same_bool false false there back = refl
-
 placed_within : (places : List Place) (n : ℕ) (e : End) → is_placed_on places n e ≡ true → e.node < length places
 placed_within places n e is = by (slice_get places e.node) refl is
   where
@@ -235,7 +231,7 @@ same_other lab places p es n apart =
 fits_on : (lab : Lab) (places : List Place) (p : Place) (es : List End) → is_some (plugs_from lab places es) ≡ true
     → is_some (plugs_from lab (places ++ p ∷ []) (filter (is_placed_on (places ++ p ∷ []) p.0.0) es)) ≡ is_some (plugs_from lab (places ++ p ∷ []) es)
 fits_on lab places p es served =
-    same_bool (is_some (plugs_from lab new (filter (is_placed_on new p.0.0) es))) (is_some (plugs_from lab new es))
+    same_tests (is_some (plugs_from lab new (filter (is_placed_on new p.0.0) es))) (is_some (plugs_from lab new es))
     (λ here. ap some (placed_plugs lab new es) ∙ served_plugs lab new (filter (is_placed new) es) (all_placed new es)
     (λ n. elim (cases_eq n p.0.0) [
       | inl is ↦ ap (λ (k : ℕ). some (plugs_from lab new (filter (is_on new k) (filter (is_placed new) es)))) is ∙ ap (λ (l : List End). some (plugs_from lab new l)) (on_node new p.0.0 es) ∙ here

@@ -2,11 +2,13 @@
 use Rattle.std.specs.Prelude.{filter}
 use Rattle.std.specs.List.{list_any}
 use Rattle.std.specs.Str.{bytes_eq}
-use Rattle.std.proofs.Common.{◌≡◌, inl, inr, ℕ, ◌||◌, Bool, true, false, not, is_none, if◌then◌else◌, Option, Some, None, List, [], ◌∷◌, ◌++◌, map, refl, sym, ap, ◌∙◌}
-use Rattle.std.proofs.lemmas.Bool.{cases_Bool}
+use Rattle.std.proofs.Common.{◌≡◌, inl, inr, ℕ, ◌||◌, Bool, true, false, not, if◌then◌else◌, Option, Some, None, List, [], ◌∷◌, ◌++◌, map, refl, sym, ap, ◌∙◌}
+use Rattle.std.proofs.lemmas.Bool.{cases_Bool, or_parts}
 use Rattle.std.proofs.lemmas.Option.{same_Some}
 use Rattle.std.proofs.lemmas.Slice.Eq.{bytes_eq-Decides}
-use Rattle.lab_base.specs.Lists.{Has, Apart, AllDiffer, listed}
+use Rattle.lab_base.specs.Lists.{Apart, AllDiffer, listed}
+use Rattle.lab_base.proofs.Tests.{none_is}
+use Rattle.lab_base.proofs.Members.{none_of}
 use Rattle.phys_lab.specs.Labs.{Lab}
 use Rattle.virt_topo.specs.declared.experiment.Experiment.{Experiment}
 use Rattle.virt_topo.specs.declared.experiment.Phase.{Phase}
@@ -25,21 +27,6 @@ use Rattle.claims.proofs.Matching.{Match, anys, match_rest, none_known, test_if}
 use Rattle.claims.proofs.OthersLeave.{named_apart}
 use Rattle.claims.proofs.Taking.{claims_node}
 
-neither : (a b : Bool) → (a || b) ≡ false → (a ≡ false) × (b ≡ false)
-neither true b h = absurd (cc h)
-neither false b h = (refl, h)
-
-none_is : {X : Type 0} (o : Option X) → is_none o ≡ true → o ≡ None
-none_is None h = refl
-none_is (Some x) h = absurd (cc h)
-
-none_of_all : {X : Type 0} (q : X → Bool) (xs : List X) → ((x : X) → Has xs x → q x ≡ true → ⊥) → list_any q xs ≡ false
-none_of_all q [] none = refl
-none_of_all q (x ∷ xs) none = elim (cases_Bool (q x)) [
-  | inl is_so ↦ absurd (none x (inl refl) is_so)
-  | inr not_so ↦ ap (λ b. b || list_any q xs) not_so ∙ none_of_all q xs (λ y h. none y (inr h))
-]
-
 -- ---- by the claims: a number of one experiment's claim that no other claim has; and one that it doesn't have
 owner_is : (numbers : Claim → List ℕ) (exp : List ℕ) (fs : List Entry) (c : Claim) (n : ℕ) → claim_named exp fs ≡ Some c → is_in n (numbers c) ≡ true
     → list_any (λ f. is_in n (numbers f.claim)) (others exp fs) ≡ false → owner_of numbers fs n ≡ Some exp
@@ -53,7 +40,7 @@ owner_is numbers exp (f ∷ fs) c n h inside none = elim (cases_Bool (bytes_eq f
       let rest = sym (ap (λ b. if b then Some f.claim else claim_named exp fs) not_so) ∙ h in
       let both : (is_in n (numbers f.claim) || list_any (λ (g : Entry). is_in n (numbers g.claim)) (others exp fs)) ≡ false =
       sym (ap (λ b. list_any (λ (g : Entry). is_in n (numbers g.claim)) (if b then fs else f ∷ others exp fs)) not_so) ∙ none in
-      let out = neither (is_in n (numbers f.claim)) (list_any (λ (g : Entry). is_in n (numbers g.claim)) (others exp fs)) both in
+      let out = or_parts (is_in n (numbers f.claim)) (list_any (λ (g : Entry). is_in n (numbers g.claim)) (others exp fs)) both in
       ap (λ b. if b then Some f.exp else owner_of numbers fs n) out.0 ∙ owner_is numbers exp fs c n rest inside out.1
 ]
 
@@ -99,7 +86,7 @@ module _ (lab : Lab) (n : ℕ) where
         | inl inside ↦
             let none : list_any (λ (f : Entry). is_in n (claim_nodes f.claim)) (others e.name fs) ≡ false =
             anys lab (λ c. is_in n (claim_nodes c)) claims_it (others e.name fs) es (λ d h. stands d) rest
-            ∙ none_of_all claims_it es (λ d h there. apart.0 d h (node_name lab (record { 0 = n })) (name_claimed e inside) (name_claimed d there)) in
+            ∙ none_of claims_it es (λ d h there. apart.0 d h (node_name lab (record { 0 = n })) (name_claimed e inside) (name_claimed d there)) in
             let nobody : owner_of claim_nodes (others e.name fs) n ≡ None = none_is (owner_of claim_nodes (others e.name fs) n) (unowned claim_nodes (others e.name fs) n ∙ ap not none) in
             let owner : owner_of claim_nodes fs n ≡ Some e.name = owner_is claim_nodes e.name fs (claim_of lab e) n (m.claims e (inl refl) ∙ has_claim e inside) inside none in
             ap (λ b. map (λ (d : Experiment). d.name) (if b then e ∷ filter claims_it es else filter claims_it es)) inside

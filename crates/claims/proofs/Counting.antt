@@ -7,8 +7,10 @@ use Rattle.std.proofs.lemmas.Bool.{cases_Bool}
 use Rattle.std.proofs.lemmas.List.Sums.{sum_by-cons, length-filter}
 use Rattle.std.proofs.lemmas.Slice.Eq.{bytes_eq-Decides}
 use Rattle.std.proofs.lemmas.List.{append-nil, length-take, length-map, take_more, map-append}
+use Rattle.std.proofs.Math.Nat.{add-zero}
 use Rattle.lab_base.specs.declared.ids.VlanId.{VlanId}
 use Rattle.lab_base.specs.Lists.{Has, Apart}
+use Rattle.lab_base.proofs.Bytes.{bytes_self}
 use Rattle.claims.specs.declared.claim.Claim.{Claim}
 use Rattle.claims.specs.declared.claim.Entry.{Entry}
 use Rattle.claims.specs.Held.{is_in, owner_of, claim_named, others, free_ids, free_nodes, nodes_of, ids_of, ids, has_node, has_id, claim_nodes, claim_tags}
@@ -21,13 +23,10 @@ use Rattle.claims.proofs.Entries.{has_if, out_if, others_all, other_names, owner
 pub count_places : {X : Type 0} (q : X → Bool) (p : ℕ → Bool) (xs : List X) (d : X) (a : ℕ) → ((i : ℕ) → i < length xs → q (get_or xs i d) ≡ p (a + i)) → count_by q xs ≡ count_by p (range_with_len a (length xs))
 count_places q p [] d a h = refl
 count_places q p (x ∷ xs) d a h =
-    let here : q x ≡ p a = h 0 (omega arith) ∙ ap p (zero_more a) in
+    let here : q x ≡ p a = h 0 (omega arith) ∙ ap p (add-zero a) in
     let more = count_places q p xs d (a + 1) (λ i g. h (suc i) (omega (arith, g)) ∙ ap p (next a i)) in
     sum_by-cons (λ y. cond (q y) 1 0) x xs ∙ (λ i. cond (here i) 1 0 + more i) ∙ sym (sum_by-cons (λ y. cond (p y) 1 0) a (range_with_len (a + 1) (length xs)))
   where
-    zero_more : (a : ℕ) → a + 0 ≡ a
-    zero_more a = omega arith
-
     next : (a i : ℕ) → a + suc i ≡ a + 1 + i
     next a i = omega arith
 
@@ -63,9 +62,6 @@ abbrev pub has_in : (Claim → List ℕ) → Option Claim → ℕ → Bool
 has_in numbers None n = false
 has_in numbers (Some c) n = is_in n (numbers c)
 
-same_name : (exp : List ℕ) → bytes_eq exp exp ≡ true
-same_name exp = (bytes_eq-Decides exp exp).1 refl
-
 pub owned : (numbers : Claim → List ℕ) (share : (e f : Entry) → AreTwo e f → (n : ℕ) → Has (numbers e.claim) n → Has (numbers f.claim) n → ⊥) (exp : List ℕ) (es : List Entry) (n : ℕ) (o : Option Claim) → Apart AreTwo es → claim_named exp es ≡ o
     → is_owned_by exp (owner_of numbers es n) ≡ has_in numbers o n
 owned numbers share exp es n None apart h =
@@ -74,7 +70,7 @@ owned numbers share exp es n (Some c) apart h = elim (cases_Bool (is_in n (numbe
   | inl inside ↦
       let k = named exp es c h in
       let there : owner_of numbers es n ≡ Some k.entry.exp = owner_named numbers share es k.entry n apart k.among (ap (λ d. is_in n (numbers d)) k.claim ∙ inside) in
-      ap (is_owned_by exp) there ∙ ap (λ name. bytes_eq name exp) k.name ∙ same_name exp ∙ sym inside
+      ap (is_owned_by exp) there ∙ ap (λ name. bytes_eq name exp) k.name ∙ bytes_self exp ∙ sym inside
   | inr outside ↦ ap (is_owned_by exp) (owner_rest numbers exp es c n h outside) ∙ not_owned numbers exp (others exp es) n (other_names exp es apart) ∙ sym outside
 ]
 
@@ -199,7 +195,7 @@ free_to exp es n (Some c) apart h = elim (cases_Bool (is_in n (claim_nodes c))) 
       let k = named exp es c h in
       let there : owner_of claim_nodes es n ≡ Some k.entry.exp = owner_named claim_nodes (λ e f two. two.share.nodes) es k.entry n apart k.among (ap (λ d. is_in n (claim_nodes d)) k.claim ∙ inside) in
       let none = owner_none claim_nodes (others exp es) n (λ e g x. (share_nothing exp es c apart h e g).nodes n x (has_if n (claim_nodes c) inside)) in
-      ap (is_free_to exp) there ∙ ap (λ name. bytes_eq name exp) k.name ∙ same_name exp ∙ sym (sym (unowned claim_nodes (others exp es) n) ∙ ap is_none none)
+      ap (is_free_to exp) there ∙ ap (λ name. bytes_eq name exp) k.name ∙ bytes_self exp ∙ sym (sym (unowned claim_nodes (others exp es) n) ∙ ap is_none none)
   | inr outside ↦ ap (is_free_to exp) (owner_rest claim_nodes exp es c n h outside) ∙ free_if_other (others exp es) exp n (other_names exp es apart) ∙ unowned claim_nodes (others exp es) n
 ]
 

@@ -10,7 +10,7 @@ use Rattle.phys_lab.specs.declared.fault.LabFault.{LabFault}
 use Rattle.phys_lab.specs.declared.fault.LabFault.TheVariants as faults
 use Rattle.phys_lab.specs.declared.parts.Trunk.{Trunk}
 use Rattle.lab_base.specs.Names.{is_name}
-use Rattle.lab_model.proofs.PartLaws.{Has-get_or}
+use Rattle.lab_base.proofs.Members.{Has-get_or}
 use Rattle.claims.specs.declared.tables.Tables.{Tables}
 use Rattle.claims.specs.Held.{size_of}
 use Rattle.claims.specs.Kept.{Keeps}

@@ -7,6 +7,7 @@ use Rattle.std.proofs.lemmas.List.{get_or-set_same, get_or-set_other, length-set
 use Rattle.std.proofs.lemmas.List.Sums.{sum_by-cons, sum_by-append}
 use Rattle.std.proofs.lemmas.Slice.Eq.{bytes_eq-Decides}
 use Rattle.std.proofs.lemmas.Option.{same_Some}
+use Rattle.std.proofs.Math.Bool.{or-true}
 use Rattle.lab_base.specs.Lists.{Has, Apart}
 use Rattle.lab_base.proofs.Members.{Has-append}
 use Rattle.claims.specs.declared.claim.Claim.{Claim}
@@ -27,11 +28,7 @@ has_if n (m ∷ ns) h = elim (cases_eq m n) [
 pub in_if : (n : ℕ) (ns : List ℕ) → Has ns n → is_in n ns ≡ true
 in_if n [] h = absurd h
 in_if n (m ∷ ns) (inl e) = ap (λ b. b || is_in n ns) (eq-eqb m n e)
-in_if n (m ∷ ns) (inr h) = ap (λ b. (m == n) || b) (in_if n ns h) ∙ or_true (m == n)
-  where
-    or_true : (b : Bool) → (b || true) ≡ true
-    or_true true = refl
-    or_true false = refl
+in_if n (m ∷ ns) (inr h) = ap (λ b. (m == n) || b) (in_if n ns h) ∙ or-true (m == n)
 
 pub out_if : (n : ℕ) (ns : List ℕ) → (Has ns n → ⊥) → is_in n ns ≡ false
 out_if n ns none = elim (cases_Bool (is_in n ns)) [ inl is_so ↦ absurd (none (has_if n ns is_so)) | inr not_so ↦ not_so ]

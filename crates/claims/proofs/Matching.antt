@@ -6,7 +6,9 @@ use Rattle.std.proofs.lemmas.Bool.{cases_Bool}
 use Rattle.std.proofs.lemmas.List.Sums.{sum_by-cons}
 use Rattle.std.proofs.lemmas.Slice.Eq.{bytes_eq-Decides}
 use Rattle.lab_base.specs.Lists.{Has, Apart}
-use Rattle.lab_base.proofs.Members.{Has-append, Has-left, Has-right}
+use Rattle.lab_base.proofs.Members.{Has-append, Has-either}
+use Rattle.lab_base.proofs.Bytes.{bytes_other}
+use Rattle.lab_base.proofs.Tests.{or_swapped}
 use Rattle.phys_lab.specs.Labs.{Lab}
 use Rattle.virt_topo.specs.declared.experiment.Experiment.{Experiment}
 use Rattle.lab_model.proofs.ListLaws.{apart_drop}
@@ -19,9 +21,6 @@ use Rattle.claims.proofs.Entries.{others_has, others_apart, others_all, use_rest
 
 abbrev pub Differs : Entry → Entry → Type 0
 Differs f g = f.exp ≢ g.exp
-
-pub not_eq : (a b : List ℕ) → a ≢ b → bytes_eq a b ≡ false
-not_eq a b apart = elim (cases_Bool (bytes_eq a b)) [ inl same ↦ absurd (apart ((bytes_eq-Decides a b).0 same)) | inr other ↦ other ]
 
 -- the others have other names
 pub rest_names : (exp : List ℕ) (fs : List Entry) → Apart Differs fs → (f : Entry) → Has (others exp fs) f → f.exp ≢ exp
@@ -46,7 +45,7 @@ rest_claims : (name exp : List ℕ) (fs : List Entry) → exp ≢ name → claim
 rest_claims name exp [] apart = refl
 rest_claims name exp (g ∷ fs) apart = elim (cases_Bool (bytes_eq g.exp exp)) [
   | inl is_so ↦
-      let other : bytes_eq g.exp name ≡ false = not_eq g.exp name (λ same. apart (sym ((bytes_eq-Decides g.exp exp).0 is_so) ∙ same)) in
+      let other : bytes_eq g.exp name ≡ false = bytes_other g.exp name (λ same. apart (sym ((bytes_eq-Decides g.exp exp).0 is_so) ∙ same)) in
       ap (λ b. claim_named name (if b then fs else g ∷ others exp fs)) is_so ∙ sym (ap (λ b. if b then Some g.claim else claim_named name fs) other)
   | inr not_so ↦
       ap (λ b. claim_named name (if b then fs else g ∷ others exp fs)) not_so ∙ ap (λ o. if bytes_eq g.exp name then Some g.claim else o) (rest_claims name exp fs apart)
@@ -67,16 +66,12 @@ match_rest lab fs a b own m = record {
       let k = m.known f (others_has own.name fs f h) in
       elim (Has_mid a b own k.0 k.1) [
         | inl same ↦ absurd (rest_names own.name fs m.once f h (sym k.2 ∙ ap (λ (e : Experiment). e.name) (sym same)))
-        | inr other ↦ (k.0, joined k.0 other, k.2)
+        | inr other ↦ (k.0, Has-either a b k.0 other, k.2)
       ];
   claims = λ e h. rest_claims e.name own.name fs (apart e (parted e h)) ∙ m.claims e (Has_other a b own e (parted e h));
   names = apart_drop (λ (d e : Experiment). d.name ≢ e.name) a b own m.names;
 }
   where
-    joined : (e : Experiment) → Has a e ⊎ Has b e → Has (a ++ b) e
-    joined e (inl h) = Has-left a b e h
-    joined e (inr h) = Has-right a b e h
-
     parted : (e : Experiment) → Has (a ++ b) e → Has a e ⊎ Has b e
     parted e h = Has-append a b e h
 
@@ -106,11 +101,6 @@ abbrev pub test_if : (Claim → Bool) → Option Claim → Bool
 test_if p None = false
 test_if p (Some c) = p c
 
-swapped : (a b c : Bool) → (a || (b || c)) ≡ (b || (a || c))
-swapped true true c = refl
-swapped true false c = refl
-swapped false b c = refl
-
 any_rest : (p : Claim → Bool) (exp : List ℕ) (fs : List Entry) (c : Claim) → claim_named exp fs ≡ Some c → list_any (λ f. p f.claim) fs ≡ (p c || list_any (λ f. p f.claim) (others exp fs))
 any_rest p exp [] c h = absurd (cc h)
 any_rest p exp (f ∷ fs) c h = elim (cases_Bool (bytes_eq f.exp exp)) [
@@ -119,7 +109,7 @@ any_rest p exp (f ∷ fs) c h = elim (cases_Bool (bytes_eq f.exp exp)) [
       ap (λ d. p d || list_any (λ g. p g.claim) fs) here ∙ sym (ap (λ b. p c || list_any (λ (g : Entry). p g.claim) (if b then fs else f ∷ others exp fs)) is_so)
   | inr not_so ↦
       let more = any_rest p exp fs c (sym (ap (λ b. if b then Some f.claim else claim_named exp fs) not_so) ∙ h) in
-      ap (λ b. p f.claim || b) more ∙ swapped (p f.claim) (p c) (list_any (λ g. p g.claim) (others exp fs))
+      ap (λ b. p f.claim || b) more ∙ or_swapped (p f.claim) (p c) (list_any (λ g. p g.claim) (others exp fs))
       ∙ sym (ap (λ b. p c || list_any (λ (g : Entry). p g.claim) (if b then fs else f ∷ others exp fs)) not_so)
 ]
   where

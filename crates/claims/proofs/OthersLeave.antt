@@ -1,7 +1,7 @@
 -- The rest that the claims of experiments leave is the rest that the experiments leave.
 use Rattle.std.specs.List.{list_any, sum_by, flat_map, count_by}
 use Rattle.std.specs.Str.{bytes_eq}
-use Rattle.std.proofs.Common.{◌≡◌, ◌≢◌, inl, inr, ℕ, zero, suc, ◌+◌, ◌<◌, ◌||◌, ◌==◌, max, not, Option, Some, None, List, [], ◌∷◌, ◌++◌, length, map, get_or, refl, sym, ap, ◌∙◌, arith}
+use Rattle.std.proofs.Common.{◌≡◌, ◌≢◌, inl, inr, ℕ, ◌+◌, ◌<◌, ◌||◌, ◌==◌, max, not, Option, Some, None, List, [], ◌∷◌, ◌++◌, length, map, get_or, refl, sym, ap, ◌∙◌, arith}
 use Rattle.std.proofs.lemmas.Bool.{cases_eq, eq-eqb, ne_eqb, cases_Bool}
 use Rattle.std.proofs.lemmas.List.{get_or-map, length-map, length-append}
 use Rattle.std.proofs.lemmas.List.Concat.{length-flat_map}
@@ -10,7 +10,7 @@ use Rattle.std.proofs.lemmas.List.FromFn.{get_or-map-range_with_len}
 use Rattle.std.proofs.lemmas.List.Sums.{sum_by-cons, sum_by-append, length-filter}
 use Rattle.std.proofs.lemmas.Slice.Eq.{bytes_eq-Decides}
 use Rattle.lab_base.specs.Lists.{Has, Apart, AllDiffer}
-use Rattle.lab_base.proofs.Members.{Has-append, Has-mapped, Apart-right}
+use Rattle.lab_base.proofs.Members.{Has-append, Has-mapped, Apart-right, differ_at}
 use Rattle.phys_lab.specs.Labs.{Lab}
 use Rattle.phys_lab.specs.Kept.{IsLab}
 use Rattle.phys_lab.specs.Sides.{no_trunk, trunk_at}
@@ -26,7 +26,7 @@ use Rattle.lab_model.specs.Holding.{Holding, Suits}
 use Rattle.lab_model.specs.Shapes.{Place, no_node}
 use Rattle.lab_model.specs.Uses.{use_of}
 use Rattle.lab_model.specs.Wants.{node_name}
-use Rattle.lab_model.proofs.WiringLaws.{All-has, has_at}
+use Rattle.lab_model.proofs.WiringLaws.{All-has}
 use Rattle.lab_model.proofs.Records.{Has_other}
 use Rattle.claims.specs.declared.claim.Entry.{Entry}
 use Rattle.claims.specs.Held.{Held, IsLeftTo, nodes_in, tags_in, use_in, is_in, has_node, has_id, use_by, claim_nodes, claim_tags, ids, others, size_of}
@@ -55,12 +55,6 @@ pub used_by : (lab : Lab) (fs : List Entry) (es : List Experiment) (t : ℕ) →
 used_by lab fs es t h m = sums lab t (claimed_use lab t) (standing_use lab t h) fs es m
 
 -- ---- nodes
-differ_at : {X : Type 0} (xs : List X) (i j : ℕ) (d : X) → AllDiffer xs → i < length xs → j < length xs → get_or xs i d ≡ get_or xs j d → i ≡ j
-differ_at [] i j d all h g e = absurd (omega (arith, h))
-differ_at (x ∷ xs) zero zero d all h g e = refl
-differ_at (x ∷ xs) zero (suc j) d all h g e = absurd (all.0 (get_or xs j d) (has_at xs j d (omega (arith, g))) e)
-differ_at (x ∷ xs) (suc i) zero d all h g e = absurd (all.0 (get_or xs i d) (has_at xs i d (omega (arith, h))) (sym e))
-differ_at (x ∷ xs) (suc i) (suc j) d all h g e = ap suc (differ_at xs i j d all.1 (omega (arith, h)) (omega (arith, g)) e)
 
 module _ (lab : Lab) (is_lab : IsLab lab) where
   one_node : (i j : ℕ) → i < length lab.nodes → j < length lab.nodes → node_name lab (record { 0 = i }) ≡ node_name lab (record { 0 = j }) → i ≡ j

@@ -4,7 +4,8 @@ use Rattle.std.proofs.Common.{◌≡◌, ◌≢◌, ◌⊎◌, inl, inr, ℕ, �
 use Rattle.std.proofs.lemmas.List.{length-append}
 use Rattle.std.proofs.lemmas.Slice.Eq.{bytes_eq-Decides}
 use Rattle.lab_base.specs.Lists.{Has, Apart, AllDiffer}
-use Rattle.lab_base.proofs.Members.{Has-append, Has-left, Has-right}
+use Rattle.lab_base.proofs.Members.{Has-append, Has-left, Has-right, Has-either}
+use Rattle.lab_base.proofs.Bytes.{bytes_other}
 use Rattle.phys_lab.specs.Labs.{Lab}
 use Rattle.virt_topo.specs.declared.experiment.Experiment.{Experiment}
 use Rattle.virt_topo.specs.declared.experiment.Phase.{Phase}
@@ -20,7 +21,7 @@ use Rattle.claims.specs.Held.{Held, claim_named, others}
 use Rattle.claims.specs.Holds.{hold_in, claim_of}
 use Rattle.claims.specs.Experiments.{standing, standing_in, ClaimsOf}
 use Rattle.claims.proofs.Entries.{others_all, apart_pushed}
-use Rattle.claims.proofs.Matching.{Differs, Match, match_rest, none_known, not_eq}
+use Rattle.claims.proofs.Matching.{Differs, Match, match_rest, none_known}
 use Rattle.claims.proofs.OthersLeave.{matching}
 
 -- ---- claims by name
@@ -29,19 +30,19 @@ pub listed : (fs : List Entry) (f : Entry) → Apart Differs fs → Has fs f →
 listed [] f apart h = absurd h
 listed (g ∷ fs) f apart (inl same) =
     ap (λ b. if b then Some g.claim else claim_named f.exp fs) ((bytes_eq-Decides g.exp f.exp).1 (ap (λ (x : Entry). x.exp) same)) ∙ ap (λ (x : Entry). Some x.claim) same
-listed (g ∷ fs) f apart (inr h) = ap (λ b. if b then Some g.claim else claim_named f.exp fs) (not_eq g.exp f.exp (apart.0 f h)) ∙ listed fs f apart.1 h
+listed (g ∷ fs) f apart (inr h) = ap (λ b. if b then Some g.claim else claim_named f.exp fs) (bytes_other g.exp f.exp (apart.0 f h)) ∙ listed fs f apart.1 h
 
 unnamed : (name : List ℕ) (fs : List Entry) → ((f : Entry) → Has fs f → f.exp ≢ name) → claim_named name fs ≡ None
 unnamed name [] none = refl
-unnamed name (f ∷ fs) none = ap (λ b. if b then Some f.claim else claim_named name fs) (not_eq f.exp name (none f (inl refl))) ∙ unnamed name fs (λ g h. none g (inr h))
+unnamed name (f ∷ fs) none = ap (λ b. if b then Some f.claim else claim_named name fs) (bytes_other f.exp name (none f (inl refl))) ∙ unnamed name fs (λ g h. none g (inr h))
 
 -- a claim at the end is found by its name, and changes no other's
 own_pushed : (name : List ℕ) (fs : List Entry) (g : Entry) → g.exp ≡ name → ((f : Entry) → Has fs f → f.exp ≢ name) → claim_named name (fs ++ g ∷ []) ≡ Some g.claim
 own_pushed name [] g same none = ap (λ b. if b then Some g.claim else None) ((bytes_eq-Decides g.exp name).1 same)
-own_pushed name (f ∷ fs) g same none = ap (λ b. if b then Some f.claim else claim_named name (fs ++ g ∷ [])) (not_eq f.exp name (none f (inl refl))) ∙ own_pushed name fs g same (λ h x. none h (inr x))
+own_pushed name (f ∷ fs) g same none = ap (λ b. if b then Some f.claim else claim_named name (fs ++ g ∷ [])) (bytes_other f.exp name (none f (inl refl))) ∙ own_pushed name fs g same (λ h x. none h (inr x))
 
 other_pushed : (name : List ℕ) (fs : List Entry) (g : Entry) → g.exp ≢ name → claim_named name (fs ++ g ∷ []) ≡ claim_named name fs
-other_pushed name [] g apart = ap (λ b. if b then Some g.claim else None) (not_eq g.exp name apart)
+other_pushed name [] g apart = ap (λ b. if b then Some g.claim else None) (bytes_other g.exp name apart)
 other_pushed name (f ∷ fs) g apart = ap (λ o. if bytes_eq f.exp name then Some f.claim else o) (other_pushed name fs g apart)
 
 -- ---- the claim that stands for an experiment
@@ -72,10 +73,6 @@ NamesDiffer d e = d.name ≢ e.name
 abbrev pub IsNew : List Experiment → List Experiment → Experiment → Type 0
 IsNew a b e = (d : Experiment) → Has a d ⊎ Has b d → d.name ≢ e.name
 
-joined : (a b : List Experiment) (d : Experiment) → Has a d ⊎ Has b d → Has (a ++ b) d
-joined a b d (inl h) = Has-left a b d h
-joined a b d (inr h) = Has-right a b d h
-
 no_entry : (lab : Lab) (fs : List Entry) (a b : List Experiment) (e : Experiment) → Match lab fs (a ++ b) → IsNew a b e → (f : Entry) → Has fs f → f.exp ≢ e.name
 no_entry lab fs a b e m new f h same = let k = m.known f h in new k.0 (Has-append a b k.0 k.1) (k.2 ∙ same)
 
@@ -85,7 +82,7 @@ with_out lab fs a b e m new out = record {
   known = λ f h. let k = m.known f h in (k.0, Has_other a b e k.0 (Has-append a b k.0 k.1), k.2);
   claims = λ d h. elim (Has_mid a b e d h) [
     | inl same ↦ subst (λ (x : Experiment). claim_named x.name fs ≡ standing lab x) same (unnamed e.name fs (no_entry lab fs a b e m new) ∙ sym (ap (λ p. standing_in lab e p) out))
-    | inr other ↦ m.claims d (joined a b d other)
+    | inr other ↦ m.claims d (Has-either a b d other)
   ];
   names = apart_add NamesDiffer a b e m.names (λ d h. new d (inl h)) (λ d h same. new d (inr h) (sym same));
 }
@@ -99,7 +96,7 @@ with_one lab fs a b e f m new name is = record {
   ];
   claims = λ d h. elim (Has_mid a b e d h) [
     | inl same ↦ subst (λ (x : Experiment). claim_named x.name (fs ++ f ∷ []) ≡ standing lab x) same (own_pushed e.name fs f name (no_entry lab fs a b e m new) ∙ sym is)
-    | inr other ↦ other_pushed d.name fs f (λ same. new d other (sym same ∙ name)) ∙ m.claims d (joined a b d other)
+    | inr other ↦ other_pushed d.name fs f (λ same. new d other (sym same ∙ name)) ∙ m.claims d (Has-either a b d other)
   ];
   names = apart_add NamesDiffer a b e m.names (λ d h. new d (inl h)) (λ d h same. new d (inr h) (sym same));
 }

@@ -4,6 +4,8 @@ use Rattle.std.specs.Str.{bytes_eq}
 use Rattle.std.proofs.lemmas.Slice.Eq.{bytes_eq-Decides}
 use Rattle.lab_base.specs.declared.boot.Boot.{Boot}
 use Rattle.lab_base.specs.declared.boot.Boot.TheVariants as boots
+use Rattle.lab_base.proofs.Tests.{and_first, and_rest}
+use Rattle.lab_base.proofs.Bytes.{bytes_self}
 use Rattle.plant.specs.Events.{Event, Wrote, Synced, Cut as CutTo, Missed, Did, Restarted, Unread}
 use Rattle.plant.specs.declared.device.Answer.{Answer}
 use Rattle.plant.specs.declared.device.Answer.TheVariants as answers
@@ -15,14 +17,6 @@ use Rattle.lab_model.specs.Courses.{Course, Cut, Going, Goes, Halted, Late, Left
 use Rattle.lab_model.specs.Leavings.{Sent}
 use Rattle.lab_model.specs.OnCourse.{acknowledged}
 use Rattle.complete.specs.Booted.{all_come_up, boots_up, comes_up, has_failure, is_failure, is_to, is_up}
-
-pub and_left : (x y : Bool) → x && y ≡ true → x ≡ true
-and_left true y is = refl
-and_left false y is = absurd (cc is)
-
-pub and_right : (x y : Bool) → x && y ≡ true → y ≡ true
-and_right true y is = is
-and_right false y is = absurd (cc is)
 
 or_right : (x y : Bool) → x || y ≡ false → y ≡ false
 or_right true y is = absurd (cc is)
@@ -40,12 +34,9 @@ when_false : {A : Type 0} (b : Bool) (x y : A) → b ≡ false → cond b x y �
 when_false true x y is = absurd (cc is)
 when_false false x y is = refl
 
-same_name : (name : List ℕ) → bytes_eq name name ≡ true
-same_name name = (bytes_eq-Decides name name).1 refl
-
 -- behind the first step
 pub up_behind : (event : Event) (events : List Event) → all_come_up (event ∷ events) ≡ true → all_come_up events ≡ true
-up_behind (Did op applied answer) events is = and_right (boots_up op answer events) (all_come_up events) is
+up_behind (Did op applied answer) events is = and_rest (boots_up op answer events) (all_come_up events) is
 up_behind (Wrote side at bytes) events is = is
 up_behind (Synced side) events is = is
 up_behind (CutTo side size) events is = is
@@ -76,7 +67,7 @@ module _ (is_own : DeviceOp → Bool) (alike : (op : DeviceOp) (node : List ℕ)
   -- what a poll of the waited node tells
   polled : (node : List ℕ) (from state : Boot) (polls : ℕ) (applied : Bool) (events : List Event) → comes_up node from polls (Did (ops.Poll node) applied (Ok (answers.State state)) ∷ events) ≡ true
       → lawful from state && (is_up state || (not (polls + 1 == 64) && comes_up node state (polls + 1) events)) ≡ true
-  polled node from state polls applied events is = sym (when_true (bytes_eq node node) _ _ (same_name node)) ∙ is
+  polled node from state polls applied events is = sym (when_true (bytes_eq node node) _ _ (bytes_self node)) ∙ is
 
   -- a state of a waited node that comes up, other than ISUP: the course goes on
   on : (n rest : Bool) (what : Trouble) (left after : Left) → not n && rest ≡ true → cond n (Cut what) (Going left) ≡ Going after → (left ≡ after) × (rest ≡ true)
@@ -109,7 +100,7 @@ module _ (is_own : DeviceOp → Bool) (alike : (op : DeviceOp) (node : List ℕ)
 
     fine_seen : (state : Boot) (after : Left) → Up state → seen w state boot ≡ Going after → ComesUp after events
     fine_seen state after up is =
-        fine_judged state after (and_right (lawful w.state state) _ up) (sym (when_true (lawful w.state state) _ _ (and_left (lawful w.state state) _ up)) ∙ is)
+        fine_judged state after (and_rest (lawful w.state state) _ up) (sym (when_true (lawful w.state state) _ _ (and_first (lawful w.state state) _ up)) ∙ is)
 
     uncut_judged : (state : Boot) (trouble : Trouble) → is_up state || (not (w.polls + 1 == 64) && comes_up w.node state (w.polls + 1) events) ≡ true → judged w state boot ≡ Cut trouble → ⊥
     uncut_judged boots.IsUp trouble up is = cc is
@@ -120,7 +111,7 @@ module _ (is_own : DeviceOp → Bool) (alike : (op : DeviceOp) (node : List ℕ)
 
     uncut_seen : (state : Boot) (trouble : Trouble) → Up state → seen w state boot ≡ Cut trouble → ⊥
     uncut_seen state trouble up is =
-        uncut_judged state trouble (and_right (lawful w.state state) _ up) (sym (when_true (lawful w.state state) _ _ (and_left (lawful w.state state) _ up)) ∙ is)
+        uncut_judged state trouble (and_rest (lawful w.state state) _ up) (sym (when_true (lawful w.state state) _ _ (and_first (lawful w.state state) _ up)) ∙ is)
 
   -- ONE COMMAND OF IT, next on the course
   fault_stops : (name : List ℕ) (fault : Fault) (after : Left) → fault_of name fault ≡ Going after → ⊥
@@ -146,7 +137,7 @@ module _ (is_own : DeviceOp → Bool) (alike : (op : DeviceOp) (node : List ℕ)
       let it : op ≡ ops.Boot node = sym (same_op (ops.Boot node) op comes) in
       let e : record { todo = []; boot = boot; watch = Some (record { node = node; state = boots.Booting; polls = 0 }) } ≡ after = cc is in
       let booted = subst (λ (o : DeviceOp). boots_up o (Ok a) events && all_come_up events ≡ true) it up in
-      subst (λ (l : Left). ComesUp l events) e (and_left (comes_up node boots.Booting 0 events) (all_come_up events) booted, subst (λ (o : DeviceOp). is_own o ≡ true) it own)
+      subst (λ (l : Left). ComesUp l events) e (and_first (comes_up node boots.Booting 0 events) (all_come_up events) booted, subst (λ (o : DeviceOp). is_own o ≡ true) it own)
   goes_on [] None (node ∷ boot) op applied (Err fault) events after comes own fine up is = absurd (fault_stops node fault after is)
   goes_on [] None [] op applied answer events after comes own fine up is = absurd (cc comes)
 

@@ -1,7 +1,5 @@
 -- A settling of others sends no command of an experiment that is left alone.
-use Rattle.std.specs.Str.{bytes_eq}
 use Rattle.std.proofs.Common.{◌≡◌, ◌≢◌, ◌⊎◌, inl, inr, ℕ, Bool, true, false, cond, is_some, List, [], ◌∷◌, ◌++◌, map, Option, Some, None, refl, sym, ◌∙◌, ap, subst}
-use Rattle.std.proofs.lemmas.Slice.Eq.{bytes_eq-Decides}
 use Rattle.lab_base.specs.Lists.{AllDiffer, Apart, Has, listed}
 use Rattle.lab_base.proofs.Members.{Has-append, Has-flat_map, Has-mapped}
 use Rattle.phys_lab.specs.Labs.{Lab}
@@ -13,6 +11,7 @@ use Rattle.lab_model.specs.OnCourse.{own_events}
 use Rattle.records_model.specs.Labs.{LabState, Says, Sane, find}
 use Rattle.records_model.specs.Labs as labs
 use Rattle.records_model.proofs.LabLaws.{follows_sane}
+use Rattle.records_model.proofs.Finding.{find_has}
 use Rattle.lab_state.specs.Texts.{the_texts}
 use Rattle.recovery.specs.Due.{due, is_busy, swap_if, swaps_of}
 use Rattle.swap_txn.specs.States.{last_by}
@@ -24,20 +23,6 @@ use Rattle.swap_turns.specs.Turning.{Outcome, More, TurnsBack, Ended, Stuck, Unw
 use Rattle.complete.proofs.OwnCommands.{own_both}
 use Rattle.complete.proofs.OtherSwaps.{finish_quiet}
 use Rattle.lab_core.proofs.Others.{ended_stays}
-
--- an experiment is found by its name
-find_has : (es : List Experiment) (e : Experiment) → AllDiffer (map (λ x. x.name) es) → Has es e → find e.name es ≡ Some e
-find_has [] e differ none = absurd none
-find_has (x ∷ es) e differ (inl same) = subst (λ (y : Experiment). cond (bytes_eq x.name y.name) (Some x) (find y.name es) ≡ Some y) same (yes' (bytes_eq x.name x.name) ((bytes_eq-Decides x.name x.name).1 refl))
-  where
-    yes' : (b : Bool) → b ≡ true → cond b (Some x) (find x.name es) ≡ Some x
-    yes' true is = refl
-    yes' false is = absurd (cc is)
-find_has (x ∷ es) e differ (inr has) = no' (bytes_eq x.name e.name) refl (find_has es e differ.1 has)
-  where
-    no' : (b : Bool) → bytes_eq x.name e.name ≡ b → find e.name es ≡ Some e → cond b (Some x) (find e.name es) ≡ Some e
-    no' false is rest = rest
-    no' true is rest = absurd (differ.0 e.name (Has-mapped (λ (y : Experiment). y.name) es e has) ((bytes_eq-Decides x.name e.name).0 is))
 
 -- A SWAP THAT IS DUE is of an experiment that moves so
 due_phase : (name : List ℕ) (phase : Phase) (p : SwapOf) → Has (listed (swap_if name phase)) p → (p.name ≡ name) × (phase ≡ Moving p.old p.new)

@@ -1,5 +1,6 @@
 -- An experiment's own commands among steps, one after another and in a course.
 use Rattle.std.proofs.Common.{◌≡◌, ℕ, Bool, true, false, cond, List, [], ◌∷◌, ◌++◌, Some, refl, ◌∙◌, ap, inl, inr}
+use Rattle.lab_base.proofs.Lists.{cond_append}
 use Rattle.plant.specs.Events.{Event, Wrote, Synced, Cut as CutTo, Missed, Did, Restarted, Unread}
 use Rattle.plant.specs.declared.device.DeviceOp.{DeviceOp}
 use Rattle.plant.specs.declared.device.DeviceOp.TheVariants as ops
@@ -36,14 +37,10 @@ module _ (lab : Lab) (e : Experiment) where
   own_is (Unread device ∷ events) = own_is events
   own_is (Restarted a b ∷ events) = own_is events
 
-  if_append : (b : Bool) (x : Event) (l m : List Event) → cond b (x ∷ (l ++ m)) (l ++ m) ≡ cond b (x ∷ l) l ++ m
-  if_append true x l m = refl
-  if_append false x l m = refl
-
   pub own_both : (events more : List Event) → own_events lab e (events ++ more) ≡ own_events lab e events ++ own_events lab e more
   own_both [] more = refl
   own_both (Did op applied answer ∷ events) more =
-      ap (λ l. cond (is_of lab e op) (Did op applied answer ∷ l) l) (own_both events more) ∙ if_append (is_of lab e op) (Did op applied answer) (own_events lab e events) (own_events lab e more)
+      ap (λ l. cond (is_of lab e op) (Did op applied answer ∷ l) l) (own_both events more) ∙ cond_append (is_of lab e op) (Did op applied answer) (own_events lab e events) (own_events lab e more)
   own_both (Wrote side at bytes ∷ events) more = own_both events more
   own_both (Synced side ∷ events) more = own_both events more
   own_both (CutTo side size ∷ events) more = own_both events more

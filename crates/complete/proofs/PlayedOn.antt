@@ -11,14 +11,12 @@ use Rattle.script_text.specs.declared.reply.Reply.{Reply}
 use Rattle.swap_turns.specs.Swaps.{Moves}
 use Rattle.lab_core.specs.LabSteps.{IsDoneBy, does, no_memory}
 use Rattle.lab_core.specs.Lists.{DoesList, Ground, Listing, Past, set_at, broken, listed, more, no_memory as list_no_memory, none, over, refused, wanting}
-use Rattle.lab_core.specs.Sessions.{OpenSwap, Closed, Open, Setting, After, name_in, names_of, open_by}
+use Rattle.lab_core.specs.Sessions.{OpenSwap, Open, Setting, After, name_in, names_of, open_by}
 use Rattle.lab_core.proofs.Listings.{IsAboutThese}
 use Rattle.lab_core.proofs.Others.{Stays, both_stay, same_stays}
+use Rattle.lab_core.proofs.Sessions.{not_shut}
 use Rattle.complete.proofs.Continued.{Continues, along, does_keep, same_opens}
 use Rattle.complete.proofs.OwnCommands.{own_both}
-
-not_shut : {X : Type 0} (to : List OpenSwap) → Closed ≡ Open to → X
-not_shut to is = absurd (cc is)
 
 one_found : (name : List ℕ) (s : LabState) (e f : Experiment) → find name s.experiments ≡ Some e → find name s.experiments ≡ Some f → e ≡ f
 one_found name s e f x y = let same : Some e ≡ Some f = sym x ∙ y in cc same

@@ -40,6 +40,7 @@ use Rattle.lab_core.specs.BatchList.{runs_in_turn}
 use Rattle.lab_core.proofs.Events.{events_are}
 use Rattle.lab_core.proofs.Listings.{IsAboutThese}
 use Rattle.lab_core.proofs.Runs.{AreOf, runs_are}
+use Rattle.lab_top.proofs.RunLaws.{set_with}
 use Rattle.complete.proofs.Continued.{Continues, along, begun_now, done_continue, undone}
 use Rattle.complete.proofs.GoingWell.{IsSafe}
 use Rattle.complete.proofs.OpenUncut.{open_safe}
@@ -182,11 +183,6 @@ module _ (terms : Terms) (before : List Event) (set : Setting) (s : LabState) (o
       lists_continue (runs_in_turn terms.rule moment) (λ opens s. JudgedBatch s text) (λ at. AreOf (λ n. true) at.left) (λ n. true) (runs_are terms.rule moment (λ n. true)) (λ opens s start judged run has. refl) session ok moves differ step
   all_continue Audit none session ok moves differ step = audit_continues session ok step
   all_continue command none session ok moves differ step = plain_continues command refl none session ok moves differ step
-
--- a lab with an experiment is set
-set_with : (name : List ℕ) (s : LabState) (e : Experiment) → Sane s → (lab : Option Lab) → s.lab ≡ lab → find name s.experiments ≡ Some e → is_some lab ≡ true
-set_with name s e sane (Some lab) is found = refl
-set_with name s e sane None is found = let empty : find name s.experiments ≡ None = ap (find name) (sane.none is) in absurd (cc (sym empty ∙ found))
 
 -- a piece from an open session goes from the lab of the moment
 at_open : (from : Session) (early : Bool) (trace : List Event) (s : LabState) (o : OpenSwap) → Has (opens_of from) o → FirstLab (is_closed from && early) trace s → IsLabAt trace s

@@ -1,21 +1,18 @@
 -- Completeness of a run, from what the run says alone.
 use Rattle.std.specs.Prelude.{IfSome}
-use Rattle.std.proofs.Common.{◌≡◌, ◌⊎◌, ℕ, ◌+◌, ◌^◌, List, [], ◌∷◌, ◌++◌, append_assoc, Option, Some, None, refl, sym, ◌∙◌, ap, subst, arith}
+use Rattle.std.proofs.Common.{◌≡◌, ◌⊎◌, ℕ, ◌+◌, List, [], ◌∷◌, ◌++◌, append_assoc, Option, Some, None, refl, sym, ◌∙◌, ap, subst}
 use Rattle.std.proofs.lemmas.List.{append-nil}
 use Rattle.lab_base.specs.Lists.{Has}
 use Rattle.records_model.specs.Labs.{LabState}
-use Rattle.plant.specs.Disks.{disk, ArePossible}
 use Rattle.plant.specs.Events.{Event}
 use Rattle.plant.specs.Told.{Told}
 use Rattle.plant.specs.declared.drill.Drill.{Drill}
 use Rattle.plant.specs.declared.step.Side.{Side}
-use Rattle.plant.specs.declared.step.Side.TheVariants.{A, B}
-use Rattle.journal_model.specs.Journals.{gate_after, journal_length, size_of}
-use Rattle.journal_runs.proofs.Stood.{sound_follows, sound_not_bad, sound_room, stood_once}
+use Rattle.journal_runs.proofs.Stood.{stood_once}
 use Rattle.records_model.specs.Works.{IsSound}
 use Rattle.lab_state.specs.Texts.{the_texts}
 use Rattle.lab_state.proofs.Canonical.{texts_once}
-use Rattle.lab_core.specs.Moments.{IsLabAt, IsNoJournal, bad, cannot_follow, no_room}
+use Rattle.lab_core.specs.Moments.{IsLabAt}
 use Rattle.lab_core.specs.Sessions.{OpenSwap, Closed, Terms}
 use Rattle.lab_core.specs.Tells.{opens_of}
 use Rattle.lab_top.specs.declared.status.Status.{Status}
@@ -23,6 +20,7 @@ use Rattle.lab_top.specs.declared.status.Status.TheVariants.{Done, Memory}
 use Rattle.lab_top.specs.Pieces.{Begun, ArePieces, IsPiece, session_after, steps_of, trace_after, with_drill_if, with_pieces, planned_of}
 use Rattle.lab_top.specs.Ran.{EndsSo, LastFindsNone, Outside, Ran}
 use Rattle.lab_words.specs.Words.{Choices}
+use Rattle.lab_top.proofs.Pieces.{sides_read}
 use Rattle.complete.specs.Complete.{AllGoesWell, AreStepsOf, IsComplete}
 use Rattle.complete.specs.OpenCourses.{IsCourse, steps_in}
 use Rattle.complete.proofs.Runs.{complete}
@@ -30,15 +28,6 @@ use Rattle.complete.proofs.RunCourses.{StandOnce, all_safe, going_after}
 
 stand_once : StandOnce
 stand_once trace s u x y = stood_once the_texts _ _ s u texts_once x y
-
--- over a sound trace the sides are a journal
-sides_read : (trace : List Event) (side : Side) (at : ℕ) → ArePossible trace (disk A trace).reads (disk B trace).reads → IsSound the_texts trace → IsNoJournal (disk A trace).reads (disk B trace).reads (2 ^ 32) side at → ⊥
-sides_read trace side at possible sound (bad is) = sound_not_bad the_texts trace _ _ side at possible sound is
-sides_read trace side at possible sound (cannot_follow rs n read on stops is) = sound_follows the_texts trace _ _ rs n possible sound texts_once read stops
-sides_read trace side at possible sound (no_room rs s read on lab less is) =
-    let size : journal_length (disk A trace).reads (disk B trace).reads rs ≡ gate_after rs + 1 = ap (λ l. size_of l rs) on in
-    let room = sound_room the_texts trace _ _ rs s possible sound texts_once read lab in
-    omega (arith, size, room, less)
 
 piece_at : (terms : Terms) (trace : List Event) (before after : List Begun) (b : Begun) → ArePieces terms trace (before ++ b ∷ after) → IsSound the_texts trace → IsPiece terms (trace_after trace before) b.piece × IsSound the_texts (trace_after trace before)
 piece_at terms trace [] after b are sound = (are.0, sound)

@@ -2,6 +2,7 @@
 use Rattle.std.proofs.Common.{◌≡◌, ◌+◌, ◌≤◌, ◌∙◌, ℕ, List, [], ◌∷◌, ◌++◌, Bool, true, false, cond, ◌||◌, refl, sym, ap, arith}
 use Rattle.std.specs.Bool.{Decides}
 use Rattle.std.specs.List.{list_any}
+use Rattle.lab_base.proofs.Tests.{or_swapped}
 use Rattle.cost_rule.specs.Cost.{different}
 
 abbrev pub new_if : Bool → ℕ
@@ -14,12 +15,6 @@ different_cons same x xs = by (list_any (same x) xs)
     by : (b : Bool) → cond b (different same xs) (different same xs + 1) ≡ different same xs + new_if b
     by true = omega arith
     by false = refl
-
-or_swapped : (a b c : Bool) → (a || (b || c)) ≡ (b || (a || c))
-or_swapped true true c = refl
-or_swapped true false c = refl
-or_swapped false true c = refl
-or_swapped false false c = refl
 
 pub any_within : {X : Type 0} (same : X → X → Bool) (xs ys : List X) (x y : X) → list_any (same x) (xs ++ y ∷ ys) ≡ (same x y || list_any (same x) (xs ++ ys))
 any_within same [] ys x y = refl

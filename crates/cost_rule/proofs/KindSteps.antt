@@ -5,7 +5,7 @@ use Rattle.std.specs.List.{list_any}
 use mir.Val.{bool_byte}
 use Rattle.std.proofs.lemmas.List.{drop_more}
 use Rattle.lab_base.specs.Names.{same_name}
-use Rattle.phys_lab.proofs.NameLaws.{any_in_map}
+use Rattle.lab_base.proofs.Members.{any_map}
 use Rattle.virt_topo.specs.declared.wiring.Wiring.{Wiring}
 use Rattle.virt_topo.specs.declared.mapping.Mapping.{Mapping}
 use Rattle.virt_topo.specs.Wirings.{virt_at, no_virt}
@@ -60,7 +60,7 @@ pub nodes_step : (p : Place) (rest others : List Place) (b : Bool) (k : ℕ) →
     → different same_node (map (λ q. q.0.0) rest) ≡ k + different same_node (map (λ q. q.0.0) others)
 nodes_step p rest others b k is any counted =
     ap (λ (l : List Place). different same_node (map (λ q. q.0.0) l)) is
-    ∙ ap (λ (t : Bool). cond t later (later + 1)) (any_in_map (same_node p.0.0) (λ (q : Place). q.0.0) others ∙ sym any)
+    ∙ ap (λ (t : Bool). cond t later (later + 1)) (any_map (same_node p.0.0) (λ (q : Place). q.0.0) others ∙ sym any)
     ∙ by b ∙ ap (λ (n : ℕ). n + later) (sym counted)
   where
     later : ℕ

@@ -1,5 +1,5 @@
 pub mod Sums
 pub mod Different
 mod KindSteps
-pub mod LimitLaws
+mod LimitLaws
 pub mod PartLaws

@@ -11,7 +11,7 @@ use Rattle.phys_lab.specs.Labs.{Lab}
 use Rattle.phys_lab.specs.Kept.{IsLab}
 use Rattle.phys_lab.specs.Forests.{first_side_of}
 use Rattle.phys_lab.proofs.TrunkCount.{few_trunks}
-use Rattle.virt_topo.proofs.CableLaws.{whole_bound}
+use Rattle.virt_topo.proofs.CableLaws.{whole_bound, sound_keeps, sound_limits}
 use Rattle.virt_topo.specs.declared.wiring.VirtNode.{VirtNode}
 use Rattle.virt_topo.specs.declared.wiring.Wiring.{Wiring}
 use Rattle.virt_topo.specs.declared.mapping.Mapping.{Mapping}
@@ -25,7 +25,7 @@ use Rattle.cost_rule.specs.declared.rule.RuleNumber.{RuleNumber}
 use Rattle.cost_rule.specs.declared.rule.RuleNumber.TheVariants as numbers
 use Rattle.cost_rule.specs.Cost.{cost, sum_below, different, missed_weight, missed, node_soft, kinds_of, class_soft, types_of, soft, trunk_uses, nodes_in_use, same_node}
 use Rattle.cost_rule.specs.Parts.{parts_of, cost_of_parts}
-use Rattle.cost_rule.proofs.LimitLaws.{sound_keeps, sound_limits, few_desires, few_features}
+use Rattle.cost_rule.proofs.LimitLaws.{few_desires, few_features}
 
 pub cost_is : (number : RuleNumber) (lab : Lab) (w : Wiring) (m : Mapping) → cost number lab w m ≡ cost_of_parts number (parts_of lab w m)
 unfolding cost cost_of_parts

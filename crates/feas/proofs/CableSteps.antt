@@ -1,5 +1,5 @@
 -- The cables of a mapping, one after another.
-use Rattle.std.proofs.Common.{◌≡◌, ℕ, zero, suc, ◌+◌, ◌<◌, List, [], ◌∷◌, length, take, drop, get_or, refl, sym, ap, ◌∙◌, arith}
+use Rattle.std.proofs.Common.{◌≡◌, ℕ, zero, suc, ◌+◌, ◌<◌, List, ◌∷◌, length, take, drop, get_or, sym, ap, ◌∙◌, arith}
 use Rattle.std.proofs.Math.Seq.{drop-cons}
 use Rattle.std.proofs.lemmas.List.{get_or_default}
 use Rattle.lab_base.specs.declared.ids.IfaceId.{IfaceId}
@@ -9,11 +9,8 @@ use Rattle.virt_topo.specs.declared.mapping.Mapping.{Mapping}
 use Rattle.virt_topo.specs.Ends.{end_nodes}
 use Rattle.virt_topo.specs.Cables.{Cable, cables}
 use Rattle.virt_topo.proofs.EndLaws.{ends_from}
+use Rattle.virt_topo.proofs.CableLaws.{length-cables}
 use Rattle.lab_model.specs.Rules.{no_cable, cable_at}
-
-pub length-cables : (segments : List Segment) (plugs : List IfaceId) → length (cables segments plugs) ≡ length segments
-length-cables [] plugs = refl
-length-cables (s ∷ segments) plugs = ap suc (length-cables segments (drop (length s.ends) plugs))
 
 -- the cable of the segment at i, and those behind it
 pub record IsAt (segments : List Segment) (plugs rest : List IfaceId) (i : ℕ) (d : Segment) (e : Cable) : Type 0 where

@@ -1,18 +1,16 @@
 -- Virtual nodes and their places, one after another.
-use Rattle.std.proofs.Common.{◌≡◌, ℕ, zero, ◌+◌, ◌<◌, Bool, true, false, cond, eqb, List, [], ◌∷◌, ◌++◌, length, drop, get_or, refl, sym, ap, ◌∙◌}
+use Rattle.std.proofs.Common.{◌≡◌, ℕ, zero, ◌+◌, ◌<◌, Bool, true, false, cond, eqb, List, [], ◌∷◌, ◌++◌, length, drop, get_or, refl, sym, ◌∙◌}
 use Rattle.std.proofs.lemmas.List.{drop_more}
+use Rattle.lab_base.proofs.Lists.{item_at}
 use Rattle.virt_topo.specs.declared.wiring.VirtNode.{VirtNode}
 use Rattle.lab_model.specs.Shapes.{Place}
 use Rattle.lab_model.specs.Rules.{Guest, guests, is_member, first_type}
 
-next_item : {X : Type 0} (xs : List X) (i : ℕ) (x : X) → i < length xs → x ≡ get_or xs i x → drop i xs ≡ x ∷ drop (i + 1) xs
-next_item xs i x lt is = drop_more xs i x lt ∙ ap (λ y. y ∷ drop (i + 1) xs) (sym is)
-
 pub guest_step : (vs : List VirtNode) (places : List Place) (i n : ℕ) (v : VirtNode) (p : Place) → i < length vs → i < length places → v ≡ get_or vs i v → p ≡ get_or places i p
     → cond (eqb p.0.0 n) ((p.1, v.os) ∷ []) [] ++ guests (drop (i + 1) vs) (drop (i + 1) places) n ≡ guests (drop i vs) (drop i places) n
 guest_step vs places i n v p lt few is at =
-    let one = next_item vs i v lt is in
-    let two = next_item places i p few at in
+    let one = item_at vs i v lt is in
+    let two = item_at places i p few at in
     by (eqb p.0.0 n) (guests (drop (i + 1) vs) (drop (i + 1) places) n) ∙ sym (λ j. guests (one j) (two j) n)
   where
     by : (b : Bool) (rest : List Guest) → cond b ((p.1, v.os) ∷ []) [] ++ rest ≡ cond b ((p.1, v.os) ∷ rest) rest

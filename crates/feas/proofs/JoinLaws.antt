@@ -4,10 +4,10 @@ use Rattle.std.specs.Prelude.{◌&&◌}
 use Rattle.std.specs.List.{list_all}
 use Rattle.std.proofs.lemmas.Bool.{and_from, and_parts}
 use Rattle.lab_base.specs.declared.ids.IfaceId.{IfaceId}
+use Rattle.lab_base.proofs.Tests.{same_tests}
 use Rattle.phys_lab.specs.Labs.{Lab}
 use Rattle.phys_lab.specs.Sides.{joined}
 use Rattle.phys_lab.proofs.SideLaws.{joined_same, joined_through, joined_back}
-use Rattle.phys_lab.proofs.ForestLaws.{same_test}
 use Rattle.lab_model.specs.Uses.{switch_of}
 use Rattle.lab_model.specs.Rules.{are_joined}
 
@@ -31,7 +31,7 @@ each_joined lab a (p ∷ plugs) all whole h =
     and_from _ _ (moved lab a p all (joined_back lab.trunks (switch_of lab a) (switch_of lab p) parts.0) whole) (each_joined lab a plugs all whole parts.1)
 
 pub star : (lab : Lab) (first : IfaceId) (others plugs : List IfaceId) → plugs ≡ first ∷ others → list_all (near lab first) plugs ≡ are_joined lab plugs
-star lab first others plugs is = same_test _ _ there back
+star lab first others plugs is = same_tests _ _ there back
   where
     there : list_all (near lab first) plugs ≡ true → are_joined lab plugs ≡ true
     there h = each_joined lab first plugs plugs h h

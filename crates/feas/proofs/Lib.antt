@@ -1,4 +1,3 @@
-mod FirstLaws
 mod GuestLaws
 mod EndLists
 mod LoadLists

@@ -1,13 +1,16 @@
 -- The loads of the ends that have one plug, one after another.
-use Rattle.std.proofs.Common.{◌≡◌, ℕ, zero, suc, ◌+◌, ◌-◌, ◌<◌, ◌≤◌, Bool, true, false, not, cond, eqb, List, [], ◌∷◌, length, take, drop, get_or, refl, sym, ap, ◌∙◌, arith}
-use Rattle.std.specs.Prelude.{◌&&◌, nat_le, zip, sum_by, if◌then◌else◌, Option, Some, None}
+use Rattle.std.proofs.Common.{◌≡◌, ℕ, zero, suc, ◌+◌, ◌-◌, ◌<◌, ◌≤◌, Bool, true, false, not, cond, eqb, List, [], ◌∷◌, length, take, drop, get_or, sym, ap, ◌∙◌, arith}
+use Rattle.std.specs.Prelude.{◌&&◌, nat_le, zip, sum_by}
 use Rattle.std.specs.List.{list_all}
 use Rattle.std.proofs.Math.Seq.{drop-cons}
 use Rattle.std.proofs.lemmas.Bool.{not-false}
 use Rattle.std.proofs.lemmas.Bool.Decides.{nat_tests}
 use Rattle.std.proofs.lemmas.List.{drop_all, get_or_default}
 use Rattle.std.proofs.lemmas.List.Sums.{sum_by-cons}
+use Rattle.std.proofs.Math.Bool.{and-false}
 use Rattle.lab_base.specs.declared.ids.IfaceId.{IfaceId}
+use Rattle.lab_base.proofs.Tests.{not_faulty}
+use Rattle.lab_base.proofs.Numbers.{zero_le}
 use Rattle.phys_lab.specs.Labs.{Lab}
 use Rattle.virt_topo.specs.declared.loads.Load.{Load}
 use Rattle.virt_topo.specs.declared.wiring.Wiring.{Wiring}
@@ -20,13 +23,9 @@ use Rattle.virt_topo.proofs.LoadLaws.{length-loads}
 use Rattle.lab_model.specs.Uses.{iface_at}
 use Rattle.lab_model.specs.Rules.{keeps_f5, place_at, plug_at, loads_on, may_join, may_bear, no_load}
 
-past : {X : Type 0} (faulty : Bool) (fault : X) (later : Option X) → (if faulty then Some fault else later) ≡ None → faulty ≡ false
-past true fault later e = absurd (cc e)
-past false fault later e = refl
-
 -- a sound wiring has few segments
 pub few_segments : (w : Wiring) → IsSound w → length w.segments ≤ 512
-few_segments w sound = (limits_of w (not-false _ (past (not (keeps_limits w)) _ _ sound))).segments
+few_segments w sound = (limits_of w (not-false _ (not_faulty (not (keeps_limits w)) _ _ sound))).segments
 
 -- those from the end of number k on
 abbrev pub later_on : ℕ → List Load → List IfaceId → ℕ → List Load
@@ -55,12 +54,8 @@ begins kbps ys x le = ap (λ (b : Bool). list_all (λ y. may_join y x) ys && b) 
     by : (n : ℕ) → nat_le (x.kbps + n) kbps ≡ nat_le n (kbps - x.kbps)
     by n = grind (arith, nat_tests)
 
-and_no : (b : Bool) → b && false ≡ false
-and_no true = refl
-and_no false = refl
-
 pub too_fast : (kbps : ℕ) (ys : List Load) (x : Load) → kbps < x.kbps → may_bear kbps ys x ≡ false
-too_fast kbps ys x gt = ap (λ (b : Bool). list_all (λ y. may_join y x) ys && b) (by (sum_by (λ y. y.kbps) ys)) ∙ and_no (list_all (λ y. may_join y x) ys)
+too_fast kbps ys x gt = ap (λ (b : Bool). list_all (λ y. may_join y x) ys && b) (by (sum_by (λ y. y.kbps) ys)) ∙ and-false (list_all (λ y. may_join y x) ys)
   where
     by : (n : ℕ) → nat_le (x.kbps + n) kbps ≡ false
     by n = grind (arith, nat_tests)
@@ -104,7 +99,7 @@ too_much i loads plugs k left x d q same lt on gt =
     let rest = later_on i loads plugs (k + 1) in
     let y = get_or loads k d in
     here i loads plugs k left x d q same lt on
-    ∙ ap (λ (b : Bool). (may_join y x && list_all (λ z. may_join z x) rest) && b) (ap (λ (n : ℕ). nat_le n left) (sum_by-cons (λ (z : Load). z.kbps) y rest) ∙ by (sum_by (λ z. z.kbps) rest)) ∙ and_no (may_join y x && list_all (λ z. may_join z x) rest)
+    ∙ ap (λ (b : Bool). (may_join y x && list_all (λ z. may_join z x) rest) && b) (ap (λ (n : ℕ). nat_le n left) (sum_by-cons (λ (z : Load). z.kbps) y rest) ∙ by (sum_by (λ z. z.kbps) rest)) ∙ and-false (may_join y x && list_all (λ z. may_join z x) rest)
   where
     by : (n : ℕ) → nat_le ((get_or loads k d).kbps + n) left ≡ false
     by n = grind (arith, nat_tests)
@@ -114,10 +109,7 @@ pub ended : (i : ℕ) (loads : List Load) (plugs : List IfaceId) (k left : ℕ) 
 ended i loads plugs k left x le same =
     let one = drop_all k loads (omega (arith, le, same)) in
     let two = drop_all k plugs le in
-    (λ j. left_to x (loads_on i (zip (one j) (two j))) left) ∙ none left
-  where
-    none : (n : ℕ) → nat_le 0 n ≡ true
-    none n = grind (arith, nat_tests)
+    (λ j. left_to x (loads_on i (zip (one j) (two j))) left) ∙ zero_le left
 
 -- the test of one plug is the rule's
 abbrev plug_test : Lab → Mapping → List Load → ℕ → ℕ → Load → Bool

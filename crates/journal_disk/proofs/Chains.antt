@@ -1,5 +1,5 @@
 -- One call of the plant after another, up to one that failed or stopped.
-use Rattle.std.proofs.Common.{◌≡◌, inl, inr, ℕ, Bool, true, false, List, [], ◌∷◌, ◌++◌, length, Option, Some, None, Ok, Err, refl, sym, ap, ◌∙◌, append_assoc}
+use Rattle.std.proofs.Common.{◌≡◌, inl, inr, ℕ, Bool, true, false, List, [], ◌∷◌, ◌++◌, length, Option, Ok, Err, refl, sym, ap, ◌∙◌, append_assoc}
 use Rattle.std.proofs.lemmas.List.{append-nil}
 use Rattle.plant.specs.DiskCalls.{WriteSteps, SyncSteps}
 use Rattle.plant.specs.Events.{Event, Wrote, Synced, Missed}
@@ -7,18 +7,11 @@ use Rattle.plant.specs.Told.{Told, with_steps}
 use Rattle.plant.specs.declared.device.Fault.{Fault}
 use Rattle.plant.specs.declared.device.Fault.TheVariants.{Failed, Stopped}
 use Rattle.plant.specs.declared.step.Side.{Side}
-
-pub with_steps-append : (told : Option Told) (a b : List Event) → with_steps (with_steps told a) b ≡ with_steps told (a ++ b)
-with_steps-append None a b = refl
-with_steps-append (Some t) a b = ap (λ (l : List Event). let o : Option Told = Some (record t { trace = l }) in o) (append_assoc t.trace a b)
+use Rattle.plant.proofs.Traces.{with_steps-append}
 
 -- a call more
 pub chain : (told one two : Option Told) (a b c : List Event) → one ≡ with_steps told a → two ≡ with_steps one b → a ++ b ≡ c → two ≡ with_steps told c
 chain told one two a b c first second is = second ∙ ap (λ t. with_steps t b) first ∙ with_steps-append told a b ∙ ap (with_steps told) is
-
-pub nothing_yet : (told : Option Told) → told ≡ with_steps told []
-nothing_yet None = refl
-nothing_yet (Some t) = ap (λ (l : List Event). let o : Option Told = Some (record t { trace = l }) in o) (sym (append-nil t.trace))
 
 pub write_ok : (side : Side) (at : ℕ) (bytes : List ℕ) (stopped : Bool) (u : Unit {0}) (steps : List Event) → WriteSteps side at bytes stopped (Ok u) steps → steps ≡ Wrote side at bytes ∷ []
 write_ok side at bytes true u steps h = absurd (cc h.0)

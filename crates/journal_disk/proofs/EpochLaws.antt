@@ -16,6 +16,7 @@ use Rattle.journal_model.specs.Journals.{Headed, head}
 use Rattle.journal_model.specs.Appends.{Rests, All, added}
 use Rattle.journal_model.proofs.Runs.{run_disk}
 use Rattle.journal_model.proofs.Syncs.{live_back, headed_bytes}
+use Rattle.journal_model.proofs.Making.{heads_blank}
 use Rattle.journal_disk.specs.declared.front.Place.TheVariants as places
 use Rattle.journal_disk.specs.declared.fault.OpenFault.{OpenFault}
 use Rattle.journal_disk.specs.declared.fault.AppendFault.{AppendFault}
@@ -25,7 +26,7 @@ use Rattle.journal_disk.specs.Opening.{making}
 use Rattle.journal_disk.specs.Openings.{IsOpened}
 use Rattle.journal_disk.specs.Standing.{side_of, gate_of, IsAt, Appends}
 use Rattle.journal_disk.specs.Epochs.{epoch_of, HasEpoch}
-use Rattle.journal_disk.proofs.Found.{AreRead, ReadIn, stands_on_side, is_new, heads_blank, rests_made}
+use Rattle.journal_disk.proofs.Found.{AreRead, ReadIn, stands_on_side, is_new, rests_made}
 use Rattle.journal_disk.proofs.CompactImages.{head_rests, same_epoch}
 
 -- the epoch of a header is the 8 bytes from 9 on

@@ -1,6 +1,5 @@
 -- The journal that an opening finds after both syncs, and the one that it makes.
-use Rattle.std.specs.Str.{bytes_eq}
-use Rattle.std.proofs.Common.{◌≡◌, ◌≢◌, ℕ, ◌≤◌, ◌||◌, ◌==◌, Bool, true, false, not, nat_lt, if◌then◌else◌, List, [], ◌∷◌, ◌++◌, length, take, drop, Option, Some, None, Result, Ok, Err, refl, sym, ap, ◌∙◌, subst, arith}
+use Rattle.std.proofs.Common.{◌≡◌, ◌≢◌, ℕ, ◌≤◌, ◌||◌, ◌==◌, Bool, true, false, not, nat_lt, if◌then◌else◌, List, [], ◌∷◌, ◌++◌, length, Option, Some, None, Result, Ok, Err, refl, sym, ap, ◌∙◌, subst, arith}
 use Rattle.std.specs.Prelude.{IfSome, IfOk}
 use Rattle.std.specs.Global.{Vec}
 use Rattle.std.proofs.lemmas.Bool.{le-ltb, eq-eqb, ltb-true, ltb-false}
@@ -13,13 +12,13 @@ use Rattle.journal_rec.specs.declared.record.Record.{Record}
 use Rattle.journal_rec.specs.declared.record.Record.TheVariants.{Delete}
 use Rattle.journal_rec.specs.declared.record.Found.{Found}
 use Rattle.journal_rec.specs.Payloads.{le, IsRecord}
-use Rattle.journal_model.specs.Journals.{magic, Head, Blank, Foreign, Headed, head, Live, New, On, Wrong, live, Bad, BadOf}
+use Rattle.journal_model.specs.Journals.{Head, Blank, Foreign, Headed, head, Live, New, On, Wrong, live, Bad, BadOf}
 use Rattle.journal_model.specs.Appends.{IsOlder, Rests, Opened, Nothing}
 use Rattle.journal_model.specs.Making.{IsShort, IsClosed}
 use Rattle.journal_model.proofs.Traces.{disk_more}
 use Rattle.journal_model.proofs.Runs.{run_images}
 use Rattle.journal_model.proofs.Syncs.{live_back, headed_long, opened_from}
-use Rattle.journal_model.proofs.Making.{short_closed, closed_header, header_rests}
+use Rattle.journal_model.proofs.Making.{short_closed, closed_header, header_rests, heads_blank, open_not_blank}
 use Rattle.journal_disk.specs.declared.front.Place.TheVariants as places
 use Rattle.journal_disk.specs.declared.fault.OpenFault.{OpenFault}
 use Rattle.journal_disk.specs.declared.fault.OpenFault.TheVariants as faults
@@ -165,31 +164,10 @@ wrong_bad told a b s side at read wrong is =
     in_reads told a b side at read (subst (λ l. BadOf l a b side at) (sym l) (parts.0, sym parts.1))
 
 -- ---- a new journal
-pub heads_blank : (x y : Head) → live x y ≡ New → (x ≡ Blank) × (y ≡ Blank)
-heads_blank Blank Blank e = (refl, refl)
-heads_blank Foreign y e = absurd (cc e)
-heads_blank Blank Foreign e = absurd (cc e)
-heads_blank Blank (Headed n) e = absurd (cc e)
-heads_blank (Headed m) Foreign e = absurd (cc e)
-heads_blank (Headed m) Blank e = absurd (cc e)
-heads_blank (Headed m) (Headed n) e = absurd (none _ _ e)
-  where
-    none : (t u : Bool) → ◌≡◌ {A = Live} (if t then Wrong A else if u then On A else On B) New → ⊥
-    none true u e = cc e
-    none false true e = cc e
-    none false false e = cc e
 
 pub blank_closed : (bytes : List ℕ) → head bytes ≡ Blank → 18 ≤ length bytes → (gate : ℕ) × (rest : List ℕ) × (gate ≢ 165) × (bytes ≡ gate ∷ rest)
 blank_closed [] h long = absurd (omega (arith, long))
-blank_closed (x ∷ y) h long = (x, y, (λ is_open. by (ap (λ t. t || not (x == 165)) (le-ltb (length (x ∷ y)) 18 long) ∙ ap not (eq-eqb x 165 is_open)) h), refl)
-  where
-    by : (nat_lt (length (x ∷ y)) 18 || not (x == 165)) ≡ false → head (x ∷ y) ≡ Blank → ⊥
-    by e h = pick _ (bytes_eq (take 8 y) magic) e h
-      where
-        pick : (t u : Bool) → t ≡ false → ◌≡◌ {A = Head} (if t then Blank else if u then Headed (take 8 (drop 8 y)) else Foreign) Blank → ⊥
-        pick true u e h = cc e
-        pick false true e h = cc h
-        pick false false e h = cc h
+blank_closed (x ∷ y) h long = (x, y, (λ is_open. open_not_blank x y (ap (λ t. t || not (x == 165)) (le-ltb (length (x ∷ y)) 18 long) ∙ ap not (eq-eqb x 165 is_open)) h), refl)
 
 -- the state of side A after what makes a journal
 pub rests_made : (trace : List Event) (bytes : List ℕ) (is_short : Bool) → disk A trace ≡ at_once bytes → head bytes ≡ Blank → is_short ≡ nat_lt (length bytes) 18 → Rests (disk A (trace ++ making is_short)) (le 8 1) []

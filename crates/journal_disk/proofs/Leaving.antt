@@ -10,10 +10,11 @@ use Rattle.plant.specs.declared.device.Fault.{Fault}
 use Rattle.plant.specs.declared.device.Fault.TheVariants.{Failed, Stopped}
 use Rattle.plant.specs.declared.step.Side.{Side}
 use Rattle.plant.specs.declared.step.Side.TheVariants.{A, B}
+use Rattle.plant.proofs.Traces.{with_steps-nil}
 use Rattle.journal_model.proofs.Traces.{disk_more}
 use Rattle.journal_disk.specs.Compacting.{is_unshut, poured, ArePieces, Come, Untouched, Closing, Closed, Cutting, Emptied, Filling, Filled, Raising, InUse, shutting, emptying, filling, come_steps, MayCome, IsInUse, IsLastOf, Leaves, BreaksOff, PourEnds, Pours}
 use Rattle.journal_disk.specs.Compactions.{MoveEnds, MovesOver}
-use Rattle.journal_disk.proofs.Chains.{chain, nothing_yet, Came, IsLast, sync_came, write_came, sync_ok}
+use Rattle.journal_disk.proofs.Chains.{chain, Came, IsLast, sync_came, write_came, sync_ok}
 use Rattle.journal_disk.proofs.Parts.{first_byte, one_byte}
 
 pub cut_ok : (side : Side) (size : ℕ) (stopped : Bool) (u : Unit {0}) (steps : List Event) → CutSteps side size stopped (Ok u) steps → steps ≡ Cut side size ∷ []
@@ -146,7 +147,7 @@ missed_last side Stopped = refl
 
 -- a call that only reads leaves what was told
 pub read_only : (side : Side) (u : Bool) (told new : Option Told) → new ≡ with_steps told (missed side (Ok u)) → new ≡ told
-read_only side u told new is = is ∙ sym (nothing_yet told)
+read_only side u told new is = is ∙ sym (with_steps-nil told)
 
 shut_some : (bytes : List ℕ) → is_unshut bytes ≡ false → 1 ≤ length bytes
 shut_some [] h = absurd (cc h)

@@ -1,7 +1,7 @@
 mod Bytes
-pub mod Chains
+mod Chains
 pub mod Prefixes
-mod Walking
+pub mod Walking
 pub mod Parts
 mod Found
 mod Made
@@ -15,3 +15,4 @@ mod Leaving
 mod EpochLaws
 mod PourLaws
 mod CompactExits
+pub mod LastSteps

@@ -19,6 +19,7 @@ use Rattle.journal_model.specs.Making.{made_header}
 use Rattle.journal_model.proofs.Readings.{records_once, records_or_bad}
 use Rattle.journal_model.proofs.Images.{synced_image}
 use Rattle.journal_model.proofs.Traces.{disk_more}
+use Rattle.journal_model.proofs.Making.{heads_blank}
 use Rattle.journal_disk.specs.declared.fault.OpenFault.{OpenFault}
 use Rattle.journal_disk.specs.declared.fault.OpenFault.TheVariants as faults
 use Rattle.journal_disk.specs.declared.journal.Journal.{Journal}
@@ -29,10 +30,11 @@ use Rattle.journal_disk.specs.Faults.{open_fault}
 use Rattle.journal_disk.specs.Before.{ReadAlike, AreAsBefore, AreSettled, IsOpening, are_synced}
 use Rattle.journal_disk.specs.Opening.{both_synced, cleared, making, new_journal, Made, Untouched, Closing, Closed, Heading, WithHeader, Raising, InUse, made_steps, IsMade, Far, AtStart, OneSynced, BothSynced, Making, far_steps, MayMake, IsLast, IsSync, Syncs, MayMiss, Makes, Ends, Opens}
 use Rattle.journal_disk.proofs.Chains as chains
-use Rattle.journal_disk.proofs.Chains.{chain, nothing_yet, Came, sync_came, write_came}
+use Rattle.journal_disk.proofs.Chains.{chain, Came, sync_came, write_came}
 use Rattle.journal_disk.proofs.Prefixes.{AllPrefixes, each_prefix, one_more, missed_images}
-use Rattle.journal_disk.proofs.Found.{heads_blank, is_new, stands_on_side}
+use Rattle.journal_disk.proofs.Found.{is_new, stands_on_side}
 use Rattle.journal_disk.proofs.Made.{blank_records, made_images}
+use Rattle.journal_disk.proofs.LastSteps.{opening_last}
 
 -- ---- calls that were not acknowledged
 last_is : (side : Side) (fault : Fault) (more : List Event) → chains.IsLast side fault more → IsLast side (open_fault fault) more
@@ -262,17 +264,9 @@ module _ (trace : List Event) (reads_so : ArePossible trace (disk A trace).reads
   prefixes BothSynced may = one_more IsFine (Synced A ∷ []) (Synced B) (one_more IsFine [] (Synced A) (fine AtStart tt) (fine OneSynced tt)) (fine BothSynced tt)
   prefixes (Making is_short made) may = made_prefixes may.0 is_short made may.1 may.2
 
-  -- the last step, where there is one, is a call that missed
-  few : (result : Result (Journal × Vec Found) OpenFault) (a b : List ℕ) (far : Far) (more : List Event) → Ends result a b far more → (more ≡ []) ⊎ ((side : Side) × (more ≡ Missed side ∷ []))
-  few (Ok opened) a b far more h = inl h.1
-  few (Err faults.Plant) a b far more h = inr h
-  few (Err faults.Stopped) a b far more h = inl h
-  few (Err (faults.Bad side at)) a b far more h = inl h.1
-  few (Err faults.Memory) a b far more h = inl h.1
-
   opens_before : (steps : List Event) (result : Result (Journal × Vec Found) OpenFault) → Opens trace steps result → AreAsBefore trace steps
   opens_before steps result o front back e =
-      each_prefix IsFine steps front back (subst (λ l. AllPrefixes IsFine l) (sym o.steps_are) (by (few result _ _ o.far o.more o.ends))) e
+      each_prefix IsFine steps front back (subst (λ l. AllPrefixes IsFine l) (sym o.steps_are) (by (opening_last result _ _ o.far o.more o.ends))) e
     where
       by : (o.more ≡ []) ⊎ ((side : Side) × (o.more ≡ Missed side ∷ [])) → AllPrefixes IsFine (far_steps o.far ++ o.more)
       by (inl none) = subst (λ l. AllPrefixes IsFine l) (sym (ap (λ l. far_steps o.far ++ l) none ∙ append-nil (far_steps o.far))) (prefixes o.far o.blank)
@@ -302,7 +296,7 @@ module _ (trace : List Event) (reads_so : ArePossible trace (disk A trace).reads
 
   opens_settled : (steps : List Event) (result : Result (Journal × Vec Found) OpenFault) → Opens trace steps result → AreSettled trace steps
   opens_settled steps result o synced a b possible =
-      let how = few result _ _ o.far o.more o.ends in
+      let how = opening_last result _ _ o.far o.more o.ends in
       let here : ArePossible (trace ++ (far_steps o.far ++ o.more)) a b = subst (λ l. ArePossible (trace ++ l) a b) o.steps_are possible in
       settled o.far o.more o.blank how (subst (λ l. are_synced l ≡ true) o.steps_are synced) a b (back o.more how here)
     where

@@ -20,10 +20,10 @@ use Rattle.journal_model.proofs.Traces.{disk_more}
 use Rattle.journal_disk.proofs.Chains.{Came, sync_came, write_came}
 use Rattle.journal_disk.proofs.Prefixes.{AllPrefixes, each_prefix, one_more, missed_images}
 use Rattle.journal_disk.specs.declared.fault.AppendFault.{AppendFault}
-use Rattle.journal_disk.specs.declared.fault.AppendFault.TheVariants as faults
 use Rattle.journal_disk.specs.declared.journal.Journal.{Journal}
 use Rattle.journal_disk.specs.Faults.{append_fault}
 use Rattle.journal_disk.specs.Standing.{side_of, gate_of, length_of, IsAt, Ends, Appends, Moments}
+use Rattle.journal_disk.proofs.LastSteps.{append_last}
 
 -- some part was made, and then a call failed or the plant stopped
 abbrev made : Option Told → Option Told → Journal → Record → Fault → Type 0
@@ -129,12 +129,6 @@ module _ (trace : List Event) (j : Journal) (rs : List Record) (r : Record) (at 
   all_prefixes run more (inl e) = subst (λ l. AllPrefixes Fine l) (sym (append-nil (added (side_of j) (gate_of j) r run)) ∙ ap (λ l. added (side_of j) (gate_of j) r run ++ l) (sym e)) (prefixes run)
   all_prefixes run more (inr e) = subst (λ l. AllPrefixes Fine (added (side_of j) (gate_of j) r run ++ l)) (sym e) (prefixes_missed run)
 
-few : (side : Side) (result : Result (Unit {0}) AppendFault) (run : Run) (more : List Event) → Ends side result run more → (more ≡ []) ⊎ (more ≡ Missed side ∷ [])
-few side (Ok u) run more h = inl h.1
-few side (Err (faults.Full m n)) run more h = inl h.1
-few side (Err faults.Plant) run more h = inr h
-few side (Err faults.Stopped) run more h = inl h
-
 moments_at : (trace : List Event) (j : Journal) (rs : List Record) (r : Record) (result : Result (Unit {0}) AppendFault) (run : Run) (more : List Event) → IsAt trace j rs → IsRecord r → Ends (side_of j) result run more
     → Moments trace (added (side_of j) (gate_of j) r run ++ more) (side_of j) rs r result
 moments_at trace j rs r (Ok u) run more at is_r ends = record {
@@ -142,7 +136,7 @@ moments_at trace j rs r (Ok u) run more at is_r ends = record {
   ok = λ a b possible. images trace j rs r at is_r All a b (subst (λ l. ArePossible (trace ++ l) a b) ((λ i. added (side_of j) (gate_of j) r (ends.0 i) ++ ends.1 i) ∙ append-nil (added (side_of j) (gate_of j) r All)) possible);
 }
 moments_at trace j rs r (Err fault) run more at is_r ends = record {
-  each = λ front back e. each_prefix _ _ front back (all_prefixes trace j rs r at is_r run more (few (side_of j) (Err fault) run more ends)) e;
+  each = λ front back e. each_prefix _ _ front back (all_prefixes trace j rs r at is_r run more (append_last (side_of j) (Err fault) run more ends)) e;
   ok = tt;
 }
 

@@ -8,6 +8,7 @@ use Rattle.std.proofs.lemmas.Bool.{cases_lt}
 use Rattle.std.proofs.lemmas.Grind.{flat_map-append}
 use Rattle.lab_base.specs.Lists.{Has}
 use Rattle.lab_base.proofs.Members.{Has-append}
+use Rattle.lab_base.proofs.Numbers.{plus_zero}
 use Rattle.plant.specs.Disks.{Disk, disk, put}
 use Rattle.plant.specs.DiskCalls.{WriteSteps}
 use Rattle.plant.specs.Events.{Event, Wrote}
@@ -16,21 +17,19 @@ use Rattle.plant.specs.declared.device.Fault.{Fault}
 use Rattle.plant.specs.declared.device.Fault.TheVariants.{Failed, Stopped}
 use Rattle.plant.specs.declared.step.Side.{Side}
 use Rattle.plant.specs.declared.step.Side.TheVariants.{A, B}
+use Rattle.plant.proofs.Traces.{disk_push}
 use Rattle.journal_rec.specs.Payloads.{le}
 use Rattle.journal_model.specs.Journals.{magic}
-use Rattle.journal_model.proofs.Traces.{disk_push, disk_more}
+use Rattle.journal_model.proofs.Traces.{disk_more}
 use Rattle.journal_disk.specs.Compacting.{side_text, AreFull, ArePieces, poured, IsLastOf, PourEnds, Pours}
-use Rattle.journal_disk.proofs.Chains.{chain, nothing_yet, write_ok, Came, IsLast, write_came}
+use Rattle.journal_disk.proofs.Chains.{chain, write_ok, Came, IsLast, write_came}
 
 abbrev pub joined : List (List ℕ) → List ℕ
 joined pieces = flat_map (λ piece. piece) pieces
 
 -- a piece more
 poured_push : (side : Side) (at : ℕ) (pieces : List (List ℕ)) (piece : List ℕ) → poured side at (pieces ++ piece ∷ []) ≡ poured side at pieces ++ Wrote side (at + length (joined pieces)) piece ∷ []
-poured_push side at [] piece = ap (λ n. Wrote side n piece ∷ []) (same at)
-  where
-    same : (at : ℕ) → at ≡ at + 0
-    same at = omega arith
+poured_push side at [] piece = ap (λ n. Wrote side n piece ∷ []) (plus_zero at)
 poured_push side at (first ∷ pieces) piece =
     ap (λ l. Wrote side at first ∷ l) (poured_push side (at + length first) pieces piece ∙ ap (λ n. poured side (at + length first) pieces ++ Wrote side n piece ∷ []) moved)
   where

@@ -4,7 +4,7 @@ use Rattle.plant.specs.Disks.{Disk, disk, disk_after, IsImage, ArePossible}
 use Rattle.plant.specs.Events.{Event, Missed}
 use Rattle.plant.specs.declared.step.Side.{Side}
 use Rattle.plant.specs.declared.step.Side.TheVariants.{A, B}
-use Rattle.journal_model.proofs.Traces.{disk_push}
+use Rattle.plant.proofs.Traces.{disk_push}
 
 abbrev pub AllPrefixes : (List Event → Type 0) → List Event → Type 0
 AllPrefixes P [] = P []

@@ -7,7 +7,7 @@ use Rattle.lab_base.specs.Lists.{Has}
 use Rattle.plant.specs.Disks.{Disk, put, wrote, synced, shortened, at_once, IsImage}
 use Rattle.journal_model.specs.Journals.{Blank, head}
 use Rattle.journal_model.proofs.Images.{front_kept}
-use Rattle.journal_model.proofs.Making.{shut_blank}
+use Rattle.journal_model.proofs.Making.{begins}
 use Rattle.journal_disk.specs.Compacting.{is_unshut}
 
 pub record Shut (d : Disk) : Type 0 where
@@ -18,13 +18,6 @@ pub record Shut (d : Disk) : Type 0 where
   pub more : List ℕ
   pub reads : d.reads ≡ gate ∷ more
   pub later : (range : ℕ × ℕ) → Has d.written range → 1 ≤ range.0
-
-begins : (gate : ℕ) (image : List ℕ) → take 1 image ≡ gate ∷ [] → gate ≢ 165 → head image ≡ Blank
-begins gate [] e shut = absurd (cc e)
-begins gate (x ∷ image) e shut = shut_blank x image (λ h. shut (sym (first e) ∙ h))
-  where
-    first : x ∷ [] ≡ gate ∷ [] → x ≡ gate
-    first e = cc e
 
 -- no image of it has a header
 pub shut_image : (d : Disk) (image : List ℕ) → Shut d → IsImage d image → head image ≡ Blank

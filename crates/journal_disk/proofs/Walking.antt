@@ -3,6 +3,7 @@ use Rattle.std.proofs.Common.{◌≡◌, ◌≢◌, ℕ, ◌+◌, ◌-◌, ◌<�
 use Rattle.std.specs.Prelude.{sum_by}
 use Rattle.std.proofs.lemmas.List.{length-drop, length-take, drop-drop, append-nil, take_all}
 use Rattle.std.proofs.lemmas.List.Sums.{sum_by-append}
+use Rattle.lab_base.proofs.Numbers.{plus_zero}
 use Rattle.journal_model.proofs.Gates.{gate_push}
 use Rattle.journal_rec.specs.declared.record.Record.{Record}
 use Rattle.journal_rec.specs.declared.record.Found.{Found}
@@ -23,10 +24,7 @@ pub begins : (bytes : List ℕ) → SoFar bytes 17 [] []
 begins bytes = record { reads = λ ss r. r; breaks = λ ss b. b; at = refl; placed_so = refl }
 
 placed_push : (gate : ℕ) (rs : List Record) (r : Record) → placed gate (rs ++ r ∷ []) ≡ placed gate rs ++ record { at = gate + sum_by size rs; entry = r } ∷ []
-placed_push gate [] r = (λ i. record { at = same gate i; entry = r } ∷ [])
-  where
-    same : (gate : ℕ) → gate ≡ gate + 0
-    same gate = omega arith
+placed_push gate [] r = (λ i. record { at = plus_zero gate i; entry = r } ∷ [])
 placed_push gate (q ∷ rs) r =
     ap (λ (l : List Found). record { at = gate; entry = q } ∷ l) (placed_push (gate + size q) rs r)
     ∙ (λ i. record { at = gate; entry = q } ∷ (placed (gate + size q) rs ++ record { at = moved i; entry = r } ∷ []))

@@ -35,13 +35,13 @@ pub blocks-push : (rs : List Record) (r : Record) (rest : List ℕ) → blocks (
 blocks-push [] r rest = ap (λ l. l ++ rest) (append-nil (block r))
 blocks-push (q ∷ rs) r rest = append_assoc (block q) (blocks (rs ++ r ∷ [])) rest ∙ ap (λ l. block q ++ l) (blocks-push rs r rest) ∙ sym (append_assoc (block q) (blocks rs) (block r ++ rest))
 
+pub block_size : (r : Record) → length (block r) ≡ size r
+block_size r = omega (arith, length-append (165 ∷ le 4 (length (payload r))) (payload r))
+
 -- the front is as long as the position of the gate after it
 pub length_front : (epoch : List ℕ) (rs : List Record) → length epoch ≡ 8 → length (front epoch rs) ≡ gate_after rs
 length_front epoch rs eight = length-append (header epoch) (blocks rs) ∙ (λ i. length_header epoch eight i + by rs i)
   where
-    block_size : (r : Record) → length (block r) ≡ size r
-    block_size r = omega (arith, length-append (165 ∷ le 4 (length (payload r))) (payload r))
-
     by : (rs : List Record) → length (blocks rs) ≡ sum_by size rs
     by [] = refl
     by (r ∷ rs) = omega (arith, length-append (block r) (blocks rs), block_size r, by rs, sum_by-append size (r ∷ []) rs)

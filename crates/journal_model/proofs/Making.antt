@@ -1,11 +1,12 @@
 -- A new journal on side A: three writes, each synced.
 use Rattle.std.specs.Str.{bytes_eq}
-use Rattle.std.proofs.Common.{◌≡◌, ◌≢◌, inl, inr, ℕ, ◌+◌, ◌<◌, ◌≤◌, ◌||◌, ◌==◌, true, not, nat_lt, if◌then◌else◌, slice_index_or, List, [], ◌∷◌, ◌++◌, length, take, drop, get_or, sym, ap, ◌∙◌, subst, arith}
+use Rattle.std.proofs.Common.{◌≡◌, ◌≢◌, inl, inr, ℕ, ◌+◌, ◌<◌, ◌≤◌, ◌||◌, ◌==◌, true, not, nat_lt, if◌then◌else◌, slice_index_or, List, [], ◌∷◌, ◌++◌, length, take, drop, get_or, sym, ap, ◌∙◌, subst, arith, Bool, false, refl}
 use Rattle.std.proofs.lemmas.List.{length-drop}
 use Rattle.std.proofs.lemmas.Bool.{lt-ltb, ne_eqb, or_right}
 use Rattle.plant.specs.Disks.{Disk, wrote, synced, IsImage, at_once}
+use Rattle.plant.specs.declared.step.Side.TheVariants.{A, B}
 use Rattle.journal_rec.specs.Payloads.{le}
-use Rattle.journal_model.specs.Journals.{magic, Blank, Foreign, Headed, head}
+use Rattle.journal_model.specs.Journals.{magic, Blank, Foreign, Headed, head, Head, Live, New, On, Wrong, live}
 use Rattle.journal_model.specs.Appends.{Rests}
 use Rattle.journal_model.specs.Making.{IsShort, IsClosed, made_header, HasHeader}
 use Rattle.journal_model.proofs.Images.{synced_image, front_kept, byte_image}
@@ -30,7 +31,7 @@ short_closed d s = record { gate = 0; behind = drop 1 s.bytes; shut = λ e. cc e
 pub closed_image : (d : Disk) (image : List ℕ) → IsClosed d → IsImage d image → head image ≡ Blank
 closed_image d image s is = ap head (synced_image (at_once (s.gate ∷ s.behind)) image (subst (λ x. IsImage x image) s.is is)) ∙ shut_blank s.gate s.behind s.shut
 
-begins : (gate : ℕ) (image : List ℕ) → take 1 image ≡ gate ∷ [] → gate ≢ 165 → head image ≡ Blank
+pub begins : (gate : ℕ) (image : List ℕ) → take 1 image ≡ gate ∷ [] → gate ≢ 165 → head image ≡ Blank
 begins gate [] e shut = absurd (cc e)
 begins gate (x ∷ image) e shut = shut_blank x image (λ h. shut (sym (first e) ∙ h))
   where
@@ -55,3 +56,28 @@ opening_image d byte image s is =
 
 pub header_rests : (d : Disk) → HasHeader d → Rests (synced (wrote d 0 (165 ∷ []))) (le 8 1) []
 header_rests d s = record { gate = 0; behind = s.behind; shut = λ e. cc e; is = ap (λ x. synced (wrote x 0 (165 ∷ []))) s.is }
+
+-- SIDES WITH NO JOURNAL
+
+pub heads_blank : (x y : Head) → live x y ≡ New → (x ≡ Blank) × (y ≡ Blank)
+heads_blank Blank Blank e = (refl, refl)
+heads_blank Foreign y e = absurd (cc e)
+heads_blank Blank Foreign e = absurd (cc e)
+heads_blank Blank (Headed n) e = absurd (cc e)
+heads_blank (Headed m) Foreign e = absurd (cc e)
+heads_blank (Headed m) Blank e = absurd (cc e)
+heads_blank (Headed m) (Headed n) e = absurd (none _ _ e)
+  where
+    none : (t u : Bool) → ◌≡◌ {A = Live} (if t then Wrong A else if u then On A else On B) New → ⊥
+    none true u e = cc e
+    none false true e = cc e
+    none false false e = cc e
+
+-- bytes enough behind an open gate aren't blank
+pub open_not_blank : (x : ℕ) (y : List ℕ) → (nat_lt (length (x ∷ y)) 18 || not (x == 165)) ≡ false → head (x ∷ y) ≡ Blank → ⊥
+open_not_blank x y e h = pick _ (bytes_eq (take 8 y) magic) e h
+  where
+    pick : (t u : Bool) → t ≡ false → ◌≡◌ {A = Head} (if t then Blank else if u then Headed (take 8 (drop 8 y)) else Foreign) Blank → ⊥
+    pick true u e h = cc e
+    pick false true e h = cc h
+    pick false false e h = cc h

@@ -5,16 +5,17 @@ use Rattle.std.proofs.lemmas.List.{get_or_append_left, get_or-append-add, get_or
 use Rattle.std.proofs.lemmas.Bool.{cases_eq, or_parts, not-false, eqb-true, eqb-false, ltb-false, ltb-true}
 use Rattle.std.proofs.lemmas.Slice.Eq.{bytes_eq-Decides}
 use Rattle.lab_base.specs.Lists.{Has}
+use Rattle.lab_base.proofs.Numbers.{add_back}
 use Rattle.plant.specs.Disks.{Disk, put, wrote, synced, shortened, IsImage, at_once, disk, disk_after, ArePossible}
 use Rattle.plant.specs.Events.{Event, Missed, Did, Restarted, Cut as CutTo, Wrote, Synced, Unread}
 use Rattle.plant.specs.declared.step.Side.{Side}
 use Rattle.plant.specs.declared.step.Side.TheVariants.{A, B}
 use Rattle.plant.specs.Sides.{of_side}
+use Rattle.plant.proofs.Traces.{disk_push}
 use Rattle.journal_rec.specs.declared.record.Record.{Record}
 use Rattle.journal_rec.specs.Payloads.{number, IsRecord}
 use Rattle.journal_model.specs.Journals.{magic, header, Head, Blank, Foreign, Headed, head, Live, On, Wrong, live, block, Reads}
 use Rattle.journal_model.specs.Appends.{blocks, other_side, IsOlder, IsReadable, IsWithin, AreWithin, IsLawful, Opened}
-use Rattle.journal_model.proofs.Traces.{disk_push}
 use Rattle.journal_model.proofs.Images.{synced_image}
 use Rattle.journal_model.proofs.Gates.{drop_header}
 
@@ -54,13 +55,10 @@ readable_wrote d at bytes within h = record {
             ap (λ n. get_or (put d.reads at bytes) n 0) place
             ∙ get_or-append-add (take at d.reads ++ bytes) rest (k - (at + length bytes)) 0
             ∙ get_or-drop (at + length bytes) d.reads (k - (at + length bytes)) 0
-            ∙ ap (λ n. get_or d.reads n 0) (place_back k at bytes above)
+            ∙ ap (λ n. get_or d.reads n 0) (add_back k (at + length bytes) above)
             ∙ h.kept k a inside (λ r g. free r (inr g))
       ];
 }
-  where
-    place_back : (k at : ℕ) (bytes : List ℕ) → at + length bytes ≤ k → at + length bytes + (k - (at + length bytes)) ≡ k
-    place_back k at bytes above = omega arith
 
 readable_after : (side : Side) (d : Disk) (event : Event) → IsWithin side d event → IsReadable d → IsReadable (disk_after side d event)
 readable_after A d (Wrote A at bytes) within h = readable_wrote d at bytes within h

@@ -8,9 +8,7 @@ use Rattle.plant.specs.declared.step.Side.TheVariants.{A, B}
 use Rattle.plant.specs.declared.device.Answer.{Answer}
 use Rattle.plant.specs.declared.device.Fault.{Fault}
 use Rattle.plant.specs.declared.device.DeviceOp.{DeviceOp}
-
-pub disk_push : (side : Side) (trace : List Event) (event : Event) → disk side (trace ++ event ∷ []) ≡ disk_after side (disk side trace) event
-disk_push side trace event = fold-append (disk_after side) (at_once []) trace (event ∷ [])
+use Rattle.plant.proofs.Traces.{disk_push}
 
 -- a device command leaves the images as they were
 pub did_possible : (trace : List Event) (op : DeviceOp) (applied : Bool) (answer : Result Answer Fault) (a b : List ℕ) → ArePossible (trace ++ Did op applied answer ∷ []) a b → ArePossible trace a b

@@ -1,5 +1,5 @@
 -- A field that is read is the field that was written, and what was written is read again.
-use Rattle.std.proofs.Common.{◌≡◌, ℕ, zero, suc, ◌+◌, ◌^◌, ◌<◌, ◌≤◌, Bool, true, false, cond, ltb, List, [], ◌∷◌, ◌++◌, length, take, drop, Option, Some, None, refl, sym, ap, subst, ◌∙◌, append_assoc, arith, inl, inr}
+use Rattle.std.proofs.Common.{◌≡◌, ℕ, zero, suc, ◌+◌, ◌^◌, ◌<◌, ◌≤◌, Bool, true, false, cond, ltb, List, [], ◌∷◌, ◌++◌, length, take, drop, Option, Some, None, refl, sym, ap, subst, ◌∙◌, append_assoc, arith, inl, inr, ◌*◌}
 use Rattle.std.specs.List.{flat_map}
 use Rattle.std.proofs.lemmas.Bool.{cases_lt, ltb-false, le-ltb}
 use Rattle.std.proofs.lemmas.List.{take_at, drop_at, take-append-drop, length-append, length-take, get_or-drop, get_or-take, get_or_past}
@@ -144,3 +144,7 @@ pub tags_again : (tags : List VlanId) (rest : List ℕ) → AreTags tags → tag
 unfolding tags_at
 tags_again tags rest are =
     ap (λ (read : Option (ℕ × List ℕ)). read >>= λ n. each_at n.0 n.1) (number_again 2 (length tags) (flat_map tag_bytes tags ++ rest) are.count) ∙ each_again tags rest are.each
+
+pub tags_size : (tags : List VlanId) → length (flat_map tag_bytes tags) ≡ 2 * length tags
+tags_size [] = refl
+tags_size (tag ∷ tags) = omega (arith, length-append (tag_bytes tag) (flat_map tag_bytes tags), tags_size tags)

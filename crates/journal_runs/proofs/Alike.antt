@@ -13,7 +13,7 @@ use Rattle.journal_disk.specs.Before.{IsOpening, ReadAlike, is_sync_of, are_sync
 use Rattle.journal_disk.specs.Opening.{Far, AtStart, OneSynced, BothSynced, Making, far_steps, both_synced, made_steps}
 use Rattle.journal_disk.specs.declared.fault.OpenFault.{OpenFault}
 use Rattle.journal_disk.specs.declared.journal.Journal.{Journal}
-use Rattle.journal_runs.proofs.Quiet.{last_step}
+use Rattle.journal_disk.proofs.LastSteps.{opening_last}
 
 abbrev HasStill : List Event → Side → List Event → Type 0
 HasStill trace side steps = (disk side (trace ++ steps)).reads ≡ (disk side trace).reads
@@ -58,7 +58,7 @@ opened_alike trace steps result o possible =
     let opens = o.opens in
     ⊎_elim
     (λ (both : (more : List Event) × (far_steps opens.far ≡ both_synced ++ more)). o.settled (synced_behind steps (both.0 ++ opens.more) (opens.steps_are ∙ ap (λ l. l ++ opens.more) both.1)) (disk A (trace ++ steps)).reads (disk B (trace ++ steps)).reads possible)
-    (λ early. let last = last_step result _ _ opens.far opens.more opens.ends in
+    (λ early. let last = opening_last result _ _ opens.far opens.more opens.ends in
     let same : (side : Side) → (disk side (trace ++ steps)).reads ≡ (disk side trace).reads = λ side. ap (λ (d : Disk). d.reads) (disk_more side trace steps) ∙ ap (λ l. (fold (disk_after side) (disk side trace) l).reads) opens.steps_are ∙ still side (disk side trace) opens.far opens.more early last in
     alike_same _ _ _ _ (same A) (same B))
     (came opens.far)

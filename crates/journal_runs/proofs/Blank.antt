@@ -6,12 +6,12 @@ use Rattle.plant.specs.Events.{Event, Restarted}
 use Rattle.plant.specs.Worlds.{blank}
 use Rattle.plant.specs.declared.step.Side.TheVariants.{A, B}
 use Rattle.plant.proofs.Images.{once_image}
+use Rattle.plant.proofs.Traces.{disk_push}
 use Rattle.lab_model.specs.Parts.{Parts}
 use Rattle.lab_model.specs.Sound.{Keeps, SoundAt}
 use Rattle.lab_model.proofs.PartLaws.{whole_from_parts}
 use Rattle.journal_model.specs.Journals.{head}
 use Rattle.journal_model.proofs.Images.{synced_image}
-use Rattle.journal_model.proofs.Traces.{disk_push}
 use Rattle.records_model.specs.Labs.{LabState, Texts, at_first, no_lab}
 use Rattle.records_model.specs.Appends.{standing, StandFor}
 use Rattle.records_model.specs.Openings.{Blanks}

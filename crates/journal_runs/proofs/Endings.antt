@@ -1,5 +1,5 @@
 -- The trace behind an append that ended, failed or stopped.
-use Rattle.std.proofs.Common.{◌≡◌, ◌⊎◌, inl, inr, ℕ, Bool, false, List, [], ◌∷◌, ◌++◌, Result, Ok, Err, refl, sym, ap, ◌∙◌, subst, append_assoc}
+use Rattle.std.proofs.Common.{◌≡◌, ◌⊎◌, inl, inr, ℕ, Bool, false, List, [], ◌∷◌, ◌++◌, Result, refl, sym, ap, ◌∙◌, subst, append_assoc}
 use Rattle.std.proofs.lemmas.List.{append-nil}
 use Rattle.plant.specs.Events.{Event, Missed}
 use Rattle.plant.specs.declared.step.Side.{Side}
@@ -14,9 +14,9 @@ use Rattle.records_model.proofs.Starts.{missed_sound}
 use Rattle.records_model.proofs.Work.{append_sound, append_works}
 use Rattle.journal_disk.specs.Standing.{side_of, gate_of, Ends}
 use Rattle.journal_disk.specs.declared.fault.AppendFault.{AppendFault}
-use Rattle.journal_disk.specs.declared.fault.AppendFault.TheVariants as faults
 use Rattle.journal_disk.specs.declared.journal.Journal.{Journal}
 use Rattle.journal_disk.proofs.Prefixes.{missed_images}
+use Rattle.journal_disk.proofs.LastSteps.{append_last}
 use Rattle.journal_runs.specs.Pieces.{is_command, is_miss, is_outer, has_command, has_miss, has_outer}
 use Rattle.journal_runs.specs.Working.{StandForLab, StandForEither, Works}
 use Rattle.journal_runs.proofs.Quiet.{shows, last_quiet}
@@ -27,13 +27,6 @@ pub append_done : (t : Texts) (trace more : List Event) (j : Journal) (rs : List
 append_done t trace more j rs s u r run works may whole none =
     let steps : added (side_of j) (gate_of j) r run ++ more ≡ added (side_of j) (gate_after rs) r All = (λ i. added (side_of j) (works.gate i) r (whole i) ++ none i) ∙ append-nil (added (side_of j) (gate_after rs) r All) in
     subst (λ l. AtWork t (trace ++ l) (side_of j) (rs ++ r ∷ []) u) (sym steps) (append_works t trace (side_of j) rs s r u works.work may)
-
--- the last step, where there is one, is a call that missed
-last_step : (side : Side) (result : Result (Unit {0}) AppendFault) (run : Run) (more : List Event) → Ends side result run more → (more ≡ []) ⊎ (more ≡ Missed side ∷ [])
-last_step side (Ok done) run more h = inl h.1
-last_step side (Err (faults.Full length size)) run more h = inl h.1
-last_step side (Err faults.Plant) run more h = inr h
-last_step side (Err faults.Stopped) run more h = inl h
 
 -- a fact of a trace that a missed call leaves, after steps with such a last one
 pub with_last : (P : List Event → Type 0) (trace steps more : List Event) (side : Side) → ((l : List Event) → P l → P (l ++ Missed side ∷ [])) → (more ≡ []) ⊎ (more ≡ Missed side ∷ []) → P (trace ++ steps) → P (trace ++ (steps ++ more))
@@ -72,7 +65,7 @@ module _ (t : Texts) (trace : List Event) (side : Side) (rs : List Record) (s u 
   pub append_left : (gate : ℕ) (result : Result (Unit {0}) AppendFault) (run : Run) (more : List Event) → gate ≡ gate_after rs → Ends side result run more → Left (trace ++ (added side gate r run ++ more))
   append_left gate result run more at ends =
       subst (λ g. Left (trace ++ (added side g r run ++ more))) (sym at)
-      (with_last (λ l. Left l) trace (added side (gate_after rs) r run) more side missed_left (last_step side result run more ends) (run_left run))
+      (with_last (λ l. Left l) trace (added side (gate_after rs) r run) more side missed_left (append_last side result run more ends) (run_left run))
 
 -- its steps are writes and syncs
 pub append_quiet : (side : Side) (gate : ℕ) (r : Record) (run : Run) → (has_command (added side gate r run) ≡ false) × (has_outer (added side gate r run) ≡ false) × (has_miss (added side gate r run) ≡ false)
@@ -90,7 +83,7 @@ pub ended_quiet : (side : Side) (gate : ℕ) (r : Record) (run : Run) (more : Li
     → (has_command (added side gate r run ++ more) ≡ false) × (has_outer (added side gate r run ++ more) ≡ false)
 ended_quiet side gate r run more result ends =
     let first = append_quiet side gate r run in
-    let last = last_quiet more (some_side side more (last_step side result run more ends)) in
+    let last = last_quiet more (some_side side more (append_last side result run more ends)) in
     (shows is_command _ (added side gate r run) more false false refl first.0 last.0, shows is_outer _ (added side gate r run) more false false refl first.1 last.1)
 
 pub ended_missed : (side : Side) (gate : ℕ) (r : Record) (run : Run) (more : List Event) (y : Bool) → has_miss more ≡ y → has_miss (added side gate r run ++ more) ≡ y

@@ -1,5 +1,5 @@
 -- A journal's move onto the other side, over a sound trace.
-use Rattle.std.proofs.Common.{◌≡◌, ◌⊎◌, inl, inr, ℕ, ◌+◌, ◌-◌, ◌*◌, ◌^◌, ◌≤◌, Bool, true, false, ◌||◌, List, [], ◌∷◌, ◌++◌, Result, Ok, Err, length, take, drop, count_by, refl, sym, ap, ◌∙◌, subst, arith, length-append, take-append-drop}
+use Rattle.std.proofs.Common.{◌≡◌, ◌⊎◌, inl, inr, ℕ, ◌+◌, ◌-◌, ◌*◌, ◌^◌, ◌≤◌, Bool, true, false, ◌||◌, List, [], ◌∷◌, ◌++◌, Result, length, take, drop, count_by, refl, sym, ap, ◌∙◌, subst, arith, length-append, take-append-drop}
 use Rattle.std.specs.List.{list_any}
 use Rattle.std.proofs.lemmas.Bool.{cases_lt}
 use Rattle.std.proofs.lemmas.List.{append-nil, take-append-le}
@@ -12,11 +12,11 @@ use Rattle.plant.specs.declared.device.Fault.{Fault}
 use Rattle.plant.specs.declared.step.Side.TheVariants.{A, B}
 use Rattle.plant.specs.Worlds.{world_of}
 use Rattle.plant.specs.declared.step.Side.{Side}
+use Rattle.plant.proofs.Traces.{disk_push}
 use Rattle.journal_rec.specs.Payloads.{le}
 use Rattle.journal_rec.specs.declared.record.Record.{Record}
 use Rattle.lab_model.specs.Sound.{Standing, is_moving, Keeps}
 use Rattle.journal_model.specs.Journals.{magic, Headed, head, journal_length}
-use Rattle.journal_model.proofs.Traces.{disk_push}
 use Rattle.journal_model.proofs.Gates.{length_front}
 use Rattle.journal_model.specs.Appends.{blocks, other_side, IsOn}
 use Rattle.journal_packed.specs.Packing.{ArePacked, side_length}
@@ -25,12 +25,12 @@ use Rattle.records_model.specs.Appends.{standing, StandFor}
 use Rattle.records_model.specs.Works.{IsSound, HasRoom}
 use Rattle.records_model.proofs.Stages.{world_more}
 use Rattle.journal_disk.specs.declared.fault.CompactFault.{CompactFault}
-use Rattle.journal_disk.specs.declared.fault.CompactFault.TheVariants as faults
 use Rattle.journal_disk.specs.declared.journal.Journal.{Journal}
 use Rattle.journal_disk.specs.Standing.{side_of, length_of}
 use Rattle.journal_disk.specs.Epochs.{HasEpoch}
 use Rattle.journal_disk.specs.Compacting.{poured, Come, Untouched, Closing, Closed, Cutting, Emptied, Filling, Filled, Raising, InUse, shutting, emptying, filling, come_steps}
-use Rattle.journal_disk.specs.Compactions.{Ends, Compacts, Shifts}
+use Rattle.journal_disk.specs.Compactions.{Compacts, Shifts}
+use Rattle.journal_disk.proofs.LastSteps.{compact_last}
 use Rattle.journal_runs.specs.Pieces.{is_command, is_miss, is_outer, has_command, has_miss, has_outer}
 use Rattle.journal_runs.specs.Working.{StandForLab, AllStandFor, Works}
 use Rattle.journal_runs.proofs.Quiet.{shows}
@@ -99,11 +99,6 @@ no_outer = record { wrote = λ side at bytes. refl; synced = λ side. refl; cut 
 no_miss : Misses is_miss
 no_miss = record { wrote = λ side at bytes. refl; synced = λ side. refl; cut = λ side size. refl }
 
-few : (side : Side) (result : Result (Unit {0}) CompactFault) (far : Come) (more : List Event) → Ends side result far more → (more ≡ []) ⊎ (more ≡ Missed side ∷ [])
-few side (Ok u) far more h = inl h.1
-few side (Err faults.Plant) far more h = inr h
-few side (Err faults.Stopped) far more h = inl h
-
 ends_quiet : (side : Side) (more : List Event) → (more ≡ []) ⊎ (more ≡ Missed side ∷ []) → (has_command more ≡ false) × (has_outer more ≡ false)
 ends_quiet side more (inl none) = (ap has_command none, ap has_outer none)
 ends_quiet side more (inr one) = (ap has_command one, ap has_outer one)
@@ -111,7 +106,7 @@ ends_quiet side more (inr one) = (ap has_command one, ap has_outer one)
 module _ (trace steps : List Event) (j : Journal) (packed : List ℕ) (result : Result (Unit {0}) CompactFault) (c : Compacts trace steps j packed result) where
   pub shift_quiet : (has_command steps ≡ false) × (has_outer steps ≡ false)
   shift_quiet =
-      let last = ends_quiet (other_side (side_of j)) c.more (few _ result c.far c.more c.ends) in (
+      let last = ends_quiet (other_side (side_of j)) c.more (compact_last _ result c.far c.more c.ends) in (
         shows is_command steps _ c.more false false c.steps_are (no_step is_command no_command (other_side (side_of j)) _ c.far) last.0,
         shows is_outer steps _ c.more false false c.steps_are (no_step is_outer no_outer (other_side (side_of j)) _ c.far) last.1,
       )

@@ -1,7 +1,5 @@
 -- Counts of elements, and elements by their places.
-use Rattle.std.proofs.Common.{◌≡◌, ◌⊎◌, ◌<◌, ◌≤◌, ◌+◌, ℕ, zero, suc, Bool, true, false, cond, List, [], ◌∷◌, length, map, get_or, count_by, refl, sym, ap, ◌∙◌, subst, inl, inr, arith}
-use Rattle.std.specs.List.{list_any}
-use Rattle.std.proofs.lemmas.Bool.{or_cases, or_left, or_right, false≢true}
+use Rattle.std.proofs.Common.{◌≡◌, ◌⊎◌, ◌<◌, ◌≤◌, ◌+◌, ℕ, zero, suc, Bool, true, false, cond, List, [], ◌∷◌, length, map, get_or, count_by, refl, sym, ap, ◌∙◌, inl, inr, arith}
 use Rattle.std.proofs.lemmas.List.Sums.{sum_by-cons}
 use Rattle.lab_base.specs.Lists.{Has, AllDiffer}
 
@@ -15,7 +13,7 @@ pub below_if : (p q : Bool) → (p ≡ true → q ≡ true) → one_if p ≤ one
 below_if false q h = omega arith
 below_if true q h = rw (h refl) (omega arith)
 
--- of two lists of one length, where each place that passes here passes there
+-- of two lists of one length, where each place that any_has here any_has there
 pub count_beside : {X Y : Type 0} (p : X → Bool) (q : Y → Bool) (xs : List X) (ys : List Y) (d : X) (e : Y) → length xs ≡ length ys
     → ((i : ℕ) → i < length xs → p (get_or xs i d) ≡ true → q (get_or ys i e) ≡ true) → count_by p xs ≤ count_by q ys
 count_beside p q [] ys d e same h = omega arith
@@ -25,7 +23,7 @@ count_beside p q (x ∷ xs) (y ∷ ys) d e same h =
     let first : one_if (p x) ≤ one_if (q y) = below_if (p x) (q y) (h zero (omega arith)) in
     omega (arith, count-cons p x xs, count-cons q y ys)
 
--- where each element that passes one test passes the other
+-- where each element that any_has one test any_has the other
 pub count_of_more : {X : Type 0} (p q : X → Bool) (xs : List X) → ((x : X) → Has xs x → p x ≡ true → q x ≡ true) → count_by p xs ≤ count_by q xs
 count_of_more p q [] h = omega arith
 count_of_more p q (x ∷ xs) h =
@@ -70,27 +68,3 @@ count_among {X} p (x ∷ xs) ys differ among =
   where
     still : (z : X) → Has xs z → Has (without ys x (among x (inl refl))).rest z
     still z h = elim ((without ys x (among x (inl refl))).others z (among z (inr h))) [ inl e ↦ absurd (differ.0 z h (sym e)) | inr g ↦ g ]
-
--- an element stands at a place
-pub place_of : {X : Type 0} (xs : List X) (x d : X) → Has xs x → (i : ℕ) × (i < length xs) × (get_or xs i d ≡ x)
-place_of [] x d h = absurd h
-place_of (y ∷ xs) x d (inl e) = (zero, omega arith, e)
-place_of (y ∷ xs) x d (inr h) = let later = place_of xs x d h in (suc later.0, omega (arith, later.1), later.2)
-
-pub at_place : {X : Type 0} (xs : List X) (i : ℕ) (d : X) → i < length xs → Has xs (get_or xs i d)
-at_place [] i d h = absurd (omega arith)
-at_place (x ∷ xs) zero d h = inl refl
-at_place (x ∷ xs) (suc i) d h = inr (at_place xs i d (omega arith))
-
--- some element passes
-pub passes : {X : Type 0} (p : X → Bool) (xs : List X) (x : X) → Has xs x → p x ≡ true → list_any p xs ≡ true
-passes p [] x h e = absurd h
-passes p (y ∷ xs) x (inl d) e = or_left (p y) (list_any p xs) (subst (λ v. p v ≡ true) (sym d) e)
-passes p (y ∷ xs) x (inr h) e = or_right (p y) (list_any p xs) (passes p xs x h e)
-
-pub who_passes : {X : Type 0} (p : X → Bool) (xs : List X) → list_any p xs ≡ true → (x : X) × Has xs x × (p x ≡ true)
-who_passes p [] e = absurd (false≢true e)
-who_passes p (y ∷ xs) e = elim (or_cases (p y) (list_any p xs) e) [
-  | inl here ↦ (y, inl refl, here)
-  | inr there ↦ let later = who_passes p xs there in (later.0, inr later.1, later.2)
-]

@@ -8,13 +8,11 @@ use Rattle.std.proofs.lemmas.Bool.{le-leb, leb-true}
 use Rattle.std.proofs.lemmas.List.{append-nil, drop_all}
 use Rattle.lab_base.specs.Lists.{Has, AllDiffer, listed}
 use Rattle.lab_base.specs.declared.ids.NodeId.{NodeId}
-use Rattle.lab_base.proofs.Members.{Has-append, Has-left, Has-right, Has-map, Has-mapped}
+use Rattle.lab_base.proofs.Members.{Has-append, Has-left, Has-right, Has-map, Has-mapped, Has-get_or, Has-filter, Has-filtered}
 use Rattle.lab_ahead.specs.declared.times.Left.{Left}
 use Rattle.lab_ahead.specs.declared.ends.End.{End}
 use Rattle.lab_ahead.specs.Moments.{left_at}
 use Rattle.lab_ahead.specs.Ends.{IsLeftAt, from_of, is_placed, left_of, left_for}
-use Rattle.lab_ahead.proofs.Counting.{at_place}
-use Rattle.lab_ahead.proofs.Spans.{Has-filter, Has-filtered}
 
 abbrev node_of : Left → NodeId
 node_of entry = entry.node
@@ -104,7 +102,7 @@ module _ (ends : List End) (places : List (NodeId × List ℕ)) where
 
   pub nodes_within : (claimers : List (List (List ℕ))) → All (λ (entry : Left). entry.node.0 < length claimers) (from_node 0 claimers)
   nodes_within claimers = λ k d lt.
-      let found = entry_from 0 claimers (get_or (from_node 0 claimers) k d) (at_place (from_node 0 claimers) k d lt) in
+      let found = entry_from 0 claimers (get_or (from_node 0 claimers) k d) (Has-get_or (from_node 0 claimers) k d lt) in
       omega (arith, found.1, found.2)
 
   -- AT A MOMENT

@@ -4,16 +4,16 @@ use Rattle.std.specs.List.{list_any}
 use Rattle.std.proofs.lemmas.Bool.{cases_eq, eq-eqb, ne_eqb}
 use Rattle.std.proofs.lemmas.List.Sums.{sum_by-cons}
 use Rattle.lab_base.specs.Lists.{Has}
-use Rattle.lab_base.proofs.Members.{Has-map}
+use Rattle.lab_base.proofs.Members.{Has-map, any_has, any_from}
 use Rattle.lab_base.specs.declared.ids.NodeId.{NodeId}
 use Rattle.lab_base.specs.Names.{same_name}
+use Rattle.lab_base.proofs.Bytes.{bytes_same}
 use Rattle.phys_lab.specs.Labs.{Lab}
 use Rattle.phys_lab.specs.Keys.{has_name}
-use Rattle.phys_lab.proofs.KeptLaws.{same_name-true}
 use Rattle.lab_ahead.specs.declared.fitting.Need.{Need}
 use Rattle.lab_ahead.specs.Givings.{Fits, IsShort, has_type, have_of, need_at}
 use Rattle.lab_ahead.specs.Trails.{is_of}
-use Rattle.lab_ahead.proofs.Counting.{one_if, count-cons, count-map, count_among, count_of_more, passes, who_passes}
+use Rattle.lab_ahead.proofs.Counting.{one_if, count-cons, count-map, count_among, count_of_more}
 
 -- whether a node's need is among those that are chosen
 abbrev pub chosen : (Need → Bool) → List Need → Option ℕ → Bool
@@ -155,8 +155,8 @@ never_fits lab left needs kinds is (given, giving) =
   where
     of_some : (g : NodeId × ℕ) → Has given g → is_among kinds (need_at needs g.1) ≡ true → has_some lab kinds g.0 ≡ true
     of_some g h e =
-        let found = who_passes (same_name (need_at needs g.1).kind) kinds e in
-        passes (λ kind. has_type lab kind g.0) kinds found.0 found.1 (subst (λ (v : List ℕ). has_type lab v g.0 ≡ true) (same_name-true (need_at needs g.1).kind found.0 found.2) (giving.of_type g h))
+        let found = any_from (same_name (need_at needs g.1).kind) kinds e in
+        any_has (λ kind. has_type lab kind g.0) kinds found.0 found.1 (subst (λ (v : List ℕ). has_type lab v g.0 ≡ true) (bytes_same (need_at needs g.1).kind found.0 found.2) (giving.of_type g h))
 
     of_left : (node : NodeId) → Has (map (λ (g : NodeId × ℕ). g.0) given) node → Has left node
     of_left node h = let at = Has-map (λ (g : NodeId × ℕ). g.0) given node h in subst (λ v. Has left v) at.2 (giving.of_left at.0 at.1)

@@ -8,15 +8,16 @@ use Rattle.std.proofs.lemmas.List.{get_or-map, get_or-replicate, get_or_past, le
 use Rattle.lab_base.specs.Lists.{Has, AllDiffer}
 use Rattle.lab_base.specs.declared.ids.NodeId.{NodeId}
 use Rattle.lab_base.specs.Names.{same_name}
+use Rattle.lab_base.proofs.Bytes.{bytes_self}
+use Rattle.lab_base.proofs.Members.{Has-place, Has-get_or, any_has, any_from}
 use Rattle.phys_lab.specs.Labs.{Lab}
-use Rattle.phys_lab.proofs.KeptLaws.{same_name-self}
 use Rattle.lab_ahead.specs.declared.fitting.Need.{Need}
 use Rattle.lab_ahead.specs.declared.giving.Giving.{Giving}
 use Rattle.lab_ahead.specs.declared.trail.Step.{Step}
 use Rattle.lab_ahead.specs.declared.trail.Trail.{Trail}
 use Rattle.lab_ahead.specs.Givings.{IsGiving, IsShort, has_type, have_of, need_at, need_of}
 use Rattle.lab_ahead.specs.Trails.{AreMet, AreServed, IsStuck, IsWanting, IsWhole, KeepsNodes, Reached, given_of, held, owner_at, owners_in, serves, step_at, table_in, table_of}
-use Rattle.lab_ahead.proofs.Counting.{at_place, count_beside, passes, place_of, who_passes}
+use Rattle.lab_ahead.proofs.Counting.{count_beside}
 use Rattle.lab_ahead.proofs.TrailLaws.{reached_within}
 use Rattle.lab_ahead.proofs.LookLaws.{served_within}
 use Rattle.lab_ahead.proofs.Exchanges.{table_still}
@@ -74,18 +75,18 @@ module _ (lab : Lab) (left : List NodeId) (needs : List Need) where
     }
       where
         here : (i : ℕ) → i < length left → Has left (node_at left i)
-        here i lt = at_place left i (record { 0 = 0 }) lt
+        here i lt = Has-get_or left i (record { 0 = 0 }) lt
 
     -- one need can't be
     module _ (trail : Trail) (is : IsWanting needs (table_of lab left needs) owners trail) (kinds : List (List ℕ))
         (all : (n : ℕ) → Reached trail.steps.items n → Has kinds (need_at needs n).kind)
         (only : (kind : List ℕ) → Has kinds kind → (n : ℕ) × Reached trail.steps.items n × ((need_at needs n).kind ≡ kind)) where
       among : (n : ℕ) → Reached trail.steps.items n → is_among kinds (need_at needs n) ≡ true
-      among n reached = passes (same_name (need_at needs n).kind) kinds (need_at needs n).kind (all n reached) (same_name-self (need_at needs n).kind)
+      among n reached = any_has (same_name (need_at needs n).kind) kinds (need_at needs n).kind (all n reached) (bytes_self (need_at needs n).kind)
 
       taken : (i : ℕ) → i < length left → has_some lab kinds (node_at left i) ≡ true → chosen (is_among kinds) needs (owner_at owners i) ≡ true
       taken i lt e =
-          let found = who_passes (λ (kind : List ℕ). has_type lab kind (node_at left i)) kinds e in
+          let found = any_from (λ (kind : List ℕ). has_type lab kind (node_at left i)) kinds e in
           let need = only found.0 found.1 in
           let typed : has_type lab (need_at needs need.0).kind (node_at left i) ≡ true = subst (λ (kind : List ℕ). has_type lab kind (node_at left i) ≡ true) (sym need.2) found.2 in
           let within : need.0 < length needs = omega (arith, reached_within need.0 is.stuck.is_trail need.1, table_wide) in
@@ -96,7 +97,7 @@ module _ (lab : Lab) (left : List NodeId) (needs : List Need) where
 
       owners_are : (o : Option ℕ) → Has owners o → IsNeed needs o
       owners_are None h = tt
-      owners_are (Some n) h = let place = place_of owners (Some n) None h in served_needs n place.0 (served place.0 n place.2)
+      owners_are (Some n) h = let place = Has-place owners (Some n) None h in served_needs n place.0 (served place.0 n place.2)
 
       pub is_short : have_of lab left kinds < need_of needs kinds
       is_short =

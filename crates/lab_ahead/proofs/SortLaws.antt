@@ -12,14 +12,14 @@ use Rattle.std.proofs.lemmas.List.Filters.{dedup_is}
 use Rattle.std.proofs.lemmas.List.Kept.{Contains-dedup, Contains-dedup_nat, Contains-from_dedup, IsStrictlySortedBy-dedup}
 use Rattle.std.proofs.lemmas.List.Sorted.{Contains-permutation, IsPermutation-sym}
 use Rattle.lab_base.specs.Lists.{Has}
-use Rattle.phys_lab.proofs.KeptLaws.{same_name-true}
-use Rattle.lab_ahead.proofs.Counting.{place_of, at_place}
+use Rattle.lab_base.proofs.Bytes.{bytes_same}
+use Rattle.lab_base.proofs.Members.{Has-place, Has-get_or}
 
 pub contained : {X : Type 0} (xs : List X) (x : X) → Has xs x → Contains xs x
-contained xs x h = place_of xs x x h
+contained xs x h = Has-place xs x x h
 
 pub has : {X : Type 0} (xs : List X) (x : X) → Contains xs x → Has xs x
-has xs x (k, lt, e) = subst (λ v. Has xs v) e (at_place xs k x lt)
+has xs x (k, lt, e) = subst (λ v. Has xs v) e (Has-get_or xs k x lt)
 
 -- names
 module _ (raw sorted left : List (List ℕ)) (permuted : IsPermutation raw sorted) (filtered : IsFiltered (DiffersFromLast (pointwise nat_eq)) [] sorted left) where
@@ -29,7 +29,7 @@ module _ (raw sorted left : List (List ℕ)) (permuted : IsPermutation raw sorte
 
   pub names_kept : (name : List ℕ) → Has raw name → Has left name
   names_kept name h = subst (λ (l : List (List ℕ)). Has l name) (sym (dedup_is (pointwise nat_eq) sorted left filtered))
-      (has (dedup (pointwise nat_eq) sorted) name (Contains-dedup nat_list_eq_equiv same_name-true sorted name (Contains-permutation raw sorted name permuted (contained raw name h))))
+      (has (dedup (pointwise nat_eq) sorted) name (Contains-dedup nat_list_eq_equiv bytes_same sorted name (Contains-permutation raw sorted name permuted (contained raw name h))))
 
   pub names_before : (name : List ℕ) → Has left name → Has raw name
   names_before name h =

@@ -1,34 +1,15 @@
 -- To each moment of a run there is one that is tested, itself or an earlier one, where the needs fit only if they fit there.
-use Rattle.std.proofs.Common.{◌≡◌, ◌⊎◌, ◌<◌, ◌≤◌, ◌+◌, ℕ, Bool, true, false, cond, List, [], ◌∷◌, ◌++◌, map, filter, refl, sym, ap, ◌∙◌, subst, inl, inr, arith}
+use Rattle.std.proofs.Common.{◌≡◌, ◌⊎◌, ◌<◌, ◌≤◌, ◌+◌, ℕ, Bool, true, false, cond, List, [], ◌∷◌, ◌++◌, map, filter, refl, sym, ap, subst, inl, inr, arith}
 use Rattle.std.specs.Prelude.{nat_le, nat_lt, ◌&&◌}
 use Rattle.std.proofs.lemmas.Bool.{and_from, and_parts, cases_lt, leb-true, ltb-true, le-leb, lt-ltb, false≢true}
 use Rattle.lab_base.specs.Lists.{Has}
 use Rattle.lab_base.specs.declared.ids.NodeId.{NodeId}
-use Rattle.lab_base.proofs.Members.{Has-append, Has-left, Has-right, Has-map, Has-mapped}
+use Rattle.lab_base.proofs.Members.{Has-append, Has-left, Has-right, Has-map, Has-mapped, Has-filter, Has-filtered}
 use Rattle.phys_lab.specs.Labs.{Lab}
 use Rattle.lab_ahead.specs.declared.batch.Promise.{Promise}
 use Rattle.lab_ahead.specs.declared.times.Left.{Left}
 use Rattle.lab_ahead.specs.Moments.{FitsAt, FitsFor, IsTested, first_moment, holds_at, left_at, needs_at, starts_within}
 use Rattle.lab_ahead.proofs.NeedLaws.{fewer_needs, more_left}
-
-pub Has-filter : {X : Type 0} (p : X → Bool) (xs : List X) (x : X) → Has (filter p xs) x → Has xs x × (p x ≡ true)
-Has-filter p [] x h = absurd h
-Has-filter {X} p (y ∷ xs) x h = by (Has-filter p xs x) (p y) refl h
-  where
-    by : (Has (filter p xs) x → Has xs x × (p x ≡ true)) → (b : Bool) → p y ≡ b → Has (cond b (y ∷ filter p xs) (filter p xs)) x → Has (y ∷ xs) x × (p x ≡ true)
-    by rest true is (inl e) = (inl e, subst (λ (v : X). p v ≡ true) e is)
-    by rest true is (inr h) = let later = rest h in (inr later.0, later.1)
-    by rest false is h = let later = rest h in (inr later.0, later.1)
-
-pub Has-filtered : {X : Type 0} (p : X → Bool) (xs : List X) (x : X) → Has xs x → p x ≡ true → Has (filter p xs) x
-Has-filtered p [] x h is = absurd h
-Has-filtered {X} p (y ∷ xs) x h is = by (λ there. Has-filtered p xs x there is) (p y) refl h
-  where
-    by : (Has xs x → Has (filter p xs) x) → (b : Bool) → p y ≡ b → Has (y ∷ xs) x → Has (cond b (y ∷ filter p xs) (filter p xs)) x
-    by rest true e (inl at) = inl at
-    by rest true e (inr there) = inr (rest there)
-    by rest false e (inl at) = absurd (false≢true (sym e ∙ subst (λ (v : X). p v ≡ true) (sym at) is))
-    by rest false e (inr there) = rest there
 
 -- the last of these moments up to t
 record Last (promises : List Promise) (now t : ℕ) : Type 0 where

@@ -9,7 +9,7 @@ use Rattle.std.proofs.lemmas.List.Kept.{AllPairs-from_increasing}
 use Rattle.std.proofs.lemmas.Map.Keys.{IsStrictlyIncreasing-from_sorted}
 use Rattle.lab_base.specs.Lists.{Has, AllDiffer}
 use Rattle.lab_base.specs.declared.ids.NodeId.{NodeId}
-use Rattle.lab_base.proofs.Members.{Has-map, Has-mapped}
+use Rattle.lab_base.proofs.Members.{Has-map, Has-mapped, Has-place, Has-get_or, Has-filter}
 use Rattle.phys_lab.specs.Labs.{Lab}
 use Rattle.lab_ahead.specs.declared.batch.Promise.{Promise}
 use Rattle.lab_ahead.specs.declared.times.Left.{Left}
@@ -17,9 +17,8 @@ use Rattle.lab_ahead.specs.declared.waits.Span.{Span}
 use Rattle.lab_ahead.specs.declared.waits.Wait.{Wait}
 use Rattle.lab_ahead.specs.Moments.{FitsAt, FitsFor, IsTested, holds_at, left_at, need_of_promise, needs_at}
 use Rattle.lab_ahead.specs.Waits.{IsShortAt, TellsShort}
-use Rattle.lab_ahead.proofs.Counting.{at_place, place_of}
 use Rattle.lab_ahead.proofs.Halls.{never_fits}
-use Rattle.lab_ahead.proofs.Spans.{Has-filter, later}
+use Rattle.lab_ahead.proofs.Spans.{later}
 
 abbrev node_of : Left → NodeId
 node_of entry = entry.node
@@ -45,9 +44,9 @@ left_differ left t differ = kept_differ (λ entry. nat_le entry.from t) left dif
 pub left_within : (n : ℕ) (left : List Left) (t : ℕ) → All (λ (entry : Left). entry.node.0 < n) left → All (λ (node : NodeId). node.0 < n) (left_at left t)
 left_within n left t all = λ k d lt.
     let kept = filter (λ (entry : Left). nat_le entry.from t) left in
-    let from = Has-map node_of kept (get_or (left_at left t) k d) (at_place (left_at left t) k d lt) in
+    let from = Has-map node_of kept (get_or (left_at left t) k d) (Has-get_or (left_at left t) k d lt) in
     let was = Has-filter (λ (entry : Left). nat_le entry.from t) left from.0 from.1 in
-    let place = place_of left from.0 from.0 was.0 in
+    let place = Has-place left from.0 from.0 was.0 in
     subst (λ (node : NodeId). node.0 < n) from.2 (subst (λ (entry : Left). entry.node.0 < n) place.2 (all place.0 from.0 place.1))
 
 one_fewer : {X : Type 0} (b : Bool) (x : X) (xs ys : List X) → length ys ≤ length xs → length (cond b (x ∷ ys) ys) ≤ length (x ∷ xs)
@@ -70,7 +69,7 @@ no_wait (Some w) never = absurd (never w refl)
 -- rising numbers: what lies below the one at a place stands at an earlier place
 earlier : (xs : List ℕ) (i s : ℕ) → IsStrictlySortedBy nat_cmp xs → i < length xs → Has xs s → s < get_or xs i 0 → (j : ℕ) × (j < i) × (get_or xs j 0 ≡ s)
 earlier xs i s rising lt has below =
-    let place = place_of xs s 0 has in
+    let place = Has-place xs s 0 has in
     let pairs = AllPairs-from_increasing xs (IsStrictlyIncreasing-from_sorted xs rising) in
     elim (cases_order place.0 i) [
       | inl here ↦ absurd (not_here place.0 here place.2)
@@ -100,7 +99,7 @@ module _ (lab : Lab) (left : List Left) (promises : List Promise) (span : Span) 
   }
     where
       here : (get_or tested i 0 < span.from + span.length) × IsTested promises span.from (get_or tested i 0)
-      here = only (get_or tested i 0) (at_place tested i 0 lt)
+      here = only (get_or tested i 0) (Has-get_or tested i 0 lt)
 
       fits_before : (t : ℕ) → span.from ≤ t → t < wait.at → FitsAt lab left promises t
       fits_before t le early =
@@ -110,7 +109,7 @@ module _ (lab : Lab) (left : List Left) (promises : List Promise) (span : Span) 
           s.3 (subst (λ (m : ℕ). FitsAt lab left promises m) place.2 (fits place.0 place.1))
 
   pub not_for : (i : ℕ) → i < length tested → (FitsAt lab left promises (get_or tested i 0) → ⊥) → FitsFor lab left promises span.from span.length → ⊥
-  not_for i lt short fits = let here = only (get_or tested i 0) (at_place tested i 0 lt) in short (fits (get_or tested i 0) here.1.0 here.0)
+  not_for i lt short fits = let here = only (get_or tested i 0) (Has-get_or tested i 0 lt) in short (fits (get_or tested i 0) here.1.0 here.0)
 
 -- LAWS
 

@@ -4,6 +4,7 @@ use Rattle.std.specs.Prelude.{◌==◌, ◌&&◌, is_some, slice_get, ◌↔◌}
 use Rattle.std.specs.Str.{bytes_eq}
 use Rattle.std.proofs.lemmas.Bool.{and_parts, and_from, eqb-true, eq-eqb, false≢true, false_from_ne_true}
 use Rattle.std.proofs.lemmas.Slice.Eq.{bytes_eq-Decides}
+use Rattle.std.proofs.lemmas.Option.{same_Some}
 use Rattle.lab_base.specs.declared.boot.Boot.{Boot}
 use Rattle.lab_base.specs.declared.rates.Rates.{Rates}
 use Rattle.lab_base.specs.Lists.{Has, Apart}
@@ -137,13 +138,10 @@ wanted_by_reading row told found os up wants same tells pipes test known = (
   }),
   (λ s. test.1 (
     tells.os ∙ s.os,
-    some_is told.state (state_if up) (sym (told_state row told tells known) ∙ s.boot),
+    same_Some told.state (state_if up) (sym (told_state row told tells known) ∙ s.boot),
     agree_where row.pipes 0 found wants (from_read row found pipes) (λ j. ap row.pipes (zero-add j) ∙ s.pipes j),
   )),
 )
-  where
-    some_is : (a b : Boot) → Some a ≡ Some b → a ≡ b
-    some_is a b e = cc e
 
 -- lists that agree are as long
 pub agree_length : (k : ℕ) (found : List PipeRow) (wants : List worlds.PipeRow) → agree k found wants ≡ true → length found ≡ length wants

@@ -2,9 +2,9 @@
 use Rattle.std.proofs.Common.{◌≡◌, inl, inr, ℕ, zero, suc, ◌<◌, Bool, true, false, List, [], ◌∷◌, Option, Some, None, refl, sym, ap, ◌∙◌, subst, cond, arith, length, take, if◌then◌else◌}
 use Rattle.std.specs.Prelude.{◌↔◌, ◌||◌, is_some, not, slice_get}
 use Rattle.std.specs.List.{find}
-use Rattle.std.proofs.lemmas.Bool.{or_cases, or_left, or_right, true≢false, false≢true}
+use Rattle.std.proofs.lemmas.Bool.{true≢false, false≢true}
 use Rattle.lab_base.specs.Lists.{Has}
-use Rattle.lab_base.proofs.Members.{Apart-same}
+use Rattle.lab_base.proofs.Members.{Apart-same, Has-slice_get, found_has}
 use Rattle.phys_lab.specs.Labs.{Lab}
 use Rattle.virt_topo.specs.declared.experiment.Experiment.{Experiment}
 use Rattle.virt_topo.specs.declared.experiment.Phase.{Phase}
@@ -16,20 +16,11 @@ use Rattle.lab_model.specs.Cabled.{SameNode}
 use Rattle.lab_model.specs.Claims.{Which, Old, New, claimed, claimed_in, Claims, Places, claims_it, is_placed}
 use Rattle.lab_model.specs.Holding.{Holding, Suits}
 use Rattle.lab_model.specs.Wants.{node_row_of, os_on, pipes_on}
-use Rattle.lab_model.proofs.Kept.{places_it_from, Places_from}
-use Rattle.lab_model.proofs.OneSided.{Has-slice_get}
+use Rattle.lab_model.proofs.Kept.{Places_from}
+use Rattle.lab_model.proofs.Claiming.{claims_from, claims_test}
 use Rattle.records_model.specs.Labs.{LabState, Sane, lab_in}
 use Rattle.lab_audit.specs.Diff.{standing, standing_in, Differs, Held, Free, IsCompared}
 use Rattle.lab_audit.specs.Nodes.{IsOff, claimer, row_with}
-
--- the first that passes a test; one that passes none
-found : {X : Type 0} (p : X → Bool) (xs : List X) (x : X) → find p xs ≡ Some x → Has xs x × (p x ≡ true)
-found p [] x is = absurd (cc is)
-found {X} p (y ∷ xs) x is = by (p y) refl (λ e. found p xs x e) is
-  where
-    by : (test : Bool) → p y ≡ test → (find p xs ≡ Some x → Has xs x × (p x ≡ true)) → cond test (Some y) (find p xs) ≡ Some x → Has (y ∷ xs) x × (p x ≡ true)
-    by true t rest e = let same : y ≡ x = cc e in (inl same, ap p (sym same) ∙ t)
-    by false t rest e = let f = rest e in (inr f.0, f.1)
 
 pub not_found : {X : Type 0} (p : X → Bool) (xs : List X) → find p xs ≡ None → (x : X) → Has xs x → p x ≡ false
 not_found p [] is x h = absurd h
@@ -73,24 +64,6 @@ pub not_chosen : {X : Type 0} (test : Bool) (x : X) → None ≡ (if test then S
 not_chosen {X} true x e = absurd (let never : None ≡ Some x = e in cc never)
 not_chosen false x e = refl
 
--- an experiment claims a node by a test
-test_claims : (lab : Lab) (e : Experiment) (name : List ℕ) → claims_it lab e name ≡ true → Claims lab e name
-test_claims lab e name is = elim (or_cases (is_placed lab (claimed e Old) name) (is_placed lab (claimed e New) name) is) [
-  | inl h ↦ by Old (claimed e Old) refl h
-  | inr h ↦ by New (claimed e New) refl h
-]
-  where
-    by : (which : Which) (o : Option Mapped) → claimed e which ≡ o → is_placed lab o name ≡ true → Claims lab e name
-    by which None is h = absurd (false≢true h)
-    by which (Some m) is h = record { which = which; mapped = m; is = is; placed = Places_from lab m name h }
-
-claims_test : (lab : Lab) (e : Experiment) (name : List ℕ) → Claims lab e name → claims_it lab e name ≡ true
-claims_test lab e name c = by c.which c.is
-  where
-    by : (which : Which) → claimed e which ≡ Some c.mapped → claims_it lab e name ≡ true
-    by Old is = or_left _ _ (ap (λ (o : Option Mapped). is_placed lab o name) is ∙ places_it_from lab c.mapped name c.placed)
-    by New is = or_right _ _ (ap (λ (o : Option Mapped). is_placed lab o name) is ∙ places_it_from lab c.mapped name c.placed)
-
 -- what stands is claimed, and places what is claimed
 stands_claimed : (wiring : Wiring) (phase : Phase) (m : Mapped) → standing_in wiring phase ≡ Some m → claimed_in wiring phase New ≡ Some m
 stands_claimed wiring Out m is = absurd (cc is)
@@ -109,7 +82,7 @@ module _ (lab : Lab) (es : List Experiment) (w : World) (name : List ℕ) (holdi
 
   pub off_differs : (e : Experiment) → claimer lab es name ≡ Some e → IsOff lab w name (standing e) ↔ Differs lab es w name
   off_differs e is =
-      let f = found (λ (x : Experiment). claims_it lab x name) es e is in (
+      let f = found_has (λ (x : Experiment). claims_it lab x name) es e is in (
         (λ off. to e (standing e) refl f.0 f.1 off),
         (λ d. from d f.0 f.1),
       )
@@ -121,9 +94,9 @@ module _ (lab : Lab) (es : List Experiment) (w : World) (name : List ℕ) (holdi
       from : Differs lab es w name → Has es e → claims_it lab e name ≡ true → IsOff lab w name (standing e)
       from (Held x m has s placed off) has_e it =
           let claims : Claims lab x name = record { which = New; mapped = m; is = stands_claimed x.wiring x.phase m s; placed = placed } in
-          let same : x ≡ e = one_claims x e has has_e claims (test_claims lab e name it) in
+          let same : x ≡ e = one_claims x e has has_e claims (claims_from lab e name it) in
           subst (λ (o : Option Mapped). IsOff lab w name o) (sym s ∙ ap standing same) off
-      from (Free none off) has_e it = absurd (none e has_e (test_claims lab e name it))
+      from (Free none off) has_e it = absurd (none e has_e (claims_from lab e name it))
 
   none_claims : claimer lab es name ≡ None → (e : Experiment) → Has es e → Claims lab e name → ⊥
   none_claims is e has c = true≢false (sym (claims_test lab e name c) ∙ not_found (λ (x : Experiment). claims_it lab x name) es is e has)
@@ -138,7 +111,7 @@ module _ (lab : Lab) (es : List Experiment) (w : World) (name : List ℕ) (holdi
   -- the node is compared, where its experiment stands, and where it has none
   pub held_compared : (e : Experiment) (m : Mapped) → claimer lab es name ≡ Some e → standing e ≡ Some m → IsCompared lab es name
   held_compared e m is s =
-      let f = found (λ (x : Experiment). claims_it lab x name) es e is in
+      let f = found_has (λ (x : Experiment). claims_it lab x name) es e is in
       inl (e, f.0, (m, s, stands_placed lab e.wiring e.phase m name s f.1))
 
   pub free_compared : claimer lab es name ≡ None → IsCompared lab es name
@@ -180,7 +153,7 @@ suits_all s lab n e sane is at which m claims = (holding_in s lab sane is).fits 
 
 pub claimer_suits : (s : LabState) (lab : Lab) (name : List ℕ) (e : Experiment) → Sane s → s.lab ≡ Some lab → claimer lab s.experiments name ≡ Some e → (m : Mapped) → standing e ≡ Some m → Suits lab m
 claimer_suits s lab name e sane is first m stands =
-    let f = found (λ (x : Experiment). claims_it lab x name) s.experiments e first in
+    let f = found_has (λ (x : Experiment). claims_it lab x name) s.experiments e first in
     (holding_in s lab sane is).fits e New m f.0 (stands_claimed e.wiring e.phase m stands)
 
 -- A NODE DIFFERS, by its experiment, and where it has none

@@ -1,15 +1,16 @@
 -- Readings one after another.
-use Rattle.std.proofs.Common.{◌≡◌, inl, inr, ℕ, suc, ◌≤◌, ◌<◌, List, [], ◌∷◌, ◌++◌, length, map, Option, Some, None, refl, sym, ap, ◌∙◌, subst, arith, append-nil}
+use Rattle.std.proofs.Common.{◌≡◌, inl, inr, ℕ, suc, ◌≤◌, ◌<◌, List, [], ◌∷◌, ◌++◌, length, map, Option, Some, None, refl, sym, ap, ◌∙◌, subst, arith}
 use Rattle.std.specs.Prelude.{IfOk, IfSome, Result, Ok, Err, ◌↔◌}
 use Rattle.std.proofs.lemmas.List.{map-append}
 use Rattle.lab_base.specs.declared.ids.VlanId.{VlanId}
 use Rattle.lab_base.specs.Counts.{Rose}
 use Rattle.lab_base.specs.Lists.{Has}
 use Rattle.lab_base.proofs.Members.{Has-append}
-use Rattle.plant.specs.Events.{Event}
+use Rattle.lab_base.proofs.Numbers.{Rose_since}
 use Rattle.plant.specs.Seen.{Seen}
 use Rattle.plant.specs.Told.{Told, with_steps}
 use Rattle.plant.specs.Worlds.{World, NodeRow}
+use Rattle.plant.proofs.Traces.{with_steps-nil}
 use Rattle.plant_tables.specs.Readings.{IsBefore, IsEntry, IsNth, HasPipe, RowsFit, PipesFit, TellsRow, TellsPipe, entry_of, pipe_of}
 use Rattle.plant_tables.specs.declared.pipe_row.PipeRow.{PipeRow}
 use Rattle.plant_tables.proofs.Fronts.{IsFront, none_left, one_more}
@@ -17,23 +18,16 @@ use Rattle.plant_tables.proofs.Full.{all_entries, all_numbers}
 use Rattle.plant_tables.proofs.Orders.{entries, numbers}
 use Rattle.lab_audit.specs.Reads.{Reads, ArePipes, steps_of}
 
-no_steps : (told : Option Told) → told ≡ with_steps told []
-no_steps None = refl
-no_steps (Some t) = ap (λ (l : List Event). Some (record t { trace = l })) (sym (append-nil t.trace))
-
 pub none_read : (s : Seen) → Reads s s None
-none_read s = record { told = no_steps s.told; disk = refl; later = omega arith; failed = tt; stopped = refl }
-
-rose_on : (a b c : ℕ) → a ≤ b → Rose b c → Rose a c
-rose_on a b c le rose = omega (arith, le, rose)
+none_read s = record { told = with_steps-nil s.told; disk = refl; later = omega arith; failed = tt; stopped = refl }
 
 rose_by : (unread : Option (List ℕ)) (a b c : ℕ) → a ≤ b → IfSome unread (λ name. Rose b c) → IfSome unread (λ name. Rose a c)
 rose_by None a b c le rose = tt
-rose_by (Some name) a b c le rose = rose_on a b c le rose
+rose_by (Some name) a b c le rose = Rose_since a b c le rose
 
 -- what is told behind readings that all were answered is what was told before
 pub same_told : (a b : Seen) → Reads a b None → b.told ≡ a.told
-same_told a b r = r.told ∙ sym (no_steps a.told)
+same_told a b r = r.told ∙ sym (with_steps-nil a.told)
 
 -- readings that were all answered, and then others
 pub read_on : (a b c : Seen) (unread : Option (List ℕ)) → Reads a b None → Reads b c unread → Reads a c unread
@@ -48,10 +42,6 @@ read_on a b c unread r s = record {
 -- where something is told, a fact about it behind readings that were all answered is one about what was told before
 pub told_before : (a b : Seen) (P : Told → Type 0) → Reads a b None → IfSome b.told P → IfSome a.told P
 told_before a b P r h = subst (λ (o : Option Told). IfSome o P) (same_told a b r) h
-
-pub one_told : (o : Option Told) (P Q : Told → Type 0) → ((t : Told) → P t → Q t) → IfSome o P → IfSome o Q
-one_told None P Q f p = tt
-one_told (Some t) P Q f p = f t p
 
 -- what holds of an answer
 pub ok_to : {T E : Type 0} (r : Result T E) (P Q : T → Type 0) → ((x : T) → P x → Q x) → IfOk r P → IfOk r Q

@@ -3,11 +3,11 @@ use Rattle.std.proofs.Common.{◌≡◌, inl, inr, ℕ, zero, suc, ◌+◌, ◌<
 use Rattle.std.specs.Prelude.{◌==◌, ◌&&◌, ◌↔◌, not, filter_map}
 use Rattle.std.specs.List.{list_any, cons_option}
 use Rattle.std.specs.Str.{bytes_eq}
-use Rattle.std.proofs.lemmas.Bool.{and_parts, and_from, or_cases, or_left, or_right, eqb-true, eq-eqb, true≢false, false≢true, not-true, false_from_ne_true}
+use Rattle.std.proofs.lemmas.Bool.{and_parts, and_from, eqb-true, eq-eqb, true≢false, false≢true, not-true, false_from_ne_true, not_from_false}
 use Rattle.std.proofs.lemmas.Slice.Eq.{bytes_eq-Decides}
 use Rattle.lab_base.specs.declared.ids.VlanId.{VlanId}
 use Rattle.lab_base.specs.Lists.{Has, listed}
-use Rattle.lab_base.proofs.Members.{Has-append, Has-left, Has-right, Has-map, Has-mapped}
+use Rattle.lab_base.proofs.Members.{Has-append, Has-left, Has-right, Has-map, Has-mapped, any_from, any_has}
 use Rattle.phys_lab.specs.Labs.{Lab}
 use Rattle.virt_topo.specs.declared.experiment.Experiment.{Experiment}
 use Rattle.plant.specs.Worlds.{Row, World}
@@ -38,19 +38,6 @@ kept_to {X} {Y} f (z ∷ xs) x y h is = by (f z) refl (λ g. kept_to f xs x y g 
     by None none rest (inr g) = rest g
     by (Some v) some rest (inl e) = inl (let same : Some v ≡ Some y = sym some ∙ ap f e ∙ is in cc same)
     by (Some v) some rest (inr g) = inr (rest g)
-
--- some element passes a test
-any_from : {X : Type 0} (p : X → Bool) (xs : List X) → list_any p xs ≡ true → (x : X) × Has xs x × (p x ≡ true)
-any_from p [] is = absurd (false≢true is)
-any_from p (x ∷ xs) is = elim (or_cases (p x) (list_any p xs) is) [
-  | inl h ↦ (x, inl refl, h)
-  | inr h ↦ let f = any_from p xs h in (f.0, inr f.1, f.2)
-]
-
-any_to : {X : Type 0} (p : X → Bool) (xs : List X) (x : X) → Has xs x → p x ≡ true → list_any p xs ≡ true
-any_to p [] x h is = absurd h
-any_to p (y ∷ xs) x (inl e) is = or_left _ _ (ap p e ∙ is)
-any_to p (y ∷ xs) x (inr h) is = or_right _ _ (any_to p xs x h is)
 
 -- what a choice gave, by its test
 chosen : {X : Type 0} (test : Bool) (x y : X) → (if test then Some x else None) ≡ Some y → (test ≡ true) × (x ≡ y)
@@ -96,7 +83,7 @@ module _ (lab : Lab) (es : List Experiment) (w : World) (switch : List ℕ) (fou
   stood : (port vlan : ℕ) → w.rows (record { switch = switch; port = port; vlan = vlan }) ≡ true → list_any (is_entry port vlan) found ≡ true
   stood port vlan is =
       let f = Has-map entry_of found (port, vlan) ((exact (port, vlan)).1 is) in
-      any_to (is_entry port vlan) found f.0 f.1 (and_from _ _ (eq-eqb f.0.0 port (ap (λ (e : ℕ × ℕ). e.0) f.2)) (eq-eqb f.0.1.0 vlan (ap (λ (e : ℕ × ℕ). e.1) f.2)))
+      any_has (is_entry port vlan) found f.0 f.1 (and_from _ _ (eq-eqb f.0.0 port (ap (λ (e : ℕ × ℕ). e.0) f.2)) (eq-eqb f.0.1.0 vlan (ap (λ (e : ℕ × ℕ). e.1) f.2)))
 
   lacking : (x : Wanted) (line : Line) → Has wanted x → lacking_line switch found x ≡ Some line → Tells lab es w switch line
   lacking x line has is =
@@ -120,7 +107,7 @@ module _ (lab : Lab) (es : List Experiment) (w : World) (switch : List ℕ) (fou
         λ claim.
             let g = (all.claimed row).0 claim in
             let test = and_from _ _ ((bytes_eq-Decides switch switch).1 refl) (and_from _ _ (eq-eqb e.0 e.0 refl) (eq-eqb e.1.0 e.1.0 refl)) in
-            true≢false (sym (any_to (is_wanted_at switch e) wanted (record { row = row; stands = g.0 }) g.1 test) ∙ c.0),
+            true≢false (sym (any_has (is_wanted_at switch e) wanted (record { row = row; stands = g.0 }) g.1 test) ∙ c.0),
       )
 
   told : (line : Line) → Has (unordered switch found wanted) line → Tells lab es w switch line
@@ -137,17 +124,13 @@ module _ (lab : Lab) (es : List Experiment) (w : World) (switch : List ℕ) (fou
   leave true x is = absurd (true≢false is)
   leave false x is = refl
 
-  not_found : (b : Bool) → b ≡ false → not b ≡ true
-  not_found true is = absurd (true≢false is)
-  not_found false is = refl
-
   tells : (line : Line) → Tells lab es w switch line → Has (unordered switch found wanted) line
   tells (Lacks named port vlan) t =
       let row : Row = record { switch = named; port = port; vlan = vlan.0 } in
       let x : Wanted = record { row = row; stands = true } in
       let has : Has wanted x = (all.stands row).0 t.1 in
       let none : is_found row found ≡ false = false_from_ne_true (is_found row found) (λ there. true≢false (sym (subst (λ (s : List ℕ). w.rows (record { switch = s; port = port; vlan = vlan.0 }) ≡ true) (sym t.0) (stands port vlan.0 there)) ∙ t.2)) in
-      let test : (x.stands && (bytes_eq x.row.switch switch && not (is_found x.row found))) ≡ true = and_from _ _ refl (and_from _ _ ((bytes_eq-Decides named switch).1 t.0) (not_found (is_found row found) none)) in
+      let test : (x.stands && (bytes_eq x.row.switch switch && not (is_found x.row found))) ≡ true = and_from _ _ refl (and_from _ _ ((bytes_eq-Decides named switch).1 t.0) (not_from_false (is_found row found) none)) in
       let line : lacking_line switch found x ≡ Some (Lacks named port vlan) = pick _ (Lacks switch port (record { 0 = vlan.0 })) test ∙ (λ i. Some (Lacks (sym t.0 i) port vlan)) in
       Has-left _ (filter_map (strange_line switch wanted) found) _ (kept_to (lacking_line switch found) wanted x _ has line)
   tells (Strange named port vlan) t =

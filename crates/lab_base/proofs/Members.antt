@@ -1,7 +1,8 @@
 -- Elements of lists.
-use Rattle.std.proofs.Common.{◌≡◌, ◌≢◌, ◌⊎◌, inl, inr, Bool, false, ◌||◌, List, [], ◌∷◌, ◌++◌, map, refl, sym, ap, ◌∙◌, subst}
-use Rattle.std.specs.List.{flat_map, list_any}
-use Rattle.std.proofs.lemmas.Bool.{or_parts}
+use Rattle.std.proofs.Common.{◌≡◌, ◌≢◌, ◌⊎◌, inl, inr, Bool, false, ◌||◌, List, [], ◌∷◌, ◌++◌, map, refl, sym, ap, ◌∙◌, subst, true, cond, ℕ, zero, suc, ◌+◌, ◌<◌, Some, length, get_or, arith, slice_get}
+use Rattle.std.specs.List.{flat_map, list_any, list_all, find, filter}
+use Rattle.std.proofs.lemmas.Bool.{or_parts, and_parts, and_from, or_cases, or_left, or_right, cases_Bool, false_from_ne_true}
+use Rattle.std.proofs.lemmas.Option.{same_Some}
 use Rattle.lab_base.specs.Lists.{Has, Apart, AllDiffer}
 
 pub Has-left : {X : Type 0} (xs ys : List X) (x : X) → Has xs x → Has (xs ++ ys) x
@@ -88,3 +89,115 @@ none_has test (y ∷ xs) x t (inr h) = none_has test xs x (or_parts (test y) (li
 pub any_map : {X Y : Type 0} (p : Y → Bool) (f : X → Y) (xs : List X) → list_any p (map f xs) ≡ list_any (λ x. p (f x)) xs
 any_map p f [] = refl
 any_map p f (x ∷ xs) = ap (λ (b : Bool). p (f x) || b) (any_map p f xs)
+
+-- some element passes the test
+pub any_has : {X : Type 0} (test : X → Bool) (xs : List X) (x : X) → Has xs x → test x ≡ true → list_any test xs ≡ true
+any_has test [] x h t = absurd h
+any_has test (y ∷ xs) x (inl e) t = or_left (test y) (list_any test xs) (ap test e ∙ t)
+any_has test (y ∷ xs) x (inr h) t = or_right (test y) (list_any test xs) (any_has test xs x h t)
+
+pub any_from : {X : Type 0} (test : X → Bool) (xs : List X) → list_any test xs ≡ true → (x : X) × Has xs x × (test x ≡ true)
+any_from test [] t = absurd (cc t)
+any_from test (x ∷ xs) t = elim (or_cases (test x) (list_any test xs) t) [
+  | inl here ↦ (x, inl refl, here)
+  | inr there ↦ let r = any_from test xs there in (r.0, inr r.1, r.2)
+]
+
+pub none_from : {X : Type 0} (test : X → Bool) (xs : List X) → ((x : X) → Has xs x → test x ≡ false) → list_any test xs ≡ false
+none_from test [] each = refl
+none_from test (x ∷ xs) each = λ i. each x (inl refl) i || none_from test xs (λ y h. each y (inr h)) i
+
+pub none_of : {X : Type 0} (test : X → Bool) (xs : List X) → ((x : X) → Has xs x → test x ≡ true → ⊥) → list_any test xs ≡ false
+none_of test xs none = none_from test xs (λ x h. false_from_ne_true (test x) (none x h))
+
+-- each element passes the test
+pub all_has : {X : Type 0} (test : X → Bool) (xs : List X) (x : X) → list_all test xs ≡ true → Has xs x → test x ≡ true
+all_has test [] x t h = absurd h
+all_has test (y ∷ xs) x t (inl e) = sym (ap test e) ∙ (and_parts (test y) (list_all test xs) t).0
+all_has test (y ∷ xs) x t (inr h) = all_has test xs x (and_parts (test y) (list_all test xs) t).1 h
+
+pub all_from : {X : Type 0} (test : X → Bool) (xs : List X) → ((x : X) → Has xs x → test x ≡ true) → list_all test xs ≡ true
+all_from test [] each = refl
+all_from test (x ∷ xs) each = and_from (test x) (list_all test xs) (each x (inl refl)) (all_from test xs (λ y h. each y (inr h)))
+
+pub all_weaker : {X : Type 0} (p q : X → Bool) → ((x : X) → p x ≡ true → q x ≡ true) → (xs : List X) → list_all p xs ≡ true → list_all q xs ≡ true
+all_weaker p q from [] all = refl
+all_weaker p q from (x ∷ xs) all = let parts = and_parts (p x) (list_all p xs) all in and_from (q x) (list_all q xs) (from x parts.0) (all_weaker p q from xs parts.1)
+
+-- the first element that passes
+pub found_has : {X : Type 0} (test : X → Bool) (xs : List X) (x : X) → find test xs ≡ Some x → Has xs x × (test x ≡ true)
+found_has test [] x e = absurd (cc e)
+found_has {X} test (y ∷ xs) x e = by (λ later. found_has test xs x later) (test y) refl e
+  where
+    by : (find test xs ≡ Some x → Has xs x × (test x ≡ true)) → (b : Bool) → test y ≡ b → cond b (Some y) (find test xs) ≡ Some x → Has (y ∷ xs) x × (test x ≡ true)
+    by rest true is e = let same : y ≡ x = cc e in (inl same, ap test (sym same) ∙ is)
+    by rest false is e = let later = rest e in (inr later.0, later.1)
+
+pub Has-filter : {X : Type 0} (p : X → Bool) (xs : List X) (x : X) → Has (filter p xs) x → Has xs x × (p x ≡ true)
+Has-filter p [] x h = absurd h
+Has-filter p (y ∷ xs) x h = elim (cases_Bool (p y)) [
+  | inl is ↦
+      let here : Has (y ∷ filter p xs) x = subst (λ b. Has (cond b (y ∷ filter p xs) (filter p xs)) x) is h in
+      elim here [ inl e ↦ (inl e, ap p (sym e) ∙ is) | inr g ↦ let r = Has-filter p xs x g in (inr r.0, r.1) ]
+  | inr is ↦
+      let rest : Has (filter p xs) x = subst (λ b. Has (cond b (y ∷ filter p xs) (filter p xs)) x) is h in
+      let r = Has-filter p xs x rest in (inr r.0, r.1)
+]
+
+pub Has-filtered : {X : Type 0} (p : X → Bool) (xs : List X) (x : X) → Has xs x → p x ≡ true → Has (filter p xs) x
+Has-filtered p [] x h passes = absurd h
+Has-filtered p (y ∷ xs) x (inl e) passes = subst (λ b. Has (cond b (y ∷ filter p xs) (filter p xs)) x) (sym passes ∙ ap p (sym e)) (inl e)
+Has-filtered p (y ∷ xs) x (inr h) passes = elim (cases_Bool (p y)) [
+  | inl is ↦ subst (λ b. Has (cond b (y ∷ filter p xs) (filter p xs)) x) (sym is) (inr (Has-filtered p xs x h passes))
+  | inr is ↦ subst (λ b. Has (cond b (y ∷ filter p xs) (filter p xs)) x) (sym is) (Has-filtered p xs x h passes)
+]
+
+-- ELEMENTS AND PLACES
+
+pub Has-either : {X : Type 0} (xs ys : List X) (x : X) → Has xs x ⊎ Has ys x → Has (xs ++ ys) x
+Has-either xs ys x (inl h) = Has-left xs ys x h
+Has-either xs ys x (inr h) = Has-right xs ys x h
+
+-- an element stays one where another is put between
+pub Has-between : {X : Type 0} (xs ys : List X) (x y : X) → Has (xs ++ ys) y → Has (xs ++ x ∷ ys) y
+Has-between xs ys x y h = elim (Has-append xs ys y h) [ inl p ↦ Has-left xs (x ∷ ys) y p | inr q ↦ Has-right xs (x ∷ ys) y (inr q) ]
+
+pub Has-push : {X : Type 0} (xs : List X) (y x : X) → Has (xs ++ y ∷ []) x → Has xs x ⊎ (y ≡ x)
+Has-push xs y x h = elim (Has-append xs (y ∷ []) x h) [ inl old ↦ inl old | inr new ↦ elim new [ inl is ↦ inr is | inr none ↦ absurd none ] ]
+
+pub Has-get_or : {X : Type 0} (xs : List X) (i : ℕ) (d : X) → i < length xs → Has xs (get_or xs i d)
+Has-get_or [] i d h = absurd (omega arith)
+Has-get_or (x ∷ xs) zero d h = inl refl
+Has-get_or (x ∷ xs) (suc i) d h = inr (Has-get_or xs i d (omega arith))
+
+-- an item that is read is an element
+pub Has-at : {X : Type 0} (xs : List X) (i : ℕ) (x : X) → i < length xs → x ≡ get_or xs i x → Has xs x
+Has-at [] i x lt is = absurd (omega arith)
+Has-at (y ∷ xs) zero x lt is = inl (sym is)
+Has-at (y ∷ xs) (suc i) x lt is = inr (Has-at xs i x (omega arith) is)
+
+pub Has-slice_get : {X : Type 0} (xs : List X) (n : ℕ) (x : X) → slice_get xs n ≡ Some x → Has xs x
+Has-slice_get [] n x is = cc
+Has-slice_get (y ∷ xs) zero x is = inl (same_Some y x is)
+Has-slice_get (y ∷ xs) (suc n) x is = inr (Has-slice_get xs n x is)
+
+-- an element has a place
+pub Has-place : {X : Type 0} (xs : List X) (x d : X) → Has xs x → (i : ℕ) × (i < length xs) × (get_or xs i d ≡ x)
+Has-place [] x d h = absurd h
+Has-place (y ∷ xs) x d (inl e) = (0, omega arith, e)
+Has-place (y ∷ xs) x d (inr h) = let r = Has-place xs x d h in (suc r.0, omega (arith, r.1), r.2)
+
+-- elements that differ stand at different places
+pub differ_at : {X : Type 0} (xs : List X) (i j : ℕ) (d : X) → AllDiffer xs → i < length xs → j < length xs → get_or xs i d ≡ get_or xs j d → i ≡ j
+differ_at [] i j d all h g e = absurd (omega (arith, h))
+differ_at (x ∷ xs) zero zero d all h g e = refl
+differ_at (x ∷ xs) zero (suc j) d all h g e = absurd (all.0 (get_or xs j d) (Has-get_or xs j d (omega (arith, g))) e)
+differ_at (x ∷ xs) (suc i) zero d all h g e = absurd (all.0 (get_or xs i d) (Has-get_or xs i d (omega (arith, h))) (sym e))
+differ_at (x ∷ xs) (suc i) (suc j) d all h g e = ap suc (differ_at xs i j d all.1 (omega (arith, h)) (omega (arith, g)) e)
+
+pub Apart-append : {X : Type 0} (R : X → X → Type 0) (xs ys : List X) → Apart R xs → Apart R ys → ((x y : X) → Has xs x → Has ys y → R x y) → Apart R (xs ++ ys)
+Apart-append R [] ys p q across = q
+Apart-append R (x ∷ xs) ys p q across = (
+  λ y h. elim (Has-append xs ys y h) [ inl a ↦ p.0 y a | inr b ↦ across x y (inl refl) b ],
+  Apart-append R xs ys p.1 q (λ z y h g. across z y (inr h) g),
+)

@@ -20,12 +20,10 @@ use Rattle.lab_core.proofs.OuterSteps.{CommandTells, plain, still_as, tell_behin
 use Rattle.lab_core.proofs.Others.{Stays, both_stay, same_stays}
 use Rattle.lab_core.proofs.Places.{breaks_place, place_as}
 use Rattle.lab_core.proofs.StepLaws.{begins_stay, broke, step_stays, step_stops}
+use Rattle.lab_core.proofs.Sessions.{not_shut}
 
 none_some : {X : Type 0} (reply : Reply) → None ≡ Some reply → X
 none_some reply is = absurd (cc is)
-
-not_shut : {X : Type 0} (to : List OpenSwap) → Closed ≡ Open to → X
-not_shut to is = absurd (cc is)
 
 -- WHAT AN AUDIT LEAVES
 module _ (w : World) (s : LabState) (opens : List OpenSwap) (own : List Event) (after : After) where

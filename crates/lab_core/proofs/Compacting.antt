@@ -1,14 +1,16 @@
 -- The journal's move onto its other side, over what a plant tells.
 use Rattle.std.proofs.Common.{◌≡◌, ◌⊎◌, inl, inr, fold, ◌≤◌, ℕ, ◌+◌, ◌-◌, ◌*◌, ◌^◌, true, false, ◌&&◌, List, [], ◌∷◌, ◌++◌, length, Option, Some, None, Result, Ok, Err, IfSome, refl, sym, ap, subst, ◌∙◌, arith}
-use Rattle.std.specs.Prelude.{OnOk, nat_lt, nat_le}
+use Rattle.std.specs.Prelude.{nat_lt, nat_le}
 use Rattle.std.proofs.lemmas.Bool.{and_parts, lt-ltb, le-leb, ltb-true, leb-true}
 use Rattle.std.proofs.lemmas.List.{append-nil, append_cancel_left, length-append}
 use Rattle.std.proofs.lemmas.List.Sums.{fold-append}
+use Rattle.lab_base.proofs.Tests.{some_weaker, some_all}
 use Rattle.plant.specs.Disks.{Disk, disk, disk_after}
 use Rattle.plant.specs.Events.{Event, Missed}
 use Rattle.plant.specs.Told.{Told, with_steps}
 use Rattle.plant.specs.declared.step.Side.{Side}
 use Rattle.plant.specs.declared.step.Side.TheVariants.{A, B}
+use Rattle.plant.proofs.Traces.{with_steps-nil}
 use Rattle.journal_rec.specs.declared.record.Record.{Record}
 use Rattle.journal_rec.specs.Payloads.{le, number}
 use Rattle.journal_model.specs.Appends.{blocks, other_side}
@@ -16,8 +18,8 @@ use Rattle.journal_model.specs.Journals.{Headed, On, head, gate_after, magic}
 use Rattle.journal_model.proofs.Gates.{length_front}
 use Rattle.journal_model.proofs.Traces.{disk_more}
 use Rattle.journal_packed.specs.Packing.{ArePacked, side_length}
-use Rattle.journal_disk.specs.Compacting.{Come, come_steps, is_unshut}
-use Rattle.journal_disk.specs.Compactions.{Compacts, Ends, Shifts as ShiftsImages}
+use Rattle.journal_disk.specs.Compacting.{come_steps, is_unshut}
+use Rattle.journal_disk.specs.Compactions.{Compacts, Shifts as ShiftsImages}
 use Rattle.journal_disk.proofs.CompactSteps.{there_come}
 use Rattle.journal_disk.specs.Epochs.{epoch_of, HasEpoch}
 use Rattle.journal_disk.specs.Standing.{side_of, length_of, limit_of, IsAt}
@@ -35,20 +37,11 @@ use Rattle.journal_runs.proofs.Sounds.{works_as}
 use Rattle.lab_state.specs.Packing.{packed_of}
 use Rattle.lab_state.specs.Texts.{the_texts}
 use Rattle.lab_state.proofs.Canonical.{texts_once}
+use Rattle.journal_disk.proofs.LastSteps.{compact_last}
 use Rattle.swap_turns.specs.Running.{AtWork, Stands}
 use Rattle.lab_core.specs.Compaction.{AfterMove, HasMoved, IsPacked, IsToMove, MoveSteps, MoveEnds, moves as has_moved, stays}
 use Rattle.lab_core.specs.Controller.{Control}
 use Rattle.lab_core.specs.Moments.{AllStandFor, IsLengthAt, IsLiveAt}
-use Rattle.lab_core.proofs.Obey.{if_all}
-use Rattle.journal_disk.proofs.Chains.{nothing_yet}
-
-pub ok_then : {T E P Q : Type 0} → (result : Result T E) → (P → Q) → OnOk result P → OnOk result Q
-ok_then (Ok value) f p = f p
-ok_then (Err fault) f p = tt
-
-map_some : {X : Type 0} {P Q : X → Type 0} (o : Option X) → ((x : X) → P x → Q x) → IfSome o P → IfSome o Q
-map_some None f h = tt
-map_some (Some x) f h = f x h
 
 -- how long a side with packed records is
 pub packed_side : (packed : List ℕ) (rs : List Record) → ArePacked packed rs → side_length packed ≡ gate_after rs + 1
@@ -82,7 +75,7 @@ is_needed size epoch s packed are none due = let half : nat_le (2 * side_length 
 -- where nothing was done
 undone : (s : LabState) (j : Journal) (told : Option Told) (result : Result (Unit {0}) OpenFault) → ((t : Told) → MoveEnds t.trace [] s j result) → AfterMove s j told told result
 undone s j told result ends =
-    ([], nothing_yet told, if_all told (λ t. MoveSteps t.trace [] s j result) (λ t. record { shifts = refl; aside = ap (disk (side_of j)) (append-nil t.trace); no_outer = refl; sound = λ sound. subst (λ l. IsSound the_texts l) (sym (append-nil t.trace)) sound; ends = ends t }))
+    ([], with_steps-nil told, some_all told (λ t. MoveSteps t.trace [] s j result) (λ t. record { shifts = refl; aside = ap (disk (side_of j)) (append-nil t.trace); no_outer = refl; sound = λ sound. subst (λ l. IsSound the_texts l) (sym (append-nil t.trace)) sound; ends = ends t }))
 
 pub stays_after : (s : LabState) (j : Journal) (told : Option Told) (done : Unit {0}) → (IsToMove (length_of j) (epoch_of j) s → ⊥) → AfterMove s j told told (Ok done)
 stays_after s j told done not = undone s j told (Ok done) (λ t. stays not refl)
@@ -98,7 +91,7 @@ of_fault trace steps s j faults.Memory ends = ends
 of_fault trace steps s j (faults.Bad side at) ends = ends
 
 after_as : (s : LabState) (j : Journal) (told now : Option Told) (r : Result (Unit {0}) OpenFault) (q : Result Control OpenFault) → ((trace steps : List Event) → MoveEnds trace steps s j r → MoveEnds trace steps s j q) → AfterMove s j told now r → AfterMove s j told now q
-after_as s j told now r q each after = (after.0, after.1, map_some told (λ t m. record { shifts = m.shifts; aside = m.aside; no_outer = m.no_outer; sound = m.sound; ends = each t.trace after.0 m.ends }) after.2)
+after_as s j told now r q each after = (after.0, after.1, some_weaker told _ _ (λ t m. record { shifts = m.shifts; aside = m.aside; no_outer = m.no_outer; sound = m.sound; ends = each t.trace after.0 m.ends }) after.2)
 
 pub done_as : (s : LabState) (j : Journal) (told now : Option Told) (done : Unit {0}) (c : Control) → AfterMove s j told now (Ok done) → AfterMove s j told now (Ok c)
 done_as s j told now done c after = after_as s j told now (Ok done) (Ok c) (λ trace steps ends. ends) after
@@ -129,11 +122,6 @@ nothing_more side live more d (inl none) = ap (fold (disk_after live) d) none
 nothing_more side A more d (inr one) = ap (fold (disk_after A) d) one
 nothing_more side B more d (inr one) = ap (fold (disk_after B) d) one
 
-last_few : (side : Side) (answer : Result (Unit {0}) CompactFault) (far : Come) (more : List Event) → Ends side answer far more → (more ≡ []) ⊎ (more ≡ Missed side ∷ [])
-last_few side (Ok u) far more ends = inl ends.1
-last_few side (Err moves.Plant) far more ends = inr ends
-last_few side (Err moves.Stopped) far more ends = inl ends
-
 stays_aside : (trace steps : List Event) (j : Journal) (packed : List ℕ) (answer : Result (Unit {0}) CompactFault) → Compacts trace steps j packed answer → disk (side_of j) (trace ++ steps) ≡ disk (side_of j) trace
 stays_aside trace steps j packed answer c =
     let live = side_of j in
@@ -143,7 +131,7 @@ stays_aside trace steps j packed answer c =
     ∙ ap (fold (disk_after live) d) c.steps_are
     ∙ fold-append (disk_after live) d come c.more
     ∙ ap (λ x. fold (disk_after live) x c.more) (there_come live d (is_unshut (disk (other_side live) trace).reads) c.far)
-    ∙ nothing_more (other_side live) live c.more d (last_few (other_side live) answer c.far c.more c.ends)
+    ∙ nothing_more (other_side live) live c.more d (compact_last (other_side live) answer c.far c.more c.ends)
 
 -- THE MOVE of a journal that is to move
 module _ (s : LabState) (j : Journal) (told now : Option Told) (work : AtWork the_texts told j s) (packed : List ℕ) (are : IsPacked packed s) (due : IsToMove (length_of j) (epoch_of j) s) where
@@ -229,7 +217,7 @@ module _ (s : LabState) (j : Journal) (told now : Option Told) (work : AtWork th
 
     now_stands : (o : Option Told) → told ≡ o → (steps : List Event) → now ≡ with_steps o steps → IfSome o (λ t. Stands the_texts t.trace j s) → IfSome now (λ u. Stands the_texts u.trace k s)
     now_stands None is steps now_is stands = subst (λ (o : Option Told). IfSome o (λ u. Stands the_texts u.trace k s)) (sym now_is) tt
-    now_stands (Some t) is steps now_is stands = map_some now (λ u has. stands_so u.trace (are.stands stands.records stands.lab_of) has) (has_packed t is stands)
+    now_stands (Some t) is steps now_is stands = some_weaker now _ _ (λ u has. stands_so u.trace (are.stands stands.records stands.lab_of) has) (has_packed t is stands)
 
     pub moved_works : (done : Unit {0}) → SaysSteps (Ok done) → limit_of k ≡ limit_of j → AtWork the_texts now k s
     moved_works done says limit = record {

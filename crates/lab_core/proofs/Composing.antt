@@ -3,18 +3,20 @@ use Rattle.std.proofs.Common.{◌≡◌, inl, inr, ◌≤◌, ◌+◌, ◌↔◌
 use Rattle.std.proofs.lemmas.List.{append-nil}
 use Rattle.std.proofs.lemmas.Option.{same_Some}
 use Rattle.lab_base.specs.Counts.{Rose}
+use Rattle.lab_base.proofs.Tests.{some_weaker, some_all}
+use Rattle.lab_base.proofs.Numbers.{Rose_since}
 use Rattle.plant.specs.Disks.{ArePossible}
 use Rattle.plant.specs.Events.{Event, Restarted}
 use Rattle.plant.specs.Seen.{Seen}
 use Rattle.plant.specs.Told.{Told, with_steps}
+use Rattle.plant.proofs.Traces.{with_steps-nil, with_steps-append}
 use Rattle.records_model.specs.Labs.{LabState}
 use Rattle.records_model.specs.Works.{IsSound}
 use Rattle.lab_state.specs.Texts.{the_texts}
 use Rattle.journal_disk.specs.Standing.{length_of, limit_of, side_of}
-use Rattle.journal_disk.proofs.Chains.{nothing_yet}
 use Rattle.journal_runs.proofs.Images.{reads_on}
 use Rattle.swap_turns.specs.Running.{Stands}
-use Rattle.swap_turns.proofs.Telling.{if_some, if_both, if_back, told_twice}
+use Rattle.swap_turns.proofs.Telling.{if_both, if_back}
 use Rattle.script_text.specs.Replies.{blames_device, closes}
 use Rattle.script_text.specs.declared.reply.Reply.{Reply}
 use Rattle.script_text.specs.declared.reply.Reply.TheVariants as replies
@@ -30,25 +32,18 @@ use Rattle.lab_core.specs.Lists.{DoesNext, Listing, Past, broken, last_reply, mo
 use Rattle.lab_core.specs.Coming.{AllDone, AllWants, HasComeTo, Origin, TellsAll, ground_of}
 use Rattle.lab_core.proofs.Obey.{calm_ends, shut_ends}
 
-if_all : {X : Type 0} (o : Option X) (P : X → Type 0) → ((x : X) → P x) → IfSome o P
-if_all None P each = tt
-if_all (Some x) P each = each x
-
 -- THE LENGTH as the sides read, of a controller that stands
-standing_length : (trace : List Event) (c : Control) → Stands the_texts trace c.journal c.lab → IsLengthAt trace (length_of c.journal)
+pub standing_length : (trace : List Event) (c : Control) → Stands the_texts trace c.journal c.lab → IsLengthAt trace (length_of c.journal)
 standing_length trace c s =
     let on = reads_on trace (side_of c.journal) s.records s.at.opened in
     record { records = s.records; read = on.reads; is = sym (on.size ∙ ap (λ n. n + 1) (sym s.at.gate)) }
 
 pub works_length : (now : Seen) (c : Control) (opens : List OpenSwap) → WorksWith now c opens → IfSome now.told (λ w. IsLengthAt w.trace (length_of c.journal))
-works_length now c opens works = if_some now.told (λ w. Stands the_texts w.trace c.journal c.lab) (λ w. IsLengthAt w.trace (length_of c.journal)) (λ w s. standing_length w.trace c s) works.working.work.stands
+works_length now c opens works = some_weaker now.told (λ w. Stands the_texts w.trace c.journal c.lab) (λ w. IsLengthAt w.trace (length_of c.journal)) (λ w s. standing_length w.trace c s) works.working.work.stands
 
 -- a count that rose
 rose_on : (a b c : ℕ) → Rose a b → b ≤ c → Rose a c
 rose_on a b c rose le = omega (arith, rose, le)
-
-rose_from : (a b c : ℕ) → a ≤ b → Rose b c → Rose a c
-rose_from a b c le rose = omega (arith, le, rose)
 
 -- swaps that were open before the last command, and before the list
 opened_on : (old mid new : List OpenSwap) → WereOpen old mid → WereOpen mid new → WereOpen old new
@@ -74,9 +69,9 @@ module _ {X : Type 0} (l : Listing X) (o : Origin X) (exp : Option (List ℕ)) w
   begins works mild calm = record {
     to = o.opens;
     own = [];
-    told = nothing_yet o.before.told;
-    past = if_all o.before.told _ (λ t. none);
-    sound = if_all o.before.told _ (λ t sound. subst (λ trace. IsSound the_texts trace) (sym (append-nil t.trace)) sound);
+    told = with_steps-nil o.before.told;
+    past = some_all o.before.told _ (λ t. none);
+    sound = some_all o.before.told _ (λ t sound. subst (λ trace. IsSound the_texts trace) (sym (append-nil t.trace)) sound);
     works = works;
     limit = refl;
     opened = λ swap has. (swap, has, refl, refl);
@@ -158,7 +153,7 @@ module _ {X : Type 0} (l : Listing X) (o : Origin X) (exp : Option (List ℕ)) w
       own = h.own ++ b.obeys.0
 
       told_on : then'.told ≡ with_steps o.before.told own
-      told_on = b.obeys.1 ∙ ap (λ told. with_steps told b.obeys.0) h.told ∙ told_twice o.before.told h.own b.obeys.0
+      told_on = b.obeys.1 ∙ ap (λ told. with_steps told b.obeys.0) h.told ∙ with_steps-append o.before.told h.own b.obeys.0
 
       -- what is said of the next, over the trace before the list
       abbrev Ends : Told → Type 0
@@ -244,7 +239,7 @@ module _ {X : Type 0} (l : Listing X) (o : Origin X) (exp : Option (List ℕ)) w
       limit = limit_on (Ok reply) b;
       opened = opened_now (Ok reply) b (λ name is. plain name (same_Some reply (replies.More name) is));
       device = λ blaming. elim (tells.blames at reply blaming) [ inl before ↦ rose_on (counted_from o.opens exp o.devices) now.faults.devices then'.faults.devices (h.device before) b.still | inr this ↦ blames this ];
-      here = λ blaming. elim (tells.here at reply blaming) [ inl before ↦ rose_on o.before.faults.devices now.faults.devices then'.faults.devices (h.here before) b.still | inr this ↦ rose_from o.before.faults.devices now.faults.devices then'.faults.devices h.devices (blames_here this) ];
+      here = λ blaming. elim (tells.here at reply blaming) [ inl before ↦ rose_on o.before.faults.devices now.faults.devices then'.faults.devices (h.here before) b.still | inr this ↦ Rose_since o.before.faults.devices now.faults.devices then'.faults.devices h.devices (blames_here this) ];
       disk = omega (arith, h.disk, b.later);
       devices = omega (arith, h.devices, b.still);
       runs = λ ran. runs_on reply b.stopped (h.runs ran);
@@ -267,9 +262,9 @@ module _ {X : Type 0} (l : Listing X) (o : Origin X) (exp : Option (List ℕ)) w
         leaves_all (Ok reply) b (Ok answer) (λ name. shut_ends answer name shut_too) (λ name is. shut_is_none reply shut name (same_Some reply (replies.More name) is))
         (λ t past sound length ends. subst (λ x. AnswersBy (AllDone l o) t.trace (own (Ok reply) b) answer newer.lab b.to x) (sym shut_too)
         (shuts_all (Ok reply) b t past sound length reply (λ a c. []) answer (last_is reply shut) (subst (λ x. Answers (t.trace ++ h.own) J start b.obeys.0 reply newer.lab b.to x) shut ends.ends)))
-        (λ going_on. let both : false ≡ true = sym (ap not shut_too) ∙ going_on in absurd (cc both)) (λ is. rose_from o.before.faults.disk now.faults.disk then'.faults.disk h.disk (b.down shut))
+        (λ going_on. let both : false ≡ true = sym (ap not shut_too) ∙ going_on in absurd (cc both)) (λ is. Rose_since o.before.faults.disk now.faults.disk then'.faults.disk h.disk (b.down shut))
         (λ blaming. elim (tells.blames at reply blaming) [ inl before ↦ rose_on (counted_from o.opens exp o.devices) now.faults.devices then'.faults.devices (h.device before) b.still | inr this ↦ blames this ])
-        (λ blaming. elim (tells.here at reply blaming) [ inl before ↦ rose_on o.before.faults.devices now.faults.devices then'.faults.devices (h.here before) b.still | inr this ↦ rose_from o.before.faults.devices now.faults.devices then'.faults.devices h.devices (blames_here this) ])
+        (λ blaming. elim (tells.here at reply blaming) [ inl before ↦ rose_on o.before.faults.devices now.faults.devices then'.faults.devices (h.here before) b.still | inr this ↦ Rose_since o.before.faults.devices now.faults.devices then'.faults.devices h.devices (blames_here this) ])
         (λ ran. (λ is. let none' : Ok answer ≡ Err faults.Stopped = is in absurd (cc none'), λ stop. let both : true ≡ false = sym stop ∙ runs_on reply b.stopped (h.runs ran) in absurd (cc both)))
 
     -- THE PLANT STOPPED in it

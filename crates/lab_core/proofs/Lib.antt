@@ -1,6 +1,6 @@
 pub mod Audited
 mod Compacting
-mod Composing
+pub mod Composing
 mod EndOne
 mod InTurn
 mod Keeping
@@ -48,3 +48,4 @@ pub mod SolutionLaws
 pub mod StepLaws
 pub mod TurnLaws
 pub mod Wanting
+pub mod Sessions

@@ -1,9 +1,9 @@
 -- A command that is a list: it is done as its commands are; or it is refused; or memory is wanting before anything is done.
 use Rattle.std.proofs.Common.{◌≡◌, ℕ, Bool, true, false, List, Option, Result, Ok, Err, refl, subst}
+use Rattle.lab_base.proofs.Tests.{some_weaker}
 use Rattle.plant.specs.Events.{Event}
 use Rattle.plant.specs.Seen.{Seen}
 use Rattle.records_model.specs.Labs.{LabState}
-use Rattle.swap_turns.proofs.Telling.{if_some}
 use Rattle.script_text.specs.Replies.{closes}
 use Rattle.script_text.specs.declared.reply.Reply.{Reply}
 use Rattle.lab_core.specs.declared.fault.CoreFault.{CoreFault}
@@ -43,7 +43,7 @@ module _ (A B : Doing) (V W : Wanting) (each : (trace own : List Event) (after :
     obeys = (
       h.obeys.0,
       h.obeys.1,
-      if_some before.told (λ t. StepsBy A V t.trace h.obeys.0 new.lab h.to result) (λ t. StepsBy B W t.trace h.obeys.0 new.lab h.to result) (λ t s. record { ends = ends_as t.trace h.obeys.0 new.lab h.to result s.ends; sound = s.sound }) h.obeys.2,
+      some_weaker before.told (λ t. StepsBy A V t.trace h.obeys.0 new.lab h.to result) (λ t. StepsBy B W t.trace h.obeys.0 new.lab h.to result) (λ t s. record { ends = ends_as t.trace h.obeys.0 new.lab h.to result s.ends; sound = s.sound }) h.obeys.2,
     );
     works = h.works;
     limit = h.limit;

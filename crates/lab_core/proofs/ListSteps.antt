@@ -46,6 +46,7 @@ use Rattle.lab_judge.proofs.Busy.{has_busy}
 use Rattle.lab_core.proofs.OpenMoves.{moves_on, set_by, step_moves}
 use Rattle.lab_core.proofs.Places.{breaks_place, no_place, place_as, step_place}
 use Rattle.lab_core.proofs.StepLaws.{begins_stay, broke, by_one, drills_leave, step_stays, step_stops, was}
+use Rattle.lab_core.proofs.Sessions.{not_shut}
 
 -- one that is none is done by one judgement
 pub plain_step : (terms : Terms) (at : List Event) (set : Setting) (s : LabState) (session : Session) (command : Command) (opening own : List Event) (after : After) → is_unjudged command ≡ false → LabStep terms at set s session command opening own after
@@ -57,9 +58,6 @@ plain_step terms at set s session command opening own after no' step = step
 
 none_some : {X : Type 0} (reply : Reply) → None ≡ Some reply → X
 none_some reply is = absurd (cc is)
-
-not_shut : {X : Type 0} (to : List OpenSwap) → Closed ≡ Open to → X
-not_shut to is = absurd (cc is)
 
 -- WHAT A LIST OF COMMANDS TELLS: no outer reply refuses it, and the reply to the whole is none, and tells of no place
 pub record TellsOfWhole {X : Type 0} (l : Listing X) (JudgedList : Result X Reply → Type 0) : Type 0 where

@@ -1,5 +1,5 @@
 -- The state behind a call, by the steps that it added, in two wordings.
-use Rattle.std.proofs.Common.{◌≡◌, inr, ℕ, Bool, true, false, not, List, [], ◌∷◌, ◌++◌, Option, Some, None, IfSome, Result, Ok, Err, refl, sym, ap, ◌∙◌, subst, arith}
+use Rattle.std.proofs.Common.{◌≡◌, inr, ℕ, Bool, true, false, not, List, [], ◌∷◌, ◌++◌, Option, Some, None, IfSome, Result, Ok, Err, refl, sym, ap, subst, arith}
 use Rattle.std.proofs.lemmas.List.{append-nil}
 use Rattle.lab_base.specs.Counts.{Rose}
 use Rattle.lab_base.specs.Lists.{Has}
@@ -12,14 +12,16 @@ use Rattle.lab_state.specs.Texts.{the_texts}
 use Rattle.script_text.specs.Replies.{blames_device, closes}
 use Rattle.script_text.specs.declared.command.Command.{Command}
 use Rattle.lab_base.specs.declared.what.What.TheVariants as whats
+use Rattle.lab_base.proofs.Tests.{some_weaker, never_both, some_all}
 use Rattle.script_text.specs.declared.reply.FailedEnd.TheVariants as ends
 use Rattle.script_text.specs.declared.reply.Reply.{Reply}
 use Rattle.script_text.specs.declared.reply.Reply.TheVariants as replies
 use Rattle.swap_turns.specs.Causes.{IsLater}
 use Rattle.swap_turns.specs.Closing.{Closes}
 use Rattle.swap_turns.proofs.Closing.{Images}
-use Rattle.swap_turns.proofs.Telling.{if_some, if_both}
+use Rattle.swap_turns.proofs.Telling.{if_both}
 use Rattle.plant.specs.Seen.{Seen}
+use Rattle.plant.proofs.Traces.{with_steps-nil}
 use Rattle.cost_rule.specs.declared.rule.RuleNumber.{RuleNumber}
 use Rattle.lab_core.specs.declared.fault.CoreFault.{CoreFault}
 use Rattle.lab_core.specs.declared.fault.CoreFault.TheVariants as faults
@@ -31,19 +33,10 @@ use Rattle.lab_core.specs.Recovery.{broken_off, some}
 use Rattle.lab_core.specs.Breaks.{unanswered}
 use Rattle.lab_core.specs.Sessions.{After, Closed, Open, OpenSwap, Setting, AreOpenedBy, WereOpen, blames_now, counted_from, ends_swap, name_in}
 use Rattle.lab_judge.specs.Tasks.{tells_end, IsMild}
-use Rattle.journal_disk.proofs.Chains.{nothing_yet}
 
 -- no steps more
 pub false_true : {X : Type 0} → false ≡ true → X
 false_true h = absurd (cc h)
-
-pub not_both : {X : Type 0} (b : Bool) → b ≡ true → b ≡ false → X
-not_both b is no' = false_true (sym no' ∙ is)
-
--- over every trace
-pub if_all : {X : Type 0} (o : Option X) (P : X → Type 0) → ((x : X) → P x) → IfSome o P
-if_all None P each = tt
-if_all (Some x) P each = each x
 
 -- those that were open are so, whatever the reply
 pub as_open : (exp : Option (List ℕ)) (reply : Option Reply) (old new : List OpenSwap) (count : ℕ) → ((o : OpenSwap) → Has new o → ends_swap reply (name_in o) ≡ false) → WereOpen old new → AreOpenedBy exp reply old new count
@@ -101,11 +94,11 @@ module _ (devices : ℕ) (before now : Seen) (IsJudged : Result Task Reply → T
       → (blames_device reply ≡ true → Rose (counted_from opens exp devices) now.faults.devices) → (blames_now reply ≡ true → Rose before.faults.devices now.faults.devices) → RunsOn before now → Left (Ok reply)
   goes_on reply open_still opened done works blames here runs = record {
     to = to;
-    obeys = steps_by (Ok reply) (if_all before.told (λ w. ObeyEnds w.trace IsJudged start own new.lab to (Ok reply)) (λ w. subst (λ b. Answers w.trace IsJudged start own reply new.lab to b) (sym open_still) done));
+    obeys = steps_by (Ok reply) (some_all before.told (λ w. ObeyEnds w.trace IsJudged start own new.lab to (Ok reply)) (λ w. subst (λ b. Answers w.trace IsJudged start own reply new.lab to b) (sym open_still) done));
     works = λ _. works;
     limit = limit;
     opened = opened;
-    down = λ closing. not_both (closes reply) closing open_still;
+    down = λ closing. never_both (closes reply) closing open_still;
     device = blames;
     here = here;
     later = later.disk;
@@ -117,7 +110,7 @@ module _ (devices : ℕ) (before now : Seen) (IsJudged : Result Task Reply → T
   pub wants : WereOpen opens to → WantsIn IsJudged start own new.lab to → WorksWith now new to → RunsOn before now → Left (Err faults.Memory)
   wants were done works runs = record {
     to = to;
-    obeys = steps_by (Err faults.Memory) (if_all before.told (λ w. WantsIn IsJudged start own new.lab to) (λ w. done));
+    obeys = steps_by (Err faults.Memory) (some_all before.told (λ w. WantsIn IsJudged start own new.lab to) (λ w. done));
     works = λ _. works;
     limit = limit;
     opened = as_open exp None opens to devices (λ o has. refl) were;
@@ -133,7 +126,7 @@ module _ (devices : ℕ) (before now : Seen) (IsJudged : Result Task Reply → T
   module _ (Is : List Event → LabState → Type 0) (closed : Closes the_texts before.told own Is) (reply : Reply) (behind : List ℕ → List ℕ → List Event)
       (done : (lab : LabState) → Is own lab → (a b : List ℕ) → IsDone IsJudged start (own ++ behind a b) (Some reply) lab Closed) where
     leaves : IfSome before.told (λ w. Leaves w.trace IsJudged start own reply behind)
-    leaves = if_some before.told (λ w. Images the_texts w.trace own (Is own)) (λ w. Leaves w.trace IsJudged start own reply behind)
+    leaves = some_weaker before.told (λ w. Images the_texts w.trace own (Is own)) (λ w. Leaves w.trace IsJudged start own reply behind)
         (λ w images. record { lab = closed.after; done = done closed.after closed.is; images = λ sound a b possible. let i = images sound a b possible in (i.0, i.1, done i.0 i.2 a b) }) closed.images
 
   -- by a reply that blames no device
@@ -141,14 +134,14 @@ module _ (devices : ℕ) (before now : Seen) (IsJudged : Result Task Reply → T
       → ((lab : LabState) → Is own lab → IsDone IsJudged start (own ++ []) (Some reply) lab Closed) → Rose before.faults.disk now.faults.disk → RunsOn before now → Left (Ok reply)
   closed_by were reply closing mild Is closed done rose runs = record {
     to = to;
-    obeys = steps_by (Ok reply) (if_some before.told (λ w. Leaves w.trace IsJudged start own reply (λ a b. [])) (λ w. ObeyEnds w.trace IsJudged start own new.lab to (Ok reply))
+    obeys = steps_by (Ok reply) (some_weaker before.told (λ w. Leaves w.trace IsJudged start own reply (λ a b. [])) (λ w. ObeyEnds w.trace IsJudged start own new.lab to (Ok reply))
         (λ w l. subst (λ b. Answers w.trace IsJudged start own reply new.lab to b) (sym closing) l) (leaves Is closed reply (λ a b. []) (λ lab is a b. done lab is)));
     works = λ going. false_true (subst (λ b. not b ≡ true) closing going);
     limit = limit;
     opened = as_open exp (Some reply) opens to devices (λ o has. shut_ends reply (name_in o) closing) were;
     down = λ _. rose;
-    device = λ blaming. not_both (blames_device reply) blaming mild;
-    here = λ blaming. not_both (blames_device reply) (now_blames reply blaming) mild;
+    device = λ blaming. never_both (blames_device reply) blaming mild;
+    here = λ blaming. never_both (blames_device reply) (now_blames reply blaming) mild;
     later = later.disk;
     still = later.devices;
     stopped = λ ran. (λ h. cc h, λ h. absurd (runs ran h));
@@ -178,7 +171,7 @@ wants_done IsJudged start own lab to (between judged settles to_is) = does (Ok R
 
 -- NOTHING WAS DONE
 sound_still : (told : Option Told) → IfSome told (λ w. IsSound the_texts w.trace → IsSound the_texts (w.trace ++ []))
-sound_still told = if_all told (λ w. IsSound the_texts w.trace → IsSound the_texts (w.trace ++ [])) (λ w sound. subst (λ l. IsSound the_texts l) (sym (append-nil w.trace)) sound)
+sound_still told = some_all told (λ w. IsSound the_texts w.trace → IsSound the_texts (w.trace ++ [])) (λ w sound. subst (λ l. IsSound the_texts l) (sym (append-nil w.trace)) sound)
 
 same_later : (before : Seen) → IsLater before before
 same_later before = record { disk = omega arith; devices = omega arith }
@@ -191,9 +184,9 @@ same_open opens = λ o has. (o, has, refl, refl)
 pub replied : (devices : ℕ) (before : Seen) (IsJudged : Result Task Reply → Type 0) (c : Control) (opens : List OpenSwap) (exp : Option (List ℕ)) (reply : Reply) → WorksWith before c opens → IsMild reply
     → IsDone IsJudged (start_of devices c opens) [] (Some reply) c.lab (Open opens) → Obeyed devices before before IsJudged c c opens exp (Ok reply)
 replied devices before IsJudged c opens exp reply works mild done =
-    goes_on devices before before IsJudged c c opens opens exp [] (nothing_yet before.told) (sound_still before.told) (same_later before) refl reply mild.0 (as_open exp (Some reply) opens opens devices (λ o has. calm_ends reply (name_in o) mild.2) (same_open opens)) done works (λ blaming. not_both (blames_device reply) blaming mild.1)
-    (λ blaming. not_both (blames_device reply) (now_blames reply blaming) mild.1)
-    (λ ran stopped. not_both before.stopped stopped ran)
+    goes_on devices before before IsJudged c c opens opens exp [] (with_steps-nil before.told) (sound_still before.told) (same_later before) refl reply mild.0 (as_open exp (Some reply) opens opens devices (λ o has. calm_ends reply (name_in o) mild.2) (same_open opens)) done works (λ blaming. never_both (blames_device reply) blaming mild.1)
+    (λ blaming. never_both (blames_device reply) (now_blames reply blaming) mild.1)
+    (λ ran stopped. never_both before.stopped stopped ran)
 
 -- a refusal
 pub refuses : (devices : ℕ) (before : Seen) (IsJudged : Result Task Reply → Type 0) (c : Control) (opens : List OpenSwap) (exp : Option (List ℕ)) (reply : Reply) → WorksWith before c opens → IsJudged (Err reply) × IsMild reply
@@ -203,8 +196,8 @@ refuses devices before IsJudged c opens exp reply works is = replied devices bef
 -- memory was wanting
 pub wanted : (devices : ℕ) (before : Seen) (IsJudged : Result Task Reply → Type 0) (c : Control) (opens : List OpenSwap) (exp : Option (List ℕ)) → WorksWith before c opens → Obeyed devices before before IsJudged c c opens exp (Err faults.Memory)
 wanted devices before IsJudged c opens exp works =
-    wants devices before before IsJudged c c opens opens exp [] (nothing_yet before.told) (sound_still before.told) (same_later before) refl (same_open opens) (undone refl refl refl) works
-    (λ ran stopped. not_both before.stopped stopped ran)
+    wants devices before before IsJudged c c opens opens exp [] (with_steps-nil before.told) (sound_still before.told) (same_later before) refl (same_open opens) (undone refl refl refl) works
+    (λ ran stopped. never_both before.stopped stopped ran)
 
 -- WHAT IS JUDGED in other words
 module _ (A B : Result Task Reply → Type 0) (each : (j : Result Task Reply) → A j → B j) where
@@ -237,7 +230,7 @@ module _ (A B : Result Task Reply → Type 0) (each : (j : Result Task Reply) �
         obeys = (
           h.obeys.0,
           h.obeys.1,
-          if_some before.told (λ t. ObeySteps t.trace A start h.obeys.0 new.lab h.to result) (λ t. ObeySteps t.trace B start h.obeys.0 new.lab h.to result)
+          some_weaker before.told (λ t. ObeySteps t.trace A start h.obeys.0 new.lab h.to result) (λ t. ObeySteps t.trace B start h.obeys.0 new.lab h.to result)
               (λ t f. record { ends = ends_by t.trace start h.obeys.0 new.lab h.to result f.ends; sound = f.sound }) h.obeys.2,
         );
         works = h.works;

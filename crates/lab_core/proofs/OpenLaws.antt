@@ -2,12 +2,11 @@
 use Rattle.std.specs.Prelude.{nat_le}
 use Rattle.std.specs.Str.{bytes_eq}
 use Rattle.std.proofs.Common.{◌≡◌, ◌≢◌, ◌⊎◌, inl, inr, ◌≤◌, ℕ, Bool, true, false, cond, List, [], ◌∷◌, ◌++◌, length, Option, Some, Result, Ok, Err, refl, sym, ap, ◌∙◌, subst, arith}
-use Rattle.std.proofs.lemmas.Bool.{cond-false, leb-false, false_from_ne_true}
+use Rattle.std.proofs.lemmas.Bool.{cond-false, leb-false, false_from_ne_true, or_parts}
 use Rattle.std.proofs.lemmas.List.{append-nil, length-append, map-append}
 use Rattle.std.proofs.lemmas.Slice.Eq.{bytes_eq-Decides}
 use Rattle.std.proofs.lemmas.Option.{same_Some}
 use Rattle.lab_base.specs.Lists.{Has, AllDiffer}
-use Rattle.lab_model.proofs.HoldingLaws.{apart_append}
 use Rattle.lab_model.proofs.ListLaws.{apart_drop}
 use Rattle.plant.specs.Events.{Event}
 use Rattle.plant.specs.declared.drill.Drill.{Drill}
@@ -17,6 +16,7 @@ use Rattle.journal_rec.specs.declared.record.Way.{Way}
 use Rattle.records_model.specs.Labs.{LabState}
 use Rattle.recovery.specs.Due.{is_busy}
 use Rattle.lab_base.specs.declared.what.What.TheVariants as whats
+use Rattle.lab_base.proofs.Members.{Apart-append}
 use Rattle.script_text.specs.declared.command.Command.{Command}
 use Rattle.script_text.specs.declared.reply.Reply.{Reply}
 use Rattle.script_text.specs.declared.reply.Reply.TheVariants as replies
@@ -32,7 +32,6 @@ use Rattle.lab_judge.specs.OpenNames.{is_among, name_of}
 use Rattle.lab_core.specs.Tells.{IsOpened, busy_of, opens_of}
 use Rattle.lab_judge.proofs.Fits.{IsFit, fits}
 use Rattle.lab_core.proofs.StepLaws.{Was, done, wanting, broke, drilled, none_told}
-use Rattle.phys_lab.proofs.FaultLaws.{neither}
 
 -- OPEN SWAPS BY NAME, without one of another name, and with it
 pub at_without : (name : List ℕ) (front rest : List OpenSwap) (o : OpenSwap) → name_in o ≢ name → open_at name (front ++ o ∷ rest) ≡ open_at name (front ++ rest)
@@ -156,9 +155,9 @@ others_as_they_were set session command judgement to name other (stands same) = 
 not_busy : (names : List (List ℕ)) (exp name : List ℕ) → is_busy names exp ≡ false → Has names name → name ≢ exp
 not_busy [] exp name idle there = absurd there
 not_busy (n ∷ names) exp name idle (inl same) = λ is.
-    let first = (neither (bytes_eq n exp) (is_busy names exp) idle).0 in
+    let first = (or_parts (bytes_eq n exp) (is_busy names exp) idle).0 in
     (let both : false ≡ true = sym first ∙ (bytes_eq-Decides n exp).1 (same ∙ is) in cc both)
-not_busy (n ∷ names) exp name idle (inr there) = not_busy names exp name (neither (bytes_eq n exp) (is_busy names exp) idle).1 there
+not_busy (n ∷ names) exp name idle (inr there) = not_busy names exp name (or_parts (bytes_eq n exp) (is_busy names exp) idle).1 there
 
 pub names_split : (front rest : List OpenSwap) → names_of (front ++ rest) ≡ names_of front ++ names_of rest
 names_split front rest = map-append name_in front rest
@@ -166,7 +165,7 @@ names_split front rest = map-append name_in front rest
 with_one : (opens : List OpenSwap) (o : OpenSwap) → is_busy (names_of opens) (name_in o) ≡ false → AllDiffer (names_of opens) → AllDiffer (names_of (opens ++ o ∷ []))
 with_one opens o idle differ =
     subst (λ l. AllDiffer l) (sym (names_split opens (o ∷ [])))
-    (apart_append (λ x y. x ≢ y) (names_of opens) (name_in o ∷ []) differ ((λ y h. absurd h), tt)
+    (Apart-append (λ x y. x ≢ y) (names_of opens) (name_in o ∷ []) differ ((λ y h. absurd h), tt)
     (λ x y there last. elim last [ inl same ↦ (λ is. not_busy (names_of opens) (name_in o) x idle there (is ∙ sym same)) | inr none ↦ absurd none ]))
 
 without_one : (front rest : List OpenSwap) (o : OpenSwap) → AllDiffer (names_of (front ++ o ∷ rest)) → AllDiffer (names_of (front ++ rest))

@@ -3,6 +3,7 @@ use Rattle.std.proofs.Common.{◌≡◌, ℕ, Bool, List, length, Option, Some, 
 use Rattle.std.proofs.lemmas.List.{length-map}
 use Rattle.lab_base.specs.Lists.{Has}
 use Rattle.lab_base.proofs.Members.{Has-map, Has-mapped}
+use Rattle.lab_base.proofs.Tests.{same_tests}
 use Rattle.plant.specs.Seen.{Seen}
 use Rattle.recovery.specs.Due.{is_busy}
 use Rattle.script_text.specs.declared.command.Command.{Command}
@@ -17,7 +18,6 @@ use Rattle.lab_judge.specs.OpenNames.{has_open, has_open_for, open_names, is_amo
 use Rattle.lab_judge.specs.Judge.{Task, Judged}
 use Rattle.lab_core.specs.LabSteps.{JudgedBeside}
 use Rattle.lab_core.specs.Sessions.{OpenSwap, name_in, names_of}
-use Rattle.phys_lab.proofs.ForestLaws.{same_test}
 use Rattle.lab_judge.proofs.Busy.{busy_has, busy_open, has_busy, open_busy}
 
 -- THE SESSION HAS THE SAME NAMES, and as many
@@ -38,7 +38,7 @@ module _ (now : Seen) (c : Control) (opens : List OpenSwap) (works : WorksWith n
       subst (λ (n : List ℕ). Has (names_of opens) n) named (Has-mapped name_in opens o.0 o.1)
 
   pub same_busy : (exp : List ℕ) → is_busy (names_of opens) exp ≡ has_open c.swaps exp
-  same_busy exp = same_test (is_busy (names_of opens) exp) (has_open c.swaps exp) (λ h. open_busy c.swaps exp (opens_has exp (busy_has (names_of opens) exp h))) (λ h. has_busy (names_of opens) exp (has_opens exp (busy_open c.swaps exp h)))
+  same_busy exp = same_tests (is_busy (names_of opens) exp) (has_open c.swaps exp) (λ h. open_busy c.swaps exp (opens_has exp (busy_has (names_of opens) exp h))) (λ h. has_busy (names_of opens) exp (has_opens exp (busy_open c.swaps exp h)))
 
   same_among : (exp : Option (List ℕ)) → is_among (names_of opens) exp ≡ is_among (open_names c.swaps) exp
   same_among None = refl

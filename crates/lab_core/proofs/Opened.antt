@@ -9,8 +9,9 @@ use Rattle.journal_rec.specs.declared.record.Record.{Record}
 use Rattle.journal_rec.specs.declared.record.Found.{Found}
 use Rattle.journal_model.specs.Journals.{size}
 use Rattle.lab_model.specs.Sound.{is_moving}
-use Rattle.records_model.specs.Labs.{LabState, Texts, StopsAt, LabOf, at_first}
+use Rattle.records_model.specs.Labs.{LabState, StopsAt, LabOf, at_first}
 use Rattle.plant.specs.declared.step.Side.{Side}
+use Rattle.records_model.proofs.LabLaws.{stops_within}
 use Rattle.journal_disk.specs.Walks.{placed}
 use Rattle.journal_disk.specs.Standing.{side_of, Holds}
 use Rattle.journal_disk.specs.declared.journal.Journal.{Journal}
@@ -37,12 +38,6 @@ pub place_of : (gate : ℕ) (rs : List Record) (n : ℕ) (d : Found) → n < len
 place_of gate [] n d within = absurd (omega (arith, within))
 place_of gate (r ∷ rs) zero d within = omega arith
 place_of gate (r ∷ rs) (suc n) d within = place_of (gate + size r) rs n d (omega (arith, within)) ∙ omega (arith, sum_by-cons size r (take n rs))
-
--- the first record that can't follow is one of them
-pub stops_within : (t : Texts) (s : LabState) (rs : List Record) (n : ℕ) → StopsAt t s rs n → n < length rs
-stops_within t s [] n stops = absurd stops
-stops_within t s (r ∷ rs) zero stops = omega arith
-stops_within t s (r ∷ rs) (suc n) stops = omega (arith, stops_within t stops.0 rs n stops.2)
 
 -- its number is below the length of what was found
 pub bad_within : (founds : List Found) (n : ℕ) → StopsAt the_texts at_first (records_of founds) n → n < length founds

@@ -24,12 +24,13 @@ use Rattle.journal_disk.specs.declared.fault.OpenFault.TheVariants as faults
 use Rattle.journal_runs.specs.Pieces.{has_miss}
 use Rattle.journal_runs.proofs.Alike.{opened_alike}
 use Rattle.journal_runs.proofs.Images.{on_image, reads_on}
-use Rattle.journal_runs.proofs.Quiet.{last_step, opening_quiet, opening_missed, shows}
+use Rattle.journal_runs.proofs.Quiet.{opening_quiet, opening_missed, shows}
 use Rattle.journal_runs.proofs.Sounds.{steps_sound, works_as}
 use Rattle.lab_state.specs.Texts.{the_texts}
 use Rattle.lab_state.specs.Replays.{records_of}
 use Rattle.lab_state.proofs.Canonical.{texts_once}
 use Rattle.records_model.proofs.LabLaws.{lab_sane}
+use Rattle.journal_disk.proofs.LastSteps.{opening_last}
 use Rattle.swap_turns.specs.Running.{Stands}
 use Rattle.swap_turns.proofs.MovesAreSwaps.{lab_swaps}
 use Rattle.lab_core.specs.Controller.{Control, Works}
@@ -81,7 +82,7 @@ opening_changes : (trace steps : List Event) (result : Result (Journal × Vec Fo
 opening_changes trace steps result o changed = by (far_changes (disk A trace).reads (disk B trace).reads o.far o.blank)
   where
     by : (has_change (far_steps o.far) ≡ false) ⊎ (live (head (disk A trace).reads) (head (disk B trace).reads) ≡ New) → live (head (disk A trace).reads) (head (disk B trace).reads) ≡ New
-    by (inl quiet) = absurd (cc (changed, shows is_change steps (far_steps o.far) o.more false false o.steps_are quiet (last_changes o.more (last_step result _ _ o.far o.more o.ends))))
+    by (inl quiet) = absurd (cc (changed, shows is_change steps (far_steps o.far) o.more false false o.steps_are quiet (last_changes o.more (opening_last result _ _ o.far o.more o.ends))))
     by (inr new) = new
 
 -- sides that are blank are a journal without records

@@ -13,11 +13,12 @@ use Rattle.script_text.specs.declared.command.Command.{Command}
 use Rattle.script_text.specs.declared.command.Command.TheVariants as commands
 use Rattle.script_text.specs.declared.reply.Reply.{Reply}
 use Rattle.script_text.specs.declared.reply.Reply.TheVariants.{NoLab, NotOpen, Unknown}
-use Rattle.swap_turns.proofs.Elsewhere.{calm_world, finish_elsewhere, same_world, turn_elsewhere}
+use Rattle.swap_turns.proofs.Elsewhere.{finish_elsewhere, same_world, turn_elsewhere}
 use Rattle.lab_judge.specs.Judge.{Task, Turn, Finish, judged_turn, judged_finish, need_found, need_lab, need_open, ◌>>=◌}
 use Rattle.lab_core.specs.LabSteps.{Does, EndsSwap, IsDoneBy, JudgedBeside, Turns, does, no_memory}
 use Rattle.lab_core.specs.Commands.{LabStep}
 use Rattle.cost_rule.specs.declared.rule.RuleNumber.{RuleNumber}
+use Rattle.journal_runs.proofs.Sounds.{world_stays}
 use Rattle.lab_core.specs.Sessions.{OpenSwap, Open, Setting, After, names_of, Terms}
 use Rattle.lab_judge.specs.OpenNames.{is_among}
 use Rattle.lab_core.specs.Tells.{IsTurnOf}
@@ -49,7 +50,7 @@ module _ (set : Setting) (s : LabState) (opens : List OpenSwap) (exp : List ℕ)
   -- with what stands behind the turn
   with_behind : (steps behind : List Event) → own ≡ steps ++ behind → has_command behind ≡ false → Spares steps → Spares own
   with_behind steps behind own_is calm spares =
-      subst (λ (v : World). SameFor (lab_in s.lab) e w v) (sym (ap (λ (l : List Event). fold world_after w l) own_is ∙ fold-append world_after w steps behind ∙ calm_world behind (fold world_after w steps) calm)) spares
+      subst (λ (v : World). SameFor (lab_in s.lab) e w v) (sym (ap (λ (l : List Event). fold world_after w l) own_is ∙ fold-append world_after w steps behind ∙ world_stays behind (fold world_after w steps) calm)) spares
 
   one_turned : Turns s opens exp own after → Spares own
   one_turned d =

@@ -18,12 +18,12 @@ use Rattle.journal_rec.specs.declared.record.Way.{Way}
 use Rattle.journal_rec.specs.declared.record.Way.TheVariants as ways
 use Rattle.records_model.specs.Labs.{LabState, Move, Says, SetLab, Creates, Deletes, BeginsIn, BeginsOut, BeginsChange, Commits, Aborts, find, others, becomes, is_out, deleted, moved_one, moved_in, moved_of, moved}
 use Rattle.records_model.proofs.Finding.{none_some, found_from}
-use Rattle.claims.proofs.Matching.{not_eq}
 use Rattle.lab_state.specs.Texts.{the_texts}
 use Rattle.records_model.proofs.LabLaws.{in_state-some, with_replaced-some, found_one}
 use Rattle.records_model.proofs.Swaps.{find_others}
 use Rattle.lab_base.specs.Lists.{Has, listed}
 use Rattle.lab_base.proofs.Members.{Has-left, Has-right, Has-flat_map}
+use Rattle.lab_base.proofs.Bytes.{bytes_other}
 use Rattle.lab_model.specs.Sound.{is_moving}
 use Rattle.recovery.specs.Due.{due, is_busy, swap_if, swaps_of}
 use Rattle.swap_turns.specs.Swaps.{Swap, Moves}
@@ -43,7 +43,7 @@ use Rattle.lab_core.specs.Tells.{IsAtRest}
 
 -- ---- lists of experiments
 find_added : (name : List ℕ) (es : List Experiment) (e : Experiment) → e.name ≢ name → find name (es ++ e ∷ []) ≡ find name es
-find_added name [] e apart = cond-false (bytes_eq e.name name) (Some e) None (not_eq e.name name apart)
+find_added name [] e apart = cond-false (bytes_eq e.name name) (Some e) None (bytes_other e.name name apart)
 find_added name (x ∷ es) e apart = ap (λ o. cond (bytes_eq x.name name) (Some x) o) (find_added name es e apart)
 
 find_without : (own name : List ℕ) (es : List Experiment) → own ≢ name → find name (others own es) ≡ find name es
@@ -52,7 +52,7 @@ find_without own name (x ∷ es) apart = elim (cases_Bool (bytes_eq x.name own))
   | inl yes' ↦
       let x_is : x.name ≡ own = (bytes_eq-Decides x.name own).0 yes' in
       ap (λ l. find name l) (cond-true (bytes_eq x.name own) es (x ∷ others own es) yes')
-      ∙ sym (cond-false (bytes_eq x.name name) (Some x) (find name es) (not_eq x.name name (λ same. apart (sym x_is ∙ same))))
+      ∙ sym (cond-false (bytes_eq x.name name) (Some x) (find name es) (bytes_other x.name name (λ same. apart (sym x_is ∙ same))))
   | inr no' ↦
       ap (λ l. find name l) (cond-false (bytes_eq x.name own) es (x ∷ others own es) no')
       ∙ ap (λ o. cond (bytes_eq x.name name) (Some x) o) (find_without own name es apart)

@@ -39,6 +39,7 @@ use Rattle.swap_turns.proofs.Keeping.{record_keeps}
 use Rattle.swap_mgr.proofs.GoingOn.{all_stay}
 use Rattle.swap_txn.specs.declared.live.Live.{Live}
 use Rattle.lab_base.specs.Lists.{Has}
+use Rattle.lab_base.proofs.Tests.{never_both}
 use Rattle.swap_turns.proofs.MovesAreSwaps.{moved_swaps}
 use Rattle.swap_turns.proofs.Telling.{if_some_is, if_told}
 use Rattle.lab_core.specs.Breaks.{Breaks, stopped, failed}
@@ -49,7 +50,7 @@ use Rattle.lab_core.specs.Obey.{start_of, IsDone, Obeyed}
 use Rattle.lab_core.specs.Perform.{append_answer}
 use Rattle.lab_core.specs.Sessions.{OpenSwap, Setting, Session, Closed, Open, After, name_in}
 use Rattle.lab_judge.specs.Tasks.{CanAppend}
-use Rattle.lab_core.proofs.Obey.{RunsOn, as_open, calm_ends, closed_by, goes_on, halted, not_both, now_blames, replied, same_open}
+use Rattle.lab_core.proofs.Obey.{RunsOn, as_open, calm_ends, closed_by, goes_on, halted, now_blames, replied, same_open}
 use Rattle.lab_core.proofs.OpenSwaps.{since_later}
 use Rattle.lab_core.proofs.Others.{record_leaves}
 
@@ -226,7 +227,7 @@ module _ (devices : ℕ) (exp : Option (List ℕ)) (before now : Seen) (c new : 
   pub left : (a : Result (Unit {0}) AppendFault) → answer ≡ a → OnOk a (new.lab ≡ state) → Obeyed devices before now Judges c new opens exp (append_answer reply a)
   left (Ok ok) is lab =
       goes_on devices before now Judges c new opens opens exp own writes.appends.trace sound later writes.limit reply can.mild.0 (as_open exp (Some reply) opens opens devices (λ o has. calm_ends reply (name_in o) can.mild.2) (same_open opens)) (done ok is lab) (works_in ok is lab)
-      (λ blaming. not_both _ blaming can.mild.1) (λ blaming. not_both _ (now_blames reply blaming) can.mild.1) (runs (Ok ok) is (λ h. cc h))
+      (λ blaming. never_both _ blaming can.mild.1) (λ blaming. never_both _ (now_blames reply blaming) can.mild.1) (runs (Ok ok) is (λ h. cc h))
   left (Err appending.Plant) is lab =
       let ends = ends_as (Err appending.Plant) is in
       let all : own ++ [] ≡ own = append-nil own in

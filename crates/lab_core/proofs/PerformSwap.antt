@@ -15,6 +15,7 @@ use Rattle.virt_topo.specs.declared.mapping.Mapped.{Mapped}
 use Rattle.journal_disk.specs.Standing.{limit_of}
 use Rattle.lab_base.specs.declared.what.What.{What}
 use Rattle.lab_base.specs.declared.what.What.TheVariants as whats
+use Rattle.lab_base.proofs.Tests.{never_both}
 use Rattle.lab_model.specs.Courses.{Trouble as AnyTrouble, Device, Late, Unlawful}
 use Rattle.records_model.specs.Labs.{LabState}
 use Rattle.records_model.specs.Works.{IsSound}
@@ -38,7 +39,7 @@ use Rattle.lab_judge.specs.Judge.{Task}
 use Rattle.lab_core.specs.LabSteps.{done_reply, end_session, turn_reply, undone_end}
 use Rattle.lab_core.specs.Obey.{start_of, IsDone, Obeyed}
 use Rattle.lab_core.specs.Sessions.{OpenSwap, Session, Closed, Open, HasRisenBy, WereOpen, blames_now, counted_from, ends_swap, name_in}
-use Rattle.lab_core.proofs.Obey.{as_open, closed_by, false_true, goes_on, halted, not_both, now_blames}
+use Rattle.lab_core.proofs.Obey.{as_open, closed_by, false_true, goes_on, halted, now_blames}
 use Rattle.lab_core.proofs.Told.{IsAnswer, Halts}
 
 -- replies that blame no device, and those that leave the controller open
@@ -159,7 +160,7 @@ module _ (devices : ℕ) (before now : Seen) (IsJudged : Result Task Reply → T
       answered (TurnsBack why) reply result is refl (on (TurnsBack why) reply (λ o has. refl) refl refl refl refl (trouble_blames p.name why _ now.faults.devices cause) (trouble_now p.name why before now here) leads running)
   by_outcome (Ended Forth) leads cause here stop running result is =
       let mild = done_mild p.name p.new in
-      answered (Ended Forth) (done_reply p.name p.new) result is refl (on (Ended Forth) (done_reply p.name p.new) (λ o has. done_ends p.name p.new (name_in o) (apart_bytes (name_in o) p.name ((were (Ended Forth)).1 tt o has))) mild.0 refl refl refl (λ blaming. not_both _ blaming mild.1) (λ blaming. not_both _ (now_blames (done_reply p.name p.new) blaming) mild.1) leads running)
+      answered (Ended Forth) (done_reply p.name p.new) result is refl (on (Ended Forth) (done_reply p.name p.new) (λ o has. done_ends p.name p.new (name_in o) (apart_bytes (name_in o) p.name ((were (Ended Forth)).1 tt o has))) mild.0 refl refl refl (λ blaming. never_both _ blaming mild.1) (λ blaming. never_both _ (now_blames (done_reply p.name p.new) blaming) mild.1) leads running)
   by_outcome (Ended (Undo why)) leads cause here stop running result is =
       let reply = replies.Failed p.name (undone_end p.old) (what_of why) in
       answered (Ended (Undo why)) reply result is refl (on (Ended (Undo why)) reply (λ o has. failed_ends p.name (undone_end p.old) why (name_in o) (apart_bytes (name_in o) p.name ((were (Ended (Undo why))).1 tt o has))) (failed_goes p.name (undone_end p.old) why) refl refl refl (failed_blames p.name (undone_end p.old) why _ now.faults.devices cause) (λ blaming. undone_not p.name p.old (what_of why) blaming) leads running)

@@ -5,6 +5,7 @@ use Rattle.std.proofs.lemmas.List.{append-nil}
 use Rattle.std.proofs.lemmas.Option.{same_Some}
 use Rattle.lab_base.specs.Lists.{Has, listed}
 use Rattle.lab_base.proofs.Members.{Has-flat_map, Has-left}
+use Rattle.lab_base.proofs.Tests.{same_tests, never_both}
 use Rattle.plant.specs.Events.{Event, Restarted}
 use Rattle.plant.specs.Seen.{Seen}
 use Rattle.virt_topo.specs.declared.experiment.Experiment.{Experiment}
@@ -39,16 +40,15 @@ use Rattle.lab_core.specs.Obey.{start_of, IsDone, Obeyed, between}
 use Rattle.lab_core.specs.Perform.{recover_answer}
 use Rattle.lab_core.specs.Recovery.{settled, broken_off, within}
 use Rattle.lab_core.specs.Sessions.{OpenSwap, Closed, names_of}
-use Rattle.lab_core.proofs.Obey.{RunsOn, as_open, closed_by, false_true, goes_on, halted, not_both, same_open, wants}
+use Rattle.lab_core.proofs.Obey.{RunsOn, as_open, closed_by, false_true, goes_on, halted, same_open, wants}
 use Rattle.lab_core.proofs.OpenSwaps.{Pair, since_later}
-use Rattle.phys_lab.proofs.ForestLaws.{same_test}
 use Rattle.lab_judge.proofs.Busy.{busy_has, has_busy}
 use Rattle.lab_core.proofs.OpenNames.{has_opens, opens_has}
 
 -- ---- busy names
 -- the same names are busy
 busy_same : (xs ys : List (List ℕ)) → ((name : List ℕ) → Has xs name → Has ys name) → ((name : List ℕ) → Has ys name → Has xs name) → (name : List ℕ) → is_busy xs name ≡ is_busy ys name
-busy_same xs ys to from name = same_test (is_busy xs name) (is_busy ys name) (λ h. has_busy ys name (to name (busy_has xs name h))) (λ h. has_busy xs name (from name (busy_has ys name h)))
+busy_same xs ys to from name = same_tests (is_busy xs name) (is_busy ys name) (λ h. has_busy ys name (to name (busy_has xs name h))) (λ h. has_busy xs name (from name (busy_has ys name h)))
 
 swaps_same : (xs ys : List (List ℕ)) → ((name : List ℕ) → is_busy xs name ≡ is_busy ys name) → (es : List Experiment) → swaps_of xs es ≡ swaps_of ys es
 swaps_same xs ys same [] = refl
@@ -89,7 +89,7 @@ module _ (devices : ℕ) (exp : Option (List ℕ)) (before now : Seen) (old new 
   -- each open swap is open still
   apart : (q : Pair) → Has works.pairs q → (p : Swap) → is_busy busy p.name ≡ false → q.0.swap.name ≢ p.name
   apart q has p idle is =
-      not_both (is_busy busy p.name)
+      never_both (is_busy busy p.name)
       (has_busy busy p.name (subst (λ (n : List ℕ). Has busy n) (named_open old.lab q.0 q.1 (works.working.each q has) ∙ is) (names.each q.1 (works.holds.stands q has)))) idle
 
   works_by : (swaps : List Swap) (outcomes : List Outcome) → ((p : Swap) → Has swaps p → is_busy busy p.name ≡ false) → HasSettled the_texts old.lab swaps before now new.journal outcomes new.lab → WorksWith now new opens

@@ -20,6 +20,7 @@ use Rattle.records_model.specs.Labs.{LabState, Move, Sane, Says, Follows, moved}
 use Rattle.records_model.specs.Works.{IsSound}
 use Rattle.std.specs.Prelude.{count_by}
 use Rattle.std.proofs.lemmas.List.Sums.{count_by-le-length}
+use Rattle.plant.proofs.Traces.{with_steps-append}
 use Rattle.journal_model.specs.Journals.{size}
 use Rattle.lab_model.specs.Sound.{is_moving}
 use Rattle.records_model.proofs.LabLaws.{follows_sane, says_once}
@@ -39,7 +40,7 @@ use Rattle.swap_turns.specs.Closing.{Closes}
 use Rattle.swap_turns.specs.Legs.{Forth, Undo, Settling}
 use Rattle.swap_turns.proofs.Closing.{closes_behind}
 use Rattle.swap_turns.proofs.Pushing.{rose_later}
-use Rattle.swap_turns.proofs.Telling.{if_back, if_both, told_twice}
+use Rattle.swap_turns.proofs.Telling.{if_back, if_both}
 use Rattle.swap_mgr.specs.Managing.{HasOpened, IfNothingSent, IfSent, IsAfterOpening, IsStopOpening}
 use Rattle.swap_mgr.specs.declared.progress.NotOpened.{NotOpened}
 use Rattle.swap_mgr.specs.declared.progress.NotOpened.TheVariants as unopened
@@ -267,7 +268,7 @@ module _ (devices : ℕ) (before mid now : Seen) (old between new : Control) (op
   all_steps = h.begun.steps ++ end_steps
 
   all_told : now.told ≡ with_steps before.told all_steps
-  all_told = f.end.finished.told ∙ ap (λ (t : Option Told). with_steps t end_steps) h.begun.told ∙ told_twice before.told h.begun.steps end_steps
+  all_told = f.end.finished.told ∙ ap (λ (t : Option Told). with_steps t end_steps) h.begun.told ∙ with_steps-append before.told h.begun.steps end_steps
 
   all_sound : IfSome before.told (λ w. IsSound the_texts w.trace → IsSound the_texts (w.trace ++ all_steps))
   all_sound = if_both before.told (λ w. IsSound the_texts w.trace → IsSound the_texts (w.trace ++ h.begun.steps)) (λ w. IsSound the_texts (w.trace ++ h.begun.steps) → IsSound the_texts ((w.trace ++ h.begun.steps) ++ end_steps))

@@ -2,6 +2,7 @@
 use Rattle.std.proofs.Common.{◌≡◌, ◌⊎◌, inl, inr, ◌≤◌, ◌+◌, ℕ, Bool, true, false, not, ◌||◌, List, [], ◌∷◌, ◌++◌, Option, Some, None, Result, Ok, Err, refl, sym, ap, ◌∙◌, subst, arith}
 use Rattle.std.specs.List.{list_any}
 use Rattle.std.proofs.lemmas.Bool.{cases_Bool}
+use Rattle.std.proofs.Math.Bool.{or-true}
 use Rattle.lab_base.specs.Lists.{Has}
 use Rattle.lab_base.specs.Counts.{Rose}
 use Rattle.lab_base.proofs.Members.{Has-mapped}
@@ -43,12 +44,8 @@ any_either test told reply is =
       | inr no' ↦ inr (sym (ap (λ b. b || test reply) no') ∙ either)
     ]
 
-or_true : (b : Bool) → (b || true) ≡ true
-or_true true = refl
-or_true false = refl
-
 any_last : (test : Reply → Bool) (told : List Reply) (reply : Reply) → test reply ≡ true → list_any test (told ++ reply ∷ []) ≡ true
-any_last test told reply is = any_more test told reply ∙ ap (λ b. list_any test told || b) is ∙ or_true (list_any test told)
+any_last test told reply is = any_more test told reply ∙ ap (λ b. list_any test told || b) is ∙ or-true (list_any test told)
 
 pub tells : (rule : RuleNumber) (moment : ℕ) → TellsAll (runs_in_turn rule moment)
 tells rule moment = record {

@@ -1,10 +1,12 @@
 -- The state behind `open`: behind reading, the settling of all that moves, and the move of the journal.
 use Rattle.std.proofs.Common.{◌≡◌, inl, inr, ℕ, true, false, List, [], ◌++◌, Option, Some, None, Result, Ok, Err, IfOk, IfSome, refl, sym, ap, subst, ◌∙◌, append_assoc}
 use Rattle.std.proofs.lemmas.List.{append-nil}
+use Rattle.lab_base.proofs.Tests.{some_weaker}
 use Rattle.plant.specs.Events.{Event}
 use Rattle.plant.specs.Seen.{Seen}
 use Rattle.plant.specs.Told.{Told, with_steps}
 use Rattle.plant.specs.declared.step.Side.{Side}
+use Rattle.plant.proofs.Traces.{with_steps-append}
 use Rattle.records_model.specs.Labs.{LabState}
 use Rattle.records_model.specs.Works.{IsSound}
 use Rattle.journal_disk.specs.Epochs.{epoch_of}
@@ -22,7 +24,7 @@ use Rattle.swap_turns.specs.Showing.{Shows}
 use Rattle.swap_turns.specs.Turning.{Outcome, Unwritten, Stopped}
 use Rattle.swap_turns.proofs.Closing.{Images, closes_behind}
 use Rattle.swap_turns.proofs.Showing.{settles_show, broken_shows}
-use Rattle.swap_turns.proofs.Telling.{if_some, if_back, told_twice}
+use Rattle.swap_turns.proofs.Telling.{if_back}
 use Rattle.recovery.specs.Due.{swaps_of}
 use Rattle.lab_core.specs.Controller.{Control, Works}
 use Rattle.lab_core.specs.Moments.{AllStandFor, IsLabAt}
@@ -37,7 +39,7 @@ not_read limit before now fault read = (
   read.0,
   [],
   read.1 ∙ ap (λ l. with_steps before l) (sym (append-nil read.0)),
-  if_some before (λ t. ReadSteps t.trace read.0 × ReadEnds t.trace read.0 limit (Err fault)) (λ t. OpenSteps t.trace read.0 [] limit (Err fault))
+  some_weaker before (λ t. ReadSteps t.trace read.0 × ReadEnds t.trace read.0 limit (Err fault)) (λ t. OpenSteps t.trace read.0 [] limit (Err fault))
       (λ t r. record { reads = r.0; no_outer = refl; ends = inl (refl, r.1); sound = λ before. subst (λ l. IsSound the_texts (t.trace ++ l)) (sym (append-nil read.0)) (r.0.sound before) }) read.2,
 )
 
@@ -51,7 +53,7 @@ module _ (limit : ℕ) (before mid now : Seen) (c : Control) (read : ReadTold be
   put moving result told quiet sound ends = (
     read.0,
     moving,
-    told ∙ ap (λ o. with_steps o moving) read.1 ∙ told_twice before.told read.0 moving,
+    told ∙ ap (λ o. with_steps o moving) read.1 ∙ with_steps-append before.told read.0 moving,
     by before.told read.2 (if_back before.told mid.told read.0 (λ l. IsSound the_texts l → IsSound the_texts (l ++ moving)) read.1 sound) ends,
   )
     where
@@ -67,8 +69,8 @@ module _ (limit : ℕ) (before mid now : Seen) (c : Control) (read : ReadTold be
   in_part : (outcome : Outcome) → (h : HasBrokenOff the_texts c.lab (swaps_of [] c.lab.experiments) mid now outcome) → IfSome before.told (λ t. HasRead t.trace read.0 limit c.lab → SettlesInPart t.trace read.0 h.steps limit outcome)
   in_part outcome h =
       let closed = closes_behind the_texts before.told mid.told read.0 h.steps (Broken outcome) (λ steps lab. Broken outcome h.steps lab) read.1
-      (if_some before.told (λ t. ReadSteps t.trace read.0 × HasRead t.trace read.0 limit c.lab) (λ t. IsSound the_texts t.trace → IsSound the_texts (t.trace ++ read.0)) (λ t r. r.0.sound) read.2) (λ lab broken. broken) h.leaves in
-      if_some before.told (λ t. Images the_texts t.trace (read.0 ++ h.steps) (λ lab. Broken outcome h.steps lab)) (λ t. HasRead t.trace read.0 limit c.lab → SettlesInPart t.trace read.0 h.steps limit outcome)
+      (some_weaker before.told (λ t. ReadSteps t.trace read.0 × HasRead t.trace read.0 limit c.lab) (λ t. IsSound the_texts t.trace → IsSound the_texts (t.trace ++ read.0)) (λ t r. r.0.sound) read.2) (λ lab broken. broken) h.leaves in
+      some_weaker before.told (λ t. Images the_texts t.trace (read.0 ++ h.steps) (λ lab. Broken outcome h.steps lab)) (λ t. HasRead t.trace read.0 limit c.lab → SettlesInPart t.trace read.0 h.steps limit outcome)
       (λ t images has_read. record { start = c.lab; read = has_read; lab = closed.after; breaks = closed.is; images = images }) closed.images
 
   -- THE SETTLING BROKE OFF, by its answer
@@ -76,17 +78,17 @@ module _ (limit : ℕ) (before mid now : Seen) (c : Control) (read : ReadTold be
   then_broken faults.Memory (journal, lab, first) =
       let h = first.has in
       put h.steps (Err faults.Memory) h.told (settles_show _ _ _ h.steps lab h.settled).outer h.sound
-      (if_some before.told (λ t. Stands the_texts (t.trace ++ (read.0 ++ h.steps)) journal lab) (λ t. HasRead t.trace read.0 limit c.lab → OpenEnds t.trace read.0 h.steps limit (Err faults.Memory))
+      (some_weaker before.told (λ t. Stands the_texts (t.trace ++ (read.0 ++ h.steps)) journal lab) (λ t. HasRead t.trace read.0 limit c.lab → OpenEnds t.trace read.0 h.steps limit (Err faults.Memory))
       (λ t stands has_read. inr (inl (record { start = c.lab; read = has_read; lab = lab; some = record { past = first.past; rest = first.rest; all = first.all; outcomes = first.outcomes; settles = h.settled }; at = lab_at _ journal stands.records lab stands.at stands.lab_of; images = all_at _ journal stands.records lab stands.at stands.lab_of })))
-      (if_back before.told now.told (read.0 ++ h.steps) (λ l. Stands the_texts l journal lab) (h.told ∙ ap (λ o. with_steps o h.steps) read.1 ∙ told_twice before.told read.0 h.steps) h.work.stands))
+      (if_back before.told now.told (read.0 ++ h.steps) (λ l. Stands the_texts l journal lab) (h.told ∙ ap (λ o. with_steps o h.steps) read.1 ∙ with_steps-append before.told read.0 h.steps) h.work.stands))
   then_broken faults.Plant h =
       let shows = broken_shows _ _ h.steps Unwritten h.leaves.after h.leaves.is in
       put h.steps (Err faults.Plant) h.told shows.outer h.sound
-      (if_some before.told (λ t. HasRead t.trace read.0 limit c.lab → SettlesInPart t.trace read.0 h.steps limit Unwritten) (λ t. HasRead t.trace read.0 limit c.lab → OpenEnds t.trace read.0 h.steps limit (Err faults.Plant))
+      (some_weaker before.told (λ t. HasRead t.trace read.0 limit c.lab → SettlesInPart t.trace read.0 h.steps limit Unwritten) (λ t. HasRead t.trace read.0 limit c.lab → OpenEnds t.trace read.0 h.steps limit (Err faults.Plant))
       (λ t part has_read. inr (inl (shows.miss_is, part has_read))) (in_part Unwritten h))
   then_broken faults.Stopped h =
       put h.steps (Err faults.Stopped) h.told (broken_shows _ _ h.steps Stopped h.leaves.after h.leaves.is).outer h.sound
-      (if_some before.told (λ t. HasRead t.trace read.0 limit c.lab → SettlesInPart t.trace read.0 h.steps limit Stopped) (λ t. HasRead t.trace read.0 limit c.lab → OpenEnds t.trace read.0 h.steps limit (Err faults.Stopped))
+      (some_weaker before.told (λ t. HasRead t.trace read.0 limit c.lab → SettlesInPart t.trace read.0 h.steps limit Stopped) (λ t. HasRead t.trace read.0 limit c.lab → OpenEnds t.trace read.0 h.steps limit (Err faults.Stopped))
       (λ t part has_read. inr (inl (part has_read))) (in_part Stopped h))
   then_broken (faults.Bad side at) h = absurd h
 
@@ -106,10 +108,10 @@ module _ (limit : ℕ) (before mid now : Seen) (c : Control) (read : ReadTold be
     j = settled.journal
 
     now_told : now.told ≡ with_steps before.told (read.0 ++ moving)
-    now_told = after.1.has.told ∙ ap (λ o. with_steps o moving) read.1 ∙ told_twice before.told read.0 moving
+    now_told = after.1.has.told ∙ ap (λ o. with_steps o moving) read.1 ∙ with_steps-append before.told read.0 moving
 
     last_told : last ≡ with_steps before.told all
-    last_told = move.1 ∙ ap (λ o. with_steps o shifting) now_told ∙ told_twice before.told (read.0 ++ moving) shifting ∙ ap (λ l. with_steps before.told l) (append_assoc read.0 moving shifting)
+    last_told = move.1 ∙ ap (λ o. with_steps o shifting) now_told ∙ with_steps-append before.told (read.0 ++ moving) shifting ∙ ap (λ l. with_steps before.told l) (append_assoc read.0 moving shifting)
 
     module _ (t : Told) (r : ReadSteps t.trace read.0 × HasRead t.trace read.0 limit c.lab) (first : Stands the_texts (t.trace ++ read.0) c.journal c.lab)
         (then : Stands the_texts (t.trace ++ (read.0 ++ moving)) j settled.lab) (m : MoveSteps (t.trace ++ (read.0 ++ moving)) shifting settled.lab j result)

@@ -1,9 +1,10 @@
 -- A reading that was not answered, over a controller at work: it changes nothing but what is told.
-use Rattle.std.proofs.Common.{◌≡◌, ℕ, ◌≤◌, ◌+◌, List, [], ◌∷◌, ◌++◌, length, map, true, false, Option, Some, None, Ok, Err, refl, sym, ap, ◌∙◌, subst, arith, inl, inr, length-append}
+use Rattle.std.proofs.Common.{◌≡◌, ℕ, ◌≤◌, ◌+◌, List, [], ◌∷◌, ◌++◌, length, map, true, false, Option, Some, None, Ok, Err, refl, sym, ◌∙◌, subst, arith, inl, inr, length-append}
 use Rattle.std.specs.Prelude.{IfSome}
 use Rattle.std.proofs.lemmas.Bool.{cases_lt}
 use Rattle.std.proofs.lemmas.List.{append-nil, take-append-le, take_all}
 use Rattle.lab_base.specs.Counts.{Rose}
+use Rattle.lab_base.proofs.Tests.{never_both, some_all}
 use Rattle.plant.specs.Disks.{Disk, disk, ArePossible}
 use Rattle.plant.specs.Events.{Event, Unread}
 use Rattle.plant.specs.Seen.{Seen}
@@ -11,10 +12,10 @@ use Rattle.plant.specs.Told.{Told, with_steps}
 use Rattle.plant.specs.Worlds.{World, world_of}
 use Rattle.plant.specs.declared.step.Side.{Side}
 use Rattle.plant.specs.declared.step.Side.TheVariants.{A, B}
+use Rattle.plant.proofs.Traces.{disk_push, unread_disk, with_steps-nil}
 use Rattle.journal_rec.specs.declared.record.Record.{Record}
 use Rattle.journal_model.specs.Appends.{Opened, Rests, other_side}
 use Rattle.journal_model.specs.Journals.{Headed, gate_after, head}
-use Rattle.journal_model.proofs.Traces.{disk_push}
 use Rattle.journal_disk.specs.Epochs.{HasEpoch}
 use Rattle.journal_disk.specs.Standing.{side_of}
 use Rattle.journal_disk.specs.declared.journal.Journal.{Journal}
@@ -47,13 +48,8 @@ use Rattle.lab_core.specs.Obey.{AnswersBy, Doing, ObeysCommand, StepsBy, Wanting
 use Rattle.lab_core.specs.Sessions as sessions
 use Rattle.lab_core.specs.Sessions.{blames_now, name_in, open_by}
 use Rattle.lab_judge.specs.Tasks.{tells_end}
-use Rattle.lab_core.proofs.Obey.{as_open, calm_ends, false_true, if_all, not_both, same_open}
+use Rattle.lab_core.proofs.Obey.{as_open, calm_ends, false_true, same_open}
 use Rattle.lab_core.proofs.OpenSwaps.{risen_later}
-
--- the sides and the world are as they were
-unread_disk : (side : Side) (trace : List Event) (device : List ℕ) → disk side (trace ++ Unread device ∷ []) ≡ disk side trace
-unread_disk A trace device = disk_push A trace (Unread device)
-unread_disk B trace device = disk_push B trace (Unread device)
 
 -- a sound trace stays sound
 pub unread_sound : (t : Texts) (trace : List Event) (device : List ℕ) → IsSound t trace → IsSound t (trace ++ Unread device ∷ [])
@@ -133,13 +129,9 @@ working_unread t told device j s pairs h = record {
   running = λ o has. unread_told told device (λ l. IsSound t l → RunsIn s o.0 l) (λ l r sound. runs_unread t l device s o.0 o.1 (h.each o has) r sound) (h.running o has);
 }
 
-no_more : (o : Option Told) → o ≡ with_steps o []
-no_more None = refl
-no_more (Some w) = ap (λ (l : List Event). Some (record w { trace = l })) (sym (append-nil w.trace))
-
 working_by : (t : Texts) (told now : Option Told) (unread : Option (List ℕ)) (j : Journal) (s : LabState) (pairs : List (OpenSwap × Live)) → now ≡ with_steps told (steps_of unread) → Working t told j s pairs → Working t now j s pairs
 working_by t told now (Some device) j s pairs is h = subst (λ (o : Option Told). Working t o j s pairs) (sym is) (working_unread t told device j s pairs h)
-working_by t told now None j s pairs is h = subst (λ (o : Option Told). Working t o j s pairs) (no_more told ∙ sym is) h
+working_by t told now None j s pairs is h = subst (λ (o : Option Told). Working t o j s pairs) (with_steps-nil told ∙ sym is) h
 
 -- IT WORKS ON, with the same open swaps
 pub reads_work : (before now : Seen) (unread : Option (List ℕ)) (c : Control) (opens : List sessions.OpenSwap) → Reads before now unread → WorksWith before c opens → WorksWith now c opens
@@ -166,7 +158,7 @@ module _ (rule : RuleNumber) (devices : ℕ) (before now : Seen) (unread : Optio
   Wants = wants_of_command rule commands.Audit devices c opens
 
   runs_on_still : (of : Option (List ℕ)) → Reads before now of → before.stopped ≡ false → now.stopped ≡ true → ⊥
-  runs_on_still of r ran halt = not_both now.stopped halt (r.stopped ∙ ran)
+  runs_on_still of r ran halt = never_both now.stopped halt (r.stopped ∙ ran)
 
   pub audit_answered : (reply : Reply) → closes reply ≡ false → tells_end reply ≡ false → (blames_device reply ≡ true → Rose devices now.faults.devices)
       → (blames_now reply ≡ true → Rose before.faults.devices now.faults.devices) → Reads before now unread
@@ -183,7 +175,7 @@ module _ (rule : RuleNumber) (devices : ℕ) (before now : Seen) (unread : Optio
     works = λ _. reads_work before now unread c opens r works;
     limit = refl;
     opened = as_open None (Some reply) opens opens devices (λ o has. calm_ends reply (name_in o) no_end) (same_open opens);
-    down = λ closing. not_both (closes reply) closing open_still;
+    down = λ closing. never_both (closes reply) closing open_still;
     device = blamed;
     here = here;
     later = omega (arith, r.disk);
@@ -194,7 +186,7 @@ module _ (rule : RuleNumber) (devices : ℕ) (before now : Seen) (unread : Optio
   pub audit_wanted : Reads before now None → ObeysCommand rule commands.Audit devices before now c c opens (Err faults.Memory)
   audit_wanted r = record {
     to = opens;
-    obeys = ([], r.told, if_all before.told (λ w. StepsBy Done Wants w.trace [] c.lab opens (Err faults.Memory)) (λ w. record { ends = (refl, refl, refl); sound = λ sound. subst (λ l. IsSound the_texts l) (sym (append-nil w.trace)) sound }));
+    obeys = ([], r.told, some_all before.told (λ w. StepsBy Done Wants w.trace [] c.lab opens (Err faults.Memory)) (λ w. record { ends = (refl, refl, refl); sound = λ sound. subst (λ l. IsSound the_texts l) (sym (append-nil w.trace)) sound }));
     works = λ _. reads_work before now None c opens r works;
     limit = refl;
     opened = as_open None None opens opens devices (λ o has. refl) (same_open opens);
@@ -210,8 +202,8 @@ module _ (rule : RuleNumber) (devices : ℕ) (before now : Seen) (c : Control) (
   -- THERE IS NO LAB
   pub audit_no_lab : c.lab.lab ≡ None → ObeysCommand rule commands.Audit devices before before c c opens (Ok replies.NoLab)
   audit_no_lab none = audit_answered rule devices before before None c opens works replies.NoLab refl refl (λ h. false_true h) (λ h. false_true h)
-      (record { told = no_more before.told; disk = refl; later = omega arith; failed = tt; stopped = refl })
-      (if_all before.told (λ w. Audits (world_of w.trace) c.lab opens [] (open_by replies.NoLab c.lab opens)) (λ w. lab_missing none (record { nothing = refl; after_is = refl })))
+      (record { told = with_steps-nil before.told; disk = refl; later = omega arith; failed = tt; stopped = refl })
+      (some_all before.told (λ w. Audits (world_of w.trace) c.lab opens [] (open_by replies.NoLab c.lab opens)) (λ w. lab_missing none (record { nothing = refl; after_is = refl })))
 
   -- all readings were answered
   pub audit_tells : (report : List Line) → Reads before now None
@@ -227,5 +219,5 @@ module _ (rule : RuleNumber) (devices : ℕ) (before now : Seen) (c : Control) (
   pub audit_broken : devices ≤ before.faults.devices → (fault : AuditFault) → Reads before now (unread_in fault) → ObeysCommand rule commands.Audit devices before now c c opens (broken_by fault)
   audit_broken within (broken.Unread name) r = audit_answered rule devices before now (Some name) c opens works (replies.Unread name) refl refl
       (λ h. rose_later devices before.faults.devices now.faults.devices now.faults.devices within r.failed (omega arith)) (λ h. r.failed) r
-      (if_all before.told (λ w. Audits (world_of w.trace) c.lab opens (Unread name ∷ []) (open_by (replies.Unread name) c.lab opens)) (λ w. one_unread name refl refl))
+      (some_all before.told (λ w. Audits (world_of w.trace) c.lab opens (Unread name ∷ []) (open_by (replies.Unread name) c.lab opens)) (λ w. one_unread name refl refl))
   audit_broken within broken.Memory r = audit_wanted rule devices before now None c opens works r

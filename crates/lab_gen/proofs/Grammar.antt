@@ -5,9 +5,10 @@ use Rattle.std.specs.List.{flat_map}
 use Rattle.lab_io.specs.Lines.{script_lines}
 use Rattle.script_text.specs.declared.command.Command.{Command}
 use Rattle.script_text.specs.declared.command.Command.TheVariants as commands
-use Rattle.script_text.specs.Commands.{AreCommands, AtEnd, Whole, IsScript, Lines, behind, block, next_of, Got}
+use Rattle.script_text.specs.Commands.{AreCommands, AtEnd, IsScript, Lines, behind, block, next_of, Got}
 use Rattle.script_text.specs.Taking.{joined, known}
 use Rattle.script_text.proofs.Taken.{known_behind}
+use Rattle.script_text.proofs.Blocks.{block_whole}
 use Rattle.lab_gen.specs.Script.{create_line, drawn_lines, experiment_lines, generated, generated_lines, lab_lines, numbers, swapin_line, swapout_line, swapout_lines, top_lines, virtual_nodes}
 use Rattle.lab_gen.proofs.Heads.{create_next, name_of, ptop_next, status_next, swapin_next, swapout_next}
 use Rattle.lab_gen.proofs.LineKinds.{generated_are, generated_short, lab_count, top_count}
@@ -40,14 +41,6 @@ reads_each f a (suc n) h = reads_more (f a) (flat_map f (numbers (a + 1) n)) (h 
 reads_line : (line : List ℕ) (command : Command) → ((number : ℕ) (rest : Lines) → next_of number (Some line ∷ rest) ≡ Got command (number + 1) rest) → Reads (line ∷ [])
 reads_line line command is = record { commands = command ∷ []; are = λ number rest others h. (number + 1, rest, is number rest, h) }
 
--- the lines of a block
-whole : (lines : List (List ℕ)) (text : List ℕ) (number : ℕ) (rest : Lines) → block (length lines) text number (known lines ++ rest) ≡ Whole (text ++ joined lines) (number + length lines) rest
-whole [] text number rest = let same : number ≡ number + 0 = omega arith in ap (λ t. Whole t number rest) (sym (append-nil text)) ∙ ap (λ n. Whole (text ++ []) n rest) same
-whole (x ∷ lines) text number rest =
-    let count : number + 1 + length lines ≡ number + suc (length lines) = omega arith in
-    let same : (text ++ x ++ 10 ∷ []) ++ joined lines ≡ text ++ joined (x ∷ lines) = simp append_assoc in
-    whole lines (text ++ x ++ 10 ∷ []) (number + 1) rest ∙ ap (λ t. Whole t (number + 1 + length lines) rest) same ∙ ap (λ n. Whole (text ++ joined (x ∷ lines)) n rest) count
-
 reads_block : (line : List ℕ) (lines : List (List ℕ)) (count : ℕ) (command : List ℕ → Command) → length lines ≡ count
     → ((number : ℕ) (rest : Lines) → next_of number (Some line ∷ rest) ≡ behind (block count [] (number + 1) rest) (λ text. Got (command text))) → Reads (line ∷ lines)
 reads_block line lines count command all is = record {
@@ -58,7 +51,7 @@ reads_block line lines count command all is = record {
         rest,
         is number (known lines ++ rest)
             ∙ ap (λ n. behind (block n [] (number + 1) (known lines ++ rest)) (λ text. Got (command text))) (sym all)
-            ∙ ap (λ b. behind b (λ text. Got (command text))) (whole lines [] (number + 1) rest),
+            ∙ ap (λ b. behind b (λ text. Got (command text))) (block_whole lines [] (number + 1) rest),
         subst (λ n. AreCommands n rest others AtEnd) last h,
       );
 }

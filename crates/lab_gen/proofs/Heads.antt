@@ -9,18 +9,17 @@ use Rattle.std.proofs.lemmas.Fmt.{decimal_nonempty, length-decimal-le}
 use Rattle.lab_base.specs.Names.{is_name, is_name_byte}
 use Rattle.lab_base.specs.Texts.{fields_of, is_blank, is_filled, is_skipped}
 use Rattle.lab_base.proofs.Again.{field_again, last_field_again, number_again}
+use Rattle.lab_base.proofs.Names.{digit_named}
+use Rattle.lab_base.proofs.Members.{all_weaker}
 use Rattle.script_text.specs.Commands.{Got, Lines, behind, block, found_by, next_of}
 use Rattle.script_text.specs.Heads.{begins, counted, head_of, named, said_of, seed_of}
 use Rattle.script_text.specs.declared.command.Command.TheVariants as commands
 use Rattle.lab_gen.specs.Script.{create_line, swapin_line, swapout_line}
-use Rattle.lab_gen.proofs.Printed.{all_so, digits_of}
+use Rattle.lab_gen.proofs.Printed.{digits_of}
 
 -- the name of an experiment
 abbrev pub name_of : ℕ → List ℕ
 name_of k = codes "E" ++ decimal k
-
-digit_named : (b : ℕ) → is_ascii_digit b ≡ true → is_name_byte b ≡ true
-digit_named b h = grind (arith, nat_tests)
 
 digit_filled : (b : ℕ) → is_ascii_digit b ≡ true → not (is_blank b) ≡ true
 digit_filled b h = grind (arith, nat_tests)
@@ -30,10 +29,10 @@ name_is k lt =
     let size : length (decimal k) ≤ 6 = length-decimal-le 6 k (omega arith) (omega arith) (omega arith) in
     let some : nat_le 1 (length (name_of k)) ≡ true = grind (arith, nat_tests) in
     let few : nat_le (length (name_of k)) 32 ≡ true = grind (arith, nat_tests) in
-    and_from _ _ some (and_from _ _ few (all_so is_ascii_digit is_name_byte digit_named (decimal k) (digits_of k lt)))
+    and_from _ _ some (and_from _ _ few (all_weaker is_ascii_digit is_name_byte digit_named (decimal k) (digits_of k lt)))
 
 no_blank : (k : ℕ) → k < 1000000 → list_all (λ b. not (is_blank b)) (decimal k) ≡ true
-no_blank k lt = all_so is_ascii_digit (λ b. not (is_blank b)) digit_filled (decimal k) (digits_of k lt)
+no_blank k lt = all_weaker is_ascii_digit (λ b. not (is_blank b)) digit_filled (decimal k) (digits_of k lt)
 
 filled : (bytes : List ℕ) → 0 < length bytes → is_filled bytes ≡ true
 filled [] some = absurd (omega arith)

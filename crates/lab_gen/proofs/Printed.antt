@@ -4,22 +4,18 @@ use Rattle.std.specs.Prelude.{decimal, nat_le, ◌==◌}
 use Rattle.std.specs.Char.{is_ascii_digit}
 use Rattle.std.specs.List.{flat_map, list_all, slice_index, slice_index_or}
 use Rattle.std.specs.Str.Lines.{strip_carriage_return}
-use Rattle.std.proofs.lemmas.Bool.{and_from, and_parts}
+use Rattle.std.proofs.lemmas.Bool.{and_from}
 use Rattle.std.proofs.lemmas.Bool.Decides.{nat_tests}
 use Rattle.std.proofs.lemmas.Fmt.{digits_decimal, length-decimal-le}
 use Rattle.std.proofs.lemmas.List.Folds.{list_all-append}
 use Rattle.std.proofs.lemmas.List.Sums.{AllPass-from_list_all}
 use Rattle.lab_base.proofs.Digits.{own}
+use Rattle.lab_base.proofs.Members.{all_weaker}
 use Rattle.lab_io.specs.Feeds.{EndedLine, NoFeed}
 use Rattle.lab_io.specs.Lines.{lines_from}
 use Rattle.lab_io.proofs.LineLaws.{lines-ended, line-text}
 use Rattle.script_text.specs.Taking.{known}
 use Rattle.lab_gen.specs.Script.{numbers, text_of}
-
--- a test that follows from another one
-pub all_so : (p q : ℕ → Bool) → ((b : ℕ) → p b ≡ true → q b ≡ true) → (bytes : List ℕ) → list_all p bytes ≡ true → list_all q bytes ≡ true
-all_so p q so [] h = refl
-all_so p q so (b ∷ bytes) h = let parts = and_parts (p b) (list_all p bytes) h in and_from (q b) (list_all q bytes) (so b parts.0) (all_so p q so bytes parts.1)
 
 -- A PART of a line is printed, and has at most so many bytes
 abbrev pub is_printed : ℕ → Bool
@@ -36,7 +32,7 @@ pub digits_of : (n : ℕ) → n < 1000000 → list_all is_ascii_digit (decimal n
 digits_of n lt = digits_decimal own n (omega arith)
 
 pub number_part : (n : ℕ) → n < 1000000 → IsPart 6 (decimal n)
-number_part n lt = record { printed = all_so is_ascii_digit is_printed digit_printed (decimal n) (digits_of n lt); short = length-decimal-le 6 n (omega arith) (omega arith) (omega arith) }
+number_part n lt = record { printed = all_weaker is_ascii_digit is_printed digit_printed (decimal n) (digits_of n lt); short = length-decimal-le 6 n (omega arith) (omega arith) (omega arith) }
 
 pub parts : (a b : ℕ) (xs ys : List ℕ) → IsPart a xs → IsPart b ys → IsPart (a + b) (xs ++ ys)
 parts a b xs ys first second = record {

@@ -5,6 +5,7 @@ use Rattle.std.specs.List.{range_with_len}
 use Rattle.std.proofs.lemmas.List.Recursion.{is_count_by}
 use Rattle.std.proofs.lemmas.Slice.Eq.{bytes_eq-Decides}
 use Rattle.std.proofs.lemmas.List.Sums.{sum_by-cons, length-filter}
+use Rattle.std.proofs.Math.Bool.{or-false}
 use Rattle.lab_base.specs.Lists.{Has, AllDiffer}
 use Rattle.lab_base.proofs.Members.{flat-each, Has-flat_mapped}
 use Rattle.phys_lab.specs.Labs.{Lab}
@@ -29,7 +30,6 @@ use Rattle.claims.proofs.Matching.{Match}
 use Rattle.claims.proofs.OthersLeave.{node_by, side_tags, id_by, named_apart}
 use Rattle.claims.proofs.Ranges.{rest_of_range}
 use Rattle.lab_judge.specs.Counts.{nodes_claimed, ids_claimed, nodes_free, is_taken, ids_free}
-use Rattle.virt_topo.proofs.MoreLaws.{or_false}
 
 -- a test that none passes, and what pass and don't are all
 count_none : {X : Type 0} (p : X → Bool) → ((x : X) → p x ≡ false) → (xs : List X) → count_by p xs ≡ 0
@@ -76,7 +76,7 @@ node_of : (lab : Lab) (e : Experiment) (n : ℕ) → IsLab lab → ((which : Whi
 node_of lab e n is_lab fits h is =
     let name = (get_or lab.nodes n no_node).name in
     let all = node_by lab is_lab (record { exp = e.name; claim = claim_of lab e } ∷ []) (e ∷ []) n h (λ d has. elim has [ inl same ↦ subst (λ (x : Experiment). (which : Which) (m : Mapped) → claimed x which ≡ Some m → Suits lab m) same fits | inr no' ↦ absurd no' ]) (alone lab e is) in
-    sym (or_false (claims_it lab e name)) ∙ sym all ∙ or_false (is_in n (claim_nodes (claim_of lab e)))
+    sym (or-false (claims_it lab e name)) ∙ sym all ∙ or-false (is_in n (claim_nodes (claim_of lab e)))
 
 in_nodes : (lab : Lab) (e : Experiment) → IsLab lab → ((which : Which) (m : Mapped) → claimed e which ≡ Some m → Suits lab m) → standing lab e ≡ Some (claim_of lab e)
     → nodes_claimed lab e ≡ nodes_of (length lab.nodes) (Some (claim_of lab e))

@@ -1,8 +1,6 @@
 -- A link event is judged as `modify-with` by the texts of what it leaves.
 use Rattle.std.proofs.Common.{◌≡◌, ℕ, Bool, true, false, List, [], Some, Result, Ok, Err, refl, sym, ap, ◌∙◌, subst, arith}
 use Rattle.std.specs.Prelude.{if◌then◌else◌}
-use Rattle.std.proofs.lemmas.Bool.{and_parts}
-use Rattle.std.specs.List.{list_all}
 use Rattle.lab_base.specs.Lists.{Has}
 use Rattle.lab_base.specs.declared.ids.VlanId.{VlanId}
 use Rattle.phys_lab.specs.Labs.{Lab}
@@ -13,8 +11,6 @@ use Rattle.virt_topo.specs.declared.experiment.Phase.TheVariants.{In, Out, Movin
 use Rattle.virt_topo.specs.declared.mapping.Mapping.{Mapping}
 use Rattle.virt_topo.specs.declared.wiring.Wiring.{Wiring}
 use Rattle.virt_topo.specs.Soundness.{IsSound}
-use Rattle.virt_topo.proofs.MoreLaws.{all_alike}
-use Rattle.lab_base.specs.Names.{is_name}
 use Rattle.lab_model.specs.Shapes.{IsShaped}
 use Rattle.records_model.specs.Labs.{LabState, Sane, find, lab_in}
 use Rattle.records_model.proofs.Swaps.{found_in}
@@ -26,8 +22,9 @@ use Rattle.script_text.specs.declared.reply.Reply.{Reply}
 use Rattle.solution_text.specs.CanonicalSolution.{canonical_solution}
 use Rattle.solution_text.proofs.SolutionAgain.{canonical_again}
 use Rattle.top_text.specs.Canonical.{canonical_top}
-use Rattle.top_text.specs.Printable.{are_named, is_printable, named_class, named_node}
+use Rattle.top_text.specs.Printable.{is_printable}
 use Rattle.top_text.proofs.TopWhole.{top_again}
+use Rattle.lab_state.proofs.TextLaws.{are_named_of}
 use Rattle.lab_judge.specs.EventChanges.{EventsAreChanges, IsItsChange, changes, lacks}
 use Rattle.lab_judge.specs.Judge.{OrRefused, Task, asked, in_slot, judged_change, judged_modify_with, need_idle_in, need_in, refused}
 use Rattle.lab_judge.specs.Playing.{JudgedChange, JudgedEventAt, bad_shape, mapping_in}
@@ -40,12 +37,6 @@ inside_by : (exp : List ℕ) (p : Phase) (x : Unit {0}) → need_in exp p ≡ Ok
 inside_by exp Out x is = absurd (cc is)
 inside_by exp (In m tags) x is = (m, tags, refl)
 inside_by exp (Moving old new) x is = absurd (cc is)
-
--- the virtual nodes of a wiring that can be printed have names
-are_named_of : (w : Wiring) → is_printable w ≡ true → are_named w.nodes ≡ true
-are_named_of w h =
-    let nodes = and_parts (list_all named_node w.nodes) _ (and_parts (list_all named_class w.classes) _ h).1 in
-    all_alike named_node (λ v. is_name v.name) (λ v named. (and_parts (is_name v.name) _ named).0) w.nodes nodes.0
 
 -- the lab and the experiment of an answer
 abbrev lab_of : Lab → Result (Lab × Experiment) Reply → Lab

@@ -7,6 +7,7 @@ use Rattle.lab_base.specs.declared.fault.TextFault.{TextFault}
 use Rattle.lab_base.specs.declared.ids.VlanId.{VlanId}
 use Rattle.lab_base.specs.declared.fault.TextRefused.{TextRefused}
 use Rattle.lab_base.specs.declared.fault.TextRefused.TheVariants as texts
+use Rattle.lab_base.proofs.Members.{Has-filter, Has-filtered}
 use Rattle.phys_lab.specs.Labs.{Lab}
 use Rattle.records_model.specs.Labs.{LabState}
 use Rattle.virt_topo.specs.declared.experiment.Experiment.{Experiment}
@@ -14,7 +15,6 @@ use Rattle.virt_topo.specs.declared.experiment.Phase.TheVariants.{In}
 use Rattle.virt_topo.specs.declared.mapping.Mapping.{Mapping}
 use Rattle.virt_topo.specs.declared.wiring.Wiring.{Wiring}
 use Rattle.lab_model.specs.Shapes.{IsShaped}
-use Rattle.lab_model.proofs.Kept.{Has-filter, Has-filtered}
 use Rattle.ns_events.specs.declared.event.Event.{Event as LinkEvent}
 use Rattle.ns_events.specs.Changes.{IsApplied}
 use Rattle.ns_events.specs.Pipes.{lacks_shape}

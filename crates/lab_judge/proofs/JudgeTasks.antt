@@ -2,6 +2,7 @@
 use Rattle.std.proofs.Common.{◌≡◌, ◌<◌, ◌≤◌, ℕ, Bool, true, false, nat_le, List, [], ◌∷◌, ◌++◌, length, Option, Some, None, Ok, refl, sym, ap, ◌∙◌, subst, arith}
 use Rattle.std.proofs.lemmas.Bool.{le-leb}
 use Rattle.lab_base.specs.declared.ids.VlanId.{VlanId}
+use Rattle.lab_base.proofs.Names.{name_short}
 use Rattle.phys_lab.specs.Labs.{Lab}
 use Rattle.phys_lab.specs.Kept.{IsLab}
 use Rattle.virt_topo.specs.Soundness.{IsSound}
@@ -38,7 +39,6 @@ use Rattle.lab_judge.specs.declared.task.Task.TheVariants as tasks
 use Rattle.lab_judge.specs.Judge.{lab_reply, created_reply, need_place}
 use Rattle.lab_state.specs.Texts.{the_texts}
 use Rattle.lab_judge.specs.Tasks.{CanDo, EndsNoMove, IsMild, MayFollow}
-use Rattle.line_text.proofs.Widths.{name_length}
 
 -- the lab stays
 pub lab_stays : (s u : LabState) (lab : Lab) (move : Move) → s.lab ≡ Some lab → moved s move ≡ Some u → lab ≡ lab_in u.lab
@@ -69,7 +69,7 @@ can_swap s lab p way ops is_lab is_record h = (
     says = h.says;
     ready = h.ready;
     begins = h.begins;
-    moves = h.moves (name_length p.name is_record.fields.0);
+    moves = h.moves (name_short p.name is_record.fields.0);
     plan = λ u gives. subst (λ (l : Lab). IsPlanOf p l (unsent p.name way ops.commands ops.undo)) (lab_stays s u lab h.move is_lab gives) h.plan;
   },
 )

@@ -5,13 +5,13 @@ use Rattle.std.proofs.lemmas.Bool.{cases_Bool, le-leb, leb-true, ne_eqb, eq-eqb,
 use Rattle.std.proofs.lemmas.List.{length-map, length-take-le}
 use Rattle.lab_base.specs.Lists.{Has, AllDiffer}
 use Rattle.lab_base.specs.declared.ids.VlanId.{VlanId}
+use Rattle.lab_base.proofs.Members.{all_has}
 use Rattle.phys_lab.specs.Labs.{Lab}
 use Rattle.phys_lab.specs.Kept.{IsLab}
 use Rattle.virt_topo.specs.declared.experiment.Experiment.{Experiment}
 use Rattle.virt_topo.specs.declared.wiring.Wiring.{Wiring}
 use Rattle.lab_model.specs.Beside.{all_differ, are_free_tags}
 use Rattle.lab_model.specs.Claims.{claimed_tags}
-use Rattle.lab_model.proofs.WiringLaws.{all_has}
 use Rattle.claims.specs.Answered.{AreTaken, are_free_ids}
 use Rattle.claims.specs.Experiments.{ClaimsOf}
 use Rattle.claims.specs.Held.{Held, free_ids, has_id, size_of}

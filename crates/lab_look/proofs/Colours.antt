@@ -4,15 +4,16 @@ use Rattle.std.proofs.Common.{◌≡◌, ◌⊎◌, inl, inr, ℕ, ◌-◌, ◌<
 use Rattle.std.proofs.lemmas.Bool.{cases_Bool, eqb-true, eq-eqb}
 use Rattle.std.proofs.lemmas.Option.{slice_get_within}
 use Rattle.lab_base.specs.Lists.{Has, Apart}
+use Rattle.lab_base.proofs.Members.{Has-slice_get}
 use Rattle.phys_lab.specs.Labs.{Lab}
 use Rattle.virt_topo.specs.declared.experiment.Experiment.{Experiment}
 use Rattle.lab_model.specs.Claims.{Claims, claims_it}
+use Rattle.lab_model.proofs.Claiming.{claims_from, claims_test}
 use Rattle.records_model.specs.Labs.{LabState, lab_in, Sane}
 use Rattle.lab_view.specs.declared.view.Seat.{Seat}
 use Rattle.lab_view.specs.Views.{is_seat_of}
 use Rattle.lab_look.specs.Seats.{first_from, holder, seat_by, seat_at, seat_of}
-use Rattle.lab_look.proofs.Claiming.{claims_from, claims_test}
-use Rattle.lab_look.proofs.Firsts.{first_passes, none_passes, none_first, has_at_place, apart_at}
+use Rattle.lab_look.proofs.Firsts.{first_passes, none_passes, none_first, apart_at}
 
 abbrev claims_named : Lab → List ℕ → Experiment → Bool
 claims_named lab name e = claims_it lab e name
@@ -58,7 +59,7 @@ seat_is_claim s lab n e name sane is_lab is = (forth (holder lab s.experiments n
         test = claims_test lab e name c
 
         by : (o : Option ℕ) → holder lab s.experiments name ≡ o → is_seat_of n (seat_at lab s.experiments name o) ≡ true
-        by None is_holder = absurd (both (sym test ∙ none_passes (claims_named lab name) 0 s.experiments is_holder e (has_at_place s.experiments n e is)))
+        by None is_holder = absurd (both (sym test ∙ none_passes (claims_named lab name) 0 s.experiments is_holder e (Has-slice_get s.experiments n e is)))
           where
             both : true ≡ false → ⊥
             both x = cc

@@ -4,6 +4,7 @@ use Rattle.std.proofs.Common.{◌≡◌, ◌⊎◌, inl, inr, ℕ, zero, suc, �
 use Rattle.std.proofs.lemmas.Bool.{cases_Bool}
 use Rattle.std.proofs.lemmas.Option.{slice_get_within}
 use Rattle.lab_base.specs.Lists.{Has, Apart}
+use Rattle.lab_base.proofs.Members.{Has-slice_get}
 use Rattle.virt_topo.specs.declared.experiment.Experiment.{Experiment}
 use Rattle.lab_look.specs.Seats.{first_from}
 
@@ -68,27 +69,17 @@ pub none_first : (p : Experiment → Bool) (n : ℕ) (es : List Experiment) → 
 none_first p n [] none = refl
 none_first p n (e ∷ es) none = ap (λ (b : Bool). if b then Some n else first_from p (n + 1) es) (none e (inl refl)) ∙ none_first p (n + 1) es (λ f h. none f (inr h))
 
-pub has_at_place : {X : Type 0} (xs : List X) (n : ℕ) (x : X) → slice_get xs n ≡ Some x → Has xs x
-has_at_place [] n x is = absurd (cc is)
-has_at_place (y ∷ ys) zero x is = let same : y ≡ x = cc in inl same
-has_at_place (y ∷ ys) (suc n) x is = inr (has_at_place ys n x is)
-
 -- of two at different places, what is so of any two
 pub apart_at : {X : Type 0} (R : X → X → Type 0) (xs : List X) (m n : ℕ) (x y : X) → Apart R xs → m < n → slice_get xs m ≡ Some x → slice_get xs n ≡ Some y → R x y
 apart_at R [] m n x y apart less at_m at_n = absurd (cc at_m)
 apart_at R (z ∷ zs) zero zero x y apart less at_m at_n = absurd (omega (arith, less))
-apart_at R (z ∷ zs) zero (suc n) x y apart less at_m at_n = let same : z ≡ x = cc in subst (λ (v : _). R v y) same (apart.0 y (has_at_place zs n y at_n))
+apart_at R (z ∷ zs) zero (suc n) x y apart less at_m at_n = let same : z ≡ x = cc in subst (λ (v : _). R v y) same (apart.0 y (Has-slice_get zs n y at_n))
 apart_at R (z ∷ zs) (suc m) zero x y apart less at_m at_n = absurd (omega (arith, less))
 apart_at R (z ∷ zs) (suc m) (suc n) x y apart less at_m at_n = apart_at R zs m n x y apart.1 (omega (arith, less)) at_m at_n
 
 -- past the end there is none, and a first one is within
 some_none : {X : Type 0} (x : X) → Some x ≡ None → ⊥
 some_none x e = cc
-
-pub none_past : {X : Type 0} (xs : List X) (n : ℕ) → slice_get xs n ≡ None → length xs ≤ n
-none_past [] n is = omega arith
-none_past (x ∷ xs) zero is = absurd (some_none x is)
-none_past (x ∷ xs) (suc n) is = omega (arith, none_past xs n is)
 
 pub first_within : (p : Experiment → Bool) (k : ℕ) (es : List Experiment) → first_from p 0 es ≡ Some k → k < length es
 first_within p k es is =

@@ -1,4 +1,3 @@
-mod Claiming
 mod Firsts
 mod Colours
 mod Looking

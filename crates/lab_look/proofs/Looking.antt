@@ -9,7 +9,8 @@ use Rattle.journal_rec.specs.declared.record.Found.{Found}
 use Rattle.journal_rec.specs.Payloads.{IsRecord}
 use Rattle.journal_model.specs.Journals.{head, live, Live, On, Reads, RecordsOf, Records, size}
 use Rattle.journal_disk.specs.Walks.{placed}
-use Rattle.records_model.specs.Labs.{LabState, Texts, at_first, LabOf, Follows, StopsAt}
+use Rattle.records_model.specs.Labs.{LabState, at_first, LabOf, Follows, StopsAt}
+use Rattle.records_model.proofs.LabLaws.{stops_within}
 use Rattle.lab_state.specs.Texts.{the_texts}
 use Rattle.lab_state.specs.Replays.{records_of}
 use Rattle.lab_sides.specs.declared.walking.Walked.{Walked}
@@ -28,11 +29,6 @@ read_records : (bytes : List ℕ) (gate : ℕ) (rs : List Record) → Reads byte
 read_records bytes gate [] reads f among = absurd among
 read_records bytes gate (r ∷ rs) reads f (inl same) = subst (λ (x : Found). IsRecord x.entry) same reads.1
 read_records bytes gate (r ∷ rs) reads f (inr more) = read_records reads.0 (gate + size r) rs reads.3 f more
-
-stops_within : (t : Texts) (s : LabState) (rs : List Record) (n : ℕ) → StopsAt t s rs n → n < length rs
-stops_within t s [] n stops = absurd stops
-stops_within t s (r ∷ rs) zero stops = omega arith
-stops_within t s (r ∷ rs) (suc n) stops = omega (arith, stops_within t stops.0 rs n stops.2)
 
 -- the records of a live side
 side_reads : (a b : List ℕ) (side : Side) (w : Walked) (rs : List Record) → Stands a b side w rs → Reads (drop 17 (of_side side a b)) rs

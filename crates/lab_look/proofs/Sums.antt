@@ -1,20 +1,16 @@
 -- The kbps that are claimed of a trunk.
-use Rattle.std.specs.Prelude.{sum_by, if◌then◌else◌, ◌==◌}
-use Rattle.std.proofs.Common.{◌≡◌, ℕ, ◌+◌, ◌-◌, ◌<◌, ◌≤◌, inl, inr, Bool, true, false, not, Option, Some, None, length-append, List, [], ◌∷◌, length, map, get_or, refl, sym, ap, ◌∙◌, subst, arith}
+use Rattle.std.specs.Prelude.{sum_by}
+use Rattle.std.proofs.Common.{◌≡◌, ℕ, ◌+◌, ◌-◌, ◌<◌, ◌≤◌, Option, Some, None, length-append, List, [], ◌∷◌, length, map, get_or, refl, ap, ◌∙◌, subst, arith}
 use Rattle.std.proofs.lemmas.List.{length-map, get_or-map}
-use Rattle.std.proofs.lemmas.Bool.{cases_Bool}
 use Rattle.lab_base.specs.Lists.{Has}
 use Rattle.lab_base.specs.declared.ids.VlanId.{VlanId}
 use Rattle.phys_lab.specs.Labs.{Lab}
 use Rattle.phys_lab.specs.Sides.{trunk_at, no_trunk}
 use Rattle.phys_lab.specs.declared.parts.Trunk.{Trunk}
 use Rattle.virt_topo.specs.declared.experiment.Experiment.{Experiment}
-use Rattle.virt_topo.specs.declared.wiring.Wiring.{Wiring}
 use Rattle.virt_topo.specs.declared.mapping.Mapped.{Mapped}
-use Rattle.virt_topo.specs.declared.fault.WiringFault.{WiringFault}
-use Rattle.virt_topo.specs.declared.fault.WiringFault.TheVariants as faults
-use Rattle.virt_topo.specs.Soundness.{keeps_limits, knows_all, has_twice, has_same, has_bad_pipe, wiring_fault, IsSound}
-use Rattle.virt_topo.proofs.CableLaws.{limits_of}
+use Rattle.virt_topo.specs.Soundness.{wiring_fault, IsSound}
+use Rattle.virt_topo.proofs.CableLaws.{limits_of, sound_keeps}
 use Rattle.lab_model.specs.Claims.{Which, Old, New, claimed, tags_of, claimed_use}
 use Rattle.lab_seen.specs.Claimed.{ids_claimed}
 use Rattle.claims.specs.Held.{Held, use_by}
@@ -36,22 +32,12 @@ used_is lab s held t left kbps sane of_es inside left_is kbps_is =
     (omega (arith, left_is, kbps_is, all), omega (arith, left_is, kbps_is, all, claimed))
 
 -- ---- how many VLAN ids an experiment claims
-sound_limits : (w : Wiring) → IsSound w → keeps_limits w ≡ true
-sound_limits w sound = elim (cases_Bool (keeps_limits w)) [
-  | inl kept ↦ kept
-  | inr broken ↦ absurd (cc (limit broken))
-]
-  where
-    limit : keeps_limits w ≡ false → ◌≡◌ {A = Option WiringFault} (Some faults.Limit) None
-    limit broken =
-        sym (ap (λ (b : Bool). if not b then Some faults.Limit else if not (knows_all w) then Some faults.Unknown else if has_twice w then Some faults.Twice else if has_same w then Some faults.Same else if has_bad_pipe w then Some faults.Pipe else if length w.nodes == 0 then Some faults.Empty else None) broken)
-        ∙ sound
 
 tags_few : (o : Option Mapped) → ((m : Mapped) → o ≡ Some m → (length m.tags ≡ length m.wiring.segments) × IsSound m.wiring) → length (tags_of o) ≤ 512
 tags_few None fits = omega arith
 tags_few (Some m) fits =
     let own = fits m refl in
-    omega (arith, length-map m.tags (λ (tag : VlanId). tag.0), own.0, (limits_of m.wiring (sound_limits m.wiring own.1)).segments)
+    omega (arith, length-map m.tags (λ (tag : VlanId). tag.0), own.0, (limits_of m.wiring (sound_keeps m.wiring own.1)).segments)
 
 pub few_ids : (s : LabState) (e : Experiment) → Sane s → Has s.experiments e → ids_claimed e ≤ 1024
 few_ids s e sane among =

@@ -1,10 +1,10 @@
 -- The facts that a state keeps of its course while other swaps and the journal go on.
-use Rattle.std.specs.List.{list_any}
-use Rattle.std.proofs.Common.{◌≡◌, ◌≢◌, inl, inr, ℕ, Bool, true, false, cond, fold, Option, Some, Result, List, [], ◌∷◌, ◌++◌, length, take, drop, refl, sym, ap, ◌∙◌, subst, arith, length-append}
+use Rattle.std.proofs.Common.{◌≡◌, ◌≢◌, ℕ, Bool, true, cond, fold, Option, Some, Result, List, [], ◌∷◌, ◌++◌, length, take, drop, refl, sym, ap, ◌∙◌, subst, arith, length-append}
 use Rattle.std.proofs.lemmas.Bool.{or_left, or_right}
 use Rattle.std.proofs.lemmas.List.{take-append-le, drop-append-le, drop_all, take_all, map-append, append-nil}
 use Rattle.lab_base.specs.Lists.{Has}
-use Rattle.lab_base.proofs.Members.{Has-left, Has-right}
+use Rattle.lab_base.proofs.Members.{Has-left, Has-right, any_has}
+use Rattle.lab_base.proofs.Lists.{cond_append}
 use Rattle.phys_lab.specs.Labs.{Lab}
 use Rattle.phys_lab.specs.Kept.{IsLab}
 use Rattle.virt_topo.specs.declared.experiment.Experiment.{Experiment}
@@ -27,11 +27,6 @@ use Rattle.lab_model.proofs.Steps.{part_same}
 use Rattle.lab_model.proofs.Alike.{same_did, ends_same}
 use Rattle.lab_model.proofs.TraceLaws.{world_push}
 use Rattle.lab_model.proofs.OwnEvents.{not_own, own_events_other, own_events_push, alone_others, alone_own}
-
-any_has : {X : Type 0} (test : X → Bool) (xs : List X) (x : X) → Has xs x → test x ≡ true → list_any test xs ≡ true
-any_has test [] x h t = absurd h
-any_has test (y ∷ xs) x (inl e) t = or_left (test y) (list_any test xs) (ap test e ∙ t)
-any_has test (y ∷ xs) x (inr h) t = or_right (test y) (list_any test xs) (any_has test xs x h t)
 
 row_test : (lab : Lab) (e : Experiment) (row : Row) → IsOf lab e row → is_row_of lab e (Some row) ≡ true
 row_test lab e row of_e =
@@ -123,10 +118,6 @@ course_quiet lab e cs start trace event none same on =
       alone = subst (λ v. SameFor lab e v (world_of (trace ++ event ∷ []))) (sym (λ i. fold world_after (world_of (taken i)) (dropped i)))
           (subst (λ v. SameFor lab e (fold world_after (world_of (take start trace)) (own_events lab e (drop start trace))) v) (sym (world_push trace event ∙ same (world_of trace))) on.alone);
     }
-
-cond_append : (b : Bool) (x : Event) (l m : List Event) → cond b (x ∷ (l ++ m)) (l ++ m) ≡ cond b (x ∷ l) l ++ m
-cond_append true x l m = refl
-cond_append false x l m = refl
 
 own_events_append : (lab : Lab) (e : Experiment) (events more : List Event) → own_events lab e (events ++ more) ≡ own_events lab e events ++ own_events lab e more
 own_events_append lab e [] more = refl

@@ -24,7 +24,7 @@ use Rattle.lab_model.proofs.Moves.{part_of_one_side}
 use Rattle.lab_model.proofs.Kept.{Places_from, kept_pipes}
 use Rattle.lab_model.proofs.Records.{replaced, new_rows, new_nodes, claims_or_not}
 
-same_os-true : (x y : Option (List ℕ)) → same_os x y ≡ true → x ≡ y
+pub same_os-true : (x y : Option (List ℕ)) → same_os x y ≡ true → x ≡ y
 same_os-true None None h = refl
 same_os-true (Some x) (Some y) h = ap (λ n. Some n) ((bytes_eq-Decides x y).0 h)
 same_os-true None (Some y) h = absurd (false≢true h)

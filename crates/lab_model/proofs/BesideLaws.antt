@@ -1,10 +1,15 @@
 -- Isolation is a matter of neighbours.
-use Rattle.std.proofs.Common.{◌≡◌, List, [], ◌∷◌, refl, sym, ◌∙◌, subst}
+use Rattle.std.specs.Prelude.{◌==◌}
+use Rattle.std.proofs.Common.{◌≡◌, List, [], ◌∷◌, refl, sym, ◌∙◌, subst, ℕ, true}
+use Rattle.std.proofs.lemmas.Bool.{and_from, eqb-true, not_from_false}
+use Rattle.lab_base.specs.Lists.{AllDiffer}
+use Rattle.lab_base.proofs.Members.{none_of}
 use Rattle.phys_lab.specs.Labs.{Lab}
 use Rattle.virt_topo.specs.declared.experiment.Experiment.{Experiment}
 use Rattle.plant.specs.Worlds.{Row, World}
 use Rattle.lab_model.specs.Reach.{LeadsOn}
 use Rattle.lab_model.specs.Isolated.{Owner, Owns, IsRow, IsPipe, Isolated, IsolatedBeside}
+use Rattle.lab_model.specs.Beside.{all_differ}
 
 module _ (lab : Lab) (es : List Experiment) (w : World) where
   along : IsolatedBeside lab es w → (p : Row) (path : List Row) (q : Row) (a b : Owner) → IsRow w p → LeadsOn lab (IsPipe w) (IsRow w) p path q → Owns lab es p a → Owns lab es q b → a ≡ b
@@ -22,3 +27,8 @@ module _ (lab : Lab) (es : List Experiment) (w : World) where
     one = λ p a b at of_p of_q. is.apart p p a b (at, ([], refl)) of_p of_q;
     beside = λ p q a b at there next of_p of_q. is.apart p q a b (at, (q ∷ [], (there, next, refl))) of_p of_q;
   }
+
+-- numbers that differ pass the test
+pub differ_test : (xs : List ℕ) → AllDiffer xs → all_differ xs ≡ true
+differ_test [] differ = refl
+differ_test (x ∷ xs) differ = and_from _ _ (not_from_false _ (none_of (λ y. y == x) xs (λ y h is. differ.0 y h (sym (eqb-true y x is))))) (differ_test xs differ.1)

@@ -4,7 +4,7 @@ use Rattle.std.proofs.Common.{◌≡◌, inl, inr, ℕ, zero, suc, ◌+◌, Bool
 use Rattle.std.proofs.lemmas.Bool.{and_parts, and_from, not-true}
 use Rattle.std.proofs.lemmas.Option.{same_Some}
 use Rattle.lab_base.specs.Lists.{Has}
-use Rattle.lab_base.proofs.Members.{Has-append, Has-map, Has-left, Has-right, Has-mapped, Has-flat_map}
+use Rattle.lab_base.proofs.Members.{Has-append, Has-map, Has-left, Has-right, Has-mapped, Has-flat_map, Has-filter, Has-filtered}
 use Rattle.phys_lab.specs.Labs.{Lab}
 use Rattle.virt_topo.specs.declared.experiment.Experiment.{Experiment}
 use Rattle.virt_topo.specs.declared.mapping.Mapped.{Mapped}
@@ -18,7 +18,7 @@ use Rattle.lab_model.specs.Holding.{Suits}
 use Rattle.lab_model.specs.Courses.{op_node, op_join, op_pipe, join, leave, shape, load_node, load_nodes, rows_from, node_names}
 use Rattle.lab_model.proofs.CourseLaws.{AddsOnly}
 use Rattle.lab_model.proofs.Moves.{Cleared, SparesKept}
-use Rattle.lab_model.proofs.Kept.{Has-filter, Has-filtered, places_it_from, placed_listed}
+use Rattle.lab_model.proofs.Kept.{places_it_from, placed_listed}
 
 enumerated_get : {X : Type 0} (n : ℕ) (xs : List X) (p : ℕ × X) → Has (enumerate_from n xs) p → (j : ℕ) × (p.0 ≡ n + j) × (slice_get xs j ≡ Some p.1)
 enumerated_get n [] p h = absurd h

@@ -5,7 +5,7 @@ use Rattle.std.proofs.lemmas.Bool.{cases_Bool, and_parts, not-true, or_left, or_
 use Rattle.std.proofs.lemmas.List.Sums.{sum_by-append}
 use Rattle.std.proofs.lemmas.Option.{same_Some}
 use Rattle.lab_base.specs.Lists.{Has, AllDiffer}
-use Rattle.lab_base.proofs.Members.{Has-append, Has-left, Has-right, Has-map, Has-flat_mapped, Apart-left, Apart-right, flat-each}
+use Rattle.lab_base.proofs.Members.{Has-append, Has-left, Has-right, Has-map, Has-flat_mapped, Apart-left, Apart-right, flat-each, Has-either, Apart-append, any_has, Has-place, all_has}
 use Rattle.lab_base.specs.declared.ids.VlanId.{VlanId}
 use Rattle.phys_lab.specs.Sides.{trunk_at}
 use Rattle.phys_lab.specs.Labs.{Lab}
@@ -23,12 +23,10 @@ use Rattle.lab_model.specs.Holding.{Suits, Holding}
 use Rattle.lab_model.specs.Shapes.{IsShaped}
 use Rattle.lab_model.specs.Beside.{is_claimed, violation_beside, all_differ, are_free_tags}
 use Rattle.lab_model.specs.Feasible.{Kept, first_violation, or_later, first_bad}
-use Rattle.lab_model.proofs.WiringLaws.{all_has, has_index}
-use Rattle.lab_model.proofs.SuitLaws.{any_has}
-use Rattle.lab_model.proofs.Kept.{places_it_from}
 use Rattle.lab_model.proofs.Records.{apart_mid, flat_mid, Has_other}
-use Rattle.lab_model.proofs.HoldingLaws.{Takes, apart_append}
+use Rattle.lab_model.proofs.HoldingLaws.{Takes}
 use Rattle.virt_topo.specs.declared.violation.Broken.TheVariants as broken
+use Rattle.lab_model.proofs.Claiming.{is_placed_from}
 
 -- THE FIRST THAT FAILS: none where all pass
 pub all_pass : (n from : ℕ) (test : ℕ → Bool) → first_bad n from test ≡ None → (k : ℕ) → from ≤ k → k < from + n → test k ≡ true
@@ -103,9 +101,6 @@ differ_from (x ∷ xs) e =
     let both = and_parts (not (list_any (λ y. y == x) xs)) (all_differ xs) e in
     (λ y h same. both_ways (list_any (λ y. y == x) xs) (not-true _ both.0) (any_has (λ y. y == x) xs y h (eq-eqb y x (sym same))), differ_from xs both.1)
 
-is_placed_from : (lab : Lab) (o : Option Mapped) (m : Mapped) (name : List ℕ) → o ≡ Some m → Places lab m name → is_placed lab o name ≡ true
-is_placed_from lab o m name e placed = ap (λ x. is_placed lab x name) e ∙ places_it_from lab m name placed
-
 claimed_test : (lab : Lab) (e : Experiment) (name : List ℕ) (which : Which) (m : Mapped) → claimed e which ≡ Some m → Places lab m name → (is_placed lab (claimed e Old) name || is_placed lab (claimed e New) name) ≡ true
 claimed_test lab e name Old m is placed = or_left _ _ (is_placed_from lab _ m name is placed)
 claimed_test lab e name New m is placed = or_right _ _ (is_placed_from lab _ m name is placed)
@@ -131,10 +126,6 @@ pub record TakesOne (lab : Lab) (a b : List Experiment) (o : Option Mapped) : Ty
 
 pub sum_mid : (g : Experiment → ℕ) (a b : List Experiment) (e : Experiment) → sum_by g (a ++ e ∷ b) ≡ sum_by g a + (g e + sum_by g b)
 sum_mid g a b e = sum_by-append g a (e ∷ b) ∙ ap (λ n. sum_by g a + n) (sum_by-append g (e ∷ []) b ∙ ap (λ n. n + sum_by g b) (zero-add (g e)))
-
-other_in : (a b : List Experiment) (y : Experiment) → Has a y ⊎ Has b y → Has (a ++ b) y
-other_in a b y (inl h) = Has-left a b y h
-other_in a b y (inr h) = Has-right a b y h
 
 pub takes_nothing : (lab : Lab) (a b : List Experiment) (e : Experiment) → Holding lab (a ++ e ∷ b) → TakesOne lab a b None
 takes_nothing lab a b e holding = record {
@@ -187,10 +178,10 @@ takes_new lab a b own e n none free wired shaped =
           let same : m ≡ n = sym (same_Some n m is) in
           let there : Has (map (λ p. node_name lab p.0) n.mapping.places) name = subst (λ x. Places lab x name) same placed in
           let p = Has-map (λ p. node_name lab p.0) n.mapping.places name there in
-          let at = has_index n.mapping.places p.0 no_place p.1 in
+          let at = Has-place n.mapping.places p.0 no_place p.1 in
           let in_nodes : at.0 < length n.wiring.nodes = omega (arith, at.1, shaped.places) in
           let is_name : node_name lab (place_at n.mapping at.0).0 ≡ name = ap (λ q. node_name lab q.0) at.2 ∙ p.2 in
-          unclaimed lab (a ++ b) y name (ap (λ x. is_claimed lab (a ++ b) x) (sym is_name) ∙ not-true _ (ok broken.F1 at.0 in_nodes)) (other_in a b y h) claims;
+          unclaimed lab (a ++ b) y name (ap (λ x. is_claimed lab (a ++ b) x) (sym is_name) ∙ not-true _ (ok broken.F1 at.0 in_nodes)) (Has-either a b y h) claims;
       trunks = λ t h. let room = leb-true _ _ (ok broken.F6 t h) in omega (arith, room, sum_by-append (claimed_use lab t) a b);
       differ = differ_from (map (λ tag. tag.0) n.tags) sized.1;
       free = λ v y h o k.
@@ -219,7 +210,7 @@ takes_both lab a b f o p old new of_o of_p cross = record {
   trunks = λ t h. let x = of_o.trunks t h in let y = of_p.trunks t h in
       let both : claimed_use lab t f ≡ max (use_in lab t o) (use_in lab t p) = (λ i. max (use_in lab t (old i)) (use_in lab t (new i))) in
       omega (arith, both, x, y);
-  differ = subst (λ l. AllDiffer l) (sym tags) (apart_append (λ x y. x ≢ y) (tags_of o) (tags_of p) of_o.differ of_p.differ cross);
+  differ = subst (λ l. AllDiffer l) (sym tags) (Apart-append (λ x y. x ≢ y) (tags_of o) (tags_of p) of_o.differ of_p.differ cross);
   free = λ v y h k g. elim (Has-append (tags_of o) (tags_of p) v (subst (λ l. Has l v) tags h)) [ inl x ↦ of_o.free v y x k g | inr x ↦ of_p.free v y x k g ];
   in_range = λ v h. elim (Has-append (tags_of o) (tags_of p) v (subst (λ l. Has l v) tags h)) [ inl x ↦ of_o.in_range v x | inr x ↦ of_p.in_range v x ];
 }

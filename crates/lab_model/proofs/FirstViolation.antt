@@ -158,3 +158,11 @@ same_violation lab others own free w m left shaped = (λ i. assembled (nodes i) 
 
     ids : keeps_f8 free w ≡ has_ids lab others own w
     ids = let all = left.ids in same_test _ _ _ _ (λ h. omega (arith, h, all)) (λ h. omega (arith, h, all))
+
+-- THE FIRST NUMBER THAT FAILS A TEST
+
+pub first_at : (n : ℕ) (test : ℕ → Bool) (k : ℕ) (kept : Bool) → k < n → kept ≡ test k → kept ≡ false → AllPass k test → Some k ≡ first_below n test
+first_at n test k kept lt is failed before = sym (fails n test k (record { below = lt; fails = sym is ∙ failed; before = before }))
+
+pub none_at : (n : ℕ) (test : ℕ → Bool) (k : ℕ) → n ≤ k → AllPass k test → None ≡ first_below n test
+none_at n test k le before = sym (passes n test (λ j lt. before j (omega (arith, lt))))

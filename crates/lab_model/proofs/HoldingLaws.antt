@@ -3,7 +3,7 @@ use Rattle.std.specs.List.{flat_map, sum_by}
 use Rattle.std.proofs.Common.{◌≡◌, ◌≢◌, ◌⊎◌, inl, inr, ℕ, ◌+◌, ◌<◌, ◌≤◌, Some, List, [], ◌∷◌, ◌++◌, length, refl, sym, ap, ◌∙◌, subst, arith, zero-add}
 use Rattle.std.proofs.lemmas.List.Sums.{sum_by-append}
 use Rattle.lab_base.specs.Lists.{Has, Apart, AllDiffer}
-use Rattle.lab_base.proofs.Members.{Has-append, Has-flat_map, Has-flat_mapped, Apart-left, Apart-right, Apart-across}
+use Rattle.lab_base.proofs.Members.{Has-flat_map, Has-flat_mapped, Apart-left, Apart-right, Apart-across, Apart-append}
 use Rattle.phys_lab.specs.Sides.{trunk_at}
 use Rattle.phys_lab.specs.Labs.{Lab}
 use Rattle.virt_topo.specs.declared.experiment.Experiment.{Experiment}
@@ -11,13 +11,6 @@ use Rattle.virt_topo.specs.declared.mapping.Mapped.{Mapped}
 use Rattle.lab_model.specs.Claims.{Which, claimed, Claims, claimed_tags, claimed_use}
 use Rattle.lab_model.specs.Holding.{Suits, Holding}
 use Rattle.lab_model.proofs.Records.{Has_mid, Has_other}
-
-pub apart_append : {X : Type 0} (R : X → X → Type 0) (xs ys : List X) → Apart R xs → Apart R ys → ((x y : X) → Has xs x → Has ys y → R x y) → Apart R (xs ++ ys)
-apart_append R [] ys p q across = q
-apart_append R (x ∷ xs) ys p q across = (
-  λ y h. elim (Has-append xs ys y h) [ inl a ↦ p.0 y a | inr b ↦ across x y (inl refl) b ],
-  apart_append R xs ys p.1 q (λ z y h g. across z y (inr h) g),
-)
 
 pub apart_replace : {X : Type 0} (R : X → X → Type 0) (a b : List X) (e f : X) → Apart R (a ++ e ∷ b) → ((y : X) → Has a y → R y f) → ((y : X) → Has b y → R f y) → Apart R (a ++ f ∷ b)
 apart_replace R [] b e f apart before after = (after, apart.1)
@@ -30,9 +23,9 @@ apart_replace R (z ∷ a) b e f apart before after = (
 )
 
 pub flat_replace : {X Y : Type 0} (g : X → List Y) (a b : List X) (e f : X) → AllDiffer (flat_map g (a ++ e ∷ b)) → AllDiffer (g f) → ((v : Y) (y : X) → Has (g f) v → Has a y ⊎ Has b y → Has (g y) v → ⊥) → AllDiffer (flat_map g (a ++ f ∷ b))
-flat_replace g [] b e f differ own free = apart_append (λ p q. p ≢ q) (g f) (flat_map g b) own (Apart-right (λ p q. p ≢ q) (g e) (flat_map g b) differ)
+flat_replace g [] b e f differ own free = Apart-append (λ p q. p ≢ q) (g f) (flat_map g b) own (Apart-right (λ p q. p ≢ q) (g e) (flat_map g b) differ)
     (λ v u h k same. let r = Has-flat_map g b u k in free v r.0 h (inr r.1) (subst (λ x. Has (g r.0) x) (sym same) r.2))
-flat_replace g (z ∷ a) b e f differ own free = apart_append (λ p q. p ≢ q) (g z) (flat_map g (a ++ f ∷ b))
+flat_replace g (z ∷ a) b e f differ own free = Apart-append (λ p q. p ≢ q) (g z) (flat_map g (a ++ f ∷ b))
     (Apart-left (λ p q. p ≢ q) (g z) (flat_map g (a ++ e ∷ b)) differ)
     (flat_replace g a b e f (Apart-right (λ p q. p ≢ q) (g z) (flat_map g (a ++ e ∷ b)) differ) own (λ v y h o k. free v y h (elim o [ inl p ↦ inl (inr p) | inr q ↦ inr q ]) k))
     (λ v u h k same.

@@ -1,12 +1,12 @@
 -- Placed and kept nodes, as tests and as facts.
-use Rattle.std.specs.List.{list_any, filter}
+use Rattle.std.specs.List.{list_any}
 use Rattle.std.specs.Cmp.Lexicographic.{pointwise}
 use Rattle.std.specs.Str.{bytes_eq}
-use Rattle.std.proofs.Common.{◌≡◌, inl, inr, ℕ, ◌<◌, Bool, true, cond, Some, List, [], ◌∷◌, length, map, slice_get, refl, sym, ap, ◌∙◌, subst, arith}
-use Rattle.std.proofs.lemmas.Bool.{cases_Bool, and_parts, or_cases, or_left, or_right, eqb-true, false≢true}
+use Rattle.std.proofs.Common.{◌≡◌, inl, inr, ℕ, ◌<◌, true, Some, List, [], ◌∷◌, length, map, slice_get, refl, subst, arith}
+use Rattle.std.proofs.lemmas.Bool.{and_parts, or_cases, or_left, or_right, eqb-true, false≢true}
 use Rattle.std.proofs.lemmas.Slice.Eq.{bytes_eq-Decides}
 use Rattle.lab_base.specs.Lists.{Has}
-use Rattle.lab_base.proofs.Members.{Has-mapped, Has-map}
+use Rattle.lab_base.proofs.Members.{Has-mapped, Has-map, Has-slice_get, Has-get_or}
 use Rattle.lab_base.specs.declared.ids.NodeId.{NodeId}
 use Rattle.lab_base.specs.declared.rates.Rates.{Rates}
 use Rattle.phys_lab.specs.Labs.{Lab}
@@ -21,27 +21,7 @@ use Rattle.lab_model.specs.Holding.{Suits}
 use Rattle.lab_model.specs.Courses.{node_names}
 use Rattle.lab_model.proofs.SuitLaws.{place_in}
 use Rattle.lab_model.proofs.WiringLaws.{sound_ends, sound_pipes}
-use Rattle.lab_model.proofs.PartLaws.{Has-get_or}
-use Rattle.lab_model.proofs.OneSided.{end_number-at, wanted_pipe, Has-slice_get}
-
-pub Has-filter : {X : Type 0} (p : X → Bool) (xs : List X) (x : X) → Has (filter p xs) x → Has xs x × (p x ≡ true)
-Has-filter p [] x h = absurd h
-Has-filter p (y ∷ xs) x h = elim (cases_Bool (p y)) [
-  | inl is ↦
-      let here : Has (y ∷ filter p xs) x = subst (λ b. Has (cond b (y ∷ filter p xs) (filter p xs)) x) is h in
-      elim here [ inl e ↦ (inl e, ap p (sym e) ∙ is) | inr g ↦ let r = Has-filter p xs x g in (inr r.0, r.1) ]
-  | inr is ↦
-      let rest : Has (filter p xs) x = subst (λ b. Has (cond b (y ∷ filter p xs) (filter p xs)) x) is h in
-      let r = Has-filter p xs x rest in (inr r.0, r.1)
-]
-
-pub Has-filtered : {X : Type 0} (p : X → Bool) (xs : List X) (x : X) → Has xs x → p x ≡ true → Has (filter p xs) x
-Has-filtered p [] x h passes = absurd h
-Has-filtered p (y ∷ xs) x (inl e) passes = subst (λ b. Has (cond b (y ∷ filter p xs) (filter p xs)) x) (sym passes ∙ ap p (sym e)) (inl e)
-Has-filtered p (y ∷ xs) x (inr h) passes = elim (cases_Bool (p y)) [
-  | inl is ↦ subst (λ b. Has (cond b (y ∷ filter p xs) (filter p xs)) x) (sym is) (inr (Has-filtered p xs x h passes))
-  | inr is ↦ subst (λ b. Has (cond b (y ∷ filter p xs) (filter p xs)) x) (sym is) (Has-filtered p xs x h passes)
-]
+use Rattle.lab_model.proofs.OneSided.{end_number-at, wanted_pipe}
 
 any_placed : (lab : Lab) (ps : List (NodeId × List ℕ)) (name : List ℕ) → Has (map (λ p. node_name lab p.0) ps) name → list_any (λ p. bytes_eq (node_name lab p.0) name) ps ≡ true
 any_placed lab [] name h = absurd h
@@ -73,7 +53,7 @@ pipe_placed lab m name k row suits wants =
     let within : w.from.node < length m.mapping.places = omega (arith, node, suits.shaped.places) in
     subst (λ n. Places lab m n) w.placed (Has-mapped (λ p. node_name lab p.0) m.mapping.places _ (Has-get_or m.mapping.places w.from.node no_place within))
 
-same_rates-true : (a b : Rates) → same_rates a b ≡ true → a ≡ b
+pub same_rates-true : (a b : Rates) → same_rates a b ≡ true → a ≡ b
 same_rates-true a b h =
     let x = and_parts _ _ h in
     let y = and_parts _ _ x.0 in
@@ -82,7 +62,7 @@ same_rates-true a b h =
     let p = eqb-true a.ppm b.ppm x.1 in
     λ i. record { kbps = k i; micros = m i; ppm = p i }
 
-same_pipe-true : (a b : PipeRow) → same_pipe a b ≡ true → a ≡ b
+pub same_pipe-true : (a b : PipeRow) → same_pipe a b ≡ true → a ≡ b
 same_pipe-true a b h =
     let x = and_parts _ _ h in
     let y = and_parts _ _ x.0 in

@@ -1,11 +1,11 @@
 -- Facts of labs: a port is of one interface or one trunk's end, and an interface has one name on its node.
 use Rattle.std.specs.List.{flat_map}
-use Rattle.std.proofs.Common.{◌≡◌, ◌≢◌, inl, inr, ℕ, zero, suc, ◌<◌, List, [], ◌∷◌, map, length, get_or, refl, sym, ap, ◌∙◌, arith}
+use Rattle.std.proofs.Common.{◌≡◌, ◌≢◌, inl, inr, ℕ, ◌<◌, List, [], map, length, get_or, refl, sym, ◌∙◌, arith}
 use Rattle.std.proofs.lemmas.List.{get_or-map, length-map}
 use Rattle.lab_base.specs.Lists.{Has, AllDiffer}
 use Rattle.lab_base.specs.declared.ids.IfaceId.{IfaceId}
 use Rattle.lab_base.specs.declared.ids.SwitchId.{SwitchId}
-use Rattle.lab_base.proofs.Members.{Has-mapped, Has-flat_mapped, Apart-left, Apart-right, Apart-across}
+use Rattle.lab_base.proofs.Members.{Has-mapped, Has-flat_mapped, Apart-left, Apart-right, Apart-across, differ_at, Has-get_or}
 use Rattle.phys_lab.specs.Labs.{Lab}
 use Rattle.phys_lab.specs.Kept.{IsLab}
 use Rattle.phys_lab.specs.Keys.{name_on_node, port_of, ports_of}
@@ -14,15 +14,7 @@ use Rattle.phys_lab.specs.declared.parts.Trunk.{Trunk}
 use Rattle.lab_model.specs.Uses.{no_iface, iface_at}
 use Rattle.lab_model.specs.Shapes.{no_node}
 use Rattle.lab_model.specs.Wants.{switch_name, node_name}
-use Rattle.lab_model.proofs.WiringLaws.{All-has, has_at}
-
--- elements that differ stand at different places
-differ_at : {X : Type 0} (xs : List X) (i j : ℕ) (d : X) → AllDiffer xs → i < length xs → j < length xs → get_or xs i d ≡ get_or xs j d → i ≡ j
-differ_at [] i j d all h g e = absurd (omega (arith, h))
-differ_at (x ∷ xs) zero zero d all h g e = refl
-differ_at (x ∷ xs) zero (suc j) d all h g e = absurd (all.0 (get_or xs j d) (has_at xs j d (omega (arith, g))) e)
-differ_at (x ∷ xs) (suc i) zero d all h g e = absurd (all.0 (get_or xs i d) (has_at xs i d (omega (arith, h))) (sym e))
-differ_at (x ∷ xs) (suc i) (suc j) d all h g e = ap suc (differ_at xs i j d all.1 (omega (arith, h)) (omega (arith, g)) e)
+use Rattle.lab_model.proofs.WiringLaws.{All-has}
 
 -- mapped to values that differ
 differ_map : {X Y : Type 0} (f : X → Y) (xs : List X) (i j : ℕ) (d : X) → AllDiffer (map f xs) → i < length xs → j < length xs → f (get_or xs i d) ≡ f (get_or xs j d) → i ≡ j
@@ -51,7 +43,7 @@ no_trunk_port lab is i t h in_lab = (
 
     apart : (port : SwitchId × ℕ) → Has (ports_of t) port → port_of (iface_at lab i) ≢ port
     apart port end = Apart-across (λ x y. x ≢ y) (map port_of lab.ifaces) (flat_map ports_of lab.trunks) (port_of (iface_at lab i)) port is.ports_differ
-        (Has-mapped port_of lab.ifaces (iface_at lab i) (has_at lab.ifaces i.0 no_iface h)) (Has-flat_mapped ports_of lab.trunks t port in_lab end)
+        (Has-mapped port_of lab.ifaces (iface_at lab i) (Has-get_or lab.ifaces i.0 no_iface h)) (Has-flat_mapped ports_of lab.trunks t port in_lab end)
 
 -- an interface has one name on its node
 pub one_name : (lab : Lab) → IsLab lab → (i j : IfaceId) → i.0 < length lab.ifaces → j.0 < length lab.ifaces → node_name lab (iface_at lab i).node ≡ node_name lab (iface_at lab j).node → (iface_at lab i).name ≡ (iface_at lab j).name → i.0 ≡ j.0

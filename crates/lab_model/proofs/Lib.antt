@@ -4,6 +4,7 @@ mod Along
 pub mod Begins
 pub mod BesideLaws
 mod Built
+pub mod Claiming
 mod Clearing
 mod Commands
 pub mod CourseLaws
@@ -19,7 +20,7 @@ pub mod Kept
 mod LabFacts
 pub mod ListLaws
 mod Moves
-pub mod OneSided
+mod OneSided
 pub mod OwnCommands
 pub mod OwnEvents
 pub mod PartLaws
@@ -28,7 +29,7 @@ mod Rows
 pub mod Safe
 pub mod SafeMoves
 pub mod Steps
-pub mod SuitLaws
+mod SuitLaws
 pub mod TraceLaws
 pub mod Whole
 pub mod WiringLaws

@@ -1,9 +1,9 @@
 -- Experiments that claim nothing come and go.
 use Rattle.std.specs.List.{flat_map, sum_by}
-use Rattle.std.proofs.Common.{◌≡◌, ◌≢◌, ◌⊎◌, inl, inr, ℕ, ◌+◌, ◌≤◌, Option, Some, None, List, [], ◌∷◌, ◌++◌, refl, sym, ap, ◌∙◌, subst, arith, zero-add}
+use Rattle.std.proofs.Common.{◌≡◌, ◌≢◌, inl, inr, ℕ, ◌+◌, ◌≤◌, Option, Some, None, List, [], ◌∷◌, ◌++◌, refl, sym, ap, ◌∙◌, subst, arith, zero-add}
 use Rattle.std.proofs.lemmas.List.Sums.{sum_by-append}
 use Rattle.lab_base.specs.Lists.{Has, Apart, AllDiffer}
-use Rattle.lab_base.proofs.Members.{Has-append, Has-left, Has-right}
+use Rattle.lab_base.proofs.Members.{Has-append, Has-either}
 use Rattle.phys_lab.specs.Labs.{Lab}
 use Rattle.virt_topo.specs.declared.experiment.Experiment.{Experiment}
 use Rattle.virt_topo.specs.declared.experiment.Phase.TheVariants.{Out}
@@ -23,14 +23,10 @@ apart_add R [] b e h before after = (after, h)
 apart_add R (x ∷ a) b e h before after = (
   λ y g. elim (Has_mid a b e y g) [
     | inl same ↦ subst (λ v. R x v) same (before x (inl refl))
-    | inr other ↦ h.0 y (either a b y other)
+    | inr other ↦ h.0 y (Has-either a b y other)
   ],
   apart_add R a b e h.1 (λ y g. before y (inr g)) after,
 )
-  where
-    either : {X : Type 0} (a b : List X) (y : X) → Has a y ⊎ Has b y → Has (a ++ b) y
-    either a b y (inl g) = Has-left a b y g
-    either a b y (inr g) = Has-right a b y g
 
 -- the lists of the elements without one that has none
 pub flat_none : {X Y : Type 0} (f : X → List Y) (a b : List X) (e : X) → f e ≡ [] → flat_map f (a ++ e ∷ b) ≡ flat_map f (a ++ b)
@@ -55,10 +51,6 @@ module _ (lab : Lab) (a b : List Experiment) (e : Experiment) (out : e.phase ≡
   pub no_claim : (name : List ℕ) → Claims lab e name → ⊥
   no_claim name c = cc (c.is, nothing c.which)
 
-  either : (y : Experiment) → Has a y ⊎ Has b y → Has (a ++ b) y
-  either y (inl g) = Has-left a b y g
-  either y (inr g) = Has-right a b y g
-
   pub holding_drop : Holding lab (a ++ e ∷ b) → Holding lab (a ++ b)
   holding_drop h = record {
     fits = λ g which m in_g is. h.fits g which m (Has_other a b e g (Has-append a b g in_g)) is;
@@ -72,7 +64,7 @@ module _ (lab : Lab) (a b : List Experiment) (e : Experiment) (out : e.phase ≡
   holding_add h = record {
     fits = λ g which m in_g is. elim (Has_mid a b e g in_g) [
       | inl same ↦ let none : claimed g which ≡ None = subst (λ x. claimed x which ≡ None) same (nothing which) in absurd (cc (is, none))
-      | inr other ↦ h.fits g which m (either g other) is
+      | inr other ↦ h.fits g which m (Has-either a b g other) is
     ];
     nodes = apart_add _ a b e h.nodes (λ y g name c d. no_claim name d) (λ y g name c d. no_claim name c);
     trunks = λ t within. subst (λ n. n ≤ (Rattle.phys_lab.specs.Sides.trunk_at lab.trunks t).kbps) (sym (sum_none (claimed_use lab t) a b e (no_use t))) (h.trunks t within);
@@ -87,11 +79,11 @@ module _ (lab : Lab) (a b : List Experiment) (e : Experiment) (out : e.phase ≡
   parts_drop w p = record {
     wanted = λ row is. let by = p.wanted row is in elim (Has_mid a b e by.0 by.1) [
       | inl same ↦ absurd (out_wants row (subst (λ x. IsOf lab x row) (sym same) by.2))
-      | inr other ↦ (by.0, either by.0 other, by.2)
+      | inr other ↦ (by.0, Has-either a b by.0 other, by.2)
     ];
     free = λ name none. p.free name (λ g in_g c. elim (Has_mid a b e g in_g) [
       | inl same ↦ no_claim name (subst (λ x. Claims lab x name) (sym same) c)
-      | inr other ↦ none g (either g other) c
+      | inr other ↦ none g (Has-either a b g other) c
     ]);
     each = λ g in_g. p.each g (Has_other a b e g (Has-append a b g in_g));
   }
@@ -105,6 +97,6 @@ module _ (lab : Lab) (a b : List Experiment) (e : Experiment) (out : e.phase ≡
         apart = λ p q which link which' link' reach wants wants'. absurd (out_wants p (which, link, wants));
         phase = subst (λ p. CabledPhase lab w e p) (sym out) tt;
       })
-      | inr other ↦ p.each g (either g other)
+      | inr other ↦ p.each g (Has-either a b g other)
     ];
   }

@@ -1,12 +1,11 @@
 -- Rows and pipes of one mapping alone are isolated.
 use Rattle.std.specs.List.{filter_map, cons_option}
 use Rattle.std.specs.Str.{bytes_eq}
-use Rattle.std.proofs.Common.{◌≡◌, ◌≢◌, inl, inr, ℕ, zero, suc, ◌+◌, ◌-◌, ◌<◌, cond, eqb, Some, None, List, [], ◌∷◌, false, length, map, get_or, slice_get, refl, sym, ap, ◌∙◌, subst, arith}
+use Rattle.std.proofs.Common.{◌≡◌, ◌≢◌, inl, inr, ℕ, suc, ◌+◌, ◌-◌, ◌<◌, cond, eqb, Some, None, List, [], ◌∷◌, false, length, map, get_or, refl, sym, ap, ◌∙◌, subst, arith}
 use Rattle.std.proofs.lemmas.Bool.{cases_Bool, eqb-true}
-use Rattle.std.proofs.lemmas.Option.{same_Some}
 use Rattle.std.proofs.lemmas.Slice.Eq.{bytes_eq-Decides}
 use Rattle.lab_base.specs.Lists.{Has, AllDiffer}
-use Rattle.lab_base.proofs.Members.{Apart-left, Apart-right, Apart-across}
+use Rattle.lab_base.proofs.Members.{Apart-left, Apart-right, Apart-across, Has-slice_get}
 use Rattle.phys_lab.specs.Labs.{Lab}
 use Rattle.phys_lab.specs.Kept.{IsLab}
 use Rattle.virt_topo.specs.Ends.{end_nodes, end_owners, end_multiplexed, end_number, pipe_from, pipe_to}
@@ -104,11 +103,6 @@ module _ (lab : Lab) (m : Mapped) (is_lab : IsLab lab) (suits : Suits lab m) whe
       sym (end_owner (pipe_from m.wiring w.from) name p a sound.from_end placed_from sound.from_alone at_from wants_p)
       ∙ sound.one_owner
       ∙ end_owner (pipe_to m.wiring w.from) name q b sound.to_end placed_to sound.to_alone at_to wants_q
-
-pub Has-slice_get : {X : Type 0} (xs : List X) (k : ℕ) (x : X) → slice_get xs k ≡ Some x → Has xs x
-Has-slice_get [] k x is = cc
-Has-slice_get (y ∷ xs) zero x is = inl (same_Some y x is)
-Has-slice_get (y ∷ xs) (suc k) x is = inr (Has-slice_get xs k x is)
 
 pub last_point : (lab : Lab) (Pipe : List ℕ → PipeRow → Type 0) (Point : Row → Type 0) (p : Row) (path : List Row) (q : Row) → Point p → LeadsOn lab Pipe Point p path q → Point q
 last_point lab Pipe Point p [] q here same = subst (λ r. Point r) same here

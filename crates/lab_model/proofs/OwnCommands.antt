@@ -4,7 +4,7 @@ use Rattle.std.proofs.Common.{◌≡◌, inl, inr, ℕ, Bool, true, false, ◌&&
 use Rattle.std.proofs.lemmas.Bool.{and_parts, or_cases}
 use Rattle.std.proofs.lemmas.Option.{same_Some}
 use Rattle.lab_base.specs.Lists.{Has}
-use Rattle.lab_base.proofs.Members.{Has-append, Has-map, Has-flat_map}
+use Rattle.lab_base.proofs.Members.{Has-append, Has-map, Has-flat_map, Has-filter}
 use Rattle.phys_lab.specs.Labs.{Lab}
 use Rattle.virt_topo.specs.declared.experiment.Experiment.{Experiment}
 use Rattle.virt_topo.specs.declared.mapping.Mapped.{Mapped}
@@ -20,7 +20,7 @@ use Rattle.lab_model.specs.Kept.{is_kept}
 use Rattle.lab_model.specs.Parts.{Part}
 use Rattle.lab_model.specs.Courses.{op_row, op_node, op_join, op_pipe, IsCommandOf, Plan, join, leave, shape, load_node, load_nodes, rows_from, node_names, fresh, commands, undo, Left, Going, Goes, whole, next}
 use Rattle.lab_model.specs.Leavings.{Sent, ran, did}
-use Rattle.lab_model.proofs.Kept.{Has-filter, Places_from}
+use Rattle.lab_model.proofs.Kept.{Places_from}
 use Rattle.lab_model.proofs.Moves.{claims_old, claims_new, SparesKept, part_shrinks}
 use Rattle.lab_model.proofs.Safe.{LeftIs, next_fine, along}
 

@@ -16,16 +16,16 @@ use Rattle.plant.specs.declared.device.Answer.{Answer}
 use Rattle.plant.specs.declared.device.Fault.{Fault}
 use Rattle.plant.specs.declared.device.DeviceOp.{DeviceOp}
 use Rattle.lab_model.specs.Wants.{Owned}
-use Rattle.lab_model.specs.Claims.{Which, Old, New, claimed, Claims, IsOf, is_placed}
+use Rattle.lab_model.specs.Claims.{Which, Old, New, claimed, Claims, IsOf}
 use Rattle.lab_model.specs.Holding.{Holding}
 use Rattle.lab_model.specs.Courses.{op_row, op_node, rows_from, Left, Course, Going, Cut, Halted, next, answered, Goes, IsCommandOf}
 use Rattle.lab_model.specs.Leavings.{Sent, SameFor, did}
 use Rattle.lab_model.specs.OnCourse.{is_row_of, is_node_of, is_of, own_events, IsAlone}
 use Rattle.lab_model.proofs.Alike.{same_did}
-use Rattle.lab_model.proofs.Kept.{Places_from}
 use Rattle.lab_model.proofs.PartLaws.{same_vlan, same_node}
 use Rattle.lab_model.proofs.Steps.{is_row-true, others_same}
 use Rattle.lab_model.proofs.TraceLaws.{world_push}
+use Rattle.lab_model.proofs.Claiming.{node_claimed}
 
 row_found : (lab : Lab) (os : List Owned) (row : Row) → list_any (λ o. is_row o.row.switch o.row.port o.row.vlan row) os ≡ true → (o : Owned) × Has os o × (o.row ≡ row)
 row_found lab [] row h = absurd (false≢true h)
@@ -37,10 +37,6 @@ row_found lab (o ∷ os) row h = elim (or_cases _ _ h) [
 row_wanted : (lab : Lab) (e : Experiment) (which : Which) (c : Option Mapped) (o : Owned) → claimed e which ≡ c → Has (rows_from lab c) o → IsOf lab e o.row
 row_wanted lab e which None o is h = absurd h
 row_wanted lab e which (Some m) o is h = (which, o.owner, record { mapped = m; is = is; row_of = h })
-
-node_claimed : (lab : Lab) (e : Experiment) (which : Which) (c : Option Mapped) (name : List ℕ) → claimed e which ≡ c → is_placed lab c name ≡ true → Claims lab e name
-node_claimed lab e which None name is h = absurd (false≢true h)
-node_claimed lab e which (Some m) name is h = record { which = which; mapped = m; is = is; placed = Places_from lab m name h }
 
 -- what the test says
 of_row : (lab : Lab) (e : Experiment) (o : Option Row) → is_row_of lab e o ≡ true → (row : Row) × (o ≡ Some row) × IsOf lab e row

@@ -1,7 +1,7 @@
 -- The law of parts.
-use Rattle.std.proofs.Common.{◌≡◌, inl, inr, ℕ, zero, suc, ◌<◌, List, [], ◌∷◌, length, get_or, refl, sym, ap, ◌∙◌, subst, arith}
+use Rattle.std.proofs.Common.{◌≡◌, inl, inr, ℕ, ◌<◌, List, [], ◌∷◌, length, get_or, refl, sym, ap, ◌∙◌, subst, arith}
 use Rattle.lab_base.specs.Lists.{Has}
-use Rattle.lab_base.proofs.Members.{Has-left, Has-right, Has-mapped, Apart-same, flat-same}
+use Rattle.lab_base.proofs.Members.{Has-left, Has-right, Has-mapped, Apart-same, flat-same, Has-get_or}
 use Rattle.phys_lab.specs.Labs.{Lab}
 use Rattle.phys_lab.specs.Kept.{IsLab}
 use Rattle.virt_topo.specs.Ends.{end_nodes}
@@ -21,11 +21,6 @@ use Rattle.lab_model.proofs.LabFacts.{one_port, no_trunk_port}
 use Rattle.lab_model.proofs.SuitLaws.{plug_in, plug_node}
 use Rattle.lab_model.proofs.WiringLaws.{sound_ends}
 use Rattle.lab_model.proofs.Rows.{owned_from, owned_tag}
-
-pub Has-get_or : {X : Type 0} (xs : List X) (k : ℕ) (d : X) → k < length xs → Has xs (get_or xs k d)
-Has-get_or [] k d h = absurd (omega arith)
-Has-get_or (x ∷ xs) zero d h = inl refl
-Has-get_or (x ∷ xs) (suc k) d h = inr (Has-get_or xs k d (omega arith))
 
 -- a row at an interface of a node is wanted by a mapping that places something on that node
 pub placed_at : (lab : Lab) (m : Mapped) (node iface : List ℕ) (o : Owned) → IsLab lab → Suits lab m → IsAt lab node iface o.row → Has (rows_of lab m) o → Places lab m node

@@ -1,9 +1,9 @@
 -- The rows of a mapping: where each comes from.
 use Rattle.std.specs.List.{flat_map, enumerate_from}
-use Rattle.std.proofs.Common.{◌≡◌, ◌⊎◌, inl, inr, ℕ, suc, ◌+◌, ◌<◌, Bool, true, false, List, [], ◌∷◌, ◌++◌, length, map, replicate, take, drop, get_or, sym, ap, ◌∙◌, subst, arith, cond, length-append, length-take, get_or-drop, get_or-take}
+use Rattle.std.proofs.Common.{◌≡◌, ◌⊎◌, inl, inr, ℕ, ◌+◌, ◌<◌, Bool, true, false, List, [], ◌∷◌, ◌++◌, length, map, replicate, take, drop, get_or, sym, ap, ◌∙◌, subst, arith, cond, length-append, length-take, get_or-drop, get_or-take}
 use Rattle.std.proofs.lemmas.List.{length-map, length-replicate, get_or_append_left, get_or-append-add, get_or-replicate}
 use Rattle.lab_base.specs.Lists.{Has, AllDiffer}
-use Rattle.lab_base.proofs.Members.{Has-append, Has-map, Has-flat_map}
+use Rattle.lab_base.proofs.Members.{Has-append, Has-map, Has-flat_map, Has-place}
 use Rattle.lab_base.specs.declared.ids.IfaceId.{IfaceId}
 use Rattle.lab_base.specs.declared.ids.VlanId.{VlanId}
 use Rattle.phys_lab.specs.Labs.{Lab}
@@ -15,11 +15,6 @@ use Rattle.plant.specs.Worlds.{Row}
 use Rattle.lab_model.specs.Uses.{iface_at, is_carried}
 use Rattle.lab_model.specs.Wants.{Owned, switch_name, plug_row, trunk_rows, cable_rows, owned_rows}
 use Rattle.lab_model.specs.Reach.{IsFirstEnd, IsSecondEnd}
-
-pub Has-place : {X : Type 0} (xs : List X) (x d : X) → Has xs x → (k : ℕ) × (k < length xs) × (get_or xs k d ≡ x)
-Has-place [] x d h = absurd h
-Has-place (y ∷ xs) x d (inl e) = (0, omega arith, e)
-Has-place (y ∷ xs) x d (inr h) = let r = Has-place xs x d h in (suc r.0, omega arith, r.2)
 
 Has-if : {X : Type 0} (b : Bool) (xs : List X) (x : X) → Has (cond b xs []) x → Has xs x
 Has-if true xs x h = h

@@ -4,6 +4,7 @@ use Rattle.std.proofs.lemmas.Bool.{and_parts, or_right, not-true}
 use Rattle.std.proofs.lemmas.Option.{same_Some, none-some}
 use Rattle.std.proofs.lemmas.List.{append_assoc}
 use Rattle.lab_base.specs.Lists.{Has, AllDiffer}
+use Rattle.lab_base.proofs.Members.{Has-filter}
 use Rattle.phys_lab.specs.Labs.{Lab}
 use Rattle.phys_lab.specs.Kept.{IsLab}
 use Rattle.virt_topo.specs.declared.experiment.Experiment.{Experiment}
@@ -22,7 +23,6 @@ use Rattle.lab_model.specs.Parts.{Part}
 use Rattle.lab_model.specs.Courses.{join, leave, load_nodes, rows_from, node_names, fresh, commands, undo, Left, Going, Goes, whole, next}
 use Rattle.lab_model.specs.Leavings.{Sent, ran, did}
 use Rattle.lab_model.proofs.Moves.{Cleared, claims_old, claims_new, other, cleared_one_side}
-use Rattle.lab_model.proofs.Kept.{Has-filter}
 use Rattle.lab_model.proofs.Commands.{clears_all, clears_spares, wiped_names}
 use Rattle.lab_model.proofs.Finished.{builds, build_op, booting_adds}
 use Rattle.lab_model.proofs.Ends.{builds_node}

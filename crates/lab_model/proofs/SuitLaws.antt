@@ -1,12 +1,12 @@
 -- The facts that follow from a mapping that suits a lab.
-use Rattle.std.specs.List.{list_any}
 use Rattle.std.specs.Prelude.{zip, replicate, map, ◌++◌, ◌+◌}
 use Rattle.std.proofs.Common.{◌≡◌, inl, inr, ℕ, zero, suc, ◌<◌, ◌≤◌, Bool, true, false, cond, eqb, List, [], ◌∷◌, length, take, get_or, refl, sym, ap, ◌∙◌, subst, arith}
-use Rattle.std.proofs.lemmas.Bool.{and_parts, or_left, or_right, eqb-true, eq-eqb, cases_order}
+use Rattle.std.proofs.lemmas.Bool.{and_parts, eqb-true, eq-eqb, cases_order}
 use Rattle.std.proofs.lemmas.List.Elements.{All-get_or}
 use Rattle.lab_base.specs.Lists.{Has}
 use Rattle.lab_base.specs.declared.ids.IfaceId.{IfaceId}
 use Rattle.lab_base.specs.declared.ids.NodeId.{NodeId}
+use Rattle.lab_base.proofs.Members.{all_has}
 use Rattle.phys_lab.specs.Labs.{Lab}
 use Rattle.virt_topo.specs.declared.wiring.Wiring.{Wiring}
 use Rattle.virt_topo.specs.declared.mapping.Mapping.{Mapping}
@@ -20,12 +20,7 @@ use Rattle.virt_topo.specs.declared.loads.Load.{Load}
 use Rattle.virt_topo.proofs.LoadLaws.{length-loads}
 use Rattle.lab_model.specs.Wants.{node_name, place_of}
 use Rattle.lab_model.specs.Holding.{Suits}
-use Rattle.lab_model.proofs.WiringLaws.{All-has, all_has}
-
-pub any_has : {X : Type 0} (test : X → Bool) (xs : List X) (x : X) → Has xs x → test x ≡ true → list_any test xs ≡ true
-any_has test [] x h t = absurd h
-any_has test (y ∷ xs) x (inl e) t = or_left (test y) (list_any test xs) (ap test e ∙ t)
-any_has test (y ∷ xs) x (inr h) t = or_right (test y) (list_any test xs) (any_has test xs x h t)
+use Rattle.lab_model.proofs.WiringLaws.{All-has}
 
 map_load : {X : Type 0} (f : Load → X) (k : ℕ) (x : Load) (ys : List Load) → map f (replicate k x ++ ys) ≡ replicate k (f x) ++ map f ys
 map_load f zero x ys = refl

@@ -5,7 +5,7 @@ use Rattle.std.proofs.lemmas.Bool.{cases_Bool, or_right, and_from, and_parts, no
 use Rattle.std.proofs.lemmas.List.{append_assoc, append-nil}
 use Rattle.std.proofs.lemmas.Option.{same_Some}
 use Rattle.lab_base.specs.Lists.{Has}
-use Rattle.lab_base.proofs.Members.{Has-append, Has-map}
+use Rattle.lab_base.proofs.Members.{Has-append, Has-map, Has-filter, Has-filtered}
 use Rattle.phys_lab.specs.Labs.{Lab}
 use Rattle.virt_topo.specs.declared.experiment.Experiment.{Experiment}
 use Rattle.virt_topo.specs.declared.mapping.Mapped.{Mapped}
@@ -24,7 +24,7 @@ use Rattle.lab_model.specs.Parts.{Part}
 use Rattle.lab_model.specs.Courses.{op_join, join, leave, rows_from, load_nodes, node_names, fresh, commands, undo, Going, Goes, IsDone, nothing_left}
 use Rattle.lab_model.proofs.Clearing.{done, left_after}
 use Rattle.lab_model.proofs.Moves.{Cleared, claims_old, claims_new, phase_of, other, one_of, cleared_one_side}
-use Rattle.lab_model.proofs.Kept.{Has-filter, Has-filtered, places_it_from, Places_from, placed_listed}
+use Rattle.lab_model.proofs.Kept.{places_it_from, Places_from, placed_listed}
 use Rattle.lab_model.proofs.Begins.{kept_alike_back}
 use Rattle.lab_model.proofs.CourseLaws.{row_came}
 use Rattle.lab_model.proofs.Ends.{done_spares, wiped_clear, builds_node, boots_spare}

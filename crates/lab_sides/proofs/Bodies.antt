@@ -4,7 +4,7 @@ use Rattle.journal_rec.specs.declared.record.Record.{Record}
 use Rattle.journal_rec.specs.Payloads.{number, IsRecord, Decodes}
 use Rattle.journal_rec.proofs.Numbers.{IsBytes}
 use Rattle.journal_model.specs.Journals.{block, size, Broken, no_length, cut_off, no_record}
-use Rattle.lab_sides.proofs.Gates.{whole}
+use Rattle.journal_disk.proofs.Walking.{whole}
 use Rattle.lab_sides.specs.Walks.{IsBehind}
 
 opened : (bytes : List ℕ) → IsBytes bytes → (i : ℕ) → get_or (165 ∷ bytes) i 0 < 256

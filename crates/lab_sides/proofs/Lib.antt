@@ -1,4 +1,3 @@
 mod Placing
 mod Bodies
 mod Stepping
-mod Gates

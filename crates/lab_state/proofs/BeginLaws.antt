@@ -3,6 +3,7 @@ use Rattle.std.proofs.Common.{◌≡◌, ◌==◌, ℕ, true, inl, Option, Some,
 use Rattle.std.proofs.lemmas.Bool.{and_parts}
 use Rattle.std.proofs.lemmas.Option.{same_Some}
 use Rattle.lab_base.proofs.Members.{Has-right}
+use Rattle.lab_base.proofs.Tests.{none_is}
 use Rattle.phys_lab.specs.declared.free.Free.{Free}
 use Rattle.virt_topo.specs.declared.experiment.Experiment.{Experiment}
 use Rattle.virt_topo.specs.declared.experiment.Phase.{Phase}
@@ -31,10 +32,6 @@ use Rattle.lab_state.specs.Kept.{IsKept, ArePrintable, state_of}
 use Rattle.lab_state.specs.Changes.{Begins}
 use Rattle.lab_state.specs.Ends.{is_in}
 use Rattle.lab_state.specs.Moves.{standing_in, moving}
-
-pub none_true : {X : Type 0} (o : Option X) → is_none o ≡ true → o ≡ None
-none_true None h = refl
-none_true (Some x) h = absurd (cc h)
 
 -- the experiment stands still: it is out, or in
 pub data IsStill (p : Phase) : Type 0 where
@@ -117,7 +114,7 @@ module _ (place : ClaimedLab) (es : List Experiment) (exp : List ℕ) (e : Exper
         → Begins (state_of (Some place) es) (moving e (Some new)) (claim_of place.lab (moving e (Some new)))
     begins_to new text shaped can =
         let tests : (is_none (violation_beside place.lab (others e.name es) e new.wiring new.mapping) ≡ true) × (are_free_tags place.lab es new.wiring new.tags ≡ true) = and_parts _ _ can in
-        let none : violation_beside place.lab (at_exp.before ++ at_exp.after) e new.wiring new.mapping ≡ None = none_true _ (subst (λ l. is_none (violation_beside place.lab l e new.wiring new.mapping) ≡ true) rest tests.0) in
+        let none : violation_beside place.lab (at_exp.before ++ at_exp.after) e new.wiring new.mapping ≡ None = none_is _ (subst (λ l. is_none (violation_beside place.lab l e new.wiring new.mapping) ≡ true) rest tests.0) in
         let free : are_free_tags place.lab (at_exp.before ++ e ∷ at_exp.after) new.wiring new.tags ≡ true = subst (λ l. are_free_tags place.lab l new.wiring new.tags ≡ true) at_exp.whole tests.1 in
         record {
           lab = place.lab;

@@ -1,7 +1,5 @@
 -- Each experiment of a lab that records give: its wirings have texts, and it moves from its own wiring, or to it.
-use Rattle.std.proofs.Common.{◌≡◌, ◌⊎◌, inl, inr, ℕ, Bool, true, false, ◌&&◌, if◌then◌else◌, is_none, nat_le, Option, Some, None, List, [], ◌∷◌, ◌++◌, length, refl, sym, ap, ◌∙◌, subst}
-use Rattle.std.specs.Str.{bytes_eq}
-use Rattle.std.proofs.lemmas.Bool.{cases_Bool, cond-true, cond-false}
+use Rattle.std.proofs.Common.{◌≡◌, inl, inr, ℕ, Bool, true, false, ◌&&◌, if◌then◌else◌, is_none, nat_le, Option, Some, None, List, [], ◌∷◌, ◌++◌, length, refl, sym, ap, ◌∙◌, subst}
 use Rattle.std.proofs.lemmas.Option.{same_Some}
 use Rattle.lab_base.specs.Lists.{Has}
 use Rattle.lab_base.proofs.Members.{Has-append, Has-right}
@@ -14,8 +12,8 @@ use Rattle.virt_topo.specs.Wirings.{mapped}
 use Rattle.journal_rec.specs.declared.record.Way.TheVariants.{In as WayIn, Out as WayOut, Change as WayChange, Change2 as WayChange2}
 use Rattle.journal_rec.specs.declared.record.Record.{Record}
 use Rattle.journal_rec.specs.declared.record.Record.TheVariants.{Lab as LabRecord, Create, Delete, Begin, Commit, Abort, Create2}
-use Rattle.records_model.specs.Labs.{LabState, Move, SetLab, Creates, Deletes, BeginsIn, BeginsOut, BeginsChange, Commits, Aborts, find, replace, others, in_phase, can_take, becomes, is_out, moved_one, deleted, in_state, moved_of, Texts, HasText, Says, FoldsTo, LabOf, at_first}
-use Rattle.records_model.proofs.Finding.{none_some, found_from}
+use Rattle.records_model.specs.Labs.{LabState, Move, SetLab, Creates, Deletes, BeginsIn, BeginsOut, BeginsChange, Commits, Aborts, find, others, in_phase, can_take, becomes, is_out, moved_one, deleted, in_state, moved_of, Texts, HasText, Says, FoldsTo, LabOf, at_first}
+use Rattle.records_model.proofs.Finding.{none_some, found_from, has_replaced, has_others}
 use Rattle.records_model.proofs.LabLaws.{in_state-some, with_replaced-some, found_one}
 
 abbrev pub IsFormedPhase : Texts → Wiring → Phase → Type 0
@@ -73,29 +71,6 @@ becomes_formed t lab es e g (Moving None (Some new)) (Aborts name) worded text f
 becomes_formed t lab es e g (Moving (Some old) (Some new)) (Aborts name) worded text formed h =
     subst (IsFormed t) (same_Some _ g h) (record { wiring = subst (HasText t) (sym formed.0) text; phase = tt })
 becomes_formed t lab es e g p move worded text formed h = none_some g h
-
-has_replaced : (name : List ℕ) (g : Experiment) (es : List Experiment) (x : Experiment) → Has (replace name g es) x → (g ≡ x) ⊎ Has es x
-has_replaced name g [] x h = absurd h
-has_replaced name g (e ∷ es) x h = elim (cases_Bool (bytes_eq e.name name)) [
-  | inl yes' ↦ elim (turned yes') [ inl here ↦ inl here | inr there ↦ inr (inr there) ]
-  | inr no' ↦ elim (left no') [ inl here ↦ inr (inl here) | inr there ↦ elim (has_replaced name g es x there) [ inl is ↦ inl is | inr more ↦ inr (inr more) ] ]
-]
-  where
-    turned : bytes_eq e.name name ≡ true → Has (g ∷ es) x
-    turned yes' = subst (λ l. Has l x) (cond-true (bytes_eq e.name name) (g ∷ es) (e ∷ replace name g es) yes') h
-
-    left : bytes_eq e.name name ≡ false → Has (e ∷ replace name g es) x
-    left no' = subst (λ l. Has l x) (cond-false (bytes_eq e.name name) (g ∷ es) (e ∷ replace name g es) no') h
-
-has_others : (name : List ℕ) (es : List Experiment) (x : Experiment) → Has (others name es) x → Has es x
-has_others name [] x h = h
-has_others name (e ∷ es) x h = elim (cases_Bool (bytes_eq e.name name)) [
-  | inl yes' ↦ inr (subst (λ l. Has l x) (cond-true (bytes_eq e.name name) es (e ∷ others name es) yes') h)
-  | inr no' ↦ elim (left no') [ inl here ↦ inl here | inr there ↦ inr (has_others name es x there) ]
-]
-  where
-    left : bytes_eq e.name name ≡ false → Has (e ∷ others name es) x
-    left no' = subst (λ l. Has l x) (cond-false (bytes_eq e.name name) es (e ∷ others name es) no') h
 
 deleted_some : (name : List ℕ) (es : List Experiment) (o : Option Experiment) (xs : List Experiment) → deleted name es o ≡ Some xs → others name es ≡ xs
 deleted_some name es None xs h = none_some xs h

@@ -2,17 +2,17 @@
 use Rattle.std.proofs.Common.{◌≡◌, ◌≤◌, ◌<◌, ℕ, Bool, true, false, Option, Some, None, is_some, is_none, List, [], ◌∷◌, ◌++◌, length, nat_le, ◌&&◌, if◌then◌else◌, refl, sym, ap, subst, ◌∙◌, arith, Err, Bor, option_copied}
 use Rattle.std.proofs.lemmas.Bool.{and_parts, leb-true, le-leb}
 use Rattle.std.proofs.lemmas.Option.{same_Some}
+use Rattle.lab_base.proofs.Tests.{none_is}
 use Rattle.phys_lab.specs.Labs.{Lab}
 use Rattle.phys_lab.specs.Kept.{IsLab}
 use Rattle.virt_topo.specs.declared.experiment.Experiment.{Experiment}
-use Rattle.virt_topo.specs.declared.experiment.Phase.{Phase}
-use Rattle.virt_topo.specs.declared.experiment.Phase.TheVariants.{Out, In, Moving}
+use Rattle.virt_topo.specs.declared.experiment.Phase.TheVariants.{Out}
 use Rattle.virt_topo.specs.declared.wiring.Wiring.{Wiring}
 use Rattle.journal_rec.specs.declared.record.Record.{Record}
 use Rattle.journal_rec.specs.declared.record.Record.TheVariants.{Lab as LabRecord, Delete}
 use Rattle.records_model.specs.Labs.{LabState, SetLab, Creates, Deletes, create_in, SaysTop, Follows, CannotFollow, find, others, replace, deleted, is_out, moved, moved_of, moved_in, in_state}
 use Rattle.records_model.proofs.Finding.{none_some}
-use Rattle.records_model.proofs.LabLaws.{in_state-some, says_create, create_says}
+use Rattle.records_model.proofs.LabLaws.{in_state-some, says_create, create_says, out_is}
 use Rattle.claims.specs.Answered.{none_of}
 use Rattle.lab_state.specs.declared.claimed_lab.ClaimedLab.{ClaimedLab}
 use Rattle.lab_state.specs.declared.fault.PrepareFault.{PrepareFault}
@@ -47,10 +47,6 @@ lab_follows (Some p) es ptop place none is text claims = absurd (cc none)
 if_some : {X : Type 0} (t : Bool) (x y : X) → ◌≡◌ {A = Option X} (if t then Some x else None) (Some y) → (t ≡ true) × (x ≡ y)
 if_some true x y h = (refl, same_Some x y h)
 if_some false x y h = none_some y h
-
-none_is : {X : Type 0} (o : Option X) → is_none o ≡ true → o ≡ None
-none_is None h = refl
-none_is (Some x) h = absurd (cc h)
 
 not_some : {X : Type 0} (o : Option X) → is_some o ≡ false → o ≡ None
 not_some None h = refl
@@ -142,11 +138,6 @@ delete_inside o es exp e found inside u f =
     let d = delete_says o es exp u f in
     let same : e ≡ d.0 = same_Some e d.0 (sym found ∙ d.1) in
     let both : false ≡ true = sym inside ∙ ap (λ (x : Experiment). is_out x.phase) same ∙ d.2 in cc both
-
-out_is : (p : Phase) → is_out p ≡ true → p ≡ Out
-out_is Out h = refl
-out_is (In m tags) h = absurd (cc h)
-out_is (Moving old new) h = absurd (cc h)
 
 pub delete_follows : (o : Option ClaimedLab) (es : List Experiment) (exp : List ℕ) (e : Experiment) → IsKept o es → find exp es ≡ Some e → is_out e.phase ≡ true → CanFollow (state_of o es) (Delete exp) (changes.Remove exp)
 delete_follows None es exp e kept found out =

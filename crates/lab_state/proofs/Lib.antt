@@ -11,4 +11,4 @@ mod ReplayLaws
 mod SizeLaws
 mod SwapLaws
 mod Taken
-mod TextLaws
+pub mod TextLaws

@@ -3,12 +3,12 @@ use Rattle.std.proofs.Common.{◌≡◌, ℕ, Bool, true, false, is_some, inl, i
 use Rattle.std.specs.Str.{bytes_eq}
 use Rattle.std.specs.Result.{is_ok}
 use Rattle.std.specs.Map.{lookup, remove_entry, keys_of}
-use Rattle.std.specs.Cmp.Lexicographic.{nat_list_eq_equiv}
 use Rattle.std.proofs.lemmas.Bool.{cases_Bool, cond-true, cond-false}
 use Rattle.std.proofs.lemmas.List.{map-append}
 use Rattle.std.proofs.lemmas.Slice.Eq.{bytes_eq-Decides}
 use Rattle.indexmap.specs.IndexMap.{insert_entry, set_value_at}
 use Rattle.indexmap.proofs.MapLemmas.{Found-position, insert_entry-first}
+use Rattle.lab_base.proofs.Bytes.{bytes_turned}
 use Rattle.virt_topo.specs.declared.experiment.Experiment.{Experiment}
 use Rattle.records_model.specs.Labs.{find, others, replace}
 use Rattle.virt_topo.specs.declared.mapping.Mapped.{Mapped}
@@ -17,9 +17,6 @@ use Rattle.lab_state.specs.Experiments.{experiments_of, AtNames}
 
 abbrev pub Entries : Type 0
 Entries = List (List ℕ × Experiment)
-
-flipped : (a b : List ℕ) → bytes_eq a b ≡ bytes_eq b a
-flipped a b = nat_list_eq_equiv.symm a b
 
 -- the first stands at its name, and so do the rest
 head_at : (e : List ℕ × Experiment) (entries : Entries) → AtNames (e ∷ entries) → e.0 ≡ e.1.name
@@ -30,7 +27,7 @@ tail_at e entries at = cc at
 
 -- the test of a name at an entry
 test_at : (name : List ℕ) (e : List ℕ × Experiment) → e.0 ≡ e.1.name → bytes_eq e.1.name name ≡ bytes_eq name e.0
-test_at name e at = ap (λ n. bytes_eq n name) (sym at) ∙ flipped e.0 name
+test_at name e at = ap (λ n. bytes_eq n name) (sym at) ∙ bytes_turned e.0 name
 
 -- the experiment of a name is the one at that key
 pub find_is : (name : List ℕ) (entries : Entries) → AtNames entries → find name (experiments_of entries) ≡ lookup (bytes_eq name) entries

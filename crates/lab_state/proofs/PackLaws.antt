@@ -2,12 +2,13 @@
 use Rattle.std.specs.Str.{bytes_eq}
 use Rattle.std.specs.List.{flat_map, sum_by}
 use Rattle.std.proofs.Common.{◌≡◌, ◌≢◌, inl, inr, ℕ, ◌+◌, ◌≤◌, Bool, true, false, ◌&&◌, if◌then◌else◌, Option, Some, None, is_none, List, [], ◌∷◌, ◌++◌, map, length, nat_le, refl, sym, ap, ◌∙◌, subst, arith, length-append, append_assoc}
-use Rattle.std.proofs.lemmas.Bool.{cases_Bool, cond-true, cond-false, le-leb}
+use Rattle.std.proofs.lemmas.Bool.{cond-true, cond-false, le-leb}
 use Rattle.std.proofs.lemmas.List.{append-nil}
 use Rattle.std.proofs.lemmas.List.Sums.{sum_by-append}
 use Rattle.std.proofs.lemmas.Slice.Eq.{bytes_eq-Decides}
 use Rattle.lab_base.specs.Lists.{Has, AllDiffer}
 use Rattle.lab_base.proofs.Members.{Has-right, Has-mapped, Apart-across, flat-each}
+use Rattle.lab_base.proofs.Bytes.{bytes_other}
 use Rattle.phys_lab.specs.Labs.{Lab}
 use Rattle.phys_lab.specs.Kept.{IsLab}
 use Rattle.virt_topo.specs.declared.wiring.Wiring.{Wiring}
@@ -39,9 +40,6 @@ pub record AtEnd (name : List ℕ) (done : List Experiment) (g : Experiment) : T
 abbrev IsNew : List ℕ → List Experiment → Type 0
 IsNew name done = (x : Experiment) → Has done x → x.name ≢ name
 
-another : (x name : List ℕ) → x ≢ name → bytes_eq x name ≡ false
-another x name apart = elim (cases_Bool (bytes_eq x name)) [ inl yes' ↦ absurd (apart ((bytes_eq-Decides x name).0 yes')) | inr no' ↦ no' ]
-
 at_end : (name : List ℕ) (done : List Experiment) (g : Experiment) → IsNew name done → g.name ≡ name → AtEnd name done g
 at_end name [] g new is =
     let yes' : bytes_eq g.name name ≡ true = (bytes_eq-Decides g.name name).1 is in
@@ -51,7 +49,7 @@ at_end name [] g new is =
       rest = cond-true (bytes_eq g.name name) [] (g ∷ []) yes';
     }
 at_end name (x ∷ done) g new is =
-    let no' : bytes_eq x.name name ≡ false = another x.name name (new x (inl refl)) in
+    let no' : bytes_eq x.name name ≡ false = bytes_other x.name name (new x (inl refl)) in
     let more = at_end name done g (λ y h. new y (inr h)) is in
     record {
       found = cond-false (bytes_eq x.name name) (Some x) (find name (done ++ g ∷ [])) no' ∙ more.found;
@@ -61,7 +59,7 @@ at_end name (x ∷ done) g new is =
 
 not_there : (name : List ℕ) (done : List Experiment) → IsNew name done → find name done ≡ None
 not_there name [] new = refl
-not_there name (x ∷ done) new = cond-false (bytes_eq x.name name) (Some x) (find name done) (another x.name name (new x (inl refl))) ∙ not_there name done (λ y h. new y (inr h))
+not_there name (x ∷ done) new = cond-false (bytes_eq x.name name) (Some x) (find name done) (bytes_other x.name name (new x (inl refl))) ∙ not_there name done (λ y h. new y (inr h))
 
 abbrev state : Lab → List Experiment → LabState
 state lab es = record { lab = Some lab; experiments = es }

@@ -1,30 +1,28 @@
 -- Records that are packed one behind the other.
 use Rattle.std.specs.List.{flat_map}
-use Rattle.std.proofs.Common.{◌≡◌, ◌+◌, ◌<◌, ◌≤◌, ◌*◌, ℕ, zero, suc, Bool, true, false, not, ◌==◌, if◌then◌else◌, inl, inr, Option, Some, None, Result, Ok, Err, List, [], ◌∷◌, ◌++◌, length, take, refl, sym, ap, ◌∙◌, subst, arith, add-one, length-append, append_assoc}
+use Rattle.std.proofs.Common.{◌≡◌, ◌+◌, ◌<◌, ◌≤◌, ℕ, zero, suc, Bool, true, false, Option, Some, None, Result, Ok, Err, List, [], ◌∷◌, ◌++◌, length, take, refl, sym, ap, ◌∙◌, subst, arith, add-one, length-append, append_assoc}
 use Rattle.std.specs.Prelude.{OnOk, slice_get}
 use Rattle.std.specs.Option.{unwrap_or}
 use Rattle.std.proofs.Math.Seq.{take-suc}
 use Rattle.std.proofs.lemmas.Option.{slice_get_within, unwrap_or-slice_get}
 use Rattle.std.proofs.lemmas.List.{append-nil, take_all}
 use Rattle.std.proofs.lemmas.Grind.{flat_map-append}
-use Rattle.std.proofs.lemmas.Bool.{cases_Bool, and_parts, leb-true}
 use Rattle.lab_base.specs.Names.{is_name}
 use Rattle.lab_base.specs.declared.ids.VlanId.{VlanId}
+use Rattle.lab_base.proofs.Names.{name_short}
 use Rattle.virt_topo.specs.declared.wiring.Wiring.{Wiring}
-use Rattle.virt_topo.specs.Soundness.{keeps_limits, knows_all, has_twice, has_same, has_bad_pipe, IsSound}
-use Rattle.virt_topo.specs.declared.fault.WiringFault.{WiringFault}
-use Rattle.virt_topo.specs.declared.fault.WiringFault.TheVariants as faults
 use Rattle.virt_topo.specs.declared.mapping.Mapped.{Mapped}
 use Rattle.phys_lab.specs.Labs.{Lab as AnyLab}
 use Rattle.lab_model.specs.Holding.{Suits}
-use Rattle.virt_topo.proofs.CableLaws.{limits_of}
-use Rattle.journal_rec.specs.Payloads.{IsShort, IsBody, tag_bytes, tags_bytes, text_bytes, way_bytes}
+use Rattle.virt_topo.proofs.CableLaws.{limits_of, sound_keeps}
+use Rattle.journal_rec.specs.Payloads.{IsShort, IsBody, tags_bytes, text_bytes, way_bytes}
 use Rattle.journal_rec.specs.declared.record.Record.{Record}
 use Rattle.journal_rec.specs.declared.record.Record.TheVariants.{Lab, Begin, Commit}
 use Rattle.journal_rec.specs.declared.record.Way.TheVariants.{In as WayIn, Out as WayOut, Change as WayChange, Change2 as WayChange2}
 use Rattle.journal_packed.specs.Packing.{ArePacked}
 use Rattle.virt_topo.specs.declared.experiment.Experiment.{Experiment}
 use Rattle.virt_topo.specs.declared.experiment.Phase.TheVariants.{Moving}
+use Rattle.journal_rec.proofs.Fields.{tags_size}
 use Rattle.records_model.specs.Labs.{Texts, create_in, change_in}
 use Rattle.records_model.proofs.Finding.{none_some}
 use Rattle.lab_state.specs.Packing.{packed_phase, PacksMore}
@@ -45,25 +43,9 @@ packs_then (Ok u) one two three rs ss first second = packs_on one two three rs s
 packs_then (Err e) one two three rs ss first second = tt
 
 -- ---- records are short
-name_short : (name : List ℕ) → is_name name ≡ true → length name ≤ 32
-name_short name is = leb-true (length name) 32 (and_parts _ _ (and_parts _ _ is).1).0
-
-tags_size : (tags : List VlanId) → length (flat_map tag_bytes tags) ≡ 2 * length tags
-tags_size [] = refl
-tags_size (tag ∷ tags) = omega (arith, length-append (tag_bytes tag) (flat_map tag_bytes tags), tags_size tags)
-
--- a mapping that suits a lab has few VLAN ids
-limits_kept : (w : Wiring) → IsSound w → keeps_limits w ≡ true
-limits_kept w sound = elim (cases_Bool (keeps_limits w)) [
-  | inl yes' ↦ yes'
-  | inr no' ↦ absurd (cc (broken no'))
-]
-  where
-    broken : keeps_limits w ≡ false → ◌≡◌ {A = Option WiringFault} (Some faults.Limit) None
-    broken no' = sym (ap (λ (b : Bool). if not b then Some faults.Limit else if not (knows_all w) then Some faults.Unknown else if has_twice w then Some faults.Twice else if has_same w then Some faults.Same else if has_bad_pipe w then Some faults.Pipe else if length w.nodes == 0 then Some faults.Empty else None) no') ∙ sound
 
 pub few_tags : (lab : AnyLab) (m : Mapped) → Suits lab m → length m.tags ≤ 512
-few_tags lab m suits = omega (arith, suits.tags, (limits_of m.wiring (limits_kept m.wiring suits.sound)).segments)
+few_tags lab m suits = omega (arith, suits.tags, (limits_of m.wiring (sound_keeps m.wiring suits.sound)).segments)
 
 pub lab_is_short : (ptop : List ℕ) → length ptop ≤ 16777216 → IsShort (Lab ptop)
 lab_is_short ptop short = record { tags = omega arith; size = omega (arith, short) }

@@ -251,11 +251,6 @@ module _ (place : ClaimedLab) (es : List Experiment) (exp : List ℕ) (e : Exper
   after_is : (f : Experiment) → f.name ≡ e.name → state place.lab (replace exp f es) ≡ record { lab = Some place.lab; experiments = replace f.name f es }
   after_is f same = ap (λ n. state place.lab (replace n f es)) (sym (same ∙ name_is))
 
-  out_phase : (p : Phase) → is_out p ≡ true → p ≡ Out
-  out_phase Out h = refl
-  out_phase (In m tags) h = absurd (cc h)
-  out_phase (Moving old new) h = absurd (cc h)
-
   turns_in : (m : Mapping) (tags : List VlanId) (p : Phase) → is_out p ≡ true → can_take place.lab es e (mapped e.wiring m tags) ≡ true
       → becomes place.lab es e p (BeginsIn exp m tags) ≡ Some (in_phase e (Moving (standing_in e.wiring p) (Some (mapped e.wiring m tags))))
   turns_in m tags Out out can = ap (λ (t : Bool). if t then Some (in_phase e (Moving None (Some (mapped e.wiring m tags)))) else None) can

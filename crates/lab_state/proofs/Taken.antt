@@ -1,12 +1,12 @@
 -- A mapping that is held beside other experiments can be taken beside them.
-use Rattle.std.specs.List.{flat_map, list_any, list_all, sum_by}
-use Rattle.std.proofs.Common.{◌≡◌, ◌≢◌, ◌⊎◌, inl, inr, ℕ, ◌+◌, ◌<◌, ◌≤◌, Bool, true, false, not, ◌&&◌, ◌||◌, ◌==◌, Option, Some, None, is_none, List, [], ◌∷◌, ◌++◌, map, length, nat_le, refl, sym, ap, ◌∙◌, subst, arith, length-append}
-use Rattle.std.proofs.lemmas.Bool.{cases_Bool, or_cases, eq-eqb, eqb-true, le-leb}
+use Rattle.std.specs.List.{flat_map, list_any, sum_by}
+use Rattle.std.proofs.Common.{◌≡◌, ◌≢◌, ◌⊎◌, inl, inr, ℕ, ◌+◌, ◌<◌, ◌≤◌, true, false, not, ◌&&◌, ◌==◌, Option, Some, None, is_none, List, [], ◌∷◌, ◌++◌, map, length, nat_le, refl, sym, ap, ◌∙◌, subst, arith, length-append}
+use Rattle.std.proofs.lemmas.Bool.{eq-eqb, eqb-true, le-leb}
 use Rattle.std.proofs.lemmas.List.{length-map}
 use Rattle.std.proofs.lemmas.List.Sums.{sum_by-append}
 use Rattle.std.proofs.lemmas.Grind.{flat_map-append}
 use Rattle.lab_base.specs.Lists.{Has, AllDiffer}
-use Rattle.lab_base.proofs.Members.{Has-append, Has-left, Has-mapped, Has-flat_map, Apart-left}
+use Rattle.lab_base.proofs.Members.{Has-append, Has-left, Has-mapped, Has-flat_map, Apart-left, Has-get_or, none_of, all_from}
 use Rattle.lab_base.specs.declared.ids.VlanId.{VlanId}
 use Rattle.phys_lab.specs.Labs.{Lab}
 use Rattle.phys_lab.specs.Sides.{trunk_at}
@@ -17,42 +17,16 @@ use Rattle.virt_topo.specs.declared.experiment.Experiment.{Experiment}
 use Rattle.lab_model.specs.Uses.{use_of}
 use Rattle.lab_model.specs.Wants.{node_name}
 use Rattle.lab_model.specs.Rules.{no_place, place_at}
-use Rattle.lab_model.specs.Claims.{Which, Old, New, claimed, Places, is_placed, claims_it, Claims, claimed_tags, claimed_use, tags_of}
+use Rattle.lab_model.specs.Claims.{Which, Old, New, claimed, Places, claims_it, Claims, claimed_tags, claimed_use, tags_of}
 use Rattle.lab_model.specs.Holding.{Holding, Suits}
-use Rattle.lab_model.specs.Beside.{segments_in, claimed_segments, ids_of, is_unclaimed, has_room, has_ids, violation_beside, all_differ, are_free_tags}
+use Rattle.lab_model.specs.Beside.{segments_in, claimed_segments, ids_of, is_unclaimed, has_room, has_ids, violation_beside, are_free_tags}
 use Rattle.lab_model.specs.Feasible.{Kept}
-use Rattle.lab_model.proofs.Kept.{Places_from}
-use Rattle.lab_model.proofs.WiringLaws.{has_at}
 use Rattle.lab_model.proofs.FirstViolation.{none_found}
 use Rattle.lab_model.proofs.FeasibleLaws.{TakesOne}
+use Rattle.lab_model.proofs.BesideLaws.{differ_test}
+use Rattle.lab_model.proofs.Claiming.{claims_from}
 use Rattle.records_model.specs.Labs.{others, can_take}
 use Rattle.claims.proofs.Ranges.{rest_of_range}
-
--- ---- tests
-no_any : {X : Type 0} (test : X → Bool) (xs : List X) → ((x : X) → Has xs x → test x ≡ true → ⊥) → list_any test xs ≡ false
-no_any test [] none = refl
-no_any test (x ∷ xs) none = elim (cases_Bool (test x)) [
-  | inl yes' ↦ absurd (none x (inl refl) yes')
-  | inr no' ↦ ap (λ b. b || list_any test xs) no' ∙ no_any test xs (λ y h. none y (inr h))
-]
-
-each_all : {X : Type 0} (test : X → Bool) (xs : List X) → ((x : X) → Has xs x → test x ≡ true) → list_all test xs ≡ true
-each_all test [] each = refl
-each_all test (x ∷ xs) each = (λ i. each x (inl refl) i && each_all test xs (λ y h. each y (inr h)) i)
-
-differ_test : (xs : List ℕ) → AllDiffer xs → all_differ xs ≡ true
-differ_test [] differ = refl
-differ_test (x ∷ xs) differ = (λ i. not (no_any (λ y. y == x) xs (λ y h is. differ.0 y h (sym (eqb-true y x is))) i) && differ_test xs differ.1 i)
-
-placed_from : (lab : Lab) (e : Experiment) (which : Which) (o : Option Mapped) (name : List ℕ) → claimed e which ≡ o → is_placed lab o name ≡ true → Claims lab e name
-placed_from lab e which None name is test = absurd (cc test)
-placed_from lab e which (Some m) name is test = record { which = which; mapped = m; is = is; placed = Places_from lab m name test }
-
-claims_from : (lab : Lab) (e : Experiment) (name : List ℕ) → claims_it lab e name ≡ true → Claims lab e name
-claims_from lab e name test = elim (or_cases (is_placed lab (claimed e Old) name) (is_placed lab (claimed e New) name) test) [
-  | inl old ↦ placed_from lab e Old (claimed e Old) name refl old
-  | inr new ↦ placed_from lab e New (claimed e New) name refl new
-]
 
 -- ---- the mapping
 module _ (lab : Lab) (done : List Experiment) (own : Experiment) (m : Mapped) (takes : TakesOne lab done [] (Some m)) where
@@ -62,8 +36,8 @@ module _ (lab : Lab) (done : List Experiment) (own : Experiment) (m : Mapped) (t
   unclaimed_at : (v : ℕ) → v < length m.wiring.nodes → is_unclaimed lab done m.mapping v ≡ true
   unclaimed_at v within =
       let name = node_name lab (place_at m.mapping v).0 in
-      let placed : Places lab m name = Has-mapped (λ p. node_name lab p.0) m.mapping.places (place_at m.mapping v) (has_at m.mapping.places v no_place (omega (arith, within, suits.shaped.places))) in
-      ap not (no_any (λ e. claims_it lab e name) done (λ y h test. takes.nodes m y name refl (inl h) placed (claims_from lab y name test)))
+      let placed : Places lab m name = Has-mapped (λ p. node_name lab p.0) m.mapping.places (place_at m.mapping v) (Has-get_or m.mapping.places v no_place (omega (arith, within, suits.shaped.places))) in
+      ap not (none_of (λ e. claims_it lab e name) done (λ y h test. takes.nodes m y name refl (inl h) placed (claims_from lab y name test)))
 
   room_at : (k : ℕ) → k < length lab.trunks → has_room lab done m.wiring m.mapping k ≡ true
   room_at k within =
@@ -89,7 +63,7 @@ module _ (lab : Lab) (done : List Experiment) (own : Experiment) (m : Mapped) (t
   free_tag es apart tag h =
       let mine : Has (tags_of (Some m)) tag.0 = Has-mapped (λ x. x.0) m.tags tag h in
       let range = takes.in_range tag.0 mine in
-      let none : list_any (λ u. u == tag.0) (flat_map claimed_tags es) ≡ false = no_any (λ u. u == tag.0) (flat_map claimed_tags es) (λ u g is.
+      let none : list_any (λ u. u == tag.0) (flat_map claimed_tags es) ≡ false = none_of (λ u. u == tag.0) (flat_map claimed_tags es) (λ u g is.
       let r = Has-flat_map claimed_tags es u g in apart r.0 tag.0 r.1 mine (subst (λ x. Has (claimed_tags r.0) x) (eqb-true u tag.0 is) r.2)) in
       (λ i. le-leb lab.range.0 tag.0 range.0 i && le-leb tag.0 lab.range.1 range.1 i && not (none i))
 
@@ -97,7 +71,7 @@ module _ (lab : Lab) (done : List Experiment) (own : Experiment) (m : Mapped) (t
   free_tags es apart =
       (λ i. eq-eqb (length m.tags) (length m.wiring.segments) suits.tags i
       && differ_test (map (λ tag. tag.0) m.tags) takes.differ i
-      && each_all (λ tag. nat_le lab.range.0 tag.0 && nat_le tag.0 lab.range.1 && not (list_any (λ u. u == tag.0) (flat_map claimed_tags es))) m.tags (free_tag es apart) i)
+      && all_from (λ tag. nat_le lab.range.0 tag.0 && nat_le tag.0 lab.range.1 && not (list_any (λ u. u == tag.0) (flat_map claimed_tags es))) m.tags (free_tag es apart) i)
 
   -- IT CAN BE TAKEN
   pub taken : others own.name (done ++ own ∷ []) ≡ done → ((v : ℕ) → Has (tags_of (Some m)) v → Has (claimed_tags own) v → ⊥) → length m.wiring.segments + sum_by claimed_segments (own ∷ done) ≤ ids_of lab

@@ -1,6 +1,7 @@
 -- A command is answered, behind its mark.
 use Rattle.std.proofs.Common.{◌≡◌, inr, ℕ, Bool, true, List, Option, Some, None, Result, Ok, Err, refl, subst}
 use Rattle.std.specs.Prelude.{OnOk}
+use Rattle.lab_base.proofs.Tests.{some_weaker}
 use Rattle.script_text.specs.declared.command.Command.{Command}
 use Rattle.script_text.specs.declared.reply.Reply.{Reply}
 use Rattle.plant.specs.declared.drill.Drill.{Drill}
@@ -21,7 +22,7 @@ use Rattle.lab_top.specs.declared.command.CommandFault.TheVariants as faults
 use Rattle.lab_top.specs.Answering.{Moment, Made, Ends, Sent, Answered, marked, piece_of}
 use Rattle.lab_top.specs.Pieces.{Finds, IsPlannedAs, IsPlannedBy, broken_off, opened, text as but_text}
 use Rattle.lab_top.proofs.Obeyed.{opened_none}
-use Rattle.lab_top.proofs.Stepping.{map_some, silent_done}
+use Rattle.lab_top.proofs.Stepping.{silent_done}
 
 pub marked_so : (old mid : Seen) (controller : Option Control) → mid ≡ record old { told = with_mark old.told old.faults } → ◌≡◌ {A = Moment} (record { plant = mid; controller = controller }) (marked (record { plant = old; controller = controller }))
 marked_so old mid controller is i = record { plant = is i; controller = controller }
@@ -56,7 +57,7 @@ silent_made terms command old new from to told made =
         planned = b.planned;
         told = b.told;
         planned_by = silent_by terms (drill_of command) b.planned reply b.planned_by;
-        is_piece = map_some old.plant.told (λ t is. record {
+        is_piece = some_weaker old.plant.told _ _ (λ t is. record {
           readable = is.readable;
           finds = silent_finds (drill_of command) t.trace command mark from to b.opening b.own reply is.finds;
           leaves = λ shut. refl;
@@ -74,7 +75,7 @@ silent_made terms command old new from to told made =
       shut = λ shut. refl;
       runs = λ some. absurd (cc some);
       goes_on = λ some. absurd (cc some);
-      wants = λ none runs. map_some old.plant.told (λ t is. but_text told to is) b.is_piece;
+      wants = λ none runs. some_weaker old.plant.told _ _ (λ t is. but_text told to is) b.is_piece;
     }
 
 pub answered_not : (terms : Terms) (command : Command) (old mid new : Moment) (from : Session) (written : Option (List ℕ)) (taken : Reply → Type 0) (fault : CommandFault) → mid ≡ marked old

@@ -1,14 +1,14 @@
 -- Audits in a run: the reports that they tell, and that they change nothing.
-use Rattle.std.proofs.Common.{◌≡◌, ◌⊎◌, inl, inr, ⊎_elim, ℕ, ◌^◌, Bool, true, false, List, [], ◌∷◌, ◌++◌, append_assoc, map, Option, Some, refl, sym, ◌∙◌, ap, subst, arith}
+use Rattle.std.proofs.Common.{◌≡◌, ◌⊎◌, inl, inr, ⊎_elim, ℕ, ◌^◌, Bool, true, false, List, [], ◌∷◌, ◌++◌, append_assoc, map, Option, Some, refl, sym, ◌∙◌, ap, subst}
 use Rattle.std.proofs.lemmas.List.{append-nil}
 use Rattle.lab_base.specs.Counts.{Rose}
-use Rattle.plant.specs.Disks.{Disk, IsImage, ArePossible, disk}
+use Rattle.plant.specs.Disks.{ArePossible, disk}
 use Rattle.plant.specs.Events.{Event, Unread}
 use Rattle.plant.specs.Told.{Told}
 use Rattle.plant.specs.Worlds.{World, world_of}
-use Rattle.plant.specs.declared.step.Side.{Side}
 use Rattle.plant.specs.declared.step.Side.TheVariants.{A, B}
-use Rattle.journal_model.proofs.Traces.{disk_push}
+use Rattle.plant.proofs.Traces.{unread_disk}
+use Rattle.plant.proofs.Images.{durable_image}
 use Rattle.lab_model.specs.OnCourse.{own_events}
 use Rattle.lab_model.proofs.TraceLaws.{world_push}
 use Rattle.records_model.specs.Labs.{LabState, lab_in}
@@ -39,10 +39,6 @@ use Rattle.lab_top.specs.Ran.{Outside, Ran}
 use Rattle.lab_top.specs.declared.status.Status.{Status}
 use Rattle.lab_top.proofs.Pieces.{trace-push}
 use Rattle.lab_top.proofs.RunLaws.{Was, behind, caused_at, left_open, piece_at, pieces_of, told_of, was_of}
-
--- the bytes that are durable are an image
-durable_image : (d : Disk) → IsImage d d.durable
-durable_image d = record { no_shorter = omega arith; no_longer = omega arith; kept = λ k within inside apart. refl }
 
 -- where a part breaks off, the reply is `stopped` or `down`
 broke_so : (events : List Event) (o : Option Reply) (reply : Reply) → Breaks events o → o ≡ Some reply → (reply ≡ replies.Stopped) ⊎ (reply ≡ replies.Down)
@@ -116,9 +112,6 @@ module _ (terms : Terms) (trace : List Event) (piece : Piece) (s last : LabState
       went
 
 -- WHAT ITS STEPS CHANGE: nothing
-one_unread : (side : Side) (trace : List Event) (name : List ℕ) → disk side (trace ++ Unread name ∷ []) ≡ disk side trace
-one_unread A trace name = disk_push A trace (Unread name)
-one_unread B trace name = disk_push B trace (Unread name)
 
 changes_nothing : (trace : List Event) (piece : Piece) → (piece.own ≡ []) ⊎ ((name : List ℕ) × (piece.own ≡ Unread name ∷ [])) → ChangesNothing trace piece
 changes_nothing trace piece (inl none) =
@@ -127,7 +120,7 @@ changes_nothing trace piece (inl none) =
 changes_nothing trace piece (inr one) =
     let are : trace ++ steps_of piece ≡ (trace ++ piece.opening) ++ Unread one.0 ∷ [] = ap (λ l. trace ++ (piece.opening ++ l)) one.1 ∙ sym (append_assoc trace piece.opening (Unread one.0 ∷ [])) in
     record {
-      sides = λ side. ap (disk side) are ∙ one_unread side (trace ++ piece.opening) one.0;
+      sides = λ side. ap (disk side) are ∙ unread_disk side (trace ++ piece.opening) one.0;
       world = ap world_of are ∙ world_push (trace ++ piece.opening) (Unread one.0);
       courses = λ lab e. ap (λ l. own_events lab e l) one.1;
     }

@@ -3,6 +3,7 @@ use Rattle.std.proofs.Common.{◌≡◌, inl, inr, ℕ, ◌^◌, Bool, true, fal
 use Rattle.std.specs.Prelude.{not, is_some}
 use Rattle.std.proofs.lemmas.List.{append-nil}
 use Rattle.std.proofs.lemmas.List.Folds.{list_any-append}
+use Rattle.std.proofs.Math.Bool.{or-true}
 use Rattle.plant.specs.declared.drill.Drill.{Drill}
 use Rattle.plant.specs.declared.moment.Faults.{Faults}
 use Rattle.plant.specs.declared.step.Side.TheVariants.{A, B}
@@ -53,10 +54,6 @@ breaks_as is x stops downs none opening reply (unanswered told) = ap is told ∙
 
 again_breaks : (steps : List Event) (a b : List ℕ) → has_outer steps ≡ false → Breaks (steps ++ Restarted a b ∷ []) (Some replies.Stopped)
 again_breaks steps a b none = stopped (record { front = steps; a = a; b = b; is = refl; once = none }) refl
-
-or_true : (x : Bool) → x || true ≡ true
-or_true true = refl
-or_true false = refl
 
 or_none : (x : Bool) → x || (false || false) ≡ x
 or_none true = refl
@@ -241,7 +238,7 @@ module _ (terms : Terms) (trace : List Event) (command : Command) (mark : Faults
     nothing_outer = shows is_outer all reading behind false false refl o.reads.no_outer o.no_outer
 
     missed_behind : has_miss behind ≡ true → has_miss all ≡ true
-    missed_behind missed = shows is_miss all reading behind (has_miss reading) true refl refl missed ∙ or_true (has_miss reading)
+    missed_behind missed = shows is_miss all reading behind (has_miss reading) true refl refl missed ∙ or-true (has_miss reading)
 
     pub missed_in : fault ≡ openings.Plant → has_miss all ≡ true
     missed_in is = by (subst (λ f. OpenEnds trace reading behind (2 ^ 32) (Err f)) is o.ends)

@@ -2,6 +2,7 @@
 use Rattle.std.proofs.Common.{◌≡◌, inl, inr, ⊎_elim, ℕ, ◌+◌, ◌≤◌, false, List, [], ◌∷◌, ◌++◌, length, Option, Some, None, refl, sym, ◌∙◌, ap, subst, arith, append_assoc}
 use Rattle.std.specs.Io.KnownBytes.{prepend_known, IsAtEnd}
 use Rattle.std.proofs.lemmas.List.{append-nil, length-map}
+use Rattle.std.proofs.lemmas.Option.{same_Some}
 use Rattle.lab_io.specs.Feeds.{NoFeed}
 use Rattle.lab_io.specs.Lines.{lines_from, script_lines}
 use Rattle.lab_io.specs.Passed.{Stand, Passed}
@@ -17,12 +18,9 @@ use Rattle.lab_top.specs.Readers.{at_start}
 use Rattle.lab_top.specs.Ran.{AreFirst, BegunCommands, IsReadTo}
 
 -- BYTES THAT ARE KNOWN
-some_same : {x y : List ℕ} → Some x ≡ Some y → x ≡ y
-some_same h = cc h
-
 some_parts : (raw : List ℕ) (o : Option (List ℕ)) (bytes : List ℕ) → Some bytes ≡ prepend_known raw o → (rest : List ℕ) × (o ≡ Some rest) × (bytes ≡ raw ++ rest)
 some_parts raw None bytes e = absurd cc
-some_parts raw (Some rest) bytes e = (rest, refl, some_same e)
+some_parts raw (Some rest) bytes e = (rest, refl, same_Some _ _ e)
 
 -- THE COMMANDS OF LINES THAT WERE PASSED
 

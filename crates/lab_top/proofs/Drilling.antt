@@ -2,11 +2,13 @@
 use Rattle.std.proofs.Common.{◌≡◌, inl, inr, ℕ, ◌^◌, arith, Bool, true, false, List, [], ◌++◌, Option, Some, None, Result, Ok, Err, refl, sym, ap, subst, ◌∙◌}
 use Rattle.std.specs.Prelude.{IfSome, OnErr, is_some, not, if◌then◌else◌}
 use Rattle.std.proofs.lemmas.List.{append-nil}
+use Rattle.lab_base.proofs.Tests.{some_weaker}
 use Rattle.plant.specs.declared.drill.Drill.{Drill}
 use Rattle.plant.specs.declared.moment.Faults.{Faults}
 use Rattle.plant.specs.Events.{Event}
 use Rattle.plant.specs.Seen.{Seen}
 use Rattle.plant.specs.Told.{Told, with_drill, with_mark, with_steps}
+use Rattle.plant.proofs.Traces.{with_steps-nil}
 use Rattle.records_model.specs.Labs.{LabState}
 use Rattle.records_model.specs.Works.{IsSound}
 use Rattle.journal_runs.proofs.Stood.{sound_stands}
@@ -28,9 +30,8 @@ use Rattle.lab_top.specs.declared.command.CommandFault.{CommandFault}
 use Rattle.lab_top.specs.declared.command.CommandFault.TheVariants as faults
 use Rattle.lab_top.specs.Answering.{Begins, Ends, HasSession, Moment, Plans, StandsAt, piece_of, reply_if}
 use Rattle.lab_top.specs.Pieces.{Finds, FirstLab, IsDone, IsPlannedBy, StepsFrom, WantsOnly, reading as in_reading, blames_if, closes_if, leaves_one, stays_open, with_drill_if}
-use Rattle.journal_disk.proofs.Chains.{nothing_yet}
 use Rattle.lab_top.proofs.Obeyed.{blames_none, ends_of, later_same, map_both}
-use Rattle.lab_top.proofs.Stepping.{AsRead, ImagesAt, after_of, all_some, done_at, lab_length, map_some, not_early, standing_all, standing_lab, told_so}
+use Rattle.lab_top.proofs.Stepping.{AsRead, ImagesAt, after_of, all_some, done_at, lab_length, not_early, standing_all, standing_lab, told_so}
 
 -- THE STEP OF A DRILL over one trace: it has no steps, and its reply, if it has one, leaves the session as it was
 abbrev Stays : Terms → Session → Session → Option Reply → Type 0
@@ -165,9 +166,9 @@ module _ (terms : Terms) (command : Command) (mark : Faults) (drill : Drill) (is
     opening = [];
     own = [];
     planned = false;
-    told = told ∙ nothing_yet old.told;
+    told = told ∙ with_steps-nil old.told;
     planned_by = subst (λ (d : Option Drill). IsPlannedBy terms d false None) (sym is) (λ none. absurd (cc none));
-    is_piece = map_some old.told (λ t there. record {
+    is_piece = some_weaker old.told _ _ (λ t there. record {
       readable = there;
       finds = found Closed None t.trace (λ some. absurd (cc some));
       leaves = λ shut. refl;
@@ -183,10 +184,10 @@ module _ (terms : Terms) (command : Command) (mark : Faults) (drill : Drill) (is
   begun_drill (Ok reply) (inl planned) =
       subst (λ r. Begins terms command mark old.told new from from (Some r)) (sym planned.0)
       (begun_with replies.Planned true refl refl (λ s lab. is_planned planned.1 refl refl) (refl, planned.1)
-      (planned.2 ∙ ap (λ (o : Option Told). with_drill o drill) (nothing_yet old.told) ∙ ap (λ (d : Option Drill). with_drill_if (with_steps old.told []) d) (sym is)))
+      (planned.2 ∙ ap (λ (o : Option Told). with_drill o drill) (with_steps-nil old.told) ∙ ap (λ (d : Option Drill). with_drill_if (with_steps old.told []) d) (sym is)))
   begun_drill (Ok reply) (inr refused) =
       subst (λ r. Begins terms command mark old.told new from from (Some r)) (sym refused.0)
-      (begun_with replies.NoDrill false refl refl (λ s lab. is_refused refused.1 refl refl) (refl, refused.1) (refused.2 ∙ nothing_yet old.told))
+      (begun_with replies.NoDrill false refl refl (λ s lab. is_refused refused.1 refl refl) (refl, refused.1) (refused.2 ∙ with_steps-nil old.told))
   begun_drill (Err fault) wants = begun_silent wants.1
 
   -- memory was wanting, and nothing was done
@@ -194,7 +195,7 @@ module _ (terms : Terms) (command : Command) (mark : Faults) (drill : Drill) (is
       → IfSome old.told (λ t. WantsOnly terms t.trace (piece_of command mark from (kept_by (reply_if result) from) (begun_drill result plans).opening (begun_drill result plans).own (reply_if result)))
   unfolding begun_drill begun_silent
   drill_wants (Ok reply) plans none = absurd (cc none)
-  drill_wants (Err fault) plans none = map_some old.told (λ t there. in_reading refl refl) possible
+  drill_wants (Err fault) plans none = some_weaker old.told _ _ (λ t there. in_reading refl refl) possible
 
 -- what the plant tells is of the same trace
 plans_alike : (terms : Terms) (drill : Drill) (old new : Option Told) (result : Result Reply CommandFault) → Plans terms.takes drill old new result → TellAlike old new

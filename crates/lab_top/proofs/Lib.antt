@@ -8,8 +8,8 @@ mod Drilling
 mod Ended
 mod Moving
 mod Obeyed
-mod Pieces
-mod RunLaws
+pub mod Pieces
+pub mod RunLaws
 mod Scripts
 mod Stepping
 mod Tellings

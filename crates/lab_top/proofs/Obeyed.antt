@@ -3,6 +3,7 @@ use Rattle.std.proofs.Common.{◌≡◌, ◌↔◌, inl, inr, ℕ, ◌^◌, Bool
 use Rattle.std.specs.Prelude.{IfSome, IsErrOf, IsTrue, OnOk, OnErr, ◌≤◌, is_some, not}
 use Rattle.std.proofs.lemmas.List.{append-nil}
 use Rattle.lab_base.specs.Counts.{Rose}
+use Rattle.lab_base.proofs.Tests.{some_weaker}
 use Rattle.plant.specs.declared.drill.Drill.{Drill}
 use Rattle.plant.specs.declared.moment.Faults.{Faults}
 use Rattle.plant.specs.declared.step.Side.{Side}
@@ -10,8 +11,8 @@ use Rattle.plant.specs.Disks.{disk, ArePossible}
 use Rattle.plant.specs.Events.{Event, Restarted}
 use Rattle.plant.specs.Seen.{Seen}
 use Rattle.plant.specs.Told.{Told, with_steps}
+use Rattle.plant.proofs.Traces.{with_steps-append, with_steps-nil}
 use Rattle.journal_disk.specs.Standing.{limit_of}
-use Rattle.journal_disk.proofs.Chains.{nothing_yet, with_steps-append}
 use Rattle.journal_disk.specs.declared.fault.OpenFault.{OpenFault}
 use Rattle.journal_disk.specs.declared.fault.OpenFault.TheVariants as openings
 use Rattle.lab_state.specs.Texts.{the_texts}
@@ -46,7 +47,7 @@ use Rattle.journal_runs.proofs.Stood.{stood_alike}
 use Rattle.lab_top.specs.Pieces.{Finds, FindsNone, IsPiece, IsPlannedBy, Later, WantsBehind, WantsOnly, behind as goes_behind, reading as in_reading, settling as in_settling, blames_if, blames_now_if, closes_if, is_closed, leaves_one, may_shut, opened, stays_open}
 use Rattle.lab_top.specs.Answering.{Does, DoesOwn, FoundNone, HasSession, IsMarkAt, IsOpen, Makes, MayGoOn, MayOpen, OwnTold, StandsAt, Starts, Unopened, Begins, Made, Ends, Moment, WasOpened, piece_of, reply_if}
 use Rattle.lab_top.proofs.BrokenOpenings.{again_piece, cut_piece, missed_in, nothing_outer}
-use Rattle.lab_top.proofs.Stepping.{AsRead, map_some, own_answered, own_closed, own_stopped, own_stays, own_unmade, standing_lab, was_open, is_opened, has_led}
+use Rattle.lab_top.proofs.Stepping.{AsRead, own_answered, own_closed, own_stopped, own_stays, own_unmade, standing_lab, was_open, is_opened, has_led}
 
 -- WHAT A PLANT TELLS after more steps
 
@@ -132,7 +133,7 @@ module _ (terms : Terms) (mark : Faults) (old mid : Seen) (command : Command) (n
   own_alone : (result : Result Reply CoreFault) (at : At result) (session : Session) (reply : Option Reply) → (Then : List Event → Type 0) → IfSome mid.told (λ t. Then t.trace) → Does_so Then at.to result at.obeys.0 at.obeys.0 session reply
       → OwnTold terms old.told mid.told command mark c swaps session reply
   own_alone result at session reply Then then does =
-      own_by result at mid.told [] session reply (nothing_yet mid.told) Then then
+      own_by result at mid.told [] session reply (with_steps-nil mid.told) Then then
       (λ before from opening w obeys here. subst (λ l. Does terms before (piece_of command mark from session opening l reply)) (sym (append-nil at.obeys.0)) (does before from opening w obeys here))
 
   abbrev AtWorkHere : List Event → Type 0
@@ -213,7 +214,7 @@ module _ (terms : Terms) (mark : Faults) (old mid : Seen) (command : Command) (n
     here = λ blamed. absurd (cc blamed);
     opened = opened_none (name_of command) None swaps mark.devices;
     goes_on = goes_closed mid;
-    wants = λ none runs. map_some old.told (λ t o. subst (WantsBehind terms.rule command t.trace here_ground c.lab swaps) (sym (append-nil at.obeys.0)) (by t.trace at.obeys.0 command refl o.ends)) at.obeys.2;
+    wants = λ none runs. some_weaker old.told _ _ (λ t o. subst (WantsBehind terms.rule command t.trace here_ground c.lab swaps) (sym (append-nil at.obeys.0)) (by t.trace at.obeys.0 command refl o.ends)) at.obeys.2;
   }
     where
       plain : (trace own : List Event) (asked : Command) → WantsIn (JudgedBeside terms.rule asked swaps c.lab) (start_of mark.devices c swaps) own d.lab at.to → WantsBehind terms.rule asked trace here_ground c.lab swaps own
@@ -298,14 +299,14 @@ module _ (terms : Terms) (command : Command) (no_drill : drill_of command ≡ No
   made reply begun disk blameless runs wants = record { begun = begun; later = later; disk = disk; device = λ blamed. absurd (cc (blameless, blamed)); here = λ blamed. absurd (cc (blames_none reply blameless, blamed)); opened = opened_none (name_of command) reply [] plant.faults.devices; shut = λ shut. refl; runs = λ some was. runs some; goes_on = λ some. goes_on; wants = wants }
 
   abbrev silent_end : new.plant.told ≡ mid → WantsAt None steps [] → Made terms command old new Closed Closed None
-  silent_end same wants = made None (begins_cut None refl same (λ some. absurd (cc some)) (map_some plant.told (λ t o. unanswered refl) opens.3)) (λ shut. absurd (cc shut)) refl (λ some. absurd (cc some)) wants
+  silent_end same wants = made None (begins_cut None refl same (λ some. absurd (cc some)) (some_weaker plant.told _ _ (λ t o. unanswered refl) opens.3)) (λ shut. absurd (cc shut)) refl (λ some. absurd (cc some)) wants
 
   -- memory was wanting, or the sides are no journal
   only_read : (trace : List Event) → OpenSteps trace opens.0 opens.1 (2 ^ 32) (Err fault) → opens.1 ≡ [] → WantsOnly terms trace (piece_of command plant.faults Closed Closed steps [] None)
   only_read trace o none = in_reading (ap has_command (ap (λ l. opens.0 ++ l) none ∙ append-nil opens.0) ∙ o.reads.no_command) refl
 
   wants_memory : fault ≡ openings.Memory → WantsAt None steps []
-  wants_memory is none runs = map_some plant.told (λ t o. by t.trace o (subst (λ f. OpenEnds t.trace opens.0 opens.1 (2 ^ 32) (Err f)) is o.ends)) opens.3
+  wants_memory is none runs = some_weaker plant.told _ _ (λ t o. by t.trace o (subst (λ f. OpenEnds t.trace opens.0 opens.1 (2 ^ 32) (Err f)) is o.ends)) opens.3
     where
       by : (trace : List Event) → OpenSteps trace opens.0 opens.1 (2 ^ 32) (Err fault) → OpenEnds trace opens.0 opens.1 (2 ^ 32) (Err openings.Memory) → WantsOnly terms trace (piece_of command plant.faults Closed Closed steps [] None)
       by trace o (inl read) = only_read trace o read.0
@@ -313,7 +314,7 @@ module _ (terms : Terms) (command : Command) (no_drill : drill_of command ≡ No
       by trace o (inr (inr never)) = absurd never
 
   wants_bad : (side : Side) (at : ℕ) → fault ≡ openings.Bad side at → WantsAt None steps []
-  wants_bad side at is none runs = map_some plant.told (λ t o. by t.trace o (subst (λ f. OpenEnds t.trace opens.0 opens.1 (2 ^ 32) (Err f)) is o.ends)) opens.3
+  wants_bad side at is none runs = some_weaker plant.told _ _ (λ t o. by t.trace o (subst (λ f. OpenEnds t.trace opens.0 opens.1 (2 ^ 32) (Err f)) is o.ends)) opens.3
     where
       by : (trace : List Event) → OpenSteps trace opens.0 opens.1 (2 ^ 32) (Err fault) → OpenEnds trace opens.0 opens.1 (2 ^ 32) (Err (openings.Bad side at)) → WantsOnly terms trace (piece_of command plant.faults Closed Closed steps [] None)
       by trace o (inl read) = only_read trace o read.0
@@ -345,7 +346,7 @@ module _ (terms : Terms) (command : Command) (no_drill : drill_of command ≡ No
     made = silent_end same (wants_bad side at is);
     no_drill = no_drill;
     closed = refl;
-    finds = map_some plant.told (λ t o. by t.trace (subst (λ f. OpenEnds t.trace opens.0 opens.1 (2 ^ 32) (Err f)) is o.ends)) opens.3;
+    finds = some_weaker plant.told _ _ (λ t o. by t.trace (subst (λ f. OpenEnds t.trace opens.0 opens.1 (2 ^ 32) (Err f)) is o.ends)) opens.3;
     runs = runs;
   }
     where
@@ -443,10 +444,6 @@ ends_opened terms command no_drill old new mid c result from is goes told there 
     goes_behind w.start c.lab w.first (w.opens refl) both.1) told.3 there
     (carried old.plant.told mid.told (told.0 ++ told.1) told.2 (λ l. Stands the_texts l c.journal c.lab × WantsBehind terms.rule command l (record { limit = 2 ^ 32; devices = old.plant.faults.devices }) c.lab [] m.own.0)
     (map_both mid.told (λ t stands own. (stands, subst (λ n. WantsBehind terms.rule command t.trace (record { limit = n; devices = old.plant.faults.devices }) c.lab [] m.own.0) limit own)) works.working.work.stands (m.wants none going)))))
-
--- a count that rose since a later moment rose since an earlier one
-pub rose_since : (a b now : ℕ) → a ≤ b → Rose b now → Rose a now
-rose_since a b now within rose = omega (arith, within, rose)
 
 pub runs_if : (result : Result Reply CommandFault) (halts : Bool) → OnOk result (halts ≡ false) → is_some (reply_if result) ≡ true → halts ≡ false
 runs_if (Ok reply) halts runs some = runs

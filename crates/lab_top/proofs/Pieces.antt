@@ -5,6 +5,7 @@ use Rattle.std.specs.Io.KnownBytes.{append_known}
 use Rattle.std.proofs.lemmas.List.{append-nil, map-append}
 use Rattle.std.proofs.lemmas.List.Folds.{list_all-append}
 use Rattle.std.proofs.lemmas.Grind.{flat_map-append}
+use Rattle.lab_base.proofs.Tests.{some_weaker}
 use Rattle.lab_io.proofs.Known.{append_known-append, append_known-nil}
 use Rattle.plant.specs.declared.moment.Faults.{Faults}
 use Rattle.plant.specs.declared.step.Side.{Side}
@@ -33,7 +34,7 @@ use Rattle.lab_top.specs.Pieces.{Begun, steps_of, commands_of, planned_of, trace
 use Rattle.lab_top.specs.Ran.{AreAnswered, BegunCommands, EndsSo, GoesOn, LastFindsNone, LastIsNot, Outside, Ran, WroteReplies, Answered as StatusAnswered}
 use Rattle.lab_words.specs.Words.{Choices, Usual}
 use Rattle.lab_top.proofs.Obeyed.{goes_closed, map_both, map_three}
-use Rattle.lab_top.proofs.Stepping.{all_some, map_some}
+use Rattle.lab_top.proofs.Stepping.{all_some}
 
 -- ONE PIECE MORE
 
@@ -282,7 +283,7 @@ module _ (terms : Terms) (start before now : Moment) (first old new : Option (Li
           by : (stopped : Bool) → now.plant.stopped ≡ stopped → IfSome start.plant.told (λ t. EndsSo terms t.trace (silent made wrote) statuses.Memory stopped)
           by true is = all_some start.plant.told (λ t runs. absurd (cc runs))
           by false is =
-              map_some start.plant.told (λ t wants runs. inr (record { before = begun; last = last; made_are = refl; answered = going.answered; waits = refl; wants = wants }))
+              some_weaker start.plant.told _ _ (λ t wants runs. inr (record { before = begun; last = last; made_are = refl; answered = going.answered; waits = refl; wants = wants }))
               (at_mark terms start before now begun going.so command Closed None made (λ l. WantsOnly terms l last.piece) (made.wants refl is))
 
   -- sides that are no journal
@@ -295,7 +296,7 @@ module _ (terms : Terms) (start before now : Moment) (first old new : Option (Li
         commands-push begun last,
         (
           so_now Closed None made,
-          map_some start.plant.told (λ t finds. record { before = begun; last = last; made_are = refl; answered = going.answered; finds = finds })
+          some_weaker start.plant.told _ _ (λ t finds. record { before = begun; last = last; made_are = refl; answered = going.answered; finds = finds })
               (at_mark terms start before now begun going.so command Closed None made (λ l. FindsNone l last.piece side at) found.finds),
           record { last_is = waits made wrote; no_drill = found.no_drill; closed = found.closed },
           wrote_none made wrote,
@@ -317,10 +318,10 @@ last_bad trace made side at l =
 
 pub ran_bad : (terms : Terms) (choices : Option Choices) (old new : Outside) (side : Side) (at : ℕ) (made : List Begun) → Ran terms choices old new (statuses.JournalBad side at) made
     → IfSome new.plant.told (λ t. IsNoJournal (disk A t.trace).reads (disk B t.trace).reads (2 ^ 32) side at)
-ran_bad terms choices old new side at made r = to_told old.plant.told new.plant.told made r.told (NoJournal side at) (map_some old.plant.told (λ t l. last_bad t.trace made side at l) r.ends)
+ran_bad terms choices old new side at made r = to_told old.plant.told new.plant.told made r.told (NoJournal side at) (some_weaker old.plant.told _ _ (λ t l. last_bad t.trace made side at l) r.ends)
 
 -- over a sound trace the sides are a journal
-sides_read : (trace : List Event) (side : Side) (at : ℕ) → ArePossible trace (disk A trace).reads (disk B trace).reads → IsSound the_texts trace → IsNoJournal (disk A trace).reads (disk B trace).reads (2 ^ 32) side at → ⊥
+pub sides_read : (trace : List Event) (side : Side) (at : ℕ) → ArePossible trace (disk A trace).reads (disk B trace).reads → IsSound the_texts trace → IsNoJournal (disk A trace).reads (disk B trace).reads (2 ^ 32) side at → ⊥
 sides_read trace side at possible sound (bad is) = sound_not_bad the_texts trace _ _ side at possible sound is
 sides_read trace side at possible sound (cannot_follow rs n read on stops is) = sound_follows the_texts trace _ _ rs n possible sound texts_once read stops
 sides_read trace side at possible sound (no_room rs s read on lab less is) =

@@ -3,7 +3,9 @@
 use Rattle.std.specs.Prelude.{IfSome, is_some, count_by}
 use Rattle.std.proofs.Common.{◌≡◌, Bool, true, false, List, [], ◌∷◌, ◌++◌, Option, Some, None, refl, sym, ◌∙◌, ap, subst, ◌⊎◌, inl, inr, ℕ, ◌^◌, ⊎_elim}
 use Rattle.std.proofs.lemmas.List.{append-nil}
+use Rattle.std.proofs.lemmas.Option.{same_Some}
 use Rattle.lab_base.specs.Lists.{Has}
+use Rattle.lab_base.proofs.Tests.{and_first, and_rest}
 use Rattle.plant.specs.Disks.{disk, ArePossible}
 use Rattle.plant.specs.Events.{Event}
 use Rattle.plant.specs.Told.{Told}
@@ -48,7 +50,7 @@ use Rattle.lab_top.specs.declared.status.Status.{Status}
 use Rattle.lab_top.specs.declared.status.Status.TheVariants.{Memory, JournalBad}
 use Rattle.lab_top.proofs.BrokenOpenings.{breaks_as, breaks_not}
 use Rattle.lab_top.proofs.Pieces.{trace-push}
-use Rattle.lab_top.proofs.Stepping.{and_left, and_right, first_image}
+use Rattle.lab_top.proofs.Stepping.{first_image}
 
 -- ONE OF THE PIECES
 pub piece_at : (terms : Terms) (trace : List Event) (before after : List Begun) (b : Begun) → ArePieces terms trace (before ++ b ∷ after) → IsPiece terms (trace_after trace before) b.piece
@@ -114,8 +116,8 @@ no_reply trace piece side at (broken_off breaks nothing shut part) miss restart 
 
 -- WHICH IS NOT ANSWERED
 not_answered : (before after : List Begun) (b : Begun) → b.piece.reply ≡ None → AreAnswered (before ++ b ∷ after) → ⊥
-not_answered [] after b none all = absurd (cc (ap is_some none, and_left (is_some b.piece.reply) _ all))
-not_answered (x ∷ before) after b none all = not_answered before after b none (and_right (is_some x.piece.reply) _ all)
+not_answered [] after b none all = absurd (cc (ap is_some none, and_first (is_some b.piece.reply) _ all))
+not_answered (x ∷ before) after b none all = not_answered before after b none (and_rest (is_some x.piece.reply) _ all)
 
 no_end : (before after : List Begun) (b : Begun) → before ++ b ∷ after ≡ [] → ⊥
 no_end [] after b is = cc is
@@ -125,14 +127,14 @@ at_last : (before after pre : List Begun) (b last : Begun) → before ++ b ∷ a
 at_last [] after [] b last is all none = (refl, cc is)
 at_last [] after (p ∷ pre) b last is all none =
     let same : b ≡ p = cc is in
-    absurd (cc (ap is_some none, ap (λ (x : Begun). is_some x.piece.reply) same ∙ and_left (is_some p.piece.reply) _ all))
+    absurd (cc (ap is_some none, ap (λ (x : Begun). is_some x.piece.reply) same ∙ and_first (is_some p.piece.reply) _ all))
 at_last (x ∷ before) after [] b last is all none =
     let rest : before ++ b ∷ after ≡ [] = cc is in
     absurd (no_end before after b rest)
 at_last (x ∷ before) after (p ∷ pre) b last is all none =
     let first : x ≡ p = cc is in
     let rest : before ++ b ∷ after ≡ pre ++ last ∷ [] = cc is in
-    let more = at_last before after pre b last rest (and_right (is_some p.piece.reply) _ all) none in
+    let more = at_last before after pre b last rest (and_rest (is_some p.piece.reply) _ all) none in
     ((λ i. first i ∷ more.0 i), more.1)
 
 module _ (trace : List Event) (before after : List Begun) (b : Begun) (side : Side) (at : ℕ) (missing : NoJournal (trace_after trace before) side at) (none : b.piece.reply ≡ None) where
@@ -160,22 +162,19 @@ ends_bad terms choices old new status before after b t side at r is no_drill clo
     by t.trace before after b side at missing none terms new.plant.stopped status r.answered ends
 
 -- a lab with an experiment is set
-none_in : (name : List ℕ) (s : LabState) (e : Experiment) → Sane s → (lab : Option Lab) → s.lab ≡ lab → find name s.experiments ≡ Some e → is_some lab ≡ true
-none_in name s e sane (Some lab) is found = refl
-none_in name s e sane None is found =
+pub set_with : (name : List ℕ) (s : LabState) (e : Experiment) → Sane s → (lab : Option Lab) → s.lab ≡ lab → find name s.experiments ≡ Some e → is_some lab ≡ true
+set_with name s e sane (Some lab) is found = refl
+set_with name s e sane None is found =
     let empty : find name s.experiments ≡ None = ap (find name) (sane.none is) in
     absurd (cc (empty, found))
 
 is_set : (a b : List ℕ) (s : LabState) (name : List ℕ) (e : Experiment) → StandForLab a b s → find name s.experiments ≡ Some e → is_some s.lab ≡ true
-is_set a b s name e stand found = none_in name s e (lab_sane the_texts stand.records s stand.lab_of) s.lab refl found
-
-some_same : {x y : Experiment} → Some x ≡ Some y → x ≡ y
-some_same same = cc same
+is_set a b s name e stand found = set_with name s e (lab_sane the_texts stand.records s stand.lab_of) s.lab refl found
 
 stays : (terms : Terms) (trace : List Event) (set : Setting) (s : LabState) (session : Session) (command : Command) (opening own : List Event) (after : After) (e : Experiment) → is_some s.lab ≡ true → find e.name s.experiments ≡ Some e
     → (settles session command e.name ≡ true → is_moving e ≡ false) → is_about command e.name ≡ false → LabStep terms trace set s session command opening own after → find e.name after.lab.experiments ≡ Some e
 stays terms trace set s session command opening own after e there found rests other step =
-    (all_stay terms trace set s session opening own after command e.name there other (λ settled x is. subst (λ (y : Experiment). is_moving y ≡ false) (some_same (sym found ∙ is)) (rests settled)) step).same
+    (all_stay terms trace set s session opening own after command e.name there other (λ settled x is. subst (λ (y : Experiment). is_moving y ≡ false) (same_Some _ _ (sym found ∙ is)) (rests settled)) step).same
     ∙ found
 
 -- ONE PIECE

@@ -4,6 +4,8 @@ use Rattle.std.specs.Prelude.{not, IfSome, Ok}
 use Rattle.std.specs.List.{list_any}
 use Rattle.std.proofs.lemmas.List.{append-nil}
 use Rattle.std.proofs.lemmas.List.Folds.{list_any-append}
+use Rattle.std.proofs.Math.Bool.{and-false}
+use Rattle.lab_base.proofs.Tests.{and_first, and_rest}
 use Rattle.plant.specs.declared.drill.Drill.{Drill}
 use Rattle.plant.specs.declared.moment.Faults.{Faults}
 use Rattle.plant.specs.declared.step.Side.{Side}
@@ -18,7 +20,7 @@ use Rattle.journal_disk.specs.Before.{is_sync_of, are_synced}
 use Rattle.journal_disk.specs.Standing.{side_of, length_of, limit_of}
 use Rattle.journal_runs.specs.Pieces.{is_miss, is_outer, is_restart, has_restart, EndsRestarted}
 use Rattle.journal_runs.proofs.Blank.{restarted_reads, restarted_stand}
-use Rattle.journal_runs.proofs.Images.{on_image, reads_possible, reads_on}
+use Rattle.journal_runs.proofs.Images.{on_image, reads_possible}
 use Rattle.journal_runs.proofs.Quiet.{shows}
 use Rattle.journal_runs.proofs.Stood.{stood_alike, stood_once}
 use Rattle.lab_state.specs.Texts.{the_texts}
@@ -39,6 +41,7 @@ use Rattle.lab_core.specs.Opening.{OpenSteps, has_change}
 use Rattle.lab_core.specs.Recovery.{Opens}
 use Rattle.lab_core.specs.Sessions.{OpenSwap, Session, Closed, Open, Setting, After, Terms}
 use Rattle.lab_core.proofs.OuterSteps.{no_start}
+use Rattle.lab_core.proofs.Composing.{standing_length}
 use Rattle.lab_top.specs.Pieces.{Piece, ButForReply, HasLed, HasOpened, IsDone, MovesDue, OpensTo, StepsFrom, FirstLab, ImagesAfter, is_closed, is_early, leaves_one, steps_of}
 use Rattle.lab_top.specs.Answering.{Does, WasOpened, piece_of}
 use Rattle.lab_top.proofs.Compact.{compact_behind, compacted_quiet}
@@ -51,21 +54,12 @@ pub all_some : {X : Type 0} {P : X → Type 0} (o : Option X) → ((x : X) → P
 all_some None f = tt
 all_some (Some x) f = f x
 
-pub map_some : {X : Type 0} {P Q : X → Type 0} (o : Option X) → ((x : X) → P x → Q x) → IfSome o P → IfSome o Q
-map_some None f h = tt
-map_some (Some x) f h = f x h
-
 -- A CONTROLLER THAT STANDS
 pub standing_all : (trace : List Event) (c : Control) → Stands the_texts trace c.journal c.lab → AllStandFor trace c.lab
 standing_all trace c s a b possible = record { records = s.records; read = (on_image trace (side_of c.journal) s.records s.at.opened a b possible).reads; lab_of = s.lab_of }
 
 pub standing_lab : (trace : List Event) (c : Control) → Stands the_texts trace c.journal c.lab → IsLabAt trace c.lab
 standing_lab trace c s = standing_all trace c s _ _ (reads_possible trace (side_of c.journal) s.records s.at.opened)
-
-standing_length : (trace : List Event) (c : Control) → Stands the_texts trace c.journal c.lab → IsLengthAt trace (length_of c.journal)
-standing_length trace c s =
-    let on = reads_on trace (side_of c.journal) s.records s.at.opened in
-    record { records = s.records; read = on.reads; is = sym (on.size ∙ ap (λ n. n + 1) (sym s.at.gate)) }
 
 -- THE LENGTH where the sides stand for a lab
 pub lab_length : (trace : List Event) (s : LabState) → IsLabAt trace s → (n : ℕ) × IsLengthAt trace n
@@ -85,25 +79,13 @@ pub not_early : (from : Session) (opening : List Event) → has_restart opening 
 not_early Closed opening none = ap (λ b. b && not (are_synced opening)) none
 not_early (Open opens) opening none = refl
 
-pub and_left : (x y : Bool) → x && y ≡ true → x ≡ true
-and_left true y is = refl
-and_left false y is = absurd (cc is)
-
-pub and_right : (x y : Bool) → x && y ≡ true → y ≡ true
-and_right true y is = is
-and_right false y is = absurd (cc is)
-
-and_false : (x : Bool) → x && false ≡ false
-and_false true = refl
-and_false false = refl
-
 pub still_synced : (steps more : List Event) → are_synced steps ≡ true → are_synced (steps ++ more) ≡ true
 still_synced steps more is i =
-    (list_any-append (is_sync_of A) steps more ∙ ap (λ b. b || list_any (is_sync_of A) more) (and_left (list_any (is_sync_of A) steps) (list_any (is_sync_of B) steps) is)) i
-    && (list_any-append (is_sync_of B) steps more ∙ ap (λ b. b || list_any (is_sync_of B) more) (and_right (list_any (is_sync_of A) steps) (list_any (is_sync_of B) steps) is)) i
+    (list_any-append (is_sync_of A) steps more ∙ ap (λ b. b || list_any (is_sync_of A) more) (and_first (list_any (is_sync_of A) steps) (list_any (is_sync_of B) steps) is)) i
+    && (list_any-append (is_sync_of B) steps more ∙ ap (λ b. b || list_any (is_sync_of B) more) (and_rest (list_any (is_sync_of A) steps) (list_any (is_sync_of B) steps) is)) i
 
 pub late_enough : (opening : List Event) → are_synced opening ≡ true → (true && (has_restart opening && not (are_synced opening))) ≡ false
-late_enough opening synced = ap (λ b. has_restart opening && not b) synced ∙ and_false (has_restart opening)
+late_enough opening synced = ap (λ b. has_restart opening && not b) synced ∙ and-false (has_restart opening)
 
 abbrev pub after_of : Option Reply → LabState → Session → After
 after_of reply lab session = record { reply = reply; lab = lab; session = session }

@@ -1,9 +1,7 @@
 -- Lists of fields have as many values as fields.
 use Rattle.std.proofs.Common.{◌≡◌, ℕ, ◌+◌, ◌≤◌, ◌<◌, Bool, true, false, cond, List, [], ◌∷◌, ◌++◌, length, take, drop, get_or, Result, Ok, Err, refl, sym, ap, ◌∙◌, arith, length-append, length-drop}
-use Rattle.std.specs.Prelude.{nat_le}
 use Rattle.std.specs.List.{list_all}
-use Rattle.std.proofs.lemmas.Bool.{and_from, and_parts}
-use Rattle.std.proofs.lemmas.Bool.Decides.{nat_tests}
+use Rattle.std.proofs.lemmas.Bool.{and_from, and_parts, leb-true}
 use Rattle.std.proofs.lemmas.List.{take_more}
 use Rattle.std.proofs.lemmas.List.Folds.{list_all-append}
 use Rattle.lab_base.specs.Kinds.{both_of}
@@ -54,11 +52,8 @@ list_few {X} n least most read fields xs h = by (counts (n + least) (n + most) f
         let empty : ◌≡◌ {A = List X} [] all.front = cc (all.is) in
         let none : length all.front ≡ 0 = ap (λ (l : List X). length l) (sym empty) in
         let parts = and_parts _ _ is in
-        let fits : length fields ≤ n + most = at_most (length fields) (n + most) parts.1 in
+        let fits : length fields ≤ n + most = leb-true (length fields) (n + most) parts.1 in
         omega (arith, all.count, none, length-drop n fields, fits)
-      where
-        at_most : (a b : ℕ) → nat_le a b ≡ true → a ≤ b
-        at_most a b t = grind (arith, nat_tests)
 
 -- one element more that passes a test
 pub all_next : {X : Type 0} (p : X → Bool) (xs : List X) (i : ℕ) (x : X) → i < length xs → x ≡ get_or xs i x → list_all p (take i xs) ≡ true → p x ≡ true → list_all p (take (i + 1) xs) ≡ true

@@ -1,10 +1,10 @@
 -- The parts of a printed line are read again.
 use Rattle.std.proofs.Common.{◌≡◌, ℕ, suc, ◌+◌, ◌<◌, ◌≤◌, ◌^◌, Bool, true, false, not, cond, eqb, ltb, ◌||◌, List, [], ◌∷◌, ◌++◌, length, take, drop, map, Some, None, Result, Ok, Err, refl, sym, ap, subst, ◌∙◌, arith, inl, inr, true≢false, length-append}
-use Rattle.std.specs.Prelude.{nat_le, decimal, option_map, Option, is_some}
+use Rattle.std.specs.Prelude.{decimal, option_map, Option, is_some}
 use Rattle.std.specs.Option.{option_and_then}
 use Rattle.std.specs.Char.{is_ascii_digit}
 use Rattle.std.specs.List.{list_all, position, prefix_len}
-use Rattle.std.proofs.lemmas.Bool.{and_from, and_parts, eq-eqb, eqb-true}
+use Rattle.std.proofs.lemmas.Bool.{and_from, and_parts, eq-eqb, eqb-true, not_from_false, le-leb}
 use Rattle.std.proofs.lemmas.Bool.Decides.{nat_tests}
 use Rattle.std.proofs.lemmas.List.{append-nil, append_assoc}
 use Rattle.std.proofs.lemmas.List.Folds.{list_all-append}
@@ -21,14 +21,6 @@ use Rattle.lab_base.proofs.Again.{number_again}
 use Rattle.lab_base.proofs.Digits.{own}
 use Rattle.line_text.specs.Printing.{with_number}
 use Rattle.line_text.specs.Pairs.{has_byte, with_one, pair_at, numbered, numbered_parts}
-
-pub is_true : (p : Bool) → not p ≡ false → p ≡ true
-is_true true e = refl
-is_true false e = absurd cc
-
-pub negated : (p : Bool) → p ≡ false → not p ≡ true
-negated true e = absurd cc
-negated false e = refl
 
 -- WHERE SOMETHING STANDS FIRST
 
@@ -80,7 +72,7 @@ pub others : (p : ℕ → Bool) (k : ℕ) → p k ≡ false → (bytes : List �
 others p k fails [] all = refl
 others p k fails (b ∷ bytes) all =
     let parts = and_parts (p b) (list_all p bytes) all in
-    and_from _ _ (negated (eqb b k) (one (eqb b k) refl parts.0)) (others p k fails bytes parts.1)
+    and_from _ _ (not_from_false (eqb b k) (one (eqb b k) refl parts.0)) (others p k fails bytes parts.1)
   where
     one : (t : Bool) → eqb b k ≡ t → p b ≡ true → t ≡ false
     one false e h = refl
@@ -181,10 +173,7 @@ numbered_pair name n h fits = pair_again 58 name (decimal n) (no_byte_name 58 re
 
 pub number_back : (least most n : ℕ) → least ≤ n → n ≤ most → most < 2 ^ 64 → number_from least most (decimal n) ≡ Ok n
 number_back least most n low high small =
-    ap (at_least least) (number_again most n high small) ∙ ap (λ (b : Bool). cond b (Ok n) (Err kinds.Number)) (le least n low)
-  where
-    le : (a b : ℕ) → a ≤ b → nat_le a b ≡ true
-    le a b h = grind (arith, nat_tests)
+    ap (at_least least) (number_again most n high small) ∙ ap (λ (b : Bool). cond b (Ok n) (Err kinds.Number)) (le-leb least n low)
 
 pub numbered_again : (least most : ℕ) (name : List ℕ) (n : ℕ) → is_name name ≡ true → least ≤ n → n ≤ most → most < 2 ^ 64 → numbered least most (with_number (name, n)) ≡ Ok (name, n)
 numbered_again least most name n named low high small =

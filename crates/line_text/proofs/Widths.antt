@@ -1,11 +1,10 @@
 -- How long printed lines are.
 use Rattle.std.proofs.Common.{◌≡◌, ℕ, suc, ◌+◌, ◌*◌, ◌<◌, ◌≤◌, ◌^◌, true, List, [], ◌∷◌, ◌++◌, length, map, refl, arith, inl, inr, length-append}
-use Rattle.std.specs.Prelude.{decimal, nat_le}
-use Rattle.std.proofs.lemmas.Bool.{and_parts}
-use Rattle.std.proofs.lemmas.Bool.Decides.{nat_tests}
+use Rattle.std.specs.Prelude.{decimal}
 use Rattle.std.proofs.lemmas.Fmt.{length-decimal-le}
 use Rattle.lab_base.specs.Names.{is_name}
 use Rattle.lab_base.specs.Lists.{Has}
+use Rattle.lab_base.proofs.Names.{name_short}
 use Rattle.line_text.specs.Printing.{spaced, line_text, text_of, with_number}
 
 -- the bytes of fields, each with a space or the line feed
@@ -52,14 +51,8 @@ pairs_width k (x ∷ xs) each =
     let rest : width (map with_number xs) ≤ k * length xs = pairs_width k xs (λ y h. each y (inr h)) in
     omega (arith, first, rest, times_more k (length xs))
 
-le_of : (a b : ℕ) → nat_le a b ≡ true → a ≤ b
-le_of a b h = grind (arith, nat_tests)
-
-pub name_length : (name : List ℕ) → is_name name ≡ true → length name ≤ 32
-name_length name h = let p = and_parts (nat_le 1 (length name)) _ h in let q = and_parts (nat_le (length name) 32) _ p.1 in le_of (length name) 32 q.0
-
 pub pair_length : (name : List ℕ) (n k : ℕ) → is_name name ≡ true → 0 < k → n < 10 ^ k → n < 2 ^ 64 → length (with_number (name, n)) ≤ 33 + k
 pair_length name n k named some small fits =
     let whole : length (name ++ 58 ∷ decimal n) ≡ length name + length (58 ∷ decimal n) = length-append name (58 ∷ decimal n) in
     let digits : length (decimal n) ≤ k = length-decimal-le k n some small fits in
-    omega (arith, whole, digits, name_length name named)
+    omega (arith, whole, digits, name_short name named)

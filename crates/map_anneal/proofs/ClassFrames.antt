@@ -3,6 +3,7 @@ use Rattle.std.proofs.Common.{◌≡◌, ◌<◌, ◌∙◌, ◌∷◌, [], inl,
 use Rattle.std.specs.Prelude.{nat_lt}
 use Rattle.std.proofs.lemmas.Slice.Eq.{bytes_eq-Decides}
 use Rattle.lab_base.specs.Names.{same_name}
+use Rattle.lab_base.proofs.Bytes.{bytes_same}
 use Rattle.virt_topo.specs.declared.wiring.Asks.{Asks}
 use Rattle.virt_topo.specs.declared.wiring.Asks.TheVariants.{Plain, Class as InClass}
 use Rattle.virt_topo.specs.declared.wiring.VirtNode.{VirtNode}
@@ -43,9 +44,6 @@ first_member c (v ∷ vs) u lt is = by (is_member c v.asks) refl u lt is (λ k l
 abbrev type_at : List Place → ℕ → List ℕ
 type_at places u = (get_or places u no_place).1
 
-same_so : (a b : List ℕ) → same_name a b ≡ true → a ≡ b
-same_so a b e = (bytes_eq-Decides a b).0 e
-
 so_same : (a b : List ℕ) → a ≡ b → same_name a b ≡ true
 so_same a b e = (bytes_eq-Decides a b).1 e
 
@@ -77,7 +75,7 @@ typed_frame w a b m n x y four n_all m_typed x_typed y_typed u lt = by (virt_at 
         -- the types of the first member and of u are one
         alike : nat_lt (class_at w c).weight 1000 ≡ false → (places : List Place) → length places ≡ length w.nodes → has_class_type w places u ≡ true → type_at places f.at ≡ type_at places u
         alike heavy places count typed =
-            same_so (type_at places f.at) (type_at places u)
+            bytes_same (type_at places f.at) (type_at places u)
             (sym (ap (λ (t : Bool). t || same_name (type_at places f.at) (type_at places u)) heavy)
             ∙ ap (λ (t : List ℕ). nat_lt (class_at w c).weight 1000 || same_name t (type_at places u)) (sym (f.is places count))
             ∙ sym (ap (λ (q : Asks). is_of_one_type w (record { places = places; plugs = [] }) q (get_or places u no_place).1) is) ∙ typed)

@@ -11,7 +11,7 @@ use Rattle.lab_model.specs.Rules.{no_place}
 use Rattle.cost_rule.specs.declared.rule.RuleNumber.{RuleNumber}
 use Rattle.cost_rule.specs.declared.rule.RuleNumber.TheVariants as numbers
 use Rattle.cost_rule.specs.Cost.{cost, sum_below, different, same_node, missed, node_soft, class_soft, nodes_in_use}
-use Rattle.cost_rule.proofs.Sums.{sum_same}
+use Rattle.cost_rule.proofs.Sums.{sum_at}
 use Rattle.cost_rule.proofs.Different.{different_cons, new_if}
 use Rattle.node_maps.specs.Moved.{AlikeBut, IsOn}
 use Rattle.map_anneal.proofs.Frames.{IsOff, AlikeOn}
@@ -81,20 +81,6 @@ one_if b = cond b 1 0
 sum_none : (n : ℕ) → sum_below n (λ i. 0) ≡ 0
 sum_none zero = refl
 sum_none (suc n) = let rest = sum_none n in omega (arith, rest)
-
-sum_at : (n v : ℕ) (f g : ℕ → ℕ) → v < n → ((k : ℕ) → k < n → k ≢ v → f k ≡ g k) → sum_below n f + g v ≡ sum_below n g + f v
-sum_at zero v f g lt same = absurd (omega (arith, lt))
-sum_at (suc n) v f g lt same = elim (cases_eq v n) [
-  | inl is ↦ (
-      let rest = sum_same n f g (λ k less. same k (omega (arith, less)) (λ e. absurd (omega (arith, e, is, less)))) in
-      let one : ◌≡◌ {A = ℕ} (f n) (f v) = ap f (sym is) in
-      let other : ◌≡◌ {A = ℕ} (g n) (g v) = ap g (sym is) in
-      omega (arith, rest, one, other))
-  | inr apart ↦ (
-      let rest = sum_at n v f g (omega (arith, lt, apart)) (λ k less ne. same k (omega (arith, less)) ne) in
-      let last = same n (omega arith) (λ e. apart (sym e)) in
-      omega (arith, rest, last))
-]
 
 -- as many are different as there are numbers that stand there
 pub different_is : (n : ℕ) (xs : List ℕ) → All (λ k. k < n) xs → different same_node xs ≡ sum_below n (λ i. one_if (list_any (same_node i) xs))

@@ -5,7 +5,7 @@ use Rattle.std.proofs.lemmas.List.Sums.{sum_by-cons}
 use Rattle.phys_lab.specs.Labs.{Lab}
 use Rattle.virt_topo.specs.declared.wiring.Wiring.{Wiring}
 use Rattle.virt_topo.specs.declared.mapping.Mapping.{Mapping}
-use Rattle.trunk_sums.proofs.Replugged.{cables_length}
+use Rattle.virt_topo.proofs.CableLaws.{length-cables}
 use Rattle.lab_model.specs.Uses.{use_of, cables_of}
 use Rattle.lab_model.specs.Rules.{no_cable}
 use Rattle.cost_rule.specs.Cost.{sum_below, trunk_uses}
@@ -30,7 +30,7 @@ list_sum f (x ∷ xs) d =
 pub use_is_sum : (lab : Lab) (w : Wiring) (m : Mapping) (t : ℕ) → use_of lab w m t ≡ sum_below (length w.segments) (share_at lab w m t)
 use_is_sum lab w m t =
     list_sum (cable_share lab t) (cables_of w m) no_cable
-    ∙ ap (λ (n : ℕ). sum_below n (share_at lab w m t)) (cables_length w.segments m.plugs)
+    ∙ ap (λ (n : ℕ). sum_below n (share_at lab w m t)) (length-cables w.segments m.plugs)
 
 -- four sums whose numbers add up alike
 pub sums_add : (n : ℕ) (f g h k : ℕ → ℕ) → ((s : ℕ) → s < n → f s + g s ≡ h s + k s) → sum_below n f + sum_below n g ≡ sum_below n h + sum_below n k

@@ -1,6 +1,6 @@
 -- One try of the walk that the code keeps.
-use Rattle.std.proofs.Common.{◌≡◌, ◌≤◌, ◌<◌, ◌∙◌, ◌+◌, ◌*◌, ◌/◌, ◌%◌, ◌++◌, ◌∷◌, [], ℕ, List, nat_le, nat_lt, arith, true, false, Option, Some, None, if◌then◌else◌, sym, ap, subst, refl}
-use Rattle.std.proofs.lemmas.Bool.{cond-true, cond-false, cond_both, ltb-true, ltb-false}
+use Rattle.std.proofs.Common.{◌≡◌, ◌≤◌, ◌<◌, ◌∙◌, ◌+◌, ◌*◌, ◌/◌, ◌%◌, ◌++◌, ◌∷◌, [], ℕ, List, nat_le, nat_lt, arith, false, Option, Some, None, if◌then◌else◌, sym, ap, subst, refl}
+use Rattle.std.proofs.lemmas.Bool.{cond-true, cond-false, cond_both, ltb-true, ltb-false, le-leb}
 use Rattle.std.proofs.lemmas.Bool.Decides.{nat_tests}
 use Rattle.std.specs.Prelude.{option_and_then}
 use Rattle.virt_topo.specs.declared.mapping.Mapping.{Mapping}
@@ -19,10 +19,7 @@ pub found_some : (s : Sought) (heat : ℕ) (last : Mapping) (m : Mapping) (d : D
 found_some s heat last m d is lt =
     let most = price s last + (d.third % 1024) * heat / 1024 in
     let keep : Mapping → Option Mapping = λ x. if nat_le (price s x) most then Some x else None in
-    ap (λ o. option_and_then keep o) is ∙ cond-true (nat_le (price s m) most) (Some m) None (within (price s m) most (omega (arith, lt)))
-  where
-    within : (a b : ℕ) → a ≤ b → nat_le a b ≡ true
-    within a b le = grind (arith, nat_tests)
+    ap (λ o. option_and_then keep o) is ∙ cond-true (nat_le (price s m) most) (Some m) None (le-leb (price s m) most (omega (arith, lt)))
 
 -- the try adds none
 pub found_none : (s : Sought) (heat : ℕ) (last : Mapping) (d : Drawn)

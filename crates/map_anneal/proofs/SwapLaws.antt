@@ -5,6 +5,7 @@ use Rattle.std.proofs.Math.ListN.{set}
 use Rattle.std.proofs.lemmas.Bool.{cases_eq, eq-eqb, ne_eqb, eqb-true}
 use Rattle.std.proofs.lemmas.List.{length-set, set_comm}
 use Rattle.lab_base.specs.Names.{same_name}
+use Rattle.lab_base.proofs.Tests.{same_tests}
 use Rattle.virt_topo.specs.declared.wiring.Asks.{Asks}
 use Rattle.virt_topo.specs.declared.wiring.Asks.TheVariants.{Plain, Class as InClass}
 use Rattle.virt_topo.specs.declared.wiring.Wiring.{Wiring}
@@ -15,7 +16,7 @@ use Rattle.lab_model.specs.Rules.{class_at, is_member, no_place, place_at}
 use Rattle.cost_rule.specs.Cost.{types_of}
 use Rattle.map_board.specs.Seated.{asked_soft, placed_at}
 use Rattle.map_anneal.specs.Steps.{KeepsTypes}
-use Rattle.map_anneal.proofs.TypeLaws.{any_from, any_to, both_true, soft_alike, soft_now}
+use Rattle.map_anneal.proofs.TypeLaws.{any_from, any_to, soft_alike, soft_now}
 use Rattle.map_anneal.proofs.MoveReads.{gained, spared}
 
 -- no class that one asks for is asked for by the other
@@ -38,7 +39,7 @@ same_or_apart (InClass c) (InClass d) = elim (cases_eq c d) [
 -- whether a member has the type, where one that is no member goes elsewhere
 other_any : (w : Wiring) (m : Mapping) (c v : ℕ) (p : Place) (type : List ℕ) → length m.places ≡ length w.nodes → is_member c (virt_at w v).asks ≡ false
     → list_any (same_name type) (types_of c w.nodes (set m.places v p)) ≡ list_any (same_name type) (types_of c w.nodes m.places)
-other_any w m c v p type all out = both_true (list_any (same_name type) (types_of c w.nodes (set m.places v p))) (list_any (same_name type) (types_of c w.nodes m.places)) to from
+other_any w m c v p type all out = same_tests (list_any (same_name type) (types_of c w.nodes (set m.places v p))) (list_any (same_name type) (types_of c w.nodes m.places)) to from
   where
     differ : (k : ℕ) → is_member c (virt_at w k).asks ≡ true → k ≢ v
     differ k member same = absurd (let both : true ≡ false = sym member ∙ ap (λ (j : ℕ). is_member c (virt_at w j).asks) same ∙ out in cc both)

@@ -4,8 +4,10 @@ use Rattle.std.specs.List.{list_any}
 use Rattle.std.proofs.Math.ListN.{set}
 use Rattle.std.proofs.lemmas.Bool.{cases_eq, eq-eqb}
 use Rattle.std.proofs.lemmas.List.{length-set, set-get_or}
+use Rattle.std.proofs.Math.Bool.{or-true}
 use Rattle.lab_base.specs.Names.{same_name}
-use Rattle.phys_lab.proofs.KeptLaws.{same_name-true, same_name-self}
+use Rattle.lab_base.proofs.Bytes.{bytes_self, bytes_same}
+use Rattle.lab_base.proofs.Tests.{same_tests}
 use Rattle.virt_topo.specs.declared.wiring.Asks.{Asks}
 use Rattle.virt_topo.specs.declared.wiring.Asks.TheVariants.{Plain, Class as InClass}
 use Rattle.virt_topo.specs.declared.wiring.VirtNode.{VirtNode}
@@ -32,16 +34,12 @@ any_from c type [] places u lt less member typed = absurd (omega (arith, lt))
 any_from c type (v ∷ vs) [] u lt less member typed = absurd (omega (arith, less))
 any_from c type (v ∷ vs) (p ∷ places) zero lt less member typed =
     ap (λ (b : Bool). list_any (same_name type) (cond b (p.1 ∷ types_of c vs places) (types_of c vs places))) member
-    ∙ ap (λ (b : Bool). b || list_any (same_name type) (types_of c vs places)) (subst (λ (t : List ℕ). same_name type t ≡ true) (sym typed) (same_name-self type))
+    ∙ ap (λ (b : Bool). b || list_any (same_name type) (types_of c vs places)) (subst (λ (t : List ℕ). same_name type t ≡ true) (sym typed) (bytes_self type))
 any_from c type (v ∷ vs) (p ∷ places) (suc u) lt less member typed =
     later (is_member c v.asks) (any_from c type vs places u (omega (arith, lt)) (omega (arith, less)) member typed)
   where
-    or_true : (b : Bool) → (b || true) ≡ true
-    or_true true = refl
-    or_true false = refl
-
     later : (b : Bool) → list_any (same_name type) (types_of c vs places) ≡ true → list_any (same_name type) (cond b (p.1 ∷ types_of c vs places) (types_of c vs places)) ≡ true
-    later true is = ap (λ (d : Bool). same_name type p.1 || d) is ∙ or_true (same_name type p.1)
+    later true is = ap (λ (d : Bool). same_name type p.1 || d) is ∙ or-true (same_name type p.1)
     later false is = is
 
 pub any_to : (c : ℕ) (type : List ℕ) (vs : List VirtNode) (places : List Place) → list_any (same_name type) (types_of c vs places) ≡ true → IsTyped c type vs places
@@ -54,18 +52,13 @@ any_to c type (v ∷ vs) (p ∷ places) is = by (any_to c type vs places) (is_me
 
     here : (list_any (same_name type) (types_of c vs places) ≡ true → IsTyped c type vs places) → (b : Bool) → same_name type p.1 ≡ b → is_member c v.asks ≡ true → (b || list_any (same_name type) (types_of c vs places)) ≡ true
         → IsTyped c type (v ∷ vs) (p ∷ places)
-    here rest true same member any = record { virt = 0; within = omega arith; placed = omega arith; member = member; typed = sym (same_name-true type p.1 same) }
+    here rest true same member any = record { virt = 0; within = omega arith; placed = omega arith; member = member; typed = sym (bytes_same type p.1 same) }
     here rest false same member any = next (rest any)
 
     by : (list_any (same_name type) (types_of c vs places) ≡ true → IsTyped c type vs places) → (b : Bool) → is_member c v.asks ≡ b
         → list_any (same_name type) (cond b (p.1 ∷ types_of c vs places) (types_of c vs places)) ≡ true → IsTyped c type (v ∷ vs) (p ∷ places)
     by rest true member any = here rest (same_name type p.1) refl member any
     by rest false member any = next (rest any)
-
-pub both_true : (a b : Bool) → (a ≡ true → b ≡ true) → (b ≡ true → a ≡ true) → a ≡ b
-both_true true b to from = sym (to refl)
-both_true false true to from = from refl
-both_true false false to from = refl
 
 -- the other way round
 settler_back : (w : Wiring) (x y : Mapping) (c : ℕ) (type : List ℕ) (u : ℕ) → IsSettler w x y c type u → IsSettler w y x c type u
@@ -116,7 +109,7 @@ still_typed w x y c v p type x_all y_all v_in keeps is =
 pub types_alike : (w : Wiring) (x y : Mapping) (c v : ℕ) (p : Place) (type : List ℕ) → length x.places ≡ length w.nodes → length y.places ≡ length w.nodes → v < length w.nodes → KeepsTypes w x y c
     → list_any (same_name type) (types_of c w.nodes (set x.places v p)) ≡ list_any (same_name type) (types_of c w.nodes (set y.places v p))
 types_alike w x y c v p type x_all y_all v_in keeps =
-    both_true (list_any (same_name type) (types_of c w.nodes (set x.places v p))) (list_any (same_name type) (types_of c w.nodes (set y.places v p)))
+    same_tests (list_any (same_name type) (types_of c w.nodes (set x.places v p))) (list_any (same_name type) (types_of c w.nodes (set y.places v p)))
     (still_typed w x y c v p type x_all y_all v_in keeps) (still_typed w y x c v p type y_all x_all v_in (keeps_back w x y c keeps))
 
 pub soft_alike : (w : Wiring) (x y : Mapping) (v : ℕ) (p : Place) (asks : Asks) (type : List ℕ) → length x.places ≡ length w.nodes → length y.places ≡ length w.nodes → v < length w.nodes

@@ -5,7 +5,7 @@ use Rattle.std.proofs.lemmas.Bool.{and_parts, eqb-true}
 use Rattle.std.proofs.Math.ListN.{set}
 use Rattle.std.proofs.lemmas.List.{set-get_or, set_comm, length-set}
 use Rattle.lab_base.specs.Names.{same_name}
-use Rattle.phys_lab.proofs.KeptLaws.{same_name-true}
+use Rattle.lab_base.proofs.Bytes.{bytes_same}
 use Rattle.virt_topo.specs.declared.mapping.Mapping.{Mapping}
 use Rattle.lab_model.specs.Shapes.{Place}
 use Rattle.lab_model.specs.Rules.{no_place, place_at}
@@ -34,7 +34,7 @@ moved_back m v p = ap (λ (l : List Place). record { places = l; plugs = m.plugs
 pub stays : (places : List Place) (v : ℕ) (p q : Place) → (p.0.0 == q.0.0 && same_name p.1 q.1) ≡ true → q ≡ get_or places v no_place → set places v p ≡ places
 stays places v p q is at =
     let both = and_parts _ _ is in
-    let same : p ≡ q = place_is p q (eqb-true p.0.0 q.0.0 both.0) (same_name-true p.1 q.1 both.1) in
+    let same : p ≡ q = place_is p q (eqb-true p.0.0 q.0.0 both.0) (bytes_same p.1 q.1 both.1) in
     ap (set places v) (same ∙ at) ∙ set-get_or places v no_place
 
 abbrev pub exchanged_at : Mapping → ℕ → ℕ → Mapping

@@ -14,6 +14,7 @@ use Rattle.phys_lab.specs.declared.free.Free.{Free}
 use Rattle.phys_lab.specs.Labs.{Lab}
 use Rattle.phys_lab.specs.Kept.{IsLab}
 use Rattle.lab_base.specs.Names.{is_name, same_name}
+use Rattle.lab_base.proofs.Members.{Has-get_or}
 use Rattle.phys_lab.specs.Faults.{is_type}
 use Rattle.phys_lab.specs.Sides.{joined}
 use Rattle.virt_topo.specs.Soundness.{IsSound}
@@ -22,12 +23,12 @@ use Rattle.virt_topo.specs.declared.wiring.Segment.{Segment}
 use Rattle.virt_topo.specs.declared.wiring.VirtNode.{VirtNode}
 use Rattle.virt_topo.specs.declared.wiring.Wiring.{Wiring}
 use Rattle.virt_topo.specs.declared.mapping.Mapping.{Mapping}
+use Rattle.virt_topo.proofs.CableLaws.{sound_limits}
 use Rattle.lab_model.specs.Shapes.{Place, IsShaped, node_at, no_node, has_name}
 use Rattle.lab_model.specs.Uses.{switch_of, no_iface}
 use Rattle.lab_model.specs.Rules.{agree, guests, Guest, number_of, no_place, no_cable, cable_at, keeps_f6, keeps_f7, keeps_f8}
 use Rattle.lab_model.specs.Feasible.{AllPass}
 use Rattle.lab_model.proofs.CutLaws.{cut_is_use}
-use Rattle.lab_model.proofs.WiringLaws.{has_at}
 use Rattle.trunk_sums.specs.declared.made.Change.{Change}
 use Rattle.trunk_sums.specs.declared.sums.EndRow.{EndRow}
 use Rattle.trunk_sums.specs.declared.sums.Sums.{Sums}
@@ -41,7 +42,6 @@ use Rattle.node_maps.proofs.EndLists.{on_nodes, same_length}
 use Rattle.node_maps.proofs.MapLaws.{mapped_is}
 use Rattle.node_maps.proofs.MovedLaws.{shared_all}
 use Rattle.node_maps.proofs.Shaped.{plugs_within}
-use Rattle.cost_rule.proofs.LimitLaws.{sound_limits}
 use Rattle.map_board.specs.declared.table.Setting.{Setting}
 use Rattle.map_board.specs.Nodes.{is_on, numbers_of, with_plugs, changes_of, no_row, no_end}
 use Rattle.map_board.specs.Tables.{AreAllJoined, IsSetting}
@@ -112,7 +112,7 @@ guests_few (v ∷ vs) (p ∷ places) n =
 pub alone_shares : (lab : Lab) (w : Wiring) (m : Mapping) (n : ℕ) → IsLab lab → IsShaped lab w m → n < length lab.nodes → guests_at m.places n ≤ 1 → may_share lab w m.places n ≡ true
 alone_shares lab w m n is shaped lt few =
     let types = (node_at lab (record { 0 = n })).types in
-    let whole = is.nodes (node_at lab (record { 0 = n })) (has_at lab.nodes n no_node lt) in
+    let whole = is.nodes (node_at lab (record { 0 = n })) (Has-get_or lab.nodes n no_node lt) in
     let ranges = (and_parts _ _ (and_parts _ _ (and_parts _ _ whole.ranges).1).1).0 in
     one_agrees types (guests w.nodes m.places n) (let count = guests_few w.nodes m.places n in omega (arith, count, few))
     (guests_each (λ (g : Guest). 1 ≤ number_of types g.0) w.nodes m.places n (λ k d os k_lt on.

@@ -1,13 +1,12 @@
 -- A node with more virtual nodes than may be there.
-use Rattle.std.proofs.Common.{◌≡◌, ◌<◌, ◌≤◌, ◌+◌, ◌∷◌, [], ℕ, zero, suc, List, length, get_or, Bool, true, false, cond, eqb, nat_le, ◌&&◌, None, All, refl, ap, subst, arith}
+use Rattle.std.proofs.Common.{◌≡◌, ◌<◌, ◌≤◌, ◌+◌, ◌∷◌, [], ℕ, zero, suc, List, length, get_or, Bool, true, false, cond, eqb, ◌&&◌, None, All, refl, ap, subst, arith}
 use Rattle.std.specs.List.{list_all}
-use Rattle.std.proofs.lemmas.Bool.{and_parts, eq-eqb}
-use Rattle.std.proofs.lemmas.Bool.Decides.{nat_tests}
+use Rattle.std.proofs.lemmas.Bool.{and_parts, eq-eqb, leb-true}
 use Rattle.std.proofs.lemmas.List.Sums.{sum_by-cons}
 use Rattle.lab_base.specs.Names.{same_name}
+use Rattle.lab_base.proofs.Bytes.{bytes_same}
 use Rattle.phys_lab.specs.declared.free.Free.{Free}
 use Rattle.phys_lab.specs.Labs.{Lab}
-use Rattle.phys_lab.proofs.KeptLaws.{same_name-true}
 use Rattle.virt_topo.specs.declared.wiring.VirtNode.{VirtNode}
 use Rattle.virt_topo.specs.declared.wiring.Wiring.{Wiring}
 use Rattle.virt_topo.specs.declared.mapping.Mapping.{Mapping}
@@ -18,22 +17,19 @@ use Rattle.node_maps.specs.Moved.{may_share}
 use Rattle.node_maps.proofs.Assembled.{no_map}
 use Rattle.map_board.specs.Seated.{guests_at}
 
-le_of : (m n : ℕ) → nat_le m n ≡ true → m ≤ n
-le_of m n e = grind (arith, nat_tests)
-
 -- those that agree are at most as many as the count of each one's type
 agree_few : (types : List (List ℕ × ℕ)) (gs : List Guest) → agree types gs ≡ true → All (λ g. length gs ≤ number_of types g.0) gs
 agree_few types [] e = λ k d lt. absurd (omega (arith, lt))
 agree_few types (g ∷ gs) e =
     let parts = and_parts _ _ e in
-    let few : length gs + 1 ≤ number_of types g.0 = le_of (length gs + 1) (number_of types g.0) parts.1 in
+    let few : length gs + 1 ≤ number_of types g.0 = leb-true (length gs + 1) (number_of types g.0) parts.1 in
     each few (alike gs parts.0)
   where
     alike : (hs : List Guest) → list_all (λ h. same_name h.0 g.0 && same_name h.1 g.1) hs ≡ true → All (λ h. h.0 ≡ g.0) hs
     alike [] e = λ k d lt. absurd (omega (arith, lt))
     alike (h ∷ hs) e =
         let own = and_parts _ _ e in
-        let first : h.0 ≡ g.0 = same_name-true h.0 g.0 (and_parts _ _ own.0).0 in
+        let first : h.0 ≡ g.0 = bytes_same h.0 g.0 (and_parts _ _ own.0).0 in
         heads h hs first (alike hs own.1)
       where
         heads : (h : Guest) (hs : List Guest) → h.0 ≡ g.0 → All (λ x. x.0 ≡ g.0) hs → All (λ x. x.0 ≡ g.0) (h ∷ hs)

@@ -1,8 +1,8 @@
 -- Steps of the loops.
-use Rattle.std.proofs.Common.{◌≡◌, ◌<◌, ◌+◌, ◌∙◌, ◌∷◌, ◌++◌, [], ℕ, zero, suc, List, length, map, drop, get_or, Bool, true, false, cond, Some, None, refl, ap, sym, append_assoc}
+use Rattle.std.proofs.Common.{◌≡◌, ◌<◌, ◌+◌, ◌∙◌, ◌∷◌, ◌++◌, [], ℕ, List, length, map, drop, get_or, Bool, true, false, cond, Some, None, refl, ap, sym, append_assoc}
 use Rattle.std.specs.Option.{option_and_then}
 use Rattle.std.proofs.Math.ListN.{set}
-use Rattle.std.proofs.lemmas.List.{set-get_or, drop_more}
+use Rattle.std.proofs.lemmas.List.{set-get_or, drop_more, set-set}
 use Rattle.lab_base.specs.declared.ids.IfaceId.{IfaceId}
 use Rattle.phys_lab.specs.Labs.{Lab}
 use Rattle.lab_model.specs.Shapes.{Place}
@@ -49,15 +49,6 @@ noted_more rows listed plugs k d i changes lt few =
     append_assoc changes (record { end = get_or listed k d; row = get_or rows (get_or listed k d) no_row; to = get_or plugs k i } ∷ []) (changes_of rows (drop (k + 1) listed) (drop (k + 1) plugs))
     ∙ (λ j. changes ++ changes_of rows (sym (drop_more listed k d lt) j) (sym (drop_more plugs k i few) j))
 
--- what takes a change back
-set_again : (plugs : List IfaceId) (k : ℕ) (a b : IfaceId) → set (set plugs k a) k b ≡ set plugs k b
-set_again plugs k a b = set_twice plugs k a b
-  where
-    set_twice : (plugs : List IfaceId) (k : ℕ) (a b : IfaceId) → set (set plugs k a) k b ≡ set plugs k b
-    set_twice [] k a b = refl
-    set_twice (x ∷ plugs) zero a b = refl
-    set_twice (x ∷ plugs) (suc k) a b = ap (λ (l : List IfaceId). x ∷ l) (set_twice plugs k a b)
-
 pub unmade_push : (plugs : List IfaceId) (cs : List Change) (c : Change) → unmade plugs (cs ++ c ∷ []) ≡ unmade (set plugs c.end c.to) cs
 unmade_push plugs [] c = refl
 unmade_push plugs (x ∷ cs) c = ap (λ (l : List IfaceId). set l x.end x.to) (unmade_push plugs cs c)
@@ -66,4 +57,4 @@ pub unmade_more : (plugs : List IfaceId) (cs : List Change) (end : ℕ) (row : E
     → unmade (set plugs end to) (cs ++ record { end = end; row = row; to = get_or plugs end d } ∷ []) ≡ unmade plugs cs
 unmade_more plugs cs end row to d =
     unmade_push (set plugs end to) cs (record { end = end; row = row; to = get_or plugs end d })
-    ∙ ap (λ (l : List IfaceId). unmade l cs) (set_again plugs end to (get_or plugs end d) ∙ set-get_or plugs end d)
+    ∙ ap (λ (l : List IfaceId). unmade l cs) (set-set plugs end to (get_or plugs end d) ∙ set-get_or plugs end d)

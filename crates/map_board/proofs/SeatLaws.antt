@@ -10,6 +10,7 @@ use Rattle.std.proofs.lemmas.List.Sums.{sum_by-cons}
 use Rattle.std.proofs.lemmas.Slice.Eq.{bytes_eq-Decides}
 use Rattle.std.proofs.Math.Nat.{mul-suc}
 use Rattle.lab_base.specs.Names.{same_name}
+use Rattle.lab_base.proofs.Numbers.{eqb_turned}
 use Rattle.phys_lab.specs.Labs.{Lab}
 use Rattle.virt_topo.specs.declared.wiring.Asks.{Asks}
 use Rattle.virt_topo.specs.declared.wiring.Asks.TheVariants.{Plain, Class as InClass}
@@ -20,24 +21,9 @@ use Rattle.virt_topo.specs.Wirings.{virt_at, no_virt}
 use Rattle.lab_model.specs.Shapes.{Place, node_at}
 use Rattle.lab_model.specs.Rules.{class_at, no_place, is_member}
 use Rattle.cost_rule.specs.Cost.{sum_below, different, missed, same_node, node_soft, class_soft, types_of, soft}
-use Rattle.cost_rule.proofs.Sums.{sum_same}
+use Rattle.cost_rule.proofs.Sums.{sum_same, sum_at}
 use Rattle.cost_rule.proofs.Different.{different_cons, new_if, replaced, some_different}
 use Rattle.map_board.specs.Seated.{guests_at, kind_soft, asked_soft, placed_at}
-
--- sums that differ in one number
-sum_at : (n v : ℕ) (f g : ℕ → ℕ) → v < n → ((k : ℕ) → k < n → k ≢ v → f k ≡ g k) → sum_below n f + g v ≡ sum_below n g + f v
-sum_at zero v f g lt same = absurd (omega (arith, lt))
-sum_at (suc n) v f g lt same = elim (cases_eq v n) [
-  | inl is ↦ (
-      let rest = sum_same n f g (λ k less. same k (omega (arith, less)) (λ e. absurd (omega (arith, e, is, less)))) in
-      let one : ◌≡◌ {A = ℕ} (f n) (f v) = ap f (sym is) in
-      let other : ◌≡◌ {A = ℕ} (g n) (g v) = ap g (sym is) in
-      omega (arith, rest, one, other))
-  | inr apart ↦ (
-      let rest = sum_at n v f g (omega (arith, lt, apart)) (λ k less ne. same k (omega (arith, less)) ne) in
-      let last = same n (omega arith) (λ e. apart (sym e)) in
-      omega (arith, rest, last))
-]
 
 -- SOFT
 other_node : (lab : Lab) (w : Wiring) (m : Mapping) (v k : ℕ) (p : Place) → k ≢ v → node_soft lab w (placed_at m v p) k ≡ node_soft lab w m k
@@ -149,11 +135,6 @@ soft_after lab w m v p lt few =
     omega (arith, nodes, classes)
 
 -- NODES IN USE
-eqb_turned : (a b : ℕ) → eqb a b ≡ eqb b a
-eqb_turned a b = elim (cases_eq a b) [
-  | inl is ↦ eq-eqb a b is ∙ sym (eq-eqb b a (sym is))
-  | inr apart ↦ ne_eqb a b apart ∙ sym (ne_eqb b a (λ e. apart (sym e)))
-]
 
 abbrev guests : List ℕ → ℕ → ℕ
 guests xs n = count_by (λ (x : ℕ). x == n) xs

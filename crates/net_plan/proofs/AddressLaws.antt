@@ -5,10 +5,11 @@ use Rattle.std.proofs.Common.{◌≡◌, ℕ, ◌+◌, ◌<◌, Bool, true, fals
 use Rattle.std.proofs.lemmas.List.{take_more}
 use Rattle.std.proofs.lemmas.List.Elements.{filter_map-append}
 use Rattle.std.proofs.lemmas.Grind.{flat_map-append}
+use Rattle.lab_base.proofs.Lists.{item_at}
+use Rattle.lab_base.proofs.Tests.{or_nested}
 use Rattle.virt_topo.specs.declared.wiring.VirtEnd.{VirtEnd}
 use Rattle.virt_topo.specs.declared.topo.AskedLink.{AskedLink}
 use Rattle.virt_topo.specs.Repeats.{stands_again}
-use Rattle.virt_topo.proofs.EndLaws.{item_at}
 use Rattle.net_plan.specs.Addresses.{addresses_of, ends_of, subnet_of, address_for, taken, all_taken, addressed_ends, addressed_from, repeats}
 
 -- what is put before a list that there may be
@@ -104,12 +105,8 @@ pub repeats-append : (used : ℕ → Bool) (xs ys : List ℕ) → repeats used (
 repeats-append used [] ys = refl
 repeats-append used (x ∷ xs) ys =
     repeats-one used x (xs ++ ys) ∙ ap (λ (b : Bool). used x || b) (repeats-append (taken used x) xs ys)
-    ∙ or_assoc (used x) (repeats (taken used x) xs) (repeats (all_taken (taken used x) xs) ys)
+    ∙ or_nested (used x) (repeats (taken used x) xs) (repeats (all_taken (taken used x) xs) ys)
     ∙ ap (λ (b : Bool). b || repeats (all_taken (taken used x) xs) ys) (sym (repeats-one used x xs))
-  where
-    or_assoc : (a b c : Bool) → (a || (b || c)) ≡ ((a || b) || c)
-    or_assoc true b c = refl
-    or_assoc false b c = refl
 
 pub repeats-none : (xs : List ℕ) → repeats (λ a. false) xs ≡ stands_again nat_eq xs
 repeats-none xs = ap (λ (b : Bool). b || stands_again nat_eq xs) (none xs)

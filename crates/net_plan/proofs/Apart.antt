@@ -3,17 +3,9 @@ use Rattle.std.specs.Prelude.{◌||◌, nat_eq}
 use Rattle.std.proofs.Common.{◌≡◌, ◌≢◌, inl, inr, ℕ, zero, suc, ◌+◌, ◌<◌, ◌≤◌, Bool, true, false, List, [], ◌∷◌, ◌++◌, map, refl, sym, ap, subst, ◌∙◌, arith}
 use Rattle.std.specs.List.{list_any, flat_map, range_with_len}
 use Rattle.std.proofs.lemmas.Bool.{or_parts, cases_eq, eq-eqb}
-use Rattle.lab_base.specs.Lists.{Has, Apart, AllDiffer}
-use Rattle.lab_base.proofs.Members.{Has-append, Has-map, Has-mapped, Has-flat_map}
+use Rattle.lab_base.specs.Lists.{Has, AllDiffer}
+use Rattle.lab_base.proofs.Members.{Has-map, Has-mapped, Has-flat_map, Apart-append, none_has, none_from}
 use Rattle.virt_topo.specs.Repeats.{stands_again}
-use Rattle.net_plan.proofs.ListLaws.{has-none, none-has}
-
-pub Apart-append : {X : Type 0} (R : X → X → Type 0) (xs ys : List X) → Apart R xs → Apart R ys → ((x y : X) → Has xs x → Has ys y → R x y) → Apart R (xs ++ ys)
-Apart-append R [] ys first second across = second
-Apart-append {X} R (x ∷ xs) ys first second across = (head, Apart-append R xs ys first.1 second (λ z y h g. across z y (inr h) g))
-  where
-    head : (y : X) → Has (xs ++ ys) y → R x y
-    head y h = elim (Has-append xs ys y h) [ inl a ↦ first.0 y a | inr b ↦ across x y (inl refl) b ]
 
 pub differ-append : {X : Type 0} (xs ys : List X) → AllDiffer xs → AllDiffer ys → ((x : X) → Has xs x → Has ys x → ⊥) → AllDiffer (xs ++ ys)
 differ-append xs ys first second across = Apart-append (λ x y. x ≢ y) xs ys first second (λ x y h g e. across x h (subst (λ v. Has ys v) (sym e) g))
@@ -76,7 +68,7 @@ module _ {X K : Type 0} (same : K → K → Bool) (tells : (a b : K) → same a 
   pub once-differ : (xs : List X) → AllDiffer (map key xs) → stands_again (λ a b. same (key a) (key b)) xs ≡ false
   once-differ [] differ = refl
   once-differ (x ∷ xs) differ =
-      let head : list_any (λ b. same (key x) (key b)) xs ≡ false = has-none (λ b. same (key x) (key b)) xs (λ y h. other (key x) (key y) (differ.0 (key y) (Has-mapped key xs y h))) in
+      let head : list_any (λ b. same (key x) (key b)) xs ≡ false = none_from (λ b. same (key x) (key b)) xs (λ y h. other (key x) (key y) (differ.0 (key y) (Has-mapped key xs y h))) in
       λ i. head i || once-differ xs differ.1 i
 
 module _ {X K : Type 0} (same : K → K → Bool) (self : (a : K) → same a a ≡ true) (key : X → K) where
@@ -90,7 +82,7 @@ module _ {X K : Type 0} (same : K → K → Bool) (self : (a : K) → same a a �
       head : (k : K) → Has (map key xs) k → key x ≢ k
       head k h e =
           let r = Has-map key xs k h in
-          let no : same (key x) (key r.0) ≡ false = none-has (λ b. same (key x) (key b)) xs r.0 (or_parts (list_any (λ b. same (key x) (key b)) xs) (stands_again (λ a b. same (key a) (key b)) xs) none).0 r.1 in
+          let no : same (key x) (key r.0) ≡ false = none_has (λ b. same (key x) (key b)) xs r.0 (or_parts (list_any (λ b. same (key x) (key b)) xs) (stands_again (λ a b. same (key a) (key b)) xs) none).0 r.1 in
           let one : key x ≡ key r.0 = e ∙ sym r.2 in
           let yes : same (key x) (key r.0) ≡ true = ap (same (key x)) (sym one) ∙ self (key x) in
           absurd (cc (no, yes))

@@ -1,13 +1,14 @@
 -- Links and LANs stay the same but for the addresses of their ends, and these differ.
 use Rattle.std.specs.Prelude.{◌||◌, not, option_map, option_and_then}
-use Rattle.std.proofs.Common.{◌≡◌, ◌≢◌, ◌⊎◌, inl, inr, ℕ, ◌+◌, ◌*◌, ◌%◌, Bool, true, false, cond, eqb, Option, Some, None, List, [], ◌∷◌, ◌++◌, length, map, refl, sym, ap, subst, ◌∙◌, arith}
-use Rattle.std.specs.List.{list_all, find, cons_option, range_with_len}
+use Rattle.std.proofs.Common.{◌≡◌, ◌≢◌, ◌⊎◌, inl, inr, ℕ, ◌+◌, ◌*◌, ◌%◌, Bool, true, false, eqb, Option, Some, None, List, [], ◌∷◌, ◌++◌, length, map, refl, sym, ap, subst, ◌∙◌, arith}
+use Rattle.std.specs.List.{list_all, cons_option, range_with_len}
 use Rattle.std.proofs.lemmas.Bool.{and_parts, and_from, eq-eqb, le-leb, not-true}
 use Rattle.std.proofs.lemmas.List.{length-map}
 use Rattle.std.proofs.lemmas.Nat.{mod-mul-add}
+use Rattle.std.proofs.Math.Bool.{or-true}
 use Rattle.lab_base.specs.Lists.{Has, AllDiffer}
 use Rattle.lab_base.specs.declared.rates.Rates.{Rates}
-use Rattle.lab_base.proofs.Members.{Has-left, Has-right, Has-append, Has-map, Apart-left, Apart-right, Apart-across}
+use Rattle.lab_base.proofs.Members.{Has-left, Has-right, Has-append, Has-map, Apart-left, Apart-right, Apart-across, found_has}
 use Rattle.virt_topo.specs.declared.wiring.VirtEnd.{VirtEnd}
 use Rattle.virt_topo.specs.declared.topo.AskedLink.{AskedLink}
 use Rattle.virt_topo.specs.Soundness.{is_address}
@@ -25,14 +26,6 @@ pub map_some : {A B : Type 0} (f : A → B) (o : Option A) (y : B) → option_ma
 map_some f None y e = absurd (cc e)
 map_some f (Some x) y e = (x, refl, cc e)
 
-found : {X : Type 0} (p : X → Bool) (xs : List X) (a : X) → find p xs ≡ Some a → Has xs a × (p a ≡ true)
-found p [] a e = absurd (cc e)
-found {X} p (x ∷ xs) a e = by (λ d. found p xs a d) (p x) refl e
-  where
-    by : (find p xs ≡ Some a → Has xs a × (p a ≡ true)) → (b : Bool) → p x ≡ b → cond b (Some x) (find p xs) ≡ Some a → Has (x ∷ xs) a × (p a ≡ true)
-    by later true is e = let same : x ≡ a = cc e in (inl same, ap p (sym same) ∙ is)
-    by later false is e = let r = later e in (inr r.0, r.1)
-
 -- the addresses of a subnet have last numbers from 1 to 254
 host_is : (subnet a : ℕ) → Has (hosts subnet) a → is_address (Some a) ≡ true
 unfolding hosts
@@ -47,13 +40,9 @@ host_is subnet a h =
 taken-own : (used : ℕ → Bool) (a : ℕ) → taken used a a ≡ true
 taken-own used a = ap (λ (b : Bool). b || used a) (eq-eqb a a refl)
 
-or_true : (a : Bool) → (a || true) ≡ true
-or_true true = refl
-or_true false = refl
-
 kept : (used : ℕ → Bool) (xs : List ℕ) (a : ℕ) → used a ≡ true → all_taken used xs a ≡ true
 kept used [] a is = is
-kept used (x ∷ xs) a is = kept (taken used x) xs a (ap (λ (b : Bool). eqb x a || b) is ∙ or_true (eqb x a))
+kept used (x ∷ xs) a is = kept (taken used x) xs a (ap (λ (b : Bool). eqb x a || b) is ∙ or-true (eqb x a))
 
 pub all_taken-has : (used : ℕ → Bool) (xs : List ℕ) (a : ℕ) → Has xs a → all_taken used xs a ≡ true
 all_taken-has used [] a h = absurd h
@@ -103,13 +92,13 @@ fresh-one used subnet (Some b) a e =
     let same : b ≡ a = cc e in
     record { each = λ x h. elim h [ inl d ↦ inl (inl (same ∙ d)) | inr d ↦ absurd d ]; differ = λ apart all. (λ x h. absurd h, tt) }
 fresh-one used (Some s) None a e =
-    let r = found (λ b. not (used b)) (hosts s) a e in
+    let r = found_has (λ b. not (used b)) (hosts s) a e in
     record { each = λ x h. elim h [ inl d ↦ inr (ap used (sym d) ∙ not-true (used a) r.1) | inr d ↦ absurd d ]; differ = λ apart all. (λ x h. absurd h, tt) }
 fresh-one used None None a e = absurd (cc e)
 
 valid-one : (used : ℕ → Bool) (subnet own : Option ℕ) (a : ℕ) → is_address own ≡ true → address_for used subnet own ≡ Some a → is_address (Some a) ≡ true
 valid-one used subnet (Some b) a is e = let same : Some b ≡ Some a = e in ap is_address (sym same) ∙ is
-valid-one used (Some s) None a is e = host_is s a (found (λ b. not (used b)) (hosts s) a e).0
+valid-one used (Some s) None a is e = host_is s a (found_has (λ b. not (used b)) (hosts s) a e).0
 valid-one used None None a is e = absurd (cc e)
 
 cons-append : (own : Option ℕ) (xs : List ℕ) → cons_option own xs ≡ cons_option own [] ++ xs

@@ -2,7 +2,9 @@
 use Rattle.std.specs.Prelude.{◌||◌, not, option_map, option_and_then}
 use Rattle.std.proofs.Common.{◌≡◌, ◌⊎◌, inl, inr, ℕ, zero, suc, ◌+◌, ◌*◌, ◌<◌, ◌≤◌, Bool, true, false, cond, eqb, Option, Some, None, List, [], ◌∷◌, ◌++◌, length, map, refl, sym, ap, subst, ◌∙◌, arith, append_assoc}
 use Rattle.std.specs.List.{find, flat_map, enumerate_from, range_with_len}
-use Rattle.std.proofs.lemmas.Bool.{not-true, not-false, cases_eq, eq-eqb, ne_eqb}
+use Rattle.std.proofs.lemmas.Bool.{not-true, not-false, cases_eq}
+use Rattle.std.proofs.Math.Bool.{or-false}
+use Rattle.lab_base.proofs.Numbers.{eqb_turned}
 use Rattle.virt_topo.specs.declared.wiring.VirtEnd.{VirtEnd}
 use Rattle.virt_topo.specs.declared.topo.AskedLink.{AskedLink}
 use Rattle.net_plan.specs.Addresses.{addresses_of, ends_of, subnet_of, hosts, address_for, uses, taken, all_taken, addressed_ends, addressed_from, addressed}
@@ -134,15 +136,9 @@ links_stuck used k (l ∷ links) is =
 
 -- WHAT IS USED
 
-eqb-swap : (a b : ℕ) → eqb a b ≡ eqb b a
-eqb-swap a b = elim (cases_eq a b) [
-  | inl e ↦ eq-eqb a b e ∙ sym (eq-eqb b a (sym e))
-  | inr ne ↦ ne_eqb a b ne ∙ sym (ne_eqb b a (λ e. ne (sym e)))
-]
-
 all_taken-at : (used : ℕ → Bool) (xs : List ℕ) (b : ℕ) → all_taken used xs b ≡ (uses xs b || used b)
 all_taken-at used [] b = refl
-all_taken-at used (x ∷ xs) b = all_taken-at (taken used x) xs b ∙ ap (λ (t : Bool). uses xs b || (t || used b)) (eqb-swap x b) ∙ or_swap (uses xs b) (eqb b x) (used b)
+all_taken-at used (x ∷ xs) b = all_taken-at (taken used x) xs b ∙ ap (λ (t : Bool). uses xs b || (t || used b)) (eqb_turned x b) ∙ or_swap (uses xs b) (eqb b x) (used b)
   where
     or_swap : (a c d : Bool) → (a || (c || d)) ≡ ((c || a) || d)
     or_swap true true d = refl
@@ -156,12 +152,8 @@ all_taken-at used (x ∷ xs) b = all_taken-at (taken used x) xs b ∙ ap (λ (t 
 used-all : (explicit earlier : List ℕ) → all_taken (all_taken (λ a. false) explicit) earlier ≡ uses (explicit ++ earlier)
 used-all explicit earlier =
     let at : (b : ℕ) → all_taken (all_taken (λ a. false) explicit) earlier b ≡ uses (explicit ++ earlier) b =
-    λ b. ap (λ (u : ℕ → Bool). u b) (sym (all_taken-append (λ a. false) explicit earlier)) ∙ all_taken-at (λ a. false) (explicit ++ earlier) b ∙ or_none (uses (explicit ++ earlier) b) in
+    λ b. ap (λ (u : ℕ → Bool). u b) (sym (all_taken-append (λ a. false) explicit earlier)) ∙ all_taken-at (λ a. false) (explicit ++ earlier) b ∙ or-false (uses (explicit ++ earlier) b) in
     λ i b. at b i
-  where
-    or_none : (a : Bool) → (a || false) ≡ a
-    or_none true = refl
-    or_none false = refl
 
 -- THE FIRST THAT IS FREE IS THE LEAST
 

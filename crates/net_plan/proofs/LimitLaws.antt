@@ -9,6 +9,7 @@ use Rattle.std.proofs.lemmas.List.Sums.{sum_by-cons}
 use Rattle.std.proofs.lemmas.List.Folds.{list_all-append}
 use Rattle.std.proofs.lemmas.List.FromFn.{length-map-range_with_len}
 use Rattle.lab_base.specs.declared.rates.Rates.{Rates}
+use Rattle.lab_base.proofs.Members.{all_has}
 use Rattle.virt_topo.specs.declared.wiring.VirtEnd.{VirtEnd}
 use Rattle.virt_topo.specs.declared.topo.AskedNode.{AskedNode}
 use Rattle.virt_topo.specs.declared.topo.AskedLink.{AskedLink}
@@ -18,10 +19,9 @@ use Rattle.virt_topo.specs.Topos.{Topo, IsTopo, limits_link, most_ends}
 use Rattle.net_plan.specs.Parts.{IsExpandable, AreExpandable, is_shaped, asked_node, delays, delay_nodes, delay_node, member_node_name, part, delay_end, member_segment, lan_segments, link_segments, segments_of, link_pipe, lan_pipe, pipes_of}
 use Rattle.net_plan.specs.Expansion.{numbered, wired}
 use Rattle.net_plan.proofs.Counts.{length-lan, length-lan_ends, end_nodes-append, few_ends, measured}
-use Rattle.net_plan.proofs.ListLaws.{all-has}
 
 pub expandable : (t : Topo) → IsTopo t → AreExpandable t.links
-expandable t is l h = record { short = (is.link_names l h).short; limits = all-has limits_link t.links l is.links h }
+expandable t is l h = record { short = (is.link_names l h).short; limits = all_has limits_link t.links l is.links h }
 
 -- HOW MANY PARTS THERE ARE
 

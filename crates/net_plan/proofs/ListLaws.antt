@@ -1,17 +1,8 @@
 -- Lists, one element more.
-use Rattle.std.proofs.Common.{◌≡◌, ℕ, zero, suc, ◌+◌, ◌-◌, ◌<◌, ◌≤◌, Bool, true, false, List, [], ◌∷◌, ◌++◌, length, map, take, get_or, inl, inr, refl, ap, sym, ◌∙◌, arith, append_assoc}
-use Rattle.std.specs.Prelude.{◌||◌}
-use Rattle.std.specs.List.{range_with_len, enumerate_from, list_all, list_any}
-use Rattle.std.proofs.lemmas.Bool.{and_parts, and_from, or_parts}
+use Rattle.std.proofs.Common.{◌≡◌, ℕ, zero, suc, ◌+◌, ◌-◌, ◌<◌, ◌≤◌, List, [], ◌∷◌, ◌++◌, length, map, take, get_or, refl, ap, sym, ◌∙◌, arith, append_assoc}
+use Rattle.std.specs.List.{range_with_len, enumerate_from}
 use Rattle.std.proofs.lemmas.List.{take_more, map-append}
 use Rattle.std.proofs.lemmas.List.FromFn.{map-range_with_len_more, length-enumerate_from, get_or-enumerate_from}
-use Rattle.lab_base.specs.Lists.{Has}
-
--- the item at a place is an element
-pub Has-at : {X : Type 0} (xs : List X) (i : ℕ) (x : X) → i < length xs → x ≡ get_or xs i x → Has xs x
-Has-at [] i x lt is = absurd (omega arith)
-Has-at (y ∷ xs) zero x lt is = inl (sym is)
-Has-at (y ∷ xs) (suc i) x lt is = inr (Has-at xs i x (omega arith) is)
 
 -- numbers from a on, one more
 pub range_more : {X : Type 0} (f : ℕ → X) (a j : ℕ) → a ≤ j → map f (range_with_len a ((j + 1) - a)) ≡ map f (range_with_len a (j - a)) ++ f j ∷ []
@@ -42,22 +33,3 @@ pub own_item : {X : Type 0} (xs : List X) (i : ℕ) (d : X) → i < length xs �
 own_item [] i d lt = absurd (omega arith)
 own_item (x ∷ xs) zero d lt = refl
 own_item (x ∷ xs) (suc i) d lt = own_item xs i d (omega arith)
-
--- what each element passes
-pub all-has : {X : Type 0} (p : X → Bool) (xs : List X) (x : X) → list_all p xs ≡ true → Has xs x → p x ≡ true
-all-has p [] x all h = absurd h
-all-has p (y ∷ xs) x all (inl e) = ap p (sym e) ∙ (and_parts (p y) (list_all p xs) all).0
-all-has p (y ∷ xs) x all (inr h) = all-has p xs x (and_parts (p y) (list_all p xs) all).1 h
-
-pub has-all : {X : Type 0} (p : X → Bool) (xs : List X) → ((x : X) → Has xs x → p x ≡ true) → list_all p xs ≡ true
-has-all p [] each = refl
-has-all p (x ∷ xs) each = and_from (p x) (list_all p xs) (each x (inl refl)) (has-all p xs (λ y h. each y (inr h)))
-
-pub none-has : {X : Type 0} (p : X → Bool) (xs : List X) (x : X) → list_any p xs ≡ false → Has xs x → p x ≡ false
-none-has p [] x none h = absurd h
-none-has p (y ∷ xs) x none (inl e) = ap p (sym e) ∙ (or_parts (p y) (list_any p xs) none).0
-none-has p (y ∷ xs) x none (inr h) = none-has p xs x (or_parts (p y) (list_any p xs) none).1 h
-
-pub has-none : {X : Type 0} (p : X → Bool) (xs : List X) → ((x : X) → Has xs x → p x ≡ false) → list_any p xs ≡ false
-has-none p [] each = refl
-has-none p (x ∷ xs) each = λ i. each x (inl refl) i || has-none p xs (λ y h. each y (inr h)) i

@@ -3,27 +3,16 @@ use Rattle.std.specs.Prelude.{not, decimal, ◌||◌}
 use Rattle.std.proofs.Common.{◌≡◌, ◌≢◌, ◌⊎◌, inl, inr, ℕ, zero, suc, ◌%◌, ◌/◌, ◌^◌, ◌<◌, Bool, true, false, cond, eqb, List, [], ◌∷◌, ◌++◌, refl, sym, ap, subst, ◌∙◌, arith}
 use Rattle.std.specs.List.{list_all}
 use Rattle.std.specs.Char.{is_ascii_digit}
-use Rattle.std.specs.Cmp.Lexicographic.{same_text}
 use Rattle.std.specs.Fmt.{digits, digits_onto, digit_glyph}
 use Rattle.std.specs.Str.Parse.{digits_value}
-use Rattle.std.proofs.lemmas.Bool.{and_parts, and_from, eq-eqb}
+use Rattle.std.proofs.lemmas.Bool.{and_parts, and_from}
 use Rattle.std.proofs.lemmas.Bool.Decides.{nat_tests}
 use Rattle.std.proofs.lemmas.Fmt.{digits_value-decimal}
 use Rattle.std.proofs.lemmas.List.Folds.{list_all-append}
 use Rattle.lab_base.proofs.Digits.{own}
-use Rattle.lab_base.specs.Names.{same_name}
+use Rattle.lab_base.proofs.Members.{all_weaker}
 use Rattle.virt_topo.specs.Topos.{is_word_byte, IsAskedName}
 use Rattle.virt_topo.specs.Topos.IsAskedName.{plain, indexed, numbered_one}
-use Rattle.net_plan.proofs.NameLaws.{list_all-more}
-
--- NAMES ARE ONE WHERE THE TEST SAYS SO
-
-pub name-self : (a : List ℕ) → same_name a a ≡ true
-name-self [] = refl
-name-self (x ∷ xs) = and_from _ _ (eq-eqb x x refl) (name-self xs)
-
-pub name-tells : (a b : List ℕ) → same_name a b ≡ true → a ≡ b
-name-tells a b is = same_text a b (sym is)
 
 -- BYTES WITHOUT A DOT
 
@@ -100,10 +89,10 @@ index_no_dot b h = grind (arith, nat_tests)
 
 -- an asked name has no dot, or is `tb`, a dot, a letter and a number
 pub asked_form : (letter : ℕ) (name : List ℕ) → IsAskedName (116 ∷ 98 ∷ 46 ∷ letter ∷ []) name → IsDotless name ⊎ ((k : ℕ) × (name ≡ 116 ∷ 98 ∷ 46 ∷ letter ∷ decimal k))
-asked_form letter name (plain is) = inl (list_all-more is_word_byte is_no_dot word_no_dot name is.1)
+asked_form letter name (plain is) = inl (all_weaker is_word_byte is_no_dot word_no_dot name is.1)
 asked_form letter name (indexed v i is at e) =
-    let first = list_all-more is_word_byte is_no_dot word_no_dot v is.1 in
-    let second = list_all-more (λ b. is_word_byte b || eqb b 45) is_no_dot index_no_dot i at.1 in
+    let first = all_weaker is_word_byte is_no_dot word_no_dot v is.1 in
+    let second = all_weaker (λ b. is_word_byte b || eqb b 45) is_no_dot index_no_dot i at.1 in
     inl (subst IsDotless (sym e) (list_all-append is_no_dot v (45 ∷ i) ∙ and_from _ _ first (and_from _ _ refl second)))
 asked_form letter name (numbered_one k e) = inr (k, e)
 

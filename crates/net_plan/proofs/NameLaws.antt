@@ -1,25 +1,18 @@
 -- Names with a mark behind them.
 use Rattle.std.specs.Prelude.{nat_le, decimal}
-use Rattle.std.proofs.Common.{◌≡◌, ℕ, ◌+◌, ◌^◌, ◌<◌, ◌≤◌, Bool, true, ◌&&◌, List, [], ◌∷◌, ◌++◌, length, refl, ◌∙◌, arith, length-append}
+use Rattle.std.proofs.Common.{◌≡◌, ℕ, ◌+◌, ◌^◌, ◌<◌, ◌≤◌, true, ◌&&◌, List, ◌++◌, length, ◌∙◌, arith, length-append}
 use Rattle.std.specs.Char.{is_ascii_digit}
 use Rattle.std.specs.List.{list_all}
 use Rattle.std.proofs.lemmas.Bool.{and_from, and_parts, leb-true, le-leb}
-use Rattle.std.proofs.lemmas.Bool.Decides.{nat_tests}
 use Rattle.std.proofs.lemmas.Fmt.{digits_decimal, length-decimal-le}
 use Rattle.std.proofs.lemmas.List.Folds.{list_all-append}
 use Rattle.lab_base.specs.Names.{is_name, is_name_byte}
 use Rattle.lab_base.proofs.Digits.{own}
-
--- what each element that passes one test passes
-pub list_all-more : {X : Type 0} (p q : X → Bool) → ((x : X) → p x ≡ true → q x ≡ true) → (xs : List X) → list_all p xs ≡ true → list_all q xs ≡ true
-list_all-more p q more [] h = refl
-list_all-more p q more (x ∷ xs) h = let parts = and_parts (p x) (list_all p xs) h in and_from (q x) (list_all q xs) (more x parts.0) (list_all-more p q more xs parts.1)
-
-digit_byte : (b : ℕ) → is_ascii_digit b ≡ true → is_name_byte b ≡ true
-digit_byte b h = grind (arith, nat_tests)
+use Rattle.lab_base.proofs.Members.{all_weaker}
+use Rattle.lab_base.proofs.Names.{digit_named}
 
 pub decimal_bytes : (n : ℕ) → n < 2 ^ 64 → list_all is_name_byte (decimal n) ≡ true
-decimal_bytes n fits = list_all-more is_ascii_digit is_name_byte digit_byte (decimal n) (digits_decimal own n fits)
+decimal_bytes n fits = all_weaker is_ascii_digit is_name_byte digit_named (decimal n) (digits_decimal own n fits)
 
 pub name_with : (name mark : List ℕ) → is_name name ≡ true → list_all is_name_byte mark ≡ true → length name + length mark ≤ 32 → is_name (name ++ mark) ≡ true
 name_with name mark is bytes few =

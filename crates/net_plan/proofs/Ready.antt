@@ -7,8 +7,9 @@ use Rattle.std.proofs.lemmas.List.{length-map}
 use Rattle.std.proofs.lemmas.List.Sums.{sum_by-cons}
 use Rattle.lab_base.specs.Lists.{Has, AllDiffer}
 use Rattle.lab_base.specs.declared.rates.Rates.{Rates}
-use Rattle.lab_base.proofs.Members.{Has-map, Has-mapped}
+use Rattle.lab_base.proofs.Members.{Has-map, Has-mapped, all_has, none_has}
 use Rattle.lab_base.specs.Names.{same_name}
+use Rattle.lab_base.proofs.Bytes.{bytes_self}
 use Rattle.virt_topo.specs.declared.wiring.VirtEnd.{VirtEnd}
 use Rattle.virt_topo.specs.declared.topo.AskedLink.{AskedLink}
 use Rattle.virt_topo.specs.Ends.{end_nodes}
@@ -22,8 +23,6 @@ use Rattle.net_plan.proofs.Apart.{differ-once, eqb-self}
 use Rattle.net_plan.proofs.Counts.{two_ends, few_ends, length-lan, length-lan_ends}
 use Rattle.net_plan.proofs.Framing.{AreGiven, IsFramed, size_of, given_links, all_taken-has}
 use Rattle.net_plan.proofs.LimitLaws.{expandable, few_parts, keeps-few}
-use Rattle.net_plan.proofs.ListLaws.{all-has, none-has}
-use Rattle.net_plan.proofs.Marks.{name-self}
 use Rattle.net_plan.proofs.PartNames.{AreNamed}
 
 pub record IsReady (t : Topo) (links : List AskedLink) : Type 0 where
@@ -115,8 +114,8 @@ ready t links is limits good found =
       limits = keeps-few t links is are ∙ few-by t links are ∙ ap (few_by (length t.nodes)) given.sizes ∙ sym (few-by t t.links (expandable t is)) ∙ sym (keeps-few t t.links is (expandable t is)) ∙ limits;
       expandable = are;
       named = record {
-        nodes_differ = differ-once same_name name-self (λ n. n.name) t.nodes is.nodes_differ;
-        links_differ = subst AllDiffer (sym given.names) (differ-once same_name name-self (λ l. l.name) t.links is.links_differ);
+        nodes_differ = differ-once same_name bytes_self (λ n. n.name) t.nodes is.nodes_differ;
+        links_differ = subst AllDiffer (sym given.names) (differ-once same_name bytes_self (λ l. l.name) t.links is.links_differ);
         node = λ n h. (is.node_names n h).asked;
         link = λ m h. let f = given.framed m h in subst (λ (n : List ℕ). IsAskedName (codes "tb.l") n) (sym f.2.name) (is.link_names f.0 f.1).asked;
         few = λ m h. few_ends m (are m h);
@@ -125,11 +124,11 @@ ready t links is limits good found =
           let f = given.framed m h in
           let n : Has (map (λ d. d.node) f.0.ends) e.node = subst (λ ns. Has ns e.node) f.2.nodes (Has-mapped (λ d. d.node) m.ends e g) in
           let d = Has-map (λ d. d.node) f.0.ends e.node n in
-          let known = ltb-true d.0.node (length t.nodes) (all-has _ f.0.ends d.0 (all-has _ t.links f.0 is.ends f.1) d.1) in
+          let known = ltb-true d.0.node (length t.nodes) (all_has _ f.0.ends d.0 (all_has _ t.links f.0 is.ends f.1) d.1) in
           omega (arith, known, d.2);
       members = λ m h.
           let f = given.framed m h in
-          subst AllDiffer (sym f.2.nodes) (differ-once nat_eq eqb-self (λ e. e.node) f.0.ends (none-has (λ l. stands_again (λ a b. eqb a.node b.node) l.ends) t.links f.0 is.members_differ f.1));
+          subst AllDiffer (sym f.2.nodes) (differ-once nat_eq eqb-self (λ e. e.node) f.0.ends (none_has (λ l. stands_again (λ a b. eqb a.node b.node) l.ends) t.links f.0 is.members_differ f.1));
       addresses = given.fresh.differ explicit (λ a h. all_taken-has (λ b. false) (addresses_of (ends_of t.links)) a h);
     }
   where

@@ -5,8 +5,11 @@ use Rattle.std.specs.List.{list_any, flat_map, cons_option, enumerate_from, rang
 use Rattle.std.proofs.lemmas.Bool.{or_parts, eqb-false, ne_eqb}
 use Rattle.std.proofs.lemmas.Grind.{flat_map-append}
 use Rattle.std.proofs.lemmas.List.Elements.{filter_map-append}
+use Rattle.std.proofs.lemmas.List.{append-nil}
 use Rattle.lab_base.specs.Lists.{Has, AllDiffer}
 use Rattle.lab_base.specs.Names.{same_name}
+use Rattle.lab_base.proofs.Members.{none_has, none_from}
+use Rattle.lab_base.proofs.Bytes.{bytes_same}
 use Rattle.virt_topo.specs.declared.fault.WiringFault.TheVariants as faults
 use Rattle.virt_topo.specs.declared.wiring.Asks.{Asks}
 use Rattle.virt_topo.specs.declared.wiring.Asks.TheVariants.{Plain, Class as InClass}
@@ -23,8 +26,6 @@ use Rattle.net_plan.proofs.Apart.{once-differ}
 use Rattle.net_plan.proofs.AddressLaws.{addresses_of_links}
 use Rattle.net_plan.proofs.Counts.{two_ends}
 use Rattle.net_plan.proofs.LimitLaws.{length-nodes}
-use Rattle.net_plan.proofs.ListLaws.{none-has, has-none}
-use Rattle.net_plan.proofs.Marks.{name-tells}
 use Rattle.net_plan.proofs.PartNames.{all_nodes_differ, all_segments_differ}
 use Rattle.net_plan.proofs.Ready.{IsReady}
 use Rattle.net_plan.proofs.SoundParts.{each_node, all_known, no_bad_pipe, none_same}
@@ -54,10 +55,6 @@ once_addresses (e ∷ ends) differ = by e.address (λ later. once_addresses ends
     by None later all = λ i. nowhere ends i || later all i
     by (Some a) later all = λ i. other_ends a ends all.0 i || later all.1 i
 
-append_nil : {X : Type 0} (xs : List X) → xs ++ [] ≡ xs
-append_nil [] = refl
-append_nil (x ∷ xs) = ap (λ ys. x ∷ ys) (append_nil xs)
-
 own_addresses : (first : ℕ) (l : AskedLink) → (l.lan ≡ false → length l.ends ≡ 2) → addresses_of (all_ends (segments_of (first, l))) ≡ addresses_of l.ends
 own_addresses first l two_ends = by (is_shaped l.rates) l.lan two_ends
   where
@@ -82,12 +79,12 @@ own_addresses first l two_ends = by (is_shaped l.rates) l.lan two_ends
         ap addresses_of (flat_map-append (λ s. s.ends) segments (part l l.name ends ∷ []))
         ∙ filter_map-append (λ d. d.address) (all_ends segments) (ends ++ [])
         ∙ (λ i. members 0 l.ends i ++ hub (range_with_len first (length l.ends)) i)
-        ∙ append_nil (addresses_of l.ends)
+        ∙ append-nil (addresses_of l.ends)
 
     by : (shaped lan : Bool) → (lan ≡ false → length l.ends ≡ 2) → addresses_of (all_ends (cond shaped (cond lan (lan_segments l first) (link_segments l first l.ends)) (part l l.name l.ends ∷ []))) ≡ addresses_of l.ends
     by true true len = many
     by true false len = two l.ends (len refl)
-    by false lan len = ap addresses_of (append_nil l.ends)
+    by false lan len = ap addresses_of (append-nil l.ends)
 
 all_addresses : (first : ℕ) (links : List AskedLink) → AreExpandable links → addresses_of (all_ends (flat_map segments_of (numbered first links))) ≡ addresses_of (ends_of links)
 all_addresses first [] are = refl
@@ -102,27 +99,27 @@ all_addresses first (l ∷ links) are =
 -- CLASSES
 
 no_class : (classes : List Class) (asks : Asks) → ((c : Class) → Has classes c → asks_type c.name asks ≡ false) → asks_class_name classes asks ≡ false
-no_class classes (Plain type) each = has-none (λ c. same_name c.name type) classes each
+no_class classes (Plain type) each = none_from (λ c. same_name c.name type) classes each
 no_class classes (InClass c) each = refl
 
 class_apart : (t : Topo) → IsTopo t → (c : Class) → Has t.classes c → (same_name c.name (codes "delay") ≡ false) × (list_any (λ n. asks_type c.name n.asks) t.nodes ≡ false)
-class_apart t is c h = or_parts (same_name c.name (codes "delay")) (list_any (λ n. asks_type c.name n.asks) t.nodes) (none-has (λ c. is_type_name t c.name) t.classes c is.class_names h)
+class_apart t is c h = or_parts (same_name c.name (codes "delay")) (list_any (λ n. asks_type c.name n.asks) t.nodes) (none_has (λ c. is_type_name t c.name) t.classes c is.class_names h)
 
 -- SOUND
 
 pub none_twice : (t : Topo) (links : List AskedLink) → IsReady t links → has_twice (wired t links) ≡ false
 none_twice t links r =
     let w = wired t links in
-    let nodes : stands_again (λ a b. same_name a.name b.name) w.nodes ≡ false = once-differ same_name name-tells (λ v. v.name) w.nodes (all_nodes_differ t links r.named) in
-    let segments : stands_again (λ a b. same_name a.name b.name) w.segments ≡ false = once-differ same_name name-tells (λ s. s.name) w.segments (all_segments_differ t links r.named) in
+    let nodes : stands_again (λ a b. same_name a.name b.name) w.nodes ≡ false = once-differ same_name bytes_same (λ v. v.name) w.nodes (all_nodes_differ t links r.named) in
+    let segments : stands_again (λ a b. same_name a.name b.name) w.segments ≡ false = once-differ same_name bytes_same (λ s. s.name) w.segments (all_segments_differ t links r.named) in
     let desires : list_any (λ v. stands_again (λ a b. same_name a.0 b.0) v.desires) w.nodes ≡ false =
-    has-none (λ v. stands_again (λ a b. same_name a.0 b.0) v.desires) w.nodes (each_node (λ v. stands_again (λ a b. same_name a.0 b.0) v.desires) false t links (λ n h. refl) (λ name. refl)) in
+    none_from (λ v. stands_again (λ a b. same_name a.0 b.0) v.desires) w.nodes (each_node (λ v. stands_again (λ a b. same_name a.0 b.0) v.desires) false t links (λ n h. refl) (λ name. refl)) in
     let addresses : stands_again same_address (all_ends w.segments) ≡ false =
     once_addresses (all_ends w.segments) (subst AllDiffer (sym (all_addresses (length t.nodes) links r.expandable)) r.addresses) in
     let asks : list_any (λ v. asks_class_name t.classes v.asks) w.nodes ≡ false =
-    has-none (λ v. asks_class_name t.classes v.asks) w.nodes (each_node (λ v. asks_class_name t.classes v.asks) false t links
-    (λ n h. no_class t.classes n.asks (λ c g. none-has (λ m. asks_type c.name m.asks) t.nodes n (class_apart t r.topo c g).1 h))
-    (λ name. has-none (λ c. same_name c.name (codes "delay")) t.classes (λ c g. (class_apart t r.topo c g).0))) in
+    none_from (λ v. asks_class_name t.classes v.asks) w.nodes (each_node (λ v. asks_class_name t.classes v.asks) false t links
+    (λ n h. no_class t.classes n.asks (λ c g. none_has (λ m. asks_type c.name m.asks) t.nodes n (class_apart t r.topo c g).1 h))
+    (λ name. none_from (λ c. same_name c.name (codes "delay")) t.classes (λ c g. (class_apart t r.topo c g).0))) in
     λ i. r.topo.classes_differ i || (nodes i || (segments i || (r.topo.types_differ i || (desires i || (addresses i || asks i)))))
 
 pub sound : (t : Topo) (links : List AskedLink) → IsReady t links → (length t.nodes == 0) ≡ false → IsSound (wired t links)

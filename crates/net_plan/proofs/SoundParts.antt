@@ -4,8 +4,9 @@ use Rattle.std.proofs.Common.{◌≡◌, inl, inr, ℕ, ◌+◌, ◌<◌, ◌≤
 use Rattle.std.specs.List.{list_all, list_any, flat_map, enumerate_from, range_with_len}
 use Rattle.std.proofs.lemmas.Bool.{and_from, lt-ltb, eqb-true, ne_eqb}
 use Rattle.lab_base.specs.Lists.{Has, AllDiffer}
-use Rattle.lab_base.proofs.Members.{Has-map, Has-mapped, Has-append, Has-flat_map}
+use Rattle.lab_base.proofs.Members.{Has-map, Has-mapped, Has-append, Has-flat_map, all_has, all_from, none_from}
 use Rattle.lab_base.specs.Names.{same_name}
+use Rattle.lab_base.proofs.Bytes.{bytes_self}
 use Rattle.virt_topo.specs.declared.wiring.Asks.{Asks}
 use Rattle.virt_topo.specs.declared.wiring.Asks.TheVariants.{Plain, Class as InClass}
 use Rattle.virt_topo.specs.declared.wiring.VirtNode.{VirtNode}
@@ -23,8 +24,6 @@ use Rattle.net_plan.specs.Expansion.{numbered, wired}
 use Rattle.net_plan.proofs.Apart.{once-differ, range-differ}
 use Rattle.net_plan.proofs.Counts.{two_ends}
 use Rattle.net_plan.proofs.LimitLaws.{length-nodes}
-use Rattle.net_plan.proofs.ListLaws.{all-has, has-all, has-none}
-use Rattle.net_plan.proofs.Marks.{name-self}
 use Rattle.net_plan.proofs.Numbering.{IsDelayOf, within, one_link, all_pipes, pipe_ends, pipe_shaped, pipe_delay, has_owner, has_alone, part_end, all_twice, both_ends, owner_is, alone_is}
 use Rattle.net_plan.proofs.PartNames.{numbered-link}
 use Rattle.net_plan.proofs.Ready.{IsReady}
@@ -112,9 +111,9 @@ placed t links r pipe h =
 pub all_known : (t : Topo) (links : List AskedLink) → IsReady t links → knows_all (wired t links) ≡ true
 all_known t links r =
     let w = wired t links in
-    and_from _ _ (has-all (λ v. knows_class w v.asks) w.nodes (each_node (λ v. knows_class w v.asks) true t links (λ n h. asks_known t links n.asks (all-has (λ n. knows_asked t n.asks) t.nodes n r.topo.asks h)) (λ name. refl)))
-    (and_from _ _ (has-all (λ s. list_all (λ e. knows_node w e.node) s.ends) w.segments (λ s h. has-all (λ e. knows_node w e.node) s.ends (λ e g. lt-ltb e.node (length w.nodes) (omega (arith, count, node_known t links r s e h g)))))
-    (has-all (knows_pipe w) w.pipes (λ pipe h.
+    and_from _ _ (all_from (λ v. knows_class w v.asks) w.nodes (each_node (λ v. knows_class w v.asks) true t links (λ n h. asks_known t links n.asks (all_has (λ n. knows_asked t n.asks) t.nodes n r.topo.asks h)) (λ name. refl)))
+    (and_from _ _ (all_from (λ s. list_all (λ e. knows_node w e.node) s.ends) w.segments (λ s h. all_from (λ e. knows_node w e.node) s.ends (λ e g. lt-ltb e.node (length w.nodes) (omega (arith, count, node_known t links r s e h g)))))
+    (all_from (knows_pipe w) w.pipes (λ pipe h.
     let is = placed t links r pipe h in
     and_from _ _ (lt-ltb pipe.node (length w.nodes) (omega (arith, count, is.node)))
     (and_from _ _
@@ -130,12 +129,12 @@ pub no_bad_pipe : (t : Topo) (links : List AskedLink) → IsReady t links → ha
 no_bad_pipe t links r = λ i. alone i || apart i
   where
     alone : list_any (is_bad_pipe (wired t links)) (wired t links).pipes ≡ false
-    alone = has-none (is_bad_pipe (wired t links)) (wired t links).pipes (λ pipe h.
+    alone = none_from (is_bad_pipe (wired t links)) (wired t links).pipes (λ pipe h.
         let w = wired t links in
         let is = placed t links r pipe h in
         let owners : owner_at w (pipe_from w pipe) ≡ owner_at w (pipe_to w pipe) =
         ap (λ (k : ℕ). owner_at w (end_number (end_nodes w.segments) pipe.node k)) is.from ∙ is.same ∙ ap (λ (k : ℕ). owner_at w (end_number (end_nodes w.segments) pipe.node k)) (sym is.to) in
-        let one : same_name (owner_at w (pipe_from w pipe)) (owner_at w (pipe_to w pipe)) ≡ true = ap (λ (o : List ℕ). same_name o (owner_at w (pipe_to w pipe))) owners ∙ name-self (owner_at w (pipe_to w pipe)) in
+        let one : same_name (owner_at w (pipe_from w pipe)) (owner_at w (pipe_to w pipe)) ≡ true = ap (λ (o : List ℕ). same_name o (owner_at w (pipe_to w pipe))) owners ∙ bytes_self (owner_at w (pipe_to w pipe)) in
         let at : ℕ → Bool = λ k. multiplexed_at w (end_number (end_nodes w.segments) pipe.node k) in
         let first : multiplexed_at w (pipe_from w pipe) ≡ false = ap at is.from ∙ is.alone 0 is.first in
         let second : multiplexed_at w (pipe_to w pipe) ≡ false = ap at is.to ∙ is.alone 1 is.second in
@@ -147,7 +146,7 @@ no_bad_pipe t links r = λ i. alone i || apart i
         by : (pipes : List Pipe) → AllDiffer (map (λ p. p.node) pipes) → stands_again shares_end pipes ≡ false
         by [] differ = refl
         by (p ∷ pipes) differ =
-            let head : list_any (shares_end p) pipes ≡ false = has-none (shares_end p) pipes (λ q h.
+            let head : list_any (shares_end p) pipes ≡ false = none_from (shares_end p) pipes (λ q h.
             let other : eqb p.node q.node ≡ false = ne_eqb p.node q.node (differ.0 q.node (Has-mapped (λ p. p.node) pipes q h)) in
             ap (λ (b : Bool). b && ((p.from == q.from) || ((p.from == q.to) || ((p.to == q.from) || (p.to == q.to))))) other) in
             λ i. head i || by pipes differ.1 i
@@ -193,7 +192,7 @@ segment_nodes (first, l) most s low all differ h = by (is_shaped l.rates) l.lan 
     by false lan (inr k) = absurd k
 
 pub none_same : (t : Topo) (links : List AskedLink) → IsReady t links → has_same (wired t links) ≡ false
-none_same t links r = has-none (λ s. stands_again (λ a b. eqb a.node b.node) s.ends) (wired t links).segments (λ s h.
+none_same t links r = none_from (λ s. stands_again (λ a b. eqb a.node b.node) s.ends) (wired t links).segments (λ s h.
     let n = length t.nodes in
     let p = Has-flat_map segments_of (numbered n links) s h in
     let link = numbered-link n links p.0 p.1 in

@@ -2,9 +2,10 @@
 use Rattle.std.proofs.Common.{◌≡◌, ◌≢◌, ◌≤◌, ◌<◌, ◌+◌, ◌-◌, ◌∷◌, [], ◌∙◌, inl, inr, ℕ, suc, List, Bool, true, false, cond, eqb, not, nat_le, ◌&&◌, ◌||◌, All, refl, ap, sym, arith}
 use Rattle.std.specs.Prelude.{max, sum_by}
 use Rattle.std.specs.List.{list_all}
-use Rattle.std.proofs.lemmas.Bool.{cases_Bool, and_parts, eqb-true, ne_eqb, eq-eqb, leb-true}
+use Rattle.std.proofs.lemmas.Bool.{cases_Bool, and_parts, eqb-true, ne_eqb, eq-eqb, leb-true, leb-false}
 use Rattle.std.proofs.lemmas.Bool.Decides.{nat_tests}
 use Rattle.std.proofs.lemmas.List.Sums.{sum_by-cons}
+use Rattle.std.proofs.Math.Bool.{and-false}
 use Rattle.virt_topo.specs.declared.loads.Load.{Load}
 use Rattle.lab_model.specs.Rules.{may_join, may_bear}
 use Rattle.node_maps.specs.Indexed.{noted, newest, serves}
@@ -14,10 +15,6 @@ sum_of xs = sum_by (λ x. x.kbps) xs
 
 abbrev pub all_multiplexed : List Load → Bool
 all_multiplexed xs = list_all (λ x. x.multiplexed) xs
-
-and_no : (b : Bool) → (b && false) ≡ false
-and_no true = refl
-and_no false = refl
 
 -- a load that isn't multiplexed comes to no other
 plain_joins : (ys : List Load) (x : Load) → x.multiplexed ≡ false → (y : Load) → list_all (λ z. may_join z x) (y ∷ ys) ≡ false
@@ -38,10 +35,10 @@ joins_plain (y ∷ ys) x some = by y.multiplexed refl (λ later. joins_plain ys 
     by : (b : Bool) → y.multiplexed ≡ b → (all_multiplexed ys ≡ false → list_all (λ z. may_join z x) ys ≡ false) → list_all (λ z. may_join z x) (y ∷ ys) ≡ false
     by false is rest =
         ap (λ (b : Bool). (not (eqb y.segment x.segment) && (b && x.multiplexed)) && list_all (λ z. may_join z x) ys) is
-        ∙ ap (λ (b : Bool). b && list_all (λ z. may_join z x) ys) (and_no (not (eqb y.segment x.segment)))
+        ∙ ap (λ (b : Bool). b && list_all (λ z. may_join z x) ys) (and-false (not (eqb y.segment x.segment)))
     by true is rest =
         let later : all_multiplexed ys ≡ false = sym (ap (λ (b : Bool). b && all_multiplexed ys) is) ∙ some in
-        ap (λ (b : Bool). may_join y x && b) (rest later) ∙ and_no (may_join y x)
+        ap (λ (b : Bool). may_join y x && b) (rest later) ∙ and-false (may_join y x)
 
 not_same : (p q : ℕ) → eqb p q ≡ false → p ≢ q
 not_same p q h same = let both : true ≡ false = sym (eq-eqb p q same) ∙ h in cc both
@@ -98,13 +95,10 @@ le_inside a s k le = grind (arith, nat_tests)
 le_outside : (a s k : ℕ) → k < a → false ≡ nat_le (a + s) k
 le_outside a s k gt = grind (arith, nat_tests)
 
-leb_false : (a k : ℕ) → nat_le a k ≡ false → k < a
-leb_false a k h = grind (arith, nat_tests)
-
 le_both : (a s k : ℕ) → (nat_le a k && nat_le s (k - a)) ≡ nat_le (a + s) k
 le_both a s k = elim (cases_Bool (nat_le a k)) [
   | inl le ↦ ap (λ (b : Bool). b && nat_le s (k - a)) le ∙ le_inside a s k (leb-true a k le)
-  | inr gt ↦ ap (λ (b : Bool). b && nat_le s (k - a)) gt ∙ le_outside a s k (leb_false a k gt)
+  | inr gt ↦ ap (λ (b : Bool). b && nat_le s (k - a)) gt ∙ le_outside a s k (leb-false a k gt)
 ]
 
 -- where some load is on the interface
@@ -132,14 +126,14 @@ some_on used last kbps y ys x slow is at some next rising = by (all_multiplexed 
         let nonzero : eqb used 0 ≡ false = ne_eqb used 0 (λ h. absurd (omega (arith, h, top))) in
         let over : nat_le used (kbps - x.kbps) ≡ false = ap (λ (n : ℕ). nat_le n (kbps - x.kbps)) top ∙ full x.kbps kbps 0 slow in
         (λ j. nat_le x.kbps kbps && (nonzero j || (x.multiplexed && (over j && not (eqb last (x.segment + 1))))))
-        ∙ ap (λ (t : Bool). nat_le x.kbps kbps && t) (and_no x.multiplexed) ∙ and_no (nat_le x.kbps kbps)
+        ∙ ap (λ (t : Bool). nat_le x.kbps kbps && t) (and-false x.multiplexed) ∙ and-false (nat_le x.kbps kbps)
         ∙ sym (ap (λ (t : Bool). t && nat_le (x.kbps + sum) kbps) (joins_plain (y ∷ ys) x mixed))
     by true all false plain =
         let summed : used ≡ sum = is ∙ ap (λ (t : Bool). cond t sum 18446744073709551615) all in
         let positive = some_sum y ys (some 0 y (omega arith)) in
         let nonzero : eqb used 0 ≡ false = ne_eqb used 0 (λ h. absurd (omega (arith, h, summed, positive))) in
         (λ j. nat_le x.kbps kbps && (nonzero j || (plain j && (nat_le used (kbps - x.kbps) && not (eqb last (x.segment + 1))))))
-        ∙ and_no (nat_le x.kbps kbps)
+        ∙ and-false (nat_le x.kbps kbps)
         ∙ sym (ap (λ (t : Bool). t && nat_le (x.kbps + sum) kbps) (plain_joins ys x plain y))
     by true all true shares =
         let summed : used ≡ sum = is ∙ ap (λ (t : Bool). cond t sum 18446744073709551615) all in

@@ -6,6 +6,7 @@ use Rattle.std.specs.Option.{option_map}
 use Rattle.std.proofs.lemmas.Bool.{cond_both, cond-false, both_ways, cases_eq, eq-eqb, ne_eqb, and_parts, leb-true}
 use Rattle.std.proofs.lemmas.List.{append-nil, take_more, length-take-le}
 use Rattle.std.proofs.lemmas.List.Elements.{All-cons}
+use Rattle.std.proofs.Math.Bool.{and-true}
 use Rattle.lab_base.specs.declared.ids.IfaceId.{IfaceId}
 use Rattle.lab_base.specs.declared.ids.NodeId.{NodeId}
 use Rattle.phys_lab.specs.declared.parts.Iface.{Iface}
@@ -13,10 +14,11 @@ use Rattle.phys_lab.specs.Labs.{Lab}
 use Rattle.node_maps.specs.declared.index.NodeIface.{NodeIface}
 use Rattle.phys_lab.specs.Kept.{IsLab}
 use Rattle.lab_base.specs.Names.{is_name}
+use Rattle.lab_base.proofs.Members.{Has-get_or}
+use Rattle.lab_base.proofs.Numbers.{plus_zero}
 use Rattle.phys_lab.specs.Faults.{is_iface, is_port_number, is_speed}
 use Rattle.virt_topo.specs.declared.loads.Load.{Load}
 use Rattle.lab_model.specs.Rules.{Laid, loads_on, may_bear}
-use Rattle.lab_model.proofs.WiringLaws.{has_at}
 use Rattle.node_maps.specs.declared.ifaces.Given.{Given}
 use Rattle.node_maps.proofs.Bearing.{some_on}
 use Rattle.node_maps.specs.NodeMaps.{first_iface}
@@ -137,7 +139,7 @@ slow_of iface is =
     below n h = let le = leb-true n 1000000000 h in omega (arith, le)
 
 slow_lab : (lab : Lab) → IsLab lab → All (λ (x : Iface). x.kbps < 18446744073709551615) lab.ifaces
-slow_lab lab is = λ k d lt. slow_of (get_or lab.ifaces k d) (is.ifaces (get_or lab.ifaces k d) (has_at lab.ifaces k d lt))
+slow_lab lab is = λ k d lt. slow_of (get_or lab.ifaces k d) (is.ifaces (get_or lab.ifaces k d) (Has-get_or lab.ifaces k d lt))
 
 -- what an end puts on an interface is like what is on it already
 pub record Bearable (had : List Laid) (load : Load) : Type 0 where
@@ -155,14 +157,7 @@ on_all P i (x ∷ had) all =
 pub serves_is : (used last kbps : ℕ) (ys : List Load) (x : Load) → kbps < 18446744073709551615 → used ≡ noted ys → (list_all (λ y. y.multiplexed) ys ≡ true → 0 < length ys → last ≡ newest ys)
     → All (λ (y : Load). 1 ≤ y.kbps) ys → 1 ≤ x.kbps → All (λ (y : Load). y.segment ≤ x.segment) ys → serves used last kbps x ≡ may_bear kbps ys x
 serves_is used last kbps [] x slow is at some next rising =
-    ap (λ (n : ℕ). nat_le x.kbps kbps && ((eqb n 0) || (x.multiplexed && (nat_le n (kbps - x.kbps) && not (eqb last (x.segment + 1)))))) is ∙ by (nat_le x.kbps kbps) ∙ ap (λ (n : ℕ). nat_le n kbps) (none x.kbps)
-  where
-    by : (b : Bool) → (b && true) ≡ b
-    by true = refl
-    by false = refl
-
-    none : (n : ℕ) → n ≡ n + 0
-    none n = omega arith
+    ap (λ (n : ℕ). nat_le x.kbps kbps && ((eqb n 0) || (x.multiplexed && (nat_le n (kbps - x.kbps) && not (eqb last (x.segment + 1)))))) is ∙ and-true (nat_le x.kbps kbps) ∙ ap (λ (n : ℕ). nat_le n kbps) (plus_zero x.kbps)
 serves_is used last kbps (y ∷ ys) x slow is at some next rising =
     some_on used last kbps y ys x slow is (λ all. at all (omega arith)) some next rising
 

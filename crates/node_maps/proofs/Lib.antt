@@ -1,6 +1,5 @@
 pub mod Leasts
 pub mod Places
-mod IfaceCount
 pub mod EndLists
 pub mod Shaped
 pub mod MapLaws

@@ -1,9 +1,10 @@
 -- The mapping of a node map.
-use Rattle.std.proofs.Common.{◌≡◌, ◌<◌, ◌∙◌, List, [], length, map, get_or, true, Option, Some, None, All, refl, sym, subst, arith}
+use Rattle.std.proofs.Common.{◌≡◌, ◌<◌, ◌∙◌, List, [], length, map, get_or, true, Some, All, refl, sym, subst, arith}
 use Rattle.std.specs.Prelude.{is_none}
 use Rattle.std.proofs.lemmas.Option.{option_and_then_some, cond_some}
 use Rattle.std.proofs.lemmas.List.Elements.{All-map, All-filter, All-contains}
 use Rattle.std.proofs.lemmas.List.{length-map}
+use Rattle.lab_base.proofs.Tests.{none_is}
 use Rattle.phys_lab.specs.declared.free.Free.{Free}
 use Rattle.phys_lab.specs.Labs.{Lab}
 use Rattle.virt_topo.specs.declared.wiring.VirtNode.{VirtNode}
@@ -21,10 +22,6 @@ pub record IsMapped (lab : Lab) (free : Free) (w : Wiring) (places : List Place)
   pub same_places : m.places ≡ places
   pub given : plugs_of lab w places ≡ Some m.plugs
   pub feasible : IsFeasible lab free w m
-
-none_is : {X : Type 0} (o : Option X) → is_none o ≡ true → o ≡ None
-none_is None e = refl
-none_is (Some x) e = absurd (cc e)
 
 pub mapped_is : (lab : Lab) (free : Free) (w : Wiring) (places : List Place) (m : Mapping) → node_map lab free w places ≡ Some m → IsMapped lab free w places m
 unfolding node_map

@@ -1,7 +1,7 @@
 -- The node map of places that differ from those of one at hand on two nodes alone.
-use Rattle.std.proofs.Common.{◌≡◌, ◌≢◌, ◌∙◌, ◌∷◌, [], inl, inr, ℕ, suc, List, length, true, cond, eqb, Option, Some, None, ap, sym, subst, refl, arith}
+use Rattle.std.proofs.Common.{◌≡◌, ◌≢◌, ◌∙◌, ◌∷◌, [], inl, inr, ℕ, suc, List, length, true, cond, eqb, Option, None, ap, sym, subst, refl, arith}
 use Rattle.std.proofs.lemmas.Bool.{cases_eq, cond-false, ne_eqb}
-use Rattle.lab_base.specs.declared.ids.IfaceId.{IfaceId}
+use Rattle.std.proofs.lemmas.Option.{none-some}
 use Rattle.phys_lab.specs.declared.free.Free.{Free}
 use Rattle.phys_lab.specs.Labs.{Lab}
 use Rattle.virt_topo.specs.declared.wiring.VirtNode.{VirtNode}
@@ -43,7 +43,4 @@ shared_all lab w places last a b alike all kept n lt = elim (cases_eq n a) [
 
 -- no node map where the rule gives some end no plug
 pub no_plugs : (lab : Lab) (free : Free) (w : Wiring) (places : List Place) → plugs_of lab w places ≡ None → ◌≡◌ {A = Option Mapping} None (node_map lab free w places)
-no_plugs lab free w places none = sym (no_map lab free w places (λ plugs all. never plugs (sym none ∙ all.given)))
-  where
-    never : (plugs : List IfaceId) → ◌≡◌ {A = Option (List IfaceId)} None (Some plugs) → ⊥
-    never plugs e = absurd (cc e)
+no_plugs lab free w places none = sym (no_map lab free w places (λ plugs all. none-some plugs (sym none ∙ all.given)))

@@ -1,9 +1,10 @@
 -- The ends of a sound wiring are in order.
-use Rattle.std.proofs.Common.{◌≡◌, ◌≤◌, ◌<◌, ◌+◌, ◌∷◌, [], ◌++◌, ℕ, suc, zero, List, length, get_or, map, All, refl, arith}
-use Rattle.std.specs.Prelude.{Bool, true, false, not, Option, Some, None, if◌then◌else◌}
+use Rattle.std.proofs.Common.{◌≡◌, ◌≤◌, ◌<◌, ◌+◌, ◌∷◌, [], ◌++◌, ℕ, suc, zero, List, length, get_or, map, All, arith}
+use Rattle.std.specs.Prelude.{true, not}
 use Rattle.std.specs.List.{list_all}
 use Rattle.std.proofs.lemmas.Bool.{and_parts, not-false}
 use Rattle.std.proofs.lemmas.List.Elements.{All-append, All-map}
+use Rattle.lab_base.proofs.Tests.{not_faulty}
 use Rattle.virt_topo.specs.declared.wiring.Segment.{Segment}
 use Rattle.virt_topo.specs.declared.wiring.VirtEnd.{VirtEnd}
 use Rattle.virt_topo.specs.declared.wiring.Wiring.{Wiring}
@@ -54,13 +55,9 @@ some_from n (s ∷ segments) h =
     (All-map (λ (e : End). 1 ≤ e.kbps) (end_of n s) s.ends (λ k d lt. some))
     (some_from (n + 1) segments parts.1)
 
-past : {X : Type 0} (faulty : Bool) (fault : X) (later : Option X) → (if faulty then Some fault else later) ≡ None → faulty ≡ false
-past true fault later e = absurd (cc e)
-past false fault later e = refl
-
 pub ordered : (w : Wiring) → IsSound w → AreOrdered (ends_of w.segments)
 ordered w sound =
-    let limits = limits_of w (not-false _ (past (not (keeps_limits w)) _ _ sound)) in
+    let limits = limits_of w (not-false _ (not_faulty (not (keeps_limits w)) _ _ sound)) in
     let count = limits.segments in
     record {
       some = some_from 0 w.segments limits.each_segment;

@@ -2,13 +2,12 @@
 use Rattle.std.proofs.Common.{◌≡◌, ◌≤◌, ◌<◌, ◌+◌, ◌∷◌, [], ◌++◌, ◌∙◌, ℕ, true, List, length, drop, get_or, map, All, ap, sym, suc, arith}
 use Rattle.std.proofs.lemmas.List.Elements.{All-append, All-map}
 use Rattle.lab_base.specs.Names.{same_name}
+use Rattle.lab_base.proofs.Bytes.{bytes_self}
+use Rattle.lab_base.proofs.Lists.{item_at}
+use Rattle.lab_base.proofs.Members.{any_has, Has-get_or}
 use Rattle.phys_lab.specs.declared.parts.Node.{Node}
 use Rattle.phys_lab.specs.Labs.{Lab}
-use Rattle.phys_lab.proofs.KeptLaws.{same_name-self}
-use Rattle.virt_topo.proofs.EndLaws.{item_at}
 use Rattle.lab_model.specs.Shapes.{Place, node_at, no_node, has_name}
-use Rattle.lab_model.proofs.SuitLaws.{any_has}
-use Rattle.lab_model.proofs.WiringLaws.{has_at}
 use Rattle.node_maps.specs.NodeMaps.{places_from, lab_places, ArePlaces}
 
 pub places_step : (xs : List Node) (i : ℕ) (x : Node) → i < length xs → x ≡ get_or xs i x
@@ -17,7 +16,7 @@ places_step xs i x h is = ap (places_from i) (item_at xs i x h is)
 
 -- a type of a node is a type of it
 own_type : (types : List (List ℕ × ℕ)) (k : ℕ) (d : List ℕ × ℕ) → k < length types → has_name types (get_or types k d).0 ≡ true
-own_type types k d lt = any_has (λ p. same_name p.0 (get_or types k d).0) types (get_or types k d) (has_at types k d lt) (same_name-self (get_or types k d).0)
+own_type types k d lt = any_has (λ p. same_name p.0 (get_or types k d).0) types (get_or types k d) (Has-get_or types k d lt) (bytes_self (get_or types k d).0)
 
 -- each place is on one of the nodes
 within : (n m : ℕ) (xs : List Node) → n + length xs ≤ m → All (λ (p : Place). p.0.0 < m) (places_from n xs)

@@ -7,6 +7,7 @@ use Rattle.std.proofs.lemmas.Bool.{cases_eq, eq-eqb, ne_eqb, and_parts, or_parts
 use Rattle.std.proofs.lemmas.List.{length-set, length-replicate, get_or-replicate, append-nil}
 use Rattle.std.proofs.lemmas.List.Elements.{All-append, All-cons}
 use Rattle.std.proofs.lemmas.List.Sums.{sum_by-cons, sum_by-append}
+use Rattle.std.proofs.Math.Bool.{and-true, and-false}
 use Rattle.lab_base.specs.declared.ids.IfaceId.{IfaceId}
 use Rattle.phys_lab.specs.Labs.{Lab}
 use Rattle.virt_topo.specs.declared.loads.Load.{Load}
@@ -18,11 +19,7 @@ use Rattle.node_maps.proofs.Bearing.{sum_of, all_multiplexed}
 use Rattle.node_maps.proofs.KeptPlugs.{on_push}
 
 all_push : (ys : List Load) (x : Load) → all_multiplexed (ys ++ x ∷ []) ≡ (all_multiplexed ys && x.multiplexed)
-all_push [] x = by x.multiplexed
-  where
-    by : (b : Bool) → (b && true) ≡ b
-    by true = refl
-    by false = refl
+all_push [] x = and-true x.multiplexed
 all_push (y ∷ ys) x = ap (λ (b : Bool). y.multiplexed && b) (all_push ys x) ∙ by y.multiplexed (all_multiplexed ys) x.multiplexed
   where
     by : (a b c : Bool) → (a && (b && c)) ≡ ((a && b) && c)
@@ -45,11 +42,7 @@ sum_push ys x =
 -- a load that isn't multiplexed
 noted_plain : (ys : List Load) (x : Load) → x.multiplexed ≡ false → noted (ys ++ x ∷ []) ≡ 18446744073709551615
 noted_plain ys x plain =
-    ap (λ (b : Bool). cond b (sum_of (ys ++ x ∷ [])) 18446744073709551615) (all_push ys x ∙ ap (λ (b : Bool). all_multiplexed ys && b) plain ∙ none (all_multiplexed ys))
-  where
-    none : (b : Bool) → (b && false) ≡ false
-    none true = refl
-    none false = refl
+    ap (λ (b : Bool). cond b (sum_of (ys ++ x ∷ [])) 18446744073709551615) (all_push ys x ∙ ap (λ (b : Bool). all_multiplexed ys && b) plain ∙ and-false (all_multiplexed ys))
 
 -- one that is, beside others
 noted_shared : (ys : List Load) (x : Load) → x.multiplexed ≡ true → all_multiplexed ys ≡ true → noted (ys ++ x ∷ []) ≡ noted ys + x.kbps

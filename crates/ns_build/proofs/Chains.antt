@@ -6,9 +6,9 @@ use Rattle.std.proofs.lemmas.Bool.{ltb-true}
 use Rattle.lab_base.specs.Numbers.{number_of}
 use Rattle.lab_base.specs.declared.fault.Kind.{Kind}
 use Rattle.lab_base.specs.Names.{same_name}
+use Rattle.lab_base.proofs.Tests.{and_first}
 use Rattle.ns_build.specs.Words.{place_below, place_in}
 use Rattle.ns_build.specs.Checks.{◌>>=◌, each, need, refuse}
-use Rattle.ns_build.proofs.Elements.{and_first}
 
 -- a fault, and a value
 abbrev pub fault_of : (A : Type 0) → Kind → Result A Kind

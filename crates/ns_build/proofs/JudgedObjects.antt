@@ -2,7 +2,7 @@
 use Rattle.std.proofs.Common.{◌≡◌, ℕ, ◌<◌, ◌≤◌, Bool, true, false, List, [], ◌∷◌, ◌++◌, length, Option, Some, None, Ok, refl, subst, arith}
 use Rattle.std.specs.Prelude.{nat_lt, nat_le, not, codes, ◌||◌, ◌&&◌, ◌==◌}
 use Rattle.std.specs.List.{list_all}
-use Rattle.std.proofs.lemmas.Bool.{lt-ltb, le-leb}
+use Rattle.std.proofs.lemmas.Bool.{lt-ltb, le-leb, and_from, leb-false, ltb-false}
 use Rattle.lab_base.specs.declared.fault.Kind.TheVariants as kinds
 use Rattle.lab_base.specs.Names.{same_name}
 use Rattle.virt_topo.specs.declared.wiring.VirtEnd.{VirtEnd}
@@ -18,9 +18,9 @@ use Rattle.ns_build.specs.Words.{node_of, elements_of}
 use Rattle.ns_build.specs.Checks.{each, need, refuse, word_at, counted, bandwidth_in, delay_in}
 use Rattle.ns_build.specs.Keywords.{verb_of}
 use Rattle.ns_build.specs.Commands.{judged_new, judged_source, judged_node, link_room, new_link, judged_link, with_end, judged_lan, judged_routes, judged_run, judged_verb, judged_simulator}
-use Rattle.ns_build.proofs.Elements.{and_both, all_push}
+use Rattle.ns_build.proofs.Elements.{all_push}
 use Rattle.ns_build.proofs.NamesDiffer.{again_push}
-use Rattle.ns_build.proofs.Quantities.{not_less, not_below, speed_fits, delay_fits}
+use Rattle.ns_build.proofs.Quantities.{speed_fits, delay_fits}
 use Rattle.ns_build.proofs.KeepingEvents.{judged_at_fits}
 use Rattle.ns_build.proofs.KeepingLinks.{limits_of}
 use Rattle.ns_build.proofs.Fitting.{FitsNode, FitsLink, Fits}
@@ -30,7 +30,7 @@ use Rattle.ns_build.proofs.Chains.{fault_of, okay, then_ok, need_ok, refuse_ok, 
 
 rates_fit : (fast slow : List ℕ) (kbps micros : ℕ) → bandwidth_in fast ≡ Ok kbps → delay_in slow ≡ Ok micros → are_rates (lossless kbps micros) ≡ true
 rates_fit fast slow kbps micros h g =
-    and_both (is_speed kbps) (nat_le micros 10000000 && nat_le 0 1000000) (speed_fits fast kbps h) (and_both (nat_le micros 10000000) (nat_le 0 1000000) (delay_fits slow micros g) (le-leb 0 1000000 (omega arith)))
+    and_from (is_speed kbps) (nat_le micros 10000000 && nat_le 0 1000000) (speed_fits fast kbps h) (and_from (nat_le micros 10000000) (nat_le 0 1000000) (delay_fits slow micros g) (le-leb 0 1000000 (omega arith)))
 
 -- ENDS
 
@@ -64,7 +64,7 @@ no_ends n = record { known = refl; addresses = refl; differ = refl }
 link_fits : (n : Network) (lan : Bool) (kbps micros : ℕ) (ends : List VirtEnd) (u : Unit {0}) → link_room n ≡ Ok u → are_rates (lossless kbps micros) ≡ true
     → is_between 2 (most_ends lan) (length ends) ≡ true → AreEnds n ends → FitsLink n (fresh_link (next_link n) lan (lossless kbps micros) ends)
 link_fits n lan kbps micros ends u room rates count are = record {
-  few = not_less 512 (length n.links) (refuse_ok kinds.Limit (nat_le 512 (length n.links)) u room);
+  few = leb-false 512 (length n.links) (refuse_ok kinds.Limit (nat_le 512 (length n.links)) u room);
   name = refl;
   limits = limits_of (fresh_link (next_link n) lan (lossless kbps micros) ends) rates count are.addresses;
   known = are.known;
@@ -105,9 +105,9 @@ judged_lan_fits n words task h =
     let kbps = then_ok (bandwidth_in (word_at words 3)) _ task few.2 in
     let micros = then_ok (delay_in (word_at words 4)) _ task kbps.2 in
     let room = then_ok (link_room n) _ task micros.2 in
-    let least : 2 ≤ length ends.0 = not_below (length ends.0) 2 (refuse_ok kinds.Node (nat_lt (length ends.0) 2) enough.0 enough.1) in
-    let most : length ends.0 ≤ 254 = not_below 254 (length ends.0) (refuse_ok kinds.Limit (nat_lt 254 (length ends.0)) few.0 few.1) in
-    let count : is_between 2 254 (length ends.0) ≡ true = and_both (nat_le 2 (length ends.0)) (nat_le (length ends.0) 254) (le-leb 2 (length ends.0) least) (le-leb (length ends.0) 254 most) in
+    let least : 2 ≤ length ends.0 = ltb-false (length ends.0) 2 (refuse_ok kinds.Node (nat_lt (length ends.0) 2) enough.0 enough.1) in
+    let most : length ends.0 ≤ 254 = ltb-false 254 (length ends.0) (refuse_ok kinds.Limit (nat_lt 254 (length ends.0)) few.0 few.1) in
+    let count : is_between 2 254 (length ends.0) ≡ true = and_from (nat_le 2 (length ends.0)) (nat_le (length ends.0) 254) (le-leb 2 (length ends.0) least) (le-leb (length ends.0) 254 most) in
     new_link_fits n true kbps.0 micros.0 ends.0 room.0 task room.1 (rates_fit (word_at words 3) (word_at words 4) kbps.0 micros.0 kbps.1 micros.1) count
     (each_keeps (AreEnds n) (with_end n) (with_end_fits n) (elements_of (word_at words 2)) [] ends.0 (no_ends n) ends.1) room.2
 
@@ -118,7 +118,7 @@ unfolding judged_node
 judged_node_fits n words task h =
     let form = then_ok (counted 2 words) _ task h in
     let room = then_ok (refuse kinds.Limit (nat_le 256 (length n.nodes))) _ task form.2 in
-    let fit : FitsNode n (next_node n) = record { few = not_less 256 (length n.nodes) (refuse_ok kinds.Limit (nat_le 256 (length n.nodes)) room.0 room.1); next = refl } in
+    let fit : FitsNode n (next_node n) = record { few = leb-false 256 (length n.nodes) (refuse_ok kinds.Limit (nat_le 256 (length n.nodes)) room.0 room.1); next = refl } in
     subst (Fits n) (ok_is (tasks.AddNode (next_node n)) task room.2) fit
 
 pub judged_new_fits : (n : Network) (words : List (List ℕ)) (task : Task) → judged_new n words ≡ Ok task → Fits n task

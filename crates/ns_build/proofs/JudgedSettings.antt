@@ -2,9 +2,11 @@
 use Rattle.std.proofs.Common.{◌≡◌, ℕ, ◌<◌, ◌≤◌, Bool, true, false, List, [], ◌∷◌, ◌++◌, length, Some, Ok, refl, subst, arith}
 use Rattle.std.specs.Prelude.{nat_lt, nat_le, not, ◌||◌}
 use Rattle.std.specs.List.{list_any}
-use Rattle.std.proofs.lemmas.Bool.{le-leb}
+use Rattle.std.proofs.lemmas.Bool.{le-leb, and_from, leb-false, ltb-false}
 use Rattle.lab_base.specs.declared.fault.Kind.TheVariants as kinds
 use Rattle.lab_base.specs.Names.{same_name}
+use Rattle.lab_base.proofs.Tests.{or_first, or_rest}
+use Rattle.lab_base.proofs.Members.{none_has, none_from}
 use Rattle.virt_topo.specs.Repeats.{stands_again}
 use Rattle.virt_topo.specs.Soundness.{is_between, is_address}
 use Rattle.ns_words.specs.Values.{loss_of}
@@ -20,11 +22,9 @@ use Rattle.ns_build.specs.Networks.{Network, fresh_class, is_on_at, only_link, a
 use Rattle.ns_build.specs.Words.{node_of, link_of, link_of_kind, elements_of}
 use Rattle.ns_build.specs.Checks.{each, need, refuse, word_at, counted, name_in, loss_in, flag_in, address_in}
 use Rattle.ns_build.specs.Settings.{judged_os, judged_hardware, judged_fixed, judged_ip, judged_end_ip, judged_loss, judged_multiplexed, with_type, judged_class}
-use Rattle.ns_build.proofs.Elements.{and_both, or_first, or_second, none_at, none_from}
 use Rattle.ns_build.proofs.NamesDiffer.{again_push, same_turned}
 use Rattle.ns_build.proofs.Fitting.{FitsClass, Fits}
 use Rattle.ns_build.proofs.Chains.{then_ok, need_ok, refuse_ok, ok_is, each_keeps}
-use Rattle.ns_build.proofs.Quantities.{not_less, not_below}
 
 pub judged_os_fits : (n : Network) (words : List (List ℕ)) (task : Task) → judged_os n words ≡ Ok task → Fits n task
 unfolding judged_os
@@ -56,7 +56,7 @@ unfolding address_in
 address_fits word ip h =
     let w = (address_exact word ip).0 (need_ok kinds.Ip (address_of word) ip h) in
     let last = last_number word ip w in
-    and_both _ _ (le-leb 1 _ last.0) (le-leb _ 254 last.1)
+    and_from _ _ (le-leb 1 _ last.0) (le-leb _ 254 last.1)
 
 pub judged_ip_fits : (n : Network) (words : List (List ℕ)) (task : Task) → judged_ip n words ≡ Ok task → Fits n task
 unfolding judged_ip
@@ -104,7 +104,7 @@ with_type_fits types word more differ h =
     let new = then_ok (refuse kinds.Twice (list_any (same_name type.0) types)) _ more type.2 in
     let none : list_any (same_name type.0) types ≡ false = refuse_ok kinds.Twice (list_any (same_name type.0) types) new.0 new.1 in
     subst (λ (l : List (List ℕ)). stands_again same_name l ≡ false) (ok_is (types ++ type.0 ∷ []) more new.2)
-    (again_push same_name types type.0 differ (none_from (λ (t : List ℕ). same_name t type.0) types (λ t m. same_turned type.0 t (none_at (same_name type.0) types t none m))))
+    (again_push same_name types type.0 differ (none_from (λ (t : List ℕ). same_name t type.0) types (λ t m. same_turned type.0 t (none_has (same_name type.0) types t none m))))
 
 pub judged_class_fits : (n : Network) (words : List (List ℕ)) (task : Task) → judged_class n words ≡ Ok task → Fits n task
 unfolding judged_class
@@ -116,13 +116,13 @@ judged_class_fits n words task h =
     let some = then_ok (refuse kinds.Name (nat_lt (length types.0) 1)) _ task types.2 in
     let room = then_ok (refuse kinds.Limit (nat_lt 8 (length types.0) || nat_le 64 (length n.classes))) _ task some.2 in
     let within : (nat_lt 8 (length types.0) || nat_le 64 (length n.classes)) ≡ false = refuse_ok kinds.Limit (nat_lt 8 (length types.0) || nat_le 64 (length n.classes)) room.0 room.1 in
-    let least : 1 ≤ length types.0 = not_below (length types.0) 1 (refuse_ok kinds.Name (nat_lt (length types.0) 1) some.0 some.1) in
-    let most : length types.0 ≤ 8 = not_below 8 (length types.0) (or_first (nat_lt 8 (length types.0)) (nat_le 64 (length n.classes)) within) in
-    let few : length n.classes < 64 = not_less 64 (length n.classes) (or_second (nat_lt 8 (length types.0)) (nat_le 64 (length n.classes)) within) in
+    let least : 1 ≤ length types.0 = ltb-false (length types.0) 1 (refuse_ok kinds.Name (nat_lt (length types.0) 1) some.0 some.1) in
+    let most : length types.0 ≤ 8 = ltb-false 8 (length types.0) (or_first (nat_lt 8 (length types.0)) (nat_le 64 (length n.classes)) within) in
+    let few : length n.classes < 64 = leb-false 64 (length n.classes) (or_rest (nat_lt 8 (length types.0)) (nat_le 64 (length n.classes)) within) in
     let fit : FitsClass n (fresh_class name.0 types.0) = record {
       few = few;
-      limits = and_both (nat_le 500 1000000) (is_between 1 8 (length types.0)) (le-leb 500 1000000 (omega arith))
-          (and_both (nat_le 1 (length types.0)) (nat_le (length types.0) 8) (le-leb 1 (length types.0) least) (le-leb (length types.0) 8 most));
+      limits = and_from (nat_le 500 1000000) (is_between 1 8 (length types.0)) (le-leb 500 1000000 (omega arith))
+          (and_from (nat_le 1 (length types.0)) (nat_le (length types.0) 8) (le-leb 1 (length types.0) least) (le-leb (length types.0) 8 most));
       free = refuse_ok kinds.Twice (refuses_class n name.0) free.0 free.1;
       differ = each_keeps (λ (l : List (List ℕ)). stands_again same_name l ≡ false) with_type with_type_fits (elements_of (word_at words 2)) [] types.0 refl types.1;
     } in

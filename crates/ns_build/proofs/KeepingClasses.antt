@@ -2,7 +2,9 @@
 use Rattle.std.proofs.Common.{◌≡◌, Bool, false, [], ◌∷◌, ◌++◌, arith, length-append}
 use Rattle.std.specs.Prelude.{codes, ◌||◌}
 use Rattle.std.specs.List.{list_any}
+use Rattle.std.proofs.lemmas.Bool.{or_from}
 use Rattle.lab_base.specs.Names.{same_name}
+use Rattle.lab_base.proofs.Tests.{or_first, or_rest}
 use Rattle.virt_topo.specs.declared.wiring.Class.{Class}
 use Rattle.virt_topo.specs.declared.topo.AskedNode.{AskedNode}
 use Rattle.virt_topo.specs.Repeats.{stands_again}
@@ -10,7 +12,7 @@ use Rattle.virt_topo.specs.Soundness.{limits_class}
 use Rattle.virt_topo.specs.Topos.{IsTopo, asks_type, knows_asked, is_type_name}
 use Rattle.ns_build.specs.Networks.{Network, topo_of}
 use Rattle.ns_build.specs.Kept.{IsKept}
-use Rattle.ns_build.proofs.Elements.{or_first, or_second, or_neither, all_weak, all_push, none_push}
+use Rattle.ns_build.proofs.Elements.{all_weak, all_push, none_push}
 use Rattle.ns_build.proofs.NamesDiffer.{again_push}
 use Rattle.ns_build.proofs.Fitting.{FitsClass}
 use Rattle.ns_build.proofs.KeepingNodes.{knows_more}
@@ -31,16 +33,16 @@ keeps_class n c k fit = kept
     no_pc = or_first (same_name c.name (codes "pc")) (same_name c.name (codes "delay") || (asked || named)) fit.free
 
     others : (same_name c.name (codes "delay") || (asked || named)) ≡ false
-    others = or_second (same_name c.name (codes "pc")) (same_name c.name (codes "delay") || (asked || named)) fit.free
+    others = or_rest (same_name c.name (codes "pc")) (same_name c.name (codes "delay") || (asked || named)) fit.free
 
     no_delay : same_name c.name (codes "delay") ≡ false
     no_delay = or_first (same_name c.name (codes "delay")) (asked || named) others
 
     no_asked : asked ≡ false
-    no_asked = or_first asked named (or_second (same_name c.name (codes "delay")) (asked || named) others)
+    no_asked = or_first asked named (or_rest (same_name c.name (codes "delay")) (asked || named) others)
 
     no_named : named ≡ false
-    no_named = or_second asked named (or_second (same_name c.name (codes "delay")) (asked || named) others)
+    no_named = or_rest asked named (or_rest (same_name c.name (codes "delay")) (asked || named) others)
 
     topo : IsTopo (topo_of after)
     topo = record {
@@ -57,7 +59,7 @@ keeps_class n c k fit = kept
       classes_differ = again_push (λ (a b : Class). same_name a.name b.name) n.classes c k.topo.classes_differ no_named;
       node_names = k.topo.node_names;
       link_names = k.topo.link_names;
-      class_names = none_push (λ (d : Class). is_type_name (topo_of after) d.name) n.classes c k.topo.class_names (or_neither (same_name c.name (codes "delay")) asked no_delay no_asked);
+      class_names = none_push (λ (d : Class). is_type_name (topo_of after) d.name) n.classes c k.topo.class_names (or_from (same_name c.name (codes "delay")) asked no_delay no_asked);
       types_differ = none_push (λ (d : Class). stands_again same_name d.types) n.classes c k.topo.types_differ fit.differ;
       members_differ = k.topo.members_differ;
     }

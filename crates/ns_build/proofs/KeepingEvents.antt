@@ -1,9 +1,9 @@
 -- A network with one event more keeps what networks keep, and `$ns at` asks for one that fits.
 use Rattle.std.proofs.Common.{◌≡◌, ◌⊎◌, ℕ, ◌<◌, Bool, true, false, List, [], ◌∷◌, ◌++◌, length, inl, inr, Result, Ok, Err, IfOk, sym, ap, subst, arith, length-append}
 use Rattle.std.specs.Prelude.{nat_le, codes, ◌==◌, ◌&&◌, if◌then◌else◌}
-use Rattle.std.proofs.lemmas.Bool.{le-leb}
+use Rattle.std.proofs.lemmas.Bool.{le-leb, and_from, leb-false}
 use Rattle.lab_base.specs.Lists.{Has}
-use Rattle.lab_base.proofs.Members.{Has-map}
+use Rattle.lab_base.proofs.Members.{Has-map, Has-push}
 use Rattle.lab_base.specs.declared.fault.Kind.TheVariants as kinds
 use Rattle.lab_base.specs.declared.rates.Rates.{Rates}
 use Rattle.virt_topo.specs.Soundness.{is_speed, are_rates}
@@ -20,11 +20,10 @@ use Rattle.ns_build.specs.Words.{link_of, elements_of}
 use Rattle.ns_build.specs.Checks.{need, refuse, word_at, counted, bandwidth_in, delay_in, loss_in}
 use Rattle.ns_build.specs.Events.{time_in, is_form, rates_in, what_in, event_in, judged_at}
 use Rattle.ns_build.specs.Kept.{IsKept, IsKeptEvent, AllKeepLimits}
-use Rattle.ns_build.proofs.Elements.{and_both, Has-push}
 use Rattle.ns_build.proofs.Fitting.{FitsEvent, Fits}
 use Rattle.ns_build.proofs.Chains.{fault_of, okay, then_ok, need_ok, refuse_ok, ok_is, place_is_below}
 use Rattle.ns_build.proofs.JudgedSettings.{loss_fits}
-use Rattle.ns_build.proofs.Quantities.{not_less, speed_fits, delay_fits}
+use Rattle.ns_build.proofs.Quantities.{speed_fits, delay_fits}
 
 pub keeps_event : (n : Network) (e : Planned) → IsKept n → FitsEvent n e → IsKept (record n { events = n.events ++ e ∷ [] })
 keeps_event n e k fit = record {
@@ -58,8 +57,8 @@ rates_keep parts what h =
     let ppm = then_ok (loss_in (word_at parts 4)) _ what micros.2 in
     let rates : Rates = record { kbps = kbps.0; micros = micros.0; ppm = ppm.0 } in
     let keep : are_rates rates ≡ true =
-    and_both (is_speed kbps.0) (nat_le micros.0 10000000 && nat_le ppm.0 1000000) (speed_fits (word_at parts 2) kbps.0 kbps.1)
-    (and_both (nat_le micros.0 10000000) (nat_le ppm.0 1000000) (delay_fits (word_at parts 3) micros.0 micros.1) (le-leb ppm.0 1000000 (loss_fits (word_at parts 4) ppm.0 ppm.1))) in
+    and_from (is_speed kbps.0) (nat_le micros.0 10000000 && nat_le ppm.0 1000000) (speed_fits (word_at parts 2) kbps.0 kbps.1)
+    (and_from (nat_le micros.0 10000000) (nat_le ppm.0 1000000) (delay_fits (word_at parts 3) micros.0 micros.1) (le-leb ppm.0 1000000 (loss_fits (word_at parts 4) ppm.0 ppm.1))) in
     subst KeepsLimits (ok_is (whats.Rates rates) what ppm.2) keep
 
 what_keeps : (parts : List (List ℕ)) (what : What) → what_in parts ≡ Ok what → KeepsLimits what
@@ -88,5 +87,5 @@ judged_at_fits line n words task h =
     let at = then_ok (time_in (word_at words 2)) _ task form.2 in
     let event = then_ok (event_in line n at.0 (elements_of (word_at words 3))) _ task at.2 in
     let room = then_ok (refuse kinds.Limit (nat_le 1024 (length n.events))) _ task event.2 in
-    let fit : FitsEvent n event.0 = record { few = not_less 1024 (length n.events) (refuse_ok kinds.Limit (nat_le 1024 (length n.events)) room.0 room.1); is = event_kept line n at.0 (elements_of (word_at words 3)) event.0 event.1 } in
+    let fit : FitsEvent n event.0 = record { few = leb-false 1024 (length n.events) (refuse_ok kinds.Limit (nat_le 1024 (length n.events)) room.0 room.1); is = event_kept line n at.0 (elements_of (word_at words 3)) event.0 event.1 } in
     subst (Fits n) (ok_is (tasks.AddEvent event.0) task room.2) fit

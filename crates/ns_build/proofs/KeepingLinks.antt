@@ -3,9 +3,11 @@ use Rattle.std.proofs.Common.{◌≡◌, inl, inr, ℕ, ◌+◌, ◌≤◌, Bool
 use Rattle.std.proofs.lemmas.List.{length-map, map-append}
 use Rattle.std.specs.Prelude.{nat_lt, nat_le, codes, ◌||◌, ◌&&◌, ◌==◌}
 use Rattle.std.specs.List.{list_all, list_any}
-use Rattle.std.proofs.lemmas.Bool.{le-leb}
+use Rattle.std.proofs.lemmas.Bool.{le-leb, and_from}
 use Rattle.lab_base.specs.declared.rates.Rates.{Rates}
 use Rattle.lab_base.specs.Names.{same_name}
+use Rattle.lab_base.proofs.Tests.{and_first, and_rest}
+use Rattle.lab_base.proofs.Members.{Has-push, any_map}
 use Rattle.virt_topo.specs.declared.wiring.VirtEnd.{VirtEnd}
 use Rattle.virt_topo.specs.declared.topo.AskedNode.{AskedNode}
 use Rattle.virt_topo.specs.declared.topo.AskedLink.{AskedLink}
@@ -19,7 +21,7 @@ use Rattle.ns_build.specs.declared.task.LinkChange.{LinkChange}
 use Rattle.ns_build.specs.declared.task.LinkChange.TheVariants as links
 use Rattle.ns_build.specs.Networks.{Network, topo_of, changed_at, addressed, link_with, change_link}
 use Rattle.ns_build.specs.Kept.{IsKept, AreNumbered}
-use Rattle.ns_build.proofs.Elements.{and_first, and_second, and_both, all_weak, all_push, all_changed, none_push, none_changed, any_map, Has-push, Has-changed, length-changed, map-changed}
+use Rattle.ns_build.proofs.Elements.{all_weak, all_push, all_changed, none_push, none_changed, Has-changed, length-changed, map-changed}
 use Rattle.ns_build.proofs.NamesDiffer.{again_push, again_kept, again_named}
 use Rattle.ns_build.proofs.Numbering.{next_is_new, numbered_push, numbered_named, given_plain}
 use Rattle.ns_build.proofs.Fitting.{FitsLink, FitsLinkChange}
@@ -105,7 +107,7 @@ module _ (v ip : ℕ) where
   all_ends : (p q : VirtEnd → Bool) → ((e : VirtEnd) → p e ≡ true → q (addressed v ip e) ≡ true) → (ends : List VirtEnd) → list_all p ends ≡ true → list_all q (map (addressed v ip) ends) ≡ true
   all_ends p q step [] h = refl
   all_ends p q step (e ∷ ends) h =
-      and_both (q (addressed v ip e)) (list_all q (map (addressed v ip) ends)) (step e (and_first (p e) (list_all p ends) h)) (all_ends p q step ends (and_second (p e) (list_all p ends) h))
+      and_from (q (addressed v ip e)) (list_all q (map (addressed v ip) ends)) (step e (and_first (p e) (list_all p ends) h)) (all_ends p q step ends (and_rest (p e) (list_all p ends) h))
 
   any_end : (a b : VirtEnd) → a.node ≡ b.node → (ends : List VirtEnd) → list_any (λ e. a.node == e.node) (map (addressed v ip) ends) ≡ list_any (λ e. b.node == e.node) ends
   any_end a b same [] = refl
@@ -127,22 +129,22 @@ limits_parts : (l : AskedLink) → limits_link l ≡ true
     → (are_rates l.rates ≡ true) × (is_between 2 (most_ends l.lan) (length l.ends) ≡ true) × (list_all (λ e. is_address e.address) l.ends ≡ true)
 limits_parts l h =
     let more : (is_between 2 (most_ends l.lan) (length l.ends) && list_all (λ e. is_address e.address) l.ends) ≡ true
-    = and_second (are_rates l.rates) (is_between 2 (most_ends l.lan) (length l.ends) && list_all (λ e. is_address e.address) l.ends) h in (
+    = and_rest (are_rates l.rates) (is_between 2 (most_ends l.lan) (length l.ends) && list_all (λ e. is_address e.address) l.ends) h in (
       and_first (are_rates l.rates) (is_between 2 (most_ends l.lan) (length l.ends) && list_all (λ e. is_address e.address) l.ends) h,
       and_first (is_between 2 (most_ends l.lan) (length l.ends)) (list_all (λ e. is_address e.address) l.ends) more,
-      and_second (is_between 2 (most_ends l.lan) (length l.ends)) (list_all (λ e. is_address e.address) l.ends) more,
+      and_rest (is_between 2 (most_ends l.lan) (length l.ends)) (list_all (λ e. is_address e.address) l.ends) more,
     )
 
 pub limits_of : (l : AskedLink) → are_rates l.rates ≡ true → is_between 2 (most_ends l.lan) (length l.ends) ≡ true → list_all (λ e. is_address e.address) l.ends ≡ true → limits_link l ≡ true
 limits_of l rates count addresses =
-    and_both (are_rates l.rates) (is_between 2 (most_ends l.lan) (length l.ends) && list_all (λ e. is_address e.address) l.ends) rates
-    (and_both (is_between 2 (most_ends l.lan) (length l.ends)) (list_all (λ e. is_address e.address) l.ends) count addresses)
+    and_from (are_rates l.rates) (is_between 2 (most_ends l.lan) (length l.ends) && list_all (λ e. is_address e.address) l.ends) rates
+    (and_from (is_between 2 (most_ends l.lan) (length l.ends)) (list_all (λ e. is_address e.address) l.ends) count addresses)
 
 loss_limits : (r : Rates) (ppm : ℕ) → ppm ≤ 1000000 → are_rates r ≡ true → are_rates (record r { ppm = ppm }) ≡ true
 loss_limits r ppm le h =
-    let more : (nat_le r.micros 10000000 && nat_le r.ppm 1000000) ≡ true = and_second (is_speed r.kbps) (nat_le r.micros 10000000 && nat_le r.ppm 1000000) h in
-    and_both (is_speed r.kbps) (nat_le r.micros 10000000 && nat_le ppm 1000000) (and_first (is_speed r.kbps) (nat_le r.micros 10000000 && nat_le r.ppm 1000000) h)
-    (and_both (nat_le r.micros 10000000) (nat_le ppm 1000000) (and_first (nat_le r.micros 10000000) (nat_le r.ppm 1000000) more) (le-leb ppm 1000000 le))
+    let more : (nat_le r.micros 10000000 && nat_le r.ppm 1000000) ≡ true = and_rest (is_speed r.kbps) (nat_le r.micros 10000000 && nat_le r.ppm 1000000) h in
+    and_from (is_speed r.kbps) (nat_le r.micros 10000000 && nat_le ppm 1000000) (and_first (is_speed r.kbps) (nat_le r.micros 10000000 && nat_le r.ppm 1000000) h)
+    (and_from (nat_le r.micros 10000000) (nat_le ppm 1000000) (and_first (nat_le r.micros 10000000) (nat_le r.ppm 1000000) more) (le-leb ppm 1000000 le))
 
 limits_after : (n : Network) (change : LinkChange) → FitsLinkChange n change → (l : AskedLink) → limits_link l ≡ true → limits_link (link_with change l) ≡ true
 limits_after n (links.Name name) fit l h = h

@@ -3,9 +3,11 @@ use Rattle.std.proofs.Common.{◌≡◌, inl, inr, ℕ, ◌+◌, ◌<◌, ◌≤
 use Rattle.std.proofs.lemmas.List.{length-map, map-append}
 use Rattle.std.specs.Prelude.{nat_lt, codes, position}
 use Rattle.std.specs.List.{list_all, list_any}
-use Rattle.std.proofs.lemmas.Bool.{ltb-true, lt-ltb}
+use Rattle.std.proofs.lemmas.Bool.{ltb-true, lt-ltb, or_from}
 use Rattle.lab_base.specs.Lists.{Has}
 use Rattle.lab_base.specs.Names.{same_name}
+use Rattle.lab_base.proofs.Tests.{or_first, or_rest}
+use Rattle.lab_base.proofs.Members.{none_has, none_from, Has-push, any_map}
 use Rattle.virt_topo.specs.declared.wiring.Asks.{Asks}
 use Rattle.virt_topo.specs.declared.wiring.Asks.TheVariants.{Plain, Class as InClass}
 use Rattle.virt_topo.specs.declared.wiring.Class.{Class}
@@ -21,7 +23,7 @@ use Rattle.ns_build.specs.declared.task.NodeChange.{NodeChange}
 use Rattle.ns_build.specs.declared.task.NodeChange.TheVariants as nodes
 use Rattle.ns_build.specs.Networks.{Network, topo_of, next_node, fresh_node, asks_in, changed_at, node_with, change_node}
 use Rattle.ns_build.specs.Kept.{IsKept, AreNumbered}
-use Rattle.ns_build.proofs.Elements.{or_first, or_second, or_neither, all_weak, all_push, all_changed, none_at, none_from, none_push, none_changed, any_map, Has-push, Has-changed, length-changed, map-changed, place_below, no_place}
+use Rattle.ns_build.proofs.Elements.{all_weak, all_push, all_changed, none_push, none_changed, Has-changed, length-changed, map-changed, place_below, no_place}
 use Rattle.ns_build.proofs.NamesDiffer.{again_push, again_kept, again_named}
 use Rattle.ns_build.proofs.Numbering.{next_is_new, numbered_push, numbered_named, given_plain}
 use Rattle.ns_build.proofs.Fitting.{FitsNode, FitsNodeChange}
@@ -41,7 +43,7 @@ ends_more few many links le h =
 
 -- no class has the name of the type `pc`
 no_class_of : (n : Network) → IsKept n → (c : Class) → Has n.classes c → is_type_name (topo_of n) c.name ≡ false
-no_class_of n k c m = none_at (λ (d : Class). is_type_name (topo_of n) d.name) n.classes c k.topo.class_names m
+no_class_of n k c m = none_has (λ (d : Class). is_type_name (topo_of n) d.name) n.classes c k.topo.class_names m
 
 pub keeps_node : (n : Network) (name : List ℕ) → IsKept n → FitsNode n name → IsKept (record n { nodes = n.nodes ++ fresh_node name ∷ [] })
 keeps_node n name k fit = subst (λ (x : List ℕ). IsKept (record n { nodes = n.nodes ++ fresh_node x ∷ [] })) (sym fit.next) kept
@@ -68,10 +70,10 @@ keeps_node n name k fit = subst (λ (x : List ℕ). IsKept (record n { nodes = n
 
     class_free : (c : Class) → Has n.classes c → is_type_name (topo_of after) c.name ≡ false
     class_free c m =
-        or_neither (same_name c.name (codes "delay")) (list_any (λ x. asks_type c.name x.asks) (n.nodes ++ new ∷ []))
+        or_from (same_name c.name (codes "delay")) (list_any (λ x. asks_type c.name x.asks) (n.nodes ++ new ∷ []))
         (or_first (same_name c.name (codes "delay")) (list_any (λ x. asks_type c.name x.asks) n.nodes) (no_class_of n k c m))
-        (none_push (λ (x : AskedNode). asks_type c.name x.asks) n.nodes new (or_second (same_name c.name (codes "delay")) (list_any (λ x. asks_type c.name x.asks) n.nodes) (no_class_of n k c m))
-        (none_at (λ (d : Class). same_name d.name (codes "pc")) n.classes c k.plain m))
+        (none_push (λ (x : AskedNode). asks_type c.name x.asks) n.nodes new (or_rest (same_name c.name (codes "delay")) (list_any (λ x. asks_type c.name x.asks) n.nodes) (no_class_of n k c m))
+        (none_has (λ (d : Class). same_name d.name (codes "pc")) n.classes c k.plain m))
 
     topo : IsTopo (topo_of after)
     topo = record {
@@ -111,7 +113,7 @@ asks_known n type (Some c) is = lt-ltb c (length n.classes) (place_below (λ (d 
 
 -- a class has not the name of the type that is asked for, since that is where no class has it
 asks_free : (n : Network) (type : List ℕ) (o : Option ℕ) → position (λ (c : Class). same_name c.name type) n.classes ≡ o → (c : Class) → Has n.classes c → asks_type c.name (asks_in type o) ≡ false
-asks_free n type None is c m = none_at (λ (d : Class). same_name d.name type) n.classes c (no_place (λ (d : Class). same_name d.name type) n.classes is) m
+asks_free n type None is c m = none_has (λ (d : Class). same_name d.name type) n.classes c (no_place (λ (d : Class). same_name d.name type) n.classes is) m
 asks_free n type (Some place) is c m = refl
 
 -- what the change leaves, or fits
@@ -161,10 +163,10 @@ keeps_node_change n v change k fit = record { topo = topo; plain = k.plain; node
 
     class_free : (c : Class) → Has n.classes c → is_type_name (topo_of after) c.name ≡ false
     class_free c m =
-        or_neither (same_name c.name (codes "delay")) (list_any (λ x. asks_type c.name x.asks) (changed_at f v n.nodes))
+        or_from (same_name c.name (codes "delay")) (list_any (λ x. asks_type c.name x.asks) (changed_at f v n.nodes))
         (or_first (same_name c.name (codes "delay")) (list_any (λ x. asks_type c.name x.asks) n.nodes) (no_class_of n k c m))
         (none_changed (λ (x : AskedNode). asks_type c.name x.asks) f v n.nodes (free_after n change fit c m)
-        (or_second (same_name c.name (codes "delay")) (list_any (λ x. asks_type c.name x.asks) n.nodes) (no_class_of n k c m)))
+        (or_rest (same_name c.name (codes "delay")) (list_any (λ x. asks_type c.name x.asks) n.nodes) (no_class_of n k c m)))
 
     topo : IsTopo (topo_of after)
     topo = record {

@@ -6,15 +6,16 @@ use Rattle.std.specs.Str.Parse.{digits_value}
 use Rattle.std.proofs.lemmas.Fmt.{decimal_is_IsNumeral}
 use Rattle.std.proofs.lemmas.List.{append_cancel_left}
 use Rattle.std.proofs.lemmas.List.Folds.{list_any-append}
+use Rattle.std.proofs.lemmas.Bool.{or_from}
 use Rattle.lab_base.specs.Names.{same_name}
+use Rattle.lab_base.proofs.Bytes.{bytes_same}
+use Rattle.lab_base.proofs.Members.{all_has, none_from}
 use Rattle.virt_topo.specs.Topos.{is_word_byte, IsWord, IsIndex}
 use Rattle.ns_words.specs.declared.names.Numbered.{Numbered}
 use Rattle.ns_words.specs.declared.names.Numbered.TheVariants.{Node, Link}
 use Rattle.ns_words.specs.Objects.{IsGiven, IsObjectName, numbered_prefix, numbered_name_of}
-use Rattle.ns_words.proofs.Lookups.{same_true}
 use Rattle.ns_build.specs.Networks.{changed_at}
 use Rattle.ns_build.specs.Kept.{has_dot, AreNumbered}
-use Rattle.ns_build.proofs.Elements.{all_at, none_from, or_neither}
 
 -- the name of a number has a dot
 pub dotted : (of : Numbered) (k : ℕ) → has_dot (numbered_name_of of k) ≡ true
@@ -33,7 +34,7 @@ unlike of k name plain = by (same_name name (numbered_name_of of k)) refl
   where
     by : (t : Bool) → same_name name (numbered_name_of of k) ≡ t → t ≡ false
     by false e = refl
-    by true e = sym (dotted of k) ∙ subst (λ (l : List ℕ). has_dot l ≡ false) (same_true name (numbered_name_of of k) e) plain
+    by true e = sym (dotted of k) ∙ subst (λ (l : List ℕ). has_dot l ≡ false) (bytes_same name (numbered_name_of of k) e) plain
 
 -- nor is that of an earlier one
 earlier : (of : Numbered) (j k : ℕ) (name : List ℕ) → j < k → k < 2 ^ 64 → name ≡ numbered_name_of of j → same_name name (numbered_name_of of k) ≡ false
@@ -41,13 +42,13 @@ earlier of j k name less fits is = by (same_name name (numbered_name_of of k)) r
   where
     by : (t : Bool) → same_name name (numbered_name_of of k) ≡ t → t ≡ false
     by false e = refl
-    by true e = absurd (let one : j ≡ k = one_number of j k (omega arith) fits (sym is ∙ same_true name (numbered_name_of of k) e) in omega arith)
+    by true e = absurd (let one : j ≡ k = one_number of j k (omega arith) fits (sym is ∙ bytes_same name (numbered_name_of of k) e) in omega arith)
 
 -- THE NEXT NUMBER'S NAME is no name so far
 pub next_is_new : (of : Numbered) (k m : ℕ) (names : List (List ℕ)) → k + length names ≡ m → m < 2 ^ 64 → AreNumbered of k names → list_any (λ name. same_name name (numbered_name_of of m)) names ≡ false
 next_is_new of k m [] sum fits h = refl
 next_is_new of k m (name ∷ names) sum fits h =
-    or_neither (same_name name (numbered_name_of of m)) (list_any (λ other. same_name other (numbered_name_of of m)) names)
+    or_from (same_name name (numbered_name_of of m)) (list_any (λ other. same_name other (numbered_name_of of m)) names)
     (elim h.0 [ inl plain ↦ unlike of m name plain | inr is ↦ earlier of k m name (omega arith) fits is ])
     (next_is_new of (k + 1) m names (omega arith) fits h.1)
 
@@ -70,10 +71,10 @@ index_byte : (b : ℕ) → (is_word_byte b || (b == 45)) ≡ true → (b == 46) 
 index_byte b h = grind arith
 
 word_plain : (bytes : List ℕ) → IsWord bytes → has_dot bytes ≡ false
-word_plain bytes h = none_from (λ b. b == 46) bytes (λ b m. word_byte b (all_at is_word_byte bytes b h.1 m))
+word_plain bytes h = none_from (λ b. b == 46) bytes (λ b m. word_byte b (all_has is_word_byte bytes b h.1 m))
 
 index_plain : (bytes : List ℕ) → IsIndex bytes → has_dot bytes ≡ false
-index_plain bytes h = none_from (λ b. b == 46) bytes (λ b m. index_byte b (all_at (λ c. is_word_byte c || (c == 45)) bytes b h.1 m))
+index_plain bytes h = none_from (λ b. b == 46) bytes (λ b m. index_byte b (all_has (λ c. is_word_byte c || (c == 45)) bytes b h.1 m))
 
 pub given_plain : (variable name : List ℕ) → IsObjectName variable name → has_dot name ≡ false
 given_plain variable name h = by h.given
@@ -81,4 +82,4 @@ given_plain variable name h = by h.given
     by : IsGiven variable name → has_dot name ≡ false
     by (IsGiven.plain word is) = ap has_dot is ∙ word_plain variable word
     by (IsGiven.indexed v i word index text is) =
-        ap has_dot is ∙ list_any-append (λ b. b == 46) v (45 ∷ i) ∙ or_neither (has_dot v) (has_dot (45 ∷ i)) (word_plain v word) (index_plain i index)
+        ap has_dot is ∙ list_any-append (λ b. b == 46) v (45 ∷ i) ∙ or_from (has_dot v) (has_dot (45 ∷ i)) (word_plain v word) (index_plain i index)

@@ -4,7 +4,7 @@ use Rattle.std.specs.Prelude.{◌&&◌, decimal}
 use Rattle.std.proofs.lemmas.Bool.{lt-ltb}
 use Rattle.lab_base.specs.Numbers.{number_of}
 use Rattle.lab_base.proofs.Again.{number_again}
-use Rattle.ns_words.proofs.Lookups.{same_self}
+use Rattle.lab_base.proofs.Bytes.{bytes_self}
 use Rattle.ns_build.specs.Networks.{Network}
 use Rattle.ns_build.specs.Words.{place_below}
 use Rattle.ns_build.specs.Once.{WordsStand}
@@ -12,7 +12,7 @@ use Rattle.ns_build.specs.Once.{WordsStand}
 -- printed digits stand for their place
 again : (count place : ℕ) → place ≤ 65534 → place < count → place_below count (decimal place) (number_of 65534 (decimal place)) ≡ Some place
 again count place fits lt =
-    ap (place_below count (decimal place)) (number_again 65534 place fits (omega arith)) ∙ rw (lt-ltb place count lt, same_self (decimal place)) refl
+    ap (place_below count (decimal place)) (number_again 65534 place fits (omega arith)) ∙ rw (lt-ltb place count lt, bytes_self (decimal place)) refl
 
 no_pass : (a b : Bool) → (a && (b && false)) ≡ false
 no_pass true true = refl

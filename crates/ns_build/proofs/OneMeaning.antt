@@ -1,7 +1,7 @@
 -- A text has one meaning.
 use Rattle.std.proofs.Common.{◌≡◌, ℕ, ◌<◌, ◌≤◌, Bool, true, false, List, length, Result, Ok, Err, refl, sym, ap, ◌∙◌, arith}
 use Rattle.std.specs.Prelude.{nat_lt}
-use Rattle.std.proofs.lemmas.Bool.{ltb-true}
+use Rattle.std.proofs.lemmas.Bool.{ltb-true, ltb-false}
 use Rattle.lab_base.specs.declared.fault.Kind.TheVariants as kinds
 use Rattle.lab_base.specs.declared.fault.TextFault.{TextFault}
 use Rattle.tcl_words.specs.Words.{line_at}
@@ -14,7 +14,6 @@ use Rattle.ns_build.specs.declared.asked.Asked.{Asked}
 use Rattle.ns_build.specs.Networks.{Network, topo_of, events_of}
 use Rattle.ns_build.specs.Host.{called, assigned}
 use Rattle.ns_build.specs.Meaning.{start, MeaningOf}
-use Rattle.ns_build.proofs.Quantities.{not_below}
 
 -- what an evaluation comes to
 outcome : Result Ran TextFault → State Network → Result Asked TextFault
@@ -49,7 +48,7 @@ meaning_once t r q h g = by (nat_lt 65536 (length t)) refl
     by : (b : Bool) → nat_lt 65536 (length t) ≡ b → r ≡ q
     by true less = let long : 65536 < length t = ltb-true 65536 (length t) less in long_is t r long h ∙ sym (long_is t q long g)
     by false not_less =
-        let short : length t ≤ 65536 = not_below 65536 (length t) not_less in
+        let short : length t ≤ 65536 = ltb-false 65536 (length t) not_less in
         let a : Evaluated t r = evaluated t r short h in
         let b : Evaluated t q = evaluated t q short g in
         let same : (a.ran ≡ b.ran) × (a.state ≡ b.state) = runs_once called assigned t start a.ran b.ran a.state b.state a.runs b.runs in

@@ -6,6 +6,9 @@ use Rattle.std.proofs.Math.ListN.{set}
 use Rattle.std.proofs.lemmas.Bool.Decides.{nat_tests}
 use Rattle.std.proofs.lemmas.List.Folds.{list_any-append}
 use Rattle.std.proofs.lemmas.List.Sums.{sum_by-cons}
+use Rattle.std.proofs.Math.Bool.{or-false}
+use Rattle.lab_base.proofs.Tests.{or_nested}
+use Rattle.lab_base.proofs.Numbers.{ltb_start, ltb_next}
 use Rattle.virt_topo.specs.declared.wiring.VirtEnd.{VirtEnd}
 use Rattle.virt_topo.specs.declared.topo.AskedLink.{AskedLink}
 use Rattle.ns_build.specs.declared.task.LinkChange.{LinkChange}
@@ -35,19 +38,11 @@ noted_again place (Some (Some other)) = by (eqb other place)
 
 end_more : (v : ℕ) (ends : List VirtEnd) (i : ℕ) (e d : VirtEnd) → i < length ends → e ≡ get_or ends i d → has_end v (take (i + 1) ends) ≡ (has_end v (take i ends) || eqb e.node v)
 end_more v [] i e d lt is = absurd (omega arith)
-end_more v (f ∷ ends) zero e d lt is = or_false (eqb f.node v) ∙ ap (λ (x : VirtEnd). eqb x.node v) (sym is)
-  where
-    or_false : (b : Bool) → (b || false) ≡ b
-    or_false true = refl
-    or_false false = refl
-end_more v (f ∷ ends) (suc i) e d lt is = ap (λ (n : ℕ). has_end v (take n (f ∷ ends))) next ∙ ap (λ (b : Bool). eqb f.node v || b) (end_more v ends i e d (omega arith) is) ∙ assoc (eqb f.node v) (has_end v (take i ends)) (eqb e.node v)
+end_more v (f ∷ ends) zero e d lt is = or-false (eqb f.node v) ∙ ap (λ (x : VirtEnd). eqb x.node v) (sym is)
+end_more v (f ∷ ends) (suc i) e d lt is = ap (λ (n : ℕ). has_end v (take n (f ∷ ends))) next ∙ ap (λ (b : Bool). eqb f.node v || b) (end_more v ends i e d (omega arith) is) ∙ or_nested (eqb f.node v) (has_end v (take i ends)) (eqb e.node v)
   where
     next : suc i + 1 ≡ suc (i + 1)
     next = omega arith
-
-    assoc : (a b c : Bool) → (a || (b || c)) ≡ ((a || b) || c)
-    assoc true b c = refl
-    assoc false b c = refl
 
 -- one end more is noted
 pub note_next : (place : ℕ) (old now new : ℕ → Option (Option ℕ)) (ends : List VirtEnd) (i : ℕ) (e d : VirtEnd) → i < length ends → e ≡ get_or ends i d
@@ -106,12 +101,8 @@ module _ {X : Type 0} (test : X → Bool) where
   seen_not : (k : ℕ) (xs : List X) (x : X) → test x ≡ false → seen k (xs ++ x ∷ []) ≡ seen k xs
   seen_not k [] x is = ap (λ (b : Bool). cond b (Some (Some k)) None) is
   seen_not k (y ∷ xs) x is =
-      let any : list_any test (xs ++ x ∷ []) ≡ list_any test xs = list_any-append test xs (x ∷ []) ∙ ap (λ (b : Bool). list_any test xs || (b || false)) is ∙ or_false (list_any test xs) in
+      let any : list_any test (xs ++ x ∷ []) ≡ list_any test xs = list_any-append test xs (x ∷ []) ∙ ap (λ (b : Bool). list_any test xs || (b || false)) is ∙ or-false (list_any test xs) in
       λ i. cond (test y) (Some (cond (any i) None (Some k))) (seen_not (suc k) xs x is i)
-    where
-      or_false : (b : Bool) → (b || false) ≡ b
-      or_false true = refl
-      or_false false = refl
 
   count_more : (b : Bool) (x : X) (xs : List X) → test x ≡ b → count_by test (x ∷ xs) ≡ cond b 1 0 + count_by test xs
   count_more b x xs is = sum_by-cons (λ y. cond (test y) 1 0) x xs ∙ ap (λ (c : Bool). cond c 1 0 + count_by test xs) is
@@ -140,12 +131,6 @@ module _ {X : Type 0} (test : X → Bool) where
   seen_is k [] = refl
   seen_is k (x ∷ xs) = by (test x) refl (list_any test xs) refl (seen_is (suc k) xs)
     where
-      start : (n : ℕ) → ltb 0 (suc n) ≡ true
-      start n = grind (arith, nat_tests)
-
-      later : (n m : ℕ) → ltb (1 + n) (suc m) ≡ ltb n m
-      later n m = grind (arith, nat_tests)
-
       one : (n : ℕ) (place : Option ℕ) → n ≡ 1 → one_of n place ≡ Some place
       one n place is = ap (λ (c : ℕ). one_of c place) is
 
@@ -168,11 +153,11 @@ module _ {X : Type 0} (test : X → Bool) where
       place_is true is =
           let none : k + 0 ≡ k = omega arith in
           let here : first (x ∷ xs) ≡ 0 = ap (λ (c : Bool). cond (not c) (1 + first xs) 0) is in
-          (λ i. cond (ltb (here i) (suc (length xs))) (Some (k + here i)) None) ∙ ap (λ (c : Bool). cond c (Some (k + 0)) None) (start (length xs)) ∙ ap (λ (n : ℕ). Some n) none
+          (λ i. cond (ltb (here i) (suc (length xs))) (Some (k + here i)) None) ∙ ap (λ (c : Bool). cond c (Some (k + 0)) None) (ltb_start (length xs)) ∙ ap (λ (n : ℕ). Some n) none
       place_is false is =
           let past : first (x ∷ xs) ≡ 1 + first xs = ap (λ (c : Bool). cond (not c) (1 + first xs) 0) is in
           let sum : k + (1 + first xs) ≡ suc k + first xs = omega arith in
-          (λ i. cond (ltb (past i) (suc (length xs))) (Some (k + past i)) None) ∙ (λ i. cond (later (first xs) (length xs) i) (Some (sum i)) None)
+          (λ i. cond (ltb (past i) (suc (length xs))) (Some (k + past i)) None) ∙ (λ i. cond (ltb_next (first xs) (length xs) i) (Some (sum i)) None)
 
       by : (b : Bool) → test x ≡ b → (c : Bool) → list_any test xs ≡ c → one_of (count_by test xs) (cond (ltb (first xs) (length xs)) (Some (suc k + first xs)) None) ≡ seen (suc k) xs
           → one_of (count_by test (x ∷ xs)) (cond (ltb (first (x ∷ xs)) (length (x ∷ xs))) (Some (k + first (x ∷ xs))) None) ≡ seen k (x ∷ xs)

@@ -1,15 +1,15 @@
 -- A wiring behind an event is sound.
-use Rattle.std.proofs.Common.{◌≡◌, ℕ, ◌≤◌, Bool, true, false, List, [], ◌∷◌, length, map, filter, Option, Some, None, refl, ap, sym, ◌∙◌, arith}
-use Rattle.std.specs.Prelude.{not, ◌==◌, ◌&&◌, ◌||◌, nat_le, if◌then◌else◌}
+use Rattle.std.proofs.Common.{◌≡◌, ℕ, ◌≤◌, Bool, true, false, List, [], ◌∷◌, length, map, filter, refl, ap, sym, ◌∙◌, arith}
+use Rattle.std.specs.Prelude.{◌==◌, ◌&&◌, ◌||◌, nat_le, if◌then◌else◌}
 use Rattle.std.specs.List.{list_all, list_any}
-use Rattle.std.proofs.lemmas.Bool.{and_parts, and_from, not-false, leb-true}
+use Rattle.std.proofs.lemmas.Bool.{and_parts, and_from}
 use Rattle.lab_base.specs.declared.rates.Rates.{Rates}
-use Rattle.virt_topo.specs.declared.fault.WiringFault.{WiringFault}
 use Rattle.virt_topo.specs.declared.wiring.Pipe.{Pipe}
 use Rattle.virt_topo.specs.declared.wiring.Wiring.{Wiring}
 use Rattle.virt_topo.specs.Ends.{end_nodes}
 use Rattle.virt_topo.specs.Repeats.{stands_again}
-use Rattle.virt_topo.specs.Soundness.{IsSound, keeps_limits, limits_class, limits_node, limits_segment, limits_pipe, are_rates, is_speed, knows_pipe, is_bad_pipe, shares_end}
+use Rattle.virt_topo.specs.Soundness.{IsSound, limits_pipe, are_rates, is_speed, knows_pipe, is_bad_pipe, shares_end}
+use Rattle.virt_topo.proofs.CableLaws.{sound_limits}
 use Rattle.net_plan.specs.Parts.{link_pipe, lan_pipe}
 use Rattle.net_plan.proofs.LimitLaws.{pipe_keeps}
 use Rattle.ns_events.specs.declared.event.What.{What}
@@ -18,33 +18,13 @@ use Rattle.ns_events.specs.Pipes.{ends_of}
 use Rattle.ns_events.specs.Changes.{lost, KeepsLimits}
 use Rattle.ns_events.specs.Renewed.{renewed, renewed_pipe}
 
-past : (faulty : Bool) (fault : WiringFault) (later : Option WiringFault) → (if faulty then Some fault else later) ≡ None → faulty ≡ false
-past true fault later e = absurd (cc e)
-past false fault later e = refl
-
 -- LIMITS
 
-record Limits (w : Wiring) : Type 0 where
-  ends : length (end_nodes w.segments) ≤ 4096
-  pipes : list_all limits_pipe w.pipes ≡ true
-
-limits : (w : Wiring) → IsSound w → Limits w
-limits w sound =
-    let l0 = not-false _ (past (not (keeps_limits w)) _ _ sound) in
-    let l1 = (and_parts (nat_le (length w.classes) 64) _ l0).1 in
-    let l2 = (and_parts (nat_le (length w.nodes) 256) _ l1).1 in
-    let l3 = (and_parts (nat_le (length w.segments) 512) _ l2).1 in
-    let l4 = and_parts (nat_le (length (end_nodes w.segments)) 4096) _ l3 in
-    let l5 = (and_parts (list_all limits_class w.classes) _ l4.1).1 in
-    let l6 = (and_parts (list_all limits_node w.nodes) _ l5).1 in
-    let l7 = (and_parts (list_all limits_segment w.segments) _ l6).1 in
-    record { ends = leb-true _ _ l4.0; pipes = l7 }
-
 pub few_ends : (w : Wiring) → IsSound w → length (end_nodes w.segments) ≤ 65536
-few_ends w sound = omega (arith, (limits w sound).ends)
+few_ends w sound = omega (arith, (sound_limits w sound).ends)
 
 pub sound_pipes : (w : Wiring) → IsSound w → list_all limits_pipe w.pipes ≡ true
-sound_pipes w sound = (limits w sound).pipes
+sound_pipes w sound = (sound_limits w sound).each_pipe
 
 -- what all pipes pass, some of them do
 pub some_pass : (p own : Pipe → Bool) (ps : List Pipe) → list_all p ps ≡ true → list_all p (filter own ps) ≡ true

@@ -5,22 +5,18 @@ use Rattle.std.specs.Char.{is_ascii_digit, digit_value}
 use Rattle.std.specs.List.{list_all}
 use Rattle.std.specs.Int.{IsInRange}
 use Rattle.std.specs.Str.Parse.{digits_value, digits_value_after}
-use Rattle.std.proofs.lemmas.Bool.{ltb-false}
+use Rattle.std.proofs.lemmas.Bool.{ltb-false, lt-leb}
 use Rattle.std.proofs.lemmas.Bool.Decides.{nat_tests}
 use borrow.Author.Tests.{ltb-true}
-use Rattle.std.proofs.lemmas.Grind.{common_steps}
 use Rattle.std.proofs.lemmas.Nat.{mul-le}
 use Rattle.std.proofs.Math.Nat.{one-le-pow, pow-le-pow_right, pow-suc, mul-le-mul_left, mul-le-mul_right, le-div_iff_mul-le}
 use Rattle.std.proofs.lemmas.Int.Digits.{digits_value_more}
 use Rattle.std.proofs.lemmas.Str.Parse.{digit_at, digits_value_short}
-use Rattle.lab_base.proofs.Digits.{own}
+use Rattle.lab_base.proofs.Digits.{own, digit_is}
 use Rattle.ns_words.specs.Seen.{capped}
 use Rattle.ns_words.specs.Values.{Numeral, quotient_of, parts_of}
 
 -- THE NUMBER THAT DIGITS WRITE
-
-digit_is : (c : ℕ) → IsInRange 48 57 c → digit_value c ≡ c - 48
-digit_is c h = grind (arith, common_steps)
 
 pub record IsNext (bs : List ℕ) (i : ℕ) : Type 0 where
   pub low : 48 ≤ get_or bs i 0
@@ -91,13 +87,10 @@ none_above true true x = refl
 none_above true false x = refl
 none_above false b x = refl
 
-not_below : (m n : ℕ) → n < m → nat_le m n ≡ false
-not_below m n h = grind (arith, nat_tests)
-
 too_large : (least most n d : ℕ) → 1 ≤ d → (most + 1) * d ≤ n → quotient_of least most n d ≡ None
 too_large least most n d some large =
     let more : most + 1 ≤ n / d = (le-div_iff_mul-le some).1 large in
-    let high : nat_le (n / d) most ≡ false = not_below (n / d) most (omega arith) in
+    let high : nat_le (n / d) most ≡ false = lt-leb (n / d) most (omega arith) in
     rw high (none_above (eqb (n % d) 0) (nat_le least (n / d)) (Some (n / d)))
 
 large_amount : (most part scale w f p : ℕ) → 1 ≤ scale → part ≤ 1000 → part * most ≤ 1000000000000 → 10000000000000 ≤ w

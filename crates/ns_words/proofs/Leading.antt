@@ -1,11 +1,10 @@
 -- The digits that lead, and what stands behind them.
-use Rattle.std.proofs.Common.{◌≡◌, ℕ, suc, ◌+◌, ◌-◌, ◌≤◌, Bool, true, false, not, ltb, List, [], ◌∷◌, ◌++◌, length, take, drop, refl, arith, take-append-drop, length-drop}
+use Rattle.std.proofs.Common.{◌≡◌, ℕ, suc, ◌+◌, ◌-◌, ◌≤◌, Bool, true, false, not, ltb, List, [], ◌∷◌, ◌++◌, length, refl, arith, take-append-drop}
 use Rattle.std.specs.Prelude.{unwrap_or}
 use Rattle.std.specs.Char.{is_ascii_digit}
 use Rattle.std.specs.List.{list_all, position, position_or_len, prefix_len}
 use Rattle.std.proofs.lemmas.Bool.{and_parts, and_from}
 use Rattle.std.proofs.lemmas.Bool.{ltb-false}
-use Rattle.std.proofs.lemmas.List.{take_all}
 use Rattle.std.proofs.lemmas.List.Sums.{prefix_len-le-length}
 use Rattle.ns_words.specs.Values.{is_no_digit, leading, behind}
 
@@ -19,10 +18,6 @@ place_or_length p xs = by (ltb (position_or_len p xs) (length xs)) refl
     by : (b : Bool) → ltb (position_or_len p xs) (length xs) ≡ b → unwrap_or (position p xs) (length xs) ≡ position_or_len p xs
     by true is = rw is refl
     by false is = rw is (omega (arith, ltb-false _ _ is, within_length p xs))
-
--- a slice from n on
-pub slice_from : (n : ℕ) (xs : List ℕ) → take (length xs - n) (drop n xs) ≡ drop n xs
-slice_from n xs = take_all _ _ (omega (arith, length-drop n xs))
 
 -- a word is the digits that lead and what stands behind them
 pub parts_join : (bytes : List ℕ) → leading bytes ++ behind bytes ≡ bytes

@@ -1,6 +1,6 @@
 mod Leading
 mod Amounts
-pub mod Lookups
+mod Lookups
 mod LetterLaws
 mod Measures
 pub mod AddressLaws

@@ -1,23 +1,13 @@
 -- Looking a unit up by its text.
 use Rattle.std.proofs.Common.{◌≡◌, ℕ, Bool, true, false, List, [], ◌∷◌, Some, refl, sym, ap, ◌∙◌, inl, inr}
-use Rattle.std.specs.Prelude.{nat_eq}
 use Rattle.std.specs.List.{list_any}
-use Rattle.std.proofs.lemmas.Bool.{and_parts, and_from, or_parts, eq-eqb, eqb-true}
+use Rattle.std.proofs.lemmas.Bool.{or_parts}
 use Rattle.lab_base.specs.Lists.{Has}
 use Rattle.lab_base.specs.Names.{same_name}
+use Rattle.lab_base.proofs.Bytes.{bytes_self, bytes_same}
 use Rattle.virt_topo.specs.Repeats.{stands_again}
 use Rattle.ns_words.specs.Quantities.{Units}
 use Rattle.ns_words.specs.Values.{scale_of}
-
-pub same_self : (x : List ℕ) → same_name x x ≡ true
-same_self [] = refl
-same_self (b ∷ x) = and_from _ _ (eq-eqb b b refl) (same_self x)
-
-pub same_true : (x y : List ℕ) → same_name x y ≡ true → x ≡ y
-same_true [] [] e = refl
-same_true [] (c ∷ y) e = absurd cc
-same_true (b ∷ x) [] e = absurd cc
-same_true (b ∷ x) (c ∷ y) e = let p = and_parts (nat_eq b c) (same_name x y) e in λ i. eqb-true b c p.0 i ∷ same_true x y p.1 i
 
 -- what is found is in the list
 pub scale_found : (units : Units) (unit : List ℕ) (scale : ℕ) → scale_of units unit ≡ Some scale → Has units (unit, scale)
@@ -28,7 +18,7 @@ scale_found (u ∷ units) unit scale found = by (same_name unit u.0) refl (scale
     by true is later =
         let number : Some u.1 ≡ Some scale = rw is at found in
         let value : u.1 ≡ scale = cc in
-        inl (λ i. (sym (same_true unit u.0 is) i, value i))
+        inl (λ i. (sym (bytes_same unit u.0 is) i, value i))
     by false is later = let rest : scale_of units unit ≡ Some scale = rw is at found in inr (later rest)
 
 none_same : (text : List ℕ) (units : Units) (unit : List ℕ) (scale : ℕ) → list_any (λ (u : List ℕ × ℕ). same_name u.0 text) units ≡ false → Has units (unit, scale)
@@ -49,7 +39,7 @@ differ units = stands_again (λ (a b : List ℕ × ℕ). same_name b.0 a.0) unit
 pub found_scale : (units : Units) (unit : List ℕ) (scale : ℕ) → differ units ≡ false → Has units (unit, scale) → scale_of units unit ≡ Some scale
 found_scale [] unit scale apart has = absurd has
 found_scale (u ∷ units) unit scale apart (inl e) =
-    let same : same_name unit u.0 ≡ true = ap (λ (v : List ℕ × ℕ). same_name v.0 u.0) (sym e) ∙ same_self u.0 in
+    let same : same_name unit u.0 ≡ true = ap (λ (v : List ℕ × ℕ). same_name v.0 u.0) (sym e) ∙ bytes_self u.0 in
     rw same (ap (λ (v : List ℕ × ℕ). Some v.1) e)
 found_scale (u ∷ units) unit scale apart (inr h) =
     let parts = or_parts (list_any (λ (v : List ℕ × ℕ). same_name v.0 u.0) units) (differ units) apart in

@@ -4,7 +4,7 @@ use Rattle.std.specs.Prelude.{nat_le}
 use Rattle.std.specs.Char.{is_ascii_digit}
 use Rattle.std.specs.List.{list_all, position_or_len}
 use Rattle.std.specs.Str.Parse.{digits_value}
-use Rattle.std.proofs.lemmas.Bool.{and_parts, and_from, eq-eqb, eqb-true, leb-true}
+use Rattle.std.proofs.lemmas.Bool.{and_parts, and_from, eq-eqb, eqb-true, leb-true, le-leb}
 use Rattle.std.proofs.lemmas.Bool.Decides.{nat_tests}
 use Rattle.std.proofs.lemmas.List.{append-nil}
 use Rattle.std.proofs.lemmas.List.Folds.{list_all-append, length-prefix_len}
@@ -12,6 +12,7 @@ use Rattle.std.proofs.lemmas.Nat.{mul-le}
 use Rattle.std.proofs.Math.Nat.{div-add-mod, mul-div_cancel, mul-mod_left}
 use Rattle.std.proofs.Math.Seq.{take-append_seam, drop-append_seam}
 use Rattle.lab_base.specs.Lists.{Has}
+use Rattle.lab_base.proofs.Numbers.{at_least_one}
 use Rattle.virt_topo.specs.Soundness.{is_between}
 use Rattle.ns_words.specs.Quantities.{Units, pointed, IsQuantity}
 use Rattle.ns_words.specs.Values.{scale_of, Numeral, is_no_digit, leading, behind, is_pointed, numeral_from, numeral_of, quotient_of, parts_of, measured, quantity_of}
@@ -107,12 +108,9 @@ from_again : (whole fraction unit : List ℕ) → list_all is_ascii_digit fracti
 from_again whole [] unit digits few plain = rw (not_pointed unit plain) refl
 from_again whole (d ∷ fraction) unit digits few plain =
     let count : position_or_len is_no_digit (d ∷ fraction ++ unit) ≡ suc (length fraction) = digits_lead (d ∷ fraction) unit digits (plain_other unit plain) in
-    let limits : is_between 1 9 (suc (length fraction)) ≡ true = and_from _ _ (within 1 (suc (length fraction)) (omega arith)) (within (suc (length fraction)) 9 few) in
+    let limits : is_between 1 9 (suc (length fraction)) ≡ true = and_from _ _ (le-leb 1 (suc (length fraction)) (omega arith)) (le-leb (suc (length fraction)) 9 few) in
     let is : is_pointed (46 ∷ (d ∷ fraction ++ unit)) ≡ true = ap (λ (k : ℕ). is_between 1 9 k) count ∙ limits in
     rw is (λ i. record { whole = whole; fraction = lead_is (d ∷ fraction) unit digits (plain_other unit plain) i; unit = behind_is (d ∷ fraction) unit digits (plain_other unit plain) i })
-  where
-    within : (a b : ℕ) → a ≤ b → nat_le a b ≡ true
-    within a b h = grind (arith, nat_tests)
 
 pointed_other : (fraction unit : List ℕ) → starts_plain unit ≡ true → starts_other (pointed fraction ++ unit) ≡ true
 pointed_other [] unit plain = plain_other unit plain
@@ -156,10 +154,7 @@ is_quotient : (least most v d : ℕ) → 1 ≤ d → least ≤ v → v ≤ most 
 is_quotient least most v d some low high =
     let rest : eqb (v * d % d) 0 ≡ true = eq-eqb _ _ (mul-mod_left v d) in
     let value : v * d / d ≡ v = mul-div_cancel v some in
-    rw (value, rest, within least v low, within v most high) refl
-  where
-    within : (a b : ℕ) → a ≤ b → nat_le a b ≡ true
-    within a b h = grind (arith, nat_tests)
+    rw (value, rest, le-leb least v low, le-leb v most high) refl
 
 -- THE VALUE OF A WORD
 
@@ -177,9 +172,6 @@ quantity_is units part least most word v h = by_scale (scale_of units n.unit) re
     p : IsParsed word n
     p = parsed word
 
-    filled : (k : ℕ) → eqb k 0 ≡ false → 1 ≤ k
-    filled k h = grind (arith, nat_tests)
-
     by_length : (scale : ℕ) (b : Bool) → scale_of units n.unit ≡ Some scale → eqb (length n.whole) 0 ≡ b → parts_of part least most n scale ≡ Some v → IsWithin units part least most word v
     by_length scale true found is parts = absurd (let none : None ≡ Some v = rw is at parts in cc)
     by_length scale false found is parts =
@@ -193,7 +185,7 @@ quantity_is units part least most word v h = by_scale (scale_of units n.unit) re
             scale = scale;
             joined = p.joined;
             digits = list_all-append is_ascii_digit n.whole n.fraction ∙ and_from _ _ p.whole p.fraction;
-            some = filled (length n.whole) is;
+            some = at_least_one (length n.whole) is;
             few = p.few;
             named = scale_found units n.unit scale found;
             exact = q.exact ∙ sym (mul_assoc v part (10 ^ length n.fraction));

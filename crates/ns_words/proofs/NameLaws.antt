@@ -3,13 +3,14 @@ use Rattle.std.proofs.Common.{◌≡◌, ◌↔◌, ℕ, ◌^◌, ◌<◌, ◌�
 use Rattle.std.specs.Prelude.{nat_le, decimal, option_map, codes}
 use Rattle.std.specs.Char.{is_ascii_digit}
 use Rattle.std.specs.List.{list_all}
-use Rattle.std.proofs.lemmas.Bool.{and_parts, and_from, leb-true, eqb-true}
-use Rattle.std.proofs.lemmas.Bool.Decides.{nat_tests}
+use Rattle.std.proofs.lemmas.Bool.{and_parts, and_from, leb-true, eqb-true, le-leb}
 use Rattle.std.proofs.lemmas.List.Folds.{list_all-append}
 use Rattle.std.proofs.lemmas.Fmt.{digits_decimal, length-decimal-le}
 use Rattle.lab_base.specs.Names.{is_name, is_name_byte}
 use Rattle.lab_base.specs.Texts.{parted_at}
 use Rattle.lab_base.proofs.Digits.{own}
+use Rattle.lab_base.proofs.Names.{digit_named}
+use Rattle.lab_base.proofs.Members.{all_weaker}
 use Rattle.line_text.proofs.PartsAgain.{others, position_none, parted_again}
 use Rattle.virt_topo.specs.Soundness.{is_between}
 use Rattle.virt_topo.specs.Topos.{is_word_byte, IsWord, IsIndex, IsAskedName, HasForm}
@@ -18,9 +19,6 @@ use Rattle.ns_words.specs.declared.names.Numbered.TheVariants.{Node, Link}
 use Rattle.ns_words.specs.Seen.{named_if, numbered_letter}
 use Rattle.ns_words.specs.Objects.{IsGiven, IsObjectName, is_index_byte, is_word, is_index, if_short, plain_of, indexed_of, closed_of, named_of, object_name_of, numbered_prefix, numbered_name_of}
 use Rattle.line_text.proofs.AddressLaws.{parted_is}
-
-within : (a b : ℕ) → a ≤ b → nat_le a b ≡ true
-within a b h = grind (arith, nat_tests)
 
 -- BYTES OF NAMES
 
@@ -42,28 +40,21 @@ index_byte b h = by (is_word_byte b) refl h
     by true is h = word_byte b is
     by false is h = subst (λ (n : ℕ). is_name_byte n ≡ true) (sym (eqb-true b 45 h)) refl
 
-digit_byte : (b : ℕ) → is_ascii_digit b ≡ true → is_name_byte b ≡ true
-digit_byte b h = grind (arith, nat_tests)
-
-all_bytes : (p q : ℕ → Bool) → ((b : ℕ) → p b ≡ true → q b ≡ true) → (bytes : List ℕ) → list_all p bytes ≡ true → list_all q bytes ≡ true
-all_bytes p q more [] all = refl
-all_bytes p q more (b ∷ bytes) all = let parts = and_parts (p b) (list_all p bytes) all in and_from _ _ (more b parts.0) (all_bytes p q more bytes parts.1)
-
 -- bytes of a name, one at least, are a name where they are few
 named_is : (bytes : List ℕ) → 1 ≤ length bytes → list_all is_name_byte bytes ≡ true → named_if bytes ≡ if_short bytes
 named_is bytes some all = by (nat_le (length bytes) 26) refl
   where
     by : (b : Bool) → nat_le (length bytes) 26 ≡ b → named_if bytes ≡ if_short bytes
     by true is =
-        let few : nat_le (length bytes) 32 ≡ true = within (length bytes) 32 (omega (arith, leb-true _ _ is)) in
-        let name : is_name bytes ≡ true = and_from _ _ (within 1 (length bytes) some) (and_from _ _ few all) in
+        let few : nat_le (length bytes) 32 ≡ true = le-leb (length bytes) 32 (omega (arith, leb-true _ _ is)) in
+        let name : is_name bytes ≡ true = and_from _ _ (le-leb 1 (length bytes) some) (and_from _ _ few all) in
         rw (is, name) refl
     by false is = rw is refl
 
 pub plain_is : (v : List ℕ) → is_word v ≡ true → named_if v ≡ plain_of v
 plain_is v word =
     let parts = and_parts (nat_le 1 (length v)) (list_all is_word_byte v) word in
-    rw word (named_is v (leb-true _ _ parts.0) (all_bytes is_word_byte is_name_byte word_byte v parts.1))
+    rw word (named_is v (leb-true _ _ parts.0) (all_weaker is_word_byte is_name_byte word_byte v parts.1))
 
 pub indexed_is : (v i : List ℕ) → is_word v ≡ true → is_index i ≡ true → named_if (v ++ 45 ∷ [] ++ i) ≡ indexed_of v i
 indexed_is v i word index =
@@ -72,7 +63,7 @@ indexed_is v i word index =
     let joined : v ++ 45 ∷ [] ++ i ≡ v ++ 45 ∷ i = append_assoc v (45 ∷ []) i in
     let all : list_all is_name_byte (v ++ 45 ∷ i) ≡ true =
     list_all-append is_name_byte v (45 ∷ i)
-    ∙ and_from _ _ (all_bytes is_word_byte is_name_byte word_byte v front.1) (all_bytes is_index_byte is_name_byte index_byte i back.1) in
+    ∙ and_from _ _ (all_weaker is_word_byte is_name_byte word_byte v front.1) (all_weaker is_index_byte is_name_byte index_byte i back.1) in
     let some : 1 ≤ length (v ++ 45 ∷ i) = omega (arith, length-append v (45 ∷ i)) in
     let value : named_if (v ++ 45 ∷ i) ≡ if_short (v ++ 45 ∷ i) = named_is (v ++ 45 ∷ i) some all in
     rw (word, index) (ap named_if joined ∙ value)
@@ -90,7 +81,7 @@ short_is bytes name h = by (nat_le (length bytes) 26) refl
     by false is = absurd (let none : None ≡ Some name = rw is at h in cc)
 
 short_again : (bytes : List ℕ) → length bytes ≤ 26 → if_short bytes ≡ Some bytes
-short_again bytes few = rw (within (length bytes) 26 few) refl
+short_again bytes few = rw (le-leb (length bytes) 26 few) refl
 
 word_is : (v : List ℕ) → is_word v ≡ true → IsWord v
 word_is v h = let parts = and_parts (nat_le 1 (length v)) (list_all is_word_byte v) h in (leb-true _ _ parts.0, parts.1)
@@ -99,10 +90,10 @@ index_is : (i : List ℕ) → is_index i ≡ true → IsIndex i
 index_is i h = let parts = and_parts (nat_le 1 (length i)) (list_all is_index_byte i) h in (leb-true _ _ parts.0, parts.1)
 
 word_again : (v : List ℕ) → IsWord v → is_word v ≡ true
-word_again v h = and_from _ _ (within 1 (length v) h.0) h.1
+word_again v h = and_from _ _ (le-leb 1 (length v) h.0) h.1
 
 index_again : (i : List ℕ) → IsIndex i → is_index i ≡ true
-index_again i h = and_from _ _ (within 1 (length i) h.0) h.1
+index_again i h = and_from _ _ (le-leb 1 (length i) h.0) h.1
 
 plain_given : (v name : List ℕ) → plain_of v ≡ Some name → IsObjectName v name
 plain_given v name h = by (is_word v) refl
@@ -213,7 +204,7 @@ numbered_short of k fits =
 pub numbered_is : (of : Numbered) (k : ℕ) → k < 2 ^ 16 → named_if (codes "tb." ++ numbered_letter of ++ decimal k) ≡ Some (numbered_name_of of k)
 numbered_is of k fits =
     let name = numbered_name_of of k in
-    let digits : list_all is_name_byte (decimal k) ≡ true = all_bytes is_ascii_digit is_name_byte digit_byte (decimal k) (digits_decimal own k (omega arith)) in
+    let digits : list_all is_name_byte (decimal k) ≡ true = all_weaker is_ascii_digit is_name_byte digit_named (decimal k) (digits_decimal own k (omega arith)) in
     let all : list_all is_name_byte name ≡ true = list_all-append is_name_byte (numbered_prefix of) (decimal k) ∙ and_from _ _ (prefix_bytes of) digits in
     let some : 1 ≤ length name = omega (arith, length-append (numbered_prefix of) (decimal k), prefix_length of) in
     ap (λ (l : List ℕ). named_if (l ++ decimal k)) (prefix_is of) ∙ named_is name some all ∙ short_again name (numbered_short of k fits)

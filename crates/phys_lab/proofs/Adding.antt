@@ -1,15 +1,14 @@
 -- A part without a fault, added to a lab, keeps what holds of every lab.
-use Rattle.std.proofs.Common.{◌≡◌, ◌≢◌, ℕ, ◌+◌, ◌<◌, ◌≤◌, Bool, true, false, cond, eqb, List, [], ◌∷◌, ◌++◌, length, map, count_by, None, refl, sym, subst, ◌∙◌, arith, inl, inr, length-append}
-use Rattle.std.specs.Prelude.{nat_lt}
+use Rattle.std.proofs.Common.{◌≡◌, ℕ, ◌+◌, ◌<◌, ◌≤◌, Bool, true, false, cond, eqb, List, [], ◌∷◌, ◌++◌, length, map, count_by, None, refl, sym, subst, ◌∙◌, arith, inl, inr, length-append}
 use Rattle.std.specs.List.{list_any, flat_map}
-use Rattle.std.proofs.lemmas.Bool.{cases_eq}
-use Rattle.std.proofs.lemmas.Bool.Decides.{nat_tests}
+use Rattle.std.proofs.lemmas.Bool.{cases_eq, ltb-false, ne_eqb, or_parts, not-false}
 use Rattle.std.proofs.lemmas.List.{append_assoc, map-append}
 use Rattle.std.proofs.lemmas.List.Sums.{sum_by-append, sum_by-cons}
 use Rattle.std.proofs.lemmas.Grind.{flat_map-append}
 use Rattle.lab_base.specs.Names.{is_name, same_name}
 use Rattle.lab_base.specs.Lists.{Has, AllDiffer}
 use Rattle.lab_base.proofs.Members.{Has-append}
+use Rattle.lab_base.proofs.Bytes.{bytes_self}
 use Rattle.phys_lab.specs.declared.fault.LabFault.TheVariants as faults
 use Rattle.phys_lab.specs.declared.parts.Node.{Node}
 use Rattle.phys_lab.specs.declared.parts.Iface.{Iface}
@@ -19,9 +18,9 @@ use Rattle.phys_lab.specs.Keys.{same_iface, same_port, name_on_node, port_of, po
 use Rattle.phys_lab.specs.Faults.{range_fault, switch_fault, node_fault, iface_fault, trunk_fault, is_device, is_iface, is_trunk, ifaces_of, empty_lab, with_switch, with_node, with_iface, with_trunk}
 use Rattle.phys_lab.specs.Tables.{IsLinked}
 use Rattle.phys_lab.specs.Kept.{IsWhole, IsLab}
-use Rattle.phys_lab.proofs.FaultLaws.{passes, neither, not_false, switch_passes, node_passes, iface_passes, trunk_passes, second_is_free}
+use Rattle.phys_lab.proofs.FaultLaws.{passes, switch_passes, node_passes, iface_passes, trunk_passes, second_is_free}
 use Rattle.phys_lab.proofs.ForestKept.{forest_push}
-use Rattle.phys_lab.proofs.KeptLaws.{insert, at_end, none_has, same_name-self, same_iface-self, same_port-self}
+use Rattle.phys_lab.proofs.KeptLaws.{insert, at_end, none_has, same_iface-self, same_port-self}
 
 pub each_push : {X : Type 0} (P : X → Type 0) (xs : List X) (x : X) → ((y : X) → Has xs y → P y) → P x → (y : X) → Has (xs ++ x ∷ []) y → P y
 each_push P xs x all one y h = elim (Has-append xs (x ∷ []) y h) [ inl a ↦ all y a | inr b ↦ elim b [ inl e ↦ subst P e one | inr d ↦ absurd d ] ]
@@ -33,7 +32,7 @@ at_second xs ys x differ one two =
     (at_end (xs ++ ys) x differ (λ h. elim (Has-append xs ys x h) [ inl a ↦ one a | inr b ↦ two b ]))
 
 no_name : (names : List (List ℕ)) (name : List ℕ) → list_any (same_name name) names ≡ false → Has names name → ⊥
-no_name names name = none_has same_name same_name-self names name
+no_name names name = none_has same_name bytes_self names name
 
 pub empty_kept : (first last : ℕ) → range_fault first last ≡ None → IsLab (empty_lab first last)
 empty_kept first last range = record {
@@ -74,7 +73,7 @@ range_kept lab first last range is = record {
 pub switch_kept : (lab : Lab) (name : List ℕ) → is_name name ≡ true → switch_fault lab name ≡ None → IsLinked (with_switch lab name) → IsLab lab → IsLab (with_switch lab name)
 switch_kept lab name named none linked is =
     let a = passes (is_device lab name) faults.Twice _ none in
-    let other = neither _ _ a.0 in
+    let other = or_parts _ _ a.0 in
     let few = switch_passes lab name none in
     record {
       range = is.range;
@@ -98,17 +97,14 @@ node_whole lab node none =
     let a = passes _ faults.Range _ none in
     let b = passes _ faults.Twice _ a.1 in
     let d = passes _ faults.Limit _ b.1 in
-    let many = neither _ _ (neither _ _ d.0).1 in
-    record { ranges = not_false _ a.0; differ = (neither _ _ b.0).1; few_types = at_most 8 (length node.types) many.0; few_features = at_most 8 (length node.features) many.1 }
-  where
-    at_most : (m n : ℕ) → nat_lt m n ≡ false → n ≤ m
-    at_most m n h = grind (arith, nat_tests)
+    let many = or_parts _ _ (or_parts _ _ d.0).1 in
+    record { ranges = not-false _ a.0; differ = (or_parts _ _ b.0).1; few_types = ltb-false 8 (length node.types) many.0; few_features = ltb-false 8 (length node.features) many.1 }
 
 pub node_kept : (lab : Lab) (node : Node) → node_fault lab node ≡ None → IsLinked (with_node lab node) → IsLab lab → IsLab (with_node lab node)
 node_kept lab node none linked is =
     let a = passes _ faults.Range _ none in
     let b = passes _ faults.Twice _ a.1 in
-    let other = neither _ _ (neither _ _ b.0).0 in
+    let other = or_parts _ _ (or_parts _ _ b.0).0 in
     let few = node_passes lab node none in
     record {
       range = is.range;
@@ -138,14 +134,14 @@ iface_kept lab iface none linked is =
     let b = passes _ faults.Twice _ a.1 in
     let d = passes _ faults.Unknown _ b.1 in
     let e = passes _ faults.PortTaken _ d.1 in
-    let links = neither _ _ (neither _ _ b.0).0 in
-    let ports = neither _ _ e.0 in
+    let links = or_parts _ _ (or_parts _ _ b.0).0 in
+    let ports = or_parts _ _ e.0 in
     let ok = iface_passes lab iface none in
     record {
       range = is.range;
       switches = is.switches;
       nodes = is.nodes;
-      ifaces = each_push (λ i. is_iface i ≡ true) lab.ifaces iface is.ifaces (not_false _ a.0);
+      ifaces = each_push (λ i. is_iface i ≡ true) lab.ifaces iface is.ifaces (not-false _ a.0);
       trunks = is.trunks;
       linked = linked;
       devices_differ = is.devices_differ;
@@ -164,9 +160,6 @@ iface_kept lab iface none linked is =
       forest = is.forest;
     }
   where
-    not_equal : (x y : ℕ) → x ≢ y → eqb x y ≡ false
-    not_equal x y ne = grind (arith, nat_tests)
-
     few : (n : ℕ) → ifaces_of (with_iface lab iface) n ≤ 16
     few n =
         let ok = iface_passes lab iface none in
@@ -178,7 +171,7 @@ iface_kept lab iface none linked is =
               let old : ifaces_of lab n < 16 = subst (λ (k : ℕ). ifaces_of lab k < 16) same ok.few in
               omega (arith, more, last, one, old)
           | inr other ↦
-              let zero_more : counts_one n iface ≡ 0 = rw (not_equal iface.node.0 n other) refl in
+              let zero_more : counts_one n iface ≡ 0 = rw (ne_eqb iface.node.0 n other) refl in
               omega (arith, more, last, zero_more, is.few_ifaces n)
         ]
       where
@@ -190,10 +183,10 @@ pub trunk_kept : (lab : Lab) (trunk : Trunk) → trunk_fault lab trunk ≡ None 
 trunk_kept lab trunk none linked is =
     let a = passes _ faults.Range _ none in
     let b = passes _ faults.Twice _ a.1 in
-    let links = neither _ _ b.0 in
+    let links = or_parts _ _ b.0 in
     let ok = trunk_passes lab trunk none in
-    let first = neither _ _ ok.first in
-    let second = neither _ _ ok.second in
+    let first = or_parts _ _ ok.first in
+    let second = or_parts _ _ ok.second in
     let one : AllDiffer (map port_of lab.ifaces ++ (flat_map ports_of lab.trunks ++ trunk.first ∷ [])) =
     at_second (map port_of lab.ifaces) (flat_map ports_of lab.trunks) trunk.first is.ports_differ (none_has same_port same_port-self _ trunk.first first.0) (none_has same_port same_port-self _ trunk.first first.1) in
     let two : AllDiffer (map port_of lab.ifaces ++ ((flat_map ports_of lab.trunks ++ trunk.first ∷ []) ++ trunk.second ∷ [])) =
@@ -205,7 +198,7 @@ trunk_kept lab trunk none linked is =
       switches = is.switches;
       nodes = is.nodes;
       ifaces = is.ifaces;
-      trunks = each_push (λ t. is_trunk t ≡ true) lab.trunks trunk is.trunks (not_false _ a.0);
+      trunks = each_push (λ t. is_trunk t ≡ true) lab.trunks trunk is.trunks (not-false _ a.0);
       linked = linked;
       devices_differ = is.devices_differ;
       links_differ =

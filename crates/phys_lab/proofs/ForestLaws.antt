@@ -1,8 +1,8 @@
 -- Two switches have one class exactly where trunks join them.
-use Rattle.std.proofs.Common.{◌≡◌, ◌≢◌, inl, inr, ℕ, zero, suc, ◌+◌, ◌<◌, Bool, true, false, cond, eqb, ◌&&◌, ◌||◌, List, [], ◌∷◌, ◌++◌, length, get_or, fold, slice_index, refl, sym, ap, ◌∙◌, arith, length-append, append_assoc}
+use Rattle.std.proofs.Common.{◌≡◌, inl, inr, ℕ, zero, suc, ◌+◌, ◌<◌, Bool, true, false, cond, eqb, ◌&&◌, ◌||◌, List, [], ◌∷◌, ◌++◌, length, get_or, fold, slice_index, refl, sym, ap, ◌∙◌, arith, length-append, append_assoc}
 use Rattle.std.proofs.lemmas.List.{append-nil, length-map, map-append}
 use Rattle.std.specs.List.{AllByRecursion}
-use Rattle.std.proofs.lemmas.Bool.{cases_lt}
+use Rattle.std.proofs.lemmas.Bool.{cases_lt, ne_eqb}
 use Rattle.std.proofs.lemmas.Bool.Decides.{nat_tests}
 use Rattle.std.proofs.lemmas.List.{get_or-map, get_or_append_left, get_or-append-add}
 use Rattle.lab_base.specs.Lists.{Has}
@@ -10,6 +10,7 @@ use Rattle.phys_lab.specs.Sides.{joined}
 use Rattle.phys_lab.specs.Forests.{numbers, relabelled, merged, classes_of, IsWithin}
 use Rattle.phys_lab.specs.declared.parts.Trunk.{Trunk}
 use Rattle.lab_base.proofs.Members.{Has-append, Has-left, Has-right}
+use Rattle.lab_base.proofs.Tests.{same_tests}
 use Rattle.phys_lab.proofs.SideLaws.{path_from_joined, joined_from_path}
 
 pub length-numbers : (n : ℕ) → length (numbers n) ≡ n
@@ -26,13 +27,6 @@ number_at (suc n) i d lt = elim (cases_lt i n) [
       ap (λ (k : ℕ). get_or (numbers n ++ n ∷ []) k d) at ∙ get_or-append-add (numbers n) (n ∷ []) 0 d ∙ last
 ]
 
--- the tests of two pairs are one where each gives the other
-pub same_test : (x y : Bool) → (x ≡ true → y ≡ true) → (y ≡ true → x ≡ true) → x ≡ y
-same_test true true f g = refl
-same_test false false f g = refl
-same_test true false f g = sym (f refl)
-same_test false true f g = g refl
-
 -- more trunks join more
 pub joined_within : (xs ys : List Trunk) (a b : ℕ) → ((t : Trunk) → Has xs t → Has ys t) → joined xs a b ≡ true → joined ys a b ≡ true
 joined_within xs ys a b more h = let p = path_from_joined xs a b h in joined_from_path ys p.path a b (λ t g. more t (p.of_these t g)) p.leads
@@ -42,11 +36,11 @@ pub joined-push : (trunks : List Trunk) (t : Trunk) (a b : ℕ) → joined (trun
 joined-push trunks t a b =
     let front : (u : Trunk) → Has (trunks ++ t ∷ []) u → Has (t ∷ trunks) u = λ u h. elim (Has-append trunks (t ∷ []) u h) [ inl x ↦ inr x | inr y ↦ elim y [ inl e ↦ inl e | inr n ↦ absurd n ] ] in
     let back : (u : Trunk) → Has (t ∷ trunks) u → Has (trunks ++ t ∷ []) u = λ u h. elim h [ inl e ↦ Has-right trunks (t ∷ []) u (inl e) | inr x ↦ Has-left trunks (t ∷ []) u x ] in
-    same_test _ _ (joined_within (trunks ++ t ∷ []) (t ∷ trunks) a b front) (joined_within (t ∷ trunks) (trunks ++ t ∷ []) a b back)
+    same_tests _ _ (joined_within (trunks ++ t ∷ []) (t ∷ trunks) a b front) (joined_within (t ∷ trunks) (trunks ++ t ∷ []) a b back)
 
 -- two classes after one was put in the place of another
 merged_tests : (x y from to : ℕ) → eqb (cond (eqb x from) to x) (cond (eqb y from) to y) ≡ (eqb x y || (eqb x from && eqb to y) || (eqb x to && eqb from y))
-merged_tests x y from to = same_test _ _ (λ h. grind (arith, nat_tests)) (λ h. grind (arith, nat_tests))
+merged_tests x y from to = same_tests _ _ (λ h. grind (arith, nat_tests)) (λ h. grind (arith, nat_tests))
 
 -- the classes are those of the trunks
 pub record IsClasses (n : ℕ) (classes : List ℕ) (trunks : List Trunk) : Type 0 where
@@ -102,7 +96,7 @@ wider n classes (t ∷ trunks) within whole low =
     let to = slice_index classes t.second.0.0 in
     let one : slice_index (classes ++ n ∷ []) t.first.0.0 ≡ from = get_or_append_left classes (n ∷ []) 0 t.first.0.0 (omega (arith, within.0.0)) in
     let two : slice_index (classes ++ n ∷ []) t.second.0.0 ≡ to = get_or_append_left classes (n ∷ []) 0 t.second.0.0 (omega (arith, within.0.1)) in
-    let fresh : eqb n from ≡ false = not_equal n from (omega (arith, low t.first.0.0 within.0.0)) in
+    let fresh : eqb n from ≡ false = ne_eqb n from (omega (arith, low t.first.0.0 within.0.0)) in
     let last : relabelled from to (classes ++ n ∷ []) ≡ relabelled from to classes ++ n ∷ [] = map-append (λ class. cond (eqb class from) to class) classes (n ∷ []) ∙ rw fresh refl in
     let both : merged (classes ++ n ∷ []) t ≡ relabelled from to (classes ++ n ∷ []) = λ i. relabelled (one i) (two i) (classes ++ n ∷ []) in
     let step : merged (classes ++ n ∷ []) t ≡ merged classes t ++ n ∷ [] = both ∙ last in
@@ -113,9 +107,6 @@ wider n classes (t ∷ trunks) within whole low =
     low_of : (b : Bool) (x y : ℕ) → x < n → y < n → cond b x y < n
     low_of true x y p q = p
     low_of false x y p q = q
-
-    not_equal : (x y : ℕ) → x ≢ y → eqb x y ≡ false
-    not_equal x y ne = grind (arith, nat_tests)
 
 pub classes-push : (n : ℕ) (trunks : List Trunk) → AllByRecursion (IsWithin n) trunks → classes_of (n + 1) trunks ≡ classes_of n trunks ++ n ∷ []
 classes-push n trunks within =

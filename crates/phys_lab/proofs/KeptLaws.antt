@@ -1,6 +1,5 @@
 -- A lab stays one when a part without a fault is added.
 use Rattle.std.proofs.Common.{◌≡◌, ◌≢◌, ℕ, Bool, true, false, ◌||◌, List, [], ◌∷◌, ◌++◌, refl, sym, subst, ◌∙◌, inl, inr, true≢false}
-use Rattle.std.specs.Prelude.{nat_eq}
 use Rattle.std.specs.List.{list_any}
 use Rattle.std.proofs.lemmas.Bool.{or_left, and_parts, and_from, eqb-true, eq-eqb}
 use Rattle.std.proofs.lemmas.List.{append-nil}
@@ -8,7 +7,8 @@ use Rattle.lab_base.specs.declared.ids.SwitchId.{SwitchId}
 use Rattle.lab_base.specs.declared.ids.NodeId.{NodeId}
 use Rattle.lab_base.specs.Lists.{Has, AllDiffer}
 use Rattle.lab_base.proofs.Members.{Has-append, Has-left, Has-right}
-use Rattle.lab_base.specs.Names.{same_name}
+use Rattle.lab_base.proofs.Tests.{or_rest}
+use Rattle.lab_base.proofs.Bytes.{bytes_self, bytes_same}
 use Rattle.phys_lab.specs.Keys.{same_iface, same_port}
 
 -- DIFFERENT ELEMENTS
@@ -35,11 +35,7 @@ at_end xs x differ other =
 pub none_has : {X : Type 0} (same : X → X → Bool) → ((x : X) → same x x ≡ true) → (xs : List X) (x : X) → list_any (same x) xs ≡ false → Has xs x → ⊥
 none_has same one [] x none h = h
 none_has same one (y ∷ xs) x none (inl e) = true≢false (sym (or_left (same x y) (list_any (same x) xs) (subst (λ v. same x v ≡ true) (sym e) (one x))) ∙ none)
-none_has same one (y ∷ xs) x none (inr h) = none_has same one xs x (rest (same x y) (list_any (same x) xs) none) h
-  where
-    rest : (a b : Bool) → (a || b) ≡ false → b ≡ false
-    rest true b e = absurd cc
-    rest false b e = e
+none_has same one (y ∷ xs) x none (inr h) = none_has same one xs x (or_rest (same x y) (list_any (same x) xs) none) h
 
 pub none_any : {X : Type 0} (same : X → X → Bool) → ((x y : X) → same x y ≡ true → x ≡ y) → (xs : List X) (x : X) → (Has xs x → ⊥) → list_any (same x) xs ≡ false
 none_any same sound [] x none = refl
@@ -49,23 +45,13 @@ none_any same sound (y ∷ xs) x none = both (same x y) (λ e. none (inl (sym (s
     both true never rest = absurd (never refl)
     both false never rest = rest
 
-pub same_name-self : (x : List ℕ) → same_name x x ≡ true
-same_name-self [] = refl
-same_name-self (b ∷ x) = and_from _ _ (eq-eqb b b refl) (same_name-self x)
-
-pub same_name-true : (x y : List ℕ) → same_name x y ≡ true → x ≡ y
-same_name-true [] [] e = refl
-same_name-true [] (c ∷ y) e = absurd cc
-same_name-true (b ∷ x) [] e = absurd cc
-same_name-true (b ∷ x) (c ∷ y) e = let p = and_parts (nat_eq b c) (same_name x y) e in λ i. eqb-true b c p.0 i ∷ same_name-true x y p.1 i
-
 pub same_iface-self : (x : NodeId × List ℕ) → same_iface x x ≡ true
-same_iface-self x = and_from _ _ (eq-eqb x.0.0 x.0.0 refl) (same_name-self x.1)
+same_iface-self x = and_from _ _ (eq-eqb x.0.0 x.0.0 refl) (bytes_self x.1)
 
 pub same_iface-true : (x y : NodeId × List ℕ) → same_iface x y ≡ true → x ≡ y
 same_iface-true x y e =
     let p = and_parts _ _ e in
-    λ i. (record { 0 = eqb-true x.0.0 y.0.0 p.0 i }, same_name-true x.1 y.1 p.1 i)
+    λ i. (record { 0 = eqb-true x.0.0 y.0.0 p.0 i }, bytes_same x.1 y.1 p.1 i)
 
 pub same_port-self : (x : SwitchId × ℕ) → same_port x x ≡ true
 same_port-self x = and_from _ _ (eq-eqb x.0.0 x.0.0 refl) (eq-eqb x.1 x.1 refl)

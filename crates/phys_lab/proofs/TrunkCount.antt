@@ -2,8 +2,7 @@
 use Rattle.std.proofs.Common.{◌≡◌, ◌≢◌, ◌⊎◌, inl, inr, ℕ, zero, suc, ◌+◌, ◌<◌, ◌≤◌, Bool, true, false, cond, eqb, List, [], ◌∷◌, ◌++◌, length, remove, get_or, refl, sym, ap, subst, ◌∙◌, arith, append_assoc}
 use Rattle.std.specs.Prelude.{slice_index}
 use Rattle.std.specs.List.{list_any, AllByRecursion}
-use Rattle.std.proofs.lemmas.Bool.{eqb-true, eq-eqb, or_cases, or_left, or_right, cases_lt}
-use Rattle.std.proofs.lemmas.Bool.Decides.{nat_tests}
+use Rattle.std.proofs.lemmas.Bool.{eqb-true, eq-eqb, or_cases, or_left, or_right, cases_lt, ne_eqb}
 use Rattle.std.proofs.lemmas.List.{length-append}
 use Rattle.std.proofs.lemmas.List.Elements.{recursion_from_All}
 use Rattle.lab_base.proofs.Members.{Has-left}
@@ -68,14 +67,11 @@ module _ (from to : ℕ) (differ : from ≢ to) where
       by true h = inr (eqb-true to v h)
       by false h = inl h
 
-  not_equal : (x y : ℕ) → x ≢ y → eqb x y ≡ false
-  not_equal x y ne = grind (arith, nat_tests)
-
   label_gone : (c : ℕ) → eqb (cond (eqb c from) to c) from ≡ false
   label_gone c = by (eqb c from) refl
     where
       by : (b : Bool) → eqb c from ≡ b → eqb (cond b to c) from ≡ false
-      by true is = not_equal to from (λ e. differ (sym e))
+      by true is = ne_eqb to from (λ e. differ (sym e))
       by false is = is
 
   in_use_before : (classes : List ℕ) (v : ℕ) → in_use classes to ≡ true → in_use (relabelled from to classes) v ≡ true → in_use classes v ≡ true

@@ -8,7 +8,7 @@ use Rattle.std.specs.Prelude.{slice_get}
 use Rattle.std.proofs.lemmas.Option.{same_Some}
 use Rattle.lab_base.specs.Lists.{Has}
 use Rattle.lab_base.specs.declared.ids.VlanId.{VlanId}
-use Rattle.lab_base.proofs.Members.{Has-map, Has-mapped}
+use Rattle.lab_base.proofs.Members.{Has-map, Has-mapped, any_has, all_has, any_from, all_from}
 use Rattle.phys_lab.specs.Labs.{Lab}
 use Rattle.virt_topo.specs.declared.mapping.Mapping.{Mapping}
 use Rattle.virt_topo.specs.declared.mapping.Mapped.{Mapped}
@@ -26,17 +26,16 @@ use Rattle.lab_model.specs.Beside.{is_claimed}
 use Rattle.lab_model.specs.Courses.{op_node, op_pipe, rows_from}
 use Rattle.lab_model.specs.Isolated.{Owns}
 use Rattle.lab_model.specs.Cabled.{SameNode, WantsPipe, CabledPhase, AllWanted, FreeWiped, Cabled}
-use Rattle.lab_model.proofs.WiringLaws.{all_has}
-use Rattle.lab_model.proofs.SuitLaws.{any_has}
 use Rattle.lab_model.proofs.Steps.{did_node}
+use Rattle.lab_model.proofs.Kept.{Places_from}
+use Rattle.lab_model.proofs.Claiming.{claims_from, claims_test}
 use Rattle.plain_model.specs.declared.world.Sent.{Sent}
 use Rattle.plain_model.specs.Isolation.{Wanted, same_row, wanted_by, wanted_in}
 use Rattle.plain_model.specs.WantedRows.{owned_as}
 use Rattle.plain_model.specs.Rows.{sent_to, world_sent, has_row, node_sent, rows_of}
 use Rattle.plain_model.specs.Cabling.{same_some, pipe_left, pipe_wanted, is_node_right, is_wiped, is_kept_right, are_kept_right, is_wanted_pipe, is_set_allowed, is_cabled_in, is_cabled_by, all_wanted, is_free_wiped, are_free_wiped, is_cabled}
-use Rattle.plain_model.proofs.Neighbours.{any_some, all_from, row_is, row_same}
+use Rattle.plain_model.proofs.Neighbours.{row_is, row_same}
 use Rattle.plain_model.proofs.IsolationLaws.{wanted_owns, owns_wanted}
-use Rattle.plain_model.proofs.HoldsLaws.{places_from, claims_from, claims_test}
 use Rattle.plain_model.proofs.RowLaws.{row_told, pipe_told}
 use Rattle.plain_model.proofs.SeenLaws.{rows_there, rows_stand}
 use Rattle.plain_model.proofs.NodeLaws.{second, some_are, some_same, left_set, right_from, right_test, wiped_from, wiped_test}
@@ -56,7 +55,7 @@ wants_test lab (Some m) name k row h = some_same (Some row) (slice_get (pipes_on
 -- a node that is kept is one that the new mapping places something on
 kept_there : (lab : Lab) (old : Option Mapped) (n : Mapped) (name : List ℕ) → is_kept lab old (Some n) name ≡ true → Places lab n name
 kept_there lab None n name kept = absurd (cc kept)
-kept_there lab (Some x) n name kept = places_from lab n name (and_parts _ _ (and_parts _ _ (and_parts _ _ kept).0).0).1
+kept_there lab (Some x) n name kept = Places_from lab n name (and_parts _ _ (and_parts _ _ (and_parts _ _ kept).0).0).1
 
 -- a command goes to the node, or it doesn't
 goes_or_not : (o : Option (List ℕ)) (name : List ℕ) → (o ≡ Some name) ⊎ (o ≡ Some name → ⊥)
@@ -82,7 +81,7 @@ module _ (commands : List Sent) (lab : Lab) where
 
   wanted_from : (es : List Experiment) → all_wanted commands lab es ≡ true → AllWanted lab es (world_sent commands)
   wanted_from es t row is =
-      let a = any_some (λ (a : Wanted). same_row row a.row) (wanted_in lab es) (all_has (λ p. list_any (λ (a : Wanted). same_row p a.row) (wanted_in lab es)) (rows_of commands commands) row t (rows_there commands row is)) in
+      let a = any_from (λ (a : Wanted). same_row row a.row) (wanted_in lab es) (all_has (λ p. list_any (λ (a : Wanted). same_row p a.row) (wanted_in lab es)) (rows_of commands commands) row t (rows_there commands row is)) in
       let same : row ≡ a.0.row = row_is row a.0.row a.2 in
       let owns : Owns lab es row a.0.owner = subst (λ r. Owns lab es r a.0.owner) (sym same) (wanted_owns lab es a.0 a.1) in
       (owns.by, owns.listed, (a.0.owner.which, a.0.owner.link, owns.wants))
@@ -98,7 +97,7 @@ module _ (commands : List Sent) (lab : Lab) where
   free_at : (es : List Experiment) (o : Option (List ℕ)) (name : List ℕ) → is_free_wiped commands lab es o ≡ true → o ≡ Some name → ((e : Experiment) → Has es e → Claims lab e name → ⊥) → is_wiped commands name ≡ true
   free_at es o name t is none =
       elim (or_cases (is_claimed lab es name) (is_wiped commands name) (subst (λ x. is_free_wiped commands lab es x ≡ true) is t)) [
-        | inl claimed ↦ let e = any_some (λ e. claims_it lab e name) es claimed in absurd (none e.0 e.1 (claims_from lab e.0 name e.2))
+        | inl claimed ↦ let e = any_from (λ e. claims_it lab e name) es claimed in absurd (none e.0 e.1 (claims_from lab e.0 name e.2))
         | inr wiped ↦ wiped
       ]
 

@@ -1,13 +1,12 @@
 -- The test of holding says what holding is.
-use Rattle.std.specs.List.{list_any, list_all, flat_map}
-use Rattle.std.specs.Str.{bytes_eq}
+use Rattle.std.specs.List.{list_all, flat_map}
 use Rattle.std.proofs.Common.{◌≡◌, inl, inr, ℕ, ◌<◌, ◌≤◌, Bool, true, false, not, is_none, Option, Some, None, List, [], ◌∷◌, length, refl, sym, ap, ◌∙◌, subst, arith}
 use Rattle.std.proofs.lemmas.Bool.{cases_Bool, and_parts, and_from, or_cases, or_left, or_right, not-true, not_from_false, both_ways, eqb-true, eq-eqb, leb-true, le-leb, ltb-true, lt-ltb}
-use Rattle.std.proofs.lemmas.Slice.Eq.{bytes_eq-Decides}
-use Rattle.lab_base.specs.Lists.{Apart, AllDiffer}
-use Rattle.lab_base.proofs.Members.{Has-map, Has-mapped}
+use Rattle.lab_base.specs.Lists.{Apart}
+use Rattle.lab_base.proofs.Members.{Has-map, Has-mapped, any_has, all_has, Has-get_or, any_from, all_from}
 use Rattle.lab_base.specs.declared.ids.IfaceId.{IfaceId}
 use Rattle.lab_base.specs.declared.ids.VlanId.{VlanId}
+use Rattle.lab_base.proofs.Tests.{none_is}
 use Rattle.phys_lab.specs.Labs.{Lab}
 use Rattle.virt_topo.specs.declared.wiring.Wiring.{Wiring}
 use Rattle.virt_topo.specs.declared.mapping.Mapping.{Mapping}
@@ -16,23 +15,18 @@ use Rattle.virt_topo.specs.declared.experiment.Experiment.{Experiment}
 use Rattle.virt_topo.specs.declared.experiment.Phase.TheVariants.{In, Moving}
 use Rattle.lab_model.specs.Shapes.{Place, node_at, has_name, IsShaped}
 use Rattle.lab_model.specs.Feasible.{AllPass, first_below}
-use Rattle.lab_model.specs.Beside.{all_differ}
 use Rattle.lab_model.specs.Wants.{node_name}
-use Rattle.lab_model.specs.Claims.{Which, Old, New, claimed, claimed_in, Claims, Places, claims_it, is_placed, places_it, claimed_tags}
+use Rattle.lab_model.specs.Claims.{Which, Old, New, claimed, claimed_in, Claims, Places, claims_it, claimed_tags}
 use Rattle.lab_model.specs.Holding.{Suits, Holding}
-use Rattle.lab_model.proofs.WiringLaws.{All-has, all_has, has_at}
-use Rattle.lab_model.proofs.SuitLaws.{any_has}
+use Rattle.lab_model.proofs.WiringLaws.{All-has}
 use Rattle.lab_model.proofs.FeasibleLaws.{at_zero, differ_from}
 use Rattle.lab_model.proofs.FirstViolation.{passes, fails}
+use Rattle.lab_model.proofs.Claiming.{claims_from, claims_test}
+use Rattle.lab_model.proofs.BesideLaws.{differ_test}
 use Rattle.plain_model.specs.Holds.{all_pass, is_place, is_plug, is_shaped, suits, fits_in, fits, shares_in, shares, are_apart, has_room, is_in_range, is_holding}
-use Rattle.plain_model.proofs.Neighbours.{any_some, all_from}
-
-pub none_of : {X : Type 0} (o : Option X) → is_none o ≡ true → o ≡ None
-none_of None e = refl
-none_of (Some x) e = absurd (cc e)
 
 pub pass_from : (n : ℕ) (test : ℕ → Bool) → all_pass n test ≡ true → AllPass n test
-pass_from n test e = at_zero n test (none_of (first_below n test) e)
+pass_from n test e = at_zero n test (none_is (first_below n test) e)
 
 pub pass_test : (n : ℕ) (test : ℕ → Bool) → AllPass n test → all_pass n test ≡ true
 pass_test n test all = ap (λ (o : Option ℕ). is_none o) (passes n test all)
@@ -53,9 +47,9 @@ shaped_from lab w m e =
     record {
       places = eqb-true _ _ a.0;
       plugs = eqb-true _ _ b.0;
-      in_nodes = λ k d h. ltb-true _ _ (and_parts _ _ (all_has (is_place lab) m.places _ c.0 (has_at m.places k d h))).0;
-      in_lab = λ k d h. ltb-true _ _ (all_has (is_plug lab) m.plugs _ c.1 (has_at m.plugs k d h));
-      of_node = λ k d h. (and_parts _ _ (all_has (is_place lab) m.places _ c.0 (has_at m.places k d h))).1;
+      in_nodes = λ k d h. ltb-true _ _ (and_parts _ _ (all_has (is_place lab) m.places _ c.0 (Has-get_or m.places k d h))).0;
+      in_lab = λ k d h. ltb-true _ _ (all_has (is_plug lab) m.plugs _ c.1 (Has-get_or m.plugs k d h));
+      of_node = λ k d h. (and_parts _ _ (all_has (is_place lab) m.places _ c.0 (Has-get_or m.places k d h))).1;
     }
 
 shaped_test : (lab : Lab) (w : Wiring) (m : Mapping) → IsShaped lab w m → is_shaped lab w m ≡ true
@@ -74,7 +68,7 @@ suits_from lab m e =
     let f4 = and_parts _ _ f3.1 in
     let f5 = and_parts _ _ f4.1 in
     record {
-      sound = none_of _ a.0;
+      sound = none_is _ a.0;
       shaped = shaped_from lab m.wiring m.mapping b.0;
       tags = eqb-true _ _ c.0;
       one_kind = pass_from _ _ f2.0;
@@ -117,42 +111,6 @@ moving_fits lab e old new is t =
 
 -- CLAIMS
 
-same_bytes : (a b : List ℕ) → bytes_eq a b ≡ true → a ≡ b
-same_bytes a b e = (bytes_eq-Decides a b).0 e
-
-bytes_same : (a b : List ℕ) → a ≡ b → bytes_eq a b ≡ true
-bytes_same a b e = (bytes_eq-Decides a b).1 e
-
-pub places_from : (lab : Lab) (m : Mapped) (name : List ℕ) → places_it lab m name ≡ true → Places lab m name
-places_from lab m name e =
-    let r = any_some (λ (p : Place). bytes_eq (node_name lab p.0) name) m.mapping.places e in
-    subst (λ n. Places lab m n) (same_bytes _ _ r.2) (Has-mapped (λ (p : Place). node_name lab p.0) m.mapping.places r.0 r.1)
-
-pub places_test : (lab : Lab) (m : Mapped) (name : List ℕ) → Places lab m name → places_it lab m name ≡ true
-places_test lab m name h =
-    let r = Has-map (λ (p : Place). node_name lab p.0) m.mapping.places name h in
-    any_has (λ (p : Place). bytes_eq (node_name lab p.0) name) m.mapping.places r.0 r.1 (bytes_same _ _ r.2)
-
-placed_from : (lab : Lab) (o : Option Mapped) (name : List ℕ) → is_placed lab o name ≡ true → (m : Mapped) × (o ≡ Some m) × Places lab m name
-placed_from lab None name e = absurd (cc e)
-placed_from lab (Some m) name e = (m, refl, places_from lab m name e)
-
-placed_test : (lab : Lab) (o : Option Mapped) (m : Mapped) (name : List ℕ) → o ≡ Some m → Places lab m name → is_placed lab o name ≡ true
-placed_test lab o m name is h = subst (λ x. is_placed lab x name ≡ true) (sym is) (places_test lab m name h)
-
-pub claims_from : (lab : Lab) (e : Experiment) (name : List ℕ) → claims_it lab e name ≡ true → Claims lab e name
-claims_from lab e name t = elim (or_cases _ _ t) [
-  | inl old ↦ let r = placed_from lab (claimed e Old) name old in record { which = Old; mapped = r.0; is = r.1; placed = r.2 }
-  | inr new ↦ let r = placed_from lab (claimed e New) name new in record { which = New; mapped = r.0; is = r.1; placed = r.2 }
-]
-
-pub claims_test : (lab : Lab) (e : Experiment) (name : List ℕ) → Claims lab e name → claims_it lab e name ≡ true
-claims_test lab e name c = by c.which c.is
-  where
-    by : (which : Which) → claimed e which ≡ Some c.mapped → claims_it lab e name ≡ true
-    by Old is = or_left _ _ (placed_test lab (claimed e Old) c.mapped name is c.placed)
-    by New is = or_right _ _ (placed_test lab (claimed e New) c.mapped name is c.placed)
-
 shares_of : (lab : Lab) (f : Experiment) (o : Option Mapped) (m : Mapped) (name : List ℕ) → o ≡ Some m → Places lab m name → Claims lab f name → shares_in lab f o ≡ true
 shares_of lab f o m name is placed claims =
     let r = Has-map (λ (p : Place). node_name lab p.0) m.mapping.places name placed in
@@ -169,7 +127,7 @@ shares_test lab f e name c d = by c.which c.is
 shared : (lab : Lab) (f : Experiment) (o : Option Mapped) → shares_in lab f o ≡ true → (m : Mapped) × (name : List ℕ) × (o ≡ Some m) × Places lab m name × Claims lab f name
 shared lab f None e = absurd (cc e)
 shared lab f (Some m) e =
-    let r = any_some (λ (p : Place). claims_it lab f (node_name lab p.0)) m.mapping.places e in
+    let r = any_from (λ (p : Place). claims_it lab f (node_name lab p.0)) m.mapping.places e in
     (m, node_name lab r.0.0, refl, Has-mapped (λ (p : Place). node_name lab p.0) m.mapping.places r.0 r.1, claims_from lab f (node_name lab r.0.0) r.2)
 
 shares_from : (lab : Lab) (f e : Experiment) → shares lab f e ≡ true → (name : List ℕ) × Claims lab e name × Claims lab f name
@@ -197,13 +155,6 @@ apart_test lab (e ∷ es) apart = and_from _ _
     (apart_test lab es apart.1)
 
 -- VLAN IDS
-
-differ_test : (xs : List ℕ) → AllDiffer xs → all_differ xs ≡ true
-differ_test [] h = refl
-differ_test (x ∷ xs) h = and_from _ _ (elim (cases_Bool (list_any (λ y. Rattle.std.specs.Prelude.nat_eq y x) xs)) [
-  | inl is ↦ let r = any_some _ xs is in absurd (h.0 r.0 r.1 (sym (eqb-true _ _ r.2)))
-  | inr not_is ↦ not_from_false _ not_is
-]) (differ_test xs h.1)
 
 range_from : (lab : Lab) (tag : ℕ) → is_in_range lab tag ≡ true → (lab.range.0 ≤ tag) × (tag ≤ lab.range.1)
 range_from lab tag e = let a = and_parts _ _ e in (leb-true _ _ a.0, leb-true _ _ a.1)

@@ -3,7 +3,7 @@ use Rattle.std.specs.List.{list_any}
 use Rattle.std.proofs.Common.{◌≡◌, inl, inr, Bool, true, not, ◌||◌, Option, Some, None, List, ◌++◌, refl, sym, ap, ◌∙◌, subst}
 use Rattle.std.proofs.lemmas.Bool.{cases_Bool, and_parts, and_from, or_cases, or_left, or_right, not-true, not_from_false, both_ways}
 use Rattle.lab_base.specs.Lists.{Has}
-use Rattle.lab_base.proofs.Members.{Has-append, Has-left, Has-right, Has-map, Has-mapped, Has-flat_map, Has-flat_mapped}
+use Rattle.lab_base.proofs.Members.{Has-append, Has-left, Has-right, Has-map, Has-mapped, Has-flat_map, Has-flat_mapped, any_has, all_has, any_from, all_from}
 use Rattle.phys_lab.specs.Labs.{Lab}
 use Rattle.virt_topo.specs.declared.mapping.Mapped.{Mapped}
 use Rattle.virt_topo.specs.declared.experiment.Experiment.{Experiment}
@@ -12,11 +12,9 @@ use Rattle.lab_model.specs.Wants.{Owned, rows_of}
 use Rattle.lab_model.specs.Claims.{Which, Old, New, claimed}
 use Rattle.lab_model.specs.Courses.{rows_from}
 use Rattle.lab_model.specs.Isolated.{Owner, Owns, IsRow, Isolated, IsolatedBeside}
-use Rattle.lab_model.proofs.WiringLaws.{all_has}
-use Rattle.lab_model.proofs.SuitLaws.{any_has}
 use Rattle.lab_model.proofs.BesideLaws.{from_beside, to_beside}
 use Rattle.plain_model.specs.Isolation.{Wanted, NodePipe, wanted_by, wanted_in, same_row, same_owner, is_next, stands, agree, all_agree, is_isolated, IsSeen}
-use Rattle.plain_model.proofs.Neighbours.{any_some, all_from, row_is, row_same, owner_is, owner_same, next_is, next_same}
+use Rattle.plain_model.proofs.Neighbours.{row_is, row_same, owner_is, owner_same, next_is, next_same}
 
 -- the wanted rows are those with an owner
 from_some : (lab : Lab) (o : Option Mapped) (x : Owned) → Has (rows_from lab o) x → (m : Mapped) × (o ≡ Some m) × Has (rows_of lab m) x
@@ -57,7 +55,7 @@ module _ (lab : Lab) (es : List Experiment) (w : World) (rows : List Row) (pipes
   stands_row p at = any_has (same_row p) rows p (seen.rows_there p at) (row_same p p refl)
 
   row_stands : (p : Row) → stands rows p ≡ true → IsRow w p
-  row_stands p e = let r = any_some (same_row p) rows e in seen.rows_stand p (subst (λ x. Has rows x) (sym (row_is p r.0 r.2)) r.1)
+  row_stands p e = let r = any_from (same_row p) rows e in seen.rows_stand p (subst (λ x. Has rows x) (sym (row_is p r.0 r.2)) r.1)
 
   -- an or of a test that is false
   second : (a b : Bool) → a ≡ true → (not a || b) ≡ true → b ≡ true
@@ -77,7 +75,7 @@ module _ (lab : Lab) (es : List Experiment) (w : World) (rows : List Row) (pipes
   beside_from : is_isolated lab (wanted_in lab es) rows pipes ≡ true → IsolatedBeside lab es w
   beside_from e = record {
     owned = λ p at.
-        let r = any_some (λ (a : Wanted). same_row p a.row) (wanted_in lab es) (all_has (λ p. list_any (λ (a : Wanted). same_row p a.row) (wanted_in lab es)) rows p (and_parts _ _ e).0 (seen.rows_there p at)) in
+        let r = any_from (λ (a : Wanted). same_row p a.row) (wanted_in lab es) (all_has (λ p. list_any (λ (a : Wanted). same_row p a.row) (wanted_in lab es)) rows p (and_parts _ _ e).0 (seen.rows_there p at)) in
         (r.0.owner, subst (λ x. Owns lab es x r.0.owner) (sym (row_is p r.0.row r.2)) (wanted_owns lab es r.0 r.1));
     one = λ p a b at of_p of_q. owners_one a b _ (or_left _ _ (row_same p p refl)) (agreed e p p a b at at of_p of_q);
     beside = λ p q a b at there next of_p of_q. owners_one a b _ (or_right _ _ (next_same lab w rows pipes seen p q next)) (agreed e p q a b at there of_p of_q);

@@ -2,9 +2,10 @@
 use Rattle.std.specs.List.{filter_map, cons_option}
 use Rattle.std.specs.Str.{bytes_eq}
 use Rattle.std.specs.Cmp.Lexicographic.{pointwise}
-use Rattle.std.proofs.Common.{◌≡◌, inl, inr, ℕ, zero, suc, max, ◌≤◌, Bool, true, false, ◌&&◌, Option, Some, None, List, [], ◌∷◌, length, refl, sym, ap, arith}
+use Rattle.std.proofs.Common.{◌≡◌, inl, inr, ℕ, zero, suc, max, ◌≤◌, Bool, true, false, ◌&&◌, Option, Some, None, List, [], ◌∷◌, length, refl, ap, arith}
 use Rattle.std.proofs.lemmas.Bool.{and_parts, and_from, cases_order}
 use Rattle.std.specs.Prelude.{slice_get, if◌then◌else◌}
+use Rattle.lab_base.proofs.Tests.{same_tests}
 use Rattle.phys_lab.specs.Labs.{Lab}
 use Rattle.virt_topo.specs.declared.mapping.Mapped.{Mapped}
 use Rattle.plant.specs.Worlds.{PipeRow}
@@ -14,11 +15,6 @@ use Rattle.lab_model.specs.Kept.{same_pipe, same_os, is_kept}
 use Rattle.plain_model.specs.Holds.{all_pass}
 use Rattle.plain_model.specs.Cabling.{same_some, keeps}
 use Rattle.plain_model.proofs.HoldsLaws.{pass_from, pass_test}
-
-iff_same : (a b : Bool) → (a ≡ true → b ≡ true) → (b ≡ true → a ≡ true) → a ≡ b
-iff_same true b there back = sym (there refl)
-iff_same false true there back = back refl
-iff_same false false there back = refl
 
 and_false : (a b c : Bool) → (a && false && b && c) ≡ false
 and_false true b c = refl
@@ -52,7 +48,7 @@ points_test (x ∷ xs) (y ∷ ys) t (suc k) = points_test xs ys (and_parts _ _ t
 
 -- two lists of pipes are the same where they are below a number that neither is longer than
 points_are : (n : ℕ) (xs ys : List PipeRow) → length xs ≤ n → length ys ≤ n → all_pass n (λ k. same_some (slice_get xs k) (slice_get ys k)) ≡ pointwise same_pipe xs ys
-points_are n xs ys few less = iff_same _ _
+points_are n xs ys few less = same_tests _ _
     (λ t. points_from xs ys (λ k. elim (cases_order k n) [
       | inl is ↦ past k (omega (arith, is))
       | inr apart ↦ elim apart [

@@ -1,5 +1,4 @@
 mod CabledLaws
-mod FirstLaws
 mod HoldsLaws
 mod IsolationLaws
 mod KeptLaws

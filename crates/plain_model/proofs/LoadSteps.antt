@@ -1,8 +1,8 @@
 -- The loads of the earlier ends that have one plug, one after another.
-use Rattle.std.proofs.Common.{◌≡◌, ℕ, suc, ◌+◌, ◌-◌, ◌<◌, ◌≤◌, Bool, true, false, not, cond, eqb, List, [], ◌∷◌, length, take, drop, get_or, refl, sym, ap, ◌∙◌, arith}
-use Rattle.std.specs.Prelude.{◌&&◌, nat_le, zip, sum_by, slice_index_or, if◌then◌else◌, Option, Some, None}
+use Rattle.std.proofs.Common.{◌≡◌, ℕ, suc, ◌+◌, ◌-◌, ◌<◌, ◌≤◌, Bool, true, false, cond, eqb, List, [], ◌∷◌, length, take, drop, get_or, refl, sym, ap, ◌∙◌, arith}
+use Rattle.std.specs.Prelude.{◌&&◌, nat_le, zip, sum_by, slice_index_or}
 use Rattle.std.proofs.Math.Seq.{drop-cons}
-use Rattle.std.proofs.lemmas.Bool.{not-false, eq-eqb}
+use Rattle.std.proofs.lemmas.Bool.{eq-eqb}
 use Rattle.std.proofs.lemmas.Bool.Decides.{nat_tests}
 use Rattle.std.proofs.lemmas.List.Sums.{sum_by-cons}
 use Rattle.lab_base.specs.declared.ids.IfaceId.{IfaceId}
@@ -10,21 +10,12 @@ use Rattle.virt_topo.specs.declared.loads.Load.{Load}
 use Rattle.virt_topo.specs.declared.wiring.Wiring.{Wiring}
 use Rattle.virt_topo.specs.Ends.{end_nodes}
 use Rattle.virt_topo.specs.Loads.{loads_of}
-use Rattle.virt_topo.specs.Soundness.{IsSound, keeps_limits}
-use Rattle.virt_topo.proofs.CableLaws.{Limits, limits_of}
 use Rattle.phys_lab.specs.Labs.{Lab}
 use Rattle.virt_topo.specs.Loads.{loads_from}
 use Rattle.virt_topo.specs.declared.wiring.Segment.{Segment}
 use Rattle.virt_topo.specs.declared.mapping.Mapping.{Mapping}
 use Rattle.lab_model.specs.Uses.{iface_at}
 use Rattle.lab_model.specs.Rules.{place_at, plug_at, keeps_f5, earlier, load_at, loads_on, may_bear, no_load}
-
-past : {X : Type 0} (faulty : Bool) (fault : X) (later : Option X) → (if faulty then Some fault else later) ≡ None → faulty ≡ false
-past true fault later e = absurd (cc e)
-past false fault later e = refl
-
-pub limits_in : (w : Wiring) → IsSound w → Limits w
-limits_in w sound = limits_of w (not-false _ (past (not (keeps_limits w)) _ _ sound))
 
 -- of a longer list as many are looked at as the other has
 zip_take : {X Y : Type 0} (xs : List X) (ys : List Y) → zip (take (length ys) xs) ys ≡ zip xs ys
@@ -70,9 +61,6 @@ pub none_on : (i : ℕ) (loads : List Load) (plugs : List IfaceId) → length pl
 none_on i [] plugs none = refl
 none_on i (x ∷ loads) [] none = refl
 none_on i (x ∷ loads) (plug ∷ plugs) none = absurd (cc none)
-
-pub has_none : (kbps : ℕ) → nat_le 0 kbps ≡ true
-has_none kbps = grind (arith, nat_tests)
 
 -- the test of one end is the rule's
 pub kept_is : (lab : Lab) (w : Wiring) (m : Mapping) (e : ℕ) (result : Bool) (segments : List Segment) (plugs : List IfaceId) (plug : IfaceId) (node virt place kbps : ℕ) (x : Load)

@@ -1,11 +1,9 @@
 -- The tests of rows, owners and neighbours, and the facts that they decide.
-use Rattle.std.specs.List.{list_any, list_all}
-use Rattle.std.specs.Str.{bytes_eq}
-use Rattle.std.proofs.Common.{◌≡◌, ◌⊎◌, inl, inr, ℕ, Bool, true, List, [], ◌∷◌, refl, sym, ap, ◌∙◌, subst}
+use Rattle.std.proofs.Common.{◌≡◌, ◌⊎◌, inl, inr, ℕ, true, List, refl, sym, ap, ◌∙◌, subst}
 use Rattle.std.proofs.lemmas.Bool.{and_parts, and_from, or_cases, or_left, or_right, eqb-true, eq-eqb}
-use Rattle.std.proofs.lemmas.Slice.Eq.{bytes_eq-Decides}
-use Rattle.lab_base.specs.Lists.{Has}
 use Rattle.lab_base.specs.declared.ids.IfaceId.{IfaceId}
+use Rattle.lab_base.proofs.Members.{any_has, Has-place, Has-get_or, any_from}
+use Rattle.lab_base.proofs.Bytes.{bytes_same, bytes_alike}
 use Rattle.phys_lab.specs.Labs.{Lab}
 use Rattle.phys_lab.specs.declared.parts.Iface.{Iface}
 use Rattle.phys_lab.specs.declared.parts.Trunk.{Trunk}
@@ -15,38 +13,19 @@ use Rattle.lab_model.specs.Wants.{switch_name, node_name}
 use Rattle.lab_model.specs.Claims.{Which, Old, New}
 use Rattle.lab_model.specs.Reach.{IsAt, IsFirstEnd, IsSecondEnd, Next, by_switch, by_trunk, by_pipe}
 use Rattle.lab_model.specs.Isolated.{Owner, IsPipe}
-use Rattle.lab_model.proofs.WiringLaws.{has_at, has_index}
-use Rattle.lab_model.proofs.SuitLaws.{any_has}
 use Rattle.plain_model.specs.Isolation.{NodePipe, same_row, same_half, same_owner, is_at_port, is_at, is_over_trunk, is_over_pipe, is_next, IsSeen}
-
-pub any_some : {X : Type 0} (test : X → Bool) (xs : List X) → list_any test xs ≡ true → (x : X) × Has xs x × (test x ≡ true)
-any_some test [] e = absurd (cc e)
-any_some test (x ∷ xs) e = elim (or_cases (test x) (list_any test xs) e) [
-  | inl here ↦ (x, inl refl, here)
-  | inr later ↦ let r = any_some test xs later in (r.0, inr r.1, r.2)
-]
-
-pub all_from : {X : Type 0} (test : X → Bool) (xs : List X) → ((x : X) → Has xs x → test x ≡ true) → list_all test xs ≡ true
-all_from test [] each = refl
-all_from test (x ∷ xs) each = and_from (test x) (list_all test xs) (each x (inl refl)) (all_from test xs (λ y h. each y (inr h)))
-
-same_bytes : (a b : List ℕ) → bytes_eq a b ≡ true → a ≡ b
-same_bytes a b e = (bytes_eq-Decides a b).0 e
-
-bytes_same : (a b : List ℕ) → a ≡ b → bytes_eq a b ≡ true
-bytes_same a b e = (bytes_eq-Decides a b).1 e
 
 pub row_is : (p q : Row) → same_row p q ≡ true → p ≡ q
 row_is p q e =
     let a = and_parts _ _ e in
     let b = and_parts _ _ a.1 in
-    let s = same_bytes _ _ a.0 in
+    let s = bytes_same _ _ a.0 in
     let o = eqb-true _ _ b.0 in
     let v = eqb-true _ _ b.1 in
     (λ i. record { switch = s i; port = o i; vlan = v i })
 
 pub row_same : (p q : Row) → p ≡ q → same_row p q ≡ true
-row_same p q e = and_from _ _ (bytes_same _ _ (ap (λ r. r.switch) e)) (and_from _ _ (eq-eqb _ _ (ap (λ r. r.port) e)) (eq-eqb _ _ (ap (λ r. r.vlan) e)))
+row_same p q e = and_from _ _ (bytes_alike _ _ (ap (λ r. r.switch) e)) (and_from _ _ (eq-eqb _ _ (ap (λ r. r.port) e)) (eq-eqb _ _ (ap (λ r. r.vlan) e)))
 
 half_is : (a b : Which) → same_half a b ≡ true → a ≡ b
 half_is Old Old e = refl
@@ -62,25 +41,25 @@ pub owner_is : (a b : Owner) → same_owner a b ≡ true → a ≡ b
 owner_is a b e =
     let x = and_parts _ _ e in
     let y = and_parts _ _ x.1 in
-    let s = same_bytes _ _ x.0 in
+    let s = bytes_same _ _ x.0 in
     let h = half_is _ _ y.0 in
-    let l = same_bytes _ _ y.1 in
+    let l = bytes_same _ _ y.1 in
     (λ i. record { exp = s i; which = h i; link = l i })
 
 pub owner_same : (a b : Owner) → a ≡ b → same_owner a b ≡ true
-owner_same a b e = subst (λ x. same_owner a x ≡ true) e (and_from _ _ (bytes_same a.exp a.exp refl) (and_from _ _ (half_self a.which) (bytes_same a.link a.link refl)))
+owner_same a b e = subst (λ x. same_owner a x ≡ true) e (and_from _ _ (bytes_alike a.exp a.exp refl) (and_from _ _ (half_self a.which) (bytes_alike a.link a.link refl)))
 
 -- at the port of a switch
 port_is : (lab : Lab) (switch port : ℕ) (row : Row) → is_at_port lab switch port row ≡ true → (row.switch ≡ switch_name lab switch) × (row.port ≡ port)
-port_is lab switch port row e = let a = and_parts _ _ e in (same_bytes _ _ a.0, eqb-true _ _ a.1)
+port_is lab switch port row e = let a = and_parts _ _ e in (bytes_same _ _ a.0, eqb-true _ _ a.1)
 
 port_same : (lab : Lab) (switch port : ℕ) (row : Row) → row.switch ≡ switch_name lab switch → row.port ≡ port → is_at_port lab switch port row ≡ true
-port_same lab switch port row a b = and_from _ _ (bytes_same _ _ a) (eq-eqb _ _ b)
+port_same lab switch port row a b = and_from _ _ (bytes_alike _ _ a) (eq-eqb _ _ b)
 
 at_is : (lab : Lab) (node iface : List ℕ) (row : Row) → is_at lab node iface row ≡ true → IsAt lab node iface row
 at_is lab node iface row e =
-    let r = any_some _ lab.ifaces e in
-    let k = has_index lab.ifaces r.0 no_iface r.1 in
+    let r = any_from _ lab.ifaces e in
+    let k = Has-place lab.ifaces r.0 no_iface r.1 in
     let a = and_parts _ _ r.2 in
     let b = and_parts _ _ a.1 in
     let c = port_is lab r.0.switch.0 r.0.port row b.1 in
@@ -88,16 +67,16 @@ at_is lab node iface row e =
     record {
       number = number;
       in_lab = k.1;
-      node_is = ap (λ (i : Iface). node_name lab i.node) k.2 ∙ same_bytes _ _ a.0;
-      name_is = ap (λ (i : Iface). i.name) k.2 ∙ same_bytes _ _ b.0;
+      node_is = ap (λ (i : Iface). node_name lab i.node) k.2 ∙ bytes_same _ _ a.0;
+      name_is = ap (λ (i : Iface). i.name) k.2 ∙ bytes_same _ _ b.0;
       switch_is = c.0 ∙ sym (ap (λ (i : Iface). switch_name lab i.switch.0) k.2);
       port_is = c.1 ∙ sym (ap (λ (i : Iface). i.port) k.2);
     }
 
 at_same : (lab : Lab) (node iface : List ℕ) (row : Row) → IsAt lab node iface row → is_at lab node iface row ≡ true
 at_same lab node iface row at =
-    any_has _ lab.ifaces (iface_at lab at.number) (has_at lab.ifaces at.number.0 no_iface at.in_lab)
-    (and_from _ _ (bytes_same _ _ at.node_is) (and_from _ _ (bytes_same _ _ at.name_is) (port_same lab _ _ row at.switch_is at.port_is)))
+    any_has _ lab.ifaces (iface_at lab at.number) (Has-get_or lab.ifaces at.number.0 no_iface at.in_lab)
+    (and_from _ _ (bytes_alike _ _ at.node_is) (and_from _ _ (bytes_alike _ _ at.name_is) (port_same lab _ _ row at.switch_is at.port_is)))
 
 module _ (lab : Lab) (w : World) (rows : List Row) (pipes : List NodePipe) (seen : IsSeen w rows pipes) where
   pub next_is : (p q : Row) → is_next lab pipes p q ≡ true → Next lab (IsPipe w) p q
@@ -106,16 +85,16 @@ module _ (lab : Lab) (w : World) (rows : List Row) (pipes : List NodePipe) (seen
         let a = and_parts _ _ flat in
         let vlan = eqb-true _ _ a.0 in
         elim (or_cases _ _ a.1) [
-          | inl same ↦ by_switch vlan (same_bytes _ _ same)
+          | inl same ↦ by_switch vlan (bytes_same _ _ same)
           | inr over ↦
-              let t = any_some (is_over_trunk lab p q) lab.trunks over in
+              let t = any_from (is_over_trunk lab p q) lab.trunks over in
               by_trunk t.0 t.1 vlan (elim (or_cases _ _ t.2) [
                 | inl there ↦ let b = and_parts _ _ there in inl (port_is lab _ _ p b.0, port_is lab _ _ q b.1)
                 | inr back ↦ let b = and_parts _ _ back in inr (port_is lab _ _ p b.0, port_is lab _ _ q b.1)
               ])
         ]
     | inr over ↦
-        let x = any_some (is_over_pipe lab p q) pipes over in
+        let x = any_from (is_over_pipe lab p q) pipes over in
         let pipe = seen.pipes_stand x.0 x.1 in
         by_pipe x.0.node pipe.0 pipe.1 (elim (or_cases _ _ x.2) [
           | inl there ↦
@@ -137,6 +116,6 @@ module _ (lab : Lab) (w : World) (rows : List Row) (pipes : List NodePipe) (seen
   pipe_ends p q node pipe (inr x) = or_right _ _ (and_from _ _ (at_same lab _ _ p x.0) (at_same lab _ _ q x.1))
 
   pub next_same : (p q : Row) → Next lab (IsPipe w) p q → is_next lab pipes p q ≡ true
-  next_same p q (by_switch vlan switch) = or_left _ _ (and_from _ _ (eq-eqb _ _ vlan) (or_left _ _ (bytes_same _ _ switch)))
+  next_same p q (by_switch vlan switch) = or_left _ _ (and_from _ _ (eq-eqb _ _ vlan) (or_left _ _ (bytes_alike _ _ switch)))
   next_same p q (by_trunk t in_lab vlan ends) = or_left _ _ (and_from _ _ (eq-eqb _ _ vlan) (or_right _ _ (any_has (is_over_trunk lab p q) lab.trunks t in_lab (trunk_ends p q t ends))))
   next_same p q (by_pipe node pipe is ends) = or_right _ _ (any_has (is_over_pipe lab p q) pipes (record { node = node; from = pipe.from; to = pipe.to }) (seen.pipes_there node pipe is) (pipe_ends p q node pipe ends))

@@ -2,14 +2,15 @@
 use Rattle.std.specs.List.{list_all}
 use Rattle.std.specs.Str.{bytes_eq}
 use Rattle.std.proofs.Common.{◌≡◌, inl, inr, ℕ, ◌≤◌, Bool, true, not, ◌||◌, Option, Some, None, List, length, if◌then◌else◌, refl, sym, ap, ◌∙◌, subst, arith}
-use Rattle.std.proofs.lemmas.Bool.{and_parts, and_from, or_cases, or_right, not-true, both_ways, cases_order, eqb-true, eq-eqb}
+use Rattle.std.proofs.lemmas.Bool.{and_parts, and_from, or_cases, or_right, not-true, both_ways, cases_order, eq-eqb}
 use Rattle.std.specs.Prelude.{slice_get}
-use Rattle.std.proofs.lemmas.Slice.Eq.{bytes_eq-Decides}
 use Rattle.std.proofs.lemmas.Option.{same_Some}
 use Rattle.lab_base.specs.Lists.{Has}
 use Rattle.lab_base.specs.declared.rates.Rates.{Rates}
 use Rattle.lab_base.specs.declared.boot.Boot.{Boot}
 use Rattle.lab_base.specs.declared.boot.Boot.TheVariants.{Off, Shutdown, Booting, TbSetup, IsUp}
+use Rattle.lab_base.proofs.Members.{all_has, all_from}
+use Rattle.lab_base.proofs.Bytes.{bytes_alike}
 use Rattle.phys_lab.specs.Labs.{Lab}
 use Rattle.virt_topo.specs.declared.mapping.Mapped.{Mapped}
 use Rattle.plant.specs.declared.device.DeviceOp.{DeviceOp}
@@ -19,22 +20,16 @@ use Rattle.lab_model.specs.Wants.{pipes_on, place_of, pipe_row, node_row_of}
 use Rattle.lab_model.specs.Kept.{same_rates, same_pipe, same_os}
 use Rattle.lab_model.specs.Courses.{op_pipe}
 use Rattle.lab_model.specs.Cabled.{SameNode}
-use Rattle.lab_model.proofs.WiringLaws.{all_has}
+use Rattle.lab_model.proofs.Begins.{same_os-true}
+use Rattle.lab_model.proofs.Kept.{same_pipe-true}
 use Rattle.plain_model.specs.declared.world.Sent.{Sent}
 use Rattle.plain_model.specs.Holds.{all_pass}
 use Rattle.plain_model.specs.Rows.{node_sent}
 use Rattle.plain_model.specs.Cabling.{is_up, is_off, same_some, os_left, pipe_left, is_pipe_right, is_set_right, are_sets_right, is_node_right, is_set_wiped, is_wiped}
-use Rattle.plain_model.proofs.Neighbours.{all_from}
 use Rattle.plain_model.proofs.HoldsLaws.{pass_from, pass_test}
 use Rattle.plain_model.proofs.KeptLaws.{past_end, few_left}
 use Rattle.plain_model.proofs.RowLaws.{os_told, boot_told, pipe_told}
 use Rattle.plain_model.proofs.SeenLaws.{pipes_came}
-
-same_bytes : (a b : List ℕ) → bytes_eq a b ≡ true → a ≡ b
-same_bytes a b e = (bytes_eq-Decides a b).0 e
-
-bytes_same : (a b : List ℕ) → a ≡ b → bytes_eq a b ≡ true
-bytes_same a b e = (bytes_eq-Decides a b).1 e
 
 -- an or of a test that is false
 pub second : (a b : Bool) → a ≡ true → (not a || b) ≡ true → b ≡ true
@@ -42,15 +37,9 @@ second a b is e = elim (or_cases (not a) b e) [ inl x ↦ absurd (both_ways a (n
 
 -- OS, BOOT STATE, PIPES
 
-os_is : (a b : Option (List ℕ)) → same_os a b ≡ true → a ≡ b
-os_is None None t = refl
-os_is (Some a) (Some b) t = ap (λ n. Some n) (same_bytes a b t)
-os_is None (Some b) t = absurd (cc t)
-os_is (Some a) None t = absurd (cc t)
-
 os_self : (a : Option (List ℕ)) → same_os a a ≡ true
 os_self None = refl
-os_self (Some a) = bytes_same a a refl
+os_self (Some a) = bytes_alike a a refl
 
 up_is : (o : Option Boot) → is_up o ≡ true → o ≡ Some IsUp
 up_is (Some IsUp) t = refl
@@ -68,35 +57,15 @@ off_is (Some Booting) t = absurd (cc t)
 off_is (Some TbSetup) t = absurd (cc t)
 off_is None t = absurd (cc t)
 
-rates_are : (a b : Rates) → same_rates a b ≡ true → a ≡ b
-rates_are a b t =
-    let x = and_parts _ _ t in
-    let y = and_parts _ _ x.0 in
-    let k = eqb-true _ _ y.0 in
-    let m = eqb-true _ _ y.1 in
-    let p = eqb-true _ _ x.1 in
-    (λ i. record { kbps = k i; micros = m i; ppm = p i })
-
 rates_self : (a : Rates) → same_rates a a ≡ true
 rates_self a = and_from _ _ (and_from _ _ (eq-eqb a.kbps a.kbps refl) (eq-eqb a.micros a.micros refl)) (eq-eqb a.ppm a.ppm refl)
 
-pipe_is : (a b : PipeRow) → same_pipe a b ≡ true → a ≡ b
-pipe_is a b t =
-    let x = and_parts _ _ t in
-    let y = and_parts _ _ x.0 in
-    let z = and_parts _ _ y.0 in
-    let f = same_bytes _ _ z.0 in
-    let o = same_bytes _ _ z.1 in
-    let h = rates_are _ _ y.1 in
-    let k = rates_are _ _ x.1 in
-    (λ i. record { from = f i; to = o i; there = h i; back = k i })
-
 pipe_self : (a : PipeRow) → same_pipe a a ≡ true
-pipe_self a = and_from _ _ (and_from _ _ (and_from _ _ (bytes_same a.from a.from refl) (bytes_same a.to a.to refl)) (rates_self a.there)) (rates_self a.back)
+pipe_self a = and_from _ _ (and_from _ _ (and_from _ _ (bytes_alike a.from a.from refl) (bytes_alike a.to a.to refl)) (rates_self a.there)) (rates_self a.back)
 
 pub some_are : (a b : Option PipeRow) → same_some a b ≡ true → a ≡ b
 some_are None None t = refl
-some_are (Some a) (Some b) t = ap (λ x. Some x) (pipe_is a b t)
+some_are (Some a) (Some b) t = ap (λ x. Some x) (same_pipe-true a b t)
 some_are None (Some b) t = absurd (cc t)
 some_are (Some a) None t = absurd (cc t)
 
@@ -114,7 +83,7 @@ module _ (commands : List Sent) where
       → test op ≡ true → (k : ℕ) (row : PipeRow) → op_pipe op ≡ Some (name, k, row) → right k ≡ true
   set_at right name (Shape node number from to there back) test each t k row is =
       let key = same_Some (node, number, record { from = from; to = to; there = there; back = back }) (name, k, row) is in
-      subst (λ n. right n ≡ true) (ap (λ x. x.1) key) (each node number from to there back t (bytes_same name node (sym (ap (λ x. x.0) key))))
+      subst (λ n. right n ≡ true) (ap (λ x. x.1) key) (each node number from to there back t (bytes_alike name node (sym (ap (λ x. x.0) key))))
   set_at right name (Join switch port vlan) test each t k row is = absurd (cc is)
   set_at right name (Leave switch port vlan) test each t k row is = absurd (cc is)
   set_at right name (Load node os) test each t k row is = absurd (cc is)
@@ -160,7 +129,7 @@ module _ (commands : List Sent) where
         let b = and_parts _ _ a.1 in
         let c = and_parts _ _ b.1 in
         record {
-          os = os_told name commands ∙ os_is _ _ a.0;
+          os = os_told name commands ∙ same_os-true _ _ a.0;
           pipes = λ k. pipe_told name k commands ∙ some_are _ _ (right_all c.0 c.1 k);
           boot = boot_told name commands ∙ up_is _ b.0;
         }
@@ -190,7 +159,7 @@ module _ (commands : List Sent) where
         let a = and_parts _ _ t in
         let b = and_parts _ _ a.1 in
         record {
-          os = os_told name commands ∙ os_is _ _ a.0;
+          os = os_told name commands ∙ same_os-true _ _ a.0;
           pipes = λ k. pipe_told name k commands ∙ by k (pipe_left commands name k) refl b.1;
           boot = boot_told name commands ∙ off_is _ b.0;
         }

@@ -1,14 +1,15 @@
 -- One record more is read.
 use Rattle.std.proofs.Common.{◌≡◌, inl, inr, ℕ, suc, ◌+◌, ◌-◌, ◌<◌, ◌≤◌, List, [], ◌∷◌, ◌++◌, length, take, drop, get_or, Result, Ok, Err, IfOk, refl, sym, ap, ◌∙◌, subst, arith, sum_by, length-append}
 use Rattle.std.proofs.lemmas.List.Sums.{sum_by-append}
-use Rattle.std.proofs.lemmas.List.{take_all, length-drop, length-take, drop_at}
+use Rattle.std.proofs.lemmas.List.{length-drop, length-take, drop_at, take_rest}
 use Rattle.plant.specs.Sides.{of_side}
 use Rattle.journal_rec.specs.declared.record.Record.{Record}
-use Rattle.journal_rec.specs.Payloads.{le, number, payload, Decodes}
+use Rattle.journal_rec.specs.Payloads.{number, payload, Decodes}
 use Rattle.journal_model.specs.Journals.{block, size, Reads, Breaks, AreBytes, head, live, On}
 use Rattle.plant.specs.declared.step.Side.{Side}
 use Rattle.journal_model.proofs.Syncs.{live_back, headed_long}
 use Rattle.journal_model.proofs.Totals.{one_block}
+use Rattle.journal_model.proofs.Gates.{block_size}
 use Rattle.plain_model.specs.declared.reading.Read.{Read}
 use Rattle.plain_model.specs.Readings.{IsRead, HasWhole}
 
@@ -17,10 +18,6 @@ pub are_bytes : (bytes : List ℕ) → ((i : ℕ) → get_or bytes i 0 < 256) �
 are_bytes [] each x h = absurd h
 are_bytes (y ∷ ys) each x (inl e) = subst (λ n. n < 256) e (each 0)
 are_bytes (y ∷ ys) each x (inr h) = are_bytes ys (λ i. each (suc i)) x h
-
--- the rest of a list from a place on
-suffix : (n : ℕ) (xs : List ℕ) → take (length xs - n) (drop n xs) ≡ drop n xs
-suffix n xs = take_all (length xs - n) (drop n xs) (omega (arith, length-drop n xs))
 
 -- behind the gate of a whole record stand the others
 behind : (rest : List ℕ) (n : ℕ) (r : Record) → AreBytes rest → HasWhole rest → n ≡ number (take 4 rest) → Decodes (take n (drop 4 rest)) r → 165 ∷ rest ≡ block r ++ drop (4 + n) rest
@@ -32,9 +29,6 @@ behind rest n r all whole is decodes =
   where
     long : 4 + n + 1 ≤ length rest → length (block r) ≡ suc (4 + n)
     long fits = omega (arith, ap length decodes.spelled, length-take n (drop 4 rest), length-drop 4 rest, fits)
-
-block_size : (r : Record) → length (block r) ≡ size r
-block_size r = omega (arith, length-append (165 ∷ le 4 (length (payload r))) (payload r))
 
 with_next : (bytes tail : List ℕ) (r : Record) (read with : Read) → bytes ≡ block r ++ tail → Decodes (payload r) r → IsRead tail read → with.records.items ≡ r ∷ read.records.items → with.whole ≡ read.whole → with.left ≡ read.left → IsRead bytes with
 with_next bytes tail r read with split decodes is records whole left = record {
@@ -54,10 +48,10 @@ pub next_record : (bytes : List ℕ) (n : ℕ) (r : Record) (read with : Read) �
     → with.records.items ≡ r ∷ read.records.items → with.whole ≡ read.whole → with.left ≡ read.left → IsRead bytes with
 next_record [] n r read with each some gate whole is decodes read_is records more left = absurd (omega (arith, some))
 next_record (g ∷ rest) n r read with each some gate whole is decodes read_is records more left =
-    let same : take (length (g ∷ rest) - 1) (drop 1 (g ∷ rest)) ≡ rest = suffix 1 (g ∷ rest) in
+    let same : take (length (g ∷ rest) - 1) (drop 1 (g ∷ rest)) ≡ rest = take_rest (g ∷ rest) 1 in
     let split : g ∷ rest ≡ block r ++ drop (4 + n) rest = ap (λ x. x ∷ rest) gate ∙ behind rest n r (are_bytes rest (λ i. each (suc i))) (subst (λ l. HasWhole l) same whole) (is ∙ ap (λ l. number (take 4 l)) same) (subst (λ l. Decodes (take n (drop 4 l)) r) same (subst (λ k. Decodes (take k (drop 4 (take (length (g ∷ rest) - 1) (drop 1 (g ∷ rest))))) r) (four_off n) decodes)) in
     with_next (g ∷ rest) (drop (4 + n) rest) r read with split (record { is_record = decodes.is_record; spelled = refl })
-    (subst (λ l. IsRead l read) (suffix (4 + n) rest) (subst (λ l. IsRead (take (length l - (4 + n)) (drop (4 + n) l)) read) same read_is)) records more left
+    (subst (λ l. IsRead l read) (take_rest rest (4 + n)) (subst (λ l. IsRead (take (length l - (4 + n)) (drop (4 + n) l)) read) same read_is)) records more left
 
 -- the same of an answer
 pub next_ok : {E : Type 0} {P : Read → Type 0} (first : Record) (read : Read) (answer : Result Read E) → IfOk answer (λ with. (with.records.items ≡ first ∷ read.records.items) × (with.whole ≡ read.whole) × (with.left ≡ read.left))

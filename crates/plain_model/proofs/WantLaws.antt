@@ -5,6 +5,8 @@ use Rattle.std.proofs.lemmas.Bool.{and_parts, and_from, lt-ltb}
 use Rattle.std.proofs.lemmas.List.{map-append, take_min, drop_min}
 use Rattle.lab_base.specs.declared.ids.IfaceId.{IfaceId}
 use Rattle.lab_base.specs.declared.ids.VlanId.{VlanId}
+use Rattle.lab_base.proofs.Members.{all_from}
+use Rattle.lab_base.proofs.Lists.{map-map}
 use Rattle.phys_lab.specs.Labs.{Lab}
 use Rattle.virt_topo.specs.declared.wiring.Segment.{Segment}
 use Rattle.virt_topo.specs.declared.mapping.Mapping.{Mapping}
@@ -21,7 +23,6 @@ use Rattle.plain_model.specs.Isolation.{Wanted, wanted_by}
 use Rattle.plain_model.specs.Holds.{is_plug, suits}
 use Rattle.lab_model.proofs.WiringLaws.{All-has}
 use Rattle.plain_model.proofs.HoldsLaws.{suits_from}
-use Rattle.plain_model.proofs.Neighbours.{all_from}
 use Rattle.plain_model.specs.WantedRows.{cable, with_owner, owned_as, trunk_rows_from}
 
 pub on_ok : {X E P Q : Type 0} (r : Result X E) → OnOk r P → (P → Q) → OnOk r Q
@@ -47,11 +48,7 @@ cable_pushed lab vlan s plugs owner old mid new one two =
     let trunks = trunk_rows_from lab vlan (cable s plugs) 0 in
     two ∙ ap (λ l. l ++ map (with_owner owner) trunks) one
     ∙ append_assoc old (map (λ i. with_owner owner (plug_row lab vlan i)) plugs) (map (with_owner owner) trunks)
-    ∙ ap (λ l. old ++ l) (ap (λ l. l ++ map (with_owner owner) trunks) (sym (map_twice (with_owner owner) (plug_row lab vlan) plugs)) ∙ sym (map-append (with_owner owner) (map (plug_row lab vlan) plugs) trunks))
-  where
-    map_twice : {X Y Z : Type 0} (f : Y → Z) (g : X → Y) (xs : List X) → map f (map g xs) ≡ map (λ x. f (g x)) xs
-    map_twice f g [] = refl
-    map_twice f g (x ∷ xs) = ap (λ l. f (g x) ∷ l) (map_twice f g xs)
+    ∙ ap (λ l. old ++ l) (ap (λ l. l ++ map (with_owner owner) trunks) (sym (map-map (with_owner owner) (plug_row lab vlan) plugs)) ∙ sym (map-append (with_owner owner) (map (plug_row lab vlan) plugs) trunks))
 
 -- the first plugs, and the others
 pub taken : {X : Type 0} (n k : ℕ) (xs : List X) → k ≡ min n (length xs) → take k xs ≡ take n xs

@@ -3,6 +3,7 @@ use Rattle.std.proofs.Common.{◌≡◌, ◌⊎◌, inl, inr, ℕ, zero, suc, mi
 use Rattle.std.specs.Prelude.{slice_index}
 use Rattle.std.proofs.lemmas.List.{get_or_append_left, get_or-append-add, get_or-take, get_or-drop, length-take, length-drop, length-map}
 use Rattle.lab_base.specs.Lists.{Has}
+use Rattle.lab_base.proofs.Numbers.{add_back}
 use Rattle.plant.specs.Bytes.{AreBytes, as_byte, as_bytes}
 use Rattle.plant.specs.Disks.{Disk, put, wrote, synced, shortened, IsImage, at_once}
 
@@ -46,12 +47,9 @@ wrote_image d at bytes within h = as_read (wrote d at bytes) (λ k a b free.
           ap (λ n. get_or (put d.reads at bytes) n 0) place
           ∙ get_or-append-add (take at d.reads ++ bytes) rest (k - (at + length bytes)) 0
           ∙ get_or-drop (at + length bytes) d.reads (k - (at + length bytes)) 0
-          ∙ ap (λ n. get_or d.reads n 0) (place_back k at bytes above)
+          ∙ ap (λ n. get_or d.reads n 0) (add_back k (at + length bytes) above)
           ∙ h.kept k a inside (λ r g. free r (inr g))
     ])
-  where
-    place_back : (k at : ℕ) (bytes : List ℕ) → at + length bytes ≤ k → at + length bytes + (k - (at + length bytes)) ≡ k
-    place_back k at bytes above = omega arith
 
 -- an image with bytes in place of what is none
 get_bytes : (image : List ℕ) (k : ℕ) → get_or (as_bytes image) k 0 ≡ as_byte (get_or image k 0)

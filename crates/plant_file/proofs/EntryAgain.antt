@@ -1,8 +1,7 @@
 -- The line of an entry is read as the entry.
 use Rattle.std.proofs.Common.{◌≡◌, ℕ, ◌≤◌, ◌-◌, ◌^◌, true, List, ◌++◌, Ok, refl, arith}
 use Rattle.std.specs.Prelude.{codes, decimal, nat_le}
-use Rattle.std.proofs.lemmas.Bool.{and_parts}
-use Rattle.std.proofs.lemmas.Bool.Decides.{nat_tests}
+use Rattle.std.proofs.lemmas.Bool.{and_parts, leb-true}
 use Rattle.lab_base.specs.Names.{is_name}
 use Rattle.lab_base.specs.Kinds.{both_of}
 use Rattle.lab_base.specs.declared.boot.Boot.{Boot}
@@ -15,9 +14,6 @@ use Rattle.plant_file.specs.declared.entry.Entry.{Entry}
 use Rattle.plant_file.specs.declared.entry.Entry.TheVariants.{Row, Bare, Node, Pipe}
 use Rattle.plant_file.specs.Lines.{boot_word, boot_of, rates_fields, entry_fields, as_row, as_bare, as_node, as_rates, as_pipe, rates_of, entry_of}
 use Rattle.plant_file.specs.Printable.{are_rates, are_pipe_ends, is_printable}
-
-le_from : (a b : ℕ) → nat_le a b ≡ true → a ≤ b
-le_from a b h = grind (arith, nat_tests)
 
 boot_again : (state : Boot) → boot_of (boot_word state) ≡ Ok state
 boot_again Off = refl
@@ -35,7 +31,7 @@ rate_limits : (r : Rates) → are_rates r ≡ true → RateLimits r
 rate_limits r h =
     let a = and_parts (nat_le r.kbps (2 ^ 64 - 1)) _ h in
     let b = and_parts (nat_le r.micros (2 ^ 32 - 1)) (nat_le r.ppm (2 ^ 32 - 1)) a.1 in
-    record { kbps = le_from r.kbps (2 ^ 64 - 1) a.0; micros = le_from r.micros (2 ^ 32 - 1) b.0; ppm = le_from r.ppm (2 ^ 32 - 1) b.1 }
+    record { kbps = leb-true r.kbps (2 ^ 64 - 1) a.0; micros = leb-true r.micros (2 ^ 32 - 1) b.0; ppm = leb-true r.ppm (2 ^ 32 - 1) b.1 }
 
 rates_again : (r : Rates) → are_rates r ≡ true → rates_of (decimal r.kbps) (decimal r.micros) (decimal r.ppm) ≡ Ok r
 rates_again r h =
@@ -46,7 +42,7 @@ pub entry_again : (entry : Entry) → is_printable entry ≡ true → entry_of (
 entry_again (Row switch port vlan) h =
     let a = and_parts (is_name switch) _ h in
     let b = and_parts (nat_le port 65535) (nat_le vlan.0 65535) a.1 in
-    λ j. as_row (both_of (name_again switch a.0 j) (both_of (number_back 0 65535 port (omega arith) (le_from port 65535 b.0) (omega arith) j) (number_back 0 65535 vlan.0 (omega arith) (le_from vlan.0 65535 b.1) (omega arith) j)))
+    λ j. as_row (both_of (name_again switch a.0 j) (both_of (number_back 0 65535 port (omega arith) (leb-true port 65535 b.0) (omega arith) j) (number_back 0 65535 vlan.0 (omega arith) (leb-true vlan.0 65535 b.1) (omega arith) j)))
 entry_again (Bare node state) h = λ j. as_bare (both_of (name_again node h j) (boot_again state j))
 entry_again (Node node state os) h =
     let a = and_parts (is_name node) (is_name os) h in
@@ -57,7 +53,7 @@ entry_again (Pipe node number from to there back) h =
     let c = and_parts (nat_le number 65535) _ b.1 in
     let d = and_parts (is_name from) (is_name to) c.1 in
     let r = and_parts (are_rates there) (are_rates back) a.1 in
-    λ j. as_pipe (both_of (both_of (name_again node b.0 j) (number_back 0 65535 number (omega arith) (le_from number 65535 c.0) (omega arith) j))
+    λ j. as_pipe (both_of (both_of (name_again node b.0 j) (number_back 0 65535 number (omega arith) (leb-true number 65535 c.0) (omega arith) j))
     (both_of (both_of (name_again from d.0 j) (name_again to d.1 j)) (both_of (rates_again there r.0 j) (rates_again back r.1 j))))
 
 -- THE FIELDS ARE PLAIN
@@ -87,7 +83,7 @@ fields_plain : (entry : Entry) → is_printable entry ≡ true → ArePlain (ent
 fields_plain (Row switch port vlan) h =
     let a = and_parts (is_name switch) _ h in
     let b = and_parts (nat_le port 65535) (nat_le vlan.0 65535) a.1 in
-    more _ _ row_plain (more _ _ (plain_name switch a.0) (more _ _ (plain_number port (omega (arith, le_from port 65535 b.0))) (more _ _ (plain_number vlan.0 (omega (arith, le_from vlan.0 65535 b.1))) none)))
+    more _ _ row_plain (more _ _ (plain_name switch a.0) (more _ _ (plain_number port (omega (arith, leb-true port 65535 b.0))) (more _ _ (plain_number vlan.0 (omega (arith, leb-true vlan.0 65535 b.1))) none)))
 fields_plain (Bare node state) h = more _ _ node_plain (more _ _ (plain_name node h) (more _ _ (boot_plain state) none))
 fields_plain (Node node state os) h =
     let a = and_parts (is_name node) (is_name os) h in
@@ -98,7 +94,7 @@ fields_plain (Pipe node number from to there back) h =
     let c = and_parts (nat_le number 65535) _ b.1 in
     let d = and_parts (is_name from) (is_name to) c.1 in
     let r = and_parts (are_rates there) (are_rates back) a.1 in
-    more _ _ pipe_plain (more _ _ (plain_name node b.0) (more _ _ (plain_number number (omega (arith, le_from number 65535 c.0))) (more _ _ (plain_name from d.0) (more _ _ (plain_name to d.1)
+    more _ _ pipe_plain (more _ _ (plain_name node b.0) (more _ _ (plain_number number (omega (arith, leb-true number 65535 c.0))) (more _ _ (plain_name from d.0) (more _ _ (plain_name to d.1)
     (rates_plain there (rates_fields back) r.0 (rates_last back r.1))))))
   where
     rates_last : (r : Rates) → are_rates r ≡ true → ArePlain (rates_fields r)

@@ -2,7 +2,7 @@
 use Rattle.std.proofs.Common.{◌≡◌, ℕ, Bool, true, false, not, cond, ◌||◌, List, [], ◌∷◌, ◌++◌, Option, Some, None, refl, sym, ap, ◌∙◌}
 use Rattle.std.specs.List.{find, list_any}
 use Rattle.std.specs.Str.{bytes_eq}
-use Rattle.std.proofs.lemmas.Slice.Eq.{bytes_eq-Decides}
+use Rattle.lab_base.proofs.Bytes.{bytes_same}
 use Rattle.plant_file.specs.declared.entry.Entry.{Entry}
 use Rattle.plant_file.specs.Entries.{without}
 
@@ -72,12 +72,6 @@ find_found p (x ∷ xs) entry none agrees = by (p x) refl (λ gone. find_found p
 
 -- NAMES
 
-pub same : (a b : List ℕ) → bytes_eq a b ≡ true → a ≡ b
-same a b h = (bytes_eq-Decides a b).0 h
-
-pub itself : (a : List ℕ) → bytes_eq a a ≡ true
-itself a = (bytes_eq-Decides a a).1 refl
-
 -- two names that differ stay so when turned round, or when one of them is told of by a third
 pub differ : (a b c : List ℕ) → bytes_eq a b ≡ false → bytes_eq c a ≡ true → bytes_eq c b ≡ false
-differ a b c differs agrees = ap (λ (n : List ℕ). bytes_eq n b) (same c a agrees) ∙ differs
+differ a b c differs agrees = ap (λ (n : List ℕ). bytes_eq n b) (bytes_same c a agrees) ∙ differs

@@ -3,6 +3,7 @@ use Rattle.std.proofs.Common.{◌≡◌, ◌≢◌, ◌+◌, ◌*◌, ◌%◌, �
 use Rattle.std.specs.Str.{bytes_eq}
 use Rattle.std.proofs.lemmas.List.{take_more}
 use Rattle.std.proofs.lemmas.Bool.{and_parts}
+use Rattle.lab_base.proofs.Bytes.{bytes_same}
 use Rattle.plant.specs.Worlds as worlds
 use Rattle.plant_file.specs.declared.entry.Entry.{Entry}
 use Rattle.plant_file.specs.declared.entry.Entry.TheVariants.{Row, Bare, Node, Pipe}
@@ -12,7 +13,6 @@ use Rattle.plant_file.specs.Entries.{is_keyed}
 use Rattle.plant_file.specs.Kept.{IsLine}
 use Rattle.plant_file.specs.declared.lines_kept.Line.{Line}
 use Rattle.plant_file.specs.Marks.{mark_on, name_mark, row_mark, key_mark, key_of}
-use Rattle.plant_file.proofs.Finds.{same}
 use Rattle.plant_file.proofs.RowsHold.{row_itself}
 
 -- one byte more
@@ -31,17 +31,17 @@ marked (keys.Row switch port vlan) (Bare node state) is = absurd (cc is)
 marked (keys.Row switch port vlan) (Node node state os) is = absurd (cc is)
 marked (keys.Row switch port vlan) (Pipe node number from to there back) is = absurd (cc is)
 marked (keys.Node name) (Row own at id) is = absurd (cc is)
-marked (keys.Node name) (Bare node state) is = sym (ap name_mark (same node name is))
-marked (keys.Node name) (Node node state os) is = sym (ap name_mark (same node name is))
+marked (keys.Node name) (Bare node state) is = sym (ap name_mark (bytes_same node name is))
+marked (keys.Node name) (Node node state os) is = sym (ap name_mark (bytes_same node name is))
 marked (keys.Node name) (Pipe node number from to there back) is = absurd (cc is)
 marked (keys.Pipe name at) (Row own port id) is = absurd (cc is)
 marked (keys.Pipe name at) (Bare node state) is = absurd (cc is)
 marked (keys.Pipe name at) (Node node state os) is = absurd (cc is)
-marked (keys.Pipe name at) (Pipe node number from to there back) is = sym (ap name_mark (same node name (and_parts (bytes_eq node name) (eqb number at) is).0))
+marked (keys.Pipe name at) (Pipe node number from to there back) is = sym (ap name_mark (bytes_same node name (and_parts (bytes_eq node name) (eqb number at) is).0))
 marked (keys.Of name) (Row own port id) is = absurd (cc is)
-marked (keys.Of name) (Bare node state) is = sym (ap name_mark (same node name is))
-marked (keys.Of name) (Node node state os) is = sym (ap name_mark (same node name is))
-marked (keys.Of name) (Pipe node number from to there back) is = sym (ap name_mark (same node name is))
+marked (keys.Of name) (Bare node state) is = sym (ap name_mark (bytes_same node name is))
+marked (keys.Of name) (Node node state os) is = sym (ap name_mark (bytes_same node name is))
+marked (keys.Of name) (Pipe node number from to there back) is = sym (ap name_mark (bytes_same node name is))
 
 -- a line of another mark has not that key
 pub unmarked : (key : Key) (line : Line) (mark : ℕ) → IsLine line → mark ≡ key_mark key → line.mark ≢ mark → is_keyed key line.entry.value ≡ false

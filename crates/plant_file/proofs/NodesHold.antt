@@ -2,11 +2,13 @@
 use Rattle.std.proofs.Common.{◌≡◌, ℕ, Bool, true, false, cond, eqb, ◌&&◌, List, [], ◌∷◌, ◌++◌, Option, Some, None, Ok, refl, sym, ap, ◌∙◌}
 use Rattle.std.specs.List.{find}
 use Rattle.std.specs.Str.{bytes_eq}
-use Rattle.std.proofs.lemmas.Bool.{and_parts, and_from, eq-eqb, eqb-true}
+use Rattle.std.proofs.lemmas.Bool.{and_parts, and_from, eq-eqb, eqb-true, and_right}
 use Rattle.lab_base.specs.declared.boot.Boot.{Boot}
 use Rattle.lab_base.specs.declared.boot.Boot.TheVariants.{Off, Booting}
 use Rattle.lab_base.specs.declared.ids.VlanId.{VlanId}
 use Rattle.lab_base.specs.declared.rates.Rates.{Rates}
+use Rattle.lab_base.proofs.Bytes.{bytes_same, bytes_self}
+use Rattle.lab_base.proofs.Numbers.{not_eqb_turned}
 use Rattle.plant.specs.declared.device.DeviceOp.{DeviceOp}
 use Rattle.plant.specs.declared.device.DeviceOp.TheVariants.{Join, Leave, Shape, Load, Boot as BootIt, Poll, Wipe}
 use Rattle.plant.specs.Worlds.{node_after, node_polled, pipes_with, wiped}
@@ -15,14 +17,14 @@ use Rattle.plant_file.specs.declared.entry.Entry.{Entry}
 use Rattle.plant_file.specs.declared.entry.Entry.TheVariants.{Row, Bare, Node, Pipe}
 use Rattle.plant_file.specs.Entries.{is_row, is_node, is_pipe, is_of, state_or_off, os_or_none, state_in, os_in, moved, without, entry_of_node, with_node, after, answer_of}
 use Rattle.plant_file.specs.Holding.{pipe_or_none, node_in, HoldWorlds}
-use Rattle.plant_file.proofs.Finds.{Apart, Within, find_apart, find_within, find_missed, find_found, same, itself, differ}
+use Rattle.plant_file.proofs.Finds.{Apart, Within, find_apart, find_within, find_missed, find_found, differ}
 use Rattle.plant_file.proofs.RowsHold.{rows_hold}
 
 -- a node by what is found of it
 abbrev node_by : Option Entry → (ℕ → Option Entry) → worlds.NodeRow
 node_by entry pipes = record { os = os_or_none entry; pipes = λ k. pipe_or_none (pipes k); boot = Some (state_or_off entry) }
 
--- it is as it was where the same is found
+-- it is as it was where the bytes_same is found
 found_same : (name : List ℕ) (new old : List Entry) → find (is_node name) new ≡ find (is_node name) old → ((k : ℕ) → find (is_pipe name k) new ≡ find (is_pipe name k) old) → node_in new name ≡ node_in old name
 found_same name new old entry pipes = λ i. node_by (entry i) (λ k. pipes k i)
 
@@ -31,15 +33,11 @@ apart_names name node differs = by (bytes_eq node name) refl
   where
     by : (b : Bool) → bytes_eq node name ≡ b → b ≡ false
     by false e = refl
-    by true e = absurd (let never : true ≡ false = sym (itself node) ∙ ap (λ (n : List ℕ). bytes_eq n node) (same node name e) ∙ differs in cc never)
+    by true e = absurd (let never : true ≡ false = sym (bytes_self node) ∙ ap (λ (n : List ℕ). bytes_eq n node) (bytes_same node name e) ∙ differs in cc never)
 
 and_false : (a b : Bool) → a ≡ false → (a && b) ≡ false
 and_false false b e = refl
 and_false true b e = absurd (cc e)
-
-false_and : (a b : Bool) → b ≡ false → (a && b) ≡ false
-false_and false b e = refl
-false_and true b e = e
 
 -- ROWS
 
@@ -79,8 +77,8 @@ node_apart name node differs (Pipe own number from to there back) is = absurd (c
 
 node_within : (name node : List ℕ) → bytes_eq name node ≡ true → Within (is_node name) (is_node node)
 node_within name node agrees (Row switch port vlan) is = absurd (cc is)
-node_within name node agrees (Bare own state) is = ap (λ (n : List ℕ). bytes_eq n node) (same own name is) ∙ agrees
-node_within name node agrees (Node own state os) is = ap (λ (n : List ℕ). bytes_eq n node) (same own name is) ∙ agrees
+node_within name node agrees (Bare own state) is = ap (λ (n : List ℕ). bytes_eq n node) (bytes_same own name is) ∙ agrees
+node_within name node agrees (Node own state os) is = ap (λ (n : List ℕ). bytes_eq n node) (bytes_same own name is) ∙ agrees
 node_within name node agrees (Pipe own number from to there back) is = absurd (cc is)
 
 pipe_not_node : (name : List ℕ) (k : ℕ) (node : List ℕ) → Apart (is_pipe name k) (is_node node)
@@ -121,7 +119,7 @@ node_set name node state os entries = by (bytes_eq name node) refl
         found_same name (rest ++ own ∷ []) entries
         (find_missed (is_node name) rest own (is_of_node name node state os ∙ apart_names name node differs) ∙ find_apart (is_node name) (is_node node) (node_apart name node differs) entries) pipes
     by true agrees =
-        let hit : is_node name own ≡ true = is_of_node name node state os ∙ ap (λ (n : List ℕ). bytes_eq n name) (sym (same name node agrees)) ∙ itself name in
+        let hit : is_node name own ≡ true = is_of_node name node state os ∙ ap (λ (n : List ℕ). bytes_eq n name) (sym (bytes_same name node agrees)) ∙ bytes_self name in
         let found : find (is_node name) (rest ++ own ∷ []) ≡ Some own = find_found (is_node name) rest own (find_within (is_node name) (is_node node) (node_within name node agrees) entries) hit in
         (λ i. node_by (found i) (λ k. pipes k i)) ∙ by_entry node state os (λ k. find (is_pipe name k) entries)
 
@@ -131,7 +129,7 @@ own_os name node state entries = by (bytes_eq name node) refl
   where
     by : (b : Bool) → bytes_eq name node ≡ b → set_if b state (os_in node entries) (node_in entries name) ≡ cond b (record (node_in entries name) { boot = Some state }) (node_in entries name)
     by false differs = refl
-    by true agrees = ap (λ (n : List ℕ). record (node_in entries name) { os = os_in n entries; boot = Some state }) (sym (same name node agrees))
+    by true agrees = ap (λ (n : List ℕ). record (node_in entries name) { os = os_in n entries; boot = Some state }) (sym (bytes_same name node agrees))
 
 -- PIPES
 
@@ -154,7 +152,7 @@ pipe_apart_number name node k number differs (Bare own state) is = refl
 pipe_apart_number name node k number differs (Node own state os) is = refl
 pipe_apart_number name node k number differs (Pipe own at from to there back) is =
     let at_k : at ≡ k = eqb-true at k (and_parts (bytes_eq own name) (eqb at k) is).1 in
-    false_and (bytes_eq own node) (eqb at number) (ap (λ (n : ℕ). eqb n number) at_k ∙ differs)
+    and_right (bytes_eq own node) (eqb at number) (ap (λ (n : ℕ). eqb n number) at_k ∙ differs)
 
 pipe_within : (name node : List ℕ) (k number : ℕ) → bytes_eq name node ≡ true → eqb k number ≡ true → Within (is_pipe name k) (is_pipe node number)
 pipe_within name node k number agrees is_k (Row switch port vlan) is = absurd (cc is)
@@ -162,14 +160,7 @@ pipe_within name node k number agrees is_k (Bare own state) is = absurd (cc is)
 pipe_within name node k number agrees is_k (Node own state os) is = absurd (cc is)
 pipe_within name node k number agrees is_k (Pipe own at from to there back) is =
     let parts = and_parts (bytes_eq own name) (eqb at k) is in
-    and_from _ _ (ap (λ (n : List ℕ). bytes_eq n node) (same own name parts.0) ∙ agrees) (ap (λ (n : ℕ). eqb n number) (eqb-true at k parts.1) ∙ is_k)
-
-turned : (k number : ℕ) → eqb k number ≡ false → eqb number k ≡ false
-turned k number differs = by (eqb number k) refl
-  where
-    by : (b : Bool) → eqb number k ≡ b → b ≡ false
-    by false e = refl
-    by true e = absurd (let never : true ≡ false = sym (eq-eqb k number (sym (eqb-true number k e))) ∙ differs in cc never)
+    and_from _ _ (ap (λ (n : List ℕ). bytes_eq n node) (bytes_same own name parts.0) ∙ agrees) (ap (λ (n : ℕ). eqb n number) (eqb-true at k parts.1) ∙ is_k)
 
 shaped : (name node : List ℕ) (number : ℕ) (from to : List ℕ) (there back : Rates) (entries : List Entry)
     → node_in (after (Shape node number from to there back) entries) name ≡ node_after (Shape node number from to there back) name (node_in entries name)
@@ -191,9 +182,9 @@ shaped name node number from to there back entries = by (bytes_eq name node) ref
     other_pipe k missed apart = find_missed (is_pipe name k) rest pipe missed ∙ find_apart (is_pipe name k) (is_pipe node number) apart entries
 
     one : (k : ℕ) → bytes_eq name node ≡ true → (b : Bool) → eqb k number ≡ b → pipe_or_none (find (is_pipe name k) (rest ++ pipe ∷ [])) ≡ cond b (Some as_row) (pipe_or_none (find (is_pipe name k) entries))
-    one k agrees false differs = ap pipe_or_none (other_pipe k (false_and (bytes_eq node name) (eqb number k) (turned k number differs)) (pipe_apart_number name node k number differs))
+    one k agrees false differs = ap pipe_or_none (other_pipe k (and_right (bytes_eq node name) (eqb number k) (not_eqb_turned k number differs)) (pipe_apart_number name node k number differs))
     one k agrees true is =
-        let hit : is_pipe name k pipe ≡ true = and_from _ _ (ap (λ (n : List ℕ). bytes_eq n name) (sym (same name node agrees)) ∙ itself name) (eq-eqb number k (sym (eqb-true k number is))) in
+        let hit : is_pipe name k pipe ≡ true = and_from _ _ (ap (λ (n : List ℕ). bytes_eq n name) (sym (bytes_same name node agrees)) ∙ bytes_self name) (eq-eqb number k (sym (eqb-true k number is))) in
         ap pipe_or_none (find_found (is_pipe name k) rest pipe (find_within (is_pipe name k) (is_pipe node number) (pipe_within name node k number agrees is) entries) hit)
 
     by : (b : Bool) → bytes_eq name node ≡ b → node_in (rest ++ pipe ∷ []) name ≡ cond b (record (node_in entries name) { pipes = pipes_with number as_row (node_in entries name).pipes }) (node_in entries name)
@@ -218,15 +209,15 @@ pipe_apart_of name node k differs (Pipe own at from to there back) is = differ n
 
 node_within_of : (name node : List ℕ) → bytes_eq name node ≡ true → Within (is_node name) (is_of node)
 node_within_of name node agrees (Row switch port vlan) is = absurd (cc is)
-node_within_of name node agrees (Bare own state) is = ap (λ (n : List ℕ). bytes_eq n node) (same own name is) ∙ agrees
-node_within_of name node agrees (Node own state os) is = ap (λ (n : List ℕ). bytes_eq n node) (same own name is) ∙ agrees
+node_within_of name node agrees (Bare own state) is = ap (λ (n : List ℕ). bytes_eq n node) (bytes_same own name is) ∙ agrees
+node_within_of name node agrees (Node own state os) is = ap (λ (n : List ℕ). bytes_eq n node) (bytes_same own name is) ∙ agrees
 node_within_of name node agrees (Pipe own number from to there back) is = absurd (cc is)
 
 pipe_within_of : (name node : List ℕ) (k : ℕ) → bytes_eq name node ≡ true → Within (is_pipe name k) (is_of node)
 pipe_within_of name node k agrees (Row switch port vlan) is = absurd (cc is)
 pipe_within_of name node k agrees (Bare own state) is = absurd (cc is)
 pipe_within_of name node k agrees (Node own state os) is = absurd (cc is)
-pipe_within_of name node k agrees (Pipe own at from to there back) is = ap (λ (n : List ℕ). bytes_eq n node) (same own name (and_parts (bytes_eq own name) (eqb at k) is).0) ∙ agrees
+pipe_within_of name node k agrees (Pipe own at from to there back) is = ap (λ (n : List ℕ). bytes_eq n node) (bytes_same own name (and_parts (bytes_eq own name) (eqb at k) is).0) ∙ agrees
 
 node_wiped : (name node : List ℕ) (entries : List Entry) → node_in (without (is_of node) entries) name ≡ cond (bytes_eq name node) wiped (node_in entries name)
 node_wiped name node entries = by (bytes_eq name node) refl

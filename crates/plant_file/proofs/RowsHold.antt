@@ -7,6 +7,7 @@ use Rattle.std.proofs.lemmas.List.Folds.{list_any-append}
 use Rattle.lab_base.specs.declared.boot.Boot.{Boot}
 use Rattle.lab_base.specs.declared.boot.Boot.TheVariants.{Off, Booting}
 use Rattle.lab_base.specs.declared.ids.VlanId.{VlanId}
+use Rattle.lab_base.proofs.Bytes.{bytes_same, bytes_self}
 use Rattle.plant.specs.declared.device.DeviceOp.{DeviceOp}
 use Rattle.plant.specs.declared.device.DeviceOp.TheVariants.{Join, Leave, Shape, Load, Boot as BootIt, Poll, Wipe}
 use Rattle.plant.specs.Worlds.{row_after}
@@ -15,16 +16,16 @@ use Rattle.plant_file.specs.declared.entry.Entry.{Entry}
 use Rattle.plant_file.specs.declared.entry.Entry.TheVariants.{Row, Bare, Node, Pipe}
 use Rattle.plant_file.specs.Entries.{is_row, is_node, is_pipe, is_of, state_in, os_in, moved, without, entry_of_node, with_node, after}
 use Rattle.plant_file.specs.Holding.{has_row}
-use Rattle.plant_file.proofs.Finds.{Test, Apart, Within, any_apart, any_within, same, itself}
+use Rattle.plant_file.proofs.Finds.{Test, Apart, Within, any_apart, any_within}
 
 pub row_itself : (switch : List ℕ) (port vlan : ℕ) (row : worlds.Row) → worlds.is_row switch port vlan row ≡ true → row ≡ record { switch = switch; port = port; vlan = vlan }
 row_itself switch port vlan row h =
     let a = and_parts (bytes_eq row.switch switch && eqb row.port port) (eqb row.vlan vlan) h in
     let b = and_parts (bytes_eq row.switch switch) (eqb row.port port) a.0 in
-    λ i. record { switch = same row.switch switch b.0 i; port = eqb-true row.port port b.1 i; vlan = eqb-true row.vlan vlan a.1 i }
+    λ i. record { switch = bytes_same row.switch switch b.0 i; port = eqb-true row.port port b.1 i; vlan = eqb-true row.vlan vlan a.1 i }
 
 is_itself : (row : worlds.Row) → worlds.is_row row.switch row.port row.vlan row ≡ true
-is_itself row = and_from _ _ (and_from _ _ (itself row.switch) (eq-eqb row.port row.port refl)) (eq-eqb row.vlan row.vlan refl)
+is_itself row = and_from _ _ (and_from _ _ (bytes_self row.switch) (eq-eqb row.port row.port refl)) (eq-eqb row.vlan row.vlan refl)
 
 abbrev is_of_row : worlds.Row → Test
 is_of_row row = is_row row.switch row.port row.vlan

@@ -3,35 +3,26 @@ use Rattle.std.proofs.Common.{◌≡◌, ℕ, ◌-◌, ◌≤◌, Bool, true, fa
 use Rattle.std.specs.Prelude.{slice_range, fold}
 use Rattle.std.proofs.lemmas.List.{map-append, drop-append-le, take-append-le, take_all, length-drop, append-nil}
 use Rattle.std.proofs.Math.Seq.{drop-append_seam}
-use Rattle.std.proofs.lemmas.Bool.Decides.{nat_tests}
+use Rattle.std.proofs.lemmas.Bool.{and_from, leb-true, le-leb}
 use Rattle.plant.specs.declared.step.Step.{Step}
 use Rattle.plant.specs.declared.step.Step.TheVariants as step
 use Rattle.plant.specs.declared.step.Side.{Side}
-use Rattle.plant.specs.Disks.{disk, disk_after, at_once}
+use Rattle.plant.specs.Disks.{disk, disk_after}
 use Rattle.plant.specs.Events.{Event}
 use Rattle.plant.specs.Events as events
 use Rattle.plant.specs.Worlds.{world_of, world_after, blank}
+use Rattle.plant.proofs.Traces.{disk_push}
 use Rattle.plant_mem.specs.Steps.{event_of, trace_of, is_range, is_within, are_within}
 
 both : (a b : Bool) → (a && b) ≡ true → (a ≡ true) × (b ≡ true)
 both true b is = (refl, is)
 both false b is = absurd (cc is)
 
-and : (a b : Bool) → a ≡ true → b ≡ true → (a && b) ≡ true
-and true b x y = y
-and false b x y = absurd (cc x)
-
-le : (a b : ℕ) → nat_le a b ≡ true → a ≤ b
-le a b is = grind (arith, nat_tests)
-
-pub test : (a b : ℕ) → a ≤ b → nat_le a b ≡ true
-test a b is = grind (arith, nat_tests)
-
 range_grows : (bytes more : List ℕ) (start end : ℕ) → is_range (length bytes) start end ≡ true → slice_range (bytes ++ more) start end ≡ slice_range bytes start end
 range_grows bytes more start end is =
     let b = both (nat_le start end) (nat_le end (length bytes)) is in
-    let ordered : start ≤ end = le start end b.0 in
-    let within : end ≤ length bytes = le end (length bytes) b.1 in
+    let ordered : start ≤ end = leb-true start end b.0 in
+    let within : end ≤ length bytes = leb-true end (length bytes) b.1 in
     ap (λ (l : List ℕ). take (end - start) l) (drop-append-le start bytes more (omega arith)) ∙ take-append-le (end - start) (drop start bytes) more (omega (arith, length-drop start bytes))
 
 event_grows : (bytes more : List ℕ) (step : Step) → is_within (length bytes) step ≡ true → event_of (bytes ++ more) step ≡ event_of bytes step
@@ -54,14 +45,14 @@ trace_grows bytes more (step ∷ steps) is =
 range_in : (m n start end : ℕ) → m ≤ n → is_range m start end ≡ true → is_range n start end ≡ true
 range_in m n start end more is =
     let b = both (nat_le start end) (nat_le end m) is in
-    let short : end ≤ m = le end m b.1 in
-    and (nat_le start end) (nat_le end n) b.0 (test end n (omega arith))
+    let short : end ≤ m = leb-true end m b.1 in
+    and_from (nat_le start end) (nat_le end n) b.0 (le-leb end n (omega arith))
 
 step_in : (m n : ℕ) (step : Step) → m ≤ n → is_within m step ≡ true → is_within n step ≡ true
 step_in m n (step.Wrote side at start end) more is = range_in m n start end more is
 step_in m n (step.Restarted a b) more is =
     let two = both (is_range m a.0 a.1) (is_range m b.0 b.1) is in
-    and (is_range n a.0 a.1) (is_range n b.0 b.1) (range_in m n a.0 a.1 more two.0) (range_in m n b.0 b.1 more two.1)
+    and_from (is_range n a.0 a.1) (is_range n b.0 b.1) (range_in m n a.0 a.1 more two.0) (range_in m n b.0 b.1 more two.1)
 step_in m n (step.Synced side) more is = refl
 step_in m n (step.Cut side size) more is = refl
 step_in m n (step.Missed side) more is = refl
@@ -69,17 +60,14 @@ step_in m n (step.Did op applied answer) more is = refl
 step_in m n (step.Unread device) more is = refl
 
 steps_in : (m n : ℕ) (steps : List Step) (step : Step) → m ≤ n → are_within m steps ≡ true → is_within n step ≡ true → are_within n (steps ++ step ∷ []) ≡ true
-steps_in m n [] step more is last = and (is_within n step) true last refl
+steps_in m n [] step more is last = and_from (is_within n step) true last refl
 steps_in m n (s ∷ steps) step more is last =
     let b = both (is_within m s) (are_within m steps) is in
-    and (is_within n s) (are_within n (steps ++ step ∷ [])) (step_in m n s more b.0) (steps_in m n steps step more b.1 last)
+    and_from (is_within n s) (are_within n (steps ++ step ∷ [])) (step_in m n s more b.0) (steps_in m n steps step more b.1 last)
 
 pub fold-push : {X Y : Type 0} (f : Y → X → Y) (b : Y) (xs : List X) (x : X) → fold f b (xs ++ x ∷ []) ≡ f (fold f b xs) x
 fold-push f b [] x = refl
 fold-push f b (y ∷ xs) x = fold-push f (f b y) xs x
-
-pub disk_push : (side : Side) (trace : List Event) (event : Event) → disk side (trace ++ event ∷ []) ≡ disk_after side (disk side trace) event
-disk_push side trace event = fold-push (disk_after side) (at_once []) trace event
 
 -- what is known of more steps over more bytes
 pub record Grown (bytes : List ℕ) (steps : List Step) (bytes' : List ℕ) (steps' : List Step) (event : Event) : Type 0 where
@@ -111,7 +99,7 @@ grown_by bytes steps steps' step event pushed within last is =
 range_last : (bytes more : List ℕ) → is_range (length (bytes ++ more)) (length bytes) (length (bytes ++ more)) ≡ true
 range_last bytes more =
     let n = length (bytes ++ more) in
-    and (nat_le (length bytes) n) (nat_le n n) (test (length bytes) n (omega (arith, length-append bytes more))) (test n n (omega arith))
+    and_from (nat_le (length bytes) n) (nat_le n n) (le-leb (length bytes) n (omega (arith, length-append bytes more))) (le-leb n n (omega arith))
 
 -- the new bytes are the last range
 pub last_range : (bytes more : List ℕ) → slice_range (bytes ++ more) (length bytes) (length (bytes ++ more)) ≡ more
@@ -137,7 +125,7 @@ grown_restart bytes x y bytes' steps steps' start middle end longer from mid to 
     let pushed' : steps' ≡ steps ++ last ∷ [] = pushed ∙ (λ i. steps ++ step.Restarted (from i, mid i) (mid i, to i) ∷ []) in
     let flat : (bytes ++ x) ++ y ≡ bytes ++ (x ++ y) = append_assoc bytes x y in
     let a : is_range n (length bytes) m ≡ true = range_in m n (length bytes) m (omega (arith, length-append (bytes ++ x) y)) (range_last bytes x) in
-    let inside : is_within n last ≡ true = and (is_range n (length bytes) m) (is_range n m n) a (range_last (bytes ++ x) y) in
+    let inside : is_within n last ≡ true = and_from (is_range n (length bytes) m) (is_range n m n) a (range_last (bytes ++ x) y) in
     let first : slice_range ((bytes ++ x) ++ y) (length bytes) m ≡ x = range_grows (bytes ++ x) y (length bytes) m (range_last bytes x) ∙ last_range bytes x in
     let is : event_of ((bytes ++ x) ++ y) last ≡ events.Restarted x y = (λ i. events.Restarted (first i) (last_range (bytes ++ x) y i)) in
     grown bytes (x ++ y) bytes' steps steps' last (events.Restarted x y) (longer ∙ flat) pushed' within

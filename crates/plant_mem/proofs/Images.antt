@@ -3,6 +3,7 @@ use Rattle.std.proofs.Common.{◌≡◌, ◌⊎◌, inl, inr, ℕ, min, max, ◌
 use Rattle.std.proofs.lemmas.List.{get_or_append_left, get_or-append-add, get_or-take, get_or-drop, length-take, length-drop, length-replicate, append-nil, take-append-drop, take_all, drop_all}
 use Rattle.std.proofs.lemmas.Bool.{cases_lt}
 use Rattle.lab_base.specs.Lists.{Has}
+use Rattle.lab_base.proofs.Numbers.{add_back}
 use Rattle.plant.specs.Disks.{Disk, IsImage}
 use Rattle.plant.specs.declared.drill.Pick.{Pick}
 use Rattle.plant.specs.declared.drill.Pick.TheVariants.{Nothing, All, Torn}
@@ -34,10 +35,7 @@ garbled_behind bytes from end k lt low above =
     ap (λ n. get_or (garbled bytes from end) n 0) place
     ∙ get_or-append-add (take from bytes ++ junk (min end (length bytes) - from)) (drop (max from end) bytes) (k - max from end) 0
     ∙ get_or-drop (max from end) bytes (k - max from end) 0
-    ∙ ap (λ n. get_or bytes n 0) (back k (max from end) (omega arith))
-  where
-    back : (k m : ℕ) → m ≤ k → m + (k - m) ≡ k
-    back k m le = omega arith
+    ∙ ap (λ n. get_or bytes n 0) (add_back k (max from end) (omega arith))
 
 garbled_elsewhere : (bytes : List ℕ) (from end k : ℕ) → k < length bytes → (k < from) ⊎ (end ≤ k) → get_or (garbled bytes from end) k 0 ≡ get_or bytes k 0
 garbled_elsewhere bytes from end k lt (inl below) = garbled_before bytes from end k lt below

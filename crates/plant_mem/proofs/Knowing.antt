@@ -1,10 +1,12 @@
 -- The table of boot states after one step more.
 use Rattle.std.proofs.Common.{◌≡◌, ℕ, Bool, true, false, List, Option, Some, None, Result, Ok, Err, refl, sym, ap, ◌∙◌, subst, if◌then◌else◌}
-use Rattle.std.specs.Prelude.{unwrap_or, ⊤}
+use Rattle.std.specs.Prelude.{⊤}
 use Rattle.std.specs.Str.{bytes_eq}
 use Rattle.std.proofs.lemmas.Slice.Eq.{bytes_eq-Decides}
+use Rattle.std.proofs.lemmas.Option.{same_Some}
 use Rattle.lab_base.specs.declared.boot.Boot.{Boot}
 use Rattle.lab_base.specs.declared.boot.Boot.TheVariants.{Off, Booting}
+use Rattle.lab_base.proofs.Bytes.{bytes_turned}
 use Rattle.plant.specs.declared.device.Answer.{Answer}
 use Rattle.plant.specs.declared.device.DeviceOp.{DeviceOp}
 use Rattle.plant.specs.declared.device.DeviceOp.TheVariants.{Join, Leave, Shape, Load, Boot as BootIt, Poll, Wipe}
@@ -20,20 +22,8 @@ use Rattle.plant.specs.Worlds.{World, NodeRow, wiped, pipes_with, node_after, no
 abbrev Has : Option Boot → Boot → Type 0
 Has boot state = (s : Boot) → boot ≡ Some s → state ≡ s
 
-same_some : (a b : Boot) → Some a ≡ Some b → a ≡ b
-same_some a b is = ap (λ (o : Option Boot). unwrap_or o a) is
-
 no_boot : (state : Boot) → Has None state
 no_boot state = λ s is. absurd (cc is)
-
-eq_turned : (a b : List ℕ) → bytes_eq a b ≡ bytes_eq b a
-eq_turned a b = by (bytes_eq a b) (bytes_eq b a) refl refl
-  where
-    by : (x y : Bool) → bytes_eq a b ≡ x → bytes_eq b a ≡ y → x ≡ y
-    by true true p q = refl
-    by false false p q = refl
-    by true false p q = sym (sym q ∙ (bytes_eq-Decides b a).1 (sym ((bytes_eq-Decides a b).0 p)))
-    by false true p q = sym p ∙ (bytes_eq-Decides a b).1 (sym ((bytes_eq-Decides b a).0 q))
 
 choose : (test : Bool) (new old : NodeRow) (to from : Boot) → Has new.boot to → Has old.boot from → Has (if test then new else old).boot (if test then to else from)
 choose true new old to from n o = n
@@ -41,7 +31,7 @@ choose false new old to from n o = o
 
 -- the named node, where a command names that one
 named : (name node : List ℕ) (new old : NodeRow) (to from : Boot) → Has new.boot to → Has old.boot from → Has (if bytes_eq name node then new else old).boot (if bytes_eq node name then to else from)
-named name node new old to from n o = rw (eq_turned node name) (choose (bytes_eq name node) new old to from n o)
+named name node new old to from n o = rw (bytes_turned node name) (choose (bytes_eq name node) new old to from n o)
 
 -- a row whose boot state stands
 stands : (test : Bool) (new old : NodeRow) (state : Boot) → new.boot ≡ old.boot → Has old.boot state → Has (if test then new else old).boot state
@@ -63,8 +53,8 @@ polled name node answer row kept motion tells old = by (bytes_eq name node) refl
     by : (test : Bool) → bytes_eq name node ≡ test → Has (if bytes_eq name node then new else row).boot (if bytes_eq node name then moved_by motion (kept name) else kept name)
     by true is =
         let same : node ≡ name = sym ((bytes_eq-Decides name node).0 is) in
-        rw (eq_turned node name, is) (subst (λ (n : List ℕ). Has (told answer) (moved_by motion (kept n))) same tells)
-    by false is = rw (eq_turned node name, is) old
+        rw (bytes_turned node name, is) (subst (λ (n : List ℕ). Has (told answer) (moved_by motion (kept n))) same tells)
+    by false is = rw (bytes_turned node name, is) old
 
 applied_one : (op : DeviceOp) (motion : Motion) (answer : Result Answer Fault) (name : List ℕ) (row : NodeRow) (kept : List ℕ → Boot) → Tells op motion answer kept → Has row.boot (kept name)
     → Has (node_polled op answer name (node_after op name row)).boot (state_after op motion name (kept name))
@@ -72,10 +62,10 @@ applied_one (Join switch port vlan) motion answer name row kept tells old = old
 applied_one (Leave switch port vlan) motion answer name row kept tells old = old
 applied_one (Shape node pipe from to there back) motion answer name row kept tells old =
     stands (bytes_eq name node) (record row { pipes = pipes_with pipe (record { from = from; to = to; there = there; back = back }) row.pipes }) row (kept name) refl old
-applied_one (Load node os) motion answer name row kept tells old = named name node (record row { os = Some os; boot = Some Off }) row Off (kept name) (same_some Off) old
-applied_one (BootIt node) motion answer name row kept tells old = named name node (record row { boot = Some Booting }) row Booting (kept name) (same_some Booting) old
+applied_one (Load node os) motion answer name row kept tells old = named name node (record row { os = Some os; boot = Some Off }) row Off (kept name) (same_Some Off) old
+applied_one (BootIt node) motion answer name row kept tells old = named name node (record row { boot = Some Booting }) row Booting (kept name) (same_Some Booting) old
 applied_one (Poll node) motion answer name row kept tells old = polled name node answer row kept motion tells old
-applied_one (Wipe node) motion answer name row kept tells old = named name node wiped row Off (kept name) (same_some Off) old
+applied_one (Wipe node) motion answer name row kept tells old = named name node wiped row Off (kept name) (same_Some Off) old
 
 -- a command that was not applied
 missed_one : (op : DeviceOp) (fault : Fault) (name : List ℕ) (row : NodeRow) (state : Boot) → Has row.boot state → Has (node_polled op (Err fault) name row).boot state
@@ -97,7 +87,7 @@ answer_tells (Leave switch port vlan) motion kept = tt
 answer_tells (Shape node pipe from to there back) motion kept = tt
 answer_tells (Load node os) motion kept = tt
 answer_tells (BootIt node) motion kept = tt
-answer_tells (Poll node) motion kept = same_some (moved_by motion (kept node))
+answer_tells (Poll node) motion kept = same_Some (moved_by motion (kept node))
 answer_tells (Wipe node) motion kept = tt
 
 fault_tells : (op : DeviceOp) (motion : Motion) (fault : Fault) (kept : List ℕ → Boot) → Tells op motion (Err fault) kept

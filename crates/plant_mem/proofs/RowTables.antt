@@ -7,6 +7,7 @@ use Rattle.std.proofs.lemmas.Bool.{and_parts, and_from, or_cases, or_left, or_ri
 use Rattle.std.proofs.lemmas.Slice.Eq.{bytes_eq-Decides}
 use Rattle.lab_base.specs.declared.ids.VlanId.{VlanId}
 use Rattle.lab_base.specs.Lists.{Has, Apart}
+use Rattle.lab_base.proofs.Tests.{same_tests}
 use Rattle.plant.specs.Events.{Event, Did}
 use Rattle.plant.specs.Worlds.{World, is_row, after_op, world_of, world_after}
 use Rattle.plant.specs.declared.device.Answer.{Answer}
@@ -254,15 +255,10 @@ standing_of w rows a = record {
       (ltb-true r.port 65536 p.0, ltb-true r.vlan.0 65536 p.1);
 }
 
-one_bool : (a b : Bool) → (a ≡ true → b ≡ true) → (b ≡ true → a ≡ true) → a ≡ b
-one_bool true b to from = sym (to refl)
-one_bool false true to from = from refl
-one_bool false false to from = refl
-
 are_rows : (w : World) (rows : List Row) → Standing w rows → AreRows w rows
 are_rows w rows a = record {
   rising = rising_to rows a.rising;
-  exact = λ r. one_bool (list_any (is_same r) rows) (w.rows (row_of r)) (λ h. (a.exact r).0 (any_same r rows h)) (λ s. same_any r rows ((a.exact r).1 s));
+  exact = λ r. same_tests (list_any (is_same r) rows) (w.rows (row_of r)) (λ h. (a.exact r).0 (any_same r rows h)) (λ s. same_any r rows ((a.exact r).1 s));
   fit = has_all is_fit rows (λ r h. let f = a.fit r h in and_from _ _ (lt-ltb r.port 65536 f.0) (lt-ltb r.vlan.0 65536 f.1));
 }
 

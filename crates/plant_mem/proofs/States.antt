@@ -6,6 +6,7 @@ use Rattle.std.proofs.lemmas.Grind.{common_steps}
 use Rattle.std.proofs.lemmas.Slice.Eq.{bytes_eq-Decides}
 use Rattle.lab_base.specs.declared.boot.Boot.{Boot}
 use Rattle.lab_base.specs.declared.boot.Boot.TheVariants.{Off}
+use Rattle.lab_base.proofs.Bytes.{bytes_same}
 use Rattle.plant_mem.specs.declared.nodes.NodeState.{NodeState}
 use Rattle.plant_mem.specs.Boots.{is_of, state_in, state_or_off, with_state}
 
@@ -26,9 +27,6 @@ pub has_added : (node : List ℕ) (xs : List NodeState) → list_any (is_of node
 has_added node [] = grind (arith, common_steps, bytes_eq-Decides)
 has_added node (x ∷ xs) = grind (arith, common_steps, has_added node xs)
 
-same : (a b : List ℕ) → bytes_eq a b ≡ true → a ≡ b
-same a b is = grind (arith, common_steps, bytes_eq-Decides a b)
-
 -- the node's own state
 own : (node : List ℕ) (state : Boot) (xs : List NodeState) → list_any (is_of node) xs ≡ true → state_in node (map (with_state node state) xs) ≡ state
 own node state [] has = absurd (cc has)
@@ -45,7 +43,7 @@ other node name state (x ∷ xs) differ = by (bytes_eq x.node node) refl (other 
   where
     by : (test : Bool) → bytes_eq x.node node ≡ test → state_in name (map (with_state node state) xs) ≡ state_in name xs → state_in name (with_state node state x ∷ map (with_state node state) xs) ≡ state_in name (x ∷ xs)
     by true is rest =
-        let not : bytes_eq x.node name ≡ false = ap (λ (n : List ℕ). bytes_eq n name) (same x.node node is) ∙ differ in
+        let not : bytes_eq x.node name ≡ false = ap (λ (n : List ℕ). bytes_eq n name) (bytes_same x.node node is) ∙ differ in
         rw (is, not) rest
     by false is rest = rw is (behind (bytes_eq x.node name) x _ _ rest)
 
@@ -54,5 +52,5 @@ pub set_all : (node name : List ℕ) (state : Boot) (xs : List NodeState) → li
 set_all node name state xs has = by (bytes_eq node name) refl
   where
     by : (test : Bool) → bytes_eq node name ≡ test → state_in name (map (with_state node state) xs) ≡ (if test then state else state_in name xs)
-    by true is = ap (λ (n : List ℕ). state_in n (map (with_state node state) xs)) (sym (same node name is)) ∙ own node state xs has
+    by true is = ap (λ (n : List ℕ). state_in n (map (with_state node state) xs)) (sym (bytes_same node name is)) ∙ own node state xs has
     by false is = other node name state xs is

@@ -2,10 +2,10 @@
 use Rattle.std.proofs.Common.{◌≡◌, ℕ, zero, suc, ◌+◌, ◌≤◌, Bool, true, false, not, cond, eqb, ◌&&◌, List, [], ◌∷◌, ◌++◌, length, take, drop, map, Some, None, Ok, Err, refl, sym, ap, ◌∙◌, arith}
 use Rattle.std.specs.Prelude.{nat_le, codes, decimal, is_ok}
 use Rattle.std.specs.List.{list_all}
-use Rattle.std.proofs.lemmas.Bool.{and_from, and_parts}
-use Rattle.std.proofs.lemmas.Bool.Decides.{nat_tests}
+use Rattle.std.proofs.lemmas.Bool.{and_from, and_parts, not_from_false, leb-true, le-leb, not-true}
 use Rattle.std.proofs.lemmas.List.{append-nil, length-map}
 use Rattle.std.proofs.Math.Seq.{take-append_seam}
+use Rattle.std.proofs.Math.Bool.{and-false}
 use Rattle.lab_base.specs.Names.{is_name, same_name}
 use Rattle.lab_base.specs.Kinds.{both_of}
 use Rattle.lab_base.specs.Parts.{name_of, number_from, all_of}
@@ -19,17 +19,7 @@ use Rattle.ptop_text.specs.Lines.{vlans_line, is_switch_word, bare_type, counted
 use Rattle.ptop_text.specs.Canonical.{feature_fields}
 use Rattle.line_text.specs.Printing.{with_number}
 use Rattle.line_text.specs.Pairs.{pair_at}
-use Rattle.line_text.proofs.PartsAgain.{negated, position_at, position_none, drop_next, has_again, no_byte_name, numbered_pair, name_again, number_back, numbered_again, all_again, all_has}
-
-pub le_from : (a b : ℕ) → nat_le a b ≡ true → a ≤ b
-le_from a b h = grind (arith, nat_tests)
-
-le_test : (a b : ℕ) → a ≤ b → nat_le a b ≡ true
-le_test a b h = grind (arith, nat_tests)
-
-not_true : (p : Bool) → not p ≡ true → p ≡ false
-not_true true e = absurd cc
-not_true false e = refl
+use Rattle.line_text.proofs.PartsAgain.{position_at, position_none, drop_next, has_again, no_byte_name, numbered_pair, name_again, number_back, numbered_again, all_again, all_has}
 
 -- THE RANGE
 
@@ -42,7 +32,7 @@ pub range_is : (first last : ℕ) → range_fault first last ≡ None → IsRang
 range_is first last none = by (nat_le 2 first && (nat_le first last && nat_le last 4094)) refl none
   where
     by : (b : Bool) → (nat_le 2 first && (nat_le first last && nat_le last 4094)) ≡ b → range_fault first last ≡ None → IsRange first last
-    by true e none = let p = and_parts _ _ e in let q = and_parts _ _ p.1 in record { low = le_from _ _ p.0; order = le_from _ _ q.0; high = le_from _ _ q.1 }
+    by true e none = let p = and_parts _ _ e in let q = and_parts _ _ p.1 in record { low = leb-true _ _ p.0; order = leb-true _ _ q.0; high = leb-true _ _ q.1 }
     by false e none = absurd (let wrong = ap (λ (b : Bool). cond b None (Some faults.Range)) (sym e) ∙ none in cc wrong)
 
 pub range_again : (first last : ℕ) → IsRange first last → vlans_line (decimal first ∷ decimal last ∷ []) ≡ Ok (first, last)
@@ -58,16 +48,8 @@ switch_again name h = ap as_switch (name_again name h)
 -- a printed pair is not `-`, and not the word `switch` with 1
 no_dash : (name : List ℕ) (n : ℕ) → is_name name ≡ true → same_name (with_number (name, n)) (codes "-") ≡ false
 no_dash [] n h = absurd cc
-no_dash (b ∷ []) n h = and_false (eqb b 45)
-  where
-    and_false : (x : Bool) → (x && false) ≡ false
-    and_false true = refl
-    and_false false = refl
-no_dash (b ∷ e ∷ name) n h = and_false (eqb b 45)
-  where
-    and_false : (x : Bool) → (x && false) ≡ false
-    and_false true = refl
-    and_false false = refl
+no_dash (b ∷ []) n h = and-false (eqb b 45)
+no_dash (b ∷ e ∷ name) n h = and-false (eqb b 45)
 
 pub record IsType (kind : List ℕ × ℕ) : Type 0 where
   pub named : is_name kind.0 ≡ true
@@ -80,7 +62,7 @@ type_is kind h =
     let p = and_parts (is_name kind.0) _ h in
     let q = and_parts (is_between 1 1000 kind.1) _ p.1 in
     let r = and_parts (nat_le 1 kind.1) _ q.0 in
-    record { named = p.0; low = le_from _ _ r.0; high = le_from _ _ r.1; other = not_true _ q.1 }
+    record { named = p.0; low = leb-true _ _ r.0; high = leb-true _ _ r.1; other = not-true _ q.1 }
 
 type_again : (kind : List ℕ × ℕ) → is_type kind ≡ true → type_of (with_number kind) ≡ Ok kind
 type_again kind h =
@@ -93,7 +75,7 @@ type_again kind h =
 feature_again : (feature : List ℕ × ℕ) → is_feature feature ≡ true → feature_of (with_number feature) ≡ Ok feature
 feature_again feature h =
     let p = and_parts (is_name feature.0) _ h in
-    numbered_again 0 1000000 feature.0 feature.1 p.0 (omega arith) (le_from _ _ p.1) (omega arith)
+    numbered_again 0 1000000 feature.0 feature.1 p.0 (omega arith) (leb-true _ _ p.1) (omega arith)
 
 no_switch : (kind : List ℕ × ℕ) → is_type kind ≡ true → is_switch_field (with_number kind) ≡ false
 no_switch kind h =
@@ -101,7 +83,7 @@ no_switch kind h =
     ap (switch_parts (with_number kind)) (numbered_pair kind.0 kind.1 is.named (omega (arith, is.high))) ∙ ap (λ (b : Bool). b && is_ok (number_from 1 1 (decimal kind.1))) is.other
 
 is_listed : (w : List ℕ × ℕ → List ℕ) (xs : List (List ℕ × ℕ)) → 1 ≤ length xs → length xs ≤ 8 → is_list (map w xs) ≡ true
-is_listed w xs some few = and_from _ _ (le_test 1 (length (map w xs)) (omega (arith, length-map xs w))) (le_test (length (map w xs)) 8 (omega (arith, length-map xs w)))
+is_listed w xs some few = and_from _ _ (le-leb 1 (length (map w xs)) (omega (arith, length-map xs w))) (le-leb (length (map w xs)) 8 (omega (arith, length-map xs w)))
 
 -- what a node's line has behind the name
 abbrev behind : List (List ℕ × ℕ) → List (List ℕ × ℕ) → List (List ℕ)
@@ -121,7 +103,7 @@ no_dashes : (types : List (List ℕ × ℕ)) → list_all is_type types ≡ true
 no_dashes [] h = refl
 no_dashes (t ∷ types) h =
     let p = and_parts (is_type t) (list_all is_type types) h in
-    and_from _ _ (negated _ (no_dash t.0 t.1 (type_is t p.0).named)) (no_dashes types p.1)
+    and_from _ _ (not_from_false _ (no_dash t.0 t.1 (type_is t p.0).named)) (no_dashes types p.1)
 
 node_read : (name : List ℕ) (types features : List (List ℕ × ℕ)) → is_name name ≡ true → list_all is_type types ≡ true → list_all is_feature features ≡ true → 1 ≤ length types → length types ≤ 8 → length features ≤ 8
     → node_parts name (behind types features) (dash_in (behind types features)) ≡ Ok (devices.Node (record { name = name; types = types; features = features }))

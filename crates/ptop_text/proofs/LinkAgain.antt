@@ -2,44 +2,38 @@
 use Rattle.std.proofs.Common.{◌≡◌, ◌≢◌, ℕ, zero, suc, ◌+◌, ◌<◌, ◌≤◌, Bool, true, false, not, cond, ltb, List, [], ◌∷◌, ◌++◌, length, get_or, map, Some, None, Ok, refl, sym, ap, subst, ◌∙◌, arith, inl, inr}
 use Rattle.std.specs.Prelude.{decimal, is_some, nat_le}
 use Rattle.std.specs.List.{list_all, position, prefix_len}
-use Rattle.std.proofs.lemmas.Bool.{and_from, and_parts}
+use Rattle.std.proofs.lemmas.Bool.{and_from, and_parts, not_from_false, leb-true}
 use Rattle.std.proofs.lemmas.List.{length-map}
 use Rattle.lab_base.specs.Names.{is_name, same_name}
 use Rattle.lab_base.specs.Kinds.{both_of}
 use Rattle.lab_base.specs.Lists.{Has, AllDiffer}
-use Rattle.lab_base.proofs.Members.{Has-map, Apart-left, Apart-right, Apart-across}
+use Rattle.lab_base.proofs.Members.{Has-map, Apart-left, Apart-right, Apart-across, Has-get_or}
+use Rattle.lab_base.proofs.Bytes.{bytes_self, bytes_same}
 use Rattle.phys_lab.specs.declared.parts.Node.{Node}
 use Rattle.phys_lab.specs.Labs.{Lab}
 use Rattle.phys_lab.specs.Faults.{is_port_number, is_speed}
 use Rattle.phys_lab.specs.Kept.{IsLab}
-use Rattle.phys_lab.proofs.KeptLaws.{same_name-self, same_name-true}
 use Rattle.ptop_text.specs.declared.link.FirstEnd.TheVariants as ends
 use Rattle.ptop_text.specs.Lines.{end_of, as_port, as_iface, is_switch_of, first_parts, first_end, link_line}
 use Rattle.ptop_text.specs.Adding.{switch_at, node_at}
 use Rattle.line_text.specs.Printing.{with_number}
-use Rattle.line_text.proofs.PartsAgain.{less, negated, position_none, named_pair, numbered_pair, name_again, number_back, numbered_again}
-use Rattle.ptop_text.proofs.DeviceAgain.{le_from}
+use Rattle.line_text.proofs.PartsAgain.{less, position_none, named_pair, numbered_pair, name_again, number_back, numbered_again}
 
 -- THE PLACE OF A NAME
-
-pub there_at : {X : Type 0} (xs : List X) (i : ℕ) (d : X) → i < length xs → Has xs (get_or xs i d)
-there_at [] i d lt = absurd (omega arith)
-there_at (x ∷ xs) zero d lt = inl refl
-there_at (x ∷ xs) (suc i) d lt = inr (there_at xs i d (omega arith))
 
 differs : (a b : List ℕ) → (b ≡ a → ⊥) → same_name a b ≡ false
 differs a b ne = by (same_name a b) refl
   where
     by : (t : Bool) → same_name a b ≡ t → t ≡ false
     by false e = refl
-    by true e = absurd (ne (sym (same_name-true a b e)))
+    by true e = absurd (ne (sym (bytes_same a b e)))
 
 own_prefix : (names : List (List ℕ)) (i : ℕ) → AllDiffer names → i < length names → prefix_len (λ y. not (same_name (get_or names i []) y)) names ≡ i
 own_prefix [] i differ lt = absurd (omega arith)
-own_prefix (x ∷ names) zero differ lt = ap (λ (b : Bool). cond (not b) (1 + prefix_len (λ y. not (same_name x y)) names) 0) (same_name-self x)
+own_prefix (x ∷ names) zero differ lt = ap (λ (b : Bool). cond (not b) (1 + prefix_len (λ y. not (same_name x y)) names) 0) (bytes_self x)
 own_prefix (x ∷ names) (suc i) differ lt =
     let below : i < length names = omega arith in
-    let other : same_name (get_or names i []) x ≡ false = differs (get_or names i []) x (differ.0 (get_or names i []) (there_at names i [] below)) in
+    let other : same_name (get_or names i []) x ≡ false = differs (get_or names i []) x (differ.0 (get_or names i []) (Has-get_or names i [] below)) in
     let one : 1 + i ≡ suc i = omega arith in
     ap (λ (b : Bool). cond (not b) (1 + prefix_len (λ y. not (same_name (get_or names i []) y)) names) 0) other
     ∙ ap (λ (n : ℕ). 1 + n) (own_prefix names i differ.1 below) ∙ one
@@ -54,7 +48,7 @@ no_place names name none = position_none (same_name name) names (all names none)
   where
     all : (ns : List (List ℕ)) → (Has ns name → ⊥) → list_all (λ y. not (same_name name y)) ns ≡ true
     all [] none = refl
-    all (n ∷ ns) none = and_from _ _ (negated _ (differs name n (λ e. none (inl e)))) (all ns (λ h. none (inr h)))
+    all (n ∷ ns) none = and_from _ _ (not_from_false _ (differs name n (λ e. none (inl e)))) (all ns (λ h. none (inr h)))
 
 -- THE NAMES OF A LAB
 
@@ -72,7 +66,7 @@ pub record IsNodeName (lab : Lab) (i : ℕ) (name : List ℕ) : Type 0 where
 
 pub switch_named : (lab : Lab) (i : ℕ) → IsLab lab → i < length lab.switches → IsSwitchName lab i (get_or lab.switches i [])
 switch_named lab i is lt = record {
-  named = is.switches (get_or lab.switches i []) (there_at lab.switches i [] lt);
+  named = is.switches (get_or lab.switches i []) (Has-get_or lab.switches i [] lt);
   at = own_place lab.switches i (Apart-left (λ a b. a ≢ b) lab.switches (node_names lab) is.devices_differ) lt;
 }
 
@@ -80,7 +74,7 @@ pub node_named : (lab : Lab) (i : ℕ) → IsLab lab → i < length lab.nodes �
 node_named lab i is lt =
     let name = get_or (node_names lab) i [] in
     let within : i < length (node_names lab) = omega (arith, length-map lab.nodes (λ (node : Node). node.name)) in
-    let there : Has (node_names lab) name = there_at (node_names lab) i [] within in
+    let there : Has (node_names lab) name = Has-get_or (node_names lab) i [] within in
     let node = Has-map (λ (node : Node). node.name) lab.nodes name there in
     record {
       named = subst (λ n. is_name n ≡ true) node.2 (and_parts _ _ (is.nodes node.0 node.1).ranges).0;
@@ -99,10 +93,10 @@ pub record IsSpeed (kbps : ℕ) : Type 0 where
   pub high : kbps ≤ 1000000000
 
 pub port_is : (port : ℕ) → is_port_number port ≡ true → IsPort port
-port_is port h = let p = and_parts (nat_le 1 port) (nat_le port 4096) h in record { low = le_from 1 port p.0; high = le_from port 4096 p.1 }
+port_is port h = let p = and_parts (nat_le 1 port) (nat_le port 4096) h in record { low = leb-true 1 port p.0; high = leb-true port 4096 p.1 }
 
 pub speed_is : (kbps : ℕ) → is_speed kbps ≡ true → IsSpeed kbps
-speed_is kbps h = let p = and_parts (nat_le 1 kbps) (nat_le kbps 1000000000) h in record { low = le_from 1 kbps p.0; high = le_from kbps 1000000000 p.1 }
+speed_is kbps h = let p = and_parts (nat_le 1 kbps) (nat_le kbps 1000000000) h in record { low = leb-true 1 kbps p.0; high = leb-true kbps 1000000000 p.1 }
 
 -- THE FIELDS OF A LINK
 

@@ -1,8 +1,8 @@
 -- A part of a lab has no fault behind the parts before it.
-use Rattle.std.proofs.Common.{◌≡◌, ◌≢◌, ℕ, ◌+◌, ◌<◌, ◌≤◌, Bool, true, false, not, cond, eqb, ◌||◌, List, [], ◌∷◌, ◌++◌, length, map, get_or, count_by, Option, Some, None, refl, sym, ap, subst, ◌∙◌, arith, inl, inr, length-append}
-use Rattle.std.specs.Prelude.{nat_le, nat_lt}
+use Rattle.std.proofs.Common.{◌≡◌, ◌≢◌, ℕ, ◌+◌, ◌<◌, ◌≤◌, Bool, true, false, not, cond, eqb, List, [], ◌∷◌, ◌++◌, length, map, get_or, count_by, Option, Some, None, refl, sym, ap, subst, ◌∙◌, arith, inl, inr, length-append}
+use Rattle.std.specs.Prelude.{nat_lt}
 use Rattle.std.specs.List.{flat_map}
-use Rattle.std.proofs.lemmas.Bool.{and_from, eq-eqb}
+use Rattle.std.proofs.lemmas.Bool.{and_from, eq-eqb, or_from, lt-leb}
 use Rattle.std.proofs.lemmas.Bool.Decides.{nat_tests}
 use Rattle.std.proofs.lemmas.List.{map-append}
 use Rattle.std.proofs.lemmas.List.Sums.{sum_by-append, sum_by-cons}
@@ -11,6 +11,7 @@ use Rattle.lab_base.specs.Lists.{Has, AllDiffer}
 use Rattle.lab_base.specs.declared.ids.SwitchId.{SwitchId}
 use Rattle.lab_base.proofs.Members.{Has-right, Apart-left, Apart-right, Apart-across}
 use Rattle.lab_base.specs.Names.{same_name}
+use Rattle.lab_base.proofs.Bytes.{bytes_same}
 use Rattle.phys_lab.specs.declared.fault.LabFault.{LabFault}
 use Rattle.phys_lab.specs.declared.fault.LabFault.TheVariants as faults
 use Rattle.phys_lab.specs.declared.parts.Node.{Node}
@@ -23,20 +24,14 @@ use Rattle.phys_lab.specs.Sides.{IsForest}
 use Rattle.phys_lab.specs.Forests.{IsWithin}
 use Rattle.phys_lab.specs.Kept.{IsLab, IsWhole}
 use Rattle.phys_lab.proofs.ForestKept.{next_apart}
-use Rattle.phys_lab.proofs.KeptLaws.{none_any, same_name-true, same_iface-true, same_port-true}
+use Rattle.phys_lab.proofs.KeptLaws.{none_any, same_iface-true, same_port-true}
 
 -- no fault here, and none later
 go : (b : Bool) (f : LabFault) (rest : Option LabFault) → b ≡ false → rest ≡ None → cond b (Some f) rest ≡ None
 go b f rest e r = ap (λ (x : Bool). cond x (Some f) rest) e ∙ r
 
-neither : (a b : Bool) → a ≡ false → b ≡ false → (a || b) ≡ false
-neither a b x y = λ i. x i || y i
-
 holds : (a : Bool) → a ≡ true → not a ≡ false
 holds a e = ap not e
-
-above : (m n : ℕ) → n < m → nat_le m n ≡ false
-above m n h = grind (arith, nat_tests)
 
 up_to : (m n : ℕ) → n ≤ m → nat_lt m n ≡ false
 up_to m n h = grind (arith, nat_tests)
@@ -45,7 +40,7 @@ below : (m n : ℕ) → n < m → nat_lt n m ≡ true
 below m n h = grind (arith, nat_tests)
 
 no_name : (names : List (List ℕ)) (name : List ℕ) → (Has names name → ⊥) → has_name names name ≡ false
-no_name names name none = none_any same_name same_name-true names name none
+no_name names name none = none_any same_name bytes_same names name none
 
 no_port : (ports : List (SwitchId × ℕ)) (port : SwitchId × ℕ) → (Has ports port → ⊥) → has_port ports port ≡ false
 no_port ports port none = none_any same_port same_port-true ports port none
@@ -77,8 +72,8 @@ pub no_switch_fault : (lab : Lab) (front : List (List ℕ)) (name : List ℕ) (r
 no_switch_fault lab front name rest is e =
     let differ : AllDiffer (front ++ name ∷ rest) = subst (λ l. AllDiffer l) (sym e) (Apart-left (λ a b. a ≢ b) lab.switches (map (λ n. n.name) lab.nodes) is.devices_differ) in
     let few : length front < 64 = omega (arith, is.few_switches, ap length e, length-append front (name ∷ rest)) in
-    go _ faults.Twice _ (neither _ _ (no_name front name (not_before front name rest differ)) refl)
-    (go _ faults.Limit _ (above 64 (length front) few) refl)
+    go _ faults.Twice _ (or_from _ _ (no_name front name (not_before front name rest differ)) refl)
+    (go _ faults.Limit _ (lt-leb 64 (length front) few) refl)
 
 pub no_node_fault : (lab : Lab) (front : List Node) (node : Node) (rest : List Node) → IsLab lab → front ++ node ∷ rest ≡ lab.nodes
     → node_fault (lab_after lab lab.switches front [] []) node ≡ None
@@ -94,8 +89,8 @@ no_node_fault lab front node rest is e =
     let before : has_name (map (λ (n : Node). n.name) front) node.name ≡ false =
     no_name _ node.name (not_before (map (λ n. n.name) front) node.name (map (λ n. n.name) rest) (Apart-right (λ a b. a ≢ b) lab.switches _ differ)) in
     go _ faults.Range _ (holds _ whole.ranges)
-    (go _ faults.Twice _ (neither _ _ (neither _ _ switch before) whole.differ)
-    (go _ faults.Limit _ (neither _ _ (above 1024 (length front) few) (neither _ _ (up_to 8 _ whole.few_types) (up_to 8 _ whole.few_features))) refl))
+    (go _ faults.Twice _ (or_from _ _ (or_from _ _ switch before) whole.differ)
+    (go _ faults.Limit _ (or_from _ _ (lt-leb 1024 (length front) few) (or_from _ _ (up_to 8 _ whole.few_types) (up_to 8 _ whole.few_features))) refl))
 
 abbrev counts_one : ℕ → Iface → ℕ
 counts_one n iface = cond (eqb iface.node.0 n) 1 0
@@ -120,10 +115,10 @@ no_iface_fault lab front iface rest is e =
     let one : counts_one iface.node.0 iface ≡ 1 = ap (λ (b : Bool). cond b 1 0) (eq-eqb iface.node.0 iface.node.0 refl) in
     let few : count_by (λ i. eqb i.node.0 iface.node.0) front < 16 = omega (arith, counted, own, one, is.few_ifaces iface.node.0) in
     go _ faults.Range _ (holds _ (is.ifaces iface there))
-    (go _ faults.Twice _ (neither _ _ (neither _ _ (no_name _ iface.link (not_before _ iface.link _ links)) refl) (none_any same_iface same_iface-true _ (name_on_node iface) (not_before _ (name_on_node iface) _ names)))
+    (go _ faults.Twice _ (or_from _ _ (or_from _ _ (no_name _ iface.link (not_before _ iface.link _ links)) refl) (none_any same_iface same_iface-true _ (name_on_node iface) (not_before _ (name_on_node iface) _ names)))
     (go _ faults.Unknown _ (holds _ (and_from _ _ (below _ _ node) (below _ _ switch)))
-    (go _ faults.PortTaken _ (neither _ _ (no_port _ (port_of iface) (not_before _ (port_of iface) _ ports)) refl)
-    (go _ faults.Limit _ (above 16 _ few) refl))))
+    (go _ faults.PortTaken _ (or_from _ _ (no_port _ (port_of iface) (not_before _ (port_of iface) _ ports)) refl)
+    (go _ faults.Limit _ (lt-leb 16 _ few) refl))))
 
 pub no_trunk_fault : (lab : Lab) (front : List Trunk) (trunk : Trunk) (rest : List Trunk) → IsLab lab → front ++ trunk ∷ rest ≡ lab.trunks
     → trunk_fault (lab_after lab lab.switches lab.nodes lab.ifaces front) trunk ≡ None
@@ -143,7 +138,7 @@ no_trunk_fault lab front trunk rest is e =
     let earlier : has_name (map (λ (t : Trunk). t.link) front) trunk.link ≡ false = no_name _ trunk.link (not_before _ trunk.link _ (Apart-right (λ a b. a ≢ b) (map (λ i. i.link) lab.ifaces) _ links)) in
     let second_free : Has (flat_map ports_of front) trunk.second → ⊥ = λ h. Apart-across (λ a b. a ≢ b) (flat_map ports_of front) (trunk.first ∷ trunk.second ∷ flat_map ports_of rest) trunk.second trunk.second own h (inr (inl refl)) refl in
     go _ faults.Range _ (holds _ (is.trunks trunk there))
-    (go _ faults.Twice _ (neither _ _ link earlier)
+    (go _ faults.Twice _ (or_from _ _ link earlier)
     (go _ faults.Unknown _ (holds _ (and_from _ _ (below _ _ within.0) (below _ _ within.1)))
-    (go _ faults.PortTaken _ (neither _ _ (neither _ _ (no_port _ trunk.first (not_across _ _ trunk.first ports first_there)) (no_port _ trunk.first (not_before _ trunk.first _ own))) (neither _ _ (no_port _ trunk.second (not_across _ _ trunk.second ports second_there)) (no_port _ trunk.second second_free)))
+    (go _ faults.PortTaken _ (or_from _ _ (or_from _ _ (no_port _ trunk.first (not_across _ _ trunk.first ports first_there)) (no_port _ trunk.first (not_before _ trunk.first _ own))) (or_from _ _ (no_port _ trunk.second (not_across _ _ trunk.second ports second_there)) (no_port _ trunk.second second_free)))
     (go _ faults.Cycle _ (next_apart front rest trunk (subst IsForest (sym e) is.forest)) refl))))

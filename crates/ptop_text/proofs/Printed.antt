@@ -2,7 +2,7 @@
 use Rattle.std.proofs.Common.{◌≡◌, ℕ, suc, ◌<◌, true, not, eqb, List, [], ◌∷◌, length, map, All, refl, subst, arith, inl, inr}
 use Rattle.std.specs.Prelude.{codes, decimal, nat_le}
 use Rattle.std.specs.List.{list_all}
-use Rattle.std.proofs.lemmas.Bool.{and_parts}
+use Rattle.std.proofs.lemmas.Bool.{and_parts, leb-true}
 use Rattle.lab_base.specs.Names.{is_name}
 use Rattle.lab_base.specs.Lists.{Has}
 use Rattle.lab_base.proofs.Members.{Has-append}
@@ -18,7 +18,7 @@ use Rattle.line_text.specs.Printing.{with_number}
 use Rattle.line_text.proofs.PartsAgain.{IsPlain, plain_name, plain_number, plain_pair, all_has}
 use Rattle.line_text.proofs.LinesAgain.{IsPrinted}
 use Rattle.line_text.proofs.Plain.{ArePlain, none, more, pairs_plain}
-use Rattle.ptop_text.proofs.DeviceAgain.{range_is, type_is, le_from}
+use Rattle.ptop_text.proofs.DeviceAgain.{range_is, type_is}
 use Rattle.ptop_text.proofs.LinkAgain.{switch_named, node_named, port_is, speed_is}
 
 vlans : IsPlain (codes "vlans")
@@ -61,7 +61,7 @@ node_printed n is =
       plain = (more _ _ node (more _ _ (plain_name n.name p.0) (record {
         each = λ f h. elim (Has-append (map with_number n.types) (feature_fields n.features) f h) [
           | inl a ↦ (pairs_plain n.types (λ t g. let kind = type_is t (all_has is_type n.types r.0 t g) in plain_pair t.0 (decimal t.1) (plain_name t.0 kind.named) (plain_number t.1 (omega (arith, kind.high))))).each f a
-          | inr b ↦ (features_plain n.features (λ t g. let w = and_parts (is_name t.0) (nat_le t.1 1000000) (all_has is_feature n.features r.1 t g) in plain_pair t.0 (decimal t.1) (plain_name t.0 w.0) (plain_number t.1 (omega (arith, le_from t.1 1000000 w.1))))).each f b
+          | inr b ↦ (features_plain n.features (λ t g. let w = and_parts (is_name t.0) (nat_le t.1 1000000) (all_has is_feature n.features r.1 t g) in plain_pair t.0 (decimal t.1) (plain_name t.0 w.0) (plain_number t.1 (omega (arith, leb-true t.1 1000000 w.1))))).each f b
         ];
       }))).each;
     }

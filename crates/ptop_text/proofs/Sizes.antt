@@ -1,14 +1,13 @@
 -- How long the canonical text of a lab is.
-use Rattle.std.proofs.Common.{◌≡◌, ℕ, zero, suc, ◌+◌, ◌*◌, ◌<◌, ◌≤◌, true, not, cond, eqb, ltb, List, [], ◌∷◌, ◌++◌, length, map, count_by, All, refl, ap, ◌∙◌, arith, length-append}
+use Rattle.std.proofs.Common.{◌≡◌, ℕ, ◌+◌, ◌*◌, ◌<◌, ◌≤◌, true, not, eqb, List, [], ◌∷◌, ◌++◌, length, map, ap, ◌∙◌, arith, length-append}
 use Rattle.std.specs.Prelude.{codes, decimal, nat_le}
 use Rattle.std.specs.List.{list_all}
-use Rattle.std.proofs.lemmas.Bool.{and_parts}
-use Rattle.std.proofs.lemmas.Bool.Decides.{nat_tests}
-use Rattle.std.proofs.lemmas.List.Sums.{sum_by-cons}
+use Rattle.std.proofs.lemmas.Bool.{and_parts, leb-true}
 use Rattle.std.proofs.lemmas.Fmt.{length-decimal-le}
 use Rattle.std.proofs.lemmas.Grind.{flat_map-append}
 use Rattle.lab_base.specs.Names.{is_name}
 use Rattle.lab_base.specs.Lists.{Has}
+use Rattle.lab_base.proofs.Names.{name_short}
 use Rattle.phys_lab.specs.declared.parts.Node.{Node}
 use Rattle.phys_lab.specs.declared.parts.Iface.{Iface}
 use Rattle.phys_lab.specs.declared.parts.Trunk.{Trunk}
@@ -17,11 +16,12 @@ use Rattle.phys_lab.specs.Forests.{IsWithin}
 use Rattle.phys_lab.specs.Faults.{is_type, is_feature, is_port_number, is_speed}
 use Rattle.phys_lab.specs.Kept.{IsLab, IsWhole}
 use Rattle.phys_lab.proofs.TrunkCount.{few_trunks}
+use Rattle.phys_lab.proofs.IfaceCount.{few_ifaces}
 use Rattle.ptop_text.specs.Canonical.{feature_fields, range_line, switch_line, node_line, iface_line, trunk_line, node_name, switch_name, canonical}
 use Rattle.line_text.specs.Printing.{line_text, text_of, with_number}
 use Rattle.line_text.proofs.PartsAgain.{all_has}
-use Rattle.line_text.proofs.Widths.{width, width-append, line_length, lines_length, pairs_width, name_length, pair_length}
-use Rattle.ptop_text.proofs.DeviceAgain.{range_is, type_is, le_from}
+use Rattle.line_text.proofs.Widths.{width, width-append, line_length, lines_length, pairs_width, pair_length}
+use Rattle.ptop_text.proofs.DeviceAgain.{range_is, type_is}
 use Rattle.ptop_text.proofs.LinkAgain.{switch_named, node_named, port_is, speed_is}
 use Rattle.ptop_text.proofs.Printed.{at}
 
@@ -35,7 +35,7 @@ range_length lab is =
 
 switch_length : (name : List ℕ) → is_name name ≡ true → length (line_text (switch_line name)) ≤ 45
 unfolding width
-switch_length name named = omega (arith, line_length (codes "node") (name ∷ codes "switch" ∷ []), name_length name named)
+switch_length name named = omega (arith, line_length (codes "node") (name ∷ codes "switch" ∷ []), name_short name named)
 
 features_width : (features : List (List ℕ × ℕ)) → ((pair : List ℕ × ℕ) → Has features pair → 1 + length (with_number pair) ≤ 41) → width (feature_fields features) ≤ 2 + 41 * length features
 unfolding width
@@ -54,10 +54,10 @@ node_length node is =
     omega (arith, long)) in
     let features : width (feature_fields node.features) ≤ 2 + 41 * length node.features = features_width node.features (λ t h.
     let w = and_parts (is_name t.0) (nat_le t.1 1000000) (all_has is_feature node.features r.1 t h) in
-    let low : t.1 ≤ 1000000 = le_from t.1 1000000 w.1 in
+    let low : t.1 ≤ 1000000 = leb-true t.1 1000000 w.1 in
     let long = pair_length t.0 t.1 7 w.0 (omega arith) (omega (arith, low)) (omega (arith, low)) in
     omega (arith, long)) in
-    omega (arith, line_length (codes "node") (node.name ∷ map with_number node.types ++ feature_fields node.features), width-append (map with_number node.types) (feature_fields node.features), types, features, name_length node.name p.0, is.few_types, is.few_features)
+    omega (arith, line_length (codes "node") (node.name ∷ map with_number node.types ++ feature_fields node.features), width-append (map with_number node.types) (feature_fields node.features), types, features, name_short node.name p.0, is.few_types, is.few_features)
 
 iface_length : (lab : Lab) → IsLab lab → (iface : Iface) → Has lab.ifaces iface → length (line_text (iface_line lab iface)) ≤ 153
 unfolding width
@@ -74,7 +74,7 @@ iface_length lab is iface there =
     let first : length (node ++ 58 ∷ iface.name) ≡ length node + length (58 ∷ iface.name) = length-append node (58 ∷ iface.name) in
     let second : length (with_number (switch, iface.port)) ≤ 37 = pair_length switch iface.port 4 switch_is.named (omega arith) (omega (arith, port.high)) (omega (arith, port.high)) in
     let kbps : length (decimal iface.kbps) ≤ 10 = length-decimal-le 10 iface.kbps (omega arith) (omega (arith, speed.high)) (omega (arith, speed.high)) in
-    omega (arith, line_length (codes "link") (iface.link ∷ (node ++ 58 ∷ iface.name) ∷ with_number (switch, iface.port) ∷ decimal iface.kbps ∷ []), first, second, kbps, name_length iface.link names.0, name_length iface.name names.1, name_length node node_is.named)
+    omega (arith, line_length (codes "link") (iface.link ∷ (node ++ 58 ∷ iface.name) ∷ with_number (switch, iface.port) ∷ decimal iface.kbps ∷ []), first, second, kbps, name_short iface.link names.0, name_short iface.name names.1, name_short node node_is.named)
 
 trunk_length : (lab : Lab) → IsLab lab → (trunk : Trunk) → Has lab.trunks trunk → length (line_text (trunk_line lab trunk)) ≤ 125
 unfolding width
@@ -91,55 +91,7 @@ trunk_length lab is trunk there =
     let first : length (with_number (switch_name lab trunk.first.0, trunk.first.1)) ≤ 37 = pair_length (switch_name lab trunk.first.0) trunk.first.1 4 from.named (omega arith) (omega (arith, one.high)) (omega (arith, one.high)) in
     let second : length (with_number (switch_name lab trunk.second.0, trunk.second.1)) ≤ 37 = pair_length (switch_name lab trunk.second.0) trunk.second.1 4 to.named (omega arith) (omega (arith, two.high)) (omega (arith, two.high)) in
     let kbps : length (decimal trunk.kbps) ≤ 10 = length-decimal-le 10 trunk.kbps (omega arith) (omega (arith, speed.high)) (omega (arith, speed.high)) in
-    omega (arith, line_length (codes "link") (trunk.link ∷ with_number (switch_name lab trunk.first.0, trunk.first.1) ∷ with_number (switch_name lab trunk.second.0, trunk.second.1) ∷ decimal trunk.kbps ∷ []), first, second, kbps, name_length trunk.link p.0)
-
--- THE NUMBER OF INTERFACES
-
-abbrev below : ℕ → Iface → ℕ
-below n iface = cond (ltb iface.node.0 n) 1 0
-
-abbrev at_node : ℕ → Iface → ℕ
-at_node n iface = cond (eqb iface.node.0 n) 1 0
-
-one_more : (x n : ℕ) → cond (ltb x (suc n)) 1 0 ≤ cond (ltb x n) 1 0 + cond (eqb x n) 1 0
-one_more x n = grind (arith, nat_tests)
-
-step : (n : ℕ) (ifaces : List Iface) → count_by (λ i. ltb i.node.0 (suc n)) ifaces ≤ count_by (λ i. ltb i.node.0 n) ifaces + count_by (λ i. eqb i.node.0 n) ifaces
-step n [] = omega arith
-step n (x ∷ xs) =
-    let a : count_by (λ i. ltb i.node.0 (suc n)) (x ∷ xs) ≡ below (suc n) x + count_by (λ i. ltb i.node.0 (suc n)) xs = sum_by-cons (below (suc n)) x xs in
-    let b : count_by (λ i. ltb i.node.0 n) (x ∷ xs) ≡ below n x + count_by (λ i. ltb i.node.0 n) xs = sum_by-cons (below n) x xs in
-    let d : count_by (λ i. eqb i.node.0 n) (x ∷ xs) ≡ at_node n x + count_by (λ i. eqb i.node.0 n) xs = sum_by-cons (at_node n) x xs in
-    omega (arith, a, b, d, one_more x.node.0 n, step n xs)
-
-none_below : (ifaces : List Iface) → count_by (λ i. ltb i.node.0 0) ifaces ≡ 0
-none_below [] = refl
-none_below (x ∷ xs) =
-    let none : below 0 x ≡ 0 = zero_test x.node.0 in
-    let a : count_by (λ i. ltb i.node.0 0) (x ∷ xs) ≡ below 0 x + count_by (λ i. ltb i.node.0 0) xs = sum_by-cons (below 0) x xs in
-    omega (arith, a, none, none_below xs)
-  where
-    zero_test : (n : ℕ) → ◌≡◌ {A = ℕ} (cond (ltb n 0) 1 0) 0
-    zero_test n = grind (arith, nat_tests)
-
-few_below : (ifaces : List Iface) → ((n : ℕ) → count_by (λ i. eqb i.node.0 n) ifaces ≤ 16) → (n : ℕ) → count_by (λ i. ltb i.node.0 n) ifaces ≤ 16 * n
-few_below ifaces few zero = omega (arith, none_below ifaces)
-few_below ifaces few (suc n) = omega (arith, step n ifaces, few n, few_below ifaces few n)
-
-all_below : (n : ℕ) (ifaces : List Iface) → All (λ i. i.node.0 < n) ifaces → count_by (λ i. ltb i.node.0 n) ifaces ≡ length ifaces
-all_below n [] all = refl
-all_below n (x ∷ xs) all =
-    let lt : x.node.0 < n = all 0 x (omega arith) in
-    let one : below n x ≡ 1 = under x.node.0 lt in
-    let a : count_by (λ i. ltb i.node.0 n) (x ∷ xs) ≡ below n x + count_by (λ i. ltb i.node.0 n) xs = sum_by-cons (below n) x xs in
-    omega (arith, a, one, all_below n xs (λ k d lt. all (suc k) d (omega arith)))
-  where
-    under : (m : ℕ) → m < n → ◌≡◌ {A = ℕ} (cond (ltb m n) 1 0) 1
-    under m lt = grind (arith, nat_tests)
-
-pub few_ifaces : (lab : Lab) → IsLab lab → length lab.ifaces ≤ 16384
-few_ifaces lab is =
-    omega (arith, all_below (length lab.nodes) lab.ifaces is.linked.nodes, few_below lab.ifaces is.few_ifaces (length lab.nodes), is.few_nodes)
+    omega (arith, line_length (codes "link") (trunk.link ∷ with_number (switch_name lab trunk.first.0, trunk.first.1) ∷ with_number (switch_name lab trunk.second.0, trunk.second.1) ∷ decimal trunk.kbps ∷ []), first, second, kbps, name_short trunk.link p.0)
 
 -- THE TEXT
 pub canonical_length : (lab : Lab) → IsLab lab → length (canonical lab) ≤ 16777216

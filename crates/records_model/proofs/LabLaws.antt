@@ -1,5 +1,5 @@
 -- Each record keeps the state sane, and the parts of the world.
-use Rattle.std.proofs.Common.{◌≡◌, ◌≢◌, inl, inr, ℕ, zero, suc, ◌≤◌, Bool, true, false, ◌&&◌, if◌then◌else◌, is_none, nat_le, Option, Some, None, List, [], ◌∷◌, ◌++◌, map, length, refl, sym, ap, ◌∙◌, subst, arith, length-append}
+use Rattle.std.proofs.Common.{◌≡◌, ◌≢◌, inl, inr, ℕ, zero, suc, ◌≤◌, Bool, true, false, ◌&&◌, if◌then◌else◌, is_none, nat_le, Option, Some, None, List, [], ◌∷◌, ◌++◌, map, length, refl, sym, ap, ◌∙◌, subst, arith, length-append, ◌<◌, ◌+◌}
 use Rattle.std.proofs.lemmas.Bool.{and_parts, leb-true}
 use Rattle.std.proofs.lemmas.List.{append-nil}
 use Rattle.std.proofs.lemmas.Option.{same_Some}
@@ -7,6 +7,7 @@ use Rattle.lab_base.specs.Lists.{Has, AllDiffer}
 use Rattle.lab_base.proofs.Members.{Has-append, Has-map, Has-mapped, Has-right}
 use Rattle.lab_base.specs.Names.{is_name}
 use Rattle.lab_base.specs.declared.ids.VlanId.{VlanId}
+use Rattle.lab_base.proofs.Tests.{none_is}
 use Rattle.phys_lab.specs.Labs.{Lab}
 use Rattle.phys_lab.specs.Kept.{IsLab}
 use Rattle.virt_topo.specs.declared.wiring.Wiring.{Wiring}
@@ -239,11 +240,7 @@ if_list : (t : Bool) (xs ys : List Experiment) → ◌≡◌ {A = Option (List E
 if_list true xs ys h = (refl, same_Some xs ys h)
 if_list false xs ys h = none_some ys h
 
-none_is : {X : Type 0} (o : Option X) → is_none o ≡ true → o ≡ None
-none_is None h = refl
-none_is (Some x) h = absurd (cc h)
-
-out_is : (p : Phase) → is_out p ≡ true → p ≡ Out
+pub out_is : (p : Phase) → is_out p ≡ true → p ≡ Out
 out_is Out h = refl
 out_is (In m tags) h = absurd (cc h)
 out_is (Moving old new) h = absurd (cc h)
@@ -379,3 +376,9 @@ stops_once t s (r ∷ rs) (suc m) zero can h g = absurd (g h.0 h.1)
 stops_once t s (r ∷ rs) (suc m) (suc n) can h g =
     let same = follows_once t s r h.0 g.0 can h.1 g.1 in
     ap suc (stops_once t g.0 rs m n can (subst (λ x. StopsAt t x rs m) same h.2) g.2)
+
+-- the first record that can't follow is one of them
+pub stops_within : (t : Texts) (s : LabState) (rs : List Record) (n : ℕ) → StopsAt t s rs n → n < length rs
+stops_within t s [] n stops = absurd stops
+stops_within t s (r ∷ rs) zero stops = omega arith
+stops_within t s (r ∷ rs) (suc n) stops = omega (arith, stops_within t stops.0 rs n stops.2)

@@ -5,6 +5,7 @@ use Rattle.plant.specs.Disks.{Disk, IsImage, at_once, disk, ArePossible}
 use Rattle.plant.specs.Events.{Event, Wrote, Synced}
 use Rattle.plant.specs.Worlds.{world_of}
 use Rattle.plant.specs.declared.step.Side.TheVariants.{A, B}
+use Rattle.plant.proofs.Traces.{disk_push}
 use Rattle.lab_model.specs.Sound.{Standing, Keeps, SoundAt}
 use Rattle.journal_rec.specs.Payloads.{le}
 use Rattle.journal_model.specs.Journals.{Blank, head, New, live, RecordsOf, size_of}
@@ -14,7 +15,6 @@ use Rattle.records_model.specs.Labs.{at_first, Texts}
 use Rattle.records_model.specs.Appends.{standing, StandFor}
 use Rattle.records_model.specs.Openings.{Blanks}
 use Rattle.lab_model.proofs.TraceLaws.{world_push}
-use Rattle.journal_model.proofs.Traces.{disk_push}
 use Rattle.journal_model.proofs.Images.{synced_image}
 use Rattle.journal_model.proofs.Gates.{on_shut}
 use Rattle.journal_model.proofs.Making.{shut_blank, clear_image, closed_image, heading_image, header_image, opening_image}

@@ -1,6 +1,5 @@
 -- How the controller gets to work: an opening, and a new journal.
-use Rattle.std.specs.Str.{bytes_eq}
-use Rattle.std.proofs.Common.{ℕ, ◌≡◌, ◌≢◌, ◌⊎◌, inl, inr, ◌+◌, ◌^◌, ◌<◌, ◌≤◌, ◌||◌, ◌==◌, Bool, true, false, not, nat_lt, if◌then◌else◌, List, [], ◌∷◌, ◌++◌, length, take, drop, refl, sym, ap, ◌∙◌, subst, arith}
+use Rattle.std.proofs.Common.{ℕ, ◌≡◌, ◌≢◌, ◌⊎◌, inl, inr, ◌+◌, ◌^◌, ◌<◌, ◌≤◌, ◌||◌, ◌==◌, not, List, [], ◌∷◌, ◌++◌, length, refl, sym, ap, ◌∙◌, subst, arith}
 use Rattle.std.proofs.lemmas.Bool.{cases_lt, le-ltb, eq-eqb}
 use Rattle.std.proofs.lemmas.List.Sums.{count_by-le-length}
 use Rattle.plant.specs.Disks.{wrote, synced, IsImage, at_once, disk, ArePossible}
@@ -8,10 +7,11 @@ use Rattle.plant.specs.Events.{Event, Wrote, Synced, Missed, Restarted}
 use Rattle.plant.specs.Worlds.{world_of}
 use Rattle.plant.specs.declared.step.Side.{Side}
 use Rattle.plant.specs.declared.step.Side.TheVariants.{A, B}
+use Rattle.plant.proofs.Traces.{disk_push}
 use Rattle.journal_rec.specs.declared.record.Record.{Record}
 use Rattle.lab_model.specs.Sound.{is_moving, Standing, Keeps, SoundAt}
 use Rattle.journal_rec.specs.Payloads.{le}
-use Rattle.journal_model.specs.Journals.{magic, Head, Blank, Foreign, Headed, head, Live, New, On, Wrong, live, gate_after, size, RecordsOf, size_of, journal_length}
+use Rattle.journal_model.specs.Journals.{Blank, head, Live, New, On, Wrong, live, gate_after, size, RecordsOf, size_of, journal_length}
 use Rattle.journal_model.specs.Appends.{IsReadable, Opened, Rests}
 use Rattle.journal_model.specs.Making.{IsShort, IsClosed, made_header, HasHeader}
 use Rattle.records_model.specs.Labs.{LabState, at_first, Texts, AreCanonical, LabOf, Sane}
@@ -19,12 +19,11 @@ use Rattle.records_model.specs.Appends.{standing, StandFor}
 use Rattle.records_model.specs.Works.{IsSound, AtWork, HasRoom}
 use Rattle.records_model.specs.Openings.{Blanks, Finds, nothing, works}
 use Rattle.lab_model.proofs.TraceLaws.{world_push}
-use Rattle.journal_model.proofs.Traces.{disk_push}
 use Rattle.journal_model.proofs.Gates.{gate_push}
 use Rattle.journal_model.proofs.Readings.{records_once}
 use Rattle.journal_model.proofs.Syncs.{readable_image, readable_once, opened_from}
 use Rattle.records_model.proofs.TraceLaws.{synced_sound}
-use Rattle.journal_model.proofs.Making.{short_closed, closed_header, header_rests}
+use Rattle.journal_model.proofs.Making.{short_closed, closed_header, header_rests, heads_blank, open_not_blank}
 use Rattle.records_model.proofs.TraceLaws.{sound_push, restart_sound}
 use Rattle.records_model.proofs.LabLaws.{folds_once}
 use Rattle.records_model.proofs.Making.{blanks_wrote, blanks_synced, keeps_made, clear_sound, closed_sound, heading_sound, header_sound, opening_sound, made}
@@ -60,25 +59,11 @@ opening t trace read_a read_b sound =
     let x = at a b (image_a, image_b) in
     by now a b disks.0 disks.1 all x.0 x.1 x.2 (live (head a) (head b)) refl x.1.read
   where
-    blanks : (h k : Head) → live h k ≡ New → (h ≡ Blank) × (k ≡ Blank)
-    blanks Foreign k e = absurd (cc e)
-    blanks Blank Foreign e = absurd (cc e)
-    blanks (Headed m) Foreign e = absurd (cc e)
-    blanks Blank Blank e = (refl, refl)
-    blanks (Headed m) Blank e = absurd (cc e)
-    blanks Blank (Headed n) e = absurd (cc e)
-    blanks (Headed m) (Headed n) e = absurd (pick (Rattle.journal_rec.specs.Payloads.number m == Rattle.journal_rec.specs.Payloads.number n) (nat_lt (Rattle.journal_rec.specs.Payloads.number n) (Rattle.journal_rec.specs.Payloads.number m)) e)
-      where
-        pick : (t u : Bool) → ◌≡◌ {A = Live} (if t then Wrong A else if u then On A else On B) New → ⊥
-        pick true u e = cc e
-        pick false true e = cc e
-        pick false false e = cc e
-
     by : (now : List Event) (a b : List ℕ) → disk A now ≡ at_once a → disk B now ≡ at_once b → IsSound t now → (st : Standing) (f : StandFor t a b st) → Keeps (world_of now) st → (l : Live) → live (head a) (head b) ≡ l → RecordsOf (live (head a) (head b)) a b f.records → Finds t now
     by now a b is_a is_b all st f keeps New is read =
         let none : f.records ≡ [] = subst (λ l. RecordsOf l a b f.records) is read in
         let first : at_first ≡ f.state = subst (λ rs. LabOf t rs f.state) none f.lab_of in
-        let both = blanks (head a) (head b) is in
+        let both = heads_blank (head a) (head b) is in
         let size : journal_length a b f.records ≡ 0 = ap (λ l. size_of l f.records) is in
         let st_is : st ≡ standing at_first 0 = f.is ∙ (λ i. standing (sym first i) (size i)) in
         nothing (record { other = b; there = is_b; blank_there = both.1; keeps = subst (λ x. Keeps (world_of now) x) st_is keeps }) a is_a both.0
@@ -97,16 +82,8 @@ pub blank_cases : (bytes : List ℕ) → head bytes ≡ Blank → (length bytes 
 blank_cases [] h = inl (omega arith)
 blank_cases (x ∷ y) h = elim (cases_lt (length (x ∷ y)) 18) [
   | inl short ↦ inl short
-  | inr long ↦ inr (x, y, (λ is_open. by (ap (λ t. t || not (x == 165)) (le-ltb (length (x ∷ y)) 18 long) ∙ ap not (eq-eqb x 165 is_open)) h), refl)
+  | inr long ↦ inr (x, y, (λ is_open. open_not_blank x y (ap (λ t. t || not (x == 165)) (le-ltb (length (x ∷ y)) 18 long) ∙ ap not (eq-eqb x 165 is_open)) h), refl)
 ]
-  where
-    by : (nat_lt (length (x ∷ y)) 18 || not (x == 165)) ≡ false → head (x ∷ y) ≡ Blank → ⊥
-    by e h = pick _ (bytes_eq (take 8 y) magic) e h
-      where
-        pick : (t u : Bool) → t ≡ false → ◌≡◌ {A = Head} (if t then Blank else if u then Headed (take 8 (drop 8 y)) else Foreign) Blank → ⊥
-        pick true u e h = cc e
-        pick false true e h = cc h
-        pick false false e h = cc h
 
 abbrev Ok : Texts → List Event → Type 0
 Ok t trace = SoundAt (λ a b s. StandFor t a b s) trace

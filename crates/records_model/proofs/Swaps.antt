@@ -1,10 +1,11 @@
 -- An experiment that moves: how it is found, and its part.
 use Rattle.std.specs.Str.{bytes_eq}
-use Rattle.std.proofs.Common.{ℕ, ◌≢◌, ◌≡◌, inl, inr, true, false, cond, Option, Some, List, [], ◌∷◌, refl, sym, ap, ◌∙◌, subst}
-use Rattle.std.proofs.lemmas.Bool.{cases_Bool, cond-true, cond-false, false_from_ne_true}
+use Rattle.std.proofs.Common.{ℕ, ◌≢◌, ◌≡◌, inl, inr, true, cond, Option, Some, List, [], ◌∷◌, refl, sym, ap, ◌∙◌, subst}
+use Rattle.std.proofs.lemmas.Bool.{cases_Bool, cond-true, cond-false}
 use Rattle.std.proofs.lemmas.Slice.Eq.{bytes_eq-Decides}
 use Rattle.lab_base.specs.Lists.{Has, AllDiffer}
 use Rattle.lab_base.proofs.Members.{Has-right, flat-each}
+use Rattle.lab_base.proofs.Bytes.{bytes_other}
 use Rattle.phys_lab.specs.Labs.{Lab}
 use Rattle.virt_topo.specs.declared.experiment.Experiment.{Experiment}
 use Rattle.virt_topo.specs.declared.mapping.Mapped.{Mapped}
@@ -47,15 +48,12 @@ find_others name other (x ∷ es) f same apart = elim (cases_Bool (bytes_eq x.na
   | inl yes' ↦
       let x_is : x.name ≡ name = (bytes_eq-Decides x.name name).0 yes' in
       ap (λ l. find other l) (cond-true (bytes_eq x.name name) (f ∷ es) (x ∷ replace name f es) yes')
-      ∙ cond-false (bytes_eq f.name other) (Some f) (find other es) (differs f.name other (λ e. apart (sym e ∙ same)))
-      ∙ sym (cond-false (bytes_eq x.name other) (Some x) (find other es) (differs x.name other (λ e. apart (sym e ∙ x_is))))
+      ∙ cond-false (bytes_eq f.name other) (Some f) (find other es) (bytes_other f.name other (λ e. apart (sym e ∙ same)))
+      ∙ sym (cond-false (bytes_eq x.name other) (Some x) (find other es) (bytes_other x.name other (λ e. apart (sym e ∙ x_is))))
   | inr no' ↦
       ap (λ l. find other l) (cond-false (bytes_eq x.name name) (f ∷ es) (x ∷ replace name f es) no')
       ∙ ap (λ l. cond (bytes_eq x.name other) (Some x) l) (find_others name other es f same apart)
 ]
-  where
-    differs : (a b : List ℕ) → a ≢ b → bytes_eq a b ≡ false
-    differs a b apart = false_from_ne_true (bytes_eq a b) (λ h. apart ((bytes_eq-Decides a b).0 h))
 
 pub moves : (e : Experiment) (old new : Option Mapped) → e.phase ≡ Moving old new → is_moving e ≡ true
 moves e old new moving = ap (λ p. is_moving (in_phase e p)) moving

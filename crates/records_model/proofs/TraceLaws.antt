@@ -13,6 +13,7 @@ use Rattle.plant.specs.declared.step.Side.TheVariants.{A, B}
 use Rattle.plant.specs.declared.device.Answer.{Answer}
 use Rattle.plant.specs.declared.device.Fault.{Fault}
 use Rattle.plant.specs.declared.device.DeviceOp.{DeviceOp}
+use Rattle.plant.proofs.Traces.{disk_push}
 use Rattle.lab_model.specs.Leavings.{did}
 use Rattle.lab_model.specs.Parts.{Part, Parts}
 use Rattle.lab_model.specs.Courses.{IsCommandOf}
@@ -22,7 +23,7 @@ use Rattle.lab_model.proofs.PartLaws.{whole_from_parts, parts_from_whole}
 use Rattle.lab_model.proofs.Steps.{parts_after}
 use Rattle.lab_model.proofs.TraceLaws.{world_push, same_or_not}
 use Rattle.journal_model.proofs.Images.{synced_image}
-use Rattle.journal_model.proofs.Traces.{disk_push, did_possible}
+use Rattle.journal_model.proofs.Traces.{did_possible}
 use Rattle.journal_model.proofs.Syncs.{synced_fewer}
 
 -- a sound trace stays sound where the moment after the step is

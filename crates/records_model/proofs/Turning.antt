@@ -5,6 +5,7 @@ use Rattle.std.proofs.lemmas.Option.{same_Some}
 use Rattle.lab_base.specs.Lists.{Has}
 use Rattle.lab_base.proofs.Members.{Has-right}
 use Rattle.lab_base.specs.declared.ids.VlanId.{VlanId}
+use Rattle.lab_base.proofs.Tests.{none_is}
 use Rattle.phys_lab.specs.Labs.{Lab}
 use Rattle.phys_lab.specs.Kept.{IsLab}
 use Rattle.virt_topo.specs.declared.mapping.Mapping.{Mapping}
@@ -44,10 +45,6 @@ pub record Turned (lab : Lab) (a b : List Experiment) (e f : Experiment) (move :
   pub wiring : IsSound f.wiring
   pub holding : Holding lab (a ++ f ∷ b)
   pub parts : (w : World) → ReadyOne lab w e move → Parts lab (a ++ e ∷ b) w → Parts lab (a ++ f ∷ b) w
-
-none_true : {X : Type 0} (o : Option X) → is_none o ≡ true → o ≡ None
-none_true None h = refl
-none_true (Some x) h = absurd (cc h)
 
 wired : (lab : Lab) (m : Mapped) → Suits lab m → IsSound m.wiring
 wired lab m suits = suits.sound
@@ -145,7 +142,7 @@ module _ (lab : Lab) (a b : List Experiment) (e : Experiment) (is_lab : IsLab la
       let m = mapped e.wiring mapping tags in
       let both = if_some (can_take lab es e m) (in_phase e (Moving None (Some m))) f h in
       let tests : (is_none (violation_beside lab (others e.name es) e m.wiring m.mapping) ≡ true) × (are_free_tags lab es m.wiring m.tags ≡ true) = and_parts _ _ both.0 in
-      let ok : violation_beside lab (a ++ b) e m.wiring m.mapping ≡ None = none_true _ (subst (λ l. is_none (violation_beside lab l e m.wiring m.mapping) ≡ true) rest tests.0) in
+      let ok : violation_beside lab (a ++ b) e m.wiring m.mapping ≡ None = none_is _ (subst (λ l. is_none (violation_beside lab l e m.wiring m.mapping) ≡ true) rest tests.0) in
       let free : are_free_tags lab (a ++ e ∷ b) m.wiring m.tags ≡ true = subst (λ l. are_free_tags lab l m.wiring m.tags ≡ true) whole tests.1 in
       subst (λ x. Turned lab a b e x (BeginsIn name mapping tags)) both.1 (turn_in name m refl is ok free shaped)
   turned es f (In mapping tags) (BeginsOut name) whole rest is h shaped = subst (λ x. Turned lab a b e x (BeginsOut name)) (same_Some _ f h) (turn_out name mapping tags is)
@@ -153,7 +150,7 @@ module _ (lab : Lab) (a b : List Experiment) (e : Experiment) (is_lab : IsLab la
       let n = mapped wiring new new_tags in
       let both = if_some (can_take lab es e n) (in_phase e (Moving (Some (mapped e.wiring mapping tags)) (Some n))) f h in
       let tests : (is_none (violation_beside lab (others e.name es) e n.wiring n.mapping) ≡ true) × (are_free_tags lab es n.wiring n.tags ≡ true) = and_parts _ _ both.0 in
-      let ok : violation_beside lab (a ++ b) e n.wiring n.mapping ≡ None = none_true _ (subst (λ l. is_none (violation_beside lab l e n.wiring n.mapping) ≡ true) rest tests.0) in
+      let ok : violation_beside lab (a ++ b) e n.wiring n.mapping ≡ None = none_is _ (subst (λ l. is_none (violation_beside lab l e n.wiring n.mapping) ≡ true) rest tests.0) in
       let free : are_free_tags lab (a ++ e ∷ b) n.wiring n.tags ≡ true = subst (λ l. are_free_tags lab l n.wiring n.tags ≡ true) whole tests.1 in
       subst (λ x. Turned lab a b e x (BeginsChange name wiring new new_tags)) both.1 (turn_change name mapping tags n is ok free shaped.0 shaped.1)
   turned es f (Moving None (Some new)) (Commits name) whole rest is h shaped =

@@ -1,16 +1,15 @@
 -- Steps that keep the controller at work, and its trace sound.
-use Rattle.std.proofs.Common.{◌≡◌, ◌+◌, Bool, map, Result, List, [], ◌∷◌, ◌++◌, sym, ◌∙◌, subst}
+use Rattle.std.proofs.Common.{◌+◌, Bool, map, Result, List, [], ◌∷◌, ◌++◌, sym, ◌∙◌, subst}
 use Rattle.lab_base.specs.Lists.{Has, AllDiffer}
 use Rattle.phys_lab.specs.Kept.{IsLab}
 use Rattle.virt_topo.specs.declared.experiment.Experiment.{Experiment}
 use Rattle.plant.specs.Worlds.{World, world_of}
 use Rattle.plant.specs.Events.{Event, Did}
-use Rattle.plant.specs.Disks.{disk}
 use Rattle.plant.specs.declared.step.Side.{Side}
-use Rattle.plant.specs.declared.step.Side.TheVariants.{A, B}
 use Rattle.plant.specs.declared.device.Answer.{Answer}
 use Rattle.plant.specs.declared.device.Fault.{Fault}
 use Rattle.plant.specs.declared.device.DeviceOp.{DeviceOp}
+use Rattle.plant.proofs.Traces.{did_disk}
 use Rattle.journal_rec.specs.declared.record.Record.{Record}
 use Rattle.lab_model.specs.Parts.{Part, Parts}
 use Rattle.lab_model.specs.Courses.{IsCommandOf}
@@ -22,7 +21,6 @@ use Rattle.lab_model.proofs.PartLaws.{whole_from_parts, parts_from_whole}
 use Rattle.lab_model.proofs.Steps.{parts_after}
 use Rattle.lab_model.proofs.TraceLaws.{same_or_not}
 use Rattle.lab_model.proofs.OwnEvents.{did_push}
-use Rattle.journal_model.proofs.Traces.{disk_push}
 use Rattle.journal_model.proofs.Gates.{rests_image, on_shut}
 use Rattle.journal_model.proofs.Runs.{run_disk, known_added, known_push}
 use Rattle.records_model.specs.Labs.{LabState, Texts, LabOf, lab_in, Sane, KeepsParts}
@@ -58,10 +56,6 @@ rest_sound t trace side rs s opened lab keeps a b possible =
     let older = Rattle.journal_model.proofs.Runs.older_image trace side opened.epoch rs a b opened.known possible in
     let i = rests_image opened.epoch rs _ _ opened.rests (Rattle.journal_model.proofs.Runs.possible_at side trace a b possible) in
     (standing s (gate_after rs + 1), stands_on t side a b rs s lab (on_shut side opened.epoch rs a b i.0 i.1 opened.known.eight opened.known.written older i.2 i.3), keeps)
-
-did_disk : (side : Side) (trace : List Event) (op : DeviceOp) (applied : Bool) (answer : Result Answer Fault) → disk side (trace ++ Did op applied answer ∷ []) ≡ disk side trace
-did_disk A trace op applied answer = disk_push A trace (Did op applied answer)
-did_disk B trace op applied answer = disk_push B trace (Did op applied answer)
 
 pub opened_did : (trace : List Event) (side : Side) (rs : List Record) (op : DeviceOp) (applied : Bool) (answer : Result Answer Fault) → Opened trace side rs → Opened (trace ++ Did op applied answer ∷ []) side rs
 opened_did trace side rs op applied answer opened = record {

@@ -1,5 +1,5 @@
 -- The experiments that are due.
-use Rattle.std.proofs.Common.{◌≡◌, ◌≤◌, ◌+◌, inl, inr, ℕ, zero, suc, Bool, true, false, cond, count_by, List, [], ◌∷◌, ◌++◌, length, map, take, drop, slice_get, Option, Some, None, refl, sym, ap, ◌∙◌, subst, arith}
+use Rattle.std.proofs.Common.{◌≡◌, ◌+◌, ℕ, zero, suc, Bool, true, false, cond, count_by, List, [], ◌∷◌, ◌++◌, map, take, drop, slice_get, Option, Some, None, refl, sym, ap, ◌∙◌, subst, arith}
 use Rattle.std.specs.Str.{bytes_eq}
 use Rattle.std.proofs.lemmas.Bool.{cond-true, cond-false, false_from_ne_true}
 use Rattle.std.proofs.lemmas.Slice.Eq.{bytes_eq-Decides}
@@ -7,9 +7,8 @@ use Rattle.std.proofs.lemmas.List.{take_more, append-nil}
 use Rattle.std.proofs.lemmas.List.Sums.{sum_by-append}
 use Rattle.std.proofs.lemmas.Grind.{flat_map-append}
 use Rattle.std.proofs.lemmas.Option.{slice_get_within, get_or_from_slice_get, same_Some}
-use Rattle.lab_base.specs.Lists.{Has, AllDiffer, listed}
-use Rattle.lab_base.proofs.Members.{Has-mapped}
-use Rattle.lab_model.proofs.OneSided.{Has-slice_get}
+use Rattle.lab_base.specs.Lists.{AllDiffer, listed}
+use Rattle.lab_base.proofs.Members.{Has-mapped, Has-slice_get}
 use Rattle.lab_model.specs.Sound.{is_moving}
 use Rattle.phys_lab.specs.Labs.{Lab}
 use Rattle.virt_topo.specs.declared.experiment.Experiment.{Experiment}
@@ -88,15 +87,6 @@ at_front (x ∷ xs) (suc n) = at_front xs n
 pub same_at : (es fs : List Experiment) (n : ℕ) → drop n es ≡ drop n fs → slice_get es n ≡ slice_get fs n
 same_at es fs n same = at_front es n ∙ ap (λ l. slice_get l 0) same ∙ sym (at_front fs n)
 
--- each name is of one
-pub find_has : (es : List Experiment) (e : Experiment) → AllDiffer (map (λ x. x.name) es) → Has es e → find e.name es ≡ Some e
-find_has [] e differ h = absurd h
-find_has (x ∷ es) e differ (inl is) = cond-true (bytes_eq x.name e.name) (Some x) (find e.name es) ((bytes_eq-Decides x.name e.name).1 (ap (λ y. y.name) is)) ∙ ap Some is
-find_has (x ∷ es) e differ (inr h) =
-    cond-false (bytes_eq x.name e.name) (Some x) (find e.name es)
-    (false_from_ne_true (bytes_eq x.name e.name) (λ yes'. differ.0 e.name (Has-mapped (λ y. y.name) es e h) ((bytes_eq-Decides x.name e.name).0 yes')))
-    ∙ find_has es e differ.1 h
-
 pub rest_kept : (es : List Experiment) (n : ℕ) (e f : Experiment) → AllDiffer (map (λ x. x.name) es) → slice_get es n ≡ Some e → drop (n + 1) (replace e.name f es) ≡ drop (n + 1) es
 rest_kept es n e f differ at = let next : n + 1 ≡ suc n = omega arith in ap (λ k. drop k (replace e.name f es)) next ∙ go es n differ at ∙ sym (ap (λ k. drop k es) next)
   where
@@ -162,8 +152,3 @@ count_more p xs x = sum_by-append (λ y. cond (p y) 1 0) xs (x ∷ []) ∙ ap (�
   where
     one : (k : ℕ) → count_by (λ y. y) [] + k ≡ k
     one k = omega arith
-
-pub past_end : {X : Type 0} (xs : List X) (n : ℕ) → slice_get xs n ≡ None → length xs ≤ n
-past_end [] n h = omega arith
-past_end (x ∷ xs) zero h = none_some x (sym h)
-past_end (x ∷ xs) (suc n) h = omega (arith, past_end xs n h)

@@ -15,7 +15,7 @@ use Rattle.virt_topo.specs.declared.experiment.Phase.{Phase}
 use Rattle.virt_topo.specs.declared.experiment.Phase.TheVariants.{Out, In, Moving}
 use Rattle.journal_disk.specs.declared.journal.Journal.{Journal}
 use Rattle.records_model.specs.Labs.{LabState, Sane, Texts, find}
-use Rattle.records_model.proofs.Finding.{found_from, names_mid}
+use Rattle.records_model.proofs.Finding.{found_from, names_mid, find_has}
 use Rattle.records_model.proofs.Swaps.{found_in, find_replaced, find_others}
 use Rattle.plant.specs.Seen.{Seen}
 use Rattle.swap_turns.specs.Swaps.{Swap}
@@ -25,7 +25,7 @@ use Rattle.swap_turns.specs.Settling.{SettlesOne, Settles}
 use Rattle.recovery.specs.declared.all.Settled.{Settled}
 use Rattle.recovery.specs.Due.{is_busy, swap_if, due, swaps_of}
 use Rattle.recovery.specs.Settle.{is_stuck, SettledAll}
-use Rattle.recovery.proofs.Due.{EndsOne, ends_one, find_has}
+use Rattle.recovery.proofs.Due.{EndsOne, ends_one}
 use Rattle.recovery.proofs.Settling.{leg_is}
 
 -- who moves is busy, or is to be settled

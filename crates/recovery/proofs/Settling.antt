@@ -232,10 +232,6 @@ false_not_true b was is = let same : false ≡ true = sym was ∙ is in cc same
 pub none_stops : {X : Type 0} (x : X) (b : Bool) → b ≡ false → IsErrOf (Ok x) faults.Stopped ↔ IsTrue b
 none_stops x b was = (λ h. absurd (ok_not x faults.Stopped h), λ h. absurd (false_not_true b was h))
 
-pub runs_on : {X : Type 0} (x : X) (b : Bool) → IsErrOf (Ok x) faults.Stopped ↔ IsTrue b → b ≡ false
-runs_on x false told = refl
-runs_on x true told = absurd (ok_not x faults.Stopped (told.1 refl))
-
 pub memory_stops : {X : Type 0} (r : Result X SettleFault) (was now : Seen) → r ≡ Err faults.Memory → now ≡ was → was.stopped ≡ false → IsErrOf r faults.Stopped ↔ IsTrue now.stopped
 memory_stops r was now is same running = (λ h. absurd (stopped_not_memory r h is), λ h. absurd (false_not_true was.stopped running (sym (ap (λ (x : Seen). x.stopped) same) ∙ h)))
 

@@ -3,12 +3,14 @@ use Rattle.std.proofs.Common.{◌≡◌, ◌≤◌, ◌+◌, ℕ, suc, List, [],
 use Rattle.std.proofs.lemmas.Grind.{flat_map-append}
 use Rattle.std.proofs.lemmas.List.{length-append, append-nil, take_all, take-append-drop}
 use Rattle.lab_base.specs.Lists.{AllDiffer, listed}
-use Rattle.lab_model.proofs.OneSided.{Has-slice_get}
+use Rattle.lab_base.proofs.Members.{Has-slice_get}
+use Rattle.lab_base.proofs.Lists.{length_past}
 use Rattle.virt_topo.specs.declared.experiment.Experiment.{Experiment}
 use Rattle.journal_disk.specs.declared.journal.Journal.{Journal}
 use Rattle.lab_model.specs.Courses.{Trouble}
 use Rattle.records_model.specs.Labs.{LabState, Texts, find, replace}
 use Rattle.plant.specs.Seen.{Seen}
+use Rattle.records_model.proofs.Finding.{find_has}
 use Rattle.swap_turns.specs.Swaps.{Swap, Moves}
 use Rattle.swap_turns.specs.Legs.{Settling, commits}
 use Rattle.swap_turns.specs.Moving.{IsSwapPhase, AllSwaps}
@@ -25,7 +27,7 @@ use Rattle.recovery.specs.declared.one.One.TheVariants as one
 use Rattle.recovery.specs.Due.{due, due_in, name_of, swaps_of}
 use Rattle.recovery.specs.One.{IsOverAs}
 use Rattle.recovery.specs.Settle.{is_ended, is_stuck, Counts, CountedBy, SettledTo, SettledSome, SettledAll, AfterAll}
-use Rattle.recovery.proofs.Due.{due_is, due_none, swaps_more, swaps_split, rest_more, same_at, past_end, find_has, rest_kept, EndsOne, ends_one, count_more}
+use Rattle.recovery.proofs.Due.{due_is, due_none, swaps_more, swaps_split, rest_more, same_at, rest_kept, EndsOne, ends_one, count_more}
 use Rattle.recovery.proofs.Settling.{leg_is}
 
 -- HOW IT MOVES
@@ -55,7 +57,7 @@ module _ (t : Texts) (s : LabState) (busy : List (List ℕ)) (before was : Seen)
       same = same_at mid.experiments s.experiments n u.rest
 
       by : (o : Option Experiment) → slice_get s.experiments n ≡ o → SettledTo t s busy before was j (n + 1) mid settled
-      by None is = absurd (omega (arith, within, past_end s.experiments n is))
+      by None is = absurd (omega (arith, within, length_past s.experiments n is))
       by (Some e) is =
           let d = due_none busy e (subst (λ o. None ≡ name_of (due_in busy o)) (same ∙ is) none) in
           let ps : swaps_of busy (take n s.experiments) ≡ swaps_of busy (take (n + 1) s.experiments) = sym (swaps_more busy s.experiments n e is ∙ ap (λ o. swaps_of busy (take n s.experiments) ++ listed o) d ∙ append-nil (swaps_of busy (take n s.experiments))) in

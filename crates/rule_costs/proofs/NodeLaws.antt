@@ -4,7 +4,7 @@ use Rattle.std.specs.List.{list_any}
 use Rattle.std.proofs.lemmas.Bool.Decides.{Decides-eqb}
 use Rattle.std.proofs.lemmas.List.{append-nil, drop_more}
 use Rattle.std.proofs.lemmas.List.Folds.{list_any-append}
-use Rattle.phys_lab.proofs.NameLaws.{any_in_map}
+use Rattle.lab_base.proofs.Members.{any_map}
 use Rattle.lab_model.specs.Shapes.{Place}
 use Rattle.lab_model.specs.Rules.{no_place}
 use Rattle.cost_rule.specs.Cost.{different, same_node}
@@ -35,13 +35,7 @@ any_turned xs ys x =
 pub any_split : (n : ℕ) (later others : List Place) → list_any (same_node n) (nodes_of later ++ nodes_of others) ≡ (list_any (λ p. n == p.0.0) later || list_any (λ p. n == p.0.0) others)
 any_split n later others =
     list_any-append (same_node n) (nodes_of later) (nodes_of others)
-    ∙ (λ j. any_in_map (same_node n) (λ (p : Place). p.0.0) later j || any_in_map (same_node n) (λ (p : Place). p.0.0) others j)
-
-pub or_true : (a : Bool) → (a || true) ≡ true
-or_true a = or_turned a true
-
-pub or_false : (a : Bool) → (a || false) ≡ a
-or_false a = or_turned a false
+    ∙ (λ j. any_map (same_node n) (λ (p : Place). p.0.0) later j || any_map (same_node n) (λ (p : Place). p.0.0) others j)
 
 turned : (xs ys : List ℕ) → different same_node (xs ++ ys) ≡ different same_node (ys ++ xs)
 turned [] ys = ap (different same_node) (sym (append-nil ys))

@@ -9,15 +9,13 @@ use Rattle.script_text.specs.Commands.{Lines, Whole, Short, block}
 use Rattle.script_text.specs.Taking.{known, joined, StartsLong, NoLine, HasLong, HasNoLine, Blocked, Fewer}
 use Rattle.lab_base.specs.Lists.{Has}
 use Rattle.lab_base.proofs.Members.{Has-append}
+use Rattle.lab_base.proofs.Numbers.{plus_zero}
 use Rattle.script_text.specs.Blocks.{IsBlock}
 use Rattle.script_text.proofs.Taken.{told_lines}
 
 -- lines enough are a block
 pub block_whole : (texts : List (List ℕ)) (text : List ℕ) (n : ℕ) (more : Lines) → block (length texts) text n (known texts ++ more) ≡ Whole (text ++ joined texts) (n + length texts) more
-block_whole [] text n more = λ i. Whole (sym (append-nil text) i) (add_zero n i) more
-  where
-    add_zero : (n : ℕ) → n ≡ n + 0
-    add_zero n = omega arith
+block_whole [] text n more = λ i. Whole (sym (append-nil text) i) (plus_zero n i) more
 block_whole (t ∷ texts) text n more =
     block_whole texts (text ++ t ++ 10 ∷ []) (n + 1) more ∙ (λ i. Whole (text_is i) (number i) more)
   where

@@ -1,8 +1,10 @@
 -- The lines that are left behind a reader's call.
-use Rattle.std.proofs.Common.{◌≡◌, inl, inr, ℕ, ◌^◌, ◌≤◌, Bool, true, false, Some, None, List, [], ◌∷◌, ◌++◌, ◌+◌, append_assoc, arith, Option, Result, Ok, Err, IfSome, refl, sym, subst, ap, ◌∙◌}
+use Rattle.std.proofs.Common.{◌≡◌, inl, inr, ℕ, ◌^◌, ◌≤◌, Bool, true, false, Some, None, List, [], ◌∷◌, ◌++◌, ◌+◌, append_assoc, Option, Result, Ok, Err, IfSome, refl, sym, subst, ap, ◌∙◌}
 use Rattle.std.proofs.lemmas.Bool.{true≢false}
 use Rattle.std.proofs.lemmas.List.{append-nil, map-append}
 use Rattle.std.specs.Io.KnownBytes.{prepend_known, IsAtEnd}
+use Rattle.std.proofs.Math.Nat.{add-zero}
+use Rattle.std.proofs.lemmas.Option.{same_Some}
 use Rattle.lab_io.specs.Lines.{lines_from}
 use Rattle.lab_io.specs.Passed.{Stand, IsSettled, MayFollow, Passed}
 use Rattle.lab_io.specs.Taken.{IsTooLong}
@@ -53,12 +55,9 @@ told_lines a b texts bytes p is = by b.rest refl
     by : (r : Option (List ℕ)) → b.rest ≡ r → (rest : List ℕ) × (b.rest ≡ Some rest) × (lines_from a.taken bytes ≡ known texts ++ lines_from b.taken rest)
     by None e = absurd (cc (is, p.front ∙ ap (prepend_known p.raw) e))
     by (Some rest) e =
-        let whole : bytes ≡ p.raw ++ rest = some_same (sym is ∙ p.front ∙ ap (prepend_known p.raw) e) in
+        let whole : bytes ≡ p.raw ++ rest = same_Some _ _ (sym is ∙ p.front ∙ ap (prepend_known p.raw) e) in
         (rest, e, ap (lines_from a.taken) whole ∙ p.lines rest (follows e p.ends))
       where
-        some_same : {x y : List ℕ} → Some x ≡ Some y → x ≡ y
-        some_same h = cc h
-
         follows : b.rest ≡ Some rest → IsSettled b → MayFollow b rest
         follows e (inl more) = inl more
         follows e (inr end) = inr (subst (λ (o : Option (List ℕ)). IsAtEnd o) e end)
@@ -122,8 +121,5 @@ pub ended_skipped : (a b c : Stand) → Skipped a b → Passed b c [] → Skippe
 ended_skipped a b c s p = record {
   texts = s.texts ++ [];
   passed = passed_more a b c s.texts [] s.passed p;
-  onwards = λ more. ap (λ (l : List (List ℕ)). next_of a.lines (known l ++ more)) (append-nil s.texts) ∙ s.onwards more ∙ ap (λ (n : ℕ). next_of n more) (sym (p.number ∙ add_zero b.lines));
+  onwards = λ more. ap (λ (l : List (List ℕ)). next_of a.lines (known l ++ more)) (append-nil s.texts) ∙ s.onwards more ∙ ap (λ (n : ℕ). next_of n more) (sym (p.number ∙ add-zero b.lines));
 }
-  where
-    add_zero : (n : ℕ) → n + 0 ≡ n
-    add_zero n = omega arith

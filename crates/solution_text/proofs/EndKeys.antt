@@ -1,10 +1,11 @@
 -- Ends by their virtual nodes, and the earlier ends of these.
 use Rattle.std.proofs.Common.{◌≡◌, ℕ, zero, suc, ◌+◌, ◌-◌, ◌<◌, ◌≤◌, Bool, true, false, not, cond, eqb, ltb, ◌&&◌, List, [], ◌∷◌, ◌++◌, length, take, get_or, unwrap_or, Option, Some, None, refl, sym, ap, ◌∙◌, arith, append_assoc}
 use Rattle.std.specs.List.{position, prefix_len}
-use Rattle.std.proofs.lemmas.Bool.{and_from, eqb-true, eq-eqb}
+use Rattle.std.proofs.lemmas.Bool.{and_from, eqb-true, eq-eqb, and_right}
 use Rattle.std.proofs.lemmas.Bool.Decides.{nat_tests}
 use Rattle.std.proofs.lemmas.List.{append-nil, take_more}
 use Rattle.std.proofs.lemmas.List.Sums.{sum_by-append, sum_by-cons}
+use Rattle.lab_base.proofs.Numbers.{not_eqb_turned}
 use Rattle.virt_topo.specs.Ends.{end_number}
 use Rattle.virt_topo.specs.Soundness.{end_if}
 use Rattle.top_text.proofs.PipeCount.{ends_of}
@@ -49,19 +50,12 @@ keys_length earlier (x ∷ ends) = ap suc (keys_length (earlier ++ x ∷ []) end
 
 -- THE PLACE OF A KEY
 
-other : (x v : ℕ) → eqb x v ≡ false → eqb v x ≡ false
-other x v e = grind (arith, nat_tests, e)
-
 unequal : (x y : ℕ) → y < x → eqb x y ≡ false
 unequal x y lt = grind (arith, nat_tests)
 
 -- how many keys stand before (v, n), behind the end of x
 abbrev behind : ℕ → List ℕ → List ℕ → ℕ → ℕ → ℕ
 behind v earlier ends x n = prefix_len (λ key. not (same_key (v, n) key)) (end_keys (earlier ++ x ∷ []) ends)
-
-and_false : (a b : Bool) → b ≡ false → (a && b) ≡ false
-and_false true b h = h
-and_false false b h = refl
 
 keys_prefix : (v : ℕ) (earlier ends : List ℕ) (k n : ℕ) → n ≡ ends_of v earlier + k → prefix_len (λ key. not (same_key (v, n) key)) (end_keys earlier ends) ≡ end_number ends v k
 keys_prefix v earlier [] k n is = refl
@@ -74,7 +68,7 @@ keys_prefix v earlier (x ∷ ends) k n is = by (eqb x v) refl k is (λ m h. keys
     by : (b : Bool) → eqb x v ≡ b → (k : ℕ) → n ≡ ends_of v earlier + k → ((m : ℕ) → n ≡ ends_of v (earlier ++ x ∷ []) + m → behind v earlier ends x n ≡ end_number ends v m)
         → cond (not (same_key (v, n) (x, ends_of x earlier))) (1 + behind v earlier ends x n) 0 ≡ end_number (x ∷ ends) v k
     by false e k is rest =
-        let not_here : same_key (v, n) (x, ends_of x earlier) ≡ false = ap (λ (b : Bool). b && eqb n (ends_of x earlier)) (other x v e) in
+        let not_here : same_key (v, n) (x, ends_of x earlier) ≡ false = ap (λ (b : Bool). b && eqb n (ends_of x earlier)) (not_eqb_turned x v e) in
         let grown : n ≡ ends_of v (earlier ++ x ∷ []) + k = omega (arith, is, count_more v earlier x, not_of v x e) in
         passes (end_number ends v k) not_here (rest k grown)
         ∙ sym (ap (λ (b : Bool). cond b (cond (eqb k 0) 0 (end_number ends v (k - 1) + 1)) (end_number ends v k + 1)) e)
@@ -87,7 +81,7 @@ keys_prefix v earlier (x ∷ ends) k n is = by (eqb x v) refl k is (λ m h. keys
     by true e (suc k) is rest =
         let same : x ≡ v = eqb-true x v e in
         let count : ends_of v earlier ≡ ends_of x earlier = ap (λ (y : ℕ). ends_of y earlier) (sym same) in
-        let not_here : same_key (v, n) (x, ends_of x earlier) ≡ false = and_false (eqb v x) (eqb n (ends_of x earlier)) (unequal n (ends_of x earlier) (omega (arith, is, count))) in
+        let not_here : same_key (v, n) (x, ends_of x earlier) ≡ false = and_right (eqb v x) (eqb n (ends_of x earlier)) (unequal n (ends_of x earlier) (omega (arith, is, count))) in
         let grown : n ≡ ends_of v (earlier ++ x ∷ []) + k = omega (arith, is, count_more v earlier x, one_of v x e) in
         let more : eqb (suc k) 0 ≡ false = unequal (suc k) 0 (omega arith) in
         let less : suc k - 1 ≡ k = omega arith in

@@ -1,10 +1,9 @@
 -- The canonical text of a mapping is read as the mapping.
 use Rattle.std.proofs.Common.{◌≡◌, ◌≢◌, ℕ, zero, suc, ◌+◌, ◌<◌, ◌≤◌, Bool, true, false, not, cond, eqb, ◌&&◌, ◌||◌, List, [], ◌∷◌, ◌++◌, length, get_or, map, set, Option, Some, None, Result, Ok, Err, refl, sym, ap, subst, ◌∙◌, arith, inl, inr, append_assoc, length-append}
-use Rattle.std.specs.Prelude.{codes, decimal, is_some, nat_lt, option_map, replicate}
+use Rattle.std.specs.Prelude.{codes, decimal, is_some, option_map, replicate}
 use Rattle.std.specs.List.{list_all, zip, position}
 use Rattle.std.proofs.Math.ListN.{get_or-map}
-use Rattle.std.proofs.lemmas.Bool.{and_parts}
-use Rattle.std.proofs.lemmas.Bool.Decides.{nat_tests}
+use Rattle.std.proofs.lemmas.Bool.{and_parts, lt-ltb}
 use Rattle.std.proofs.lemmas.List.{append-nil, length-map, map-append, get_or_default}
 use Rattle.std.proofs.Math.Seq.{get_or-append_seam, set-append_seam}
 use Rattle.lab_base.specs.Names.{is_name, same_name}
@@ -15,7 +14,9 @@ use Rattle.lab_base.specs.declared.fault.Kind.{Kind}
 use Rattle.lab_base.specs.declared.fault.Kind.TheVariants as kinds
 use Rattle.lab_base.specs.declared.ids.NodeId.{NodeId}
 use Rattle.lab_base.specs.declared.ids.IfaceId.{IfaceId}
-use Rattle.lab_base.proofs.Members.{Has-append, Has-map, Apart-right}
+use Rattle.lab_base.proofs.Members.{Has-append, Has-map, Apart-right, Has-get_or}
+use Rattle.lab_base.proofs.Bytes.{bytes_same, bytes_turned, bytes_self}
+use Rattle.lab_base.proofs.Numbers.{eqb_turned}
 use Rattle.virt_topo.specs.Wirings.{no_virt}
 use Rattle.line_text.specs.Reading.{and_then}
 use Rattle.line_text.specs.Printing.{with_number}
@@ -27,7 +28,7 @@ use Rattle.phys_lab.specs.Kept.{IsLab}
 use Rattle.phys_lab.specs.Keys.{same_iface, name_on_node}
 use Rattle.phys_lab.specs.declared.parts.Node.{Node}
 use Rattle.phys_lab.specs.declared.parts.Iface.{Iface}
-use Rattle.phys_lab.proofs.KeptLaws.{same_name-true, same_iface-self, same_iface-true}
+use Rattle.phys_lab.proofs.KeptLaws.{same_iface-self, same_iface-true}
 use Rattle.phys_lab.specs.Faults.{is_type}
 use Rattle.virt_topo.specs.declared.wiring.VirtNode.{VirtNode}
 use Rattle.virt_topo.specs.declared.wiring.Wiring.{Wiring}
@@ -37,7 +38,7 @@ use Rattle.virt_topo.specs.Ends.{end_nodes, end_number}
 use Rattle.virt_topo.proofs.CableLaws.{limits_of, passes_at}
 use Rattle.lab_model.specs.Shapes.{Place, IsShaped, has_name, no_node, node_at}
 use Rattle.lab_model.specs.Uses.{no_iface, iface_at}
-use Rattle.lab_model.proofs.WiringLaws.{has_at, sound_ends}
+use Rattle.lab_model.proofs.WiringLaws.{sound_ends}
 use Rattle.top_text.specs.Adding.{virt_named}
 use Rattle.top_text.specs.Canonical.{virt_name}
 use Rattle.top_text.specs.Printable.{are_named}
@@ -48,10 +49,7 @@ use Rattle.top_text.proofs.SoundTests.{sound_tests}
 use Rattle.top_text.proofs.PipeCount.{ends_of}
 use Rattle.solution_text.proofs.EndKeys.{count_few, number_at, keys_length}
 use Rattle.solution_text.proofs.ZipLaws.{zip_length}
-use Rattle.top_text.proofs.OwnPlaces.{own_place, differ_once, same_self, symm_name, virt_own}
-
-eqb_symm : (a b : ℕ) → eqb a b ≡ eqb b a
-eqb_symm a b = grind (arith, nat_tests)
+use Rattle.top_text.proofs.OwnPlaces.{own_place, differ_once, virt_own}
 
 -- LINES OF A LIST, WITH WHAT IS STILL TO COME
 
@@ -126,7 +124,7 @@ node_own : (lab : Lab) → IsLab lab → (n : NodeId) → n.0 < length lab.nodes
 node_own lab is n lt =
     let differ : AllDiffer (map (λ (n : Node). n.name) lab.nodes) = Apart-right (λ a b. a ≢ b) lab.switches (map (λ (n : Node). n.name) lab.nodes) is.devices_differ in
     ap (λ (k : List ℕ). position (λ m. same_name k m.name) lab.nodes) (sym (get_or-map (λ (m : Node). m.name) lab.nodes n.0 no_node))
-    ∙ own_place same_name same_self symm_name (λ (m : Node). m.name) lab.nodes n.0 [] (differ_once same_name same_self symm_name (λ (m : Node). m.name) same_name-true lab.nodes differ) lt
+    ∙ own_place same_name bytes_self bytes_turned (λ (m : Node). m.name) lab.nodes n.0 [] (differ_once same_name bytes_self bytes_turned (λ (m : Node). m.name) bytes_same lab.nodes differ) lt
 
 iface_own : (lab : Lab) → IsLab lab → (i : IfaceId) → i.0 < length lab.ifaces → iface_on lab (iface_at lab i).node.0 (iface_at lab i).name ≡ Some i.0
 iface_own lab is i lt =
@@ -134,7 +132,7 @@ iface_own lab is i lt =
     ∙ own_place same_iface same_iface-self symm_iface name_on_node lab.ifaces i.0 (name_on_node no_iface) (differ_once same_iface same_iface-self symm_iface name_on_node same_iface-true lab.ifaces is.names_differ) lt
   where
     symm_iface : (a b : NodeId × List ℕ) → same_iface a b ≡ same_iface b a
-    symm_iface a b = λ j. eqb_symm a.0.0 b.0.0 j && symm_name a.1 b.1 j
+    symm_iface a b = λ j. eqb_turned a.0.0 b.0.0 j && bytes_turned a.1 b.1 j
 
 -- NAMES THAT ARE PRINTED ARE NAMES
 
@@ -142,25 +140,25 @@ virt_is_name : (nodes : List VirtNode) (i : ℕ) (v : VirtNode) → are_named no
 virt_is_name nodes i v named lt is = passes_at (λ (n : VirtNode). is_name n.name) nodes i v named lt is
 
 node_is_name : (lab : Lab) → IsLab lab → (n : NodeId) → n.0 < length lab.nodes → is_name (node_at lab n).name ≡ true
-node_is_name lab is n lt = (and_parts (is_name (node_at lab n).name) _ (is.nodes (node_at lab n) (has_at lab.nodes n.0 no_node lt)).ranges).0
+node_is_name lab is n lt = (and_parts (is_name (node_at lab n).name) _ (is.nodes (node_at lab n) (Has-get_or lab.nodes n.0 no_node lt)).ranges).0
 
 type_is_name : (types : List (List ℕ × ℕ)) (type : List ℕ) → list_all is_type types ≡ true → has_name types type ≡ true → is_name type ≡ true
 type_is_name [] type all has = absurd (cc has)
 type_is_name (t ∷ types) type all has = by (same_name t.0 type) refl has (λ h. type_is_name types type (and_parts (is_type t) _ all).1 h)
   where
     by : (b : Bool) → same_name t.0 type ≡ b → (b || has_name types type) ≡ true → (has_name types type ≡ true → is_name type ≡ true) → is_name type ≡ true
-    by true same has rest = subst (λ (k : List ℕ). is_name k ≡ true) (same_name-true t.0 type same) (and_parts (is_name t.0) _ (and_parts (is_type t) _ all).0).0
+    by true same has rest = subst (λ (k : List ℕ). is_name k ≡ true) (bytes_same t.0 type same) (and_parts (is_name t.0) _ (and_parts (is_type t) _ all).0).0
     by false same has rest = rest has
 
 place_is_name : (lab : Lab) → IsLab lab → (n : NodeId) (type : List ℕ) → n.0 < length lab.nodes → has_name (node_at lab n).types type ≡ true → is_name type ≡ true
 place_is_name lab is n type lt has =
-    let whole = (is.nodes (node_at lab n) (has_at lab.nodes n.0 no_node lt)).ranges in
+    let whole = (is.nodes (node_at lab n) (Has-get_or lab.nodes n.0 no_node lt)).ranges in
     let some = (and_parts (is_name (node_at lab n).name) _ whole).1 in
     let types = (and_parts (not (eqb (length (node_at lab n).types) 0)) _ some).1 in
     type_is_name (node_at lab n).types type (and_parts (list_all is_type (node_at lab n).types) _ types).0 has
 
 iface_is_name : (lab : Lab) → IsLab lab → (i : IfaceId) → i.0 < length lab.ifaces → is_name (iface_at lab i).name ≡ true
-iface_is_name lab is i lt = (and_parts (is_name (iface_at lab i).link) _ (and_parts _ _ (is.ifaces (iface_at lab i) (has_at lab.ifaces i.0 no_iface lt))).0).1
+iface_is_name lab is i lt = (and_parts (is_name (iface_at lab i).link) _ (and_parts _ _ (is.ifaces (iface_at lab i) (Has-get_or lab.ifaces i.0 no_iface lt))).0).1
 
 -- PLACES
 
@@ -227,10 +225,7 @@ end_own : (w : Wiring) (before behind : List ℕ) (v : ℕ) → end_nodes w.segm
 end_own w before behind v is =
     let number : end_number (end_nodes w.segments) v (ends_of v before) ≡ length before = ap (λ (l : List ℕ). end_number l v (ends_of v before)) is ∙ number_at v before behind in
     let within : length before < length (end_nodes w.segments) = omega (arith, ap length is, length-append before (v ∷ behind)) in
-    ap (end_if (length (end_nodes w.segments))) number ∙ ap (λ (b : Bool). cond b (Some (length before)) None) (below (length before) (length (end_nodes w.segments)) within)
-  where
-    below : (a b : ℕ) → a < b → nat_lt a b ≡ true
-    below a b h = grind (arith, nat_tests)
+    ap (end_if (length (end_nodes w.segments))) number ∙ ap (λ (b : Bool). cond b (Some (length before)) None) (lt-ltb (length before) (length (end_nodes w.segments)) within)
 
 module _ (lab : Lab) (w : Wiring) (m : Mapping) (lab_is : IsLab lab) (sound : IsSound w) (named : are_named w.nodes ≡ true) (shaped : IsShaped lab w m) where
   pub plug_adds : (places : List (Option Place)) (front : List ((ℕ × ℕ) × IfaceId)) (z : (ℕ × ℕ) × IfaceId) (rest : List ((ℕ × ℕ) × IfaceId)) → front ++ z ∷ rest ≡ [] ++ zip (end_keys [] (end_nodes w.segments)) m.plugs

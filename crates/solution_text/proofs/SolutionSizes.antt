@@ -4,8 +4,9 @@ use Rattle.std.specs.Prelude.{codes}
 use Rattle.std.specs.List.{zip}
 use Rattle.std.proofs.lemmas.Grind.{flat_map-append}
 use Rattle.lab_base.specs.declared.ids.IfaceId.{IfaceId}
+use Rattle.lab_base.proofs.Names.{name_short}
 use Rattle.line_text.specs.Printing.{line_text, text_of, with_number}
-use Rattle.line_text.proofs.Widths.{width, line_length, lines_length, name_length, pair_length}
+use Rattle.line_text.proofs.Widths.{width, line_length, lines_length, pair_length}
 use Rattle.phys_lab.specs.Labs.{Lab}
 use Rattle.phys_lab.specs.Kept.{IsLab}
 use Rattle.virt_topo.specs.Ends.{end_nodes}
@@ -27,7 +28,7 @@ use Rattle.solution_text.proofs.SolutionAgain.{PlaceNames, PlugNames, place_name
 place_length : (lab : Lab) (z : VirtNode × Place) → PlaceNames lab z → length (line_text (place_fields lab z)) ≤ 104
 unfolding width
 place_length lab z is =
-    omega (arith, line_length (codes "node") (z.0.name ∷ (node_at lab z.1.0).name ∷ z.1.1 ∷ []), name_length z.0.name is.virt, name_length (node_at lab z.1.0).name is.node, name_length z.1.1 is.type)
+    omega (arith, line_length (codes "node") (z.0.name ∷ (node_at lab z.1.0).name ∷ z.1.1 ∷ []), name_short z.0.name is.virt, name_short (node_at lab z.1.0).name is.node, name_short z.1.1 is.type)
 
 plug_length : (lab : Lab) (w : Wiring) (z : (ℕ × ℕ) × IfaceId) → PlugNames lab w z → length (line_text (plug_fields lab w z)) ≤ 109
 unfolding width
@@ -35,7 +36,7 @@ plug_length lab w z is =
     let iface = iface_at lab z.1 in
     let end : length (with_number (virt_name w z.0.0, z.0.1)) ≤ 37 = pair_length (virt_name w z.0.0) z.0.1 4 is.virt (omega arith) (omega (arith, is.few)) (omega (arith, is.few)) in
     let field : length ((node_at lab iface.node).name ++ 58 ∷ iface.name) ≡ length (node_at lab iface.node).name + length (58 ∷ iface.name) = length-append (node_at lab iface.node).name (58 ∷ iface.name) in
-    omega (arith, line_length (codes "plug") (with_number (virt_name w z.0.0, z.0.1) ∷ iface_field lab z.1 ∷ []), end, field, name_length (node_at lab iface.node).name is.node, name_length iface.name is.iface)
+    omega (arith, line_length (codes "plug") (with_number (virt_name w z.0.0, z.0.1) ∷ iface_field lab z.1 ∷ []), end, field, name_short (node_at lab iface.node).name is.node, name_short iface.name is.iface)
 
 pub solution_length : (lab : Lab) (w : Wiring) (m : Mapping) → IsLab lab → IsSound w → are_named w.nodes ≡ true → IsShaped lab w m → length (canonical_solution lab w m) ≤ 16777216
 solution_length lab w m lab_is sound named shaped =

@@ -6,7 +6,7 @@ use Rattle.std.proofs.lemmas.Option.{same_Some}
 use Rattle.lab_base.specs.Counts.{Rose}
 use Rattle.lab_base.specs.Lists.{Has}
 use Rattle.lab_base.specs.declared.what.What.{What}
-use Rattle.lab_base.proofs.Members.{Has-left, Has-right, Has-append, Apart-across, Apart-right}
+use Rattle.lab_base.proofs.Members.{Has-left, Has-right, Has-append, Apart-across, Apart-right, Has-between}
 use Rattle.plant.specs.Events.{Event}
 use Rattle.plant.specs.Told.{Told}
 use Rattle.journal_rec.specs.declared.record.Record.{Record}
@@ -64,15 +64,12 @@ split [] x h = absurd h
 split (y ∷ xs) x (inl e) = ([], xs, ap (λ z. z ∷ xs) e)
 split (y ∷ xs) x (inr h) = let r = split xs x h in (y ∷ r.0, r.1, ap (λ l. y ∷ l) r.2)
 
-weaken : (a b : List Slot) (x y : Slot) → Has (a ++ b) y → Has (a ++ x ∷ b) y
-weaken a b x y h = elim (Has-append a b y h) [ inl p ↦ Has-left a (x ∷ b) y p | inr q ↦ Has-right a (x ∷ b) y (inr q) ]
-
 -- ONE MORE IS HELD
 pub put_holds : (mid new : List Live) (before behind : List Slot) (o : OpenSwap) (x : Live) → IsPlain o.leg → Holds mid (before ++ behind) → IsWith mid x new → Holds new (before ++ (o, x) ∷ behind)
 put_holds mid new before behind o x plain h w = record {
   listed_of = λ y has. elim (w.was y has) [
     | inl same ↦ (o, Has-right before ((o, x) ∷ behind) (o, y) (inl (ap (λ (z : Live). (o, z)) (sym same))))
-    | inr old ↦ let r = h.listed_of y old in (r.0, weaken before behind (o, x) (r.0, y) r.1)
+    | inr old ↦ let r = h.listed_of y old in (r.0, Has-between before behind (o, x) (r.0, y) r.1)
   ];
   stands = λ q has. elim (Has-append before ((o, x) ∷ behind) q has) [
     | inl in_a ↦ w.kept q.1 (h.stands q (Has-left before behind q in_a))
@@ -126,12 +123,12 @@ module _ (t : Texts) (told : Option Told) (j : Journal) (s : LabState) (opens : 
             ]
           ];
       stands = λ q has.
-          let listed = in_opens q (weaken before behind (o, x) q has) in
+          let listed = in_opens q (Has-between before behind (o, x) q has) in
           elim (w.kept q.1 (holds.stands q listed)) [
             | inl same ↦ absurd (apart q (Has-append before behind q has) (sym (named_open s q.0 q.1 (working.each q listed)) ∙ ap exp_of same ∙ its_name))
             | inr stays ↦ stays
           ];
-      plain = λ q has. holds.plain q (in_opens q (weaken before behind (o, x) q has));
+      plain = λ q has. holds.plain q (in_opens q (Has-between before behind (o, x) q has));
       count = omega (arith, holds.count, w.count, ap (λ (l : List Slot). length l) is, length-append before ((o, x) ∷ behind), length-append before behind);
     }
 

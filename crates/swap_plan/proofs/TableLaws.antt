@@ -2,12 +2,12 @@
 use Rattle.std.specs.Str.{bytes_eq}
 use Rattle.std.proofs.Common.{◌≡◌, ◌≢◌, inl, inr, ℕ, zero, suc, ◌+◌, ◌<◌, false, cond, Option, Some, None, List, [], ◌∷◌, ◌++◌, length, map, filter, take, drop, get_or, set, replicate, refl, sym, ap, subst, ◌∙◌, arith, append_assoc, ◌≤◌}
 use Rattle.std.proofs.Math.ListN.{drop_of_length-le}
-use Rattle.std.proofs.lemmas.Bool.{cases_Bool}
 use Rattle.std.proofs.lemmas.List.{length-map, get_or-map, append-nil, take_all, map_more, get_or_default, drop_more}
 use Rattle.std.proofs.lemmas.List.Elements.{filter_more}
 use Rattle.std.proofs.lemmas.Slice.Eq.{bytes_eq-Decides}
 use Rattle.lab_base.specs.Lists.{Has, AllDiffer}
-use Rattle.lab_base.proofs.Members.{Apart-right}
+use Rattle.lab_base.proofs.Members.{Apart-right, Has-filter, Has-get_or}
+use Rattle.lab_base.proofs.Bytes.{bytes_other}
 use Rattle.phys_lab.specs.Labs.{Lab}
 use Rattle.phys_lab.specs.Kept.{IsLab}
 use Rattle.virt_topo.specs.Soundness.{IsSound}
@@ -20,8 +20,6 @@ use Rattle.lab_model.specs.Courses.{node_names}
 use Rattle.lab_model.specs.Shapes.{Place, IsShaped, no_node}
 use Rattle.lab_model.specs.Rules.{no_place, place_at}
 use Rattle.lab_model.specs.Wants.{node_name, os_on, place_of}
-use Rattle.lab_model.proofs.WiringLaws.{has_at}
-use Rattle.lab_model.proofs.Kept.{Has-filter}
 use Rattle.swap_plan.proofs.PipeLaws.{placed, pipe_there}
 use Rattle.swap_plan.specs.Plans.{untagged, host_if, hosts_at, hosts_by, pipes_at, Host}
 
@@ -31,12 +29,6 @@ names_differ lab is = Apart-right (λ x y. x ≢ y) lab.switches (node_names lab
 pub name_at : (lab : Lab) (n : ℕ) → n < length lab.nodes → get_or (node_names lab) n [] ≡ (get_or lab.nodes n no_node).name
 name_at lab n lt = get_or-map (λ node. node.name) lab.nodes n no_node [] lt
 
-other_name : (a b : List ℕ) → a ≢ b → bytes_eq a b ≡ false
-other_name a b differ = elim (cases_Bool (bytes_eq a b)) [
-  | inl same ↦ absurd (differ ((bytes_eq-Decides a b).0 same))
-  | inr other ↦ other
-]
-
 map_same : {X Y : Type 0} (f g : X → Y) (xs : List X) → ((x : X) → Has xs x → g x ≡ f x) → map g xs ≡ map f xs
 map_same f g [] same = refl
 map_same f g (x ∷ xs) same = λ i. same x (inl refl) i ∷ map_same f g xs (λ y h. same y (inr h)) i
@@ -45,10 +37,10 @@ map_same f g (x ∷ xs) same = λ i. same x (inl refl) i ∷ map_same f g xs (λ
 map_at : {X : Type 0} (f g : List ℕ → X) (names : List (List ℕ)) (n : ℕ) → AllDiffer names → n < length names → ((name : List ℕ) → bytes_eq (get_or names n []) name ≡ false → g name ≡ f name)
     → map g names ≡ set (map f names) n (g (get_or names n []))
 map_at f g [] n differ lt same = absurd (omega (arith, lt))
-map_at f g (x ∷ xs) zero differ lt same = ap (λ l. g x ∷ l) (map_same f g xs (λ y h. same y (other_name x y (differ.0 y h))))
+map_at f g (x ∷ xs) zero differ lt same = ap (λ l. g x ∷ l) (map_same f g xs (λ y h. same y (bytes_other x y (differ.0 y h))))
 map_at f g (x ∷ xs) (suc n) differ lt same =
     let below : n < length xs = omega (arith, lt) in
-    let head : g x ≡ f x = same x (other_name (get_or xs n []) x (λ e. differ.0 (get_or xs n []) (has_at xs n [] below) (sym e))) in
+    let head : g x ≡ f x = same x (bytes_other (get_or xs n []) x (λ e. differ.0 (get_or xs n []) (Has-get_or xs n [] below) (sym e))) in
     λ i. head i ∷ map_at f g xs n differ.1 below same i
 
 -- an item of the table is what its name gets

@@ -1,5 +1,6 @@
 -- A controller that is closed, by what its steps are and by what came before them.
 use Rattle.std.proofs.Common.{◌≡◌, ℕ, List, ◌++◌, Option, IfSome, sym, subst, append_assoc}
+use Rattle.lab_base.proofs.Tests.{some_weaker}
 use Rattle.plant.specs.Disks.{ArePossible}
 use Rattle.plant.specs.Events.{Event}
 use Rattle.plant.specs.Told.{Told, with_steps}
@@ -7,7 +8,7 @@ use Rattle.records_model.specs.Labs.{LabState, Texts}
 use Rattle.records_model.specs.Works.{IsSound}
 use Rattle.journal_runs.specs.Working.{StandForLab}
 use Rattle.swap_turns.specs.Closing.{Closes}
-use Rattle.swap_turns.proofs.Telling.{if_some, if_both, if_back}
+use Rattle.swap_turns.proofs.Telling.{if_both, if_back}
 
 -- what is said of the images after a sound trace
 abbrev pub Images : Texts → List Event → List Event → (LabState → Type 0) → Type 0
@@ -18,7 +19,7 @@ pub closes_as : (t : Texts) (told : Option Told) (steps : List Event) (P Q : Lis
 closes_as t told steps P Q each c = record {
   after = c.after;
   is = each c.after c.is;
-  images = if_some told (λ w. Images t w.trace steps (P steps)) (λ w. Images t w.trace steps (Q steps)) (λ w images sound a b possible. let i = images sound a b possible in (i.0, i.1, each i.0 i.2)) c.images;
+  images = some_weaker told (λ w. Images t w.trace steps (P steps)) (λ w. Images t w.trace steps (Q steps)) (λ w images sound a b possible. let i = images sound a b possible in (i.0, i.1, each i.0 i.2)) c.images;
 }
 
 -- behind steps that keep a trace sound

@@ -44,16 +44,6 @@ same_op a b x y p q is = cc
 pub same_world : (lab : Lab) (e : Experiment) (w : World) → SameFor lab e w w
 same_world lab e w = record { rows = λ row of_e. refl; nodes = λ name claims. refl }
 
-pub calm_world : (steps : List Event) (w : World) → has_command steps ≡ false → fold world_after w steps ≡ w
-calm_world [] w calm = refl
-calm_world (Did op applied answer ∷ steps) w calm = absurd (cc calm)
-calm_world (Wrote side at bytes ∷ steps) w calm = calm_world steps w calm
-calm_world (Synced side ∷ steps) w calm = calm_world steps w calm
-calm_world (CutTo side size ∷ steps) w calm = calm_world steps w calm
-calm_world (Missed side ∷ steps) w calm = calm_world steps w calm
-calm_world (Restarted a b ∷ steps) w calm = calm_world steps w calm
-calm_world (Unread device ∷ steps) w calm = calm_world steps w calm
-
 -- THE COMMANDS OF A LEG are the experiment's own
 module _ (lab : Lab) (e : Experiment) where
   abbrev pub AreOwn : List Event → Type 0

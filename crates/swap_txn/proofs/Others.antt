@@ -2,6 +2,7 @@
 use Rattle.std.proofs.Common.{ℕ, ◌≡◌, ◌≢◌, inl, inr, Bool, true, false, List, [], ◌∷◌, ◌++◌, Option, Some, None, Result, Ok, Err, IfSome, sym, subst}
 use Rattle.std.proofs.lemmas.List.{append-nil, take-append-le}
 use Rattle.lab_base.specs.Lists.{Has}
+use Rattle.lab_base.proofs.Tests.{some_weaker}
 use Rattle.phys_lab.specs.Labs.{Lab}
 use Rattle.phys_lab.specs.Kept.{IsLab}
 use Rattle.virt_topo.specs.declared.experiment.Experiment.{Experiment}
@@ -82,33 +83,29 @@ told_on : (was now : Option Told) (steps : List Event) (P : List Event → Type 
 told_on None now steps P is h = subst (λ o. IfSome o (λ u. P u.trace)) (sym is) tt
 told_on (Some t) now steps P is h = subst (λ o. IfSome o (λ u. P u.trace)) (sym is) h
 
-each_told : (was : Option Told) (P Q : Told → Type 0) → ((t : Told) → P t → Q t) → IfSome was P → IfSome was Q
-each_told None P Q f h = tt
-each_told (Some t) P Q f h = f t h
-
 pub other_record : (lab : Lab) (e : Experiment) (start : ℕ) (live : Live) (r : Record) (was now : Seen) (j k : Journal) (answer : Result (Unit {0}) AppendFault) → Writes r was now j k answer
     → IfSome was.told (λ t. Knows lab e start live t.trace) → IfSome now.told (λ u. Knows lab e start live u.trace)
 other_record lab e start live r was now j k answer writes h =
     let steps = append_steps r was now j k answer writes in
     told_on was.told now.told steps (λ trace. Knows lab e start live trace) writes.appends.trace
-    (each_told was.told (λ t. Knows lab e start live t.trace) (λ t. Knows lab e start live (t.trace ++ steps)) (λ t known. quiet_knows lab e start live t.trace steps (append_quiet lab e r was now j k answer writes) known) h)
+    (some_weaker was.told (λ t. Knows lab e start live t.trace) (λ t. Knows lab e start live (t.trace ++ steps)) (λ t known. quiet_knows lab e start live t.trace steps (append_quiet lab e r was now j k answer writes) known) h)
 
 -- KEPT BY EACH TURN of another experiment
 module _ (lab : Lab) (es : List Experiment) (is_lab : IsLab lab) (holding : Holding lab es) (e f : Experiment) (in_e : Has es e) (in_f : Has es f) (differ : e ≢ f) (start begin : ℕ) (mine : Live) (was now : Seen) where
   other_sends : (plan : Plan) (left : Left) (course : Course) → IsOwn lab f plan → Sends left was now course → IfSome was.told (λ t. IsUnderWay lab f begin plan left t.trace × Knows lab e start mine t.trace) → IfSome now.told (λ u. Knows lab e start mine u.trace)
   other_sends plan left course own s h =
       told_on was.told now.told s.sent.steps (λ trace. Knows lab e start mine trace) s.sent.trace
-      (each_told was.told (λ t. IsUnderWay lab f begin plan left t.trace × Knows lab e start mine t.trace) (λ t. Knows lab e start mine (t.trace ++ s.sent.steps))
+      (some_weaker was.told (λ t. IsUnderWay lab f begin plan left t.trace × Knows lab e start mine t.trace) (λ t. Knows lab e start mine (t.trace ++ s.sent.steps))
       (λ t known. other_steps lab es is_lab holding e f in_e in_f differ start mine t.trace s.op was.stopped s.answer s.sent.steps (own.each known.0.sent left s.op known.0.goes s.comes) s.sent.made known.1) h)
 
   by_view : (o : Option View) (other : Live) (j k : Journal) (turned : Turned Live) → TurnsBy o other was now j k turned → IsOfBy lab f o → IfSome was.told (λ t. KnowsBy lab f begin o t.trace × Knows lab e start mine t.trace)
       → IfSome now.told (λ u. Knows lab e start mine u.trace)
-  by_view None other j k turned h own facts = subst (λ (s : Seen). IfSome s.told (λ u. Knows lab e start mine u.trace)) (sym h.1) (each_told was.told _ (λ t. Knows lab e start mine t.trace) (λ t both. both.1) facts)
+  by_view None other j k turned h own facts = subst (λ (s : Seen). IfSome s.told (λ u. Knows lab e start mine u.trace)) (sym h.1) (some_weaker was.told _ (λ t. Knows lab e start mine t.trace) (λ t both. both.1) facts)
   by_view (Some v) other j k turned h own facts = by h.1
     where
       by : TurnOf v was now j k h.0 → IfSome now.told (λ u. Knows lab e start mine u.trace)
       by (turning.sends course s same is) = other_sends v.plan v.left course own.0 s facts
-      by (turning.writes none answer w is) = other_record lab e start mine _ was now j k answer w (each_told was.told (λ t. KnowsBy lab f begin (Some v) t.trace × Knows lab e start mine t.trace) (λ t. Knows lab e start mine t.trace) (λ t both. both.1) facts)
+      by (turning.writes none answer w is) = other_record lab e start mine _ was now j k answer w (some_weaker was.told (λ t. KnowsBy lab f begin (Some v) t.trace × Knows lab e start mine t.trace) (λ t. Knows lab e start mine t.trace) (λ t both. both.1) facts)
 
   pub other_turn : (other : Live) (j k : Journal) (turned : Turned Live) → Turns other was now j k turned → IsOf lab f other → IfSome was.told (λ t. Knows lab f begin other t.trace × Knows lab e start mine t.trace) → IfSome now.told (λ u. Knows lab e start mine u.trace)
   other_turn other j k turned h own facts = by_view (view_of other) other j k turned h.by own facts

@@ -1,5 +1,5 @@
 -- An append sends no command, and leaves the devices alone.
-use Rattle.std.proofs.Common.{ℕ, ◌≡◌, ◌≤◌, ◌⊎◌, inl, inr, List, [], ◌∷◌, ◌++◌, length, Some, Result, Ok, Err, fold, refl, sym, ap, ◌∙◌, subst}
+use Rattle.std.proofs.Common.{ℕ, ◌≡◌, ◌≤◌, inl, inr, List, [], ◌∷◌, ◌++◌, length, Some, Result, fold, refl, sym, ap, ◌∙◌, subst}
 use Rattle.std.proofs.lemmas.List.{take-append-le}
 use Rattle.std.proofs.lemmas.List.Sums.{fold-append}
 use Rattle.phys_lab.specs.Labs.{Lab}
@@ -10,13 +10,13 @@ use Rattle.plant.specs.Worlds.{World, blank, world_after, world_of}
 use Rattle.plant.specs.declared.step.Side.{Side}
 use Rattle.journal_rec.specs.declared.record.Record.{Record}
 use Rattle.journal_model.specs.Appends.{Run, Nothing, Body, Settled, Gate, All, added}
-use Rattle.journal_disk.specs.Standing.{side_of, gate_of, Ends}
+use Rattle.journal_disk.specs.Standing.{side_of, gate_of}
 use Rattle.journal_disk.specs.declared.journal.Journal.{Journal}
 use Rattle.journal_disk.specs.declared.fault.AppendFault.{AppendFault}
-use Rattle.journal_disk.specs.declared.fault.AppendFault.TheVariants as faults
 use Rattle.lab_model.specs.OnCourse.{own_events}
 use Rattle.lab_model.specs.Parts.{Part}
 use Rattle.plant.specs.Seen.{Seen}
+use Rattle.journal_disk.proofs.LastSteps.{append_last}
 use Rattle.swap_txn.specs.Steps.{Writes}
 use Rattle.swap_txn.specs.Facts.{KeepsPart}
 
@@ -30,12 +30,6 @@ quiet lab e side g r Settled = ((refl, λ w. refl), (refl, λ w. refl))
 quiet lab e side g r (Gate byte) = ((refl, λ w. refl), (refl, λ w. refl))
 quiet lab e side g r All = ((refl, λ w. refl), (refl, λ w. refl))
 
-few : (side : Side) (answer : Result (Unit {0}) AppendFault) (run : Run) (more : List Event) → Ends side answer run more → (more ≡ []) ⊎ (more ≡ Missed side ∷ [])
-few side (Ok done) run more h = inl h.1
-few side (Err (faults.Full m n)) run more h = inl h.1
-few side (Err faults.Plant) run more h = inr h
-few side (Err faults.Stopped) run more h = inl h
-
 -- the steps of an append are such
 abbrev pub append_steps : (r : Record) (was now : Seen) (j k : Journal) (answer : Result (Unit {0}) AppendFault) → Writes r was now j k answer → List Event
 append_steps r was now j k answer w = added (side_of j) (gate_of j) r w.appends.run ++ w.appends.more
@@ -44,7 +38,7 @@ pub append_quiet : (lab : Lab) (e : Experiment) (r : Record) (was now : Seen) (j
 append_quiet lab e r was now j k answer w =
     let a = w.appends in
     let q = quiet lab e (side_of j) (gate_of j) r a.run in
-    elim (few (side_of j) answer a.run a.more a.ends) [
+    elim (append_last (side_of j) answer a.run a.more a.ends) [
       | inl is ↦ subst (λ m. IsQuiet lab e (added (side_of j) (gate_of j) r a.run ++ m)) (sym is) q.0
       | inr is ↦ subst (λ m. IsQuiet lab e (added (side_of j) (gate_of j) r a.run ++ m)) (sym is) q.1
     ]

@@ -1,7 +1,7 @@
--- The records that end a swap are short.
-use Rattle.std.proofs.Common.{ℕ, ◌≡◌, ◌≤◌, ◌+◌, Bool, true, false, List, length, arith}
-use Rattle.std.proofs.lemmas.Bool.{leb-true, and_parts}
+-- The records that end a swap are name_short.
+use Rattle.std.proofs.Common.{ℕ, ◌≡◌, ◌≤◌, ◌+◌, Bool, true, false, List, arith}
 use Rattle.lab_base.specs.Names.{is_name}
+use Rattle.lab_base.proofs.Names.{name_short}
 use Rattle.journal_rec.specs.declared.record.Record.TheVariants.{Commit, Abort}
 use Rattle.journal_disk.specs.declared.journal.Journal.{Journal}
 use Rattle.journal_disk.specs.Standing.{length_of, limit_of}
@@ -11,14 +11,11 @@ use Rattle.swap_txn.specs.Turns.{HasRoom, Fits}
 use Rattle.swap_txn.specs.States.{last_by}
 use Rattle.swap_txn.specs.Facts.{exp_of}
 
-short : (exp : List ℕ) → is_name exp ≡ true → length exp ≤ 32
-short exp is = leb-true (length exp) 32 (and_parts _ _ (and_parts _ _ is).1).0
-
 commit_fits : (exp : List ℕ) (j : Journal) → is_name exp ≡ true → length_of j + 39 ≤ limit_of j → HasRoom j (Commit exp)
-commit_fits exp j is room = omega (arith, short exp is, room)
+commit_fits exp j is room = omega (arith, name_short exp is, room)
 
 abort_fits : (exp : List ℕ) (j : Journal) → is_name exp ≡ true → length_of j + 39 ≤ limit_of j → HasRoom j (Abort exp)
-abort_fits exp j is room = omega (arith, short exp is, room)
+abort_fits exp j is room = omega (arith, name_short exp is, room)
 
 last_fits : (commit : Bool) (exp : List ℕ) (j : Journal) → is_name exp ≡ true → length_of j + 39 ≤ limit_of j → HasRoom j (last_by commit exp)
 last_fits true exp j is room = commit_fits exp j is room

@@ -4,12 +4,9 @@ use Rattle.std.proofs.lemmas.List.{append-nil}
 use Rattle.std.proofs.lemmas.Option.{same_Some}
 use Rattle.lab_base.specs.declared.boot.Boot.{Boot}
 use Rattle.lab_base.specs.declared.boot.Boot.TheVariants.{Off, Shutdown, Booting, TbSetup, IsUp}
-use Rattle.plant.specs.Disks.{disk}
 use Rattle.plant.specs.Events.{Event, Did}
 use Rattle.plant.specs.Told.{Told, with_steps}
 use Rattle.plant.specs.Calls.{CommandSteps, Fits}
-use Rattle.plant.specs.declared.step.Side.{Side}
-use Rattle.plant.specs.declared.step.Side.TheVariants.{A, B}
 use Rattle.plant.specs.declared.device.DeviceOp.{DeviceOp}
 use Rattle.plant.specs.declared.device.Answer.{Answer}
 use Rattle.plant.specs.declared.device.Answer.TheVariants as answers
@@ -17,7 +14,6 @@ use Rattle.plant.specs.declared.device.Fault.{Fault}
 use Rattle.plant.specs.declared.device.Fault.TheVariants as devices
 use Rattle.journal_rec.specs.declared.record.Record.{Record}
 use Rattle.journal_model.specs.Appends.{Rests, Known, other_side}
-use Rattle.journal_model.proofs.Traces.{disk_push}
 use Rattle.journal_disk.specs.Standing.{side_of, limit_of, IsAt}
 use Rattle.journal_disk.specs.declared.journal.Journal.{Journal}
 use Rattle.journal_disk.specs.declared.fault.AppendFault.{AppendFault}
@@ -30,15 +26,11 @@ use Rattle.swap_txn.specs.declared.turned.Turned.{Turned}
 use Rattle.swap_txn.specs.declared.turned.Turned.TheVariants.{Same, Next, Trouble, Stuck, Stopped}
 use Rattle.swap_txn.specs.States.{View}
 use Rattle.plant.specs.Seen.{Seen}
+use Rattle.plant.proofs.Traces.{did_disk}
 use Rattle.swap_txn.specs.Steps.{Stands, Sends, Writes, live_of}
 use Rattle.swap_txn.specs.Troubles.{what_of}
 use Rattle.swap_txn.specs.Turns.{view_of, last_of, held, WrittenBy, Turns, TurnsBy, HasWork, IsStopped, IfStanding}
 use Rattle.swap_txn.proofs.Turning.{Each, by_each}
-
--- a device command leaves both sides as they are
-did_disk : (side : Side) (trace : List Event) (op : DeviceOp) (applied : Bool) (answer : Result Answer Fault) → disk side (trace ++ Did op applied answer ∷ []) ≡ disk side trace
-did_disk A trace op applied answer = disk_push A trace (Did op applied answer)
-did_disk B trace op applied answer = disk_push B trace (Did op applied answer)
 
 did_at : (trace : List Event) (j : Journal) (rs : List Record) (op : DeviceOp) (applied : Bool) (answer : Result Answer Fault) → IsAt trace j rs → IsAt (trace ++ Did op applied answer ∷ []) j rs
 did_at trace j rs op applied answer at =

@@ -1,5 +1,5 @@
 -- One record that is appended.
-use Rattle.std.proofs.Common.{◌≡◌, Result, Ok, Err, OnOk, refl, ap}
+use Rattle.std.proofs.Common.{◌≡◌, Result, Ok, Err, refl, ap}
 use Rattle.lab_base.specs.declared.what.What.{What}
 use Rattle.lab_base.specs.declared.what.What.TheVariants as whats
 use Rattle.journal_disk.specs.declared.fault.AppendFault.{AppendFault}
@@ -9,11 +9,6 @@ use Rattle.swap_txn.specs.declared.live.Live.{Live}
 use Rattle.swap_txn.specs.declared.turned.Turned.TheVariants as turns
 use Rattle.swap_txn.specs.Troubles.{IsWritten}
 use Rattle.swap_txn.specs.Turns.{WrittenBy}
-
--- what holds after Ok, weakened
-pub ok_weaker : {T E P Q : Type 0} → (result : Result T E) → (P → Q) → OnOk result P → OnOk result Q
-ok_weaker (Ok value) f p = f p
-ok_weaker (Err fault) f p = tt
 
 -- what it makes of a state
 pub ended_turn : {T S : Type 0} → (value : T) (state : S) (following : Live) (answer : Result (Unit {0}) AppendFault) (given : T) → IsWritten value answer (Ok given) → WrittenBy state following answer (turns.Next following)

@@ -1,8 +1,8 @@
 -- The branches of `if` among its words.
 use Rattle.std.proofs.Common.{◌≡◌, ℕ, ◌+◌, ◌<◌, ◌≤◌, List, [], ◌∷◌, ◌++◌, length, get_or, drop, map, Option, Some, None, codes, true, false, option_map, slice_index_or, refl, sym, ap, ◌∙◌, arith, drop-cons, add-one, append_assoc}
 use Rattle.std.proofs.lemmas.List.{append-nil, map_push, drop_all, get_or_default}
+use Rattle.lab_base.proofs.Lists.{item_at}
 use Rattle.tcl_eval.specs.declared.branches.Branch.{Branch}
-use Rattle.tcl_eval.proofs.Elements.{item_on}
 use Rattle.tcl_eval.specs.Short.{branching_of}
 use Rattle.tcl_eval.specs.Forms.{Branching, is_text, more_branches, branches_of, with_branch}
 
@@ -32,14 +32,14 @@ two_left ws i h =
 
 pub else_missing : (ws : List (List ℕ)) (i : ℕ) (k : List ℕ) → i + 2 ≡ length ws → k ≡ get_or ws i k → is_text k (codes "else") ≡ false → more_branches (drop i ws) ≡ None
 else_missing ws i k h is other =
-    let one : drop i ws ≡ k ∷ drop (i + 1) ws = item_on ws i k (omega arith) is in
+    let one : drop i ws ≡ k ∷ drop (i + 1) ws = item_at ws i k (omega arith) is in
     let two : drop (i + 1) ws ≡ slice_index_or ws (i + 1) [] ∷ [] = at_word ws (i + 1) (omega arith) ∙ ap (λ (r : List (List ℕ)). slice_index_or ws (i + 1) [] ∷ r) (drop_all (i + 1 + 1) ws (omega arith)) in
     rw (one, two, other) refl
 
 pub three_left : (ws : List (List ℕ)) (i j : ℕ) (k : List ℕ) → j ≡ i + 3 → i + 3 ≤ length ws → k ≡ get_or ws i k
     → drop i ws ≡ k ∷ slice_index_or ws (i + 1) [] ∷ slice_index_or ws (i + 2) [] ∷ drop j ws
 three_left ws i j k e h is =
-    let one : drop i ws ≡ k ∷ drop (i + 1) ws = item_on ws i k (omega arith) is in
+    let one : drop i ws ≡ k ∷ drop (i + 1) ws = item_at ws i k (omega arith) is in
     let n : i + 1 + 1 ≡ i + 2 = omega arith in
     let m : i + 2 + 1 ≡ j = omega arith in
     let two : drop (i + 1) ws ≡ slice_index_or ws (i + 1) [] ∷ drop (i + 2) ws = at_word ws (i + 1) (omega arith) ∙ ap (λ (n : ℕ). slice_index_or ws (i + 1) [] ∷ drop n ws) n in

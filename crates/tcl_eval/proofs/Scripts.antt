@@ -3,6 +3,7 @@ use Rattle.std.proofs.Common.{◌≡◌, ℕ, ◌+◌, ◌<◌, ◌≤◌, List,
 use Rattle.std.specs.Prelude.{false}
 use Rattle.lab_base.specs.declared.fault.Kind.{Kind}
 use Rattle.lab_base.specs.declared.fault.Kind.TheVariants as kinds
+use Rattle.lab_base.proofs.Lists.{item_at}
 use Rattle.tcl_words.specs.declared.word.Command.{Command}
 use Rattle.tcl_words.specs.declared.word.Word.{Word}
 use Rattle.tcl_words.specs.Words.{CommandsOf}
@@ -14,7 +15,6 @@ use Rattle.tcl_eval.specs.State.{State, spent}
 use Rattle.tcl_eval.specs.Evals as rules
 use Rattle.tcl_eval.specs.Evals.{Evals}
 use Rattle.tcl_eval.specs.Machines.{Ended, Leads}
-use Rattle.tcl_eval.proofs.Elements.{item_on}
 use Rattle.tcl_eval.proofs.Ended.{got, given, faulted, halted, handed, levels_out, by, leads, leads_here, leads_on, short_out}
 
 module _ {O : Type 0} (calls : O → List (List ℕ) → Result Called Kind × O) (hears : O → List ℕ → List ℕ → Result (Unit {0}) Kind × O) where
@@ -27,14 +27,14 @@ module _ {O : Type 0} (calls : O → List (List ℕ) → Result Called Kind × O
       → Leads calls hears l (Commands t (drop i cs) v) s j x → Ended calls hears Value l (One t c) s u (Err e) → Ended calls hears Value l j x u (Err e)
   command_halts l t v s u x j cs i c e less is on h =
       halted calls hears Value Value l l (One t c) j s u x u e (λ (h : Halt) (out : Evals calls hears l (One t c) s (Err h) u). by calls hears l (Commands t (drop i cs) v) j s x (Err h) u on
-      (subst (λ (rest : List Command). Evals calls hears l (Commands t rest v) s (Err h) u) (sym (item_on cs i c less is)) (rules.halts out))) h
+      (subst (λ (rest : List Command). Evals calls hears l (Commands t rest v) s (Err h) u) (sym (item_at cs i c less is)) (rules.halts out))) h
 
   pub command_done : (l : ℕ) (t v q : List ℕ) (s u x : State O) (j : Job) (cs : List Command) (i : ℕ) (c : Command) → i < length cs → c ≡ get_or cs i c
       → Leads calls hears l (Commands t (drop i cs) v) s j x → Ended calls hears Value l (One t c) s u (Ok q) → Leads calls hears l (Commands t (drop (i + 1) cs) q) u j x
   command_done l t v q s u x j cs i c less is on h =
       leads_on calls hears l (Commands t (drop i cs) v) j (Commands t (drop (i + 1) cs) q) s x u on
       (λ (r : Result Gain Halt) (w : State O) (rest : Evals calls hears l (Commands t (drop (i + 1) cs) q) u r w).
-      subst (λ (more : List Command). Evals calls hears l (Commands t more v) s r w) (sym (item_on cs i c less is)) (rules.next (got calls hears Value l (One t c) s u q h) rest))
+      subst (λ (more : List Command). Evals calls hears l (Commands t more v) s r w) (sym (item_at cs i c less is)) (rules.next (got calls hears Value l (One t c) s u q h) rest))
 
   pub script_ends : (l : ℕ) (t v : List ℕ) (s x : State O) (j : Job) (cs : List Command) (i : ℕ) → drop i cs ≡ []
       → Leads calls hears l (Commands t (drop i cs) v) s j x → Ended calls hears Value l j x s (Ok v)
@@ -63,7 +63,7 @@ module _ {O : Type 0} (calls : O → List (List ℕ) → Result Called Kind × O
   word_halts l t s u x c vs i w e some less is on h =
       halted calls hears Value Value l l (Parts t false w.parts []) (One t c) s u x u e
       (λ (h : Halt) (out : Evals calls hears l (Parts t false w.parts []) s (Err h) u). rules.words_halt some (by calls hears l (Words t (drop i c.words) vs) (Words t c.words []) s (spent x) (Err h) u on
-      (subst (λ (rest : List Word). Evals calls hears l (Words t rest vs) s (Err h) u) (sym (item_on c.words i w less is)) (rules.word_halts out)))) h
+      (subst (λ (rest : List Word). Evals calls hears l (Words t rest vs) s (Err h) u) (sym (item_at c.words i w less is)) (rules.word_halts out)))) h
 
   pub word_done : (l : ℕ) (t : List ℕ) (s u x : State O) (words : List Word) (vs more : List (List ℕ)) (i : ℕ) (w : Word) (v : List ℕ) → i < length words → w ≡ get_or words i w
       → more ≡ vs ++ v ∷ [] → Leads calls hears l (Words t (drop i words) vs) s (Words t words []) x → Ended calls hears Value l (Parts t false w.parts []) s u (Ok v)
@@ -71,7 +71,7 @@ module _ {O : Type 0} (calls : O → List (List ℕ) → Result Called Kind × O
   word_done l t s u x words vs more i w v less is pushed on h =
       rw pushed (leads_on calls hears l (Words t (drop i words) vs) (Words t words []) (Words t (drop (i + 1) words) (vs ++ v ∷ [])) s x u on
       (λ (r : Result Gain Halt) (y : State O) (rest : Evals calls hears l (Words t (drop (i + 1) words) (vs ++ v ∷ [])) u r y).
-      subst (λ (more : List Word). Evals calls hears l (Words t more vs) s r y) (sym (item_on words i w less is)) (rules.word (got calls hears Value l (Parts t false w.parts []) s u v h) rest)))
+      subst (λ (more : List Word). Evals calls hears l (Words t more vs) s r y) (sym (item_at words i w less is)) (rules.word (got calls hears Value l (Parts t false w.parts []) s u v h) rest)))
 
   pub words_end : (l : ℕ) (t : List ℕ) (words : List Word) (vs : List (List ℕ)) (s x : State O) (i : ℕ) → drop i words ≡ []
       → Leads calls hears l (Words t (drop i words) vs) s (Words t words []) x → Evals calls hears l (Words t words []) x (Ok (Texts vs)) s

@@ -3,6 +3,7 @@ use Rattle.std.proofs.Common.{◌≡◌, ℕ, ◌+◌, ◌-◌, ◌<◌, List, [
 use Rattle.lab_base.specs.declared.fault.Kind.{Kind}
 use Rattle.lab_base.specs.declared.fault.TextRefused.{TextRefused}
 use Rattle.lab_base.specs.declared.fault.TextRefused.TheVariants as refused
+use Rattle.lab_base.proofs.Lists.{item_at}
 use Rattle.tcl_words.specs.declared.word.Command.{Command}
 use Rattle.tcl_words.specs.Words.{CommandsOf, IsRefused, line_at}
 use Rattle.tcl_eval.specs.declared.hosts.Called.{Called}
@@ -13,7 +14,6 @@ use Rattle.tcl_eval.specs.State.{State}
 use Rattle.tcl_eval.specs.Machines.{Ended}
 use Rattle.tcl_eval.specs.Runs as runs
 use Rattle.tcl_eval.specs.Runs.{Runs, RunsFrom, HasRun, RunLeads, fault_on, last_line_of}
-use Rattle.tcl_eval.proofs.Elements.{item_on}
 use Rattle.tcl_eval.proofs.Ended.{got}
 
 pub last_line_is : (t : List ℕ) → 0 < length t → line_at t (length t - 1) ≡ last_line_of t
@@ -40,19 +40,19 @@ module _ {O : Type 0} (calls : ℕ → O → List (List ℕ) → Result Called K
       → RunLeads calls hears t (drop i cs) s x → Ended (calls c.line) hears Value 32 (One t c) s u (Ok v) → RunLeads calls hears t (drop (i + 1) cs) u x
   unfolding RunLeads
   run_next cs i c s u x v less is on h =
-      λ r w rest. on r w (subst (λ (more : List Command). RunsFrom calls hears t more s r w) (sym (item_on cs i c less is)) (runs.next (got (calls c.line) hears Value 32 (One t c) s u v h) rest))
+      λ r w rest. on r w (subst (λ (more : List Command). RunsFrom calls hears t more s r w) (sym (item_at cs i c less is)) (runs.next (got (calls c.line) hears Value 32 (One t c) s u v h) rest))
 
   pub run_stops : (cs : List Command) (i : ℕ) (c : Command) (s u x : State O) → i < length cs → c ≡ get_or cs i c
       → RunLeads calls hears t (drop i cs) s x → Ended (calls c.line) hears Value 32 (One t c) s u (Err Stop) → HasRun calls hears t x u (Ok (rans.Stopped c.line))
   unfolding HasRun RunLeads Ended
   run_stops cs i c s u x less is on h =
-      on (Ok (rans.Stopped c.line)) u (subst (λ (more : List Command). RunsFrom calls hears t more s (Ok (rans.Stopped c.line)) u) (sym (item_on cs i c less is)) (runs.stopped h))
+      on (Ok (rans.Stopped c.line)) u (subst (λ (more : List Command). RunsFrom calls hears t more s (Ok (rans.Stopped c.line)) u) (sym (item_at cs i c less is)) (runs.stopped h))
 
   pub run_fails : (cs : List Command) (i : ℕ) (c : Command) (k : Kind) (s u x : State O) → i < length cs → c ≡ get_or cs i c
       → RunLeads calls hears t (drop i cs) s x → Ended (calls c.line) hears Value 32 (One t c) s u (Err (Fault k)) → HasRun calls hears t x u (Err (refused.Text (fault_on c.line k)))
   unfolding HasRun RunLeads Ended
   run_fails cs i c k s u x less is on h =
-      on (Err (fault_on c.line k)) u (subst (λ (more : List Command). RunsFrom calls hears t more s (Err (fault_on c.line k)) u) (sym (item_on cs i c less is)) (runs.failed h))
+      on (Err (fault_on c.line k)) u (subst (λ (more : List Command). RunsFrom calls hears t more s (Err (fault_on c.line k)) u) (sym (item_at cs i c less is)) (runs.failed h))
 
   pub run_free : (s u : State O) → HasRun calls hears t s u (Err refused.Memory)
   unfolding HasRun

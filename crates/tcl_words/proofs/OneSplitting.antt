@@ -1,8 +1,9 @@
 -- A text has one splitting: its commands, their words, the parts of these and the variables in it are one, or there is one fault.
-use Rattle.std.proofs.Common.{◌≡◌, ◌≢◌, ℕ, ◌+◌, ◌-◌, Bool, true, false, arith, List, [], ◌∷◌, ◌++◌, Option, Some, None, Result, Ok, Err, length, drop, refl, sym, ap, get_or, ◌∙◌}
+use Rattle.std.proofs.Common.{◌≡◌, ◌≢◌, ℕ, ◌+◌, ◌-◌, true, false, arith, List, [], ◌∷◌, ◌++◌, Option, Some, None, Result, Ok, Err, length, drop, refl, sym, ap, get_or, ◌∙◌}
 use Rattle.std.specs.Prelude.{slice_index}
 use Rattle.std.proofs.lemmas.List.{get_or-drop}
 use Rattle.lab_base.specs.declared.fault.Kind.TheVariants as kinds
+use Rattle.lab_base.proofs.Tests.{never_both}
 use Rattle.tcl_words.specs.declared.flaw.Flaw.{Flaw}
 use Rattle.tcl_words.specs.declared.frame.Place.TheVariants.{Start}
 use Rattle.tcl_words.specs.declared.frame.Frame.TheVariants as frames
@@ -26,15 +27,12 @@ use Rattle.tcl_words.specs.Words.{bytes_from, after_parts, PartsOf, InBraces, wo
 use Rattle.tcl_words.proofs.Plans.{Plan, Ends, Asks, Knows, Follows, ends, asks, knows, follows_once, chosen, test_same, test_some, test_most, what_is}
 use Rattle.tcl_words.proofs.Passing.{passes_once}
 
-false_not_true : {A : Type 0} (b : Bool) → b ≡ true → b ≡ false → A
-false_not_true b is is_not = absurd (cc (is, is_not))
-
 module _ (t : List ℕ) where
   -- what comes next among parts is one
   next_once : (c : Closing) (i : ℕ) (a b : Next) → ComesNext t c i a → ComesNext t c i b → a ≡ b
   next_once Blank i (Closed j) (Closed k) h g = ap Closed (h.1 ∙ sym g.1)
-  next_once Blank i (Closed j) More h g = false_not_true (is_word_end (drop i t)) h.0 g.1
-  next_once Blank i More (Closed k) h g = false_not_true (is_word_end (drop i t)) g.0 h.1
+  next_once Blank i (Closed j) More h g = never_both (is_word_end (drop i t)) h.0 g.1
+  next_once Blank i More (Closed k) h g = never_both (is_word_end (drop i t)) g.0 h.1
   next_once Blank i (Unclosed e) b h g = absurd h
   next_once Blank i (Closed j) (Unclosed e) h g = absurd g
   next_once Blank i More (Unclosed e) h g = absurd g

@@ -2,12 +2,14 @@
 use Rattle.std.specs.Prelude.{nat_lt, nat_le, nat_eq, replicate}
 use Rattle.std.proofs.Common.{◌≡◌, ℕ, zero, suc, ◌+◌, ◌<◌, ◌≤◌, Bool, true, false, not, cond, eqb, ◌&&◌, ◌||◌, List, [], ◌∷◌, ◌++◌, length, map, get_or, Option, Some, Ok, Err, refl, sym, ap, subst, ◌∙◌, arith, inl, inr, length-append}
 use Rattle.std.specs.List.{list_all, list_any, flat_map}
-use Rattle.std.proofs.lemmas.Bool.{or_parts, cases_lt}
+use Rattle.std.proofs.lemmas.Bool.{or_parts, cases_lt, and_right}
 use Rattle.std.proofs.lemmas.Bool.Decides.{nat_tests}
 use Rattle.std.proofs.lemmas.List.{append-nil, map-append, length-map, get_or_append_left, get_or-append-add, get_or_default}
 use Rattle.std.proofs.lemmas.Grind.{flat_map-append}
+use Rattle.std.proofs.Math.Bool.{or-false}
 use Rattle.lab_base.specs.declared.fault.Kind.TheVariants as kinds
 use Rattle.lab_base.specs.Names.{same_name}
+use Rattle.lab_base.proofs.Numbers.{not_eqb_turned}
 use Rattle.virt_topo.specs.declared.wiring.Class.{Class}
 use Rattle.virt_topo.specs.declared.wiring.VirtNode.{VirtNode}
 use Rattle.virt_topo.specs.declared.wiring.VirtEnd.{VirtEnd}
@@ -58,7 +60,7 @@ node_judged w t n name twice within is tables asks twice_is within_is =
     let known : knows_class w n.asks ≡ true = ap (λ a. knows_class w a) asks ∙ asks_known w name in
     let desires = stands_again (λ a b. same_name a.0 b.0) n.desires in
     judged_kept (record w { nodes = w.nodes ++ n ∷ [] }) (record { twice = twice; known = true; same = false; bad_pipe = false; within = within })
-    (more.twice_with_node w n tests.twice ∙ ap (λ (b : Bool). list_any (λ v. same_name n.name v.name) w.nodes || (desires || b)) apart ∙ ap (λ (b : Bool). list_any (λ v. same_name n.name v.name) w.nodes || b) (more.or_false desires)
+    (more.twice_with_node w n tests.twice ∙ ap (λ (b : Bool). list_any (λ v. same_name n.name v.name) w.nodes || (desires || b)) apart ∙ ap (λ (b : Bool). list_any (λ v. same_name n.name v.name) w.nodes || b) (or-false desires)
     ∙ sym (twice_is ∙ ap (λ (b : Bool). b || desires) (name_there (λ (v : VirtNode). v.name) t.nodes.keys w.nodes n.name tables.nodes)))
     (more.known_with_node w n tests.known ∙ known)
     tests.same
@@ -240,15 +242,8 @@ new_ends w t p was tables is =
     let free = or_parts (list_any (same_end (p.node, p.from)) (flat_map ends_of_pipe w.pipes)) (list_any (same_end (p.node, p.to)) (flat_map ends_of_pipe w.pipes)) (sym (shares_by_ends p w.pipes) ∙ bad.1) in
     let first : list_any (same_end (p.node, p.from)) t.piped.keys ≡ false = ap (λ l. list_any (same_end (p.node, p.from)) l) tables.piped ∙ free.0 in
     let second : list_any (same_end (p.node, p.to)) t.piped.keys ≡ false = ap (λ l. list_any (same_end (p.node, p.to)) l) tables.piped ∙ free.1 in
-    let other : same_end (p.node, p.to) (p.node, p.from) ≡ false = last (eqb p.node p.node) (eqb p.to p.from) (turned p.from p.to apart) in
+    let other : same_end (p.node, p.to) (p.node, p.from) ≡ false = and_right (eqb p.node p.node) (eqb p.to p.from) (not_eqb_turned p.from p.to apart) in
     (first, more.any_more (same_end (p.node, p.to)) t.piped.keys (p.node, p.from) second ∙ other)
-  where
-    turned : (a b : ℕ) → eqb a b ≡ false → eqb b a ≡ false
-    turned a b h = grind (arith, nat_tests)
-
-    last : (a b : Bool) → b ≡ false → (a && b) ≡ false
-    last true b h = h
-    last false b h = refl
 
 pub piped_with : (w : Wiring) (p : Pipe) (keys first second : List (ℕ × ℕ)) → keys ≡ flat_map ends_of_pipe w.pipes → first ≡ keys ++ (p.node, p.from) ∷ [] → second ≡ first ++ (p.node, p.to) ∷ []
     → second ≡ flat_map ends_of_pipe (w.pipes ++ p ∷ [])

@@ -1,14 +1,12 @@
 -- The facts that hold of a wiring without a fault.
-use Rattle.std.proofs.Common.{◌≡◌, ℕ, ◌+◌, ◌≤◌, Bool, true, false, cond, not, List, [], ◌∷◌, ◌++◌, length, map, Result, Ok, Err, refl, arith, length-append}
+use Rattle.std.proofs.Common.{◌≡◌, ℕ, ◌≤◌, Bool, true, false, cond, not, List, length, Result, Ok, Err, refl}
 use Rattle.std.specs.Prelude.{◌==◌}
-use Rattle.std.proofs.lemmas.List.{length-map}
+use Rattle.std.proofs.lemmas.Bool.{not-false}
 use Rattle.lab_base.specs.Kinds.{both_of}
 use Rattle.lab_base.specs.Parts.{name_of, number_from}
 use Rattle.lab_base.specs.declared.fault.Kind.{Kind}
 use Rattle.line_text.specs.Fields.{field_at, list_behind}
 use Rattle.line_text.proofs.ListLaws.{both_read, list_few}
-use Rattle.virt_topo.specs.declared.wiring.Segment.{Segment}
-use Rattle.virt_topo.specs.declared.wiring.VirtEnd.{VirtEnd}
 use Rattle.virt_topo.specs.declared.wiring.Wiring.{Wiring}
 use Rattle.virt_topo.specs.Ends.{end_nodes}
 use Rattle.virt_topo.specs.Soundness.{keeps_limits, knows_all, has_twice, has_same, has_bad_pipe, IsSound}
@@ -19,10 +17,6 @@ use Rattle.top_text.specs.Adding.{kept}
 gate : (a : Bool) (kind : Kind) (rest : Result Wiring Kind) (w : Wiring) → cond a (Err kind) rest ≡ Ok w → (a ≡ false) × (rest ≡ Ok w)
 gate true kind rest w h = absurd (cc h)
 gate false kind rest w h = (refl, h)
-
-is_true : (a : Bool) → not a ≡ false → a ≡ true
-is_true true h = refl
-is_true false h = absurd (cc h)
 
 -- the tests of a wiring that is kept
 pub record IsKept (w : Wiring) : Type 0 where
@@ -39,20 +33,10 @@ tests_of w h =
     let c = gate (has_same w) _ _ w b.1 in
     let d = gate (has_bad_pipe w) _ _ w c.1 in
     let e = gate (not (keeps_limits w)) _ _ w d.1 in
-    record { twice = a.0; known = is_true _ b.0; same = c.0; pipes = d.0; limits = is_true _ e.0 }
+    record { twice = a.0; known = not-false _ b.0; same = c.0; pipes = d.0; limits = not-false _ e.0 }
 
 pub few_ends : (w : Wiring) → kept w ≡ Ok w → length (end_nodes w.segments) ≤ 4096
 few_ends w h = (limits_of w (tests_of w h).limits).ends
-
-pub more_ends : (segments : List Segment) (s : Segment) → length (end_nodes (segments ++ s ∷ [])) ≡ length (end_nodes segments) + length s.ends
-more_ends [] s =
-    let own : length (map (λ (e : VirtEnd). e.node) s.ends) ≡ length s.ends = length-map s.ends (λ e. e.node) in
-    let all : length (end_nodes (s ∷ [])) ≡ length (map (λ (e : VirtEnd). e.node) s.ends) + 0 = length-append (map (λ (e : VirtEnd). e.node) s.ends) [] in
-    omega (arith, own, all)
-more_ends (t ∷ segments) s =
-    let left = length-append (map (λ (e : VirtEnd). e.node) t.ends) (end_nodes (segments ++ s ∷ [])) in
-    let right = length-append (map (λ (e : VirtEnd). e.node) t.ends) (end_nodes segments) in
-    omega (arith, left, right, more_ends segments s)
 
 pub few_in_link : (fields : List (List ℕ)) (read : LinkRead) → link_line fields ≡ Ok read → length read.1.1.1 ≤ 256
 few_in_link fields read h =

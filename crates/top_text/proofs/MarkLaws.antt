@@ -8,6 +8,7 @@ use Rattle.std.proofs.lemmas.Bool.Decides.{nat_tests}
 use Rattle.std.proofs.lemmas.List.{length-map, get_or-set_same, get_or-set_other}
 use Rattle.std.proofs.lemmas.List.Folds.{list_all-map}
 use Rattle.std.specs.Prelude.{replicate}
+use Rattle.std.proofs.Math.Bool.{or-false}
 use Rattle.lab_base.specs.declared.fault.Kind.TheVariants as kinds
 use Rattle.lab_base.proofs.Members.{any_map}
 use Rattle.lab_base.specs.Names.{same_name}
@@ -17,7 +18,6 @@ use Rattle.virt_topo.specs.declared.wiring.Wiring.{Wiring}
 use Rattle.virt_topo.specs.Ends.{end_nodes, end_owners, end_number, pipe_from, pipe_to}
 use Rattle.virt_topo.specs.Repeats.{stands_again}
 use Rattle.virt_topo.specs.Soundness.{keeps_limits, knows_class, knows_all, has_twice, has_same, has_bad_pipe, is_bad_pipe, shares_end, owner_at, multiplexed_at, same_address, all_ends, asks_class_name, limits_class, limits_node, limits_segment, limits_pipe}
-use Rattle.virt_topo.proofs.MoreLaws.{or_false}
 use Rattle.top_text.specs.Adding.{kept, no_segment, segment_at, with_multiplexed}
 use Rattle.top_text.specs.Tables.{numbers_from, segments_on, segment_of_end, joins}
 use Rattle.top_text.proofs.KeptLaws.{tests_of}
@@ -166,7 +166,7 @@ module _ (w : Wiring) (s : ℕ) (lt : s < length w.segments) (few : length w.seg
   one_flag : (v k : ℕ) → multiplexed_at w (end_number (end_nodes w.segments) v k) ≡ false → multiplexed_at with (end_number (end_nodes with.segments) v k) ≡ eqb (segment_of_end w (end_number (end_nodes w.segments) v k)) s
   one_flag v k plain =
       let e = end_number (end_nodes w.segments) v k in
-      ap (λ (l : List ℕ). multiplexed_at with (end_number l v k)) (nodes_alike with.segments w.segments alike) ∙ flag_at e ∙ ap (λ (b : Bool). eqb (segment_of_end w e) s || b) plain ∙ or_false (eqb (segment_of_end w e) s)
+      ap (λ (l : List ℕ). multiplexed_at with (end_number l v k)) (nodes_alike with.segments w.segments alike) ∙ flag_at e ∙ ap (λ (b : Bool). eqb (segment_of_end w e) s || b) plain ∙ or-false (eqb (segment_of_end w e) s)
 
   one_pipe : (p : Pipe) → is_bad_pipe w p ≡ false → is_bad_pipe with p ≡ joins w s p
   one_pipe p good =
@@ -183,7 +183,7 @@ module _ (w : Wiring) (s : ℕ) (lt : s < length w.segments) (few : length w.seg
   pub bad_multiplexed : has_bad_pipe w ≡ false → has_bad_pipe with ≡ list_any (joins w s) w.pipes
   bad_multiplexed none =
       let parts = or_parts (list_any (is_bad_pipe w) w.pipes) (stands_again shares_end w.pipes) none in
-      (λ i. each w.pipes parts.0 i || parts.1 i) ∙ or_false (list_any (joins w s) w.pipes)
+      (λ i. each w.pipes parts.0 i || parts.1 i) ∙ or-false (list_any (joins w s) w.pipes)
     where
       each : (pipes : List Pipe) → list_any (is_bad_pipe w) pipes ≡ false → list_any (is_bad_pipe with) pipes ≡ list_any (joins w s) pipes
       each [] h = refl

@@ -1,12 +1,12 @@
 -- The place of what has a key of its own.
-use Rattle.std.proofs.Common.{◌≡◌, ◌≢◌, ℕ, zero, suc, ◌+◌, ◌<◌, Bool, true, false, not, cond, ltb, ◌||◌, List, [], ◌∷◌, length, map, get_or, Some, None, refl, sym, ap, ◌∙◌, arith, inl, inr}
+use Rattle.std.proofs.Common.{◌≡◌, ◌≢◌, ℕ, zero, suc, ◌+◌, ◌<◌, Bool, true, false, not, cond, ltb, List, [], ◌∷◌, length, map, get_or, Some, None, refl, sym, ap, ◌∙◌, arith, inl, inr}
 use Rattle.std.specs.List.{list_any, position, prefix_len}
-use Rattle.std.proofs.lemmas.Bool.{or_parts}
+use Rattle.std.proofs.lemmas.Bool.{or_parts, or_from}
 use Rattle.lab_base.specs.Lists.{Has, AllDiffer}
 use Rattle.line_text.proofs.PartsAgain.{less}
-use Rattle.std.specs.Cmp.Lexicographic.{nat_list_eq_equiv}
 use Rattle.std.proofs.Math.ListN.{get_or-map}
 use Rattle.lab_base.specs.Names.{same_name}
+use Rattle.lab_base.proofs.Bytes.{bytes_turned, bytes_self}
 use Rattle.virt_topo.specs.Repeats.{stands_again}
 use Rattle.virt_topo.specs.Soundness.{IsSound}
 use Rattle.virt_topo.specs.declared.wiring.VirtNode.{VirtNode}
@@ -14,9 +14,6 @@ use Rattle.virt_topo.specs.declared.wiring.Segment.{Segment}
 use Rattle.virt_topo.specs.declared.wiring.Wiring.{Wiring}
 use Rattle.top_text.specs.Adding.{virt_named, segment_named}
 use Rattle.top_text.proofs.SoundTests.{nodes_once, segments_once}
-
-pub neither : (a b : Bool) → a ≡ false → b ≡ false → (a || b) ≡ false
-neither a b x y = λ i. x i || y i
 
 module _ {X K : Type 0} (same : K → K → Bool) (self : (k : K) → same k k ≡ true) (symm : (a b : K) → same a b ≡ same b a) (key : X → K) where
   none_at : (k : K) (xs : List X) (i : ℕ) (d : K) → list_any (λ y. same k (key y)) xs ≡ false → i < length xs → same k (get_or (map key xs) i d) ≡ false
@@ -44,11 +41,11 @@ module _ {X K : Type 0} (same : K → K → Bool) (self : (k : K) → same k k �
   -- keys that differ stand once
   pub differ_once : ((a b : K) → same a b ≡ true → a ≡ b) → (xs : List X) → AllDiffer (map key xs) → stands_again (λ a b. same (key a) (key b)) xs ≡ false
   differ_once sound [] differ = refl
-  differ_once sound (x ∷ xs) differ = neither _ _ (others xs (λ y h. differ.0 y h)) (differ_once sound xs differ.1)
+  differ_once sound (x ∷ xs) differ = or_from _ _ (others xs (λ y h. differ.0 y h)) (differ_once sound xs differ.1)
     where
       others : (ys : List X) → ((k : K) → Has (map key ys) k → key x ≢ k) → list_any (λ y. same (key x) (key y)) ys ≡ false
       others [] apart = refl
-      others (y ∷ ys) apart = neither _ _ (one (same (key x) (key y)) refl) (others ys (λ k h. apart k (inr h)))
+      others (y ∷ ys) apart = or_from _ _ (one (same (key x) (key y)) refl) (others ys (λ k h. apart k (inr h)))
         where
           one : (b : Bool) → same (key x) (key y) ≡ b → b ≡ false
           one false e = refl
@@ -56,22 +53,16 @@ module _ {X K : Type 0} (same : K → K → Bool) (self : (k : K) → same k k �
 
 -- NAMES
 
-pub symm_name : (a b : List ℕ) → same_name a b ≡ same_name b a
-symm_name a b = nat_list_eq_equiv.symm a b
-
-pub same_self : (a : List ℕ) → same_name a a ≡ true
-same_self a = nat_list_eq_equiv.refl a
-
 -- the first virtual node of a name
 pub virt_own : (w : Wiring) → IsSound w → (i : ℕ) (v : VirtNode) → i < length w.nodes → v ≡ get_or w.nodes i v → virt_named w v.name ≡ Some i
 virt_own w sound i v lt is =
     let name : get_or (map (λ (n : VirtNode). n.name) w.nodes) i v.name ≡ v.name = get_or-map (λ (n : VirtNode). n.name) w.nodes i v ∙ sym (ap (λ (n : VirtNode). n.name) is) in
     ap (λ (k : List ℕ). position (λ n. same_name k n.name) w.nodes) (sym name)
-    ∙ own_place same_name same_self symm_name (λ (n : VirtNode). n.name) w.nodes i v.name (nodes_once w sound) lt
+    ∙ own_place same_name bytes_self bytes_turned (λ (n : VirtNode). n.name) w.nodes i v.name (nodes_once w sound) lt
 
 -- the first segment of a name
 pub segment_own : (w : Wiring) → IsSound w → (i : ℕ) (s : Segment) → i < length w.segments → s ≡ get_or w.segments i s → segment_named w s.name ≡ Some i
 segment_own w sound i s lt is =
     let name : get_or (map (λ (x : Segment). x.name) w.segments) i s.name ≡ s.name = get_or-map (λ (x : Segment). x.name) w.segments i s ∙ sym (ap (λ (x : Segment). x.name) is) in
     ap (λ (k : List ℕ). position (λ x. same_name k x.name) w.segments) (sym name)
-    ∙ own_place same_name same_self symm_name (λ (x : Segment). x.name) w.segments i s.name (segments_once w sound) lt
+    ∙ own_place same_name bytes_self bytes_turned (λ (x : Segment). x.name) w.segments i s.name (segments_once w sound) lt

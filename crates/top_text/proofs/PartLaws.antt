@@ -1,9 +1,8 @@
 -- A part of a sound wiring, as it is while its lines are read, has no fault.
 use Rattle.std.proofs.Common.{◌≡◌, ◌⊎◌, ℕ, ◌≤◌, Bool, true, false, not, cond, eqb, ◌&&◌, ◌||◌, List, [], ◌∷◌, ◌++◌, length, map, None, Ok, Err, refl, sym, ap, ◌∙◌, arith, inl, inr, length-append}
-use Rattle.std.specs.Prelude.{nat_le, nat_lt}
+use Rattle.std.specs.Prelude.{nat_lt}
 use Rattle.std.specs.List.{list_all, list_any}
-use Rattle.std.proofs.lemmas.Bool.{and_parts, and_from, or_parts}
-use Rattle.std.proofs.lemmas.Bool.Decides.{nat_tests}
+use Rattle.std.proofs.lemmas.Bool.{and_parts, and_from, or_parts, or_from, le-leb}
 use Rattle.std.proofs.lemmas.List.{length-map}
 use Rattle.std.proofs.lemmas.List.Folds.{list_all-append, list_any-append, list_all-map}
 use Rattle.std.proofs.lemmas.Grind.{flat_map-append}
@@ -21,7 +20,6 @@ use Rattle.virt_topo.specs.Repeats.{stands_again}
 use Rattle.virt_topo.specs.Soundness.{IsSound, limits_class, limits_node, limits_segment, limits_pipe, keeps_limits, knows_class, knows_pipe, knows_all, same_address, all_ends, asks_class_name, has_twice, has_same, is_bad_pipe, shares_end, has_bad_pipe}
 use Rattle.virt_topo.proofs.CableLaws.{limits_of}
 use Rattle.top_text.specs.Adding.{kept}
-use Rattle.top_text.proofs.OwnPlaces.{neither}
 use Rattle.top_text.proofs.SoundTests.{sound_tests}
 
 -- a virtual node before its fixed place is read
@@ -54,7 +52,7 @@ once_left : {X : Type 0} (same : X → X → Bool) (front rest : List X) → sta
 once_left same [] rest once = refl
 once_left same (x ∷ front) rest once =
     let parts = or_parts (list_any (same x) (front ++ rest)) (stands_again same (front ++ rest)) once in
-    neither _ _ (none_front (same x) (front ++ rest) front rest refl parts.0) (once_left same front rest parts.1)
+    or_from _ _ (none_front (same x) (front ++ rest) front rest refl parts.0) (once_left same front rest parts.1)
 
 once_front : {X : Type 0} (same : X → X → Bool) (whole front rest : List X) → whole ≡ front ++ rest → stands_again same whole ≡ false → stands_again same front ≡ false
 once_front same whole front rest is once = once_left same front rest (sym (ap (stands_again same) is) ∙ once)
@@ -65,9 +63,6 @@ once_map same f (x ∷ xs) = λ i. any_map (same (f x)) f xs i || once_map same 
 
 few_front : {X : Type 0} (whole front rest : List X) → whole ≡ front ++ rest → length front ≤ length whole
 few_front {X} whole front rest is = omega (arith, ap (λ (l : List X). length l) is, length-append front rest)
-
-test_le : (a b : ℕ) → a ≤ b → nat_le a b ≡ true
-test_le a b h = grind (arith, nat_tests)
 
 module _ (w p : Wiring) (sound : IsSound w) (part : IsPart w p) where
   -- a test of virtual nodes that doesn't look at fixed places
@@ -88,10 +83,10 @@ module _ (w p : Wiring) (sound : IsSound w) (part : IsPart w p) where
   limits_kept : keeps_limits p ≡ true
   limits_kept =
       let limits = limits_of w (sound_tests w sound).limits in
-      and_from _ _ (test_le (length p.classes) 64 (omega (arith, few_front w.classes p.classes part.more_classes part.classes, limits.classes)))
-      (and_from _ _ (test_le (length p.nodes) 256 (omega (arith, nodes_few, limits.nodes)))
-      (and_from _ _ (test_le (length p.segments) 512 (omega (arith, few_front w.segments p.segments part.more_segments part.segments, limits.segments)))
-      (and_from _ _ (test_le (length (end_nodes p.segments)) 4096 (omega (arith, ends_few, limits.ends)))
+      and_from _ _ (le-leb (length p.classes) 64 (omega (arith, few_front w.classes p.classes part.more_classes part.classes, limits.classes)))
+      (and_from _ _ (le-leb (length p.nodes) 256 (omega (arith, nodes_few, limits.nodes)))
+      (and_from _ _ (le-leb (length p.segments) 512 (omega (arith, few_front w.segments p.segments part.more_segments part.segments, limits.segments)))
+      (and_from _ _ (le-leb (length (end_nodes p.segments)) 4096 (omega (arith, ends_few, limits.ends)))
       (and_from _ _ (all_front limits_class w.classes p.classes part.more_classes part.classes limits.each_class)
       (and_from _ _ (all_nodes limits_node limits.each_node)
       (and_from _ _ (all_front limits_segment w.segments p.segments part.more_segments part.segments limits.each_segment)
@@ -105,12 +100,12 @@ module _ (w p : Wiring) (sound : IsSound w) (part : IsPart w p) where
       let d = or_parts (list_any (λ c. stands_again same_name c.types) w.classes) _ c.1 in
       let e = or_parts (list_any (λ v. stands_again (λ a b. same_name a.0 b.0) v.desires) w.nodes) _ d.1 in
       let f = or_parts (stands_again same_address (all_ends w.segments)) (list_any (λ v. asks_class_name w.classes v.asks) w.nodes) e.1 in
-      neither _ _ (once_front (λ a b. same_name a.name b.name) w.classes p.classes part.more_classes part.classes a.0)
-      (neither _ _ (sym (once_map (λ (a b : VirtNode). same_name a.name b.name) unfixed p.nodes) ∙ once_front (λ a b. same_name a.name b.name) (map unfixed w.nodes) (map unfixed p.nodes) part.more_nodes part.nodes (once_map (λ (a b : VirtNode). same_name a.name b.name) unfixed w.nodes ∙ b.0))
-      (neither _ _ (once_front (λ a b. same_name a.name b.name) w.segments p.segments part.more_segments part.segments c.0)
-      (neither _ _ (none_front (λ c. stands_again same_name c.types) w.classes p.classes part.more_classes part.classes d.0)
-      (neither _ _ (none_nodes (λ v. stands_again (λ a b. same_name a.0 b.0) v.desires) e.0)
-      (neither _ _ (once_front same_address (all_ends w.segments) (all_ends p.segments) (all_ends part.more_segments) (ap all_ends part.segments ∙ flat_map-append (λ (s : Segment). s.ends) p.segments part.more_segments) f.0)
+      or_from _ _ (once_front (λ a b. same_name a.name b.name) w.classes p.classes part.more_classes part.classes a.0)
+      (or_from _ _ (sym (once_map (λ (a b : VirtNode). same_name a.name b.name) unfixed p.nodes) ∙ once_front (λ a b. same_name a.name b.name) (map unfixed w.nodes) (map unfixed p.nodes) part.more_nodes part.nodes (once_map (λ (a b : VirtNode). same_name a.name b.name) unfixed w.nodes ∙ b.0))
+      (or_from _ _ (once_front (λ a b. same_name a.name b.name) w.segments p.segments part.more_segments part.segments c.0)
+      (or_from _ _ (none_front (λ c. stands_again same_name c.types) w.classes p.classes part.more_classes part.classes d.0)
+      (or_from _ _ (none_nodes (λ v. stands_again (λ a b. same_name a.0 b.0) v.desires) e.0)
+      (or_from _ _ (once_front same_address (all_ends w.segments) (all_ends p.segments) (all_ends part.more_segments) (ap all_ends part.segments ∙ flat_map-append (λ (s : Segment). s.ends) p.segments part.more_segments) f.0)
       (asked part.asked f.1))))))
     where
       asked : (p.nodes ≡ []) ⊎ (p.classes ≡ w.classes) → list_any (λ v. asks_class_name w.classes v.asks) w.nodes ≡ false → list_any (λ v. asks_class_name p.classes v.asks) p.nodes ≡ false
@@ -144,7 +139,7 @@ module _ (w p : Wiring) (sound : IsSound w) (part : IsPart w p) where
   pipes_kept : has_bad_pipe p ≡ false
   pipes_kept =
       let a = or_parts (list_any (is_bad_pipe w) w.pipes) (stands_again shares_end w.pipes) (sound_tests w sound).pipes in
-      neither _ _ (piped part.piped (none_front (is_bad_pipe w) w.pipes p.pipes part.more_pipes part.pipes a.0)) (once_front shares_end w.pipes p.pipes part.more_pipes part.pipes a.1)
+      or_from _ _ (piped part.piped (none_front (is_bad_pipe w) w.pipes p.pipes part.more_pipes part.pipes a.0)) (once_front shares_end w.pipes p.pipes part.more_pipes part.pipes a.1)
     where
       piped : (p.pipes ≡ []) ⊎ ((length p.nodes ≡ length w.nodes) × (p.segments ≡ w.segments)) → list_any (is_bad_pipe w) p.pipes ≡ false → list_any (is_bad_pipe p) p.pipes ≡ false
       piped (inl none) h = ap (λ (l : List Pipe). list_any (is_bad_pipe p) l) none

@@ -2,12 +2,12 @@
 use Rattle.std.proofs.Common.{◌≡◌, ℕ, suc, ◌+◌, ◌-◌, ◌<◌, ◌≤◌, Bool, true, false, cond, eqb, List, [], ◌∷◌, length, take, get_or, count_by, map, refl, sym, ap, subst, ◌∙◌, arith, inl, inr, true≢false}
 use Rattle.std.specs.Prelude.{nat_lt}
 use Rattle.std.specs.List.{list_all, list_any, AllByRecursion, IsDistinct}
-use Rattle.std.proofs.lemmas.Bool.{and_parts, and_from, or_parts, or_left, or_cases, eqb-true, eq-eqb}
-use Rattle.std.proofs.lemmas.Bool.Decides.{nat_tests}
+use Rattle.std.proofs.lemmas.Bool.{and_parts, and_from, or_parts, or_left, or_cases, eqb-true, eq-eqb, ltb-true}
 use Rattle.std.proofs.lemmas.List.{length-map}
 use Rattle.std.proofs.lemmas.List.Sums.{sum_by-cons}
 use Rattle.std.proofs.lemmas.Map.Steps.{length-le_from_distinct_below}
 use Rattle.lab_base.specs.Lists.{Has}
+use Rattle.lab_base.proofs.Numbers.{at_least_one}
 use Rattle.line_text.proofs.PartsAgain.{all_has}
 use Rattle.virt_topo.specs.declared.wiring.Pipe.{Pipe}
 use Rattle.virt_topo.specs.declared.wiring.Wiring.{Wiring}
@@ -15,7 +15,6 @@ use Rattle.virt_topo.specs.Ends.{end_nodes, end_number, pipe_from}
 use Rattle.virt_topo.specs.Repeats.{stands_again}
 use Rattle.virt_topo.specs.Soundness.{IsSound, knows_class, knows_node, knows_pipe, is_bad_pipe, shares_end}
 use Rattle.top_text.proofs.SoundTests.{sound_tests}
-use Rattle.top_text.proofs.TopLines.{lt_from}
 
 -- how many of the ends are of a virtual node
 abbrev pub ends_of : ℕ → List ℕ → ℕ
@@ -60,12 +59,9 @@ number_at (x ∷ ends) v k lt = by (eqb x v) refl k lt (λ k. number_at ends v k
         first true z lt rest = record { node = eqb-true x v e; count = sym (eqb-true k 0 z) }
         first false z lt rest =
             let at = behind x ends v (k - 1) (end_number ends v (k - 1)) (end_number ends v (k - 1) + 1) refl (rest (k - 1) (omega arith)) in
-            let some : 1 ≤ k = positive k z in
+            let some : 1 ≤ k = at_least_one k z in
             let same : is_of v x + (k - 1) ≡ k = omega (arith, is_one x v e, some) in
             subst (λ (j : ℕ). IsAt (x ∷ ends) v j (end_number ends v (k - 1) + 1)) same at
-          where
-            positive : (k : ℕ) → eqb k 0 ≡ false → 1 ≤ k
-            positive k h = grind (arith, nat_tests, h)
 
 -- two ends with one number are one
 number_once : (ends : List ℕ) (v k u j : ℕ) → end_number ends v k < length ends → end_number ends u j < length ends → end_number ends v k ≡ end_number ends u j → (v ≡ u) × (k ≡ j)
@@ -84,7 +80,7 @@ module _ (w : Wiring) (sound : IsSound w) where
   from_below : (pipes : List Pipe) → list_all (knows_pipe w) pipes ≡ true → (p : Pipe) → Has pipes p → pipe_from w p < length (end_nodes w.segments)
   from_below pipes all p h =
       let known = and_parts (knows_node w p.node) _ (all_has (knows_pipe w) pipes all p h) in
-      lt_from (pipe_from w p) (length (end_nodes w.segments)) (and_parts (nat_lt (pipe_from w p) (length (end_nodes w.segments))) _ known.1).0
+      ltb-true (pipe_from w p) (length (end_nodes w.segments)) (and_parts (nat_lt (pipe_from w p) (length (end_nodes w.segments))) _ known.1).0
 
   apart : (p q : Pipe) → shares_end p q ≡ false → pipe_from w p < length (end_nodes w.segments) → pipe_from w q < length (end_nodes w.segments) → eqb (pipe_from w p) (pipe_from w q) ≡ false
   apart p q h lt gt = by (eqb (pipe_from w p) (pipe_from w q)) refl

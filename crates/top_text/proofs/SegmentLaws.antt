@@ -3,10 +3,11 @@ use Rattle.std.specs.Prelude.{nat_lt, replicate}
 use Rattle.std.proofs.Common.{◌≡◌, ℕ, suc, ◌+◌, ◌-◌, ◌<◌, ◌≤◌, Bool, true, false, eqb, ◌||◌, List, [], ◌∷◌, ◌++◌, length, get_or, refl, sym, ap, ◌∙◌, arith, inl, inr, append_assoc, length-append}
 use Rattle.std.specs.List.{list_all, list_any, flat_map}
 use Rattle.std.proofs.Math.ListN.{set}
-use Rattle.std.proofs.lemmas.Bool.{and_parts, cases_lt, cases_eq}
+use Rattle.std.proofs.lemmas.Bool.{and_parts, cases_lt, cases_eq, ltb-true}
 use Rattle.std.proofs.lemmas.Bool.Decides.{nat_tests}
 use Rattle.std.proofs.lemmas.List.{append-nil, length-map, length-replicate, length-set, get_or_append_left, get_or-set_same, get_or-set_other}
 use Rattle.std.proofs.lemmas.List.Folds.{list_any-append}
+use Rattle.std.proofs.Math.Bool.{or-false, or-true}
 use Rattle.virt_topo.specs.declared.wiring.Segment.{Segment}
 use Rattle.virt_topo.specs.declared.wiring.Pipe.{Pipe}
 use Rattle.virt_topo.specs.declared.wiring.Wiring.{Wiring}
@@ -15,7 +16,6 @@ use Rattle.virt_topo.specs.Owners.{at_ends}
 use Rattle.virt_topo.specs.Soundness.{knows_node, knows_pipe, is_end}
 use Rattle.virt_topo.proofs.EndLaws.{nodes_of, owner_here, owner_past}
 use Rattle.virt_topo.proofs.MoreEnds.{nodes_more, number_more, is_end_at, value_at_end, at_ends-append}
-use Rattle.virt_topo.proofs.MoreLaws.{or_false}
 use Rattle.top_text.specs.Adding.{no_segment, segment_at, with_segment, with_pipe}
 use Rattle.top_text.specs.Tables.{numbers_from, segments_on, segment_of_end, joins}
 
@@ -103,19 +103,16 @@ segment_on segments v k = value_at_end (end_nodes segments) (numbers_from 0 segm
 
 -- SEGMENTS THAT PIPES JOIN
 
-lt_of : (a b : ℕ) → nat_lt a b ≡ true → a < b
-lt_of a b h = grind (arith, nat_tests)
-
 -- the segment of an end that is there
 pub segment_below : (w : Wiring) (v k : ℕ) → is_end w v k ≡ true → segment_of_end w (end_number (end_nodes w.segments) v k) < length w.segments
 segment_below w v k is =
-    let high = numbers_high 0 65535 w.segments (end_number (end_nodes w.segments) v k) (lt_of (end_number (end_nodes w.segments) v k) (length (end_nodes w.segments)) is) in
+    let high = numbers_high 0 65535 w.segments (end_number (end_nodes w.segments) v k) (ltb-true (end_number (end_nodes w.segments) v k) (length (end_nodes w.segments)) is) in
     omega (arith, high)
 
 segment_kept : (w : Wiring) (s : Segment) (v k : ℕ) → is_end w v k ≡ true
     → segment_of_end (with_segment w s) (end_number (end_nodes (w.segments ++ s ∷ [])) v k) ≡ segment_of_end w (end_number (end_nodes w.segments) v k)
 segment_kept w s v k is =
-    let there = lt_of (end_number (end_nodes w.segments) v k) (length (end_nodes w.segments)) is in
+    let there = ltb-true (end_number (end_nodes w.segments) v k) (length (end_nodes w.segments)) is in
     let number : end_number (end_nodes (w.segments ++ s ∷ [])) v k ≡ end_number (end_nodes w.segments) v k = ap (λ (l : List ℕ). end_number l v k) (nodes_more w.segments s) ∙ number_more (end_nodes w.segments) (nodes_of s.ends) v k there in
     (λ i. get_or (numbers_last w.segments s i) (number i) 65535)
     ∙ get_or_append_left (numbers_from 0 w.segments) (replicate (length s.ends) (length w.segments)) 65535 (end_number (end_nodes w.segments) v k) (omega (arith, there, length-numbers 0 w.segments))
@@ -157,10 +154,6 @@ same_eqb a b e = grind (arith, nat_tests)
 other_eqb : (a b : ℕ) → (a ≡ b → ⊥) → eqb b a ≡ false
 other_eqb a b e = grind (arith, nat_tests)
 
-or_true : (b : Bool) → (b || true) ≡ true
-or_true true = refl
-or_true false = refl
-
 or_three : (a b c : Bool) → ((a || b) || c) ≡ (a || (b || c))
 or_three true b c = refl
 or_three false b c = refl
@@ -169,8 +162,8 @@ set_true : (xs : List Bool) (a n : ℕ) → a < length xs → get_or (set xs a t
 set_true xs a n lt = elim (cases_eq n a) [
   | inl same ↦
       let here : get_or (set xs a true) n false ≡ true = ap (λ (k : ℕ). get_or (set xs a true) k false) same ∙ get_or-set_same xs a true false lt in
-      here ∙ sym (ap (λ (b : Bool). get_or xs n false || b) (same_eqb n a same) ∙ or_true (get_or xs n false))
-  | inr other ↦ get_or-set_other xs a n true false other ∙ sym (ap (λ (b : Bool). get_or xs n false || b) (other_eqb n a other) ∙ or_false (get_or xs n false))
+      here ∙ sym (ap (λ (b : Bool). get_or xs n false || b) (same_eqb n a same) ∙ or-true (get_or xs n false))
+  | inr other ↦ get_or-set_other xs a n true false other ∙ sym (ap (λ (b : Bool). get_or xs n false || b) (other_eqb n a other) ∙ or-false (get_or xs n false))
 ]
 
 -- with a pipe more
@@ -185,5 +178,5 @@ joined_with w p old new count were from to now s lt =
     ∙ set_true (set old a true) b s (omega (arith, to, count, length-set old a true))
     ∙ ap (λ (x : Bool). x || eqb b s) (set_true old a s (omega (arith, from, count)) ∙ ap (λ (x : Bool). x || eqb a s) (were s lt))
     ∙ or_three (list_any (joins w s) w.pipes) (eqb a s) (eqb b s)
-    ∙ ap (λ (x : Bool). list_any (joins w s) w.pipes || x) (sym (or_false (eqb a s || eqb b s)))
+    ∙ ap (λ (x : Bool). list_any (joins w s) w.pipes || x) (sym (or-false (eqb a s || eqb b s)))
     ∙ sym (list_any-append (joins w s) w.pipes (p ∷ []))

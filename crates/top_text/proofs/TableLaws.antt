@@ -1,16 +1,20 @@
 -- The tables decide the tests of the whole wiring.
 use Rattle.std.specs.Prelude.{nat_lt, nat_eq}
-use Rattle.std.proofs.Common.{◌≡◌, ◌≢◌, ℕ, zero, suc, ◌+◌, ◌<◌, ◌≤◌, Bool, true, false, not, cond, ltb, eqb, ◌&&◌, ◌||◌, List, [], ◌∷◌, ◌++◌, length, map, take, drop, get_or, Option, Some, None, Err, Ok, refl, sym, ap, ◌∙◌, arith, inl, inr}
+use Rattle.std.proofs.Common.{◌≡◌, ℕ, zero, suc, ◌+◌, ◌<◌, ◌≤◌, Bool, true, false, not, cond, ltb, eqb, ◌&&◌, ◌||◌, List, [], ◌∷◌, ◌++◌, length, map, take, drop, get_or, Option, Some, None, Err, Ok, refl, sym, ap, ◌∙◌, arith, inl, inr}
 use Rattle.std.specs.List.{list_all, list_any, flat_map, prefix_len}
 use Rattle.std.proofs.Math.ListN.{set}
-use Rattle.std.proofs.lemmas.Bool.{and_parts, and_from, or_parts, cases_eq}
+use Rattle.std.proofs.lemmas.Bool.{and_parts, and_from, or_parts, cases_eq, ne_eqb}
 use Rattle.std.proofs.lemmas.Bool.Decides.{nat_tests}
 use Rattle.std.proofs.lemmas.List.{append-nil, append_assoc, take-append-drop, get_or-set_same, get_or-set_other, get_or_default}
 use Rattle.std.proofs.lemmas.List.Folds.{list_all-append, list_all-map}
 use Rattle.std.proofs.lemmas.Grind.{flat_map-append}
+use Rattle.std.proofs.Math.Bool.{or-true}
 use Rattle.lab_base.specs.declared.fault.Kind.TheVariants as kinds
-use Rattle.lab_base.proofs.Members.{any_map}
+use Rattle.lab_base.proofs.Members.{any_map, all_weaker}
 use Rattle.lab_base.specs.Names.{same_name}
+use Rattle.lab_base.proofs.Lists.{item_at}
+use Rattle.lab_base.proofs.Bytes.{bytes_turned}
+use Rattle.lab_base.proofs.Numbers.{ltb_start, ltb_next}
 use Rattle.virt_topo.specs.declared.wiring.Class.{Class}
 use Rattle.virt_topo.specs.declared.wiring.VirtEnd.{VirtEnd}
 use Rattle.virt_topo.specs.declared.wiring.Segment.{Segment}
@@ -20,12 +24,11 @@ use Rattle.virt_topo.specs.Ends.{end_nodes}
 use Rattle.virt_topo.specs.Owners.{at_ends}
 use Rattle.virt_topo.specs.Repeats.{stands_again}
 use Rattle.virt_topo.specs.Soundness.{keeps_limits, knows_all, knows_class, has_twice, has_same, has_bad_pipe, shares_end, same_some, same_address, asks_class_name}
-use Rattle.virt_topo.proofs.EndLaws.{nodes_of, item_at}
-use Rattle.virt_topo.proofs.MoreLaws.{again_more, all_alike}
+use Rattle.virt_topo.proofs.EndLaws.{nodes_of}
+use Rattle.virt_topo.proofs.MoreLaws.{again_more}
 use Rattle.top_text.specs.declared.judge.Tests.{Tests}
 use Rattle.top_text.specs.Adding.{kept, asks_at, asks_of}
 use Rattle.top_text.specs.Tables.{listed, addresses_of, same_end, ends_of_pipe, numbers_from, segments_on, judged}
-use Rattle.top_text.proofs.OwnPlaces.{symm_name}
 
 -- TESTS
 
@@ -44,19 +47,13 @@ none_before : {X : Type 0} (test : X → Bool) (xs : List X) → ltb (prefix_len
 none_before test [] past = refl
 none_before test (x ∷ xs) past = by (test x) past (none_before test xs)
   where
-    first : (n : ℕ) → ltb 0 (suc n) ≡ true
-    first n = grind (arith, nat_tests)
-
-    next : (n m : ℕ) → ltb (1 + n) (suc m) ≡ ltb n m
-    next n m = grind (arith, nat_tests)
-
     by : (b : Bool) → ltb (cond (not b) (1 + prefix_len (λ y. not (test y)) xs) 0) (suc (length xs)) ≡ false → (ltb (prefix_len (λ y. not (test y)) xs) (length xs) ≡ false → list_any test xs ≡ false) → (b || list_any test xs) ≡ false
-    by true past rest = absurd (cc (sym (first (length xs)) ∙ past))
-    by false past rest = rest (sym (next (prefix_len (λ y. not (test y)) xs) (length xs)) ∙ past)
+    by true past rest = absurd (cc (sym (ltb_start (length xs)) ∙ past))
+    by false past rest = rest (sym (ltb_next (prefix_len (λ y. not (test y)) xs) (length xs)) ∙ past)
 
 any_symm : (classes : List Class) (name : List ℕ) → list_any (λ c. same_name c.name name) classes ≡ list_any (λ c. same_name name c.name) classes
 any_symm [] name = refl
-any_symm (c ∷ classes) name = λ i. symm_name c.name name i || any_symm classes name i
+any_symm (c ∷ classes) name = λ i. bytes_turned c.name name i || any_symm classes name i
 
 pub asks_known : (w : Wiring) (name : List ℕ) → knows_class w (asks_of w name) ≡ true
 asks_known w name = by (ltb n (length w.classes)) refl
@@ -104,13 +101,9 @@ same_addresses (e ∷ ends) = by e.address (same_addresses ends)
 pub addresses_more : (xs ys : List VirtEnd) → addresses_of (xs ++ ys) ≡ addresses_of xs ++ addresses_of ys
 addresses_more xs ys = flat_map-append (λ (e : VirtEnd). listed e.address) xs ys
 
-or_true : (b : Bool) → (b || true) ≡ true
-or_true true = refl
-or_true false = refl
-
 has_it : {X : Type 0} (test : X → Bool) (xs : List X) (x : X) (ys : List X) → test x ≡ true → list_any test (xs ++ x ∷ ys) ≡ true
 has_it test [] x ys is = ap (λ (b : Bool). b || list_any test ys) is
-has_it test (z ∷ xs) x ys is = ap (λ (b : Bool). test z || b) (has_it test xs x ys is) ∙ or_true (test z)
+has_it test (z ∷ xs) x ys is = ap (λ (b : Bool). test z || b) (has_it test xs x ys is) ∙ or-true (test z)
 
 again_there : {X : Type 0} (same : X → X → Bool) (xs : List X) (x : X) (ys : List X) → list_any (λ y. same y x) xs ≡ true → stands_again same (xs ++ x ∷ ys) ≡ true
 again_there same [] x ys found = absurd (cc found)
@@ -119,7 +112,7 @@ again_there {X} same (z ∷ xs) x ys found = by (same z x) refl found (λ later.
     by : (b : Bool) → same z x ≡ b → (b || list_any (λ y. same y x) xs) ≡ true → (list_any (λ y. same y x) xs ≡ true → stands_again same (xs ++ x ∷ ys) ≡ true)
         → (list_any (same z) (xs ++ x ∷ ys) || stands_again same (xs ++ x ∷ ys)) ≡ true
     by true is found rest = ap (λ (r : Bool). r || stands_again same (xs ++ x ∷ ys)) (has_it (same z) xs x ys is)
-    by false is found rest = ap (λ (r : Bool). list_any (same z) (xs ++ x ∷ ys) || r) (rest found) ∙ or_true (list_any (same z) (xs ++ x ∷ ys))
+    by false is found rest = ap (λ (r : Bool). list_any (same z) (xs ++ x ∷ ys) || r) (rest found) ∙ or-true (list_any (same z) (xs ++ x ∷ ys))
 
 symm_number : (a b : ℕ) → nat_eq a b ≡ nat_eq b a
 symm_number a b = grind (arith, nat_tests)
@@ -188,9 +181,6 @@ at_next {X} x (f ∷ ends) e v = by (eqb f.node v) (at_next x ends e v)
     by true is = ap (λ (l : List X). x ∷ l) is
     by false is = is
 
-not_equal : (x y : ℕ) → x ≢ y → eqb x y ≡ false
-not_equal x y ne = grind (arith, nat_tests)
-
 equal : (x y : ℕ) → x ≡ y → eqb x y ≡ true
 equal x y e = grind (arith, nat_tests)
 
@@ -217,7 +207,7 @@ next_end {X} old so_far new own x ends i e lt is count within own_is were now v 
           here ∙ ap (λ (l : List X). l ++ x ∷ []) (own_was ∙ were v v_in) ∙ append_assoc (get_or old v []) before (x ∷ []) ∙ ap (λ (l : List X). get_or old v [] ++ (before ++ l)) (sym one)
       | inr other ↦
           let there : get_or (set so_far e.node (own ++ x ∷ [])) v [] ≡ get_or so_far v [] = get_or-set_other so_far e.node v (own ++ x ∷ []) [] other in
-          let none : cond (eqb e.node v) (x ∷ []) [] ≡ [] = ap (λ (b : Bool). cond b (x ∷ []) []) (not_equal e.node v (λ h. other (sym h))) in
+          let none : cond (eqb e.node v) (x ∷ []) [] ≡ [] = ap (λ (b : Bool). cond b (x ∷ []) []) (ne_eqb e.node v (λ h. other (sym h))) in
           there ∙ were v v_in ∙ ap (λ (l : List X). get_or old v [] ++ l) (sym (append-nil before) ∙ ap (λ (l : List X). before ++ l) (sym none))
     ]
 
@@ -246,7 +236,7 @@ none_past segments n v le known = at_none v (end_nodes segments) (numbers_from 0
     all (s ∷ segments) h =
         let parts = and_parts (list_all (λ e. nat_lt e.node n) s.ends) (list_all (λ s. list_all (λ e. nat_lt e.node n) s.ends) segments) h in
         list_all-append (λ x. nat_lt x v) (nodes_of s.ends) (end_nodes segments)
-        ∙ and_from _ _ (list_all-map (λ x. nat_lt x v) (λ (e : VirtEnd). e.node) s.ends ∙ all_alike (λ e. nat_lt e.node n) (λ e. nat_lt e.node v) (λ e g. less e.node g) s.ends parts.0) (all segments parts.1)
+        ∙ and_from _ _ (list_all-map (λ x. nat_lt x v) (λ (e : VirtEnd). e.node) s.ends ∙ all_weaker (λ e. nat_lt e.node n) (λ e. nat_lt e.node v) (λ e g. less e.node g) s.ends parts.0) (all segments parts.1)
 
 -- a new virtual node has no end
 pub none_on : (segments : List Segment) (n : ℕ) → list_all (λ s. list_all (λ e. nat_lt e.node n) s.ends) segments ≡ true → segments_on segments n ≡ []

@@ -2,7 +2,7 @@
 use Rattle.std.proofs.Common.{◌≡◌, ℕ, ◌<◌, Bool, true, false, cond, List, [], ◌∷◌, ◌++◌, length, get_or, map, set, Option, Some, None, Result, Ok, Err, refl, sym, ap, subst, ◌∙◌, arith, inl, inr, append_assoc, length-append}
 use Rattle.std.specs.Prelude.{codes, is_some, nat_lt}
 use Rattle.std.specs.List.{list_all, position, flat_map}
-use Rattle.std.proofs.lemmas.Bool.{and_parts}
+use Rattle.std.proofs.lemmas.Bool.{and_parts, ltb-true}
 use Rattle.std.proofs.lemmas.List.{append-nil, map-append, get_or_default}
 use Rattle.std.proofs.lemmas.Simd.{map-map}
 use Rattle.std.proofs.Math.Seq.{get_or-append_seam, set-append_seam}
@@ -37,7 +37,7 @@ use Rattle.top_text.proofs.MarkLaws.{unmarked, AreAlike, kept_alike, names_alike
 use Rattle.std.proofs.Math.ListN.{get_or-map}
 use Rattle.virt_topo.specs.Wirings.{virt_at, no_virt}
 use Rattle.top_text.proofs.OwnPlaces.{virt_own, segment_own}
-use Rattle.top_text.proofs.TopLines.{end_read, class_again, node_again, asks_again, fix_again, link_again, multiplex_again, pipe_again, number_high, lt_from}
+use Rattle.top_text.proofs.TopLines.{end_read, class_again, node_again, asks_again, fix_again, link_again, multiplex_again, pipe_again, number_high}
 
 -- what the names of a printable wiring are
 pub record IsNamed (w : Wiring) : Type 0 where
@@ -90,7 +90,7 @@ module _ (w : Wiring) (sound : IsSound w) (named : IsNamed w) where
 
   pub asked_named : (asks : Asks) → named_asks asks ≡ true → knows_class w asks ≡ true → is_name (asked_name w asks) ≡ true
   asked_named (Plain type) h known = h
-  asked_named (InClass c) h known = class_named_at c (lt_from c (length w.classes) known)
+  asked_named (InClass c) h known = class_named_at c (ltb-true c (length w.classes) known)
 
   -- THE WIRING AFTER SOME OF ITS LINES
 
@@ -250,7 +250,7 @@ module _ (w : Wiring) (sound : IsSound w) (named : IsNamed w) where
   end_within s h e g =
       let a = and_parts (list_all (λ v. knows_class w v.asks) w.nodes) _ (sound_tests w sound).known in
       let b = and_parts (list_all (λ s. list_all (λ e. knows_node w e.node) s.ends) w.segments) (list_all (knows_pipe w) w.pipes) a.1 in
-      lt_from e.node (length w.nodes) (all_has (λ (e : VirtEnd). knows_node w e.node) s.ends (all_has (λ (s : Segment). list_all (λ e. knows_node w e.node) s.ends) w.segments b.0 s h) e g)
+      ltb-true e.node (length w.nodes) (all_has (λ (e : VirtEnd). knows_node w e.node) s.ends (all_has (λ (s : Segment). list_all (λ e. knows_node w e.node) s.ends) w.segments b.0 s h) e g)
 
   link_adds : (front : List Segment) (s : Segment) (rest : List Segment) → front ++ s ∷ rest ≡ [] ++ w.segments
       → added (record { classes = w.classes; nodes = w.nodes; segments = map unmarked front; pipes = [] }) (link_fields w s) ≡ Ok (record { classes = w.classes; nodes = w.nodes; segments = map unmarked (front ++ s ∷ []); pipes = [] })
@@ -324,10 +324,10 @@ module _ (w : Wiring) (sound : IsSound w) (named : IsNamed w) where
       let b = and_parts (list_all (λ s. list_all (λ e. knows_node w e.node) s.ends) w.segments) (list_all (knows_pipe w) w.pipes) a.1 in
       let known = and_parts (knows_node w p.node) _ (all_has (knows_pipe w) w.pipes b.1 p h) in
       let ends = and_parts (nat_lt (end_number (end_nodes w.segments) p.node p.from) (length (end_nodes w.segments))) (nat_lt (end_number (end_nodes w.segments) p.node p.to) (length (end_nodes w.segments))) known.1 in
-      let from_end = lt_from (end_number (end_nodes w.segments) p.node p.from) (length (end_nodes w.segments)) ends.0 in
-      let to_end = lt_from (end_number (end_nodes w.segments) p.node p.to) (length (end_nodes w.segments)) ends.1 in
+      let from_end = ltb-true (end_number (end_nodes w.segments) p.node p.from) (length (end_nodes w.segments)) ends.0 in
+      let to_end = ltb-true (end_number (end_nodes w.segments) p.node p.to) (length (end_nodes w.segments)) ends.1 in
       record {
-        node = lt_from p.node (length w.nodes) known.0;
+        node = ltb-true p.node (length w.nodes) known.0;
         from = omega (arith, from_end, limits.ends, number_high (end_nodes w.segments) p.node p.from from_end);
         to = omega (arith, to_end, limits.ends, number_high (end_nodes w.segments) p.node p.to to_end);
         there = rates.0;

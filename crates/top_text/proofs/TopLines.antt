@@ -1,9 +1,8 @@
 -- The lines of a printed wiring are read again.
 use Rattle.std.proofs.Common.{◌≡◌, ℕ, zero, suc, ◌+◌, ◌-◌, ◌%◌, ◌<◌, ◌≤◌, Bool, true, false, not, cond, eqb, List, [], ◌∷◌, ◌++◌, length, map, Option, Some, None, Result, Ok, Err, refl, sym, ap, subst, ◌∙◌, arith}
-use Rattle.std.specs.Prelude.{decimal, nat_le, nat_lt}
+use Rattle.std.specs.Prelude.{decimal, nat_le}
 use Rattle.std.specs.List.{list_all, list_any, position}
-use Rattle.std.proofs.lemmas.Bool.{and_parts, and_from, or_parts, eqb-true}
-use Rattle.std.proofs.lemmas.Bool.Decides.{nat_tests}
+use Rattle.std.proofs.lemmas.Bool.{and_parts, and_from, or_parts, eqb-true, not_from_false, leb-true, ltb-true, le-leb}
 use Rattle.std.proofs.lemmas.List.{append-nil, length-map}
 use Rattle.std.proofs.lemmas.Simd.{map-map}
 use Rattle.lab_base.specs.Names.{is_name, same_name}
@@ -14,10 +13,11 @@ use Rattle.lab_base.specs.declared.fault.Kind.{Kind}
 use Rattle.lab_base.specs.declared.fault.Kind.TheVariants as kinds
 use Rattle.lab_base.specs.declared.rates.Rates.{Rates}
 use Rattle.lab_base.proofs.Members.{Has-map}
+use Rattle.lab_base.proofs.Bytes.{bytes_turned, bytes_self}
 use Rattle.line_text.specs.Fields.{counts}
 use Rattle.line_text.specs.Printing.{with_number}
 use Rattle.line_text.specs.Pairs.{pair_at}
-use Rattle.line_text.proofs.PartsAgain.{negated, position_none, no_byte, no_byte_name, has_again, pair_again, name_again, number_back, numbered_again, all_again, all_has}
+use Rattle.line_text.proofs.PartsAgain.{position_none, no_byte, no_byte_name, has_again, pair_again, name_again, number_back, numbered_again, all_again, all_has}
 use Rattle.virt_topo.specs.declared.wiring.Asks.{Asks}
 use Rattle.virt_topo.specs.declared.wiring.Asks.TheVariants.{Plain, Class as InClass}
 use Rattle.virt_topo.specs.declared.wiring.Class.{Class}
@@ -36,16 +36,7 @@ use Rattle.top_text.specs.Adding.{asks_at}
 use Rattle.top_text.specs.Canonical.{virt_name, class_name, behind_name, address_text, end_field, asked_name, rates_fields}
 use Rattle.top_text.specs.Printable.{named_class, named_asks, named_node, named_segment, is_address}
 use Rattle.top_text.proofs.AddressAgain.{address_again, no_equals}
-use Rattle.top_text.proofs.OwnPlaces.{own_place, same_self, symm_name}
-
-pub le_from : (a b : ℕ) → nat_le a b ≡ true → a ≤ b
-le_from a b h = grind (arith, nat_tests)
-
-pub lt_from : (a b : ℕ) → nat_lt a b ≡ true → a < b
-lt_from a b h = grind (arith, nat_tests)
-
-le_test : (a b : ℕ) → a ≤ b → nat_le a b ≡ true
-le_test a b h = grind (arith, nat_tests)
+use Rattle.top_text.proofs.OwnPlaces.{own_place}
 
 map_self : {X : Type 0} (xs : List X) → map (λ x. x) xs ≡ xs
 map_self [] = refl
@@ -54,7 +45,7 @@ map_self {X} (x ∷ xs) = ap (λ (l : List X). x ∷ l) (map_self xs)
 behind_again : {X : Type 0} (n least most : ℕ) (read : List ℕ → Result X Kind) (fields rest : List (List ℕ)) (xs : List X) → n + least ≤ length fields → length fields ≤ n + most → all_of read (Ok []) rest ≡ Ok xs
     → cond (counts (n + least) (n + most) fields) (all_of read (Ok []) rest) (Err kinds.Fields) ≡ Ok xs
 behind_again {X} n least most read fields rest xs low high is =
-    ap (λ (b : Bool). cond b (all_of read (Ok []) rest) (Err kinds.Fields)) (and_from _ _ (le_test (n + least) (length fields) low) (le_test (length fields) (n + most) high)) ∙ is
+    ap (λ (b : Bool). cond b (all_of read (Ok []) rest) (Err kinds.Fields)) (and_from _ _ (le-leb (n + least) (length fields) low) (le-leb (length fields) (n + most) high)) ∙ is
 
 names_again : (names : List (List ℕ)) → list_all is_name names ≡ true → all_of name_of (Ok []) names ≡ Ok names
 names_again names named =
@@ -67,9 +58,9 @@ class_again c named limits =
     let n = and_parts (is_name c.name) (list_all is_name c.types) named in
     let l = and_parts (nat_le c.weight 1000000) _ limits in
     let count = and_parts (nat_le 1 (length c.types)) (nat_le (length c.types) 8) l.1 in
-    let low = le_from 1 (length c.types) count.0 in
-    let high = le_from (length c.types) 8 count.1 in
-    let weight = le_from c.weight 1000000 l.0 in
+    let low = leb-true 1 (length c.types) count.0 in
+    let high = leb-true (length c.types) 8 count.1 in
+    let weight = leb-true c.weight 1000000 l.0 in
     λ j. as_class (both_of (name_again c.name n.0 j) (both_of (number_back 0 1000000 c.weight (omega arith) weight (omega arith) j)
     (behind_again 2 1 8 name_of (c.name ∷ decimal c.weight ∷ c.types) c.types c.types (omega (arith, low)) (omega (arith, high)) (names_again c.types n.1) j)))
 
@@ -81,10 +72,10 @@ node_again v asked named limits asked_is =
     let b = and_parts (named_asks v.asks) _ a.1 in
     let d = and_parts (is_name v.os) (list_all (λ d. is_name d.0) v.desires) b.1 in
     let l = and_parts (nat_le (length v.desires) 8) (list_all (λ d. nat_le d.1 1000000) v.desires) limits in
-    let few = le_from (length v.desires) 8 l.0 in
+    let few = leb-true (length v.desires) 8 l.0 in
     let count : length (map with_number v.desires) ≡ length v.desires = length-map v.desires with_number in
     let desires : all_of weight_of (Ok []) (map with_number v.desires) ≡ Ok v.desires =
-    all_again weight_of with_number v.desires [] (λ x h. numbered_again 0 1000000 x.0 x.1 (all_has (λ d. is_name d.0) v.desires d.1 x h) (omega arith) (le_from x.1 1000000 (all_has (λ d. nat_le d.1 1000000) v.desires l.1 x h)) (omega arith)) in
+    all_again weight_of with_number v.desires [] (λ x h. numbered_again 0 1000000 x.0 x.1 (all_has (λ d. is_name d.0) v.desires d.1 x h) (omega arith) (leb-true x.1 1000000 (all_has (λ d. nat_le d.1 1000000) v.desires l.1 x h)) (omega arith)) in
     λ j. both_of (name_again v.name a.0 j) (both_of (name_again asked asked_is j) (both_of (name_again v.os d.0 j)
     (behind_again 3 0 8 weight_of (v.name ∷ asked ∷ v.os ∷ map with_number v.desires) (map with_number v.desires) v.desires (omega arith) (omega (arith, few, count)) desires j)))
 
@@ -97,9 +88,9 @@ asks_again w (Plain type) once known apart = ap (asks_at type) (position_none (�
     none [] h = refl
     none (c ∷ classes) h =
         let parts = or_parts (same_name c.name type) (list_any (λ c. same_name c.name type) classes) h in
-        and_from _ _ (negated _ (symm_name type c.name ∙ parts.0)) (none classes parts.1)
+        and_from _ _ (not_from_false _ (bytes_turned type c.name ∙ parts.0)) (none classes parts.1)
 asks_again w (InClass c) once known apart =
-    ap (asks_at (class_name w c)) (own_place same_name same_self symm_name (λ (k : Class). k.name) w.classes c [] once (lt_from c (length w.classes) known))
+    ap (asks_at (class_name w c)) (own_place same_name bytes_self bytes_turned (λ (k : Class). k.name) w.classes c [] once (ltb-true c (length w.classes) known))
 
 -- A FIXED PLACE
 
@@ -122,8 +113,8 @@ end_again name None named short last =
 end_again name (Some a) named short last =
     let p = and_parts (nat_le 1 (a % 256)) (nat_le (a % 256) 254) last in
     ap (λ (b : Bool). cond b (end_parts (pair_at 61 (name ++ 61 ∷ address_text a))) (bare (name_of (name ++ 61 ∷ address_text a)))) (has_again 61 name (address_text a) (no_byte_name 61 refl name named))
-    ∙ ap end_parts (pair_again 61 name (address_text a) (no_byte_name 61 refl name named) (no_equals a (lt_from a 4294967296 short)))
-    ∙ (λ j. addressed (both_of (name_again name named j) (address_again a (lt_from a 4294967296 short) (le_from 1 (a % 256) p.0) (le_from (a % 256) 254 p.1) j)))
+    ∙ ap end_parts (pair_again 61 name (address_text a) (no_byte_name 61 refl name named) (no_equals a (ltb-true a 4294967296 short)))
+    ∙ (λ j. addressed (both_of (name_again name named j) (address_again a (ltb-true a 4294967296 short) (leb-true 1 (a % 256) p.0) (leb-true (a % 256) 254 p.1) j)))
 
 ends_again : (w : Wiring) (ends : List VirtEnd) → ((e : VirtEnd) → Has ends e → end_of (end_field w e) ≡ Ok (end_read w e)) → all_of end_of (Ok []) (map (end_field w) ends) ≡ Ok (map (end_read w) ends)
 ends_again w ends each =
@@ -158,7 +149,7 @@ rate_limits r h =
     let a = and_parts (is_speed r.kbps) _ h in
     let b = and_parts (nat_le 1 r.kbps) (nat_le r.kbps 1000000000) a.0 in
     let d = and_parts (nat_le r.micros 10000000) (nat_le r.ppm 1000000) a.1 in
-    record { some = le_from 1 r.kbps b.0; slow = le_from r.kbps 1000000000 b.1; late = le_from r.micros 10000000 d.0; lost = le_from r.ppm 1000000 d.1 }
+    record { some = leb-true 1 r.kbps b.0; slow = leb-true r.kbps 1000000000 b.1; late = leb-true r.micros 10000000 d.0; lost = leb-true r.ppm 1000000 d.1 }
 
 rates_again : (r : Rates) → are_rates r ≡ true → rates_of (decimal r.kbps) (decimal r.micros) (decimal r.ppm) ≡ Ok r
 rates_again r h =

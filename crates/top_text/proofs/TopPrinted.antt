@@ -2,7 +2,7 @@
 use Rattle.std.proofs.Common.{◌≡◌, ℕ, ◌/◌, ◌%◌, ◌<◌, Bool, true, false, List, [], ◌∷◌, ◌++◌, length, map, Option, Some, None, refl, sym, subst, arith, inl, inr}
 use Rattle.std.specs.Prelude.{codes, decimal, nat_le}
 use Rattle.std.specs.List.{list_all, flat_map}
-use Rattle.std.proofs.lemmas.Bool.{and_parts}
+use Rattle.std.proofs.lemmas.Bool.{and_parts, leb-true, ltb-true}
 use Rattle.std.proofs.lemmas.List.{append-nil}
 use Rattle.lab_base.specs.Names.{is_name}
 use Rattle.lab_base.specs.Lists.{Has}
@@ -22,7 +22,7 @@ use Rattle.virt_topo.proofs.CableLaws.{limits_of, segment_limits}
 use Rattle.top_text.specs.Canonical.{virt_name, asked_name, behind_name, address_text, end_field, rates_fields, class_fields, node_fields, fix_at, fix_lines, link_fields, multiplex_if, multiplex_lines, pipe_fields, wiring_lines}
 use Rattle.top_text.specs.Printable.{named_class, named_asks, named_node, named_place, named_segment, is_address}
 use Rattle.top_text.proofs.SoundTests.{sound_tests}
-use Rattle.top_text.proofs.TopLines.{le_from, lt_from, rate_limits}
+use Rattle.top_text.proofs.TopLines.{rate_limits}
 use Rattle.top_text.proofs.TopAgain.{IsNamed, node_named_at, asked_named, end_within, pipe_facts}
 
 class : IsPlain (codes "make-vclass")
@@ -63,7 +63,7 @@ address_plain a small =
 
 end_plain : (name : List ℕ) (address : Option ℕ) → is_name name ≡ true → is_address address ≡ true → IsPlain (name ++ behind_name address)
 end_plain name None named short = subst IsPlain (sym (append-nil name)) (plain_name name named)
-end_plain name (Some a) named short = plain_append name (61 ∷ address_text a) (plain_name name named) (plain_append (61 ∷ []) (address_text a) sign (address_plain a (lt_from a 4294967296 short)))
+end_plain name (Some a) named short = plain_append name (61 ∷ address_text a) (plain_name name named) (plain_append (61 ∷ []) (address_text a) sign (address_plain a (ltb-true a 4294967296 short)))
 
 rates_plain : (r : Rates) (rest : List (List ℕ)) → are_rates r ≡ true → ArePlain rest → ArePlain (rates_fields r ++ rest)
 rates_plain r rest h others =
@@ -75,7 +75,7 @@ module _ (w : Wiring) (sound : IsSound w) (named : IsNamed w) where
   class_printed c h =
       let n = and_parts (is_name c.name) (list_all is_name c.types) (all_has named_class w.classes named.classes c h) in
       let l = and_parts (nat_le c.weight 1000000) _ (all_has limits_class w.classes (limits_of w (sound_tests w sound).limits).each_class c h) in
-      record { kept = refl; plain = (more _ _ class (more _ _ (plain_name c.name n.0) (more _ _ (plain_number c.weight (omega (arith, le_from c.weight 1000000 l.0))) (names_plain c.types n.1)))).each }
+      record { kept = refl; plain = (more _ _ class (more _ _ (plain_name c.name n.0) (more _ _ (plain_number c.weight (omega (arith, leb-true c.weight 1000000 l.0))) (names_plain c.types n.1)))).each }
 
   node_printed : (v : VirtNode) → Has w.nodes v → IsPrinted (node_fields w v)
   node_printed v h =
@@ -84,7 +84,7 @@ module _ (w : Wiring) (sound : IsSound w) (named : IsNamed w) where
       let d = and_parts (is_name v.os) (list_all (λ d. is_name d.0) v.desires) b.1 in
       let l = and_parts (nat_le (length v.desires) 8) (list_all (λ d. nat_le d.1 1000000) v.desires) (all_has limits_node w.nodes (limits_of w (sound_tests w sound).limits).each_node v h) in
       let known : knows_class w v.asks ≡ true = all_has (λ v. knows_class w v.asks) w.nodes (and_parts (list_all (λ v. knows_class w v.asks) w.nodes) _ (sound_tests w sound).known).0 v h in
-      let desires = pairs_plain v.desires (λ x g. plain_pair x.0 (decimal x.1) (plain_name x.0 (all_has (λ d. is_name d.0) v.desires d.1 x g)) (plain_number x.1 (omega (arith, le_from x.1 1000000 (all_has (λ d. nat_le d.1 1000000) v.desires l.1 x g))))) in
+      let desires = pairs_plain v.desires (λ x g. plain_pair x.0 (decimal x.1) (plain_name x.0 (all_has (λ d. is_name d.0) v.desires d.1 x g)) (plain_number x.1 (omega (arith, leb-true x.1 1000000 (all_has (λ d. nat_le d.1 1000000) v.desires l.1 x g))))) in
       record { kept = refl; plain = (more _ _ node (more _ _ (plain_name v.name a.0) (more _ _ (plain_name (asked_name w v.asks) (asked_named w sound named v.asks b.0 known)) (more _ _ (plain_name v.os d.0) desires)))).each }
 
   fix_printed : (v : VirtNode) → Has w.nodes v → (line : List (List ℕ)) → Has (fix_lines v) line → IsPrinted line

@@ -2,16 +2,17 @@
 use Rattle.std.proofs.Common.{◌≡◌, ℕ, ◌+◌, ◌*◌, ◌/◌, ◌%◌, ◌<◌, ◌≤◌, ◌^◌, Bool, true, false, List, [], ◌∷◌, ◌++◌, length, map, Option, Some, None, refl, ap, ◌∙◌, arith, inl, inr, length-append}
 use Rattle.std.specs.Prelude.{codes, decimal, nat_le}
 use Rattle.std.specs.List.{list_all, flat_map}
-use Rattle.std.proofs.lemmas.Bool.{and_parts}
+use Rattle.std.proofs.lemmas.Bool.{and_parts, leb-true, ltb-true}
 use Rattle.std.proofs.lemmas.List.{length-map}
 use Rattle.std.proofs.lemmas.Fmt.{length-decimal-le}
 use Rattle.std.proofs.lemmas.Grind.{flat_map-append}
 use Rattle.lab_base.specs.Names.{is_name}
 use Rattle.lab_base.specs.Lists.{Has}
 use Rattle.lab_base.specs.declared.rates.Rates.{Rates}
+use Rattle.lab_base.proofs.Names.{name_short}
 use Rattle.line_text.specs.Printing.{line_text, text_of, with_number}
 use Rattle.line_text.proofs.PartsAgain.{all_has}
-use Rattle.line_text.proofs.Widths.{width, width-append, line_length, lines_length, pairs_width, name_length, pair_length}
+use Rattle.line_text.proofs.Widths.{width, width-append, line_length, lines_length, pairs_width, pair_length}
 use Rattle.virt_topo.specs.declared.wiring.Class.{Class}
 use Rattle.virt_topo.specs.declared.wiring.VirtNode.{VirtNode}
 use Rattle.virt_topo.specs.declared.wiring.VirtEnd.{VirtEnd}
@@ -24,7 +25,7 @@ use Rattle.virt_topo.proofs.CableLaws.{limits_of, segment_limits}
 use Rattle.top_text.specs.Canonical.{virt_name, asked_name, behind_name, address_text, end_field, rates_fields, class_fields, node_fields, fix_at, fix_lines, link_fields, multiplex_if, multiplex_lines, pipe_fields, canonical_top}
 use Rattle.top_text.specs.Printable.{named_class, named_asks, named_node, named_place, named_segment, is_address, is_printable}
 use Rattle.top_text.proofs.SoundTests.{sound_tests}
-use Rattle.top_text.proofs.TopLines.{le_from, lt_from, rate_limits}
+use Rattle.top_text.proofs.TopLines.{rate_limits}
 use Rattle.top_text.proofs.TopAgain.{IsNamed, named_of, node_named_at, asked_named, end_within, pipe_facts}
 use Rattle.top_text.proofs.PipeCount.{few_pipes}
 
@@ -37,7 +38,7 @@ names_width [] named = omega arith
 names_width (name ∷ names) named =
     let p = and_parts (is_name name) (list_all is_name names) named in
     let rest = names_width names p.1 in
-    omega (arith, name_length name p.0, rest)
+    omega (arith, name_short name p.0, rest)
 
 address_length : (a : ℕ) → a < 4294967296 → length (address_text a) ≤ 15
 address_length a small =
@@ -51,8 +52,8 @@ address_length a small =
     omega (arith, one, two, three, four, x, y, z)
 
 end_length : (name : List ℕ) (address : Option ℕ) → is_name name ≡ true → is_address address ≡ true → length (name ++ behind_name address) ≤ 48
-end_length name None named short = omega (arith, length-append name [], name_length name named)
-end_length name (Some a) named short = omega (arith, length-append name (61 ∷ address_text a), name_length name named, address_length a (lt_from a 4294967296 short))
+end_length name None named short = omega (arith, length-append name [], name_short name named)
+end_length name (Some a) named short = omega (arith, length-append name (61 ∷ address_text a), name_short name named, address_length a (ltb-true a 4294967296 short))
 
 ends_width : (w : Wiring) (ends : List VirtEnd) → ((e : VirtEnd) → Has ends e → length (end_field w e) ≤ 48) → width (map (end_field w) ends) ≤ 49 * length ends
 unfolding width
@@ -73,11 +74,11 @@ rates_width r h =
 
 fix_line_length : (name place : List ℕ) → is_name name ≡ true → is_name place ≡ true → length (line_text (codes "fix-node" ∷ name ∷ place ∷ []) ++ []) ≤ 75
 unfolding width
-fix_line_length name place a b = omega (arith, length-append (line_text (codes "fix-node" ∷ name ∷ place ∷ [])) [], line_length (codes "fix-node") (name ∷ place ∷ []), name_length name a, name_length place b)
+fix_line_length name place a b = omega (arith, length-append (line_text (codes "fix-node" ∷ name ∷ place ∷ [])) [], line_length (codes "fix-node") (name ∷ place ∷ []), name_short name a, name_short place b)
 
 multiplex_line_length : (name : List ℕ) → is_name name ≡ true → length (line_text (codes "multiplex" ∷ name ∷ []) ++ []) ≤ 44
 unfolding width
-multiplex_line_length name a = omega (arith, length-append (line_text (codes "multiplex" ∷ name ∷ [])) [], line_length (codes "multiplex") (name ∷ []), name_length name a)
+multiplex_line_length name a = omega (arith, length-append (line_text (codes "multiplex" ∷ name ∷ [])) [], line_length (codes "multiplex") (name ∷ []), name_short name a)
 
 module _ (w : Wiring) (sound : IsSound w) (named : IsNamed w) where
   class_length : (c : Class) → Has w.classes c → length (line_text (class_fields c)) ≤ 317
@@ -86,10 +87,10 @@ module _ (w : Wiring) (sound : IsSound w) (named : IsNamed w) where
       let n = and_parts (is_name c.name) (list_all is_name c.types) (all_has named_class w.classes named.classes c h) in
       let l = and_parts (nat_le c.weight 1000000) _ (all_has limits_class w.classes (limits_of w (sound_tests w sound).limits).each_class c h) in
       let count = and_parts (nat_le 1 (length c.types)) (nat_le (length c.types) 8) l.1 in
-      let few = le_from (length c.types) 8 count.1 in
-      let weight = le_from c.weight 1000000 l.0 in
+      let few = leb-true (length c.types) 8 count.1 in
+      let weight = leb-true c.weight 1000000 l.0 in
       let long = digits c.weight 7 (omega arith) (omega (arith, weight)) (omega (arith, weight)) in
-      omega (arith, line_length (codes "make-vclass") (c.name ∷ decimal c.weight ∷ c.types), name_length c.name n.0, long, few, names_width c.types n.1)
+      omega (arith, line_length (codes "make-vclass") (c.name ∷ decimal c.weight ∷ c.types), name_short c.name n.0, long, few, names_width c.types n.1)
 
   node_length : (v : VirtNode) → Has w.nodes v → length (line_text (node_fields w v)) ≤ 432
   unfolding width
@@ -98,13 +99,13 @@ module _ (w : Wiring) (sound : IsSound w) (named : IsNamed w) where
       let b = and_parts (named_asks v.asks) _ a.1 in
       let d = and_parts (is_name v.os) (list_all (λ d. is_name d.0) v.desires) b.1 in
       let l = and_parts (nat_le (length v.desires) 8) (list_all (λ d. nat_le d.1 1000000) v.desires) (all_has limits_node w.nodes (limits_of w (sound_tests w sound).limits).each_node v h) in
-      let few = le_from (length v.desires) 8 l.0 in
+      let few = leb-true (length v.desires) 8 l.0 in
       let known : knows_class w v.asks ≡ true = all_has (λ v. knows_class w v.asks) w.nodes (and_parts (list_all (λ v. knows_class w v.asks) w.nodes) _ (sound_tests w sound).known).0 v h in
       let desires : width (map with_number v.desires) ≤ 41 * length v.desires = pairs_width 41 v.desires (λ x g.
-      let low : x.1 ≤ 1000000 = le_from x.1 1000000 (all_has (λ d. nat_le d.1 1000000) v.desires l.1 x g) in
+      let low : x.1 ≤ 1000000 = leb-true x.1 1000000 (all_has (λ d. nat_le d.1 1000000) v.desires l.1 x g) in
       let long = pair_length x.0 x.1 7 (all_has (λ d. is_name d.0) v.desires d.1 x g) (omega arith) (omega (arith, low)) (omega (arith, low)) in
       omega (arith, long)) in
-      omega (arith, line_length (codes "node") (v.name ∷ asked_name w v.asks ∷ v.os ∷ map with_number v.desires), name_length v.name a.0, name_length (asked_name w v.asks) (asked_named w sound named v.asks b.0 known), name_length v.os d.0, desires, few)
+      omega (arith, line_length (codes "node") (v.name ∷ asked_name w v.asks ∷ v.os ∷ map with_number v.desires), name_short v.name a.0, name_short (asked_name w v.asks) (asked_named w sound named v.asks b.0 known), name_short v.os d.0, desires, few)
 
   fix_length : (v : VirtNode) → Has w.nodes v → length (text_of (fix_lines v)) ≤ 75
   fix_length v h = by v.fixed (all_has (λ v. named_place v.fixed) w.nodes named.places v h)
@@ -130,7 +131,7 @@ module _ (w : Wiring) (sound : IsSound w) (named : IsNamed w) where
       let limits = segment_limits s (all_has limits_segment w.segments (limits_of w (sound_tests w sound).limits).each_segment s h) in
       let kbps = digits s.kbps 10 (omega arith) (omega (arith, limits.slow)) (omega (arith, limits.slow)) in
       let ends = ends_width w s.ends (λ e g. end_length (virt_name w e.node) e.address (node_named_at w sound named e.node (end_within w sound named s h e g)) (all_has (λ (e : VirtEnd). is_address e.address) s.ends b.1 e g)) in
-      omega (arith, line_length (codes "link") (s.name ∷ s.owner ∷ decimal s.kbps ∷ map (end_field w) s.ends), name_length s.name a.0, name_length s.owner b.0, kbps, ends)
+      omega (arith, line_length (codes "link") (s.name ∷ s.owner ∷ decimal s.kbps ∷ map (end_field w) s.ends), name_short s.name a.0, name_short s.owner b.0, kbps, ends)
 
   links_length : (segments : List Segment) → ((s : Segment) → Has segments s → length (line_text (link_fields w s)) ≤ 82 + 49 * length s.ends) → length (text_of (map (link_fields w) segments)) ≤ 82 * length segments + 49 * length (end_nodes segments)
   links_length [] each = omega arith
@@ -167,7 +168,7 @@ module _ (w : Wiring) (sound : IsSound w) (named : IsNamed w) where
       let there = rates_width p.there facts.there in
       let back = rates_width p.back facts.back in
       let both = width-append (rates_fields p.there) (rates_fields p.back) in
-      omega (arith, line_length (codes "pipe") (virt_name w p.node ∷ decimal p.from ∷ decimal p.to ∷ rates_fields p.there ++ rates_fields p.back), name_length (virt_name w p.node) (node_named_at w sound named p.node facts.node), from, to, there, back, both)
+      omega (arith, line_length (codes "pipe") (virt_name w p.node ∷ decimal p.from ∷ decimal p.to ∷ rates_fields p.there ++ rates_fields p.back), name_short (virt_name w p.node) (node_named_at w sound named p.node facts.node), from, to, there, back, both)
 
 -- THE TEXT
 pub top_length : (w : Wiring) → IsSound w → is_printable w ≡ true → length (canonical_top w) ≤ 16777216

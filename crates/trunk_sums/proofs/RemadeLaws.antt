@@ -1,8 +1,8 @@
 -- One change more.
-use Rattle.std.proofs.Common.{◌≡◌, ◌<◌, ◌+◌, ◌∙◌, ◌++◌, ◌∷◌, [], inl, inr, ℕ, zero, suc, List, length, take, get_or, All, refl, ap, sym, subst, arith, get_or-set_same, get_or-set_other}
+use Rattle.std.proofs.Common.{◌≡◌, ◌<◌, ◌+◌, ◌∙◌, ◌++◌, ◌∷◌, [], inl, inr, ℕ, List, length, take, get_or, All, refl, ap, sym, subst, arith, get_or-set_same, get_or-set_other}
 use Rattle.std.proofs.Math.ListN.{set}
 use Rattle.std.proofs.lemmas.Bool.{cases_eq}
-use Rattle.std.proofs.lemmas.List.{take_more, length-set, set-get_or}
+use Rattle.std.proofs.lemmas.List.{take_more, length-set, set-get_or, set-set}
 use Rattle.lab_base.specs.declared.ids.IfaceId.{IfaceId}
 use Rattle.trunk_sums.specs.declared.made.Change.{Change}
 use Rattle.trunk_sums.specs.Remade.{remade, undone}
@@ -24,11 +24,6 @@ all_set most plugs end to all lt k d k_lt =
       | inr apart ↦ subst (λ (i : IfaceId). i.0 < most) (sym (get_or-set_other plugs end k to d apart)) (all k d within)
     ]
 
-set_twice : (plugs : List IfaceId) (k : ℕ) (a b : IfaceId) → set (set plugs k a) k b ≡ set plugs k b
-set_twice [] k a b = refl
-set_twice (x ∷ plugs) zero a b = refl
-set_twice (x ∷ plugs) (suc k) a b = ap (λ (l : List IfaceId). x ∷ l) (set_twice plugs k a b)
-
 -- taking back leaves the plugs as they were
 pub taken_back : (plugs : List IfaceId) (cs : List Change) → remade (remade plugs cs) (undone plugs cs) ≡ plugs
 taken_back plugs [] = refl
@@ -37,5 +32,5 @@ taken_back plugs (c ∷ cs) =
     let next = set plugs c.end c.to in
     push (remade next cs) (undone next cs) (record { end = c.end; row = c.row; to = old })
     ∙ ap (λ (l : List IfaceId). set l c.end old) (taken_back next cs)
-    ∙ set_twice plugs c.end c.to old
+    ∙ set-set plugs c.end c.to old
     ∙ set-get_or plugs c.end (record { 0 = 0 })

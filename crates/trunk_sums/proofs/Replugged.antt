@@ -10,6 +10,7 @@ use Rattle.virt_topo.specs.declared.wiring.Segment.{Segment}
 use Rattle.virt_topo.specs.Ends.{end_nodes}
 use Rattle.virt_topo.proofs.EndLaws.{ends_from}
 use Rattle.virt_topo.specs.Cables.{Cable, cables, cable_use, cut_use, plugs_on}
+use Rattle.virt_topo.proofs.CableLaws.{length-cables}
 use Rattle.trunk_sums.specs.Crossed.{is_on}
 use Rattle.trunk_sums.specs.Summed.{no_segment, no_cable, own_plugs, first_end}
 
@@ -62,16 +63,12 @@ cable_is [] plugs s lt = absurd (omega (arith, lt))
 cable_is (x ∷ segments) plugs zero lt = refl
 cable_is (x ∷ segments) plugs (suc s) lt = cable_is segments (drop (length x.ends) plugs) s (omega (arith, lt))
 
-pub cables_length : (segments : List Segment) (plugs : List IfaceId) → length (cables segments plugs) ≡ length segments
-cables_length [] plugs = refl
-cables_length (x ∷ segments) plugs = ap (λ (n : ℕ). suc n) (cables_length segments (drop (length x.ends) plugs))
-
 -- what all cables use, before and after
 pub use_set : (side : List Bool) (segments : List Segment) (plugs : List IfaceId) (s end : ℕ) (i : IfaceId) → IsIn segments s end
     → cut_use side (cables segments (set plugs end i)) + cable_use side (record { segment = get_or segments s no_segment; plugs = own_plugs segments plugs s })
     ≡ cut_use side (cables segments plugs) + cable_use side (replugged segments plugs s end i)
 use_set side segments plugs s end i is =
-    let lt : s < length (cables segments plugs) = (let at = is.segment in omega (arith, at, cables_length segments plugs)) in
+    let lt : s < length (cables segments plugs) = (let at = is.segment in omega (arith, at, length-cables segments plugs)) in
     let sums = sum_by-set (cable_use side) (cables segments plugs) s (replugged segments plugs s end i) no_cable lt in
     let whole : cut_use side (cables segments (set plugs end i)) ≡ cut_use side (set (cables segments plugs) s (replugged segments plugs s end i)) = ap (λ (l : List Cable). cut_use side l) (cables_set segments plugs s end i is) in
     let own : cable_use side (get_or (cables segments plugs) s no_cable) ≡ cable_use side (record { segment = get_or segments s no_segment; plugs = own_plugs segments plugs s }) = ap (λ (c : Cable). cable_use side c) (cable_is segments plugs s is.segment) in
@@ -85,7 +82,7 @@ on_set side plugs k i d lt = sum_by-set (λ (x : IfaceId). cond (get_or side x.0
 pub own_after : (segments : List Segment) (plugs : List IfaceId) (s end : ℕ) (i : IfaceId) → IsIn segments s end
     → own_plugs segments (set plugs end i) s ≡ set (own_plugs segments plugs s) (end - first_end segments s) i
 own_after segments plugs s end i is =
-    let lt : s < length (cables segments plugs) = (let at = is.segment in omega (arith, at, cables_length segments plugs)) in
+    let lt : s < length (cables segments plugs) = (let at = is.segment in omega (arith, at, length-cables segments plugs)) in
     ap (λ (l : List Cable). (get_or l s no_cable).plugs) (cables_set segments plugs s end i is)
     ∙ ap (λ (c : Cable). c.plugs) (get_or-set_same (cables segments plugs) s (replugged segments plugs s end i) no_cable lt)
 
@@ -143,7 +140,7 @@ in_ends (x ∷ segments) (suc s) end is =
 pub own_use_le : (side : List Bool) (segments : List Segment) (plugs : List IfaceId) (s : ℕ) → s < length segments
     → cable_use side (record { segment = get_or segments s no_segment; plugs = own_plugs segments plugs s }) ≤ cut_use side (cables segments plugs)
 own_use_le side segments plugs s lt =
-    let at : s < length (cables segments plugs) = omega (arith, lt, cables_length segments plugs) in
+    let at : s < length (cables segments plugs) = omega (arith, lt, length-cables segments plugs) in
     let part = sum_by_more_le (cable_use side) (cables segments plugs) s no_cable at in
     let own : cable_use side (get_or (cables segments plugs) s no_cable) ≡ cable_use side (record { segment = get_or segments s no_segment; plugs = own_plugs segments plugs s }) = ap (λ (c : Cable). cable_use side c) (cable_is segments plugs s lt) in
     omega (arith, part, own)

@@ -1,11 +1,11 @@
 -- The cables of segments, one after another.
 use Rattle.std.proofs.Common.{◌≡◌, ◌<◌, ◌+◌, ◌∙◌, ◌∷◌, ℕ, suc, List, length, take, drop, get_or, ap, sym, arith, drop-cons}
 use Rattle.lab_base.specs.declared.ids.IfaceId.{IfaceId}
+use Rattle.lab_base.proofs.Lists.{item_at}
 use Rattle.virt_topo.specs.declared.wiring.Segment.{Segment}
 use Rattle.virt_topo.specs.Cables.{Cable, cables}
-use Rattle.virt_topo.proofs.EndLaws.{item_at}
+use Rattle.virt_topo.proofs.CableLaws.{length-cables}
 use Rattle.trunk_sums.specs.Summed.{no_cable, own_plugs}
-use Rattle.trunk_sums.proofs.Replugged.{cables_length}
 
 -- the plugs of segment n, and the cables after it, where the cables from n on are those of the rest of the plugs
 pub record Next (segments : List Segment) (plugs rest : List IfaceId) (n : ℕ) (s : Segment) : Type 0 where
@@ -24,7 +24,7 @@ next_is segments plugs rest n s lt is same =
     let all = cables segments plugs in
     let step : suc n ≡ n + 1 = omega arith in
     let here : drop n all ≡ get_or all n no_cable ∷ drop (n + 1) all =
-    drop-cons all n no_cable (omega (arith, lt, cables_length segments plugs)) ∙ ap (λ (k : ℕ). get_or all n no_cable ∷ drop k all) step in
+    drop-cons all n no_cable (omega (arith, lt, length-cables segments plugs)) ∙ ap (λ (k : ℕ). get_or all n no_cable ∷ drop k all) step in
     let both : cables (s ∷ drop (n + 1) segments) rest ≡ get_or all n no_cable ∷ drop (n + 1) all =
     ap (λ (l : List Segment). cables l rest) (sym (item_at segments n s lt is)) ∙ same ∙ here in
     record {

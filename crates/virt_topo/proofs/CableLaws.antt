@@ -1,20 +1,20 @@
 -- The use of a cut by cables is at most the sum of all that their ends could send.
-use Rattle.std.proofs.Common.{◌≡◌, ℕ, zero, suc, ◌+◌, ◌-◌, ◌*◌, ◌<◌, ◌≤◌, Bool, true, List, [], ◌∷◌, length, take, drop, get_or, min, refl, ap, ◌∙◌, arith}
-use Rattle.std.specs.Prelude.{nat_le}
+use Rattle.std.proofs.Common.{◌≡◌, ℕ, zero, suc, ◌+◌, ◌-◌, ◌*◌, ◌<◌, ◌≤◌, Bool, true, List, [], ◌∷◌, length, take, drop, get_or, min, refl, ap, ◌∙◌, arith, not}
 use Rattle.std.specs.List.{list_all}
 use Rattle.std.proofs.Math.Nat.{mul-le-mul_left, mul-le-mul_right}
-use Rattle.std.proofs.lemmas.Bool.{and_parts}
-use Rattle.std.proofs.lemmas.Bool.Decides.{nat_tests}
+use Rattle.std.proofs.lemmas.Bool.{and_parts, leb-true, not-false}
 use Rattle.std.proofs.lemmas.List.Sums.{sum_by-cons}
 use Rattle.std.proofs.lemmas.List.{drop_all}
 use Rattle.std.proofs.lemmas.Grind.{common_steps}
 use Rattle.lab_base.specs.declared.ids.IfaceId.{IfaceId}
+use Rattle.lab_base.proofs.Lists.{item_at}
+use Rattle.lab_base.proofs.Tests.{not_faulty}
 use Rattle.virt_topo.specs.declared.wiring.Segment.{Segment}
 use Rattle.virt_topo.specs.declared.wiring.Wiring.{Wiring}
 use Rattle.virt_topo.specs.Ends.{end_nodes}
 use Rattle.virt_topo.specs.Cables.{Cable, cables, plugs_on, cable_use, cut_use}
-use Rattle.virt_topo.specs.Soundness.{is_address, keeps_limits, limits_class, limits_node, limits_segment, limits_pipe}
-use Rattle.virt_topo.proofs.EndLaws.{item_at, ends_from}
+use Rattle.virt_topo.specs.Soundness.{is_address, keeps_limits, limits_class, limits_node, limits_segment, limits_pipe, IsSound}
+use Rattle.virt_topo.proofs.EndLaws.{ends_from}
 
 -- the limits of a wiring, one by one
 pub record Limits (w : Wiring) : Type 0 where
@@ -27,9 +27,6 @@ pub record Limits (w : Wiring) : Type 0 where
   pub each_segment : list_all limits_segment w.segments ≡ true
   pub each_pipe : list_all limits_pipe w.pipes ≡ true
 
-le_of : (a b : ℕ) → nat_le a b ≡ true → a ≤ b
-le_of a b h = grind (arith, nat_tests)
-
 pub limits_of : (w : Wiring) → keeps_limits w ≡ true → Limits w
 limits_of w h =
     let a = and_parts _ _ h in
@@ -40,10 +37,10 @@ limits_of w h =
     let g = and_parts _ _ f.1 in
     let i = and_parts _ _ g.1 in
     record {
-      classes = le_of _ _ a.0;
-      nodes = le_of _ _ b.0;
-      segments = le_of _ _ d.0;
-      ends = le_of _ _ e.0;
+      classes = leb-true _ _ a.0;
+      nodes = leb-true _ _ b.0;
+      segments = leb-true _ _ d.0;
+      ends = leb-true _ _ e.0;
       each_class = f.0;
       each_node = g.0;
       each_segment = i.0;
@@ -64,7 +61,7 @@ segment_limits s h =
     let b = and_parts _ _ a.0 in
     let d = and_parts _ _ a.1 in
     let e = and_parts _ _ d.0 in
-    record { some = le_of _ _ b.0; slow = le_of _ _ b.1; two = le_of _ _ e.0; few = le_of _ _ e.1; addresses = d.1 }
+    record { some = leb-true _ _ b.0; slow = leb-true _ _ b.1; two = leb-true _ _ e.0; few = leb-true _ _ e.1; addresses = d.1 }
 
 -- what all elements pass, the one at i passes
 pub passes_at : {X : Type 0} (p : X → Bool) (xs : List X) (i : ℕ) (x : X) → list_all p xs ≡ true → i < length xs → x ≡ get_or xs i x → p x ≡ true
@@ -118,3 +115,14 @@ pub whole_bound : (side : List Bool) (w : Wiring) (plugs : List IfaceId) → kee
 whole_bound side w plugs limits =
     let own = limits_of w limits in
     omega (arith, use_bound side w.segments plugs own.each_segment, own.ends)
+
+-- A SOUND WIRING keeps its limits
+pub sound_keeps : (w : Wiring) → IsSound w → keeps_limits w ≡ true
+sound_keeps w sound = not-false _ (not_faulty (not (keeps_limits w)) _ _ sound)
+
+pub sound_limits : (w : Wiring) → IsSound w → Limits w
+sound_limits w sound = limits_of w (sound_keeps w sound)
+
+pub length-cables : (segments : List Segment) (plugs : List IfaceId) → length (cables segments plugs) ≡ length segments
+length-cables [] plugs = refl
+length-cables (s ∷ segments) plugs = ap suc (length-cables segments (drop (length s.ends) plugs))

@@ -2,21 +2,13 @@
 use Rattle.std.specs.Prelude.{nat_le, replicate}
 use Rattle.std.proofs.Common.{◌≡◌, ◌≢◌, ℕ, zero, suc, ◌+◌, ◌-◌, ◌<◌, ◌≤◌, Bool, true, false, cond, eqb, List, [], ◌∷◌, ◌++◌, length, map, drop, get_or, refl, sym, ap, ◌∙◌, arith, length-append}
 use Rattle.std.proofs.Math.Seq.{drop-cons}
-use Rattle.std.proofs.lemmas.Bool.{eq-eqb}
+use Rattle.std.proofs.lemmas.Bool.{eq-eqb, ne_eqb}
 use Rattle.std.proofs.lemmas.Bool.Decides.{nat_tests}
 use Rattle.std.proofs.lemmas.List.{length-map, drop_all, length-replicate}
+use Rattle.lab_base.proofs.Lists.{item_at}
 use Rattle.virt_topo.specs.declared.wiring.Segment.{Segment}
 use Rattle.virt_topo.specs.declared.wiring.VirtEnd.{VirtEnd}
 use Rattle.virt_topo.specs.Ends.{end_nodes, end_owners, end_multiplexed, end_number}
-
--- the item at i, and those behind it
-pub item_at : {X : Type 0} (xs : List X) (i : ℕ) (x : X) → i < length xs → x ≡ get_or xs i x → drop i xs ≡ x ∷ drop (i + 1) xs
-item_at xs i x lt is =
-    let next : suc i ≡ i + 1 = omega arith in
-    drop-cons xs i x lt ∙ (λ j. sym is j ∷ drop (next j) xs)
-
-not_equal : (x y : ℕ) → x ≢ y → eqb x y ≡ false
-not_equal x y ne = grind (arith, nat_tests)
 
 abbrev pub nodes_of : List VirtEnd → List ℕ
 nodes_of ends = map (λ e. e.node) ends
@@ -51,14 +43,14 @@ pub end_passed : (ends : List VirtEnd) (i : ℕ) (d : VirtEnd) (rest : List ℕ)
     → end_number (nodes_of (drop i ends) ++ rest) v k ≡ end_number (nodes_of (drop (i + 1) ends) ++ rest) v left + 1
 end_passed ends i d rest v k left lt is some next =
     let node : eqb (get_or ends i d).node v ≡ true = eq-eqb _ _ is in
-    let zero : eqb k 0 ≡ false = not_equal k 0 some in
+    let zero : eqb k 0 ≡ false = ne_eqb k 0 some in
     end_step ends i d rest v k lt ∙ rw (node, zero, next) refl
 
 -- another end is passed
 pub end_other : (ends : List VirtEnd) (i : ℕ) (d : VirtEnd) (rest : List ℕ) (v k : ℕ) → i < length ends → (get_or ends i d).node ≢ v
     → end_number (nodes_of (drop i ends) ++ rest) v k ≡ end_number (nodes_of (drop (i + 1) ends) ++ rest) v k + 1
 end_other ends i d rest v k lt is =
-    let node : eqb (get_or ends i d).node v ≡ false = not_equal _ _ is in
+    let node : eqb (get_or ends i d).node v ≡ false = ne_eqb _ _ is in
     end_step ends i d rest v k lt ∙ rw node refl
 
 pub end_none : (ends : List VirtEnd) (i : ℕ) (rest : List ℕ) (v k : ℕ) → length ends ≤ i → end_number (nodes_of (drop i ends) ++ rest) v k ≡ end_number rest v k

@@ -2,11 +2,11 @@
 use Rattle.std.specs.Prelude.{replicate}
 use Rattle.std.proofs.Common.{◌≡◌, ℕ, zero, suc, ◌+◌, ◌<◌, ◌≤◌, List, [], ◌∷◌, ◌++◌, length, drop, get_or, refl, sym, ap, ◌∙◌, arith, append_assoc, length-append}
 use Rattle.std.proofs.lemmas.List.{drop_all, append-nil, length-replicate, length-map}
+use Rattle.lab_base.proofs.Lists.{item_at}
 use Rattle.virt_topo.specs.declared.loads.Load.{Load}
 use Rattle.virt_topo.specs.declared.wiring.Segment.{Segment}
 use Rattle.virt_topo.specs.Ends.{end_nodes}
 use Rattle.virt_topo.specs.Loads.{load_of, loads_from}
-use Rattle.virt_topo.proofs.EndLaws.{item_at}
 
 pub replicate-push : {X : Type 0} (n : ℕ) (x : X) → replicate n x ++ x ∷ [] ≡ replicate (n + 1) x
 replicate-push zero x = refl

@@ -4,6 +4,8 @@ use Rattle.std.proofs.Common.{◌≡◌, ℕ, zero, suc, ◌+◌, ◌-◌, ◌<�
 use Rattle.std.proofs.lemmas.Bool.Decides.{nat_tests}
 use Rattle.std.proofs.lemmas.Grind.{flat_map-append}
 use Rattle.std.proofs.lemmas.List.{get_or_append_left, append-nil}
+use Rattle.std.proofs.lemmas.Bool.{ltb-true, lt-ltb}
+use Rattle.std.proofs.Math.Dec.{eqb-suc-zero}
 use Rattle.virt_topo.specs.declared.wiring.Segment.{Segment}
 use Rattle.virt_topo.specs.declared.wiring.VirtEnd.{VirtEnd}
 use Rattle.virt_topo.specs.Ends.{end_nodes, end_owners, end_multiplexed, end_number}
@@ -38,17 +40,11 @@ number_more (x ∷ xs) ys v k lt = by (eqb x v) (eqb k 0) lt (number_more xs ys 
 
 -- OWNERS BY VIRTUAL NODE
 
-lt_of : (a b : ℕ) → nat_lt a b ≡ true → a < b
-lt_of a b h = grind (arith, nat_tests)
-
 one_less : (a b : ℕ) → nat_lt (a + 1) (suc b) ≡ nat_lt a b
 one_less a b = grind (arith, nat_tests)
 
 none_less : (b : ℕ) → nat_lt 0 (suc b) ≡ true
 none_less b = grind (arith, nat_tests)
-
-not_zero : (k : ℕ) → eqb (suc k) 0 ≡ false
-not_zero k = grind (arith, nat_tests)
 
 -- the number of an end is that of one, where so many ends of the virtual node are there
 pub is_end_at : {X : Type 0} (xs : List ℕ) (ys : List X) (v k : ℕ) → length xs ≡ length ys → nat_lt (end_number xs v k) (length xs) ≡ nat_lt k (length (at_ends v xs ys))
@@ -67,7 +63,7 @@ is_end_at {X} (x ∷ xs) (y ∷ ys) v k same = by (eqb x v) k (is_end_at xs ys v
     by true (suc k) p q =
         let less : suc k - 1 ≡ k = omega arith in
         let next : suc k ≡ k + 1 = omega arith in
-        ap (λ (b : Bool). nat_lt (cond b 0 (end_number xs v (suc k - 1) + 1)) (suc (length xs))) (not_zero k) ∙ one_less (end_number xs v (suc k - 1)) (length xs) ∙ q ∙ ap (λ (n : ℕ). nat_lt n (length (at_ends v xs ys))) less ∙ sym (one_less k (length (at_ends v xs ys))) ∙ ap (λ (n : ℕ). nat_lt n (suc (length (at_ends v xs ys)))) (sym next)
+        ap (λ (b : Bool). nat_lt (cond b 0 (end_number xs v (suc k - 1) + 1)) (suc (length xs))) (eqb-suc-zero k) ∙ one_less (end_number xs v (suc k - 1)) (length xs) ∙ q ∙ ap (λ (n : ℕ). nat_lt n (length (at_ends v xs ys))) less ∙ sym (one_less k (length (at_ends v xs ys))) ∙ ap (λ (n : ℕ). nat_lt n (suc (length (at_ends v xs ys)))) (sym next)
     by false k p q = one_less (end_number xs v k) (length xs) ∙ p
 
 -- what stands at an end of a virtual node
@@ -89,7 +85,7 @@ value_at_end {X} (x ∷ xs) (y ∷ ys) v k d same = by (eqb x v) k (value_at_end
     by true zero p q = refl
     by true (suc k) p q =
         let less : suc k - 1 ≡ k = omega arith in
-        ap (λ (b : Bool). get_or (y ∷ ys) (cond b 0 (end_number xs v (suc k - 1) + 1)) d) (not_zero k) ∙ ap (λ (n : ℕ). get_or (y ∷ ys) n d) (next (end_number xs v (suc k - 1))) ∙ q ∙ ap (λ (n : ℕ). get_or (at_ends v xs ys) n d) less
+        ap (λ (b : Bool). get_or (y ∷ ys) (cond b 0 (end_number xs v (suc k - 1) + 1)) d) (eqb-suc-zero k) ∙ ap (λ (n : ℕ). get_or (y ∷ ys) n d) (next (end_number xs v (suc k - 1))) ∙ q ∙ ap (λ (n : ℕ). get_or (at_ends v xs ys) n d) less
     by false k p q = ap (λ (n : ℕ). get_or (y ∷ ys) n d) (next (end_number xs v k)) ∙ p
 
 pub at_ends-append : {X : Type 0} (v : ℕ) (xs : List ℕ) (ys : List X) (us : List ℕ) (vs : List X) → length xs ≡ length ys → at_ends v (xs ++ us) (ys ++ vs) ≡ at_ends v xs ys ++ at_ends v us vs
@@ -119,7 +115,7 @@ owner_on segments v k = value_at_end (end_nodes segments) (end_owners segments) 
 pub owner_kept : (segments : List Segment) (s : Segment) (v k : ℕ) → nat_lt (end_number (end_nodes segments) v k) (length (end_nodes segments)) ≡ true
     → get_or (end_owners (segments ++ s ∷ [])) (end_number (end_nodes (segments ++ s ∷ [])) v k) [] ≡ get_or (end_owners segments) (end_number (end_nodes segments) v k) []
 owner_kept segments s v k is =
-    let there = lt_of _ _ is in
+    let there = ltb-true _ _ is in
     let number : end_number (end_nodes (segments ++ s ∷ [])) v k ≡ end_number (end_nodes segments) v k = ap (λ (l : List ℕ). end_number l v k) (nodes_more segments s) ∙ number_more (end_nodes segments) (nodes_of s.ends) v k there in
     (λ i. get_or (owners_more segments s i) (number i) [])
     ∙ get_or_append_left (end_owners segments) (owners_of s) [] (end_number (end_nodes segments) v k) (omega (arith, there, length-owners segments))
@@ -128,7 +124,7 @@ owner_kept segments s v k is =
 pub flag_kept : (segments : List Segment) (s : Segment) (v k : ℕ) → nat_lt (end_number (end_nodes segments) v k) (length (end_nodes segments)) ≡ true
     → get_or (end_multiplexed (segments ++ s ∷ [])) (end_number (end_nodes (segments ++ s ∷ [])) v k) false ≡ get_or (end_multiplexed segments) (end_number (end_nodes segments) v k) false
 flag_kept segments s v k is =
-    let there = lt_of _ _ is in
+    let there = ltb-true _ _ is in
     let number : end_number (end_nodes (segments ++ s ∷ [])) v k ≡ end_number (end_nodes segments) v k = ap (λ (l : List ℕ). end_number l v k) (nodes_more segments s) ∙ number_more (end_nodes segments) (nodes_of s.ends) v k there in
     (λ i. get_or (flags_more segments s i) (number i) false)
     ∙ get_or_append_left (end_multiplexed segments) (flags_of s) false (end_number (end_nodes segments) v k) (omega (arith, there, length-flags segments))
@@ -137,10 +133,7 @@ flag_kept segments s v k is =
 pub end_kept : (segments : List Segment) (s : Segment) (v k : ℕ) → nat_lt (end_number (end_nodes segments) v k) (length (end_nodes segments)) ≡ true
     → nat_lt (end_number (end_nodes (segments ++ s ∷ [])) v k) (length (end_nodes (segments ++ s ∷ []))) ≡ true
 end_kept segments s v k is =
-    let there = lt_of _ _ is in
+    let there = ltb-true _ _ is in
     let number : end_number (end_nodes (segments ++ s ∷ [])) v k ≡ end_number (end_nodes segments) v k = ap (λ (l : List ℕ). end_number l v k) (nodes_more segments s) ∙ number_more (end_nodes segments) (nodes_of s.ends) v k there in
     let longer : length (end_nodes (segments ++ s ∷ [])) ≡ length (end_nodes segments) + length (nodes_of s.ends) = ap length (nodes_more segments s) ∙ length-append (end_nodes segments) (nodes_of s.ends) in
-    less _ _ (omega (arith, there, number, longer))
-  where
-    less : (a b : ℕ) → a < b → nat_lt a b ≡ true
-    less a b h = grind (arith, nat_tests)
+    lt-ltb _ _ (omega (arith, there, number, longer))

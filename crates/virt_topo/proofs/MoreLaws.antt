@@ -2,13 +2,17 @@
 use Rattle.std.specs.Prelude.{nat_le, nat_lt, nat_eq}
 use Rattle.std.proofs.Common.{◌≡◌, ℕ, ◌+◌, ◌<◌, ◌≤◌, Bool, true, false, not, ◌&&◌, ◌||◌, eqb, List, [], ◌∷◌, ◌++◌, length, map, refl, sym, ap, ◌∙◌, arith, length-append}
 use Rattle.std.specs.List.{list_all, list_any}
-use Rattle.std.specs.Cmp.Lexicographic.{nat_list_eq_equiv}
 use Rattle.std.proofs.lemmas.Bool.{and_parts, and_from, or_parts}
 use Rattle.std.proofs.lemmas.Bool.Decides.{nat_tests}
 use Rattle.std.proofs.lemmas.Grind.{flat_map-append}
 use Rattle.std.proofs.lemmas.List.{append-nil, length-map}
 use Rattle.std.proofs.lemmas.List.Folds.{list_all-append, list_any-append}
+use Rattle.std.proofs.Math.Bool.{or-false, and-true}
 use Rattle.lab_base.specs.Names.{same_name}
+use Rattle.lab_base.proofs.Members.{all_weaker}
+use Rattle.lab_base.proofs.Bytes.{bytes_turned}
+use Rattle.lab_base.proofs.Numbers.{eqb_turned}
+use Rattle.lab_base.proofs.Tests.{or_swapped}
 use Rattle.virt_topo.specs.declared.wiring.Asks.{Asks}
 use Rattle.virt_topo.specs.declared.wiring.Asks.TheVariants.{Plain, Class as InClass}
 use Rattle.virt_topo.specs.declared.wiring.Class.{Class}
@@ -26,19 +30,11 @@ use Rattle.virt_topo.proofs.MoreEnds.{nodes_more, owner_kept, flag_kept, end_kep
 
 -- ONE ELEMENT MORE
 
-pub or_false : (b : Bool) → (b || false) ≡ b
-or_false true = refl
-or_false false = refl
-
-pub and_true : (b : Bool) → (b && true) ≡ b
-and_true true = refl
-and_true false = refl
-
 pub all_more : {X : Type 0} (test : X → Bool) (xs : List X) (x : X) → list_all test xs ≡ true → list_all test (xs ++ x ∷ []) ≡ test x
-all_more test xs x all = list_all-append test xs (x ∷ []) ∙ (λ i. all i && (test x && true)) ∙ and_true (test x)
+all_more test xs x all = list_all-append test xs (x ∷ []) ∙ (λ i. all i && (test x && true)) ∙ and-true (test x)
 
 pub any_more : {X : Type 0} (test : X → Bool) (xs : List X) (x : X) → list_any test xs ≡ false → list_any test (xs ++ x ∷ []) ≡ test x
-any_more test xs x none = list_any-append test xs (x ∷ []) ∙ (λ i. none i || (test x || false)) ∙ or_false (test x)
+any_more test xs x none = list_any-append test xs (x ∷ []) ∙ (λ i. none i || (test x || false)) ∙ or-false (test x)
 
 -- the one more stands again where an earlier one is the same
 pub again_more : {X : Type 0} (same : X → X → Bool) → ((a b : X) → same a b ≡ same b a) → (xs : List X) (x : X) → stands_again same xs ≡ false → stands_again same (xs ++ x ∷ []) ≡ list_any (same x) xs
@@ -47,19 +43,9 @@ again_more same symm (y ∷ xs) x once =
     let parts = or_parts (list_any (same y) xs) (stands_again same xs) once in
     λ i. (any_more (same y) xs x parts.0 ∙ symm y x) i || again_more same symm xs x parts.1 i
 
-pub all_alike : {X : Type 0} (p q : X → Bool) → ((x : X) → p x ≡ true → q x ≡ true) → (xs : List X) → list_all p xs ≡ true → list_all q xs ≡ true
-all_alike p q from [] all = refl
-all_alike p q from (x ∷ xs) all = let parts = and_parts (p x) (list_all p xs) all in and_from _ _ (from x parts.0) (all_alike p q from xs parts.1)
-
 any_alike : {X : Type 0} (p q r : X → Bool) → ((x : X) → r x ≡ true → p x ≡ q x) → (xs : List X) → list_all r xs ≡ true → list_any p xs ≡ list_any q xs
 any_alike p q r alike [] all = refl
 any_alike p q r alike (x ∷ xs) all = let parts = and_parts (r x) (list_all r xs) all in λ i. alike x parts.0 i || any_alike p q r alike xs parts.1 i
-
-symm_name : (a b : List ℕ) → same_name a b ≡ same_name b a
-symm_name a b = nat_list_eq_equiv.symm a b
-
-symm_number : (a b : ℕ) → eqb a b ≡ eqb b a
-symm_number a b = grind (arith, nat_tests)
 
 le_more : {X : Type 0} (xs : List X) (x : X) (most : ℕ) → nat_le (length (xs ++ x ∷ [])) most ≡ nat_lt (length xs) most
 le_more xs x most = ap (λ (n : ℕ). nat_le n most) (length-append xs (x ∷ [])) ∙ next (length xs) most
@@ -110,7 +96,7 @@ pub twice_with_class : (w : Wiring) (c : Class) → has_twice w ≡ false
     → has_twice (record w { classes = w.classes ++ c ∷ [] }) ≡ (list_any (λ d. same_name c.name d.name) w.classes || (stands_again same_name c.types || list_any (λ v. asks_type c.name v.asks) w.nodes))
 twice_with_class w c h =
     let once = once_of w h in
-    λ i. again_more (λ (a b : Class). same_name a.name b.name) (λ a b. symm_name a.name b.name) w.classes c once.classes i
+    λ i. again_more (λ (a b : Class). same_name a.name b.name) (λ a b. bytes_turned a.name b.name) w.classes c once.classes i
     || (once.nodes i || (once.segments i || (any_more (λ (d : Class). stands_again same_name d.types) w.classes c once.types i
     || (once.desires i || (once.addresses i || asked_more w.classes c w.nodes once.asked i)))))
 
@@ -118,7 +104,7 @@ pub twice_with_node : (w : Wiring) (n : VirtNode) → has_twice w ≡ false
     → has_twice (record w { nodes = w.nodes ++ n ∷ [] }) ≡ (list_any (λ v. same_name n.name v.name) w.nodes || (stands_again (λ a b. same_name a.0 b.0) n.desires || asks_class_name w.classes n.asks))
 twice_with_node w n h =
     let once = once_of w h in
-    λ i. once.classes i || (again_more (λ (a b : VirtNode). same_name a.name b.name) (λ a b. symm_name a.name b.name) w.nodes n once.nodes i
+    λ i. once.classes i || (again_more (λ (a b : VirtNode). same_name a.name b.name) (λ a b. bytes_turned a.name b.name) w.nodes n once.nodes i
     || (once.segments i || (once.types i || (any_more (λ (v : VirtNode). stands_again (λ a b. same_name a.0 b.0) v.desires) w.nodes n once.desires i
     || (once.addresses i || any_more (λ (v : VirtNode). asks_class_name w.classes v.asks) w.nodes n once.asked i)))))
 
@@ -129,9 +115,9 @@ pub twice_with_segment : (w : Wiring) (s : Segment) → has_twice w ≡ false
     → has_twice (record w { segments = w.segments ++ s ∷ [] }) ≡ (list_any (λ t. same_name s.name t.name) w.segments || stands_again same_address (all_ends w.segments ++ s.ends))
 twice_with_segment w s h =
     let once = once_of w h in
-    (λ i. once.classes i || (once.nodes i || (again_more (λ (a b : Segment). same_name a.name b.name) (λ a b. symm_name a.name b.name) w.segments s once.segments i
+    (λ i. once.classes i || (once.nodes i || (again_more (λ (a b : Segment). same_name a.name b.name) (λ a b. bytes_turned a.name b.name) w.segments s once.segments i
     || (once.types i || (once.desires i || (stands_again same_address (ends_more w.segments s i) || once.asked i))))))
-    ∙ ap (λ (b : Bool). list_any (λ t. same_name s.name t.name) w.segments || b) (or_false (stands_again same_address (all_ends w.segments ++ s.ends)))
+    ∙ ap (λ (b : Bool). list_any (λ t. same_name s.name t.name) w.segments || b) (or-false (stands_again same_address (all_ends w.segments ++ s.ends)))
 
 -- WHAT NUMBERS NAME
 
@@ -149,7 +135,7 @@ known_of w h =
 pub known_with_class : (w : Wiring) (c : Class) → knows_all w ≡ true → knows_all (record w { classes = w.classes ++ c ∷ [] }) ≡ true
 known_with_class w c h =
     let known = known_of w h in
-    and_from _ _ (all_alike (λ v. knows_class w v.asks) (λ v. knows_class (record w { classes = w.classes ++ c ∷ [] }) v.asks) (λ v g. one v.asks g) w.nodes known.classes)
+    and_from _ _ (all_weaker (λ v. knows_class w v.asks) (λ v. knows_class (record w { classes = w.classes ++ c ∷ [] }) v.asks) (λ v g. one v.asks g) w.nodes known.classes)
     (and_from _ _ known.nodes known.pipes)
   where
     one : (a : Asks) → knows_class w a ≡ true → knows_class (record w { classes = w.classes ++ c ∷ [] }) a ≡ true
@@ -161,10 +147,10 @@ known_with_node w n h =
     let known = known_of w h in
     let more = record w { nodes = w.nodes ++ n ∷ [] } in
     let ends : list_all (λ s. list_all (λ e. knows_node more e.node) s.ends) w.segments ≡ true =
-    all_alike (λ s. list_all (λ e. knows_node w e.node) s.ends) (λ s. list_all (λ e. knows_node more e.node) s.ends)
-    (λ s g. all_alike (λ e. knows_node w e.node) (λ e. knows_node more e.node) (λ e k. lt_more w.nodes n e.node k) s.ends g) w.segments known.nodes in
-    let pipes : list_all (knows_pipe more) w.pipes ≡ true = all_alike (knows_pipe w) (knows_pipe more) one w.pipes known.pipes in
-    (λ i. all_more (λ (v : VirtNode). knows_class w v.asks) w.nodes n known.classes i && (ends i && pipes i)) ∙ and_true (knows_class w n.asks)
+    all_weaker (λ s. list_all (λ e. knows_node w e.node) s.ends) (λ s. list_all (λ e. knows_node more e.node) s.ends)
+    (λ s g. all_weaker (λ e. knows_node w e.node) (λ e. knows_node more e.node) (λ e k. lt_more w.nodes n e.node k) s.ends g) w.segments known.nodes in
+    let pipes : list_all (knows_pipe more) w.pipes ≡ true = all_weaker (knows_pipe w) (knows_pipe more) one w.pipes known.pipes in
+    (λ i. all_more (λ (v : VirtNode). knows_class w v.asks) w.nodes n known.classes i && (ends i && pipes i)) ∙ and-true (knows_class w n.asks)
   where
     one : (p : Pipe) → knows_pipe w p ≡ true → knows_pipe (record w { nodes = w.nodes ++ n ∷ [] }) p ≡ true
     one p g = let parts = and_parts (knows_node w p.node) _ g in and_from _ _ (lt_more w.nodes n p.node parts.0) parts.1
@@ -173,8 +159,8 @@ pub known_with_segment : (w : Wiring) (s : Segment) → knows_all w ≡ true →
 known_with_segment w s h =
     let known = known_of w h in
     let more = record w { segments = w.segments ++ s ∷ [] } in
-    let pipes : list_all (knows_pipe more) w.pipes ≡ true = all_alike (knows_pipe w) (knows_pipe more) one w.pipes known.pipes in
-    (λ i. known.classes i && (all_more (λ (t : Segment). list_all (λ e. knows_node w e.node) t.ends) w.segments s known.nodes i && pipes i)) ∙ and_true (list_all (λ e. knows_node w e.node) s.ends)
+    let pipes : list_all (knows_pipe more) w.pipes ≡ true = all_weaker (knows_pipe w) (knows_pipe more) one w.pipes known.pipes in
+    (λ i. known.classes i && (all_more (λ (t : Segment). list_all (λ e. knows_node w e.node) t.ends) w.segments s known.nodes i && pipes i)) ∙ and-true (list_all (λ e. knows_node w e.node) s.ends)
   where
     one : (p : Pipe) → knows_pipe w p ≡ true → knows_pipe (record w { segments = w.segments ++ s ∷ [] }) p ≡ true
     one p g =
@@ -210,14 +196,8 @@ bad_with_segment w s known h =
 
 symm_shares : (p q : Pipe) → shares_end p q ≡ shares_end q p
 symm_shares p q =
-    (λ i. symm_number p.node q.node i && (symm_number p.from q.from i || (symm_number p.from q.to i || (symm_number p.to q.from i || symm_number p.to q.to i))))
-    ∙ ap (λ (b : Bool). eqb q.node p.node && (eqb q.from p.from || b)) (swap (eqb q.to p.from) (eqb q.from p.to) (eqb q.to p.to))
-  where
-    swap : (a b c : Bool) → (a || (b || c)) ≡ (b || (a || c))
-    swap true true c = refl
-    swap true false c = refl
-    swap false true c = refl
-    swap false false c = refl
+    (λ i. eqb_turned p.node q.node i && (eqb_turned p.from q.from i || (eqb_turned p.from q.to i || (eqb_turned p.to q.from i || eqb_turned p.to q.to i))))
+    ∙ ap (λ (b : Bool). eqb q.node p.node && (eqb q.from p.from || b)) (or_swapped (eqb q.to p.from) (eqb q.from p.to) (eqb q.to p.to))
 
 pub bad_with_pipe : (w : Wiring) (p : Pipe) → has_bad_pipe w ≡ false → has_bad_pipe (record w { pipes = w.pipes ++ p ∷ [] }) ≡ (is_bad_pipe w p || list_any (shares_end p) w.pipes)
 bad_with_pipe w p h =
@@ -251,13 +231,13 @@ pub limits_with_class : (w : Wiring) (c : Class) → keeps_limits w ≡ true →
 limits_with_class w c h =
     let l = within w h in
     (λ i. le_more w.classes c 64 i && (l.nodes i && (l.segments i && (l.ends i && (all_more limits_class w.classes c l.each_class i && (l.each_node i && (l.each_segment i && l.each_pipe i)))))))
-    ∙ ap (λ (b : Bool). nat_lt (length w.classes) 64 && b) (and_true (limits_class c))
+    ∙ ap (λ (b : Bool). nat_lt (length w.classes) 64 && b) (and-true (limits_class c))
 
 pub limits_with_node : (w : Wiring) (n : VirtNode) → keeps_limits w ≡ true → keeps_limits (record w { nodes = w.nodes ++ n ∷ [] }) ≡ (nat_lt (length w.nodes) 256 && limits_node n)
 limits_with_node w n h =
     let l = within w h in
     (λ i. l.classes i && (le_more w.nodes n 256 i && (l.segments i && (l.ends i && (l.each_class i && (all_more limits_node w.nodes n l.each_node i && (l.each_segment i && l.each_pipe i)))))))
-    ∙ ap (λ (b : Bool). nat_lt (length w.nodes) 256 && b) (and_true (limits_node n))
+    ∙ ap (λ (b : Bool). nat_lt (length w.nodes) 256 && b) (and-true (limits_node n))
 
 pub count_more : (segments : List Segment) (s : Segment) → length (end_nodes (segments ++ s ∷ [])) ≡ length (end_nodes segments) + length s.ends
 count_more segments s = ap length (nodes_more segments s) ∙ length-append (end_nodes segments) (nodes_of s.ends) ∙ ap (λ (n : ℕ). length (end_nodes segments) + n) (length-map s.ends (λ (e : VirtEnd). e.node))
@@ -267,7 +247,7 @@ pub limits_with_segment : (w : Wiring) (s : Segment) → keeps_limits w ≡ true
 limits_with_segment w s h =
     let l = within w h in
     (λ i. l.classes i && (l.nodes i && (le_more w.segments s 512 i && (nat_le (count_more w.segments s i) 4096 && (l.each_class i && (l.each_node i && (all_more limits_segment w.segments s l.each_segment i && l.each_pipe i)))))))
-    ∙ ap (λ (b : Bool). nat_lt (length w.segments) 512 && (nat_le (length (end_nodes w.segments) + length s.ends) 4096 && b)) (and_true (limits_segment s))
+    ∙ ap (λ (b : Bool). nat_lt (length w.segments) 512 && (nat_le (length (end_nodes w.segments) + length s.ends) 4096 && b)) (and-true (limits_segment s))
 
 pub limits_with_pipe : (w : Wiring) (p : Pipe) → keeps_limits w ≡ true → keeps_limits (record w { pipes = w.pipes ++ p ∷ [] }) ≡ limits_pipe p
 limits_with_pipe w p h =

@@ -3,11 +3,11 @@ use Rattle.std.proofs.Common.{◌≡◌, ℕ, ◌+◌, ◌<◌, Bool, List, ◌�
 use Rattle.std.specs.Prelude.{◌||◌}
 use Rattle.std.specs.List.{list_any}
 use Rattle.std.proofs.lemmas.List.Folds.{list_any-append}
+use Rattle.lab_base.proofs.Lists.{item_at}
 use Rattle.virt_topo.specs.Repeats.{stands_again}
 use Rattle.virt_topo.specs.Soundness.{all_ends, same_address}
 use Rattle.virt_topo.specs.declared.wiring.Segment.{Segment}
 use Rattle.virt_topo.specs.declared.wiring.VirtEnd.{VirtEnd}
-use Rattle.virt_topo.proofs.EndLaws.{item_at}
 
 -- the ends of the segment at i, and those behind it
 pub any_from : (p : VirtEnd → Bool) (segments : List Segment) (i : ℕ) (s : Segment) (ends : List VirtEnd) → i < length segments → s ≡ get_or segments i s → ends ≡ s.ends

@@ -1,5 +1,5 @@
 use Rattle.std.proofs.Common.{◌≡◌, ℕ, ◌+◌, ◌<◌, List, length, get_or, sym, ◌∙◌}
-use Rattle.lab_model.proofs.PartLaws.{Has-get_or}
+use Rattle.lab_base.proofs.Members.{Has-get_or}
 use Rattle.claims.specs.Held.{claim_use, use_by, others}
 use Rattle.claims.proofs.Entries.{place_some, place_none}
 use Rattle.claims.proofs.Leavings.{if_ok_so, left_beside_so, left_alone_so}

@@ -1,9 +1,8 @@
 use Rattle.std.proofs.Common.{Bool, List, ap, arith, ◌∙◌}
 use Rattle.phys_lab.proofs.TrunkCount.{few_trunks}
 use Rattle.virt_topo.specs.Cables.{cables, cut_use}
-use Rattle.virt_topo.proofs.CableLaws.{whole_bound}
+use Rattle.virt_topo.proofs.CableLaws.{whole_bound, sound_keeps}
 use Rattle.lab_model.proofs.CutLaws.{cut_is_use}
-use Rattle.cost_rule.proofs.LimitLaws.{sound_keeps}
 use Rattle.cost_rule.proofs.costs.trunk_use.Goals as goal
 
 pub overflow_cast-trunk : goal.overflow_cast-trunk

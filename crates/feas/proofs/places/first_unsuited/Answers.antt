@@ -1,6 +1,6 @@
 use Rattle.std.proofs.Common.{arith}
 use Rattle.lab_model.specs.Rules.{keeps_f3}
-use Rattle.feas.proofs.FirstLaws.{first_at, none_at}
+use Rattle.lab_model.proofs.FirstViolation.{first_at, none_at}
 use Rattle.feas.proofs.places.first_unsuited.Goals as goal
 
 pub returns-then-not-keeps_f3-clause-first : goal.returns-then-not-keeps_f3-clause-first

@@ -4,7 +4,7 @@ use Rattle.virt_topo.specs.Ends.{end_nodes}
 use Rattle.virt_topo.specs.Loads.{loads_from}
 use Rattle.virt_topo.proofs.LoadLaws.{length-loads}
 use Rattle.lab_model.specs.Rules.{keeps_f5, no_load}
-use Rattle.feas.proofs.FirstLaws.{first_at, none_at}
+use Rattle.lab_model.proofs.FirstViolation.{first_at, none_at}
 use Rattle.feas.proofs.LoadLists.{few_segments, kept_is}
 use Rattle.feas.proofs.plugs.first_misplugged.Goals as goal
 

@@ -4,7 +4,7 @@ use Rattle.lab_base.specs.declared.ids.IfaceId.{IfaceId}
 use Rattle.virt_topo.specs.declared.wiring.Segment.{Segment}
 use Rattle.virt_topo.specs.Ends.{end_nodes}
 use Rattle.lab_model.specs.Rules.{are_joined, keeps_f7}
-use Rattle.feas.proofs.FirstLaws.{first_at, none_at}
+use Rattle.lab_model.proofs.FirstViolation.{first_at, none_at}
 use Rattle.feas.proofs.CableSteps.{cut_at, ends_at}
 use Rattle.feas.proofs.segments.first_parted.Goals as goal
 

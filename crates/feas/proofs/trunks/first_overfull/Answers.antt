@@ -1,6 +1,6 @@
 use Rattle.std.proofs.Common.{length, ap, arith}
 use Rattle.lab_model.specs.Rules.{keeps_f6}
-use Rattle.feas.proofs.FirstLaws.{first_at, none_at}
+use Rattle.lab_model.proofs.FirstViolation.{first_at, none_at}
 use Rattle.feas.proofs.trunks.first_overfull.Goals as goal
 
 pub returns-then-not-keeps_f6-clause-first : goal.returns-then-not-keeps_f6-clause-first

@@ -1,7 +1,7 @@
 use Rattle.std.proofs.Common.{Bool, sym, subst, ap, ◌∙◌}
 use Rattle.plant.specs.Told.{with_steps}
+use Rattle.plant.proofs.Traces.{with_steps-nil}
 use Rattle.journal_disk.specs.Compacting.{shutting}
-use Rattle.journal_disk.proofs.Chains.{nothing_yet}
 use Rattle.journal_disk.proofs.emptying.empty.Goals as goal
 
 pub returns-in_ok-shut-clause-leaves : goal.returns-in_ok-shut-clause-leaves
@@ -12,4 +12,4 @@ returns-in_ok-shut-clause-leaves g c text =
 pub returns-else-unshut-clause-leaves : goal.returns-else-unshut-clause-leaves
 returns-else-unshut-clause-leaves g c text =
     let told = (g.P.Plant.seen c.args.plant.now).told in
-    c.shorten-else-unshut.ensures.leaves told c.args.unshut text (nothing_yet told ∙ ap (λ (b : Bool). with_steps told (shutting c.args.side b)) (sym c.if-unshut.false))
+    c.shorten-else-unshut.ensures.leaves told c.args.unshut text (with_steps-nil told ∙ ap (λ (b : Bool). with_steps told (shutting c.args.side b)) (sym c.if-unshut.false))

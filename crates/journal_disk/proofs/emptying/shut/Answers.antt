@@ -2,8 +2,9 @@ use Rattle.std.proofs.Common.{◌≡◌, ◌∷◌, [], true, refl, ap, ◌∙�
 use Rattle.std.proofs.lemmas.Result.{err_from_is_err_and}
 use Rattle.plant.specs.Events.{Wrote}
 use Rattle.plant.specs.Told.{with_steps}
+use Rattle.plant.proofs.Traces.{with_steps-nil}
 use Rattle.journal_disk.specs.Compacting.{Untouched, Closing, Closed}
-use Rattle.journal_disk.proofs.Chains.{nothing_yet, write_ok}
+use Rattle.journal_disk.proofs.Chains.{write_ok}
 use Rattle.journal_disk.proofs.Leaving.{byte_left, sync_ends}
 use Rattle.journal_disk.proofs.emptying.shut.Goals as goal
 
@@ -12,7 +13,7 @@ returns-in_err-write-clause-leaves g c text =
     let p = err_from_is_err_and c.from_residual.result c.from_residual.ensures.1 in
     let t = c.in_err-write.ensures.trace in
     let told = (g.P.Plant.seen c.args.plant.now).told in
-    rw (p.1, p.2) (byte_left c.args.side true text told told (g.P.Plant.seen c.write.new.self).told Untouched (λ byte. Closing byte) 0 0 (g.P.Plant.seen c.args.plant.now).stopped c.in_err-write.field-0.0 t.0 tt (λ _. refl) (nothing_yet told) (λ byte. refl) t.1 t.2)
+    rw (p.1, p.2) (byte_left c.args.side true text told told (g.P.Plant.seen c.write.new.self).told Untouched (λ byte. Closing byte) 0 0 (g.P.Plant.seen c.args.plant.now).stopped c.in_err-write.field-0.0 t.0 tt (λ _. refl) (with_steps-nil told) (λ byte. refl) t.1 t.2)
 
 pub returns-clause-leaves : goal.returns-clause-leaves
 returns-clause-leaves g c text =

@@ -3,8 +3,9 @@ use Rattle.std.proofs.lemmas.Result.{err_from_is_err_and}
 use Rattle.plant.specs.Events.{Wrote}
 use Rattle.plant.specs.Told.{with_steps}
 use Rattle.plant.specs.declared.step.Side.TheVariants.{A}
+use Rattle.plant.proofs.Traces.{with_steps-nil}
 use Rattle.journal_disk.specs.Opening.{Untouched, Closing, Closed, made_steps, IsMade}
-use Rattle.journal_disk.proofs.Chains.{nothing_yet, write_ok, sync_came, write_came}
+use Rattle.journal_disk.proofs.Chains.{write_ok, sync_came, write_came}
 use Rattle.journal_disk.proofs.Opening.{make_broke}
 use Rattle.journal_disk.proofs.Parts.{first_byte, one_byte}
 use Rattle.journal_disk.proofs.make.clear.Goals as goal
@@ -14,7 +15,7 @@ returns-in_err-write-clause-makes g c =
     let p = err_from_is_err_and c.from_residual.result c.from_residual.ensures.1 in
     let t = c.in_err-write.ensures.trace in
     let told = (g.P.Plant.seen c.args.plant.now).told in
-    rw (p.1, p.2) (make_broke true Closed told (g.P.Plant.seen c.write.new.self).told c.in_err-write.field-0.0 (write_came (made_steps true) (IsMade true) told told (g.P.Plant.seen c.write.new.self).told A Untouched (λ other. Closing (first_byte other)) 0 (0 ∷ []) (g.P.Plant.seen c.args.plant.now).stopped c.in_err-write.field-0.0 t.0 tt (λ _. refl) (nothing_yet told)
+    rw (p.1, p.2) (make_broke true Closed told (g.P.Plant.seen c.write.new.self).told c.in_err-write.field-0.0 (write_came (made_steps true) (IsMade true) told told (g.P.Plant.seen c.write.new.self).told A Untouched (λ other. Closing (first_byte other)) 0 (0 ∷ []) (g.P.Plant.seen c.args.plant.now).stopped c.in_err-write.field-0.0 t.0 tt (λ _. refl) (with_steps-nil told)
     (λ other len. ap (λ (l : List ℕ). Wrote A 0 l ∷ []) (one_byte other len)) t.1 t.2))
 
 pub returns-in_err-sync-clause-makes : goal.returns-in_err-sync-clause-makes

@@ -3,9 +3,10 @@ use Rattle.std.proofs.lemmas.Result.{err_from_is_err_and}
 use Rattle.plant.specs.Events.{Wrote, Synced}
 use Rattle.plant.specs.Told.{with_steps}
 use Rattle.plant.specs.declared.step.Side.TheVariants.{A}
+use Rattle.plant.proofs.Traces.{with_steps-nil}
 use Rattle.journal_model.specs.Making.{made_header}
 use Rattle.journal_disk.specs.Opening.{Untouched, Heading, WithHeader, Raising, InUse, made_steps, IsMade}
-use Rattle.journal_disk.proofs.Chains.{chain, write_ok, sync_ok, nothing_yet, sync_came, write_came}
+use Rattle.journal_disk.proofs.Chains.{chain, write_ok, sync_ok, sync_came, write_came}
 use Rattle.journal_disk.proofs.Opening.{make_broke, make_done}
 use Rattle.journal_disk.proofs.Parts.{first_byte, one_byte}
 use Rattle.journal_disk.proofs.make.head.Goals as goal
@@ -15,7 +16,7 @@ returns-in_err-write-clause-makes g c =
     let p = err_from_is_err_and c.from_residual.result c.from_residual.ensures.1 in
     let t = c.in_err-write.ensures.trace in
     let told = (g.P.Plant.seen c.args.plant.now).told in
-    rw (p.1, p.2) (make_broke false InUse told (g.P.Plant.seen c.write.new.self).told c.in_err-write.field-0.0 (write_came (made_steps false) (IsMade false) told told (g.P.Plant.seen c.write.new.self).told A Untouched (λ other. Heading other) 1 made_header (g.P.Plant.seen c.args.plant.now).stopped c.in_err-write.field-0.0 t.0 tt (λ _. tt) (nothing_yet told) (λ other len. refl) t.1 t.2))
+    rw (p.1, p.2) (make_broke false InUse told (g.P.Plant.seen c.write.new.self).told c.in_err-write.field-0.0 (write_came (made_steps false) (IsMade false) told told (g.P.Plant.seen c.write.new.self).told A Untouched (λ other. Heading other) 1 made_header (g.P.Plant.seen c.args.plant.now).stopped c.in_err-write.field-0.0 t.0 tt (λ _. tt) (with_steps-nil told) (λ other len. refl) t.1 t.2))
 
 pub returns-in_err-sync-clause-makes : goal.returns-in_err-sync-clause-makes
 returns-in_err-sync-clause-makes g c =

@@ -3,8 +3,9 @@ use Rattle.std.proofs.lemmas.Result.{err_from_is_err_and}
 use Rattle.plant.specs.Events.{Synced}
 use Rattle.plant.specs.Told.{with_steps}
 use Rattle.plant.specs.declared.step.Side.TheVariants.{A, B}
+use Rattle.plant.proofs.Traces.{with_steps-nil}
 use Rattle.journal_disk.specs.Opening.{both_synced, AtStart, OneSynced, BothSynced}
-use Rattle.journal_disk.proofs.Chains.{chain, nothing_yet, sync_ok}
+use Rattle.journal_disk.proofs.Chains.{chain, sync_ok}
 use Rattle.journal_disk.proofs.Opening.{sync_broke, both_done}
 use Rattle.journal_disk.proofs.sides.sync_sides.Goals as goal
 
@@ -13,7 +14,7 @@ returns-in_err-sync-clause-syncs g c =
     let p = err_from_is_err_and c.from_residual.result c.from_residual.ensures.1 in
     let told = (g.P.Plant.seen c.args.plant.now).told in
     let t = c.in_err-sync.ensures.trace in
-    rw (p.1, p.2) (sync_broke told told (g.P.Plant.seen c.sync.new.self).told A AtStart OneSynced (g.P.Plant.seen c.args.plant.now).stopped c.in_err-sync.field-0.0 t.0 tt tt (nothing_yet told) refl t.1 t.2)
+    rw (p.1, p.2) (sync_broke told told (g.P.Plant.seen c.sync.new.self).told A AtStart OneSynced (g.P.Plant.seen c.args.plant.now).stopped c.in_err-sync.field-0.0 t.0 tt tt (with_steps-nil told) refl t.1 t.2)
 
 pub returns-in_err-sync-2-clause-syncs : goal.returns-in_err-sync-2-clause-syncs
 returns-in_err-sync-2-clause-syncs g c =

@@ -4,11 +4,10 @@ use Rattle.std.specs.List.Sorted.{IsStrictlySortedBy}
 use Rattle.std.specs.Cmp.Lexicographic.{slice_cmp}
 use Rattle.std.proofs.lemmas.List.{take_all}
 use Rattle.lab_base.specs.Lists.{Has}
-use Rattle.lab_base.proofs.Members.{Has-map, Has-mapped}
+use Rattle.lab_base.proofs.Members.{Has-map, Has-mapped, Has-place, Has-get_or}
 use Rattle.lab_ahead.specs.declared.trail.Step.{Step}
 use Rattle.lab_ahead.specs.Givings.{need_at}
 use Rattle.lab_ahead.specs.Trails.{step_at}
-use Rattle.lab_ahead.proofs.Counting.{at_place, place_of}
 use Rattle.lab_ahead.proofs.SortLaws.{names_before, names_kept, names_rising}
 use Rattle.lab_ahead.proofs.fitting.kinds_reached.Goals as goal
 
@@ -22,7 +21,7 @@ returns-clause-all c = λ n reached.
     let steps = c.args.steps.now in
     let kind = λ (s : Step). (need_at c.args.needs.now s.need).kind in
     let raw : c.loop-step.kinds.items ≡ map kind steps = c.loop-step.invariant ∙ ap (λ (l : List Step). map kind l) (take_all c.loop-step.step-index steps c.loop-step-test.false) in
-    let at : Has (map kind steps) (kind (step_at steps reached.0)) = Has-mapped kind steps (step_at steps reached.0) (at_place steps reached.0 (record { need = 0; position = 0; parent = 0 }) reached.1) in
+    let at : Has (map kind steps) (kind (step_at steps reached.0)) = Has-mapped kind steps (step_at steps reached.0) (Has-get_or steps reached.0 (record { need = 0; position = 0; parent = 0 }) reached.1) in
     let named : Has (map kind steps) (need_at c.args.needs.now n).kind = subst (λ (m : ℕ). Has (map kind steps) (need_at c.args.needs.now m).kind) reached.2 at in
     subst (λ (l : List (List ℕ)). Has l (need_at c.args.needs.now n).kind) (sym c.from_vec.ensures)
     (names_kept c.loop-step.kinds.items c.sort.new.self.items c.dedup.new.self.items c.in_ok-sort.ensures.permutation c.dedup.ensures.filtered (need_at c.args.needs.now n).kind
@@ -36,5 +35,5 @@ returns-clause-only c = λ kind has.
     let before = names_before c.loop-step.kinds.items c.sort.new.self.items c.dedup.new.self.items c.in_ok-sort.ensures.permutation c.dedup.ensures.filtered kind
     (subst (λ (l : List (List ℕ)). Has l kind) c.from_vec.ensures has) in
     let from = Has-map kind_of steps kind (subst (λ (l : List (List ℕ)). Has l kind) raw before) in
-    let place = place_of steps from.0 (record { need = 0; position = 0; parent = 0 }) from.1 in
+    let place = Has-place steps from.0 (record { need = 0; position = 0; parent = 0 }) from.1 in
     (from.0.need, (place.0, place.1, ap (λ (s : Step). s.need) place.2), from.2)

@@ -3,10 +3,10 @@ use Rattle.std.specs.Ordering.{nat_cmp}
 use Rattle.std.specs.List.Sorted.{IsStrictlySortedBy}
 use Rattle.std.proofs.lemmas.Bool.{cases_lt}
 use Rattle.lab_base.specs.Lists.{Has}
+use Rattle.lab_base.proofs.Members.{Has-place}
 use Rattle.lab_ahead.specs.declared.waits.Wait.{Wait}
 use Rattle.lab_ahead.specs.Moments.{FitsAt}
 use Rattle.lab_ahead.specs.Waits.{TellsShort}
-use Rattle.lab_ahead.proofs.Counting.{place_of}
 use Rattle.lab_ahead.proofs.WaitLaws.{first_short, no_wait, not_for}
 use Rattle.lab_ahead.proofs.waits.first_wait.Goals as goal
 
@@ -53,7 +53,7 @@ returns-clause-fits c =
     let promises = c.args.promises.now in
     let items = c.as_slice-at-items.result.now in (
       λ _. c.in_ok-tested.ensures.enough lab left (λ t h.
-          let place = place_of items t 0 (subst (λ (l : List ℕ). Has l t) (sym c.as_slice-at-items.ensures) h) in
+          let place = Has-place items t 0 (subst (λ (l : List ℕ). Has l t) (sym c.as_slice-at-items.ensures) h) in
           subst (λ (m : ℕ). FitsAt lab left promises m) place.2 (c.loop-at.invariant place.0 (omega (arith, place.1, c.loop-at-test.false)))),
       λ _. refl,
     )

@@ -1,4 +1,5 @@
 use Rattle.std.proofs.Common.{◌≡◌, ◌++◌, ap, sym, ◌∙◌, subst, List, Option}
+use Rattle.lab_base.proofs.Tests.{some_weaker}
 use Rattle.phys_lab.specs.Labs.{Lab}
 use Rattle.virt_topo.specs.declared.experiment.Experiment.{Experiment}
 use Rattle.plant.specs.Told.{Told}
@@ -10,7 +11,7 @@ use Rattle.lab_audit.specs.Lines.{AreAllWanted}
 use Rattle.lab_audit.specs.declared.report.Line.{Line}
 use Rattle.lab_audit.specs.declared.wanted.Wanted.{Wanted}
 use Rattle.lab_audit.proofs.Comparing.{is_diff, tells_switches}
-use Rattle.lab_audit.proofs.Reading.{both_told, one_told, told_before}
+use Rattle.lab_audit.proofs.Reading.{both_told, told_before}
 use Rattle.lab_audit.proofs.auditing.audit.Goals as goal
 
 pub returns-clause-exact : goal.returns-clause-exact
@@ -38,7 +39,7 @@ returns-clause-switches g c =
     let nodes = c.in_ok-nodes.nodes in
     let wanted : AreAllWanted lab es c.deref.result.now = subst (λ (l : List Wanted). AreAllWanted lab es l) (sym c.deref.ensures.value) c.in_ok-wanted.ensures in
     let whole : c.append.new.lines ≡ switches ++ nodes = c.in_ok-append.ensures ∙ ap (λ (l : List Line). switches ++ l) c.as_slice.ensures in
-    one_told a.told (λ (t : Told). (es : List Experiment) → AreAllWanted lab es c.deref.result.now → AreLines lab es (world_of t.trace) lab.switches switches) _
+    some_weaker a.told (λ (t : Told). (es : List Experiment) → AreAllWanted lab es c.deref.result.now → AreLines lab es (world_of t.trace) lab.switches switches) _
     (λ t l. subst (λ (o : Option Lab). TellsSwitches (lab_in o) es (world_of t.trace) c.append.new.lines) c.in-Some.ensures.lab
     (subst (λ (r : List Line). TellsSwitches lab es (world_of t.trace) r) (sym whole) (tells_switches lab es (world_of t.trace) switches nodes (l es wanted) c.in_ok-nodes.ensures.lines)))
     c.in_ok-report.ensures.lines

@@ -1,5 +1,6 @@
 use Rattle.std.proofs.Common.{◌≡◌, ap, sym, ◌∙◌, subst, List, ℕ, Bool, true, None, Some}
 use Rattle.std.specs.Prelude.{◌↔◌, IfOk, is_some}
+use Rattle.lab_base.proofs.Tests.{some_weaker}
 use Rattle.plant.specs.Told.{Told}
 use Rattle.plant.specs.Worlds.{world_of, wiped}
 use Rattle.virt_topo.specs.declared.mapping.Mapped.{Mapped}
@@ -8,7 +9,7 @@ use Rattle.lab_model.specs.Wants.{node_name}
 use Rattle.lab_audit.specs.Diff.{standing}
 use Rattle.lab_audit.specs.Nodes.{IsOff, claimer}
 use Rattle.lab_audit.proofs.Owners.{claimer_suits, differs_free, differs_held}
-use Rattle.lab_audit.proofs.Reading.{ok_to, one_told}
+use Rattle.lab_audit.proofs.Reading.{ok_to}
 use Rattle.lab_audit.proofs.node_lines.differs.Goals as goal
 
 pub is_off-requires-clause-fits : goal.is_off-requires-clause-fits
@@ -28,7 +29,7 @@ returns-in-Some-clause-exact g c =
     let e = c.in-Some.experiment.now in
     let first : claimer lab s.experiments name ≡ Some e = ap (claimer lab s.experiments) (sym (c.bytes.ensures.bytes ∙ c.name_at-name.ensures)) ∙ sym c.in-Some.ensures in
     let Off : Told → Bool → Type 0 = λ t off. ((m : Mapped) → standing e ≡ Some m → is_some ((world_of t.trace).node name).boot ≡ true) → (off ≡ true) ↔ IsOff lab (world_of t.trace) name (standing e) in
-    one_told a.told (λ (t : Told). IfOk c.is_off.result (Off t)) _
+    some_weaker a.told (λ (t : Told). IfOk c.is_off.result (Off t)) _
     (λ t is. ok_to c.is_off.result (Off t) _ (λ off exact. λ known. differs_held s lab (world_of t.trace) name e off c.requires.sane c.requires.lab first exact known) is)
     c.is_off.ensures.exact
 
@@ -41,7 +42,7 @@ returns-in-None-clause-exact g c =
     let n = c.name_at-name.result in
     let first : claimer lab s.experiments name ≡ None = ap (claimer lab s.experiments) (sym (c.bytes.ensures.bytes ∙ c.name_at-name.ensures)) ∙ sym c.in-None.ensures in
     let Off : Told → List ℕ → Bool → Type 0 = λ t v off. is_some ((world_of t.trace).node v).boot ≡ true → (off ≡ true) ↔ (SameNode ((world_of t.trace).node v) wiped → ⊥) in
-    one_told a.told (λ (t : Told). IfOk c.is_unwiped.result (Off t n)) _
+    some_weaker a.told (λ (t : Told). IfOk c.is_unwiped.result (Off t n)) _
     (λ t is. ok_to c.is_unwiped.result (Off t n) _ (λ off exact. λ known. differs_free s lab (world_of t.trace) name off c.requires.sane c.requires.lab first
     (subst (λ (v : List ℕ). Off t v off) c.name_at-name.ensures exact) known) is)
     c.is_unwiped.ensures.exact

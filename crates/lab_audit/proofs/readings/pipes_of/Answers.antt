@@ -1,11 +1,12 @@
 use Rattle.std.proofs.Common.{◌≡◌, ◌<◌, ◌+◌, ◌≤◌, ◌∷◌, ◌++◌, [], map, Some, None, arith, length-append}
 use Rattle.lab_base.specs.Lists.{Has}
+use Rattle.lab_base.proofs.Tests.{some_weaker}
 use Rattle.plant.specs.Told.{Told}
 use Rattle.plant.specs.Worlds.{world_of}
 use Rattle.plant_tables.specs.Readings.{HasPipe, PipesFit, TellsPipe, pipe_of}
 use Rattle.plant_tables.specs.declared.pipe_row.PipeRow.{PipeRow}
 use Rattle.plant_tables.proofs.Fronts.{IsFront}
-use Rattle.lab_audit.proofs.Reading.{both_told, each_more, number_of, one_told, pipe_read, pipes_end, pipes_full, read_on, three_told, told_before}
+use Rattle.lab_audit.proofs.Reading.{both_told, each_more, number_of, pipe_read, pipes_end, pipes_full, read_on, three_told, told_before}
 use Rattle.lab_audit.proofs.readings.pipes_of.Goals as goal
 
 pub loop-nth-preserved : goal.loop-nth-preserved
@@ -29,7 +30,7 @@ loop-nth-preserved g c =
       so_far = read_on a b (g.P.Plant.seen c.pipe_at.new.plant) None so_far.so_far c.in_ok-pipe.ensures.reads;
       front = rw c.in_ok-push-in-Some.ensures.ok front;
       each = rw c.in_ok-push-in-Some.ensures.ok each;
-      fits = one_told a.told Fits (λ (t : Told). 0 < c.loop-nth.nth + 1 → PipesFit ((world_of t.trace).node c.args.node)) (λ t f more. f) fits;
+      fits = some_weaker a.told Fits (λ (t : Told). 0 < c.loop-nth.nth + 1 → PipesFit ((world_of t.trace).node c.args.node)) (λ t f more. f) fits;
       count = rw c.in_ok-push-in-Some.ensures.ok (omega (arith, length-append old (pipe ∷ []), so_far.count));
     }
 

@@ -1,9 +1,10 @@
 use Rattle.std.proofs.Common.{◌<◌, ◌+◌, ◌≤◌, ◌∷◌, ◌++◌, [], map, Some, None, arith, length-append}
+use Rattle.lab_base.proofs.Tests.{some_weaker}
 use Rattle.plant.specs.Told.{Told}
 use Rattle.plant.specs.Worlds.{world_of}
 use Rattle.plant_tables.specs.Readings.{IsBefore, IsEntry, RowsFit, TellsRow, entry_of}
 use Rattle.plant_tables.proofs.Fronts.{IsFront}
-use Rattle.lab_audit.proofs.Reading.{both_told, one_told, read_on, rows_full, row_read, rows_end, told_before}
+use Rattle.lab_audit.proofs.Reading.{both_told, read_on, rows_full, row_read, rows_end, told_before}
 use Rattle.lab_audit.proofs.readings.rows_on.Goals as goal
 
 pub loop-nth-preserved : goal.loop-nth-preserved
@@ -21,7 +22,7 @@ loop-nth-preserved g c =
     record {
       so_far = read_on a b (g.P.Plant.seen c.row_at.new.plant) None so_far.so_far c.in_ok-row.ensures.reads;
       front = rw c.in_ok-push-in-Some.ensures.ok front;
-      fits = one_told a.told Fits (λ (t : Told). 0 < c.loop-nth.nth + 1 → RowsFit (world_of t.trace) c.args.switch) (λ t f more. f) fits;
+      fits = some_weaker a.told Fits (λ (t : Told). 0 < c.loop-nth.nth + 1 → RowsFit (world_of t.trace) c.args.switch) (λ t f more. f) fits;
       count = rw c.in_ok-push-in-Some.ensures.ok (omega (arith, length-append c.loop-nth.rows (row ∷ []), so_far.count));
     }
 

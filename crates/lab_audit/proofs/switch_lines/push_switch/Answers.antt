@@ -1,4 +1,5 @@
 use Rattle.std.proofs.Common.{◌≡◌, ◌++◌, List, ap, ◌∙◌}
+use Rattle.lab_base.proofs.Tests.{some_weaker}
 use Rattle.phys_lab.specs.Labs.{Lab}
 use Rattle.virt_topo.specs.declared.experiment.Experiment.{Experiment}
 use Rattle.plant.specs.Told.{Told}
@@ -6,7 +7,6 @@ use Rattle.plant.specs.Worlds.{world_of}
 use Rattle.lab_audit.specs.Diff.{AreLinesOf}
 use Rattle.lab_audit.specs.Lines.{AreAllWanted}
 use Rattle.lab_audit.specs.declared.report.Line.{Line}
-use Rattle.lab_audit.proofs.Reading.{one_told}
 use Rattle.lab_audit.proofs.switch_lines.push_switch.Goals as goal
 
 pub returns-clause-lines : goal.returns-clause-lines
@@ -14,6 +14,6 @@ returns-clause-lines g c =
     let a = g.P.Plant.seen c.args.plant.now in
     let own = c.in_ok-own.own.items in
     let longer : c.append.new.lines ≡ c.args.lines.now ++ own = c.in_ok-append.ensures ∙ ap (λ (l : List Line). c.args.lines.now ++ l) c.deref.ensures.value in
-    one_told a.told (λ (t : Told). (lab : Lab) (es : List Experiment) → AreAllWanted lab es c.args.wanted.now → AreLinesOf lab es (world_of t.trace) c.args.switch own) _
+    some_weaker a.told (λ (t : Told). (lab : Lab) (es : List Experiment) → AreAllWanted lab es c.args.wanted.now → AreLinesOf lab es (world_of t.trace) c.args.switch own) _
     (λ t of. (own, longer, of))
     c.in_ok-own.ensures.lines

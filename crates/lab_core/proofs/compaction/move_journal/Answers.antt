@@ -1,8 +1,9 @@
 use Rattle.std.proofs.Common.{sym, ◌∙◌}
+use Rattle.lab_base.proofs.Tests.{ok_weaker}
 use Rattle.lab_core.specs.Compaction.{IsPacked}
 use Rattle.journal_disk.specs.Epochs.{epoch_of}
 use Rattle.journal_disk.specs.Standing.{length_of}
-use Rattle.lab_core.proofs.Compacting.{is_due, is_needed, is_short, memory_after, ok_then, stays_after}
+use Rattle.lab_core.proofs.Compacting.{is_due, is_needed, is_short, memory_after, stays_after}
 use Rattle.lab_core.proofs.compaction.move_journal.Goals as goal
 
 pub returns-then-not-may_move-clause-after : goal.returns-then-not-may_move-clause-after
@@ -33,4 +34,4 @@ returns-clause-works g c =
     let s = c.args.lab.now.state in
     let are : IsPacked c.in-Ok.packed s = record { bytes = c.in-Ok.ensures.packed; stands = c.in-Ok.ensures.stands } in
     let due = is_due s (length_of j) (epoch_of j) c.in-Ok.packed are (sym c.may_move.ensures ∙ c.if-not-may_move.false) (sym c.is_half.ensures ∙ c.if-not-is_half.false) in
-    ok_then c.move_over.result (λ f. f s c.requires.work are due) c.move_over.ensures.works
+    ok_weaker c.move_over.result (λ f. f s c.requires.work are due) c.move_over.ensures.works

@@ -1,11 +1,8 @@
-use Rattle.std.proofs.Common.{◌+◌, ◌∙◌, ap, OnOk, Result, Ok, Err}
+use Rattle.std.proofs.Common.{◌+◌, ◌∙◌, ap}
+use Rattle.lab_base.proofs.Tests.{ok_weaker}
 use Rattle.journal_disk.specs.Standing.{length_of}
 use Rattle.journal_disk.proofs.Parts.{body_size}
 use Rattle.lab_core.proofs.perform.write.Goals as goal
-
-ok_weaker : {T E P Q : Type 0} → (result : Result T E) → (P → Q) → OnOk result P → OnOk result Q
-ok_weaker (Ok value) f p = f p
-ok_weaker (Err fault) f p = tt
 
 pub returns : goal.returns
 returns g c = λ r is.

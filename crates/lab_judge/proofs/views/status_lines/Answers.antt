@@ -1,5 +1,5 @@
 use Rattle.std.proofs.Common.{◌≡◌, ◌<◌, length, Some, None, ◌∷◌, [], ◌++◌, sym, ◌∙◌, arith, slice_get}
-use Rattle.lab_model.proofs.OneSided.{Has-slice_get}
+use Rattle.lab_base.proofs.Members.{Has-slice_get}
 use Rattle.records_model.specs.Labs.{lab_in}
 use Rattle.lab_judge.specs.Judge.{status_line}
 use Rattle.lab_judge.proofs.Shown.{next_line, none_missing}

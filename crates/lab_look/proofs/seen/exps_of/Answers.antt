@@ -1,14 +1,16 @@
 use Rattle.std.proofs.Common.{◌≡◌, ◌++◌, ◌∷◌, [], take, map, ap, sym, ◌∙◌, arith}
 use Rattle.std.proofs.lemmas.List.{map-append, take_all}
+use Rattle.lab_base.proofs.Members.{Has-slice_get}
+use Rattle.lab_base.proofs.Lists.{length_past}
 use Rattle.lab_look.specs.Seen.{exp_of}
-use Rattle.lab_look.proofs.Firsts.{take_at_place, none_past, has_at_place}
+use Rattle.lab_look.proofs.Firsts.{take_at_place}
 use Rattle.lab_look.proofs.Sums.{few_ids}
 use Rattle.lab_look.proofs.seen.exps_of.Goals as goal
 
 pub exp_of-requires-clause-ids : goal.exp_of-requires-clause-ids
 exp_of-requires-clause-ids c =
     let es = c.args.state.now.state.experiments in
-    omega (arith, few_ids c.args.state.now.state c.in-Some.own.now c.requires.sane (has_at_place es c.loop-number.number c.in-Some.own.now (sym c.in-Some.ensures)))
+    omega (arith, few_ids c.args.state.now.state c.in-Some.own.now c.requires.sane (Has-slice_get es c.loop-number.number c.in-Some.own.now (sym c.in-Some.ensures)))
 
 pub loop-number-preserved : goal.loop-number-preserved
 loop-number-preserved c =
@@ -21,4 +23,4 @@ loop-number-preserved c =
 pub returns-in-None : goal.returns-in-None
 returns-in-None c =
     let es = c.args.state.now.state.experiments in
-    c.loop-number.invariant ∙ ap (map (exp_of c.args.lab.now)) (take_all c.loop-number.number es (none_past es c.loop-number.number (sym c.in-None.ensures)))
+    c.loop-number.invariant ∙ ap (map (exp_of c.args.lab.now)) (take_all c.loop-number.number es (length_past es c.loop-number.number (sym c.in-None.ensures)))

@@ -1,6 +1,6 @@
 use Rattle.std.proofs.Common.{List, ℕ, subst, arith}
 use Rattle.journal_rec.specs.Payloads.{Decodes}
-use Rattle.lab_sides.proofs.Gates.{slice}
+use Rattle.journal_disk.proofs.Walking.{slice}
 use Rattle.lab_sides.proofs.Bodies.{is_whole}
 use Rattle.lab_sides.proofs.body.record_in.Goals as goal
 

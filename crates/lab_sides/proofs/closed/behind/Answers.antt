@@ -1,5 +1,5 @@
 use Rattle.std.proofs.Common.{◌+◌}
-use Rattle.lab_sides.proofs.Gates.{tail}
+use Rattle.journal_disk.proofs.Walking.{tail}
 use Rattle.lab_sides.proofs.Stepping.{ends_there}
 use Rattle.lab_sides.proofs.closed.behind.Goals as goal
 

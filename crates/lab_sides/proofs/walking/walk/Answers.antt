@@ -1,5 +1,5 @@
 use Rattle.std.proofs.Common.{◌≡◌, ◌+◌, ◌++◌, ◌∷◌, [], drop, get_or, rules}
-use Rattle.lab_sides.proofs.Gates.{goes_on, closes, breaks_off, tail}
+use Rattle.journal_disk.proofs.Walking.{goes_on, closes, breaks_off, tail}
 use Rattle.lab_sides.proofs.Stepping.{at_gate, open_gate, block_there, still_inside}
 use Rattle.lab_sides.proofs.walking.walk.Goals as goal
 

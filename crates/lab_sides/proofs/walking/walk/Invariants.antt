@@ -1,6 +1,6 @@
 use Rattle.std.proofs.Common.{◌-◌, ◌<◌, List, length}
 use Rattle.journal_rec.specs.declared.record.Record.{Record}
-use Rattle.lab_sides.proofs.Gates.{SoFar}
+use Rattle.journal_disk.proofs.Walking.{SoFar}
 use Rattle.lab_sides.proofs.walking.walk.Given as goal
 
 abbrev pub invariant-gates : goal.invariant-gates

@@ -1,5 +1,5 @@
 use Rattle.std.proofs.Common.{sym, arith}
-use Rattle.lab_model.proofs.OneSided.{Has-slice_get}
+use Rattle.lab_base.proofs.Members.{Has-slice_get}
 use Rattle.lab_state.specs.Packing.{packed_one}
 use Rattle.lab_state.specs.Texts.{the_texts}
 use Rattle.lab_state.proofs.PackSteps.{packs_none, packs_push, packs_all}

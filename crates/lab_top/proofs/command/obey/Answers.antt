@@ -1,5 +1,6 @@
 use Rattle.std.proofs.Common.{arith, [], None, sym, ◌∙◌, ◌≡◌, Some, Err}
-use Rattle.lab_top.proofs.Obeyed.{closed_from, ends_open, ends_opened, ends_unopened, goes_closed, halts_if, later_same, may_open, rose_same, rose_since, runs_if}
+use Rattle.lab_base.proofs.Numbers.{Rose_since}
+use Rattle.lab_top.proofs.Obeyed.{closed_from, ends_open, ends_opened, ends_unopened, goes_closed, halts_if, later_same, may_open, rose_same, runs_if}
 use Rattle.lab_top.proofs.command.obey.Goals as goal
 
 pub obey_open-requires-clause-open : goal.obey_open-requires-clause-open
@@ -23,7 +24,7 @@ returns-in-Ok g c = λ from goes.
     let o = c.obey_open-in-Ok.ensures in
     ends_opened _ c.args.command.now c.requires.no_drill _ _ (g.P.Plant.seen c.open.new.plant) c.in-Ok.opened c.obey_open-in-Ok.result from is goes e.steps (g.met.P.Plant.reads_possible c.args.plant.now) e.works e.limit e.later o.makes
     (record { disk = omega (arith, e.later.disk, o.later.disk); devices = omega (arith, e.later.devices, o.later.devices) })
-    (λ shut. rose_since _ _ _ e.later.disk (o.disk shut)) (λ some was. runs_if _ _ o.runs some) o.memory
+    (λ shut. Rose_since _ _ _ e.later.disk (o.disk shut)) (λ some was. runs_if _ _ o.runs some) o.memory
 
 pub returns-in-Err : goal.returns-in-Err
 returns-in-Err g c = λ from goes.

@@ -1,7 +1,7 @@
 use Rattle.std.proofs.Common.{◌<◌, ◌∙◌, ℕ, length, ap, subst, sym, arith}
 use Rattle.virt_topo.specs.declared.mapping.Mapping.{Mapping}
+use Rattle.virt_topo.proofs.CableLaws.{sound_limits}
 use Rattle.node_maps.proofs.MapLaws.{candidates_count}
-use Rattle.cost_rule.proofs.LimitLaws.{sound_limits}
 use Rattle.map_anneal.specs.declared.tried.Tried.{Tried}
 use Rattle.map_anneal.specs.Searches.{sought_of, IsTried}
 use Rattle.map_anneal.specs.Sought.{NoExchange}

@@ -1,8 +1,8 @@
 use Rattle.std.proofs.Common.{◌≡◌, ◌<◌, ◌∙◌, ◌∷◌, [], ℕ, List, length, get_or, ap, arith, length-append}
 use Rattle.std.proofs.lemmas.List.{get_or_read}
 use Rattle.virt_topo.specs.declared.wiring.Segment.{Segment}
+use Rattle.virt_topo.proofs.CableLaws.{sound_limits}
 use Rattle.trunk_sums.specs.Summed.{no_segment}
-use Rattle.cost_rule.proofs.LimitLaws.{sound_limits}
 use Rattle.map_board.proofs.JointLaws.{range_within}
 use Rattle.map_board.proofs.RowLaws.{first_none, first_next, firsts_more}
 use Rattle.map_board.proofs.table.firsts_of.Goals as goal

@@ -1,6 +1,6 @@
 use Rattle.std.proofs.Common.{length, ap, arith}
+use Rattle.virt_topo.proofs.CableLaws.{sound_limits}
 use Rattle.node_maps.proofs.EndLists.{same_length}
-use Rattle.cost_rule.proofs.LimitLaws.{sound_limits}
 use Rattle.map_board.proofs.table.own_of.Goals as goal
 
 pub own_ends-requires : goal.own_ends-requires

@@ -1,10 +1,9 @@
 use Rattle.std.proofs.Common.{◌≡◌, ◌<◌, ◌+◌, ◌∙◌, ◌++◌, ℕ, List, length, replicate, get_or, refl, ap, sym, arith, length-append}
 use Rattle.std.proofs.lemmas.List.{length-replicate, get_or_read}
 use Rattle.virt_topo.specs.declared.wiring.Segment.{Segment}
-use Rattle.virt_topo.proofs.CableLaws.{own_limits}
+use Rattle.virt_topo.proofs.CableLaws.{own_limits, sound_keeps}
 use Rattle.trunk_sums.specs.declared.sums.EndRow.{EndRow}
 use Rattle.trunk_sums.specs.Summed.{first_end, no_segment}
-use Rattle.cost_rule.proofs.LimitLaws.{sound_keeps}
 use Rattle.map_board.proofs.RowLaws.{first_none, first_next, first_all, rows_more}
 use Rattle.map_board.proofs.table.rows_of.Goals as goal
 

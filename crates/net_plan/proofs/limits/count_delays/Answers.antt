@@ -1,8 +1,8 @@
 use Rattle.std.proofs.Common.{ap, arith}
 use Rattle.std.proofs.lemmas.List.Sums.{sum_by_more}
+use Rattle.lab_base.proofs.Members.{Has-at}
 use Rattle.net_plan.specs.Parts.{delays}
 use Rattle.net_plan.proofs.Counts.{few_delays}
-use Rattle.net_plan.proofs.ListLaws.{Has-at}
 use Rattle.net_plan.proofs.limits.count_delays.Goals as goal
 
 pub overflow_add-count : goal.overflow_add-count

@@ -1,4 +1,4 @@
-use Rattle.net_plan.proofs.ListLaws.{Has-at}
+use Rattle.lab_base.proofs.Members.{Has-at}
 use Rattle.net_plan.proofs.limits.count_ends.Goals as goal
 
 pub ends-count-requires : goal.ends-count-requires

@@ -1,4 +1,4 @@
-use Rattle.net_plan.proofs.ListLaws.{Has-at}
+use Rattle.lab_base.proofs.Members.{Has-at}
 use Rattle.net_plan.proofs.nodes.push_all_delay_nodes.Goals as goal
 
 pub push_delay_nodes-requires : goal.push_delay_nodes-requires

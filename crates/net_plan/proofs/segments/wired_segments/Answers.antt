@@ -1,4 +1,4 @@
-use Rattle.net_plan.proofs.ListLaws.{Has-at}
+use Rattle.lab_base.proofs.Members.{Has-at}
 use Rattle.net_plan.proofs.segments.wired_segments.Goals as goal
 
 pub push_segments-requires-clause-link : goal.push_segments-requires-clause-link

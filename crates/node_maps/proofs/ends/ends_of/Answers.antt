@@ -1,7 +1,7 @@
 use Rattle.std.proofs.Common.{◌≡◌, ◌<◌, ◌≤◌, ◌+◌, ◌++◌, ◌∙◌, ℕ, List, length, map, drop, get_or, ap, sym, arith, append_assoc}
 use Rattle.std.proofs.lemmas.List.{drop_all, append-nil}
+use Rattle.lab_base.proofs.Lists.{item_at}
 use Rattle.virt_topo.specs.declared.wiring.Segment.{Segment}
-use Rattle.virt_topo.proofs.EndLaws.{item_at}
 use Rattle.node_maps.specs.declared.ends.End.{End}
 use Rattle.node_maps.specs.NodeMaps.{end_of, ends_from}
 use Rattle.node_maps.proofs.ends.ends_of.Goals as goal

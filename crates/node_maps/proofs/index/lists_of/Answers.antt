@@ -3,7 +3,7 @@ use Rattle.std.proofs.lemmas.Bool.{cond_both}
 use Rattle.std.proofs.lemmas.List.{length-set}
 use Rattle.phys_lab.specs.declared.parts.Iface.{Iface}
 use Rattle.node_maps.specs.declared.index.NodeIface.{NodeIface}
-use Rattle.node_maps.proofs.IfaceCount.{few_ifaces}
+use Rattle.phys_lab.proofs.IfaceCount.{few_ifaces}
 use Rattle.node_maps.proofs.IndexLaws.{index_used}
 use Rattle.node_maps.proofs.index.lists_of.Goals as goal
 

@@ -1,8 +1,8 @@
 use Rattle.std.proofs.Common.{◌-◌, length, take, drop, sym, ap, subst, ◌∙◌}
 use Rattle.std.specs.List.{position_or_len}
+use Rattle.std.proofs.lemmas.List.{take_rest}
 use Rattle.ns_words.specs.Seen.{IsNumeral}
 use Rattle.ns_words.specs.Values.{is_no_digit, leading, numeral_from, numeral_of}
-use Rattle.ns_words.proofs.Leading.{slice_from}
 use Rattle.ns_words.proofs.Measures.{IsParsed, parsed}
 use Rattle.ns_words.proofs.numeral.numeral_in.Goals as goal
 
@@ -12,7 +12,7 @@ returns-clause-value c =
     let at = c.digits_len-at.ensures.value in
     c.numeral_from.ensures
     ∙ (λ i. numeral_from (take (at i) w) (take (length w - at i) (drop (at i) w)))
-    ∙ ap (numeral_from (leading w)) (slice_from (position_or_len is_no_digit w) w)
+    ∙ ap (numeral_from (leading w)) (take_rest w (position_or_len is_no_digit w))
 
 pub returns-clause-numeral : goal.returns-clause-numeral
 returns-clause-numeral c =

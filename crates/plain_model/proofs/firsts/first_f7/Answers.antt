@@ -1,6 +1,6 @@
 use Rattle.std.proofs.Common.{arith}
 use Rattle.lab_model.specs.Rules.{keeps_f7}
-use Rattle.plain_model.proofs.FirstLaws.{first_at, none_at}
+use Rattle.lab_model.proofs.FirstViolation.{first_at, none_at}
 use Rattle.plain_model.proofs.firsts.first_f7.Goals as goal
 
 pub returns-then-not-keeps_f7-clause-first : goal.returns-then-not-keeps_f7-clause-first

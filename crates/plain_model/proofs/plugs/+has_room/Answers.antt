@@ -2,10 +2,11 @@ use Rattle.std.proofs.Common.{◌<◌, List, length, drop, sym, ap, ◌∙◌, a
 use Rattle.std.specs.Prelude.{nat_le, zip, sum_by}
 use Rattle.std.proofs.lemmas.Bool.{ne_eqb}
 use Rattle.lab_base.specs.declared.ids.IfaceId.{IfaceId}
+use Rattle.lab_base.proofs.Numbers.{zero_le}
 use Rattle.virt_topo.specs.declared.loads.Load.{Load}
 use Rattle.virt_topo.specs.Loads.{loads_from}
 use Rattle.lab_model.specs.Rules.{loads_on}
-use Rattle.plain_model.proofs.LoadSteps.{later_off, none_on, has_none}
+use Rattle.plain_model.proofs.LoadSteps.{later_off, none_on}
 use Rattle.plain_model.proofs.plugs.+has_room.Goals as goal
 
 pub returns-else-first-plug : goal.returns-else-first-plug
@@ -20,4 +21,4 @@ pub returns-in-None : goal.returns-in-None
 returns-in-None t c =
     let loads = drop c.args.end (loads_from 0 c.args.segments.now) in
     let same = none_on c.args.plug.0 loads c.args.plugs.now c.in-None.ensures.cases in
-    sym (ap (λ (l : List Load). nat_le (sum_by (λ (y : Load). y.kbps) l) c.args.kbps) same ∙ has_none c.args.kbps)
+    sym (ap (λ (l : List Load). nat_le (sum_by (λ (y : Load). y.kbps) l) c.args.kbps) same ∙ zero_le c.args.kbps)

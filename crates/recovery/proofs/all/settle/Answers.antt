@@ -1,7 +1,7 @@
 use Rattle.std.proofs.Common.{Err, refl, ◌∙◌, arith}
 use Rattle.std.proofs.lemmas.Result.{err_from_is_err_and}
+use Rattle.lab_base.proofs.Tests.{no_error}
 use Rattle.lab_state.specs.Texts.{the_texts}
-use Rattle.recovery.proofs.Settling.{runs_on}
 use Rattle.recovery.proofs.Stepping.{none_settled, later_all}
 use Rattle.recovery.proofs.all.settle.Goals as goal
 
@@ -18,7 +18,7 @@ pub loop-n-preserved : goal.loop-n-preserved
 loop-n-preserved g c = record {
   so_far = c.in_ok-settled.ensures.after c.args.state.now.state _ (omega (arith, c.loop-n-test.true, c.loop-n.invariant.count_is)) c.loop-n.invariant.so_far;
   count_is = c.loop-n.invariant.count_is;
-  runs = λ running. runs_on c.in_ok-settled.settled (g.P.Plant.seen c.settle_next.new.plant).stopped (c.in_ok-settled.ensures.stopped (c.loop-n.invariant.runs running));
+  runs = λ running. no_error c.in_ok-settled.settled _ (g.P.Plant.seen c.settle_next.new.plant).stopped (c.in_ok-settled.ensures.stopped (c.loop-n.invariant.runs running));
   same_limit = c.in_ok-settled.ensures.limit ∙ c.loop-n.invariant.same_limit;
   same_live = c.in_ok-settled.ensures.live ∙ c.loop-n.invariant.same_live;
 }

@@ -1,8 +1,9 @@
 use Rattle.std.proofs.Common.{refl, sym, ap, ◌∙◌, ◌≤◌, Err, length, subst}
 use Rattle.std.proofs.lemmas.Result.{err_from_is_err_and}
+use Rattle.lab_base.proofs.Tests.{no_error}
 use Rattle.lab_state.specs.Texts.{the_texts}
 use Rattle.recovery.proofs.Due.{due_some}
-use Rattle.recovery.proofs.Settling.{err_stops, none_stops, runs_on}
+use Rattle.recovery.proofs.Settling.{err_stops, none_stops}
 use Rattle.recovery.proofs.Stepping.{skipped, stepped, stepped_off, moves_now}
 use Rattle.recovery.proofs.all.settle_next.Goals as goal
 
@@ -46,4 +47,4 @@ returns-clause-after g c = λ s before within u.
     c.settle_one.new.state.state d.0 d.1 d.2 d.3 c.in_ok-one.one c.counted.result (c.in_ok-one.ensures.over d.1 (sym d.4) moves) c.counted.ensures
 
 pub returns-clause-stopped : goal.returns-clause-stopped
-returns-clause-stopped g c = λ running. none_stops c.counted.result (g.P.Plant.seen c.settle_one.new.plant).stopped (runs_on c.in_ok-one.one (g.P.Plant.seen c.settle_one.new.plant).stopped (c.in_ok-one.ensures.stopped running))
+returns-clause-stopped g c = λ running. none_stops c.counted.result (g.P.Plant.seen c.settle_one.new.plant).stopped (no_error c.in_ok-one.one _ (g.P.Plant.seen c.settle_one.new.plant).stopped (c.in_ok-one.ensures.stopped running))

@@ -3,14 +3,15 @@ use Rattle.std.specs.List.{list_any}
 use Rattle.std.proofs.lemmas.Bool.{eq-eqb}
 use Rattle.std.proofs.lemmas.List.{get_or_default, take_all}
 use Rattle.std.proofs.lemmas.List.Folds.{list_any_at}
+use Rattle.std.proofs.Math.Bool.{or-true, or-false}
 use Rattle.lab_model.specs.Shapes.{Place}
 use Rattle.lab_model.specs.Rules.{no_place}
-use Rattle.rule_costs.proofs.NodeLaws.{any_split, or_true, or_false}
+use Rattle.rule_costs.proofs.NodeLaws.{any_split}
 use Rattle.rule_costs.proofs.nodes.is_left.Goals as goal
 
 -- one of the others is on the node
 some_other : (n : ℕ) (later others : List Place) → list_any (λ p. n == p.0.0) others ≡ true → false ≡ not (list_any (λ p. n == p.0.0) later || list_any (λ p. n == p.0.0) others)
-some_other n later others any = sym (ap (λ (b : Bool). not (list_any (λ p. n == p.0.0) later || b)) any ∙ ap not (or_true (list_any (λ p. n == p.0.0) later)))
+some_other n later others any = sym (ap (λ (b : Bool). not (list_any (λ p. n == p.0.0) later || b)) any ∙ ap not (or-true (list_any (λ p. n == p.0.0) later)))
 
 pub returns-then-place-others : goal.returns-then-place-others
 returns-then-place-others c =
@@ -46,4 +47,4 @@ returns c =
     let none : list_any (λ q. p.0.0 == q.0.0) others ≡ false = ap (λ (x : Place). list_any (λ q. x.0.0 == q.0.0) others) (sym own) ∙ sym c.is_on.ensures ∙ c.if-is_on.false in
     let all : take (length first - (v + 1)) later ≡ later = take_all (length first - (v + 1)) later (omega (arith, length-drop (v + 1) first)) in
     let rest : c.is_on-2.result ≡ list_any (λ q. p.0.0 == q.0.0) later = c.is_on-2.ensures ∙ ap (λ (l : List Place). list_any (λ q. c.index-first-virt.result.0.0 == q.0.0) l) all ∙ ap (λ (x : Place). list_any (λ q. x.0.0 == q.0.0) later) own in
-    ap not (rest ∙ sym (or_false (list_any (λ q. p.0.0 == q.0.0) later)) ∙ ap (λ (b : Bool). list_any (λ q. p.0.0 == q.0.0) later || b) (sym none) ∙ sym (any_split p.0.0 later others))
+    ap not (rest ∙ sym (or-false (list_any (λ q. p.0.0 == q.0.0) later)) ∙ ap (λ (b : Bool). list_any (λ q. p.0.0 == q.0.0) later || b) (sym none) ∙ sym (any_split p.0.0 later others))

@@ -1,8 +1,8 @@
 use Rattle.std.proofs.Common.{◌+◌, ◌∙◌, Ok, refl, sym, ap, subst}
+use Rattle.lab_base.proofs.Tests.{ok_weaker}
 use Rattle.journal_disk.specs.Standing.{length_of}
 use Rattle.journal_disk.proofs.Parts.{body_size}
 use Rattle.swap_txn.specs.Troubles.{IsWritten}
-use Rattle.swap_txn.proofs.Writing.{ok_weaker}
 use Rattle.swap_txn.proofs.write.write.Goals as goal
 
 pub returns-in-Ok : goal.returns-in-Ok

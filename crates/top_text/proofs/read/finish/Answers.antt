@@ -1,5 +1,5 @@
-use Rattle.std.proofs.Common.{◌≡◌, ℕ, zero, suc, Bool, true, false, cond, eqb, length, Ok, Err, refl, ap, sym, subst, ◌∙◌, arith}
-use Rattle.std.proofs.lemmas.Bool.Decides.{nat_tests}
+use Rattle.std.proofs.Common.{◌≡◌, ℕ, zero, suc, Bool, true, false, cond, eqb, length, Ok, Err, refl, ap, sym, subst, ◌∙◌}
+use Rattle.std.proofs.Math.Dec.{eqb-suc-zero}
 use Rattle.lab_base.specs.declared.fault.Kind.TheVariants as kinds
 use Rattle.virt_topo.specs.declared.wiring.Wiring.{Wiring}
 use Rattle.virt_topo.specs.Soundness.{IsSound}
@@ -8,10 +8,7 @@ use Rattle.top_text.proofs.read.finish.Goals as goal
 
 some : (n : ℕ) (b : Bool) → (n ≡ 0 → b ≡ true) → b ≡ false → eqb n 0 ≡ false
 some zero b none is = absurd (cc (sym (none refl) ∙ is))
-some (suc n) b none is = positive n
-  where
-    positive : (n : ℕ) → eqb (suc n) 0 ≡ false
-    positive n = grind (arith, nat_tests)
+some (suc n) b none is = eqb-suc-zero n
 
 pub returns-clause-reads : goal.returns-clause-reads
 returns-clause-reads c =

@@ -2,9 +2,10 @@ use Rattle.std.proofs.Common.{◌≡◌, ◌+◌, ◌∷◌, [], List, ℕ, refl
 use Rattle.plant.specs.Told.{with_steps}
 use Rattle.std.proofs.lemmas.Result.{err_from_is_err_and}
 use Rattle.plant.specs.Events.{Wrote, Synced}
+use Rattle.plant.proofs.Traces.{with_steps-nil}
 use Rattle.journal_rec.specs.Payloads.{body}
 use Rattle.journal_model.specs.Appends.{Nothing, Body, Settled, Gate, All, added}
-use Rattle.journal_disk.proofs.Chains.{chain, write_ok, sync_ok, nothing_yet}
+use Rattle.journal_disk.proofs.Chains.{chain, write_ok, sync_ok}
 use Rattle.journal_disk.proofs.Parts.{sync_part, write_part, first_byte, one_byte, begins_within, gate_within, whole_run}
 use Rattle.journal_disk.proofs.journal.Journal.append_steps.Goals as goal
 
@@ -17,7 +18,7 @@ returns-in_err-write-clause-appends g c r is =
     let t = c.in_err-write.ensures.trace in
     let told = (g.P.Plant.seen c.args.plant.now).told in
     let j = c.args.self.now in
-    rw (p.1, p.2) (write_part told told (g.P.Plant.seen c.write.new.self).told j r Nothing (λ other. Body other) (j.gate + 1) c.bytes.result.now (g.P.Plant.seen c.args.plant.now).stopped c.in_err-write.field-0.0 t.0 (nothing_yet told) (λ other len. refl) t.1 t.2)
+    rw (p.1, p.2) (write_part told told (g.P.Plant.seen c.write.new.self).told j r Nothing (λ other. Body other) (j.gate + 1) c.bytes.result.now (g.P.Plant.seen c.args.plant.now).stopped c.in_err-write.field-0.0 t.0 (with_steps-nil told) (λ other len. refl) t.1 t.2)
 
 pub returns-in_err-sync-clause-appends : goal.returns-in_err-sync-clause-appends
 returns-in_err-sync-clause-appends g c r is =

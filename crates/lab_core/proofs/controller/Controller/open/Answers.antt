@@ -1,14 +1,10 @@
-use Rattle.std.proofs.Common.{◌≡◌, ◌↔◌, ◌∙◌, Bool, true, false, Err, IsErrOf, IsTrue, Ok, refl, subst}
+use Rattle.std.proofs.Common.{◌≡◌, ◌∙◌, Err, refl, subst}
 use Rattle.std.proofs.lemmas.Result.{err_from_is_err_and}
-use Rattle.journal_disk.specs.declared.fault.OpenFault.TheVariants as faults
+use Rattle.lab_base.proofs.Tests.{no_error}
 use Rattle.lab_core.proofs.Openings.{bad_behind}
 use Rattle.lab_core.proofs.OpenSwaps.{opened_alone}
 use Rattle.lab_core.proofs.SettledOpenings.{not_read, then_broken, then_moved}
 use Rattle.lab_core.proofs.controller.Controller.open.Goals as goal
-
-runs_on : {X : Type 0} (x : X) (b : Bool) → IsErrOf (Ok x) faults.Stopped ↔ IsTrue b → b ≡ false
-runs_on x false told = refl
-runs_on x true told = let no' : Ok x ≡ Err faults.Stopped = told.1 refl in absurd (cc no')
 
 pub returns-in_err-controller-clause-steps : goal.returns-in_err-controller-clause-steps
 returns-in_err-controller-clause-steps g c =
@@ -21,10 +17,10 @@ returns-in_err-controller-clause-bad g c =
     rw (p.1, p.2) (λ side at is. bad_behind c.args.limit _ _ (Err c.in_err-controller.field-0.0) side at c.in_err-controller.ensures.steps (subst (λ e. Err c.in_err-controller.field-0.0 ≡ e) is refl))
 
 pub settle_all-requires-clause-runs : goal.settle_all-requires-clause-runs
-settle_all-requires-clause-runs g c = runs_on c.in_ok-controller.controller (g.P.Plant.seen c.read.new.plant).stopped c.in_ok-controller.ensures.stopped
+settle_all-requires-clause-runs g c = no_error c.in_ok-controller.controller _ (g.P.Plant.seen c.read.new.plant).stopped c.in_ok-controller.ensures.stopped
 
 pub compact-requires-clause-runs : goal.compact-requires-clause-runs
-compact-requires-clause-runs g c = runs_on c.in_ok-controller-2.controller (g.P.Plant.seen c.settle_all.new.plant).stopped c.in_ok-controller-2.ensures.stopped
+compact-requires-clause-runs g c = no_error c.in_ok-controller-2.controller _ (g.P.Plant.seen c.settle_all.new.plant).stopped c.in_ok-controller-2.ensures.stopped
 
 pub returns-clause-steps : goal.returns-clause-steps
 returns-clause-steps g c =

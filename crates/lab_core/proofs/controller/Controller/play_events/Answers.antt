@@ -1,10 +1,12 @@
 use Rattle.std.proofs.Common.{◌+◌, List, drop, refl, ap, subst, arith}
 use Rattle.std.proofs.lemmas.Result.{err_from_is_err_and}
+use Rattle.lab_base.proofs.Lists.{item_at}
+use Rattle.lab_base.proofs.Members.{Has-at}
 use Rattle.ns_events.specs.declared.event.Event.{Event as LinkEvent}
 use Rattle.lab_core.specs.InTurn.{ComesTo}
 use Rattle.lab_judge.specs.Playing.{first_place}
 use Rattle.lab_core.proofs.InTurn.{all_done, ends_there, fails_there, goes_further, going, starts, works_further}
-use Rattle.lab_judge.proofs.Drops.{drop_all, drop_at, has_at}
+use Rattle.lab_judge.proofs.Drops.{drop_all}
 use Rattle.lab_core.proofs.controller.Controller.play_events.Goals as goal
 
 pub loop-event-init : goal.loop-event-init
@@ -16,7 +18,7 @@ loop-event-init g c = record {
 }
 
 pub play_next-requires-clause-limits : goal.play_next-requires-clause-limits
-play_next-requires-clause-limits g c = c.requires.limits c.event-item.result (has_at c.args.due.now c.loop-event.event-index c.event-item.result c.loop-event-test.true c.event-item.is)
+play_next-requires-clause-limits g c = c.requires.limits c.event-item.result (Has-at c.args.due.now c.loop-event.event-index c.event-item.result c.loop-event-test.true c.event-item.is)
 
 pub returns-in_err-reply : goal.returns-in_err-reply
 returns-in_err-reply g c =
@@ -25,7 +27,7 @@ returns-in_err-reply g c =
     let due = c.args.due.now in
     let x = c.event-item.result in
     let start = first_place c.args.text.now due in
-    let comes = subst (λ (l : List LinkEvent). ComesTo c.args.exp start (g.P.Plant.seen c.args.plant.now) (g.P.Plant.seen c.loop-event.plant) c.args.self.now c.loop-event.self (going c.args.exp c.args.text.now l c.loop-event.played)) (drop_at due i x c.loop-event-test.true c.event-item.is) c.loop-event.invariant.comes in
+    let comes = subst (λ (l : List LinkEvent). ComesTo c.args.exp start (g.P.Plant.seen c.args.plant.now) (g.P.Plant.seen c.loop-event.plant) c.args.self.now c.loop-event.self (going c.args.exp c.args.text.now l c.loop-event.played)) (item_at due i x c.loop-event-test.true c.event-item.is) c.loop-event.invariant.comes in
     rw (p.1, p.2)
     (fails_there c.args.exp start (g.P.Plant.seen c.args.plant.now) (g.P.Plant.seen c.loop-event.plant) (g.P.Plant.seen c.play_next.new.plant) c.args.self.now c.loop-event.self c.play_next.new.self c.args.text.now x (drop (i + 1) due) c.loop-event.played comes
     c.in_err-reply.field-0.0 c.in_err-reply.ensures)
@@ -36,7 +38,7 @@ returns-in-Some g c =
     let due = c.args.due.now in
     let x = c.event-item.result in
     let start = first_place c.args.text.now due in
-    let comes = subst (λ (l : List LinkEvent). ComesTo c.args.exp start (g.P.Plant.seen c.args.plant.now) (g.P.Plant.seen c.loop-event.plant) c.args.self.now c.loop-event.self (going c.args.exp c.args.text.now l c.loop-event.played)) (drop_at due i x c.loop-event-test.true c.event-item.is) c.loop-event.invariant.comes in
+    let comes = subst (λ (l : List LinkEvent). ComesTo c.args.exp start (g.P.Plant.seen c.args.plant.now) (g.P.Plant.seen c.loop-event.plant) c.args.self.now c.loop-event.self (going c.args.exp c.args.text.now l c.loop-event.played)) (item_at due i x c.loop-event-test.true c.event-item.is) c.loop-event.invariant.comes in
     ends_there c.args.exp start (g.P.Plant.seen c.args.plant.now) (g.P.Plant.seen c.loop-event.plant) (g.P.Plant.seen c.play_next.new.plant) c.args.self.now c.loop-event.self c.play_next.new.self c.args.text.now x (drop (i + 1) due) c.loop-event.played comes
     c.in-Some.reply (rw c.in-Some.is at c.in_ok-reply.ensures)
 
@@ -46,7 +48,7 @@ loop-event-preserved g c =
     let due = c.args.due.now in
     let x = c.event-item.result in
     let start = first_place c.args.text.now due in
-    let comes = subst (λ (l : List LinkEvent). ComesTo c.args.exp start (g.P.Plant.seen c.args.plant.now) (g.P.Plant.seen c.loop-event.plant) c.args.self.now c.loop-event.self (going c.args.exp c.args.text.now l c.loop-event.played)) (drop_at due i x c.loop-event-test.true c.event-item.is) c.loop-event.invariant.comes in
+    let comes = subst (λ (l : List LinkEvent). ComesTo c.args.exp start (g.P.Plant.seen c.args.plant.now) (g.P.Plant.seen c.loop-event.plant) c.args.self.now c.loop-event.self (going c.args.exp c.args.text.now l c.loop-event.played)) (item_at due i x c.loop-event-test.true c.event-item.is) c.loop-event.invariant.comes in
     let ends = rw c.in-None.is at c.in_ok-reply.ensures in
     record {
       within = omega (arith, c.loop-event-test.true);

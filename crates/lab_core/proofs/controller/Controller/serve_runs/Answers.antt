@@ -1,5 +1,7 @@
 use Rattle.std.proofs.Common.{◌≡◌, ◌≤◌, ◌+◌, ℕ, List, [], drop, length, Err, Ok, refl, sym, ap, ◌∙◌, subst, arith}
 use Rattle.std.proofs.lemmas.Result.{err_from_is_err_and}
+use Rattle.lab_base.proofs.Lists.{item_at}
+use Rattle.lab_base.proofs.Members.{Has-at}
 use Rattle.lab_ahead.specs.declared.batch.Run.{Run}
 use Rattle.lab_ahead.specs.declared.ends.End.{End}
 use Rattle.script_text.specs.declared.reply.Reply.TheVariants as replies
@@ -9,7 +11,7 @@ use Rattle.lab_judge.specs.declared.run.Queue.{Queue}
 use Rattle.lab_core.specs.Controller.{WorksWith}
 use Rattle.lab_core.specs.Queues.{ComesToRun, ObeysRuns, ends_if, first_place}
 use Rattle.lab_core.specs.Sessions.{OpenSwap}
-use Rattle.lab_judge.proofs.Drops.{drop_all, drop_at, has_at}
+use Rattle.lab_judge.proofs.Drops.{drop_all}
 use Rattle.lab_core.proofs.RunsInTurn.{all_done, ends_there, fails_there, goes_further, place_at, starts, wants_behind, works_further}
 use Rattle.lab_core.proofs.controller.Controller.serve_runs.Goals as goal
 
@@ -36,7 +38,7 @@ pub serve_next-requires-clause-serves : goal.serve_next-requires-clause-serves
 serve_next-requires-clause-serves g c = record {
   few = omega (arith, ap length c.loop-run.invariant.promises, c.requires.few);
   moment = omega (arith, c.loop-run.invariant.moment, c.requires.moment);
-  short = (c.requires.runs c.run-item.result (has_at c.args.runs.now c.loop-run.run-index c.run-item.result c.loop-run-test.true c.run-item.is)).short;
+  short = (c.requires.runs c.run-item.result (Has-at c.args.runs.now c.loop-run.run-index c.run-item.result c.loop-run-test.true c.run-item.is)).short;
 }
 
 pub returns-in_err-next : goal.returns-in_err-next
@@ -49,7 +51,7 @@ returns-in_err-next g c =
     let before = g.P.Plant.seen c.args.plant.now in
     let mid = g.P.Plant.seen c.loop-run.plant in
     let told = c.loop-run.invariant.comes.0 in
-    let comes = subst (λ (l : List Run). ComesToRun c.args.rule.now.number queue.moment start before mid c.args.self.now c.loop-run.self (place_at queue l told)) (drop_at runs i x c.loop-run-test.true c.run-item.is) c.loop-run.invariant.comes.2 in
+    let comes = subst (λ (l : List Run). ComesToRun c.args.rule.now.number queue.moment start before mid c.args.self.now c.loop-run.self (place_at queue l told)) (item_at runs i x c.loop-run-test.true c.run-item.is) c.loop-run.invariant.comes.2 in
     let p = err_from_is_err_and c.from_residual.result c.from_residual.ensures.1 in
     rw (p.1, p.2)
     (subst (λ (m : ℕ). (opens : List OpenSwap) (devices : ℕ) → devices ≤ before.faults.devices → WorksWith before c.args.self.now opens → ObeysRuns c.args.rule.now.number m start devices before (g.P.Plant.seen c.serve_next.new.plant) c.args.self.now c.serve_next.new.self opens (Err c.in_err-next.field-0.0)) c.loop-run.invariant.moment
@@ -65,7 +67,7 @@ returns-then-told g c =
     let before = g.P.Plant.seen c.args.plant.now in
     let mid = g.P.Plant.seen c.loop-run.plant in
     let told = c.loop-run.invariant.comes.0 in
-    let comes = subst (λ (l : List Run). ComesToRun c.args.rule.now.number queue.moment start before mid c.args.self.now c.loop-run.self (place_at queue l told)) (drop_at runs i x c.loop-run-test.true c.run-item.is) c.loop-run.invariant.comes.2 in
+    let comes = subst (λ (l : List Run). ComesToRun c.args.rule.now.number queue.moment start before mid c.args.self.now c.loop-run.self (place_at queue l told)) (item_at runs i x c.loop-run-test.true c.run-item.is) c.loop-run.invariant.comes.2 in
     subst (λ (m : ℕ). (opens : List OpenSwap) (devices : ℕ) → devices ≤ before.faults.devices → WorksWith before c.args.self.now opens → ObeysRuns c.args.rule.now.number m start devices before (g.P.Plant.seen c.serve_next.new.plant) c.args.self.now c.serve_next.new.self opens (Ok (replies.Served c.in_ok-next.next))) c.loop-run.invariant.moment
     (ends_there c.args.rule.now.number start before mid (g.P.Plant.seen c.serve_next.new.plant) c.args.self.now c.loop-run.self c.serve_next.new.self queue x (drop (i + 1) runs) told comes c.loop-run.told c.loop-run.invariant.comes.1 c.loop-run.invariant.open' c.in_ok-next.next c.in_ok-next.inside c.in_ok-next.ensures c.if-told.true)
 
@@ -73,7 +75,7 @@ pub note_end-requires : goal.note_end-requires
 note_end-requires g c = record {
   few = omega (arith, ap length c.loop-run.invariant.promises, c.requires.few);
   moment = omega (arith, c.loop-run.invariant.moment, c.requires.moment);
-  short = (c.requires.runs c.run-item.result (has_at c.args.runs.now c.loop-run.run-index c.run-item.result c.loop-run-test.true c.run-item.is)).short;
+  short = (c.requires.runs c.run-item.result (Has-at c.args.runs.now c.loop-run.run-index c.run-item.result c.loop-run-test.true c.run-item.is)).short;
 }
 
 pub returns-in_err-note_end : goal.returns-in_err-note_end
@@ -86,7 +88,7 @@ returns-in_err-note_end g c =
     let before = g.P.Plant.seen c.args.plant.now in
     let mid = g.P.Plant.seen c.loop-run.plant in
     let told = c.loop-run.invariant.comes.0 in
-    let comes = subst (λ (l : List Run). ComesToRun c.args.rule.now.number queue.moment start before mid c.args.self.now c.loop-run.self (place_at queue l told)) (drop_at runs i x c.loop-run-test.true c.run-item.is) c.loop-run.invariant.comes.2 in
+    let comes = subst (λ (l : List Run). ComesToRun c.args.rule.now.number queue.moment start before mid c.args.self.now c.loop-run.self (place_at queue l told)) (item_at runs i x c.loop-run-test.true c.run-item.is) c.loop-run.invariant.comes.2 in
     let p = err_from_is_err_and c.from_residual-in_err-note_end.result c.from_residual-in_err-note_end.ensures.1 in
     rw (p.1, p.2)
     (subst (λ (m : ℕ). (opens : List OpenSwap) (devices : ℕ) → devices ≤ before.faults.devices → WorksWith before c.args.self.now opens → ObeysRuns c.args.rule.now.number m start devices before (g.P.Plant.seen c.serve_next.new.plant) c.args.self.now c.serve_next.new.self opens (Err faults.Memory)) c.loop-run.invariant.moment
@@ -102,7 +104,7 @@ loop-run-preserved g c =
     let before = g.P.Plant.seen c.args.plant.now in
     let mid = g.P.Plant.seen c.loop-run.plant in
     let told = c.loop-run.invariant.comes.0 in
-    let comes = subst (λ (l : List Run). ComesToRun c.args.rule.now.number queue.moment start before mid c.args.self.now c.loop-run.self (place_at queue l told)) (drop_at runs i x c.loop-run-test.true c.run-item.is) c.loop-run.invariant.comes.2 in
+    let comes = subst (λ (l : List Run). ComesToRun c.args.rule.now.number queue.moment start before mid c.args.self.now c.loop-run.self (place_at queue l told)) (item_at runs i x c.loop-run-test.true c.run-item.is) c.loop-run.invariant.comes.2 in
     let further = goes_further c.args.rule.now.number start before mid (g.P.Plant.seen c.serve_next.new.plant) c.args.self.now c.loop-run.self c.serve_next.new.self queue x (drop (i + 1) runs) told comes c.loop-run.told c.loop-run.invariant.comes.1 c.loop-run.invariant.open' c.in_ok-next.next c.in_ok-next.inside c.in_ok-next.ensures c.if-told.false in
     let new : record queue { ends = ends_if c.in_ok-next.inside queue x } ≡ c.note_end.new.queue =
     λ j. record { moment = sym c.note_end.ensures.moment j; promises = sym c.note_end.ensures.promises j; ends = sym c.in_ok-note_end.ensures.ends j } in

@@ -1,14 +1,14 @@
 use Rattle.std.proofs.Common.{sym, subst}
 use Rattle.std.proofs.lemmas.Result.{err_from_is_err_and}
 use Rattle.lab_base.specs.Lists.{Has}
-use Rattle.lab_model.proofs.WiringLaws.{has_at}
+use Rattle.lab_base.proofs.Members.{Has-get_or}
 use Rattle.lab_state.proofs.ReplayLaws.{followed, stopped_at}
 use Rattle.lab_state.proofs.state.LabState.replay.Goals as goal
 
 pub follow-requires : goal.follow-requires
 follow-requires c =
     let found = c.index-records-index.result in
-    c.requires found (subst (λ f. Has c.args.records.now f) (sym c.index-records-index.is) (has_at c.args.records.now c.loop-index.index found c.loop-index-test.true))
+    c.requires found (subst (λ f. Has c.args.records.now f) (sym c.index-records-index.is) (Has-get_or c.args.records.now c.loop-index.index found c.loop-index-test.true))
 
 pub loop-index-preserved : goal.loop-index-preserved
 loop-index-preserved c =

@@ -1,5 +1,5 @@
 use Rattle.std.proofs.Common.{length, ap, arith}
-use Rattle.cost_rule.proofs.LimitLaws.{sound_limits}
+use Rattle.virt_topo.proofs.CableLaws.{sound_limits}
 use Rattle.map_anneal.proofs.prepared.Prepared.of.Goals as goal
 
 pub ends_of-requires : goal.ends_of-requires

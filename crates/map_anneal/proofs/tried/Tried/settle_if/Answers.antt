@@ -1,5 +1,5 @@
-use Rattle.std.proofs.Common.{◌≡◌, ◌≤◌, ◌∙◌, ℕ, List, Option, Some, None, ap, sym, subst, arith}
-use Rattle.lab_base.specs.declared.ids.IfaceId.{IfaceId}
+use Rattle.std.proofs.Common.{◌≡◌, ◌≤◌, ◌∙◌, ℕ, Option, Some, None, ap, sym, subst, arith}
+use Rattle.std.proofs.lemmas.Option.{none-some}
 use Rattle.virt_topo.specs.declared.mapping.Mapping.{Mapping}
 use Rattle.node_maps.specs.NodeMaps.{node_map, plugs_of}
 use Rattle.node_maps.proofs.MovedLaws.{no_plugs}
@@ -9,9 +9,6 @@ use Rattle.map_anneal.specs.Searches.{sought_of}
 use Rattle.map_anneal.specs.Weighed.{IsNoLess}
 use Rattle.map_anneal.proofs.TriedMoves.{settled_is, settled_no_less}
 use Rattle.map_anneal.proofs.tried.Tried.settle_if.Goals as goal
-
-no_plugs_given : (plugs : List IfaceId) → ◌≡◌ {A = Option (List IfaceId)} None (Some plugs) → ⊥
-no_plugs_given plugs e = absurd (cc e)
 
 never : (m : Mapping) → ◌≡◌ {A = Option Mapping} None (Some m) → ⊥
 never m e = absurd (cc e)
@@ -28,7 +25,7 @@ pub returns-then-not-branch-clause-weighed : goal.returns-then-not-branch-clause
 returns-then-not-branch-clause-weighed g c = λ is yes last was plugs kept.
     let x = c.args.moves.now.setting.mapper in
     let none = c.in_ok-plan.ensures.none c.if-not-branch.true in
-    absurd (no_plugs_given plugs (sym (ap (λ (y : Mapping). plugs_of x.lab.now x.wiring.now y.places) (sym c.plan.ensures.mapping) ∙ none) ∙ kept.given))
+    absurd (none-some plugs (sym (ap (λ (y : Mapping). plugs_of x.lab.now x.wiring.now y.places) (sym c.plan.ensures.mapping) ∙ none) ∙ kept.given))
 
 pub returns-then-from-below-clause-weighed : goal.returns-then-from-below-clause-weighed
 returns-then-from-below-clause-weighed g c = λ is yes last was.

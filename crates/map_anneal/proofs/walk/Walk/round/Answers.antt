@@ -1,6 +1,6 @@
 use Rattle.std.proofs.Common.{length, ap, add-one, arith}
+use Rattle.virt_topo.proofs.CableLaws.{sound_limits}
 use Rattle.node_maps.proofs.MapLaws.{candidates_count}
-use Rattle.cost_rule.proofs.LimitLaws.{sound_limits}
 use Rattle.map_anneal.specs.Searches.{sought_of}
 use Rattle.map_anneal.specs.Walk.{tries}
 use Rattle.map_anneal.proofs.walk.Walk.round.Goals as goal

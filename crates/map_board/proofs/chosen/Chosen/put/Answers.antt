@@ -2,7 +2,7 @@ use Rattle.std.proofs.Common.{◌≡◌, ◌<◌, ◌∙◌, List, true, length,
 use Rattle.std.proofs.Math.ListN.{set}
 use Rattle.std.proofs.lemmas.Bool.{and_parts, eqb-true}
 use Rattle.std.proofs.lemmas.List.{length-set, set-get_or, get_or_default}
-use Rattle.phys_lab.proofs.KeptLaws.{same_name-true}
+use Rattle.lab_base.proofs.Bytes.{bytes_same}
 use Rattle.virt_topo.specs.declared.mapping.Mapping.{Mapping}
 use Rattle.lab_model.specs.Shapes.{Place}
 use Rattle.lab_model.specs.Rules.{no_place}
@@ -16,7 +16,7 @@ returns-then-is_same-clause-places c =
     let v = c.args.virt in
     let old : Place = c.index-as_slice-virt.result in
     let both = and_parts _ _ (sym c.is_same.ensures ∙ c.if-is_same.true) in
-    let same : old ≡ c.args.place = place_is old c.args.place (eqb-true old.0.0 c.args.place.0.0 both.0) (same_name-true old.1 c.args.place.1 both.1) in
+    let same : old ≡ c.args.place = place_is old c.args.place (eqb-true old.0.0 c.args.place.0.0 both.0) (bytes_same old.1 c.args.place.1 both.1) in
     let at : old ≡ get_or places v old = c.index-as_slice-virt.is ∙ ap (λ (l : List Place). get_or l v old) c.as_slice.ensures in
     sym (ap (λ (p : Place). set places v p) (sym same ∙ at) ∙ set-get_or places v old)
 

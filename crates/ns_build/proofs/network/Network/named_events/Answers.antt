@@ -1,6 +1,7 @@
 use Rattle.std.proofs.Common.{List, get_or, ap, subst, ◌∙◌}
 use Rattle.lab_base.specs.Lists.{Has}
-use Rattle.net_plan.proofs.ListLaws.{Has-at, own_item}
+use Rattle.lab_base.proofs.Members.{Has-at}
+use Rattle.net_plan.proofs.ListLaws.{own_item}
 use Rattle.ns_events.specs.declared.event.What.TheVariants.{Down}
 use Rattle.ns_build.specs.declared.task.Planned.{Planned}
 use Rattle.ns_build.specs.Networks.{Network}
