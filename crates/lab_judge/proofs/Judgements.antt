@@ -12,7 +12,7 @@ use Rattle.script_text.specs.declared.command.Command.TheVariants as commands
 use Rattle.script_text.specs.declared.reply.Reply.{Reply}
 use Rattle.script_text.specs.declared.reply.Reply.TheVariants.{Bad, NoLab, LabIsSet}
 use Rattle.cost_rule.specs.declared.rule.RuleNumber.{RuleNumber}
-use Rattle.lab_judge.specs.Judge.{need_meaning, need_place, Task, Turn, Finish, Recover, in_slot, judged_wiring, JudgedCreate, refused, asked, Judged, JudgedText, JudgedFound, OrRefused, InSlot, Is, IsFound, is_searched}
+use Rattle.lab_judge.specs.Judge.{need_meaning, need_place, Task, in_slot, judged_wiring, JudgedCreate, refused, asked, Judged, JudgedText, JudgedFound, OrRefused, InSlot, Is, IsFound, is_searched}
 use Rattle.lab_base.specs.declared.fault.TextRefused.{TextRefused}
 use Rattle.lab_base.specs.declared.fault.TextRefused.TheVariants as texts
 use Rattle.ns_text.specs.Wirings.{WiringOf, HasWiring}

@@ -1,6 +1,6 @@
 use Rattle.std.proofs.Common.{Ok, Result, ap, sym, ◌∙◌}
 use Rattle.script_text.specs.declared.reply.Reply.{Reply}
-use Rattle.lab_judge.specs.Judge.{Task, task_in, need_feasible}
+use Rattle.lab_judge.specs.Judge.{Task, need_feasible}
 use Rattle.lab_judge.proofs.JudgeSwap.{entry_is, sound_of}
 use Rattle.lab_judge.proofs.Checks.{refused_by}
 use Rattle.std.proofs.lemmas.Result.{err_from_is_err_and}

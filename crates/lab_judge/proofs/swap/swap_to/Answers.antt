@@ -1,5 +1,3 @@
-use Rattle.std.proofs.Common.{◌≡◌, IfOk, Result, Ok, Err}
-use Rattle.lab_base.specs.declared.memory.Memory.{Memory}
 use Rattle.lab_judge.proofs.JudgeSwap.{entry_if, ids_fit, sound_of, tags_as_many}
 use Rattle.lab_judge.proofs.swap.swap_to.Goals as goal
 

@@ -1,6 +1,4 @@
-use Rattle.std.proofs.Common.{◌≤◌, ℕ, IfOk, Result, Ok, Err, length, sym, subst, List}
-use Rattle.lab_base.specs.declared.ids.VlanId.{VlanId}
-use Rattle.lab_base.specs.declared.memory.Memory.{Memory}
+use Rattle.std.proofs.Common.{◌≤◌, ℕ, IfOk, Ok, length, sym, subst}
 use Rattle.claims.specs.Answered.{AreTaken}
 use Rattle.claims.specs.Held.{free_ids}
 use Rattle.lab_judge.proofs.JudgeSwap.{enough, is_none_not, takes_if}
