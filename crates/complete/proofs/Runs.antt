@@ -78,7 +78,7 @@ one_ending number lines (c ∷ a) (d ∷ b) line x y =
     one_ending x.0 x.1 a b line x.3 (subst (λ l. AreCommands x.0 l b (BadLine line)) (sym lines_are) (subst (λ n. AreCommands n y.1 b (BadLine line)) (sym number_is) y.3))
 
 not_bad : (number : Option ℕ) (old new : Option (List ℕ)) (commands : List Command) (line : ℕ) → IsWholeScript number old → BegunBy number old new commands (BadScript line) → ⊥
-not_bad None old new commands line script begun = one_ending 0 _ script.2.0 commands line script.2.1 (begun script.0 script.1)
+not_bad None old new commands line script begun = one_ending 0 _ script.2.0 commands line script.2.1 (begun script.0 script.1).0
 not_bad (Some seed) old new commands line script begun = begun.1
 
 read_out : (number : Option ℕ) (old new : Option (List ℕ)) (made : List Begun) → IsWholeScript number old → BegunBy number old new (commands_of made) Done → IsReadOut number old new made

@@ -11,7 +11,7 @@ use Rattle.lab_io.proofs.LineLaws.{lines-none}
 use Rattle.script_text.specs.declared.command.Command.{Command}
 use Rattle.script_text.specs.declared.next.Next.TheVariants as nexts
 use Rattle.script_text.specs.Commands.{Lines, next_of, Ending, AtEnd, BadLine, ending, AreCommands, IsScript}
-use Rattle.script_text.specs.Taking.{known, Reads, IsBad, IsUnfinished}
+use Rattle.script_text.specs.Taking.{known, Reads, IsBad, IsUnfinished, ComesTo}
 use Rattle.script_text.proofs.Taken.{told_lines, known_behind}
 use Rattle.lab_top.specs.declared.status.Status.TheVariants as statuses
 use Rattle.lab_top.specs.Readers.{at_start}
@@ -55,6 +55,22 @@ covers_more start now new commands c cov read = record {
 }
 
 -- WHAT WAS BEGUN, at each end of a run of these bytes
+-- LINES THAT WERE TAKEN FROM THE START: what lies behind them, and how many they are
+module _ (bytes : List ℕ) (mid : Stand) (texts : List (List ℕ)) (p : Passed (at_start bytes) mid texts) where
+  parted : (ahead : List ℕ) (left : Option (List ℕ)) → mid.rest ≡ prepend_known ahead left → (rest : List ℕ) × (bytes ≡ p.raw ++ ahead ++ rest) × (left ≡ Some rest)
+  parted ahead left is =
+      let a = some_parts p.raw mid.rest bytes p.front in
+      let b = some_parts ahead left a.0 (sym a.1 ∙ is) in
+      (b.0, a.2 ∙ ap (λ (l : List ℕ). p.raw ++ l) b.2 ∙ sym (append_assoc p.raw ahead b.0), b.1)
+
+  its_lines : script_lines p.raw ≡ known texts ++ []
+  its_lines = ap (lines_from 0) (sym (append-nil p.raw)) ∙ p.lines [] (inr refl) ∙ ap (λ (l : Lines). known texts ++ l) (lines-none mid.taken)
+
+  its_size : mid.lines ≡ length (script_lines p.raw)
+  its_size =
+      let none_before : 0 + length texts ≡ length texts = omega arith in
+      p.number ∙ none_before ∙ sym (ap length (its_lines ∙ append-nil (known texts)) ∙ length-map texts (λ (t : List ℕ). let o : Option (List ℕ) = Some t in o))
+
 module _ (bytes : List ℕ) (now : Stand) (commands : List Command) (cov : Covers (at_start bytes) now commands) where
   told : (rest : List ℕ) × (now.rest ≡ Some rest) × (script_lines bytes ≡ known cov.texts ++ lines_from now.taken rest)
   told = told_lines (at_start bytes) now cov.texts bytes cov.passed refl
@@ -74,16 +90,18 @@ module _ (bytes : List ℕ) (now : Stand) (commands : List Command) (cov : Cover
   pub read_to : (ahead : List ℕ) (left : Option (List ℕ)) → now.rest ≡ prepend_known ahead left → length ahead ≤ 8193 → IsReadTo bytes left commands
   read_to ahead left is few =
       let p = cov.passed in
-      let a = some_parts p.raw now.rest bytes p.front in
-      let b = some_parts ahead left a.0 (sym a.1 ∙ is) in
-      let lines : script_lines p.raw ≡ known cov.texts ++ [] = ap (lines_from 0) (sym (append-nil p.raw)) ∙ p.lines [] (inr refl) ∙ ap (λ (l : Lines). known cov.texts ++ l) (lines-none now.taken) in
+      let b = parted bytes now cov.texts p ahead left is in
       let all : IsScript p.raw commands AtEnd =
-      subst (λ (ls : Lines). AreCommands 0 ls commands AtEnd) (sym lines)
+      subst (λ (ls : Lines). AreCommands 0 ls commands AtEnd) (sym (its_lines bytes now cov.texts p))
       (subst (λ (cs : List Command). AreCommands 0 (known cov.texts ++ []) cs AtEnd) (append-nil commands) (cov.are [] [] AtEnd refl)) in
-      (p.raw, ahead, b.0, a.2 ∙ ap (λ (l : List ℕ). p.raw ++ l) b.2 ∙ sym (append_assoc p.raw ahead b.0), b.1, few, all)
+      (p.raw, ahead, b.0, b.1, b.2, few, all)
 
-  pub bad_begun : (line : ℕ) → IsBad now line → IsScript bytes commands (BadLine line)
-  bad_begun line bad = all_of (BadLine line) (bad told.0 told.1)
+  pub bad_begun : (line : ℕ) → IsBad now line → (new : Stand) → ComesTo now new line → (ahead : List ℕ) (left : Option (List ℕ)) → new.rest ≡ prepend_known ahead left → length ahead ≤ 8193 → BegunCommands bytes left commands (statuses.BadScript line)
+  bad_begun line bad new comes ahead left is few =
+      let texts = cov.texts ++ comes.texts in
+      let p = passed_more (at_start bytes) now comes.mid cov.texts comes.texts cov.passed comes.passed in
+      let b = parted bytes comes.mid texts p ahead left (sym comes.same ∙ is) in
+      (all_of (BadLine line) (bad told.0 told.1), (p.raw, ahead, b.0, b.1, b.2, few, subst (λ (n : ℕ). n ≤ line) (its_size bytes comes.mid texts p) comes.within))
 
   at_end : (rest : List ℕ) → IsAtEnd (Some rest) → rest ≡ []
   at_end rest h = h
@@ -104,23 +122,19 @@ module _ (bytes : List ℕ) (now : Stand) (commands : List Command) (cov : Cover
   cut_begun new u pending left is none =
       let texts = cov.texts ++ u.texts in
       let p = passed_more (at_start bytes) now u.mid cov.texts u.texts cov.passed u.passed in
-      let a = some_parts p.raw u.mid.rest bytes p.front in
-      let b = some_parts pending left a.0 (sym a.1 ∙ sym u.same ∙ is) in
-      let lines : script_lines p.raw ≡ known texts ++ [] = ap (lines_from 0) (sym (append-nil p.raw)) ∙ p.lines [] (inr refl) ∙ ap (λ (l : Lines). known texts ++ l) (lines-none u.mid.taken) in
-      let none_before : 0 + length texts ≡ length texts = omega arith in
-      let size : u.mid.lines ≡ length (script_lines p.raw) = p.number ∙ none_before ∙ sym (ap length (lines ∙ append-nil (known texts)) ∙ length-map texts (λ (t : List ℕ). let o : Option (List ℕ) = Some t in o)) in
+      let b = parted bytes u.mid texts p pending left (sym u.same ∙ is) in
       let all : (end : Ending) → next_of now.lines (known u.texts) ≡ ending end → IsScript p.raw commands end = λ end e.
-      subst (λ (ls : Lines). AreCommands 0 ls commands end) (sym (lines ∙ known_behind cov.texts u.texts []))
+      subst (λ (ls : Lines). AreCommands 0 ls commands end) (sym (its_lines bytes u.mid texts p ∙ known_behind cov.texts u.texts []))
       (subst (λ (cs : List Command). AreCommands 0 (known cov.texts ++ (known u.texts ++ [])) cs end) (append-nil commands)
       (cov.are (known u.texts ++ []) [] end (ap (next_of now.lines) (append-nil (known u.texts)) ∙ e))) in (
         p.raw,
         pending,
         b.0,
-        a.2 ∙ ap (λ (l : List ℕ). p.raw ++ l) b.2 ∙ sym (append_assoc p.raw pending b.0),
         b.1,
+        b.2,
         none,
         p.whole u.more,
-        ⊎_elim (λ e. inl (all AtEnd e)) (λ e. inr (subst (λ (n : ℕ). IsScript p.raw commands (BadLine (n + 1))) size (all (BadLine (u.mid.lines + 1)) e))) u.unfinished,
+        ⊎_elim (λ e. inl (all AtEnd e)) (λ e. inr (subst (λ (n : ℕ). IsScript p.raw commands (BadLine (n + 1))) (its_size bytes u.mid texts p) (all (BadLine (u.mid.lines + 1)) e))) u.unfinished,
       )
 
 -- some of the first

@@ -151,7 +151,7 @@ module _ (terms : Terms) (seed : ℕ) (a b : Outside) (was : Status) (made : Lis
       begun_by statuses.ReadFault begun done read write usage = absurd (read refl)
       begun_by statuses.WriteFault begun done read write usage = absurd (write refl)
       begun_by statuses.Usage begun done read write usage = absurd (usage refl)
-      begun_by (statuses.BadScript line) begun done read write usage = absurd (no_other_end 0 line _ commands (commands_of made) in_grammar begun)
+      begun_by (statuses.BadScript line) begun done read write usage = absurd (no_other_end 0 line _ commands (commands_of made) in_grammar begun.0)
       begun_by statuses.Memory begun done read write usage = begun
       begun_by (statuses.JournalBad side at) begun done read write usage = begun.0
 

@@ -43,12 +43,16 @@ AreWhole bytes commands = IsScript bytes commands AtEnd ⊎ IsScript bytes comma
 abbrev pub IsReadTo : List ℕ → Option (List ℕ) → List Command → Type 0
 IsReadTo bytes left commands = (done : List ℕ) × (ahead : List ℕ) × (rest : List ℕ) × (bytes ≡ done ++ ahead ++ rest) × (left ≡ Some rest) × (length ahead ≤ 8193) × IsScript done commands AtEnd
 
+-- what was taken of these bytes: lines, of which none is behind that of this number, and behind them no more than the longest line with a piece
+abbrev pub IsTakenTo : List ℕ → Option (List ℕ) → ℕ → Type 0
+IsTakenTo bytes left line = (done : List ℕ) × (ahead : List ℕ) × (rest : List ℕ) × (bytes ≡ done ++ ahead ++ rest) × (left ≡ Some rest) × (length ahead ≤ 8193) × (length (script_lines done) ≤ line)
+
 -- the commands that were begun, by how the run ended
 abbrev pub BegunCommands : List ℕ → Option (List ℕ) → List Command → Status → Type 0
 -- all of them, and nothing is left
 BegunCommands bytes left begun Done = IsScript bytes begun AtEnd × (left ≡ Some [])
--- all before that line, which is the first that is not in the grammar
-BegunCommands bytes left begun (BadScript line) = IsScript bytes begun (BadLine line)
+-- all before that line, which is the first that is not in the grammar, and no line behind it is taken
+BegunCommands bytes left begun (BadScript line) = IsScript bytes begun (BadLine line) × IsTakenTo bytes left line
 -- those whose last line lies, with its line feed, in the bytes that were taken
 BegunCommands bytes left begun ReadFault = (done : List ℕ) × (pending : List ℕ) × (rest : List ℕ) × (bytes ≡ done ++ pending ++ rest) × (left ≡ Some rest) × NoFeed pending × IsWhole done × AreWhole done begun
 -- some of the first, and nothing further is read

@@ -15,7 +15,7 @@ use Rattle.script_text.specs.Commands.{Lines, Bad, found_by, next_of}
 use Rattle.script_text.specs.declared.heads.Head.{Head}
 use Rattle.script_text.specs.declared.heads.Said.{Said}
 use Rattle.script_text.specs.declared.heads.Said.TheVariants as said
-use Rattle.script_text.specs.Taking.{known, StartsLong, HasLong, Skipped, Begun, IsBad, IsUnfinished}
+use Rattle.script_text.specs.Taking.{known, StartsLong, HasLong, Skipped, Begun, IsBad, IsUnfinished, ComesTo}
 
 pub not_true : (b : Bool) → (b ≡ true → ⊥) → b ≡ false
 not_true true h = absurd (h refl)
@@ -43,6 +43,16 @@ pub long_none : (stand : Stand) → stand.taken ≤ 2 ^ 32 → IsTooLong stand.t
 long_none stand within long bytes is =
     let first = first_is_long stand.taken bytes within (subst (λ (r : Option (List ℕ)). IsTooLong stand.taken r) is long) in
     subst (λ (l : Lines). StartsLong l) (sym first.1) tt
+
+-- HOW FAR a reader came: no further; behind these lines; and further from there
+pub comes_no_further : (a new : Stand) (line : ℕ) → IsSettled a → new.rest ≡ a.rest → a.lines ≤ line → ComesTo a new line
+comes_no_further a new line settled same within = record { mid = a; texts = []; passed = passed_none a a settled (λ h. h) refl refl refl; same = same; within = within }
+
+pub comes_here : (a new : Stand) (texts : List (List ℕ)) (line : ℕ) → Passed a new texts → new.lines ≤ line → ComesTo a new line
+comes_here a new texts line passed within = record { mid = new; texts = texts; passed = passed; same = refl; within = within }
+
+pub comes_on : (a b new : Stand) (texts : List (List ℕ)) (line : ℕ) → Passed a b texts → ComesTo b new line → ComesTo a new line
+comes_on a b new texts line passed c = record { mid = c.mid; texts = texts ++ c.texts; passed = passed_more a b c.mid texts c.texts passed c.passed; same = c.same; within = c.within }
 
 pub by_cases : {X : Type 0} (b : Bool) → (b ≡ true → X) → (b ≡ false → X) → X
 by_cases true f g = f refl
@@ -89,6 +99,9 @@ module _ (a b c : Stand) (text : List ℕ) (s : Skipped a b) (p : Passed b c (te
 
   pub begun_on : (head : Head) → said_of text ≡ said.Begins head → Begun a c head
   begun_on head is = record { texts = texts; passed = passed; begins = λ more. found (said.Begins head) is more }
+
+  pub comes_past : (line : ℕ) → c.lines ≤ line → ComesTo a c line
+  comes_past line within = comes_here a c texts line passed within
 
   pub unknown_bad : said_of text ≡ said.Unknown → IsBad a c.lines
   unknown_bad is bytes known_bytes =

@@ -116,6 +116,14 @@ pub record IsUnfinished (old new : Stand) : Type 0 where
   pub more : mid.ended ≡ false
   pub unfinished : Unfinished (next_of old.lines (known texts)) mid.lines
 
+-- a reader came so far: lines were passed, the last one at most that of this number, and what is left was left behind them
+pub record ComesTo (old new : Stand) (line : ℕ) : Type 0 where
+  pub mid : Stand
+  pub texts : List (List ℕ)
+  pub passed : Passed old mid texts
+  pub same : new.rest ≡ mid.rest
+  pub within : mid.lines ≤ line
+
 -- a command takes a byte at least
 abbrev pub GoesOn : Next → ℕ → ℕ → Type 0
 GoesOn (nexts.Command c) before after = before < after

@@ -47,10 +47,11 @@ returns-in-Err-Bad-clause-ran g c =
     let was = inv.going in
     let e = rw c.in-Err-Bad.field-0-is at c.in-Err-Bad.ensures in
     let now = stand_of c.commands.reader (g.S.Source.left c.commands.source) in
+    let new = stand_of c.read_command.new.lines (g.S.Source.left c.read_command.new.source) in
     let line = c.in-Err-Bad.line in rw c.in-Err-Bad.field-0-is (
       was.0,
       begun_ran _ _ _ _ _ _ _ (BadScript line) was.0 (going_ends _ _ _ _ _ was.0 was.1 (BadScript line) (λ t. tt) (λ runs. runs) (λ all. all) (λ wrote. wrote))
-          (λ bytes is. bad_begun bytes now (commands_of was.0) (was.2 bytes is) line (e.bad inv.ready line refl)) (λ is. absurd (cc is)),
+          (λ bytes is. bad_begun bytes now (commands_of was.0) (was.2 bytes is) line (e.bad inv.ready line refl) new (e.comes inv.ready line refl) (pending_of c.read_command.new.lines) (g.S.Source.left c.read_command.new.source) refl (omega (arith, e.ahead, inv.near))) (λ is. absurd (cc is)),
       λ is. absurd (cc is),
     )
 

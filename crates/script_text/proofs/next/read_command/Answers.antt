@@ -1,7 +1,16 @@
 use Rattle.std.proofs.lemmas.Result.{err_from_is_err_and}
 use Rattle.lab_io.specs.Passed.{stand_of}
+use Rattle.script_text.proofs.Taken.{comes_on}
 use Rattle.script_text.proofs.Wholes.{command_next, end_next, half_unfinished}
 use Rattle.script_text.proofs.next.read_command.Goals as goal
+
+pub returns-in_err-command-in-Some-clause-comes : goal.returns-in_err-command-in-Some-clause-comes
+returns-in_err-command-in-Some-clause-comes g c ready line is =
+    let p = err_from_is_err_and c.from_residual-in_err-command-in-Some.result c.from_residual-in_err-command-in-Some.ensures.1 in
+    let begun = rw c.in-Some.is at c.in_ok-find_head.ensures.some ready in
+    let at = stand_of c.find_head.new.lines (g.S.Source.left c.find_head.new.source) in
+    let new = stand_of c.with_blocks.new.lines (g.S.Source.left c.with_blocks.new.source) in
+    comes_on _ at new begun.texts line begun.passed (c.in_err-command-in-Some.ensures.comes (c.in_ok-find_head.ensures.ok, begun.passed.ends) line (cc (is, p.1, p.2)))
 
 pub returns-in_err-command-in-Some-clause-unfinished : goal.returns-in_err-command-in-Some-clause-unfinished
 returns-in_err-command-in-Some-clause-unfinished g c ready is =

@@ -1,8 +1,10 @@
-use Rattle.std.proofs.Common.{ℕ, List, ◌++◌, sym, ap, subst, ◌∙◌, arith}
+use Rattle.std.proofs.Common.{◌≡◌, ℕ, ◌+◌, List, [], ◌++◌, sym, ap, subst, ◌∙◌, arith}
+use Rattle.std.proofs.lemmas.Result.{err_from_is_err_and}
 use Rattle.lab_io.specs.Passed.{stand_of}
 use Rattle.script_text.specs.Taking.{Blocked}
 use Rattle.script_text.specs.Blocks.{IsBlock}
 use Rattle.script_text.proofs.Blocks.{none_blocked, blocked_on, none_block, block_on}
+use Rattle.script_text.proofs.Taken.{comes_here, comes_no_further, comes_on}
 use Rattle.script_text.proofs.next.take_block.Goals as goal
 
 pub loop-number-init : goal.loop-number-init
@@ -15,6 +17,24 @@ loop-number-init g c =
       ahead = omega arith;
       taken = omega arith;
     }
+
+pub returns-in_err-take_line-clause-comes : goal.returns-in_err-take_line-clause-comes
+returns-in_err-take_line-clause-comes g c ready line is =
+    let p = err_from_is_err_and c.from_residual.result c.from_residual.ensures.1 in
+    let bad = c.in_err-take_line.ensures.bad (c.loop-number.invariant.fault ready.0) line (cc (is, p.1, p.2)) in
+    let block = c.loop-number.invariant.block ready in
+    let at = stand_of c.loop-number.lines (g.S.Source.left c.loop-number.source) in
+    let new = stand_of c.take_line.new.lines (g.S.Source.left c.take_line.new.source) in
+    comes_on _ at new block.texts line block.passed (comes_no_further at new line block.passed.ends bad.2 (omega (arith, bad.0)))
+
+pub returns-in-None-clause-comes : goal.returns-in-None-clause-comes
+returns-in-None-clause-comes g c ready line is =
+    let block = c.loop-number.invariant.block ready in
+    let at = stand_of c.loop-number.lines (g.S.Source.left c.loop-number.source) in
+    let new = stand_of c.take_line.new.lines (g.S.Source.left c.take_line.new.source) in
+    let none = rw c.in-None.is at c.in_ok-take_line.ensures.none (c.loop-number.invariant.fault ready.0, block.passed.ends) in
+    let number : c.lines-in-None.result + 1 ≡ line = cc is in
+    comes_on _ at new block.texts line block.passed (comes_here at new [] line none.0 (omega (arith, number, c.lines-in-None.ensures)))
 
 pub loop-number-preserved : goal.loop-number-preserved
 loop-number-preserved g c =
