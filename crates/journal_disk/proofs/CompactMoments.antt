@@ -12,9 +12,9 @@ use Rattle.plant.specs.declared.step.Side.{Side}
 use Rattle.journal_rec.specs.declared.record.Record.{Record}
 use Rattle.journal_rec.specs.Payloads.{le}
 use Rattle.journal_model.specs.Journals.{magic, Headed, head, size, gate_after}
-use Rattle.journal_model.specs.Appends.{blocks, front, other_side, Opened, IsOn}
+use Rattle.journal_rec.specs.Packing.{blocks, ArePacked, side_length}
+use Rattle.journal_model.specs.Appends.{front, other_side, Opened, IsOn}
 use Rattle.journal_model.proofs.Gates.{length_front}
-use Rattle.journal_packed.specs.Packing.{ArePacked, side_length}
 use Rattle.journal_disk.specs.declared.journal.Journal.{Journal}
 use Rattle.journal_disk.specs.declared.fault.CompactFault.{CompactFault}
 use Rattle.journal_disk.specs.declared.fault.CompactFault.TheVariants as faults
