@@ -3,7 +3,7 @@ use Rattle.swap_turns.specs.Legs.{leg_view}
 use Rattle.swap_turns.proofs.Finishing.{way_after}
 use Rattle.swap_turns.proofs.Needs.{stands_at, fits_open, works_by, fewer_open}
 use Rattle.swap_turns.proofs.Stepping.{left_after, left_less, left_stops}
-use Rattle.swap_turns.proofs.left.one_turn.Goals as goal
+use Rattle.swap_turns.proofs.turn.one_turn.Goals as goal
 
 pub turn-requires-clause-stands : goal.turn-requires-clause-stands
 turn-requires-clause-stands g c = let o = c.requires.can in stands_at o.texts _ c.args.journal.now o.lab o.work

@@ -16,7 +16,7 @@ use swap_txn::{Ended, Live, Turned};
 
 /// An open swap as a turn left it.
 #[derive(Drop)]
-pub enum Left {
+pub enum TurnedSwap {
     /// The swap is still open. With trouble, the turn met that, and the undo begins.
     Open(Live, Option<What>),
     /// The swap has ended: its last record is durable.
@@ -27,29 +27,29 @@ pub enum Left {
     Stopped,
 }
 
-fn reached(live: Live) -> Left
+fn reached(live: Live) -> TurnedSwap
     ensures { IsReached live result }
 {
     match live {
-        Live::Ended(ended) => Left::Over(ended),
-        live => Left::Open(live, None),
+        Live::Ended(ended) => TurnedSwap::Over(ended),
+        live => TurnedSwap::Open(live, None),
     }
 }
 
-fn left_of(turned: Turned<Live>) -> Left
+fn left_of(turned: Turned<Live>) -> TurnedSwap
     ensures { IsLeftBy turned result }
 {
     match turned {
-        Turned::Same(next) => Left::Open(next, None),
+        Turned::Same(next) => TurnedSwap::Open(next, None),
         Turned::Next(next) => reached(next),
-        Turned::Trouble(undoing, what) => Left::Open(Live::Undoing(undoing), Some(what)),
-        Turned::Stuck(_live, what) => Left::Stuck(what),
-        Turned::Stopped => Left::Stopped,
+        Turned::Trouble(undoing, what) => TurnedSwap::Open(Live::Undoing(undoing), Some(what)),
+        Turned::Stuck(_live, what) => TurnedSwap::Stuck(what),
+        Turned::Stopped => TurnedSwap::Stopped,
     }
 }
 
 /// Makes one turn of an open swap, at any place of any leg.
-pub fn one_turn<P: Plant>(live: Live, journal: &mut Journal, plant: &mut P) -> Left
+pub fn one_turn<P: Plant>(live: Live, journal: &mut Journal, plant: &mut P) -> TurnedSwap
     requires can { CanTurn (P.seen plant.old).told journal.old live }
     // The turn, what it left, and which experiment's swap that is.
     ensures turns { HasMade live (P.seen plant.old) (P.seen plant.new) journal.old journal.new result }
