@@ -2,7 +2,6 @@
 ghost use Rattle.std.specs.Prelude.{Ok};
 ghost use Rattle.tcl_eval.specs.declared.hosts.Called.TheVariants as called;
 
-use crate::faults::push_refusal;
 use lab_base::{Memory, Text, TextRefused};
 use std::alloc::Global;
 use tcl_eval::{Called, Host, HostFault, Interp, Ran};
@@ -59,7 +58,7 @@ fn ran<H: Host>(interp: &mut Interp<H>, text: &[u8]) -> Result<Ran, TextRefused>
     interp.run(text)
 }
 
-/// Adds `ended` or `stopped` with the line, or the text's fault.
+/// Adds `ended` or `stopped` with the line, or the line and the kind of the text's fault.
 fn push_ran(out: &mut Text, ran: Result<Ran, TextRefused>) -> Result<(), Memory> {
     match ran {
         Ok(Ran::Ended { line }) => {
@@ -70,7 +69,12 @@ fn push_ran(out: &mut Text, ran: Result<Ran, TextRefused>) -> Result<(), Memory>
             out.push_bytes(b"stopped ")?;
             out.push_number(u64::from(line))
         }
-        Err(refused) => push_refusal(out, refused),
+        Err(TextRefused::Text(fault)) => {
+            out.push_number(u64::from(fault.line))?;
+            out.push(b' ')?;
+            out.push_bytes(fault.kind.word().as_bytes())
+        }
+        Err(TextRefused::Memory) => Err(Memory),
     }
 }
 

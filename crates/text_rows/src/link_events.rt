@@ -5,6 +5,7 @@ ghost use Rattle.virt_topo.specs.Soundness.{IsSound};
 use lab_base::{Items, Memory, Name, Rates, Text};
 use net_plan::{lan_pipe, link_pipe};
 use ns_events::*;
+use row_words::push_numbers;
 use std::alloc::Global;
 use virt_topo::{Asks, Pipe, Segment, VirtEnd, VirtNode, Wiring};
 
@@ -105,14 +106,6 @@ fn due_lines(alloc: Global) -> Result<Text, Memory> {
         push_numbers(&mut out, &[u64::from(event.line)])?;
     }
     Ok(out)
-}
-
-fn push_numbers(out: &mut Text, numbers: &[u64]) -> Result<(), Memory> {
-    for number in numbers {
-        out.push(b' ')?;
-        out.push_number(*number)?;
-    }
-    Ok(())
 }
 
 /// Adds rates.

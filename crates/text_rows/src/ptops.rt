@@ -1,10 +1,10 @@
 //! Texts of labs.
 ghost use Rattle.std.specs.Prelude.{◌<◌};
 
-use crate::faults::push_refusal;
 use lab_base::{Memory, SwitchId, Text, TextRefused, TrunkId};
 use phys_lab::Lab;
 use ptop_text::{print_ptop, read_ptop};
+use row_words::Untold;
 use std::alloc::Global;
 
 /// The lab of a text.
@@ -16,19 +16,15 @@ pub fn read(alloc: Global, text: &[u8]) -> Result<Lab, TextRefused> {
     }
 }
 
-/// How many switches, nodes and trunks the lab of a text has, and its canonical text, or the text's fault.
-pub fn told(alloc: Global, text: &[u8]) -> Result<Text, Memory> {
+/// How many switches, nodes and trunks the lab of a text has, and its canonical text.
+pub fn told(alloc: Global, text: &[u8]) -> Result<Text, Untold> {
+    let lab = read(alloc, text)?;
     let mut out = Text::new(alloc);
-    match read(alloc, text) {
-        Ok(lab) => {
-            for count in [lab.switches().len(), lab.nodes().len(), lab.trunks().len()] {
-                out.push_number(count as u64)?;
-                out.push(b'\n')?;
-            }
-            out.push_bytes(print_ptop(alloc, &lab)?.bytes())?;
-        }
-        Err(refused) => push_refusal(&mut out, refused)?,
+    for count in [lab.switches().len(), lab.nodes().len(), lab.trunks().len()] {
+        out.push_number(count as u64)?;
+        out.push(b'\n')?;
     }
+    out.push_bytes(print_ptop(alloc, &lab)?.bytes())?;
     Ok(out)
 }
 
@@ -53,13 +49,11 @@ fn push_sides(out: &mut Text, lab: &Lab) -> Result<(), Memory> {
     Ok(())
 }
 
-/// The sides of the first trunk of a lab, or the text's fault.
-pub fn sides(alloc: Global, text: &[u8]) -> Result<Text, Memory> {
+/// The sides of the first trunk of a lab.
+pub fn sides(alloc: Global, text: &[u8]) -> Result<Text, Untold> {
+    let lab = read(alloc, text)?;
     let mut out = Text::new(alloc);
-    match read(alloc, text) {
-        Ok(lab) => push_sides(&mut out, &lab)?,
-        Err(refused) => push_refusal(&mut out, refused)?,
-    }
+    push_sides(&mut out, &lab)?;
     Ok(out)
 }
 

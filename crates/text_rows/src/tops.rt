@@ -1,8 +1,8 @@
 //! Texts of wirings.
 ghost use Rattle.std.specs.Prelude.{◌<◌};
 
-use crate::faults::push_refusal;
-use lab_base::{Memory, Text, TextRefused};
+use lab_base::{Text, TextRefused};
+use row_words::Untold;
 use std::alloc::Global;
 use top_text::{print_top, read_top};
 use virt_topo::Wiring;
@@ -16,14 +16,8 @@ pub fn read(alloc: Global, text: &[u8]) -> Result<Wiring, TextRefused> {
     }
 }
 
-/// The canonical text of the wiring of a text, or its fault.
-pub fn told(alloc: Global, text: &[u8]) -> Result<Text, Memory> {
-    match read(alloc, text) {
-        Ok(wiring) => print_top(alloc, &wiring),
-        Err(refused) => {
-            let mut out = Text::new(alloc);
-            push_refusal(&mut out, refused)?;
-            Ok(out)
-        }
-    }
+/// The canonical text of the wiring of a text.
+pub fn told(alloc: Global, text: &[u8]) -> Result<Text, Untold> {
+    let wiring = read(alloc, text)?;
+    Ok(print_top(alloc, &wiring)?)
 }
