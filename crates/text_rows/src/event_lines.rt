@@ -63,10 +63,21 @@ fn push_events(out: &mut Text, events: &[Event], line: u32) -> Result<(), Memory
 pub fn told(alloc: Global, lines: &[u8]) -> Result<Text, Memory> {
     let mut out = Text::new(alloc);
     match read(alloc, lines) {
-        Ok(asked) => push_events(&mut out, asked.events.as_slice(), asked.line)?,
+        Ok(asked) => {
+            let pushed = push_events(&mut out, asked.events.as_slice(), asked.line);
+            drop(asked);
+            pushed?;
+        }
         Err(refused) => push_refusal(&mut out, refused)?,
     }
     Ok(out)
+}
+
+/// Adds how many events there are, the last one, and the line of the run.
+fn push_last(out: &mut Text, events: &[Event], line: u32) -> Result<(), Memory> {
+    out.push_number(events.len() as u64)?;
+    let last = events.len().saturating_sub(1);
+    push_events(out, &events[last..], line)
 }
 
 /// How many events there are, and the last one, with the line of the run, or the text's fault.
@@ -74,10 +85,9 @@ pub fn told_last(alloc: Global, lines: &[u8]) -> Result<Text, Memory> {
     let mut out = Text::new(alloc);
     match read(alloc, lines) {
         Ok(asked) => {
-            let events = asked.events.as_slice();
-            out.push_number(events.len() as u64)?;
-            let last = events.len().saturating_sub(1);
-            push_events(&mut out, &events[last..], asked.line)?;
+            let pushed = push_last(&mut out, asked.events.as_slice(), asked.line);
+            drop(asked);
+            pushed?;
         }
         Err(refused) => push_refusal(&mut out, refused)?,
     }

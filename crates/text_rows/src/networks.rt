@@ -1,7 +1,7 @@
 //! Networks of NS texts.
 use crate::faults::push_refusal;
 use lab_base::{Memory, Name, Text};
-use ns_build::read_ns;
+use ns_build::{Asked, read_ns};
 use std::alloc::Global;
 use virt_topo::{AskedLink, AskedNode, Asks, Class, Topo, VirtEnd};
 
@@ -104,6 +104,13 @@ fn push_topo(out: &mut Text, topo: &Topo) -> Result<(), Memory> {
     push_classes(out, topo.classes())
 }
 
+/// Adds the line of `$ns run` and the network.
+fn push_asked(out: &mut Text, asked: &Asked) -> Result<(), Memory> {
+    out.push_number(u64::from(asked.line))?;
+    out.push(b'\n')?;
+    push_topo(out, &asked.topo)
+}
+
 /// The line of `$ns run` and the network, or the line and the kind of the fault.
 pub fn told(alloc: Global, text: &[u8]) -> Result<Text, Memory> {
     let mut out = Text::new(alloc);
@@ -112,14 +119,15 @@ pub fn told(alloc: Global, text: &[u8]) -> Result<Text, Memory> {
     }
     match read_ns(alloc, text) {
         Ok(asked) => {
-            out.push_number(u64::from(asked.line))?;
-            out.push(b'\n')?;
-            push_topo(&mut out, &asked.topo)?;
+            let pushed = push_asked(&mut out, &asked);
+            drop(asked);
+            pushed?;
         }
         Err(refused) => push_refusal(&mut out, refused)?,
     }
     Ok(out)
 }
+
 /// The network of a text of two nodes, with lines behind them, and the run.
 pub fn told_over_two(alloc: Global, lines: &[u8]) -> Result<Text, Memory> {
     let mut text = Text::from_slice(alloc, HEAD)?;

@@ -28,11 +28,39 @@ fn read(alloc: Global, lab: &Lab, wiring: &Wiring, text: &[u8]) -> Result<Mappin
 }
 
 /// The canonical text of the mapping that a text is read as.
+fn printed_of(alloc: Global, lab: &Lab, wiring: &Wiring, text: &[u8]) -> Result<Text, TextRefused> {
+    match read(alloc, lab, wiring, text) {
+        Ok(mapping) => {
+            let printed = print_solution(alloc, lab, wiring, &mapping);
+            drop(mapping);
+            Ok(printed?)
+        }
+        Err(refused) => Err(refused),
+    }
+}
+
+/// The canonical text of a mapping of the pair into a lab.
+fn printed_in(alloc: Global, lab: &Lab, text: &[u8]) -> Result<Text, TextRefused> {
+    match tops::read(alloc, TOP) {
+        Ok(wiring) => {
+            let printed = printed_of(alloc, lab, &wiring, text);
+            drop(wiring);
+            printed
+        }
+        Err(refused) => Err(refused),
+    }
+}
+
+/// The canonical text of a mapping of the pair.
 fn printed(alloc: Global, text: &[u8]) -> Result<Text, TextRefused> {
-    let lab = ptops::read(alloc, LAB)?;
-    let wiring = tops::read(alloc, TOP)?;
-    let mapping = read(alloc, &lab, &wiring, text)?;
-    Ok(print_solution(alloc, &lab, &wiring, &mapping)?)
+    match ptops::read(alloc, LAB) {
+        Ok(lab) => {
+            let printed = printed_in(alloc, &lab, text);
+            drop(lab);
+            printed
+        }
+        Err(refused) => Err(refused),
+    }
 }
 
 /// The canonical text of a mapping of the pair, or the text's fault.
@@ -45,12 +73,11 @@ pub fn told(alloc: Global, text: &[u8]) -> Result<Text, Memory> {
     Ok(out)
 }
 
-/// The names of the ends of a wiring, a line each.
-fn names_of_ends(alloc: Global, text: &[u8]) -> Result<Text, TextRefused> {
-    let wiring = tops::read(alloc, text)?;
+/// The names of the first four ends of a wiring, a line each.
+fn names_of_ends(alloc: Global, wiring: &Wiring) -> Result<Text, Memory> {
     let mut out = Text::new(alloc);
     for end in 0..4 {
-        out.push_bytes(print_end(alloc, &wiring, end)?.bytes())?;
+        out.push_bytes(print_end(alloc, wiring, end)?.bytes())?;
         out.push(b'\n')?;
     }
     Ok(out)
@@ -58,8 +85,12 @@ fn names_of_ends(alloc: Global, text: &[u8]) -> Result<Text, TextRefused> {
 
 /// The names of the first four ends of the wiring of a text, or the text's fault.
 pub fn told_ends(alloc: Global, text: &[u8]) -> Result<Text, Memory> {
-    match names_of_ends(alloc, text) {
-        Ok(names) => Ok(names),
+    match tops::read(alloc, text) {
+        Ok(wiring) => {
+            let names = names_of_ends(alloc, &wiring);
+            drop(wiring);
+            names
+        }
         Err(refused) => {
             let mut out = Text::new(alloc);
             push_refusal(&mut out, refused)?;

@@ -36,6 +36,13 @@ fn show_command(out: &mut String, command: &Command) -> Result<(), AllocError> {
     Ok(())
 }
 
+fn show_commands(out: &mut String, commands: &[Command]) -> Result<(), AllocError> {
+    for command in commands {
+        show_command(out, command)?;
+    }
+    Ok(())
+}
+
 /// The commands as `|LINE` and the words, each by the first letter of its kind, its span and its parts, or the text's fault.
 pub fn told(alloc: Global, text: &[u8]) -> Result<Text, Memory> {
     let mut out = String::new(alloc);
@@ -44,9 +51,9 @@ pub fn told(alloc: Global, text: &[u8]) -> Result<Text, Memory> {
     }
     match split(alloc, text) {
         Ok(commands) => {
-            for command in commands.iter() {
-                show_command(&mut out, command)?;
-            }
+            let shown = show_commands(&mut out, &commands);
+            drop(commands);
+            shown?;
             Text::from_slice(alloc, out.as_bytes())
         }
         Err(refused) => {
