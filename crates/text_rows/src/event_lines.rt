@@ -53,19 +53,35 @@ fn push_events(out: &mut Text, events: &[Event], line: u32) -> Result<(), Memory
 
 /// The events of a text behind the head, and the line of its run.
 pub fn told(alloc: Global, lines: &[u8]) -> Result<Text, Untold> {
-    let asked = read(alloc, lines)?;
     let mut out = Text::new(alloc);
-    push_events(&mut out, asked.events.as_slice(), asked.line)?;
-    Ok(out)
+    match read(alloc, lines) {
+        Ok(asked) => {
+            let pushed = push_events(&mut out, asked.events.as_slice(), asked.line);
+            drop(asked);
+            pushed?;
+            Ok(out)
+        }
+        Err(refused) => Err(Untold::from(refused)),
+    }
+}
+
+/// Adds how many events there are, the last one, and the line of the run.
+fn push_last(out: &mut Text, events: &[Event], line: u32) -> Result<(), Memory> {
+    out.push_number(events.len() as u64)?;
+    let last = events.len().saturating_sub(1);
+    push_events(out, &events[last..], line)
 }
 
 /// How many events there are, and the last one, with the line of the run.
 pub fn told_last(alloc: Global, lines: &[u8]) -> Result<Text, Untold> {
-    let asked = read(alloc, lines)?;
     let mut out = Text::new(alloc);
-    let events = asked.events.as_slice();
-    out.push_number(events.len() as u64)?;
-    let last = events.len().saturating_sub(1);
-    push_events(&mut out, &events[last..], asked.line)?;
-    Ok(out)
+    match read(alloc, lines) {
+        Ok(asked) => {
+            let pushed = push_last(&mut out, asked.events.as_slice(), asked.line);
+            drop(asked);
+            pushed?;
+            Ok(out)
+        }
+        Err(refused) => Err(Untold::from(refused)),
+    }
 }

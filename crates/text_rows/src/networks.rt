@@ -1,6 +1,6 @@
 //! Networks of NS texts.
 use lab_base::{Memory, Name, Text};
-use ns_build::read_ns;
+use ns_build::{Asked, read_ns};
 use row_words::{Untold, push_number};
 use std::alloc::Global;
 use virt_topo::{AskedLink, AskedNode, Asks, Class, Topo, VirtEnd};
@@ -99,17 +99,28 @@ fn push_topo(out: &mut Text, topo: &Topo) -> Result<(), Memory> {
     push_classes(out, topo.classes())
 }
 
+/// Adds the line of `$ns run` and the network.
+fn push_asked(out: &mut Text, asked: &Asked) -> Result<(), Memory> {
+    out.push_number(u64::from(asked.line))?;
+    out.push(b'\n')?;
+    push_topo(out, &asked.topo)
+}
+
 /// The line of `$ns run` and the network.
 pub fn told(alloc: Global, text: &[u8]) -> Result<Text, Untold> {
     let mut out = Text::new(alloc);
     if text.len() > 100_000 {
         return Ok(out);
     }
-    let asked = read_ns(alloc, text)?;
-    out.push_number(u64::from(asked.line))?;
-    out.push(b'\n')?;
-    push_topo(&mut out, &asked.topo)?;
-    Ok(out)
+    match read_ns(alloc, text) {
+        Ok(asked) => {
+            let pushed = push_asked(&mut out, &asked);
+            drop(asked);
+            pushed?;
+            Ok(out)
+        }
+        Err(refused) => Err(Untold::from(refused)),
+    }
 }
 
 /// The network of a text of two nodes, with lines behind them, and the run.

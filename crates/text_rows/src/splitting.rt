@@ -36,15 +36,26 @@ fn show_command(out: &mut String, command: &Command) -> Result<(), AllocError> {
     Ok(())
 }
 
+fn show_commands(out: &mut String, commands: &[Command]) -> Result<(), AllocError> {
+    for command in commands {
+        show_command(out, command)?;
+    }
+    Ok(())
+}
+
 /// The commands as `|LINE` and the words, each by the first letter of its kind, its span and its parts.
 pub fn told(alloc: Global, text: &[u8]) -> Result<Text, Untold> {
+    let mut out = String::new(alloc);
     if text.len() > 1000 {
         return Ok(Text::from_slice(alloc, b"long")?);
     }
-    let commands = split(alloc, text)?;
-    let mut out = String::new(alloc);
-    for command in commands.iter() {
-        show_command(&mut out, command)?;
+    match split(alloc, text) {
+        Ok(commands) => {
+            let shown = show_commands(&mut out, &commands);
+            drop(commands);
+            shown?;
+            Ok(Text::from_slice(alloc, out.as_bytes())?)
+        }
+        Err(refused) => Err(Untold::from(refused)),
     }
-    Ok(Text::from_slice(alloc, out.as_bytes())?)
 }

@@ -1,5 +1,6 @@
 //! Texts of wirings.
-ghost use Rattle.std.specs.Prelude.{◌<◌};
+ghost use Rattle.std.specs.Prelude.{◌<◌, IfOk};
+ghost use Rattle.virt_topo.specs.Soundness.{IsSound};
 
 use lab_base::{Text, TextRefused};
 use row_words::Untold;
@@ -8,7 +9,9 @@ use top_text::{print_top, read_top};
 use virt_topo::Wiring;
 
 /// The wiring of a text.
-pub fn read(alloc: Global, text: &[u8]) -> Result<Wiring, TextRefused> {
+pub fn read(alloc: Global, text: &[u8]) -> Result<Wiring, TextRefused>
+    ensures { IfOk result IsSound }
+{
     if text.len() < 4_294_967_295 {
         read_top(alloc, text)
     } else {
@@ -18,6 +21,12 @@ pub fn read(alloc: Global, text: &[u8]) -> Result<Wiring, TextRefused> {
 
 /// The canonical text of the wiring of a text.
 pub fn told(alloc: Global, text: &[u8]) -> Result<Text, Untold> {
-    let wiring = read(alloc, text)?;
-    Ok(print_top(alloc, &wiring)?)
+    match read(alloc, text) {
+        Ok(wiring) => {
+            let top = print_top(alloc, &wiring);
+            drop(wiring);
+            Ok(top?)
+        }
+        Err(refused) => Err(Untold::from(refused)),
+    }
 }

@@ -17,7 +17,10 @@ fn printed(alloc: Global, text: &[u8]) -> Result<Text, TextRefused> {
     if text.len() > MAX_TEXT {
         return Err(TextRefused::Memory);
     }
-    Ok(read_and_print(alloc, text)?.top)
+    match read_and_print(alloc, text) {
+        Ok(printed) => Ok(printed.top),
+        Err(refused) => Err(refused),
+    }
 }
 
 /// The text of the wiring that a top text is read as.
@@ -25,7 +28,14 @@ fn again(alloc: Global, top: &[u8]) -> Result<Text, TextRefused> {
     if top.len() > MAX_TEXT {
         return Err(TextRefused::Memory);
     }
-    Ok(print_top(alloc, &read_top(alloc, top)?)?)
+    match read_top(alloc, top) {
+        Ok(wiring) => {
+            let printed = print_top(alloc, &wiring);
+            drop(wiring);
+            Ok(printed?)
+        }
+        Err(refused) => Err(refused),
+    }
 }
 
 /// The canonical text of the wiring of a text, where it is that of the wiring that it is read back as.
