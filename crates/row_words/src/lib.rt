@@ -1,4 +1,4 @@
-//! What the rows of all layers share: their words, and why one is not told.
+//! Words of the rows of all layers, and why one is not told.
 #![tactic(auto)]
 
 mod action;

@@ -16,7 +16,7 @@ use std::cell::Cell;
 use std::rc::Rc;
 use virt_topo::{Mapping, Wiring};
 
-/// What is run of a search: the walk or the whole, which are measured, or one whose answers are told.
+/// A run of a search: the walk or the whole, which are measured, or one whose answers are told.
 #[derive(Clone, Copy, PartialEq, Eq)]
 pub(crate) enum What {
     Walk,
