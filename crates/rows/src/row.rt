@@ -119,7 +119,7 @@ fn over(rt: &HostRuntime, file: &str, plant: &mut MemLab) -> anyhow::Result<Stri
 /// Runs a script by words over a blank plant, with the numbers of a failing read and write, and of bytes of room.
 fn faulty(
     rt: &HostRuntime,
-    numbers: [u32; 3],
+    numbers: [&str; 3],
     file: &str,
     words: &[&str],
 ) -> anyhow::Result<String> {
@@ -128,9 +128,9 @@ fn faulty(
     let given = Given {
         words,
         script: script.as_str(),
-        read,
-        write,
-        room: room as usize,
+        read: read.parse()?,
+        write: write.parse()?,
+        room: room.parse()?,
     };
     Ok(ending(run_blank(rt.alloc(), given)?)?)
 }
@@ -200,27 +200,13 @@ fn over_sides(
     told
 }
 
-/// The output of a row that has no use for the plant of the row before.
-fn told_alone(rt: &HostRuntime, words: &[&str]) -> anyhow::Result<String> {
-    let alloc = rt.alloc();
+/// The output of a row about scripts with drills or lines of many numbers.
+fn told_of_numbers(rt: &HostRuntime, words: &[&str]) -> anyhow::Result<String> {
     match words {
-        ["steps", file, words @ ..] => steps(rt, file, words),
-        ["devices", file] => devices(rt, file),
-        ["faulty", read, write, room, file, words @ ..] => {
-            faulty(
-                rt,
-                [read.parse()?, write.parse()?, room.parse()?],
-                file,
-                words,
-            )
-        }
-        ["place", words @ ..] => place(alloc, words),
-        ["file", file] => Ok(fs::read_to_string(rt, *file)?),
-        ["remove", folder] => remove(rt, folder),
-        ["turns", last, file] => turns(alloc, script_of(rt, file)?.as_str(), last.parse()?),
+        ["turns", last, file] => { turns(rt.alloc(), script_of(rt, file)?.as_str(), last.parse()?) }
         ["numbers", last, drill, file] => {
             numbers(
-                alloc,
+                rt.alloc(),
                 script_of(rt, file)?.as_str(),
                 drill_named(drill)?,
                 last.parse()?,
@@ -230,6 +216,21 @@ fn told_alone(rt: &HostRuntime, words: &[&str]) -> anyhow::Result<String> {
         ["told", calls, ends, files @ ..] => told_twice(rt, calls.parse()?, ends, files),
         ["order", letters, end, drills @ ..] => order(rt, letters, end, drills),
         _ => bail!("no such row"),
+    }
+}
+
+/// The output of a row that has no use for the plant of the row before.
+fn told_alone(rt: &HostRuntime, words: &[&str]) -> anyhow::Result<String> {
+    match words {
+        ["steps", file, words @ ..] => steps(rt, file, words),
+        ["devices", file] => devices(rt, file),
+        ["faulty", read, write, room, file, words @ ..] => {
+            faulty(rt, [*read, *write, *room], file, words)
+        }
+        ["place", words @ ..] => place(rt.alloc(), words),
+        ["file", file] => Ok(fs::read_to_string(rt, *file)?),
+        ["remove", folder] => remove(rt, folder),
+        _ => told_of_numbers(rt, words),
     }
 }
 
