@@ -1,13 +1,11 @@
 //! Calls of the layers below the controller whose rows compare values.
 //!
-//! They are calls on names, numbers, lists and texts, on lines of a source, on boot states and on generated scripts. Searches run by a rule that
-//! counts its questions, and the plant in files runs over real ones.
+//! They are calls on names, numbers, lists and texts, on lines of a source, on boot states and on generated scripts. The plant in files runs over
+//! real ones.
 //!
-//! They stand apart, since a crate with tests is proved twice, and a searcher has nothing that computes costs.
+//! They stand apart, since a crate with tests is proved twice.
 #![tactic(auto)]
 
-#[cfg(test)]
-mod asked;
 #[cfg(test)]
 mod base;
 #[cfg(test)]
@@ -16,7 +14,5 @@ mod boots;
 mod drawn;
 #[cfg(test)]
 mod files;
-#[cfg(test)]
-mod labs;
 #[cfg(test)]
 mod streams;

@@ -2,13 +2,12 @@
 use crate::records::state_of;
 use crate::steps::ops_of;
 use crate::texts::Texts;
-use crate::words::{at_bar, push_number};
-use crate::wrong::Wrong;
 use lab_audit::{AuditFault, Line, audit};
 use lab_base::{Kind, Memory, Name, Text, VlanId};
 use lab_state::LabState;
 use plant::{DeviceOp, Plant};
 use plant_mem::MemLab;
+use row_words::{Untold, at_bar, push_number};
 use std::alloc::Global;
 
 /// Adds a word, a switch, a port and a VLAN id.
@@ -59,16 +58,16 @@ fn push_audit(
     alloc: Global,
     state: &LabState,
     plant: &mut MemLab,
-) -> Result<(), Wrong> {
+) -> Result<(), Untold> {
     match audit(alloc, state, plant) {
         Ok(report) => Ok(push_lines(out, report.as_slice())?),
-        Err(AuditFault::Unread(_)) => Err(Wrong::Word(Kind::Missing)),
-        Err(AuditFault::Memory) => Err(Wrong::Memory),
+        Err(AuditFault::Unread(_)) => Err(Untold::Word(Kind::Missing)),
+        Err(AuditFault::Memory) => Err(Untold::Memory),
     }
 }
 
 /// In what devices differ, to which the commands behind a bar were sent, from the lab of the records before it.
-pub fn tell(out: &mut Text, alloc: Global, texts: &Texts, words: &[&[u8]]) -> Result<(), Wrong> {
+pub fn tell(out: &mut Text, alloc: Global, texts: &Texts, words: &[&[u8]]) -> Result<(), Untold> {
     let halves = at_bar(words);
     let state = state_of(alloc, texts, halves.before)?;
     let ops = ops_of(alloc, texts, halves.behind)?;

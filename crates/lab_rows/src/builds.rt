@@ -1,17 +1,17 @@
 //! Labs and wirings, part by part.
+ghost use Rattle.std.specs.Prelude.{◌<◌, length};
+
 use crate::reading::{lab_of, wiring_of};
 use crate::texts::Texts;
-use crate::words::{number_at, parts_of, push_number};
-use crate::wrong::Wrong;
-use lab_base::{Items, Memory, SwitchId, Text};
+use lab_base::{Items, Memory, SwitchId, Text, TrunkId};
 use line_text::{field_at, name_at};
-use phys_lab::{Lab, LabBuilder, LabFault, Trunk};
-use plain_model::on_first_side;
+use phys_lab::{Lab, LabBuilder, LabFault, MAX_SWITCHES, MAX_TRUNKS, Trunk};
+use row_words::{Untold, number_at, parts_of, push_number};
 use std::alloc::Global;
 use virt_topo::{VirtNode, Wiring, WiringFault};
 
 /// The trunk that parts say: its name, and the switch and the port of both ends.
-fn trunk_of(parts: &[&[u8]]) -> Result<Trunk, Wrong> {
+fn trunk_of(parts: &[&[u8]]) -> Result<Trunk, Untold> {
     Ok(Trunk {
         link: name_at(parts, 0)?,
         first: (SwitchId(number_at(parts, 1)?), number_at(parts, 2)?),
@@ -21,7 +21,7 @@ fn trunk_of(parts: &[&[u8]]) -> Result<Trunk, Wrong> {
 }
 
 /// Adds a switch, which is a name, or a trunk.
-fn add(builder: &mut LabBuilder, parts: &[&[u8]]) -> Result<Result<(), LabFault>, Wrong> {
+fn add(builder: &mut LabBuilder, parts: &[&[u8]]) -> Result<Result<(), LabFault>, Untold> {
     if parts.len() == 1 {
         return Ok(builder.add_switch(name_at(parts, 0)?));
     }
@@ -44,7 +44,7 @@ fn push_added(
     alloc: Global,
     builder: &mut LabBuilder,
     words: &[&[u8]],
-) -> Result<(), Wrong> {
+) -> Result<(), Untold> {
     for word in words {
         let parts = parts_of(alloc, word)?;
         out.push_bytes(word_of(add(builder, &parts)?))?;
@@ -58,9 +58,9 @@ fn push_counts(out: &mut Text, lab: &Lab) -> Result<(), Memory> {
 }
 
 /// Adds the outcome of each word, and the numbers of trunks and switches that the lab then has.
-pub fn tell(out: &mut Text, alloc: Global, words: &[&[u8]]) -> Result<(), Wrong> {
+pub fn tell(out: &mut Text, alloc: Global, words: &[&[u8]]) -> Result<(), Untold> {
     let Ok(mut builder) = LabBuilder::new(alloc, 2, 4_094) else {
-        return Err(Wrong::Memory);
+        return Err(Untold::Memory);
     };
     let added = push_added(out, alloc, &mut builder, words);
     let lab = builder.finish()?;
@@ -70,31 +70,33 @@ pub fn tell(out: &mut Text, alloc: Global, words: &[&[u8]]) -> Result<(), Wrong>
     Ok(counted?)
 }
 
-/// Adds for each of four switches whether it is on the first side of a trunk.
-fn push_side(out: &mut Text, trunks: &[Trunk], trunk: usize) -> Result<(), Memory> {
-    for switch in 0..4 {
-        let first = trunk < trunks.len() && on_first_side(trunks, trunk, switch);
+/// Adds for each switch whether it is on the first side of a trunk.
+fn push_side(out: &mut Text, lab: &Lab, trunk: TrunkId) -> Result<(), Memory>
+    requires { trunk.0 < length lab.now.trunks }
+{
+    for switch in 0..lab.switches().len().min(MAX_SWITCHES) as u16 {
+        let first = lab.side(trunk, SwitchId(switch));
         out.push(if first { b'y' } else { b'n' })?;
     }
     out.push(b'\n')
 }
 
-fn push_sides(out: &mut Text, trunks: &[Trunk]) -> Result<(), Memory> {
-    for trunk in 0..trunks.len() {
-        push_side(out, trunks, trunk)?;
+fn push_sides(out: &mut Text, lab: &Lab) -> Result<(), Memory> {
+    for trunk in 0..lab.trunks().len().min(MAX_TRUNKS) as u16 {
+        push_side(out, lab, TrunkId(trunk))?;
     }
     Ok(())
 }
 
-/// For each trunk of a lab, for each of four switches, whether it is on the first side, by the plain program.
+/// For each trunk of a lab, for each switch, whether it is on the first side.
 pub fn tell_sides(
     out: &mut Text,
     alloc: Global,
     texts: &Texts,
     words: &[&[u8]],
-) -> Result<(), Wrong> {
+) -> Result<(), Untold> {
     let lab = lab_of(alloc, texts, field_at(words, 0))?;
-    let told = push_sides(out, lab.trunks());
+    let told = push_sides(out, &lab);
     drop(lab);
     Ok(told?)
 }
@@ -130,7 +132,7 @@ fn push_with(
 }
 
 /// The nodes of a wiring.
-fn nodes_of(alloc: Global, texts: &Texts, name: &[u8]) -> Result<Items<VirtNode>, Wrong> {
+fn nodes_of(alloc: Global, texts: &Texts, name: &[u8]) -> Result<Items<VirtNode>, Untold> {
     let Wiring { nodes, .. } = wiring_of(alloc, texts, name)?;
     Ok(nodes)
 }
@@ -142,7 +144,7 @@ fn push_both(
     texts: &Texts,
     wiring: &Wiring,
     more: &[u8],
-) -> Result<(), Wrong> {
+) -> Result<(), Untold> {
     push_checked(out, wiring)?;
     Ok(push_with(out, alloc, wiring, nodes_of(alloc, texts, more)?)?)
 }
@@ -153,7 +155,7 @@ pub fn tell_check(
     alloc: Global,
     texts: &Texts,
     words: &[&[u8]],
-) -> Result<(), Wrong> {
+) -> Result<(), Untold> {
     let wiring = wiring_of(alloc, texts, field_at(words, 0))?;
     let told = push_both(out, alloc, texts, &wiring, field_at(words, 1));
     drop(wiring);

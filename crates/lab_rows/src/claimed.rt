@@ -5,12 +5,11 @@ ghost use Rattle.claims.specs.Adding.{HasUses, MayAdd};
 
 use crate::reading::lab_of;
 use crate::texts::Texts;
-use crate::words::{number, push_answer, push_number};
-use crate::wrong::Wrong;
 use claims::{Claim, Claims, Hold, TakeFault};
 use lab_base::{IfaceId, Items, Memory, Name, NodeId, Tags, Text, VlanId, name_in};
 use line_text::field_at;
 use phys_lab::Lab;
+use row_words::{Untold, number, push_answer, push_number};
 use std::alloc::Global;
 
 /// The claim of a mapping that has one segment between both nodes, with VLAN id 100.
@@ -123,7 +122,7 @@ fn push_claims(out: &mut Text, alloc: Global, lab: &Lab, exp: Name) -> Result<()
 }
 
 /// The counts of a free lab, and those with a claim.
-pub fn tell(out: &mut Text, alloc: Global, texts: &Texts, words: &[&[u8]]) -> Result<(), Wrong> {
+pub fn tell(out: &mut Text, alloc: Global, texts: &Texts, words: &[&[u8]]) -> Result<(), Untold> {
     let exp = name_in(b"e")?;
     let lab = lab_of(alloc, texts, field_at(words, 0))?;
     let told = push_claims(out, alloc, &lab, exp);
@@ -132,7 +131,7 @@ pub fn tell(out: &mut Text, alloc: Global, texts: &Texts, words: &[&[u8]]) -> Re
 }
 
 /// The VLAN ids of words behind the first one.
-fn tags_of(alloc: Global, words: &[&[u8]]) -> Result<Tags, Wrong> {
+fn tags_of(alloc: Global, words: &[&[u8]]) -> Result<Tags, Untold> {
     let mut tags = Items::new(alloc);
     for word in words.iter().skip(1) {
         tags.push(VlanId(number(word)?))?;
@@ -151,7 +150,7 @@ pub fn tell_free(
     alloc: Global,
     texts: &Texts,
     words: &[&[u8]],
-) -> Result<(), Wrong> {
+) -> Result<(), Untold> {
     let exp = name_in(b"e")?;
     let tags = tags_of(alloc, words)?;
     let lab = lab_of(alloc, texts, field_at(words, 0))?;

@@ -2,23 +2,23 @@
 use crate::reading::lab_of;
 use crate::steps::row_of;
 use crate::texts::Texts;
-use crate::words::{parts_of, push_answer};
-use crate::wrong::Wrong;
 use lab_base::{Items, Kind, Text, fields_in};
 use line_text::{field_at, fields_behind, name_at};
-use plain_model::{NodePipe, Owner, Row, Wanted, is_isolated};
+use plain_model::{Owner, PipeEnds, Wanted, is_isolated};
+use row_words::{Untold, parts_of, push_answer};
 use std::alloc::Global;
+use swap_plan::Port;
 
 /// A world by its rows and pipes, with the rows that mappings want.
 #[derive(Drop)]
 struct World {
     wanted: Items<Wanted>,
-    rows: Items<Row>,
-    pipes: Items<NodePipe>,
+    rows: Items<Port>,
+    pipes: Items<PipeEnds>,
 }
 
 /// The row that parts say: an experiment, `new` or `old` for its mapping, the link, and the row.
-fn wanted_of(parts: &[&[u8]]) -> Result<Wanted, Wrong> {
+fn wanted_of(parts: &[&[u8]]) -> Result<Wanted, Untold> {
     let owner = Owner {
         exp: name_at(parts, 0)?,
         new: field_at(parts, 1).first() == Some(&b'n'),
@@ -29,8 +29,8 @@ fn wanted_of(parts: &[&[u8]]) -> Result<Wanted, Wrong> {
 }
 
 /// The pipe that parts say behind a word: a node, and two of its interfaces.
-fn pipe_of(parts: &[&[u8]]) -> Result<NodePipe, Wrong> {
-    Ok(NodePipe {
+fn pipe_of(parts: &[&[u8]]) -> Result<PipeEnds, Untold> {
+    Ok(PipeEnds {
         node: name_at(parts, 1)?,
         from: name_at(parts, 2)?,
         to: name_at(parts, 3)?,
@@ -38,18 +38,18 @@ fn pipe_of(parts: &[&[u8]]) -> Result<NodePipe, Wrong> {
 }
 
 /// Adds what a word says: a row has three parts, a pipe four, and a row that a mapping wants six.
-fn add(alloc: Global, world: &mut World, word: &[u8]) -> Result<(), Wrong> {
+fn add(alloc: Global, world: &mut World, word: &[u8]) -> Result<(), Untold> {
     let parts = parts_of(alloc, word)?;
     match parts.len() {
         3 => world.rows.push(row_of(&parts)?)?,
         4 => world.pipes.push(pipe_of(&parts)?)?,
         6 => world.wanted.push(wanted_of(&parts)?)?,
-        _ => return Err(Wrong::Word(Kind::Fields)),
+        _ => return Err(Untold::Word(Kind::Fields)),
     }
     Ok(())
 }
 
-fn add_all(alloc: Global, world: &mut World, words: &[&[u8]]) -> Result<(), Wrong> {
+fn add_all(alloc: Global, world: &mut World, words: &[&[u8]]) -> Result<(), Untold> {
     for word in words {
         add(alloc, world, word)?;
     }
@@ -57,7 +57,7 @@ fn add_all(alloc: Global, world: &mut World, words: &[&[u8]]) -> Result<(), Wron
 }
 
 /// The world that the words of a text say, and further ones.
-fn world_of(alloc: Global, first: &[u8], words: &[&[u8]]) -> Result<World, Wrong> {
+fn world_of(alloc: Global, first: &[u8], words: &[&[u8]]) -> Result<World, Untold> {
     let mut world = World {
         wanted: Items::new(alloc),
         rows: Items::new(alloc),
@@ -70,7 +70,7 @@ fn world_of(alloc: Global, first: &[u8], words: &[&[u8]]) -> Result<World, Wrong
 }
 
 /// Whether a world of the lab of that name is isolated.
-fn is_one(alloc: Global, texts: &Texts, lab: &[u8], world: &World) -> Result<bool, Wrong> {
+fn is_one(alloc: Global, texts: &Texts, lab: &[u8], world: &World) -> Result<bool, Untold> {
     let lab = lab_of(alloc, texts, lab)?;
     let isolated = is_isolated(
         &lab,
@@ -83,9 +83,9 @@ fn is_one(alloc: Global, texts: &Texts, lab: &[u8], world: &World) -> Result<boo
 }
 
 /// Whether a world is isolated, which a text says and further words.
-pub fn tell(out: &mut Text, alloc: Global, texts: &Texts, words: &[&[u8]]) -> Result<(), Wrong> {
+pub fn tell(out: &mut Text, alloc: Global, texts: &Texts, words: &[&[u8]]) -> Result<(), Untold> {
     if words.len() < 2 {
-        return Err(Wrong::Word(Kind::Fields));
+        return Err(Untold::Word(Kind::Fields));
     }
     let world = world_of(alloc, texts.of(words[1])?, fields_behind(words, 2))?;
     let isolated = is_one(alloc, texts, words[0], &world);

@@ -4,7 +4,7 @@
 //!
 //! ```text
 //! build PART..                what comes of switches and trunks that are added to a lab, and how many trunks and switches it has then
-//! sides LAB                   by trunk, which switches are on its first side, by the plain program
+//! sides LAB                   by trunk, which switches are on its first side
 //! check TOP TOP               the check of a wiring, and of one with the nodes of another too
 //! stands ROW COMMAND..        whether a row stands after commands; one behind a `!` was not applied
 //! isolated LAB TEXT WORD..    whether a world is isolated: rows `s1:1:100`, pipes `pipe:a:e0:e1`, and what is wanted `e:new:l:s1:1:100`
@@ -45,15 +45,13 @@ mod sides;
 mod steps;
 mod texts;
 mod waits;
-mod words;
 mod worlds;
-mod wrong;
 
 use lab_base::{Kind, Text, fields_in};
+use row_words::Untold;
 use std::alloc::Global;
 pub use texts::Texts;
 use texts::keep_line;
-pub use wrong::Wrong;
 
 /// Adds the output of a row about labs and worlds; true where it is one.
 fn tell_of_worlds(
@@ -62,7 +60,7 @@ fn tell_of_worlds(
     texts: &Texts,
     kind: &str,
     words: &[&[u8]],
-) -> Result<bool, Wrong> {
+) -> Result<bool, Untold> {
     match kind {
         "build" => builds::tell(out, alloc, words)?,
         "sides" => builds::tell_sides(out, alloc, texts, words)?,
@@ -82,7 +80,7 @@ fn tell_of_records(
     texts: &Texts,
     kind: &str,
     words: &[&[u8]],
-) -> Result<bool, Wrong> {
+) -> Result<bool, Untold> {
     match kind {
         "gate" => sides::tell(out, alloc, texts, words)?,
         "two" => sides::tell_two(out, alloc, texts, words)?,
@@ -102,7 +100,7 @@ fn tell_of_promises(
     texts: &Texts,
     kind: &str,
     words: &[&[u8]],
-) -> Result<bool, Wrong> {
+) -> Result<bool, Untold> {
     match kind {
         "fit" => promises::tell_fit(out, alloc, texts, words)?,
         "moments" => promises::tell_moments(out, alloc, texts, words)?,
@@ -121,7 +119,7 @@ fn tell_of_mappings(
     texts: &Texts,
     kind: &str,
     words: &[&[u8]],
-) -> Result<bool, Wrong> {
+) -> Result<bool, Untold> {
     match kind {
         "plan" => plans::tell(out, alloc, texts, words)?,
         "claims" => claimed::tell(out, alloc, texts, words)?,
@@ -139,7 +137,7 @@ fn tell_row(
     texts: &Texts,
     kind: &str,
     letters: &[u8],
-) -> Result<bool, Wrong> {
+) -> Result<bool, Untold> {
     if kind == "batch" {
         promises::tell_batch(out, alloc, letters)?;
         return Ok(true);
@@ -154,14 +152,14 @@ fn tell_row(
 }
 
 /// The output of a line; None of one that keeps a text.
-pub fn told(alloc: Global, texts: &mut Texts, line: &str) -> Result<Option<Text>, Wrong> {
+pub fn told(alloc: Global, texts: &mut Texts, line: &str) -> Result<Option<Text>, Untold> {
     if keep_line(alloc, texts, line)? {
         return Ok(None);
     }
     let (kind, letters) = line.split_once(' ').unwrap_or((line, ""));
     let mut out = Text::new(alloc);
     if !tell_row(&mut out, alloc, texts, kind, letters.as_bytes())? {
-        return Err(Wrong::Word(Kind::Unknown));
+        return Err(Untold::Word(Kind::Unknown));
     }
     Ok(Some(out))
 }

@@ -4,12 +4,11 @@ ghost use Rattle.swap_plan.specs.Plans.{IsFit};
 
 use crate::reading::{lab_of, mapping_of, wiring_of};
 use crate::texts::Texts;
-use crate::words::{number_at, push_answer, push_number};
-use crate::wrong::Wrong;
 use lab_base::{Items, Kind, Memory, Name, Tags, Text, VlanId};
 use line_text::{field_at, push_field};
 use phys_lab::Lab;
 use plant::DeviceOp;
+use row_words::{Untold, number_at, push_answer, push_number};
 use std::alloc::Global;
 use swap_plan::{Commands, Ops, plan_change, plan_in, plan_out};
 use virt_topo::Mapped;
@@ -27,14 +26,14 @@ fn mapped(
     texts: &Texts,
     words: &[&[u8]],
     tag: u16,
-) -> Result<Mapped, Wrong>
+) -> Result<Mapped, Untold>
     ensures { IfOk result (λ mapped. IsFit lab.now mapped) }
 {
     let tags = one_tag(alloc, tag)?;
     let wiring = wiring_of(alloc, texts, field_at(words, 1))?;
     if tags.len() != wiring.segments.len() {
         drop(wiring);
-        return Err(Wrong::Word(Kind::Many));
+        return Err(Untold::Word(Kind::Many));
     }
     match mapping_of(alloc, texts, field_at(words, 2), lab, &wiring) {
         Ok(mapping) => Ok(Mapped {
@@ -116,13 +115,13 @@ fn push_plan(out: &mut Text, ops: &Ops) -> Result<(), Memory> {
     push_answer(out, ops.inside)
 }
 
-fn ops_in(alloc: Global, lab: &Lab, new: &Mapped) -> Result<Ops, Wrong>
+fn ops_in(alloc: Global, lab: &Lab, new: &Mapped) -> Result<Ops, Untold>
     requires { IsFit lab.now new.now }
 {
     Ok(plan_in(alloc, lab, &new.wiring, &new.mapping, &new.tags)?)
 }
 
-fn ops_out(alloc: Global, lab: &Lab, old: &Mapped) -> Result<Ops, Wrong>
+fn ops_out(alloc: Global, lab: &Lab, old: &Mapped) -> Result<Ops, Untold>
     requires { IsFit lab.now old.now }
 {
     Ok(plan_out(alloc, lab, &old.wiring, &old.mapping, &old.tags)?)
@@ -135,7 +134,7 @@ fn ops_between(
     texts: &Texts,
     words: &[&[u8]],
     new: &Mapped,
-) -> Result<Ops, Wrong>
+) -> Result<Ops, Untold>
     requires { IsFit lab.now new.now }
 {
     let old = mapped(alloc, lab, texts, words, number_at(words, 3)?)?;
@@ -145,7 +144,7 @@ fn ops_between(
 }
 
 /// The plan of a swap: in where there is no old VLAN id, out where there is no new one, or else a change.
-fn ops_of(alloc: Global, lab: &Lab, texts: &Texts, words: &[&[u8]]) -> Result<Ops, Wrong> {
+fn ops_of(alloc: Global, lab: &Lab, texts: &Texts, words: &[&[u8]]) -> Result<Ops, Untold> {
     let (from, to) = (number_at(words, 3)?, number_at(words, 4)?);
     let one = mapped(alloc, lab, texts, words, if to == 0 { from } else { to })?;
     let ops = if from == 0 {
@@ -160,7 +159,7 @@ fn ops_of(alloc: Global, lab: &Lab, texts: &Texts, words: &[&[u8]]) -> Result<Op
 }
 
 /// The plan of a swap. The words are the texts of the lab, the wiring and the mapping, and its VLAN id before and then, 0 for none.
-pub fn tell(out: &mut Text, alloc: Global, texts: &Texts, words: &[&[u8]]) -> Result<(), Wrong> {
+pub fn tell(out: &mut Text, alloc: Global, texts: &Texts, words: &[&[u8]]) -> Result<(), Untold> {
     let lab = lab_of(alloc, texts, field_at(words, 0))?;
     let ops = ops_of(alloc, &lab, texts, words);
     drop(lab);

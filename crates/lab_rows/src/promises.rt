@@ -1,16 +1,15 @@
 //! Promises made in advance.
 use crate::reading::{MAX_TEXT, lab_of};
-use crate::texts::{Texts, text_of};
-use crate::words::{number, number_at, pair_of, push_number};
-use crate::wrong::Wrong;
+use crate::texts::Texts;
 use lab_ahead::{Batch, Fit, Left, Need, fits, left_at, moments, needs_at, read_batch};
 use lab_base::{Items, Kind, Memory, Name, NodeId, Text, name_in};
 use line_text::{field_at, push_field, push_numbered};
 use phys_lab::Lab;
+use row_words::{Untold, number, number_at, pair_of, push_number, push_numbers, text_of};
 use std::alloc::Global;
 
 /// The type of a word, and how many nodes of it are needed.
-fn need_of(word: &[u8]) -> Result<Need, Wrong> {
+fn need_of(word: &[u8]) -> Result<Need, Untold> {
     let pair = pair_of(word)?;
     Ok(Need {
         kind: name_in(pair.before)?,
@@ -19,9 +18,9 @@ fn need_of(word: &[u8]) -> Result<Need, Wrong> {
 }
 
 /// Whether two needs fit both nodes of a lab.
-fn fit(alloc: Global, lab: &Lab, needs: &[Need; 2]) -> Result<Fit, Wrong> {
+fn fit(alloc: Global, lab: &Lab, needs: &[Need; 2]) -> Result<Fit, Untold> {
     if lab.nodes().len() != 2 {
-        return Err(Wrong::Word(Kind::Many));
+        return Err(Untold::Word(Kind::Many));
     }
     let mut left = Items::new(alloc);
     left.push(NodeId(0))?;
@@ -62,7 +61,7 @@ pub fn tell_fit(
     alloc: Global,
     texts: &Texts,
     words: &[&[u8]],
-) -> Result<(), Wrong> {
+) -> Result<(), Untold> {
     let needs = [need_of(field_at(words, 1))?, need_of(field_at(words, 2))?];
     let lab = lab_of(alloc, texts, field_at(words, 0))?;
     let found = fit(alloc, &lab, &needs);
@@ -71,15 +70,15 @@ pub fn tell_fit(
 }
 
 /// The batch of a text.
-pub(crate) fn batch_of(alloc: Global, text: &[u8]) -> Result<Batch, Wrong> {
+pub(crate) fn batch_of(alloc: Global, text: &[u8]) -> Result<Batch, Untold> {
     if text.len() > MAX_TEXT {
-        return Err(Wrong::Memory);
+        return Err(Untold::Memory);
     }
     Ok(read_batch(alloc, text)?)
 }
 
 /// How many promises and runs a batch has.
-pub fn tell_batch(out: &mut Text, alloc: Global, letters: &[u8]) -> Result<(), Wrong> {
+pub fn tell_batch(out: &mut Text, alloc: Global, letters: &[u8]) -> Result<(), Untold> {
     let text = text_of(alloc, letters)?;
     let batch = batch_of(alloc, text.bytes())?;
     let (promises, runs) = (batch.promises.len(), batch.runs.len());
@@ -88,20 +87,13 @@ pub fn tell_batch(out: &mut Text, alloc: Global, letters: &[u8]) -> Result<(), W
     Ok(push_number(out, runs as u64)?)
 }
 
-fn push_numbers(out: &mut Text, numbers: &[u64]) -> Result<(), Memory> {
-    for number in numbers {
-        push_number(out, *number)?;
-    }
-    Ok(())
-}
-
 /// The moments at which a run that begins so late and takes so long is tested against the promises of a batch.
 pub fn tell_moments(
     out: &mut Text,
     alloc: Global,
     texts: &Texts,
     words: &[&[u8]],
-) -> Result<(), Wrong> {
+) -> Result<(), Untold> {
     let now = u64::from(number_at(words, 1)?);
     let length = u64::from(number_at(words, 2)?);
     let batch = batch_of(alloc, texts.of(field_at(words, 0))?)?;
@@ -123,7 +115,7 @@ pub fn tell_needs(
     alloc: Global,
     texts: &Texts,
     words: &[&[u8]],
-) -> Result<(), Wrong> {
+) -> Result<(), Untold> {
     let at = u64::from(number_at(words, 1)?);
     let batch = batch_of(alloc, texts.of(field_at(words, 0))?)?;
     let needs = needs_at(alloc, batch.promises.as_slice(), at);
@@ -132,7 +124,7 @@ pub fn tell_needs(
 }
 
 /// The node of a word, and the moment from which it is left.
-fn left_of(word: &[u8]) -> Result<Left, Wrong> {
+fn left_of(word: &[u8]) -> Result<Left, Untold> {
     let pair = pair_of(word)?;
     Ok(Left {
         node: NodeId(number(pair.before)?),
@@ -141,7 +133,7 @@ fn left_of(word: &[u8]) -> Result<Left, Wrong> {
 }
 
 /// The nodes of words behind the first one.
-fn lefts_of(alloc: Global, words: &[&[u8]]) -> Result<Items<Left>, Wrong> {
+fn lefts_of(alloc: Global, words: &[&[u8]]) -> Result<Items<Left>, Untold> {
     let mut left = Items::new(alloc);
     for word in words.iter().skip(1) {
         left.push(left_of(word)?)?;
@@ -150,7 +142,7 @@ fn lefts_of(alloc: Global, words: &[&[u8]]) -> Result<Items<Left>, Wrong> {
 }
 
 /// The nodes that are left at a moment.
-pub fn tell_left(out: &mut Text, alloc: Global, words: &[&[u8]]) -> Result<(), Wrong> {
+pub fn tell_left(out: &mut Text, alloc: Global, words: &[&[u8]]) -> Result<(), Untold> {
     let at = u64::from(number_at(words, 0)?);
     let left = lefts_of(alloc, words)?;
     for node in left_at(alloc, left.as_slice(), at)?.as_slice() {

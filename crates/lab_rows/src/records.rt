@@ -3,26 +3,25 @@ ghost use Rattle.std.specs.Prelude.{◌≡◌, IfOk};
 ghost use Rattle.journal_rec.specs.Payloads.{IsRecord};
 
 use crate::texts::Texts;
-use crate::words::{at_bar, push_answer, push_number};
-use crate::wrong::Wrong;
 use journal_rec::{Found, Packed, Record, decode};
 use lab_base::{Kind, Memory, Text, TrunkId};
 use lab_state::{LabState, PrepareFault, ReplayFault};
 use line_text::field_at;
+use row_words::{Untold, at_bar, push_answer, push_number};
 use std::alloc::Global;
 
 /// The record that its payload is read as.
-fn record_of(alloc: Global, payload: &[u8]) -> Result<Record, Wrong>
+fn record_of(alloc: Global, payload: &[u8]) -> Result<Record, Untold>
     ensures { IfOk result IsRecord }
 {
     match decode(alloc, payload) {
         Ok(record) => Ok(record),
-        Err(fault) => Err(Wrong::from(fault)),
+        Err(fault) => Err(Untold::from(fault)),
     }
 }
 
 /// Enters a record; tells whether it can follow.
-fn follows(state: &mut LabState, entry: &Record) -> Result<bool, Wrong>
+fn follows(state: &mut LabState, entry: &Record) -> Result<bool, Untold>
     requires { IsRecord entry.now }
 {
     match state.prepare(entry) {
@@ -31,12 +30,12 @@ fn follows(state: &mut LabState, entry: &Record) -> Result<bool, Wrong>
             Ok(true)
         }
         Err(PrepareFault::Bad) => Ok(false),
-        Err(PrepareFault::Memory) => Err(Wrong::Memory),
+        Err(PrepareFault::Memory) => Err(Untold::Memory),
     }
 }
 
 /// Enters the record of a text; tells whether it can follow.
-fn enters(alloc: Global, texts: &Texts, state: &mut LabState, name: &[u8]) -> Result<bool, Wrong> {
+fn enters(alloc: Global, texts: &Texts, state: &mut LabState, name: &[u8]) -> Result<bool, Untold> {
     let entry = record_of(alloc, texts.of(name)?)?;
     let follows = follows(state, &entry);
     drop(entry);
@@ -61,7 +60,7 @@ fn push_all(
     texts: &Texts,
     state: &mut LabState,
     names: &[&[u8]],
-) -> Result<(), Wrong> {
+) -> Result<(), Untold> {
     for name in names {
         out.push_bytes(name)?;
         push_answer(out, enters(alloc, texts, state, name)?)?;
@@ -72,7 +71,7 @@ fn push_all(
 }
 
 /// Whether records can follow one another.
-pub fn tell(out: &mut Text, alloc: Global, texts: &Texts, words: &[&[u8]]) -> Result<(), Wrong> {
+pub fn tell(out: &mut Text, alloc: Global, texts: &Texts, words: &[&[u8]]) -> Result<(), Untold> {
     let mut state = LabState::new(alloc);
     let told = push_all(out, alloc, texts, &mut state, words);
     drop(state);
@@ -122,7 +121,7 @@ fn replayed_behind(
     first: Record,
     second: &[u8],
     third: &[u8],
-) -> Result<Result<usize, ReplayFault>, Wrong>
+) -> Result<Result<usize, ReplayFault>, Untold>
     requires { IsRecord first }
 {
     let second = match record_of(alloc, second) {
@@ -159,7 +158,7 @@ pub fn tell_three(
     alloc: Global,
     texts: &Texts,
     words: &[&[u8]],
-) -> Result<(), Wrong> {
+) -> Result<(), Untold> {
     let (second, third) = (texts.of(field_at(words, 1))?, texts.of(field_at(words, 2))?);
     let first = record_of(alloc, texts.of(field_at(words, 0))?)?;
     Ok(push_replayed(out, replayed_behind(alloc, first, second, third)?)?)
@@ -174,7 +173,7 @@ fn push_gate(bytes: &mut Text, payload: &[u8]) -> Result<(), Memory> {
 }
 
 /// The records of texts, each behind its open gate, and a closed gate after the last.
-fn gates_of(alloc: Global, texts: &Texts, names: &[&[u8]]) -> Result<Text, Wrong> {
+fn gates_of(alloc: Global, texts: &Texts, names: &[&[u8]]) -> Result<Text, Untold> {
     let mut bytes = Text::new(alloc);
     for name in names {
         push_gate(&mut bytes, texts.of(name)?)?;
@@ -189,17 +188,17 @@ fn enter_all(
     texts: &Texts,
     state: &mut LabState,
     names: &[&[u8]],
-) -> Result<(), Wrong> {
+) -> Result<(), Untold> {
     for name in names {
         if !enters(alloc, texts, state, name)? {
-            return Err(Wrong::Word(Kind::Missing));
+            return Err(Untold::Word(Kind::Missing));
         }
     }
     Ok(())
 }
 
 /// The lab that the records of texts give.
-pub fn state_of(alloc: Global, texts: &Texts, names: &[&[u8]]) -> Result<LabState, Wrong> {
+pub fn state_of(alloc: Global, texts: &Texts, names: &[&[u8]]) -> Result<LabState, Untold> {
     let mut state = LabState::new(alloc);
     match enter_all(alloc, texts, &mut state, names) {
         Ok(()) => Ok(state),
@@ -211,7 +210,7 @@ pub fn state_of(alloc: Global, texts: &Texts, names: &[&[u8]]) -> Result<LabStat
 }
 
 /// The lab that the records of texts give, packed.
-fn packed_of(alloc: Global, texts: &Texts, names: &[&[u8]]) -> Result<Packed, Wrong> {
+fn packed_of(alloc: Global, texts: &Texts, names: &[&[u8]]) -> Result<Packed, Untold> {
     let mut state = LabState::new(alloc);
     let entered = enter_all(alloc, texts, &mut state, names);
     let packed = state.pack();
@@ -226,7 +225,7 @@ pub fn tell_packed(
     alloc: Global,
     texts: &Texts,
     words: &[&[u8]],
-) -> Result<(), Wrong> {
+) -> Result<(), Untold> {
     let halves = at_bar(words);
     let packed = packed_of(alloc, texts, halves.before)?;
     let wanted = gates_of(alloc, texts, halves.behind)?;

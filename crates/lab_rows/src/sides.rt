@@ -1,12 +1,11 @@
 //! Records that bytes are read as, by the plain programs.
 use crate::texts::{Texts, bytes_of};
-use crate::words::push_number;
-use crate::wrong::Wrong;
 use journal_rec::Record;
 use lab_base::{Kind, Memory, Text};
 use line_text::field_at;
 use plain_model::{Read, Sides, read_from, read_sides};
 use plant::Side;
+use row_words::{Untold, push_number};
 use std::alloc::Global;
 
 /// Adds a record, told by its experiment if it is a Delete.
@@ -34,10 +33,10 @@ fn push_read(out: &mut Text, read: &Read) -> Result<(), Memory> {
 }
 
 /// The records from a gate on, a line each, and whether a closed gate ends them.
-pub fn tell(out: &mut Text, alloc: Global, texts: &Texts, words: &[&[u8]]) -> Result<(), Wrong> {
+pub fn tell(out: &mut Text, alloc: Global, texts: &Texts, words: &[&[u8]]) -> Result<(), Untold> {
     let bytes = bytes_of(alloc, texts, words)?;
     if bytes.len() == 0 {
-        return Err(Wrong::Word(Kind::Empty));
+        return Err(Untold::Word(Kind::Empty));
     }
     let read = read_from(alloc, bytes.bytes())?;
     let told = push_read(out, &read);
@@ -74,7 +73,7 @@ pub fn tell_two(
     alloc: Global,
     texts: &Texts,
     words: &[&[u8]],
-) -> Result<(), Wrong> {
+) -> Result<(), Untold> {
     let first = bytes_of(alloc, texts, &[field_at(words, 0)])?;
     let second = bytes_of(alloc, texts, &[field_at(words, 1)])?;
     let sides = read_sides(alloc, first.bytes(), second.bytes())?;

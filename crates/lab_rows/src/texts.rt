@@ -1,6 +1,6 @@
 //! The texts that rows name.
-use crate::wrong::Wrong;
 use lab_base::{Items, Kind, Memory, Text, fields_in};
+use row_words::{Untold, text_of};
 use std::alloc::Global;
 use std::str;
 
@@ -40,42 +40,22 @@ impl Texts {
     }
 
     /// The text of a name.
-    pub(crate) fn of(&self, name: &[u8]) -> Result<&[u8], Wrong> {
+    pub(crate) fn of(&self, name: &[u8]) -> Result<&[u8], Untold> {
         match self.get(name) {
             Some(text) => Ok(text),
-            None => Err(Wrong::Word(Kind::Unknown)),
+            None => Err(Untold::Word(Kind::Unknown)),
         }
     }
-}
-
-/// The text of a line's end, in which `\n` is the end of a line.
-pub fn text_of(alloc: Global, letters: &[u8]) -> Result<Text, Memory> {
-    let mut text = Text::new(alloc);
-    let mut is_escaped = false;
-    for letter in letters {
-        if is_escaped {
-            text.push(b'\n')?;
-            is_escaped = false;
-        } else if *letter == b'\\' {
-            is_escaped = true;
-        } else {
-            text.push(*letter)?;
-        }
-    }
-    Ok(text)
 }
 
 /// Adds the byte of two hexadecimal digits.
-fn push_digits(text: &mut Text, digits: &[u8]) -> Result<(), Wrong> {
-    let digits = str::from_utf8(digits).map_err(|_broken| Wrong::Word(Kind::Number))?;
-    match u8::from_str_radix(digits, 16) {
-        Ok(byte) => Ok(text.push(byte)?),
-        Err(_) => Err(Wrong::Word(Kind::Number)),
-    }
+fn push_digits(text: &mut Text, digits: &[u8]) -> Result<(), Untold> {
+    let digits = str::from_utf8(digits).map_err(|_broken| Untold::Word(Kind::Number))?;
+    Ok(text.push(u8::from_str_radix(digits, 16)?)?)
 }
 
 /// Adds what a word says: the text that it names, nothing where it is `-`, or else the bytes of its digits.
-fn push_word(text: &mut Text, texts: &Texts, word: &[u8]) -> Result<(), Wrong> {
+fn push_word(text: &mut Text, texts: &Texts, word: &[u8]) -> Result<(), Untold> {
     if let Some(named) = texts.get(word) {
         return Ok(text.push_bytes(named)?);
     }
@@ -88,7 +68,7 @@ fn push_word(text: &mut Text, texts: &Texts, word: &[u8]) -> Result<(), Wrong> {
 }
 
 /// The bytes that words say, one behind another.
-pub fn bytes_of(alloc: Global, texts: &Texts, words: &[&[u8]]) -> Result<Text, Wrong> {
+pub fn bytes_of(alloc: Global, texts: &Texts, words: &[&[u8]]) -> Result<Text, Untold> {
     let mut bytes = Text::new(alloc);
     for word in words {
         push_word(&mut bytes, texts, word)?;
@@ -97,7 +77,7 @@ pub fn bytes_of(alloc: Global, texts: &Texts, words: &[&[u8]]) -> Result<Text, W
 }
 
 /// Keeps the text of a line that names one, `text` with its letters, or `bytes` with its words; tells whether it is such a line.
-pub fn keep_line(alloc: Global, texts: &mut Texts, line: &str) -> Result<bool, Wrong> {
+pub fn keep_line(alloc: Global, texts: &mut Texts, line: &str) -> Result<bool, Untold> {
     let (kind, named) = line.split_once(' ').unwrap_or((line, ""));
     let (name, letters) = named.split_once(' ').unwrap_or((named, ""));
     let text = match kind {

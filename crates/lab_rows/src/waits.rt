@@ -2,12 +2,11 @@
 use crate::promises::{batch_of, push_names};
 use crate::reading::lab_of;
 use crate::texts::Texts;
-use crate::words::{number, number_at, pair_of, push_number};
-use crate::wrong::Wrong;
 use lab_ahead::{End, Promise, Span, Wait, first_wait, left_for};
 use lab_base::{Items, Kind, Memory, Name, NodeId, Text, name_in};
 use line_text::field_at;
 use phys_lab::Lab;
+use row_words::{Untold, number, number_at, pair_of, push_number};
 use std::alloc::Global;
 
 /// The most nodes of a lab, and the most promises of a batch.
@@ -31,32 +30,32 @@ fn unclaimed(alloc: Global, lab: &Lab) -> Result<Vec<Items<Name>>, Memory> {
     Ok(claimers)
 }
 
-fn add_place(queued: &mut Queued, word: &[u8]) -> Result<(), Wrong> {
+fn add_place(queued: &mut Queued, word: &[u8]) -> Result<(), Untold> {
     let pair = pair_of(word)?;
     let node = NodeId(number(pair.before)?);
     let kind = name_in(pair.behind)?;
     Ok(queued.places.push((node, kind))?)
 }
 
-fn add_end(queued: &mut Queued, word: &[u8]) -> Result<(), Wrong> {
+fn add_end(queued: &mut Queued, word: &[u8]) -> Result<(), Untold> {
     let pair = pair_of(word)?;
     let exp = name_in(pair.before)?;
     let at = u64::from(number(pair.behind)?);
     Ok(queued.ends.push(End { exp, at })?)
 }
 
-fn add_claim(queued: &mut Queued, word: &[u8]) -> Result<(), Wrong> {
+fn add_claim(queued: &mut Queued, word: &[u8]) -> Result<(), Untold> {
     let pair = pair_of(word)?;
     let node = number(pair.before)? as usize;
     let exp = name_in(pair.behind)?;
     if node >= queued.claimers.len() {
-        return Err(Wrong::Word(Kind::Unknown));
+        return Err(Untold::Word(Kind::Unknown));
     }
     Ok(queued.claimers[node].push(exp)?)
 }
 
 /// Adds what a word tells: `place:NODE:TYPE`, `end:EXPERIMENT:MOMENT` or `claim:NODE:EXPERIMENT`.
-fn add_word(queued: &mut Queued, word: &[u8]) -> Result<(), Wrong> {
+fn add_word(queued: &mut Queued, word: &[u8]) -> Result<(), Untold> {
     let pair = pair_of(word)?;
     if pair.before == b"place".as_slice() {
         add_place(queued, pair.behind)
@@ -65,11 +64,11 @@ fn add_word(queued: &mut Queued, word: &[u8]) -> Result<(), Wrong> {
     } else if pair.before == b"claim".as_slice() {
         add_claim(queued, pair.behind)
     } else {
-        Err(Wrong::Word(Kind::Word))
+        Err(Untold::Word(Kind::Word))
     }
 }
 
-fn queued_of(alloc: Global, lab: &Lab, words: &[&[u8]]) -> Result<Queued, Wrong> {
+fn queued_of(alloc: Global, lab: &Lab, words: &[&[u8]]) -> Result<Queued, Untold> {
     let mut queued = Queued {
         claimers: unclaimed(alloc, lab)?,
         ends: Items::new(alloc),
@@ -89,10 +88,10 @@ fn wait_of(
     queued: &Queued,
     from: u16,
     length: u16,
-) -> Result<Option<Wait>, Wrong> {
+) -> Result<Option<Wait>, Untold> {
     let nodes = queued.claimers.len();
     if nodes != lab.nodes().len() || nodes > MAX_NODES || promises.len() > MAX_PROMISES {
-        return Err(Wrong::Word(Kind::Many));
+        return Err(Untold::Word(Kind::Many));
     }
     let span = Span {
         from: u64::from(from),
@@ -116,7 +115,7 @@ fn push_wait(out: &mut Text, found: &Option<Wait>) -> Result<(), Memory> {
 }
 
 /// Whether a run fits; or the first moment at which it doesn't, what is needed and what is left, and the types.
-pub fn tell(out: &mut Text, alloc: Global, texts: &Texts, words: &[&[u8]]) -> Result<(), Wrong> {
+pub fn tell(out: &mut Text, alloc: Global, texts: &Texts, words: &[&[u8]]) -> Result<(), Untold> {
     let (from, length) = (number_at(words, 2)?, number_at(words, 3)?);
     let batch = batch_of(alloc, texts.of(field_at(words, 1))?)?;
     let lab = lab_of(alloc, texts, field_at(words, 0))?;

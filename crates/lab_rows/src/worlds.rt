@@ -2,14 +2,13 @@
 use crate::reading::{lab_of, wiring_of};
 use crate::steps::steps_of;
 use crate::texts::Texts;
-use crate::words::{at_bar, number, pair_of, push_answer};
-use crate::wrong::Wrong;
 use lab_base::{
     IfaceId, Items, Name, NodeId, Parts, Tags, Text, VlanId, fields_in, name_in, parted,
 };
 use line_text::field_at;
 use phys_lab::Lab;
 use plain_model::{Sent, all_fit, is_cabled, is_holding, is_isolated_after};
+use row_words::{Untold, at_bar, number, pair_of, push_answer};
 use std::alloc::Global;
 use virt_topo::{Experiment, Mapped, Mapping, Phase, Wiring};
 
@@ -21,7 +20,7 @@ struct Placed {
 }
 
 /// Adds what a word says: an interface, a VLAN id, or the number of a node with the type that it is.
-fn add(placed: &mut Placed, word: &[u8]) -> Result<(), Wrong> {
+fn add(placed: &mut Placed, word: &[u8]) -> Result<(), Untold> {
     let pair = pair_of(word)?;
     if pair.before == b"plug".as_slice() {
         placed.mapping.plugs.push(IfaceId(number(pair.behind)?))?;
@@ -34,7 +33,7 @@ fn add(placed: &mut Placed, word: &[u8]) -> Result<(), Wrong> {
     Ok(())
 }
 
-fn add_all(placed: &mut Placed, words: &[&[u8]]) -> Result<(), Wrong> {
+fn add_all(placed: &mut Placed, words: &[&[u8]]) -> Result<(), Untold> {
     for word in words {
         add(placed, word)?;
     }
@@ -42,7 +41,7 @@ fn add_all(placed: &mut Placed, words: &[&[u8]]) -> Result<(), Wrong> {
 }
 
 /// How the plan of a text maps its wiring, whose name comes first.
-fn placed_of(alloc: Global, plan: &[u8]) -> Result<Placed, Wrong> {
+fn placed_of(alloc: Global, plan: &[u8]) -> Result<Placed, Untold> {
     let words = fields_in(alloc, plan)?;
     let mapping = Mapping {
         places: Items::new(alloc),
@@ -60,18 +59,18 @@ fn placed_of(alloc: Global, plan: &[u8]) -> Result<Placed, Wrong> {
 }
 
 /// The wiring of a plan.
-fn wiring_in(alloc: Global, texts: &Texts, plan: &[u8]) -> Result<Wiring, Wrong> {
+fn wiring_in(alloc: Global, texts: &Texts, plan: &[u8]) -> Result<Wiring, Untold> {
     let words = fields_in(alloc, plan)?;
     wiring_of(alloc, texts, field_at(&words, 0))
 }
 
 /// The wiring of the plan of a name.
-fn wiring_named(alloc: Global, texts: &Texts, name: &[u8]) -> Result<Wiring, Wrong> {
+fn wiring_named(alloc: Global, texts: &Texts, name: &[u8]) -> Result<Wiring, Untold> {
     wiring_in(alloc, texts, texts.of(name)?)
 }
 
 /// The wiring and the mapping of a plan.
-fn mapped_of(alloc: Global, texts: &Texts, plan: &[u8]) -> Result<Mapped, Wrong> {
+fn mapped_of(alloc: Global, texts: &Texts, plan: &[u8]) -> Result<Mapped, Untold> {
     let Placed { mapping, tags } = placed_of(alloc, plan)?;
     match wiring_in(alloc, texts, plan) {
         Ok(wiring) => Ok(Mapped {
@@ -88,7 +87,7 @@ fn mapped_of(alloc: Global, texts: &Texts, plan: &[u8]) -> Result<Mapped, Wrong>
 }
 
 /// The wiring and the mapping of the plan of a name, if there is a name.
-fn side_of(alloc: Global, texts: &Texts, name: &[u8]) -> Result<Option<Mapped>, Wrong> {
+fn side_of(alloc: Global, texts: &Texts, name: &[u8]) -> Result<Option<Mapped>, Untold> {
     if name.is_empty() {
         return Ok(None);
     }
@@ -96,7 +95,7 @@ fn side_of(alloc: Global, texts: &Texts, name: &[u8]) -> Result<Option<Mapped>, 
 }
 
 /// A move between two plans, one of which may be none.
-fn moving(alloc: Global, texts: &Texts, plans: Parts<'_>) -> Result<Phase, Wrong> {
+fn moving(alloc: Global, texts: &Texts, plans: Parts<'_>) -> Result<Phase, Untold> {
     let old = side_of(alloc, texts, plans.before)?;
     match side_of(alloc, texts, plans.behind) {
         Ok(new) => Ok(Phase::Moving { old, new }),
@@ -108,7 +107,7 @@ fn moving(alloc: Global, texts: &Texts, plans: Parts<'_>) -> Result<Phase, Wrong
 }
 
 /// How an experiment stands by a plan, or between which two plans it moves.
-fn phase_of(alloc: Global, texts: &Texts, plans: &[u8]) -> Result<Phase, Wrong> {
+fn phase_of(alloc: Global, texts: &Texts, plans: &[u8]) -> Result<Phase, Untold> {
     if let Some(plans) = parted(plans, b'>') {
         return moving(alloc, texts, plans);
     }
@@ -131,7 +130,7 @@ fn first_of(plans: &[u8]) -> &[u8] {
 }
 
 /// The experiment of a word: its name, and its plans.
-fn experiment_of(alloc: Global, texts: &Texts, word: &[u8]) -> Result<Experiment, Wrong> {
+fn experiment_of(alloc: Global, texts: &Texts, word: &[u8]) -> Result<Experiment, Untold> {
     let pair = pair_of(word)?;
     let name = name_in(pair.before)?;
     let phase = phase_of(alloc, texts, pair.behind)?;
@@ -153,7 +152,7 @@ fn push_experiments(
     alloc: Global,
     texts: &Texts,
     words: &[&[u8]],
-) -> Result<(), Wrong> {
+) -> Result<(), Untold> {
     for word in words {
         listed.push(experiment_of(alloc, texts, word)?)?;
     }
@@ -165,7 +164,7 @@ fn experiments_of(
     alloc: Global,
     texts: &Texts,
     words: &[&[u8]],
-) -> Result<Items<Experiment>, Wrong> {
+) -> Result<Items<Experiment>, Untold> {
     let mut listed = Items::new(alloc);
     match push_experiments(&mut listed, alloc, texts, words) {
         Ok(()) => Ok(listed),
@@ -183,9 +182,9 @@ fn push_found(
     lab: &Lab,
     experiments: &[Experiment],
     commands: &[Sent],
-) -> Result<(), Wrong> {
+) -> Result<(), Untold> {
     push_answer(out, is_holding(alloc, lab, experiments)?)?;
-    if all_fit(lab, experiments) {
+    if all_fit(alloc, lab, experiments)? {
         push_answer(out, is_isolated_after(alloc, lab, experiments, commands)?)?;
         push_answer(out, is_cabled(alloc, lab, experiments, commands)?)?;
     }
@@ -200,7 +199,7 @@ fn push_found_in(
     name: &[u8],
     experiments: &[Experiment],
     commands: &[Sent],
-) -> Result<(), Wrong> {
+) -> Result<(), Untold> {
     let lab = lab_of(alloc, texts, name)?;
     let told = push_found(out, alloc, &lab, experiments, commands);
     drop(lab);
@@ -214,7 +213,7 @@ fn push_found_of(
     texts: &Texts,
     words: &[&[u8]],
     commands: &[Sent],
-) -> Result<(), Wrong> {
+) -> Result<(), Untold> {
     let experiments = experiments_of(alloc, texts, words.get(1..).unwrap_or(&[]))?;
     let told = push_found_in(
         out,
@@ -229,7 +228,7 @@ fn push_found_of(
 }
 
 /// Whether the world after the commands behind the bar holds its claims, is isolated and is cabled.
-pub fn tell(out: &mut Text, alloc: Global, texts: &Texts, words: &[&[u8]]) -> Result<(), Wrong> {
+pub fn tell(out: &mut Text, alloc: Global, texts: &Texts, words: &[&[u8]]) -> Result<(), Untold> {
     let halves = at_bar(words);
     let commands = steps_of(alloc, texts, halves.behind)?;
     let told = push_found_of(out, alloc, texts, halves.before, commands.as_slice());

@@ -1,6 +1,6 @@
 //! Bytes as letters: those that have one as it is, but for a blank and `<`, and any other by two digits, as in `<a5>`.
-use crate::untold::Untold;
-use lab_base::Text;
+use lab_base::{Kind, Text};
+use row_words::Untold;
 use std::alloc::{AllocError, Global};
 use std::fmt::Write;
 
@@ -17,7 +17,7 @@ pub fn push_spelled(out: &mut String, bytes: &[u8]) -> Result<(), AllocError> {
 
 /// Adds a byte by its digits, and what stands behind it.
 fn push_piece(out: &mut Text, piece: &str) -> Result<(), Untold> {
-    let (digits, letters) = piece.split_once('>').ok_or(Untold::Words)?;
+    let (digits, letters) = piece.split_once('>').ok_or(Untold::Word(Kind::Word))?;
     out.push(u8::from_str_radix(digits, 16)?)?;
     Ok(out.push_bytes(letters.as_bytes())?)
 }

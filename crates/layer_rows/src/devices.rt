@@ -1,10 +1,9 @@
 //! Commands to devices, and what these hold.
 use crate::answers::{answer_word, boot_word, letters, yes_or_no};
-use crate::untold::Untold;
-use crate::words::Words;
 use lab_base::{Name, Rates};
 use plant::{DeviceOp, Plant};
 use plant_mem::MemLab;
+use row_words::{Untold, Words};
 use std::alloc::AllocError;
 use std::fmt::Write;
 

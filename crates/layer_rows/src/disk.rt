@@ -1,10 +1,9 @@
 //! Calls of the disk, and what is on it.
 use crate::answers::{done_word, fault_word, yes_or_no};
 use crate::bytes::{bytes_of, push_spelled};
-use crate::untold::Untold;
-use crate::words::Words;
 use plant::{Plant, Side};
 use plant_mem::MemLab;
+use row_words::{Untold, Words};
 use std::alloc::{AllocError, Global};
 use std::fmt::Write;
 

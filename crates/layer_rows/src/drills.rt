@@ -1,9 +1,8 @@
 //! Drills, and what a stop leaves behind.
-use crate::untold::Untold;
-use crate::words::Words;
-use lab_base::Name;
+use lab_base::{Kind, Name};
 use plant::{Drill, DrillFault, How, Pick, Plant};
 use plant_mem::MemLab;
+use row_words::{Untold, Words};
 
 fn how(words: &mut Words<'_>) -> Result<How, Untold> {
     match words.word() {
@@ -12,7 +11,7 @@ fn how(words: &mut Words<'_>) -> Result<How, Untold> {
         "hang" => Ok(How::Hang),
         "jump" => Ok(How::Jump),
         "read" => Ok(How::Read),
-        _ => Err(Untold::Words),
+        _ => Err(Untold::Word(Kind::Word)),
     }
 }
 
@@ -21,7 +20,7 @@ fn pick(words: &mut Words<'_>) -> Result<Pick, Untold> {
         "none" => Ok(Pick::Nothing),
         "all" => Ok(Pick::All),
         "torn" => Ok(Pick::Torn),
-        _ => Err(Untold::Words),
+        _ => Err(Untold::Word(Kind::Word)),
     }
 }
 

@@ -3,11 +3,11 @@ ghost use Rattle.std.specs.Prelude.{◌≤◌, ◌^◌};
 
 use crate::answers::{letters, side_word};
 use crate::records::deletion;
-use crate::untold::Untold;
-use crate::words::Words;
 use journal_disk::{AppendFault, CompactFault, Journal, OpenFault};
 use journal_rec::{Encoded, Found, Packed, Record};
+use lab_base::Kind;
 use plant_mem::MemLab;
+use row_words::{Untold, Words};
 use std::alloc::{AllocError, Global};
 use std::fmt::Write;
 
@@ -101,7 +101,7 @@ fn push_append_to(
 ) -> Result<(), Untold> {
     let limit = u64::from(words.number()?);
     if limit < 18 {
-        return Err(Untold::Words);
+        return Err(Untold::Word(Kind::Word));
     }
     push_append(out, alloc, plant, limit, &deletion(alloc, words.name()?)?)
 }
@@ -113,7 +113,7 @@ fn compact(
     plant: &mut MemLab,
 ) -> Result<&'static str, Untold> {
     if journal.epoch() == u64::MAX || packed.length() > journal.limit() {
-        return Err(Untold::Words);
+        return Err(Untold::Word(Kind::Word));
     }
     match journal.compact(packed, plant) {
         Ok(()) => Ok("done"),

@@ -14,8 +14,5 @@ mod readings;
 mod records;
 mod row;
 mod swaps;
-mod untold;
-mod words;
 
 pub use row::told;
-pub use untold::Untold;

@@ -2,10 +2,10 @@
 use crate::answers::{boot_word, letters};
 use crate::plans::ops_of;
 use crate::swaps::{Last, finish, opened, planned_of, swap};
-use crate::untold::Untold;
 use lab_base::{Name, What};
 use plant::{DeviceOp, Step};
 use plant_mem::MemLab;
+use row_words::Untold;
 use std::alloc::{AllocError, Global};
 use swap_txn::{Ended, Live};
 

@@ -1,9 +1,8 @@
 //! The swaps of the rows.
 use crate::devices::op_of;
-use crate::untold::Untold;
-use crate::words::Words;
-use lab_base::{Items, Memory};
+use lab_base::{Items, Kind, Memory};
 use plant::DeviceOp;
+use row_words::{Untold, Words};
 use std::alloc::Global;
 use swap_plan::{Commands, Ops};
 
@@ -28,7 +27,7 @@ fn add(commands: &mut Commands, op: DeviceOp) -> Result<(), Memory> {
 /// Adds the command of a text.
 fn add_read(commands: &mut Commands, text: &str) -> Result<(), Untold> {
     let mut words = Words::new(text, 0);
-    let op = op_of(words.word(), &mut words)?.ok_or(Untold::Words)?;
+    let op = op_of(words.word(), &mut words)?.ok_or(Untold::Word(Kind::Word))?;
     Ok(add(commands, op)?)
 }
 

@@ -1,11 +1,10 @@
 //! Readings of what devices hold.
 use crate::answers::{boot_word, letters};
-use crate::untold::Untold;
-use crate::words::Words;
 use lab_base::VlanId;
 use plant::NodeRow;
 use plant_mem::MemLab;
 use plant_tables::{PipeRow, ReadFailed, Tables};
+use row_words::{Untold, Words};
 use std::alloc::AllocError;
 use std::fmt::Write;
 

@@ -1,9 +1,8 @@
 //! Records as the journal holds them.
 use crate::bytes::{bytes_of, push_spelled};
-use crate::untold::Untold;
-use crate::words::Words;
 use journal_rec::{Encoded, RecFault, Record, decode, encode};
 use lab_base::Name;
+use row_words::{Untold, Words};
 use std::alloc::{AllocError, Global};
 use std::fmt::Write;
 

@@ -20,10 +20,10 @@
 //!
 //! A row `each LAST ACTIONS` does the actions LAST times, each time over a blank plant, with the numbers 1, 2, .. in the place of `#`. Its
 //! output is that of the last action only, once for all numbers in a row with equal outputs.
-use crate::untold::Untold;
-use crate::words::Words;
 use crate::{devices, disk, drills, journals, moves, readings, records};
+use lab_base::{Kind, Text};
 use plant_mem::MemLab;
+use row_words::{Untold, Words};
 use std::alloc::Global;
 use std::fmt::Write;
 
@@ -85,7 +85,7 @@ fn act(alloc: Global, plant: &mut MemLab, action: &str, nth: u32) -> Result<Stri
     let kind = words.word();
     let mut out = String::new(alloc);
     if !told_of(&mut out, alloc, plant, kind, &mut words)? {
-        return Err(Untold::Words);
+        return Err(Untold::Word(Kind::Unknown));
     }
     out.push('\n')?;
     Ok(out)
@@ -143,11 +143,13 @@ fn each(alloc: Global, words: &mut Words<'_>) -> Result<String, Untold> {
     Ok(out)
 }
 
-/// The output of a row.
-pub fn told(alloc: Global, line: &str) -> Result<String, Untold> {
+/// The output of a row, without the end of its last line.
+pub fn told(alloc: Global, line: &str) -> Result<Text, Untold> {
     let mut words = Words::new(line, 0);
-    match words.word() {
-        "each" => each(alloc, &mut words),
-        _ => all(alloc, line),
-    }
+    let told = match words.word() {
+        "each" => each(alloc, &mut words)?,
+        _ => all(alloc, line)?,
+    };
+    let lines = told.as_bytes();
+    Ok(Text::from_slice(alloc, &lines[..lines.len().saturating_sub(1)])?)
 }

@@ -5,11 +5,11 @@ ghost use Rattle.journal_rec.specs.Payloads.{way_bytes, tags_of_way};
 ghost use Rattle.journal_disk.specs.Standing.{limit_of};
 ghost use Rattle.swap_txn.specs.Steps.{Stands};
 
-use crate::untold::Untold;
 use journal_disk::Journal;
 use journal_rec::Way;
 use lab_base::{Name, Tags, Text, What};
 use plant_mem::MemLab;
+use row_words::Untold;
 use std::alloc::Global;
 use swap_plan::Ops;
 use swap_txn::*;

@@ -1,6 +1,7 @@
 -- The test of holding says what holding is.
 use Rattle.std.specs.List.{list_all, flat_map}
-use Rattle.std.proofs.Common.{◌≡◌, inl, inr, ℕ, ◌<◌, ◌≤◌, Bool, true, false, not, is_none, Option, Some, None, List, [], ◌∷◌, length, refl, sym, ap, ◌∙◌, subst, arith}
+use Rattle.std.proofs.Common.{◌≡◌, ◌*◌, inl, inr, ℕ, ◌<◌, ◌≤◌, Bool, true, false, not, is_none, Option, Some, None, List, [], ◌∷◌, length, refl, sym, ap, ◌∙◌, subst, arith}
+use Rattle.std.proofs.lemmas.List.{get_or-replicate}
 use Rattle.std.proofs.lemmas.Bool.{cases_Bool, and_parts, and_from, or_cases, or_left, or_right, not-true, not_from_false, both_ways, eqb-true, eq-eqb, leb-true, le-leb, ltb-true, lt-ltb}
 use Rattle.lab_base.specs.Lists.{Apart}
 use Rattle.lab_base.proofs.Members.{Has-map, Has-mapped, any_has, all_has, Has-get_or, any_from, all_from}
@@ -8,22 +9,28 @@ use Rattle.lab_base.specs.declared.ids.IfaceId.{IfaceId}
 use Rattle.lab_base.specs.declared.ids.VlanId.{VlanId}
 use Rattle.lab_base.proofs.Tests.{none_is}
 use Rattle.phys_lab.specs.Labs.{Lab}
+use Rattle.phys_lab.specs.Forests.{first_side_of}
 use Rattle.virt_topo.specs.declared.wiring.Wiring.{Wiring}
 use Rattle.virt_topo.specs.declared.mapping.Mapping.{Mapping}
 use Rattle.virt_topo.specs.declared.mapping.Mapped.{Mapped}
 use Rattle.virt_topo.specs.declared.experiment.Experiment.{Experiment}
 use Rattle.virt_topo.specs.declared.experiment.Phase.TheVariants.{In, Moving}
+use Rattle.virt_topo.specs.declared.violation.Broken.{Broken}
+use Rattle.virt_topo.specs.declared.violation.Broken.TheVariants as broken
+use Rattle.virt_topo.proofs.CableLaws.{limits_of, whole_bound, sound_keeps}
 use Rattle.lab_model.specs.Shapes.{Place, node_at, has_name, IsShaped}
-use Rattle.lab_model.specs.Feasible.{AllPass, first_below}
+use Rattle.lab_model.specs.Feasible.{AllPass, Kept, first_below}
+use Rattle.lab_model.specs.Rules.{no_place, place_at, keeps_f1, keeps_f6, keeps_f8}
 use Rattle.lab_model.specs.Wants.{node_name}
 use Rattle.lab_model.specs.Claims.{Which, Old, New, claimed, claimed_in, Claims, Places, claims_it, claimed_tags}
 use Rattle.lab_model.specs.Holding.{Suits, Holding}
 use Rattle.lab_model.proofs.WiringLaws.{All-has}
-use Rattle.lab_model.proofs.FeasibleLaws.{at_zero, differ_from}
-use Rattle.lab_model.proofs.FirstViolation.{passes, fails}
+use Rattle.lab_model.proofs.CutLaws.{cut_is_use}
+use Rattle.lab_model.proofs.FeasibleLaws.{at_zero, differ_from, suits_from as feasible_suits}
+use Rattle.lab_model.proofs.FirstViolation.{passes, fails, none_found}
 use Rattle.lab_model.proofs.Claiming.{claims_from, claims_test}
 use Rattle.lab_model.proofs.BesideLaws.{differ_test}
-use Rattle.plain_model.specs.Holds.{all_pass, is_place, is_plug, is_shaped, suits, fits_in, fits, shares_in, shares, are_apart, has_room, is_in_range, is_holding}
+use Rattle.plain_model.specs.Holds.{all_pass, is_place, is_plug, is_shaped, unclaimed, suits, fits_in, fits, shares_in, shares, are_apart, has_room, is_in_range, is_holding}
 
 pub pass_from : (n : ℕ) (test : ℕ → Bool) → all_pass n test ≡ true → AllPass n test
 pass_from n test e = at_zero n test (none_is (first_below n test) e)
@@ -58,31 +65,32 @@ shaped_test lab w m is =
     (all_from (is_place lab) m.places (λ p h. and_from _ _ (lt-ltb _ _ (All-has (λ (p : Place). p.0.0 < length lab.nodes) m.places p is.in_nodes h)) (All-has (λ (p : Place). has_name (node_at lab p.0).types p.1 ≡ true) m.places p is.of_node h)))
     (all_from (is_plug lab) m.plugs (λ i h. lt-ltb _ _ (All-has (λ (i : IfaceId). i.0 < length lab.ifaces) m.plugs i is.in_lab h)))))
 
+-- the rules of others are kept where nobody claims anything
+unclaimed_kept : (lab : Lab) (m : Mapped) → Suits lab m → (rule : Broken) → Kept lab m.wiring m.mapping (keeps_f1 (unclaimed lab) m.mapping) (keeps_f6 lab (unclaimed lab) m.wiring m.mapping) (keeps_f8 (unclaimed lab) m.wiring) rule
+unclaimed_kept lab m is broken.F1 = λ v lt. get_or-replicate (length lab.nodes) (place_at m.mapping v).0.0 true false (is.shaped.in_nodes v no_place (omega (arith, lt, is.shaped.places)))
+unclaimed_kept lab m is broken.F2 = is.one_kind
+unclaimed_kept lab m is broken.F3 = is.asked
+unclaimed_kept lab m is broken.F4 = is.fixed
+unclaimed_kept lab m is broken.F5 = is.plugged
+unclaimed_kept lab m is broken.F6 = λ t lt.
+    let left = get_or-replicate (length lab.trunks) t (4096 * 1000000000) 0 lt in
+    let same = cut_is_use lab m.wiring m.mapping t is.shaped.in_lab in
+    let bound = whole_bound (first_side_of lab.ifaces lab.trunks t) m.wiring m.mapping.plugs (sound_keeps m.wiring is.sound) in
+    le-leb _ _ (omega (arith, left, same, bound))
+unclaimed_kept lab m is broken.F7 = is.joined
+unclaimed_kept lab m is broken.F8 = λ k lt. le-leb _ _ (limits_of m.wiring (sound_keeps m.wiring is.sound)).segments
+
 pub suits_from : (lab : Lab) (m : Mapped) → suits lab m ≡ true → Suits lab m
 suits_from lab m e =
     let a = and_parts _ _ e in
     let b = and_parts _ _ a.1 in
     let c = and_parts _ _ b.1 in
-    let f2 = and_parts _ _ c.1 in
-    let f3 = and_parts _ _ f2.1 in
-    let f4 = and_parts _ _ f3.1 in
-    let f5 = and_parts _ _ f4.1 in
-    record {
-      sound = none_is _ a.0;
-      shaped = shaped_from lab m.wiring m.mapping b.0;
-      tags = eqb-true _ _ c.0;
-      one_kind = pass_from _ _ f2.0;
-      asked = pass_from _ _ f3.0;
-      fixed = pass_from _ _ f4.0;
-      plugged = pass_from _ _ f5.0;
-      joined = pass_from _ _ f5.1;
-    }
+    feasible_suits lab m (keeps_f1 (unclaimed lab) m.mapping) (keeps_f6 lab (unclaimed lab) m.wiring m.mapping) (keeps_f8 (unclaimed lab) m.wiring) (none_is _ c.1) (none_is _ a.0) (shaped_from lab m.wiring m.mapping b.0) (eqb-true _ _ c.0)
 
 suits_test : (lab : Lab) (m : Mapped) → Suits lab m → suits lab m ≡ true
 suits_test lab m is =
     and_from _ _ (ap (λ o. is_none o) is.sound) (and_from _ _ (shaped_test lab m.wiring m.mapping is.shaped) (and_from _ _ (eq-eqb _ _ is.tags)
-    (and_from _ _ (pass_test _ _ is.one_kind) (and_from _ _ (pass_test _ _ is.asked) (and_from _ _ (pass_test _ _ is.fixed)
-    (and_from _ _ (pass_test _ _ is.plugged) (pass_test _ _ is.joined)))))))
+    (ap (λ o. is_none o) (none_found lab m.wiring m.mapping (keeps_f1 (unclaimed lab) m.mapping) (keeps_f6 lab (unclaimed lab) m.wiring m.mapping) (keeps_f8 (unclaimed lab) m.wiring) (unclaimed_kept lab m is)))))
 
 pub in_from : (lab : Lab) (o : Option Mapped) (m : Mapped) → fits_in lab o ≡ true → o ≡ Some m → Suits lab m
 in_from lab o m e is = suits_from lab m (subst (λ x. fits_in lab x ≡ true) is e)
@@ -100,9 +108,6 @@ fits_test lab e each = and_from _ _ (in_test lab (claimed e Old) (each Old)) (in
 
 pub in_suits : (lab : Lab) (e : Experiment) (mapping : Mapping) (tags : List VlanId) → e.phase ≡ In mapping tags → fits lab e ≡ true → Suits lab (record { wiring = e.wiring; mapping = mapping; tags = tags })
 in_suits lab e mapping tags is t = fits_from lab e t New (record { wiring = e.wiring; mapping = mapping; tags = tags }) (ap (λ p. claimed_in e.wiring p New) is)
-
-pub in_shaped : (lab : Lab) (e : Experiment) (mapping : Mapping) (tags : List VlanId) → e.phase ≡ In mapping tags → fits lab e ≡ true → IsShaped lab e.wiring mapping
-in_shaped lab e mapping tags is t = (fits_from lab e t New (record { wiring = e.wiring; mapping = mapping; tags = tags }) (ap (λ p. claimed_in e.wiring p New) is)).shaped
 
 pub moving_fits : (lab : Lab) (e : Experiment) (old new : Option Mapped) → e.phase ≡ Moving old new → fits lab e ≡ true → (fits_in lab old ≡ true) × (fits_in lab new ≡ true)
 moving_fits lab e old new is t =

@@ -13,7 +13,7 @@ use Rattle.lab_model.specs.Claims.{Which, Old, New, claimed}
 use Rattle.lab_model.specs.Courses.{rows_from}
 use Rattle.lab_model.specs.Isolated.{Owner, Owns, IsRow, Isolated, IsolatedBeside}
 use Rattle.lab_model.proofs.BesideLaws.{from_beside, to_beside}
-use Rattle.plain_model.specs.Isolation.{Wanted, NodePipe, wanted_by, wanted_in, same_row, same_owner, is_next, stands, agree, all_agree, is_isolated, IsSeen}
+use Rattle.plain_model.specs.Isolation.{Wanted, PipeEnds, wanted_by, wanted_in, same_row, same_owner, is_next, stands, agree, all_agree, is_isolated, IsSeen}
 use Rattle.plain_model.proofs.Neighbours.{row_is, row_same, owner_is, owner_same, next_is, next_same}
 
 -- the wanted rows are those with an owner
@@ -50,7 +50,7 @@ owns_wanted lab es p a owns =
     either Old same = Has-left (wanted_by lab owns.by Old) (wanted_by lab owns.by New) _ (there Old same)
     either New same = Has-right (wanted_by lab owns.by Old) (wanted_by lab owns.by New) _ (there New same)
 
-module _ (lab : Lab) (es : List Experiment) (w : World) (rows : List Row) (pipes : List NodePipe) (seen : IsSeen w rows pipes) where
+module _ (lab : Lab) (es : List Experiment) (w : World) (rows : List Row) (pipes : List PipeEnds) (seen : IsSeen w rows pipes) where
   stands_row : (p : Row) → IsRow w p → stands rows p ≡ true
   stands_row p at = any_has (same_row p) rows p (seen.rows_there p at) (row_same p p refl)
 

@@ -1,8 +1,6 @@
 mod CabledLaws
 mod HoldsLaws
 mod IsolationLaws
-mod KeptLaws
-mod LoadSteps
 mod Neighbours
 mod NodeLaws
 mod ReadLaws

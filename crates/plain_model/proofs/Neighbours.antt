@@ -13,7 +13,7 @@ use Rattle.lab_model.specs.Wants.{switch_name, node_name}
 use Rattle.lab_model.specs.Claims.{Which, Old, New}
 use Rattle.lab_model.specs.Reach.{IsAt, IsFirstEnd, IsSecondEnd, Next, by_switch, by_trunk, by_pipe}
 use Rattle.lab_model.specs.Isolated.{Owner, IsPipe}
-use Rattle.plain_model.specs.Isolation.{NodePipe, same_row, same_half, same_owner, is_at_port, is_at, is_over_trunk, is_over_pipe, is_next, IsSeen}
+use Rattle.plain_model.specs.Isolation.{PipeEnds, same_row, same_half, same_owner, is_at_port, is_at, is_over_trunk, is_over_pipe, is_next, IsSeen}
 
 pub row_is : (p q : Row) → same_row p q ≡ true → p ≡ q
 row_is p q e =
@@ -78,7 +78,7 @@ at_same lab node iface row at =
     any_has _ lab.ifaces (iface_at lab at.number) (Has-get_or lab.ifaces at.number.0 no_iface at.in_lab)
     (and_from _ _ (bytes_alike _ _ at.node_is) (and_from _ _ (bytes_alike _ _ at.name_is) (port_same lab _ _ row at.switch_is at.port_is)))
 
-module _ (lab : Lab) (w : World) (rows : List Row) (pipes : List NodePipe) (seen : IsSeen w rows pipes) where
+module _ (lab : Lab) (w : World) (rows : List Row) (pipes : List PipeEnds) (seen : IsSeen w rows pipes) where
   pub next_is : (p q : Row) → is_next lab pipes p q ≡ true → Next lab (IsPipe w) p q
   next_is p q e = elim (or_cases _ _ e) [
     | inl flat ↦

@@ -10,7 +10,7 @@ use Rattle.lab_model.specs.Isolated.{IsRow, IsPipe}
 use Rattle.lab_model.specs.Courses.{op_join, op_pipe}
 use Rattle.lab_model.proofs.CourseLaws.{row_came, pipe_came}
 use Rattle.plain_model.specs.declared.world.Sent.{Sent}
-use Rattle.plain_model.specs.Isolation.{NodePipe, IsSeen}
+use Rattle.plain_model.specs.Isolation.{PipeEnds, IsSeen}
 use Rattle.plain_model.specs.Rows.{sent_to, world_sent, has_row, node_sent, pipe_then, row_seen, rows_by, rows_of, pipe_seen, pipes_by, pipes_of}
 use Rattle.plain_model.proofs.RowLaws.{row_told, pipe_told}
 
@@ -81,15 +81,15 @@ module _ (commands : List Sent) where
   pipe_by (Poll node) name k row is at = absurd (cc is)
   pipe_by (Wipe node) name k row is at = absurd (cc is)
 
-  abbrev Stands : NodePipe → Type 0
+  abbrev Stands : PipeEnds → Type 0
   Stands p = (pipe : PipeRow) × IsPipe (world_sent commands) p.node pipe × (pipe.from ≡ p.from) × (pipe.to ≡ p.to)
 
-  seen_from : (node : List ℕ) (k : ℕ) (p : NodePipe) (o : Option PipeRow) → (node_sent commands node).pipes k ≡ o → Has (pipe_seen node o) p → Stands p
+  seen_from : (node : List ℕ) (k : ℕ) (p : PipeEnds) (o : Option PipeRow) → (node_sent commands node).pipes k ≡ o → Has (pipe_seen node o) p → Stands p
   seen_from node k p None at h = absurd h
   seen_from node k p (Some pipe) at (inl is) = subst Stands is (pipe, (k, at), refl, refl)
   seen_from node k p (Some pipe) at (inr h) = absurd h
 
-  by_pipe : (op : DeviceOp) (p : NodePipe) → Has (pipes_by commands op) p → Stands p
+  by_pipe : (op : DeviceOp) (p : PipeEnds) → Has (pipes_by commands op) p → Stands p
   by_pipe (Shape node number from to there back) p h = seen_from node number p (fold (pipe_then node number) None commands) (pipe_told node number commands) h
   by_pipe (Join switch port vlan) p h = absurd h
   by_pipe (Leave switch port vlan) p h = absurd h

@@ -1,8 +1,9 @@
 -- Holding as a test.
-use Rattle.std.specs.Prelude.{ℕ, Bool, true, false, not, ◌&&◌, ◌||◌, ◌==◌, nat_lt, nat_le, List, [], ◌∷◌, length, Option, Some, None, is_none, sum_by}
+use Rattle.std.specs.Prelude.{◌*◌, ℕ, Bool, true, false, not, ◌&&◌, ◌||◌, ◌==◌, nat_lt, nat_le, List, [], ◌∷◌, length, replicate, Option, Some, None, is_none, sum_by}
 use Rattle.std.specs.List.{flat_map, list_any, list_all}
 use Rattle.lab_base.specs.declared.ids.IfaceId.{IfaceId}
 use Rattle.phys_lab.specs.Labs.{Lab}
+use Rattle.phys_lab.specs.declared.free.Free.{Free}
 use Rattle.phys_lab.specs.Sides.{trunk_at}
 use Rattle.virt_topo.specs.Ends.{end_nodes}
 use Rattle.virt_topo.specs.Soundness.{wiring_fault}
@@ -11,8 +12,7 @@ use Rattle.virt_topo.specs.declared.mapping.Mapping.{Mapping}
 use Rattle.virt_topo.specs.declared.mapping.Mapped.{Mapped}
 use Rattle.virt_topo.specs.declared.experiment.Experiment.{Experiment}
 use Rattle.lab_model.specs.Shapes.{Place, node_at, has_name}
-use Rattle.lab_model.specs.Rules.{keeps_f2, keeps_f3, keeps_f4, keeps_f5, keeps_f7}
-use Rattle.lab_model.specs.Feasible.{first_below}
+use Rattle.lab_model.specs.Feasible.{first_below, violation}
 use Rattle.lab_model.specs.Beside.{all_differ}
 use Rattle.lab_model.specs.Wants.{node_name}
 use Rattle.lab_model.specs.Claims.{Old, New, claimed, claims_it, claimed_tags, claimed_use}
@@ -38,14 +38,13 @@ is_shaped lab w m =
     && (list_all (is_place lab) m.places
     && list_all (is_plug lab) m.plugs))
 
--- it keeps the rules in which others have no part
+-- nobody claims anything: no mapping uses more of a trunk than is left, or has more segments than VLAN ids are left
+abbrev pub unclaimed : Lab → Free
+unclaimed lab = record { nodes = replicate (length lab.nodes) true; left = replicate (length lab.trunks) (4096 * 1000000000); vlans = 512 }
+
+-- the mapping keeps the rules in which others have no part
 abbrev pub keeps_rules : Lab → Wiring → Mapping → Bool
-keeps_rules lab w m =
-    all_pass (length lab.nodes) (keeps_f2 lab w m)
-    && (all_pass (length w.nodes) (keeps_f3 lab w m)
-    && (all_pass (length w.nodes) (keeps_f4 lab w m)
-    && (all_pass (length m.plugs) (keeps_f5 lab w m)
-    && all_pass (length w.segments) (keeps_f7 lab w m))))
+keeps_rules lab w m = is_none (violation lab (unclaimed lab) w m)
 
 -- the mapping suits the lab
 abbrev pub suits : Lab → Mapped → Bool

@@ -25,8 +25,8 @@ wanted_by lab e which = map (λ o. record { row = o.row; owner = record { exp = 
 abbrev pub wanted_in : Lab → List Experiment → List Wanted
 wanted_in lab es = flat_map (λ e. wanted_by lab e Old ++ wanted_by lab e New) es
 
--- a pipe on a node
-pub record NodePipe : Type 0 where
+-- the ends of a pipe: a node, and two of its interfaces
+pub record PipeEnds : Type 0 where
   pub node : List ℕ
   pub from : List ℕ
   pub to : List ℕ
@@ -56,12 +56,12 @@ is_over_trunk lab p q t =
     (is_at_port lab t.first.0.0 t.first.1 p && is_at_port lab t.second.0.0 t.second.1 q)
     || (is_at_port lab t.second.0.0 t.second.1 p && is_at_port lab t.first.0.0 t.first.1 q)
 
-abbrev pub is_over_pipe : Lab → Row → Row → NodePipe → Bool
+abbrev pub is_over_pipe : Lab → Row → Row → PipeEnds → Bool
 is_over_pipe lab p q pipe =
     (is_at lab pipe.node pipe.from p && is_at lab pipe.node pipe.to q) || (is_at lab pipe.node pipe.to p && is_at lab pipe.node pipe.from q)
 
 -- two points are next to each other
-abbrev pub is_next : Lab → List NodePipe → Row → Row → Bool
+abbrev pub is_next : Lab → List PipeEnds → Row → Row → Bool
 is_next lab pipes p q =
     (p.vlan == q.vlan && (bytes_eq p.switch q.switch || list_any (is_over_trunk lab p q) lab.trunks))
     || list_any (is_over_pipe lab p q) pipes
@@ -71,19 +71,19 @@ abbrev pub stands : List Row → Row → Bool
 stands rows p = list_any (same_row p) rows
 
 -- what of the wanted is at one point or next to another, and stands, is of one owner
-abbrev pub agree : Lab → List NodePipe → Wanted → Wanted → Bool
+abbrev pub agree : Lab → List PipeEnds → Wanted → Wanted → Bool
 agree lab pipes a b = same_owner a.owner b.owner || not (same_row a.row b.row || is_next lab pipes a.row b.row)
 
-abbrev pub all_agree : Lab → List Wanted → List Row → List NodePipe → Wanted → Bool
+abbrev pub all_agree : Lab → List Wanted → List Row → List PipeEnds → Wanted → Bool
 all_agree lab wanted rows pipes a = not (stands rows a.row) || list_all (λ b. not (stands rows b.row) || agree lab pipes a b) wanted
 
 -- ISOLATED, as a test: each row that stands is wanted, and the wanted rows that stand agree
-abbrev pub is_isolated : Lab → List Wanted → List Row → List NodePipe → Bool
+abbrev pub is_isolated : Lab → List Wanted → List Row → List PipeEnds → Bool
 is_isolated lab wanted rows pipes = list_all (λ p. list_any (λ a. same_row p a.row) wanted) rows && list_all (all_agree lab wanted rows pipes) wanted
 
 -- the rows and the pipes of the world are these
-pub record IsSeen (w : World) (rows : List Row) (pipes : List NodePipe) : Type 0 where
+pub record IsSeen (w : World) (rows : List Row) (pipes : List PipeEnds) : Type 0 where
   pub rows_there : (p : Row) → IsRow w p → Has rows p
   pub rows_stand : (p : Row) → Has rows p → IsRow w p
   pub pipes_there : (name : List ℕ) (pipe : PipeRow) → IsPipe w name pipe → Has pipes (record { node = name; from = pipe.from; to = pipe.to })
-  pub pipes_stand : (p : NodePipe) → Has pipes p → (pipe : PipeRow) × IsPipe w p.node pipe × (pipe.from ≡ p.from) × (pipe.to ≡ p.to)
+  pub pipes_stand : (p : PipeEnds) → Has pipes p → (pipe : PipeRow) × IsPipe w p.node pipe × (pipe.from ≡ p.from) × (pipe.to ≡ p.to)

@@ -1,10 +1,9 @@
 pub mod Cabling
+pub mod EndsView
 pub mod Holds
 pub mod Isolation
 pub mod OwnerView
-pub mod PipeView
 pub mod Readings
-pub mod RowView
 pub mod Rows
 pub mod WantedRows
 pub mod WantedView

@@ -6,7 +6,7 @@ use Rattle.plant.specs.declared.device.DeviceOp.{DeviceOp}
 use Rattle.plant.specs.declared.device.DeviceOp.TheVariants.{Join, Shape}
 use Rattle.plant.specs.Events.{Event, Did}
 use Rattle.plant.specs.Worlds.{Row, PipeRow, NodeRow, World, blank, row_after, node_after, node_polled, world_after}
-use Rattle.plain_model.specs.Isolation.{NodePipe}
+use Rattle.plain_model.specs.Isolation.{PipeEnds}
 use Rattle.plain_model.specs.declared.world.Sent.{Sent}
 
 -- the commands of a trace, each with whether it was applied, and its answer
@@ -59,15 +59,15 @@ abbrev pub rows_of : List Sent → List Sent → List Row
 rows_of commands sent = flat_map (λ s. rows_by commands s.op) sent
 
 -- the pipe of a node, as isolation sees it
-abbrev pub pipe_seen : List ℕ → Option PipeRow → List NodePipe
+abbrev pub pipe_seen : List ℕ → Option PipeRow → List PipeEnds
 pipe_seen node None = []
 pipe_seen node (Some pipe) = record { node = node; from = pipe.from; to = pipe.to } ∷ []
 
 -- the pipe that the command sets, as it stands after all commands
-abbrev pub pipes_by : List Sent → DeviceOp → List NodePipe
+abbrev pub pipes_by : List Sent → DeviceOp → List PipeEnds
 pipes_by commands (Shape node number from to there back) = pipe_seen node (fold (pipe_then node number) None commands)
 pipes_by commands op = []
 
 -- the pipes that some command set and that stand
-abbrev pub pipes_of : List Sent → List Sent → List NodePipe
+abbrev pub pipes_of : List Sent → List Sent → List PipeEnds
 pipes_of commands sent = flat_map (λ s. pipes_by commands s.op) sent

@@ -6,11 +6,20 @@ ghost use Rattle.lab_model.specs.Wants.{node_name};
 ghost use Rattle.lab_model.specs.Claims.{is_placed, claims_it, tags_of, claimed_tags};
 ghost use Rattle.plain_model.specs.Holds.{shares_place, shares_in, shares, are_apart};
 
-use crate::at::node_name;
 use lab_base::{Memory, Name, NodeId, VlanId};
 use phys_lab::Lab;
 use std::alloc::Global;
 use virt_topo::{Experiment, Mapped, Phase};
+
+/// The name of a node; the empty one where there is no such node.
+fn node_name(lab: &Lab, node: NodeId) -> &[u8]
+    ensures { result.now ≡ node_name lab.now node }
+{
+    match lab.nodes().get(node.0 as usize) {
+        Some(node) => node.name.bytes(),
+        None => &[],
+    }
+}
 
 fn is_on(lab: &Lab, places: &[(NodeId, Name)], name: &[u8]) -> bool
     ensures { result ≡ list_any (λ p. bytes_eq (node_name lab.now p.0) name.now) places.now }
@@ -19,7 +28,7 @@ fn is_on(lab: &Lab, places: &[(NodeId, Name)], name: &[u8]) -> bool
 }
 
 /// Whether a mapping places a virtual node on the node of that name; false where there is no mapping.
-pub(crate) fn is_placed(lab: &Lab, mapped: &Option<Mapped>, name: &[u8]) -> bool
+fn is_placed(lab: &Lab, mapped: &Option<Mapped>, name: &[u8]) -> bool
     ensures { result ≡ is_placed lab.now mapped.now name.now }
 {
     match mapped {

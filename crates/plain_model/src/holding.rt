@@ -4,7 +4,7 @@ ghost use Rattle.std.specs.List.{flat_map, list_all, list_any};
 ghost use Rattle.lab_model.specs.Beside.{all_differ};
 ghost use Rattle.lab_model.specs.Claims.{claimed_tags};
 ghost use Rattle.lab_model.specs.Holding.{Holding};
-ghost use Rattle.plain_model.specs.Holds.{is_in_range, are_tags, is_holding};
+ghost use Rattle.plain_model.specs.Holds.{all_fit, is_in_range, are_tags, is_holding};
 
 use crate::claims::{are_apart, claimed_tags};
 use crate::suits::all_fit;
@@ -48,12 +48,12 @@ fn are_tags(lab: &Lab, tags: &[u16]) -> bool
     all_differ(tags) && are_in_range(lab, tags)
 }
 
-fn holds(lab: &Lab, experiments: &[Experiment], tags: &[u16]) -> bool
-    requires { tags.now ≡ flat_map claimed_tags experiments.now }
+fn holds(lab: &Lab, experiments: &[Experiment], fit: bool, tags: &[u16]) -> bool
+    requires fit { fit ≡ all_fit lab.now experiments.now }
+    requires tags { tags.now ≡ flat_map claimed_tags experiments.now }
     ensures { result ≡ is_holding lab.now experiments.now }
 {
-    all_fit(lab, experiments)
-        && (are_apart(lab, experiments) && (have_room(lab, experiments) && are_tags(lab, tags)))
+    fit && (are_apart(lab, experiments) && (have_room(lab, experiments) && are_tags(lab, tags)))
 }
 
 /// Whether trunks, nodes and VLAN ids hold the claims of the experiments.
@@ -61,6 +61,7 @@ fn holds(lab: &Lab, experiments: &[Experiment], tags: &[u16]) -> bool
 pub fn is_holding(alloc: Global, lab: &Lab, experiments: &[Experiment]) -> Result<bool, Memory>
     ensures { IfOk result (λ holds. IsTrue holds ↔ Holding lab.now experiments.now) }
 {
+    let fit = all_fit(alloc, lab, experiments)?;
     let tags = claimed_tags(alloc, experiments)?;
-    Ok(holds(lab, experiments, &tags))
+    Ok(holds(lab, experiments, fit, &tags))
 }

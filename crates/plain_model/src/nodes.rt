@@ -1,52 +1,37 @@
-// // The OS and pipes that mappings want on nodes.
-ghost use Rattle.std.specs.Prelude.{◌≡◌, ◌<◌, [], true, length, slice_get, Some};
+// Whether commands leave a node as it is wanted.
+ghost use Rattle.std.specs.Prelude.{◌≡◌, ◌<◌, ◌&&◌, true, length, slice_get, IfOk};
 ghost use Rattle.std.specs.List.{list_all};
-ghost use Rattle.std.specs.Str.{bytes_eq};
-ghost use Rattle.virt_topo.specs.Ends.{end_nodes, end_number};
-ghost use Rattle.virt_topo.specs.Soundness.{IsSound, keeps_limits, knows_pipe, is_end};
-ghost use Rattle.virt_topo.specs.Wirings.{mapped};
-ghost use Rattle.lab_model.specs.Shapes.{IsShaped};
-ghost use Rattle.lab_model.specs.Uses.{iface_at};
-ghost use Rattle.lab_model.specs.Rules.{place_at, plug_at};
-ghost use Rattle.lab_model.specs.Wants.{node_name, os_on, pipe_row};
-ghost use Rattle.lab_model.specs.Kept.{same_rates, same_pipe, same_os, is_kept};
+ghost use Rattle.std.specs.Cmp.Lexicographic.{pointwise};
+ghost use Rattle.lab_model.specs.Wants.{node_name};
+ghost use Rattle.lab_model.specs.Kept.{same_rates, same_pipe, same_os};
+ghost use Rattle.swap_plan.specs.Plans.{both_os};
 ghost use Rattle.plain_model.specs.Holds.{fits_in, all_pass};
-ghost use Rattle.plain_model.specs.Cabling.{same_some, pipes_in, pipe_wanted, same_wanted, pipe_count, os_wanted, keeps};
+ghost use Rattle.plain_model.specs.Cabling.{is_state, same_some, is_pipe, is_of_one, is_set_of, is_node, os_wanted, pipes_wanted, stays};
 
-use crate::Pipe;
-use crate::at::node_name;
-use crate::claims::is_placed;
-use lab_base::{Name, NodeId, Rates};
+use crate::{Sent, boot_of, os_of, pipe_of};
+use lab_base::{Boot, Memory, Name, NodeId, Rates};
 use phys_lab::Lab;
-use virt_topo::{Mapped, Mapping, Pipe as WiringPipe, VirtNode, Wiring};
+use plant::DeviceOp;
+use std::alloc::Global;
+use swap_plan::{NodePipe, NodeWants, node_row_of};
+use virt_topo::Mapped;
 
-/// The OS of the first virtual node on a node.
-pub(crate) fn os_on(
-    lab: &Lab,
-    nodes: &[VirtNode],
-    places: &[(NodeId, Name)],
-    name: &[u8],
-) -> Option<Name>
-    ensures { result ≡ os_on lab.now nodes.now places.now name.now }
-{
-    match (nodes.split_first(), places.split_first()) {
-        (Some((virt, others)), Some((place, rest))) => {
-            if node_name(lab, place.0) == name {
-                Some(virt.os)
-            } else {
-                os_on(lab, others, rest, name)
-            }
-        }
-        _ => None,
-    }
-}
-
-pub(crate) fn same_os(a: Option<Name>, b: Option<Name>) -> bool
+fn same_os(a: Option<Name>, b: Option<Name>) -> bool
     ensures { result ≡ same_os a b }
 {
     match (a, b) {
         (Some(a), Some(b)) => a == b,
         (None, None) => true,
+        _ => false,
+    }
+}
+
+fn is_state(state: Option<Boot>, up: bool) -> bool
+    ensures { result ≡ is_state state up }
+{
+    match state {
+        Some(Boot::IsUp) => up,
+        Some(Boot::Off) => !up,
         _ => false,
     }
 }
@@ -57,7 +42,7 @@ fn same_rates(a: &Rates, b: &Rates) -> bool
     a.kbps == b.kbps && a.micros == b.micros && a.ppm == b.ppm
 }
 
-fn same_pipe(a: &Pipe, b: &Pipe) -> bool
+fn same_pipe(a: &NodePipe, b: &NodePipe) -> bool
     ensures { result ≡ same_pipe a.now b.now }
 {
     a.from == b.from
@@ -66,205 +51,142 @@ fn same_pipe(a: &Pipe, b: &Pipe) -> bool
         && same_rates(&a.back, &b.back)
 }
 
-pub(crate) fn same_some(a: &Option<Pipe>, b: &Option<Pipe>) -> bool
-    ensures { result ≡ same_some a.now b.now }
+/// Whether that pipe is the one of that number; also where there is neither.
+fn is_at(pipes: &[NodePipe], number: usize, pipe: &Option<NodePipe>) -> bool
+    ensures { result ≡ same_some pipe.now (slice_get pipes.now number) }
 {
-    match (a, b) {
-        (Some(a), Some(b)) => same_pipe(a, b),
+    match (pipe, pipes.get(number)) {
+        (Some(pipe), Some(other)) => same_pipe(pipe, other),
         (None, None) => true,
         _ => false,
     }
 }
 
-/// The number of an end that the wiring has.
-fn end_of(wiring: &Wiring, node: u16, k: u16) -> u16
-    requires limits { keeps_limits wiring.now ≡ true }
-    requires there { is_end wiring.now node k ≡ true }
-    ensures { result ≡ end_number (end_nodes wiring.now.segments) node k }
+fn is_pipe(commands: &[Sent], name: &[u8], pipes: &[NodePipe], number: usize) -> bool
+    ensures { result ≡ is_pipe commands.now name.now pipes.now number }
 {
-    match wiring.end(node, k) {
-        Some(end) => end,
-        None => 0,
-    }
+    is_at(pipes, number, &pipe_of(commands, name, number))
 }
 
-fn plug_name(lab: &Lab, mapping: &Mapping, end: u16) -> Name
-    requires end { end < length mapping.now.plugs }
-    requires plug { (plug_at mapping.now end).0 < length lab.now.ifaces }
-    ensures { result ≡ (iface_at lab.now (plug_at mapping.now end)).name }
+fn are_pipes(commands: &[Sent], name: &[u8], pipes: &[NodePipe]) -> bool
+    ensures { result ≡ all_pass (length pipes.now) (is_pipe commands.now name.now pipes.now) }
 {
-    let plug = mapping.plugs.as_slice()[end as usize];
-    lab.ifaces()[plug.0 as usize].name
-}
-
-fn end_name(lab: &Lab, wiring: &Wiring, mapping: &Mapping, node: u16, k: u16) -> Name
-    requires limits { keeps_limits wiring.now ≡ true }
-    requires shaped { IsShaped lab.now wiring.now mapping.now }
-    requires there { is_end wiring.now node k ≡ true }
-    ensures { result ≡ (iface_at lab.now (plug_at mapping.now (end_number (end_nodes wiring.now.segments) node k))).name }
-{
-    plug_name(lab, mapping, end_of(wiring, node, k))
-}
-
-fn pipe_row(lab: &Lab, wiring: &Wiring, mapping: &Mapping, pipe: &WiringPipe) -> Pipe
-    requires limits { keeps_limits wiring.now ≡ true }
-    requires shaped { IsShaped lab.now wiring.now mapping.now }
-    requires known { knows_pipe wiring.now pipe.now ≡ true }
-    ensures { result ≡ pipe_row lab.now (mapped wiring.now mapping.now []) pipe.now }
-{
-    let from = end_name(lab, wiring, mapping, pipe.node, pipe.from);
-    let to = end_name(lab, wiring, mapping, pipe.node, pipe.to);
-    Pipe {
-        from,
-        to,
-        there: pipe.there,
-        back: pipe.back,
-    }
-}
-
-fn is_placed_on(lab: &Lab, mapping: &Mapping, virt: u16, name: &[u8]) -> bool
-    ensures { result ≡ bytes_eq (node_name lab.now (place_at mapping.now virt).0) name.now }
-{
-    match mapping.places.as_slice().get(virt as usize) {
-        Some(place) => node_name(lab, place.0) == name,
-        None => node_name(lab, NodeId(0)) == name,
-    }
-}
-
-fn pipe_in(
-    lab: &Lab,
-    wiring: &Wiring,
-    mapping: &Mapping,
-    pipes: &[WiringPipe],
-    name: &[u8],
-    number: usize,
-) -> Option<Pipe>
-    requires limits { keeps_limits wiring.now ≡ true }
-    requires shaped { IsShaped lab.now wiring.now mapping.now }
-    requires known { list_all (knows_pipe wiring.now) pipes.now ≡ true }
-    ensures { result ≡ slice_get (pipes_in lab.now (mapped wiring.now mapping.now []) name.now pipes.now) number }
-{
-    match pipes.split_first() {
-        Some((pipe, others)) => {
-            if !is_placed_on(lab, mapping, pipe.node, name) {
-                pipe_in(lab, wiring, mapping, others, name, number)
-            } else if number == 0 {
-                Some(pipe_row(lab, wiring, mapping, pipe))
-            } else {
-                pipe_in(lab, wiring, mapping, others, name, number - 1)
-            }
-        }
-        None => None,
-    }
-}
-
-/// The pipe of that number that a mapping wants on a node.
-pub(crate) fn pipe_on(
-    lab: &Lab,
-    wiring: &Wiring,
-    mapping: &Mapping,
-    name: &[u8],
-    number: usize,
-) -> Option<Pipe>
-    requires sound { IsSound wiring.now }
-    requires shaped { IsShaped lab.now wiring.now mapping.now }
-    ensures { result ≡ pipe_wanted lab.now (Some (mapped wiring.now mapping.now [])) name.now number }
-{
-    pipe_in(lab, wiring, mapping, wiring.pipes.as_slice(), name, number)
-}
-
-/// The pipe of that number that a mapping wants on a node; None where there is no mapping.
-pub(crate) fn pipe_wanted(
-    lab: &Lab,
-    mapped: &Option<Mapped>,
-    name: &[u8],
-    number: usize,
-) -> Option<Pipe>
-    requires { fits_in lab.now mapped.now ≡ true }
-    ensures { result ≡ pipe_wanted lab.now mapped.now name.now number }
-{
-    match mapped {
-        Some(mapped) => pipe_on(lab, &mapped.wiring, &mapped.mapping, name, number),
-        None => None,
-    }
-}
-
-fn same_at(
-    lab: &Lab,
-    old: &Option<Mapped>,
-    new: &Option<Mapped>,
-    name: &[u8],
-    number: usize,
-) -> bool
-    requires old { fits_in lab.now old.now ≡ true }
-    requires new { fits_in lab.now new.now ≡ true }
-    ensures { result ≡ same_wanted lab.now old.now new.now name.now number }
-{
-    same_some(
-        &pipe_wanted(lab, old, name, number),
-        &pipe_wanted(lab, new, name, number),
-    )
-}
-
-/// Whether both mappings want the same pipes on a node, below that number.
-fn same_below(
-    lab: &Lab,
-    old: &Option<Mapped>,
-    new: &Option<Mapped>,
-    name: &[u8],
-    end: usize,
-) -> bool
-    requires old { fits_in lab.now old.now ≡ true }
-    requires new { fits_in lab.now new.now ≡ true }
-    ensures { result ≡ all_pass end (same_wanted lab.now old.now new.now name.now) }
-{
-    for number in 0..end {
-        if !same_at(lab, old, new, name, number) {
+    for number in 0..pipes.len() {
+        if !is_pipe(commands, name, pipes, number) {
             return false;
         }
     }
     true
 }
 
-fn count_of(mapped: &Option<Mapped>) -> usize
-    ensures { result ≡ pipe_count mapped.now }
+/// Whether a pipe, if there is one, is the one of that number of one of two lists.
+fn is_of_one(old: &[NodePipe], new: &[NodePipe], number: usize, pipe: &Option<NodePipe>) -> bool
+    ensures { result ≡ is_of_one old.now new.now number pipe.now }
 {
-    match mapped {
-        Some(mapped) => mapped.wiring.pipes.len(),
-        None => 0,
+    match pipe {
+        Some(_) => is_at(old, number, pipe) || is_at(new, number, pipe),
+        None => true,
     }
 }
 
-fn os_wanted(lab: &Lab, mapped: &Option<Mapped>, name: &[u8]) -> Option<Name>
-    ensures { result ≡ os_wanted lab.now mapped.now name.now }
+fn is_set_of(
+    commands: &[Sent],
+    name: &[u8],
+    old: &[NodePipe],
+    new: &[NodePipe],
+    op: DeviceOp,
+) -> bool
+    ensures { result ≡ is_set_of commands.now name.now old.now new.now op }
 {
-    match mapped {
-        Some(mapped) => os_on(
-            lab,
-            mapped.wiring.nodes.as_slice(),
-            mapped.mapping.places.as_slice(),
-            name,
-        ),
-        None => None,
+    match op {
+        DeviceOp::Shape { node, pipe, .. } => {
+            let number = pipe as usize;
+            name != node.bytes() || is_of_one(old, new, number, &pipe_of(commands, name, number))
+        }
+        _ => true,
     }
 }
 
-fn keeps(lab: &Lab, old: &Option<Mapped>, new: &Option<Mapped>, name: &[u8]) -> bool
-    requires old { fits_in lab.now old.now ≡ true }
-    requires new { fits_in lab.now new.now ≡ true }
-    ensures { result ≡ keeps lab.now old.now new.now name.now }
+/// Whether each pipe of a node that these commands set is of one of two lists, as all commands leave it.
+pub(crate) fn are_sets_of(
+    commands: &[Sent],
+    name: &[u8],
+    old: &[NodePipe],
+    new: &[NodePipe],
+    rest: &[Sent],
+) -> bool
+    ensures { result ≡ list_all (λ sent. is_set_of commands.now name.now old.now new.now sent.op) rest.now }
 {
-    is_placed(lab, old, name)
-        && is_placed(lab, new, name)
-        && same_os(os_wanted(lab, old, name), os_wanted(lab, new, name))
-        && same_below(lab, old, new, name, count_of(old).max(count_of(new)))
+    match rest.split_first() {
+        Some((sent, others)) => {
+            is_set_of(commands, name, old, new, sent.op)
+                && are_sets_of(commands, name, old, new, others)
+        }
+        None => true,
+    }
 }
 
-/// Whether a move keeps a node: both mappings place a virtual node on it, and want it alike.
-pub(crate) fn is_kept(lab: &Lab, old: &Option<Mapped>, new: &Option<Mapped>, name: &[u8]) -> bool
-    requires old { fits_in lab.now old.now ≡ true }
-    requires new { fits_in lab.now new.now ≡ true }
-    ensures { result ≡ is_kept lab.now old.now new.now name.now }
+/// Whether commands leave a node with that OS and exactly these pipes, and up or off.
+pub(crate) fn is_node(
+    commands: &[Sent],
+    name: &[u8],
+    os: Option<Name>,
+    up: bool,
+    pipes: &[NodePipe],
+) -> bool
+    ensures { result ≡ is_node commands.now name.now os up pipes.now }
 {
-    keeps(lab, old, new, name)
+    same_os(os_of(commands, name), os)
+        && (is_state(boot_of(commands, name), up)
+            && (are_pipes(commands, name, pipes)
+                && are_sets_of(commands, name, pipes, pipes, commands)))
+}
+
+/// The OS and the pipes that a mapping wants on a node; none where there is no mapping.
+pub(crate) fn wants_of(
+    alloc: Global,
+    lab: &Lab,
+    mapped: &Option<Mapped>,
+    node: NodeId,
+) -> Result<NodeWants, Memory>
+    requires fits { fits_in lab.now mapped.now ≡ true }
+    requires node { node.0 < length lab.now.nodes }
+    ensures os { IfOk result (λ wants. wants.os ≡ os_wanted lab.now mapped.now (node_name lab.now node)) }
+    ensures pipes { IfOk result (λ wants. wants.pipes.items ≡ pipes_wanted lab.now mapped.now (node_name lab.now node)) }
+{
+    match mapped {
+        Some(m) => node_row_of(alloc, lab, &m.wiring, &m.mapping, node),
+        None => Ok(NodeWants {
+            os: None,
+            pipes: Vec::new(alloc),
+        }),
+    }
+}
+
+fn both_os(one: Option<Name>, other: Option<Name>) -> bool
+    ensures { result ≡ both_os one other }
+{
+    match (one, other) {
+        (Some(one), Some(other)) => one == other,
+        _ => false,
+    }
+}
+
+fn same_pipes(ones: &[NodePipe], others: &[NodePipe]) -> bool
+    ensures { result ≡ pointwise same_pipe ones.now others.now }
+{
+    match (ones.split_first(), others.split_first()) {
+        (Some((one, ones)), Some((other, others))) => {
+            same_pipe(one, other) && same_pipes(ones, others)
+        }
+        (None, None) => true,
+        _ => false,
+    }
+}
+
+/// Whether a node stays: an OS is wanted before and then, and it and the pipes are equal.
+pub(crate) fn stays(before: &NodeWants, after: &NodeWants) -> bool
+    ensures { result ≡ stays before.now.os before.now.pipes.items after.now.os after.now.pipes.items }
+{
+    both_os(before.os, after.os) && same_pipes(&before.pipes, &after.pipes)
 }

@@ -2,12 +2,13 @@
 ghost use Rattle.std.specs.Prelude.{◌≡◌, ◌++◌, fold, None, IfOk, OnOk};
 ghost use Rattle.plain_model.specs.Rows.{row_seen, rows_by, rows_of, pipe_then, pipe_seen, pipes_by, pipes_of};
 
-use crate::{NodePipe, Row, Sent, has_row, pipe_of};
+use crate::{PipeEnds, Sent, has_row, pipe_of};
 use lab_base::{Memory, Name};
 use plant::DeviceOp;
 use std::alloc::Global;
+use swap_plan::Port;
 
-fn push_row(listed: &mut Vec<Row>, commands: &[Sent], row: Row) -> Result<(), Memory>
+fn push_row(listed: &mut Vec<Port>, commands: &[Sent], row: Port) -> Result<(), Memory>
     ensures { OnOk result (listed.new.items ≡ listed.old.items ++ row_seen commands.now row) }
 {
     if has_row(commands, &row) {
@@ -17,23 +18,18 @@ fn push_row(listed: &mut Vec<Row>, commands: &[Sent], row: Row) -> Result<(), Me
 }
 
 /// Adds the row that a command joins, if it is there after all commands.
-fn push_joined(listed: &mut Vec<Row>, commands: &[Sent], op: DeviceOp) -> Result<(), Memory>
+fn push_joined(listed: &mut Vec<Port>, commands: &[Sent], op: DeviceOp) -> Result<(), Memory>
     ensures { OnOk result (listed.new.items ≡ listed.old.items ++ rows_by commands.now op) }
 {
     match op {
         DeviceOp::Join { switch, port, vlan } => {
-            let row = Row {
-                switch,
-                port,
-                vlan: vlan.0,
-            };
-            push_row(listed, commands, row)
+            push_row(listed, commands, Port { switch, port, vlan })
         }
         _ => Ok(()),
     }
 }
 
-fn push_rows(listed: &mut Vec<Row>, commands: &[Sent], rest: &[Sent]) -> Result<(), Memory>
+fn push_rows(listed: &mut Vec<Port>, commands: &[Sent], rest: &[Sent]) -> Result<(), Memory>
     ensures { OnOk result (listed.new.items ≡ listed.old.items ++ rows_of commands.now rest.now) }
 {
     match rest.split_first() {
@@ -46,7 +42,7 @@ fn push_rows(listed: &mut Vec<Row>, commands: &[Sent], rest: &[Sent]) -> Result<
 }
 
 /// The rows that are there after these commands, each as often as commands joined it.
-pub fn rows_after(alloc: Global, commands: &[Sent]) -> Result<Vec<Row>, Memory>
+pub fn rows_after(alloc: Global, commands: &[Sent]) -> Result<Vec<Port>, Memory>
     ensures { IfOk result (λ listed. listed.items ≡ rows_of commands.now commands.now) }
 {
     let mut listed = Vec::new(alloc);
@@ -55,7 +51,7 @@ pub fn rows_after(alloc: Global, commands: &[Sent]) -> Result<Vec<Row>, Memory>
 }
 
 fn push_pipe(
-    listed: &mut Vec<NodePipe>,
+    listed: &mut Vec<PipeEnds>,
     commands: &[Sent],
     node: Name,
     number: u16,
@@ -63,7 +59,7 @@ fn push_pipe(
     ensures { OnOk result (listed.new.items ≡ listed.old.items ++ pipe_seen node (fold (pipe_then node number) None commands.now)) }
 {
     if let Some(pipe) = pipe_of(commands, node.bytes(), number as usize) {
-        listed.push(NodePipe {
+        listed.push(PipeEnds {
             node,
             from: pipe.from,
             to: pipe.to,
@@ -73,7 +69,7 @@ fn push_pipe(
 }
 
 /// Adds the pipe that a command sets, as it is after all commands.
-fn push_set(listed: &mut Vec<NodePipe>, commands: &[Sent], op: DeviceOp) -> Result<(), Memory>
+fn push_set(listed: &mut Vec<PipeEnds>, commands: &[Sent], op: DeviceOp) -> Result<(), Memory>
     ensures { OnOk result (listed.new.items ≡ listed.old.items ++ pipes_by commands.now op) }
 {
     match op {
@@ -82,7 +78,7 @@ fn push_set(listed: &mut Vec<NodePipe>, commands: &[Sent], op: DeviceOp) -> Resu
     }
 }
 
-fn push_pipes(listed: &mut Vec<NodePipe>, commands: &[Sent], rest: &[Sent]) -> Result<(), Memory>
+fn push_pipes(listed: &mut Vec<PipeEnds>, commands: &[Sent], rest: &[Sent]) -> Result<(), Memory>
     ensures { OnOk result (listed.new.items ≡ listed.old.items ++ pipes_of commands.now rest.now) }
 {
     match rest.split_first() {
@@ -95,7 +91,7 @@ fn push_pipes(listed: &mut Vec<NodePipe>, commands: &[Sent], rest: &[Sent]) -> R
 }
 
 /// The pipes of nodes after these commands, each as often as commands set it.
-pub fn pipes_after(alloc: Global, commands: &[Sent]) -> Result<Vec<NodePipe>, Memory>
+pub fn pipes_after(alloc: Global, commands: &[Sent]) -> Result<Vec<PipeEnds>, Memory>
     ensures { IfOk result (λ listed. listed.items ≡ pipes_of commands.now commands.now) }
 {
     let mut listed = Vec::new(alloc);

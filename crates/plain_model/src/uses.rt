@@ -11,7 +11,7 @@ use phys_lab::Lab;
 use virt_topo::{Experiment, Mapped, Mapping, Phase, Wiring};
 
 /// The kbps that a mapping uses of a trunk, where it suits the lab.
-pub fn use_of(lab: &Lab, wiring: &Wiring, mapping: &Mapping, trunk: usize) -> u64
+fn use_of(lab: &Lab, wiring: &Wiring, mapping: &Mapping, trunk: usize) -> u64
     requires limits { keeps_limits wiring.now ≡ true }
     requires shaped { IsShaped lab.now wiring.now mapping.now }
     requires trunk { trunk < length lab.now.trunks }
@@ -46,7 +46,7 @@ fn claimed_use(lab: &Lab, experiment: &Experiment, trunk: usize) -> u64
 }
 
 /// Whether so many kbps of a trunk suffice for the claims of all.
-pub(crate) fn are_enough(lab: &Lab, experiments: &[Experiment], trunk: usize, kbps: u64) -> bool
+fn are_enough(lab: &Lab, experiments: &[Experiment], trunk: usize, kbps: u64) -> bool
     requires fit { all_fit lab.now experiments.now ≡ true }
     requires trunk { trunk < length lab.now.trunks }
     ensures { result ≡ nat_le (sum_by (claimed_use lab.now trunk) experiments.now) kbps }

@@ -1,10 +1,11 @@
-use crate::{Owner, Row};
+use crate::Owner;
 use std::marker::Model;
+use swap_plan::Port;
 
 /// A row that a mapping wants, with its owner.
 #[derive(Drop)]
 pub struct Wanted {
-    pub row: Row,
+    pub row: Port,
     pub owner: Owner,
 }
 

@@ -4,9 +4,9 @@ ghost use Rattle.lab_base.specs.declared.boot.Boot.TheVariants.{Off};
 ghost use Rattle.plant.specs.Worlds.{is_row, row_after, told};
 ghost use Rattle.plain_model.specs.Rows.{row_then, has_row, os_then, boot_then, pipe_then, node_sent};
 
-use crate::{Pipe, Row};
 use lab_base::{Boot, Name, VlanId};
 use plant::{Answer, DeviceOp, Fault};
+use swap_plan::{NodePipe, Port};
 
 /// A command that was sent, whether it was applied, and its answer.
 #[derive(Drop)]
@@ -16,13 +16,13 @@ pub struct Sent {
     pub answer: Result<Answer, Fault>,
 }
 
-fn is_row(switch: Name, port: u16, vlan: VlanId, row: &Row) -> bool
+fn is_row(switch: Name, port: u16, vlan: VlanId, row: &Port) -> bool
     ensures { result ≡ is_row switch port vlan.0 row.now }
 {
-    row.switch == switch && row.port == port && row.vlan == vlan.0
+    row.switch == switch && row.port == port && row.vlan.0 == vlan.0
 }
 
-fn row_after(op: DeviceOp, row: &Row, had: bool) -> bool
+fn row_after(op: DeviceOp, row: &Port, had: bool) -> bool
     ensures { result ≡ row_after op row.now had }
 {
     match op {
@@ -32,7 +32,7 @@ fn row_after(op: DeviceOp, row: &Row, had: bool) -> bool
     }
 }
 
-fn row_then(sent: &Sent, row: &Row, had: bool) -> bool
+fn row_then(sent: &Sent, row: &Port, had: bool) -> bool
     ensures { result ≡ row_then row.now had sent.now }
 {
     if sent.applied {
@@ -43,7 +43,7 @@ fn row_then(sent: &Sent, row: &Row, had: bool) -> bool
 }
 
 /// Whether a row is there after these commands.
-pub fn has_row(commands: &[Sent], row: &Row) -> bool
+pub fn has_row(commands: &[Sent], row: &Port) -> bool
     ensures { result ≡ has_row commands.now row.now }
 {
     let mut had = false;
@@ -135,7 +135,7 @@ pub fn boot_of(commands: &[Sent], name: &[u8]) -> Option<Boot>
     had
 }
 
-fn pipe_then(sent: &Sent, name: &[u8], number: usize, had: Option<Pipe>) -> Option<Pipe>
+fn pipe_then(sent: &Sent, name: &[u8], number: usize, had: Option<NodePipe>) -> Option<NodePipe>
     ensures { result ≡ pipe_then name.now number had sent.now }
 {
     match sent.op {
@@ -148,7 +148,7 @@ fn pipe_then(sent: &Sent, name: &[u8], number: usize, had: Option<Pipe>) -> Opti
             back,
         } => {
             if sent.applied && name == node.bytes() && number == pipe as usize {
-                Some(Pipe {
+                Some(NodePipe {
                     from,
                     to,
                     there,
@@ -170,7 +170,7 @@ fn pipe_then(sent: &Sent, name: &[u8], number: usize, had: Option<Pipe>) -> Opti
 }
 
 /// The pipe of that number of a node after these commands.
-pub fn pipe_of(commands: &[Sent], name: &[u8], number: usize) -> Option<Pipe>
+pub fn pipe_of(commands: &[Sent], name: &[u8], number: usize) -> Option<NodePipe>
     ensures { result ≡ fold (pipe_then name.now number) None commands.now }
 {
     let mut had = None;

@@ -1,20 +1,29 @@
 //! Ends of runs: the last replies, and the states of the devices then.
 use crate::devices::held;
-use crate::run::{plainly, run_blank};
+use crate::run::{blank, plainly, run};
 use anyhow::bail;
 use lab_top::Status;
+use plant_mem::MemLab;
 use std::alloc::Global;
 use std::fs;
 
-/// The end of a run that reads its script to the end: its output, and behind it the states of the devices.
-pub fn left_by(alloc: Global, script: &str) -> anyhow::Result<String> {
-    let (ran, plant) = run_blank(alloc, plainly(script))?;
+/// The end of a run over a plant.
+fn left_over(alloc: Global, script: &str, plant: &mut MemLab) -> anyhow::Result<String> {
+    let ran = run(alloc, plainly(script), plant)?;
     if ran.status != Status::Done {
         bail!("a run ends with code {}", ran.status.code());
     }
     let mut left = ran.output;
-    left.push_str(held(alloc, &plant)?.as_str())?;
+    left.push_str(held(alloc, plant)?.as_str())?;
     Ok(left)
+}
+
+/// The end of a run that reads its script to the end: its output, and behind it the states of the devices.
+pub fn left_by(alloc: Global, script: &str) -> anyhow::Result<String> {
+    let mut plant = blank(alloc)?;
+    let left = left_over(alloc, script, &mut plant);
+    drop(plant);
+    left
 }
 
 /// The script of a file.

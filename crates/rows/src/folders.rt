@@ -26,6 +26,12 @@ pub fn place(alloc: Global, words: &[&str]) -> anyhow::Result<String> {
 
 /// Runs a script over a folder.
 pub fn run_in(rt: &HostRuntime, folder: &str, given: Given<'_>) -> anyhow::Result<Ran> {
-    let mut plant = FileLab::new(rt, folder).map_err(wanting)?;
-    run(rt.alloc(), given, &mut plant)
+    match FileLab::new(rt, folder) {
+        Ok(mut plant) => {
+            let ran = run(rt.alloc(), given, &mut plant);
+            drop(plant);
+            ran
+        }
+        Err(memory) => Err(wanting(memory)),
+    }
 }

@@ -19,9 +19,10 @@ mod searches;
 mod sides;
 
 use anyhow::{anyhow, bail};
-use lab_rows::{Texts, Wrong};
-use layer_rows::Untold;
+use lab_base::Text;
+use lab_rows::Texts;
 use plant_mem::MemLab;
+use row_words::Untold;
 use std::str;
 
 /// The kinds of rows.
@@ -46,33 +47,25 @@ fn begun(line: &str) -> Option<Of> {
     }
 }
 
-fn tell_text(rt: &HostRuntime, line: &str) -> anyhow::Result<()> {
-    match text_rows::told(rt.alloc(), line) {
-        Ok(Some(told)) => Ok(println!(rt; "== {line}\n{}", str::from_utf8(told.bytes())?)?),
-        Ok(None) => bail!("no row: {line}"),
-        Err(_memory) => bail!("out of memory"),
-    }
-}
-
-fn tell_lab(rt: &HostRuntime, texts: &mut Texts, line: &str) -> anyhow::Result<()> {
-    match lab_rows::told(rt.alloc(), texts, line) {
-        Ok(Some(told)) => println!(rt; "== {line}\n{}", str::from_utf8(told.bytes())?)?,
-        Ok(None) => {}
-        Err(Wrong::Text(fault)) => {
+/// Prints a row with what it tells, which for a text that is refused is the fault.
+fn tell_row(rt: &HostRuntime, line: &str, told: Result<Text, Untold>) -> anyhow::Result<()> {
+    match told {
+        Ok(told) => println!(rt; "== {line}\n{}", str::from_utf8(told.bytes())?)?,
+        Err(Untold::Text(fault)) => {
             println!(rt; "== {line}\n{} {}", fault.line, fault.kind.word())?;
         }
-        Err(Wrong::Word(kind)) => bail!("{}: {line}", kind.word()),
-        Err(Wrong::Memory) => bail!("out of memory"),
+        Err(Untold::Word(kind)) => bail!("{}: {line}", kind.word()),
+        Err(Untold::Plant) => bail!("a call failed: {line}"),
+        Err(Untold::Memory) => bail!("out of memory"),
     }
     Ok(())
 }
 
-fn tell_layer(rt: &HostRuntime, line: &str) -> anyhow::Result<()> {
-    match layer_rows::told(rt.alloc(), line) {
-        Ok(told) => Ok(print!(rt; "== {line}\n{told}")?),
-        Err(Untold::Memory) => bail!("out of memory"),
-        Err(Untold::Words) => bail!("no row: {line}"),
-        Err(Untold::Plant) => bail!("a call failed: {line}"),
+fn tell_lab(rt: &HostRuntime, texts: &mut Texts, line: &str) -> anyhow::Result<()> {
+    match lab_rows::told(rt.alloc(), texts, line) {
+        Ok(Some(told)) => tell_row(rt, line, Ok(told)),
+        Ok(None) => Ok(()),
+        Err(untold) => tell_row(rt, line, Err(untold)),
     }
 }
 
@@ -90,9 +83,9 @@ fn tell(
     line: &str,
 ) -> anyhow::Result<()> {
     match of {
-        Some(Of::Texts) => tell_text(rt, line),
+        Some(Of::Texts) => tell_row(rt, line, text_rows::told(rt.alloc(), line)),
         Some(Of::Labs) => tell_lab(rt, texts, line),
-        Some(Of::Layers) => tell_layer(rt, line),
+        Some(Of::Layers) => tell_row(rt, line, layer_rows::told(rt.alloc(), line)),
         Some(Of::Searches) => searches::tell(rt, line),
         Some(Of::Scripts) => tell_script(rt, last, line),
         None => Err(anyhow!("no line says of what this is: {line}")),

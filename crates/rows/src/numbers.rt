@@ -1,6 +1,6 @@
 //! Scripts with a drill of each number, and with lines repeated many times.
 use crate::drills::{Drill, drilled};
-use crate::run::{ending, plainly, run_blank};
+use crate::run::{blank, ending, plainly, run, run_blank};
 use anyhow::anyhow;
 use plant_mem::MemLab;
 use std::alloc::{AllocError, Global};
@@ -10,7 +10,7 @@ use std::fmt::Write;
 fn told_at(alloc: Global, script: &str, drill: Drill, nth: u32) -> anyhow::Result<String> {
     let (before, behind) = script.split_once("@\n").ok_or_else(|| anyhow!("no mark"))?;
     let script = drilled(alloc, before, drill, nth, behind)?;
-    Ok(ending(run_blank(alloc, plainly(script.as_str()))?.0)?)
+    Ok(ending(run_blank(alloc, plainly(script.as_str()))?)?)
 }
 
 /// The output of a script with a drill of the numbers 1, 2, .. at its mark. Equal outputs in a row are told once.
@@ -57,14 +57,23 @@ fn with_many(alloc: Global, parts: &Parts<'_>, count: u32) -> Result<String, All
     Ok(script)
 }
 
+/// The number of steps of a script.
+fn steps_of(alloc: Global, script: &str) -> anyhow::Result<usize> {
+    let mut plant = blank(alloc)?;
+    let ran = run(alloc, plainly(script), &mut plant);
+    let steps = plant.trace().len();
+    drop(plant);
+    ran?;
+    Ok(steps)
+}
+
 /// The number of steps with the marked lines 0, 1, .. times.
 pub fn turns(alloc: Global, script: &str, last: u32) -> anyhow::Result<String> {
     let parts = parts_of(script).ok_or_else(|| anyhow!("no marks"))?;
     let mut out = String::from_str(alloc, "steps")?;
     for count in 0..=last {
         let script = with_many(alloc, &parts, count)?;
-        let (_ran, plant) = run_blank(alloc, plainly(script.as_str()))?;
-        write!(out, " {}", plant.trace().len())?;
+        write!(out, " {}", steps_of(alloc, script.as_str())?)?;
     }
     out.push('\n')?;
     Ok(out)
@@ -77,30 +86,32 @@ fn written_once(alloc: Global, parts: &Parts<'_>, count: u32) -> anyhow::Result<
         ..*parts
     };
     let script = with_many(alloc, &once, count)?;
-    Ok(run_blank(alloc, plainly(script.as_str()))?.0.output)
+    Ok(run_blank(alloc, plainly(script.as_str()))?.output)
+}
+
+/// The rest of an output behind another one.
+fn behind<'a>(told: &'a str, before: &str) -> anyhow::Result<&'a str> {
+    told.strip_prefix(before)
+        .ok_or_else(|| anyhow!("other replies"))
+}
+
+/// The rest behind an output that is there so often.
+fn behind_all<'a>(told: &'a str, each: &str, count: u32) -> anyhow::Result<&'a str> {
+    let mut rest = told;
+    for _ in 0..count {
+        rest = behind(rest, each)?;
+    }
+    Ok(rest)
 }
 
 /// The output of marked lines that are there so often and write the same each time: it is told once, with their number.
-pub fn long(alloc: Global, script: &str, count: u32) -> anyhow::Result<(String, MemLab)> {
+pub fn long(alloc: Global, script: &str, count: u32, plant: &mut MemLab) -> anyhow::Result<String> {
     let parts = parts_of(script).ok_or_else(|| anyhow!("no marks"))?;
     let before = written_once(alloc, &parts, 0)?;
     let once = written_once(alloc, &parts, 1)?;
-    let each = once
-        .strip_prefix(before.as_str())
-        .ok_or_else(|| anyhow!("other replies"))?;
+    let each = behind(once.as_str(), before.as_str())?;
     let script = with_many(alloc, &parts, count)?;
-    let (ran, plant) = run_blank(alloc, plainly(script.as_str()))?;
-    let told = ending(ran)?;
-    let mut behind = told
-        .strip_prefix(before.as_str())
-        .ok_or_else(|| anyhow!("other replies"))?;
-    for _ in 0..count {
-        behind = behind
-            .strip_prefix(each)
-            .ok_or_else(|| anyhow!("other replies"))?;
-    }
-    Ok((
-        format!(in alloc; "{before}{count} times\n{each}then\n{behind}")?,
-        plant,
-    ))
+    let told = ending(run(alloc, plainly(script.as_str()), plant)?)?;
+    let rest = behind_all(behind(told.as_str(), before.as_str())?, each, count)?;
+    Ok(format!(in alloc; "{before}{count} times\n{each}then\n{rest}")?)
 }

@@ -28,7 +28,7 @@ use crate::ends::{ends_of, script_of};
 use crate::folders::{folder_of, place, run_in};
 use crate::numbers::{long, numbers, turns};
 use crate::orders::order;
-use crate::run::{Given, Ran, ending, plainly, run, run_blank};
+use crate::run::{Given, Ran, blank, ending, plainly, run, run_blank};
 use crate::sides::{like, plant_with, sides};
 use anyhow::{anyhow, bail};
 use plant_mem::MemLab;
@@ -36,11 +36,22 @@ use std::alloc::Global;
 use std::fmt::Write;
 use std::fs;
 
+/// Keeps a plant for the next row.
+fn keep(last: &mut Option<MemLab>, plant: MemLab) {
+    *last = Some(plant);
+}
+
+/// The plant that the row before left.
+fn kept(last: &mut Option<MemLab>) -> anyhow::Result<&mut MemLab> {
+    last.as_mut().ok_or_else(|| anyhow!("no plant is left"))
+}
+
 /// Runs a script over a blank plant, and keeps that as the last one.
 fn run_kept(alloc: Global, given: Given<'_>, last: &mut Option<MemLab>) -> anyhow::Result<Ran> {
-    let (ran, plant) = run_blank(alloc, given)?;
-    *last = Some(plant);
-    Ok(ran)
+    let mut plant = blank(alloc)?;
+    let ran = run(alloc, given, &mut plant);
+    keep(last, plant);
+    ran
 }
 
 /// Runs a script by words over the folder that they choose, or else over a blank plant.
@@ -62,6 +73,13 @@ fn script(
     Ok(ending(ran)?)
 }
 
+/// Runs a script over a plant, and tells the number of its steps.
+fn steps_over(alloc: Global, given: Given<'_>, plant: &mut MemLab) -> anyhow::Result<String> {
+    let mut out = ending(run(alloc, given, plant)?)?;
+    writeln!(out, "steps {}", plant.trace().len())?;
+    Ok(out)
+}
+
 /// Runs a script over a blank plant, and tells the number of its steps.
 fn steps(rt: &HostRuntime, file: &str, words: &[&str]) -> anyhow::Result<String> {
     let script = script_of(rt, file)?;
@@ -69,39 +87,39 @@ fn steps(rt: &HostRuntime, file: &str, words: &[&str]) -> anyhow::Result<String>
         words,
         ..plainly(script.as_str())
     };
-    let (ran, plant) = run_blank(rt.alloc(), given)?;
-    let mut out = ending(ran)?;
-    writeln!(out, "steps {}", plant.trace().len())?;
+    let mut plant = blank(rt.alloc())?;
+    let told = steps_over(rt.alloc(), given, &mut plant);
+    drop(plant);
+    told
+}
+
+/// Runs a script over a plant, and tells the commands and the states of its devices.
+fn devices_over(alloc: Global, script: &str, plant: &mut MemLab) -> anyhow::Result<String> {
+    let mut out = ending(run(alloc, plainly(script), plant)?)?;
+    out.push_str(did(alloc, plant)?.as_str())?;
+    out.push_str(held(alloc, plant)?.as_str())?;
     Ok(out)
 }
 
 /// Runs a script over a blank plant, and tells the commands and the states of its devices.
 fn devices(rt: &HostRuntime, file: &str) -> anyhow::Result<String> {
-    let alloc = rt.alloc();
-    let (ran, plant) = run_blank(alloc, plainly(script_of(rt, file)?.as_str()))?;
-    let mut out = ending(ran)?;
-    out.push_str(did(alloc, &plant)?.as_str())?;
-    out.push_str(held(alloc, &plant)?.as_str())?;
-    Ok(out)
+    let script = script_of(rt, file)?;
+    let mut plant = blank(rt.alloc())?;
+    let told = devices_over(rt.alloc(), script.as_str(), &mut plant);
+    drop(plant);
+    told
 }
 
-/// Runs a script over the plant, and keeps that as the last one.
-fn over(
-    rt: &HostRuntime,
-    file: &str,
-    mut plant: MemLab,
-    last: &mut Option<MemLab>,
-) -> anyhow::Result<String> {
+/// Runs a script over a plant.
+fn over(rt: &HostRuntime, file: &str, plant: &mut MemLab) -> anyhow::Result<String> {
     let script = script_of(rt, file)?;
-    let ran = run(rt.alloc(), plainly(script.as_str()), &mut plant)?;
-    *last = Some(plant);
-    Ok(ending(ran)?)
+    Ok(ending(run(rt.alloc(), plainly(script.as_str()), plant)?)?)
 }
 
 /// Runs a script by words over a blank plant, with the numbers of a failing read and write, and of bytes of room.
 fn faulty(
     rt: &HostRuntime,
-    numbers: [u32; 3],
+    numbers: [&str; 3],
     file: &str,
     words: &[&str],
 ) -> anyhow::Result<String> {
@@ -110,11 +128,11 @@ fn faulty(
     let given = Given {
         words,
         script: script.as_str(),
-        read,
-        write,
-        room: room as usize,
+        read: read.parse()?,
+        write: write.parse()?,
+        room: room.parse()?,
     };
-    Ok(ending(run_blank(rt.alloc(), given)?.0)?)
+    Ok(ending(run_blank(rt.alloc(), given)?)?)
 }
 
 /// Runs a script whose marked lines are there many times, and keeps its plant as the last one.
@@ -124,9 +142,11 @@ fn many(
     count: u32,
     last: &mut Option<MemLab>,
 ) -> anyhow::Result<String> {
-    let (told, plant) = long(rt.alloc(), script_of(rt, file)?.as_str(), count)?;
-    *last = Some(plant);
-    Ok(told)
+    let script = script_of(rt, file)?;
+    let mut plant = blank(rt.alloc())?;
+    let told = long(rt.alloc(), script.as_str(), count, &mut plant);
+    keep(last, plant);
+    told
 }
 
 /// The names between commas.
@@ -167,56 +187,26 @@ fn remove(rt: &HostRuntime, folder: &str) -> anyhow::Result<String> {
     Ok(String::new(rt.alloc()))
 }
 
-/// The output of a row over the plant that the row before left, or of one that keeps its own for the next row.
-fn told_of_last(
+/// Runs a script over a plant whose sides have the bytes of files, and keeps it as the last one.
+fn over_sides(
     rt: &HostRuntime,
-    words: &[&str],
+    sides: &[&str],
+    file: &str,
     last: &mut Option<MemLab>,
-) -> anyhow::Result<Option<String>> {
-    match words {
-        ["script", file, words @ ..] => Ok(Some(script(rt, file, words, last)?)),
-        ["again", file] => {
-            let plant = last.take().ok_or_else(|| anyhow!("no plant is left"))?;
-            Ok(Some(over(rt, file, plant, last)?))
-        }
-        ["side", sides @ .., file] => {
-            let plant = plant_of(rt, sides)?;
-            Ok(Some(over(rt, file, plant, last)?))
-        }
-        ["sides"] => {
-            let plant = last.as_mut().ok_or_else(|| anyhow!("no plant is left"))?;
-            Ok(Some(sides(rt.alloc(), plant)?))
-        }
-        ["like", file] => {
-            let plant = last.as_mut().ok_or_else(|| anyhow!("no plant is left"))?;
-            Ok(Some(like(rt.alloc(), plant, &fs::read(rt, *file)?)?))
-        }
-        ["long", count, file] => Ok(Some(many(rt, file, count.parse()?, last)?)),
-        _ => Ok(None),
-    }
+) -> anyhow::Result<String> {
+    let mut plant = plant_of(rt, sides)?;
+    let told = over(rt, file, &mut plant);
+    keep(last, plant);
+    told
 }
 
-/// The output of any other row.
-fn told_alone(rt: &HostRuntime, words: &[&str]) -> anyhow::Result<String> {
-    let alloc = rt.alloc();
+/// The output of a row about scripts with drills or lines of many numbers.
+fn told_of_numbers(rt: &HostRuntime, words: &[&str]) -> anyhow::Result<String> {
     match words {
-        ["steps", file, words @ ..] => steps(rt, file, words),
-        ["devices", file] => devices(rt, file),
-        ["faulty", read, write, room, file, words @ ..] => {
-            faulty(
-                rt,
-                [read.parse()?, write.parse()?, room.parse()?],
-                file,
-                words,
-            )
-        }
-        ["place", words @ ..] => place(alloc, words),
-        ["file", file] => Ok(fs::read_to_string(rt, *file)?),
-        ["remove", folder] => remove(rt, folder),
-        ["turns", last, file] => turns(alloc, script_of(rt, file)?.as_str(), last.parse()?),
+        ["turns", last, file] => { turns(rt.alloc(), script_of(rt, file)?.as_str(), last.parse()?) }
         ["numbers", last, drill, file] => {
             numbers(
-                alloc,
+                rt.alloc(),
                 script_of(rt, file)?.as_str(),
                 drill_named(drill)?,
                 last.parse()?,
@@ -229,11 +219,36 @@ fn told_alone(rt: &HostRuntime, words: &[&str]) -> anyhow::Result<String> {
     }
 }
 
+/// The output of a row that has no use for the plant of the row before.
+fn told_alone(rt: &HostRuntime, words: &[&str]) -> anyhow::Result<String> {
+    match words {
+        ["steps", file, words @ ..] => steps(rt, file, words),
+        ["devices", file] => devices(rt, file),
+        ["faulty", read, write, room, file, words @ ..] => {
+            faulty(rt, [*read, *write, *room], file, words)
+        }
+        ["place", words @ ..] => place(rt.alloc(), words),
+        ["file", file] => Ok(fs::read_to_string(rt, *file)?),
+        ["remove", folder] => remove(rt, folder),
+        _ => told_of_numbers(rt, words),
+    }
+}
+
+/// The output of a row of these words, over the plant that the row before left, or of one that keeps its own for the next row.
+fn told_of(rt: &HostRuntime, words: &[&str], last: &mut Option<MemLab>) -> anyhow::Result<String> {
+    match words {
+        ["script", file, words @ ..] => script(rt, file, words, last),
+        ["again", file] => over(rt, file, kept(last)?),
+        ["side", sides @ .., file] => over_sides(rt, sides, file, last),
+        ["sides"] => sides(rt.alloc(), kept(last)?),
+        ["like", file] => like(rt.alloc(), kept(last)?, &fs::read(rt, *file)?),
+        ["long", count, file] => many(rt, file, count.parse()?, last),
+        _ => told_alone(rt, words),
+    }
+}
+
 /// The output of a row. The plant of a row that has its own is left to the next one.
 pub fn told(rt: &HostRuntime, line: &str, last: &mut Option<MemLab>) -> anyhow::Result<String> {
     let words: Vec<&str> = line.split_whitespace().collect(rt.alloc())?;
-    match told_of_last(rt, &words, last)? {
-        Some(told) => Ok(told),
-        None => told_alone(rt, &words),
-    }
+    told_of(rt, &words, last)
 }

@@ -68,11 +68,20 @@ pub fn run<P: Tables>(alloc: Global, given: Given<'_>, plant: &mut P) -> anyhow:
     Ok(Ran { output, status })
 }
 
-/// Runs a script over a blank plant, and gives that back.
-pub fn run_blank(alloc: Global, given: Given<'_>) -> anyhow::Result<(Ran, MemLab)> {
-    let mut plant = MemLab::blank(alloc).map_err(wanting)?;
-    let ran = run(alloc, given, &mut plant)?;
-    Ok((ran, plant))
+/// A plant in which nothing has happened.
+pub fn blank(alloc: Global) -> anyhow::Result<MemLab> {
+    match MemLab::blank(alloc) {
+        Ok(plant) => Ok(plant),
+        Err(memory) => Err(wanting(memory)),
+    }
+}
+
+/// Runs a script over a blank plant, which ends with the run.
+pub fn run_blank(alloc: Global, given: Given<'_>) -> anyhow::Result<Ran> {
+    let mut plant = blank(alloc)?;
+    let ran = run(alloc, given, &mut plant);
+    drop(plant);
+    ran
 }
 
 /// Adds the code of the status, with what else it says.

@@ -1,5 +1,5 @@
 //! The sides of the disk.
-use crate::run::wanting;
+use crate::run::blank;
 use anyhow::anyhow;
 use plant::{Plant, Side};
 use plant_mem::MemLab;
@@ -16,12 +16,21 @@ fn fill(plant: &mut MemLab, side: Side, bytes: &[u8]) -> anyhow::Result<()> {
         .map_err(|_fault| anyhow!("a write failed"))
 }
 
+fn fill_both(plant: &mut MemLab, a: &[u8], b: &[u8]) -> anyhow::Result<()> {
+    fill(plant, Side::A, a)?;
+    fill(plant, Side::B, b)
+}
+
 /// A plant whose sides have these bytes, and in which nothing else has happened.
 pub fn plant_with(alloc: Global, a: &[u8], b: &[u8]) -> anyhow::Result<MemLab> {
-    let mut plant = MemLab::blank(alloc).map_err(wanting)?;
-    fill(&mut plant, Side::A, a)?;
-    fill(&mut plant, Side::B, b)?;
-    Ok(plant)
+    let mut plant = blank(alloc)?;
+    match fill_both(&mut plant, a, b) {
+        Ok(()) => Ok(plant),
+        Err(error) => {
+            drop(plant);
+            Err(error)
+        }
+    }
 }
 
 /// The bytes that a side reads as.

@@ -2,7 +2,6 @@
 ghost use Rattle.std.specs.Prelude.{Ok};
 ghost use Rattle.tcl_eval.specs.declared.hosts.Called.TheVariants as called;
 
-use crate::faults::push_refusal;
 use lab_base::{Memory, Text, TextRefused};
 use std::alloc::Global;
 use tcl_eval::{Called, Host, HostFault, Interp, Ran};
@@ -59,7 +58,7 @@ fn ran<H: Host>(interp: &mut Interp<H>, text: &[u8]) -> Result<Ran, TextRefused>
     interp.run(text)
 }
 
-/// Adds `ended` or `stopped` with the line, or the text's fault.
+/// Adds `ended` or `stopped` with the line, or the line and the kind of the text's fault.
 fn push_ran(out: &mut Text, ran: Result<Ran, TextRefused>) -> Result<(), Memory> {
     match ran {
         Ok(Ran::Ended { line }) => {
@@ -70,22 +69,33 @@ fn push_ran(out: &mut Text, ran: Result<Ran, TextRefused>) -> Result<(), Memory>
             out.push_bytes(b"stopped ")?;
             out.push_number(u64::from(line))
         }
-        Err(refused) => push_refusal(out, refused),
+        Err(TextRefused::Text(fault)) => {
+            out.push_number(u64::from(fault.line))?;
+            out.push(b' ')?;
+            out.push_bytes(fault.kind.word().as_bytes())
+        }
+        Err(TextRefused::Memory) => Err(Memory),
+    }
+}
+
+/// The value that `r` has behind a text that an interpreter runs, or `!`.
+fn value_by(alloc: Global, interp: &mut Interp<Nobody>, text: &[u8]) -> Result<Text, Memory> {
+    let name = Text::from_slice(alloc, b"r")?;
+    if ran(interp, text).is_err() {
+        return Text::from_slice(alloc, b"!");
+    }
+    match interp.value(&name) {
+        Some(value) => value.copy(),
+        None => Text::from_slice(alloc, b"!"),
     }
 }
 
 /// The value that `r` has behind a text, or `!` where there is none or the text is refused.
 pub fn value(alloc: Global, text: &[u8]) -> Result<Text, Memory> {
     let mut interp = Interp::new(alloc, Nobody)?;
-    let refused = Text::from_slice(alloc, b"!")?;
-    if ran(&mut interp, text).is_err() {
-        return Ok(refused);
-    }
-    let name = Text::from_slice(alloc, b"r")?;
-    match interp.value(&name) {
-        Some(value) => value.copy(),
-        None => Ok(refused),
-    }
+    let value = value_by(alloc, &mut interp, text);
+    drop(interp);
+    value
 }
 
 /// How a text ends by an interpreter.
@@ -98,16 +108,25 @@ fn told_by<H: Host>(alloc: Global, interp: &mut Interp<H>, text: &[u8]) -> Resul
 /// How a text ends.
 pub fn told(alloc: Global, text: &[u8]) -> Result<Text, Memory> {
     let mut interp = Interp::new(alloc, Nobody)?;
-    told_by(alloc, &mut interp, text)
+    let told = told_by(alloc, &mut interp, text);
+    drop(interp);
+    told
+}
+
+/// How a text that is refused ends by an interpreter, and then another one.
+fn told_of_two(alloc: Global, interp: &mut Interp<Nobody>, text: &[u8]) -> Result<Text, Memory> {
+    let mut out = told_by(alloc, interp, b"\nnothing")?;
+    out.push(b'\n')?;
+    out.push_bytes(told_by(alloc, interp, text)?.bytes())?;
+    Ok(out)
 }
 
 /// How it ends by an interpreter that has refused a text, with how that one ended.
 pub fn told_again(alloc: Global, text: &[u8]) -> Result<Text, Memory> {
     let mut interp = Interp::new(alloc, Nobody)?;
-    let mut out = told_by(alloc, &mut interp, b"\nnothing")?;
-    out.push(b'\n')?;
-    out.push_bytes(told_by(alloc, &mut interp, text)?.bytes())?;
-    Ok(out)
+    let told = told_of_two(alloc, &mut interp, text);
+    drop(interp);
+    told
 }
 
 /// How it ends where each command of the host stops it.

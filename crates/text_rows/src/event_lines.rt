@@ -1,8 +1,8 @@
 //! Lines of scheduled link events.
-use crate::faults::push_refusal;
 use lab_base::{Memory, Text, TextRefused};
 use ns_build::{Asked, read_ns};
 use ns_events::{Event, What};
+use row_words::{Untold, push_numbers};
 use std::alloc::Global;
 
 /// A link `l`, a LAN `m` and a link without a variable, in lines 4, 5 and 6.
@@ -13,14 +13,6 @@ set l [$ns duplex-link $a $b 100Mb 2ms DropTail]
 set m [$ns make-lan \"$a $b\" 10Mb 0]
 foreach x [$ns duplex-link $a $b 1Gb 0 DropTail] {set y 0}
 ";
-
-fn push_numbers(out: &mut Text, numbers: &[u64]) -> Result<(), Memory> {
-    for number in numbers {
-        out.push(b' ')?;
-        out.push_number(*number)?;
-    }
-    Ok(())
-}
 
 /// The line, the time, the link or LAN, and what happens.
 fn push_event(out: &mut Text, event: &Event) -> Result<(), Memory> {
@@ -59,27 +51,37 @@ fn push_events(out: &mut Text, events: &[Event], line: u32) -> Result<(), Memory
     push_numbers(out, &[u64::from(line)])
 }
 
-/// The events of a text behind the head, and the line of its run, or its fault.
-pub fn told(alloc: Global, lines: &[u8]) -> Result<Text, Memory> {
-    let mut out = Text::new(alloc);
-    match read(alloc, lines) {
-        Ok(asked) => push_events(&mut out, asked.events.as_slice(), asked.line)?,
-        Err(refused) => push_refusal(&mut out, refused)?,
-    }
-    Ok(out)
-}
-
-/// How many events there are, and the last one, with the line of the run, or the text's fault.
-pub fn told_last(alloc: Global, lines: &[u8]) -> Result<Text, Memory> {
+/// The events of a text behind the head, and the line of its run.
+pub fn told(alloc: Global, lines: &[u8]) -> Result<Text, Untold> {
     let mut out = Text::new(alloc);
     match read(alloc, lines) {
         Ok(asked) => {
-            let events = asked.events.as_slice();
-            out.push_number(events.len() as u64)?;
-            let last = events.len().saturating_sub(1);
-            push_events(&mut out, &events[last..], asked.line)?;
+            let pushed = push_events(&mut out, asked.events.as_slice(), asked.line);
+            drop(asked);
+            pushed?;
+            Ok(out)
         }
-        Err(refused) => push_refusal(&mut out, refused)?,
+        Err(refused) => Err(Untold::from(refused)),
     }
-    Ok(out)
+}
+
+/// Adds how many events there are, the last one, and the line of the run.
+fn push_last(out: &mut Text, events: &[Event], line: u32) -> Result<(), Memory> {
+    out.push_number(events.len() as u64)?;
+    let last = events.len().saturating_sub(1);
+    push_events(out, &events[last..], line)
+}
+
+/// How many events there are, and the last one, with the line of the run.
+pub fn told_last(alloc: Global, lines: &[u8]) -> Result<Text, Untold> {
+    let mut out = Text::new(alloc);
+    match read(alloc, lines) {
+        Ok(asked) => {
+            let pushed = push_last(&mut out, asked.events.as_slice(), asked.line);
+            drop(asked);
+            pushed?;
+            Ok(out)
+        }
+        Err(refused) => Err(Untold::from(refused)),
+    }
 }

@@ -22,51 +22,23 @@
 
 mod evaluation;
 mod event_lines;
-mod faults;
 mod link_events;
 mod networks;
 mod ptops;
 mod replies;
 mod scripts;
 mod solutions;
+mod splitting;
 mod tops;
 mod values;
 mod wirings;
-mod words;
 
-use lab_base::{Memory, Text};
+use lab_base::{Kind, Text};
+use row_words::{Untold, text_of};
 use std::alloc::Global;
 
-/// The byte that a letter behind a backslash stands for.
-fn meant(letter: u8) -> u8 {
-    match letter {
-        b'n' => b'\n',
-        b't' => b'\t',
-        b'r' => b'\r',
-        b'0' => 0,
-        other => other,
-    }
-}
-
-/// The text that the letters of a row stand for.
-fn text_of(alloc: Global, letters: &[u8]) -> Result<Text, Memory> {
-    let mut text = Text::new(alloc);
-    let mut is_escaped = false;
-    for letter in letters {
-        if is_escaped {
-            text.push(meant(*letter))?;
-            is_escaped = false;
-        } else if *letter == b'\\' {
-            is_escaped = true;
-        } else {
-            text.push(*letter)?;
-        }
-    }
-    Ok(text)
-}
-
 /// The output of a row about scripts, labs, wirings or mappings.
-fn told_of_lab(alloc: Global, kind: &str, text: &[u8]) -> Result<Option<Text>, Memory> {
+fn told_of_lab(alloc: Global, kind: &str, text: &[u8]) -> Result<Option<Text>, Untold> {
     Ok(Some(match kind {
         "script" => scripts::told(alloc, text)?,
         "reply" => replies::told(alloc)?,
@@ -81,9 +53,9 @@ fn told_of_lab(alloc: Global, kind: &str, text: &[u8]) -> Result<Option<Text>, M
 }
 
 /// The output of a row about Tcl.
-fn told_of_tcl(alloc: Global, kind: &str, text: &[u8]) -> Result<Option<Text>, Memory> {
+fn told_of_tcl(alloc: Global, kind: &str, text: &[u8]) -> Result<Option<Text>, Untold> {
     Ok(Some(match kind {
-        "words" => words::told(alloc, text)?,
+        "words" => splitting::told(alloc, text)?,
         "value" => evaluation::value(alloc, text)?,
         "tcl" => evaluation::told(alloc, text)?,
         "again" => evaluation::told_again(alloc, text)?,
@@ -93,7 +65,7 @@ fn told_of_tcl(alloc: Global, kind: &str, text: &[u8]) -> Result<Option<Text>, M
 }
 
 /// The output of a row about NS texts and their events.
-fn told_of_ns(alloc: Global, kind: &str, text: &[u8]) -> Result<Option<Text>, Memory> {
+fn told_of_ns(alloc: Global, kind: &str, text: &[u8]) -> Result<Option<Text>, Untold> {
     Ok(Some(match kind {
         "ns" => networks::told(alloc, text)?,
         "nodes" => networks::told_over_two(alloc, text)?,
@@ -107,7 +79,7 @@ fn told_of_ns(alloc: Global, kind: &str, text: &[u8]) -> Result<Option<Text>, Me
 }
 
 /// The output of a row by its kind, if it is one.
-fn told_by_kind(alloc: Global, kind: &str, text: &[u8]) -> Result<Option<Text>, Memory> {
+fn told_by_kind(alloc: Global, kind: &str, text: &[u8]) -> Result<Option<Text>, Untold> {
     if let Some(told) = told_of_lab(alloc, kind, text)? {
         return Ok(Some(told));
     }
@@ -120,12 +92,15 @@ fn told_by_kind(alloc: Global, kind: &str, text: &[u8]) -> Result<Option<Text>, 
     if let Some(told) = link_events::told(alloc, kind)? {
         return Ok(Some(told));
     }
-    values::told(alloc, kind, text)
+    Ok(values::told(alloc, kind, text)?)
 }
 
-/// The output of a row, if it is one.
-pub fn told(alloc: Global, line: &str) -> Result<Option<Text>, Memory> {
+/// The output of a row.
+pub fn told(alloc: Global, line: &str) -> Result<Text, Untold> {
     let (kind, letters) = line.split_once(' ').unwrap_or((line, ""));
     let text = text_of(alloc, letters.as_bytes())?;
-    told_by_kind(alloc, kind, text.bytes())
+    match told_by_kind(alloc, kind, text.bytes())? {
+        Some(told) => Ok(told),
+        None => Err(Untold::Word(Kind::Unknown)),
+    }
 }

@@ -2,11 +2,12 @@
 ghost use Rattle.std.specs.Prelude.{IfOk};
 ghost use Rattle.virt_topo.specs.Soundness.{IsSound};
 
-use lab_base::{Items, Memory, Name, Rates, Text};
-use net_plan::{lan_pipe, link_pipe};
+use crate::tops::read;
+use lab_base::{Memory, Name, Rates, Text};
 use ns_events::*;
+use row_words::push_numbers;
 use std::alloc::Global;
-use virt_topo::{Asks, Pipe, Segment, VirtEnd, VirtNode, Wiring};
+use virt_topo::{Pipe, Wiring};
 
 fn named(text: &[u8]) -> Result<Name, Memory> {
     Name::read(text).map_err(|_bad| Memory)
@@ -16,69 +17,42 @@ fn rates(kbps: u64, micros: u32, ppm: u32) -> Rates {
     Rates { kbps, micros, ppm }
 }
 
-fn node(alloc: Global, name: &[u8]) -> Result<VirtNode, Memory> {
-    Ok(VirtNode {
-        name: named(name)?,
-        asks: Asks::Plain(named(b"pc")?),
-        desires: Items::new(alloc),
-        os: named(b"default")?,
-        fixed: None,
-    })
-}
+/// A shaped link `l` and a shaped LAN `m` between the nodes `a` and `b`, without their pipes.
+const HEAD: &[u8] = b"node a pc default
+node b pc default
+node l.d pc default
+node m.d1 pc default
+node m.d2 pc default
+link l.0 l 100000 a l.d
+link l.1 l 100000 l.d b
+link m.m1 m 100000 a m.d1
+link m.m2 m 100000 b m.d2
+link m m 100000 m.d1 m.d2
+";
 
-fn segment(alloc: Global, names: (&[u8], &[u8]), ends: (u16, u16)) -> Result<Segment, Memory> {
-    let (name, owner) = names;
-    let mut both = Items::new(alloc);
-    for node in [ends.0, ends.1] {
-        both.push(VirtEnd {
-            node,
-            address: None,
-        })?;
-    }
-    Ok(Segment {
-        name: named(name)?,
-        owner: named(owner)?,
-        kbps: 100_000,
-        multiplexed: false,
-        ends: both,
-    })
-}
+/// Their pipes as the text has them.
+const PLAIN: [&[u8]; 3] = [
+    b"pipe l.d 0 1 100000 2000 0 100000 2000 0\n",
+    b"pipe m.d1 0 1 100000 1000 0 100000 1000 0\n",
+    b"pipe m.d2 0 1 100000 1000 0 100000 1000 0\n",
+];
 
-fn sound(wiring: Wiring) -> Result<Wiring, Memory>
-    ensures { IfOk result (λ sound. IsSound sound) }
+/// Their pipes with slow rates.
+const SLOW: [&[u8]; 3] = [
+    b"pipe l.d 0 1 5000 5001 7 5000 5001 7\n",
+    b"pipe m.d1 0 1 5000 2500 7 5000 2501 0\n",
+    b"pipe m.d2 0 1 5000 2500 7 5000 2501 0\n",
+];
+
+/// The wiring with the first of these pipes.
+fn wiring(alloc: Global, pipes: &[&[u8]], count: usize) -> Result<Wiring, Memory>
+    ensures { IfOk result IsSound }
 {
-    match wiring.check() {
-        Ok(()) => Ok(wiring),
-        Err(_) => Err(Memory),
+    let mut text = Text::from_slice(alloc, HEAD)?;
+    for pipe in pipes.iter().take(count) {
+        text.push_bytes(pipe)?;
     }
-}
-
-/// A shaped link `l` and a shaped LAN `m` between the nodes `a` and `b`, with the first of their three pipes.
-fn wiring(alloc: Global, link: Rates, lan: Rates, pipes: usize) -> Result<Wiring, Memory>
-    ensures { IfOk result (λ wiring. IsSound wiring) }
-{
-    let mut nodes = Items::new(alloc);
-    for name in [b"a".as_slice(), b"b", b"l.d", b"m.d1", b"m.d2"] {
-        nodes.push(node(alloc, name)?)?;
-    }
-    let mut segments = Items::new(alloc);
-    segments.push(segment(alloc, (b"l.0", b"l"), (0, 2))?)?;
-    segments.push(segment(alloc, (b"l.1", b"l"), (2, 1))?)?;
-    segments.push(segment(alloc, (b"m.m1", b"m"), (0, 3))?)?;
-    segments.push(segment(alloc, (b"m.m2", b"m"), (1, 4))?)?;
-    segments.push(segment(alloc, (b"m", b"m"), (3, 4))?)?;
-    let mut some = Items::new(alloc);
-    for pipe in [link_pipe(link, 2), lan_pipe(lan, 3), lan_pipe(lan, 4)] {
-        if some.len() < pipes {
-            some.push(pipe)?;
-        }
-    }
-    sound(Wiring {
-        classes: Items::new(alloc),
-        nodes,
-        segments,
-        pipes: some,
-    })
+    read(alloc, text.bytes()).map_err(|_refused| Memory)
 }
 
 fn event(at: u64, link: &[u8], what: What, line: u32) -> Result<Event, Memory> {
@@ -107,14 +81,6 @@ fn due_lines(alloc: Global) -> Result<Text, Memory> {
     Ok(out)
 }
 
-fn push_numbers(out: &mut Text, numbers: &[u64]) -> Result<(), Memory> {
-    for number in numbers {
-        out.push(b' ')?;
-        out.push_number(*number)?;
-    }
-    Ok(())
-}
-
 /// Adds rates.
 fn push_rates(out: &mut Text, rates: Rates) -> Result<(), Memory> {
     push_numbers(
@@ -134,41 +100,101 @@ fn push_pipes(out: &mut Text, pipes: &[Pipe]) -> Result<(), Memory> {
     Ok(())
 }
 
-/// The pipes that an event leaves of a link `l` and a LAN `m`. Their rates are slow now, and were plain in the text.
-fn push_change(out: &mut Text, alloc: Global, link: &[u8], what: What) -> Result<(), Memory> {
-    let plain = rates(100_000, 2_000, 0);
-    let slow = rates(5_000, 5_001, 7);
-    let text = wiring(alloc, plain, plain, 3)?;
-    let now = wiring(alloc, slow, slow, 3)?;
-    out.push_bytes(link)?;
+/// Adds the pipes that an event leaves.
+fn push_change(
+    out: &mut Text,
+    alloc: Global,
+    event: &Event,
+    text: &Wiring,
+    now: &Wiring,
+) -> Result<(), Memory>
+    requires text { IsSound text.now }
+    requires now { IsSound now.now }
+{
+    out.push_bytes(event.link.bytes())?;
     out.push(b'\n')?;
-    match apply(alloc, &event(0, link, what, 5)?, &text, &now) {
-        Ok(new) => push_pipes(out, new.pipes.as_slice()),
+    match apply(alloc, event, text, now) {
+        Ok(new) => {
+            let pushed = push_pipes(out, new.pipes.as_slice());
+            drop(new);
+            pushed
+        }
         Err(_) => out.push_bytes(b"refused\n"),
     }
 }
 
 /// The pipes after events of the link and the LAN.
-fn changes(alloc: Global) -> Result<Text, Memory> {
-    let given = rates(1_000, 3, 9);
+fn changes_of(alloc: Global, text: &Wiring, now: &Wiring) -> Result<Text, Memory>
+    requires text { IsSound text.now }
+    requires now { IsSound now.now }
+{
+    let given = What::Rates(rates(1_000, 3, 9));
     let mut out = Text::new(alloc);
-    push_change(&mut out, alloc, b"l", What::Down)?;
-    push_change(&mut out, alloc, b"l", What::Up)?;
-    push_change(&mut out, alloc, b"l", What::Rates(given))?;
-    push_change(&mut out, alloc, b"m", What::Up)?;
-    push_change(&mut out, alloc, b"m", What::Rates(given))?;
+    push_change(&mut out, alloc, &event(0, b"l", What::Down, 5)?, text, now)?;
+    push_change(&mut out, alloc, &event(0, b"l", What::Up, 5)?, text, now)?;
+    push_change(&mut out, alloc, &event(0, b"l", given, 5)?, text, now)?;
+    push_change(&mut out, alloc, &event(0, b"m", What::Up, 5)?, text, now)?;
+    push_change(&mut out, alloc, &event(0, b"m", given, 5)?, text, now)?;
     Ok(out)
+}
+
+/// The pipes after events, where the rates are slow now.
+fn changes_from(alloc: Global, text: &Wiring) -> Result<Text, Memory>
+    requires { IsSound text.now }
+{
+    let now = wiring(alloc, &SLOW, 3)?;
+    let changes = changes_of(alloc, text, &now);
+    drop(now);
+    changes
+}
+
+/// The pipes after events of the link and the LAN. Their rates are slow now, and were plain in the text.
+fn changes(alloc: Global) -> Result<Text, Memory> {
+    let text = wiring(alloc, &PLAIN, 3)?;
+    let changes = changes_from(alloc, &text);
+    drop(text);
+    changes
+}
+
+fn is_shape_fault(applied: Result<Wiring, ApplyFault>) -> bool {
+    match applied {
+        Ok(new) => {
+            drop(new);
+            false
+        }
+        Err(fault) => fault == ApplyFault::Shape,
+    }
+}
+
+/// Whether an event of a link lacks a shape, where so many pipes are there now.
+fn lacks_now(alloc: Global, event: &Event, text: &Wiring, pipes: usize) -> Result<bool, Memory>
+    requires { IsSound text.now }
+{
+    let now = wiring(alloc, &PLAIN, pipes)?;
+    let lacks = is_shape_fault(apply(alloc, event, text, &now));
+    drop(now);
+    Ok(lacks)
+}
+
+/// Whether an event of a link lacks a shape, where so many pipes are in the text, and so many there now.
+fn lacks_shape(alloc: Global, link: &[u8], pipes: (usize, usize)) -> Result<bool, Memory> {
+    let event = event(0, link, What::Down, 5)?;
+    let text = wiring(alloc, &PLAIN, pipes.0)?;
+    let lacks = lacks_now(alloc, &event, &text, pipes.1);
+    drop(text);
+    lacks
 }
 
 /// Whether an event lacks a shape. The events are of an unknown link, and of a LAN that has one or two of its pipes now or in the text.
 fn shapes(alloc: Global) -> Result<Text, Memory> {
-    let plain = rates(100_000, 2_000, 0);
     let mut out = Text::new(alloc);
-    for (link, old, present) in [(b"x", 3, 3), (b"m", 1, 1), (b"m", 3, 2), (b"m", 2, 2)] {
-        let text = wiring(alloc, plain, plain, old)?;
-        let now = wiring(alloc, plain, plain, present)?;
-        let new = apply(alloc, &event(0, link, What::Down, 5)?, &text, &now);
-        let lacks = new.err() == Some(ApplyFault::Shape);
+    for (link, pipes) in [
+        (b"x", (3, 3)),
+        (b"m", (1, 1)),
+        (b"m", (3, 2)),
+        (b"m", (2, 2)),
+    ] {
+        let lacks = lacks_shape(alloc, link, pipes)?;
         out.push_bytes(if lacks { b"lacks one\n" } else { b"has one\n" })?;
     }
     Ok(out)

@@ -1,7 +1,7 @@
 //! Networks of NS texts.
-use crate::faults::push_refusal;
 use lab_base::{Memory, Name, Text};
-use ns_build::read_ns;
+use ns_build::{Asked, read_ns};
+use row_words::{Untold, push_number};
 use std::alloc::Global;
 use virt_topo::{AskedLink, AskedNode, Asks, Class, Topo, VirtEnd};
 
@@ -12,11 +12,6 @@ const HEAD: &[u8] =
 fn push_name(out: &mut Text, name: Name) -> Result<(), Memory> {
     out.push(b' ')?;
     out.push_bytes(name.bytes())
-}
-
-fn push_number(out: &mut Text, number: u64) -> Result<(), Memory> {
-    out.push(b' ')?;
-    out.push_number(number)
 }
 
 fn push_asks(out: &mut Text, asks: &Asks) -> Result<(), Memory> {
@@ -104,24 +99,32 @@ fn push_topo(out: &mut Text, topo: &Topo) -> Result<(), Memory> {
     push_classes(out, topo.classes())
 }
 
-/// The line of `$ns run` and the network, or the line and the kind of the fault.
-pub fn told(alloc: Global, text: &[u8]) -> Result<Text, Memory> {
+/// Adds the line of `$ns run` and the network.
+fn push_asked(out: &mut Text, asked: &Asked) -> Result<(), Memory> {
+    out.push_number(u64::from(asked.line))?;
+    out.push(b'\n')?;
+    push_topo(out, &asked.topo)
+}
+
+/// The line of `$ns run` and the network.
+pub fn told(alloc: Global, text: &[u8]) -> Result<Text, Untold> {
     let mut out = Text::new(alloc);
     if text.len() > 100_000 {
         return Ok(out);
     }
     match read_ns(alloc, text) {
         Ok(asked) => {
-            out.push_number(u64::from(asked.line))?;
-            out.push(b'\n')?;
-            push_topo(&mut out, &asked.topo)?;
+            let pushed = push_asked(&mut out, &asked);
+            drop(asked);
+            pushed?;
+            Ok(out)
         }
-        Err(refused) => push_refusal(&mut out, refused)?,
+        Err(refused) => Err(Untold::from(refused)),
     }
-    Ok(out)
 }
+
 /// The network of a text of two nodes, with lines behind them, and the run.
-pub fn told_over_two(alloc: Global, lines: &[u8]) -> Result<Text, Memory> {
+pub fn told_over_two(alloc: Global, lines: &[u8]) -> Result<Text, Untold> {
     let mut text = Text::from_slice(alloc, HEAD)?;
     text.push_bytes(lines)?;
     text.push_bytes(b"\n$ns run\n")?;
@@ -129,7 +132,7 @@ pub fn told_over_two(alloc: Global, lines: &[u8]) -> Result<Text, Memory> {
 }
 
 /// The fault of a text with an open quote on line 3, of 65,536 bytes and further ones.
-pub fn told_long(alloc: Global, further: &[u8]) -> Result<Text, Memory> {
+pub fn told_long(alloc: Global, further: &[u8]) -> Result<Text, Untold> {
     let mut text = Text::from_slice(alloc, b"\n\n\"")?;
     for _ in 0..65_533 {
         text.push(b'x')?;

@@ -1,10 +1,10 @@
 //! Texts of labs.
 ghost use Rattle.std.specs.Prelude.{◌<◌};
 
-use crate::faults::push_refusal;
 use lab_base::{Memory, SwitchId, Text, TextRefused, TrunkId};
 use phys_lab::Lab;
 use ptop_text::{print_ptop, read_ptop};
+use row_words::Untold;
 use std::alloc::Global;
 
 /// The lab of a text.
@@ -16,20 +16,27 @@ pub fn read(alloc: Global, text: &[u8]) -> Result<Lab, TextRefused> {
     }
 }
 
-/// How many switches, nodes and trunks the lab of a text has, and its canonical text, or the text's fault.
-pub fn told(alloc: Global, text: &[u8]) -> Result<Text, Memory> {
+/// Adds how many switches, nodes and trunks a lab has, and its canonical text.
+fn push_lab(out: &mut Text, alloc: Global, lab: &Lab) -> Result<(), Memory> {
+    for count in [lab.switches().len(), lab.nodes().len(), lab.trunks().len()] {
+        out.push_number(count as u64)?;
+        out.push(b'\n')?;
+    }
+    out.push_bytes(print_ptop(alloc, lab)?.bytes())
+}
+
+/// How many switches, nodes and trunks the lab of a text has, and its canonical text.
+pub fn told(alloc: Global, text: &[u8]) -> Result<Text, Untold> {
     let mut out = Text::new(alloc);
     match read(alloc, text) {
         Ok(lab) => {
-            for count in [lab.switches().len(), lab.nodes().len(), lab.trunks().len()] {
-                out.push_number(count as u64)?;
-                out.push(b'\n')?;
-            }
-            out.push_bytes(print_ptop(alloc, &lab)?.bytes())?;
+            let pushed = push_lab(&mut out, alloc, &lab);
+            drop(lab);
+            pushed?;
+            Ok(out)
         }
-        Err(refused) => push_refusal(&mut out, refused)?,
+        Err(refused) => Err(Untold::from(refused)),
     }
-    Ok(out)
 }
 
 /// Adds `yes` or `no`.
@@ -53,14 +60,18 @@ fn push_sides(out: &mut Text, lab: &Lab) -> Result<(), Memory> {
     Ok(())
 }
 
-/// The sides of the first trunk of a lab, or the text's fault.
-pub fn sides(alloc: Global, text: &[u8]) -> Result<Text, Memory> {
+/// The sides of the first trunk of a lab.
+pub fn sides(alloc: Global, text: &[u8]) -> Result<Text, Untold> {
     let mut out = Text::new(alloc);
     match read(alloc, text) {
-        Ok(lab) => push_sides(&mut out, &lab)?,
-        Err(refused) => push_refusal(&mut out, refused)?,
+        Ok(lab) => {
+            let pushed = push_sides(&mut out, &lab);
+            drop(lab);
+            pushed?;
+            Ok(out)
+        }
+        Err(refused) => Err(Untold::from(refused)),
     }
-    Ok(out)
 }
 
 /// 64 switches in a chain, and 1,024 nodes with 16 interfaces each.
@@ -114,12 +125,21 @@ fn add_trunk(text: &mut Text, trunk: u64) -> Result<(), Memory>
     Ok(())
 }
 
+/// Whether a lab is printed as a text.
+fn is_printed_as(alloc: Global, lab: &Lab, text: &Text) -> Result<bool, Memory> {
+    Ok(print_ptop(alloc, lab)? == *text)
+}
+
 /// The largest lab, as it is read and printed.
 pub fn told_largest(alloc: Global) -> Result<Text, Memory> {
     let text = largest(alloc)?;
     match read(alloc, text.bytes()) {
-        Ok(lab) if print_ptop(alloc, &lab)? == text => Text::from_slice(alloc, b"the same"),
-        Ok(_) => Text::from_slice(alloc, b"otherwise"),
+        Ok(lab) => {
+            let same = is_printed_as(alloc, &lab, &text);
+            drop(lab);
+            let word: &[u8] = if same? { b"the same" } else { b"otherwise" };
+            Text::from_slice(alloc, word)
+        }
         Err(_) => Text::from_slice(alloc, b"refused"),
     }
 }

@@ -5,7 +5,7 @@ use std::alloc::Global;
 use virt_topo::Broken;
 
 /// Adds the text of a reply, and behind one that closes the controller a line that says so.
-fn push_reply(out: &mut Text, alloc: Global, reply: &Reply) -> Result<(), Memory> {
+fn push_text(out: &mut Text, alloc: Global, reply: &Reply) -> Result<(), Memory> {
     out.push_bytes(reply_text(alloc, reply)?.bytes())?;
     if reply.closes() {
         out.push_bytes(b"(closes)\n")?;
@@ -13,86 +13,111 @@ fn push_reply(out: &mut Text, alloc: Global, reply: &Reply) -> Result<(), Memory
     Ok(())
 }
 
+/// Adds what is told of a reply, which ends here.
+fn push_reply(out: &mut Text, alloc: Global, reply: Reply) -> Result<(), Memory> {
+    let pushed = push_text(out, alloc, &reply);
+    drop(reply);
+    pushed
+}
+
 fn named(text: &[u8]) -> Result<Name, Memory> {
     Name::read(text).map_err(|_bad| Memory)
 }
 
-/// Adds replies without a text or a list in them.
-fn push_short(out: &mut Text, alloc: Global, exp: Name) -> Result<(), Memory> {
-    let (line, kind) = (6, Kind::Cycle);
-    let fault = TextFault { line, kind };
-    let (switches, nodes, trunks, segments, length) = (1, 2, 0, 1, 18);
-    let (done, stuck) = (256, 0);
-    let replies = [
-        Reply::Lab {
-            switches,
-            nodes,
-            trunks,
-        },
-        Reply::Created {
-            exp,
-            nodes,
-            segments,
-        },
-        Reply::Deleted { exp },
-        Reply::NoneFits { exp },
-        Reply::GaveUp { exp },
-        Reply::NoLab,
-        Reply::LabIsSet,
-        Reply::Exists { exp },
-        Reply::Unknown { exp },
-        Reply::Bad { exp, fault },
-        Reply::BadPtop { fault },
-        Reply::FullExperiments,
-        Reply::IsIn { exp },
-        Reply::IsMoving { exp },
-        Reply::In { exp },
-        Reply::Out { exp },
-        Reply::IsOut { exp },
-        Reply::More { exp },
-        Reply::Busy { exp },
-        Reply::NotOpen { exp },
-        Reply::FullSwaps,
-        Reply::Recovered { done, stuck },
-        Reply::Planned,
-        Reply::NoDrill,
-        Reply::FullJournal { length },
-        Reply::Down,
-        Reply::Stopped,
-    ];
-    for reply in &replies {
-        push_reply(out, alloc, reply)?;
-    }
-    Ok(())
+/// Adds what is told of commands that are done.
+fn push_done(out: &mut Text, alloc: Global, exp: Name) -> Result<(), Memory> {
+    let (switches, nodes, trunks, segments) = (1, 2, 0, 1);
+    let lab = Reply::Lab {
+        switches,
+        nodes,
+        trunks,
+    };
+    push_reply(out, alloc, lab)?;
+    let created = Reply::Created {
+        exp,
+        nodes,
+        segments,
+    };
+    push_reply(out, alloc, created)?;
+    push_reply(out, alloc, Reply::Deleted { exp })?;
+    push_reply(out, alloc, Reply::NoneFits { exp })?;
+    push_reply(out, alloc, Reply::GaveUp { exp })
 }
 
-fn shown_text(alloc: Global, exp: Name, placed: Option<Placed>) -> Result<Text, Memory> {
-    let phase = if placed.is_some() {
-        PhaseWord::In
-    } else {
-        PhaseWord::Out
-    };
+/// Adds what is told of labs and experiments that are refused.
+fn push_refusals(out: &mut Text, alloc: Global, exp: Name) -> Result<(), Memory> {
+    let (line, kind) = (6, Kind::Cycle);
+    let fault = TextFault { line, kind };
+    push_reply(out, alloc, Reply::NoLab)?;
+    push_reply(out, alloc, Reply::LabIsSet)?;
+    push_reply(out, alloc, Reply::Exists { exp })?;
+    push_reply(out, alloc, Reply::Unknown { exp })?;
+    push_reply(out, alloc, Reply::Bad { exp, fault })?;
+    push_reply(out, alloc, Reply::BadPtop { fault })?;
+    push_reply(out, alloc, Reply::FullExperiments)
+}
+
+/// Adds what is told of where experiments stand.
+fn push_phases(out: &mut Text, alloc: Global, exp: Name) -> Result<(), Memory> {
+    push_reply(out, alloc, Reply::IsIn { exp })?;
+    push_reply(out, alloc, Reply::IsMoving { exp })?;
+    push_reply(out, alloc, Reply::In { exp })?;
+    push_reply(out, alloc, Reply::Out { exp })?;
+    push_reply(out, alloc, Reply::IsOut { exp })?;
+    push_reply(out, alloc, Reply::More { exp })?;
+    push_reply(out, alloc, Reply::Busy { exp })?;
+    push_reply(out, alloc, Reply::NotOpen { exp })
+}
+
+/// Adds what is told of the controller itself.
+fn push_ends(out: &mut Text, alloc: Global) -> Result<(), Memory> {
+    let (done, stuck) = (256, 0);
+    push_reply(out, alloc, Reply::FullSwaps)?;
+    push_reply(out, alloc, Reply::Recovered { done, stuck })?;
+    push_reply(out, alloc, Reply::Planned)?;
+    push_reply(out, alloc, Reply::NoDrill)?;
+    push_reply(out, alloc, Reply::FullJournal { length: 18 })?;
+    push_reply(out, alloc, Reply::Down)?;
+    push_reply(out, alloc, Reply::Stopped)
+}
+
+/// Adds an experiment that is out.
+fn push_out(out: &mut Text, alloc: Global, exp: Name) -> Result<(), Memory> {
     let top = Text::from_slice(alloc, b"node a pc linux\n")?;
     let reply = Reply::Shown {
         exp,
-        phase,
+        phase: PhaseWord::Out,
         top,
-        placed,
+        placed: None,
     };
-    reply_text(alloc, &reply)
+    push_reply(out, alloc, reply)
 }
 
 fn placed(alloc: Global, segment: Name) -> Result<Placed, Memory> {
+    let solution = Text::from_slice(alloc, b"node a pc1 pc\n")?;
     let mut tags = Items::new(alloc);
     tags.push(TagLine {
         segment,
         vlan: VlanId(100),
     })?;
-    let solution = Text::from_slice(alloc, b"node a pc1 pc\n")?;
     Ok(Placed { solution, tags })
 }
 
-fn listed_text(alloc: Global, exp: Name) -> Result<Text, Memory> {
+/// Adds an experiment that is in.
+fn push_in(out: &mut Text, alloc: Global, exp: Name) -> Result<(), Memory> {
+    let segment = named(b"ab")?;
+    let top = Text::from_slice(alloc, b"node a pc linux\n")?;
+    let placed = placed(alloc, segment)?;
+    let reply = Reply::Shown {
+        exp,
+        phase: PhaseWord::In,
+        top,
+        placed: Some(placed),
+    };
+    push_reply(out, alloc, reply)
+}
+
+fn push_listed(out: &mut Text, alloc: Global, exp: Name) -> Result<(), Memory> {
     let mut experiments = Items::new(alloc);
     experiments.push(StatusLine {
         exp,
@@ -105,37 +130,27 @@ fn listed_text(alloc: Global, exp: Name) -> Result<Text, Memory> {
         nodes: 2,
         vlans: 2,
     };
-    reply_text(alloc, &reply)
+    push_reply(out, alloc, reply)
 }
 
-/// Adds replies with a text or a list in them.
-fn push_long(out: &mut Text, alloc: Global, exp: Name) -> Result<(), Memory> {
-    out.push_bytes(shown_text(alloc, exp, None)?.bytes())?;
-    let placed = placed(alloc, named(b"ab")?)?;
-    out.push_bytes(shown_text(alloc, exp, Some(placed))?.bytes())?;
-    out.push_bytes(listed_text(alloc, exp)?.bytes())?;
+/// Adds what is told of searches and of a mapping that breaks a rule.
+fn push_places(out: &mut Text, alloc: Global, exp: Name) -> Result<(), Memory> {
     let (cost, solution) = (u64::MAX, Text::from_slice(alloc, b"node a pc1 pc\n")?);
-    push_reply(
-        out,
-        alloc,
-        &Reply::Least {
-            exp,
-            cost,
-            solution,
-        },
-    )?;
+    let least = Reply::Least {
+        exp,
+        cost,
+        solution,
+    };
+    push_reply(out, alloc, least)?;
     let (cost, solution) = (0, Text::new(alloc));
-    push_reply(
-        out,
-        alloc,
-        &Reply::Local {
-            exp,
-            cost,
-            solution,
-        },
-    )?;
+    let local = Reply::Local {
+        exp,
+        cost,
+        solution,
+    };
+    push_reply(out, alloc, local)?;
     let (rule, subject) = (Broken::F5, Text::from_slice(alloc, b"a:1")?);
-    push_reply(out, alloc, &Reply::Infeasible { exp, rule, subject })
+    push_reply(out, alloc, Reply::Infeasible { exp, rule, subject })
 }
 
 /// Adds what is told of a swap that failed with that end, and each cause but the journal's.
@@ -147,7 +162,7 @@ fn push_failed(out: &mut Text, alloc: Global, exp: Name, end: FailedEnd) -> Resu
         What::Late(node),
         What::Unlawful { node, from, to },
     ] {
-        push_reply(out, alloc, &Reply::Failed { exp, end, what })?;
+        push_reply(out, alloc, Reply::Failed { exp, end, what })?;
     }
     Ok(())
 }
@@ -157,11 +172,11 @@ fn push_failures(out: &mut Text, alloc: Global, exp: Name) -> Result<(), Memory>
     push_failed(out, alloc, exp, FailedEnd::Out)?;
     push_failed(out, alloc, exp, FailedEnd::In)?;
     let (end, what) = (FailedEnd::In, What::Journal);
-    push_reply(out, alloc, &Reply::Failed { exp, end, what })?;
+    push_reply(out, alloc, Reply::Failed { exp, end, what })?;
     let (end, what) = (FailedEnd::Stuck, What::Device(named(b"s1")?));
-    push_reply(out, alloc, &Reply::Failed { exp, end, what })?;
+    push_reply(out, alloc, Reply::Failed { exp, end, what })?;
     let (end, what) = (FailedEnd::Stuck, What::Journal);
-    push_reply(out, alloc, &Reply::Failed { exp, end, what })
+    push_reply(out, alloc, Reply::Failed { exp, end, what })
 }
 
 /// Adds what is told of turns in trouble.
@@ -173,7 +188,7 @@ fn push_troubles(out: &mut Text, alloc: Global, exp: Name) -> Result<(), Memory>
         What::Late(node),
         What::Unlawful { node, from, to },
     ] {
-        push_reply(out, alloc, &Reply::Trouble { exp, what })?;
+        push_reply(out, alloc, Reply::Trouble { exp, what })?;
     }
     Ok(())
 }
@@ -182,8 +197,14 @@ fn push_troubles(out: &mut Text, alloc: Global, exp: Name) -> Result<(), Memory>
 pub fn told(alloc: Global) -> Result<Text, Memory> {
     let exp = named(b"A")?;
     let mut out = Text::new(alloc);
-    push_short(&mut out, alloc, exp)?;
-    push_long(&mut out, alloc, exp)?;
+    push_done(&mut out, alloc, exp)?;
+    push_refusals(&mut out, alloc, exp)?;
+    push_phases(&mut out, alloc, exp)?;
+    push_ends(&mut out, alloc)?;
+    push_out(&mut out, alloc, exp)?;
+    push_in(&mut out, alloc, exp)?;
+    push_listed(&mut out, alloc, exp)?;
+    push_places(&mut out, alloc, exp)?;
     push_failures(&mut out, alloc, exp)?;
     push_troubles(&mut out, alloc, exp)?;
     Ok(out)

@@ -113,19 +113,32 @@ fn push_fault(seen: &mut Text, fault: ScriptFault) -> Result<(), Memory> {
     }
 }
 
+/// Adds what is read next; tells whether it is a command.
+fn add_next(seen: &mut Text, next: Result<Next, ScriptFault>) -> Result<bool, Memory> {
+    match next {
+        Ok(Next::Command(command)) => {
+            let added = add_short(seen, &command);
+            drop(command);
+            added?;
+            Ok(true)
+        }
+        Ok(Next::End) => Ok(false),
+        Err(fault) => {
+            push_fault(seen, fault)?;
+            Ok(false)
+        }
+    }
+}
+
 /// The commands of a script in short, and the line that is not in the grammar, if there is one.
 pub fn told(alloc: Global, bytes: &[u8]) -> Result<Text, Memory> {
     let mut source = MemSource::new(alloc, bytes, &[])?;
     let mut lines = LineReader::new(alloc)?;
     let mut seen = Text::new(alloc);
     for _ in 0..1_000 {
-        match read_command(alloc, &mut lines, &mut source) {
-            Ok(Next::Command(command)) => add_short(&mut seen, &command)?,
-            Ok(Next::End) => break,
-            Err(fault) => {
-                push_fault(&mut seen, fault)?;
-                break;
-            }
+        let next = read_command(alloc, &mut lines, &mut source);
+        if !add_next(&mut seen, next)? {
+            break;
         }
     }
     Ok(seen)

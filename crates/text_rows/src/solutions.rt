@@ -2,10 +2,10 @@
 ghost use Rattle.std.specs.Prelude.{◌<◌, IfOk};
 ghost use Rattle.lab_model.specs.Shapes.{IsShaped};
 
-use crate::faults::push_refusal;
 use crate::{ptops, tops};
 use lab_base::{Memory, Text, TextRefused};
 use phys_lab::Lab;
+use row_words::Untold;
 use solution_text::{print_end, print_solution, read_solution};
 use std::alloc::Global;
 use virt_topo::{Mapping, Wiring};
@@ -28,42 +28,59 @@ fn read(alloc: Global, lab: &Lab, wiring: &Wiring, text: &[u8]) -> Result<Mappin
 }
 
 /// The canonical text of the mapping that a text is read as.
-fn printed(alloc: Global, text: &[u8]) -> Result<Text, TextRefused> {
-    let lab = ptops::read(alloc, LAB)?;
-    let wiring = tops::read(alloc, TOP)?;
-    let mapping = read(alloc, &lab, &wiring, text)?;
-    Ok(print_solution(alloc, &lab, &wiring, &mapping)?)
-}
-
-/// The canonical text of a mapping of the pair, or the text's fault.
-pub fn told(alloc: Global, text: &[u8]) -> Result<Text, Memory> {
-    let mut out = Text::new(alloc);
-    match printed(alloc, text) {
-        Ok(solution) => out.push_bytes(solution.bytes())?,
-        Err(refused) => push_refusal(&mut out, refused)?,
+fn printed_of(alloc: Global, lab: &Lab, wiring: &Wiring, text: &[u8]) -> Result<Text, TextRefused> {
+    match read(alloc, lab, wiring, text) {
+        Ok(mapping) => {
+            let printed = print_solution(alloc, lab, wiring, &mapping);
+            drop(mapping);
+            Ok(printed?)
+        }
+        Err(refused) => Err(refused),
     }
-    Ok(out)
 }
 
-/// The names of the ends of a wiring, a line each.
-fn names_of_ends(alloc: Global, text: &[u8]) -> Result<Text, TextRefused> {
-    let wiring = tops::read(alloc, text)?;
+/// The canonical text of a mapping of the pair into a lab.
+fn printed_in(alloc: Global, lab: &Lab, text: &[u8]) -> Result<Text, TextRefused> {
+    match tops::read(alloc, TOP) {
+        Ok(wiring) => {
+            let printed = printed_of(alloc, lab, &wiring, text);
+            drop(wiring);
+            printed
+        }
+        Err(refused) => Err(refused),
+    }
+}
+
+/// The canonical text of a mapping of the pair.
+pub fn told(alloc: Global, text: &[u8]) -> Result<Text, Untold> {
+    match ptops::read(alloc, LAB) {
+        Ok(lab) => {
+            let printed = printed_in(alloc, &lab, text);
+            drop(lab);
+            Ok(printed?)
+        }
+        Err(refused) => Err(Untold::from(refused)),
+    }
+}
+
+/// The names of the first four ends of a wiring, a line each.
+fn names_of_ends(alloc: Global, wiring: &Wiring) -> Result<Text, Memory> {
     let mut out = Text::new(alloc);
     for end in 0..4 {
-        out.push_bytes(print_end(alloc, &wiring, end)?.bytes())?;
+        out.push_bytes(print_end(alloc, wiring, end)?.bytes())?;
         out.push(b'\n')?;
     }
     Ok(out)
 }
 
-/// The names of the first four ends of the wiring of a text, or the text's fault.
-pub fn told_ends(alloc: Global, text: &[u8]) -> Result<Text, Memory> {
-    match names_of_ends(alloc, text) {
-        Ok(names) => Ok(names),
-        Err(refused) => {
-            let mut out = Text::new(alloc);
-            push_refusal(&mut out, refused)?;
-            Ok(out)
+/// The names of the first four ends of the wiring of a text.
+pub fn told_ends(alloc: Global, text: &[u8]) -> Result<Text, Untold> {
+    match tops::read(alloc, text) {
+        Ok(wiring) => {
+            let names = names_of_ends(alloc, &wiring);
+            drop(wiring);
+            Ok(names?)
         }
+        Err(refused) => Err(Untold::from(refused)),
     }
 }

@@ -1,14 +1,17 @@
 //! Texts of wirings.
-ghost use Rattle.std.specs.Prelude.{◌<◌};
+ghost use Rattle.std.specs.Prelude.{◌<◌, IfOk};
+ghost use Rattle.virt_topo.specs.Soundness.{IsSound};
 
-use crate::faults::push_refusal;
-use lab_base::{Memory, Text, TextRefused};
+use lab_base::{Text, TextRefused};
+use row_words::Untold;
 use std::alloc::Global;
 use top_text::{print_top, read_top};
 use virt_topo::Wiring;
 
 /// The wiring of a text.
-pub fn read(alloc: Global, text: &[u8]) -> Result<Wiring, TextRefused> {
+pub fn read(alloc: Global, text: &[u8]) -> Result<Wiring, TextRefused>
+    ensures { IfOk result IsSound }
+{
     if text.len() < 4_294_967_295 {
         read_top(alloc, text)
     } else {
@@ -16,14 +19,14 @@ pub fn read(alloc: Global, text: &[u8]) -> Result<Wiring, TextRefused> {
     }
 }
 
-/// The canonical text of the wiring of a text, or its fault.
-pub fn told(alloc: Global, text: &[u8]) -> Result<Text, Memory> {
+/// The canonical text of the wiring of a text.
+pub fn told(alloc: Global, text: &[u8]) -> Result<Text, Untold> {
     match read(alloc, text) {
-        Ok(wiring) => print_top(alloc, &wiring),
-        Err(refused) => {
-            let mut out = Text::new(alloc);
-            push_refusal(&mut out, refused)?;
-            Ok(out)
+        Ok(wiring) => {
+            let top = print_top(alloc, &wiring);
+            drop(wiring);
+            Ok(top?)
         }
+        Err(refused) => Err(Untold::from(refused)),
     }
 }

@@ -1,7 +1,7 @@
 //! Wirings of NS texts.
-use crate::faults::push_refusal;
-use lab_base::{Memory, Text, TextRefused};
+use lab_base::{Text, TextRefused};
 use ns_text::read_and_print;
+use row_words::Untold;
 use std::alloc::Global;
 use top_text::{print_top, read_top};
 
@@ -17,7 +17,10 @@ fn printed(alloc: Global, text: &[u8]) -> Result<Text, TextRefused> {
     if text.len() > MAX_TEXT {
         return Err(TextRefused::Memory);
     }
-    Ok(read_and_print(alloc, text)?.top)
+    match read_and_print(alloc, text) {
+        Ok(printed) => Ok(printed.top),
+        Err(refused) => Err(refused),
+    }
 }
 
 /// The text of the wiring that a top text is read as.
@@ -25,11 +28,18 @@ fn again(alloc: Global, top: &[u8]) -> Result<Text, TextRefused> {
     if top.len() > MAX_TEXT {
         return Err(TextRefused::Memory);
     }
-    Ok(print_top(alloc, &read_top(alloc, top)?)?)
+    match read_top(alloc, top) {
+        Ok(wiring) => {
+            let printed = print_top(alloc, &wiring);
+            drop(wiring);
+            Ok(printed?)
+        }
+        Err(refused) => Err(refused),
+    }
 }
 
-/// The canonical text of the wiring, where it is that of the wiring that it is read back as.
-fn expanded(alloc: Global, text: &[u8]) -> Result<Text, TextRefused> {
+/// The canonical text of the wiring of a text, where it is that of the wiring that it is read back as.
+pub fn told(alloc: Global, text: &[u8]) -> Result<Text, Untold> {
     let top = printed(alloc, text)?;
     let again = again(alloc, top.bytes())?;
     if again == top {
@@ -39,18 +49,8 @@ fn expanded(alloc: Global, text: &[u8]) -> Result<Text, TextRefused> {
     }
 }
 
-/// The canonical text of the wiring of a text, or its fault.
-pub fn told(alloc: Global, text: &[u8]) -> Result<Text, Memory> {
-    let mut out = Text::new(alloc);
-    match expanded(alloc, text) {
-        Ok(top) => out.push_bytes(top.bytes())?,
-        Err(refused) => push_refusal(&mut out, refused)?,
-    }
-    Ok(out)
-}
-
 /// The wiring of three nodes with links or LANs between them.
-pub fn told_over_three(alloc: Global, joins: &[u8]) -> Result<Text, Memory> {
+pub fn told_over_three(alloc: Global, joins: &[u8]) -> Result<Text, Untold> {
     let mut text = Text::from_slice(alloc, HEAD)?;
     text.push_bytes(joins)?;
     text.push_bytes(b"\n$ns run\n")?;

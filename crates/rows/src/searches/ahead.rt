@@ -2,9 +2,10 @@ ghost use Rattle.std.specs.Prelude.{◌<◌, ◌≤◌, length, All, IfOk};
 ghost use Rattle.lab_base.specs.Lists.{AllDiffer};
 
 use super::setting::{fault_of, lab_of, short};
+use crate::run::wanting;
 use anyhow::bail;
 use lab_ahead::{Fit, Need, fits, needs_at, read_batch};
-use lab_base::{Memory, NodeId};
+use lab_base::{Items, Memory, NodeId};
 use phys_lab::Lab;
 use std::alloc::Global;
 
@@ -34,6 +35,31 @@ fn print_fit(rt: &HostRuntime, lab: &Lab, nodes: &[NodeId], needs: &[Need]) -> a
     Ok(())
 }
 
+/// The needs of a batch's promises that hold at 0.
+fn needs_of(alloc: Global, batch: &[u8]) -> anyhow::Result<Items<Need>> {
+    short(batch)?;
+    match read_batch(alloc, batch) {
+        Ok(batch) => {
+            let needs = needs_at(alloc, batch.promises.as_slice(), 0);
+            drop(batch);
+            needs.map_err(wanting)
+        }
+        Err(refused) => Err(fault_of(refused)),
+    }
+}
+
+/// Prints so many times whether needs fit.
+fn print_times(rt: &HostRuntime, times: u64, lab: &Lab, needs: &[Need]) -> anyhow::Result<()> {
+    if needs.len() > 64 {
+        bail!("more than 64 needs");
+    }
+    let nodes = all_nodes(rt.alloc(), lab).map_err(wanting)?;
+    for _time in 0..times {
+        print_fit(rt, lab, &nodes, needs)?;
+    }
+    Ok(())
+}
+
 /// Prints so many times whether the promises of a batch that hold at 0 fit.
 pub(crate) fn fitted(
     rt: &HostRuntime,
@@ -41,20 +67,9 @@ pub(crate) fn fitted(
     ptop: &[u8],
     batch: &[u8],
 ) -> anyhow::Result<()> {
+    let needs = needs_of(rt.alloc(), batch)?;
     let lab = lab_of(rt.alloc(), ptop)?;
-    short(batch)?;
-    let batch = read_batch(rt.alloc(), batch).map_err(fault_of)?;
-    let Ok(needs) = needs_at(rt.alloc(), batch.promises.as_slice(), 0) else {
-        bail!("out of memory");
-    };
-    if needs.len() > 64 {
-        bail!("more than 64 needs");
-    }
-    let Ok(nodes) = all_nodes(rt.alloc(), &lab) else {
-        bail!("out of memory");
-    };
-    for _time in 0..times {
-        print_fit(rt, &lab, &nodes, needs.as_slice())?;
-    }
-    Ok(())
+    let told = print_times(rt, times, &lab, needs.as_slice());
+    drop(lab);
+    told
 }

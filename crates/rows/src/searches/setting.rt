@@ -2,6 +2,7 @@ ghost use Rattle.std.specs.Prelude.{◌≡◌, ◌<◌, ◌^◌, ◌-◌, length
 ghost use Rattle.lab_model.specs.Shapes.{IsFreeOf};
 ghost use Rattle.virt_topo.specs.Soundness.{IsSound};
 
+use crate::run::wanting;
 use anyhow::{anyhow, bail};
 use lab_base::{Items, Memory, TextRefused};
 use phys_lab::{Free, Lab};
@@ -72,15 +73,33 @@ fn wiring_of(alloc: Global, top: &[u8]) -> anyhow::Result<Wiring>
     read_top(alloc, top).map_err(fault_of)
 }
 
+/// The problem of a lab of which nothing is claimed.
+fn problem_in(alloc: Global, lab: Lab, wiring: Wiring) -> anyhow::Result<Problem>
+    requires sound { IsSound wiring }
+    ensures free { IfOk result (λ problem. IsFreeOf problem.lab problem.free) }
+    ensures sound { IfOk result (λ problem. IsSound problem.wiring) }
+{
+    match all_of(alloc, &lab) {
+        Ok(free) => Ok(Problem { lab, free, wiring }),
+        Err(memory) => {
+            drop(lab);
+            drop(wiring);
+            Err(wanting(memory))
+        }
+    }
+}
+
 /// Reads a lab and a wiring.
 pub(crate) fn problem_of(alloc: Global, ptop: &[u8], top: &[u8]) -> anyhow::Result<Problem>
     ensures free { IfOk result (λ problem. IsFreeOf problem.lab problem.free) }
     ensures sound { IfOk result (λ problem. IsSound problem.wiring) }
 {
-    let lab = lab_of(alloc, ptop)?;
     let wiring = wiring_of(alloc, top)?;
-    let Ok(free) = all_of(alloc, &lab) else {
-        bail!("out of memory");
-    };
-    Ok(Problem { lab, free, wiring })
+    match lab_of(alloc, ptop) {
+        Ok(lab) => problem_in(alloc, lab, wiring),
+        Err(error) => {
+            drop(wiring);
+            Err(error)
+        }
+    }
 }

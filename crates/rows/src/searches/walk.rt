@@ -34,7 +34,11 @@ fn rounds_from(cost: u64) -> u64 {
 }
 
 /// Where the walk begins.
-fn start_of(rt: &HostRuntime, problem: &Problem, rule: &StepRule) -> anyhow::Result<Mapping>
+pub(crate) fn start_of(
+    rt: &HostRuntime,
+    problem: &Problem,
+    rule: &StepRule,
+) -> anyhow::Result<Mapping>
     requires free { IsFreeOf problem.now.lab problem.now.free }
     requires sound { IsSound problem.now.wiring }
     ensures shaped { IfOk result (IsShaped problem.now.lab problem.now.wiring) }
@@ -66,7 +70,31 @@ fn walk(
     Ok(())
 }
 
-/// Walks so many times, and prints how many tries all of these have.
+/// Walks so many times from a start, and prints how many tries all of these have.
+fn walked_from(
+    rt: &HostRuntime,
+    times: u64,
+    problem: &Problem,
+    rule: &StepRule,
+    start: &Mapping,
+) -> anyhow::Result<()>
+    requires free { IsFreeOf problem.now.lab problem.now.free }
+    requires sound { IsSound problem.now.wiring }
+    requires shaped { IsShaped problem.now.lab problem.now.wiring start.now }
+    requires start { IsNodeMap (sought problem.now.lab problem.now.free problem.now.wiring rule.now.number) start.now }
+{
+    let rounds = rounds_from(rule.ask(&problem.lab, &problem.wiring, start));
+    let tries = rounds.saturating_mul(8 * problem.wiring.nodes.len() as u64);
+    let Ok(prepared) = Prepared::of(rt.alloc(), &problem.lab, &problem.free, &problem.wiring) else {
+        bail!("out of memory");
+    };
+    let moves = prepared.moves(&problem.lab, &problem.free, &problem.wiring);
+    walk(rt, times, &moves, start, rule)?;
+    println!(rt; "{} tries", tries.saturating_mul(times))?;
+    Ok(())
+}
+
+/// Walks so many times from FirstFit.
 pub(crate) fn walked(
     rt: &HostRuntime,
     times: u64,
@@ -76,14 +104,12 @@ pub(crate) fn walked(
     requires free { IsFreeOf problem.now.lab problem.now.free }
     requires sound { IsSound problem.now.wiring }
 {
-    let start = start_of(rt, problem, rule)?;
-    let rounds = rounds_from(rule.ask(&problem.lab, &problem.wiring, &start));
-    let tries = rounds.saturating_mul(8 * problem.wiring.nodes.len() as u64);
-    let Ok(prepared) = Prepared::of(rt.alloc(), &problem.lab, &problem.free, &problem.wiring) else {
-        bail!("out of memory");
-    };
-    let moves = prepared.moves(&problem.lab, &problem.free, &problem.wiring);
-    walk(rt, times, &moves, &start, rule)?;
-    println!(rt; "{} tries", tries.saturating_mul(times))?;
-    Ok(())
+    match start_of(rt, problem, rule) {
+        Ok(start) => {
+            let walked = walked_from(rt, times, problem, rule, &start);
+            drop(start);
+            walked
+        }
+        Err(error) => Err(error),
+    }
 }

@@ -1,5 +1,0 @@
-use Rattle.std.proofs.Common.{length}
-use Rattle.plain_model.proofs.nodes.+os_on.Given as goal
-
-abbrev pub decreases-os_on : goal.decreases-os_on
-decreases-os_on l = length l.nodes.now

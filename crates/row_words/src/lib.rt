@@ -1,0 +1,13 @@
+//! Words of the rows of all layers, and why one is not told.
+#![tactic(auto)]
+
+mod action;
+mod untold;
+mod words;
+
+pub use action::Words;
+pub use untold::Untold;
+pub use words::{
+    Halves, at_bar, number, number_at, pair_of, parts_of, push_answer, push_number, push_numbers,
+    text_of,
+};
