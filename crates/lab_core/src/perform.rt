@@ -15,12 +15,12 @@ ghost use Rattle.lab_core.specs.Sessions.{OpenSwap};
 ghost use Rattle.lab_core.specs.Swapping.{IsBegunBy, IsSwapReply, TellsTask};
 ghost use Rattle.lab_judge.specs.Tasks.{CanAppend, CanDo, CanSwap, MayFollow, task_of};
 
-use crate::swapping::{NewSwap, open_swap, prepare_swap, reply_of_progress, reply_of_unopened};
+use crate::swapping::{open_swap, prepare_swap, reply_of_progress, reply_of_unopened};
 use crate::{Controller, CoreFault};
 use journal_disk::{AppendFault, Journal};
 use journal_rec::{Encoded, LAST_RECORDS, MAX_JOURNAL, Record, encode};
 use lab_base::{Memory, Name};
-use lab_judge::{Space, Task};
+use lab_judge::{NewSwap, Space, Task};
 use lab_state::{LabState, PrepareFault, Prepared};
 use plant::Plant;
 use recovery::{SettleFault, Settled, settle};
@@ -145,7 +145,7 @@ impl Controller {
     /// Begins a swap by its record, where there is space for it. It is open then, where nothing else is told.
     fn begin<P: Plant>(&mut self, swap: NewSwap, plant: &mut P) -> Result<Option<Reply>, CoreFault>
         // its record can follow, and no other swap is in its way
-        requires can { CanSwap self.old.lab swap.exp swap.way swap.ops }
+        requires can { CanSwap self.old.lab swap }
         requires ready { IsReady self.old.swaps (Swap swap.exp swap.way) }
         requires works { CanWork (P.seen plant.old) self.old }
         // it is begun, or what is told is all that its command does
@@ -177,7 +177,7 @@ impl Controller {
 
     /// Begins a swap. Later commands turn it.
     fn begin_only<P: Plant>(&mut self, swap: NewSwap, plant: &mut P) -> Result<Reply, CoreFault>
-        requires can { CanSwap self.old.lab swap.exp swap.way swap.ops }
+        requires can { CanSwap self.old.lab swap }
         requires ready { IsReady self.old.swaps (BeginOnly swap.exp swap.way) }
         requires works { CanWork (P.seen plant.old) self.old }
         ensures { (opens : List OpenSwap) (devices : ℕ) → devices ≤ (P.seen plant.old).faults.devices → WorksWith (P.seen plant.old) self.old opens
@@ -215,7 +215,7 @@ impl Controller {
     /// Begins a swap, and where that is open turns it to its end.
     fn swap<P: Plant>(&mut self, swap: NewSwap, plant: &mut P) -> Result<Reply, CoreFault>
         // its record can follow, and no other swap is in its way
-        requires can { CanSwap self.old.lab swap.exp swap.way swap.ops }
+        requires can { CanSwap self.old.lab swap }
         requires ready { IsReady self.old.swaps (Swap swap.exp swap.way) }
         requires works { CanWork (P.seen plant.old) self.old }
         // the whole swap is done, and where it ended is told
@@ -265,8 +265,8 @@ impl Controller {
         match task {
             Task::Tell(reply) => Ok(reply),
             Task::Append { entry, reply } => self.append(&entry, reply, plant),
-            Task::Swap { exp, way, ops } => self.swap(NewSwap { exp, way, ops }, plant),
-            Task::BeginOnly { exp, way, ops } => self.begin_only(NewSwap { exp, way, ops }, plant),
+            Task::Swap(swap) => self.swap(swap, plant),
+            Task::BeginOnly(swap) => self.begin_only(swap, plant),
             Task::Turn { exp } => self.turn(exp, plant),
             Task::Finish { exp } => self.finish(exp, plant),
             Task::Recover => self.recover(plant),

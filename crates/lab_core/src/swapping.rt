@@ -23,8 +23,9 @@ ghost use Rattle.lab_judge.specs.Tasks.{IsBegin, MayFollow};
 use crate::perform::prepare;
 use crate::{Controller, CoreFault};
 use journal_disk::Journal;
-use journal_rec::{Record, Way};
+use journal_rec::Record;
 use lab_base::{Memory, Name};
+use lab_judge::NewSwap;
 use lab_state::{LabState, Prepared};
 use plant::Plant;
 use recovery::end_move;
@@ -33,14 +34,6 @@ use std::alloc::Global;
 use swap_mgr::{MAX_OPEN, Manager, NotOpened, Progress};
 use swap_plan::Ops;
 use swap_txn::{Ended, Planned};
-
-/// A swap that is to begin: of that experiment, that way, by these device commands.
-#[derive(Drop)]
-pub(crate) struct NewSwap {
-    pub(crate) exp: Name,
-    pub(crate) way: Way,
-    pub(crate) ops: Ops,
-}
 
 /// Plans the swap of a record Begin.
 fn plan_swap(alloc: Global, begin: Record, ops: Ops) -> Result<Planned, Memory>

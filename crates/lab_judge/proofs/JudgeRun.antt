@@ -112,16 +112,16 @@ module _ (space : Record → Bool) (lab : Lab) (left : List Left) (promises : Li
   ]
 
   pub tested_so : (task : TaskInHand) → IsSwapTask task → (wait : Option Wait) → (wait ≡ None → FitsFor lab left promises span.from span.length) → IfSome wait (IsShortAt lab left promises span) → IsTestedAs space lab left promises span (task_of task) (Ok (held_back space task wait))
-  tested_so (tasks.Swap exp way ops) record_fits None all short = fits_so exp way (all refl)
-  tested_so (tasks.Swap exp way ops) record_fits (Some wait) all short = waits_so exp way wait short
+  tested_so (tasks.Swap swap) record_fits None all short = fits_so swap.exp swap.way (all refl)
+  tested_so (tasks.Swap swap) record_fits (Some wait) all short = waits_so swap.exp swap.way wait short
   tested_so task record_fits wait all short = absurd record_fits
 
 -- the record of a swap that can be done can be written
 pub swap_record : (s : LabState) (task : TaskInHand) (exp : List ℕ) (way : Way) → task_of task ≡ Swap exp way → CanDo s task → IsSwapTask task
-swap_record s (tasks.Swap own by ops) exp way is can = can.0
+swap_record s (tasks.Swap swap) exp way is can = can.0
 swap_record s (tasks.Tell reply) exp way is can = absurd (cc is)
 swap_record s (tasks.Append entry reply) exp way is can = absurd (cc is)
-swap_record s (tasks.BeginOnly own by ops) exp way is can = absurd (cc is)
+swap_record s (tasks.BeginOnly swap) exp way is can = absurd (cc is)
 swap_record s (tasks.Turn own) exp way is can = absurd (cc is)
 swap_record s (tasks.Finish own) exp way is can = absurd (cc is)
 swap_record s tasks.Recover exp way is can = absurd (cc is)

@@ -42,7 +42,6 @@ use Rattle.claims.proofs.OthersLeave.{ids_left, is_left, named_apart}
 use Rattle.solution_text.specs.CanonicalSolution.{canonical_solution}
 use Rattle.swap_txn.specs.States.{is_over, unsent}
 use Rattle.swap_plan.specs.Plans.{IsFit}
-use Rattle.swap_plan.specs.declared.commands.Ops.{Ops}
 use Rattle.swap_turns.specs.Swaps.{Swap as SwapOf, swap_in}
 use Rattle.swap_turns.proofs.Begins.{moves_in, moves_over, unsent_over}
 use Rattle.lab_state.specs.Texts.{the_texts}
@@ -51,6 +50,7 @@ use Rattle.solution_text.specs.Solutions.{mapping_of_text}
 use Rattle.top_text.specs.Adding.{wiring_of_text}
 use Rattle.top_text.specs.Canonical.{canonical_top}
 use Rattle.top_text.specs.Printable.{is_printable}
+use Rattle.lab_judge.specs.declared.task.NewSwap.{NewSwap}
 use Rattle.lab_judge.specs.declared.task.Task.{Task as TaskInHand}
 use Rattle.lab_judge.specs.declared.task.Task.TheVariants as tasks
 use Rattle.lab_judge.specs.declared.task.Refusal.{Refusal}
@@ -172,13 +172,13 @@ module _ (s : LabState) (lab : Lab) (e : Experiment) (w : Wiring) (m : Mapping) 
       → ((said : Way) (course back : Plan) → IsWayOf lab p (way tags) said course back → Leads s lab p said course back)
       → (task : TaskInHand) → IsTaskOf lab p (way tags) task
       → ((need_feasible lab s.experiments e w m >>= λ feasible. let r : Result Task Reply = Ok (SwapTask e.name (way (least_tags lab s.experiments (length w.segments)))) in r) ≡ Ok (task_of task)) × CanDo s task
-  planned p way named leads (tasks.Swap exp said ops) h = (
+  planned p way named leads (tasks.Swap swap) h = (
     judged_so way ∙ (λ i. let r : Result Task Reply = Ok (SwapTask ((sym named ∙ sym h.0) i) (sym h.1.way_is i)) in r),
-    subst (λ (n : List ℕ). CanDo s (tasks.Swap n said ops)) (sym h.0) (can_swap s lab p said ops o.is_lab h.1.is_record (leads said ops.commands ops.undo h.1)),
+    subst (λ (n : List ℕ). CanDo s (tasks.Swap (record swap { exp = n }))) (sym h.0) (can_swap s lab p swap.way swap.ops o.is_lab h.1.is_record (leads swap.way swap.ops.commands swap.ops.undo h.1)),
   )
   planned p way named leads (tasks.Tell reply) h = absurd h
   planned p way named leads (tasks.Append entry reply) h = absurd h
-  planned p way named leads (tasks.BeginOnly exp said ops) h = absurd h
+  planned p way named leads (tasks.BeginOnly swap) h = absurd h
   planned p way named leads (tasks.Turn exp) h = absurd h
   planned p way named leads (tasks.Finish exp) h = absurd h
   planned p way named leads tasks.Recover h = absurd h
@@ -285,11 +285,11 @@ module _ (count : ℕ) (only : Bool) (judgement : Result Task Reply) where
       ∙ ap (λ (t : Task). let r : Result Task Reply = Ok t in r) (sym is)
 
 -- each other task is as it was
-pub begun_same : (task : TaskInHand) → ((exp : List ℕ) (way : Way) (ops : Ops) → task ≡ tasks.Swap exp way ops → ⊥) → task_of task ≡ begun_as true (task_of task)
+pub begun_same : (task : TaskInHand) → ((swap : NewSwap) → task ≡ tasks.Swap swap → ⊥) → task_of task ≡ begun_as true (task_of task)
 begun_same (tasks.Tell reply) other = refl
 begun_same (tasks.Append entry reply) other = refl
-begun_same (tasks.Swap exp way ops) other = absurd (other exp way ops refl)
-begun_same (tasks.BeginOnly exp way ops) other = refl
+begun_same (tasks.Swap swap) other = absurd (other swap refl)
+begun_same (tasks.BeginOnly swap) other = refl
 begun_same (tasks.Turn exp) other = refl
 begun_same (tasks.Finish exp) other = refl
 begun_same tasks.Recover other = refl

@@ -58,7 +58,7 @@ pub record Leads (s : LabState) (lab : Lab) (p : SwapOf) (way : Way) (course bac
   pub moves : length p.name ≤ 32 → (u : LabState) → moved s move ≡ Some u → Moves p u
   pub plan : IsPlanOf p lab (unsent p.name way course back)
 
-pub can_swap : (s : LabState) (lab : Lab) (p : SwapOf) (way : Way) (ops : Ops) → s.lab ≡ Some lab → IsRecord (Begin p.name way) → Leads s lab p way ops.commands ops.undo → CanDo s (tasks.Swap p.name way ops)
+pub can_swap : (s : LabState) (lab : Lab) (p : SwapOf) (way : Way) (ops : Ops) → s.lab ≡ Some lab → IsRecord (Begin p.name way) → Leads s lab p way ops.commands ops.undo → CanDo s (tasks.Swap (record { exp = p.name; way = way; ops = ops }))
 can_swap s lab p way ops is_lab is_record h = (
   is_record,
   record { move = h.move; says = h.says; state = h.state; moves = h.gives; ready = h.ready },
@@ -136,11 +136,11 @@ module _ (s : LabState) where
 
   -- `swapout`
   module _ (exp : List ℕ) (lab : Lab) (e : Experiment) (mapping : Mapping) (tags : List VlanId) (is : s.lab ≡ Some lab) (found : find exp s.experiments ≡ Some e) (inside : e.phase ≡ In mapping tags) where
-    pub can_leave : (way : Way) (ops : Ops) → way ≡ WayOut → IsRecord (Begin exp way) → ops.commands ≡ commands lab (Some (mapped e.wiring mapping tags)) None → CanDo s (tasks.Swap exp way ops)
+    pub can_leave : (way : Way) (ops : Ops) → way ≡ WayOut → IsRecord (Begin exp way) → ops.commands ≡ commands lab (Some (mapped e.wiring mapping tags)) None → CanDo s (tasks.Swap (record { exp = exp; way = way; ops = ops }))
     can_leave way ops way_is is_record course_is =
         let named : e.name ≡ exp = name_is exp s.experiments e found in
         let found_so : find e.name s.experiments ≡ Some e = ap (λ (n : List ℕ). find n s.experiments) named ∙ found in
-        subst (λ (n : List ℕ). CanDo s (tasks.Swap n way ops)) named (can_swap s lab (swap_out e mapping tags) way ops is (subst (λ (n : List ℕ). IsRecord (Begin n way)) (sym named) is_record) (record {
+        subst (λ (n : List ℕ). CanDo s (tasks.Swap (record { exp = n; way = way; ops = ops }))) named (can_swap s lab (swap_out e mapping tags) way ops is (subst (λ (n : List ℕ). IsRecord (Begin n way)) (sym named) is_record) (record {
           move = BeginsOut e.name;
           says = subst (λ (w : Way). Says the_texts s (Begin e.name w) (BeginsOut e.name)) (sym way_is) refl;
           ready = λ w. tt;

@@ -47,10 +47,10 @@ space_in space entry = has_space space (size entry)
 
 -- a swap whose record can be written
 abbrev pub IsSwapTask : TaskInHand → Type 0
-IsSwapTask (tasks.Swap exp way ops) = IsRecord (Begin exp way)
+IsSwapTask (tasks.Swap swap) = IsRecord (Begin swap.exp swap.way)
 IsSwapTask task = ⊥
 
 -- it tells the wait, if there is one and the journal has space for the swap
 abbrev pub held_back : (Record → Bool) → TaskInHand → Option Wait → Task
-held_back space (tasks.Swap exp way ops) (Some wait) = if space (Begin exp way) then Tell (wait_of exp wait) else Swap exp way
+held_back space (tasks.Swap swap) (Some wait) = if space (Begin swap.exp swap.way) then Tell (wait_of swap.exp wait) else Swap swap.exp swap.way
 held_back space task wait = task_of task

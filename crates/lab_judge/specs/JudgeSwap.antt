@@ -65,5 +65,5 @@ pub record IsWayOf (lab : Lab) (p : SwapOf) (said way : Way) (course back : Plan
   pub back_is : back ≡ undo lab p.old p.new
 
 abbrev pub IsTaskOf : Lab → SwapOf → Way → Task → Type 0
-IsTaskOf lab p said (Swap exp way ops) = (exp ≡ p.name) × IsWayOf lab p said way ops.commands ops.undo
+IsTaskOf lab p said (Swap swap) = (swap.exp ≡ p.name) × IsWayOf lab p said swap.way swap.ops.commands swap.ops.undo
 IsTaskOf lab p said task = ⊥

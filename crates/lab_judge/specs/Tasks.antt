@@ -12,11 +12,11 @@ use Rattle.lab_state.specs.Texts.{the_texts}
 use Rattle.lab_model.specs.Courses.{Plan}
 use Rattle.records_model.specs.Labs.{LabState, Move, Says, moved, lab_in, IsRightFor}
 use Rattle.swap_txn.specs.States.{unsent}
-use Rattle.swap_plan.specs.declared.commands.Ops.{Ops}
 use Rattle.swap_turns.specs.Swaps.{Swap as SwapOf, Moves}
 use Rattle.swap_turns.specs.Beginning.{IsPlanOf, BeginsOf}
 use Rattle.script_text.specs.Replies.{blames_device, closes}
 use Rattle.script_text.specs.declared.reply.Reply.{Reply}
+use Rattle.lab_judge.specs.declared.task.NewSwap.{NewSwap}
 use Rattle.lab_judge.specs.declared.task.Task.{Task as TaskInHand}
 use Rattle.lab_judge.specs.declared.task.Task.TheVariants as tasks
 use Rattle.lab_judge.specs.declared.task.Refusal.{Refusal}
@@ -28,8 +28,8 @@ use Rattle.script_text.specs.declared.reply.Reply.TheVariants as replies
 abbrev pub task_of : TaskInHand → Task
 task_of (tasks.Tell reply) = Tell reply
 task_of (tasks.Append entry reply) = Append entry reply
-task_of (tasks.Swap exp way ops) = Swap exp way
-task_of (tasks.BeginOnly exp way ops) = BeginOnly exp way
+task_of (tasks.Swap swap) = Swap swap.exp swap.way
+task_of (tasks.BeginOnly swap) = BeginOnly swap.exp swap.way
 task_of (tasks.Turn exp) = Turn exp
 task_of (tasks.Finish exp) = Finish exp
 task_of tasks.Recover = Recover
@@ -110,12 +110,12 @@ pub record CanAppend (s : LabState) (entry : Record) (reply : Reply) : Type 0 wh
   pub no_end : EndsNoMove entry
   pub mild : IsMild reply
 
-abbrev pub CanSwap : LabState → List ℕ → Way → Ops → Type 0
-CanSwap s exp way ops = IsRecord (Begin exp way) × MayFollow s (Begin exp way) × IsSwapBy s exp way ops.commands ops.undo
+abbrev pub CanSwap : LabState → NewSwap → Type 0
+CanSwap s swap = IsRecord (Begin swap.exp swap.way) × MayFollow s (Begin swap.exp swap.way) × IsSwapBy s swap.exp swap.way swap.ops.commands swap.ops.undo
 
 abbrev pub CanDo : LabState → TaskInHand → Type 0
 CanDo s (tasks.Tell reply) = IsMild reply
 CanDo s (tasks.Append entry reply) = CanAppend s entry reply
-CanDo s (tasks.Swap exp way ops) = CanSwap s exp way ops
-CanDo s (tasks.BeginOnly exp way ops) = CanSwap s exp way ops
+CanDo s (tasks.Swap swap) = CanSwap s swap
+CanDo s (tasks.BeginOnly swap) = CanSwap s swap
 CanDo s task = Unit {0}

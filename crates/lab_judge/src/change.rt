@@ -23,7 +23,7 @@ use crate::command::bad_text;
 use crate::needs::need_idle_in;
 use crate::records::way_over;
 use crate::swap::{need_feasible, take_tags};
-use crate::task::{Refusal, Task};
+use crate::task::{NewSwap, Refusal, Task};
 use lab_base::{MAX_PAYLOAD_TEXT, Memory, Name, TEXT_LIMIT, Tags, Text, TextFault, TextRefused};
 use phys_lab::Lab;
 use script_text::Reply;
@@ -122,11 +122,11 @@ fn plan_swap_over(
     drop(wiring);
     drop(mapping);
     let Over { ops, top, map } = over?;
-    Ok(Task::Swap {
+    Ok(Task::Swap(NewSwap {
         exp,
         way: way_over(exp, top, map, tags, second),
         ops,
-    })
+    }))
 }
 
 /// Changes an experiment that is in there to a mapping of another wiring that keeps all rules.

@@ -24,7 +24,7 @@ use crate::records::{create_record, delete_record, lab_record, way_out};
 use crate::replies::{created_reply, lab_reply};
 use crate::search::{judge_modify, judge_solve, judge_swapin};
 use crate::swap::judge_swapin_with;
-use crate::task::{Refusal, Task};
+use crate::task::{NewSwap, Refusal, Task};
 use crate::views::{shown, status_lines};
 use cost_rule::StepRule;
 use lab_base::{MAX_PAYLOAD_TEXT, Name, TEXT_LIMIT, Text, TextRefused};
@@ -156,11 +156,11 @@ fn judge_swapout(alloc: Global, present: &Present, exp: Name) -> Result<Task, Re
 {
     let (lab, experiment, mapping, tags) = need_idle_in(present, exp)?;
     let ops = plan_out(alloc, lab, &experiment.wiring, mapping, tags)?;
-    Ok(Task::Swap {
+    Ok(Task::Swap(NewSwap {
         exp,
         way: way_out(exp),
         ops,
-    })
+    }))
 }
 
 /// A swap that nothing refuses needs room among the open swaps, and is only begun where its command says so.

@@ -25,4 +25,4 @@ pub use laws::{link_events, searches};
 pub use play::{Play, Span, judge_event, judge_play};
 pub use run::{Queue, judge_batch, judge_run};
 pub use space::Space;
-pub use task::{Refusal, Task};
+pub use task::{NewSwap, Refusal, Task};

@@ -26,7 +26,7 @@ use crate::needs::{need_idle_out, need_lab};
 use crate::search::{need_mapping, search};
 use crate::space::Space;
 use crate::swap::swap_to;
-use crate::task::{Refusal, Task};
+use crate::task::{NewSwap, Refusal, Task};
 use claims::{Claims, owners};
 use cost_rule::StepRule;
 use journal_rec::{Record, encode};
@@ -159,12 +159,12 @@ fn has_space_for(alloc: Global, space: Space, entry: &Record) -> Result<bool, Me
 /// The swap of a record Begin.
 fn swap_of(begin: Record, ops: Ops) -> Task
     requires { IsBegin begin }
-    ensures { (exp : List ℕ) (way : AnyWay) → begin ≡ records.Begin exp way → result ≡ tasks.Swap exp way ops }
+    ensures { (exp : List ℕ) (way : AnyWay) → begin ≡ records.Begin exp way → result ≡ tasks.Swap (record { exp = exp; way = way; ops = ops }) }
 {
     let Record::Begin { exp, way } = begin else {
         unreachable!()
     };
-    Task::Swap { exp, way, ops }
+    Task::Swap(NewSwap { exp, way, ops })
 }
 
 fn waiting(exp: Name, wait: Wait) -> Reply
@@ -191,9 +191,10 @@ fn hold_back(alloc: Global, space: Space, task: Task, wait: Wait) -> Result<Task
     ensures task { IfOk result (λ held. task_of held ≡ held_back (λ entry. space_in space entry) task (Some wait)) }
     ensures can { (s : AnyLabState) → CanDo s task → IfOk result (CanDo s) }
 {
-    let Task::Swap { exp, way, ops } = task else {
+    let Task::Swap(swap) = task else {
         unreachable!()
     };
+    let NewSwap { exp, way, ops } = swap;
     let begin = Record::Begin { exp, way };
     let has_space = match has_space_for(alloc, space, &begin) {
         Ok(has_space) => has_space,

@@ -20,7 +20,7 @@ use crate::command::bad_text;
 use crate::needs::need_idle_out;
 use crate::records::way_in;
 use crate::subjects::subject_name;
-use crate::task::{Refusal, Task};
+use crate::task::{NewSwap, Refusal, Task};
 use claims::{Claims, TakeFault};
 use feas::{CheckFault, check};
 use lab_base::{Memory, Name, TEXT_LIMIT, Tags};
@@ -119,11 +119,11 @@ fn plan_swap_in(
 {
     let ops = plan_in(alloc, lab, &experiment.wiring, mapping, &tags)?;
     let map = print_solution(alloc, lab, &experiment.wiring, mapping)?;
-    Ok(Task::Swap {
+    Ok(Task::Swap(NewSwap {
         exp: experiment.name,
         way: way_in(experiment.name, map, tags),
         ops,
-    })
+    }))
 }
 
 /// Swaps an experiment that is out to a mapping that keeps all rules.

@@ -8,6 +8,14 @@ use lab_base::{Memory, Name};
 use script_text::Reply;
 use swap_plan::Ops;
 
+/// A swap that is to begin: of that experiment, that way, by these device commands.
+#[derive(Drop)]
+pub struct NewSwap {
+    pub exp: Name,
+    pub way: Way,
+    pub ops: Ops,
+}
+
 /// The task of a command that nothing refuses.
 #[derive(Drop)]
 pub enum Task {
@@ -15,10 +23,10 @@ pub enum Task {
     Tell(Reply),
     /// It appends a record, and tells that it is made.
     Append { entry: Record, reply: Reply },
-    /// It begins a swap of the experiment that way, by these device commands, and turns it to its end.
-    Swap { exp: Name, way: Way, ops: Ops },
+    /// It begins a swap, and turns it to its end.
+    Swap(NewSwap),
     /// It begins one, which later commands turn.
-    BeginOnly { exp: Name, way: Way, ops: Ops },
+    BeginOnly(NewSwap),
     /// It makes one turn of the experiment's open swap.
     Turn { exp: Name },
     /// It turns the experiment's open swap to its end.
@@ -37,7 +45,7 @@ impl Task {
             return self;
         }
         match self {
-            Task::Swap { exp, way, ops } => Task::BeginOnly { exp, way, ops },
+            Task::Swap(swap) => Task::BeginOnly(swap),
             task => task,
         }
     }

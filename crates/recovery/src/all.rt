@@ -1,7 +1,6 @@
 // The settling of all experiments that move.
 ghost use Rattle.std.specs.Prelude.{◌≡◌, ◌≤◌, ◌<◌, ◌^◌, ◌↔◌, length, slice_get, IfSome, IsErrOf, IsTrue, false};
 ghost use Rattle.journal_disk.specs.Standing.{limit_of};
-ghost use Rattle.plant.specs.Seen.{Seen};
 ghost use Rattle.lab_state.specs.Texts.{the_texts};
 ghost use Rattle.swap_txn.specs.Steps.{live_of};
 ghost use Rattle.swap_turns.specs.Causes.{IsLater};
