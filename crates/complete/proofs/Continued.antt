@@ -19,8 +19,8 @@ use Rattle.journal_rec.specs.declared.record.Record.{Record}
 use Rattle.journal_rec.specs.declared.record.Record.TheVariants as records
 use Rattle.journal_rec.specs.declared.record.Record.TheVariants.{Begin}
 use Rattle.journal_model.specs.Appends.{All, added}
-use Rattle.journal_runs.specs.Pieces.{has_command}
-use Rattle.journal_runs.proofs.Endings.{append_quiet}
+use Rattle.swap_turns.specs.Pieces.{has_command}
+use Rattle.swap_turns.proofs.Endings.{append_quiet}
 use Rattle.lab_model.specs.Courses.{Trouble}
 use Rattle.lab_model.specs.OnCourse.{own_events}
 use Rattle.records_model.specs.Labs.{LabState, Move, Sane, Says, Creates, Deletes, deleted, find, in_state, is_out, lab_in, moved, moved_of, others}

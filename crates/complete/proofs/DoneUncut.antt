@@ -8,7 +8,7 @@ use Rattle.virt_topo.specs.declared.mapping.Mapped.{Mapped}
 use Rattle.journal_rec.specs.declared.record.Record.{Record}
 use Rattle.journal_rec.specs.declared.record.Record.TheVariants.{Begin}
 use Rattle.journal_model.specs.Appends.{Run}
-use Rattle.journal_runs.specs.Pieces.{has_restart, is_miss, is_restart}
+use Rattle.swap_turns.specs.Pieces.{has_restart, is_miss, is_restart}
 use Rattle.records_model.specs.Labs.{LabState, Move}
 use Rattle.recovery.specs.Settle.{is_stuck}
 use Rattle.cost_rule.specs.declared.rule.RuleNumber.{RuleNumber}

@@ -6,7 +6,7 @@ use Rattle.plant.specs.Events.{Event, Did}
 use Rattle.plant.specs.declared.device.Answer.{Answer}
 use Rattle.plant.specs.declared.device.DeviceOp.{DeviceOp}
 use Rattle.plant.specs.declared.device.Fault.{Fault}
-use Rattle.journal_runs.specs.Pieces.{has_miss, is_miss, is_restart}
+use Rattle.swap_turns.specs.Pieces.{has_miss, is_miss, is_restart}
 use Rattle.lab_model.specs.Courses.{Plan, Trouble, op_node, whole}
 use Rattle.lab_model.specs.Leavings.{Sent}
 use Rattle.lab_model.specs.OnCourse.{acknowledged}

@@ -10,8 +10,8 @@ use Rattle.journal_rec.specs.declared.record.Record.TheVariants as records
 use Rattle.journal_rec.specs.declared.record.Way.{Way}
 use Rattle.journal_rec.specs.declared.record.Way.TheVariants as ways
 use Rattle.journal_model.specs.Appends.{All}
-use Rattle.journal_runs.specs.Pieces.{has_command}
-use Rattle.journal_runs.proofs.Endings.{append_quiet}
+use Rattle.swap_turns.specs.Pieces.{has_command}
+use Rattle.swap_turns.proofs.Endings.{append_quiet}
 use Rattle.lab_model.specs.OnCourse.{is_of, own_events}
 use Rattle.lab_model.proofs.OwnEvents.{not_own}
 use Rattle.records_model.specs.Labs.{LabState, Move, Sane, Says, find, lab_in, moved}

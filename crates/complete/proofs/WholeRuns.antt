@@ -8,7 +8,7 @@ use Rattle.plant.specs.Events.{Event}
 use Rattle.plant.specs.Told.{Told}
 use Rattle.plant.specs.declared.drill.Drill.{Drill}
 use Rattle.plant.specs.declared.step.Side.{Side}
-use Rattle.journal_runs.proofs.Stood.{stood_once}
+use Rattle.swap_turns.proofs.Stood.{stood_once}
 use Rattle.records_model.specs.Works.{IsSound}
 use Rattle.lab_state.specs.Texts.{the_texts}
 use Rattle.lab_state.proofs.Canonical.{texts_once}

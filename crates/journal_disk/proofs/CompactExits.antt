@@ -9,7 +9,7 @@ use Rattle.plant.specs.declared.device.Fault.TheVariants.{Failed, Stopped}
 use Rattle.plant.specs.declared.step.Side.{Side}
 use Rattle.journal_rec.specs.declared.record.Record.{Record}
 use Rattle.journal_model.specs.Appends.{other_side}
-use Rattle.journal_packed.specs.Packing.{ArePacked, side_length}
+use Rattle.journal_rec.specs.Packing.{ArePacked, side_length}
 use Rattle.journal_disk.specs.declared.fault.CompactFault.{CompactFault}
 use Rattle.journal_disk.specs.declared.journal.Journal.{Journal}
 use Rattle.journal_disk.specs.Faults.{compact_fault}

@@ -12,13 +12,13 @@ use Rattle.journal_rec.specs.declared.record.Record.{Record}
 use Rattle.journal_rec.specs.Payloads.{le, number}
 use Rattle.journal_rec.proofs.Numbers.{number_le}
 use Rattle.journal_model.specs.Journals.{header, Head, Blank, Headed, head, gate_after, size}
-use Rattle.journal_model.specs.Appends.{blocks, front, other_side, IsOlder, Known, Rests, Opened, IsOn}
+use Rattle.journal_rec.specs.Packing.{blocks, ArePacked}
+use Rattle.journal_model.specs.Appends.{front, other_side, IsOlder, Known, Rests, Opened, IsOn}
 use Rattle.journal_model.proofs.Images.{synced_image, byte_image}
 use Rattle.journal_model.proofs.Making.{short_blank, shut_blank}
 use Rattle.journal_model.proofs.Gates.{head_headed, on_shut, rests_image}
 use Rattle.journal_model.proofs.Runs.{possible_at}
 use Rattle.journal_model.proofs.Traces.{disk_more}
-use Rattle.journal_packed.specs.Packing.{ArePacked}
 use Rattle.journal_disk.specs.declared.journal.Journal.{Journal}
 use Rattle.journal_disk.specs.Standing.{side_of, IsAt}
 use Rattle.journal_disk.specs.Epochs.{epoch_of, HasEpoch}

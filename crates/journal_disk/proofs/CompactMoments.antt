@@ -12,16 +12,16 @@ use Rattle.plant.specs.declared.step.Side.{Side}
 use Rattle.journal_rec.specs.declared.record.Record.{Record}
 use Rattle.journal_rec.specs.Payloads.{le}
 use Rattle.journal_model.specs.Journals.{magic, Headed, head, size, gate_after}
-use Rattle.journal_model.specs.Appends.{blocks, front, other_side, Opened, IsOn}
+use Rattle.journal_rec.specs.Packing.{blocks, ArePacked, side_length}
+use Rattle.journal_model.specs.Appends.{front, other_side, Opened, IsOn}
 use Rattle.journal_model.proofs.Gates.{length_front}
-use Rattle.journal_packed.specs.Packing.{ArePacked, side_length}
 use Rattle.journal_disk.specs.declared.journal.Journal.{Journal}
 use Rattle.journal_disk.specs.declared.fault.CompactFault.{CompactFault}
 use Rattle.journal_disk.specs.declared.fault.CompactFault.TheVariants as faults
 use Rattle.journal_disk.specs.Faults.{compact_fault}
 use Rattle.journal_disk.specs.Standing.{side_of, gate_of, length_of, IsAt}
 use Rattle.journal_disk.specs.Epochs.{epoch_of, HasEpoch}
-use Rattle.journal_disk.specs.Compacting.{side_text, is_unshut, poured, Come, Untouched, Closing, Closed, Cutting, Emptied, Filling, Filled, Raising, InUse, shutting, emptying, filling, come_steps, MayCome, IsInUse, IsLastOf}
+use Rattle.journal_disk.specs.Compacting.{side_text, is_unshut, poured, Come, Untouched, Closing, Closed, Cutting, Emptied, Filling, Filled, Raising, InUse, shutting, emptying, filling, come_steps, MayCome, IsInUse}
 use Rattle.journal_disk.specs.Compactions.{MoveEnds, MovesOver, Ends, Compacts, Shifts}
 use Rattle.journal_disk.proofs.Prefixes.{AllPrefixes, each_prefix, one_more, missed_images}
 use Rattle.journal_disk.proofs.CompactImages.{there_side, Saw, text_there, steps_there, AfterCome, come_images, stands_there, head_there, number_next}

@@ -12,9 +12,10 @@ use Rattle.plant.specs.declared.step.Side.{Side}
 use Rattle.plant.specs.declared.step.Side.TheVariants.{A, B}
 use Rattle.plant.proofs.Traces.{with_steps-nil}
 use Rattle.journal_model.proofs.Traces.{disk_more}
-use Rattle.journal_disk.specs.Compacting.{is_unshut, poured, ArePieces, Come, Untouched, Closing, Closed, Cutting, Emptied, Filling, Filled, Raising, InUse, shutting, emptying, filling, come_steps, MayCome, IsInUse, IsLastOf, Leaves, BreaksOff, PourEnds, Pours}
+use Rattle.journal_disk.specs.Compacting.{is_unshut, poured, ArePieces, Come, Untouched, Closing, Closed, Cutting, Emptied, Filling, Filled, Raising, InUse, shutting, emptying, filling, come_steps, MayCome, IsInUse, Leaves, BreaksOff, PourEnds, Pours}
 use Rattle.journal_disk.specs.Compactions.{MoveEnds, MovesOver}
-use Rattle.journal_disk.proofs.Chains.{chain, Came, IsLast, sync_came, write_came, sync_ok}
+use Rattle.journal_disk.specs.Reaching.{IsLast}
+use Rattle.journal_disk.proofs.Chains.{chain, Came, sync_came, write_came, sync_ok}
 use Rattle.journal_disk.proofs.Parts.{first_byte, one_byte}
 
 pub cut_ok : (side : Side) (size : ℕ) (stopped : Bool) (u : Unit {0}) (steps : List Event) → CutSteps side size stopped (Ok u) steps → steps ≡ Cut side size ∷ []
@@ -44,13 +45,9 @@ cut_came steps_of P old one two side before after size false Stopped steps p q f
 cut_came steps_of P old one two side before after size false Stopped steps p q first joined second (inr h) =
     record { far = after; may = q; more = []; trace = chain old one two _ steps _ first second (ap (λ l. steps_of before ++ l) h ∙ joined ∙ sym (append-nil _)); last = refl }
 
-last_of : (side : Side) (fault : Fault) (more : List Event) → IsLast side fault more → IsLastOf side fault more
-last_of side Failed more h = h
-last_of side Stopped more h = h
-
 module _ (side : Side) (unshut : Bool) (text : List ℕ) (base one two : Option Told) where
   left : (fault : Fault) → Came (come_steps side unshut) (MayCome unshut text) base two side fault → Leaves side unshut text base two fault
-  left fault c = record { far = c.far; may = c.may; more = c.more; trace = c.trace; last = last_of side fault c.more c.last }
+  left fault c = record { far = c.far; may = c.may; more = c.more; trace = c.trace; last = c.last }
 
   -- after a sync, a write of one byte and a cut that were not acknowledged
   pub sync_left : (before after : Come) (stopped : Bool) (fault : Fault) (steps : List Event) → MayCome unshut text before → MayCome unshut text after → one ≡ with_steps base (come_steps side unshut before)
@@ -85,7 +82,7 @@ module _ (side : Side) (unshut : Bool) (text : List ℕ) (base one two : Option 
 -- ---- the whole move
 module _ (side : Side) (text : List ℕ) (old new : Option Told) where
   -- a call that only reads
-  pub unread : (fault : Fault) (more : List Event) → new ≡ with_steps old more → IsLastOf side fault more → MovesOver side text old new (Err fault)
+  pub unread : (fault : Fault) (more : List Event) → new ≡ with_steps old more → IsLast side fault more → MovesOver side text old new (Err fault)
   unread fault more is last = by old is
     where
       by : (o : Option Told) → new ≡ with_steps o more → MovesOver side text o new (Err fault)
@@ -141,7 +138,7 @@ emptied_long side unshut (Some t) new long is = subst (λ (o : Option Told). IfS
     by B false long = subst (λ (d : Disk). 1 ≤ length d.reads) (sym (disk_more B t.trace (emptying B false))) (one (disk B t.trace).reads (long refl))
 
 -- ---- the steps of the move, one after another
-pub missed_last : (side : Side) (fault : Fault) → IsLastOf side fault (missed {T = Bool} side (Err fault))
+pub missed_last : (side : Side) (fault : Fault) → IsLast side fault (missed {T = Bool} side (Err fault))
 missed_last side Failed = refl
 missed_last side Stopped = refl
 

@@ -1,10 +1,9 @@
 -- The steps of an opening, and each image at each moment of it.
 use Rattle.std.proofs.Common.{◌≡◌, ◌⊎◌, inl, inr, ℕ, Bool, true, false, nat_lt, List, [], ◌∷◌, ◌++◌, length, Option, Some, None, Result, Ok, Err, refl, sym, ap, ◌∙◌, subst, append_assoc}
-use Rattle.std.specs.Prelude.{IfSome}
+use Rattle.std.specs.Prelude.{IfSome, OnOk}
 use Rattle.std.specs.Global.{Vec}
 use Rattle.std.proofs.lemmas.List.{append-nil}
 use Rattle.plant.specs.Disks.{Disk, disk, synced, IsImage, ArePossible}
-use Rattle.plant.specs.DiskCalls.{SyncSteps}
 use Rattle.plant.specs.Events.{Event, Wrote, Synced, Missed}
 use Rattle.plant.specs.Told.{Told, with_steps}
 use Rattle.plant.specs.declared.device.Fault.{Fault}
@@ -28,49 +27,32 @@ use Rattle.journal_disk.specs.Fronts.{seen, place_of}
 use Rattle.journal_disk.specs.Openings.{IsOpened}
 use Rattle.journal_disk.specs.Faults.{open_fault}
 use Rattle.journal_disk.specs.Before.{ReadAlike, AreAsBefore, AreSettled, IsOpening, are_synced}
-use Rattle.journal_disk.specs.Opening.{both_synced, cleared, making, new_journal, Made, Untouched, Closing, Closed, Heading, WithHeader, Raising, InUse, made_steps, IsMade, Far, AtStart, OneSynced, BothSynced, Making, far_steps, MayMake, IsLast, IsSync, Syncs, MayMiss, Makes, Ends, Opens}
-use Rattle.journal_disk.proofs.Chains as chains
-use Rattle.journal_disk.proofs.Chains.{chain, Came, sync_came, write_came}
+use Rattle.journal_disk.specs.Opening.{both_synced, cleared, making, new_journal, Made, Untouched, Closing, Closed, Heading, WithHeader, Raising, InUse, made_steps, IsMade, Far, AtStart, OneSynced, BothSynced, Making, far_steps, MayMake, IsSync, Syncs, MayMiss, Makes, Ends, Opens}
+use Rattle.journal_disk.specs.Reaching.{IsLast}
+use Rattle.journal_disk.proofs.Chains.{chain, reached}
 use Rattle.journal_disk.proofs.Prefixes.{AllPrefixes, each_prefix, one_more, missed_images}
 use Rattle.journal_disk.proofs.Found.{is_new, stands_on_side}
 use Rattle.journal_disk.proofs.Made.{blank_records, made_images}
 use Rattle.journal_disk.proofs.LastSteps.{opening_last}
 
--- ---- calls that were not acknowledged
-last_is : (side : Side) (fault : Fault) (more : List Event) → chains.IsLast side fault more → IsLast side (open_fault fault) more
-last_is side Failed more h = h
-last_is side Stopped more h = h
-
-pub sync_broke : (old one two : Option Told) (side : Side) (before after : Far) (stopped : Bool) (fault : Fault) (steps : List Event) → IsSync before → IsSync after → one ≡ with_steps old (far_steps before) → far_steps before ++ Synced side ∷ [] ≡ far_steps after
-    → two ≡ with_steps one steps → SyncSteps side stopped (Err fault) steps → Syncs old two (Err (open_fault fault))
-sync_broke old one two side before after stopped fault steps p q first joined second h =
-    let c = sync_came far_steps IsSync old one two side before after stopped fault steps p q first joined second h in
-    record { far = c.far; is_sync = c.may; more = c.more; trace = c.trace; ends = (side, last_is side fault c.more c.last) }
-
-pub make_broke : (is_short : Bool) (goal : Made) (old two : Option Told) (fault : Fault) → Came (made_steps is_short) (IsMade is_short) old two A fault → Makes is_short goal old two (Err (open_fault fault))
-make_broke is_short goal old two fault c = record { made = c.far; is_made = c.may; more = c.more; trace = c.trace; ends = last_is A fault c.more c.last }
-
-pub both_done : (old new : Option Told) (u : Unit {0}) → new ≡ with_steps old both_synced → Syncs old new (Ok u)
-both_done old new u is = record { far = BothSynced; is_sync = tt; more = []; trace = is; ends = (refl, refl) }
-
-pub make_done : (is_short : Bool) (goal : Made) (old new : Option Told) (u : Unit {0}) → IsMade is_short goal → new ≡ with_steps old (made_steps is_short goal) → Makes is_short goal old new (Ok u)
-make_done is_short goal old new u may is = record { made = goal; is_made = may; more = []; trace = is ∙ ap (with_steps old) (sym (append-nil (made_steps is_short goal))); ends = (refl, refl) }
+-- both syncs, where both were acknowledged
+pub both_reached : (old new : Option Told) (result : Result (Unit {0}) Fault) → Syncs old new result → OnOk result (new ≡ with_steps old both_synced)
+both_reached old new result s = reached far_steps IsSync BothSynced old new s.0 result s.1
 
 -- a new journal after its gate was closed
-pub make_joined : (old one two : Option Told) (result : Result (Unit {0}) OpenFault) → one ≡ with_steps old (cleared true) → Makes false InUse one two result → Makes true InUse old two result
+pub make_joined : (old one two : Option Told) (result : Result (Unit {0}) Fault) → one ≡ with_steps old (cleared true) → Makes false InUse one two result → Makes true InUse old two result
 make_joined old one two (Ok u) first m =
-    let all : made_steps false m.made ++ m.more ≡ made_steps false InUse = (λ i. made_steps false (m.ends.0 i) ++ m.ends.1 i) ∙ append-nil (made_steps false InUse) in
-    make_done true InUse old two u tt (chain old one two (cleared true) (made_steps false InUse) (made_steps true InUse) first (m.trace ∙ ap (with_steps one) all) refl)
-make_joined old one two (Err fault) first m = by m.made m.is_made (chain old one two (cleared true) (made_steps false m.made ++ m.more) _ first m.trace refl)
+    record { far = InUse; may = tt; more = m.more; trace = chain old one two (cleared true) (made_steps false m.far ++ m.more) _ first m.trace (ap (λ far. cleared true ++ (made_steps false far ++ m.more)) m.ends.0); ends = (refl, m.ends.1) }
+make_joined old one two (Err fault) first m = by m.far m.may (chain old one two (cleared true) (made_steps false m.far ++ m.more) _ first m.trace refl)
   where
-    by : (made : Made) → IsMade false made → two ≡ with_steps old (cleared true ++ (made_steps false made ++ m.more)) → Makes true InUse old two (Err fault)
-    by Untouched may trace = record { made = Closed; is_made = tt; more = m.more; trace = trace; ends = m.ends }
+    by : (far : Made) → IsMade false far → two ≡ with_steps old (cleared true ++ (made_steps false far ++ m.more)) → Makes true InUse old two (Err fault)
+    by Untouched may trace = record { far = Closed; may = tt; more = m.more; trace = trace; ends = m.ends }
     by (Closing byte) may trace = absurd (cc may)
-    by Closed may trace = record { made = Closed; is_made = tt; more = m.more; trace = trace; ends = m.ends }
-    by (Heading bytes) may trace = record { made = Heading bytes; is_made = tt; more = m.more; trace = trace; ends = m.ends }
-    by WithHeader may trace = record { made = WithHeader; is_made = tt; more = m.more; trace = trace; ends = m.ends }
-    by (Raising byte) may trace = record { made = Raising byte; is_made = tt; more = m.more; trace = trace; ends = m.ends }
-    by InUse may trace = record { made = InUse; is_made = tt; more = m.more; trace = trace; ends = m.ends }
+    by Closed may trace = record { far = Closed; may = tt; more = m.more; trace = trace; ends = m.ends }
+    by (Heading bytes) may trace = record { far = Heading bytes; may = tt; more = m.more; trace = trace; ends = m.ends }
+    by WithHeader may trace = record { far = WithHeader; may = tt; more = m.more; trace = trace; ends = m.ends }
+    by (Raising byte) may trace = record { far = Raising byte; may = tt; more = m.more; trace = trace; ends = m.ends }
+    by InUse may trace = record { far = InUse; may = tt; more = m.more; trace = trace; ends = m.ends }
 
 -- ---- the exits of an opening
 abbrev pub OpenedBy : Option Told → Option Told → Result (Journal × Vec Found) OpenFault → Type 0
@@ -125,14 +107,13 @@ module _ (old new : Option Told) (result : Result (Journal × Vec Found) OpenFau
         ends = subst (λ (r : Result (Journal × Vec Found) OpenFault). Ends r (disk A t.trace).reads (disk B t.trace).reads far more) (sym answer) (ends (disk A t.trace).reads (disk B t.trace).reads);
       }
 
-pub syncs_exit : (old new : Option Told) (result : Result (Journal × Vec Found) OpenFault) (fault : OpenFault) → Syncs old new (Err fault) → result ≡ Err fault → OpenedBy old new result
-syncs_exit old new result fault s answer = exit_early old new result fault s.far s.more answer s.trace s.is_sync (ends fault s.ends.0 s.far s.more s.ends.1)
-  where
-    ends : (fault : OpenFault) (side : Side) (far : Far) (more : List Event) → IsLast side fault more → (a b : List ℕ) → Ends (Err fault) a b far more
-    ends faults.Plant side far more h a b = (side, h)
-    ends faults.Stopped side far more h a b = h
-    ends (faults.Bad s at) side far more h a b = absurd h
-    ends faults.Memory side far more h a b = absurd h
+-- an opening that ends in a fault of the plant
+plant_ends : (fault : Fault) (side : Side) (far : Far) (more : List Event) → IsLast side fault more → (a b : List ℕ) → Ends (Err (open_fault fault)) a b far more
+plant_ends Failed side far more h a b = (side, h)
+plant_ends Stopped side far more h a b = h
+
+pub syncs_exit : (old new : Option Told) (result : Result (Journal × Vec Found) OpenFault) (fault : Fault) → Syncs old new (Err fault) → result ≡ Err (open_fault fault) → OpenedBy old new result
+syncs_exit old new result fault s answer = exit_early old new result (open_fault fault) s.1.far s.1.more answer s.1.trace s.1.may (plant_ends fault s.0 s.1.far s.1.more s.1.ends)
 
 pub reads_exit : (T : Type 0) (old one new : Option Told) (side : Side) (result : Result (Journal × Vec Found) OpenFault) (fault : OpenFault) → one ≡ with_steps old both_synced → MayMiss {T = T} side one new (Err fault) → result ≡ Err fault → OpenedBy old new result
 reads_exit T old one new side result faults.Plant first h answer =
@@ -142,17 +123,11 @@ reads_exit T old one new side result (faults.Bad s at) first h answer = exit_ear
 reads_exit T old one new side result faults.Memory first h answer = exit_early old new result faults.Memory BothSynced [] answer (h ∙ first) tt (λ a b. (refl, refl))
 
 module _ (old three new : Option Told) (a b : List ℕ) (seen_so : Saw old a b) (first : three ≡ with_steps old both_synced) where
-  pub made_exit : (is_short : Bool) (result : Result (Journal × Vec Found) OpenFault) (fault : OpenFault) → place_of (seen (head a)) (seen (head b)) ≡ places.New → is_short ≡ nat_lt (length a) 18
-      → Makes is_short InUse three new (Err fault) → result ≡ Err fault → OpenedBy old new result
+  pub made_exit : (is_short : Bool) (result : Result (Journal × Vec Found) OpenFault) (fault : Fault) → place_of (seen (head a)) (seen (head b)) ≡ places.New → is_short ≡ nat_lt (length a) 18
+      → Makes is_short InUse three new (Err fault) → result ≡ Err (open_fault fault) → OpenedBy old new result
   made_exit is_short result fault place short m answer =
-      exit old new result a b (Making is_short m.made) m.more seen_so (chain old three new both_synced _ _ first m.trace refl) (is_new a b place, short, m.is_made)
-      (subst (λ (r : Result (Journal × Vec Found) OpenFault). Ends r a b (Making is_short m.made) m.more) (sym answer) (ends fault m.more m.ends))
-    where
-      ends : (fault : OpenFault) (more : List Event) → IsLast A fault more → Ends (Err fault) a b (Making is_short m.made) more
-      ends faults.Plant more h = (A, h)
-      ends faults.Stopped more h = h
-      ends (faults.Bad s at) more h = absurd h
-      ends faults.Memory more h = absurd h
+      exit old new result a b (Making is_short m.far) m.more seen_so (chain old three new both_synced _ _ first m.trace refl) (is_new a b place, short, m.may)
+      (subst (λ (r : Result (Journal × Vec Found) OpenFault). Ends r a b (Making is_short m.far) m.more) (sym answer) (plant_ends fault A (Making is_short m.far) m.more m.ends a b))
 
   pub new_exit : (is_short : Bool) (opened : Journal × Vec Found) → place_of (seen (head a)) (seen (head b)) ≡ places.New → is_short ≡ nat_lt (length a) 18
       → new ≡ with_steps three (making is_short) → OpenedBy old new (Ok opened)

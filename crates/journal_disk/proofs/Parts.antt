@@ -10,6 +10,7 @@ use Rattle.plant.specs.declared.device.Fault.{Fault}
 use Rattle.plant.specs.declared.device.Fault.TheVariants.{Failed, Stopped}
 use Rattle.plant.specs.declared.step.Side.{Side}
 use Rattle.plant.specs.declared.step.Side.TheVariants.{A, B}
+use Rattle.plant.proofs.Traces.{with_steps-nil}
 use Rattle.journal_rec.specs.declared.record.Record.{Record}
 use Rattle.journal_rec.specs.Payloads.{le, payload, body, IsBody, IsRecord}
 use Rattle.journal_model.specs.Journals.{size}
@@ -17,26 +18,33 @@ use Rattle.journal_model.specs.Appends.{front, Rests, Opened, Run, Nothing, Body
 use Rattle.journal_model.proofs.Gates.{length_front, gate_push}
 use Rattle.journal_model.proofs.Runs.{known_added, known_push, run_disk, run_images}
 use Rattle.journal_model.proofs.Traces.{disk_more}
-use Rattle.journal_disk.proofs.Chains.{Came, sync_came, write_came}
+use Rattle.journal_disk.proofs.Chains.{Came, broke, sync_came, write_came, sync_reaches}
 use Rattle.journal_disk.proofs.Prefixes.{AllPrefixes, each_prefix, one_more, missed_images}
 use Rattle.journal_disk.specs.declared.fault.AppendFault.{AppendFault}
+use Rattle.journal_disk.specs.declared.fault.AppendFault.TheVariants as faults
 use Rattle.journal_disk.specs.declared.journal.Journal.{Journal}
 use Rattle.journal_disk.specs.Faults.{append_fault}
-use Rattle.journal_disk.specs.Standing.{side_of, gate_of, length_of, IsAt, Ends, Appends, Moments}
+use Rattle.journal_disk.specs.Standing.{side_of, gate_of, length_of, IsAt, Ends, Appends, Adds, Moments}
 use Rattle.journal_disk.proofs.LastSteps.{append_last}
 
--- some part was made, and then a call failed or the plant stopped
-abbrev made : Option Told → Option Told → Journal → Record → Fault → Type 0
-made old new j r fault = Appends old new j r (Err (append_fault fault))
+-- an append for which there is no room, one whose steps broke off, and one whose steps are all there
+pub appends_full : (told : Option Told) (j : Journal) (r : Record) (length size : ℕ) → Appends told told j r (Err (faults.Full length size))
+appends_full told j r length size = record { run = Nothing; more = []; trace = with_steps-nil told; ends = (refl, refl) }
 
-part : (old new : Option Told) (j : Journal) (r : Record) (fault : Fault) → Came (added (side_of j) (gate_of j) r) (λ _. Unit {0}) old new (side_of j) fault → made old new j r fault
-part old new j r Failed c = record { run = c.far; more = c.more; trace = c.trace; ends = c.last }
-part old new j r Stopped c = record { run = c.far; more = c.more; trace = c.trace; ends = c.last }
+pub appends_broke : (old new : Option Told) (j : Journal) (r : Record) (fault : Fault) → Adds old new j r (Err fault) → Appends old new j r (Err (append_fault fault))
+appends_broke old new j r Failed a = record { run = a.far; more = a.more; trace = a.trace; ends = a.ends }
+appends_broke old new j r Stopped a = record { run = a.far; more = a.more; trace = a.trace; ends = a.ends }
+
+pub appends_done : (old new : Option Told) (j : Journal) (r : Record) (u v : Unit {0}) → Adds old new j r (Ok u) → Appends old new j r (Ok v)
+appends_done old new j r u v a = record { run = a.far; more = a.more; trace = a.trace; ends = a.ends }
+
+part : (old new : Option Told) (j : Journal) (r : Record) (fault : Fault) → Came (added (side_of j) (gate_of j) r) (λ _. Unit {0}) old new (side_of j) fault → Adds old new j r (Err fault)
+part old new j r fault c = broke (added (side_of j) (gate_of j) r) (λ _. Unit {0}) All old new (side_of j) fault c
 
 -- a sync that was not acknowledged: before it this part was made, and with it that one
 pub sync_part : (old one two : Option Told) (j : Journal) (r : Record) (before after : Run) (stopped : Bool) (fault : Fault) (steps : List Event) → one ≡ with_steps old (added (side_of j) (gate_of j) r before)
     → added (side_of j) (gate_of j) r before ++ Synced (side_of j) ∷ [] ≡ added (side_of j) (gate_of j) r after
-    → two ≡ with_steps one steps → SyncSteps (side_of j) stopped (Err fault) steps → made old two j r fault
+    → two ≡ with_steps one steps → SyncSteps (side_of j) stopped (Err fault) steps → Adds old two j r (Err fault)
 sync_part old one two j r before after stopped fault steps first joined second h =
     part old two j r fault (sync_came (added (side_of j) (gate_of j) r) (λ _. Unit {0}) old one two (side_of j) before after stopped fault steps tt tt first joined second h)
 
@@ -44,9 +52,15 @@ sync_part old one two j r before after stopped fault steps first joined second h
 pub write_part : (old one two : Option Told) (j : Journal) (r : Record) (before : Run) (after : List ℕ → Run) (at : ℕ) (bytes : List ℕ) (stopped : Bool) (fault : Fault) (steps : List Event)
     → one ≡ with_steps old (added (side_of j) (gate_of j) r before)
     → ((other : List ℕ) → length other ≡ length bytes → added (side_of j) (gate_of j) r before ++ Wrote (side_of j) at other ∷ [] ≡ added (side_of j) (gate_of j) r (after other))
-    → two ≡ with_steps one steps → WriteSteps (side_of j) at bytes stopped (Err fault) steps → made old two j r fault
+    → two ≡ with_steps one steps → WriteSteps (side_of j) at bytes stopped (Err fault) steps → Adds old two j r (Err fault)
 write_part old one two j r before after at bytes stopped fault steps first joined second h =
     part old two j r fault (write_came (added (side_of j) (gate_of j) r) (λ _. Unit {0}) old one two (side_of j) before after at bytes stopped fault steps tt (λ _. tt) first joined second h)
+
+-- the last sync, behind the open gate
+pub last_sync : (old one two : Option Told) (j : Journal) (r : Record) (stopped : Bool) (result : Result (Unit {0}) Fault) (steps : List Event) → one ≡ with_steps old (added (side_of j) (gate_of j) r (Gate 165))
+    → two ≡ with_steps one steps → SyncSteps (side_of j) stopped result steps → Adds old two j r result
+last_sync old one two j r stopped result steps first second h =
+    sync_reaches (added (side_of j) (gate_of j) r) (λ _. Unit {0}) old one two (side_of j) (Gate 165) All stopped result steps tt tt first refl second h
 
 -- the one byte of a list of one
 abbrev pub first_byte : List ℕ → ℕ
@@ -88,10 +102,6 @@ gate_within None two j bytes h is = subst (λ (o : Option Told). IfSome o (λ t.
 gate_within (Some t) two j bytes h is =
     let long = body_longer (side_of j) t.trace (gate_of j + 1) bytes (reads_enough t.trace j h.0 h.1) in
     subst (λ (o : Option Told). IfSome o (λ t. gate_of j ≤ length (disk (side_of j) t.trace).reads)) (sym is) (omega (arith, long))
-
--- an append that was acknowledged
-pub whole_run : (old new : Option Told) (j : Journal) (r : Record) (u : Unit {0}) → new ≡ with_steps old (added (side_of j) (gate_of j) r All) → Appends old new j r (Ok u)
-whole_run old new j r u is = record { run = All; more = []; trace = is ∙ ap (with_steps old) (sym (append-nil (added (side_of j) (gate_of j) r All))); ends = (refl, refl) }
 
 -- ---- moments
 module _ (trace : List Event) (j : Journal) (rs : List Record) (r : Record) (at : IsAt trace j rs) (is_r : IsRecord r) where

@@ -21,8 +21,8 @@ use Rattle.plant.proofs.Traces.{disk_push}
 use Rattle.journal_rec.specs.Payloads.{le}
 use Rattle.journal_model.specs.Journals.{magic}
 use Rattle.journal_model.proofs.Traces.{disk_more}
-use Rattle.journal_disk.specs.Compacting.{side_text, AreFull, ArePieces, poured, IsLastOf, PourEnds, Pours}
-use Rattle.journal_disk.proofs.Chains.{chain, write_ok, Came, IsLast, write_came}
+use Rattle.journal_disk.specs.Compacting.{side_text, AreFull, ArePieces, poured, PourEnds, Pours}
+use Rattle.journal_disk.proofs.Chains.{chain, write_ok, Came, write_came}
 
 abbrev pub joined : List (List ℕ) → List ℕ
 joined pieces = flat_map (λ piece. piece) pieces
@@ -104,16 +104,12 @@ wrote_long side (Some t) two at bytes within is = subst (λ (o : Option Told). I
     by A h = subst (λ (d : Disk). at + length bytes ≤ length d.reads) (sym (disk_push A t.trace (Wrote A at bytes))) (put_long (disk A t.trace).reads bytes at h)
     by B h = subst (λ (d : Disk). at + length bytes ≤ length d.reads) (sym (disk_push B t.trace (Wrote B at bytes))) (put_long (disk B t.trace).reads bytes at h)
 
-last_of : (side : Side) (fault : Fault) (more : List Event) → IsLast side fault more → IsLastOf side fault more
-last_of side Failed more h = h
-last_of side Stopped more h = h
-
 -- a write that was not acknowledged
 pub pours_left : (side : Side) (at n : ℕ) (bytes : List ℕ) (old one two : Option Told) (pieces : List (List ℕ)) (piece : List ℕ) (stopped : Bool) (fault : Fault) (steps : List Event) → one ≡ with_steps old (poured side at pieces) → n ≡ at + length (joined pieces)
     → two ≡ with_steps one steps → WriteSteps side n piece stopped (Err fault) steps → Pours side at bytes old two (Err fault)
 pours_left side at n bytes old one two pieces piece stopped fault steps first is second h =
     let c = write_came (poured side at) (λ _. Unit {0}) old one two side pieces (λ other. pieces ++ other ∷ []) n piece stopped fault steps tt (λ _. tt) first (λ other len. pushed side at n pieces other is) second h in
-    record { pieces = c.far; more = c.more; trace = c.trace; ends = last_of side fault c.more c.last }
+    record { pieces = c.far; more = c.more; trace = c.trace; ends = c.last }
 
 pub pours_done : (side : Side) (at : ℕ) (bytes : List ℕ) (old new : Option Told) (pieces : List (List ℕ)) (u : Unit {0}) → ArePieces bytes pieces → new ≡ with_steps old (poured side at pieces) → Pours side at bytes old new (Ok u)
 pours_done side at bytes old new pieces u are is = record { pieces = pieces; more = []; trace = is ∙ ap (with_steps old) (sym (append-nil (poured side at pieces))); ends = (are, refl) }

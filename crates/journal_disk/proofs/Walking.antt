@@ -10,7 +10,8 @@ use Rattle.journal_rec.specs.declared.record.Found.{Found}
 use Rattle.journal_rec.specs.Payloads.{le, number, payload, IsRecord, Decodes}
 use Rattle.journal_rec.proofs.Numbers.{IsBytes, le_number}
 use Rattle.journal_rec.proofs.Fields.{IsBytes-drop, IsBytes-take}
-use Rattle.journal_model.specs.Journals.{block, size, Reads, Breaks, Broken, no_length, cut_off, no_record, gate_after}
+use Rattle.journal_rec.specs.Packing.{block}
+use Rattle.journal_model.specs.Journals.{size, Reads, Breaks, Broken, no_length, cut_off, no_record, gate_after}
 use Rattle.journal_disk.specs.Walks.{placed}
 
 -- the records up to a gate, with what is behind it

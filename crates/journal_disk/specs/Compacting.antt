@@ -2,13 +2,13 @@
 use Rattle.std.specs.Prelude.{◌≡◌, ◌≤◌, ◌<◌, ◌+◌, ◌==◌, ℕ, Bool, true, false, List, [], ◌∷◌, ◌++◌, length, Option, Result, Ok, Err}
 use Rattle.std.specs.List.{flat_map}
 use Rattle.plant.specs.Disks.{disk}
-use Rattle.plant.specs.Events.{Event, Wrote, Synced, Cut, Missed}
+use Rattle.plant.specs.Events.{Event, Wrote, Synced, Cut}
 use Rattle.plant.specs.Told.{Told, with_steps}
 use Rattle.plant.specs.declared.device.Fault.{Fault}
-use Rattle.plant.specs.declared.device.Fault.TheVariants.{Failed, Stopped}
 use Rattle.plant.specs.declared.step.Side.{Side}
 use Rattle.journal_rec.specs.Payloads.{le}
 use Rattle.journal_model.specs.Journals.{magic}
+use Rattle.journal_disk.specs.Reaching.{IsLast}
 
 -- what stands behind the header gate of a side of that epoch: the rest of the header, and the records with their gates
 abbrev pub side_text : ℕ → List ℕ → List ℕ
@@ -84,18 +84,13 @@ abbrev pub IsInUse : Come → Type 0
 IsInUse (InUse pieces) = Unit {0}
 IsInUse far = ⊥
 
--- what stands last after a call that was not acknowledged
-abbrev pub IsLastOf : Side → Fault → List Event → Type 0
-IsLastOf side Failed more = more ≡ Missed side ∷ []
-IsLastOf side Stopped more = more ≡ []
-
 -- so far it came with that text since then, until a call failed or the plant stopped
 pub record Leaves (side : Side) (unshut : Bool) (text : List ℕ) (base new : Option Told) (fault : Fault) : Type 0 where
   pub far : Come
   pub may : MayCome unshut text far
   pub more : List Event
   pub trace : new ≡ with_steps base (come_steps side unshut far ++ more)
-  pub last : IsLastOf side fault more
+  pub last : IsLast side fault more
 
 abbrev pub BreaksOff : Side → Bool → List ℕ → Option Told → Option Told → Result (Unit {0}) Fault → Type 0
 BreaksOff side unshut text base new (Ok done) = Unit {0}
@@ -104,7 +99,7 @@ BreaksOff side unshut text base new (Err fault) = Leaves side unshut text base n
 -- bytes were written from there on, in pieces: all of them after Ok
 abbrev pub PourEnds : Side → List ℕ → Result (Unit {0}) Fault → List (List ℕ) → List Event → Type 0
 PourEnds side bytes (Ok done) pieces more = ArePieces bytes pieces × (more ≡ [])
-PourEnds side bytes (Err fault) pieces more = IsLastOf side fault more
+PourEnds side bytes (Err fault) pieces more = IsLast side fault more
 
 pub record Pours (side : Side) (at : ℕ) (bytes : List ℕ) (old new : Option Told) (result : Result (Unit {0}) Fault) : Type 0 where
   pub pieces : List (List ℕ)

@@ -7,7 +7,8 @@ use Rattle.plant.specs.declared.device.Fault.{Fault}
 use Rattle.plant.specs.declared.step.Side.{Side}
 use Rattle.journal_rec.specs.declared.record.Record.{Record}
 use Rattle.journal_model.specs.Appends.{other_side, IsOn}
-use Rattle.journal_disk.specs.Compacting.{Come, is_unshut, side_text, come_steps, MayCome, IsInUse, IsLastOf}
+use Rattle.journal_disk.specs.Compacting.{Come, is_unshut, side_text, come_steps, MayCome, IsInUse}
+use Rattle.journal_disk.specs.Reaching.{IsLast}
 use Rattle.journal_disk.specs.Epochs.{epoch_of}
 use Rattle.journal_disk.specs.Standing.{side_of}
 use Rattle.journal_disk.specs.declared.fault.CompactFault.{CompactFault}
@@ -17,7 +18,7 @@ use Rattle.journal_disk.specs.declared.journal.Journal.{Journal}
 -- how far the steps of a move onto a side came, by their answer
 abbrev pub MoveEnds : Side → Result (Unit {0}) Fault → Come → List Event → Type 0
 MoveEnds side (Ok done) far more = IsInUse far × (more ≡ [])
-MoveEnds side (Err fault) far more = IsLastOf side fault more
+MoveEnds side (Err fault) far more = IsLast side fault more
 
 pub record MovesOver (side : Side) (text : List ℕ) (old new : Option Told) (result : Result (Unit {0}) Fault) : Type 0 where
   pub unshut : Bool

@@ -6,5 +6,6 @@ pub mod Faults
 pub mod Fronts
 pub mod Opening
 pub mod Openings
+pub mod Reaching
 pub mod Standing
 pub mod Walks

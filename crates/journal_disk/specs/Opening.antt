@@ -4,6 +4,7 @@ use Rattle.std.specs.Global.{Vec}
 use Rattle.plant.specs.Disks.{disk}
 use Rattle.plant.specs.Events.{Event, Wrote, Synced, Missed}
 use Rattle.plant.specs.Told.{Told, with_steps}
+use Rattle.plant.specs.declared.device.Fault.{Fault}
 use Rattle.plant.specs.declared.step.Side.{Side}
 use Rattle.plant.specs.declared.step.Side.TheVariants.{A, B}
 use Rattle.journal_rec.specs.declared.record.Found.{Found}
@@ -12,6 +13,7 @@ use Rattle.journal_model.specs.Making.{made_header}
 use Rattle.journal_disk.specs.declared.fault.OpenFault.{OpenFault}
 use Rattle.journal_disk.specs.declared.fault.OpenFault.TheVariants as faults
 use Rattle.journal_disk.specs.declared.journal.Journal.{Journal}
+use Rattle.journal_disk.specs.Reaching.{Reaches}
 
 -- both sides are synced
 abbrev pub both_synced : List Event
@@ -79,27 +81,13 @@ abbrev pub MayMake : List ℕ → List ℕ → Far → Type 0
 MayMake a b (Making is_short made) = (live (head a) (head b) ≡ New) × (is_short ≡ nat_lt (length a) 18) × IsMade is_short made
 MayMake a b far = Unit {0}
 
--- what stands last after a call that failed, or in which the plant stopped
-abbrev pub IsLast : Side → OpenFault → List Event → Type 0
-IsLast side faults.Plant more = more ≡ Missed side ∷ []
-IsLast side faults.Stopped more = more ≡ []
-IsLast side fault more = ⊥
-
--- the syncs: both are there after Ok
+-- the syncs: both are there after Ok, and else a call missed on one of the sides
 abbrev pub IsSync : Far → Type 0
 IsSync (Making is_short made) = ⊥
 IsSync far = Unit {0}
 
-abbrev pub SyncEnds : Result (Unit {0}) OpenFault → Far → List Event → Type 0
-SyncEnds (Ok done) far more = (far ≡ BothSynced) × (more ≡ [])
-SyncEnds (Err fault) far more = (side : Side) × IsLast side fault more
-
-pub record Syncs (old new : Option Told) (result : Result (Unit {0}) OpenFault) : Type 0 where
-  pub far : Far
-  pub is_sync : IsSync far
-  pub more : List Event
-  pub trace : new ≡ with_steps old (far_steps far ++ more)
-  pub ends : SyncEnds result far more
+abbrev pub Syncs : Option Told → Option Told → Result (Unit {0}) Fault → Type 0
+Syncs old new result = (side : Side) × Reaches far_steps IsSync BothSynced side old new result
 
 -- a call that reads adds a step only where it failed
 abbrev pub MayMiss : {T : Type 0} → Side → Option Told → Option Told → Result T OpenFault → Type 0
@@ -107,16 +95,8 @@ MayMiss side old new (Err faults.Plant) = new ≡ with_steps old (Missed side �
 MayMiss side old new result = new ≡ old
 
 -- the making of a journal on side A, up to that part after Ok
-abbrev pub MakeEnds : Made → Result (Unit {0}) OpenFault → Made → List Event → Type 0
-MakeEnds goal (Ok done) made more = (made ≡ goal) × (more ≡ [])
-MakeEnds goal (Err fault) made more = IsLast A fault more
-
-pub record Makes (is_short : Bool) (goal : Made) (old new : Option Told) (result : Result (Unit {0}) OpenFault) : Type 0 where
-  pub made : Made
-  pub is_made : IsMade is_short made
-  pub more : List Event
-  pub trace : new ≡ with_steps old (made_steps is_short made ++ more)
-  pub ends : MakeEnds goal result made more
+abbrev pub Makes : Bool → Made → Option Told → Option Told → Result (Unit {0}) Fault → Type 0
+Makes is_short goal old new result = Reaches (made_steps is_short) (IsMade is_short) goal A old new result
 
 -- WHAT A CALL OF open ADDED, by its answer
 abbrev pub Ends : Result (Journal × Vec Found) OpenFault → List ℕ → List ℕ → Far → List Event → Type 0

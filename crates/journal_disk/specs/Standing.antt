@@ -3,6 +3,7 @@ use Rattle.std.specs.Prelude.{◌≡◌, ◌⊎◌, ◌+◌, ℕ, List, [], ◌�
 use Rattle.plant.specs.Disks.{ArePossible}
 use Rattle.plant.specs.Events.{Event, Missed}
 use Rattle.plant.specs.Told.{Told, with_steps}
+use Rattle.plant.specs.declared.device.Fault.{Fault}
 use Rattle.plant.specs.declared.step.Side.{Side}
 use Rattle.lab_base.specs.Lists.{Has}
 use Rattle.journal_rec.specs.declared.record.Record.{Record}
@@ -14,6 +15,7 @@ use Rattle.journal_model.specs.Appends.{Opened, Run, Nothing, All, added, IsOn}
 use Rattle.journal_disk.specs.declared.fault.AppendFault.{AppendFault}
 use Rattle.journal_disk.specs.declared.fault.AppendFault.TheVariants as faults
 use Rattle.journal_disk.specs.declared.journal.Journal.{Journal}
+use Rattle.journal_disk.specs.Reaching.{Reaches}
 
 abbrev pub side_of : Journal → Side
 side_of j = j.side
@@ -50,6 +52,10 @@ pub record Appends (old new : Option Told) (j : Journal) (r : Record) (result : 
   pub more : List Event
   pub trace : new ≡ with_steps old (added (side_of j) (gate_of j) r run ++ more)
   pub ends : Ends (side_of j) result run more
+
+-- the four steps of an append, all of them after Ok
+abbrev pub Adds : Option Told → Option Told → Journal → Record → Result (Unit {0}) Fault → Type 0
+Adds old new j r result = Reaches (added (side_of j) (gate_of j) r) (λ run. Unit {0}) All (side_of j) old new result
 
 -- At each moment each image has the old records, or the old and the one new; and after Ok each has the one new.
 pub record Moments (trace : List Event) (steps : List Event) (side : Side) (rs : List Record) (r : Record) (result : Result (Unit {0}) AppendFault) : Type 0 where

@@ -5,7 +5,8 @@ use Rattle.journal_rec.specs.declared.fault.RecFault.TheVariants as faults
 use Rattle.journal_rec.specs.declared.record.Record.{Record}
 use Rattle.journal_rec.specs.declared.record.Found.{Found}
 use Rattle.journal_rec.specs.Payloads.{IsRecord}
-use Rattle.journal_model.specs.Journals.{block, size, Reads, Breaks, Broken, gate_after}
+use Rattle.journal_rec.specs.Packing.{block}
+use Rattle.journal_model.specs.Journals.{size, Reads, Breaks, Broken, gate_after}
 use Rattle.journal_disk.specs.declared.walk.Walked.{Walked}
 use Rattle.journal_disk.specs.declared.walk.WalkFault.{WalkFault}
 use Rattle.journal_disk.specs.declared.walk.WalkFault.TheVariants as stops

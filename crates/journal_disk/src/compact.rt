@@ -6,7 +6,7 @@ ghost use Rattle.plant.specs.Events.{Event, Wrote, Synced};
 ghost use Rattle.plant.specs.Told.{Told, with_steps};
 ghost use Rattle.journal_rec.specs.declared.record.Record.{Record};
 ghost use Rattle.journal_model.specs.Appends.{other_side};
-ghost use Rattle.journal_packed.specs.Packing.{ArePacked, side_length};
+ghost use Rattle.journal_rec.specs.Packing.{ArePacked, side_length};
 ghost use Rattle.journal_disk.specs.Standing.{side_of, length_of, limit_of, IsAt};
 ghost use Rattle.journal_disk.specs.Epochs.{epoch_of, HasEpoch};
 ghost use Rattle.journal_disk.specs.Compacting.{filling, side_text, ArePieces, BreaksOff};
@@ -17,7 +17,7 @@ use crate::front::OPEN;
 use crate::pouring::pour;
 use crate::walk::FIRST;
 use crate::{CompactFault, Journal};
-use journal_packed::Packed;
+use journal_rec::Packed;
 use plant::{Fault, Plant, Side};
 
 fn other_side(side: Side) -> Side

@@ -4,7 +4,7 @@ ghost use Rattle.journal_rec.specs.declared.limits.TheConstants.{MAX_JOURNAL};
 use crate::AppendFault;
 use crate::front::OPEN;
 use journal_rec::Encoded;
-use plant::{Plant, Side};
+use plant::{Fault, Plant, Side};
 
 /// An open journal: its live side, and the gates there up to the first closed one.
 #[derive(Drop)]
@@ -23,11 +23,12 @@ pub struct Journal {
 impl Journal {
     ghost use Rattle.std.specs.Prelude.{◌≡◌, ◌↔◌, ◌<◌, ◌≤◌, ◌+◌, ◌++◌, [], ◌∷◌, ℕ, List, length, Option, Some, Err, IfSome, IsErrOf, OnOk, OnErr, IsTrue};
     ghost use Rattle.lab_base.specs.Counts.{Rose};
+    ghost use Rattle.plant.specs.DiskCalls.{DiskCause};
     ghost use Rattle.plant.specs.Events.{Event};
     ghost use Rattle.plant.specs.Told.{with_steps};
     ghost use Rattle.journal_rec.specs.Payloads.{IsBody};
     ghost use Rattle.journal_rec.specs.declared.record.Record.{Record};
-    ghost use Rattle.journal_disk.specs.Standing.{side_of, gate_of, length_of, limit_of, IsAt, Appends, Moments};
+    ghost use Rattle.journal_disk.specs.Standing.{side_of, gate_of, length_of, limit_of, IsAt, Appends, Adds, Moments};
     ghost use Rattle.journal_disk.specs.Epochs.{epoch_of, HasEpoch};
 
     /// The side to which records are appended.
@@ -85,41 +86,27 @@ impl Journal {
             → IfSome (P.seen plant.new).told (λ u. HasEpoch u.trace self.new))) }
         ensures err { OnErr result (self.new ≡ self.old) }
     {
-        self.append_steps(encoded, plant)
-    }
-
-    /// The four steps of an append: the body behind the closed gate, a sync, the open gate, a sync.
-    fn append_steps<P: Plant>(
-        &mut self,
-        encoded: &Encoded,
-        plant: &mut P,
-    ) -> Result<(), AppendFault>
-        // Both sides are as this journal's last call left them.
-        requires { IfSome (P.seen plant.old).told (λ t. (rs : List Record) × IsAt t.trace self.old rs) }
-        ensures full { limit_of self.old < length_of self.old + length encoded.now → result ≡ Err (AppendFault.Full (length_of self.old) (length encoded.now)) }
-        ensures fits { length_of self.old + length encoded.now ≤ limit_of self.old → (size length : ℕ) → result ≡ Err (AppendFault.Full length size) → ⊥ }
-        ensures nothing { limit_of self.old < length_of self.old + length encoded.now → plant.new ≡ plant.old }
-        ensures plant { IsErrOf result AppendFault.Plant → Rose (P.seen plant.old).faults.disk (P.seen plant.new).faults.disk }
-        ensures later { (P.seen plant.old).faults.disk ≤ (P.seen plant.new).faults.disk }
-        ensures devices { (P.seen plant.new).faults.devices ≡ (P.seen plant.old).faults.devices }
-        ensures stopped { length_of self.old + length encoded.now ≤ limit_of self.old → IsErrOf result AppendFault.Stopped ↔ IsTrue (P.seen plant.new).stopped }
-        ensures appends { (r : Record) → IsBody encoded.now r → Appends (P.seen plant.old).told (P.seen plant.new).told self.old r result }
-        ensures length { OnOk result (length_of self.new ≡ length_of self.old + length encoded.now) }
-        ensures side { side_of self.new ≡ side_of self.old }
-        ensures limit { limit_of self.new ≡ limit_of self.old }
-        ensures epoch { epoch_of self.new ≡ epoch_of self.old }
-        ensures err { OnErr result (self.new ≡ self.old) }
-    {
         let length = self.length();
         let size = encoded.size();
         if length.saturating_add(size) > self.limit {
             return Err(AppendFault::Full { length, size });
         }
+        self.add(encoded, plant)?;
+        self.gate += size;
+        Ok(())
+    }
+
+    /// The four steps of an append: the body behind the closed gate, a sync, the open gate, a sync.
+    fn add<P: Plant>(&self, encoded: &Encoded, plant: &mut P) -> Result<(), Fault>
+        // Both sides are as this journal's last call left them.
+        requires { IfSome (P.seen plant.old).told (λ t. (rs : List Record) × IsAt t.trace self.now rs) }
+        ensures adds { (r : Record) → IsBody encoded.now r → Adds (P.seen plant.old).told (P.seen plant.new).told self.now r result }
+        ensures cause { DiskCause (P.seen plant.old).faults (P.seen plant.new).faults result }
+        ensures stopped { IsErrOf result Fault.Stopped ↔ IsTrue (P.seen plant.new).stopped }
+    {
         plant.write(self.side, self.gate + 1, encoded.bytes())?;
         plant.sync(self.side)?;
         plant.write(self.side, self.gate, &[OPEN])?;
-        plant.sync(self.side)?;
-        self.gate += size;
-        Ok(())
+        plant.sync(self.side)
     }
 }

@@ -1,32 +1,26 @@
-ghost use Rattle.std.specs.Prelude.{◌≡◌, ◌↔◌, ◌≤◌, ◌<◌, ℕ, Option, Err, length, take, drop};
-ghost use Rattle.std.specs.Prelude.{vec_len, ◌+◌, IfOk, IfSome, OnOk, OnErr, IsErrOf, IsTrue, List, ◌++◌};
+ghost use Rattle.std.specs.Prelude.{◌≡◌, ◌↔◌, ◌≤◌, ◌<◌, ◌+◌, ◌++◌, length, take, drop, vec_len, IfOk, IfSome, OnOk, IsErrOf, IsTrue};
+ghost use Rattle.plant.specs.DiskCalls.{DiskCause};
 ghost use Rattle.plant.specs.Disks.{disk};
 ghost use Rattle.plant.specs.Told.{with_steps};
-ghost use Rattle.plant.specs.Events.{Event};
-ghost use Rattle.plant.specs.declared.step.Side.{Side as AnySide};
 ghost use Rattle.journal_disk.specs.Opening.{both_synced, Syncs, MayMiss};
-ghost use Rattle.lab_base.specs.Counts.{Rose};
+ghost use Rattle.journal_disk.specs.Faults.{ReadCause};
 
 use crate::OpenFault;
-use plant::{Plant, Side};
+use plant::{Fault, Plant, Side};
 use std::alloc::Global;
 
 /// The most bytes that are read or written at a time.
 pub const PIECE: usize = 65_536;
 
 /// Makes both sides durable as they read.
-pub fn sync_sides<P: Plant>(plant: &mut P) -> Result<(), OpenFault>
+pub fn sync_sides<P: Plant>(plant: &mut P) -> Result<(), Fault>
     ensures ok { OnOk result ((P.seen plant.new).told ≡ with_steps (P.seen plant.old).told both_synced) }
     ensures syncs { Syncs (P.seen plant.old).told (P.seen plant.new).told result }
-    ensures plant { IsErrOf result OpenFault.Plant → Rose (P.seen plant.old).faults.disk (P.seen plant.new).faults.disk }
-    ensures later { (P.seen plant.old).faults.disk ≤ (P.seen plant.new).faults.disk }
-    ensures devices { (P.seen plant.new).faults.devices ≡ (P.seen plant.old).faults.devices }
-    ensures stopped { IsErrOf result OpenFault.Stopped ↔ IsTrue (P.seen plant.new).stopped }
-    ensures bad { (side : AnySide) (at : ℕ) → result ≡ Err (OpenFault.Bad side at) → ⊥ }
+    ensures cause { DiskCause (P.seen plant.old).faults (P.seen plant.new).faults result }
+    ensures stopped { IsErrOf result Fault.Stopped ↔ IsTrue (P.seen plant.new).stopped }
 {
     plant.sync(Side::A)?;
-    plant.sync(Side::B)?;
-    Ok(())
+    plant.sync(Side::B)
 }
 
 /// Reads the next bytes of a side, so many of them.
@@ -42,12 +36,9 @@ fn read_piece<P: Plant>(
     ensures read { IfSome (P.seen plant.old).told
         (λ t. OnOk result (bytes.new.items ≡ bytes.old.items ++ take size (drop (vec_len bytes.old) (disk side t.trace).reads))) }
     ensures len { OnOk result (vec_len bytes.new ≡ vec_len bytes.old + size) }
-    ensures plant { IsErrOf result OpenFault.Plant → Rose (P.seen plant.old).faults.disk (P.seen plant.new).faults.disk }
-    ensures later { (P.seen plant.old).faults.disk ≤ (P.seen plant.new).faults.disk }
-    ensures devices { (P.seen plant.new).faults.devices ≡ (P.seen plant.old).faults.devices }
+    ensures cause { ReadCause (P.seen plant.old).faults (P.seen plant.new).faults result }
     ensures stopped { IsErrOf result OpenFault.Stopped ↔ IsTrue (P.seen plant.new).stopped }
     ensures still { (P.seen plant.new).stopped ≡ (P.seen plant.old).stopped }
-    ensures bad { (side : AnySide) (at : ℕ) → result ≡ Err (OpenFault.Bad side at) → ⊥ }
 {
     let mut piece = [0u8; PIECE];
     plant.read(side, bytes.len() as u64, &mut piece[..size])?;
@@ -70,11 +61,8 @@ pub fn piece_of(left: usize) -> usize
 pub fn read_side<P: Plant>(alloc: Global, plant: &mut P, side: Side) -> Result<Vec<u8>, OpenFault>
     ensures trace { MayMiss side (P.seen plant.old).told (P.seen plant.new).told result }
     ensures bytes { IfOk result (λ bytes. IfSome (P.seen plant.old).told (λ t. bytes.items ≡ (disk side t.trace).reads)) }
-    ensures plant { IsErrOf result OpenFault.Plant → Rose (P.seen plant.old).faults.disk (P.seen plant.new).faults.disk }
-    ensures later { (P.seen plant.old).faults.disk ≤ (P.seen plant.new).faults.disk }
-    ensures devices { (P.seen plant.new).faults.devices ≡ (P.seen plant.old).faults.devices }
+    ensures cause { ReadCause (P.seen plant.old).faults (P.seen plant.new).faults result }
     ensures stopped { IsErrOf result OpenFault.Stopped ↔ IsTrue (P.seen plant.new).stopped }
-    ensures bad { (side : AnySide) (at : ℕ) → result ≡ Err (OpenFault.Bad side at) → ⊥ }
 {
     let size = plant.length(side)? as usize;
     let mut bytes = Vec::with_capacity(alloc, size)?;

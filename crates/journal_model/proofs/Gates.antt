@@ -1,6 +1,6 @@
 -- A side's bytes with its records behind gates.
 use Rattle.std.proofs.Common.{◌≡◌, ◌≢◌, inl, inr, ℕ, ◌+◌, ◌≤◌, ◌||◌, false, nat_lt, if◌then◌else◌, List, [], ◌∷◌, ◌++◌, length, take, drop, get_or, refl, sym, ap, ◌∙◌, subst, arith, append_assoc, length-append, take-append-drop, sum_by}
-use Rattle.std.proofs.lemmas.List.{append-nil, take_at, drop_at}
+use Rattle.std.proofs.lemmas.List.{take_at, drop_at}
 use Rattle.std.proofs.lemmas.List.Sums.{sum_by-append}
 use Rattle.std.proofs.lemmas.Bool.{le-ltb, lt-ltb, ne_eqb}
 use Rattle.lab_base.specs.Lists.{Has}
@@ -11,8 +11,10 @@ use Rattle.plant.specs.declared.step.Side.TheVariants.{A, B}
 use Rattle.plant.specs.Sides.{of_side}
 use Rattle.journal_rec.specs.declared.record.Record.{Record}
 use Rattle.journal_rec.specs.Payloads.{le, number, payload, IsRecord, body}
-use Rattle.journal_model.specs.Journals.{header, Head, Blank, Foreign, Headed, head, On, Wrong, live, block, size, Reads, gate_after, RecordsOf, size_of}
-use Rattle.journal_model.specs.Appends.{blocks, front, other_side, IsOlder, Rests, Writes, IsReady, Opens, IsOn}
+use Rattle.journal_rec.specs.Packing.{block, blocks}
+use Rattle.journal_rec.proofs.Packing.{blocks-push}
+use Rattle.journal_model.specs.Journals.{header, Head, Blank, Foreign, Headed, head, On, Wrong, live, size, Reads, gate_after, RecordsOf, size_of}
+use Rattle.journal_model.specs.Appends.{front, other_side, IsOlder, Rests, Writes, IsReady, Opens, IsOn}
 use Rattle.journal_model.proofs.Images.{front_kept, synced_image, byte_image, put_one}
 
 -- the head of a side that has a header and one byte more
@@ -30,10 +32,6 @@ drop_header epoch rest eight = drop_at (header epoch) rest 17 (length_header epo
 pub reads_shut : (rs : List Record) (gate : ℕ) (rest : List ℕ) → ((r : Record) → Has rs r → IsRecord r) → gate ≢ 165 → Reads (blocks rs ++ gate ∷ rest) rs
 reads_shut [] gate rest written shut = (gate, rest, refl, shut)
 reads_shut (r ∷ rs) gate rest written shut = (blocks rs ++ gate ∷ rest, written r (inl refl), append_assoc (block r) (blocks rs) (gate ∷ rest), reads_shut rs gate rest (λ x h. written x (inr h)) shut)
-
-pub blocks-push : (rs : List Record) (r : Record) (rest : List ℕ) → blocks (rs ++ r ∷ []) ++ rest ≡ blocks rs ++ (block r ++ rest)
-blocks-push [] r rest = ap (λ l. l ++ rest) (append-nil (block r))
-blocks-push (q ∷ rs) r rest = append_assoc (block q) (blocks (rs ++ r ∷ [])) rest ∙ ap (λ l. block q ++ l) (blocks-push rs r rest) ∙ sym (append_assoc (block q) (blocks rs) (block r ++ rest))
 
 pub block_size : (r : Record) → length (block r) ≡ size r
 block_size r = omega (arith, length-append (165 ∷ le 4 (length (payload r))) (payload r))

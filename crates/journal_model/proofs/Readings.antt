@@ -4,7 +4,8 @@ use Rattle.std.proofs.lemmas.List.{take_at}
 use Rattle.plant.specs.declared.step.Side.{Side}
 use Rattle.journal_rec.specs.declared.record.Record.{Record}
 use Rattle.journal_rec.specs.Payloads.{le, number, payload, IsRecord}
-use Rattle.journal_model.specs.Journals.{block, Reads, Breaks, Broken, no_length, cut_off, no_record, Live, New, On, Wrong, live, head, RecordsOf, Records, BadOf, Bad, gate_after}
+use Rattle.journal_rec.specs.Packing.{block}
+use Rattle.journal_model.specs.Journals.{Reads, Breaks, Broken, no_length, cut_off, no_record, Live, New, On, Wrong, live, head, RecordsOf, Records, BadOf, Bad, gate_after}
 use Rattle.journal_model.proofs.Halves.{halves, le_once}
 use Rattle.journal_rec.proofs.Numbers.{number_le}
 use Rattle.journal_rec.proofs.Again.{payload_once}

@@ -14,8 +14,9 @@ use Rattle.plant.specs.Sides.{of_side}
 use Rattle.plant.proofs.Traces.{disk_push}
 use Rattle.journal_rec.specs.declared.record.Record.{Record}
 use Rattle.journal_rec.specs.Payloads.{number, IsRecord}
-use Rattle.journal_model.specs.Journals.{magic, header, Head, Blank, Foreign, Headed, head, Live, On, Wrong, live, block, Reads}
-use Rattle.journal_model.specs.Appends.{blocks, other_side, IsOlder, IsReadable, IsWithin, AreWithin, IsLawful, Opened}
+use Rattle.journal_rec.specs.Packing.{block, blocks}
+use Rattle.journal_model.specs.Journals.{magic, header, Head, Blank, Foreign, Headed, head, Live, On, Wrong, live, Reads}
+use Rattle.journal_model.specs.Appends.{other_side, IsOlder, IsReadable, IsWithin, AreWithin, IsLawful, Opened}
 use Rattle.journal_model.proofs.Images.{synced_image}
 use Rattle.journal_model.proofs.Gates.{drop_header}
 

@@ -14,7 +14,8 @@ use Rattle.journal_rec.proofs.Records.{all_takes}
 use Rattle.journal_rec.proofs.Again.{all_again}
 use Rattle.std.proofs.lemmas.Option.{none-some}
 use Rattle.plant.specs.Sides.{of_side}
-use Rattle.journal_model.specs.Journals.{Headed, head, Live, New, On, Wrong, live, block, Reads, Breaks, no_length, cut_off, no_record, gate_after, RecordsOf, Records, BadOf, Bad, AreBytes}
+use Rattle.journal_rec.specs.Packing.{block}
+use Rattle.journal_model.specs.Journals.{Headed, head, Live, New, On, Wrong, live, Reads, Breaks, no_length, cut_off, no_record, gate_after, RecordsOf, Records, BadOf, Bad, AreBytes}
 use Rattle.journal_model.proofs.Syncs.{live_back}
 
 digit : (x n : ℕ) → x < 256 → ((x + 256 * n) % 256 ≡ x) × ((x + 256 * n) / 256 ≡ n)

@@ -1,6 +1,5 @@
 -- The steps that an append adds to a trace, and the states of the live side and of its images.
 use Rattle.std.specs.Prelude.{◌≡◌, ◌≢◌, ◌⊎◌, ◌<◌, ◌≤◌, ◌+◌, ℕ, List, [], ◌∷◌, ◌++◌, length, slice_index}
-use Rattle.std.specs.List.{flat_map}
 use Rattle.lab_base.specs.Lists.{Has}
 use Rattle.plant.specs.Disks.{Disk, wrote, at_once, disk, disk_after}
 use Rattle.plant.specs.Events.{Event, Wrote, Synced}
@@ -8,12 +7,10 @@ use Rattle.plant.specs.declared.step.Side.{Side}
 use Rattle.plant.specs.declared.step.Side.TheVariants.{A, B}
 use Rattle.journal_rec.specs.declared.record.Record.{Record}
 use Rattle.journal_rec.specs.Payloads.{number, body, IsRecord}
-use Rattle.journal_model.specs.Journals.{header, Head, Blank, Headed, head, On, live, block, gate_after, Records, journal_length}
+use Rattle.journal_rec.specs.Packing.{blocks}
+use Rattle.journal_model.specs.Journals.{header, Head, Blank, Headed, head, On, live, gate_after, Records, journal_length}
 
--- the records' blocks, one after another, and a side up to the gate after them
-abbrev pub blocks : List Record → List ℕ
-blocks rs = flat_map block rs
-
+-- a side up to the gate after these records
 abbrev pub front : List ℕ → List Record → List ℕ
 front epoch rs = header epoch ++ blocks rs
 

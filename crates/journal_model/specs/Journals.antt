@@ -6,7 +6,8 @@ use Rattle.plant.specs.declared.step.Side.{Side}
 use Rattle.plant.specs.declared.step.Side.TheVariants.{A, B}
 use Rattle.plant.specs.Sides.{of_side}
 use Rattle.journal_rec.specs.declared.record.Record.{Record}
-use Rattle.journal_rec.specs.Payloads.{le, number, payload, IsRecord, Decodes}
+use Rattle.journal_rec.specs.Payloads.{number, payload, IsRecord, Decodes}
+use Rattle.journal_rec.specs.Packing.{block}
 
 -- `LABJRNL1`
 abbrev pub magic : List ℕ
@@ -42,10 +43,7 @@ live (Headed m) Blank = On A
 live Blank (Headed n) = On B
 live (Headed m) (Headed n) = if number m == number n then Wrong A else if nat_lt (number n) (number m) then On A else On B
 
--- a record behind an open gate
-abbrev pub block : Record → List ℕ
-block r = 165 ∷ le 4 (length (payload r)) ++ payload r
-
+-- by how much a record makes a side longer
 abbrev pub size : Record → ℕ
 size r = length (payload r) + 5
 

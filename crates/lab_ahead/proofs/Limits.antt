@@ -7,13 +7,11 @@ use Rattle.lab_base.specs.Names.{same_name}
 use Rattle.lab_base.specs.Numbers.{is_digits}
 use Rattle.lab_base.specs.Kinds.{both_of}
 use Rattle.lab_base.specs.Parts.{at_least, name_of, number_from}
-use Rattle.lab_base.specs.Texts.{fields_of, is_skipped}
 use Rattle.lab_base.specs.declared.fault.Kind.{Kind}
 use Rattle.lab_base.specs.declared.fault.Kind.TheVariants as kinds
-use Rattle.lab_base.specs.declared.fault.TextFault.{TextFault}
 use Rattle.lab_base.proofs.Members.{Has-append}
 use Rattle.line_text.specs.Fields.{field_at}
-use Rattle.line_text.specs.Reading.{and_then, at_line, line_added, read_from}
+use Rattle.line_text.specs.Reading.{and_then}
 use Rattle.line_text.proofs.ListLaws.{both_read}
 use Rattle.lab_ahead.specs.declared.batch.Batch.{Batch}
 use Rattle.lab_ahead.specs.declared.batch.Promise.{Promise}
@@ -122,9 +120,10 @@ run_keeps batch run new keeps is h =
       ];
     })
 
-fields_keep : (batch : Batch) (fields : List (List ℕ)) (new : Batch) → KeepsLimits batch → added batch fields ≡ Ok new → KeepsLimits new
-fields_keep batch [] new keeps h = absurd (cc h)
-fields_keep batch (keyword ∷ fields) new keeps h = by (same_name keyword (codes "promise")) (same_name keyword (codes "run")) h
+-- a line keeps the limits
+pub line_keeps : (batch new : Batch) (fields : List (List ℕ)) → KeepsLimits batch → added batch fields ≡ Ok new → KeepsLimits new
+line_keeps batch new [] keeps h = absurd (cc h)
+line_keeps batch new (keyword ∷ fields) keeps h = by (same_name keyword (codes "promise")) (same_name keyword (codes "run")) h
   where
     by : (a b : Bool) → cond a (and_then (promise_line fields) (with_promise batch)) (cond b (and_then (run_line fields) (with_run batch)) (Err kinds.Word)) ≡ Ok new → KeepsLimits new
     by true b h = let read = stepped (promise_line fields) (with_promise batch) new h in promise_keeps batch read.0 new keeps (promise_read fields read.0 read.1) read.2
@@ -132,21 +131,3 @@ fields_keep batch (keyword ∷ fields) new keeps h = by (same_name keyword (code
         let found = tested b kinds.Word (and_then (run_line fields) (with_run batch)) new h in
         let read = stepped (run_line fields) (with_run batch) new found.1 in
         run_keeps batch read.0 new keeps (run_read fields read.0 read.1) read.2
-
-line_keeps : (batch : Batch) (line : List ℕ) (new : Batch) → KeepsLimits batch → line_added added batch line ≡ Ok new → KeepsLimits new
-line_keeps batch line new keeps h = by (is_skipped (fields_of line)) h
-  where
-    by : (b : Bool) → cond b (Ok batch) (added batch (fields_of line)) ≡ Ok new → KeepsLimits new
-    by true h = let same : batch ≡ new = cc h in subst (λ (b : Batch). KeepsLimits b) same keeps
-    by false h = fields_keep batch (fields_of line) new keeps h
-
-of_line : (n : ℕ) (r : Result Batch Kind) (batch : Batch) → at_line n r ≡ Ok batch → r ≡ Ok batch
-of_line n (Ok b) batch h = let same : b ≡ batch = cc h in ap (λ (c : Batch). Ok c) same
-of_line n (Err kind) batch h = absurd (cc h)
-
--- the lines of a text
-pub lines_keep : (n : ℕ) (lines : List (List ℕ)) (so_far : Result Batch TextFault) (new : Batch) → ((batch : Batch) → so_far ≡ Ok batch → KeepsLimits batch) → read_from added n so_far lines ≡ Ok new → KeepsLimits new
-lines_keep n [] so_far new keeps h = keeps new h
-lines_keep n (line ∷ lines) (Err fault) new keeps h = lines_keep (n + 1) lines (Err fault) new keeps h
-lines_keep n (line ∷ lines) (Ok batch) new keeps h =
-    lines_keep (n + 1) lines (at_line n (line_added added batch line)) new (λ b is. line_keeps batch line b (keeps batch refl) (of_line n (line_added added batch line) b is)) h

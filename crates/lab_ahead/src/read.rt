@@ -1,13 +1,13 @@
-ghost use Rattle.std.specs.Prelude.{◌≡◌, ◌<◌, Ok, IfOk, length};
-ghost use Rattle.lab_base.specs.Texts.{lines_of, views};
-ghost use Rattle.line_text.specs.Reading.{and_then, line_added, read_from};
-ghost use Rattle.line_text.specs.Refusals.{Reads, ReadsInto, Takes};
+ghost use Rattle.std.specs.Prelude.{◌≡◌, ◌<◌, IfOk, length};
+ghost use Rattle.lab_base.specs.Texts.{views};
+ghost use Rattle.line_text.specs.Reading.{and_then};
+ghost use Rattle.line_text.specs.Refusals.{Reads, Takes};
 ghost use Rattle.lab_ahead.specs.Batches.{KeepsLimits, added, batch_of_text, promise_line, run_line, start, with_promise, with_run};
 
 use crate::batch::{Batch, Promise, Run};
 use crate::lines::{promise_in, run_in};
-use lab_base::{Items, Kind, TEXT_LIMIT, TextRefused, fields_in, first_line, is_skipped};
-use line_text::{LineFault, refusal};
+use lab_base::{Items, Kind, TEXT_LIMIT, TextRefused};
+use line_text::{AddLine, LineFault, read_lines};
 use std::alloc::Global;
 
 /// The most promises of a batch.
@@ -50,49 +50,29 @@ fn add_run_line(batch: &mut Batch, fields: &[&[u8]]) -> Result<(), LineFault>
     add_run(batch, run)
 }
 
-/// Adds a line that has fields.
-fn add(batch: &mut Batch, fields: &[&[u8]]) -> Result<(), LineFault>
-    ensures { Takes result batch.new (added batch.old (views fields.now)) }
-{
-    match fields {
-        [] => Err(LineFault::Kind(Kind::Word)),
-        [keyword, rest @ ..] => {
-            if *keyword == b"promise".as_slice() {
-                add_promise_line(batch, rest)
-            } else if *keyword == b"run".as_slice() {
-                add_run_line(batch, rest)
-            } else {
-                Err(LineFault::Kind(Kind::Word))
+impl AddLine for Batch {
+    ghost use Rattle.lab_ahead.specs.declared.batch.Batch.{Batch};
+
+    ghost Contents = { Batch };
+
+    ghost contents = { λ batch. batch };
+
+    ghost added = { λ _. added };
+
+    fn add(&mut self, _alloc: Global, fields: &[&[u8]]) -> Result<(), LineFault> {
+        match fields {
+            [] => Err(LineFault::Kind(Kind::Word)),
+            [keyword, rest @ ..] => {
+                if *keyword == b"promise".as_slice() {
+                    add_promise_line(self, rest)
+                } else if *keyword == b"run".as_slice() {
+                    add_run_line(self, rest)
+                } else {
+                    Err(LineFault::Kind(Kind::Word))
+                }
             }
         }
     }
-}
-
-fn add_line(batch: &mut Batch, alloc: Global, line: &[u8]) -> Result<(), LineFault>
-    ensures { Takes result batch.new (line_added added batch.old line.now) }
-{
-    let fields = fields_in(alloc, line)?;
-    if is_skipped(&fields) {
-        return Ok(());
-    }
-    add(batch, &fields)
-}
-
-/// Adds the lines of a text.
-fn add_lines(batch: &mut Batch, alloc: Global, text: &[u8]) -> Result<(), TextRefused>
-    requires { length text.now < TEXT_LIMIT }
-    ensures { ReadsInto result batch.new (read_from added 1 (Ok batch.old) (lines_of text.now)) }
-{
-    let mut line = 1u32;
-    let mut rest = text;
-    while let Some(first) = first_line(rest) {
-        if let Err(fault) = add_line(batch, alloc, first.line) {
-            return Err(refusal(line, fault));
-        }
-        line += 1;
-        rest = first.rest;
-    }
-    Ok(())
 }
 
 fn start(alloc: Global) -> Batch
@@ -113,6 +93,6 @@ pub fn read_batch(alloc: Global, text: &[u8]) -> Result<Batch, TextRefused>
     ensures limits { IfOk result KeepsLimits }
 {
     let mut batch = start(alloc);
-    add_lines(&mut batch, alloc, text)?;
+    read_lines(alloc, text, &mut batch)?;
     Ok(batch)
 }

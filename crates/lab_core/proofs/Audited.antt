@@ -6,7 +6,7 @@ use Rattle.lab_base.specs.Lists.{Has}
 use Rattle.plant.specs.Events.{Event}
 use Rattle.plant.specs.Worlds.{World, world_of}
 use Rattle.records_model.specs.Labs.{LabState}
-use Rattle.journal_runs.specs.Pieces.{has_outer}
+use Rattle.swap_turns.specs.Pieces.{has_outer}
 use Rattle.swap_turns.specs.Swaps.{Moves}
 use Rattle.script_text.specs.declared.command.Command.TheVariants as commands
 use Rattle.script_text.specs.declared.reply.Reply.{Reply}

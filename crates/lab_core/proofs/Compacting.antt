@@ -13,11 +13,11 @@ use Rattle.plant.specs.declared.step.Side.TheVariants.{A, B}
 use Rattle.plant.proofs.Traces.{with_steps-nil}
 use Rattle.journal_rec.specs.declared.record.Record.{Record}
 use Rattle.journal_rec.specs.Payloads.{le, number}
-use Rattle.journal_model.specs.Appends.{blocks, other_side}
+use Rattle.journal_rec.specs.Packing.{blocks, ArePacked, side_length}
+use Rattle.journal_model.specs.Appends.{other_side}
 use Rattle.journal_model.specs.Journals.{Headed, On, head, gate_after, magic}
 use Rattle.journal_model.proofs.Gates.{length_front}
 use Rattle.journal_model.proofs.Traces.{disk_more}
-use Rattle.journal_packed.specs.Packing.{ArePacked, side_length}
 use Rattle.journal_disk.specs.Compacting.{come_steps, is_unshut}
 use Rattle.journal_disk.specs.Compactions.{Compacts, Shifts as ShiftsImages}
 use Rattle.journal_disk.proofs.CompactSteps.{there_come}
@@ -30,10 +30,10 @@ use Rattle.journal_disk.specs.declared.fault.OpenFault.TheVariants as faults
 use Rattle.journal_disk.specs.declared.journal.Journal.{Journal}
 use Rattle.records_model.specs.Labs.{LabState, LabOf}
 use Rattle.records_model.specs.Works.{IsSound, HasRoom}
-use Rattle.journal_runs.specs.Pieces.{has_miss}
-use Rattle.journal_runs.proofs.Images.{reads_on}
-use Rattle.journal_runs.proofs.Shifting.{shift_quiet, shift_missed, all_stand, shifts_sound}
-use Rattle.journal_runs.proofs.Sounds.{works_as}
+use Rattle.swap_turns.specs.Pieces.{has_miss}
+use Rattle.swap_turns.proofs.Images.{reads_on}
+use Rattle.swap_turns.proofs.Shifting.{shift_quiet, shift_missed, all_stand, shifts_sound}
+use Rattle.swap_turns.proofs.Sounds.{works_as}
 use Rattle.lab_state.specs.Packing.{packed_of}
 use Rattle.lab_state.specs.Texts.{the_texts}
 use Rattle.lab_state.proofs.Canonical.{texts_once}

@@ -14,7 +14,7 @@ use Rattle.records_model.specs.Labs.{LabState}
 use Rattle.records_model.specs.Works.{IsSound}
 use Rattle.lab_state.specs.Texts.{the_texts}
 use Rattle.journal_disk.specs.Standing.{length_of, limit_of, side_of}
-use Rattle.journal_runs.proofs.Images.{reads_on}
+use Rattle.swap_turns.proofs.Images.{reads_on}
 use Rattle.swap_turns.specs.Running.{Stands}
 use Rattle.swap_turns.proofs.Telling.{if_both, if_back}
 use Rattle.script_text.specs.Replies.{blames_device, closes}

@@ -8,7 +8,7 @@ use Rattle.lab_base.specs.Lists.{AllDiffer, Has}
 use Rattle.lab_base.proofs.Members.{Has-mapped}
 use Rattle.plant.specs.Events.{Event}
 use Rattle.plant.specs.declared.drill.Drill.{Drill}
-use Rattle.journal_runs.specs.Pieces.{has_outer}
+use Rattle.swap_turns.specs.Pieces.{has_outer}
 use Rattle.records_model.specs.Labs.{LabState, find}
 use Rattle.recovery.specs.Due.{is_busy}
 use Rattle.cost_rule.specs.declared.rule.RuleNumber.{RuleNumber}

@@ -21,11 +21,11 @@ use Rattle.journal_disk.specs.Walks.{placed}
 use Rattle.journal_disk.specs.declared.journal.Journal.{Journal}
 use Rattle.journal_disk.specs.declared.fault.OpenFault.{OpenFault}
 use Rattle.journal_disk.specs.declared.fault.OpenFault.TheVariants as faults
-use Rattle.journal_runs.specs.Pieces.{has_miss}
-use Rattle.journal_runs.proofs.Alike.{opened_alike}
-use Rattle.journal_runs.proofs.Images.{on_image, reads_on}
-use Rattle.journal_runs.proofs.Quiet.{opening_quiet, opening_missed, shows}
-use Rattle.journal_runs.proofs.Sounds.{steps_sound, works_as}
+use Rattle.swap_turns.specs.Pieces.{has_miss}
+use Rattle.swap_turns.proofs.Alike.{opened_alike}
+use Rattle.swap_turns.proofs.Images.{on_image, reads_on}
+use Rattle.swap_turns.proofs.Quiet.{opening_quiet, opening_missed, shows}
+use Rattle.swap_turns.proofs.Sounds.{steps_sound, works_as}
 use Rattle.lab_state.specs.Texts.{the_texts}
 use Rattle.lab_state.specs.Replays.{records_of}
 use Rattle.lab_state.proofs.Canonical.{texts_once}

@@ -6,7 +6,7 @@ use Rattle.phys_lab.specs.Labs.{Lab}
 use Rattle.virt_topo.specs.declared.experiment.Experiment.{Experiment}
 use Rattle.plant.specs.Events.{Event}
 use Rattle.plant.specs.Worlds.{World, blank, world_after, world_of}
-use Rattle.journal_runs.specs.Pieces.{has_command}
+use Rattle.swap_turns.specs.Pieces.{has_command}
 use Rattle.lab_model.specs.Leavings.{SameFor}
 use Rattle.records_model.specs.Labs.{LabState, Sane, find, lab_in}
 use Rattle.script_text.specs.declared.command.Command.{Command}
@@ -18,7 +18,7 @@ use Rattle.lab_judge.specs.Judge.{Task, Turn, Finish, judged_turn, judged_finish
 use Rattle.lab_core.specs.LabSteps.{Does, EndsSwap, IsDoneBy, JudgedBeside, Turns, does, no_memory}
 use Rattle.lab_core.specs.Commands.{LabStep}
 use Rattle.cost_rule.specs.declared.rule.RuleNumber.{RuleNumber}
-use Rattle.journal_runs.proofs.Sounds.{world_stays}
+use Rattle.swap_turns.proofs.Sounds.{world_stays}
 use Rattle.lab_core.specs.Sessions.{OpenSwap, Open, Setting, After, names_of, Terms}
 use Rattle.lab_judge.specs.OpenNames.{is_among}
 use Rattle.lab_core.specs.Tells.{IsTurnOf}

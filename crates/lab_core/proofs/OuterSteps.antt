@@ -5,8 +5,8 @@ use Rattle.std.proofs.lemmas.Option.{same_Some}
 use Rattle.lab_base.specs.Lists.{Has}
 use Rattle.lab_base.proofs.Members.{Has-append, Has-right, none_has}
 use Rattle.plant.specs.Events.{Event, Restarted, Unread}
-use Rattle.journal_runs.specs.Pieces.{EndsRestarted, has_outer, has_restart, is_outer, is_restart}
-use Rattle.journal_runs.proofs.Quiet.{shows}
+use Rattle.swap_turns.specs.Pieces.{EndsRestarted, has_outer, has_restart, is_outer, is_restart}
+use Rattle.swap_turns.proofs.Quiet.{shows}
 use Rattle.script_text.specs.declared.command.Command.{Command}
 use Rattle.script_text.specs.declared.command.Command.TheVariants as commands
 use Rattle.script_text.specs.declared.reply.Reply.{Reply}

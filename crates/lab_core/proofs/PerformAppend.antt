@@ -21,9 +21,9 @@ use Rattle.records_model.proofs.Starts.{room_accepted}
 use Rattle.journal_disk.specs.Standing.{side_of, gate_of, length_of, limit_of, Ends}
 use Rattle.journal_disk.specs.declared.fault.AppendFault.{AppendFault}
 use Rattle.journal_disk.specs.declared.fault.AppendFault.TheVariants as appending
-use Rattle.journal_runs.specs.Pieces.{has_outer, has_miss}
-use Rattle.journal_runs.specs.Working.{StandForEither}
-use Rattle.journal_runs.proofs.Endings.{ended_quiet, ended_missed}
+use Rattle.swap_turns.specs.Pieces.{has_outer, has_miss}
+use Rattle.swap_turns.specs.Working.{StandForEither}
+use Rattle.swap_turns.proofs.Endings.{ended_quiet, ended_missed}
 use Rattle.lab_state.specs.Texts.{the_texts}
 use Rattle.lab_state.proofs.Canonical.{texts_once}
 use Rattle.script_text.specs.declared.reply.Reply.{Reply}

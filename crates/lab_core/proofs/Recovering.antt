@@ -10,7 +10,7 @@ use Rattle.plant.specs.Events.{Event, Restarted}
 use Rattle.plant.specs.Seen.{Seen}
 use Rattle.virt_topo.specs.declared.experiment.Experiment.{Experiment}
 use Rattle.journal_disk.specs.Standing.{limit_of}
-use Rattle.journal_runs.specs.Pieces.{has_outer, has_miss}
+use Rattle.swap_turns.specs.Pieces.{has_outer, has_miss}
 use Rattle.virt_topo.specs.declared.experiment.Phase.{Phase}
 use Rattle.virt_topo.specs.declared.experiment.Phase.TheVariants.{Out, In, Moving}
 use Rattle.records_model.specs.Labs.{LabState}

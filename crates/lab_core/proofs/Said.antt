@@ -8,8 +8,8 @@ use Rattle.journal_model.specs.Journals.{journal_length}
 use Rattle.records_model.specs.Appends.{standing}
 use Rattle.records_model.specs.Labs.{LabState}
 use Rattle.records_model.specs.Works.{IsSound}
-use Rattle.journal_runs.proofs.Sounds.{at_end}
-use Rattle.journal_runs.proofs.Stood.{stood_once}
+use Rattle.swap_turns.proofs.Sounds.{at_end}
+use Rattle.swap_turns.proofs.Stood.{stood_once}
 use Rattle.lab_state.specs.Texts.{the_texts}
 use Rattle.lab_state.proofs.Canonical.{texts_once}
 use Rattle.lab_core.specs.Moments.{StandForLab}

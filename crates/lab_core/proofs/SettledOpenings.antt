@@ -14,8 +14,8 @@ use Rattle.journal_disk.specs.Standing.{side_of, length_of}
 use Rattle.journal_disk.specs.declared.journal.Journal.{Journal}
 use Rattle.journal_disk.specs.declared.fault.OpenFault.{OpenFault}
 use Rattle.journal_disk.specs.declared.fault.OpenFault.TheVariants as faults
-use Rattle.journal_runs.specs.Pieces.{has_outer, is_miss, is_outer}
-use Rattle.journal_runs.proofs.Quiet.{shows}
+use Rattle.swap_turns.specs.Pieces.{has_outer, is_miss, is_outer}
+use Rattle.swap_turns.proofs.Quiet.{shows}
 use Rattle.lab_state.specs.Texts.{the_texts}
 use Rattle.swap_txn.specs.Steps.{live_of}
 use Rattle.swap_turns.specs.Running.{Stands}

@@ -13,9 +13,9 @@ use Rattle.lab_model.specs.Courses.{Trouble as AnyTrouble, Device, Late, Unlawfu
 use Rattle.virt_topo.specs.declared.mapping.Mapped.{Mapped}
 use Rattle.records_model.specs.Labs.{LabState, Move, Says, Commits, Aborts, moved}
 use Rattle.records_model.proofs.LabLaws.{says_once}
-use Rattle.journal_runs.specs.Pieces.{has_miss, has_outer, has_restart, is_restart}
+use Rattle.swap_turns.specs.Pieces.{has_miss, has_outer, has_restart, is_restart}
 use Rattle.journal_model.specs.Appends.{All}
-use Rattle.journal_runs.proofs.Endings.{append_quiet, ended_quiet}
+use Rattle.swap_turns.proofs.Endings.{append_quiet, ended_quiet}
 use Rattle.recovery.specs.Due.{is_busy}
 use Rattle.lab_state.specs.Texts.{the_texts}
 use Rattle.lab_state.proofs.Canonical.{texts_once}

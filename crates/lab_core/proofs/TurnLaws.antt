@@ -5,9 +5,9 @@ use Rattle.std.proofs.lemmas.Option.{same_Some}
 use Rattle.plant.specs.Events.{Event}
 use Rattle.plant.specs.declared.drill.Drill.{Drill}
 use Rattle.journal_model.specs.Appends.{All, added}
-use Rattle.journal_runs.specs.Pieces.{has_command, is_command}
-use Rattle.journal_runs.proofs.Endings.{append_quiet}
-use Rattle.journal_runs.proofs.Quiet.{shows}
+use Rattle.swap_turns.specs.Pieces.{has_command, is_command}
+use Rattle.swap_turns.proofs.Endings.{append_quiet}
+use Rattle.swap_turns.proofs.Quiet.{shows}
 use Rattle.lab_base.specs.declared.what.What.TheVariants as whats
 use Rattle.lab_model.specs.Courses.{Trouble as AnyTrouble, Device, Late, Unlawful}
 use Rattle.virt_topo.specs.declared.mapping.Mapped.{Mapped}

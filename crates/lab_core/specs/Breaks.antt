@@ -2,7 +2,7 @@
 use Rattle.std.specs.Prelude.{◌≡◌, ℕ, true, false, List, [], ◌∷◌, Option, Some, None}
 use Rattle.plant.specs.Events.{Event, Restarted}
 use Rattle.swap_turns.specs.Turning.{Outcome, Stopped as Halted}
-use Rattle.journal_runs.specs.Pieces.{has_outer, has_miss, EndsRestarted}
+use Rattle.swap_turns.specs.Pieces.{has_outer, has_miss, EndsRestarted}
 use Rattle.script_text.specs.declared.reply.Reply.{Reply}
 use Rattle.script_text.specs.declared.reply.Reply.TheVariants.{Stopped, Down}
 

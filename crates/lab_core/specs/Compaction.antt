@@ -7,7 +7,7 @@ use Rattle.plant.specs.declared.step.Side.{Side}
 use Rattle.journal_rec.specs.declared.record.Record.{Record}
 use Rattle.journal_model.specs.Appends.{other_side}
 use Rattle.journal_model.specs.Journals.{gate_after}
-use Rattle.journal_packed.specs.Packing.{ArePacked}
+use Rattle.journal_rec.specs.Packing.{ArePacked}
 use Rattle.records_model.specs.Labs.{LabState, LabOf}
 use Rattle.records_model.specs.Works.{IsSound}
 use Rattle.journal_disk.specs.Epochs.{epoch_of}
@@ -15,7 +15,7 @@ use Rattle.journal_disk.specs.Standing.{side_of, length_of}
 use Rattle.journal_disk.specs.declared.journal.Journal.{Journal}
 use Rattle.journal_disk.specs.declared.fault.OpenFault.{OpenFault}
 use Rattle.journal_disk.specs.declared.fault.OpenFault.TheVariants as faults
-use Rattle.journal_runs.specs.Pieces.{has_miss, has_outer}
+use Rattle.swap_turns.specs.Pieces.{has_miss, has_outer}
 use Rattle.lab_state.specs.Packing.{packed_of}
 use Rattle.lab_state.specs.Texts.{the_texts}
 use Rattle.lab_core.specs.Controller.{Control}

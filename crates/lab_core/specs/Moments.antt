@@ -8,7 +8,7 @@ use Rattle.journal_rec.specs.declared.record.Record.{Record}
 use Rattle.journal_rec.specs.Payloads.{number}
 use Rattle.journal_model.specs.Journals.{Records, Bad, On, Headed, live, head, gate_after, journal_length}
 use Rattle.records_model.specs.Labs.{LabState, LabOf, StopsAt, at_first}
-use Rattle.journal_runs.specs.Working as runs
+use Rattle.swap_turns.specs.Working as runs
 use Rattle.lab_model.specs.Sound.{is_moving}
 use Rattle.lab_state.specs.Texts.{the_texts}
 

@@ -18,7 +18,7 @@ use Rattle.journal_disk.specs.Opening.{both_synced}
 use Rattle.journal_disk.specs.Before.{AreAsBefore, AreSettled, ReadAlike, are_synced}
 use Rattle.journal_disk.specs.declared.fault.OpenFault.{OpenFault}
 use Rattle.journal_disk.specs.declared.fault.OpenFault.TheVariants as faults
-use Rattle.journal_runs.specs.Pieces.{has_command, has_miss, has_outer}
+use Rattle.swap_turns.specs.Pieces.{has_command, has_miss, has_outer}
 use Rattle.plant.specs.Seen.{Seen}
 use Rattle.recovery.specs.Due.{swaps_of}
 use Rattle.recovery.specs.Settle.{SettledAll, SettledSome}

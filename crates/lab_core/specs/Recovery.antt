@@ -2,7 +2,7 @@
 use Rattle.std.specs.Prelude.{◌≡◌, ◌⊎◌, ℕ, true, false, count_by, List, [], ◌∷◌, ◌++◌, Some}
 use Rattle.plant.specs.Events.{Event}
 use Rattle.records_model.specs.Labs.{LabState}
-use Rattle.journal_runs.specs.Pieces.{has_outer, has_miss, has_command}
+use Rattle.swap_turns.specs.Pieces.{has_outer, has_miss, has_command}
 use Rattle.script_text.specs.declared.reply.Reply.TheVariants.{Recovered}
 use Rattle.swap_turns.specs.Settling.{Settles, BreaksOff}
 use Rattle.swap_turns.specs.Swaps.{Swap}

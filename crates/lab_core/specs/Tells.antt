@@ -14,7 +14,7 @@ use Rattle.lab_model.specs.Beside.{violation_beside}
 use Rattle.lab_model.specs.Sound.{is_moving}
 use Rattle.journal_model.specs.Appends.{All, added}
 use Rattle.journal_rec.specs.declared.record.Record.{Record}
-use Rattle.journal_runs.specs.Pieces.{has_command}
+use Rattle.swap_turns.specs.Pieces.{has_command}
 use Rattle.plant.specs.Events.{Event, Wrote, Synced, Cut, Missed, Did}
 use Rattle.plant.specs.declared.device.Answer.{Answer}
 use Rattle.plant.specs.declared.device.DeviceOp.{DeviceOp}

@@ -3,7 +3,7 @@ ghost use Rattle.std.specs.Prelude.{◌≡◌, ◌↔◌, ◌<◌, ◌≤◌, �
 ghost use Rattle.lab_base.specs.Counts.{Rose};
 ghost use Rattle.journal_disk.specs.Epochs.{epoch_of};
 ghost use Rattle.journal_disk.specs.Standing.{length_of, limit_of};
-ghost use Rattle.journal_packed.specs.Packing.{side_length};
+ghost use Rattle.journal_rec.specs.Packing.{side_length};
 ghost use Rattle.records_model.specs.Labs.{LabState as AnyLabState};
 ghost use Rattle.lab_state.specs.Texts.{the_texts};
 ghost use Rattle.lab_core.specs.Compaction.{AfterCompaction, AfterMove, IsPacked, IsToMove};
@@ -13,7 +13,7 @@ ghost use Rattle.swap_turns.specs.Running.{AtWork};
 
 use crate::Controller;
 use journal_disk::{CompactFault, Journal, OpenFault};
-use journal_packed::Packed;
+use journal_rec::Packed;
 use lab_state::LabState;
 use plant::Plant;
 

@@ -9,7 +9,7 @@ ghost use Rattle.cost_rule.specs.declared.rule.RuleNumber.{RuleNumber};
 ghost use Rattle.records_model.specs.Labs.{LabState, Move, Sane, Says, find, lab_in};
 ghost use Rattle.records_model.specs.Works.{IsSound};
 ghost use Rattle.lab_state.specs.Texts.{the_texts};
-ghost use Rattle.journal_runs.specs.Pieces.{has_command, has_miss, has_restart};
+ghost use Rattle.swap_turns.specs.Pieces.{has_command, has_miss, has_restart};
 ghost use Rattle.script_text.specs.Drills.{drill_of};
 ghost use Rattle.script_text.specs.Replies.{closes};
 ghost use Rattle.script_text.specs.declared.command.Command.{Command};

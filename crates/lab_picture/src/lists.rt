@@ -124,7 +124,7 @@ fn push_run_at(
     }
 }
 
-#[tactic(auto, using(crate::proofs::Steps::counted_more))]
+#[tactic(auto, using(lab_base::proofs::Lists::flat_map_range))]
 fn push_runs(text: &mut Text, geometry: &Geometry, view: &View) -> Result<(), Memory>
     requires { length view.now.owners ≤ MAX_IDS }
     ensures { OnOk result (text.new ≡ text.old ++ flat_map (run_at geometry.now view.now) (range_with_len 0 (length view.now.owners))) }
@@ -291,7 +291,7 @@ fn push_entry_at(
     }
 }
 
-#[tactic(auto, using(crate::proofs::Steps::counted_more))]
+#[tactic(auto, using(lab_base::proofs::Lists::flat_map_range))]
 fn push_entries(
     alloc: Global,
     text: &mut Text,

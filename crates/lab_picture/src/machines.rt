@@ -333,7 +333,7 @@ fn push_machine_at(
 }
 
 /// All machines.
-#[tactic(auto, using(crate::proofs::Steps::counted_more))]
+#[tactic(auto, using(lab_base::proofs::Lists::flat_map_range))]
 pub(crate) fn push_machines(
     alloc: Global,
     text: &mut Text,

@@ -134,7 +134,7 @@ fn push_switch_at(
 }
 
 /// All switches.
-#[tactic(auto, using(crate::proofs::Steps::counted_more))]
+#[tactic(auto, using(lab_base::proofs::Lists::flat_map_range))]
 pub(crate) fn push_switches(
     alloc: Global,
     text: &mut Text,

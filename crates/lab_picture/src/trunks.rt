@@ -95,7 +95,7 @@ fn push_trunk_at(
 }
 
 /// All trunks.
-#[tactic(auto, using(crate::proofs::Steps::counted_more))]
+#[tactic(auto, using(lab_base::proofs::Lists::flat_map_range))]
 pub(crate) fn push_trunks(text: &mut Text, geometry: &Geometry, view: &View) -> Result<(), Memory>
     ensures { OnOk result (text.new ≡ text.old ++ flat_map (trunk_at geometry.now view.now) (range_with_len 0 (length view.now.trunks))) }
 {
@@ -162,7 +162,7 @@ fn push_label_at(
 }
 
 /// The labels of all trunks.
-#[tactic(auto, using(crate::proofs::Steps::counted_more))]
+#[tactic(auto, using(lab_base::proofs::Lists::flat_map_range))]
 pub(crate) fn push_labels(
     alloc: Global,
     text: &mut Text,

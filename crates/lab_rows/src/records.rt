@@ -3,8 +3,7 @@ ghost use Rattle.std.specs.Prelude.{◌≡◌, IfOk};
 ghost use Rattle.journal_rec.specs.Payloads.{IsRecord};
 
 use crate::texts::Texts;
-use journal_packed::Packed;
-use journal_rec::{Found, Record, decode};
+use journal_rec::{Found, Packed, Record, decode};
 use lab_base::{Kind, Memory, Text, TrunkId};
 use lab_state::{LabState, PrepareFault, ReplayFault};
 use line_text::field_at;

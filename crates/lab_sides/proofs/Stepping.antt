@@ -3,7 +3,8 @@ use Rattle.std.proofs.Common.{◌≡◌, ◌≢◌, ℕ, suc, ◌+◌, ◌-◌, 
 use Rattle.std.proofs.lemmas.List.{length-drop, drop-drop, append-nil}
 use Rattle.journal_rec.specs.declared.record.Record.{Record}
 use Rattle.journal_rec.specs.declared.record.Found.{Found}
-use Rattle.journal_model.specs.Journals.{block, size, Broken}
+use Rattle.journal_rec.specs.Packing.{block}
+use Rattle.journal_model.specs.Journals.{size, Broken}
 use Rattle.lab_sides.specs.Walks.{IsBehind, AreThere}
 
 pub at_gate : (bytes : List ℕ) (gate : ℕ) → gate < length bytes → drop gate bytes ≡ get_or bytes gate 0 ∷ drop (gate + 1) bytes

@@ -3,7 +3,8 @@ use Rattle.std.specs.Prelude.{◌≡◌, ◌<◌, ◌+◌, ◌-◌, ℕ, List, [
 use Rattle.journal_rec.specs.declared.record.Record.{Record}
 use Rattle.journal_rec.specs.declared.record.Found.{Found}
 use Rattle.journal_rec.specs.Payloads.{IsRecord}
-use Rattle.journal_model.specs.Journals.{block, size, Reads, Breaks, Broken, gate_after}
+use Rattle.journal_rec.specs.Packing.{block}
+use Rattle.journal_model.specs.Journals.{size, Reads, Breaks, Broken, gate_after}
 use Rattle.journal_disk.specs.Walks.{placed}
 use Rattle.lab_sides.specs.declared.walking.Ended.{Ended}
 use Rattle.lab_sides.specs.declared.walking.Ended.TheVariants.{Whole, Torn}

@@ -19,7 +19,7 @@ use Rattle.journal_rec.specs.Payloads.{IsShort, IsBody, tags_bytes, text_bytes, 
 use Rattle.journal_rec.specs.declared.record.Record.{Record}
 use Rattle.journal_rec.specs.declared.record.Record.TheVariants.{Lab, Begin, Commit}
 use Rattle.journal_rec.specs.declared.record.Way.TheVariants.{In as WayIn, Out as WayOut, Change as WayChange, Change2 as WayChange2}
-use Rattle.journal_packed.specs.Packing.{ArePacked}
+use Rattle.journal_rec.specs.Packing.{ArePacked}
 use Rattle.virt_topo.specs.declared.experiment.Experiment.{Experiment}
 use Rattle.virt_topo.specs.declared.experiment.Phase.TheVariants.{Moving}
 use Rattle.journal_rec.proofs.Fields.{tags_size}

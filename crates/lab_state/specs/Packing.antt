@@ -13,7 +13,7 @@ use Rattle.journal_rec.specs.declared.record.Way.TheVariants.{In as WayIn, Out a
 use Rattle.journal_rec.specs.declared.record.Record.{Record}
 use Rattle.journal_rec.specs.declared.record.Record.TheVariants.{Lab as LabRecord, Begin, Commit}
 use Rattle.records_model.specs.Labs.{LabState, Texts, create_in, change_in}
-use Rattle.journal_packed.specs.Packing.{ArePacked}
+use Rattle.journal_rec.specs.Packing.{ArePacked}
 
 -- a new experiment with that wiring; its way into the lab, and to another mapping
 abbrev pub creation : Texts → List ℕ → Wiring → Record

@@ -3,7 +3,7 @@ ghost use Rattle.std.specs.Prelude.{◌≡◌, ◌∷◌, [], List, Some, None, 
 ghost use Rattle.lab_base.specs.Lists.{Has};
 ghost use Rattle.std.specs.List.{flat_map};
 ghost use Rattle.virt_topo.specs.Wirings.{mapped};
-ghost use Rattle.journal_packed.specs.Packing.{ArePacked};
+ghost use Rattle.journal_rec.specs.Packing.{ArePacked};
 ghost use Rattle.journal_rec.specs.Payloads.{IsShort};
 ghost use Rattle.journal_rec.specs.declared.record.Record.{Record as AnyRecord};
 ghost use Rattle.lab_model.specs.Claims.{Which, claimed};
@@ -18,8 +18,7 @@ ghost use Rattle.lab_state.specs.Texts.{the_texts};
 
 use crate::experiments::Experiments;
 use crate::state::LabState;
-use journal_packed::Packed;
-use journal_rec::{Record, Way, encode};
+use journal_rec::{Packed, Record, Way, encode};
 use lab_base::{Memory, Name, Tags, Text};
 use phys_lab::Lab;
 use ptop_text::print_ptop;

@@ -15,10 +15,10 @@ use Rattle.records_model.proofs.Starts.{restarted}
 use Rattle.journal_disk.specs.Before.{is_sync_of, are_synced}
 use Rattle.journal_disk.specs.declared.fault.OpenFault.{OpenFault}
 use Rattle.journal_disk.specs.declared.fault.OpenFault.TheVariants as openings
-use Rattle.journal_runs.specs.Pieces.{is_command, is_miss, is_outer, has_command, has_miss, has_outer, has_restart}
-use Rattle.journal_runs.proofs.Blank.{restarted_stand}
-use Rattle.journal_runs.proofs.Quiet.{shows}
-use Rattle.journal_runs.proofs.Stood.{sound_stands, stood_alike, stood_before, stood_once, stood_settled}
+use Rattle.swap_turns.specs.Pieces.{is_command, is_miss, is_outer, has_command, has_miss, has_outer, has_restart}
+use Rattle.swap_turns.proofs.Blank.{restarted_stand}
+use Rattle.swap_turns.proofs.Quiet.{shows}
+use Rattle.swap_turns.proofs.Stood.{sound_stands, stood_alike, stood_before, stood_once, stood_settled}
 use Rattle.lab_state.specs.Texts.{the_texts}
 use Rattle.recovery.specs.Due.{swaps_of}
 use Rattle.swap_turns.specs.Settling.{Settles}

@@ -1,5 +1,5 @@
 -- The commands of its script that a run begins.
-use Rattle.std.proofs.Common.{◌≡◌, inl, inr, ⊎_elim, ℕ, ◌+◌, ◌≤◌, false, List, [], ◌∷◌, ◌++◌, length, Option, Some, None, refl, sym, ◌∙◌, ap, subst, arith, append_assoc}
+use Rattle.std.proofs.Common.{◌≡◌, ◌⊎◌, inl, inr, ⊎_elim, ℕ, ◌+◌, ◌≤◌, false, List, [], ◌∷◌, ◌++◌, length, Option, Some, None, refl, sym, ◌∙◌, ap, subst, arith, append_assoc}
 use Rattle.std.specs.Io.KnownBytes.{prepend_known, IsAtEnd}
 use Rattle.std.proofs.lemmas.List.{append-nil, length-map}
 use Rattle.std.proofs.lemmas.Option.{same_Some}
@@ -10,12 +10,12 @@ use Rattle.lab_io.proofs.Passing.{passed_none, passed_more}
 use Rattle.lab_io.proofs.LineLaws.{lines-none}
 use Rattle.script_text.specs.declared.command.Command.{Command}
 use Rattle.script_text.specs.declared.next.Next.TheVariants as nexts
-use Rattle.script_text.specs.Commands.{Lines, next_of, Ending, AtEnd, BadLine, ending, AreCommands, IsScript}
-use Rattle.script_text.specs.Taking.{known, Reads, IsBad, IsUnfinished, ComesTo}
-use Rattle.script_text.proofs.Taken.{told_lines, known_behind}
+use Rattle.script_text.specs.Commands.{Lines, Found, next_of, Ending, AtEnd, Bad, BadLine, ending, AreCommands, IsScript}
+use Rattle.script_text.specs.Taking.{known, Reads, IsBad, IsUnfinished, IsWithin, NoFurther}
+use Rattle.script_text.proofs.Taken.{told_lines, known_behind, next_within, no_line, read_within}
 use Rattle.lab_top.specs.declared.status.Status.TheVariants as statuses
 use Rattle.lab_top.specs.Readers.{at_start}
-use Rattle.lab_top.specs.Ran.{AreFirst, BegunCommands, IsReadTo}
+use Rattle.lab_top.specs.Ran.{AreFirst, AreFirstTo, BegunCommands, IsReadTo, IsTakenTo}
 
 -- BYTES THAT ARE KNOWN
 some_parts : (raw : List ℕ) (o : Option (List ℕ)) (bytes : List ℕ) → Some bytes ≡ prepend_known raw o → (rest : List ℕ) × (o ≡ Some rest) × (bytes ≡ raw ++ rest)
@@ -29,7 +29,7 @@ pub record Covers (start now : Stand) (commands : List Command) : Type 0 where
   pub texts : List (List ℕ)
   pub passed : Passed start now texts
   pub are : (more : Lines) (others : List Command) (end : Ending) → AreCommands now.lines more others end → AreCommands start.lines (known texts ++ more) (commands ++ others) end
-  pub first : (more : Lines) (others : List Command) → AreFirst now.lines more others → AreFirst start.lines (known texts ++ more) (commands ++ others)
+  pub first_to : (line : ℕ) (more : Lines) (others : List Command) → AreFirstTo line now.lines more others → AreFirstTo line start.lines (known texts ++ more) (commands ++ others)
 
 -- a reader that has read nothing
 pub covers_none : (bytes : List ℕ) (now : Stand) → now.rest ≡ Some bytes → now.ended ≡ false → now.taken ≡ 0 → now.lines ≡ 0 → Covers (at_start bytes) now []
@@ -37,7 +37,7 @@ covers_none bytes now rest ended taken lines = record {
   texts = [];
   passed = passed_none (at_start bytes) now (inl ended) (λ h. refl) rest taken lines;
   are = λ more others end are. subst (λ (n : ℕ). AreCommands n more others end) lines are;
-  first = λ more others are. subst (λ (n : ℕ). AreFirst n more others) lines are;
+  first_to = λ line more others are. subst (λ (n : ℕ). AreFirstTo line n more others) lines are;
 }
 
 pub covers_more : (start now new : Stand) (commands : List Command) (c : Command) → Covers start now commands → Reads now (nexts.Command c) new → Covers start new (commands ++ c ∷ [])
@@ -48,13 +48,16 @@ covers_more start now new commands c cov read = record {
       subst (λ (ls : Lines). AreCommands start.lines ls ((commands ++ c ∷ []) ++ others) end) (sym (known_behind cov.texts read.0 more))
       (subst (λ (cs : List Command). AreCommands start.lines (known cov.texts ++ (known read.0 ++ more)) cs end) (sym (append_assoc commands (c ∷ []) others))
       (cov.are (known read.0 ++ more) (c ∷ others) end (new.lines, more, read.2 more, are)));
-  first = λ more others are.
-      subst (λ (ls : Lines). AreFirst start.lines ls ((commands ++ c ∷ []) ++ others)) (sym (known_behind cov.texts read.0 more))
-      (subst (λ (cs : List Command). AreFirst start.lines (known cov.texts ++ (known read.0 ++ more)) cs) (sym (append_assoc commands (c ∷ []) others))
-      (cov.first (known read.0 ++ more) (c ∷ others) (new.lines, more, read.2 more, are)));
+  first_to = λ line more others are.
+      subst (λ (ls : Lines). AreFirstTo line start.lines ls ((commands ++ c ∷ []) ++ others)) (sym (known_behind cov.texts read.0 more))
+      (subst (λ (cs : List Command). AreFirstTo line start.lines (known cov.texts ++ (known read.0 ++ more)) cs) (sym (append_assoc commands (c ∷ []) others))
+      (cov.first_to line (known read.0 ++ more) (c ∷ others) (new.lines, more, read.2 more, are)));
 }
 
--- WHAT WAS BEGUN, at each end of a run of these bytes
+pub are_first : (line number : ℕ) (lines : Lines) (commands : List Command) → AreFirstTo line number lines commands → AreFirst number lines commands
+are_first line number lines [] are = tt
+are_first line number lines (c ∷ commands) are = (are.0, are.1, are.2, are_first line are.0 are.1 commands are.3)
+
 -- LINES THAT WERE TAKEN FROM THE START: what lies behind them, and how many they are
 module _ (bytes : List ℕ) (mid : Stand) (texts : List (List ℕ)) (p : Passed (at_start bytes) mid texts) where
   parted : (ahead : List ℕ) (left : Option (List ℕ)) → mid.rest ≡ prepend_known ahead left → (rest : List ℕ) × (bytes ≡ p.raw ++ ahead ++ rest) × (left ≡ Some rest)
@@ -71,6 +74,7 @@ module _ (bytes : List ℕ) (mid : Stand) (texts : List (List ℕ)) (p : Passed 
       let none_before : 0 + length texts ≡ length texts = omega arith in
       p.number ∙ none_before ∙ sym (ap length (its_lines ∙ append-nil (known texts)) ∙ length-map texts (λ (t : List ℕ). let o : Option (List ℕ) = Some t in o))
 
+-- WHAT WAS BEGUN, at each end of a run of these bytes
 module _ (bytes : List ℕ) (now : Stand) (commands : List Command) (cov : Covers (at_start bytes) now commands) where
   told : (rest : List ℕ) × (now.rest ≡ Some rest) × (script_lines bytes ≡ known cov.texts ++ lines_from now.taken rest)
   told = told_lines (at_start bytes) now cov.texts bytes cov.passed refl
@@ -81,11 +85,14 @@ module _ (bytes : List ℕ) (now : Stand) (commands : List Command) (cov : Cover
       (subst (λ (cs : List Command). AreCommands 0 (known cov.texts ++ lines_from now.taken told.0) cs end) (append-nil commands)
       (cov.are (lines_from now.taken told.0) [] end e))
 
+  first_to : (line : ℕ) → IsWithin line (next_of now.lines (lines_from now.taken told.0)) → AreFirstTo line 0 (script_lines bytes) commands
+  first_to line within =
+      subst (λ (ls : Lines). AreFirstTo line 0 ls commands) (sym told.2)
+      (subst (λ (cs : List Command). AreFirstTo line 0 (known cov.texts ++ lines_from now.taken told.0) cs) (append-nil commands)
+      (cov.first_to line (lines_from now.taken told.0) [] within))
+
   pub first_begun : AreFirst 0 (script_lines bytes) commands
-  first_begun =
-      subst (λ (ls : Lines). AreFirst 0 ls commands) (sym told.2)
-      (subst (λ (cs : List Command). AreFirst 0 (known cov.texts ++ lines_from now.taken told.0) cs) (append-nil commands)
-      (cov.first (lines_from now.taken told.0) [] tt))
+  first_begun = are_first 0 0 (script_lines bytes) commands (first_to 0 (next_within 0 now.lines (lines_from now.taken told.0) (omega arith)))
 
   pub read_to : (ahead : List ℕ) (left : Option (List ℕ)) → now.rest ≡ prepend_known ahead left → length ahead ≤ 8193 → IsReadTo bytes left commands
   read_to ahead left is few =
@@ -96,12 +103,25 @@ module _ (bytes : List ℕ) (now : Stand) (commands : List Command) (cov : Cover
       (subst (λ (cs : List Command). AreCommands 0 (known cov.texts ++ []) cs AtEnd) (append-nil commands) (cov.are [] [] AtEnd refl)) in
       (p.raw, ahead, b.0, b.1, b.2, few, all)
 
-  pub bad_begun : (line : ℕ) → IsBad now line → (new : Stand) → ComesTo now new line → (ahead : List ℕ) (left : Option (List ℕ)) → new.rest ≡ prepend_known ahead left → length ahead ≤ 8193 → BegunCommands bytes left commands (statuses.BadScript line)
-  bad_begun line bad new comes ahead left is few =
-      let texts = cov.texts ++ comes.texts in
-      let p = passed_more (at_start bytes) now comes.mid cov.texts comes.texts cov.passed comes.passed in
-      let b = parted bytes comes.mid texts p ahead left (sym comes.same ∙ is) in
-      (all_of (BadLine line) (bad told.0 told.1), (p.raw, ahead, b.0, b.1, b.2, few, subst (λ (n : ℕ). n ≤ line) (its_size bytes comes.mid texts p) comes.within))
+  module _ (new : Stand) (s : NoFurther next_of now new) where
+    next_is : IsWithin s.mid.lines (next_of now.lines (lines_from now.taken told.0))
+    next_is =
+        let behind = told_lines now s.mid s.texts told.0 s.passed told.1 in
+        subst (λ (ls : Lines). IsWithin s.mid.lines (next_of now.lines ls)) (sym behind.2) (s.within (lines_from s.mid.taken behind.0))
+
+    module _ (ahead : List ℕ) (left : Option (List ℕ)) (is : new.rest ≡ prepend_known ahead left) (few : length ahead ≤ 8193) where
+      taken_to : (line : ℕ) → s.mid.lines ≤ line → IsTakenTo bytes left line
+      taken_to line within =
+          let texts = cov.texts ++ s.texts in
+          let p = passed_more (at_start bytes) now s.mid cov.texts s.texts cov.passed s.passed in
+          let b = parted bytes s.mid texts p ahead left (sym s.same ∙ is) in
+          (p.raw, ahead, b.0, b.1, b.2, few, subst (λ (n : ℕ). n ≤ line) (its_size bytes s.mid texts p) within)
+
+      pub bad_begun : (line : ℕ) → IsBad now line → BegunCommands bytes left commands (statuses.BadScript line)
+      bad_begun line bad = (all_of (BadLine line) (bad told.0 told.1), taken_to line (subst (λ (f : Found). IsWithin s.mid.lines f) (bad told.0 told.1) next_is))
+
+      pub wanting_begun : BegunCommands bytes left commands statuses.Memory
+      wanting_begun = (first_begun, (s.mid.lines, taken_to s.mid.lines (omega arith), first_to s.mid.lines next_is))
 
   at_end : (rest : List ℕ) → IsAtEnd (Some rest) → rest ≡ []
   at_end rest h = h
@@ -118,8 +138,8 @@ module _ (bytes : List ℕ) (now : Stand) (commands : List Command) (cov : Cover
       no_part [] rest e = e
       no_part (x ∷ xs) rest e = absurd (cc e)
 
-  pub cut_begun : (new : Stand) → IsUnfinished now new → (pending : List ℕ) (left : Option (List ℕ)) → new.rest ≡ prepend_known pending left → NoFeed pending → BegunCommands bytes left commands statuses.ReadFault
-  cut_begun new u pending left is none =
+  pub cut_begun : (new : Stand) → IsUnfinished now new → (pending : List ℕ) (left : Option (List ℕ)) → new.rest ≡ prepend_known pending left → length pending ≤ 8193 → NoFeed pending → BegunCommands bytes left commands statuses.ReadFault
+  cut_begun new u pending left is few none =
       let texts = cov.texts ++ u.texts in
       let p = passed_more (at_start bytes) now u.mid cov.texts u.texts cov.passed u.passed in
       let b = parted bytes u.mid texts p pending left (sym u.same ∙ is) in
@@ -132,23 +152,27 @@ module _ (bytes : List ℕ) (now : Stand) (commands : List Command) (cov : Cover
         b.0,
         b.1,
         b.2,
+        few,
         none,
         p.whole u.more,
         ⊎_elim (λ e. inl (all AtEnd e)) (λ e. inr (subst (λ (n : ℕ). IsScript p.raw commands (BadLine (n + 1))) (its_size bytes u.mid texts p) (all (BadLine (u.mid.lines + 1)) e))) u.unfinished,
       )
 
--- some of the first
-pub none_begun : (bytes : List ℕ) (now : Stand) (commands made : List Command) → Covers (at_start bytes) now commands → made ≡ commands → AreFirst 0 (script_lines bytes) made
-none_begun bytes now commands made cov same = subst (λ cs. AreFirst 0 (script_lines bytes) cs) (sym same) (first_begun bytes now commands cov)
+-- BEHIND A COMMAND THAT WAS READ, where nothing further is read
+module _ (bytes : List ℕ) (now new : Stand) (commands made : List Command) (command : Command) (cov : Covers (at_start bytes) now commands) (read : Reads now (nexts.Command command) new) (ahead : List ℕ) (left : Option (List ℕ))
+    (is : new.rest ≡ prepend_known ahead left) (few : length ahead ≤ 8193) where
+  one_more : Covers (at_start bytes) new (commands ++ command ∷ [])
+  one_more = covers_more (at_start bytes) now new commands command cov read
 
-pub one_begun : (bytes : List ℕ) (now new : Stand) (commands made : List Command) (command : Command) → Covers (at_start bytes) now commands → Reads now (nexts.Command command) new → made ≡ commands ++ command ∷ []
-    → AreFirst 0 (script_lines bytes) made
-one_begun bytes now new commands made command cov read one = none_begun bytes new (commands ++ command ∷ []) made (covers_more (at_start bytes) now new commands command cov read) one
+  -- it was begun
+  pub one_read : made ≡ commands ++ command ∷ [] → AreFirst 0 (script_lines bytes) made × IsReadTo bytes left made
+  one_read one =
+      subst (λ cs. AreFirst 0 (script_lines bytes) cs × IsReadTo bytes left cs) (sym one) (first_begun bytes new (commands ++ command ∷ []) one_more, read_to bytes new (commands ++ command ∷ []) one_more ahead left is few)
 
--- and nothing further is read
-pub one_read : (bytes : List ℕ) (now new : Stand) (commands made : List Command) (command : Command) → Covers (at_start bytes) now commands → Reads now (nexts.Command command) new → made ≡ commands ++ command ∷ []
-    → (ahead : List ℕ) (left : Option (List ℕ)) → new.rest ≡ prepend_known ahead left → length ahead ≤ 8193 → AreFirst 0 (script_lines bytes) made × IsReadTo bytes left made
-one_read bytes now new commands made command cov read one ahead left is few = (
-  one_begun bytes now new commands made command cov read one,
-  subst (λ cs. IsReadTo bytes left cs) (sym one) (read_to bytes new (commands ++ command ∷ []) (covers_more (at_start bytes) now new commands command cov read) ahead left is few),
-)
+  -- memory was wanting before it was begun, or then
+  pub one_wanting : (made ≡ commands) ⊎ (made ≡ commands ++ command ∷ []) → BegunCommands bytes left made statuses.Memory
+  one_wanting (inl none) =
+      subst (λ cs. BegunCommands bytes left cs statuses.Memory) (sym none) (wanting_begun bytes now commands cov new (read_within now new command read.0 read.1 read.2) ahead left is few)
+  one_wanting (inr one) =
+      let here = no_line next_of new new read.1.ends refl (λ more. next_within new.lines new.lines more (omega arith)) in
+      subst (λ cs. BegunCommands bytes left cs statuses.Memory) (sym one) (wanting_begun bytes new (commands ++ command ∷ []) one_more new here ahead left is few)

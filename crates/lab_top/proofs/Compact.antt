@@ -6,7 +6,7 @@ use Rattle.plant.specs.Events.{Event}
 use Rattle.plant.specs.declared.step.Side.{Side}
 use Rattle.journal_model.specs.Appends.{other_side}
 use Rattle.records_model.specs.Labs.{LabState}
-use Rattle.journal_runs.specs.Pieces.{has_miss}
+use Rattle.swap_turns.specs.Pieces.{has_miss}
 use Rattle.lab_core.specs.Compaction.{IsCompacted, IsToMove, moves, packed_length, stays}
 use Rattle.lab_core.specs.Controller.{Control}
 use Rattle.lab_core.specs.Moments.{IsLabAt, IsLengthAt, IsLiveAt}

@@ -11,7 +11,7 @@ use Rattle.plant.specs.Told.{Told, with_drill, with_mark, with_steps}
 use Rattle.plant.proofs.Traces.{with_steps-nil}
 use Rattle.records_model.specs.Labs.{LabState}
 use Rattle.records_model.specs.Works.{IsSound}
-use Rattle.journal_runs.proofs.Stood.{sound_stands}
+use Rattle.swap_turns.proofs.Stood.{sound_stands}
 use Rattle.lab_state.specs.Texts.{the_texts}
 use Rattle.swap_turns.specs.Running.{RunsIn, Stands}
 use Rattle.script_text.specs.Drills.{drill_of}

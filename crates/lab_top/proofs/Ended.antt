@@ -8,8 +8,8 @@ use Rattle.plant.specs.declared.drill.Drill.{Drill}
 use Rattle.records_model.specs.Labs.{LabState}
 use Rattle.records_model.specs.Works.{IsSound}
 use Rattle.journal_disk.specs.Before.{are_synced}
-use Rattle.journal_runs.specs.Pieces.{has_restart}
-use Rattle.journal_runs.proofs.Stood.{stood_once}
+use Rattle.swap_turns.specs.Pieces.{has_restart}
+use Rattle.swap_turns.proofs.Stood.{stood_once}
 use Rattle.lab_state.specs.Texts.{the_texts}
 use Rattle.lab_state.proofs.Canonical.{texts_once}
 use Rattle.script_text.specs.Drills.{drill_of}

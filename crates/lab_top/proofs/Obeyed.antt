@@ -42,8 +42,8 @@ use Rattle.lab_judge.proofs.Fits.{fits}
 use Rattle.lab_core.proofs.Obey.{now_blames}
 use Rattle.lab_core.proofs.OuterSteps.{no_start}
 use Rattle.lab_core.proofs.Wanting.{command_wants, plain_wants}
-use Rattle.journal_runs.specs.Pieces.{has_command}
-use Rattle.journal_runs.proofs.Stood.{stood_alike}
+use Rattle.swap_turns.specs.Pieces.{has_command}
+use Rattle.swap_turns.proofs.Stood.{stood_alike}
 use Rattle.lab_top.specs.Pieces.{Finds, FindsNone, IsPiece, IsPlannedBy, Later, WantsBehind, WantsOnly, behind as goes_behind, reading as in_reading, settling as in_settling, blames_if, blames_now_if, closes_if, is_closed, leaves_one, may_shut, opened, stays_open}
 use Rattle.lab_top.specs.Answering.{Does, DoesOwn, FoundNone, HasSession, IsMarkAt, IsOpen, Makes, MayGoOn, MayOpen, OwnTold, StandsAt, Starts, Unopened, Begins, Made, Ends, Moment, WasOpened, piece_of, reply_if}
 use Rattle.lab_top.proofs.BrokenOpenings.{again_piece, cut_piece, missed_in, nothing_outer}

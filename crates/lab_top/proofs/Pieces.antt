@@ -17,7 +17,7 @@ use Rattle.plant.specs.Seen.{Seen}
 use Rattle.plant.specs.Told.{Told, with_mark}
 use Rattle.journal_model.specs.Journals.{gate_after, journal_length, size_of}
 use Rattle.records_model.specs.Works.{IsSound}
-use Rattle.journal_runs.proofs.Stood.{sound_not_bad, sound_follows, sound_room}
+use Rattle.swap_turns.proofs.Stood.{sound_not_bad, sound_follows, sound_room}
 use Rattle.lab_state.specs.Texts.{the_texts}
 use Rattle.lab_state.proofs.Canonical.{texts_once}
 use Rattle.script_text.specs.declared.command.Command.{Command}

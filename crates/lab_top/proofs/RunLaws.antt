@@ -19,8 +19,8 @@ use Rattle.lab_model.specs.Sound.{is_moving}
 use Rattle.records_model.specs.Labs.{LabState, Sane, find}
 use Rattle.records_model.specs.Works.{IsSound}
 use Rattle.records_model.proofs.LabLaws.{lab_sane}
-use Rattle.journal_runs.specs.Pieces.{has_miss, has_outer, has_restart}
-use Rattle.journal_runs.proofs.Stood.{stood_once}
+use Rattle.swap_turns.specs.Pieces.{has_miss, has_outer, has_restart}
+use Rattle.swap_turns.proofs.Stood.{stood_once}
 use Rattle.lab_state.specs.Texts.{the_texts}
 use Rattle.lab_state.proofs.Canonical.{texts_once}
 use Rattle.recovery.specs.Due.{is_busy}

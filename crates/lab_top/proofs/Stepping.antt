@@ -18,11 +18,11 @@ use Rattle.records_model.specs.Works.{IsSound}
 use Rattle.records_model.proofs.Starts.{restarted}
 use Rattle.journal_disk.specs.Before.{is_sync_of, are_synced}
 use Rattle.journal_disk.specs.Standing.{side_of, length_of, limit_of}
-use Rattle.journal_runs.specs.Pieces.{is_miss, is_outer, is_restart, has_restart, EndsRestarted}
-use Rattle.journal_runs.proofs.Blank.{restarted_reads, restarted_stand}
-use Rattle.journal_runs.proofs.Images.{on_image, reads_possible}
-use Rattle.journal_runs.proofs.Quiet.{shows}
-use Rattle.journal_runs.proofs.Stood.{stood_alike, stood_once}
+use Rattle.swap_turns.specs.Pieces.{is_miss, is_outer, is_restart, has_restart, EndsRestarted}
+use Rattle.swap_turns.proofs.Blank.{restarted_reads, restarted_stand}
+use Rattle.swap_turns.proofs.Images.{on_image, reads_possible}
+use Rattle.swap_turns.proofs.Quiet.{shows}
+use Rattle.swap_turns.proofs.Stood.{stood_alike, stood_once}
 use Rattle.lab_state.specs.Texts.{the_texts}
 use Rattle.lab_state.proofs.Canonical.{texts_once}
 use Rattle.swap_turns.specs.Running.{Stands}

@@ -14,7 +14,7 @@ use Rattle.records_model.specs.Labs.{LabState, lab_in}
 use Rattle.records_model.specs.Works.{IsSound}
 use Rattle.records_model.proofs.LabLaws.{lab_sane}
 use Rattle.lab_state.specs.Texts.{the_texts}
-use Rattle.journal_runs.specs.Pieces.{has_command, has_miss, has_restart}
+use Rattle.swap_turns.specs.Pieces.{has_command, has_miss, has_restart}
 use Rattle.recovery.specs.Due.{is_busy}
 use Rattle.script_text.specs.Drills.{drill_of}
 use Rattle.script_text.specs.declared.command.Command.{Command}

@@ -6,8 +6,10 @@ use Rattle.lab_io.proofs.Known.{append_known-nil}
 use Rattle.plant.specs.Told.{Told}
 use Rattle.records_model.specs.Works.{IsSound}
 use Rattle.lab_state.specs.Texts.{the_texts}
+use Rattle.lab_io.specs.Lines.{script_lines}
 use Rattle.script_text.specs.declared.command.Command.{Command}
 use Rattle.script_text.specs.Commands.{AreCommands, AtEnd, BadLine, Ending, End, Bad, Found, Got, IsScript, Lines}
+use Rattle.script_text.proofs.Taken.{next_within}
 use Rattle.cost_rule.specs.declared.rule.RuleNumber.{RuleNumber}
 use Rattle.lab_core.specs.Sessions.{Terms, terms_of}
 use Rattle.lab_gen.specs.Script.{generated}
@@ -26,7 +28,7 @@ still_sound None = tt
 still_sound (Some t) = λ sound. sound
 
 none_begun : (number : Option ℕ) (left : Option (List ℕ)) → BegunBy number left left [] statuses.Memory
-none_begun None left = λ bytes is. tt
+none_begun None left = λ bytes is. (tt, (0, ([], [], bytes, refl, is, omega arith, omega arith), next_within 0 0 (script_lines bytes) (omega arith)))
 none_begun (Some seed) left = (refl, tt)
 
 none_written : (number : Option ℕ) (written : Option (List ℕ)) → WroteBy number written written [] statuses.Memory
@@ -152,7 +154,7 @@ module _ (terms : Terms) (seed : ℕ) (a b : Outside) (was : Status) (made : Lis
       begun_by statuses.WriteFault begun done read write usage = absurd (write refl)
       begun_by statuses.Usage begun done read write usage = absurd (usage refl)
       begun_by (statuses.BadScript line) begun done read write usage = absurd (no_other_end 0 line _ commands (commands_of made) in_grammar begun.0)
-      begun_by statuses.Memory begun done read write usage = begun
+      begun_by statuses.Memory begun done read write usage = begun.0
       begun_by (statuses.JournalBad side at) begun done read write usage = begun.0
 
       written_by : (status : Status) → (status ≡ statuses.Done → ⊥) → (status ≡ statuses.WriteFault → ⊥) → WroteSummary written written (summary seed (replies_of made)) status

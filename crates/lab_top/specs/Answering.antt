@@ -15,7 +15,7 @@ use Rattle.records_model.specs.Works.{IsSound}
 use Rattle.journal_disk.specs.Standing.{limit_of}
 use Rattle.journal_disk.specs.declared.fault.OpenFault.{OpenFault}
 use Rattle.journal_disk.specs.declared.fault.OpenFault.TheVariants as openings
-use Rattle.journal_runs.specs.Pieces.{has_restart}
+use Rattle.swap_turns.specs.Pieces.{has_restart}
 use Rattle.lab_state.specs.Texts.{the_texts}
 use Rattle.swap_turns.specs.Running.{Stands}
 use Rattle.script_text.specs.declared.command.Command.{Command}

@@ -21,7 +21,7 @@ use Rattle.records_model.specs.Labs.{LabState, find, is_out}
 use Rattle.records_model.specs.Works.{IsSound}
 use Rattle.journal_disk.specs.Before.{are_synced}
 use Rattle.journal_disk.specs.Opening.{both_synced}
-use Rattle.journal_runs.specs.Pieces.{has_miss, has_restart}
+use Rattle.swap_turns.specs.Pieces.{has_miss, has_restart}
 use Rattle.lab_state.specs.Texts.{the_texts}
 use Rattle.script_text.specs.declared.command.Command.{Command}
 use Rattle.script_text.specs.declared.command.Command.TheVariants.{Batch, Play, Recover}

@@ -13,6 +13,7 @@ use Rattle.lab_state.specs.Texts.{the_texts}
 use Rattle.script_text.specs.declared.command.Command.{Command}
 use Rattle.script_text.specs.Drills.{drill_of}
 use Rattle.script_text.specs.Commands.{Lines, Got, next_of, AtEnd, BadLine, IsScript}
+use Rattle.script_text.specs.Taking.{IsWithin}
 use Rattle.lab_top.specs.declared.status.Status.{Status}
 use Rattle.lab_top.specs.declared.status.Status.TheVariants.{Done, ReadFault, WriteFault, Usage, BadScript, Memory, JournalBad}
 use Rattle.lab_core.specs.Sessions.{Closed, Terms}
@@ -35,6 +36,11 @@ abbrev pub AreFirst : ℕ → Lines → List Command → Type 0
 AreFirst number lines [] = Unit {0}
 AreFirst number lines (c ∷ commands) = (after : ℕ) × (rest : Lines) × (next_of number lines ≡ Got c after rest) × AreFirst after rest commands
 
+-- and a line of that number is not behind what is found behind them
+abbrev pub AreFirstTo : ℕ → ℕ → Lines → List Command → Type 0
+AreFirstTo line number lines [] = IsWithin line (next_of number lines)
+AreFirstTo line number lines (c ∷ commands) = (after : ℕ) × (rest : Lines) × (next_of number lines ≡ Got c after rest) × AreFirstTo line after rest commands
+
 -- bytes that are these commands, and perhaps a part of one more, whose next line is missing
 abbrev pub AreWhole : List ℕ → List Command → Type 0
 AreWhole bytes commands = IsScript bytes commands AtEnd ⊎ IsScript bytes commands (BadLine (length (script_lines bytes) + 1))
@@ -47,19 +53,23 @@ IsReadTo bytes left commands = (done : List ℕ) × (ahead : List ℕ) × (rest 
 abbrev pub IsTakenTo : List ℕ → Option (List ℕ) → ℕ → Type 0
 IsTakenTo bytes left line = (done : List ℕ) × (ahead : List ℕ) × (rest : List ℕ) × (bytes ≡ done ++ ahead ++ rest) × (left ≡ Some rest) × (length ahead ≤ 8193) × (length (script_lines done) ≤ line)
 
+-- what was taken of these bytes: no line behind the command that comes after these, or behind the one that is not in the grammar
+abbrev pub IsTakenBehind : List ℕ → Option (List ℕ) → List Command → Type 0
+IsTakenBehind bytes left commands = (line : ℕ) × IsTakenTo bytes left line × AreFirstTo line 0 (script_lines bytes) commands
+
 -- the commands that were begun, by how the run ended
 abbrev pub BegunCommands : List ℕ → Option (List ℕ) → List Command → Status → Type 0
 -- all of them, and nothing is left
 BegunCommands bytes left begun Done = IsScript bytes begun AtEnd × (left ≡ Some [])
 -- all before that line, which is the first that is not in the grammar, and no line behind it is taken
 BegunCommands bytes left begun (BadScript line) = IsScript bytes begun (BadLine line) × IsTakenTo bytes left line
--- those whose last line lies, with its line feed, in the bytes that were taken
-BegunCommands bytes left begun ReadFault = (done : List ℕ) × (pending : List ℕ) × (rest : List ℕ) × (bytes ≡ done ++ pending ++ rest) × (left ≡ Some rest) × NoFeed pending × IsWhole done × AreWhole done begun
+-- those whose last line lies, with its line feed, in the bytes that were taken, and behind the lines no more than a line with a piece
+BegunCommands bytes left begun ReadFault = (done : List ℕ) × (pending : List ℕ) × (rest : List ℕ) × (bytes ≡ done ++ pending ++ rest) × (left ≡ Some rest) × (length pending ≤ 8193) × NoFeed pending × IsWhole done × AreWhole done begun
 -- some of the first, and nothing further is read
 BegunCommands bytes left begun WriteFault = AreFirst 0 (script_lines bytes) begun × IsReadTo bytes left begun
 BegunCommands bytes left begun (JournalBad side at) = AreFirst 0 (script_lines bytes) begun × IsReadTo bytes left begun
--- some of the first
-BegunCommands bytes left begun Memory = AreFirst 0 (script_lines bytes) begun
+-- some of the first, and no line is taken behind the next one
+BegunCommands bytes left begun Memory = AreFirst 0 (script_lines bytes) begun × IsTakenBehind bytes left begun
 -- none, and nothing is taken
 BegunCommands bytes left begun Usage = (begun ≡ []) × (left ≡ Some bytes)
 

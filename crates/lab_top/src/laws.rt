@@ -10,7 +10,7 @@ ghost use Rattle.plant.specs.declared.step.Side.TheVariants.{A, B};
 ghost use Rattle.virt_topo.specs.declared.experiment.Experiment.{Experiment};
 ghost use Rattle.records_model.specs.Labs.{LabState, lab_in};
 ghost use Rattle.records_model.specs.Works.{IsSound};
-ghost use Rattle.journal_runs.specs.Pieces.{has_command, has_miss, has_restart};
+ghost use Rattle.swap_turns.specs.Pieces.{has_command, has_miss, has_restart};
 ghost use Rattle.lab_model.specs.Leavings.{SameFor};
 ghost use Rattle.lab_model.specs.Sound.{is_moving};
 ghost use Rattle.recovery.specs.Settle.{is_stuck};

@@ -106,7 +106,7 @@ fn push_switch(text: &mut Text, view: &View, switch: usize) -> Result<(), Memory
     push_under(text, view, switch)
 }
 
-#[tactic(auto, using(crate::proofs::Steps::counted_more))]
+#[tactic(auto, using(lab_base::proofs::Lists::flat_map_range))]
 fn push_switches(text: &mut Text, view: &View) -> Result<(), Memory>
     ensures { OnOk result (text.new ≡ text.old ++ flat_map (switch_lines view.now) (range_with_len 0 (length view.now.switches))) }
 {
@@ -258,7 +258,7 @@ fn push_if_free(text: &mut Text, view: &View, place: usize) -> Result<(), Memory
 }
 
 /// `ids free 100-103 107`.
-#[tactic(auto, using(crate::proofs::Steps::counted_more))]
+#[tactic(auto, using(lab_base::proofs::Lists::flat_map_range))]
 fn push_ids(text: &mut Text, view: &View) -> Result<(), Memory>
     requires { length view.now.owners ≤ MAX_IDS }
     ensures { OnOk result (text.new ≡ text.old ++ ids_line view.now) }

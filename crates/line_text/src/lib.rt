@@ -7,6 +7,7 @@ mod line_fault;
 mod numbers;
 mod pairs;
 mod printing;
+mod reading;
 
 pub use address::address_in;
 pub use fields::{counts, field_at, fields_behind, name_at};
@@ -14,3 +15,4 @@ pub use line_fault::{LineFault, refusal};
 pub use numbers::{short_in, weight_in};
 pub use pairs::{has_byte, numbered_short, numbered_weight, pair_in};
 pub use printing::{push_field, push_numbered};
+pub use reading::{AddLine, read_lines};

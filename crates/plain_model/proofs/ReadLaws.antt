@@ -5,7 +5,8 @@ use Rattle.std.proofs.lemmas.List.{length-drop, length-take, drop_at, take_rest}
 use Rattle.plant.specs.Sides.{of_side}
 use Rattle.journal_rec.specs.declared.record.Record.{Record}
 use Rattle.journal_rec.specs.Payloads.{number, payload, Decodes}
-use Rattle.journal_model.specs.Journals.{block, size, Reads, Breaks, AreBytes, head, live, On}
+use Rattle.journal_rec.specs.Packing.{block}
+use Rattle.journal_model.specs.Journals.{size, Reads, Breaks, AreBytes, head, live, On}
 use Rattle.plant.specs.declared.step.Side.{Side}
 use Rattle.journal_model.proofs.Syncs.{live_back, headed_long}
 use Rattle.journal_model.proofs.Totals.{one_block}

@@ -14,7 +14,6 @@ mod lab_tables;
 mod laws;
 mod lines;
 mod lines_kept;
-mod list;
 mod marks;
 mod obey;
 mod paths;

@@ -1,5 +1,5 @@
 // The tables, with their text.
-ghost use Rattle.std.specs.Prelude.{◌≡◌, ◌<◌, ◌++◌, ◌∷◌, [], Ok, IfOk, OnOk, OnErr, length};
+ghost use Rattle.std.specs.Prelude.{◌≡◌, ◌<◌, ◌++◌, ◌∷◌, [], Ok, OnOk, OnErr, length};
 ghost use Rattle.std.specs.List.{find};
 ghost use Rattle.line_text.specs.Refusals.{Reads};
 ghost use Rattle.plant_file.specs.Entries.{is_keyed, without};
@@ -8,8 +8,8 @@ ghost use Rattle.plant_file.specs.Lines.{tables_text, tables_of_text};
 
 use crate::entry::{Entry, Key};
 use crate::lines_kept::{Line, find_line, put_line, take_out};
-use crate::read::read_tables;
 use lab_base::{Memory, TEXT_LIMIT, TextRefused};
+use line_text::read_lines;
 use plant::Answer;
 use std::alloc::Global;
 use std::marker::Model;
@@ -58,21 +58,8 @@ impl Tables {
         requires { length text.now < TEXT_LIMIT }
         ensures { Reads result (tables_of_text text.now) }
     {
-        let entries = read_tables(alloc, text)?;
-        match Tables::of(alloc, entries.as_slice()) {
-            Ok(tables) => Ok(tables),
-            Err(Memory) => Err(TextRefused::Memory),
-        }
-    }
-
-    /// The tables of these entries.
-    fn of(alloc: Global, entries: &[Entry]) -> Result<Tables, Memory>
-        ensures { IfOk result (λ tables. tables ≡ entries.now) }
-    {
         let mut tables = Tables::new(alloc);
-        for entry in entries {
-            tables.put(alloc, *entry)?;
-        }
+        read_lines(alloc, text, &mut tables)?;
         Ok(tables)
     }
 

@@ -1,6 +1,5 @@
 mod Arities
 mod LinkLaws
-mod ReadLaws
 mod NoFault
 mod DeviceAgain
 mod LinkAgain

@@ -11,7 +11,7 @@ ghost use Rattle.ptop_text.specs.Refusals.{refusal_of, link_refusal};
 use crate::device::{Device, device_in};
 use crate::link::{FirstEnd, Link, link_in, vlans_in};
 use lab_base::{Kind, Name, NodeId, SwitchId};
-use line_text::LineFault;
+use line_text::{AddLine, LineFault};
 use phys_lab::{Iface, LabBuilder, LabFault, Trunk};
 use std::alloc::Global;
 
@@ -178,11 +178,18 @@ impl LabSoFar {
         let link = link_in(&self.lab, fields)?;
         self.add_link(link)
     }
+}
 
-    /// Adds a line that has fields.
-    pub(crate) fn add(&mut self, alloc: Global, fields: &[&[u8]]) -> Result<(), LineFault>
-        ensures { Takes result self.new (added self.old (views fields.now)) }
-    {
+impl AddLine for LabSoFar {
+    ghost use Rattle.ptop_text.specs.declared.so_far.LabSoFar.{LabSoFar};
+
+    ghost Contents = { LabSoFar };
+
+    ghost contents = { λ so_far. so_far };
+
+    ghost added = { λ _. added };
+
+    fn add(&mut self, alloc: Global, fields: &[&[u8]]) -> Result<(), LineFault> {
         match fields {
             [] => Err(LineFault::Kind(Kind::Word)),
             [keyword, rest @ ..] => {

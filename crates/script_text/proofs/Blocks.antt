@@ -6,7 +6,7 @@ use Rattle.lab_io.specs.Lines.{lines_from}
 use Rattle.lab_io.specs.Passed.{Stand, IsSettled, Passed}
 use Rattle.lab_io.proofs.Passing.{passed_none, passed_more}
 use Rattle.script_text.specs.Commands.{Lines, Whole, Short, block}
-use Rattle.script_text.specs.Taking.{known, joined, StartsLong, NoLine, HasLong, HasNoLine, Blocked, Fewer}
+use Rattle.script_text.specs.Taking.{known, joined, StartsLong, NoLine, HasLong, HasNoLine, Blocked, Fewer, NoLonger}
 use Rattle.lab_base.specs.Lists.{Has}
 use Rattle.lab_base.proofs.Members.{Has-append}
 use Rattle.lab_base.proofs.Numbers.{plus_zero}
@@ -55,6 +55,14 @@ blocked_on a b c k text with_line new line s p is_line is = record {
 
 pub fewer : (a b : Stand) (k count : ℕ) (text : List ℕ) → Blocked a b k text → k < count → Fewer a b count
 fewer a b k count text s few = record { texts = s.texts; passed = s.passed; few = omega (arith, s.all) }
+
+-- no line more, or one
+pub no_longer : (a b new : Stand) (k count : ℕ) (text : List ℕ) → Blocked a b k text → k ≤ count → new.rest ≡ b.rest → NoLonger a new count
+no_longer a b new k count text s few same = record { mid = b; texts = s.texts; passed = s.passed; same = same; few = omega (arith, s.all, few) }
+
+pub one_longer : (a b new : Stand) (k count : ℕ) (text : List ℕ) (more : List (List ℕ)) → Blocked a b k text → Passed b new more → k + length more ≤ count → NoLonger a new count
+one_longer a b new k count text more s p few =
+    record { mid = new; texts = s.texts ++ more; passed = passed_more a b new s.texts more s.passed p; same = refl; few = omega (arith, length-append s.texts more, s.all, few) }
 
 -- where the end is, there is no line
 pub end_no_line : (b c : Stand) → Passed b c [] → IsAtEnd c.rest → HasNoLine b

@@ -1,5 +1,5 @@
 -- The lines that are left behind a reader's call.
-use Rattle.std.proofs.Common.{◌≡◌, inl, inr, ℕ, ◌^◌, ◌≤◌, Bool, true, false, Some, None, List, [], ◌∷◌, ◌++◌, ◌+◌, append_assoc, Option, Result, Ok, Err, IfSome, refl, sym, subst, ap, ◌∙◌}
+use Rattle.std.proofs.Common.{◌≡◌, inl, inr, ℕ, ◌^◌, ◌≤◌, Bool, zero, suc, true, false, Some, None, List, [], ◌∷◌, ◌++◌, ◌+◌, append_assoc, Option, Result, Ok, Err, IfSome, OnErr, arith, refl, sym, subst, ap, ◌∙◌}
 use Rattle.std.proofs.lemmas.Bool.{true≢false}
 use Rattle.std.proofs.lemmas.List.{append-nil, map-append}
 use Rattle.std.specs.Io.KnownBytes.{prepend_known, IsAtEnd}
@@ -10,12 +10,14 @@ use Rattle.lab_io.specs.Passed.{Stand, IsSettled, MayFollow, Passed}
 use Rattle.lab_io.specs.Taken.{IsTooLong}
 use Rattle.lab_io.proofs.Passing.{passed_none, passed_more}
 use Rattle.lab_io.proofs.LongLines.{first_is_long}
-use Rattle.script_text.specs.Heads.{said_of}
-use Rattle.script_text.specs.Commands.{Lines, Bad, found_by, next_of}
+use Rattle.script_text.specs.Heads.{completed, both_completed, said_of}
+use Rattle.script_text.specs.Commands.{Lines, Found, block, behind, Got, Bad, command_at, found_by, next_of}
 use Rattle.script_text.specs.declared.heads.Head.{Head}
+use Rattle.script_text.specs.declared.heads.Head.TheVariants as heads
+use Rattle.script_text.specs.declared.command.Command.{Command}
 use Rattle.script_text.specs.declared.heads.Said.{Said}
 use Rattle.script_text.specs.declared.heads.Said.TheVariants as said
-use Rattle.script_text.specs.Taking.{known, StartsLong, HasLong, Skipped, Begun, IsBad, IsUnfinished, ComesTo}
+use Rattle.script_text.specs.Taking.{known, StartsLong, HasLong, Skipped, Begun, IsBad, IsUnfinished, IsWithin, NoFurther}
 
 pub not_true : (b : Bool) → (b ≡ true → ⊥) → b ≡ false
 not_true true h = absurd (h refl)
@@ -25,6 +27,11 @@ not_true false h = refl
 pub ok_no_fault : {T E : Type 0} (fault : Option E) (result : Result T E) (value : T) → result ≡ Ok value → IfSome fault (λ f. result ≡ Err f) → fault ≡ None
 ok_no_fault None result value ok again = refl
 ok_no_fault (Some f) result value ok again = absurd (cc (ok, again))
+
+-- what holds at each error
+pub on_error : {T E P : Type 0} (result : Result T E) → P → OnErr result P
+on_error (Ok value) holds = tt
+on_error (Err error) holds = holds
 
 -- a source that has ended gives no line
 pub ended_none : (old new : Stand) → IsSettled old → old.ended ≡ true → new ≡ old → Passed old new [] × IsAtEnd new.rest
@@ -44,15 +51,39 @@ long_none stand within long bytes is =
     let first = first_is_long stand.taken bytes within (subst (λ (r : Option (List ℕ)). IsTooLong stand.taken r) is long) in
     subst (λ (l : Lines). StartsLong l) (sym first.1) tt
 
--- HOW FAR a reader came: no further; behind these lines; and further from there
-pub comes_no_further : (a new : Stand) (line : ℕ) → IsSettled a → new.rest ≡ a.rest → a.lines ≤ line → ComesTo a new line
-comes_no_further a new line settled same within = record { mid = a; texts = []; passed = passed_none a a settled (λ h. h) refl refl refl; same = same; within = within }
+-- WHAT IS FOUND behind a line is not before it
+module _ (line : ℕ) where
+  pub behind_within : (onwards : List ℕ → ℕ → Lines → Found) → ((text : List ℕ) (number : ℕ) (rest : Lines) → line ≤ number → IsWithin line (onwards text number rest)) → (k : ℕ) (text : List ℕ) (number : ℕ) (lines : Lines) → line ≤ number
+      → IsWithin line (behind (block k text number lines) onwards)
+  behind_within onwards by zero text number lines at = by text number lines at
+  behind_within onwards by (suc k) text number [] at = omega (arith, at)
+  behind_within onwards by (suc k) text number (None ∷ lines) at = omega (arith, at)
+  behind_within onwards by (suc k) text number (Some l ∷ lines) at = behind_within onwards by k (text ++ l ++ 10 ∷ []) (number + 1) lines (omega (arith, at))
 
-pub comes_here : (a new : Stand) (texts : List (List ℕ)) (line : ℕ) → Passed a new texts → new.lines ≤ line → ComesTo a new line
-comes_here a new texts line passed within = record { mid = new; texts = texts; passed = passed; same = refl; within = within }
+  pub command_within : (head : Head) (number : ℕ) (lines : Lines) → line ≤ number → IsWithin line (command_at head number lines)
+  command_within (heads.Whole command) number lines at = at
+  command_within (heads.Block what k) number lines at = behind_within (λ text. Got (completed what k text)) (λ text n rest h. h) k [] number lines at
+  command_within (heads.Blocks what k m) number lines at =
+      behind_within (λ text after rest. behind (block m [] after rest) (λ other. Got (both_completed what k text m other)))
+      (λ text n rest h. behind_within (λ other. Got (both_completed what k text m other)) (λ other o r g. g) m [] n rest h) k [] number lines at
 
-pub comes_on : (a b new : Stand) (texts : List (List ℕ)) (line : ℕ) → Passed a b texts → ComesTo b new line → ComesTo a new line
-comes_on a b new texts line passed c = record { mid = c.mid; texts = texts ++ c.texts; passed = passed_more a b c.mid texts c.texts passed c.passed; same = c.same; within = c.within }
+  pub found_within : (said : Said) (number : ℕ) (lines : Lines) (onwards : Found) → line ≤ number → IsWithin line onwards → IsWithin line (found_by said number lines onwards)
+  found_within said.Skipped number lines onwards at on = on
+  found_within said.Unknown number lines onwards at on = at
+  found_within (said.Begins head) number lines onwards at on = command_within head number lines at
+
+  pub next_within : (number : ℕ) (lines : Lines) → line ≤ number → IsWithin line (next_of number lines)
+  next_within number [] at = tt
+  next_within number (None ∷ lines) at = omega (arith, at)
+  next_within number (Some l ∷ lines) at = found_within (said_of l) (number + 1) lines (next_of (number + 1) lines) (omega (arith, at)) (next_within (number + 1) lines (omega (arith, at)))
+
+-- NO FURTHER than what is found: no line was passed there
+pub no_line : (find : ℕ → Lines → Found) (a new : Stand) → IsSettled a → new.rest ≡ a.rest → ((more : Lines) → IsWithin a.lines (find a.lines more)) → NoFurther find a new
+no_line find a new settled same within = record { mid = a; texts = []; passed = passed_none a a settled (λ h. h) refl refl refl; same = same; within = within }
+
+-- no further than the command that was read
+pub read_within : (a b : Stand) (command : Command) (texts : List (List ℕ)) → Passed a b texts → ((more : Lines) → next_of a.lines (known texts ++ more) ≡ Got command b.lines more) → NoFurther next_of a b
+read_within a b command texts passed is = record { mid = b; texts = texts; passed = passed; same = refl; within = λ more. subst (λ (f : Found). IsWithin b.lines f) (sym (is more)) (omega arith) }
 
 pub by_cases : {X : Type 0} (b : Bool) → (b ≡ true → X) → (b ≡ false → X) → X
 by_cases true f g = f refl
@@ -100,15 +131,31 @@ module _ (a b c : Stand) (text : List ℕ) (s : Skipped a b) (p : Passed b c (te
   pub begun_on : (head : Head) → said_of text ≡ said.Begins head → Begun a c head
   begun_on head is = record { texts = texts; passed = passed; begins = λ more. found (said.Begins head) is more }
 
-  pub comes_past : (line : ℕ) → c.lines ≤ line → ComesTo a c line
-  comes_past line within = comes_here a c texts line passed within
+  pub line_within : NoFurther next_of a c
+  line_within = record {
+    mid = c;
+    texts = texts;
+    passed = passed;
+    same = refl;
+    within = λ more. subst (λ (f : Found). IsWithin c.lines f) (sym (found (said_of text) refl more)) (found_within c.lines (said_of text) c.lines more (next_of c.lines more) (omega arith) (next_within c.lines c.lines more (omega arith)));
+  }
 
   pub unknown_bad : said_of text ≡ said.Unknown → IsBad a c.lines
   unknown_bad is bytes known_bytes =
       let told = told_lines a c texts bytes passed known_bytes in
       ap (next_of a.lines) told.2 ∙ found said.Unknown is (lines_from c.taken told.0)
 
--- no line more: it is too long, or the reading failed
+-- no line more
+pub skipped_within : (a b new : Stand) → Skipped a b → new.rest ≡ b.rest → NoFurther next_of a new
+skipped_within a b new s same = record {
+  mid = b;
+  texts = s.texts;
+  passed = s.passed;
+  same = same;
+  within = λ more. subst (λ (f : Found). IsWithin b.lines f) (sym (s.onwards more)) (next_within b.lines b.lines more (omega arith));
+}
+
+-- it is too long, or the reading failed
 pub long_bad : (a b : Stand) → Skipped a b → HasLong b → IsBad a (b.lines + 1)
 long_bad a b s long bytes is =
     let told = told_lines a b s.texts bytes s.passed is in

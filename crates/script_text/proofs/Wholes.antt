@@ -1,5 +1,5 @@
 -- Commands that were read whole, and commands that were not.
-use Rattle.std.proofs.Common.{◌≡◌, inr, ℕ, ◌+◌, Option, Some, List, [], ◌++◌, refl, sym, ap, ◌∙◌}
+use Rattle.std.proofs.Common.{◌≡◌, ◌≤◌, inr, ℕ, zero, suc, ◌+◌, Option, Some, List, [], ◌∷◌, ◌++◌, length, arith, refl, sym, subst, ap, ◌∙◌}
 use Rattle.std.proofs.lemmas.List.{append-nil, map-append}
 use Rattle.std.specs.Io.KnownBytes.{IsAtEnd}
 use Rattle.lab_io.specs.Lines.{lines_from}
@@ -13,8 +13,8 @@ use Rattle.script_text.specs.declared.heads.OneBlock.{OneBlock}
 use Rattle.script_text.specs.declared.heads.TwoBlocks.{TwoBlocks}
 use Rattle.script_text.specs.Heads.{completed, both_completed}
 use Rattle.script_text.specs.declared.next.Next.TheVariants as nexts
-use Rattle.script_text.specs.Taking.{known, Skipped, Begun, Blocked, IsShort, IsCut, Completes, IsBadAt, IsHalf, IsBad, Reads, IsUnfinished}
-use Rattle.script_text.proofs.Taken.{told_lines, known_behind}
+use Rattle.script_text.specs.Taking.{known, Skipped, Begun, Blocked, IsShort, IsCut, Completes, IsBadAt, IsHalf, IsBad, Reads, IsUnfinished, IsWithin, NoFurther, NoLonger}
+use Rattle.script_text.proofs.Taken.{told_lines, known_behind, behind_within}
 use Rattle.script_text.proofs.Blocks.{block_whole, block_short}
 
 -- BEHIND A BLOCK, whatever is looked for there
@@ -39,6 +39,16 @@ module _ (onwards : List ℕ → ℕ → Lines → Found) (a : Stand) (k : ℕ) 
       ∙ ap (λ w. behind w onwards) (block_short k s.some.texts [] a.lines [] s.some.few tt)
       ∙ ap (λ (n : ℕ). Bad (n + 1)) (sym s.some.passed.number)
 
+-- a part of a block, and whatever follows
+module _ (line : ℕ) (onwards : List ℕ → ℕ → Lines → Found) (by : (text : List ℕ) (number : ℕ) (rest : Lines) → line ≤ number → IsWithin line (onwards text number rest)) where
+  part_within : (k : ℕ) (texts : List (List ℕ)) (text : List ℕ) (number : ℕ) (more : Lines) → length texts ≤ k → line ≤ number + length texts → IsWithin line (behind (block k text number (known texts ++ more)) onwards)
+  part_within k [] text number more few at = behind_within line onwards by k text number more (omega (arith, at))
+  part_within zero (t ∷ texts) text number more few at = absurd (omega (arith, few))
+  part_within (suc k) (t ∷ texts) text number more few at = part_within k texts (text ++ t ++ 10 ∷ []) (number + 1) more (omega (arith, few)) (omega (arith, at))
+
+  longer_within : (a new : Stand) (k : ℕ) (s : NoLonger a new k) → s.mid.lines ≡ line → (more : Lines) → IsWithin line (behind (block k [] a.lines (known s.texts ++ more)) onwards)
+  longer_within a new k s is more = part_within k s.texts [] a.lines more s.few (omega (arith, s.passed.number, is))
+
 -- A COMMAND WITH ONE BLOCK
 module _ (what : OneBlock) (k : ℕ) where
   abbrev whole : List ℕ → ℕ → Lines → Found
@@ -52,6 +62,9 @@ module _ (what : OneBlock) (k : ℕ) where
 
   pub cut_half : (a new : Stand) → IsCut a new k → IsHalf a new (heads.Block what k)
   cut_half a new s = record { mid = s.mid; texts = s.some.texts; passed = s.some.passed; same = s.same; more = s.more; half = cut_behind whole a k new s }
+
+  pub block_no_further : (a new : Stand) → NoLonger a new k → NoFurther (command_at (heads.Block what k)) a new
+  block_no_further a new s = record { mid = s.mid; texts = s.texts; passed = s.passed; same = s.same; within = longer_within s.mid.lines whole (λ text n rest h. h) a new k s refl }
 
 -- A COMMAND WITH TWO BLOCKS
 module _ (what : TwoBlocks) (k m : ℕ) where
@@ -97,6 +110,29 @@ module _ (what : TwoBlocks) (k m : ℕ) where
         ∙ cut_behind (both text) b m new t;
   }
 
+  both_within : (line : ℕ) (text other : List ℕ) (number : ℕ) (rest : Lines) → line ≤ number → IsWithin line (both text other number rest)
+  both_within line text other number rest h = h
+
+  pub first_no_further : (a new : Stand) → NoLonger a new k → NoFurther (command_at (heads.Blocks what k m)) a new
+  first_no_further a new s = record {
+    mid = s.mid;
+    texts = s.texts;
+    passed = s.passed;
+    same = s.same;
+    within = longer_within s.mid.lines second (λ text n rest h. behind_within s.mid.lines (both text) (both_within s.mid.lines text) m [] n rest h) a new k s refl;
+  }
+
+  pub second_no_further : (a b new : Stand) (text : List ℕ) → Blocked a b k text → NoLonger b new m → NoFurther (command_at (heads.Blocks what k m)) a new
+  second_no_further a b new text s t = record {
+    mid = t.mid;
+    texts = s.texts ++ t.texts;
+    passed = passed_more a b t.mid s.texts t.texts s.passed t.passed;
+    same = t.same;
+    within = λ more. subst (λ (f : Found). IsWithin t.mid.lines f)
+        (sym (ap (λ (ls : Lines). behind (block k [] a.lines ls) second) (known_behind s.texts t.texts more) ∙ block_behind second a k b text s (known t.texts ++ more)))
+        (longer_within t.mid.lines (both text) (both_within t.mid.lines text) b new m t refl more);
+  }
+
 -- a command without a block
 pub whole_completes : (a : Stand) (command : Command) → IsSettled a → Completes a a (heads.Whole command) command
 whole_completes a command settled = record { texts = []; passed = passed_none a a settled (λ h. h) refl refl refl; gives = λ more. refl }
@@ -116,6 +152,15 @@ pub begun_bad : (a b : Stand) (head : Head) (line : ℕ) → Begun a b head → 
 begun_bad a b head line begun bad bytes is =
     let told = told_lines a b begun.texts bytes begun.passed is in
     ap (next_of a.lines) told.2 ∙ begun.begins (lines_from b.taken told.0) ∙ bad told.0 told.1
+
+pub begun_no_further : (a b new : Stand) (head : Head) → Begun a b head → NoFurther (command_at head) b new → NoFurther next_of a new
+begun_no_further a b new head begun s = record {
+  mid = s.mid;
+  texts = begun.texts ++ s.texts;
+  passed = passed_more a b s.mid begun.texts s.texts begun.passed s.passed;
+  same = s.same;
+  within = λ more. subst (λ (f : Found). IsWithin s.mid.lines f) (sym (ap (next_of a.lines) (known_behind begun.texts s.texts more) ∙ begun.begins (known s.texts ++ more))) (s.within more);
+}
 
 pub half_unfinished : (a b new : Stand) (head : Head) → Begun a b head → IsHalf b new head → IsUnfinished a new
 half_unfinished a b new head begun h = record {

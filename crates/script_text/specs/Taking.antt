@@ -116,13 +116,27 @@ pub record IsUnfinished (old new : Stand) : Type 0 where
   pub more : mid.ended ≡ false
   pub unfinished : Unfinished (next_of old.lines (known texts)) mid.lines
 
--- a reader came so far: lines were passed, the last one at most that of this number, and what is left was left behind them
-pub record ComesTo (old new : Stand) (line : ℕ) : Type 0 where
+-- a line is not behind what is found: the last line of the command, or the one that is not in the grammar
+abbrev pub IsWithin : ℕ → Found → Type 0
+IsWithin line (Got command number rest) = line ≤ number
+IsWithin line End = Unit {0}
+IsWithin line (Bad number) = line ≤ number
+
+-- lines were passed, of which none is behind what is found there, whatever follows, and what is left was left behind them
+pub record NoFurther (find : ℕ → Lines → Found) (old new : Stand) : Type 0 where
   pub mid : Stand
   pub texts : List (List ℕ)
   pub passed : Passed old mid texts
   pub same : new.rest ≡ mid.rest
-  pub within : mid.lines ≤ line
+  pub within : (more : Lines) → IsWithin mid.lines (find old.lines (known texts ++ more))
+
+-- so many lines of a block were passed at most, and what is left was left behind them
+pub record NoLonger (old new : Stand) (count : ℕ) : Type 0 where
+  pub mid : Stand
+  pub texts : List (List ℕ)
+  pub passed : Passed old mid texts
+  pub same : new.rest ≡ mid.rest
+  pub few : length texts ≤ count
 
 -- a command takes a byte at least
 abbrev pub GoesOn : Next → ℕ → ℕ → Type 0

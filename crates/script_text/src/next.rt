@@ -1,11 +1,12 @@
-ghost use Rattle.std.specs.Prelude.{◌≡◌, ◌≤◌, ◌<◌, ◌+◌, ℕ, [], ◌∷◌, length, None, Some, false, IfOk, IfSome, IfNone, OnOk, IsErrOf};
+ghost use Rattle.std.specs.Prelude.{◌≡◌, ◌≤◌, ◌<◌, ◌+◌, ℕ, [], ◌∷◌, length, None, Some, false, IfOk, IfSome, IfNone, OnOk, OnErr, IsErrOf};
 ghost use Rattle.std.specs.Io.KnownBytes.{IsAtEnd};
 ghost use Rattle.lab_base.specs.Counts.{Rose};
 ghost use Rattle.lab_io.specs.Feeds.{NoFeed};
 ghost use Rattle.lab_io.specs.Passed.{Passed, IsReady, stand_of};
 ghost use Rattle.lab_io.specs.Taken.{fault_of, lines_of, taken_of, ended_of, pending_of, rest_of};
 ghost use Rattle.script_text.specs.Blocks.{IsBlock, HasBlocks, NextHasBlocks, IsInRange};
-ghost use Rattle.script_text.specs.Taking.{HoldsNoMore, HasLong, Skipped, Begun, Blocked, IsShort, IsCut, Completes, IsBadAt, IsHalf, IsBad, ComesTo, Reads, GoesOn, IsUnfinished};
+ghost use Rattle.script_text.specs.Commands.{command_at, next_of};
+ghost use Rattle.script_text.specs.Taking.{HoldsNoMore, HasLong, Skipped, Begun, Blocked, IsShort, IsCut, Completes, IsBadAt, IsHalf, IsBad, NoFurther, NoLonger, Reads, GoesOn, IsUnfinished};
 
 use crate::Command;
 use crate::heads::{Head, MAX_LINES, Said, said_in};
@@ -51,11 +52,10 @@ fn take_line<S: Source>(lines: &mut LineReader, source: &mut S) -> Result<Option
         → IfOk result (λ line. IfNone line (Passed (stand_of lines.old (S.left source.old)) (stand_of lines.new (S.left source.new)) []
         × IsAtEnd (rest_of lines.new (S.left source.new)))) }
     ensures bad { fault_of lines.old ≡ None → (line : ℕ) → IsErrOf result (ScriptFault.Bad line)
-        → (line ≡ lines_of lines.old + 1) × HasLong (stand_of lines.old (S.left source.old))
-        × (rest_of lines.new (S.left source.new) ≡ rest_of lines.old (S.left source.old)) }
+        → (line ≡ lines_of lines.old + 1) × HasLong (stand_of lines.old (S.left source.old)) }
+    ensures err { OnErr result (rest_of lines.new (S.left source.new) ≡ rest_of lines.old (S.left source.old)) }
     ensures read { fault_of lines.old ≡ None → IsErrOf result ScriptFault.ReadFault
-        → Rose (S.faults source.old) (S.faults source.new) × NoFeed (pending_of lines.new) × (ended_of lines.old ≡ false)
-        × (rest_of lines.new (S.left source.new) ≡ rest_of lines.old (S.left source.old)) }
+        → Rose (S.faults source.old) (S.faults source.new) × NoFeed (pending_of lines.new) × (ended_of lines.old ≡ false) }
     ensures later { S.faults source.old ≤ S.faults source.new }
     ensures ahead { HoldsNoMore lines.old lines.new }
     ensures within { taken_of lines.new ≤ MAX_SCRIPT }
@@ -85,8 +85,8 @@ fn find_head<S: Source>(
         × IsAtEnd (rest_of lines.new (S.left source.new)))) }
     ensures bad { IsReady lines.old (S.left source.old) → (line : ℕ) → IsErrOf result (ScriptFault.Bad line)
         → IsBad (stand_of lines.old (S.left source.old)) line }
-    ensures comes { IsReady lines.old (S.left source.old) → (line : ℕ) → IsErrOf result (ScriptFault.Bad line)
-        → ComesTo (stand_of lines.old (S.left source.old)) (stand_of lines.new (S.left source.new)) line }
+    ensures no_further { IsReady lines.old (S.left source.old)
+        → OnErr result (NoFurther next_of (stand_of lines.old (S.left source.old)) (stand_of lines.new (S.left source.new))) }
     ensures read { fault_of lines.old ≡ None → IsErrOf result ScriptFault.ReadFault
         → Rose (S.faults source.old) (S.faults source.new) × NoFeed (pending_of lines.new) }
     ensures unfinished { IsReady lines.old (S.left source.old) → IsErrOf result ScriptFault.ReadFault
@@ -124,8 +124,8 @@ fn take_block<S: Source>(
     ensures lines { count ≤ MAX_LINES → IfOk result (λ text. IsBlock count text) }
     ensures bad { IsReady lines.old (S.left source.old) → (line : ℕ) → IsErrOf result (ScriptFault.Bad line)
         → IsShort (stand_of lines.old (S.left source.old)) count line }
-    ensures comes { IsReady lines.old (S.left source.old) → (line : ℕ) → IsErrOf result (ScriptFault.Bad line)
-        → ComesTo (stand_of lines.old (S.left source.old)) (stand_of lines.new (S.left source.new)) line }
+    ensures no_longer { IsReady lines.old (S.left source.old)
+        → OnErr result (NoLonger (stand_of lines.old (S.left source.old)) (stand_of lines.new (S.left source.new)) count) }
     ensures read { fault_of lines.old ≡ None → IsErrOf result ScriptFault.ReadFault
         → Rose (S.faults source.old) (S.faults source.new) × NoFeed (pending_of lines.new) }
     ensures cut { IsReady lines.old (S.left source.old) → IsErrOf result ScriptFault.ReadFault
@@ -164,8 +164,8 @@ fn with_blocks<S: Source>(
     ensures blocks { IsInRange head → IfOk result HasBlocks }
     ensures bad { IsReady lines.old (S.left source.old) → (line : ℕ) → IsErrOf result (ScriptFault.Bad line)
         → IsBadAt (stand_of lines.old (S.left source.old)) head line }
-    ensures comes { IsReady lines.old (S.left source.old) → (line : ℕ) → IsErrOf result (ScriptFault.Bad line)
-        → ComesTo (stand_of lines.old (S.left source.old)) (stand_of lines.new (S.left source.new)) line }
+    ensures no_further { IsReady lines.old (S.left source.old)
+        → OnErr result (NoFurther (command_at head) (stand_of lines.old (S.left source.old)) (stand_of lines.new (S.left source.new))) }
     ensures read { fault_of lines.old ≡ None → IsErrOf result ScriptFault.ReadFault
         → Rose (S.faults source.old) (S.faults source.new) × NoFeed (pending_of lines.new) }
     ensures unfinished { IsReady lines.old (S.left source.old) → IsErrOf result ScriptFault.ReadFault
@@ -195,7 +195,8 @@ fn with_blocks<S: Source>(
 
 /// Reads the next command of a script, with its blocks; its words are by the forms of `Command`.
 ///
-/// A reader that has met a fault answers that fault again, and nothing else is said of it. After `Bad` no line was taken behind the one that it tells.
+/// A reader that has met a fault answers that fault again, and nothing else is said of it.
+/// After a fault no line was taken behind the command that comes next, or behind the one that `Bad` tells.
 pub fn read_command<S: Source>(
     alloc: Global,
     lines: &mut LineReader,
@@ -207,8 +208,8 @@ pub fn read_command<S: Source>(
     ensures more { IfOk result (λ next. GoesOn next (taken_of lines.old) (taken_of lines.new)) }
     ensures bad { IsReady lines.old (S.left source.old) → (line : ℕ) → IsErrOf result (ScriptFault.Bad line)
         → IsBad (stand_of lines.old (S.left source.old)) line }
-    ensures comes { IsReady lines.old (S.left source.old) → (line : ℕ) → IsErrOf result (ScriptFault.Bad line)
-        → ComesTo (stand_of lines.old (S.left source.old)) (stand_of lines.new (S.left source.new)) line }
+    ensures no_further { IsReady lines.old (S.left source.old)
+        → OnErr result (NoFurther next_of (stand_of lines.old (S.left source.old)) (stand_of lines.new (S.left source.new))) }
     ensures read { fault_of lines.old ≡ None → IsErrOf result ScriptFault.ReadFault
         → Rose (S.faults source.old) (S.faults source.new) × NoFeed (pending_of lines.new) }
     ensures unfinished { IsReady lines.old (S.left source.old) → IsErrOf result ScriptFault.ReadFault

@@ -3,18 +3,17 @@ use Rattle.std.proofs.Common.{◌≡◌, ℕ, zero, suc, ◌+◌, ◌<◌, Bool,
 use Rattle.std.specs.Prelude.{IfOk, IfSome, option_map, replicate, codes}
 use Rattle.std.proofs.lemmas.List.{length-set, length-map, length-replicate}
 use Rattle.std.proofs.lemmas.List.Elements.{All-set}
-use Rattle.lab_base.specs.Texts.{fields_of, lines_of, is_skipped}
+use Rattle.lab_base.specs.Texts.{lines_of}
 use Rattle.lab_base.specs.declared.fault.Kind.{Kind}
 use Rattle.lab_base.specs.declared.fault.Kind.TheVariants as kinds
 use Rattle.lab_base.specs.declared.fault.TextFault.{TextFault}
 use Rattle.lab_base.specs.declared.fault.TextRefused.{TextRefused}
-use Rattle.lab_base.specs.declared.fault.TextRefused.TheVariants as refusals
 use Rattle.lab_base.specs.declared.ids.NodeId.{NodeId}
 use Rattle.lab_base.specs.declared.ids.IfaceId.{IfaceId}
 use Rattle.lab_base.specs.Names.{same_name}
-use Rattle.line_text.specs.Reading.{and_then, at_line, line_added, read_from}
-use Rattle.line_text.specs.Refusals.{Reads, ReadsInto}
-use Rattle.line_text.proofs.ReadLaws.{stays}
+use Rattle.line_text.specs.Reading.{and_then, read_from}
+use Rattle.line_text.specs.Refusals.{Reads}
+use Rattle.line_text.proofs.ReadLaws.{lines_keep}
 use Rattle.phys_lab.specs.Labs.{Lab}
 use Rattle.virt_topo.specs.Ends.{end_nodes}
 use Rattle.virt_topo.specs.declared.wiring.Wiring.{Wiring}
@@ -110,22 +109,6 @@ module _ (lab : Lab) (w : Wiring) where
   given_kept given new [] is h = absurd (cc h)
   given_kept given new (keyword ∷ fields) is h = keyed_kept given new keyword fields is h
 
-  line_kept : (given new : Given) (line : List ℕ) → IsGiven lab w given → line_added (line_given lab w) given line ≡ Ok new → IsGiven lab w new
-  line_kept given new line is h = by (is_skipped (fields_of line)) h
-    where
-      by : (b : Bool) → cond b (Ok given) (line_given lab w given (fields_of line)) ≡ Ok new → IsGiven lab w new
-      by true h = subst (IsGiven lab w) (cc h) is
-      by false h = given_kept given new (fields_of line) is h
-
-  read_kept : (n : ℕ) (given new : Given) (lines : List (List ℕ)) → IsGiven lab w given → read_from (line_given lab w) n (Ok given) lines ≡ Ok new → IsGiven lab w new
-  read_kept n given new [] is h = subst (IsGiven lab w) (cc h) is
-  read_kept n given new (line ∷ lines) is h = by (line_added (line_given lab w) given line) refl h (λ next is h. read_kept (n + 1) next new lines is h)
-    where
-      by : (r : Result Given Kind) → line_added (line_given lab w) given line ≡ r → read_from (line_given lab w) (n + 1) (at_line n r) lines ≡ Ok new
-          → ((next : Given) → IsGiven lab w next → read_from (line_given lab w) (n + 1) (Ok next) lines ≡ Ok new → IsGiven lab w new) → IsGiven lab w new
-      by (Ok next) added h rest = rest next (line_kept given next line is added) h
-      by (Err kind) added h rest = absurd (let never = sym (stays (line_given lab w) (n + 1) (record { line = n; kind = kind }) lines) ∙ h in cc never)
-
   nothing_given : IsGiven lab w (nothing w)
   nothing_given =
       record {
@@ -182,7 +165,7 @@ module _ (lab : Lab) (w : Wiring) where
   completed_shaped line lines m h = by (read_from (line_given lab w) 1 (Ok (nothing w)) lines) refl h
     where
       by : (r : Result Given TextFault) → read_from (line_given lab w) 1 (Ok (nothing w)) lines ≡ r → completed line r ≡ Ok m → IsShaped lab w m
-      by (Ok given) is h = mapped_shaped line given m (read_kept lab w 1 (nothing w) given lines (nothing_given lab w) is) h
+      by (Ok given) is h = mapped_shaped line given m (lines_keep (line_given lab w) (IsGiven lab w) (given_kept lab w) 1 (nothing w) given lines (nothing_given lab w) is) h
       by (Err fault) is h = absurd (cc h)
 
   -- A MAPPING THAT A TEXT GIVES IS SHAPED
@@ -192,8 +175,3 @@ module _ (lab : Lab) (w : Wiring) where
   pub answer_shaped : (text : List ℕ) (r : Result Mapping TextRefused) → Reads r (mapping_of_text lab w text) → IfOk r (IsShaped lab w)
   answer_shaped text (Ok m) h = text_shaped text m h
   answer_shaped text (Err refused) h = tt
-
--- a refusal of the lines is one of the text
-pub passes_on : (refused : TextRefused) (line : ℕ) (new : Given) (read : Result Given TextFault) → ReadsInto {U = ℕ} (Err refused) new read → Reads {X = Mapping} (Err refused) (completed line read)
-passes_on (refusals.Text fault) line new read is = ap (completed line) is
-passes_on refusals.Memory line new read is = tt

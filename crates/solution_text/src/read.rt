@@ -1,7 +1,7 @@
-ghost use Rattle.std.specs.Prelude.{◌≡◌, ◌<◌, ◌+◌, IfOk, Ok, length};
-ghost use Rattle.lab_base.specs.Texts.{lines_of, views};
-ghost use Rattle.line_text.specs.Reading.{and_then, line_added, read_from};
-ghost use Rattle.line_text.specs.Refusals.{Reads, ReadsInto, Takes};
+ghost use Rattle.std.specs.Prelude.{◌≡◌, ◌<◌, IfOk, length};
+ghost use Rattle.lab_base.specs.Texts.{views};
+ghost use Rattle.line_text.specs.Reading.{and_then};
+ghost use Rattle.line_text.specs.Refusals.{Reads, Takes};
 ghost use Rattle.lab_model.specs.Shapes.{IsShaped};
 ghost use Rattle.solution_text.specs.Solutions.{all_given, line_given, line_keyed, mapped, mapping_of_text};
 ghost use Rattle.solution_text.specs.Solutions.{nothing, place_line, plug_line, with_place_line, with_plug_line};
@@ -11,13 +11,18 @@ use crate::ends::end_nodes;
 use crate::given::{Given, all_given, none_given};
 use crate::lines::{place_in, plug_in};
 use crate::names::{Names, names_of};
-use lab_base::{
-    Kind, Memory, TEXT_LIMIT, TextFault, TextRefused, fields_in, first_line, is_skipped,
-};
-use line_text::{LineFault, refusal};
+use lab_base::{Kind, Memory, TEXT_LIMIT, TextFault, TextRefused};
+use line_text::{AddLine, LineFault, read_lines};
 use phys_lab::Lab;
 use std::alloc::Global;
 use virt_topo::{Mapping, Wiring};
+
+/// The places and plugs so far, and the names by which further lines give them.
+#[derive(Drop)]
+struct GivenByNames<'a> {
+    given: Given,
+    names: &'a Names<'a>,
+}
 
 fn add_place_line(
     given: &mut Given,
@@ -68,60 +73,23 @@ fn add_keyed(
     }
 }
 
-/// Adds a line that has fields.
-fn add(
-    given: &mut Given,
-    alloc: Global,
-    names: &Names<'_>,
-    fields: &[&[u8]],
-) -> Result<(), LineFault>
-    requires { AreNames names.now }
-    ensures { Takes result given.new (line_given names.now.lab.now names.now.wiring.now given.old (views fields.now)) }
-{
-    match fields {
-        [] => Err(LineFault::Kind(Kind::Word)),
-        [keyword, rest @ ..] => add_keyed(given, alloc, names, keyword, rest),
-    }
-}
+impl AddLine for GivenByNames<'_> {
+    ghost use Rattle.solution_text.specs.declared.given.Given.{Given};
 
-fn add_line(
-    given: &mut Given,
-    alloc: Global,
-    names: &Names<'_>,
-    line: &[u8],
-) -> Result<(), LineFault>
-    requires { AreNames names.now }
-    ensures { Takes result given.new (line_added (line_given names.now.lab.now names.now.wiring.now) given.old line.now) }
-{
-    let fields = fields_in(alloc, line)?;
-    if is_skipped(&fields) {
-        return Ok(());
-    }
-    add(given, alloc, names, &fields)
-}
+    ghost Contents = { Given };
 
-/// Adds the lines of a text. Answers the number behind its last line.
-fn add_lines(
-    given: &mut Given,
-    alloc: Global,
-    names: &Names<'_>,
-    text: &[u8],
-) -> Result<u32, TextRefused>
-    requires short { length text.now < TEXT_LIMIT }
-    requires names { AreNames names.now }
-    ensures reads { ReadsInto result given.new (read_from (line_given names.now.lab.now names.now.wiring.now) 1 (Ok given.old) (lines_of text.now)) }
-    ensures lines { IfOk result (λ line. line ≡ length (lines_of text.now) + 1) }
-{
-    let mut line = 1u32;
-    let mut rest = text;
-    while let Some(first) = first_line(rest) {
-        if let Err(fault) = add_line(given, alloc, names, first.line) {
-            return Err(refusal(line, fault));
+    ghost contents = { λ so_far. so_far.given };
+
+    ghost added = { λ so_far. line_given so_far.names.now.lab.now so_far.names.now.wiring.now };
+
+    ghost can_add = { λ so_far. AreNames so_far.names.now };
+
+    fn add(&mut self, alloc: Global, fields: &[&[u8]]) -> Result<(), LineFault> {
+        match fields {
+            [] => Err(LineFault::Kind(Kind::Word)),
+            [keyword, rest @ ..] => add_keyed(&mut self.given, alloc, self.names, keyword, rest),
         }
-        line += 1;
-        rest = first.rest;
     }
-    Ok(line)
 }
 
 fn nothing(alloc: Global, wiring: &Wiring) -> Result<Given, Memory>
@@ -161,9 +129,10 @@ fn read_named(alloc: Global, names: &Names<'_>, text: &[u8]) -> Result<Mapping, 
     requires names { AreNames names.now }
     ensures { Reads result (mapping_of_text names.now.lab.now names.now.wiring.now text.now) }
 {
-    let mut given = nothing(alloc, names.wiring)?;
-    let line = add_lines(&mut given, alloc, names, text)?;
-    mapping_of(alloc, line, &given)
+    let given = nothing(alloc, names.wiring)?;
+    let mut so_far = GivenByNames { given, names };
+    let line = read_lines(alloc, text, &mut so_far)?;
+    mapping_of(alloc, line, &so_far.given)
 }
 
 /// Reads the mapping of a solution text for a lab and a wiring; a refusal has the kind and the line of the first fault.

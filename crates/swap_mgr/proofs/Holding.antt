@@ -24,7 +24,7 @@ use Rattle.swap_txn.specs.Facts.{exp_of}
 use Rattle.swap_txn.specs.States.{Plans, View}
 use Rattle.plant.specs.Seen.{Seen}
 use Rattle.swap_txn.specs.Turns.{Turns, Begins, WrittenBy, view_of}
-use Rattle.swap_turns.specs.declared.left.Left.{Left}
+use Rattle.swap_turns.specs.declared.turn.TurnedSwap.{TurnedSwap}
 use Rattle.swap_turns.specs.Swaps.{Swap}
 use Rattle.swap_turns.specs.Beginning.{HasBegun, opened}
 use Rattle.swap_turns.specs.Finishing.{IsOver, Finishes, FinishLeaves, HasFinished, IsOnWay}
@@ -165,7 +165,7 @@ module _ (t : Texts) (s : LabState) (opens : List Slot) (exp : List ℕ) (was no
   still_as result steps Stopped h = tt
 
   -- A TURN of one of them
-  pub turned_one : (y : Turned Live) (result : Left) → Turns x was now j k y → IsLeftBy y result → PutBy mid (open_in result) new → HasTurned t s opens exp was now k (progress_of result) new
+  pub turned_one : (y : Turned Live) (result : TurnedSwap) → Turns x was now j k y → IsLeftBy y result → PutBy mid (open_in result) new → HasTurned t s opens exp was now k (progress_of result) new
   turned_one y result turns is put =
       let split_work = as_split t was.told j s opens working old holds x mid w its.0 at.0 at.1 at.2 in
       let a = one_of_them t s its.0 x at.0 at.1 was now j k split_work y turns in

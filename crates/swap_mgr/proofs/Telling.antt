@@ -10,8 +10,8 @@ use Rattle.lab_base.specs.declared.what.What.{What}
 use Rattle.lab_base.specs.declared.what.What.TheVariants as whats
 use Rattle.swap_turns.specs.Running.{OpenSwap}
 use Rattle.swap_turns.specs.Turning.{Outcome, More, Ended, Stuck, Unwritten, Stopped, IsTold, IsStuckAs, open_after, state_after, slot}
-use Rattle.swap_turns.specs.declared.left.Left.{Left}
-use Rattle.swap_turns.specs.declared.left.Left.TheVariants as left
+use Rattle.swap_turns.specs.declared.turn.TurnedSwap.{TurnedSwap}
+use Rattle.swap_turns.specs.declared.turn.TurnedSwap.TheVariants as swap
 use Rattle.swap_turns.specs.declared.loops.Finished.{Finished}
 use Rattle.swap_turns.specs.declared.loops.Finished.TheVariants as finished
 use Rattle.swap_turns.specs.Finishing.{Tells}
@@ -26,7 +26,7 @@ IsNext next (Some o) (Some x) = next ≡ (o, x) ∷ []
 IsNext next None None = next ≡ []
 IsNext next o x = ⊥
 
-pub record IsRetold (o : OpenSwap) (steps : List Event) (outcome : Outcome) (after : Option Live) (result : Left) : Type 0 where
+pub record IsRetold (o : OpenSwap) (steps : List Event) (outcome : Outcome) (after : Option Live) (result : TurnedSwap) : Type 0 where
   pub is_told : IsProgress o (progress_of result) outcome
   pub next : IsNext (slot (open_after o steps outcome) after) (open_after o steps outcome) (open_in result)
 
@@ -36,17 +36,17 @@ next_of next (Some o) None is = absurd is
 next_of next None (Some x) is = absurd is
 next_of next None None is = ap (λ l. map (λ q. q.0) l) is
 
-module _ (o : OpenSwap) (steps : List Event) (outcome : Outcome) (result : Left) where
-  to : (after : Option Live) (x : Left) → result ≡ x → IsRetold o steps outcome after x → IsRetold o steps outcome after result
+module _ (o : OpenSwap) (steps : List Event) (outcome : Outcome) (result : TurnedSwap) where
+  to : (after : Option Live) (x : TurnedSwap) → result ≡ x → IsRetold o steps outcome after x → IsRetold o steps outcome after result
   to after x is h = subst (λ y. IsRetold o steps outcome after y) (sym is) h
 
-  on : (state : Live) → result ≡ left.Open state None → outcome ≡ More → IsRetold o steps outcome (Some state) result
-  on state is more = to (Some state) (left.Open state None) is (record {
+  on : (state : Live) → result ≡ swap.Open state None → outcome ≡ More → IsRetold o steps outcome (Some state) result
+  on state is more = to (Some state) (swap.Open state None) is (record {
     is_told = more;
     next = subst (λ w. IsNext (slot (open_after o steps w) (Some state)) (open_after o steps w) (Some state)) (sym more) refl;
   })
 
-  gone : (after : Option Live) (x : Left) → result ≡ x → open_in x ≡ None → open_after o steps outcome ≡ None → IsProgress o (progress_of x) outcome → IsRetold o steps outcome after result
+  gone : (after : Option Live) (x : TurnedSwap) → result ≡ x → open_in x ≡ None → open_after o steps outcome ≡ None → IsProgress o (progress_of x) outcome → IsRetold o steps outcome after result
   gone after x is closed is_out told = to after x is (record {
     is_told = told;
     next = subst (λ w. IsNext (slot (open_after o steps outcome) after) (open_after o steps outcome) w) (sym closed) (subst (λ w. IsNext (slot w after) w None) (sym is_out) (none after));
@@ -68,7 +68,7 @@ module _ (o : OpenSwap) (steps : List Event) (outcome : Outcome) (result : Left)
   retold_next (live.Ready f) told is = on (live.Ready f) is told
   retold_next (live.Undoing b) told is = on (live.Undoing b) is told
   retold_next (live.Undone b) told is = on (live.Undone b) is told
-  retold_next (live.Ended e) told is = gone (Some (live.Ended e)) (left.Over e) is refl (out_by (Ended o.leg) told.outcome_is refl) told
+  retold_next (live.Ended e) told is = gone (Some (live.Ended e)) (swap.Over e) is refl (out_by (Ended o.leg) told.outcome_is refl) told
 
   stuck_out : (what : What) → IsStuckAs what outcome → open_after o steps outcome ≡ None
   stuck_out (whats.Device name) by = out_by (Stuck by.0) by.2 refl
@@ -80,12 +80,12 @@ module _ (o : OpenSwap) (steps : List Event) (outcome : Outcome) (result : Left)
   pub retold : (x : Turned Live) → IsTold o x outcome → IsLeftBy x result → IsRetold o steps outcome (state_after x) result
   retold (turned.Same state) told is = on state is told
   retold (turned.Next state) told is = retold_next state told is
-  retold (turned.Trouble b what) told is = to (Some (live.Undoing b)) (left.Open (live.Undoing b) (Some what)) is (record {
+  retold (turned.Trouble b what) told is = to (Some (live.Undoing b)) (swap.Open (live.Undoing b) (Some what)) is (record {
     is_told = told;
     next = subst (λ w. IsNext (slot (open_after o steps w) (Some (live.Undoing b))) (open_after o steps w) (Some (live.Undoing b))) (sym told.2) refl;
   })
-  retold (turned.Stuck state what) told is = gone None (left.Stuck what) is refl (stuck_out what told) told
-  retold turned.Stopped told is = gone None left.Stopped is refl (out_by Stopped told refl) told
+  retold (turned.Stuck state what) told is = gone None (swap.Stuck what) is refl (stuck_out what told) told
+  retold turned.Stopped told is = gone None swap.Stopped is refl (out_by Stopped told refl) told
 
 -- the end of a swap is told by its outcome
 pub ended_told : (end : Finished) (result : Progress) → IsEndOf end result → (at : OpenSwap) (outcome : Outcome) → Tells end at outcome → IsProgress at result outcome

@@ -1,20 +1,20 @@
 -- How a manager tells what a turn left of a swap, and how a swap ended.
 use Rattle.std.specs.Prelude.{◌≡◌, Option, Some, None}
 use Rattle.swap_txn.specs.declared.ended.Ended.{Ended as Over}
-use Rattle.swap_turns.specs.declared.left.Left.{Left}
-use Rattle.swap_turns.specs.declared.left.Left.TheVariants as left
+use Rattle.swap_turns.specs.declared.turn.TurnedSwap.{TurnedSwap}
+use Rattle.swap_turns.specs.declared.turn.TurnedSwap.TheVariants as swap
 use Rattle.swap_turns.specs.declared.loops.Finished.{Finished}
 use Rattle.swap_turns.specs.declared.loops.Finished.TheVariants as finished
 use Rattle.swap_mgr.specs.declared.progress.Progress.{Progress}
 use Rattle.swap_mgr.specs.declared.progress.Progress.TheVariants as progress
 
 -- the outcome of a turn: what it left, without the state
-abbrev pub progress_of : Left → Progress
-progress_of (left.Open state None) = progress.More
-progress_of (left.Open state (Some what)) = progress.Trouble what
-progress_of (left.Over ended) = progress.Ended ended
-progress_of (left.Stuck what) = progress.Stuck what
-progress_of left.Stopped = progress.Stopped
+abbrev pub progress_of : TurnedSwap → Progress
+progress_of (swap.Open state None) = progress.More
+progress_of (swap.Open state (Some what)) = progress.Trouble what
+progress_of (swap.Over ended) = progress.Ended ended
+progress_of (swap.Stuck what) = progress.Stuck what
+progress_of swap.Stopped = progress.Stopped
 
 -- how the end of a swap is told
 abbrev pub IsEndOf : Finished → Progress → Type 0

@@ -30,7 +30,7 @@ use plant::Plant;
 use slab::Slab;
 use std::alloc::Global;
 use std::marker::Model;
-use swap_turns::{Left, finish, one_turn};
+use swap_turns::{TurnedSwap, finish, one_turn};
 use swap_txn::{Live, Planned, Turned};
 
 /// The most open swaps.
@@ -137,14 +137,14 @@ impl Manager {
     }
 
     /// Puts a swap back that is open still.
-    fn put_back(&mut self, left: Left)
+    fn put_back(&mut self, left: TurnedSwap)
         requires room { length self.old < MAX_OPEN }
         requires apart { IfSome (open_in left) (λ x. (y : State) → Has self.old y → exp_of y ≢ exp_of x) }
         ensures { PutBy self.old (open_in left) self.new }
     {
         match left {
-            Left::Open(live, _trouble) => self.put(live),
-            Left::Over(_) | Left::Stuck(_) | Left::Stopped => {}
+            TurnedSwap::Open(live, _trouble) => self.put(live),
+            TurnedSwap::Over(_) | TurnedSwap::Stuck(_) | TurnedSwap::Stopped => {}
         }
     }
 

@@ -5,19 +5,19 @@ ghost use Rattle.swap_turns.specs.OneTurn.{IsStop as IsStopLeft};
 ghost use Rattle.swap_mgr.specs.Turns.{IsEndOf, IsStop, progress_of};
 
 use crate::Progress;
-use swap_turns::{Finished, Left};
+use swap_turns::{Finished, TurnedSwap};
 
 /// The outcome of a turn, by what it left.
-pub(crate) fn progress_of(left: &Left) -> Progress
+pub(crate) fn progress_of(left: &TurnedSwap) -> Progress
     ensures is { result ≡ progress_of left.now }
     ensures stopped { IsStop result ↔ IsStopLeft left.now }
 {
     match left {
-        Left::Open(_, None) => Progress::More,
-        Left::Open(_, Some(what)) => Progress::Trouble(*what),
-        Left::Over(ended) => Progress::Ended(*ended),
-        Left::Stuck(what) => Progress::Stuck(*what),
-        Left::Stopped => Progress::Stopped,
+        TurnedSwap::Open(_, None) => Progress::More,
+        TurnedSwap::Open(_, Some(what)) => Progress::Trouble(*what),
+        TurnedSwap::Over(ended) => Progress::Ended(*ended),
+        TurnedSwap::Stuck(what) => Progress::Stuck(*what),
+        TurnedSwap::Stopped => Progress::Stopped,
     }
 }
 

@@ -11,8 +11,8 @@ use Rattle.journal_disk.specs.declared.fault.AppendFault.{AppendFault}
 use Rattle.journal_disk.specs.declared.journal.Journal.{Journal}
 use Rattle.records_model.specs.Labs.{LabState, Texts, LabOf}
 use Rattle.records_model.specs.Works.{IsSound, AtWork, MayAppend}
-use Rattle.journal_runs.specs.Working.{StandForEither}
-use Rattle.journal_runs.proofs.Endings.{append_done, append_left}
+use Rattle.swap_turns.specs.Working.{StandForEither}
+use Rattle.swap_turns.proofs.Endings.{append_done, append_left}
 use Rattle.plant.specs.Seen.{Seen}
 use Rattle.swap_txn.specs.Steps.{Writes}
 use Rattle.swap_turns.specs.Running.{Stands}

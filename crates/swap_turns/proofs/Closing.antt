@@ -6,7 +6,7 @@ use Rattle.plant.specs.Events.{Event}
 use Rattle.plant.specs.Told.{Told, with_steps}
 use Rattle.records_model.specs.Labs.{LabState, Texts}
 use Rattle.records_model.specs.Works.{IsSound}
-use Rattle.journal_runs.specs.Working.{StandForLab}
+use Rattle.swap_turns.specs.Working.{StandForLab}
 use Rattle.swap_turns.specs.Closing.{Closes}
 use Rattle.swap_turns.proofs.Telling.{if_both, if_back}
 

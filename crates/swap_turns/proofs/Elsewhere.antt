@@ -15,9 +15,9 @@ use Rattle.plant.specs.declared.device.Fault.{Fault}
 use Rattle.plant.specs.declared.device.Fault.TheVariants as answers
 use Rattle.journal_rec.specs.declared.record.Record.{Record}
 use Rattle.journal_model.specs.Appends.{All, added}
-use Rattle.journal_runs.specs.Pieces.{is_command, has_command}
-use Rattle.journal_runs.proofs.Endings.{append_quiet}
-use Rattle.journal_runs.proofs.Quiet.{shows}
+use Rattle.swap_turns.specs.Pieces.{is_command, has_command}
+use Rattle.swap_turns.proofs.Endings.{append_quiet}
+use Rattle.swap_turns.proofs.Quiet.{shows}
 use Rattle.lab_model.specs.Courses.{Course, Going, Cut, Halted, Goes, IsCommandOf, Left, Trouble, answered, next, nothing_left, whole}
 use Rattle.lab_model.specs.Holding.{Holding}
 use Rattle.lab_model.specs.Leavings.{Sent, SameFor}

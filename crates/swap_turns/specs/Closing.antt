@@ -5,7 +5,7 @@ use Rattle.plant.specs.Events.{Event}
 use Rattle.plant.specs.Told.{Told}
 use Rattle.records_model.specs.Labs.{LabState, Texts}
 use Rattle.records_model.specs.Works.{IsSound}
-use Rattle.journal_runs.specs.Working.{StandForLab}
+use Rattle.swap_turns.specs.Working.{StandForLab}
 
 -- IT IS CLOSED by such steps, whatever the trace before them, which led to that lab; and where that trace is sound, each possible image stands for a lab to which they led
 pub record Closes (t : Texts) (told : Option Told) (steps : List Event) (Is : List Event → LabState → Type 0) : Type 0 where

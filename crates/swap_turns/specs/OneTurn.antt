@@ -13,8 +13,8 @@ use Rattle.swap_turns.specs.Finishing.{HasFinished, IsOnWay}
 use Rattle.swap_turns.specs.Running.{OpenSwap, IsOpen, AtWork}
 use Rattle.swap_turns.specs.Turning.{Stopped, EndsAs, IsStuckAs}
 use Rattle.swap_turns.specs.Weights.{turns_left}
-use Rattle.swap_turns.specs.declared.left.Left.{Left}
-use Rattle.swap_turns.specs.declared.left.Left.TheVariants as left
+use Rattle.swap_turns.specs.declared.turn.TurnedSwap.{TurnedSwap}
+use Rattle.swap_turns.specs.declared.turn.TurnedSwap.TheVariants as swap
 
 -- a controller at work has a swap open in that state
 pub record CanTurn (told : Option Told) (j : Journal) (state : Live) : Type 0 where
@@ -25,41 +25,41 @@ pub record CanTurn (told : Option Told) (j : Journal) (state : Live) : Type 0 wh
   pub is_open : IsOpen lab swap state
 
 -- WHAT IS LEFT, by the answer of a state's turn: the swap is open in the next state, or in the first of its undo; or it is over, stuck or stopped
-abbrev pub IsReached : Live → Left → Type 0
-IsReached (live.Ended ended) result = result ≡ left.Over ended
-IsReached state result = result ≡ left.Open state None
+abbrev pub IsReached : Live → TurnedSwap → Type 0
+IsReached (live.Ended ended) result = result ≡ swap.Over ended
+IsReached state result = result ≡ swap.Open state None
 
-abbrev pub IsLeftBy : Turned Live → Left → Type 0
-IsLeftBy (turned.Same state) result = result ≡ left.Open state None
+abbrev pub IsLeftBy : Turned Live → TurnedSwap → Type 0
+IsLeftBy (turned.Same state) result = result ≡ swap.Open state None
 IsLeftBy (turned.Next state) result = IsReached state result
-IsLeftBy (turned.Trouble b what) result = result ≡ left.Open (live.Undoing b) (Some what)
-IsLeftBy (turned.Stuck state what) result = result ≡ left.Stuck what
-IsLeftBy turned.Stopped result = result ≡ left.Stopped
+IsLeftBy (turned.Trouble b what) result = result ≡ swap.Open (live.Undoing b) (Some what)
+IsLeftBy (turned.Stuck state what) result = result ≡ swap.Stuck what
+IsLeftBy turned.Stopped result = result ≡ swap.Stopped
 
 -- ONE TURN OF A STATE was made, which left that
-pub record HasMade (state : Live) (was now : Seen) (j k : Journal) (result : Left) : Type 0 where
+pub record HasMade (state : Live) (was now : Seen) (j k : Journal) (result : TurnedSwap) : Type 0 where
   pub turned : Turned Live
   pub turns : Turns state was now j k turned
   pub is : IsLeftBy turned result
 
 -- the state in which the swap is open still
-abbrev pub open_in : Left → Option Live
-open_in (left.Open state trouble) = Some state
+abbrev pub open_in : TurnedSwap → Option Live
+open_in (swap.Open state trouble) = Some state
 open_in result = None
 
 -- of a swap on its way since a moment: it is on its way still, or over
-abbrev pub IsLeftOnWay : Texts → LabState → OpenSwap → Seen → Seen → Journal → Left → Type 0
-IsLeftOnWay t s o before now j (left.Open state trouble) = IsOnWay t s o before now j state
-IsLeftOnWay t s o before now j (left.Over ended) = HasFinished t s o before now j (λ at outcome. EndsAs at ended outcome)
-IsLeftOnWay t s o before now j (left.Stuck what) = HasFinished t s o before now j (λ at outcome. IsStuckAs what outcome)
-IsLeftOnWay t s o before now j left.Stopped = HasFinished t s o before now j (λ at outcome. outcome ≡ Stopped)
+abbrev pub IsLeftOnWay : Texts → LabState → OpenSwap → Seen → Seen → Journal → TurnedSwap → Type 0
+IsLeftOnWay t s o before now j (swap.Open state trouble) = IsOnWay t s o before now j state
+IsLeftOnWay t s o before now j (swap.Over ended) = HasFinished t s o before now j (λ at outcome. EndsAs at ended outcome)
+IsLeftOnWay t s o before now j (swap.Stuck what) = HasFinished t s o before now j (λ at outcome. IsStuckAs what outcome)
+IsLeftOnWay t s o before now j swap.Stopped = HasFinished t s o before now j (λ at outcome. outcome ≡ Stopped)
 
 -- fewer turns are left
-abbrev pub TurnsLess : Live → Left → Type 0
-TurnsLess was (left.Open state trouble) = turns_left state < turns_left was
+abbrev pub TurnsLess : Live → TurnedSwap → Type 0
+TurnsLess was (swap.Open state trouble) = turns_left state < turns_left was
 TurnsLess was result = Unit {0}
 
 -- the plant stopped
-abbrev pub IsStop : Left → Type 0
-IsStop left.Stopped = Unit {0}
+abbrev pub IsStop : TurnedSwap → Type 0
+IsStop swap.Stopped = Unit {0}
 IsStop result = ⊥

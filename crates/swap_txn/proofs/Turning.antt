@@ -1,5 +1,5 @@
 -- A command and a record, and the swap behind each.
-use Rattle.std.proofs.Common.{◌≡◌, Bool, true, false, cond, List, [], ◌∷◌, Option, Some, None, Result, Ok, Err, refl, sym, ap, ◌∙◌, subst, arith}
+use Rattle.std.proofs.Common.{◌≡◌, Bool, true, false, cond, List, [], ◌∷◌, Option, Some, None, IsSome, Result, Ok, Err, refl, sym, ap, ◌∙◌, subst, arith}
 use Rattle.std.proofs.lemmas.Bool.Decides.{nat_tests}
 use Rattle.lab_base.specs.declared.what.What.{What}
 use Rattle.lab_base.specs.declared.what.What.TheVariants as whats
@@ -21,8 +21,8 @@ use Rattle.swap_txn.specs.States.{Undo, View, stage_of, undone}
 use Rattle.plant.specs.Seen.{Seen}
 use Rattle.swap_txn.specs.Steps.{Sends, Writes}
 use Rattle.swap_txn.specs.Troubles.{what_of, StepBy, IsWritten}
-use Rattle.swap_txn.specs.Turns.{view_of, with_view, state_at, state_of, same_state, last_of, ended_of, CutBy, SentBy, EndedBy, TurnOf, sends, writes, moved, turned_by, TurnsBy, Turns}
-use Rattle.swap_txn.specs.Going.{CutBack, StaysAt, IfStuck}
+use Rattle.swap_txn.specs.Turns.{view_of, with_view, state_at, state_of, same_state, last_of, ended_of, CutBy, SentBy, EndedBy, TurnOf, sends, writes, moved, turned_by, TurnsBy, Turns, HasRoom, FitsBy, Fits, HasWork}
+use Rattle.swap_txn.specs.Going.{CutBack, StaysAt, IfStuck, IsName}
 use Rattle.swap_txn.proofs.Places.{boots_are}
 
 -- WHERE NOTHING IS LEFT
@@ -99,11 +99,11 @@ pub turns_as : (old live : Live) (was now : Seen) (j k : Journal) (given turned 
 turns_as old live was now j k given turned live_is turned_is turns = subst (λ x. Turns x was now j k turned) (sym live_is) (subst (λ x. Turns old was now j k x) (sym turned_is) turns)
 
 -- a stuck swap is as it was
-pub stuck_suits : (Suits : View → Type 0) (v : View) (went : Went) → ((w : View) → w.commit ≡ v.commit → stage_of w.plan w.left ≡ stage_of v.plan v.left → Suits w) → StaysAt v went → IfStuck went Suits
+pub stuck_suits : (Suits : Bool → Stage → Type 0) (v : View) (went : Went) → Suits v.commit (stage_of v.plan v.left) → StaysAt v went → IfStuck went (λ w. Suits w.commit (stage_of w.plan w.left))
 stuck_suits Suits v (wents.On w) suits stays = tt
 stuck_suits Suits v (wents.Ended ended) suits stays = tt
 stuck_suits Suits v (wents.Trouble back what) suits stays = tt
-stuck_suits Suits v (wents.Stuck w what) suits stays = suits w stays.0 stays.1
+stuck_suits Suits v (wents.Stuck w what) suits stays = subst (λ c. Suits c (stage_of w.plan w.left)) (sym stays.0) (subst (λ s. Suits v.commit s) (sym stays.1) suits)
 stuck_suits Suits v wents.Stopped suits stays = tt
 
 -- A STATE OF THAT NAME
@@ -135,6 +135,28 @@ seen_as (lives.Ready old) v w is = refl
 seen_as (lives.Undoing old) v w is = refl
 seen_as (lives.Undone old) v w is = refl
 seen_as (lives.Ended ended) v w is = absurd (cc is)
+
+-- A STATE BY ITS NAME: it has work left, room for its last record where nothing is left, and makes the turn of its work
+module _ (named : View → Live) where
+  pub named_works : (v : View) → IsName named → HasWork (named v)
+  named_works v name = subst IsSome (sym (name.sees v)) refl
+
+  pub named_room : (Suits : Bool → Stage → Type 0) (work v : View) (j : Journal) → IsName named → work ≡ v → Suits work.commit (stage_of work.plan work.left) → (Suits v.commit Done → Fits (named v) j)
+      → work.left ≡ nothing_left → HasRoom j (last_of work)
+  named_room Suits work v j name same suits fits none =
+      let done : Suits work.commit Done = subst (λ s. Suits work.commit s) (none_left work.plan work.left none) suits in
+      let fits_of : FitsBy (Some v) j = subst (λ o. FitsBy o j) (name.sees v) (fits (subst (λ (x : View). Suits x.commit Done) same done)) in
+      subst (λ (x : View). FitsBy (Some x) j) (sym same) fits_of none
+
+  pub named_turns : (v : View) (was now : Seen) (j k : Journal) (went : Went) (turned : Turned Live) → IsName named → TurnOf v was now j k went → turned ≡ turned_by named went → Turns (named v) was now j k turned
+  named_turns v was now j k went turned name turn is = record { by = subst (λ o. TurnsBy o (named v) was now j k turned) (sym (name.sees v)) (went, turn, is ∙ sym (named_as went)) }
+    where
+      named_as : (w : Went) → turned_by (with_view (named v)) w ≡ turned_by named w
+      named_as (wents.On w) = ap (λ live. moved live (state_of w)) (name.keeps v w)
+      named_as (wents.Ended ended) = refl
+      named_as (wents.Trouble back what) = refl
+      named_as (wents.Stuck w what) = ap (λ live. Stuck live what) (name.keeps v w)
+      named_as wents.Stopped = refl
 
 -- THE WAYS IN WHICH A TURN GOES, each with what it answers: what holds of each holds of the turn
 pub record Each (P : Turned Live → Type 0) (v : View) (was now : Seen) (j k : Journal) : Type 0 where

@@ -1,9 +1,11 @@
 -- A command of a swap with work left, and the swap behind it.
 use Rattle.std.specs.Prelude.{◌≡◌, Option, Some, None}
 use Rattle.lab_base.specs.declared.what.What.{What}
+use Rattle.swap_txn.specs.declared.live.Live.{Live}
 use Rattle.swap_txn.specs.declared.went.Went.{Went}
 use Rattle.swap_txn.specs.declared.went.Went.TheVariants.{Trouble, Stuck}
 use Rattle.swap_txn.specs.States.{Undo, View, stage_of, undone}
+use Rattle.swap_txn.specs.Turns.{view_of, with_view}
 
 -- trouble begins the way back, or leaves the swap stuck where there is none
 abbrev pub CutBack : View → What → Option Undo → Went → Type 0
@@ -19,3 +21,8 @@ StaysAt v went = Unit {0}
 abbrev pub IfStuck : Went → (View → Type 0) → Type 0
 IfStuck (Stuck v what) Suits = Suits v
 IfStuck went Suits = Unit {0}
+
+-- a state by its name: it has the work that it is given, and its name with other work
+pub record IsName (named : View → Live) : Type 0 where
+  pub sees : (v : View) → view_of (named v) ≡ Some v
+  pub keeps : (v w : View) → with_view (named v) w ≡ named w

@@ -1,6 +1,6 @@
 use crate::last::last_of;
+use crate::named::any;
 use crate::sending::Sending;
-use crate::state::any;
 use crate::work::Work;
 use crate::{Begun, Booting, Cabling, Clearing, Ended, Loading, Ready, Turned, Undoing, Undone};
 use journal_disk::Journal;

@@ -1,4 +1,4 @@
-use crate::begun::Begun;
+use crate::at::At;
 use crate::halt::Halt;
 use crate::last::{begin_and_commit, way_back};
 use crate::sending::Sending;
@@ -111,7 +111,7 @@ impl Planned {
         match write(&self.begin, journal, plant) {
             Ok(()) => {
                 let Planned { begin: _, work } = self;
-                Turned::Next(Live::Begun(Begun { work }))
+                Turned::Next(Live::Begun(At::of(work)))
             }
             Err(Halt::Trouble(what)) => Turned::Stuck(self, what),
             Err(Halt::Stopped) => Turned::Stopped,

@@ -1,6 +1,6 @@
 /// The list of a course in which the next command stands.
 #[derive(Clone, Copy, PartialEq, Eq)]
-pub(crate) enum Stage {
+pub enum Stage {
     Clear,
     Cable,
     Load,

@@ -4,6 +4,7 @@ ghost use Rattle.journal_rec.specs.declared.record.Record.TheVariants as records
 ghost use Rattle.swap_txn.specs.States.{undone};
 
 use crate::Undoing;
+use crate::at::At;
 use crate::sending::Sending;
 use crate::work::Work;
 use journal_rec::Encoded;
@@ -26,16 +27,14 @@ impl WayBack {
         requires { IsBody self.abort (records.Abort exp) }
         ensures { result ≡ undone exp (record { plan = self.commands; inside = self.inside }) what.now }
     {
-        Undoing {
-            work: Work {
-                exp,
-                sending: Sending::new(self.commands),
-                last: self.abort,
-                commit: false,
-                inside: self.inside,
-                why: Some(*what),
-                back: None,
-            },
-        }
+        At::of(Work {
+            exp,
+            sending: Sending::new(self.commands),
+            last: self.abort,
+            commit: false,
+            inside: self.inside,
+            why: Some(*what),
+            back: None,
+        })
     }
 }

@@ -1,11 +1,12 @@
 // A swap with work left.
+use crate::at::At;
 use crate::halt::Halt;
 use crate::sending::Sending;
 use crate::stage::Stage;
 use crate::way_back::WayBack;
 use crate::went::Went;
 use crate::write::write;
-use crate::{Booting, Cabling, Clearing, Ended, Live, Loading, Ready, Undoing, Undone};
+use crate::{Ended, Live};
 use journal_disk::Journal;
 use journal_rec::Encoded;
 use lab_base::{Name, What};
@@ -13,7 +14,7 @@ use plant::Plant;
 use std::marker::Model;
 
 /// A swap with work left, on its way or on its way back.
-pub(crate) struct Work {
+pub struct Work {
     pub(crate) exp: Name,
     pub(crate) sending: Sending,
     /// The record that ends the swap.
@@ -79,11 +80,11 @@ impl Work {
         ensures { result ≡ state_of self }
     {
         match self.stage() {
-            Stage::Clear => Live::Clearing(Clearing { work: self }),
-            Stage::Cable => Live::Cabling(Cabling { work: self }),
-            Stage::Load => Live::Loading(Loading { work: self }),
-            Stage::Boot => Live::Booting(Booting { work: self }),
-            Stage::Done => Live::Ready(Ready { work: self }),
+            Stage::Clear => Live::Clearing(At::of(self)),
+            Stage::Cable => Live::Cabling(At::of(self)),
+            Stage::Load => Live::Loading(At::of(self)),
+            Stage::Boot => Live::Booting(At::of(self)),
+            Stage::Done => Live::Ready(At::of(self)),
         }
     }
 
@@ -92,9 +93,9 @@ impl Work {
         ensures { result ≡ state_of self }
     {
         if self.stage() == Stage::Done {
-            Live::Undone(Undone { work: self })
+            Live::Undone(At::of(self))
         } else {
-            Live::Undoing(Undoing { work: self })
+            Live::Undoing(At::of(self))
         }
     }
 

@@ -13,7 +13,7 @@ use crate::adding::{add_class, add_link, add_mark, add_node, add_pipe, add_place
 use crate::lines::{class_in, fix_in, link_in, multiplex_in, node_in, pipe_in};
 use crate::so_far::SoFar;
 use lab_base::Kind;
-use line_text::LineFault;
+use line_text::{AddLine, LineFault};
 use std::alloc::Global;
 
 fn add_class_line(so_far: &mut SoFar, alloc: Global, fields: &[&[u8]]) -> Result<(), LineFault>
@@ -139,14 +139,21 @@ fn add_keyed(
     }
 }
 
-/// Adds a line that has fields.
-pub(crate) fn add(so_far: &mut SoFar, alloc: Global, fields: &[&[u8]]) -> Result<(), LineFault>
-    requires { IsReading so_far.old }
-    ensures takes { Takes result so_far.new.wiring (added so_far.old.wiring (views fields.now)) }
-    ensures keeps { OnOk result (IsReading so_far.new) }
-{
-    match fields {
-        [] => Err(LineFault::Kind(Kind::Word)),
-        [keyword, rest @ ..] => add_keyed(so_far, alloc, keyword, rest),
+impl AddLine for SoFar {
+    ghost use Rattle.virt_topo.specs.declared.wiring.Wiring.{Wiring};
+
+    ghost Contents = { Wiring };
+
+    ghost contents = { λ so_far. so_far.wiring };
+
+    ghost added = { λ _. added };
+
+    ghost can_add = { IsReading };
+
+    fn add(&mut self, alloc: Global, fields: &[&[u8]]) -> Result<(), LineFault> {
+        match fields {
+            [] => Err(LineFault::Kind(Kind::Word)),
+            [keyword, rest @ ..] => add_keyed(self, alloc, keyword, rest),
+        }
     }
 }

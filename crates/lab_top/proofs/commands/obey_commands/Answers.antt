@@ -1,4 +1,4 @@
-use Rattle.std.proofs.Common.{List, [], ◌∷◌, ◌++◌, inl, ⊎_elim, refl, sym, subst, ap, ◌∙◌, arith}
+use Rattle.std.proofs.Common.{List, [], ◌∷◌, ◌++◌, inl, refl, sym, subst, ap, ◌∙◌, arith}
 use Rattle.std.specs.Io.KnownBytes.{prepend_known}
 use Rattle.lab_io.specs.Passed.{stand_of}
 use Rattle.lab_io.specs.Taken.{pending_of}
@@ -7,7 +7,7 @@ use Rattle.script_text.specs.declared.command.Command.{Command}
 use Rattle.lab_top.specs.declared.status.Status.TheVariants.{Done, ReadFault, WriteFault, BadScript, Memory, JournalBad}
 use Rattle.lab_top.specs.Pieces.{commands_of}
 use Rattle.lab_top.specs.Readers.{at_start}
-use Rattle.lab_top.proofs.Commanding.{Covers, covers_none, covers_more, first_begun, bad_begun, all_begun, cut_begun, none_begun, one_begun, one_read}
+use Rattle.lab_top.proofs.Commanding.{Covers, covers_none, covers_more, bad_begun, all_begun, cut_begun, wanting_begun, one_read, one_wanting}
 use Rattle.lab_top.proofs.Pieces.{begun_ran, commands-push, going_none, going_ends, going_more, going_cut, going_memory, going_bad}
 use Rattle.lab_top.proofs.Tellings.{took_more}
 use Rattle.lab_top.proofs.commands.obey_commands.Goals as goal
@@ -51,7 +51,7 @@ returns-in-Err-Bad-clause-ran g c =
     let line = c.in-Err-Bad.line in rw c.in-Err-Bad.field-0-is (
       was.0,
       begun_ran _ _ _ _ _ _ _ (BadScript line) was.0 (going_ends _ _ _ _ _ was.0 was.1 (BadScript line) (λ t. tt) (λ runs. runs) (λ all. all) (λ wrote. wrote))
-          (λ bytes is. bad_begun bytes now (commands_of was.0) (was.2 bytes is) line (e.bad inv.ready line refl) new (e.comes inv.ready line refl) (pending_of c.read_command.new.lines) (g.S.Source.left c.read_command.new.source) refl (omega (arith, e.ahead, inv.near))) (λ is. absurd (cc is)),
+          (λ bytes is. bad_begun bytes now (commands_of was.0) (was.2 bytes is) new (e.no_further inv.ready) (pending_of c.read_command.new.lines) (g.S.Source.left c.read_command.new.source) refl (omega (arith, e.ahead, inv.near)) line (e.bad inv.ready line refl)) (λ is. absurd (cc is)),
       λ is. absurd (cc is),
     )
 
@@ -64,15 +64,22 @@ returns-in-Err-ReadFault-clause-ran g c =
     let new = stand_of c.read_command.new.lines (g.S.Source.left c.read_command.new.source) in (
       was.0,
       begun_ran _ _ _ _ _ _ _ ReadFault was.0 (going_ends _ _ _ _ _ was.0 was.1 ReadFault (λ t. tt) (λ runs. runs) (λ all. all) (λ wrote. wrote))
-          (λ bytes is. cut_begun bytes now (commands_of was.0) (was.2 bytes is) new (e.unfinished inv.ready refl) (pending_of c.read_command.new.lines) (g.S.Source.left c.read_command.new.source) refl (e.read inv.ready.0 refl).1) (λ is. absurd (cc is)),
+          (λ bytes is. cut_begun bytes now (commands_of was.0) (was.2 bytes is) new (e.unfinished inv.ready refl) (pending_of c.read_command.new.lines) (g.S.Source.left c.read_command.new.source) refl (omega (arith, e.ahead, inv.near)) (e.read inv.ready.0 refl).1) (λ is. absurd (cc is)),
       λ is. absurd (cc is),
     )
 
 pub returns-in-Err-Memory-clause-ran : goal.returns-in-Err-Memory-clause-ran
 returns-in-Err-Memory-clause-ran g c =
-    let was = c.commands.invariant.going in
+    let inv = c.commands.invariant in
+    let was = inv.going in
+    let e = rw c.in-Err-Memory.field-0-is at c.in-Err-Memory.ensures in
     let now = stand_of c.commands.reader (g.S.Source.left c.commands.source) in
-    (was.0, begun_ran _ _ _ _ _ _ _ Memory was.0 (going_ends _ _ _ _ _ was.0 was.1 Memory (λ t runs. inl was.1.answered) (λ runs. tt) (λ all. inl all) (λ wrote. wrote)) (λ bytes is. first_begun bytes now (commands_of was.0) (was.2 bytes is)) (λ is. absurd (cc is)), λ is. absurd (cc is))
+    let new = stand_of c.read_command.new.lines (g.S.Source.left c.read_command.new.source) in (
+      was.0,
+      begun_ran _ _ _ _ _ _ _ Memory was.0 (going_ends _ _ _ _ _ was.0 was.1 Memory (λ t runs. inl was.1.answered) (λ runs. tt) (λ all. inl all) (λ wrote. wrote))
+          (λ bytes is. wanting_begun bytes now (commands_of was.0) (was.2 bytes is) new (e.no_further inv.ready) (pending_of c.read_command.new.lines) (g.S.Source.left c.read_command.new.source) refl (omega (arith, e.ahead, inv.near))) (λ is. absurd (cc is)),
+      λ is. absurd (cc is),
+    )
 
 pub commands-preserved : goal.commands-preserved
 commands-preserved g c =
@@ -107,7 +114,7 @@ returns-in-Err-WriteFault-clause-ran g c =
     let now = stand_of c.commands.reader (g.S.Source.left c.commands.source) in
     let new = stand_of c.read_command.new.lines (g.S.Source.left c.read_command.new.source) in
     let cut = going_cut _ _ _ _ _ _ _ was.0 was.1 c.in-Ok-Command.command (λ reply. g.T.Teller.takes c.commands.teller reply c.answer_command.new.teller) (a.answered _ was.1.goes_on) in
-    (cut.0, begun_ran _ _ _ _ _ _ _ WriteFault cut.0 cut.2 (λ bytes is. one_read bytes now new (commands_of was.0) (commands_of cut.0) c.in-Ok-Command.command (was.2 bytes is) (e.next inv.ready) cut.1 (pending_of c.read_command.new.lines) (g.S.Source.left c.read_command.new.source) refl (omega (arith, e.ahead, inv.near))) (λ is. absurd (cc is)), λ is. absurd (cc is))
+    (cut.0, begun_ran _ _ _ _ _ _ _ WriteFault cut.0 cut.2 (λ bytes is. one_read bytes now new (commands_of was.0) (commands_of cut.0) c.in-Ok-Command.command (was.2 bytes is) (e.next inv.ready) (pending_of c.read_command.new.lines) (g.S.Source.left c.read_command.new.source) refl (omega (arith, e.ahead, inv.near)) cut.1) (λ is. absurd (cc is)), λ is. absurd (cc is))
 
 pub returns-in-Err-Memory-answer_command-clause-ran : goal.returns-in-Err-Memory-answer_command-clause-ran
 returns-in-Err-Memory-answer_command-clause-ran g c =
@@ -119,8 +126,8 @@ returns-in-Err-Memory-answer_command-clause-ran g c =
     let new = stand_of c.read_command.new.lines (g.S.Source.left c.read_command.new.source) in
     let cut = going_memory _ _ _ _ _ _ _ was.0 was.1 c.in-Ok-Command.command (λ reply. g.T.Teller.takes c.commands.teller reply c.answer_command.new.teller) (a.answered _ was.1.goes_on) in (
       cut.0,
-      begun_ran _ _ _ _ _ _ _ Memory cut.0 cut.2 (λ bytes is. ⊎_elim (λ same. none_begun bytes now (commands_of was.0) (commands_of cut.0) (was.2 bytes is) same)
-          (λ one. one_begun bytes now new (commands_of was.0) (commands_of cut.0) c.in-Ok-Command.command (was.2 bytes is) (e.next inv.ready) one) cut.1) (λ is. absurd (cc is)),
+      begun_ran _ _ _ _ _ _ _ Memory cut.0 cut.2
+          (λ bytes is. one_wanting bytes now new (commands_of was.0) (commands_of cut.0) c.in-Ok-Command.command (was.2 bytes is) (e.next inv.ready) (pending_of c.read_command.new.lines) (g.S.Source.left c.read_command.new.source) refl (omega (arith, e.ahead, inv.near)) cut.1) (λ is. absurd (cc is)),
       λ is. absurd (cc is),
     )
 
@@ -135,4 +142,4 @@ returns-in-Err-JournalBad-clause-ran g c =
     let side = c.in-Err-JournalBad.side in
     let at = c.in-Err-JournalBad.at in
     let cut = going_bad _ _ _ _ _ _ _ was.0 was.1 c.in-Ok-Command.command (λ reply. g.T.Teller.takes c.commands.teller reply c.answer_command.new.teller) side at (a.answered _ was.1.goes_on) in
-    rw c.in-Err-JournalBad.field-0-is (cut.0, begun_ran _ _ _ _ _ _ _ (JournalBad side at) cut.0 cut.2 (λ bytes is. one_read bytes now new (commands_of was.0) (commands_of cut.0) c.in-Ok-Command.command (was.2 bytes is) (e.next inv.ready) cut.1 (pending_of c.read_command.new.lines) (g.S.Source.left c.read_command.new.source) refl (omega (arith, e.ahead, inv.near))) (λ is. absurd (cc is)), λ is. absurd (cc is))
+    rw c.in-Err-JournalBad.field-0-is (cut.0, begun_ran _ _ _ _ _ _ _ (JournalBad side at) cut.0 cut.2 (λ bytes is. one_read bytes now new (commands_of was.0) (commands_of cut.0) c.in-Ok-Command.command (was.2 bytes is) (e.next inv.ready) (pending_of c.read_command.new.lines) (g.S.Source.left c.read_command.new.source) refl (omega (arith, e.ahead, inv.near)) cut.1) (λ is. absurd (cc is)), λ is. absurd (cc is))

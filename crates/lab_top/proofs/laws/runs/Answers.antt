@@ -1,4 +1,4 @@
-use Rattle.journal_runs.proofs.Blank.{nothing_sound}
+use Rattle.swap_turns.proofs.Blank.{nothing_sound}
 use Rattle.lab_state.specs.Texts.{the_texts}
 use Rattle.lab_core.proofs.OuterSteps.{tells_stop}
 use Rattle.lab_top.proofs.Moving.{moves_first}

@@ -2,7 +2,7 @@ use Rattle.std.proofs.Common.{◌≡◌, ℕ, sym, subst, ◌∙◌, arith}
 use Rattle.lab_io.specs.Passed.{stand_of}
 use Rattle.std.proofs.lemmas.Result.{err_from_is_err_and}
 use Rattle.script_text.specs.Taking.{IsBad}
-use Rattle.script_text.proofs.Taken.{none_skipped, skipped_on, begun_on, unknown_bad, skipped_unfinished, ended_skipped, comes_no_further, comes_on, comes_past}
+use Rattle.script_text.proofs.Taken.{none_skipped, skipped_on, begun_on, unknown_bad, skipped_unfinished, ended_skipped, skipped_within, line_within, on_error}
 use Rattle.script_text.proofs.next.find_head.Goals as goal
 
 pub lines-init : goal.lines-init
@@ -18,16 +18,15 @@ pub returns-in_err-take_line-clause-unfinished : goal.returns-in_err-take_line-c
 returns-in_err-take_line-clause-unfinished g c ready is =
     let p = err_from_is_err_and c.from_residual.result c.from_residual.ensures.1 in
     let read = c.in_err-take_line.ensures.read (c.lines.invariant.fault ready.0) (cc (is, p.1, p.2)) in
-    skipped_unfinished _ _ (stand_of c.take_line.new.lines (g.S.Source.left c.take_line.new.source)) (c.lines.invariant.skipped ready) read.2 read.3
+    skipped_unfinished _ _ (stand_of c.take_line.new.lines (g.S.Source.left c.take_line.new.source)) (c.lines.invariant.skipped ready) read.2 c.in_err-take_line.ensures.err
 
-pub returns-in_err-take_line-clause-comes : goal.returns-in_err-take_line-clause-comes
-returns-in_err-take_line-clause-comes g c ready line is =
-    let p = err_from_is_err_and c.from_residual.result c.from_residual.ensures.1 in
-    let bad = c.in_err-take_line.ensures.bad (c.lines.invariant.fault ready.0) line (cc (is, p.1, p.2)) in
-    let skipped = c.lines.invariant.skipped ready in
-    let at = stand_of c.lines.lines (g.S.Source.left c.lines.source) in
-    let new = stand_of c.take_line.new.lines (g.S.Source.left c.take_line.new.source) in
-    comes_on _ at new skipped.texts line skipped.passed (comes_no_further at new line skipped.passed.ends bad.2 (omega (arith, bad.0)))
+pub returns-in_err-said_in-in-Some-clause-no_further : goal.returns-in_err-said_in-in-Some-clause-no_further
+returns-in_err-said_in-in-Some-clause-no_further g c ready =
+    let some = rw c.in-Some.is at c.in_ok-take_line.ensures.some in
+    on_error c.from_residual-in_err-said_in-in-Some.result (line_within _ _ _ _ (c.lines.invariant.skipped ready) some)
+
+pub returns-in_err-take_line-clause-no_further : goal.returns-in_err-take_line-clause-no_further
+returns-in_err-take_line-clause-no_further g c ready = on_error c.from_residual.result (skipped_within _ _ (stand_of c.take_line.new.lines (g.S.Source.left c.take_line.new.source)) (c.lines.invariant.skipped ready) c.in_err-take_line.ensures.err)
 
 pub returns-in-None-clause-none : goal.returns-in-None-clause-none
 returns-in-None-clause-none g c ready =
@@ -42,11 +41,10 @@ returns-in-Unknown-clause-bad g c ready line is =
     let number : c.lines-in-Unknown.result ≡ line = cc is in
     subst (λ (n : ℕ). IsBad (stand_of c.args.lines.now (g.S.Source.left c.args.source.now)) n) (sym c.lines-in-Unknown.ensures ∙ number) (unknown_bad _ _ _ _ (c.lines.invariant.skipped ready) some said)
 
-pub returns-in-Unknown-clause-comes : goal.returns-in-Unknown-clause-comes
-returns-in-Unknown-clause-comes g c ready line is =
+pub returns-in-Unknown-clause-no_further : goal.returns-in-Unknown-clause-no_further
+returns-in-Unknown-clause-no_further g c ready =
     let some = rw c.in-Some.is at c.in_ok-take_line.ensures.some in
-    let number : c.lines-in-Unknown.result ≡ line = cc is in
-    comes_past _ _ _ _ (c.lines.invariant.skipped ready) some line (omega (arith, number, c.lines-in-Unknown.ensures))
+    line_within _ _ _ _ (c.lines.invariant.skipped ready) some
 
 pub returns-in-Begins-clause-some : goal.returns-in-Begins-clause-some
 returns-in-Begins-clause-some g c ready =

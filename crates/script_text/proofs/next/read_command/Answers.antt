@@ -1,16 +1,21 @@
 use Rattle.std.proofs.lemmas.Result.{err_from_is_err_and}
 use Rattle.lab_io.specs.Passed.{stand_of}
-use Rattle.script_text.proofs.Taken.{comes_on}
-use Rattle.script_text.proofs.Wholes.{command_next, end_next, half_unfinished}
+use Rattle.script_text.proofs.Taken.{on_error}
+use Rattle.script_text.proofs.Wholes.{command_next, end_next, begun_bad, half_unfinished, begun_no_further}
 use Rattle.script_text.proofs.next.read_command.Goals as goal
 
-pub returns-in_err-command-in-Some-clause-comes : goal.returns-in_err-command-in-Some-clause-comes
-returns-in_err-command-in-Some-clause-comes g c ready line is =
+pub returns-in_err-command-in-Some-clause-bad : goal.returns-in_err-command-in-Some-clause-bad
+returns-in_err-command-in-Some-clause-bad g c ready line is =
     let p = err_from_is_err_and c.from_residual-in_err-command-in-Some.result c.from_residual-in_err-command-in-Some.ensures.1 in
     let begun = rw c.in-Some.is at c.in_ok-find_head.ensures.some ready in
     let at = stand_of c.find_head.new.lines (g.S.Source.left c.find_head.new.source) in
+    begun_bad _ at c.in-Some.head line begun (c.in_err-command-in-Some.ensures.bad (c.in_ok-find_head.ensures.ok, begun.passed.ends) line (cc (is, p.1, p.2)))
+
+pub returns-in_err-command-in-Some-clause-no_further : goal.returns-in_err-command-in-Some-clause-no_further
+returns-in_err-command-in-Some-clause-no_further g c ready =
+    let begun = rw c.in-Some.is at c.in_ok-find_head.ensures.some ready in
     let new = stand_of c.with_blocks.new.lines (g.S.Source.left c.with_blocks.new.source) in
-    comes_on _ at new begun.texts line begun.passed (c.in_err-command-in-Some.ensures.comes (c.in_ok-find_head.ensures.ok, begun.passed.ends) line (cc (is, p.1, p.2)))
+    on_error c.from_residual-in_err-command-in-Some.result (begun_no_further _ _ new c.in-Some.head begun (c.in_err-command-in-Some.ensures.no_further (c.in_ok-find_head.ensures.ok, begun.passed.ends)))
 
 pub returns-in_err-command-in-Some-clause-unfinished : goal.returns-in_err-command-in-Some-clause-unfinished
 returns-in_err-command-in-Some-clause-unfinished g c ready is =

@@ -1,10 +1,9 @@
-use Rattle.std.proofs.Common.{◌≡◌, ℕ, ◌+◌, List, [], ◌++◌, sym, ap, subst, ◌∙◌, arith}
-use Rattle.std.proofs.lemmas.Result.{err_from_is_err_and}
+use Rattle.std.proofs.Common.{ℕ, List, [], ◌++◌, sym, ap, subst, ◌∙◌, arith}
 use Rattle.lab_io.specs.Passed.{stand_of}
 use Rattle.script_text.specs.Taking.{Blocked}
 use Rattle.script_text.specs.Blocks.{IsBlock}
-use Rattle.script_text.proofs.Blocks.{none_blocked, blocked_on, none_block, block_on}
-use Rattle.script_text.proofs.Taken.{comes_here, comes_no_further, comes_on}
+use Rattle.script_text.proofs.Blocks.{none_blocked, blocked_on, none_block, block_on, no_longer, one_longer}
+use Rattle.script_text.proofs.Taken.{on_error}
 use Rattle.script_text.proofs.next.take_block.Goals as goal
 
 pub loop-number-init : goal.loop-number-init
@@ -18,23 +17,26 @@ loop-number-init g c =
       taken = omega arith;
     }
 
-pub returns-in_err-take_line-clause-comes : goal.returns-in_err-take_line-clause-comes
-returns-in_err-take_line-clause-comes g c ready line is =
-    let p = err_from_is_err_and c.from_residual.result c.from_residual.ensures.1 in
-    let bad = c.in_err-take_line.ensures.bad (c.loop-number.invariant.fault ready.0) line (cc (is, p.1, p.2)) in
+pub returns-in_err-take_line-clause-no_longer : goal.returns-in_err-take_line-clause-no_longer
+returns-in_err-take_line-clause-no_longer g c ready =
     let block = c.loop-number.invariant.block ready in
-    let at = stand_of c.loop-number.lines (g.S.Source.left c.loop-number.source) in
-    let new = stand_of c.take_line.new.lines (g.S.Source.left c.take_line.new.source) in
-    comes_on _ at new block.texts line block.passed (comes_no_further at new line block.passed.ends bad.2 (omega (arith, bad.0)))
+    on_error c.from_residual.result (no_longer _ _ (stand_of c.take_line.new.lines (g.S.Source.left c.take_line.new.source)) c.loop-number._number c.args.count c.loop-number.block block (omega arith) c.in_err-take_line.ensures.err)
 
-pub returns-in-None-clause-comes : goal.returns-in-None-clause-comes
-returns-in-None-clause-comes g c ready line is =
+pub returns-in-None-clause-no_longer : goal.returns-in-None-clause-no_longer
+returns-in-None-clause-no_longer g c ready =
     let block = c.loop-number.invariant.block ready in
-    let at = stand_of c.loop-number.lines (g.S.Source.left c.loop-number.source) in
-    let new = stand_of c.take_line.new.lines (g.S.Source.left c.take_line.new.source) in
     let none = rw c.in-None.is at c.in_ok-take_line.ensures.none (c.loop-number.invariant.fault ready.0, block.passed.ends) in
-    let number : c.lines-in-None.result + 1 ≡ line = cc is in
-    comes_on _ at new block.texts line block.passed (comes_here at new [] line none.0 (omega (arith, number, c.lines-in-None.ensures)))
+    one_longer _ _ _ c.loop-number._number c.args.count c.loop-number.block [] block none.0 (omega arith)
+
+pub returns-in_err-push_bytes-in-Some-clause-no_longer : goal.returns-in_err-push_bytes-in-Some-clause-no_longer
+returns-in_err-push_bytes-in-Some-clause-no_longer g c ready =
+    let some = rw c.in-Some.is at c.in_ok-take_line.ensures.some in
+    on_error c.from_residual-in_err-push_bytes-in-Some.result (one_longer _ _ _ c.loop-number._number c.args.count c.loop-number.block _ (c.loop-number.invariant.block ready) some (omega arith))
+
+pub returns-in_err-push-in-Some-clause-no_longer : goal.returns-in_err-push-in-Some-clause-no_longer
+returns-in_err-push-in-Some-clause-no_longer g c ready =
+    let some = rw c.in-Some.is at c.in_ok-take_line.ensures.some in
+    on_error c.from_residual-in_err-push-in-Some.result (one_longer _ _ _ c.loop-number._number c.args.count c.loop-number.block _ (c.loop-number.invariant.block ready) some (omega arith))
 
 pub loop-number-preserved : goal.loop-number-preserved
 loop-number-preserved g c =

@@ -35,4 +35,4 @@ pub returns-in-Err-TooLong-clause-bad : goal.returns-in-Err-TooLong-clause-bad
 returns-in-Err-TooLong-clause-bad g c no_fault line is =
     let long = c.next.ensures.long line (cc (c.in-Err-TooLong.is, c.in-Err-TooLong.field-0-is, is)) no_fault in
     let within : taken_of c.args.lines.now ≤ 2 ^ 32 = subst (λ n. n ≤ 2 ^ 32) c.in-Err-TooLong.ensures.uncounted.1 c.next.ensures.within in
-    (long.0, long_none (stand_of c.args.lines.now (g.S.Source.left c.args.source.now)) within long.2, c.in-Err-TooLong.ensures.err)
+    (long.0, long_none (stand_of c.args.lines.now (g.S.Source.left c.args.source.now)) within long.2)

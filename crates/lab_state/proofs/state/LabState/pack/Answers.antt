@@ -1,7 +1,7 @@
 use Rattle.std.proofs.Common.{[], ◌∷◌, Option, sym, subst}
 use Rattle.std.specs.List.{flat_map}
 use Rattle.journal_rec.specs.declared.record.Record.TheVariants.{Lab}
-use Rattle.journal_packed.specs.Packing.{ArePacked}
+use Rattle.journal_rec.specs.Packing.{ArePacked}
 use Rattle.lab_state.specs.declared.claimed_lab.ClaimedLab.{ClaimedLab}
 use Rattle.lab_state.specs.Kept.{IsKept, state_of}
 use Rattle.lab_state.specs.Packing.{packed_one, packed_of}

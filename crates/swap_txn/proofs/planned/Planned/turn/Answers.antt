@@ -24,7 +24,7 @@ returns-in-Ok-clause-stands g c =
     written_stands c.args.self begun r.0 _ _ _ _ w.0 (Next begun) w.1 is c.requires.stands
 
 pub returns-in-Ok-clause-facts : goal.returns-in-Ok-clause-facts
-returns-in-Ok-clause-facts g c = begun_starts c.self.inside.work c.self.invariant.0 (g.P.Plant.seen c.write.new.plant).told
+returns-in-Ok-clause-facts g c = rw c.of.ensures (begun_starts c.self.inside.work c.self.invariant.0 (g.P.Plant.seen c.write.new.plant).told)
 
 pub returns-in-Err-Trouble-clause-stopped : goal.returns-in-Err-Trouble-clause-stopped
 returns-in-Err-Trouble-clause-stopped g c =
