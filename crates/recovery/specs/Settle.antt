@@ -56,19 +56,6 @@ pub record SettledTo (t : Texts) (s : LabState) (busy : List (List ℕ)) (before
   pub counts : Counts settled outcomes
   pub few : length outcomes ≤ n
 
--- after the next experiment
-abbrev pub AfterNext : Texts → LabState → List (List ℕ) → Seen → Seen → Journal → ℕ → LabState → Result Settled SettleFault → Type 0
-AfterNext t s busy before now j n after (Ok settled) = SettledTo t s busy before now j (n + 1) after settled
-AfterNext t s busy before now j n after (Err fault) = AfterAll t s busy before now j after (Err fault)
-
--- since some moment, in some lab, so far
-pub record IsSettlingSome (t : Texts) (busy : List (List ℕ)) (now : Seen) (j : Journal) (n : ℕ) (mid : LabState) (settled : Settled) : Type 0 where
-  pub lab : LabState
-  pub before : Seen
-  pub within : n + 1 ≤ length lab.experiments
-  pub few : length lab.experiments ≤ 256
-  pub is : SettledTo t lab busy before now j n mid settled
-
 -- counts one more
 abbrev pub CountedBy : Settled → One → Settled → Type 0
 CountedBy was (one.Stuck what) result = result ≡ record { done = was.done; stuck = was.stuck + 1 }

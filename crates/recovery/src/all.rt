@@ -1,14 +1,13 @@
 // The settling of all experiments that move.
-ghost use Rattle.std.specs.Prelude.{◌≡◌, ◌≤◌, ◌<◌, ◌+◌, ◌^◌, ◌↔◌, length, slice_get, IfSome, IsErrOf, IsTrue, false};
+ghost use Rattle.std.specs.Prelude.{◌≡◌, ◌≤◌, ◌<◌, ◌^◌, ◌↔◌, length, slice_get, IfSome, IsErrOf, IsTrue, false};
 ghost use Rattle.journal_disk.specs.Standing.{limit_of};
-ghost use Rattle.records_model.specs.Labs.{LabState as AnyLabState};
 ghost use Rattle.plant.specs.Seen.{Seen};
 ghost use Rattle.lab_state.specs.Texts.{the_texts};
 ghost use Rattle.swap_txn.specs.Steps.{live_of};
 ghost use Rattle.swap_turns.specs.Causes.{IsLater};
 ghost use Rattle.swap_turns.specs.Running.{AtWork};
 ghost use Rattle.recovery.specs.Due.{due, due_in, name_of};
-ghost use Rattle.recovery.specs.Settle.{CountedBy, SettledTo, IsSettlingSome, AfterNext, AfterAll};
+ghost use Rattle.recovery.specs.Settle.{CountedBy, AfterAll};
 
 use crate::{One, SettleFault, settle_one};
 use journal_disk::Journal;
@@ -78,31 +77,6 @@ fn counted(settled: Settled, one: &One) -> Settled
     }
 }
 
-/// Settles the experiment of that number, if it moves and isn't busy.
-fn settle_next<P: Plant>(
-    alloc: Global,
-    state: &mut LabState,
-    busy: &[Name],
-    n: u16,
-    settled: Settled,
-    journal: &mut Journal,
-    plant: &mut P,
-) -> Result<Settled, SettleFault>
-    requires { IsSettlingSome the_texts busy.now (P.seen plant.old) journal.old n state.old.state settled }
-    ensures after { (s : AnyLabState) (before : Seen) → n + 1 ≤ length s.experiments
-        → SettledTo the_texts s busy.now before (P.seen plant.old) journal.old n state.old.state settled
-        → AfterNext the_texts s busy.now before (P.seen plant.new) journal.new n state.new.state result }
-    ensures stopped { (P.seen plant.old).stopped ≡ false → (IsErrOf result SettleFault.Stopped ↔ IsTrue (P.seen plant.new).stopped) }
-    ensures limit { limit_of journal.new ≡ limit_of journal.old }
-    ensures live { live_of journal.new ≡ live_of journal.old }
-{
-    let Some(exp) = due_at(state, busy, n) else {
-        return Ok(settled);
-    };
-    let one = settle_one(alloc, state, exp, journal, plant)?;
-    Ok(counted(settled, &one))
-}
-
 /// Settles all experiments that move, but the busy ones, in order of creation.
 ///
 /// One whose course is cut still moves, and the others go on. A failed call of the journal, a stop, or want of memory between two of them breaks it
@@ -126,7 +100,11 @@ pub fn settle<P: Plant>(
     let mut settled = Settled { done: 0, stuck: 0 };
     let count = state.len() as u16;
     for n in 0..count {
-        settled = settle_next(alloc, state, busy, n, settled, journal, plant)?;
+        let Some(exp) = due_at(state, busy, n) else {
+            continue;
+        };
+        let one = settle_one(alloc, state, exp, journal, plant)?;
+        settled = counted(settled, &one);
     }
     Ok(settled)
 }

@@ -1,8 +1,9 @@
-use Rattle.std.proofs.Common.{Err, refl, ◌∙◌, arith}
+use Rattle.std.proofs.Common.{◌≤◌, Err, refl, sym, ap, ◌∙◌, length, subst, arith}
 use Rattle.std.proofs.lemmas.Result.{err_from_is_err_and}
 use Rattle.lab_base.proofs.Tests.{no_error}
 use Rattle.lab_state.specs.Texts.{the_texts}
-use Rattle.recovery.proofs.Stepping.{none_settled, later_all}
+use Rattle.recovery.proofs.Due.{due_some}
+use Rattle.recovery.proofs.Stepping.{none_settled, skipped, stepped, stepped_off, moves_now, later_all}
 use Rattle.recovery.proofs.all.settle.Goals as goal
 
 pub loop-n-init : goal.loop-n-init
@@ -14,21 +15,51 @@ loop-n-init g c = record {
   same_live = refl;
 }
 
+pub loop-n-preserved-in_default : goal.loop-n-preserved-in_default
+loop-n-preserved-in_default g c =
+    let v = c.loop-n.invariant in
+    record {
+      so_far = skipped the_texts c.args.state.now.state c.args.busy.now _ _ _ _ _ _ v.so_far (omega (arith, c.loop-n-test.true, v.count_is)) (sym c.in_default.is ∙ c.due_at.ensures.due);
+      count_is = v.count_is;
+      runs = v.runs;
+      same_limit = v.same_limit;
+      same_live = v.same_live;
+    }
+
+pub settle_one-requires-clause-moves : goal.settle_one-requires-clause-moves
+settle_one-requires-clause-moves g c =
+    let d = due_some c.args.busy.now _ c.in-Some.exp c.in-Some.ensures.due in
+    let work = c.loop-n.invariant.so_far.has.work in
+    record {
+      swap = d.1;
+      name = sym d.4;
+      moves = moves_now _ _ c.args.busy.now d.0 d.1 work.sane.names work.swaps d.2 d.3 (subst (λ m. length m ≤ 32) d.4 c.in-Some.ensures.short);
+    }
+
 pub loop-n-preserved : goal.loop-n-preserved
-loop-n-preserved g c = record {
-  so_far = c.in_ok-settled.ensures.after c.args.state.now.state _ (omega (arith, c.loop-n-test.true, c.loop-n.invariant.count_is)) c.loop-n.invariant.so_far;
-  count_is = c.loop-n.invariant.count_is;
-  runs = λ running. no_error c.in_ok-settled.settled _ (g.P.Plant.seen c.settle_next.new.plant).stopped (c.in_ok-settled.ensures.stopped (c.loop-n.invariant.runs running));
-  same_limit = c.in_ok-settled.ensures.limit ∙ c.loop-n.invariant.same_limit;
-  same_live = c.in_ok-settled.ensures.live ∙ c.loop-n.invariant.same_live;
-}
+loop-n-preserved g c =
+    let v = c.loop-n.invariant in
+    let d = due_some c.args.busy.now _ c.in-Some.exp c.in-Some.ensures.due in
+    let work = v.so_far.has.work in
+    let moves = moves_now _ _ c.args.busy.now d.0 d.1 work.sane.names work.swaps d.2 d.3 (subst (λ m. length m ≤ 32) d.4 c.in-Some.ensures.short) in
+    record {
+      so_far = stepped the_texts c.args.state.now.state c.args.busy.now _ _ _ _ _ _ v.so_far (omega (arith, c.loop-n-test.true, v.count_is)) _ _ _ d.0 d.1 d.2 d.3
+          c.in_ok-one.one c.counted-settled.result (c.in_ok-one.ensures.over d.1 (sym d.4) moves) c.counted-settled.ensures;
+      count_is = v.count_is;
+      runs = λ running. no_error c.in_ok-one.one _ (g.P.Plant.seen c.settle_one.new.plant).stopped (c.in_ok-one.ensures.stopped (v.runs running));
+      same_limit = c.in_ok-one.ensures.limit ∙ v.same_limit;
+      same_live = c.in_ok-one.ensures.live ∙ v.same_live;
+    }
 
-pub returns-in_err-settled-clause-after : goal.returns-in_err-settled-clause-after
-returns-in_err-settled-clause-after g c =
+pub returns-in_err-one-clause-after : goal.returns-in_err-one-clause-after
+returns-in_err-one-clause-after g c =
+    let v = c.loop-n.invariant in
+    let d = due_some c.args.busy.now _ c.in-Some.exp c.in-Some.ensures.due in
+    let work = v.so_far.has.work in
+    let moves = moves_now _ _ c.args.busy.now d.0 d.1 work.sane.names work.swaps d.2 d.3 (subst (λ m. length m ≤ 32) d.4 c.in-Some.ensures.short) in
     let p = err_from_is_err_and c.from_residual.result c.from_residual.ensures.1 in
-    rw (p.1, p.2) (c.in_err-settled.ensures.after c.args.state.now.state _ (omega (arith, c.loop-n-test.true, c.loop-n.invariant.count_is)) c.loop-n.invariant.so_far)
+    rw (p.1, p.2) (stepped_off the_texts c.args.state.now.state c.args.busy.now _ _ _ _ _ _ v.so_far (omega (arith, c.loop-n-test.true, v.count_is)) _ _ _ d.0 d.1 d.2 d.3
+    c.in_err-one.field-0.0 (c.in_err-one.ensures.over d.1 (sym d.4) moves) (λ is. (let m = c.in_err-one.ensures.memory (ap (λ e. Err e) is) in (m.0, m.1, ap (λ x. g.P.Plant.seen x) m.2))))
 
-pub returns-in_err-settled-clause-later : goal.returns-in_err-settled-clause-later
-returns-in_err-settled-clause-later g c =
-    later_all the_texts c.args.state.now.state c.args.busy.now (g.P.Plant.seen c.args.plant.now) (g.P.Plant.seen c.settle_next.new.plant) c.settle_next.new.journal c.settle_next.new.state.state (Err c.in_err-settled.field-0.0)
-    (c.in_err-settled.ensures.after c.args.state.now.state _ (omega (arith, c.loop-n-test.true, c.loop-n.invariant.count_is)) c.loop-n.invariant.so_far)
+pub returns-in_err-one-clause-later : goal.returns-in_err-one-clause-later
+returns-in_err-one-clause-later g c = later_all the_texts c.args.state.now.state c.args.busy.now _ _ _ _ _ (returns-in_err-one-clause-after g c)
