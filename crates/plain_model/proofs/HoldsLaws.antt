@@ -1,5 +1,5 @@
 -- The test of holding says what holding is.
-use Rattle.std.specs.List.{list_all, flat_map}
+use Rattle.std.specs.List.{flat_map}
 use Rattle.std.proofs.Common.{◌≡◌, ◌*◌, inl, inr, ℕ, ◌<◌, ◌≤◌, Bool, true, false, not, is_none, Option, Some, None, List, [], ◌∷◌, length, refl, sym, ap, ◌∙◌, subst, arith}
 use Rattle.std.proofs.lemmas.List.{get_or-replicate}
 use Rattle.std.proofs.lemmas.Bool.{cases_Bool, and_parts, and_from, or_cases, or_left, or_right, not-true, not_from_false, both_ways, eqb-true, eq-eqb, leb-true, le-leb, ltb-true, lt-ltb}

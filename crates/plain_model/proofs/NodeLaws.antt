@@ -1,5 +1,4 @@
 -- The tests of nodes and pipes say what a node holds.
-use Rattle.std.specs.List.{list_all}
 use Rattle.std.specs.Str.{bytes_eq}
 use Rattle.std.proofs.Common.{◌≡◌, inl, inr, ℕ, zero, suc, ◌≤◌, Bool, true, false, not, ◌||◌, Option, Some, None, List, [], ◌∷◌, length, refl, sym, ap, ◌∙◌, subst, arith}
 use Rattle.std.proofs.lemmas.Bool.{and_parts, and_from, or_cases, or_left, or_right, not-true, both_ways, cases_order, eq-eqb}
@@ -20,6 +19,7 @@ use Rattle.lab_model.specs.Cabled.{SameNode}
 use Rattle.lab_model.proofs.Begins.{same_os-true}
 use Rattle.lab_model.proofs.Kept.{same_pipe-true}
 use Rattle.plain_model.specs.declared.world.Sent.{Sent}
+use Rattle.plain_model.specs.Holds.{all_pass}
 use Rattle.plain_model.specs.Rows.{node_sent}
 use Rattle.plain_model.specs.Cabling.{is_state, state_of, same_some, os_left, boot_left, pipe_left, is_pipe, is_of_one, is_set_of, are_sets_of, held, is_node}
 use Rattle.plain_model.proofs.HoldsLaws.{pass_from, pass_test}
@@ -120,22 +120,31 @@ module _ (commands : List Sent) (name : List ℕ) where
   -- THE NODE HAS exactly that OS, that state and these pipes
   module _ (os : Option (List ℕ)) (up : Bool) (pipes : List PipeRow) where
     left_all : (k : ℕ) (o : Option PipeRow) → pipe_left commands name k ≡ o → is_node commands name os up pipes ≡ true → pipe_left commands name k ≡ slice_get pipes k
-    left_all k (Some row) is t = is ∙ one_is pipes k row (sets_from pipes pipes (and_parts _ _ (and_parts _ _ (and_parts _ _ t).1).1).1 k row is)
+    left_all k (Some row) is t =
+        let a = and_parts (same_os (os_left commands name) os) _ t in
+        let b = and_parts (is_state (boot_left commands name) up) _ a.1 in
+        let c = and_parts (all_pass (length pipes) (is_pipe commands name pipes)) _ b.1 in
+        is ∙ one_is pipes k row (sets_from pipes pipes c.1 k row is)
     left_all k None is t = elim (cases_order k (length pipes)) [
       | inl same ↦ is ∙ sym (past_end pipes k (omega (arith, same)))
       | inr apart ↦ elim apart [
-        | inl lt ↦ some_are _ _ (pass_from (length pipes) (is_pipe commands name pipes) (and_parts _ _ (and_parts _ _ (and_parts _ _ t).1).1).0 k lt)
+        | inl lt ↦
+            let a = and_parts (same_os (os_left commands name) os) _ t in
+            let b = and_parts (is_state (boot_left commands name) up) _ a.1 in
+            let c = and_parts (all_pass (length pipes) (is_pipe commands name pipes)) _ b.1 in
+            some_are _ _ (pass_from (length pipes) (is_pipe commands name pipes) c.0 k lt)
         | inr gt ↦ is ∙ sym (past_end pipes k (omega (arith, gt)))
       ]
     ]
 
     pub node_from : is_node commands name os up pipes ≡ true → SameNode (node_sent commands name) (held os up pipes)
     node_from t =
-        let a = and_parts _ _ t in
+        let a = and_parts (same_os (os_left commands name) os) _ t in
+        let b = and_parts (is_state (boot_left commands name) up) _ a.1 in
         record {
           os = os_told name commands ∙ same_os-true _ _ a.0;
           pipes = λ k. pipe_told name k commands ∙ left_all k (pipe_left commands name k) refl t;
-          boot = boot_told name commands ∙ state_is _ up (and_parts _ _ a.1).0;
+          boot = boot_told name commands ∙ state_is _ up b.0;
         }
 
     pub node_test : SameNode (node_sent commands name) (held os up pipes) → is_node commands name os up pipes ≡ true

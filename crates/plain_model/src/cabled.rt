@@ -1,6 +1,7 @@
 // Whether rows and nodes are as the claimed mappings want them.
-ghost use Rattle.std.specs.Prelude.{◌≡◌, ◌<◌, true, length, IfOk, IsTrue, ◌↔◌};
+ghost use Rattle.std.specs.Prelude.{◌≡◌, ◌<◌, ◌&&◌, true, length, is_none, IfOk, IsTrue, ◌↔◌};
 ghost use Rattle.std.specs.List.{list_all};
+ghost use Rattle.lab_model.specs.Wants.{node_name};
 ghost use Rattle.lab_model.specs.Cabled.{Cabled};
 ghost use Rattle.lab_model.specs.Beside.{is_claimed};
 ghost use Rattle.lab_model.specs.Courses.{op_node};
@@ -28,6 +29,13 @@ fn is_right(commands: &[Sent], name: &[u8], wants: &NodeWants) -> bool
     wants.os.is_none() || is_node(commands, name, wants.os, true, &wants.pipes)
 }
 
+/// Whether a node is claimed neither before a move nor then.
+fn is_unclaimed(before: &NodeWants, after: &NodeWants) -> bool
+    ensures { result ≡ (is_none before.now.os && is_none after.now.os) }
+{
+    before.os.is_none() && after.os.is_none()
+}
+
 /// Whether a node is as a move may leave it. One that stays is exactly as wanted. Each pipe of another one that is claimed is wanted before or then.
 fn is_moving_right(commands: &[Sent], name: &[u8], before: &NodeWants, after: &NodeWants) -> bool
     ensures { result
@@ -36,9 +44,16 @@ fn is_moving_right(commands: &[Sent], name: &[u8], before: &NodeWants, after: &N
     if stays(before, after) {
         is_node(commands, name, after.os, true, &after.pipes)
     } else {
-        (before.os.is_none() && after.os.is_none())
+        is_unclaimed(before, after)
             || are_sets_of(commands, name, &before.pipes, &after.pipes, commands)
     }
+}
+
+fn name_at(lab: &Lab, node: NodeId) -> Name
+    requires { node.0 < length lab.now.nodes }
+    ensures { result ≡ node_name lab.now node }
+{
+    lab.nodes()[node.0 as usize].name
 }
 
 /// Whether a node is as the phase of an experiment wants it.
@@ -53,7 +68,7 @@ fn is_right_at(
     requires node { node.0 < length lab.now.nodes }
     ensures { IfOk result (λ right. right ≡ is_right_at commands.now lab.now experiment.now node.0) }
 {
-    let name = lab.nodes()[node.0 as usize].name;
+    let name = name_at(lab, node);
     match &experiment.phase {
         Phase::Out => Ok(true),
         Phase::In { mapping, .. } => {

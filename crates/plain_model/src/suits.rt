@@ -1,5 +1,5 @@
 // Whether a mapping suits a lab.
-ghost use Rattle.std.specs.Prelude.{◌≡◌, ◌<◌, ◌==◌, length, IfOk};
+ghost use Rattle.std.specs.Prelude.{◌≡◌, ◌==◌, length, IfOk};
 ghost use Rattle.std.specs.List.{list_all};
 ghost use Rattle.virt_topo.specs.Ends.{end_nodes};
 ghost use Rattle.virt_topo.specs.Soundness.{IsSound};
@@ -24,21 +24,26 @@ fn is_sound(wiring: &Wiring) -> bool
     }
 }
 
-fn has_type(lab: &Lab, node: NodeId, name: Name) -> bool
-    requires { node.0 < length lab.now.nodes }
-    ensures { result ≡ has_name (node_at lab.now node).types name }
+/// The types of a node, none where there is no such node.
+fn types_of(lab: &Lab, node: NodeId) -> &[(Name, u16)]
+    ensures { result.now ≡ (node_at lab.now node).types }
 {
-    lab.nodes()[node.0 as usize]
-        .types
-        .as_slice()
-        .iter()
-        .any(|kind| kind.0 == name)
+    match lab.nodes().get(node.0 as usize) {
+        Some(node) => node.types.as_slice(),
+        None => &[],
+    }
+}
+
+fn has_type(types: &[(Name, u16)], name: Name) -> bool
+    ensures { result ≡ has_name types.now name }
+{
+    types.iter().any(|kind| kind.0 == name)
 }
 
 fn is_place(lab: &Lab, place: &(NodeId, Name)) -> bool
     ensures { result ≡ is_place lab.now place.now }
 {
-    (place.0.0 as usize) < lab.nodes().len() && has_type(lab, place.0, place.1)
+    (place.0.0 as usize) < lab.nodes().len() && has_type(types_of(lab, place.0), place.1)
 }
 
 fn are_places(lab: &Lab, places: &[(NodeId, Name)]) -> bool
@@ -119,13 +124,16 @@ fn suits(
 ) -> Result<bool, Memory>
     ensures { IfOk result (λ yes. yes ≡ suits lab.now (mapped wiring.now mapping.now tags.now)) }
 {
-    if is_sound(wiring)
-        && (is_shaped(lab, wiring, mapping) && tags.len() == wiring.segments.len())
-    {
-        keeps_rules(alloc, lab, wiring, mapping)
-    } else {
-        Ok(false)
+    if !is_sound(wiring) {
+        return Ok(false);
     }
+    if !is_shaped(lab, wiring, mapping) {
+        return Ok(false);
+    }
+    if tags.len() != wiring.segments.len() {
+        return Ok(false);
+    }
+    keeps_rules(alloc, lab, wiring, mapping)
 }
 
 fn fits_in(alloc: Global, lab: &Lab, mapped: &Option<Mapped>) -> Result<bool, Memory>

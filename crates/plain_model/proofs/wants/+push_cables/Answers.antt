@@ -1,4 +1,4 @@
-use Rattle.std.proofs.Common.{◌≡◌, ◌<◌, ◌≤◌, ℕ, ◌∷◌, ◌++◌, List, All, length, take, drop, sym, subst, ap, arith, length-drop, ◌∙◌}
+use Rattle.std.proofs.Common.{◌≡◌, ◌<◌, ℕ, ◌∷◌, ◌++◌, List, All, length, take, drop, sym, subst, ap, arith, length-drop, ◌∙◌}
 use Rattle.std.proofs.lemmas.List.Elements.{All-take, All-drop}
 use Rattle.lab_base.specs.declared.ids.IfaceId.{IfaceId}
 use Rattle.virt_topo.specs.declared.wiring.Segment.{Segment}
@@ -8,26 +8,27 @@ use Rattle.lab_model.specs.Wants.{owned_rows}
 use Rattle.plain_model.proofs.WantLaws.{on_ok, ends_of, cables_pushed}
 use Rattle.plain_model.proofs.wants.+push_cables.Goals as goal
 
-pub split_at-requires-in-Some-Some : goal.split_at-requires-in-Some-Some
-split_at-requires-in-Some-Some t c =
+pub split_at-requires : goal.split_at-requires
+split_at-requires t c =
     let s = c.in-Some-Some.segment.now in
     let ends : length (end_nodes c.args.segments.now) ≡ length (end_nodes (s ∷ c.in-Some-Some.others.now)) = ap (λ (l : List Segment). length (end_nodes l)) c.in-Some-Some.ensures.cases.0 in
     omega (arith, ends, ends_of s c.in-Some-Some.others.now, c.len.ensures, c.requires.plugged)
 
-pub push_cable-requires-in-Some-Some : goal.push_cable-requires-in-Some-Some
-push_cable-requires-in-Some-Some t c =
+pub push_cable-requires : goal.push_cable-requires
+push_cable-requires t c =
     subst (λ (l : List IfaceId). All (λ i. i.0 < length c.args.lab.now.ifaces) l) (sym c.split_at.ensures.front) (All-take (λ (i : IfaceId). i.0 < length c.args.lab.now.ifaces) c.len.result c.args.plugs.now c.requires.within)
 
-pub push_cables-requires-in-Some-Some-clause-plugged : goal.push_cables-requires-in-Some-Some-clause-plugged
-push_cables-requires-in-Some-Some-clause-plugged t c =
+pub push_cables-requires : goal.push_cables-requires
+push_cables-requires t c =
     let s = c.in-Some-Some.segment.now in
     let ends : length (end_nodes c.args.segments.now) ≡ length (end_nodes (s ∷ c.in-Some-Some.others.now)) = ap (λ (l : List Segment). length (end_nodes l)) c.in-Some-Some.ensures.cases.0 in
-    let back : length c.split_at.result.1.now ≡ length (drop c.len.result c.args.plugs.now) = ap length c.split_at.ensures.back in
-    omega (arith, ends, ends_of s c.in-Some-Some.others.now, c.len.ensures, c.requires.plugged, back, length-drop c.len.result c.args.plugs.now)
-
-pub push_cables-requires-in-Some-Some-clause-within : goal.push_cables-requires-in-Some-Some-clause-within
-push_cables-requires-in-Some-Some-clause-within t c =
-    subst (λ (l : List IfaceId). All (λ i. i.0 < length c.args.lab.now.ifaces) l) (sym c.split_at.ensures.back) (All-drop (λ (i : IfaceId). i.0 < length c.args.lab.now.ifaces) c.len.result c.args.plugs.now c.requires.within)
+    let back : length c.split_at.result.1.now ≡ length (drop c.len.result c.args.plugs.now) = ap length c.split_at.ensures.back in (
+      omega (arith, c.decreases, ap length c.in-Some-Some.ensures.cases.0),
+      (
+        omega (arith, ends, ends_of s c.in-Some-Some.others.now, c.len.ensures, c.requires.plugged, back, length-drop c.len.result c.args.plugs.now),
+        subst (λ (l : List IfaceId). All (λ i. i.0 < length c.args.lab.now.ifaces) l) (sym c.split_at.ensures.back) (All-drop (λ (i : IfaceId). i.0 < length c.args.lab.now.ifaces) c.len.result c.args.plugs.now c.requires.within),
+      ),
+    )
 
 pub returns-in_ok-push_cable-in-Some-Some : goal.returns-in_ok-push_cable-in-Some-Some
 returns-in_ok-push_cable-in-Some-Some t c =
