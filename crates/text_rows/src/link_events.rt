@@ -52,7 +52,10 @@ fn wiring(alloc: Global, pipes: &[&[u8]], count: usize) -> Result<Wiring, Memory
     for pipe in pipes.iter().take(count) {
         text.push_bytes(pipe)?;
     }
-    read(alloc, text.bytes()).map_err(|_refused| Memory)
+    match read(alloc, text.bytes()) {
+        Ok(wiring) => Ok(wiring),
+        Err(_refused) => Err(Memory),
+    }
 }
 
 fn event(at: u64, link: &[u8], what: What, line: u32) -> Result<Event, Memory> {
