@@ -70,14 +70,8 @@ fn reply_to_next<P: Tables>(
     requires works { CanWork (P.seen plant.old) controller.old }
     ensures works { OnOk result (CanWork (P.seen plant.new) controller.new) }
 {
-    match next_of(alloc, lines, script) {
-        Ok(command) => {
-            let reply = obeyed(controller, &command, rule, plant);
-            drop(command);
-            reply
-        }
-        Err(fail) => Err(fail),
-    }
+    let command = next_of(alloc, lines, script)?;
+    obeyed(controller, &command, rule, plant)
 }
 
 /// The reply to the third command of a script.
@@ -92,8 +86,8 @@ fn third_reply<P: Tables>(
 {
     let mut lines = LineReader::new(alloc)?;
     let mut source = MemSource::new(alloc, script, &[])?;
-    drop(reply_to_next(alloc, &mut lines, &mut source, controller, rule, plant)?);
-    drop(reply_to_next(alloc, &mut lines, &mut source, controller, rule, plant)?);
+    let _first = reply_to_next(alloc, &mut lines, &mut source, controller, rule, plant)?;
+    let _second = reply_to_next(alloc, &mut lines, &mut source, controller, rule, plant)?;
     reply_to_next(alloc, &mut lines, &mut source, controller, rule, plant)
 }
 
@@ -106,9 +100,7 @@ fn reply_under(alloc: Global, rule: &StepRule, limit: u64, script: &[u8]) -> Res
     let Ok(mut controller) = Controller::open(alloc, limit, &mut plant) else {
         return Err("an open journal".into());
     };
-    let reply = third_reply(alloc, script, &mut controller, rule, &mut plant);
-    drop(controller);
-    reply
+    third_reply(alloc, script, &mut controller, rule, &mut plant)
 }
 
 /// The reply under that limit, by the rule that serves where none is chosen.
