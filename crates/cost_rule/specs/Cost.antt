@@ -2,6 +2,7 @@
 use Rattle.std.specs.Prelude.{◌+◌, ◌-◌, ◌*◌, ℕ, zero, suc, Bool, not, ◌&&◌, ◌==◌, nat_lt, List, [], ◌∷◌, length, map, sum_by, if◌then◌else◌}
 use Rattle.std.specs.List.{list_any}
 use Rattle.lab_base.specs.Names.{same_name}
+use Rattle.lab_base.specs.declared.ids.NodeId.{NodeId}
 use Rattle.phys_lab.specs.Labs.{Lab}
 use Rattle.virt_topo.specs.declared.wiring.VirtNode.{VirtNode}
 use Rattle.virt_topo.specs.declared.wiring.Wiring.{Wiring}
@@ -33,11 +34,13 @@ missed_weight given p = if nat_lt p.1 1000 && not (has_name given p.0) then p.1 
 abbrev pub missed : List (List ℕ × ℕ) → List (List ℕ × ℕ) → ℕ
 missed wanted given = sum_by (missed_weight given) wanted
 
--- what virtual node v misses of its node, and the features of its node that it doesn't desire
+-- what virtual node v misses of a node, and the features of the node that it doesn't desire
+abbrev pub soft_at : Lab → Wiring → ℕ → NodeId → ℕ
+soft_at lab w v n = missed (virt_at w v).desires (node_at lab n).features + missed (node_at lab n).features (virt_at w v).desires
+
+-- the same of the node that it is on
 abbrev pub node_soft : Lab → Wiring → Mapping → ℕ → ℕ
-node_soft lab w m v =
-    missed (virt_at w v).desires (node_at lab (place_at m v).0).features
-    + missed (node_at lab (place_at m v).0).features (virt_at w v).desires
+node_soft lab w m v = soft_at lab w v (place_at m v).0
 
 -- the types of the members of a class
 abbrev pub types_of : ℕ → List VirtNode → List Place → List (List ℕ)

@@ -11,5 +11,5 @@ mod step;
 pub use costs::is_on;
 pub use parts::{Parts, law_of_parts, parts_of};
 pub use rule::{CostFn, Rule, RuleNumber};
-pub use soft::{MAX_SOFT, class_soft, has_kind, is_member, node_soft};
+pub use soft::{MAX_SOFT, class_soft, has_kind, is_member, node_soft, soft_at};
 pub use step::{PartsFn, StepFn, StepRule};

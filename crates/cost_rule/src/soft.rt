@@ -6,11 +6,11 @@ ghost use Rattle.virt_topo.specs.Soundness.{IsSound};
 ghost use Rattle.virt_topo.specs.Wirings.{virt_at};
 ghost use Rattle.lab_model.specs.Shapes.{IsShaped, has_name};
 ghost use Rattle.lab_model.specs.Rules.{is_member, place_at};
-ghost use Rattle.cost_rule.specs.Cost.{sum_below, missed_weight, missed, node_soft, kinds_of, class_soft, soft};
+ghost use Rattle.cost_rule.specs.Cost.{sum_below, missed_weight, missed, soft_at, node_soft, kinds_of, class_soft, soft};
 ghost use Rattle.cost_rule.specs.Counting.{is_of_kind, types_from};
 
 use crate::at::{node_at, place_at, virt_at};
-use lab_base::Name;
+use lab_base::{Name, NodeId};
 use phys_lab::{Lab, MAX_FEATURES};
 use virt_topo::{
     Asks, MAX_CLASSES, MAX_DESIRES, MAX_SOFT_WEIGHT, MAX_TOPOLOGY_NODES, Mapping, Wiring,
@@ -49,7 +49,22 @@ fn missed(wanted: &[(Name, u32)], given: &[(Name, u32)]) -> u64
     total
 }
 
-/// The unmet weights of a virtual node: its desires that the node doesn't have, and the node's features that it doesn't desire.
+/// The unmet weights of a virtual node on a node: its desires that the node doesn't have, and the node's features that it doesn't desire.
+pub fn soft_at(lab: &Lab, wiring: &Wiring, virt: usize, node: NodeId) -> u64
+    requires sound { IsSound wiring.now }
+    requires virt { virt < length wiring.now.nodes }
+    requires node { node.0 < length lab.now.nodes }
+    ensures sum { result ≡ soft_at lab.now wiring.now virt node }
+    ensures small { result ≤ (MAX_DESIRES + MAX_FEATURES) * MAX_SOFT_WEIGHT }
+{
+    // for the prover: it tells what every lab keeps
+    let _kept = lab.range();
+    let desires = virt_at(wiring, virt).desires.as_slice();
+    let features = node_at(lab, node).features.as_slice();
+    missed(desires, features) + missed(features, desires)
+}
+
+/// The unmet weights of a virtual node on the node that it is on.
 pub fn node_soft(lab: &Lab, wiring: &Wiring, mapping: &Mapping, virt: usize) -> u64
     requires sound { IsSound wiring.now }
     requires shaped { IsShaped lab.now wiring.now mapping.now }
@@ -57,12 +72,7 @@ pub fn node_soft(lab: &Lab, wiring: &Wiring, mapping: &Mapping, virt: usize) -> 
     ensures sum { result ≡ node_soft lab.now wiring.now mapping.now virt }
     ensures small { result ≤ (MAX_DESIRES + MAX_FEATURES) * MAX_SOFT_WEIGHT }
 {
-    // for the prover: it tells what every lab keeps
-    let _kept = lab.range();
-    let place = place_at(mapping, virt);
-    let desires = virt_at(wiring, virt).desires.as_slice();
-    let features = node_at(lab, place.0).features.as_slice();
-    missed(desires, features) + missed(features, desires)
+    soft_at(lab, wiring, virt, place_at(mapping, virt).0)
 }
 
 fn nodes_soft(lab: &Lab, wiring: &Wiring, mapping: &Mapping) -> u64

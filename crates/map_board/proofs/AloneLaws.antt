@@ -36,7 +36,7 @@ same_hosts lab places others (e ∷ es) had here there same =
     later (Some laid) each = each laid
 
 -- what holds of the ends that pass
-passed : (On : End → Type 0) (p : End → Bool) (es : List End) → ((k : ℕ) (d : End) → k < length es → p (get_or es k d) ≡ true → On (get_or es k d)) → All On (filter p es)
+pub passed : (On : End → Type 0) (p : End → Bool) (es : List End) → ((k : ℕ) (d : End) → k < length es → p (get_or es k d) ≡ true → On (get_or es k d)) → All On (filter p es)
 passed On p [] each = λ k d lt. absurd (omega (arith, lt))
 passed On p (e ∷ es) each = by_test (p e) refl (passed On p es (λ k d lt passes. each (suc k) d (omega (arith, lt)) passes))
   where

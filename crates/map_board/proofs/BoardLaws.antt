@@ -109,14 +109,21 @@ guests_few (v ∷ vs) (p ∷ places) n =
     by true is step rest = let one : ◌≡◌ {A = ℕ} (cond (eqb p.0.0 n) 1 0) 1 = ap (λ (b : Bool). cond b 1 0) is in omega (arith, step, rest, one)
     by false is step rest = omega (arith, step, rest)
 
-pub alone_shares : (lab : Lab) (w : Wiring) (m : Mapping) (n : ℕ) → IsLab lab → IsShaped lab w m → n < length lab.nodes → guests_at m.places n ≤ 1 → may_share lab w m.places n ≡ true
-alone_shares lab w m n is shaped lt few =
+-- one virtual node at least may have a type of a node there
+pub counted_at : (lab : Lab) (n : ℕ) (name : List ℕ) → IsLab lab → n < length lab.nodes → has_name (node_at lab (record { 0 = n })).types name ≡ true
+    → 1 ≤ number_of (node_at lab (record { 0 = n })).types name
+counted_at lab n name is lt has =
     let types = (node_at lab (record { 0 = n })).types in
     let whole = is.nodes (node_at lab (record { 0 = n })) (Has-get_or lab.nodes n no_node lt) in
     let ranges = (and_parts _ _ (and_parts _ _ (and_parts _ _ whole.ranges).1).1).0 in
+    counted_type types name ranges has
+
+pub alone_shares : (lab : Lab) (w : Wiring) (m : Mapping) (n : ℕ) → IsLab lab → IsShaped lab w m → n < length lab.nodes → guests_at m.places n ≤ 1 → may_share lab w m.places n ≡ true
+alone_shares lab w m n is shaped lt few =
+    let types = (node_at lab (record { 0 = n })).types in
     one_agrees types (guests w.nodes m.places n) (let count = guests_few w.nodes m.places n in omega (arith, count, few))
     (guests_each (λ (g : Guest). 1 ≤ number_of types g.0) w.nodes m.places n (λ k d os k_lt on.
-    counted_type types (get_or m.places k d).1 ranges
+    counted_at lab n (get_or m.places k d).1 is lt
     (ap (λ (j : ℕ). has_name (node_at lab (record { 0 = j })).types (get_or m.places k d).1) (sym on) ∙ shaped.of_node k d k_lt)))
 
 -- F7 where all switches are joined

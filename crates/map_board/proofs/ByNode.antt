@@ -1,10 +1,10 @@
 -- The interface rule, node by node.
-use Rattle.std.proofs.Common.{◌≡◌, ◌≢◌, ◌<◌, ◌∙◌, ◌∷◌, ◌++◌, [], ℕ, suc, List, length, get_or, filter, Bool, true, false, cond, eqb, ◌==◌, Option, Some, None, All, refl, ap, sym, subst, arith, append_assoc}
-use Rattle.std.specs.Option.{option_map, option_map_or, option_and_then}
+use Rattle.std.proofs.Common.{◌≡◌, ◌≢◌, ◌<◌, ◌∙◌, ◌∷◌, ◌++◌, [], ℕ, suc, List, length, get_or, filter, Bool, true, false, cond, eqb, Some, All, refl, ap, sym, subst, arith, append_assoc}
+use Rattle.std.specs.Option.{option_map}
 use Rattle.std.proofs.lemmas.Bool.{eq-eqb, eqb-true, ne_eqb}
 use Rattle.std.proofs.lemmas.List.{append-nil}
 use Rattle.std.proofs.lemmas.List.Elements.{All-filter}
-use Rattle.std.proofs.lemmas.Option.{option_and_then_some, slice_get-get_or}
+use Rattle.std.proofs.lemmas.Option.{option_and_then_some}
 use Rattle.lab_base.specs.declared.ids.IfaceId.{IfaceId}
 use Rattle.lab_base.specs.declared.ids.NodeId.{NodeId}
 use Rattle.phys_lab.specs.Labs.{Lab}
@@ -14,7 +14,7 @@ use Rattle.lab_model.specs.Uses.{no_iface, iface_at}
 use Rattle.lab_model.specs.Rules.{no_place, Laid, loads_on}
 use Rattle.node_maps.specs.declared.ends.End.{End}
 use Rattle.node_maps.specs.NodeMaps.{load_of, may_take, first_iface, with_plug, laid_from, plugs_in, plugs_from}
-use Rattle.node_maps.proofs.PlugLaws.{adds, laying}
+use Rattle.node_maps.proofs.PlugLaws.{adds, laying, step_is}
 use Rattle.node_maps.proofs.KeptPlugs.{on_push, first_same, may_node}
 use Rattle.map_board.specs.Nodes.{is_on, plugs_where}
 
@@ -42,18 +42,6 @@ agree_one lab n had own x i agree apart = record {
       ∙ ap (λ (b : Bool). loads_on k had ++ cond b (x ∷ []) []) (ne_eqb i.0 k (λ e. apart (ap (λ (j : ℕ). (get_or lab.ifaces j no_iface).node.0) e ∙ on)))
       ∙ append-nil (loads_on k had) ∙ agree.each k lt on;
 }
-
--- an end whose virtual node is placed gets the first interface that it may have
-plug_is : (lab : Lab) (places : List Place) (e : End) (had : List Laid) (i : IfaceId) → e.node < length places
-    → first_iface 0 lab.ifaces had (get_or places e.node no_place).0 (load_of e) ≡ Some i → with_plug lab places e had ≡ Some (had ++ (load_of e, i) ∷ [])
-plug_is lab places e had i placed first =
-    let given : Place → Option (List Laid) = λ q. option_map (λ j. had ++ (load_of e, j) ∷ []) (first_iface 0 lab.ifaces had q.0 (load_of e)) in
-    ap (λ o. option_map_or given o (Some had)) (slice_get-get_or places e.node no_place placed) ∙ ap (option_map (λ j. had ++ (load_of e, j) ∷ [])) first
-
--- the next end, where it gets that plug
-step_is : (lab : Lab) (places : List Place) (e : End) (es : List End) (had : List Laid) (i : IfaceId) → e.node < length places
-    → first_iface 0 lab.ifaces had (get_or places e.node no_place).0 (load_of e) ≡ Some i → laid_from lab places (e ∷ es) had ≡ laid_from lab places es (had ++ (load_of e, i) ∷ [])
-step_is lab places e es had i placed first = ap (λ o. option_and_then (λ laid. laid_from lab places es laid) o) (plug_is lab places e had i placed first)
 
 -- ends with these plugs
 abbrev pub laid_of : List End → List IfaceId → List Laid

@@ -14,3 +14,5 @@ pub mod Alikes
 pub mod SettledLaws
 mod TieLaws
 mod JointLaws
+mod OrderedPlans
+mod SoftRows

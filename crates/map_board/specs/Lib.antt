@@ -1,5 +1,6 @@
 pub mod Nodes
 pub mod Ties
+pub mod Softs
 pub mod Tables
 pub mod Seated
 pub mod Unmade

@@ -11,6 +11,7 @@ use Rattle.node_maps.specs.Mappers.{IsMapper}
 use Rattle.map_board.specs.declared.table.Table.{Table}
 use Rattle.map_board.specs.declared.table.Setting.{Setting}
 use Rattle.map_board.specs.Nodes.{numbers_of, no_row}
+use Rattle.map_board.specs.Softs.{AreSofts}
 use Rattle.map_board.specs.Ties.{AreTies}
 
 -- all switches are joined
@@ -39,6 +40,7 @@ pub record IsTableOf (lab : Lab) (w : Wiring) (x : Table) : Type 0 where
   pub crossings : IsTable lab x.crossings
   pub ties : AreTies w x.ties.items
   pub joined : (x.joined ≡ true) ↔ AreAllJoined lab
+  pub softs : AreSofts lab w x.softs
 
 -- what the node maps are made from, and what their tries look up
 pub record IsSetting (x : Setting) : Type 0 where

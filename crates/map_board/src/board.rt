@@ -5,7 +5,7 @@ ghost use Rattle.node_maps.specs.NodeMaps.{candidates, IsChoice, node_map, plugs
 ghost use Rattle.map_board.specs.Tables.{IsSetting};
 ghost use Rattle.map_board.specs.Boards.{IsLaid, IsBoard, IsPlanned, Was};
 
-use crate::crowd::{number_of, types_at};
+use crate::crowd::is_taken;
 use crate::give::give;
 use crate::remake::{remake, unmake};
 use crate::seats::Seats;
@@ -128,8 +128,11 @@ impl Board {
             → node_map setting.now.mapper.lab.now setting.now.mapper.free.now setting.now.mapper.wiring.now self.now.mapping.places ≡ None }
     {
         let place = self.mapping.places.as_slice()[virt];
-        let types = types_at(setting.mapper.lab, place.0);
-        self.seats.guests[place.0.0 as usize] > number_of(types, place.1)
+        is_taken(
+            setting.mapper.lab,
+            place,
+            self.seats.guests[place.0.0 as usize] - 1,
+        )
     }
 
     /// Whether a virtual node that goes to another of its candidates is one more on a node than may have its type there.
@@ -145,8 +148,12 @@ impl Board {
             ≡ None }
     {
         let from = self.mapping.places.as_slice()[virt].0;
-        let types = types_at(setting.mapper.lab, place.0);
-        from.0 != place.0.0 && self.seats.guests[place.0.0 as usize] >= number_of(types, place.1)
+        from.0 != place.0.0
+            && is_taken(
+                setting.mapper.lab,
+                place,
+                self.seats.guests[place.0.0 as usize],
+            )
     }
 
     /// A virtual node goes to another of its candidates; the plugs stay.
@@ -165,6 +172,7 @@ impl Board {
             alloc,
             mapper.lab,
             mapper.wiring,
+            &setting.table.softs,
             &mut self.mapping,
             virt,
             place,

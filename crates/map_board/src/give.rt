@@ -3,7 +3,7 @@ ghost use Rattle.std.specs.Prelude.{◌≡◌, true, false, ◌<◌, ◌≤◌, 
 ghost use Rattle.lab_model.specs.Shapes.{IsShaped};
 ghost use Rattle.lab_model.specs.Rules.{no_place};
 ghost use Rattle.node_maps.specs.NodeMaps.{plugs_from};
-ghost use Rattle.node_maps.specs.Indexed.{AreOrdered};
+ghost use Rattle.node_maps.specs.Indexed.{AreOrdered, are_in_order, fits};
 ghost use Rattle.map_board.specs.Nodes.{is_on, numbers_of, changes_of, no_end};
 ghost use Rattle.map_board.specs.Tables.{IsSetting};
 ghost use Rattle.map_board.specs.Boards.{IsIdle, IsGiving, IsNoted};
@@ -12,7 +12,7 @@ ghost use Rattle.map_board.specs.Seated.{IsSeated};
 use crate::seats::Seats;
 use crate::table::Setting;
 use lab_base::{IfaceId, Memory, NodeId};
-use node_maps::{End, Given, Place};
+use node_maps::{End, Given, NodeIface, Place};
 use std::alloc::Global;
 use trunk_sums::{Change, EndRow};
 use virt_topo::{MAX_ENDS, Mapping};
@@ -90,6 +90,51 @@ fn note(
     Ok(())
 }
 
+/// Whether an end fits an interface that bears nothing else.
+fn fits(end: End, iface: NodeIface) -> bool
+    ensures { result ≡ fits end iface }
+{
+    !end.multiplexed && end.kbps <= iface.kbps
+}
+
+/// Whether each end of these numbers fits the interface of its own place.
+fn are_in_order(ends: &[End], listed: &[u16], ifaces: &[NodeIface]) -> bool
+    requires { All (λ k. k < length ends.now) listed.now }
+    ensures { result ≡ are_in_order (map (λ k. slice_index_or ends.now k no_end) listed.now) ifaces.now }
+{
+    for number in 0..listed.len() {
+        let Some(iface) = ifaces.get(number) else {
+            return false;
+        };
+        if !fits(ends[listed[number] as usize], *iface) {
+            return false;
+        }
+    }
+    true
+}
+
+/// Notes the interface of its own place for each end of these numbers.
+fn note_in_order(
+    rows: &[EndRow],
+    listed: &[u16],
+    ifaces: &[NodeIface],
+    changes: &mut Vec<Change>,
+) -> Result<(), Memory>
+    requires few { length listed.now ≤ length ifaces.now }
+    requires within { All (λ k. k < length rows.now) listed.now }
+    ensures { OnOk result (changes.new.items ≡ changes.old.items ++ changes_of rows.now listed.now (map (λ x. x.id) ifaces.now)) }
+{
+    for number in 0..listed.len() {
+        let end = listed[number];
+        changes.push(Change {
+            end,
+            row: rows[end as usize],
+            to: ifaces[number].id,
+        })?;
+    }
+    Ok(())
+}
+
 /// Gives the ends of these numbers, which are those on a node, their interfaces, and notes them; false where some end gets
 /// none.
 fn serve_noted(
@@ -118,7 +163,7 @@ fn serve_noted(
     Ok(true)
 }
 
-/// Gives the listed ends their interfaces, and then forgets which were given.
+/// Gives the listed ends their interfaces, each that of its own place where they all fit these. Else it then forgets which were given.
 fn give_listed(
     alloc: Global,
     setting: &Setting,
@@ -138,6 +183,11 @@ fn give_listed(
     ensures none { IfOk result (λ yes. yes ≡ false
         → plugs_from setting.now.mapper.lab.now places.now (filter (is_on places.now node.0) setting.now.mapper.ends.now) ≡ None) }
 {
+    let ifaces = setting.mapper.ifaces.of(node);
+    if are_in_order(setting.mapper.ends, listed, ifaces) {
+        note_in_order(&setting.table.rows, listed, ifaces, changes)?;
+        return Ok(true);
+    }
     let yes = serve_noted(setting, places, node, listed, given, changes)?;
     given.clear(alloc, setting.mapper.lab);
     Ok(yes)
@@ -179,7 +229,7 @@ pub(crate) fn give(
 {
     let places = mapping.places.as_slice();
     if seats.guests[node.0 as usize] == 0 {
-        return give_listed(alloc, setting, places, node, &[], given, changes);
+        return Ok(true);
     }
     if is_alone(places, seats, node, virt) {
         let own = setting.table.own[virt].as_slice();

@@ -10,6 +10,7 @@ mod joints;
 mod remake;
 mod seats;
 mod settle;
+mod softs;
 mod table;
 mod ties;
 

@@ -5,9 +5,11 @@ ghost use Rattle.cost_rule.specs.Cost.{nodes_in_use, soft as soft_in};
 ghost use Rattle.lab_model.specs.Shapes.{IsShaped, node_at, has_name};
 ghost use Rattle.virt_topo.specs.Wirings.{virt_at};
 ghost use Rattle.lab_model.specs.Rules.{no_place};
+ghost use Rattle.map_board.specs.Softs.{AreSofts};
 ghost use Rattle.map_board.specs.Seated.{IsSeated, guests_at, kind_soft as kind_soft_in, asked_soft as asked_soft_in, placed_at};
 
-use cost_rule::{MAX_SOFT, has_kind, node_soft, parts_of};
+use crate::softs::Softs;
+use cost_rule::{MAX_SOFT, has_kind, parts_of};
 use lab_base::{Items, Memory, Name, NodeId};
 use node_maps::Place;
 use phys_lab::Lab;
@@ -195,11 +197,13 @@ impl Seats {
         alloc: Global,
         lab: &Lab,
         wiring: &Wiring,
+        softs: &Softs,
         mapping: &mut Mapping,
         virt: usize,
         place: Place,
     )
         requires sound { IsSound wiring.now }
+        requires softs { AreSofts lab.now wiring.now softs.now }
         requires shaped { IsShaped lab.now wiring.now mapping.old }
         requires seated { IsSeated lab.now wiring.now mapping.old self.old }
         requires virt { virt < length wiring.now.nodes }
@@ -210,11 +214,12 @@ impl Seats {
         ensures seated { IsSeated lab.now wiring.now mapping.new self.new }
     {
         let _kept = lab.range();
+        let from = node_of(mapping, virt);
         let kind = kind_of(mapping, virt);
-        let before = node_soft(lab, wiring, mapping, virt);
+        let before = softs.at(lab, wiring, virt, from);
+        let after = softs.at(lab, wiring, virt, place.0);
         let gained = type_soft(wiring, mapping, virt, place.1);
         self.go(alloc, lab, wiring, mapping, virt, place);
-        let after = node_soft(lab, wiring, mapping, virt);
         let lost = type_soft(wiring, mapping, virt, kind);
         self.soft = changed(self.soft, (after, gained), (before, lost));
     }

@@ -6,6 +6,7 @@ ghost use Rattle.node_maps.specs.NodeMaps.{ends_of};
 ghost use Rattle.map_board.specs.Nodes.{numbers_of};
 ghost use Rattle.map_board.specs.Tables.{AreAllJoined, AreFirsts, AreRows, AreOwn, IsTableOf};
 
+use crate::softs::Softs;
 use crate::ties::{Tie, ties_of};
 use lab_base::{Items, Memory, SwitchId};
 use node_maps::{End, Mapper};
@@ -28,6 +29,7 @@ pub struct Table {
     pub(crate) ties: Vec<Tie>,
     /// All switches are joined.
     pub(crate) joined: bool,
+    pub(crate) softs: Softs,
 }
 
 /// The mapper of a wiring, with the tables that tries use.
@@ -147,6 +149,7 @@ impl Table {
         let crossings = Crossings::of_lab(alloc, lab)?;
         let ties = ties_of(alloc, wiring)?;
         let joined = are_all_joined(lab);
+        let softs = Softs::of(alloc, lab, wiring)?;
         Ok(Table {
             rows,
             own,
@@ -154,6 +157,7 @@ impl Table {
             crossings,
             ties,
             joined,
+            softs,
         })
     }
 }

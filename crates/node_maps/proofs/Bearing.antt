@@ -17,7 +17,7 @@ abbrev pub all_multiplexed : List Load → Bool
 all_multiplexed xs = list_all (λ x. x.multiplexed) xs
 
 -- a load that isn't multiplexed comes to no other
-plain_joins : (ys : List Load) (x : Load) → x.multiplexed ≡ false → (y : Load) → list_all (λ z. may_join z x) (y ∷ ys) ≡ false
+pub plain_joins : (ys : List Load) (x : Load) → x.multiplexed ≡ false → (y : Load) → list_all (λ z. may_join z x) (y ∷ ys) ≡ false
 plain_joins ys x plain y =
     ap (λ (b : Bool). (not (eqb y.segment x.segment) && (y.multiplexed && b)) && list_all (λ z. may_join z x) ys) plain
     ∙ by (not (eqb y.segment x.segment)) y.multiplexed

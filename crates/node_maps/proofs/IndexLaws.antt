@@ -24,7 +24,7 @@ use Rattle.node_maps.proofs.Bearing.{some_on}
 use Rattle.node_maps.specs.NodeMaps.{first_iface}
 use Rattle.node_maps.specs.Indexed.{ifaces_of, noted, newest, serves, Marks}
 
-abbrev numbered : ℕ → Iface → NodeIface
+abbrev pub numbered : ℕ → Iface → NodeIface
 numbered n x = record { id = record { 0 = n }; kbps = x.kbps }
 
 split : (b : Bool) (r : NodeIface) (a c last : List NodeIface) → a ≡ c ++ last → cond b (r ∷ a) a ≡ cond b (r ∷ c) c ++ last
@@ -106,10 +106,10 @@ pick true true test r rest o is e = ap (λ b. number_of (cond b (Some r) (find t
 pick true false test r rest o is e = ap (λ b. number_of (cond b (Some r) (find test rest))) is ∙ e
 pick false s test r rest o is e = e
 
-abbrev bears : List Laid → Load → NodeIface → Bool
+abbrev pub bears : List Laid → Load → NodeIface → Bool
 bears had load x = may_bear x.kbps (loads_on x.id.0 had) load
 
-first_of : (n : ℕ) (xs : List Iface) (had : List Laid) (node : NodeId) (load : Load) → number_of (find (bears had load) (ifaces_of n xs node.0)) ≡ first_iface n xs had node load
+pub first_of : (n : ℕ) (xs : List Iface) (had : List Laid) (node : NodeId) (load : Load) → number_of (find (bears had load) (ifaces_of n xs node.0)) ≡ first_iface n xs had node load
 first_of n [] had node load = refl
 first_of n (x ∷ xs) had node load =
     pick (eqb x.node.0 node.0) (bears had load (numbered n x)) (bears had load) (numbered n x) (ifaces_of (n + 1) xs node.0) (first_iface (n + 1) xs had node load)

@@ -14,3 +14,4 @@ pub mod PlugLaws
 pub mod Assembled
 pub mod MovedLaws
 pub mod KeptPlugs
+pub mod InOrder

@@ -2,7 +2,7 @@
 use Rattle.std.proofs.Common.{◌≡◌, ◌<◌, ◌+◌, ◌∷◌, [], ◌++◌, ◌∙◌, ℕ, suc, zero, List, length, take, map, replicate, get_or, Bool, true, ◌==◌, ◌&&◌, Option, Some, None, All, refl, ap, sym, subst, arith, length-append, append_assoc}
 use Rattle.std.specs.Prelude.{zip}
 use Rattle.std.specs.List.{slice_get}
-use Rattle.std.specs.Option.{option_map, option_map_or}
+use Rattle.std.specs.Option.{option_map, option_map_or, option_and_then}
 use Rattle.virt_topo.specs.declared.loads.Load.{Load}
 use Rattle.virt_topo.specs.Loads.{loads_from, loads_of}
 use Rattle.virt_topo.specs.Loads as wires
@@ -86,6 +86,18 @@ adds lab places e had h placed eq =
     let given : Place → Option (List Laid) = λ q. option_map (λ i. had ++ (load_of e, i) ∷ []) (first_iface 0 lab.ifaces had q.0 (load_of e)) in
     let there : slice_get places e.node ≡ Some (get_or places e.node no_place) = slice_get-get_or places e.node no_place placed in
     adds_of lab places e had h (first_iface 0 lab.ifaces had (get_or places e.node no_place).0 (load_of e)) refl (sym (ap (λ o. option_map_or given o (Some had)) there) ∙ eq)
+
+-- an end whose virtual node is placed gets the first interface that it may have
+plug_is : (lab : Lab) (places : List Place) (e : End) (had : List Laid) (i : IfaceId) → e.node < length places
+    → first_iface 0 lab.ifaces had (get_or places e.node no_place).0 (load_of e) ≡ Some i → with_plug lab places e had ≡ Some (had ++ (load_of e, i) ∷ [])
+plug_is lab places e had i placed first =
+    let given : Place → Option (List Laid) = λ q. option_map (λ j. had ++ (load_of e, j) ∷ []) (first_iface 0 lab.ifaces had q.0 (load_of e)) in
+    ap (λ o. option_map_or given o (Some had)) (slice_get-get_or places e.node no_place placed) ∙ ap (option_map (λ j. had ++ (load_of e, j) ∷ [])) first
+
+-- the next end, where it gets that plug
+pub step_is : (lab : Lab) (places : List Place) (e : End) (es : List End) (had : List Laid) (i : IfaceId) → e.node < length places
+    → first_iface 0 lab.ifaces had (get_or places e.node no_place).0 (load_of e) ≡ Some i → laid_from lab places (e ∷ es) had ≡ laid_from lab places es (had ++ (load_of e, i) ∷ [])
+step_is lab places e es had i placed first = ap (λ o. option_and_then (λ laid. laid_from lab places es laid) o) (plug_is lab places e had i placed first)
 
 map_push : (had : List Laid) (x : Laid) → map (λ y. y.0) (had ++ x ∷ []) ≡ map (λ y. y.0) had ++ x.0 ∷ []
 map_push [] x = refl

@@ -68,3 +68,13 @@ pub record AreOrdered (es : List End) : Type 0 where
   pub some : All (λ e. 1 ≤ e.kbps) es
   pub few : All (λ e. e.segment < 512) es
   pub rising : (j k : ℕ) (d : End) → j ≤ k → k < length es → (slice_index_or es j d).segment ≤ (slice_index_or es k d).segment
+
+-- an end that isn't multiplexed comes to an interface that is fast enough for it
+abbrev pub fits : End → NodeIface → Bool
+fits e x = not e.multiplexed && nat_le e.kbps x.kbps
+
+-- each end fits the interface of its own place
+abbrev pub are_in_order : List End → List NodeIface → Bool
+are_in_order [] xs = true
+are_in_order (e ∷ es) [] = false
+are_in_order (e ∷ es) (x ∷ xs) = fits e x && are_in_order es xs

@@ -84,11 +84,11 @@ fn kind_of(nodes: &[VirtNode], ones: &[usize], virt: usize) -> Option<usize>
 
 /// Kinds of virtual nodes.
 #[derive(Drop)]
-pub(crate) struct Kinds {
+pub struct Kinds {
     /// By kind the number of a virtual node of it.
-    pub(crate) ones: Vec<usize>,
+    pub ones: Vec<usize>,
     /// By virtual node its kind.
-    pub(crate) kinds: Vec<usize>,
+    pub kinds: Vec<usize>,
 }
 
 impl Kinds {
@@ -109,7 +109,7 @@ impl Kinds {
     }
 
     /// The kinds of virtual nodes.
-    pub(crate) fn of(alloc: Global, nodes: &[VirtNode]) -> Result<Kinds, Memory>
+    pub fn of(alloc: Global, nodes: &[VirtNode]) -> Result<Kinds, Memory>
         ensures { IfOk result (λ found. AreKinds nodes.now (length nodes.now) found.ones.items found.kinds.items) }
     {
         let mut found = Kinds {

@@ -13,6 +13,7 @@ mod suited;
 pub use ends::{End, ends_of};
 pub use ifaces::{Given, serve};
 pub use index::{NodeIface, NodeIfaces};
+pub use kinds::Kinds;
 pub use lists::{Candidates, Place};
 pub use mapped::{copy_places, is_feasible, node_map};
 pub use mapper::{Mapper, has_room};

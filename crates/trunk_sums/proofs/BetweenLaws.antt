@@ -128,7 +128,7 @@ between_none lab a b = record {
 }
 
 -- the side of an interface is that of its switch
-side_is : (lab : Lab) (t : ℕ) (i : IfaceId) → i.0 < length lab.ifaces → is_on (side_of lab t) i ≡ on_side lab t (get_or lab.ifaces i.0 no_iface).switch.0
+pub side_is : (lab : Lab) (t : ℕ) (i : IfaceId) → i.0 < length lab.ifaces → is_on (side_of lab t) i ≡ on_side lab t (get_or lab.ifaces i.0 no_iface).switch.0
 side_is lab t i lt = ap (λ (b : Bool). cond b 1 0) (get_or-map (λ (x : Iface). on_first_side lab.trunks t x.switch.0) lab.ifaces i.0 no_iface false lt)
 
 -- what is between the switches of two interfaces is what a plug crosses

@@ -2,6 +2,9 @@ pub mod Replugged
 mod CrossLaws
 pub mod SummedLaws
 mod BetweenLaws
+mod SumLaws
+mod BitLaws
+mod GainLaws
 mod TotalLaws
 pub mod RemadeLaws
 mod StartLaws

@@ -1,5 +1,5 @@
 -- Running sums after one end went to another plug.
-use Rattle.std.proofs.Common.{◌≡◌, ◌<◌, ◌≤◌, ◌+◌, ◌-◌, ◌*◌, ◌⊎◌, ◌∙◌, inl, inr, ℕ, Bool, true, false, List, length, get_or, ap, sym, subst, arith}
+use Rattle.std.proofs.Common.{◌≡◌, ◌≢◌, ◌<◌, ◌≤◌, ◌+◌, ◌-◌, ◌*◌, ◌⊎◌, ◌∙◌, inl, inr, ℕ, Bool, true, false, List, length, get_or, ap, sym, subst, arith}
 use Rattle.std.proofs.Math.ListN.{set}
 use Rattle.std.specs.List.{sum_by}
 use Rattle.std.proofs.lemmas.Bool.{cases_eq, cases_lt}
@@ -15,8 +15,10 @@ use Rattle.virt_topo.proofs.CableLaws.{whole_bound}
 use Rattle.trunk_sums.specs.declared.crossing.Crossing.{Crossing}
 use Rattle.trunk_sums.specs.declared.sums.Sums.{Sums}
 use Rattle.trunk_sums.specs.declared.sums.EndRow.{EndRow}
+use Rattle.trunk_sums.specs.declared.gains.Gains.{Gains}
 use Rattle.trunk_sums.specs.Counts.{share}
 use Rattle.trunk_sums.specs.Crossed.{AreCrossed, side_of, is_on, ups, downs}
+use Rattle.trunk_sums.specs.Gains.{IsGain, no_gains}
 use Rattle.trunk_sums.specs.Summed.{IsRow, IsSummed, own_plugs, first_end, no_segment, used}
 use Rattle.trunk_sums.proofs.Replugged.{IsIn, own_after, other_after, own_length, own_at, own_use_le, on_set, on_le, use_set}
 
@@ -35,7 +37,40 @@ is_in w end row is = record {
   below = (let below = is.below in let ends = is.ends in omega (arith, below, ends));
 }
 
--- what is known of one trunk: m ends, p plugs on the side before and q after, f and o whether the plug is on it before and after
+-- what is known of a side of one trunk: m ends, p plugs on it before and q after, f and o whether the plug is on it before and after
+pub record Moved (m p q f o : ℕ) : Type 0 where
+  pub moved : q + f ≡ p + o
+  pub one_of : f ≤ p
+  pub before : p ≤ m
+  pub after : q ≤ m
+
+pub moved_at : (side : List Bool) (w : Wiring) (plugs : List IfaceId) (end : ℕ) (row : EndRow) (to : IfaceId) → IsRow w end row → length plugs ≡ length (end_nodes w.segments)
+    → Moved row.ends (plugs_on side (own_plugs w.segments plugs row.segment)) (plugs_on side (own_plugs w.segments (set plugs end to) row.segment))
+    (is_on side (get_or plugs end (record { 0 = 0 }))) (is_on side to)
+moved_at side w plugs end row to of_row plugged =
+    let s = row.segment in
+    let is = is_in w end row of_row in
+    let own = own_plugs w.segments plugs s in
+    let j = end - first_end w.segments s in
+    let count : length own ≡ row.ends = own_length w.segments plugs s of_row.segment plugged ∙ sym of_row.ends in
+    let below = of_row.below in
+    let from = of_row.from in
+    let within : j < length own = omega (arith, count, below, from) in
+    let at : ◌≡◌ {A = ℕ} (is_on side (get_or own j (record { 0 = 0 }))) (is_on side (get_or plugs end (record { 0 = 0 }))) = ap (λ (i : IfaceId). is_on side i) (own_at w.segments plugs s end (record { 0 = 0 }) is) in
+    let new : ◌≡◌ {A = ℕ} (plugs_on side (own_plugs w.segments (set plugs end to) s)) (plugs_on side (set own j to)) = ap (λ (l : List IfaceId). plugs_on side l) (own_after w.segments plugs s end to is) in
+    let moved = on_set side own j to (record { 0 = 0 }) within in
+    let one = on_le side own j (record { 0 = 0 }) within in
+    let few = count_by-le-length (λ (i : IfaceId). get_or side i.0 false) own in
+    let few_new = count_by-le-length (λ (i : IfaceId). get_or side i.0 false) (set own j to) in
+    let same = length-set own j to in
+    record {
+      moved = omega (arith, at, new, moved);
+      one_of = omega (arith, at, one);
+      before = omega (arith, few, count);
+      after = omega (arith, few_new, count, same, new);
+    }
+
+-- what is known of one trunk, of which the plug crosses u onto the side and d off it
 pub record Trunk (m p q f o u d : ℕ) : Type 0 where
   pub moved : q + f ≡ p + o
   pub crossed : f + u ≡ o + d
@@ -50,30 +85,15 @@ pub trunk_at : (lab : Lab) (w : Wiring) (plugs : List IfaceId) (end : ℕ) (row 
     → Trunk row.ends (plugs_on (side_of lab t) (own_plugs w.segments plugs row.segment)) (plugs_on (side_of lab t) (own_plugs w.segments (set plugs end to) row.segment))
     (is_on (side_of lab t) (get_or plugs end (record { 0 = 0 }))) (is_on (side_of lab t) to) (ups t cs) (downs t cs)
 trunk_at lab w plugs end row to cs x t g lt =
-    let side = side_of lab t in
-    let s = row.segment in
-    let is = is_in w end row g.of_row in
-    let own = own_plugs w.segments plugs s in
-    let j = end - first_end w.segments s in
-    let count : length own ≡ row.ends = own_length w.segments plugs s g.of_row.segment g.plugged ∙ sym g.of_row.ends in
-    let below = g.of_row.below in
-    let from = g.of_row.from in
-    let within : j < length own = omega (arith, count, below, from) in
-    let at : ◌≡◌ {A = ℕ} (is_on side (get_or own j (record { 0 = 0 }))) (is_on side (get_or plugs end (record { 0 = 0 }))) = ap (λ (i : IfaceId). is_on side i) (own_at w.segments plugs s end (record { 0 = 0 }) is) in
-    let new : ◌≡◌ {A = ℕ} (plugs_on side (own_plugs w.segments (set plugs end to) s)) (plugs_on side (set own j to)) = ap (λ (l : List IfaceId). plugs_on side l) (own_after w.segments plugs s end to is) in
-    let moved = on_set side own j to (record { 0 = 0 }) within in
-    let one = on_le side own j (record { 0 = 0 }) within in
-    let few = count_by-le-length (λ (i : IfaceId). get_or side i.0 false) own in
-    let few_new = count_by-le-length (λ (i : IfaceId). get_or side i.0 false) (set own j to) in
-    let same = length-set own j to in
+    let its = moved_at (side_of lab t) w plugs end row to g.of_row g.plugged in
     record {
-      moved = omega (arith, at, new, moved);
+      moved = its.moved;
       crossed = g.crossed.each t lt;
       gone = g.crossed.gone t lt;
       come = g.crossed.come t lt;
-      one_of = omega (arith, at, one);
-      before = omega (arith, few, count);
-      after = omega (arith, few_new, count, same, new);
+      one_of = its.one_of;
+      before = its.before;
+      after = its.after;
     }
 
 -- the share of the segment is the use of its cable
@@ -112,9 +132,20 @@ pub record Crossed (row : EndRow) (trunks : ℕ) (cs : List Crossing) (x y : Sum
   pub others : (k : ℕ) → (k < 64 * row.segment) ⊎ (64 * row.segment + 64 ≤ k) → get_or y.counts.items k 0 ≡ get_or x.counts.items k 0
   pub uses : (t : ℕ) → t < trunks → get_or y.uses.items t 0 + share row.ends (get_or x.counts.items (64 * row.segment + t) 0) row.kbps ≡ get_or x.uses.items t 0 + share row.ends (get_or y.counts.items (64 * row.segment + t) 0) row.kbps
   pub summed : y.total ≡ sum_by (λ (u : ℕ). u) y.uses.items
+  pub gains : y.gains.items ≡ x.gains.items
+
+-- what `mark` leaves
+pub record Marked (row : EndRow) (cs : List Crossing) (x y : Sums) : Type 0 where
+  pub counts : y.counts.items ≡ x.counts.items
+  pub uses : y.uses.items ≡ x.uses.items
+  pub total : y.total ≡ x.total
+  pub one_each : length y.gains.items ≡ length x.gains.items
+  pub others : (s : ℕ) → s ≢ row.segment → get_or y.gains.items s no_gains ≡ get_or x.gains.items s no_gains
+  pub own : (t : ℕ) → t < 64 → (IsGain row.ends (get_or x.counts.items (64 * row.segment + t) 0) t (get_or x.gains.items row.segment no_gains)) ⊎ (0 < ups t cs + downs t cs)
+      → IsGain row.ends (get_or x.counts.items (64 * row.segment + t) 0) t (get_or y.gains.items row.segment no_gains)
 
 -- the count of the segment is what counting anew gives
-count_after : (lab : Lab) (w : Wiring) (plugs : List IfaceId) (end : ℕ) (row : EndRow) (to : IfaceId) (cs : List Crossing) (x y : Sums) (t : ℕ)
+pub count_after : (lab : Lab) (w : Wiring) (plugs : List IfaceId) (end : ℕ) (row : EndRow) (to : IfaceId) (cs : List Crossing) (x y : Sums) (t : ℕ)
     → Going lab w plugs end row to cs x → Crossed row (length lab.trunks) cs x y → t < length lab.trunks
     → get_or y.counts.items (64 * row.segment + t) 0 ≡ plugs_on (side_of lab t) (own_plugs w.segments (set plugs end to) row.segment)
 count_after lab w plugs end row to cs x y t g after lt =
@@ -148,26 +179,75 @@ use_after lab w plugs end row to cs x y t g after lt =
     let now = after.uses t lt in
     omega (arith, old_count, new_count, old_share, new_share, own, whole, before, now)
 
+-- the counts of another segment are where no plug crossed
+other_counts : (row : EndRow) (trunks : ℕ) (cs : List Crossing) (x y : Sums) (r t : ℕ) → Crossed row trunks cs x y → trunks ≤ 64 → t < trunks → r ≢ row.segment
+    → get_or y.counts.items (64 * r + t) 0 ≡ get_or x.counts.items (64 * r + t) 0
+other_counts row trunks cs x y r t after few lt apart = after.others (64 * r + t) (elim (cases_lt r row.segment) [
+  | inl low ↦ inl (omega (arith, low, lt, few))
+  | inr high ↦ inr (omega (arith, high, apart))
+])
+
+-- what a plug more or less of the segment does, as is marked
+gain_after : (lab : Lab) (w : Wiring) (plugs : List IfaceId) (end : ℕ) (row : EndRow) (to : IfaceId) (cs : List Crossing) (x y z : Sums) (t : ℕ)
+    → Going lab w plugs end row to cs x → Crossed row (length lab.trunks) cs x y → Marked row cs y z → length lab.trunks ≤ 64 → t < length lab.trunks
+    → IsGain row.ends (get_or y.counts.items (64 * row.segment + t) 0) t (get_or z.gains.items row.segment no_gains)
+gain_after lab w plugs end row to cs x y z t g after marked few lt =
+    let s = row.segment in
+    let now = get_or y.counts.items (64 * s + t) 0 in
+    marked.own t (omega (arith, lt, few)) (elim (cases_lt 0 (ups t cs + downs t cs)) [
+      | inl some ↦ inr some
+      | inr none ↦ (
+          let counted = after.counts t lt in
+          let same : ◌≡◌ {A = ℕ} (get_or x.counts.items (64 * s + t) 0) now = omega (arith, counted, none) in
+          let before : IsGain row.ends (get_or x.counts.items (64 * s + t) 0) t (get_or x.gains.items s no_gains) =
+          subst (λ (m : ℕ). IsGain m (get_or x.counts.items (64 * s + t) 0) t (get_or x.gains.items s no_gains)) (sym g.of_row.ends) (g.summed.gains s t g.of_row.segment lt) in
+          inl (subst (λ (l : List Gains). IsGain row.ends now t (get_or l s no_gains)) (sym after.gains)
+          (subst (λ (k : ℕ). IsGain row.ends k t (get_or x.gains.items s no_gains)) same before)))
+    ])
+
 -- THE SUMS ARE AGAIN WHAT COUNTING ANEW GIVES
-pub summed_after : (lab : Lab) (w : Wiring) (plugs : List IfaceId) (end : ℕ) (row : EndRow) (to : IfaceId) (cs : List Crossing) (x y : Sums)
-    → Going lab w plugs end row to cs x → Crossed row (length lab.trunks) cs x y → length lab.trunks ≤ 64 → IsSummed lab w (set plugs end to) y
-summed_after lab w plugs end row to cs x y g after few =
+counts_after : (lab : Lab) (w : Wiring) (plugs : List IfaceId) (end : ℕ) (row : EndRow) (to : IfaceId) (cs : List Crossing) (x y : Sums) (r t : ℕ)
+    → Going lab w plugs end row to cs x → Crossed row (length lab.trunks) cs x y → length lab.trunks ≤ 64 → r < length w.segments → t < length lab.trunks
+    → get_or y.counts.items (64 * r + t) 0 ≡ plugs_on (side_of lab t) (own_plugs w.segments (set plugs end to) r)
+counts_after lab w plugs end row to cs x y r t g after few r_lt lt =
     let s = row.segment in
     let new = set plugs end to in
-    let is = is_in w end row g.of_row in
+    elim (cases_eq r s) [
+      | inl same ↦ subst (λ (k : ℕ). get_or y.counts.items (64 * k + t) 0 ≡ plugs_on (side_of lab t) (own_plugs w.segments new k)) (sym same) (count_after lab w plugs end row to cs x y t g after lt)
+      | inr apart ↦
+          other_counts row (length lab.trunks) cs x y r t after few lt apart ∙ g.summed.counts r t r_lt lt
+          ∙ sym (ap (λ (l : List IfaceId). plugs_on (side_of lab t) l) (other_after w.segments plugs s end r to (is_in w end row g.of_row) apart))
+    ]
+
+gains_after : (lab : Lab) (w : Wiring) (plugs : List IfaceId) (end : ℕ) (row : EndRow) (to : IfaceId) (cs : List Crossing) (x y z : Sums) (r t : ℕ)
+    → Going lab w plugs end row to cs x → Crossed row (length lab.trunks) cs x y → Marked row cs y z → length lab.trunks ≤ 64 → r < length w.segments → t < length lab.trunks
+    → IsGain (length (get_or w.segments r no_segment).ends) (get_or y.counts.items (64 * r + t) 0) t (get_or z.gains.items r no_gains)
+gains_after lab w plugs end row to cs x y z r t g after marked few r_lt lt =
+    let s = row.segment in
+    elim (cases_eq r s) [
+      | inl same ↦
+          subst (λ (k : ℕ). IsGain (length (get_or w.segments k no_segment).ends) (get_or y.counts.items (64 * k + t) 0) t (get_or z.gains.items k no_gains)) (sym same)
+          (subst (λ (m : ℕ). IsGain m (get_or y.counts.items (64 * s + t) 0) t (get_or z.gains.items s no_gains)) g.of_row.ends
+          (gain_after lab w plugs end row to cs x y z t g after marked few lt))
+      | inr apart ↦ (
+          let m = length (get_or w.segments r no_segment).ends in
+          let its : get_or z.gains.items r no_gains ≡ get_or x.gains.items r no_gains = marked.others r apart ∙ ap (λ (l : List Gains). get_or l r no_gains) after.gains in
+          let count = other_counts row (length lab.trunks) cs x y r t after few lt apart in
+          subst (λ (v : Gains). IsGain m (get_or y.counts.items (64 * r + t) 0) t v) (sym its)
+          (subst (λ (k : ℕ). IsGain m k t (get_or x.gains.items r no_gains)) (sym count) (g.summed.gains r t r_lt lt)))
+    ]
+
+pub summed_after : (lab : Lab) (w : Wiring) (plugs : List IfaceId) (end : ℕ) (row : EndRow) (to : IfaceId) (cs : List Crossing) (x y z : Sums)
+    → Going lab w plugs end row to cs x → Crossed row (length lab.trunks) cs x y → Marked row cs y z → length lab.trunks ≤ 64 → IsSummed lab w (set plugs end to) z
+summed_after lab w plugs end row to cs x y z g after marked few =
+    let new = set plugs end to in
     record {
-      room = after.room ∙ g.summed.room;
-      one_each = after.one_each ∙ g.summed.one_each;
-      counts = λ r t r_lt lt. elim (cases_eq r s) [
-        | inl same ↦ subst (λ (k : ℕ). get_or y.counts.items (64 * k + t) 0 ≡ plugs_on (side_of lab t) (own_plugs w.segments new k)) (sym same) (count_after lab w plugs end row to cs x y t g after lt)
-        | inr apart ↦ (
-            let out : (64 * r + t < 64 * s) ⊎ (64 * s + 64 ≤ 64 * r + t) = elim (cases_lt r s) [
-              | inl low ↦ inl (omega (arith, low, lt, few))
-              | inr high ↦ inr (omega (arith, high, apart))
-            ] in
-            after.others (64 * r + t) out ∙ g.summed.counts r t r_lt lt
-            ∙ sym (ap (λ (l : List IfaceId). plugs_on (side_of lab t) l) (other_after w.segments plugs s end r to is apart)))
-      ];
-      uses = λ t lt. use_after lab w plugs end row to cs x y t g after lt;
-      total = after.summed;
+      room = ap (λ (l : List ℕ). length l) marked.counts ∙ after.room ∙ g.summed.room;
+      one_each = ap (λ (l : List ℕ). length l) marked.uses ∙ after.one_each ∙ g.summed.one_each;
+      counts = λ r t r_lt lt. ap (λ (l : List ℕ). get_or l (64 * r + t) 0) marked.counts ∙ counts_after lab w plugs end row to cs x y r t g after few r_lt lt;
+      uses = λ t lt. ap (λ (l : List ℕ). get_or l t 0) marked.uses ∙ use_after lab w plugs end row to cs x y t g after lt;
+      total = marked.total ∙ after.summed ∙ ap (λ (l : List ℕ). sum_by (λ (u : ℕ). u) l) (sym marked.uses);
+      gained = marked.one_each ∙ ap (λ (l : List Gains). length l) after.gains ∙ g.summed.gained;
+      gains = λ r t r_lt lt. subst (λ (l : List ℕ). IsGain (length (get_or w.segments r no_segment).ends) (get_or l (64 * r + t) 0) t (get_or z.gains.items r no_gains)) (sym marked.counts)
+          (gains_after lab w plugs end row to cs x y z r t g after marked few r_lt lt);
     }

@@ -1,5 +1,6 @@
 -- The trunks that part two switches.
 use Rattle.std.specs.Prelude.{◌≡◌, ◌<◌, ◌≤◌, ◌+◌, ◌*◌, ℕ, Bool, true, false, List, [], ◌∷◌, length, map, All, slice_index_or, if◌then◌else◌}
+use Rattle.std.specs.Int.{bit_at}
 use Rattle.phys_lab.specs.Labs.{Lab}
 use Rattle.phys_lab.specs.Sides.{on_first_side}
 use Rattle.phys_lab.specs.declared.parts.Iface.{Iface}
@@ -29,7 +30,14 @@ pub record AreBetween (lab : Lab) (a b n : ℕ) (cs : List Crossing) : Type 0 wh
   pub gone : (t : ℕ) → t < n → downs t cs ≤ on_side lab t a
   pub come : (t : ℕ) → t < n → ups t cs + on_side lab t a ≤ 1
 
--- by pair of switches what is crossed: of a and b at 64 * a + b; and by interface its switch
+-- bit t is 1 where switch z is on the first side of trunk t, of the trunks below n
+pub record AreSides (lab : Lab) (z n word : ℕ) : Type 0 where
+  pub each : (t : ℕ) → t < n → bit_at word t ≡ on_side lab t z
+  pub none : (t : ℕ) → n ≤ t → t < 64 → bit_at word t ≡ 0
+
+-- by pair of switches what is crossed: of a and b at 64 * a + b; by interface its switch; and by switch its sides
 pub record IsTable (lab : Lab) (x : Crossings) : Type 0 where
   pub each : (a b : ℕ) → a < length lab.switches → b < length lab.switches → AreBetween lab a b (length lab.trunks) (slice_index_or x.lists.items (64 * a + b) [])
   pub switches : x.switches.items ≡ map (λ i. i.switch) lab.ifaces
+  pub one_each : length x.sides.items ≡ length lab.switches
+  pub sides : (z : ℕ) → z < length lab.switches → AreSides lab z (length lab.trunks) (slice_index_or x.sides.items z 0)

@@ -8,6 +8,7 @@ use Rattle.virt_topo.specs.Cables.{Cable, cables, cut_use, plugs_on}
 use Rattle.trunk_sums.specs.declared.sums.Sums.{Sums}
 use Rattle.trunk_sums.specs.declared.sums.EndRow.{EndRow}
 use Rattle.trunk_sums.specs.Crossed.{side_of}
+use Rattle.trunk_sums.specs.Gains.{IsGain, no_gains}
 
 abbrev pub no_segment : Segment
 no_segment = record { name = []; owner = []; kbps = 0; multiplexed = false; ends = [] }
@@ -37,10 +38,14 @@ pub record IsRow (w : Wiring) (end : ℕ) (row : EndRow) : Type 0 where
   pub from : first_end w.segments row.segment ≤ end
   pub below : end < first_end w.segments row.segment + row.ends
 
--- by segment and trunk the plugs on the first side, by trunk the use, and the sum of the uses
+-- by segment and trunk the plugs on the first side and what one more or less does, by trunk the use, and the sum of the uses
 pub record IsSummed (lab : Lab) (w : Wiring) (plugs : List IfaceId) (x : Sums) : Type 0 where
   pub room : length x.counts.items ≡ 64 * length w.segments
   pub one_each : length x.uses.items ≡ length lab.trunks
   pub counts : (s t : ℕ) → s < length w.segments → t < length lab.trunks → slice_index_or x.counts.items (64 * s + t) 0 ≡ plugs_on (side_of lab t) (own_plugs w.segments plugs s)
   pub uses : (t : ℕ) → t < length lab.trunks → slice_index_or x.uses.items t 0 ≡ used lab w plugs t
   pub total : x.total ≡ sum_by (λ (u : ℕ). u) x.uses.items
+  pub gained : length x.gains.items ≡ length w.segments
+  pub gains : (s t : ℕ) → s < length w.segments → t < length lab.trunks
+      → IsGain (length (slice_index_or w.segments s no_segment).ends) (slice_index_or x.counts.items (64 * s + t) 0) t
+      (slice_index_or x.gains.items s no_gains)

@@ -3,6 +3,7 @@
 
 mod crossing;
 mod foreseen;
+mod gains;
 mod made;
 mod start;
 mod sums;
@@ -10,6 +11,7 @@ mod table;
 
 pub use crossing::Crossing;
 pub use foreseen::are_rising;
+pub use gains::Gains;
 pub use made::{Change, law_of_taking_back};
 pub use sums::{EndRow, Sums};
 pub use table::Crossings;

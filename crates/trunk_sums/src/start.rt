@@ -4,13 +4,15 @@ ghost use Rattle.virt_topo.specs.Cables.{plugs_on};
 ghost use Rattle.virt_topo.specs.Ends.{end_nodes};
 ghost use Rattle.virt_topo.specs.Soundness.{keeps_limits};
 ghost use Rattle.trunk_sums.specs.Crossed.{side_of};
-ghost use Rattle.trunk_sums.specs.Summed.{IsSummed, own_plugs, used};
+ghost use Rattle.trunk_sums.specs.Gains.{IsGain, no_gains};
+ghost use Rattle.trunk_sums.specs.Summed.{IsSummed, no_segment, own_plugs, used};
 
+use crate::gains::Gains;
 use crate::sums::Sums;
 use lab_base::{IfaceId, Memory, TrunkId};
 use phys_lab::{Lab, MAX_TRUNKS};
 use std::alloc::Global;
-use virt_topo::{MAX_ENDS, MAX_KBPS, MAX_SEGMENT_ENDS, Mapping, Wiring};
+use virt_topo::{MAX_ENDS, MAX_KBPS, MAX_SEGMENT_ENDS, Mapping, Segment, Wiring};
 
 fn plugs_on(side: &[bool], plugs: &[IfaceId]) -> usize
     requires { All (λ i. i.0 < length side.now) plugs.now }
@@ -102,6 +104,39 @@ fn sum_of(uses: &[u64]) -> u64
     total
 }
 
+/// The gains of a segment, by the counts of its plugs.
+fn gains_in(lab: &Lab, number: usize, segment: &Segment, counts: &[u16]) -> Gains
+    requires room { MAX_TRUNKS * number + MAX_TRUNKS ≤ length counts.now }
+    requires few { length segment.now.ends ≤ MAX_SEGMENT_ENDS }
+    ensures { (t : ℕ) → t < length lab.now.trunks → IsGain (length segment.now.ends) (slice_index_or counts.now (MAX_TRUNKS * number + t) 0) t result }
+{
+    // for the prover: it tells what every lab keeps
+    let _kept = lab.range();
+    let mut gains = Gains::none();
+    for trunk in 0..lab.trunks().len() {
+        let on = counts[MAX_TRUNKS * number + trunk];
+        gains.mark(trunk as u16, segment.ends.len() as u16, on);
+    }
+    gains
+}
+
+/// By segment its gains.
+fn gains_of(alloc: Global, lab: &Lab, wiring: &Wiring, counts: &[u16]) -> Result<Vec<Gains>, Memory>
+    requires limits { keeps_limits wiring.now ≡ true }
+    requires room { length counts.now ≡ MAX_TRUNKS * length wiring.now.segments }
+    ensures one_each { IfOk result (λ gains. length gains.items ≡ length wiring.now.segments) }
+    ensures each { IfOk result (λ gains. (s t : ℕ) → s < length wiring.now.segments → t < length lab.now.trunks
+        → IsGain (length (slice_index_or wiring.now.segments s no_segment).ends) (slice_index_or counts.now (MAX_TRUNKS * s + t) 0) t
+        (slice_index_or gains.items s no_gains)) }
+{
+    let mut gains = Vec::new(alloc);
+    for number in 0..wiring.segments.len() {
+        let segment = &wiring.segments.as_slice()[number];
+        gains.push(gains_in(lab, number, segment, counts))?;
+    }
+    Ok(gains)
+}
+
 impl Sums {
     /// The sums of a mapping.
     pub fn of(alloc: Global, lab: &Lab, wiring: &Wiring, mapping: &Mapping) -> Result<Sums, Memory>
@@ -115,8 +150,10 @@ impl Sums {
         let counts = counts_of(alloc, lab, wiring, mapping.plugs.as_slice())?;
         let uses = uses_of(alloc, lab, wiring, mapping)?;
         let total = sum_of(&uses);
+        let gains = gains_of(alloc, lab, wiring, &counts)?;
         Ok(Sums {
             counts,
+            gains,
             uses,
             total,
         })

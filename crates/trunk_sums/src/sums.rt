@@ -4,6 +4,7 @@ ghost use Rattle.trunk_sums.specs.Counts.{share, after};
 ghost use Rattle.trunk_sums.specs.Crossed.{ups, downs};
 
 use crate::crossing::Crossing;
+use crate::gains::{Gains, lesser};
 use lab_base::IfaceId;
 use phys_lab::{Lab, MAX_TRUNKS};
 use virt_topo::{MAX_ENDS, MAX_KBPS, MAX_SEGMENT_ENDS, Wiring};
@@ -17,11 +18,12 @@ pub struct EndRow {
 }
 
 /// Running sums of a mapping.
-/// `counts` has by segment and trunk the number of plugs on the trunk's first side, those of segment s from `MAX_TRUNKS * s` on. `uses` has by trunk the kbps
-/// that the segments use, and `total` their sum.
+/// `counts` has by segment and trunk the number of plugs on the trunk's first side, those of segment s from `MAX_TRUNKS * s` on, and `gains` by segment what
+/// a plug more or less there does. `uses` has by trunk the kbps that the segments use, and `total` their sum.
 #[derive(Drop)]
 pub struct Sums {
     pub(crate) counts: Vec<u16>,
+    pub(crate) gains: Vec<Gains>,
     pub(crate) uses: Vec<u64>,
     pub(crate) total: u64,
 }
@@ -35,7 +37,7 @@ pub(crate) fn share_of(ends: u16, on: u16, kbps: u64) -> u64
     ensures is { result ≡ share ends on kbps }
     ensures small { result ≤ MAX_SEGMENT_ENDS * MAX_KBPS }
 {
-    on.min(ends - on) as u64 * kbps
+    u64::from(lesser(ends, on)) * kbps
 }
 
 impl Sums {
@@ -60,6 +62,7 @@ impl Sums {
         ensures total { self.new.total ≡ self.old.total - share row.ends (slice_index_or self.old.counts.items place 0) row.kbps
             + share row.ends (after crossing.onto (slice_index_or self.old.counts.items place 0)) row.kbps }
         ensures bound { self.new.total ≤ self.old.total + MAX_SEGMENT_ENDS * MAX_KBPS }
+        ensures gains { self.new.gains.items ≡ self.old.gains.items }
     {
         let on = self.counts[place];
         let now = if crossing.onto { on + 1 } else { on - 1 };
@@ -98,6 +101,7 @@ impl Sums {
             → slice_index_or self.new.uses.items t 0 + share row.ends (slice_index_or self.old.counts.items (MAX_TRUNKS * row.segment + t) 0) row.kbps
             ≡ slice_index_or self.old.uses.items t 0 + share row.ends (slice_index_or self.new.counts.items (MAX_TRUNKS * row.segment + t) 0) row.kbps }
         ensures summed { self.new.total ≡ sum_by (λ (u : ℕ). u) self.new.uses.items }
+        ensures gains { self.new.gains.items ≡ self.old.gains.items }
     {
         for crossing in crossed {
             let place = MAX_TRUNKS * row.segment as usize + crossing.trunk as usize;
@@ -134,6 +138,7 @@ impl Sums {
         // for the prover: it tells that the number of segments fits
         let _count = wiring.segments.len();
         self.cross(row, crossed);
+        self.mark(row, crossed);
         plugs[end] = to;
     }
 }

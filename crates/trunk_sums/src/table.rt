@@ -1,9 +1,10 @@
 // The trunks that part switches, by pair of switches.
 ghost use Rattle.std.specs.Prelude.{◌≡◌, ◌<◌, ◌+◌, ◌*◌, ◌++◌, ℕ, [], length, map, IfOk, OnOk, slice_index_or};
-ghost use Rattle.trunk_sums.specs.Between.{AreBetween, IsTable, crossing_of, no_iface};
+ghost use Rattle.trunk_sums.specs.Between.{AreBetween, AreSides, IsTable, crossing_of, no_iface};
 ghost use Rattle.trunk_sums.specs.Crossed.{AreCrossed};
 
 use crate::crossing::Crossing;
+use crate::gains::with_bit;
 use lab_base::{IfaceId, Items, Memory, SwitchId, TrunkId};
 use phys_lab::{Lab, MAX_SWITCHES};
 use std::alloc::Global;
@@ -51,6 +52,8 @@ pub struct Crossings {
     lists: Vec<Items<Crossing>>,
     /// By interface its switch.
     switches: Vec<SwitchId>,
+    /// By switch the trunks on whose first side it is, a bit each.
+    sides: Vec<u64>,
 }
 
 /// Adds the trunks between the switches of two numbers, where both numbers name one.
@@ -109,6 +112,36 @@ fn switches_of(alloc: Global, lab: &Lab) -> Result<Vec<SwitchId>, Memory>
     Ok(switches)
 }
 
+/// The trunks on whose first side a switch is, a bit each.
+fn sides_at(lab: &Lab, switch: SwitchId) -> u64
+    requires { switch.0 < length lab.now.switches }
+    ensures { AreSides lab.now switch.0 (length lab.now.trunks) result }
+{
+    // for the prover: it tells what every lab keeps
+    let _kept = lab.range();
+    let mut sides = 0u64;
+    for number in 0..lab.trunks().len() {
+        let trunk = number as u16;
+        sides = with_bit(sides, trunk, lab.side(TrunkId(trunk), switch));
+    }
+    sides
+}
+
+/// By switch the trunks on whose first side it is, a bit each.
+fn sides_of(alloc: Global, lab: &Lab) -> Result<Vec<u64>, Memory>
+    ensures one_each { IfOk result (λ sides. length sides.items ≡ length lab.now.switches) }
+    ensures each { IfOk result (λ sides. (z : ℕ) → z < length lab.now.switches
+        → AreSides lab.now z (length lab.now.trunks) (slice_index_or sides.items z 0)) }
+{
+    // for the prover: it tells what every lab keeps
+    let _kept = lab.range();
+    let mut sides = Vec::new(alloc);
+    for number in 0..lab.switches().len() {
+        sides.push(sides_at(lab, SwitchId(number as u16)))?;
+    }
+    Ok(sides)
+}
+
 impl Crossings {
     /// The crossings of a lab.
     pub fn of_lab(alloc: Global, lab: &Lab) -> Result<Crossings, Memory>
@@ -117,6 +150,7 @@ impl Crossings {
         Ok(Crossings {
             lists: table_of(alloc, lab)?,
             switches: switches_of(alloc, lab)?,
+            sides: sides_of(alloc, lab)?,
         })
     }
 
@@ -155,5 +189,15 @@ impl Crossings {
         let one = self.switch_of(lab, from);
         let other = self.switch_of(lab, to);
         self.of(MAX_SWITCHES * one.0 as usize + other.0 as usize)
+    }
+
+    /// The trunks on whose first side an interface is, a bit each.
+    #[inline(always)]
+    pub(crate) fn sides(&self, lab: &Lab, plug: IfaceId) -> u64
+        requires table { IsTable lab.now self.now }
+        requires plug { plug.0 < length lab.now.ifaces }
+        ensures { AreSides lab.now (slice_index_or lab.now.ifaces plug.0 no_iface).switch.0 (length lab.now.trunks) result }
+    {
+        self.sides[self.switch_of(lab, plug).0 as usize]
     }
 }

@@ -7,10 +7,11 @@ use Rattle.node_maps.specs.declared.ends.End.{End}
 use Rattle.map_board.specs.Nodes.{is_on, numbers_of}
 use Rattle.map_board.specs.Seated.{guests_at}
 use Rattle.map_board.proofs.BoardLaws.{placed_ends, few_ends, none_on, own_on}
+use Rattle.map_board.proofs.OrderedPlans.{none_noted}
 use Rattle.map_board.proofs.give.give.Goals as goal
 
-pub give_listed-requires-clause-listed : goal.give_listed-requires-clause-listed
-give_listed-requires-clause-listed c =
+pub returns-then-index-eq0-clause-given : goal.returns-then-index-eq0-clause-given
+returns-then-index-eq0-clause-given c = λ is.
     let x = c.args.setting.now in
     let m = c.args.mapping.now in
     let n = c.args.node.0 in
@@ -20,11 +21,10 @@ give_listed-requires-clause-listed c =
     let at : ◌≡◌ {A = ℕ} c.index.result.now (get_or c.args.seats.now.guests.items n 0) = get_or_read c.args.seats.now.guests.items n c.index.result.now (omega (arith, node, count)) c.index.ensures 0 in
     let guests = seated.guests n node in
     let none : guests_at m.places n ≡ 0 = (let zero_is = c.if-index-eq0.true in omega (arith, at, guests, zero_is)) in
-    none_on n m.places x.mapper.ends.now (placed_ends x m.places c.requires.setting c.requires.shaped.places) none
-    ∙ ap (λ (l : List Place). numbers_of 0 (is_on l n) x.mapper.ends.now) (sym c.as_slice-places.ensures)
+    none_noted x m.places n c.args.changes.now.items (none_on n m.places x.mapper.ends.now (placed_ends x m.places c.requires.setting c.requires.shaped.places) none)
 
-pub give_listed-requires-then-is_alone-clause-listed : goal.give_listed-requires-then-is_alone-clause-listed
-give_listed-requires-then-is_alone-clause-listed c =
+pub give_listed-requires-clause-listed : goal.give_listed-requires-clause-listed
+give_listed-requires-clause-listed c =
     let x = c.args.setting.now in
     let m = c.args.mapping.now in
     let n = c.args.node.0 in

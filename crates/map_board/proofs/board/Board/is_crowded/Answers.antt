@@ -1,34 +1,62 @@
-use Rattle.std.proofs.Common.{◌≡◌, ◌<◌, ◌∙◌, ℕ, List, length, get_or, ap, arith}
-use Rattle.std.proofs.lemmas.Bool.{lt-ltb, ltb-true}
+use Rattle.std.proofs.Common.{◌≡◌, ◌<◌, ◌≤◌, ◌-◌, ◌∙◌, ℕ, List, length, get_or, Bool, cond, eqb, ap, sym, refl, arith}
+use Rattle.std.proofs.lemmas.Bool.{eq-eqb, le-leb, leb-true}
 use Rattle.std.proofs.lemmas.List.{get_or_default}
 use Rattle.lab_model.specs.Shapes.{Place, node_at}
 use Rattle.lab_model.specs.Rules.{no_place, number_of}
 use Rattle.map_board.specs.Seated.{guests_at}
 use Rattle.map_board.proofs.CrowdLaws.{crowded}
+use Rattle.map_board.proofs.SeatLaws.{guest_left}
 use Rattle.map_board.proofs.board.Board.is_crowded.Goals as goal
 
-pub returns-clause-crowded : goal.returns-clause-crowded
-returns-clause-crowded c =
-    let x = c.args.setting.now.mapper in
-    let lab = x.lab.now in
-    let m = c.args.self.now.mapping in
+-- a virtual node is on its own node
+one_there : (places : List Place) (v : ℕ) → v < length places → 1 ≤ guests_at places (get_or places v no_place).0.0
+one_there places v lt =
+    let n = (get_or places v no_place).0.0 in
+    let count = guest_left places v n lt in
+    let own : ◌≡◌ {A = ℕ} (cond (eqb n n) 1 0) 1 = ap (λ (b : Bool). cond b 1 0) (eq-eqb n n refl) in
+    omega (arith, count, own)
+
+pub overflow_sub-index : goal.overflow_sub-index
+overflow_sub-index c =
     let laid = c.requires.laid in
+    let m = c.args.self.now.mapping in
     let v = c.args.virt in
     let all = laid.shaped.places in
     let lt : v < length m.places = omega (arith, c.requires.virt, all) in
     let p : Place = c.index-as_slice-virt.result in
     let q : Place = get_or m.places v no_place in
     let place : p ≡ q = c.index-as_slice-virt.is ∙ ap (λ (l : List Place). get_or l v p) c.as_slice.ensures ∙ get_or_default m.places v p no_place lt in
-    let node : q.0.0 < length lab.nodes = laid.shaped.in_nodes v no_place lt in
+    let node = laid.shaped.in_nodes v no_place lt in
     let at : ◌≡◌ {A = ℕ} p.0.0 q.0.0 = ap (λ (y : Place). y.0.0) place in
     let guests = c.args.self.now.seats.guests.items in
     let each = laid.seated.one_each in
-    let count : ◌≡◌ {A = ℕ} c.number_of.result (number_of (node_at lab q.0).types q.1) =
-    c.number_of.ensures ∙ (λ j. number_of (c.types_at-types.ensures j) p.1) ∙ ap (λ (y : Place). number_of (node_at lab y.0).types y.1) place in
     let here : ◌≡◌ {A = ℕ} c.index.result.now (guests_at m.places q.0.0) =
-    c.index.ensures ∙ get_or_default guests p.0.0 c.index.result.now 0 (omega (arith, node, at, each)) ∙ ap (λ (k : ℕ). get_or guests k 0) at ∙ laid.seated.guests q.0.0 node in (
-      λ is. let more = ltb-true c.number_of.result c.index.result.now is in omega (arith, more, count, here),
-      λ more. lt-ltb c.number_of.result c.index.result.now (omega (arith, more, count, here)),
+    c.index.ensures ∙ get_or_default guests p.0.0 c.index.result.now 0 (omega (arith, node, at, each)) ∙ ap (λ (k : ℕ). get_or guests k 0) at ∙ laid.seated.guests q.0.0 node in
+    let one = one_there m.places v lt in
+    omega (arith, here, one)
+
+pub returns-clause-crowded : goal.returns-clause-crowded
+returns-clause-crowded c =
+    let lab = c.args.setting.now.mapper.lab.now in
+    let laid = c.requires.laid in
+    let m = c.args.self.now.mapping in
+    let v = c.args.virt in
+    let all = laid.shaped.places in
+    let lt : v < length m.places = omega (arith, c.requires.virt, all) in
+    let p : Place = c.index-as_slice-virt.result in
+    let q : Place = get_or m.places v no_place in
+    let place : p ≡ q = c.index-as_slice-virt.is ∙ ap (λ (l : List Place). get_or l v p) c.as_slice.ensures ∙ get_or_default m.places v p no_place lt in
+    let node = laid.shaped.in_nodes v no_place lt in
+    let at : ◌≡◌ {A = ℕ} p.0.0 q.0.0 = ap (λ (y : Place). y.0.0) place in
+    let guests = c.args.self.now.seats.guests.items in
+    let each = laid.seated.one_each in
+    let here : ◌≡◌ {A = ℕ} c.index.result.now (guests_at m.places q.0.0) =
+    c.index.ensures ∙ get_or_default guests p.0.0 c.index.result.now 0 (omega (arith, node, at, each)) ∙ ap (λ (k : ℕ). get_or guests k 0) at ∙ laid.seated.guests q.0.0 node in
+    let one = one_there m.places v lt in
+    let most = number_of (node_at lab p.0).types p.1 in
+    let same : ◌≡◌ {A = ℕ} most (number_of (node_at lab q.0).types q.1) = ap (λ (y : Place). number_of (node_at lab y.0).types y.1) place in (
+      λ is. (let few = leb-true most (c.index.result.now - 1) (sym c.is_taken.ensures ∙ is) in omega (arith, few, same, here, one)),
+      λ more. c.is_taken.ensures ∙ le-leb most (c.index.result.now - 1) (omega (arith, more, same, here, one)),
     )
 
 pub returns-clause-none : goal.returns-clause-none

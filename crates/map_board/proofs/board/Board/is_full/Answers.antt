@@ -1,4 +1,4 @@
-use Rattle.std.proofs.Common.{◌≡◌, ◌≢◌, ◌<◌, ◌∙◌, ℕ, List, length, get_or, ap, arith, get_or-set_same}
+use Rattle.std.proofs.Common.{◌≡◌, ◌≢◌, ◌<◌, ◌∙◌, ℕ, List, length, get_or, ap, sym, arith, get_or-set_same}
 use Rattle.std.proofs.Math.ListN.{set}
 use Rattle.std.proofs.lemmas.Bool.{le-leb, leb-true}
 use Rattle.std.proofs.lemmas.List.{get_or_default, length-set}
@@ -11,12 +11,19 @@ use Rattle.map_board.proofs.CrowdLaws.{crowded}
 use Rattle.map_board.proofs.SeatLaws.{guest_more}
 use Rattle.map_board.proofs.board.Board.is_full.Goals as goal
 
-pub types_at-types-requires : goal.types_at-types-requires
-types_at-types-requires c =
+pub is_taken-requires-clause-node : goal.is_taken-requires-clause-node
+is_taken-requires-clause-node c =
     let x = c.args.setting.now.mapper in
     let laid = c.requires.laid in
     let lt : c.args.virt < length c.args.self.now.mapping.places = (let all = laid.shaped.places in let virt = c.requires.virt in omega (arith, virt, all)) in
     (candidate_within x.lab.now x.free.now x.wiring.now c.args.self.now.mapping.places c.args.virt c.args.place laid.choice lt c.requires.among).0
+
+pub is_taken-requires-clause-typed : goal.is_taken-requires-clause-typed
+is_taken-requires-clause-typed c =
+    let x = c.args.setting.now.mapper in
+    let laid = c.requires.laid in
+    let lt : c.args.virt < length c.args.self.now.mapping.places = (let all = laid.shaped.places in let virt = c.requires.virt in omega (arith, virt, all)) in
+    (candidate_within x.lab.now x.free.now x.wiring.now c.args.self.now.mapping.places c.args.virt c.args.place laid.choice lt c.requires.among).1
 
 pub index-requires : goal.index-requires
 index-requires c =
@@ -44,9 +51,9 @@ returns-then-from-place-clause-full c =
     let each = laid.seated.one_each in
     let here : ◌≡◌ {A = ℕ} c.index.result.now (guests_at m.places p.0.0) =
     c.index.ensures ∙ get_or_default guests p.0.0 c.index.result.now 0 (let node = within.0 in omega (arith, node, each)) ∙ laid.seated.guests p.0.0 within.0 in
-    let count : ◌≡◌ {A = ℕ} c.number_of.result (number_of (node_at lab p.0).types p.1) = c.number_of.ensures ∙ (λ j. number_of (c.types_at-types.ensures j) p.1) in (
-      λ is. (apart, (let full = leb-true c.number_of.result c.index.result.now is in omega (arith, full, here, count))),
-      λ full. le-leb c.number_of.result c.index.result.now (let most = full.1 in omega (arith, most, here, count)),
+    let most = number_of (node_at lab p.0).types p.1 in (
+      λ is. (apart, (let full = leb-true most c.index.result.now (sym c.is_taken.ensures ∙ is) in omega (arith, full, here))),
+      λ full. c.is_taken.ensures ∙ le-leb most c.index.result.now (let as_many = full.1 in omega (arith, as_many, here)),
     )
 
 pub returns-then-from-place-clause-none : goal.returns-then-from-place-clause-none

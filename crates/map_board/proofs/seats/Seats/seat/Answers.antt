@@ -1,9 +1,9 @@
-use Rattle.std.proofs.Common.{◌≡◌, ◌<◌, ◌∙◌, ℕ, length, get_or, ap, sym, subst, arith}
+use Rattle.std.proofs.Common.{◌≡◌, ◌<◌, ◌∙◌, ℕ, length, get_or, ap, sym, subst, arith, get_or-set_same}
 use Rattle.virt_topo.specs.declared.mapping.Mapping.{Mapping}
 use Rattle.virt_topo.specs.Wirings.{virt_at}
-use Rattle.lab_model.specs.Shapes.{IsShaped}
+use Rattle.lab_model.specs.Shapes.{Place, IsShaped}
 use Rattle.lab_model.specs.Rules.{no_place}
-use Rattle.cost_rule.specs.Cost.{node_soft}
+use Rattle.cost_rule.specs.Cost.{soft_at, node_soft}
 use Rattle.cost_rule.proofs.PartLaws.{soft_small}
 use Rattle.map_board.specs.Seated.{IsSeated, asked_soft, placed_at}
 use Rattle.map_board.proofs.BoardLaws.{shaped_at}
@@ -26,10 +26,11 @@ changed-self-requires-clause-within c =
     let all = c.requires.shaped.places in
     let lt : v < length m.places = omega (arith, virt, all) in
     let law = soft_after lab w m v c.args.place virt lt in
-    let after : ◌≡◌ {A = ℕ} c.node_soft-after.result (node_soft lab w (placed_at m v c.args.place) v) = c.node_soft-after.ensures.sum ∙ ap (λ (y : Mapping). node_soft lab w y v) c.go.ensures.mapping in
+    let before : ◌≡◌ {A = ℕ} c.at-before.result (node_soft lab w m v) = c.at-before.ensures.sum ∙ (λ i. soft_at lab w v (record { 0 = c.node_of-from.ensures i })) in
+    let after : ◌≡◌ {A = ℕ} c.at-after.result (node_soft lab w (placed_at m v c.args.place) v) = c.at-after.ensures.sum ∙ ap (λ (q : Place). soft_at lab w v q.0) (sym (get_or-set_same m.places v c.args.place no_place lt)) in
     let lost : ◌≡◌ {A = ℕ} c.type_soft-lost.result (asked_soft w (placed_at m v c.args.place) (virt_at w v).asks (get_or m.places v no_place).1) =
     c.type_soft-lost.ensures.is ∙ (λ i. asked_soft w (c.go.ensures.mapping i) (virt_at w v).asks (c.kind_of-kind.ensures i)) in
-    omega (arith, law, c.node_soft-before.ensures.sum, c.type_soft-gained.ensures.is, after, lost, c.requires.seated.soft, c.go.ensures.soft)
+    omega (arith, law, before, c.type_soft-gained.ensures.is, after, lost, c.requires.seated.soft, c.go.ensures.soft)
 
 pub returns-clause-shaped : goal.returns-clause-shaped
 returns-clause-shaped c =
@@ -48,9 +49,9 @@ returns-clause-seated c =
     let all = c.requires.shaped.places in
     let lt : v < length m.places = omega (arith, virt, all) in
     let law = soft_after lab w m v p virt lt in
-    let before = c.node_soft-before.ensures.sum in
+    let before : ◌≡◌ {A = ℕ} c.at-before.result (node_soft lab w m v) = c.at-before.ensures.sum ∙ (λ i. soft_at lab w v (record { 0 = c.node_of-from.ensures i })) in
     let gained = c.type_soft-gained.ensures.is in
-    let after : ◌≡◌ {A = ℕ} c.node_soft-after.result (node_soft lab w new v) = c.node_soft-after.ensures.sum ∙ ap (λ (y : Mapping). node_soft lab w y v) c.go.ensures.mapping in
+    let after : ◌≡◌ {A = ℕ} c.at-after.result (node_soft lab w new v) = c.at-after.ensures.sum ∙ ap (λ (q : Place). soft_at lab w v q.0) (sym (get_or-set_same m.places v p no_place lt)) in
     let lost : ◌≡◌ {A = ℕ} c.type_soft-lost.result (asked_soft w new (virt_at w v).asks (get_or m.places v no_place).1) =
     c.type_soft-lost.ensures.is ∙ (λ i. asked_soft w (c.go.ensures.mapping i) (virt_at w v).asks (c.kind_of-kind.ensures i)) in
     let soft = c.requires.seated.soft in

@@ -110,5 +110,6 @@ loop-crossing-preserved c =
             omega (arith, other, same, before))
       ];
       summed = (let total = c.cross_one.ensures.total in let now = inv.summed in omega (arith, total, now, sums, sum_is, enough, part));
+      gains = c.cross_one.ensures.gains ∙ inv.gains;
       bound = (let more = c.cross_one.ensures.bound in let now = inv.bound in omega (arith, more, now));
     }

@@ -12,5 +12,6 @@ invariant-loop-crossing l = record {
   others : (k : ℕ) → (k < 64 * l.row.segment) ⊎ (64 * l.row.segment + 64 ≤ k) → get_or l.self.counts.items k 0 ≡ get_or l.initial.self.counts.items k 0;
   uses : (t : ℕ) → t < length l.initial.self.uses.items → get_or l.self.uses.items t 0 + share l.row.ends (get_or l.initial.self.counts.items (64 * l.row.segment + t) 0) l.row.kbps ≡ get_or l.initial.self.uses.items t 0 + share l.row.ends (get_or l.self.counts.items (64 * l.row.segment + t) 0) l.row.kbps;
   summed : l.self.total ≡ sum_by (λ (u : ℕ). u) l.self.uses.items;
+  gains : l.self.gains.items ≡ l.initial.self.gains.items;
   bound : l.self.total ≤ l.initial.self.total + 256 * 1000000000 * l.crossing-index;
 }

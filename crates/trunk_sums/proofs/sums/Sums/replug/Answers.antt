@@ -1,7 +1,8 @@
-use Rattle.std.proofs.Common.{◌<◌, length, arith}
+use Rattle.std.proofs.Common.{◌<◌, List, length, ap, arith}
 use Rattle.phys_lab.proofs.TrunkCount.{few_trunks}
+use Rattle.trunk_sums.specs.declared.gains.Gains.{Gains}
 use Rattle.trunk_sums.proofs.Replugged.{in_ends, sum_le}
-use Rattle.trunk_sums.proofs.SummedLaws.{Going, Crossed, trunk_at, is_in, counted_at, small_at, summed_after}
+use Rattle.trunk_sums.proofs.SummedLaws.{Going, Crossed, Marked, trunk_at, is_in, counted_at, small_at, summed_after}
 use Rattle.trunk_sums.proofs.sums.Sums.replug.Goals as goal
 
 pub cross-requires-clause-one_each : goal.cross-requires-clause-one_each
@@ -46,11 +47,20 @@ cross-requires-clause-whole c =
     let total = c.requires.summed.total in
     omega (arith, sum, total, few_trunks c.args.lab.now c.range-kept.ensures.lab, c.requires.summed.one_each)
 
+pub mark-requires-clause-within : goal.mark-requires-clause-within
+mark-requires-clause-within c k d lt =
+    let within = c.requires.crossed.within k d lt in
+    omega (arith, within, few_trunks c.args.lab.now c.range-kept.ensures.lab)
+
+pub mark-requires-clause-row : goal.mark-requires-clause-row
+mark-requires-clause-row c = omega (arith, c.requires.row.segment, c.requires.summed.gained, ap (λ (l : List Gains). length l) c.cross.ensures.gains)
+
 pub returns-clause-summed : goal.returns-clause-summed
 returns-clause-summed c =
     let lab = c.args.lab.now in
     let x = c.args.self.now in
     let y = c.cross.new.self in
+    let z = c.mark.new.self in
     let g : Going lab c.args.wiring.now c.args.plugs.now.items c.args.end c.args.row c.args.to c.args.crossed.now x =
     record { limits = c.requires.limits; plugged = c.requires.plugged; of_row = c.requires.row; crossed = c.requires.crossed; summed = c.requires.summed } in
     let after : Crossed c.args.row (length lab.trunks) c.args.crossed.now x y = record {
@@ -60,5 +70,14 @@ returns-clause-summed c =
       others = c.cross.ensures.others;
       uses = λ t lt. c.cross.ensures.uses t (omega (arith, lt, c.requires.summed.one_each));
       summed = c.cross.ensures.summed;
+      gains = c.cross.ensures.gains;
     } in
-    summed_after lab c.args.wiring.now c.args.plugs.now.items c.args.end c.args.row c.args.to c.args.crossed.now x y g after (few_trunks lab c.range-kept.ensures.lab)
+    let marked : Marked c.args.row c.args.crossed.now y z = record {
+      counts = c.mark.ensures.counts;
+      uses = c.mark.ensures.uses;
+      total = c.mark.ensures.total;
+      one_each = c.mark.ensures.one_each;
+      others = c.mark.ensures.others;
+      own = c.mark.ensures.own;
+    } in
+    summed_after lab c.args.wiring.now c.args.plugs.now.items c.args.end c.args.row c.args.to c.args.crossed.now x y z g after marked (few_trunks lab c.range-kept.ensures.lab)

@@ -6,18 +6,14 @@ use Rattle.lab_base.specs.declared.ids.IfaceId.{IfaceId}
 use Rattle.phys_lab.proofs.TrunkCount.{few_trunks}
 use Rattle.phys_lab.specs.Labs.{Lab}
 use Rattle.virt_topo.specs.declared.wiring.Wiring.{Wiring}
-use Rattle.trunk_sums.specs.declared.crossing.Crossing.{Crossing}
 use Rattle.trunk_sums.specs.declared.made.Change.{Change}
-use Rattle.trunk_sums.specs.declared.sums.Sums.{Sums}
 use Rattle.trunk_sums.specs.Summed.{IsRow, own_plugs, used}
 use Rattle.trunk_sums.specs.Totals.{sum_below, used_of_all}
 use Rattle.trunk_sums.specs.Remade.{remade, AreChanges}
-use Rattle.trunk_sums.specs.Foreseen.{before_crossed, once_crossed, AreRising}
-use Rattle.trunk_sums.proofs.Replugged.{in_ends}
-use Rattle.trunk_sums.proofs.SummedLaws.{Going, is_in}
+use Rattle.trunk_sums.specs.Foreseen.{AreRising}
 use Rattle.trunk_sums.proofs.RemadeLaws.{remade_more}
 use Rattle.trunk_sums.proofs.TotalLaws.{sum_is}
-use Rattle.trunk_sums.proofs.ShareLaws.{change_is, own_kept, remade_length, used_bound}
+use Rattle.trunk_sums.proofs.ShareLaws.{own_kept, remade_length, used_bound}
 use Rattle.trunk_sums.proofs.sums.Sums.total_after.Goals as goal
 
 abbrev none : Change
@@ -33,50 +29,43 @@ loop-change-init c =
           ∙ ap (λ (n : ℕ). sum_below n f) summed.one_each;
     }
 
-pub bounds-plugs-end : goal.bounds-plugs-end
-bounds-plugs-end c =
-    let w = c.args.wiring.now in
-    let k = c.loop-change.change-index in
-    let x : Change = get_or c.args.changes.now k none in
-    let row = c.requires.changes.rows k none c.loop-change-test.true in
-    omega (arith, in_ends w.segments x.row.segment x.end (is_in w x.end x.row row), c.requires.plugged)
-
 pub overflow_add-total : goal.overflow_add-total
 overflow_add-total c =
     let lab = c.args.lab.now in
     let few = used_bound lab c.args.wiring.now (remade c.args.plugs.now (take c.loop-change.change-index c.args.changes.now)) c.requires.limits (few_trunks lab c.range-kept.ensures.lab) in
-    omega (arith, few, c.loop-change.invariant.total, c.replug_shares-shares.ensures.small)
+    omega (arith, few, c.loop-change.invariant.total, c.gain-gain.ensures.small)
 
--- the change at k, behind those before it
-next_is : (lab : Lab) (w : Wiring) (plugs : List IfaceId) (cs : List Change) (k : ℕ) (crossed : List Crossing) (x : Sums) → k < length cs
-    → Going lab w plugs (get_or cs k none).end (get_or cs k none).row (get_or cs k none).to crossed x → AreChanges lab w cs → AreRising cs
-    → used_of_all lab w (remade plugs (take (k + 1) cs)) + before_crossed x (get_or cs k none).row crossed
-    ≡ used_of_all lab w (remade plugs (take k cs)) + once_crossed x (get_or cs k none).row crossed
-next_is lab w plugs cs k crossed x here g are rising =
+-- the changes before the one at k leave its segment its plugs
+own_before : (lab : Lab) (w : Wiring) (plugs : List IfaceId) (cs : List Change) (k : ℕ) → k < length cs → AreChanges lab w cs → AreRising cs
+    → own_plugs w.segments (remade plugs (take k cs)) (get_or cs k none).row.segment ≡ own_plugs w.segments plugs (get_or cs k none).row.segment
+own_before lab w plugs cs k here are rising =
     let c : Change = get_or cs k none in
-    let others = remade plugs (take k cs) in
-    let own : own_plugs w.segments others c.row.segment ≡ own_plugs w.segments plugs c.row.segment =
     own_kept w plugs (take k cs) c.row.segment (All-take (λ (y : Change). IsRow w y.end y.row) k cs are.rows) (λ j d j_lt.
     let within : j < k = (let count = length-take-le k cs (omega (arith, here)) in omega (arith, j_lt, count)) in
-    subst (λ (y : Change). y.row.segment < c.row.segment) (sym (get_or-take k cs j d within)) (rising j k d none within here)) in
-    let is = change_is lab w plugs others c.end c.row c.to crossed x g (remade_length plugs (take k cs) ∙ g.plugged) own in
-    let next : ◌≡◌ {A = ℕ} (used_of_all lab w (remade plugs (take (k + 1) cs))) (used_of_all lab w (set others c.end c.to)) = ap (λ (l : List IfaceId). used_of_all lab w l) (remade_more plugs cs k none here) in
-    omega (arith, is, next)
+    subst (λ (y : Change). y.row.segment < c.row.segment) (sym (get_or-take k cs j d within)) (rising j k d none within here))
+
+-- the uses with the change at k, behind those before it
+next_used : (lab : Lab) (w : Wiring) (plugs : List IfaceId) (cs : List Change) (k : ℕ) → k < length cs
+    → used_of_all lab w (remade plugs (take (k + 1) cs)) ≡ used_of_all lab w (set (remade plugs (take k cs)) (get_or cs k none).end (get_or cs k none).to)
+next_used lab w plugs cs k here = ap (λ (l : List IfaceId). used_of_all lab w l) (remade_more plugs cs k none here)
 
 pub overflow_sub-total : goal.overflow_sub-total
 overflow_sub-total c =
+    let w = c.args.wiring.now in
+    let plugs = c.args.plugs.now in
+    let cs = c.args.changes.now in
     let k = c.loop-change.change-index in
     let here = c.loop-change-test.true in
-    let is = next_is c.args.lab.now c.args.wiring.now c.args.plugs.now c.args.changes.now k c.between-crossed.result.now c.args.self.now here
-    (record { limits = c.requires.limits; plugged = c.requires.plugged; of_row = c.requires.changes.rows k none here; crossed = c.between-crossed.ensures; summed = c.requires.summed })
-    c.requires.changes c.requires.rising in
-    omega (arith, is, c.loop-change.invariant.total, c.replug_shares-shares.ensures.before, c.replug_shares-shares.ensures.after)
+    let is = c.gain-gain.ensures.is (remade plugs (take k cs)) (remade_length plugs (take k cs) ∙ c.requires.plugged) (own_before c.args.lab.now w plugs cs k here c.requires.changes c.requires.rising) in
+    omega (arith, is, c.loop-change.invariant.total)
 
 pub loop-change-preserved : goal.loop-change-preserved
 loop-change-preserved c =
+    let w = c.args.wiring.now in
+    let plugs = c.args.plugs.now in
+    let cs = c.args.changes.now in
     let k = c.loop-change.change-index in
     let here = c.loop-change-test.true in
-    let is = next_is c.args.lab.now c.args.wiring.now c.args.plugs.now c.args.changes.now k c.between-crossed.result.now c.args.self.now here
-    (record { limits = c.requires.limits; plugged = c.requires.plugged; of_row = c.requires.changes.rows k none here; crossed = c.between-crossed.ensures; summed = c.requires.summed })
-    c.requires.changes c.requires.rising in
-    record { total = omega (arith, is, c.loop-change.invariant.total, c.replug_shares-shares.ensures.before, c.replug_shares-shares.ensures.after) }
+    let is = c.gain-gain.ensures.is (remade plugs (take k cs)) (remade_length plugs (take k cs) ∙ c.requires.plugged) (own_before c.args.lab.now w plugs cs k here c.requires.changes c.requires.rising) in
+    let next = next_used c.args.lab.now w plugs cs k here in
+    record { total = omega (arith, is, next, c.loop-change.invariant.total) }
