@@ -1,9 +1,8 @@
 -- The images while a journal moves onto the other side.
-use Rattle.std.proofs.Common.{◌≡◌, ◌≢◌, ◌⊎◌, inl, inr, ℕ, ◌+◌, ◌-◌, ◌^◌, ◌<◌, ◌≤◌, ◌==◌, Bool, true, false, List, [], ◌∷◌, ◌++◌, fold, length, get_or, refl, sym, ap, ◌∙◌, subst, arith, append_assoc, length-append}
+use Rattle.std.proofs.Common.{◌≡◌, ◌≢◌, ◌⊎◌, inl, inr, ℕ, ◌+◌, ◌-◌, ◌^◌, ◌<◌, Bool, true, List, [], ◌∷◌, ◌++◌, length, get_or, refl, sym, ap, ◌∙◌, subst, arith, append_assoc, length-append}
 use Rattle.std.specs.List.{flat_map}
 use Rattle.std.proofs.lemmas.Bool.{cases_eq, eqb-true}
-use Rattle.std.proofs.lemmas.List.{length-drop}
-use Rattle.plant.specs.Disks.{Disk, disk, disk_after, wrote, synced, at_once, IsImage, ArePossible}
+use Rattle.plant.specs.Disks.{Disk, disk, wrote, synced, at_once, IsImage, ArePossible}
 use Rattle.plant.specs.Events.{Event}
 use Rattle.plant.specs.declared.step.Side.{Side}
 use Rattle.plant.specs.declared.step.Side.TheVariants.{A, B}
@@ -11,9 +10,9 @@ use Rattle.plant.specs.Sides.{of_side}
 use Rattle.journal_rec.specs.declared.record.Record.{Record}
 use Rattle.journal_rec.specs.Payloads.{le, number}
 use Rattle.journal_rec.proofs.Numbers.{number_le}
-use Rattle.journal_model.specs.Journals.{header, Head, Blank, Headed, head, gate_after, size}
+use Rattle.journal_model.specs.Journals.{header, Head, Blank, Headed, head}
 use Rattle.journal_rec.specs.Packing.{blocks, ArePacked}
-use Rattle.journal_model.specs.Appends.{front, other_side, IsOlder, Known, Rests, Opened, IsOn}
+use Rattle.journal_model.specs.Appends.{front, other_side, IsOlder, Rests, Opened, IsOn}
 use Rattle.journal_model.proofs.Images.{synced_image, byte_image}
 use Rattle.journal_model.proofs.Making.{short_blank, shut_blank}
 use Rattle.journal_model.proofs.Gates.{head_headed, on_shut, rests_image}

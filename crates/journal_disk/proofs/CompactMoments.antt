@@ -1,30 +1,25 @@
 -- Each moment of a journal's move onto the other side, and the journal after it.
-use Rattle.std.proofs.Common.{◌≡◌, ◌⊎◌, inl, inr, ℕ, ◌+◌, ◌-◌, ◌^◌, ◌<◌, Bool, true, false, List, [], ◌∷◌, ◌++◌, length, Option, Some, None, Result, Ok, Err, refl, sym, ap, ◌∙◌, subst, arith, append_assoc, length-append}
-use Rattle.std.specs.Prelude.{IfSome, OnOk, sum_by}
+use Rattle.std.proofs.Common.{◌≡◌, ◌⊎◌, inl, inr, ℕ, ◌+◌, ◌-◌, ◌^◌, ◌<◌, Bool, true, false, List, [], ◌∷◌, ◌++◌, length, Result, Ok, Err, refl, sym, ap, ◌∙◌, subst, arith, append_assoc, length-append}
+use Rattle.std.specs.Prelude.{OnOk}
 use Rattle.std.proofs.lemmas.List.{append-nil}
-use Rattle.std.proofs.lemmas.List.Sums.{sum_by-append}
 use Rattle.plant.specs.Disks.{disk, ArePossible}
 use Rattle.plant.specs.Events.{Event, Wrote, Synced, Cut, Missed}
-use Rattle.plant.specs.Told.{Told, with_steps}
-use Rattle.plant.specs.declared.device.Fault.{Fault}
-use Rattle.plant.specs.declared.device.Fault.TheVariants.{Failed, Stopped}
 use Rattle.plant.specs.declared.step.Side.{Side}
 use Rattle.journal_rec.specs.declared.record.Record.{Record}
 use Rattle.journal_rec.specs.Payloads.{le}
-use Rattle.journal_model.specs.Journals.{magic, Headed, head, size, gate_after}
+use Rattle.journal_model.specs.Journals.{magic, Headed, head, gate_after}
 use Rattle.journal_rec.specs.Packing.{blocks, ArePacked, side_length}
 use Rattle.journal_model.specs.Appends.{front, other_side, Opened, IsOn}
 use Rattle.journal_model.proofs.Gates.{length_front}
 use Rattle.journal_disk.specs.declared.journal.Journal.{Journal}
 use Rattle.journal_disk.specs.declared.fault.CompactFault.{CompactFault}
 use Rattle.journal_disk.specs.declared.fault.CompactFault.TheVariants as faults
-use Rattle.journal_disk.specs.Faults.{compact_fault}
 use Rattle.journal_disk.specs.Standing.{side_of, gate_of, length_of, IsAt}
 use Rattle.journal_disk.specs.Epochs.{epoch_of, HasEpoch}
 use Rattle.journal_disk.specs.Compacting.{side_text, is_unshut, poured, Come, Untouched, Closing, Closed, Cutting, Emptied, Filling, Filled, Raising, InUse, shutting, emptying, filling, come_steps, MayCome, IsInUse}
-use Rattle.journal_disk.specs.Compactions.{MoveEnds, MovesOver, Ends, Compacts, Shifts}
+use Rattle.journal_disk.specs.Compactions.{Ends, Compacts, Shifts}
 use Rattle.journal_disk.proofs.Prefixes.{AllPrefixes, each_prefix, one_more, missed_images}
-use Rattle.journal_disk.proofs.CompactImages.{there_side, Saw, text_there, steps_there, AfterCome, come_images, stands_there, head_there, number_next}
+use Rattle.journal_disk.proofs.CompactImages.{AfterCome, come_images, stands_there, head_there, number_next}
 
 module _ (trace : List Event) (j : Journal) (rs ps : List Record) (packed : List ℕ) (at : IsAt trace j rs) (of' : HasEpoch trace j) (are : ArePacked packed ps) (below : epoch_of j < 2 ^ 64 - 1) where
   abbrev side : Side

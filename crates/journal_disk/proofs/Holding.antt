@@ -1,5 +1,5 @@
 -- The records that an opened journal holds.
-use Rattle.std.proofs.Common.{◌≡◌, ◌+◌, inl, inr, ℕ, List, [], ◌∷◌, drop, Result, Ok, Err, refl, ap, subst}
+use Rattle.std.proofs.Common.{◌+◌, inl, inr, ℕ, List, [], ◌∷◌, drop, Result, Ok, Err, ap, subst}
 use Rattle.std.specs.Prelude.{IfOk}
 use Rattle.std.specs.Global.{Vec}
 use Rattle.lab_base.specs.Lists.{Has}

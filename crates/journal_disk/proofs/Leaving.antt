@@ -1,7 +1,7 @@
 -- How far a move onto a side came when a call was not acknowledged.
 use Rattle.std.proofs.Common.{◌≡◌, inl, inr, ℕ, ◌+◌, ◌≤◌, Bool, true, false, List, [], ◌∷◌, ◌++◌, length, take, drop, Option, Some, None, Result, Ok, Err, refl, sym, ap, ◌∙◌, subst, arith, append_assoc, length-append}
 use Rattle.std.specs.Prelude.{IfSome, OnOk}
-use Rattle.std.proofs.lemmas.List.{append-nil, length-take, length-drop}
+use Rattle.std.proofs.lemmas.List.{append-nil, length-take}
 use Rattle.plant.specs.Disks.{Disk, disk, put}
 use Rattle.plant.specs.DiskCalls.{missed, WriteSteps, SyncSteps, CutSteps}
 use Rattle.plant.specs.Events.{Event, Wrote, Synced, Cut, Missed}
@@ -12,8 +12,8 @@ use Rattle.plant.specs.declared.step.Side.{Side}
 use Rattle.plant.specs.declared.step.Side.TheVariants.{A, B}
 use Rattle.plant.proofs.Traces.{with_steps-nil}
 use Rattle.journal_model.proofs.Traces.{disk_more}
-use Rattle.journal_disk.specs.Compacting.{is_unshut, poured, ArePieces, Come, Untouched, Closing, Closed, Cutting, Emptied, Filling, Filled, Raising, InUse, shutting, emptying, filling, come_steps, MayCome, IsInUse, Leaves, BreaksOff, PourEnds, Pours}
-use Rattle.journal_disk.specs.Compactions.{MoveEnds, MovesOver}
+use Rattle.journal_disk.specs.Compacting.{is_unshut, poured, ArePieces, Come, Untouched, Filling, InUse, shutting, emptying, filling, come_steps, MayCome, Leaves, BreaksOff, Pours}
+use Rattle.journal_disk.specs.Compactions.{MovesOver}
 use Rattle.journal_disk.specs.Reaching.{IsLast}
 use Rattle.journal_disk.proofs.Chains.{chain, Came, sync_came, write_came, sync_ok}
 use Rattle.journal_disk.proofs.Parts.{first_byte, one_byte}

@@ -14,15 +14,13 @@ use Rattle.plant.specs.DiskCalls.{WriteSteps}
 use Rattle.plant.specs.Events.{Event, Wrote}
 use Rattle.plant.specs.Told.{Told, with_steps}
 use Rattle.plant.specs.declared.device.Fault.{Fault}
-use Rattle.plant.specs.declared.device.Fault.TheVariants.{Failed, Stopped}
 use Rattle.plant.specs.declared.step.Side.{Side}
 use Rattle.plant.specs.declared.step.Side.TheVariants.{A, B}
 use Rattle.plant.proofs.Traces.{disk_push}
 use Rattle.journal_rec.specs.Payloads.{le}
 use Rattle.journal_model.specs.Journals.{magic}
-use Rattle.journal_model.proofs.Traces.{disk_more}
 use Rattle.journal_disk.specs.Compacting.{side_text, AreFull, ArePieces, poured, PourEnds, Pours}
-use Rattle.journal_disk.proofs.Chains.{chain, write_ok, Came, write_came}
+use Rattle.journal_disk.proofs.Chains.{chain, write_came}
 
 abbrev pub joined : List (List ℕ) → List ℕ
 joined pieces = flat_map (λ piece. piece) pieces

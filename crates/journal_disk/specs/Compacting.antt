@@ -1,7 +1,6 @@
 -- The steps that a journal's move onto the other side adds to a trace.
 use Rattle.std.specs.Prelude.{◌≡◌, ◌≤◌, ◌<◌, ◌+◌, ◌==◌, ℕ, Bool, true, false, List, [], ◌∷◌, ◌++◌, length, Option, Result, Ok, Err}
 use Rattle.std.specs.List.{flat_map}
-use Rattle.plant.specs.Disks.{disk}
 use Rattle.plant.specs.Events.{Event, Wrote, Synced, Cut}
 use Rattle.plant.specs.Told.{Told, with_steps}
 use Rattle.plant.specs.declared.device.Fault.{Fault}

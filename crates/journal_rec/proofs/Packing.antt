@@ -1,7 +1,6 @@
 -- A record more behind the others.
 use Rattle.std.proofs.Common.{◌≡◌, inl, inr, ℕ, ◌-◌, List, [], ◌∷◌, ◌++◌, length, set, refl, sym, ap, ◌∙◌, subst, arith, length-append, append_assoc}
 use Rattle.std.proofs.lemmas.List.{append-nil, set_at}
-use Rattle.lab_base.specs.Lists.{Has}
 use Rattle.lab_base.proofs.Members.{Has-append}
 use Rattle.journal_rec.specs.Payloads.{body, IsBody, IsRecord}
 use Rattle.journal_rec.specs.Packing.{block, blocks, ArePacked}

@@ -1,9 +1,8 @@
-use Rattle.std.proofs.Common.{◌≡◌, Option, sym, subst, refl, ap, ◌∙◌}
+use Rattle.std.proofs.Common.{◌≡◌, Option, subst, ap, ◌∙◌}
 use Rattle.std.proofs.lemmas.Result.{err_from_is_err_and}
-use Rattle.plant.specs.DiskCalls.{missed}
 use Rattle.plant.specs.Told.{Told, with_steps}
 use Rattle.journal_disk.specs.Compacting.{side_text, emptying, Leaves}
-use Rattle.journal_disk.proofs.Leaving.{missed_last, read_only, may_empty, emptied_long, pour_left, unread, moves_left, filled_ok, moves_end}
+use Rattle.journal_disk.proofs.Leaving.{missed_last, read_only, pour_left, unread, moves_left, filled_ok, moves_end}
 use Rattle.journal_disk.proofs.compact.move_over.Goals as goal
 
 pub returns-in_err-unshut-clause-moves : goal.returns-in_err-unshut-clause-moves

@@ -1,4 +1,4 @@
-use Rattle.std.proofs.Common.{Bool, sym, subst, ap, ◌∙◌}
+use Rattle.std.proofs.Common.{Bool, sym, ap, ◌∙◌}
 use Rattle.plant.specs.Told.{with_steps}
 use Rattle.plant.proofs.Traces.{with_steps-nil}
 use Rattle.journal_disk.specs.Compacting.{shutting}

@@ -1,4 +1,4 @@
-use Rattle.std.proofs.Common.{◌≡◌, ◌∷◌, [], ◌++◌, refl, ap, ◌∙◌, append_assoc}
+use Rattle.std.proofs.Common.{◌≡◌, ◌∷◌, [], ◌++◌, refl, ap, append_assoc}
 use Rattle.std.proofs.lemmas.Result.{err_from_is_err_and}
 use Rattle.plant.specs.Events.{Cut, Synced}
 use Rattle.plant.specs.Told.{with_steps}

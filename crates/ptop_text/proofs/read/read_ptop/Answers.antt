@@ -1,9 +1,7 @@
-use Rattle.std.proofs.Common.{Ok, refl, subst}
+use Rattle.std.proofs.Common.{Ok, refl}
 use Rattle.lab_base.specs.Texts.{lines_of}
 use Rattle.line_text.specs.Reading.{read_from}
-use Rattle.line_text.specs.Refusals.{ReadsInto}
 use Rattle.line_text.proofs.ReadLaws.{passes_on}
-use Rattle.ptop_text.specs.declared.so_far.LabSoFar.{LabSoFar}
 use Rattle.ptop_text.specs.Adding.{added, start, lab_read}
 use Rattle.ptop_text.proofs.read.read_ptop.Goals as goal
 

@@ -4,7 +4,7 @@ use Rattle.std.proofs.lemmas.Result.{err_from_is_err_and}
 use Rattle.plant.specs.Events.{Wrote, Synced}
 use Rattle.plant.proofs.Traces.{with_steps-nil}
 use Rattle.journal_rec.specs.Payloads.{body}
-use Rattle.journal_model.specs.Appends.{Nothing, Body, Settled, Gate, All, added}
+use Rattle.journal_model.specs.Appends.{Nothing, Body, Settled, Gate, added}
 use Rattle.journal_disk.proofs.Chains.{chain, write_ok, sync_ok}
 use Rattle.journal_disk.proofs.Parts.{sync_part, write_part, first_byte, one_byte, begins_within, gate_within, last_sync}
 use Rattle.journal_disk.proofs.journal.Journal.add.Goals as goal

@@ -1,6 +1,4 @@
-use Rattle.std.proofs.Common.{rules, ◌≡◌, ◌++◌, List, ℕ, ◌-◌, length, set, sym, ap, subst}
-use Rattle.journal_rec.specs.declared.record.Record.{Record}
-use Rattle.journal_rec.specs.Packing.{ArePacked}
+use Rattle.std.proofs.Common.{rules, ◌≡◌, ◌++◌, length}
 use Rattle.journal_rec.proofs.Packing.{added}
 use Rattle.journal_rec.proofs.packed.Packed.add.Goals as goal
 
