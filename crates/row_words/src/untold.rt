@@ -12,7 +12,7 @@ pub enum Untold {
     Text(TextFault),
     /// A word of it has this fault.
     Word(Kind),
-    /// A call failed that was to read.
+    /// A call of the plant failed, or the plant takes no drills.
     Plant,
     Memory,
 }
@@ -30,8 +30,11 @@ impl From<AllocError> for Untold {
 }
 
 impl From<DrillFault> for Untold {
-    fn from(_fault: DrillFault) -> Untold {
-        Untold::Memory
+    fn from(fault: DrillFault) -> Untold {
+        match fault {
+            DrillFault::CannotPlan => Untold::Plant,
+            DrillFault::Memory => Untold::Memory,
+        }
     }
 }
 

@@ -15,8 +15,10 @@ use crate::{Live, Turned};
 
 /// A state by its name among all.
 pub trait Named: State {
+    /// The work in this state, as a state among all.
     ghost named: { View → AnyState };
 
+    /// The work in this state, among all states with work left.
     fn live(work: Work) -> Live
         requires { Self.Suits work.commit (stage_of work.plan work.left) }
         ensures { result ≡ named work };
