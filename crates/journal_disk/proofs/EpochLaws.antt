@@ -12,21 +12,22 @@ use Rattle.plant.specs.Sides.{of_side}
 use Rattle.journal_rec.specs.declared.record.Record.{Record}
 use Rattle.journal_rec.specs.declared.record.Found.{Found}
 use Rattle.journal_rec.specs.Payloads.{le, number, IsBody}
-use Rattle.journal_model.specs.Journals.{Headed, head}
+use Rattle.journal_model.specs.Journals.{Headed, head, live}
 use Rattle.journal_model.specs.Appends.{Rests, All, added}
 use Rattle.journal_model.proofs.Runs.{run_disk}
 use Rattle.journal_model.proofs.Syncs.{live_back, headed_bytes}
 use Rattle.journal_model.proofs.Making.{heads_blank}
-use Rattle.journal_disk.specs.declared.front.Place.TheVariants as places
+use Rattle.journal_disk.specs.declared.heads.Place.TheVariants as places
 use Rattle.journal_disk.specs.declared.fault.OpenFault.{OpenFault}
 use Rattle.journal_disk.specs.declared.fault.AppendFault.{AppendFault}
 use Rattle.journal_disk.specs.declared.journal.Journal.{Journal}
-use Rattle.journal_disk.specs.Fronts.{seen, place_of}
+use Rattle.journal_disk.specs.Heads.{seen_live}
 use Rattle.journal_disk.specs.Opening.{making}
 use Rattle.journal_disk.specs.Openings.{IsOpened}
 use Rattle.journal_disk.specs.Standing.{side_of, gate_of, IsAt, Appends}
 use Rattle.journal_disk.specs.Epochs.{epoch_of, HasEpoch}
-use Rattle.journal_disk.proofs.Found.{AreRead, ReadIn, stands_on_side, is_new, rests_made}
+use Rattle.journal_disk.proofs.Found.{AreRead, ReadIn, rests_made}
+use Rattle.journal_disk.proofs.Placing.{on_live, new_live}
 use Rattle.journal_disk.proofs.CompactImages.{head_rests, same_epoch}
 
 -- the epoch of a header is the 8 bytes from 9 on
@@ -43,23 +44,23 @@ reads_of trace a b B read = ap (λ (d : Disk). d.reads) read.on_b
 abbrev pub IsOfEpoch : List ℕ → Result (Journal × Vec Found) OpenFault → Type 0
 IsOfEpoch bytes result = IfOk result (λ opened. epoch_of opened.0 ≡ number (take 8 (drop 9 bytes)))
 
-pub opened_epoch : (told : Option Told) (a b : List ℕ) (side : Side) (limit : ℕ) (result : Result (Journal × Vec Found) OpenFault) → ReadIn told a b → place_of (seen (head a)) (seen (head b)) ≡ places.On side
+pub opened_epoch : (told : Option Told) (a b : List ℕ) (side : Side) (limit : ℕ) (result : Result (Journal × Vec Found) OpenFault) → ReadIn told a b → seen_live (live (head a) (head b)) ≡ places.On side
     → IsOpened side limit (of_side side a b) result → IsOfEpoch (of_side side a b) result → IfOk result (λ opened. IfSome told (λ t. HasEpoch t.trace opened.0))
 opened_epoch told a b side limit (Err fault) read on h e = tt
 opened_epoch None a b side limit (Ok opened) read on h e = tt
 opened_epoch (Some t) a b side limit (Ok opened) read on h e =
-    let back = live_back side a b (stands_on_side a b side on) in
+    let back = live_back side a b (on_live (live (head a) (head b)) side on) in
     record {
       epoch = back.0;
       headed = subst (λ s. head (disk s t.trace).reads ≡ Headed back.0) (sym h.side_is) (ap head (reads_of t.trace a b side read) ∙ back.1);
       number_is = ap number (sym (epoch_read (of_side side a b) back.0 back.1)) ∙ sym e;
     }
 
-pub made_epoch : (told now : Option Told) (a b : List ℕ) (is_short : Bool) (j : Journal) → ReadIn told a b → place_of (seen (head a)) (seen (head b)) ≡ places.New → is_short ≡ nat_lt (length a) 18
+pub made_epoch : (told now : Option Told) (a b : List ℕ) (is_short : Bool) (j : Journal) → ReadIn told a b → seen_live (live (head a) (head b)) ≡ places.New → is_short ≡ nat_lt (length a) 18
     → now ≡ with_steps told (making is_short) → side_of j ≡ A → epoch_of j ≡ 1 → IfSome now (λ t. HasEpoch t.trace j)
 made_epoch None now a b is_short j read new short is side epoch = subst (λ (o : Option Told). IfSome o (λ t. HasEpoch t.trace j)) (sym is) tt
 made_epoch (Some t) now a b is_short j read new short is side epoch =
-    let blank = heads_blank (head a) (head b) (is_new a b new) in
+    let blank = heads_blank (head a) (head b) (new_live (live (head a) (head b)) new) in
     let rests = rests_made t.trace a is_short read.on_a blank.0 short in
     subst (λ (o : Option Told). IfSome o (λ t. HasEpoch t.trace j)) (sym is) (record {
       epoch = le 8 1;

@@ -1,5 +1,5 @@
 -- The journal that an opening finds after both syncs, and the one that it makes.
-use Rattle.std.proofs.Common.{◌≡◌, ◌≢◌, ℕ, ◌≤◌, ◌||◌, ◌==◌, Bool, true, false, not, nat_lt, if◌then◌else◌, List, [], ◌∷◌, ◌++◌, length, Option, Some, None, Result, Ok, Err, refl, sym, ap, ◌∙◌, subst, arith}
+use Rattle.std.proofs.Common.{◌≡◌, ◌≢◌, ℕ, ◌≤◌, ◌||◌, ◌==◌, Bool, true, false, not, nat_lt, List, [], ◌∷◌, ◌++◌, length, Option, Some, None, Result, Ok, Err, refl, sym, ap, ◌∙◌, subst, arith}
 use Rattle.std.specs.Prelude.{IfSome, IfOk}
 use Rattle.std.specs.Global.{Vec}
 use Rattle.std.proofs.lemmas.Bool.{le-ltb, eq-eqb, ltb-true, ltb-false}
@@ -12,69 +12,25 @@ use Rattle.journal_rec.specs.declared.record.Record.{Record}
 use Rattle.journal_rec.specs.declared.record.Record.TheVariants.{Delete}
 use Rattle.journal_rec.specs.declared.record.Found.{Found}
 use Rattle.journal_rec.specs.Payloads.{le, IsRecord}
-use Rattle.journal_model.specs.Journals.{Head, Blank, Foreign, Headed, head, Live, New, On, Wrong, live, Bad, BadOf}
+use Rattle.journal_model.specs.Journals.{Head, Blank, head, New, On, live, Bad, BadOf}
 use Rattle.journal_model.specs.Appends.{IsOlder, Rests, Opened, Nothing}
 use Rattle.journal_model.specs.Making.{IsShort, IsClosed}
 use Rattle.journal_model.proofs.Traces.{disk_more}
 use Rattle.journal_model.proofs.Runs.{run_images}
-use Rattle.journal_model.proofs.Syncs.{live_back, headed_long, opened_from}
+use Rattle.journal_model.proofs.Syncs.{opened_from}
 use Rattle.journal_model.proofs.Making.{short_closed, closed_header, header_rests, heads_blank, open_not_blank}
-use Rattle.journal_disk.specs.declared.front.Place.TheVariants as places
+use Rattle.journal_disk.specs.declared.heads.Place.TheVariants as places
 use Rattle.journal_disk.specs.declared.fault.OpenFault.{OpenFault}
 use Rattle.journal_disk.specs.declared.fault.OpenFault.TheVariants as faults
 use Rattle.journal_disk.specs.declared.journal.Journal.{Journal}
-use Rattle.journal_disk.specs.Fronts.{seen, seen_live, place_of}
+use Rattle.journal_disk.specs.Heads.{seen_live}
 use Rattle.journal_disk.specs.Standing.{side_of, gate_of, IsAt, HasAll}
 use Rattle.journal_disk.specs.Walks.{placed}
 use Rattle.journal_disk.specs.Opening.{both_synced, making}
 use Rattle.journal_disk.specs.Openings.{IsRead, IsOpened}
+use Rattle.journal_disk.proofs.Placing.{on_live, new_live, wrong_live}
 use Rattle.std.proofs.lemmas.List.{append-nil}
 use Rattle.plant.specs.Sides.{of_side}
-
--- ---- where the journal stands
-chosen : (t u : Bool) → (if t then places.Wrong A else if u then places.On A else places.On B) ≡ seen_live (if t then Wrong A else if u then On A else On B)
-chosen true u = refl
-chosen false true = refl
-chosen false false = refl
-
-place_live : (x y : Head) → place_of (seen x) (seen y) ≡ seen_live (live x y)
-place_live Foreign y = refl
-place_live Blank Foreign = refl
-place_live Blank Blank = refl
-place_live Blank (Headed n) = refl
-place_live (Headed m) Foreign = refl
-place_live (Headed m) Blank = refl
-place_live (Headed m) (Headed n) = chosen _ _
-
-on_live : (l : Live) (side : Side) → seen_live l ≡ places.On side → l ≡ On side
-on_live New side e = absurd (cc e)
-on_live (On s) side e = ap On (inside e)
-  where
-    inside : places.On s ≡ places.On side → s ≡ side
-    inside e = cc
-on_live (Wrong s) side e = absurd (cc e)
-
-new_live : (l : Live) → seen_live l ≡ places.New → l ≡ New
-new_live New e = refl
-new_live (On s) e = absurd (cc e)
-new_live (Wrong s) e = absurd (cc e)
-
-wrong_live : (l : Live) (side : Side) → seen_live l ≡ places.Wrong side → l ≡ Wrong side
-wrong_live New side e = absurd (cc e)
-wrong_live (On s) side e = absurd (cc e)
-wrong_live (Wrong s) side e = ap Wrong (inside e)
-  where
-    inside : places.Wrong s ≡ places.Wrong side → s ≡ side
-    inside e = cc
-
-pub stands_on_side : (a b : List ℕ) (side : Side) → place_of (seen (head a)) (seen (head b)) ≡ places.On side → live (head a) (head b) ≡ On side
-stands_on_side a b side e = on_live (live (head a) (head b)) side (sym (place_live (head a) (head b)) ∙ e)
-
-pub is_new : (a b : List ℕ) → place_of (seen (head a)) (seen (head b)) ≡ places.New → live (head a) (head b) ≡ New
-is_new a b e = new_live (live (head a) (head b)) (sym (place_live (head a) (head b)) ∙ e)
-
-pub has_header : (a b : List ℕ) (side : Side) → place_of (seen (head a)) (seen (head b)) ≡ places.On side → 18 ≤ length (of_side side a b)
-has_header a b side e = let h = live_back side a b (stands_on_side a b side e) in headed_long (of_side side a b) h.0 h.1
 
 -- ---- both sides as they were read
 pub record AreRead (trace : List Event) (a b : List ℕ) : Type 0 where
@@ -123,12 +79,12 @@ at_opened trace a b side limit j found read on r = record {
   gate = r.gate_is;
 }
 
-pub opened_ok : (told : Option Told) (a b : List ℕ) (side : Side) (limit : ℕ) (result : Result (Journal × Vec Found) OpenFault) → ReadIn told a b → place_of (seen (head a)) (seen (head b)) ≡ places.On side
+pub opened_ok : (told : Option Told) (a b : List ℕ) (side : Side) (limit : ℕ) (result : Result (Journal × Vec Found) OpenFault) → ReadIn told a b → seen_live (live (head a) (head b)) ≡ places.On side
     → IsOpened side limit (of_side side a b) result → IfOk result (λ opened. (rs : List Record) × (opened.1.items ≡ placed 17 rs) × IfSome told (λ t. IsAt t.trace opened.0 rs × HasAll t.trace rs))
 opened_ok told a b side limit (Err fault) read on h = tt
 opened_ok None a b side limit (Ok opened) read on h = (h.rs, h.found_so, tt)
 opened_ok (Some t) a b side limit (Ok opened) read on h =
-    let at = at_opened t.trace a b side limit opened.0 opened.1.items read (stands_on_side a b side on) h in
+    let at = at_opened t.trace a b side limit opened.0 opened.1.items read (on_live (live (head a) (head b)) side on) h in
     (h.rs, h.found_so, (at, has_all t.trace opened.0 h.rs at))
 
 abbrev is_bad : Side → ℕ → Result (Journal × Vec Found) OpenFault
@@ -150,17 +106,17 @@ in_reads : (told : Option Told) (a b : List ℕ) (side : Side) (at : ℕ) → Re
 in_reads None a b side at read bad = tt
 in_reads (Some t) a b side at read bad = reads_bad t.trace a b side at read bad
 
-pub opened_bad : (told : Option Told) (a b : List ℕ) (s : Side) (limit : ℕ) (result : Result (Journal × Vec Found) OpenFault) (side : Side) (at : ℕ) → ReadIn told a b → place_of (seen (head a)) (seen (head b)) ≡ places.On s
+pub opened_bad : (told : Option Told) (a b : List ℕ) (s : Side) (limit : ℕ) (result : Result (Journal × Vec Found) OpenFault) (side : Side) (at : ℕ) → ReadIn told a b → seen_live (live (head a) (head b)) ≡ places.On s
     → IsOpened s limit (of_side s a b) result → result ≡ Err (faults.Bad side at) → IfSome told (λ t. Bad (disk A t.trace).reads (disk B t.trace).reads side at)
 opened_bad told a b s limit result side at read on h is =
     let found : IsOpened s limit (of_side s a b) (is_bad side at) = subst (λ (r : Result (Journal × Vec Found) OpenFault). IsOpened s limit (of_side s a b) r) is h in
-    in_reads told a b side at read (subst (λ l. BadOf l a b side at) (sym (stands_on_side a b s on)) (sym found.0, found.1))
+    in_reads told a b side at read (subst (λ l. BadOf l a b side at) (sym (on_live (live (head a) (head b)) s on)) (sym found.0, found.1))
 
-pub wrong_bad : (told : Option Told) (a b : List ℕ) (s side : Side) (at : ℕ) → ReadIn told a b → place_of (seen (head a)) (seen (head b)) ≡ places.Wrong s → is_bad s 0 ≡ is_bad side at
+pub wrong_bad : (told : Option Told) (a b : List ℕ) (s side : Side) (at : ℕ) → ReadIn told a b → seen_live (live (head a) (head b)) ≡ places.Wrong s → is_bad s 0 ≡ is_bad side at
     → IfSome told (λ t. Bad (disk A t.trace).reads (disk B t.trace).reads side at)
 wrong_bad told a b s side at read wrong is =
     let parts = bad_parts s side 0 at is in
-    let l = wrong_live (live (head a) (head b)) s (sym (place_live (head a) (head b)) ∙ wrong) in
+    let l = wrong_live (live (head a) (head b)) s wrong in
     in_reads told a b side at read (subst (λ l. BadOf l a b side at) (sym l) (parts.0, sym parts.1))
 
 -- ---- a new journal
@@ -199,11 +155,11 @@ at_made trace a b is_short j read new short side gate =
     } in
     record { opened = subst (λ s. Opened (trace ++ making is_short) s []) (sym side) opened; gate = gate }
 
-pub made_ok : (told now : Option Told) (a b : List ℕ) (is_short : Bool) (j : Journal) → ReadIn told a b → place_of (seen (head a)) (seen (head b)) ≡ places.New → is_short ≡ nat_lt (length a) 18
+pub made_ok : (told now : Option Told) (a b : List ℕ) (is_short : Bool) (j : Journal) → ReadIn told a b → seen_live (live (head a) (head b)) ≡ places.New → is_short ≡ nat_lt (length a) 18
     → now ≡ with_steps told (making is_short) → side_of j ≡ A → gate_of j ≡ 17 → IfSome now (λ t. IsAt t.trace j [] × HasAll t.trace [])
 made_ok None now a b is_short j read new short is side gate = subst (λ (o : Option Told). IfSome o (λ t. IsAt t.trace j [] × HasAll t.trace [])) (sym is) tt
 made_ok (Some t) now a b is_short j read new short is side gate =
-    let at = at_made t.trace a b is_short j read (new_live (live (head a) (head b)) (sym (place_live (head a) (head b)) ∙ new)) short side gate in
+    let at = at_made t.trace a b is_short j read (new_live (live (head a) (head b)) new) short side gate in
     subst (λ (o : Option Told). IfSome o (λ t. IsAt t.trace j [] × HasAll t.trace [])) (sym is) (at, has_all (t.trace ++ making is_short) j [] at)
 
 -- both reads, after both syncs

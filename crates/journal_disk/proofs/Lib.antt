@@ -3,6 +3,7 @@ mod Chains
 pub mod Prefixes
 pub mod Walking
 pub mod Parts
+pub mod Placing
 mod Found
 mod Made
 mod Opening

@@ -59,7 +59,7 @@ cons_of (x ∷ xs) h = refl
 pub closed : (bytes : List ℕ) → 0 < length bytes → get_or bytes 0 0 ≢ 165 → (gate : ℕ) × (rest : List ℕ) × (bytes ≡ gate ∷ rest) × (gate ≢ 165)
 closed bytes some shut = (get_or bytes 0 0, drop 1 bytes, cons_of bytes some, shut)
 
-is_open : (bytes : List ℕ) → 0 < length bytes → get_or bytes 0 0 ≡ 165 → bytes ≡ 165 ∷ drop 1 bytes
+pub is_open : (bytes : List ℕ) → 0 < length bytes → get_or bytes 0 0 ≡ 165 → bytes ≡ 165 ∷ drop 1 bytes
 is_open bytes some is = cons_of bytes some ∙ ap (λ g. g ∷ drop 1 bytes) is
 
 pub too_short : (bytes : List ℕ) → 0 < length bytes → get_or bytes 0 0 ≡ 165 → length bytes < 5 → (rest : List ℕ) × (bytes ≡ 165 ∷ rest) × Broken rest

@@ -3,7 +3,7 @@ pub mod Compacting
 pub mod Compactions
 pub mod Epochs
 pub mod Faults
-pub mod Fronts
+pub mod Heads
 pub mod Opening
 pub mod Openings
 pub mod Reaching

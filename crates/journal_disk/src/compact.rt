@@ -13,7 +13,7 @@ ghost use Rattle.journal_disk.specs.Compacting.{filling, side_text, ArePieces, B
 ghost use Rattle.journal_disk.specs.Compactions.{MovesOver, Compacts, Shifts};
 
 use crate::emptying::{empty, is_unshut};
-use crate::front::OPEN;
+use crate::heads::OPEN;
 use crate::pouring::pour;
 use crate::walk::FIRST;
 use crate::{CompactFault, Journal};

@@ -6,7 +6,7 @@ ghost use Rattle.plant.specs.Events.{Cut, Synced};
 ghost use Rattle.plant.specs.Told.{Told, with_steps};
 ghost use Rattle.journal_disk.specs.Compacting.{is_unshut, shutting, emptying, BreaksOff};
 
-use crate::front::OPEN;
+use crate::heads::OPEN;
 use plant::{Fault, Plant, Side};
 
 /// Whether the front of a side is no closed gate: it is empty, or begins with an open one.

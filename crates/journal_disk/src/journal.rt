@@ -2,7 +2,7 @@ ghost use Rattle.std.specs.Prelude.{◌<◌, ◌≤◌, ◌+◌, ◌^◌};
 ghost use Rattle.journal_rec.specs.declared.limits.TheConstants.{MAX_JOURNAL};
 
 use crate::AppendFault;
-use crate::front::OPEN;
+use crate::heads::OPEN;
 use journal_rec::Encoded;
 use plant::{Fault, Plant, Side};
 

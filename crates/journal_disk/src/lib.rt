@@ -4,7 +4,7 @@
 mod compact;
 mod emptying;
 mod fault;
-mod front;
+mod heads;
 mod journal;
 mod make;
 mod open;
@@ -13,7 +13,7 @@ mod sides;
 mod walk;
 
 pub use fault::{AppendFault, CompactFault, OpenFault};
-pub use front::HEADER;
+pub use heads::{HEADER, Head, OPEN, Place, head_behind, head_of, place_in};
 pub use journal::Journal;
 pub use open::Opened;
 pub use walk::FIRST;

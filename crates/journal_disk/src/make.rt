@@ -5,7 +5,7 @@ ghost use Rattle.plant.specs.Told.{with_steps};
 ghost use Rattle.plant.specs.declared.step.Side.TheVariants.{A};
 ghost use Rattle.journal_disk.specs.Opening.{cleared, headed, making, Makes, Closed, InUse};
 
-use crate::front::OPEN;
+use crate::heads::OPEN;
 use plant::{Fault, Plant, Side};
 
 /// The header of a new journal behind its gate, with the closed gate of the first record.

@@ -5,8 +5,7 @@ ghost use Rattle.plant.specs.declared.step.Side.{Side as AnySide};
 ghost use Rattle.plant.specs.declared.step.Side.TheVariants.{A, B};
 ghost use Rattle.journal_rec.specs.declared.record.Record.{Record};
 ghost use Rattle.journal_rec.specs.Payloads.{number};
-ghost use Rattle.journal_model.specs.Journals.{Bad, head};
-ghost use Rattle.journal_disk.specs.Fronts.{seen, place_of};
+ghost use Rattle.journal_model.specs.Journals.{Bad};
 ghost use Rattle.journal_disk.specs.Walks.{placed};
 ghost use Rattle.journal_disk.specs.Standing.{IsAt, HasAll, Holds, limit_of};
 ghost use Rattle.journal_disk.specs.Epochs.{epoch_of, HasEpoch};
@@ -16,7 +15,7 @@ ghost use Rattle.journal_disk.specs.Before.{IsOpening};
 ghost use Rattle.plant.specs.Events.{Event};
 ghost use Rattle.plant.specs.Told.{with_steps};
 
-use crate::front::{HEADER, Place, epoch_in, front_of, place_of};
+use crate::heads::{HEADER, Place, epoch_in, place_in};
 use crate::make::make;
 use crate::sides::{read_side, sync_sides};
 use crate::walk::{FIRST, WalkFault, walk};
@@ -27,12 +26,6 @@ use std::alloc::Global;
 
 /// A journal with its records.
 pub type Opened = (Journal, Vec<Found>);
-
-fn place_in(a: &[u8], b: &[u8]) -> Place
-    ensures { result ≡ place_of (seen (head a.now)) (seen (head b.now)) }
-{
-    place_of(front_of(a), front_of(b))
-}
 
 /// The journal on a side with a header.
 fn opened(alloc: Global, side: Side, bytes: &[u8], limit: u64) -> Result<Opened, OpenFault>

@@ -16,7 +16,7 @@ use plant::{Fault, Plant, Side};
 const HEAD: usize = 16;
 
 /// The bytes of a header of that epoch between these gates.
-fn head_of(epoch: u64) -> [u8; HEAD]
+fn header_of(epoch: u64) -> [u8; HEAD]
     ensures { result ≡ magic ++ le 8 epoch }
 {
     let [a, b, c, d, e, f, g, h] = epoch.to_le_bytes();
@@ -31,7 +31,7 @@ fn put_head(text: &mut [u8], epoch: u64, records: &[u8])
     ensures { text.new ≡ side_text epoch records.now }
 {
     let (head, rest) = text.split_at_mut(HEAD);
-    head.copy_from_slice(&head_of(epoch));
+    head.copy_from_slice(&header_of(epoch));
     rest.copy_from_slice(records);
 }
 

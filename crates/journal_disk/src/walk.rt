@@ -2,7 +2,7 @@ ghost use Rattle.std.specs.Prelude.{◌≡◌, ◌<◌, ◌≤◌, length, take}
 ghost use Rattle.journal_rec.specs.Payloads.{number};
 ghost use Rattle.journal_disk.specs.Walks.{IsBlock, IsWalk};
 
-use crate::front::{HEADER, OPEN};
+use crate::heads::{HEADER, OPEN};
 use journal_rec::{Found, RecFault, Record, decode};
 use std::alloc::Global;
 

@@ -5,9 +5,10 @@ use Rattle.plant.specs.Sides.{of_side}
 use Rattle.journal_rec.specs.declared.record.Found.{Found}
 use Rattle.journal_model.specs.Journals.{head, live, New, Bad}
 use Rattle.records_model.specs.Labs.{LabState}
-use Rattle.lab_sides.specs.declared.heads.Head.{Head}
-use Rattle.lab_sides.specs.declared.heads.Head.TheVariants.{Blank, Foreign, Headed}
-use Rattle.lab_sides.specs.Heads.{seen, shut_head, is_cut}
+use Rattle.journal_disk.specs.declared.heads.Head.{Head}
+use Rattle.journal_disk.specs.declared.heads.Head.TheVariants.{Blank, Foreign, Headed}
+use Rattle.journal_disk.specs.Heads.{seen}
+use Rattle.lab_sides.specs.Heads.{shut_head, is_cut}
 use Rattle.lab_sides.specs.Walks.{AreThere}
 use Rattle.lab_look.specs.declared.report.SideReport.{SideReport}
 use Rattle.lab_look.specs.declared.report.Standing.{Standing}

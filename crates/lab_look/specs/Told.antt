@@ -7,8 +7,8 @@ use Rattle.journal_rec.specs.declared.record.Way.TheVariants.{In, Out, Change, C
 use Rattle.journal_rec.specs.declared.record.Record.{Record}
 use Rattle.journal_rec.specs.declared.record.Record.TheVariants.{Lab, Create, Delete, Begin, Commit, Abort, Create2}
 use Rattle.journal_rec.specs.declared.record.Found.{Found}
-use Rattle.lab_sides.specs.declared.heads.Head.{Head}
-use Rattle.lab_sides.specs.declared.heads.Head.TheVariants.{Blank, Foreign, Headed}
+use Rattle.journal_disk.specs.declared.heads.Head.{Head}
+use Rattle.journal_disk.specs.declared.heads.Head.TheVariants.{Blank, Foreign, Headed}
 use Rattle.lab_sides.specs.declared.walking.Walked.{Walked}
 use Rattle.lab_look.specs.declared.report.SideReport.{SideReport}
 use Rattle.lab_look.specs.declared.report.Standing.{Standing}

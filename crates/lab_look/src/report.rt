@@ -3,10 +3,10 @@ ghost use Rattle.std.specs.Prelude.{◌≡◌, IfOk};
 ghost use Rattle.lab_look.specs.Reports.{is_shut, IsShut, IsSideReport, IsStanding, IsReport};
 
 use crate::looked::{Looked, look};
-use journal_disk::FIRST;
+use journal_disk::{FIRST, Head, head_of};
 use journal_rec::Found;
 use lab_base::{Items, Memory};
-use lab_sides::{Head, Walked, behind, bytes_of, head_of, is_cut, shut_head};
+use lab_sides::{Walked, behind, bytes_of, is_cut, shut_head};
 use plant::Side;
 use std::alloc::Global;
 

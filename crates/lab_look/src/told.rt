@@ -4,9 +4,10 @@ ghost use Rattle.lab_look.specs.Reports.{is_headed, has_some, has_more, is_side_
 ghost use Rattle.lab_look.specs.Told.{stands_on, no_journal, epoch_words, changed_words, behind_words, side_word, way_word, kind_words, record_line, record_lines, damage, head_words, cut_line, side_lines, shut_records, shut_words, shut_lines, behind_lines, rows_line, stands_lines, closed_words, gate_line, on_lines, standing_lines, verdict_of, told_text, IsChecked};
 
 use crate::report::{Report, SideReport, Standing, report_of};
+use journal_disk::Head;
 use journal_rec::{Found, Record, Way};
 use lab_base::{Items, Memory, Name, Text};
-use lab_sides::{Head, Walked};
+use lab_sides::Walked;
 use plant::Side;
 use std::alloc::Global;
 

@@ -1,10 +1,10 @@
 -- One record behind a gate.
-use Rattle.std.proofs.Common.{◌≡◌, ℕ, zero, suc, get_or, lit<, ◌+◌, ◌-◌, ◌<◌, ◌≤◌, List, [], ◌∷◌, ◌++◌, length, take, drop, refl, sym, ap, ◌∙◌, subst, arith}
+use Rattle.std.proofs.Common.{◌≡◌, ℕ, zero, suc, get_or, lit<, ◌+◌, ◌-◌, ◌<◌, ◌≤◌, List, ◌∷◌, ◌++◌, length, take, drop, refl, sym, ap, ◌∙◌, subst, arith}
 use Rattle.journal_rec.specs.declared.record.Record.{Record}
-use Rattle.journal_rec.specs.Payloads.{number, IsRecord, Decodes}
+use Rattle.journal_rec.specs.Payloads.{number, Decodes}
 use Rattle.journal_rec.proofs.Numbers.{IsBytes}
 use Rattle.journal_rec.specs.Packing.{block}
-use Rattle.journal_model.specs.Journals.{size, Broken, no_length, cut_off, no_record}
+use Rattle.journal_model.specs.Journals.{Broken, cut_off, no_record}
 use Rattle.journal_disk.proofs.Walking.{whole}
 use Rattle.lab_sides.specs.Walks.{IsBehind}
 

@@ -1,5 +1,5 @@
 -- The records of two sides.
-use Rattle.std.specs.Prelude.{◌≡◌, ◌<◌, ℕ, List, length, drop}
+use Rattle.std.specs.Prelude.{◌≡◌, ◌<◌, ℕ, List, length}
 use Rattle.plant.specs.declared.step.Side.{Side}
 use Rattle.plant.specs.Sides.{of_side}
 use Rattle.journal_rec.specs.declared.record.Record.{Record}

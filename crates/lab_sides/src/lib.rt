@@ -8,6 +8,6 @@ mod read;
 mod walking;
 
 pub use closed::behind;
-pub use heads::{Head, Place, head_of, is_cut, place_of, shut_head};
+pub use heads::{is_cut, shut_head};
 pub use read::{Read, bytes_of, read_sides};
 pub use walking::{Ended, Walked, walk};

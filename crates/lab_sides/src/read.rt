@@ -2,11 +2,10 @@
 ghost use Rattle.std.specs.Prelude.{◌≡◌, ◌≤◌, length, IfOk};
 ghost use Rattle.plant.specs.Sides.{of_side};
 ghost use Rattle.journal_model.specs.Journals.{head, live, On};
-ghost use Rattle.lab_sides.specs.Heads.{seen_live};
 ghost use Rattle.lab_sides.specs.Reads.{IsRead};
 
-use crate::heads::{Place, head_of, place_of};
 use crate::walking::{Ended, Walked, walk};
+use journal_disk::{Place, place_in};
 use journal_rec::Found;
 use lab_base::{Items, Memory};
 use plant::Side;
@@ -36,13 +35,6 @@ pub fn bytes_of<'a>(side: Side, a: &'a [u8], b: &'a [u8]) -> &'a [u8]
         Side::A => a,
         Side::B => b,
     }
-}
-
-#[tactic(auto, using(crate::proofs::Placing::place_live))]
-fn place_in(a: &[u8], b: &[u8]) -> Place
-    ensures { result ≡ seen_live (live (head a.now) (head b.now)) }
-{
-    place_of(head_of(a), head_of(b))
 }
 
 /// The journal on a side that is the live one.

@@ -3,8 +3,7 @@ ghost use Rattle.std.specs.Prelude.{◌≡◌, ◌≤◌, length, IfOk};
 ghost use Rattle.lab_sides.specs.Walks.{IsWalk};
 
 use crate::body::record_in;
-use crate::heads::OPEN;
-use journal_disk::{FIRST, HEADER};
+use journal_disk::{FIRST, HEADER, OPEN};
 use journal_rec::Found;
 use lab_base::{Items, Memory};
 use std::alloc::Global;

@@ -1,6 +1,7 @@
-use Rattle.std.proofs.Common.{sym, ◌∙◌}
+use Rattle.std.proofs.Common.{sym}
 use Rattle.journal_model.specs.Journals.{head, live}
-use Rattle.lab_sides.proofs.Placing.{on_live, wrong_live, wrong_read}
+use Rattle.journal_disk.proofs.Placing.{on_live, wrong_live}
+use Rattle.lab_sides.proofs.Placing.{wrong_read}
 use Rattle.lab_sides.proofs.read.read_sides.Goals as goal
 
 pub read_side-requires : goal.read_side-requires

@@ -2,9 +2,9 @@ use Rattle.std.proofs.Common.{◌≡◌, List, ℕ, [], sym, refl, ap, subst, �
 use Rattle.std.specs.Global.{Vec}
 use Rattle.std.proofs.lemmas.Result.{err_from_is_err_and}
 use Rattle.plant.specs.declared.step.Side.TheVariants.{A, B}
-use Rattle.journal_model.specs.Journals.{head}
-use Rattle.journal_disk.specs.declared.front.Place.TheVariants as places
-use Rattle.journal_disk.specs.Fronts.{seen, place_of}
+use Rattle.journal_model.specs.Journals.{head, live}
+use Rattle.journal_disk.specs.declared.heads.Place.TheVariants as places
+use Rattle.journal_disk.specs.Heads.{seen_live}
 use Rattle.journal_disk.specs.Openings.{IsOpened}
 use Rattle.journal_disk.proofs.Opening.{saw, syncs_exit, reads_exit, made_exit, new_exit, on_exit, wrong_exit, moments_of}
 use Rattle.journal_disk.proofs.Found.{read_in, opened_ok, opened_bad, wrong_bad, made_ok}
@@ -24,7 +24,7 @@ returns-in-On-A-clause-ok g c =
     let a = c.in_ok-a.a.items in
     let b = c.in_ok-b.b.items in
     let read = read_in (g.P.Plant.seen c.args.plant.now).told (g.P.Plant.seen c.sync_sides.new.plant).told (g.P.Plant.seen c.read_side.new.plant).told (g.P.Plant.seen c.read_side-2.new.plant).told a b s c.in_ok-a.ensures.trace c.in_ok-b.ensures.trace c.in_ok-a.ensures.bytes c.in_ok-b.ensures.bytes in
-    let here : place_of (seen (head a)) (seen (head b)) ≡ c.place_in.result = (λ i. place_of (seen (head (sym c.deref.ensures.value i))) (seen (head (sym c.deref-2.ensures.value i)))) ∙ sym c.place_in.ensures in
+    let here : seen_live (live (head a) (head b)) ≡ c.place_in.result = (λ i. seen_live (live (head (sym c.deref.ensures.value i)) (head (sym c.deref-2.ensures.value i)))) ∙ sym c.place_in.ensures in
     let place = here ∙ c.in-On-A.is ∙ ap places.On c.in-On-A.field-0-is in
     let opened = subst (λ (l : List ℕ). IsOpened A c.args.limit l c.opened.result) c.deref-in-On-A.ensures.value c.opened.ensures.opened in
     opened_ok (g.P.Plant.seen c.read_side-2.new.plant).told a b A c.args.limit c.opened.result read place opened
@@ -35,7 +35,7 @@ returns-in-On-A-clause-bad g c side at is =
     let a = c.in_ok-a.a.items in
     let b = c.in_ok-b.b.items in
     let read = read_in (g.P.Plant.seen c.args.plant.now).told (g.P.Plant.seen c.sync_sides.new.plant).told (g.P.Plant.seen c.read_side.new.plant).told (g.P.Plant.seen c.read_side-2.new.plant).told a b s c.in_ok-a.ensures.trace c.in_ok-b.ensures.trace c.in_ok-a.ensures.bytes c.in_ok-b.ensures.bytes in
-    let here : place_of (seen (head a)) (seen (head b)) ≡ c.place_in.result = (λ i. place_of (seen (head (sym c.deref.ensures.value i))) (seen (head (sym c.deref-2.ensures.value i)))) ∙ sym c.place_in.ensures in
+    let here : seen_live (live (head a) (head b)) ≡ c.place_in.result = (λ i. seen_live (live (head (sym c.deref.ensures.value i)) (head (sym c.deref-2.ensures.value i)))) ∙ sym c.place_in.ensures in
     let place = here ∙ c.in-On-A.is ∙ ap places.On c.in-On-A.field-0-is in
     let opened = subst (λ (l : List ℕ). IsOpened A c.args.limit l c.opened.result) c.deref-in-On-A.ensures.value c.opened.ensures.opened in
     opened_bad (g.P.Plant.seen c.read_side-2.new.plant).told a b A c.args.limit c.opened.result side at read place opened is
@@ -46,7 +46,7 @@ returns-in-On-B-clause-ok g c =
     let a = c.in_ok-a.a.items in
     let b = c.in_ok-b.b.items in
     let read = read_in (g.P.Plant.seen c.args.plant.now).told (g.P.Plant.seen c.sync_sides.new.plant).told (g.P.Plant.seen c.read_side.new.plant).told (g.P.Plant.seen c.read_side-2.new.plant).told a b s c.in_ok-a.ensures.trace c.in_ok-b.ensures.trace c.in_ok-a.ensures.bytes c.in_ok-b.ensures.bytes in
-    let here : place_of (seen (head a)) (seen (head b)) ≡ c.place_in.result = (λ i. place_of (seen (head (sym c.deref.ensures.value i))) (seen (head (sym c.deref-2.ensures.value i)))) ∙ sym c.place_in.ensures in
+    let here : seen_live (live (head a) (head b)) ≡ c.place_in.result = (λ i. seen_live (live (head (sym c.deref.ensures.value i)) (head (sym c.deref-2.ensures.value i)))) ∙ sym c.place_in.ensures in
     let place = here ∙ c.in-On-B.is ∙ ap places.On c.in-On-B.field-0-is in
     let opened = subst (λ (l : List ℕ). IsOpened B c.args.limit l c.opened-in-On-B.result) c.deref-in-On-B.ensures.value c.opened-in-On-B.ensures.opened in
     opened_ok (g.P.Plant.seen c.read_side-2.new.plant).told a b B c.args.limit c.opened-in-On-B.result read place opened
@@ -57,7 +57,7 @@ returns-in-On-B-clause-bad g c side at is =
     let a = c.in_ok-a.a.items in
     let b = c.in_ok-b.b.items in
     let read = read_in (g.P.Plant.seen c.args.plant.now).told (g.P.Plant.seen c.sync_sides.new.plant).told (g.P.Plant.seen c.read_side.new.plant).told (g.P.Plant.seen c.read_side-2.new.plant).told a b s c.in_ok-a.ensures.trace c.in_ok-b.ensures.trace c.in_ok-a.ensures.bytes c.in_ok-b.ensures.bytes in
-    let here : place_of (seen (head a)) (seen (head b)) ≡ c.place_in.result = (λ i. place_of (seen (head (sym c.deref.ensures.value i))) (seen (head (sym c.deref-2.ensures.value i)))) ∙ sym c.place_in.ensures in
+    let here : seen_live (live (head a) (head b)) ≡ c.place_in.result = (λ i. seen_live (live (head (sym c.deref.ensures.value i)) (head (sym c.deref-2.ensures.value i)))) ∙ sym c.place_in.ensures in
     let place = here ∙ c.in-On-B.is ∙ ap places.On c.in-On-B.field-0-is in
     let opened = subst (λ (l : List ℕ). IsOpened B c.args.limit l c.opened-in-On-B.result) c.deref-in-On-B.ensures.value c.opened-in-On-B.ensures.opened in
     opened_bad (g.P.Plant.seen c.read_side-2.new.plant).told a b B c.args.limit c.opened-in-On-B.result side at read place opened is
@@ -68,7 +68,7 @@ returns-clause-bad g c side at is =
     let a = c.in_ok-a.a.items in
     let b = c.in_ok-b.b.items in
     let read = read_in (g.P.Plant.seen c.args.plant.now).told (g.P.Plant.seen c.sync_sides.new.plant).told (g.P.Plant.seen c.read_side.new.plant).told (g.P.Plant.seen c.read_side-2.new.plant).told a b s c.in_ok-a.ensures.trace c.in_ok-b.ensures.trace c.in_ok-a.ensures.bytes c.in_ok-b.ensures.bytes in
-    let here : place_of (seen (head a)) (seen (head b)) ≡ c.place_in.result = (λ i. place_of (seen (head (sym c.deref.ensures.value i))) (seen (head (sym c.deref-2.ensures.value i)))) ∙ sym c.place_in.ensures in
+    let here : seen_live (live (head a) (head b)) ≡ c.place_in.result = (λ i. seen_live (live (head (sym c.deref.ensures.value i)) (head (sym c.deref-2.ensures.value i)))) ∙ sym c.place_in.ensures in
     wrong_bad (g.P.Plant.seen c.read_side-2.new.plant).told a b c.in-Wrong.side side at read (here ∙ c.in-Wrong.is) is
 
 pub returns-in-New-clause-ok : goal.returns-in-New-clause-ok
@@ -77,7 +77,7 @@ returns-in-New-clause-ok g c =
     let a = c.in_ok-a.a.items in
     let b = c.in_ok-b.b.items in
     let read = read_in (g.P.Plant.seen c.args.plant.now).told (g.P.Plant.seen c.sync_sides.new.plant).told (g.P.Plant.seen c.read_side.new.plant).told (g.P.Plant.seen c.read_side-2.new.plant).told a b s c.in_ok-a.ensures.trace c.in_ok-b.ensures.trace c.in_ok-a.ensures.bytes c.in_ok-b.ensures.bytes in
-    let here : place_of (seen (head a)) (seen (head b)) ≡ c.place_in.result = (λ i. place_of (seen (head (sym c.deref.ensures.value i))) (seen (head (sym c.deref-2.ensures.value i)))) ∙ sym c.place_in.ensures in
+    let here : seen_live (live (head a) (head b)) ≡ c.place_in.result = (λ i. seen_live (live (head (sym c.deref.ensures.value i)) (head (sym c.deref-2.ensures.value i)))) ∙ sym c.place_in.ensures in
     let short = ap (λ n. nat_lt n 18) (c.len.ensures ∙ c.in_ok-a.a.ok.0) in
     ([], c.new.ensures.items, made_ok (g.P.Plant.seen c.read_side-2.new.plant).told (g.P.Plant.seen c.make.new.plant).told a b (nat_lt c.len.result 18) _ read (here ∙ c.in-New.is) short c.in_ok-make-in-New.ensures.ok refl refl)
 
@@ -117,7 +117,7 @@ returns-in_err-make-in-New-clause-opens g c =
     let b = c.in_ok-b.b.items in
     let saw_so = saw told (g.P.Plant.seen c.sync_sides.new.plant).told (g.P.Plant.seen c.read_side.new.plant).told a b first c.in_ok-a.ensures.trace c.in_ok-a.ensures.bytes c.in_ok-b.ensures.bytes in
     let synced = c.in_ok-b.ensures.trace ∙ c.in_ok-a.ensures.trace ∙ first in
-    let here : place_of (seen (head a)) (seen (head b)) ≡ c.place_in.result = (λ i. place_of (seen (head (sym c.deref.ensures.value i))) (seen (head (sym c.deref-2.ensures.value i)))) ∙ sym c.place_in.ensures in
+    let here : seen_live (live (head a) (head b)) ≡ c.place_in.result = (λ i. seen_live (live (head (sym c.deref.ensures.value i)) (head (sym c.deref-2.ensures.value i)))) ∙ sym c.place_in.ensures in
     let p = err_from_is_err_and c.from_residual-in_err-make-in-New.result c.from_residual-in_err-make-in-New.ensures.1 in
     let short = ap (λ n. nat_lt n 18) (c.len.ensures ∙ c.in_ok-a.a.ok.0) in
     made_exit told (g.P.Plant.seen c.read_side-2.new.plant).told (g.P.Plant.seen c.make.new.plant).told a b saw_so synced (nat_lt c.len.result 18) c.from_residual-in_err-make-in-New.result c.in_err-make-in-New.field-0.0 (here ∙ c.in-New.is) short c.in_err-make-in-New.ensures.makes (rw (p.1, p.2) refl)
@@ -133,7 +133,7 @@ returns-in-New-clause-opens g c =
     let b = c.in_ok-b.b.items in
     let saw_so = saw told (g.P.Plant.seen c.sync_sides.new.plant).told (g.P.Plant.seen c.read_side.new.plant).told a b first c.in_ok-a.ensures.trace c.in_ok-a.ensures.bytes c.in_ok-b.ensures.bytes in
     let synced = c.in_ok-b.ensures.trace ∙ c.in_ok-a.ensures.trace ∙ first in
-    let here : place_of (seen (head a)) (seen (head b)) ≡ c.place_in.result = (λ i. place_of (seen (head (sym c.deref.ensures.value i))) (seen (head (sym c.deref-2.ensures.value i)))) ∙ sym c.place_in.ensures in
+    let here : seen_live (live (head a) (head b)) ≡ c.place_in.result = (λ i. seen_live (live (head (sym c.deref.ensures.value i)) (head (sym c.deref-2.ensures.value i)))) ∙ sym c.place_in.ensures in
     let short = ap (λ n. nat_lt n 18) (c.len.ensures ∙ c.in_ok-a.a.ok.0) in
     new_exit told (g.P.Plant.seen c.read_side-2.new.plant).told (g.P.Plant.seen c.make.new.plant).told a b saw_so synced (nat_lt c.len.result 18) _ (here ∙ c.in-New.is) short c.in_ok-make-in-New.ensures.ok
 
@@ -148,7 +148,7 @@ returns-in-On-A-clause-opens g c =
     let b = c.in_ok-b.b.items in
     let saw_so = saw told (g.P.Plant.seen c.sync_sides.new.plant).told (g.P.Plant.seen c.read_side.new.plant).told a b first c.in_ok-a.ensures.trace c.in_ok-a.ensures.bytes c.in_ok-b.ensures.bytes in
     let synced = c.in_ok-b.ensures.trace ∙ c.in_ok-a.ensures.trace ∙ first in
-    let here : place_of (seen (head a)) (seen (head b)) ≡ c.place_in.result = (λ i. place_of (seen (head (sym c.deref.ensures.value i))) (seen (head (sym c.deref-2.ensures.value i)))) ∙ sym c.place_in.ensures in
+    let here : seen_live (live (head a) (head b)) ≡ c.place_in.result = (λ i. seen_live (live (head (sym c.deref.ensures.value i)) (head (sym c.deref-2.ensures.value i)))) ∙ sym c.place_in.ensures in
     let place = here ∙ c.in-On-A.is ∙ ap places.On c.in-On-A.field-0-is in
     let opened = subst (λ (l : List ℕ). IsOpened A c.args.limit l c.opened.result) c.deref-in-On-A.ensures.value c.opened.ensures.opened in
     on_exit told (g.P.Plant.seen c.read_side-2.new.plant).told (g.P.Plant.seen c.read_side-2.new.plant).told a b saw_so synced A c.args.limit c.opened.result place opened
@@ -164,7 +164,7 @@ returns-in-On-B-clause-opens g c =
     let b = c.in_ok-b.b.items in
     let saw_so = saw told (g.P.Plant.seen c.sync_sides.new.plant).told (g.P.Plant.seen c.read_side.new.plant).told a b first c.in_ok-a.ensures.trace c.in_ok-a.ensures.bytes c.in_ok-b.ensures.bytes in
     let synced = c.in_ok-b.ensures.trace ∙ c.in_ok-a.ensures.trace ∙ first in
-    let here : place_of (seen (head a)) (seen (head b)) ≡ c.place_in.result = (λ i. place_of (seen (head (sym c.deref.ensures.value i))) (seen (head (sym c.deref-2.ensures.value i)))) ∙ sym c.place_in.ensures in
+    let here : seen_live (live (head a) (head b)) ≡ c.place_in.result = (λ i. seen_live (live (head (sym c.deref.ensures.value i)) (head (sym c.deref-2.ensures.value i)))) ∙ sym c.place_in.ensures in
     let place = here ∙ c.in-On-B.is ∙ ap places.On c.in-On-B.field-0-is in
     let opened = subst (λ (l : List ℕ). IsOpened B c.args.limit l c.opened-in-On-B.result) c.deref-in-On-B.ensures.value c.opened-in-On-B.ensures.opened in
     on_exit told (g.P.Plant.seen c.read_side-2.new.plant).told (g.P.Plant.seen c.read_side-2.new.plant).told a b saw_so synced B c.args.limit c.opened-in-On-B.result place opened
@@ -187,7 +187,7 @@ returns-in-New-clause-epoch g c =
     let a = c.in_ok-a.a.items in
     let b = c.in_ok-b.b.items in
     let read = read_in (g.P.Plant.seen c.args.plant.now).told (g.P.Plant.seen c.sync_sides.new.plant).told (g.P.Plant.seen c.read_side.new.plant).told (g.P.Plant.seen c.read_side-2.new.plant).told a b s c.in_ok-a.ensures.trace c.in_ok-b.ensures.trace c.in_ok-a.ensures.bytes c.in_ok-b.ensures.bytes in
-    let here : place_of (seen (head a)) (seen (head b)) ≡ c.place_in.result = (λ i. place_of (seen (head (sym c.deref.ensures.value i))) (seen (head (sym c.deref-2.ensures.value i)))) ∙ sym c.place_in.ensures in
+    let here : seen_live (live (head a) (head b)) ≡ c.place_in.result = (λ i. seen_live (live (head (sym c.deref.ensures.value i)) (head (sym c.deref-2.ensures.value i)))) ∙ sym c.place_in.ensures in
     let short = ap (λ n. nat_lt n 18) (c.len.ensures ∙ c.in_ok-a.a.ok.0) in
     made_epoch (g.P.Plant.seen c.read_side-2.new.plant).told (g.P.Plant.seen c.make.new.plant).told a b (nat_lt c.len.result 18) _ read (here ∙ c.in-New.is) short c.in_ok-make-in-New.ensures.ok refl refl
 
@@ -197,7 +197,7 @@ returns-in-On-A-clause-epoch g c =
     let a = c.in_ok-a.a.items in
     let b = c.in_ok-b.b.items in
     let read = read_in (g.P.Plant.seen c.args.plant.now).told (g.P.Plant.seen c.sync_sides.new.plant).told (g.P.Plant.seen c.read_side.new.plant).told (g.P.Plant.seen c.read_side-2.new.plant).told a b s c.in_ok-a.ensures.trace c.in_ok-b.ensures.trace c.in_ok-a.ensures.bytes c.in_ok-b.ensures.bytes in
-    let here : place_of (seen (head a)) (seen (head b)) ≡ c.place_in.result = (λ i. place_of (seen (head (sym c.deref.ensures.value i))) (seen (head (sym c.deref-2.ensures.value i)))) ∙ sym c.place_in.ensures in
+    let here : seen_live (live (head a) (head b)) ≡ c.place_in.result = (λ i. seen_live (live (head (sym c.deref.ensures.value i)) (head (sym c.deref-2.ensures.value i)))) ∙ sym c.place_in.ensures in
     let place = here ∙ c.in-On-A.is ∙ ap places.On c.in-On-A.field-0-is in
     let opened = subst (λ (l : List ℕ). IsOpened A c.args.limit l c.opened.result) c.deref-in-On-A.ensures.value c.opened.ensures.opened in
     let epoch = subst (λ (l : List ℕ). IsOfEpoch l c.opened.result) c.deref-in-On-A.ensures.value c.opened.ensures.epoch in
@@ -209,7 +209,7 @@ returns-in-On-B-clause-epoch g c =
     let a = c.in_ok-a.a.items in
     let b = c.in_ok-b.b.items in
     let read = read_in (g.P.Plant.seen c.args.plant.now).told (g.P.Plant.seen c.sync_sides.new.plant).told (g.P.Plant.seen c.read_side.new.plant).told (g.P.Plant.seen c.read_side-2.new.plant).told a b s c.in_ok-a.ensures.trace c.in_ok-b.ensures.trace c.in_ok-a.ensures.bytes c.in_ok-b.ensures.bytes in
-    let here : place_of (seen (head a)) (seen (head b)) ≡ c.place_in.result = (λ i. place_of (seen (head (sym c.deref.ensures.value i))) (seen (head (sym c.deref-2.ensures.value i)))) ∙ sym c.place_in.ensures in
+    let here : seen_live (live (head a) (head b)) ≡ c.place_in.result = (λ i. seen_live (live (head (sym c.deref.ensures.value i)) (head (sym c.deref-2.ensures.value i)))) ∙ sym c.place_in.ensures in
     let place = here ∙ c.in-On-B.is ∙ ap places.On c.in-On-B.field-0-is in
     let opened = subst (λ (l : List ℕ). IsOpened B c.args.limit l c.opened-in-On-B.result) c.deref-in-On-B.ensures.value c.opened-in-On-B.ensures.opened in
     let epoch = subst (λ (l : List ℕ). IsOfEpoch l c.opened-in-On-B.result) c.deref-in-On-B.ensures.value c.opened-in-On-B.ensures.epoch in

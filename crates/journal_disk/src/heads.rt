@@ -1,7 +1,8 @@
-ghost use Rattle.std.specs.Prelude.{◌≡◌, ◌≤◌, length, take};
-ghost use Rattle.journal_model.specs.Journals.{head};
+// The heads of sides, and where the journal stands by them.
+ghost use Rattle.std.specs.Prelude.{◌≡◌, ◌≤◌, ◌∷◌, length, take};
+ghost use Rattle.journal_model.specs.Journals.{head, live};
 ghost use Rattle.journal_rec.specs.Payloads.{number};
-ghost use Rattle.journal_disk.specs.Fronts.{seen, place_of, later};
+ghost use Rattle.journal_disk.specs.Heads.{seen, seen_live, place_of, later};
 
 use plant::Side;
 
@@ -15,8 +16,8 @@ const MAGIC: [u8; 8] = *b"LABJRNL1";
 pub const HEADER: usize = 18;
 
 /// The head of a side: the bytes up to the first record.
-#[derive(Clone, Copy)]
-pub enum Front {
+#[derive(Clone, Copy, PartialEq, Eq)]
+pub enum Head {
     /// No journal: the header gate is closed, or the side is shorter than a header.
     Blank,
     /// No header: its gate is open, and the bytes behind it are others.
@@ -45,34 +46,45 @@ pub fn epoch_in(bytes: &[u8]) -> u64
     ])
 }
 
+/// The head of a side with these bytes behind its open header gate.
+pub fn head_behind(bytes: &[u8]) -> Head
+    ensures { result ≡ seen (head (OPEN ∷ bytes.now)) }
+{
+    if bytes.len() < HEADER - 1 {
+        return Head::Blank;
+    }
+    if bytes[..8] != MAGIC[..] {
+        return Head::Foreign;
+    }
+    Head::Headed(epoch_in(&bytes[8..]))
+}
+
 /// The head of a side with these bytes.
-pub fn front_of(bytes: &[u8]) -> Front
+#[tactic(auto, using(crate::proofs::Walking::is_open))]
+pub fn head_of(bytes: &[u8]) -> Head
     ensures { result ≡ seen (head bytes.now) }
 {
-    if bytes.len() < HEADER || bytes[0] != OPEN {
-        return Front::Blank;
+    if bytes.is_empty() || bytes[0] != OPEN {
+        return Head::Blank;
     }
-    if bytes[1..9] != MAGIC[..] {
-        return Front::Foreign;
-    }
-    Front::Headed(epoch_in(&bytes[9..]))
+    head_behind(&bytes[1..])
 }
 
 /// Where the journal stands, by both heads.
-pub fn place_of(a: Front, b: Front) -> Place
+fn place_of(a: Head, b: Head) -> Place
     ensures { result ≡ place_of a b }
 {
     match a {
-        Front::Foreign => Place::Wrong(Side::A),
-        Front::Blank => match b {
-            Front::Foreign => Place::Wrong(Side::B),
-            Front::Blank => Place::New,
-            Front::Headed(_) => Place::On(Side::B),
+        Head::Foreign => Place::Wrong(Side::A),
+        Head::Blank => match b {
+            Head::Foreign => Place::Wrong(Side::B),
+            Head::Blank => Place::New,
+            Head::Headed(_) => Place::On(Side::B),
         },
-        Front::Headed(m) => match b {
-            Front::Foreign => Place::Wrong(Side::B),
-            Front::Blank => Place::On(Side::A),
-            Front::Headed(n) => later(m, n),
+        Head::Headed(m) => match b {
+            Head::Foreign => Place::Wrong(Side::B),
+            Head::Blank => Place::On(Side::A),
+            Head::Headed(n) => later(m, n),
         },
     }
 }
@@ -88,4 +100,12 @@ fn later(m: u64, n: u64) -> Place
     } else {
         Place::On(Side::B)
     }
+}
+
+/// Where the journal stands, by the bytes of both sides.
+#[tactic(auto, using(crate::proofs::Placing::place_live))]
+pub fn place_in(a: &[u8], b: &[u8]) -> Place
+    ensures { result ≡ seen_live (live (head a.now) (head b.now)) }
+{
+    place_of(head_of(a), head_of(b))
 }
