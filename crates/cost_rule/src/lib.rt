@@ -1,7 +1,6 @@
 //! The cost rules of mappings: the parts that they count, and a stored rule that answers a mapping's cost.
 #![tactic(auto)]
 
-mod at;
 mod costs;
 mod parts;
 mod rule;

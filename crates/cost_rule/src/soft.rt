@@ -9,8 +9,8 @@ ghost use Rattle.lab_model.specs.Rules.{is_member, place_at};
 ghost use Rattle.cost_rule.specs.Cost.{sum_below, missed_weight, missed, soft_at, node_soft, kinds_of, class_soft, soft};
 ghost use Rattle.cost_rule.specs.Counting.{is_of_kind, types_from};
 
-use crate::at::{node_at, place_at, virt_at};
 use lab_base::{Name, NodeId};
+use lab_model::{node_at, place_at, virt_at};
 use phys_lab::{Lab, MAX_FEATURES};
 use virt_topo::{
     Asks, MAX_CLASSES, MAX_DESIRES, MAX_SOFT_WEIGHT, MAX_TOPOLOGY_NODES, Mapping, Wiring,

@@ -1,7 +1,6 @@
 //! The checker of the eight rules of mappings.
 #![tactic(auto)]
 
-mod at;
 mod ends;
 mod fault;
 mod nodes;

@@ -6,8 +6,8 @@ ghost use Rattle.lab_model.specs.Shapes.{IsShaped, node_at};
 ghost use Rattle.lab_model.specs.Rules.{guests, number_of, agree, keeps_f2};
 ghost use Rattle.lab_model.specs.Feasible.{first_below};
 
-use crate::at::node_at;
 use lab_base::{Memory, Name, NodeId};
+use lab_model::node_at;
 use phys_lab::Lab;
 use std::alloc::Global;
 use virt_topo::{Mapping, VirtNode, Wiring};

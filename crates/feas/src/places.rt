@@ -8,8 +8,8 @@ ghost use Rattle.lab_model.specs.Rules.{place_at, class_at, is_asked, are_met, i
 ghost use Rattle.lab_model.specs.Rules.{is_of_one_type, suits, keeps_f1, keeps_f3, is_fixed_at, keeps_f4};
 ghost use Rattle.lab_model.specs.Feasible.{first_below};
 
-use crate::at::{node_at, place_at, virt_at};
 use lab_base::Name;
+use lab_model::{node_at, place_at, virt_at};
 use phys_lab::{Free, Lab};
 use virt_topo::{Asks, Mapping, VirtNode, Wiring};
 

@@ -6,9 +6,9 @@ ghost use Rattle.lab_model.specs.Rules.{keeps_f5, loads_on, may_bear, may_join, 
 ghost use Rattle.lab_model.specs.Uses.{iface_at};
 ghost use Rattle.lab_model.specs.Feasible.{first_below};
 
-use crate::at::{iface_at, plug_at};
 use crate::ends::end_nodes;
 use lab_base::{IfaceId, Memory};
+use lab_model::{iface_at, plug_at};
 use phys_lab::Lab;
 use std::alloc::Global;
 use virt_topo::{Load, Mapping, Wiring, loads_of};

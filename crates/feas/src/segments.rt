@@ -7,8 +7,8 @@ ghost use Rattle.lab_model.specs.Rules.{are_joined, keeps_f7};
 ghost use Rattle.lab_model.specs.Uses.{switch_of};
 ghost use Rattle.lab_model.specs.Feasible.{first_below};
 
-use crate::at::iface_at;
 use lab_base::IfaceId;
+use lab_model::iface_at;
 use phys_lab::Lab;
 use virt_topo::{Mapping, Wiring};
 

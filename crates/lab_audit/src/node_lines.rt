@@ -18,19 +18,13 @@ use crate::holders::claimer;
 use crate::nodes::is_as_wanted;
 use crate::{AuditFault, Line, Report};
 use lab_base::{Items, Memory, Name, NodeId};
+use lab_model::name_at;
 use lab_state::LabState;
 use phys_lab::Lab;
 use plant_tables::Tables;
 use std::alloc::Global;
 use swap_plan::node_row_of;
 use virt_topo::{Experiment, Phase};
-
-fn name_at(lab: &Lab, node: NodeId) -> Name
-    requires { node.0 < length lab.now.nodes }
-    ensures { result ≡ node_name lab.now node }
-{
-    lab.nodes()[node.0 as usize].name
-}
 
 /// Whether a node isn't wiped.
 fn is_unwiped<P: Tables>(alloc: Global, plant: &mut P, node: Name) -> Result<bool, AuditFault>

@@ -4,7 +4,8 @@ ghost use Rattle.lab_look.specs.Seats.{holder, owner, seat_by, seat_at, seat_of}
 
 use claims::MAX_EXPERIMENTS;
 use lab_base::Memory;
-use lab_seen::{claims, guests, has_tag, how_held};
+use lab_model::claims;
+use lab_seen::{guests, has_tag, how_held};
 use lab_state::LabState;
 use lab_view::Seat;
 use phys_lab::Lab;

@@ -1,4 +1,4 @@
-//! The definitions of the model, and the laws about them.
+//! The definitions of the model, the laws about them, and the small calls that answer them by number and by name.
 #![tactic(auto)]
 
 ghost use Rattle.std.specs.Prelude.{◌≡◌, ◌≢◌, ◌↔◌, ◌⊎◌, ◌++◌, ◌∷◌, [], ◌<◌, ℕ, List, length, take, Bool, true, false, Option, Some, None, Result, All};
@@ -37,6 +37,12 @@ ghost use Rattle.lab_model.specs.CourseLists.{IsCutList, IsDoneList};
 ghost use Rattle.lab_model.specs.Leavings.{Sent, did, ran, Ends, Gone};
 ghost use Rattle.lab_model.specs.OnCourse.{OnCourse, EveryMoment};
 ghost use Rattle.lab_model.specs.Claims.{Which, claimed, claimed_tags};
+
+mod at;
+mod claimed;
+
+pub use at::{iface_at, name_at, node_at, node_name, place_at, plug_at, virt_at};
+pub use claimed::{claims, is_placed};
 
 /// Each statement of the whole is that of all its parts together.
 pub fn law_of_parts()

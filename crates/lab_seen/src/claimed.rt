@@ -1,52 +1,14 @@
 // The claims of an experiment.
 ghost use Rattle.std.specs.Prelude.{◌≡◌, ◌==◌, map};
 ghost use Rattle.std.specs.List.{list_any};
-ghost use Rattle.std.specs.Str.{bytes_eq};
-ghost use Rattle.lab_model.specs.Wants.{node_name};
-ghost use Rattle.lab_model.specs.Claims.{Old, New, claimed, is_placed, claims_it, tags_of};
+ghost use Rattle.lab_model.specs.Claims.{tags_of};
 ghost use Rattle.lab_seen.specs.Claimed.{moving_held, how_held, way_of, stand_of, has_tag};
 
-use lab_base::{Name, NodeId, VlanId};
+use lab_base::VlanId;
+use lab_model::is_placed;
 use lab_view::{Held, Stand};
 use phys_lab::Lab;
 use virt_topo::{Experiment, Mapped, Phase};
-
-/// The name of a node; none of a number that names nothing.
-pub(crate) fn node_name(lab: &Lab, node: NodeId) -> &[u8]
-    ensures { result.now ≡ node_name lab.now node }
-{
-    match lab.nodes().get(node.0 as usize) {
-        Some(node) => node.name.bytes(),
-        None => &[],
-    }
-}
-
-fn is_on(lab: &Lab, places: &[(NodeId, Name)], name: &[u8]) -> bool
-    ensures { result ≡ list_any (λ p. bytes_eq (node_name lab.now p.0) name.now) places.now }
-{
-    places.iter().any(|place| node_name(lab, place.0) == name)
-}
-
-/// Whether a mapping places a virtual node on the node of that name; false where there is no mapping.
-fn is_placed(lab: &Lab, mapped: &Option<Mapped>, name: &[u8]) -> bool
-    ensures { result ≡ is_placed lab.now mapped.now name.now }
-{
-    match mapped {
-        Some(mapped) => is_on(lab, mapped.mapping.places.as_slice(), name),
-        None => false,
-    }
-}
-
-/// Whether an experiment claims the node of that name.
-pub fn claims(lab: &Lab, experiment: &Experiment, name: &[u8]) -> bool
-    ensures { result ≡ claims_it lab.now experiment.now name.now }
-{
-    match &experiment.phase {
-        Phase::Out => false,
-        Phase::In { mapping, .. } => is_on(lab, mapping.places.as_slice(), name),
-        Phase::Moving { old, new } => is_placed(lab, old, name) || is_placed(lab, new, name),
-    }
-}
 
 fn moving_held(by_old: bool, by_new: bool) -> Held
     ensures { result ≡ moving_held by_old by_new }

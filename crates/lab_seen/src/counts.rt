@@ -3,7 +3,7 @@ ghost use Rattle.std.specs.Prelude.{◌≡◌, ◌<◌, ◌^◌, length};
 ghost use Rattle.lab_model.specs.Claims.{tags_of};
 ghost use Rattle.lab_seen.specs.Claimed.{nodes_claimed, ids_claimed};
 
-use crate::claimed::claims;
+use lab_model::claims;
 use phys_lab::Lab;
 use virt_topo::{Experiment, Mapped, Phase};
 

@@ -6,7 +6,7 @@ mod counts;
 mod placed;
 mod plugs;
 
-pub use claimed::{claims, has_tag, how_held, stand_of};
+pub use claimed::{has_tag, how_held, stand_of};
 pub use counts::{ids_claimed, nodes_claimed};
 pub use placed::guests;
 pub use plugs::plugs_of;

@@ -2,8 +2,8 @@
 ghost use Rattle.std.specs.Prelude.{◌≡◌, ◌++◌, ◌<◌, length, slice_get, IfOk, OnOk, filter, not};
 ghost use Rattle.lab_seen.specs.Claimed.{is_there, guest_nth, guests_of, guests_in, is_among, with_others, guests};
 
-use crate::claimed::node_name;
 use lab_base::{Items, Memory, Name};
+use lab_model::node_name;
 use phys_lab::Lab;
 use std::alloc::Global;
 use virt_topo::{Experiment, Mapped, Mapping, Phase, Wiring};

@@ -2,8 +2,8 @@
 ghost use Rattle.std.specs.Prelude.{◌≡◌, IfOk};
 ghost use Rattle.lab_seen.specs.Claimed.{is_plug_of, plugs_of};
 
-use crate::claimed::node_name;
 use lab_base::{Items, Memory};
+use lab_model::node_name;
 use phys_lab::{Iface, Lab};
 use std::alloc::Global;
 

@@ -9,30 +9,9 @@ use crate::limits::fits;
 use crate::nodes::{asked_nodes, push_all_delay_nodes};
 use crate::pipes::wired_pipes;
 use crate::segments::wired_segments;
-use lab_base::{Items, Memory};
+use lab_base::Memory;
 use std::alloc::Global;
-use virt_topo::{AskedLink, Class, MAX_TOPOLOGY_NODES, Topo, Wiring};
-
-fn copy_class(alloc: Global, class: &Class) -> Result<Class, Memory>
-    ensures { IfOk result (λ copy. copy ≡ class.now) }
-{
-    let types = class.types.copy(alloc)?;
-    Ok(Class {
-        name: class.name,
-        weight: class.weight,
-        types,
-    })
-}
-
-fn copy_classes(alloc: Global, classes: &[Class]) -> Result<Items<Class>, Memory>
-    ensures { IfOk result (λ copy. copy ≡ classes.now) }
-{
-    let mut copy = Items::new(alloc);
-    for class in classes {
-        copy.push(copy_class(alloc, class)?)?;
-    }
-    Ok(copy)
-}
+use virt_topo::{AskedLink, MAX_TOPOLOGY_NODES, Topo, Wiring, copy_classes};
 
 /// The wiring of a network with these links and LANs.
 fn wired(alloc: Global, topo: &Topo, links: &[AskedLink]) -> Result<Wiring, Memory>

@@ -1,6 +1,6 @@
 // The candidates of a virtual node.
 ghost use Rattle.std.specs.Prelude.{◌≡◌, ◌<◌, ◌≤◌, ◌++◌, map, filter, length, All, IfOk, OnOk, false, slice_index_or};
-ghost use Rattle.lab_model.specs.Shapes.{IsFreeOf, node_at};
+ghost use Rattle.lab_model.specs.Shapes.{IsFreeOf};
 ghost use Rattle.virt_topo.specs.Wirings.{virt_at};
 ghost use Rattle.node_maps.specs.NodeMaps.{lab_places, is_candidate, candidates as candidates_in};
 
@@ -8,6 +8,7 @@ use crate::kinds::Kinds;
 use crate::lists::{Candidates, Place};
 use feas::{is_fixed_at, suits};
 use lab_base::{Items, Memory, NodeId};
+use lab_model::node_at;
 use phys_lab::{Free, Lab, Node};
 use std::alloc::Global;
 use virt_topo::{VirtNode, Wiring};
@@ -32,13 +33,6 @@ fn places_of(alloc: Global, lab: &Lab) -> Result<Vec<Place>, Memory>
         push_places(&mut listed, NodeId(node as u16), &nodes[node])?;
     }
     Ok(listed)
-}
-
-fn node_at(lab: &Lab, node: NodeId) -> &Node
-    requires { node.0 < length lab.now.nodes }
-    ensures { result.now ≡ node_at lab.now node }
-{
-    &lab.nodes()[node.0 as usize]
 }
 
 fn is_free(free: &Free, node: NodeId) -> bool

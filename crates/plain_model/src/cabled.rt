@@ -1,7 +1,6 @@
 // Whether rows and nodes are as the claimed mappings want them.
 ghost use Rattle.std.specs.Prelude.{◌≡◌, ◌<◌, ◌&&◌, true, length, is_none, IfOk, IsTrue, ◌↔◌};
 ghost use Rattle.std.specs.List.{list_all};
-ghost use Rattle.lab_model.specs.Wants.{node_name};
 ghost use Rattle.lab_model.specs.Cabled.{Cabled};
 ghost use Rattle.lab_model.specs.Beside.{is_claimed};
 ghost use Rattle.lab_model.specs.Courses.{op_node};
@@ -10,12 +9,12 @@ ghost use Rattle.plain_model.specs.Rows.{has_row, rows_of, world_sent};
 ghost use Rattle.plain_model.specs.Isolation.{wanted_in};
 ghost use Rattle.plain_model.specs.Cabling.{is_right, is_moving_right, is_right_at, rows_stand, is_cabled_by, is_free_wiped, is_cabled};
 
-use crate::claims::claims;
 use crate::isolation::are_wanted;
 use crate::nodes::{are_sets_of, is_node, stays, wants_of};
 use crate::wants::owned_rows;
 use crate::{Owned, Sent, Wanted, has_row, rows_after, wanted_rows};
 use lab_base::{Memory, Name, NodeId};
+use lab_model::{claims, name_at};
 use phys_lab::Lab;
 use plant::DeviceOp;
 use std::alloc::Global;
@@ -47,13 +46,6 @@ fn is_moving_right(commands: &[Sent], name: &[u8], before: &NodeWants, after: &N
         is_unclaimed(before, after)
             || are_sets_of(commands, name, &before.pipes, &after.pipes, commands)
     }
-}
-
-fn name_at(lab: &Lab, node: NodeId) -> Name
-    requires { node.0 < length lab.now.nodes }
-    ensures { result ≡ node_name lab.now node }
-{
-    lab.nodes()[node.0 as usize].name
 }
 
 /// Whether a node is as the phase of an experiment wants it.

@@ -1,52 +1,14 @@
 // // The claims of experiments.
 ghost use Rattle.std.specs.Prelude.{◌≡◌, ◌++◌, not, map, length, IfOk, OnOk};
-ghost use Rattle.std.specs.List.{flat_map, list_any, list_all};
-ghost use Rattle.std.specs.Str.{bytes_eq};
-ghost use Rattle.lab_model.specs.Wants.{node_name};
-ghost use Rattle.lab_model.specs.Claims.{is_placed, claims_it, tags_of, claimed_tags};
+ghost use Rattle.std.specs.List.{flat_map, list_all};
+ghost use Rattle.lab_model.specs.Claims.{tags_of, claimed_tags};
 ghost use Rattle.plain_model.specs.Holds.{shares_place, shares_in, shares, are_apart};
 
 use lab_base::{Memory, Name, NodeId, VlanId};
+use lab_model::{claims, node_name};
 use phys_lab::Lab;
 use std::alloc::Global;
 use virt_topo::{Experiment, Mapped, Phase};
-
-/// The name of a node; the empty one where there is no such node.
-fn node_name(lab: &Lab, node: NodeId) -> &[u8]
-    ensures { result.now ≡ node_name lab.now node }
-{
-    match lab.nodes().get(node.0 as usize) {
-        Some(node) => node.name.bytes(),
-        None => &[],
-    }
-}
-
-fn is_on(lab: &Lab, places: &[(NodeId, Name)], name: &[u8]) -> bool
-    ensures { result ≡ list_any (λ p. bytes_eq (node_name lab.now p.0) name.now) places.now }
-{
-    places.iter().any(|place| node_name(lab, place.0) == name)
-}
-
-/// Whether a mapping places a virtual node on the node of that name; false where there is no mapping.
-fn is_placed(lab: &Lab, mapped: &Option<Mapped>, name: &[u8]) -> bool
-    ensures { result ≡ is_placed lab.now mapped.now name.now }
-{
-    match mapped {
-        Some(mapped) => is_on(lab, mapped.mapping.places.as_slice(), name),
-        None => false,
-    }
-}
-
-/// Whether an experiment claims the node of that name.
-pub(crate) fn claims(lab: &Lab, experiment: &Experiment, name: &[u8]) -> bool
-    ensures { result ≡ claims_it lab.now experiment.now name.now }
-{
-    match &experiment.phase {
-        Phase::Out => false,
-        Phase::In { mapping, .. } => is_on(lab, mapping.places.as_slice(), name),
-        Phase::Moving { old, new } => is_placed(lab, old, name) || is_placed(lab, new, name),
-    }
-}
 
 fn shares_place(lab: &Lab, other: &Experiment, places: &[(NodeId, Name)]) -> bool
     ensures { result ≡ shares_place lab.now other.now places.now }

@@ -16,7 +16,8 @@ fn copy_class(alloc: Global, class: &Class) -> Result<Class, Memory>
     })
 }
 
-fn copy_classes(alloc: Global, classes: &[Class]) -> Result<Items<Class>, Memory>
+/// An equal list of classes, in memory of its own. The one error is `Memory`.
+pub fn copy_classes(alloc: Global, classes: &[Class]) -> Result<Items<Class>, Memory>
     ensures { IfOk result (λ copy. copy ≡ classes.now) }
 {
     let mut copy = Items::new(alloc);

@@ -17,6 +17,7 @@ mod topo;
 mod violation;
 mod wiring;
 
+pub use copy::copy_classes;
 pub use experiment::{Experiment, Phase};
 pub use fault::WiringFault;
 pub use known::knows_all;
